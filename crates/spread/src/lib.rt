@@ -1,0 +1,34 @@
+// The spread steps: which prompts pay for which spread.
+// One engine serves both tables of spreads, the interprompt spreads of a contract and the intercontract spreads.
+
+// A delta, in ten-thousandths of a lot, long above zero and short below.
+pub struct Delta(pub i64);
+
+// A number of spreads, in ten-thousandths.
+pub struct Spreads(pub u64);
+
+// A leg: the tier that it draws on, its side (1 = A, 2 = B) and its ratio.
+pub struct Leg {
+    pub tier: usize,
+    pub side: usize,
+    pub ratio: u64,
+}
+
+// A spread: its first `legs` legs, 2 or 3.
+pub struct Spread {
+    pub legs: usize,
+    pub leg: [Leg; 3],
+}
+
+// A table of spreads in order of priority: its first `count` spreads.
+pub struct Table {
+    pub count: usize,
+    pub spread: [Spread; 32],
+}
+
+// Prompts, the earliest day of a tier first: the first `count` tiers and net deltas.
+pub struct Prompts {
+    pub count: usize,
+    pub tier: [usize; 32],
+    pub net: [Delta; 32],
+}

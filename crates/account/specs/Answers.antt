@@ -1,0 +1,48 @@
+-- The table of refusals of document 01, "What comes back": the number of each and the record that it names.
+-- Assumes nothing.
+use Prim.Native.Nat.{ℕ}
+use mathlib.Core.Bool.{cond}
+use lib.Dec.{eqb}
+use Rattle.account.specs.declared.Answer.{Answer}
+use Rattle.account.specs.declared.Answer.the-variants.{Accepted, TooLong, CutRecord, UnknownKind, KindFalls, UnusedByte, FieldOutside, Unlisted, OutOfOrder, OverLimit, TooFewNumbers, NoSuchQuestion}
+
+-- "No."; 0 where nothing is refused
+abbrev pub numberOf : Answer → ℕ
+numberOf Accepted = 0
+numberOf TooLong = 1
+numberOf CutRecord = 2
+numberOf (UnknownKind k) = 3
+numberOf (KindFalls k) = 4
+numberOf (UnusedByte k) = 5
+numberOf (FieldOutside k) = 6
+numberOf (Unlisted k) = 7
+numberOf (OutOfOrder k) = 8
+numberOf (OverLimit k) = 9
+numberOf (TooFewNumbers n) = 10
+numberOf (NoSuchQuestion n) = 11
+
+-- "Record named"; 0 where none is
+abbrev pub recordOf : Answer → ℕ
+recordOf Accepted = 0
+recordOf TooLong = 0
+recordOf CutRecord = 0
+recordOf (UnknownKind k) = k
+recordOf (KindFalls k) = k
+recordOf (UnusedByte k) = k
+recordOf (FieldOutside k) = k
+recordOf (Unlisted k) = k
+recordOf (OutOfOrder k) = k
+recordOf (OverLimit k) = k
+recordOf (TooFewNumbers n) = n
+recordOf (NoSuchQuestion n) = n
+
+-- the refusal of a record, by its number
+abbrev pub refusal : ℕ → ℕ → Answer
+refusal number k =
+    cond (eqb number 3) (UnknownKind k)
+    (cond (eqb number 4) (KindFalls k)
+    (cond (eqb number 5) (UnusedByte k)
+    (cond (eqb number 6) (FieldOutside k)
+    (cond (eqb number 7) (Unlisted k)
+    (cond (eqb number 8) (OutOfOrder k)
+    (cond (eqb number 9) (OverLimit k) Accepted))))))

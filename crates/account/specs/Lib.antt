@@ -1,0 +1,4 @@
+pub mod Answers
+pub mod Records
+pub mod Parts
+pub mod Check

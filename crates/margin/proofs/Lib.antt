@@ -1,0 +1,2 @@
+pub mod Reckoned
+pub mod PairLaws

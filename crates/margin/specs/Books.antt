@@ -1,0 +1,50 @@
+-- "Delta book of question 0..15 (that contract): three numbers per prompt (net, used, unused), then two per spread
+-- (number in its first step, in its second). Question 16 is the intercontract table: three numbers per contract, then
+-- two per entry."
+-- Assumes nothing.
+use Prim.Native.Nat.{ℕ}
+use mathlib.Core.Bool.{Bool, cond, _||_}
+use mathlib.Core.List.{List, [], _∷_, _++_, map}
+use lib.Dec.{eqb}
+use lib.IntN.{ℤ, pos}
+use Rattle.exact.specs.Lists.{keep, any}
+use Rattle.record.specs.Layout.{Record, contract}
+use Rattle.account.specs.Parts.{contractsOf, entriesOf}
+use Rattle.spread.specs.Steps.{Open, numbers, usedOf, unusedOf}
+use Rattle.margin.specs.Contract.{Contract, contracts, partsIn, contractNet, asTier, numbersOf, usedDeltas, unusedDeltas, tableSteps}
+
+-- net, used and unused of each
+abbrev pub threes : List ℤ → List ℤ → List ℤ → List ℤ
+threes [] used unused = []
+threes (n ∷ nets) [] unused = []
+threes (n ∷ nets) (u ∷ used) [] = []
+threes (n ∷ nets) (u ∷ used) (o ∷ unused) = n ∷ u ∷ o ∷ threes nets used unused
+
+abbrev pub contractBook : Contract → List ℤ
+contractBook k = threes (k .nets) (usedDeltas k) (unusedDeltas k) ++ map pos (numbersOf k)
+
+abbrev pub booksOf : List Contract → List ℤ
+booksOf [] = []
+booksOf (k ∷ ks) = contractBook k ++ booksOf ks
+
+abbrev pub tableBook : List Record → List Contract → List ℤ
+tableBook entries ks =
+    threes (map contractNet ks) (usedOf (tableSteps entries) (map asTier ks)) (unusedOf (tableSteps entries) (map asTier ks))
+    ++ map pos (numbers (tableSteps entries) (map asTier ks))
+
+-- the table of intercontract spreads is question 16
+abbrev pub tableQuestion : ℕ
+tableQuestion = 16
+
+-- "question neither a listed contract nor 16" is refused
+abbrev pub asks : ℕ → Record → Bool
+asks question own = eqb (contract own) question
+
+abbrev pub answered : List Record → ℕ → Bool
+answered account question = eqb question tableQuestion || any (asks question) (contractsOf account)
+
+abbrev pub book : List Record → ℕ → List ℤ
+book account question =
+    cond (eqb question tableQuestion)
+    (tableBook (entriesOf account) (contracts account))
+    (booksOf (map (partsIn account) (keep (asks question) (contractsOf account))))

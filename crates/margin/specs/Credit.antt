@@ -1,0 +1,47 @@
+-- The intercontract credit (000): where used deltas and price risk become an amount.
+-- Assumes nothing.
+use Prim.Native.Nat.{ℕ, _+_, _-_, _*_}
+use mathlib.Core.Bool.{cond}
+use mathlib.Core.List.{List, [], _∷_}
+use lib.ListN.{getD}
+use lib.Dec.{eqb}
+use lib.IntN.{ℤ, pos, _+ℤ_, _-ℤ_}
+use Rattle.exact.specs.Rounding.{halfUp}
+use Rattle.record.specs.Layout.{Record, percent}
+use Rattle.spread.specs.Steps.{Open, Market, long, short, pool, steps, left}
+use Rattle.margin.specs.Scanning.{orZero, activeScenario}
+use Rattle.margin.specs.Pairs.{pairOf}
+use Rattle.margin.specs.Deltas.{intercontract}
+
+abbrev pub totalOf : List ℤ → ℕ → ℤ
+totalOf ts scenario = getD ts (scenario - 1) (pos 0)
+
+-- "Price risk = (active total + paired total)/2 - (total 1 + total 2)/2, halves kept, or 0 if negative."
+-- It is carried twice over, so that halves are kept.
+abbrev pub twicePriceRisk : List ℤ → ℕ
+twicePriceRisk ts =
+    orZero
+    ((totalOf ts (activeScenario ts) +ℤ totalOf ts (pairOf (activeScenario ts)))
+    -ℤ (totalOf ts 1 +ℤ totalOf ts 2))
+
+-- "A contract's credit from one entry = price risk × |used in that entry| × percent / (100 × |net delta|), rounded
+-- once, halves up; 0 where the net delta is 0."
+abbrev pub credit : ℕ → ℕ → ℕ → ℕ → ℕ
+credit twiceRisk used rate net = cond (eqb net 0) 0 (halfUp (twiceRisk * used * rate) (200 * net))
+
+-- what a contract has unused, either way: each contract is a tier with one prompt
+abbrev pub unusedBy : ℕ → List Open → ℕ
+unusedBy c contracts = pool long c contracts + pool short c contracts
+
+-- the contracts after the two steps of an entry
+abbrev pub afterEntry : Record → List Open → List Open
+afterEntry e contracts = left (steps (intercontract e ∷ [])) contracts
+
+abbrev pub usedIn : Record → ℕ → List Open → ℕ
+usedIn e c contracts = unusedBy c contracts - unusedBy c (afterEntry e contracts)
+
+-- a contract's credits over the table, entry by entry, what one leaves handed to the next
+abbrev pub credits : ℕ → ℕ → ℕ → List Record → List Open → ℕ
+credits c twiceRisk net [] contracts = 0
+credits c twiceRisk net (e ∷ es) contracts =
+    credit twiceRisk (usedIn e c contracts) (percent e) net + credits c twiceRisk net es (afterEntry e contracts)

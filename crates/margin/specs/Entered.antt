@@ -1,0 +1,41 @@
+-- Records as a person enters them, for the reckoned examples: the table of fields of document 01, written out.
+-- Assumes nothing.
+use Prim.Native.Nat.{ℕ, suc, _-_, _/_, _%_}
+use mathlib.Core.List.{List, [], _∷_, _++_}
+use lib.ListN.{take, replicate}
+use lib.IntN.{ℤ, pos, negsuc}
+use Rattle.record.specs.Layout.{Record}
+
+abbrev pub two : ℕ → List ℕ
+two n = n % 256 ∷ n / 256 ∷ []
+
+abbrev pub four : ℕ → List ℕ
+four n = n % 256 ∷ n / 256 % 256 ∷ n / 65536 % 256 ∷ n / 16777216 ∷ []
+
+abbrev pub signed : ℤ → List ℕ
+signed (pos n) = four n
+signed (negsuc n) = four (4294967295 - n)
+
+abbrev pub allSigned : List ℤ → List ℕ
+allSigned [] = []
+allSigned (z ∷ zs) = signed z ++ allSigned zs
+
+abbrev pub filled : List ℕ → Record
+filled bytes = take 96 (bytes ++ replicate 96 0)
+
+abbrev pub contractRecord : ℕ → ℕ → Record
+contractRecord number rate = filled (1 ∷ number ∷ 0 ∷ 0 ∷ four rate)
+
+abbrev pub promptRecord : ℕ → ℕ → ℕ → ℕ → ℕ → Record
+promptRecord number tier day spreadRate outrightRate =
+    filled (2 ∷ number ∷ tier ∷ 0 ∷ four day ++ four spreadRate ++ four outrightRate)
+
+-- the row's kind is 0 forward, 1 call, 2 put
+abbrev pub rowRecord : ℕ → ℕ → ℕ → ℕ → ℤ → ℤ → ℕ → List ℤ → Record
+rowRecord number rowType day strike lots delta value losses =
+    filled (3 ∷ number ∷ rowType ∷ 0 ∷ four day ++ four strike ++ signed lots ++ signed delta ++ four value ++ allSigned losses)
+
+-- a leg A of the first tier and ratio, a leg B of the second
+abbrev pub spreadRecord : ℕ → ℕ → ℕ → ℕ → ℕ → ℕ → Record
+spreadRecord number rate tierA ratioA tierB ratioB =
+    filled (4 ∷ number ∷ 2 ∷ 0 ∷ four rate ++ (tierA ∷ 1 ∷ two ratioA) ++ (tierB ∷ 2 ∷ two ratioB))

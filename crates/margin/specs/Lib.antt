@@ -1,0 +1,12 @@
+pub mod Scanning
+pub mod Deltas
+pub mod Charges
+pub mod Pairs
+pub mod Credit
+pub mod Margin
+pub mod Contract
+pub mod Figures
+pub mod Books
+pub mod Questions
+pub mod Entered
+pub mod Reckoned

@@ -1,0 +1,50 @@
+-- "Two questions: the figures, and the delta book": what each answers over any bytes, and what stands in the lent
+-- numbers afterwards.
+-- Assumes nothing.
+use Prim.Native.Nat.{ℕ}
+use mathlib.Core.Bool.{Bool, cond}
+use mathlib.Core.List.{List, _++_}
+use lib.ListN.{length, drop}
+use lib.Dec.{eqb, ltb}
+use lib.IntN.{ℤ}
+use Rattle.account.specs.Answers.{numberOf}
+use Rattle.account.specs.Check.{checked}
+use Rattle.account.specs.Records.{records, recordCount}
+use Rattle.account.specs.declared.Answer.{Answer}
+use Rattle.account.specs.declared.Answer.the-variants.{Accepted, TooFewNumbers, NoSuchQuestion}
+use Rattle.margin.specs.Figures.{figures}
+use Rattle.margin.specs.Books.{answered, book}
+
+abbrev pub accepted : Answer → Bool
+accepted a = eqb (numberOf a) 0
+
+-- what is asked next, where nothing was refused so far
+abbrev pub ifAccepted : Answer → Answer → Answer
+ifAccepted a next = cond (accepted a) next a
+
+-- 10: "fewer numbers lent than the answer needs", naming the record count
+abbrev pub enough : List ℕ → List ℤ → ℕ → Answer
+enough file numbers lent = cond (ltb lent (length numbers)) (TooFewNumbers (recordCount file)) Accepted
+
+-- 11: "question neither a listed contract nor 16", naming the record count
+abbrev pub asked : List ℕ → ℕ → Answer
+asked file question = cond (answered (records file) question) Accepted (NoSuchQuestion (recordCount file))
+
+-- "Order: 1, 2; then records from 0 up ..; then 11, then 10."
+abbrev pub figuresAnswer : List ℕ → ℕ → Answer
+figuresAnswer file lent = ifAccepted (checked file) (enough file (figures (records file)) lent)
+
+abbrev pub bookAnswer : List ℕ → ℕ → ℕ → Answer
+bookAnswer file question lent =
+    ifAccepted (checked file) (ifAccepted (asked file question) (enough file (book (records file) question) lent))
+
+-- "A refusal writes no number. .. Success writes the answer at the front and nothing after it."
+abbrev pub afterwards : Answer → List ℤ → List ℤ → List ℤ
+afterwards a numbers lent = cond (accepted a) (numbers ++ drop (length numbers) lent) lent
+
+abbrev pub afterFigures : List ℕ → List ℤ → List ℤ
+afterFigures file lent = afterwards (figuresAnswer file (length lent)) (figures (records file)) lent
+
+abbrev pub afterBook : List ℕ → ℕ → List ℤ → List ℤ
+afterBook file question lent =
+    afterwards (bookAnswer file question (length lent)) (book (records file) question) lent

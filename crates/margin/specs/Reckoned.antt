@@ -1,0 +1,175 @@
+-- "Reckoned examples" of document 01: P1 to P10, one claim. Deltas and numbers of spreads stand in ten-thousandths,
+-- amounts in hundredths.
+-- Assumes nothing.
+use Prim.Native.Nat.{ℕ, _*_}
+use mathlib.Core.Path.{_≡_}
+use mathlib.Core.List.{List, [], _∷_, _++_, map}
+use lib.IntN.{ℤ, pos, negsuc, negℤ}
+use lib.ListN.{replicate}
+use Rattle.record.specs.Layout.{Record}
+use Rattle.account.specs.Records.{records}
+use Rattle.account.specs.Check.{checked}
+use Rattle.account.specs.declared.Answer.the-variants.{Accepted}
+use Rattle.margin.specs.Entered.{contractRecord, promptRecord, rowRecord, spreadRecord}
+use Rattle.margin.specs.Scanning.{scanningRisk, activeScenario}
+use Rattle.margin.specs.Charges.{spreadCharge}
+use Rattle.margin.specs.Pairs.{pairOf}
+use Rattle.margin.specs.Credit.{credit}
+use Rattle.margin.specs.Contract.{Contract, contractFrom, numbersOf, unusedDeltas, interpromptOf, promptOf, marginOf, asTier}
+use Rattle.margin.specs.Figures.{figures}
+
+-- whole lots, long and short
+abbrev pub lotsLong : ℕ → ℤ
+lotsLong n = pos (n * 10000)
+
+abbrev pub lotsShort : ℕ → ℤ
+lotsShort n = negℤ (pos (n * 10000))
+
+-- a contract with given prompts, net deltas and spreads, and no rows but those that gave the nets
+abbrev pub holding : List Record → List ℤ → List Record → Contract
+holding prompts nets spreads =
+    record {
+      own = contractRecord 0 0;
+      prompts = prompts;
+      spreads = spreads;
+      totals = replicate 16 (pos 0);
+      nets = nets;
+      shorts = 0;
+    }
+
+-- a prompt of a tier, with no rates
+abbrev pub inTier : ℕ → ℕ → Record
+inTier tier day = promptRecord 0 tier day 0 0
+
+-- a spread between two tiers, one to one
+abbrev pub oneToOne : ℕ → ℕ → ℕ → Record
+oneToOne rate tierA tierB = spreadRecord 0 rate tierA 1 tierB 1
+
+-- "P1, 002 Case Three: prompts tier 1: -30; tier 2: 20, -5; tier 3: 100, -10, -10; spreads 1-1, 2-2, 3-3, 1-2, 2-3, 1-3
+-- at 100, 200, 350, 225, 325, 375 .. with rates 3/1 at the first prompt and 2/1 at the fourth"
+abbrev pub caseThree : Contract
+caseThree =
+    holding
+    (promptRecord 0 1 1 300 100
+    ∷ inTier 2 2
+    ∷ inTier 2 3
+    ∷ promptRecord 0 3 4 200 100
+    ∷ inTier 3 5
+    ∷ inTier 3 6
+    ∷ [])
+    (lotsShort 30 ∷ lotsLong 20 ∷ lotsShort 5 ∷ lotsLong 100 ∷ lotsShort 10 ∷ lotsShort 10 ∷ [])
+    (oneToOne 10000 1 1
+    ∷ oneToOne 20000 2 2
+    ∷ oneToOne 35000 3 3
+    ∷ oneToOne 22500 1 2
+    ∷ oneToOne 32500 2 3
+    ∷ oneToOne 37500 1 3
+    ∷ [])
+
+-- "P2, 000: tier 1: 18, -6; tier 2: -4; tier 3: 3.8101; spreads 1-1, 1-2, 1-3"
+abbrev pub threeTiers : Contract
+threeTiers =
+    holding (inTier 1 1 ∷ inTier 1 2 ∷ inTier 2 3 ∷ inTier 3 4 ∷ [])
+    (lotsLong 18 ∷ lotsShort 6 ∷ lotsShort 4 ∷ pos 38101 ∷ [])
+    (oneToOne 0 1 1 ∷ oneToOne 0 1 2 ∷ oneToOne 0 1 3 ∷ [])
+
+-- "P3: one tier, long 3.0001, short 5, A ratio 2, B ratio 1"
+abbrev pub oneTier : Contract
+oneTier = holding (inTier 1 1 ∷ inTier 1 2 ∷ []) (pos 30001 ∷ lotsShort 5 ∷ []) (spreadRecord 0 0 1 2 1 1 ∷ [])
+
+-- "P4: tier 1 long 10, tiers 2 and 3 short 10 each; 1-2 at 5.00, then 1-3 at 1.00"
+abbrev pub byPriority : Contract
+byPriority =
+    holding (inTier 1 1 ∷ inTier 2 2 ∷ inTier 3 3 ∷ []) (lotsLong 10 ∷ lotsShort 10 ∷ lotsShort 10 ∷ [])
+    (oneToOne 500 1 2 ∷ oneToOne 100 1 3 ∷ [])
+
+-- "P7: all totals -4"
+abbrev pub gains : List ℤ
+gains = replicate 16 (negsuc 3)
+
+-- "P10: one short call, rate 500, nothing else above 0"
+abbrev pub shortCall : Contract
+shortCall =
+    contractFrom (contractRecord 0 500) (inTier 1 1 ∷ [])
+    (rowRecord 0 1 1 1850 (negsuc 0) (pos 5200) 1 (replicate 16 (pos 0)) ∷ []) []
+
+-- "Given contract 3 with short option rate 500; one prompt, tier 1, day 20260318, rates 0 and 1000; two rows at value 25,
+-- being 002's forward array for 2 lots (delta 9800) and its call array at strike 1850 for -3 lots (delta 5200)"
+abbrev pub forwardLosses : List ℤ
+forwardLosses =
+    pos 0
+    ∷ pos 0
+    ∷ negℤ (pos 4900)
+    ∷ negℤ (pos 4900)
+    ∷ pos 4900
+    ∷ pos 4900
+    ∷ negℤ (pos 9800)
+    ∷ negℤ (pos 9800)
+    ∷ pos 9800
+    ∷ pos 9800
+    ∷ negℤ (pos 14700)
+    ∷ negℤ (pos 14700)
+    ∷ pos 14700
+    ∷ pos 14700
+    ∷ negℤ (pos 10300)
+    ∷ pos 10300
+    ∷ []
+
+abbrev pub callLosses : List ℤ
+callLosses =
+    negℤ (pos 1005)
+    ∷ pos 1144
+    ∷ negℤ (pos 3845)
+    ∷ negℤ (pos 1753)
+    ∷ pos 1363
+    ∷ pos 3406
+    ∷ negℤ (pos 7125)
+    ∷ negℤ (pos 5231)
+    ∷ pos 3254
+    ∷ pos 5038
+    ∷ negℤ (pos 10795)
+    ∷ negℤ (pos 9188)
+    ∷ pos 4690
+    ∷ pos 6112
+    ∷ negℤ (pos 8093)
+    ∷ pos 2480
+    ∷ []
+
+abbrev pub printed : List ℕ
+printed =
+    contractRecord 3 500
+    ++ promptRecord 3 1 20260318 0 1000
+    ++ rowRecord 3 0 20260318 0 (pos 2) (pos 9800) 25 forwardLosses
+    ++ rowRecord 3 1 20260318 1850 (negsuc 2) (pos 5200) 25 callLosses
+
+-- The numbers of a spread's first and second step stand side by side.
+pub record Reckoned : Type 0 where
+  -- "Formed 0, 5, 20, 15, 0, 15; charge 17,000; .. prompt charge 225."
+  pub p1-formed : numbersOf caseThree ≡ 0 ∷ 0 ∷ 50000 ∷ 0 ∷ 200000 ∷ 0 ∷ 0 ∷ 150000 ∷ 0 ∷ 0 ∷ 0 ∷ 150000 ∷ []
+  pub p1-charge : interpromptOf caseThree ≡ 1700000
+  pub p1-prompts : promptOf caseThree ≡ 22500
+  -- "form 6, 4, 0"
+  pub p2 : numbersOf threeTiers ≡ 60000 ∷ 0 ∷ 40000 ∷ 0 ∷ 0 ∷ 0 ∷ []
+  -- "first step 1.5000, second 0.0001; left 0 long, 3.4998 short"
+  pub p3-formed : numbersOf oneTier ≡ 15000 ∷ 1 ∷ []
+  pub p3-left : unusedDeltas oneTier ≡ pos 0 ∷ negℤ (pos 34998) ∷ []
+  -- "formed 10, 0; charge 50.00"
+  pub p4-formed : numbersOf byPriority ≡ 100000 ∷ 0 ∷ 0 ∷ 0 ∷ []
+  pub p4-charge : interpromptOf byPriority ≡ 5000
+  -- "P5, P6: numbers 1.4999 and 1.5000 at a rate of one hundredth charge 1 and 2 hundredths"
+  pub p5 : spreadCharge 1 14999 0 ≡ 1
+  pub p6 : spreadCharge 1 15000 0 ≡ 2
+  -- "scanning risk 0, active scenario 1"
+  pub p7-risk : scanningRisk gains ≡ 0
+  pub p7-active : activeScenario gains ≡ 1
+  -- "P8, 000 AEX: price risk 5,100.42, used and net 1.0012, 85 percent: credit 4,335.36"
+  pub p8 : credit (2 * 510042) 10012 85 10012 ≡ 433536
+  -- "P9: active 15 pairs with 15"
+  pub p9 : pairOf 15 ≡ 15
+  -- "margin 500"
+  pub p10 : marginOf [] (asTier shortCall ∷ []) shortCall ≡ 500
+
+-- "it prints C 3 13 383250 0 400 0 1500 383650, T 383650"
+pub record Printed : Type 0 where
+  pub accepted : checked printed ≡ Accepted
+  pub prints : figures (records printed) ≡ map pos (3 ∷ 13 ∷ 383250 ∷ 0 ∷ 400 ∷ 0 ∷ 1500 ∷ 383650 ∷ 383650 ∷ [])

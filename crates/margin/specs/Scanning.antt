@@ -1,0 +1,35 @@
+-- "Scanning risk (002)" of document 01. Amounts are in hundredths of the currency.
+-- Assumes nothing.
+use Prim.Native.Nat.{ℕ}
+use mathlib.Core.List.{List, [], _∷_, map}
+use lib.IntN.{ℤ, pos, negsuc, _*ℤ_}
+use Rattle.exact.specs.Lists.{sumℤ}
+use Rattle.exact.specs.Largest.{largest, firstAt}
+use Rattle.record.specs.Layout.{Record, lots, value, loss}
+
+-- "lots × value × loss": what a row loses in a scenario
+abbrev pub product : ℕ → Record → ℤ
+product scenario row = lots row *ℤ pos (value row) *ℤ loss row scenario
+
+-- "For each scenario add lots × value × loss over the contract's rows."
+abbrev pub total : List Record → ℕ → ℤ
+total rows scenario = sumℤ (map (product scenario) rows)
+
+abbrev pub scenarios : List ℕ
+scenarios = 1 ∷ 2 ∷ 3 ∷ 4 ∷ 5 ∷ 6 ∷ 7 ∷ 8 ∷ 9 ∷ 10 ∷ 11 ∷ 12 ∷ 13 ∷ 14 ∷ 15 ∷ 16 ∷ []
+
+abbrev pub totals : List Record → List ℤ
+totals rows = map (total rows) scenarios
+
+-- ".. or 0 if that is negative"
+abbrev pub orZero : ℤ → ℕ
+orZero (pos n) = n
+orZero (negsuc n) = 0
+
+-- "Scanning risk is the largest total, or 0 if that is negative."
+abbrev pub scanningRisk : List ℤ → ℕ
+scanningRisk ts = orZero (largest ts)
+
+-- "The active scenario is the lowest number holding the largest total, even a negative one (house)."
+abbrev pub activeScenario : List ℤ → ℕ
+activeScenario ts = firstAt (largest ts) ts

@@ -1,0 +1,2 @@
+// Margin from an account: figures and delta books.
+pub mod pairs;

@@ -1,0 +1,216 @@
+-- The table of kinds and fields of document 01, "The account file", with its ranges. Every offset, width and range is said
+-- here and nowhere else.
+-- Assumes nothing.
+use Prim.Native.Nat.{ℕ, _+_, _-_, _*_}
+use mathlib.Core.Bool.{Bool, true, false, cond}
+use mathlib.Core.List.{List, [], _∷_, _++_, map}
+use lib.Dec.{eqb}
+use lib.IntN.{ℤ, pos, negℤ}
+pub use Rattle.record.specs.Bytes.{Record, recordBytes, byteAt, u16At, u32At, i32At}
+use Rattle.record.specs.Bytes.{Width, one, two, four, Range, plain, signed, Field, field, numberIn, signedIn, countFrom}
+
+-- "Contract numbers, days and tiers have the same range wherever they stand."
+abbrev pub contracts : Range
+contracts = plain 0 15
+
+abbrev pub days : Range
+days = plain 1 99999999
+
+abbrev pub tiers : Range
+tiers = plain 1 8
+
+-- "rates 0..10,000,000; ratios 1..100; lots -100,000..100,000 ..; value 1..10,000; losses -100,000..100,000"
+abbrev pub rates : Range
+rates = plain 0 10000000
+
+abbrev pub ratios : Range
+ratios = plain 1 100
+
+abbrev pub hundredThousands : Range
+hundredThousands = signed (negℤ (pos 100000)) (pos 100000)
+
+abbrev pub values : Range
+values = plain 1 10000
+
+-- "Byte 0 is the kind."
+abbrev pub kind : Record → ℕ
+kind r = byteAt r 0
+
+-- "1 contract | 1: number 0..15; 4-7: short option rate"; in every kind byte 1 names a contract
+abbrev pub contractField : Field
+contractField = field 1 one contracts
+
+abbrev pub shortOptionRateField : Field
+shortOptionRateField = field 4 four rates
+
+abbrev pub contractFields : List Field
+contractFields = contractField ∷ shortOptionRateField ∷ []
+
+-- "2 prompt | 1: contract; 2: tier 1..8; 4-7: day 1..99,999,999; 8-11: rate per delta in spreads; 12-15: rate per outright
+-- delta"
+abbrev pub tierField : Field
+tierField = field 2 one tiers
+
+abbrev pub dayField : Field
+dayField = field 4 four days
+
+abbrev pub spreadRateField : Field
+spreadRateField = field 8 four rates
+
+abbrev pub outrightRateField : Field
+outrightRateField = field 12 four rates
+
+abbrev pub promptFields : List Field
+promptFields = contractField ∷ tierField ∷ dayField ∷ spreadRateField ∷ outrightRateField ∷ []
+
+-- "3 row | 1: contract; 2: 0 forward, 1 call, 2 put; 4-7: day; 8-11: strike; 12-15: lots, signed; 16-19: delta, signed;
+-- 20-23: value per tick per lot; 24-87: sixteen losses, signed, scenario 1 first"
+abbrev pub rowTypeField : Field
+rowTypeField = field 2 one (plain 0 2)
+
+abbrev pub rowType : Record → ℕ
+rowType = numberIn rowTypeField
+
+abbrev pub forward : Record → Bool
+forward r = eqb (rowType r) 0
+
+abbrev pub put : Record → Bool
+put r = eqb (rowType r) 2
+
+-- "strike 0 for a forward, 1..4,294,967,295 otherwise"
+abbrev pub strikeField : Bool → Field
+strikeField isForward = field 8 four (cond isForward (plain 0 0) (plain 1 4294967295))
+
+abbrev pub lotsField : Field
+lotsField = field 12 four hundredThousands
+
+-- "delta 0..10,000 for forwards and calls, -10,000..0 for puts"
+abbrev pub deltaField : Bool → Field
+deltaField isPut = field 16 four (cond isPut (signed (negℤ (pos 10000)) (pos 0)) (signed (pos 0) (pos 10000)))
+
+abbrev pub valueField : Field
+valueField = field 20 four values
+
+abbrev pub lossField : ℕ → Field
+lossField scenario = field (24 + 4 * (scenario - 1)) four hundredThousands
+
+abbrev pub rowFields : Record → List Field
+rowFields r =
+    contractField ∷ rowTypeField ∷ dayField ∷ strikeField (forward r) ∷ lotsField ∷ deltaField (put r) ∷ valueField
+    ∷ map lossField (countFrom 1 16)
+
+-- "4 interprompt spread | 1: contract; 2: legs, 2 or 3; 4-7: rate per spread; legs at 8, 12, 16, each tier, side (1 = A, 2 =
+-- B), two-byte ratio"
+abbrev pub legCountField : Field
+legCountField = field 2 one (plain 2 3)
+
+abbrev pub ratePerSpreadField : Field
+ratePerSpreadField = field 4 four rates
+
+abbrev pub legTierField : ℕ → Field
+legTierField leg = field (8 + 4 * leg) one tiers
+
+abbrev pub legSideField : ℕ → Field
+legSideField leg = field (9 + 4 * leg) one (plain 1 2)
+
+abbrev pub legRatioField : ℕ → Field
+legRatioField leg = field (10 + 4 * leg) two ratios
+
+abbrev pub legFields : ℕ → List Field
+legFields leg = legTierField leg ∷ legSideField leg ∷ legRatioField leg ∷ []
+
+abbrev pub legCount : Record → ℕ
+legCount = numberIn legCountField
+
+-- "Bytes 16-19 of kind 4 are unused only when byte 2 holds 2."
+abbrev pub twoLegs : Record → Bool
+twoLegs r = eqb (legCount r) 2
+
+abbrev pub spreadFields : Record → List Field
+spreadFields r =
+    contractField ∷ legCountField ∷ ratePerSpreadField ∷ legFields 0 ++ legFields 1 ++ cond (twoLegs r) [] (legFields 2)
+
+-- "5 intercontract spread | 1, 2: contracts; 3: credit percent 0..100; 4-5, 6-7: their ratios"
+abbrev pub secondContractField : Field
+secondContractField = field 2 one contracts
+
+abbrev pub percentField : Field
+percentField = field 3 one (plain 0 100)
+
+abbrev pub firstRatioField : Field
+firstRatioField = field 4 two ratios
+
+abbrev pub secondRatioField : Field
+secondRatioField = field 6 two ratios
+
+abbrev pub entryFields : List Field
+entryFields = contractField ∷ secondContractField ∷ percentField ∷ firstRatioField ∷ secondRatioField ∷ []
+
+-- What goes with each kind of record, and with any other kind.
+abbrev pub byKind : {A : Type 0} → ℕ → A → A → A → A → A → A → A
+byKind k contract prompt row spread entry other =
+    cond (eqb k 1) contract
+    (cond (eqb k 2) prompt (cond (eqb k 3) row (cond (eqb k 4) spread (cond (eqb k 5) entry other))))
+
+abbrev pub fieldsOf : Record → List Field
+fieldsOf r = byKind (kind r) contractFields promptFields (rowFields r) (spreadFields r) entryFields []
+
+-- What stands in the fields.
+abbrev pub contract : Record → ℕ
+contract = numberIn contractField
+
+abbrev pub shortOptionRate : Record → ℕ
+shortOptionRate = numberIn shortOptionRateField
+
+abbrev pub tier : Record → ℕ
+tier = numberIn tierField
+
+abbrev pub day : Record → ℕ
+day = numberIn dayField
+
+abbrev pub spreadRate : Record → ℕ
+spreadRate = numberIn spreadRateField
+
+abbrev pub outrightRate : Record → ℕ
+outrightRate = numberIn outrightRateField
+
+abbrev pub strike : Record → ℕ
+strike r = numberIn (strikeField (forward r)) r
+
+abbrev pub lots : Record → ℤ
+lots = signedIn lotsField
+
+abbrev pub delta : Record → ℤ
+delta r = signedIn (deltaField (put r)) r
+
+abbrev pub value : Record → ℕ
+value = numberIn valueField
+
+-- the loss in a scenario, 1 to 16
+abbrev pub loss : Record → ℕ → ℤ
+loss r scenario = signedIn (lossField scenario) r
+
+abbrev pub ratePerSpread : Record → ℕ
+ratePerSpread = numberIn ratePerSpreadField
+
+-- of leg 0, 1 or 2
+abbrev pub legTier : Record → ℕ → ℕ
+legTier r leg = numberIn (legTierField leg) r
+
+abbrev pub legSide : Record → ℕ → ℕ
+legSide r leg = numberIn (legSideField leg) r
+
+abbrev pub legRatio : Record → ℕ → ℕ
+legRatio r leg = numberIn (legRatioField leg) r
+
+abbrev pub secondContract : Record → ℕ
+secondContract = numberIn secondContractField
+
+abbrev pub percent : Record → ℕ
+percent = numberIn percentField
+
+abbrev pub firstRatio : Record → ℕ
+firstRatio = numberIn firstRatioField
+
+abbrev pub secondRatio : Record → ℕ
+secondRatio = numberIn secondRatioField

@@ -1,0 +1,140 @@
+//! An accepted account, read from its records: contracts in file order, each with its prompts, rows
+//! and interprompt spreads, and the intercontract table.
+
+use crate::format::*;
+use crate::steps::{Leg, Side};
+use crate::units::{Amount, Delta};
+
+pub struct Account {
+    /// How many records the file has; refusals 10 and 11 name it.
+    pub records: usize,
+    pub contracts: Vec<Contract>,
+    pub entries: Vec<Entry>,
+}
+
+pub struct Contract {
+    pub number: i64,
+    pub short_option_rate: Amount,
+    pub prompts: Vec<Prompt>,
+    pub rows: Vec<Row>,
+    pub spreads: Vec<Spread>,
+}
+
+pub struct Prompt {
+    pub tier: i64,
+    pub day: i64,
+    pub rate_in_spreads: Amount,
+    pub rate_outright: Amount,
+}
+
+pub struct Row {
+    pub option: bool,
+    pub day: i64,
+    pub lots: i64,
+    pub delta: Delta,
+    /// Per tick and lot.
+    pub value: Amount,
+    /// In ticks, scenario 1 first.
+    pub losses: [i64; SCENARIOS],
+}
+
+/// An interprompt spread.
+pub struct Spread {
+    pub rate: Amount,
+    pub legs: Vec<Leg>,
+}
+
+/// An intercontract spread.
+pub struct Entry {
+    pub first: i64,
+    pub second: i64,
+    pub percent: i64,
+    pub first_ratio: i64,
+    pub second_ratio: i64,
+}
+
+impl Account {
+    /// Reads the records of a file that the check has accepted.
+    pub(crate) fn read(records: &[Record]) -> Account {
+        let mut account = Account { records: records.len(), contracts: vec![], entries: vec![] };
+        for record in records {
+            match record.kind() {
+                CONTRACT => account.contracts.push(contract(record)),
+                PROMPT => account.named_by(record).prompts.push(prompt(record)),
+                ROW => account.named_by(record).rows.push(row(record)),
+                SPREAD => account.named_by(record).spreads.push(spread(record)),
+                _ => account.entries.push(entry(record)),
+            }
+        }
+        account
+    }
+
+    /// The contract with this number, if the account lists it.
+    pub fn contract(&self, number: i64) -> Option<&Contract> {
+        self.contracts.iter().find(|contract| contract.number == number)
+    }
+
+    fn named_by(&mut self, record: &Record) -> &mut Contract {
+        let number = record.get(NUMBER);
+        self.contracts
+            .iter_mut()
+            .find(|contract| contract.number == number)
+            .expect("the check has seen that the contract is listed")
+    }
+}
+
+fn contract(record: &Record) -> Contract {
+    Contract {
+        number: record.get(NUMBER),
+        short_option_rate: Amount(record.get(SHORT_OPTION_RATE)),
+        prompts: vec![],
+        rows: vec![],
+        spreads: vec![],
+    }
+}
+
+fn prompt(record: &Record) -> Prompt {
+    Prompt {
+        tier: record.get(PROMPT_TIER),
+        day: record.get(DAY),
+        rate_in_spreads: Amount(record.get(RATE_IN_SPREADS)),
+        rate_outright: Amount(record.get(RATE_OUTRIGHT)),
+    }
+}
+
+fn row(record: &Record) -> Row {
+    let class = record.get(CLASS);
+    let mut losses = [0; SCENARIOS];
+    for (scenario, ticks) in losses.iter_mut().enumerate() {
+        *ticks = record.get(loss(scenario));
+    }
+    Row {
+        option: class == CALL || class == PUT,
+        day: record.get(DAY),
+        lots: record.get(LOTS),
+        delta: Delta(record.get(delta(class))),
+        value: Amount(record.get(VALUE)),
+        losses,
+    }
+}
+
+fn spread(record: &Record) -> Spread {
+    let legs = (0..legs_in_use(record.get(LEGS)))
+        .map(|leg| Leg {
+            tier: record.get(leg_tier(leg)),
+            side: if record.get(leg_side(leg)) == SIDE_A { Side::A } else { Side::B },
+            ratio: record.get(leg_ratio(leg)),
+        })
+        .collect();
+    Spread { rate: Amount(record.get(SPREAD_RATE)), legs }
+}
+
+fn entry(record: &Record) -> Entry {
+    Entry {
+        first: record.get(NUMBER),
+        second: record.get(SECOND_NUMBER),
+        percent: record.get(PERCENT),
+        first_ratio: record.get(FIRST_RATIO),
+        second_ratio: record.get(SECOND_RATIO),
+    }
+}

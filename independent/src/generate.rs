@@ -1,0 +1,80 @@
+//! Generated account files: from a seed and an index always the same bytes. About half are accepted
+//! accounts of every size; the others are such accounts damaged in one place or several, and noise.
+
+mod damage;
+mod random;
+mod sound;
+mod values;
+mod write;
+
+pub use random::Random;
+
+use crate::format::{MOST_BYTES, RECORD_BYTES};
+use write::Bytes;
+
+/// The file with this seed and index.
+pub fn account(seed: u64, index: u64) -> Vec<u8> {
+    let mut random = Random::new(seed, index);
+    match random.below(100) {
+        0..=44 => sound::account(&mut random).concat(),
+        45..=94 => {
+            let mut records = sound::account(&mut random);
+            damage::records(&mut random, &mut records);
+            let mut file = records.concat();
+            if random.one_in(8) {
+                damage::length(&mut random, &mut file);
+            }
+            file
+        }
+        95..=97 => loose_records(&mut random).concat(),
+        _ => noise(&mut random),
+    }
+}
+
+/// A question to put to a file: mostly 0 to 16, now and then one that can never be listed.
+pub fn question(random: &mut Random) -> u64 {
+    match random.below(16) {
+        0 => random.pick(&[17, 255, 256, 272, 1 << 32, (1 << 32) + 16, 1 << 63, u64::MAX]),
+        1..=5 => 16,
+        _ => random.below(16),
+    }
+}
+
+/// How many numbers to lend where an answer needs so many: too few now and then.
+pub fn lent(random: &mut Random, needed: usize) -> usize {
+    match random.below(8) {
+        0 => needed.saturating_sub(1),
+        1 => random.below(needed as u64 + 1) as usize,
+        2 => 0,
+        3 => needed + 1,
+        4 => needed + random.below(64) as usize,
+        _ => needed,
+    }
+}
+
+/// Records whose kinds rise and whose bytes are mostly small, without regard for anything else.
+fn loose_records(random: &mut Random) -> Vec<Bytes> {
+    let mut kinds: Vec<u8> =
+        (0..random.below(12)).map(|_| random.between(1, 5) as u8).collect();
+    kinds.sort_unstable();
+    let loose = |kind| {
+        let mut record = [0; RECORD_BYTES];
+        record[0] = kind;
+        for byte in [1, 2, 3, 4, 6, 8, 9, 10, 12, 13, 14, 16, 20] {
+            record[byte] = random.below(4) as u8;
+        }
+        record
+    };
+    kinds.into_iter().map(loose).collect()
+}
+
+/// Bytes of no meaning, of any length and of whole records.
+fn noise(random: &mut Random) -> Vec<u8> {
+    let length = match random.below(4) {
+        0 => random.below(300) as usize,
+        1 => RECORD_BYTES * random.below(20) as usize,
+        2 => random.below(5_000) as usize,
+        _ => MOST_BYTES - 100 + random.below(200) as usize,
+    };
+    (0..length).map(|_| random.next() as u8).collect()
+}

@@ -1,0 +1,204 @@
+//! Damage to an account: most of it is refused, some of it makes another accepted account.
+
+use super::random::Random;
+use super::values::end;
+use super::write::{put, record, Bytes};
+use crate::format::*;
+
+/// Damages one record, or several, or one record in several ways.
+pub fn records(random: &mut Random, records: &mut Vec<Bytes>) {
+    let times = random.pick(&[1, 1, 1, 1, 2, 2, 3]);
+    let stay = random.one_in(2);
+    let mut place = random.place(records.len().max(1));
+    for time in 0..times {
+        if time > 0 && !stay {
+            place = random.place(records.len().max(1));
+        }
+        place = at(random, records, place);
+    }
+}
+
+/// One damage at a record; gives the place of the record damaged.
+fn at(random: &mut Random, records: &mut Vec<Bytes>, place: usize) -> usize {
+    if place >= records.len() {
+        records.push(record(random.between(0, 6) as u8, &[]));
+        return records.len() - 1;
+    }
+    match random.below(20) {
+        0 => records[place][0] = random.pick(&[0, 6, 7, 128, 255]),
+        1 => records[place][0] = random.between(1, 5) as u8,
+        2 | 3 => unused_byte(random, &mut records[place]),
+        4..=6 => field_at_its_end(random, &mut records[place]),
+        7 => renumber(random, &mut records[place]),
+        8 | 9 => misname(random, records, place),
+        10 => clash(random, &mut records[place]),
+        11 => flip(random, &mut records[place]),
+        12 => {
+            let other = random.place(records.len());
+            records.swap(place, other);
+        }
+        13 => {
+            let next = (place + 1).min(records.len() - 1);
+            records.swap(place, next);
+            return next;
+        }
+        14 => return double(random, records, place),
+        15 => return drop(records, place),
+        16 => return shift(random, records, place),
+        _ => return overfill(random, records, place),
+    }
+    place
+}
+
+/// Sets a byte that the record does not use.
+fn unused_byte(random: &mut Random, record: &mut Bytes) {
+    let fields = Record(record).fields();
+    let unused: Vec<usize> = (1..RECORD_BYTES)
+        .filter(|byte| !fields.iter().any(|field| (field.at..field.at + field.bytes).contains(byte)))
+        .collect();
+    let edges = [unused[0], unused[unused.len() - 1], random.pick(&unused), random.pick(&unused)];
+    record[random.pick(&edges)] = random.between(1, 255) as u8;
+}
+
+/// Moves a field to an end of its range, or one past it, or far out.
+fn field_at_its_end(random: &mut Random, record: &mut Bytes) {
+    let fields = Record(record).fields();
+    if fields.is_empty() {
+        return;
+    }
+    let field = random.pick(&fields);
+    let number = match random.below(6) {
+        0 => field.least - 1,
+        1 | 2 => field.most + 1,
+        3 => random.next() as i64,
+        4 => random.pick(&[i64::from(i32::MIN), i64::from(i32::MAX), -1, 1 << 31]),
+        _ => end(random, field),
+    };
+    put(record, field, number);
+}
+
+fn renumber(random: &mut Random, record: &mut Bytes) {
+    let field = if record[0] == ENTRY { random.pick(&[NUMBER, SECOND_NUMBER]) } else { NUMBER };
+    put(record, field, random.between(0, 15));
+}
+
+/// Makes a record name another day or tier: near, like it in part, or another contract's.
+fn misname(random: &mut Random, records: &mut [Bytes], place: usize) {
+    let other = random.pick(records);
+    let record = &mut records[place];
+    match record[0] {
+        PROMPT if random.one_in(2) => put(record, PROMPT_TIER, random.between(1, 8)),
+        PROMPT | ROW => {
+            let day = Record(record).get(DAY);
+            let far = random.pick(&[1, 256, 65_536, 1 << 24, 100, 10_000, 1_000_000, 10_000_000]);
+            let new = match random.below(4) {
+                0 if other[0] == PROMPT => Record(&other).get(DAY),
+                0 | 1 => day + far,
+                2 => day - far,
+                _ => day % far,
+            };
+            put(record, DAY, new.clamp(DAY.least, DAY.most));
+        }
+        SPREAD => {
+            let leg = random.place(3);
+            put(record, leg_tier(leg), random.between(1, 8));
+        }
+        _ => renumber(random, record),
+    }
+}
+
+/// Makes legs or contracts clash.
+fn clash(random: &mut Random, record: &mut Bytes) {
+    match record[0] {
+        SPREAD if random.one_in(2) => {
+            let side = random.pick(&[SIDE_A, SIDE_B]);
+            for leg in 0..legs_in_use(Record(record).get(LEGS)) {
+                put(record, leg_side(leg), side);
+            }
+        }
+        SPREAD => {
+            let leg = Record(record).get(leg_tier(0));
+            let side = Record(record).get(leg_side(0));
+            let onto = random.between(1, 2) as usize;
+            put(record, leg_tier(onto), leg);
+            put(record, leg_side(onto), side);
+        }
+        ENTRY => record[SECOND_NUMBER.at] = record[NUMBER.at],
+        _ => renumber(random, record),
+    }
+}
+
+fn flip(random: &mut Random, record: &mut Bytes) {
+    for _ in 0..random.between(1, 3) {
+        record[random.place(RECORD_BYTES)] ^= 1 << random.below(8);
+    }
+}
+
+fn double(random: &mut Random, records: &mut Vec<Bytes>, place: usize) -> usize {
+    let onto = if random.one_in(3) { random.place(records.len() + 1) } else { place + 1 };
+    records.insert(onto, records[place]);
+    onto
+}
+
+fn drop(records: &mut Vec<Bytes>, place: usize) -> usize {
+    records.remove(place);
+    place.min(records.len().saturating_sub(1))
+}
+
+fn shift(random: &mut Random, records: &mut Vec<Bytes>, place: usize) -> usize {
+    let moved = records.remove(place);
+    let onto = random.place(records.len() + 1);
+    records.insert(onto, moved);
+    onto
+}
+
+/// Adds records like this one until its contract has one more than the limit of the kind; a few
+/// times it stops at the limit. The place is that of the last one added.
+fn overfill(random: &mut Random, records: &mut Vec<Bytes>, place: usize) -> usize {
+    let like = records[place];
+    let most = match like[0] {
+        PROMPT => MOST_PROMPTS,
+        ROW => MOST_ROWS,
+        SPREAD => MOST_SPREADS,
+        ENTRY => MOST_ENTRIES,
+        _ => return place,
+    };
+    let same = |other: &Bytes| {
+        other[0] == like[0] && (like[0] == ENTRY || other[NUMBER.at] == like[NUMBER.at])
+    };
+    let target = if random.one_in(4) { most } else { most + 1 };
+    let mut last = records.iter().rposition(same).unwrap_or(place);
+    let mut count = records.iter().filter(|other| same(other)).count();
+    while count < target {
+        let mut added = records[last];
+        if like[0] == PROMPT {
+            let day = Record(&added).get(DAY);
+            put(&mut added, DAY, (day + 1).min(DAY.most));
+        }
+        last += 1;
+        count += 1;
+        records.insert(last, added);
+    }
+    last
+}
+
+/// Damages the length of a file: cut, added to, or beyond 61,440 bytes.
+pub fn length(random: &mut Random, file: &mut Vec<u8>) {
+    match random.below(8) {
+        0 | 1 => file.truncate(random.place(file.len() + 1)),
+        2 => file.truncate(file.len().saturating_sub(random.place(3))),
+        3 | 4 => {
+            for _ in 0..random.between(1, 200) {
+                file.push(random.next() as u8);
+            }
+        }
+        5 => file.resize(file.len() + random.pick(&[1, 95, 96, 97, 192]), 0),
+        6 => file.resize(MOST_BYTES + random.pick(&[1, 95, 96, 97, 192, 9_600]), 0),
+        _ => {
+            let whole = file.clone();
+            while !file.is_empty() && file.len() <= MOST_BYTES {
+                file.extend_from_slice(&whole);
+            }
+        }
+    }
+}

@@ -1,0 +1,96 @@
+//! The spread steps, done at the prompts themselves. They serve the interprompt spreads of a
+//! contract and the intercontract table alike.
+
+use crate::units::{Delta, Spreads};
+
+#[derive(Clone, Copy, Debug, PartialEq, Eq)]
+pub enum Side {
+    A,
+    B,
+}
+
+#[derive(Clone, Copy, Debug, PartialEq, Eq)]
+pub struct Leg {
+    pub tier: i64,
+    pub side: Side,
+    pub ratio: i64,
+}
+
+/// A prompt as the steps see it: its tier and its net delta. Prompts stand earliest day first.
+#[derive(Clone, Copy, Debug, PartialEq, Eq)]
+pub struct Net {
+    pub tier: i64,
+    pub delta: Delta,
+}
+
+/// One step: the number of spreads formed, and what each prompt gave, with the sign of its net delta.
+#[derive(Clone, Debug, PartialEq, Eq)]
+pub struct Step {
+    pub number: Spreads,
+    pub given: Vec<Delta>,
+}
+
+/// The two steps of each spread, in file order: "first A legs take long and B legs short, then the
+/// reverse." "What one step leaves is handed to the next."
+pub fn steps(prompts: &[Net], spreads: &[Vec<Leg>]) -> Vec<[Step; 2]> {
+    let mut unused: Vec<Delta> = prompts.iter().map(|prompt| prompt.delta).collect();
+    let mut done = vec![];
+    for legs in spreads {
+        let first = step(prompts, &mut unused, legs, Side::A);
+        let second = step(prompts, &mut unused, legs, Side::B);
+        done.push([first, second]);
+    }
+    done
+}
+
+/// What each prompt gave over all the steps.
+pub fn used(prompts: &[Net], done: &[[Step; 2]]) -> Vec<Delta> {
+    (0..prompts.len())
+        .map(|prompt| done.iter().flatten().map(|step| step.given[prompt]).sum())
+        .collect()
+}
+
+/// One step, in which the legs of side `long` take long deltas and the others short ones.
+fn step(prompts: &[Net], unused: &mut [Delta], legs: &[Leg], long: Side) -> Step {
+    // "The number formed is the smallest over its legs of pool divided by ratio, whole
+    // ten-thousandths, rounded down."
+    let number = legs
+        .iter()
+        .map(|leg| pool(prompts, unused, leg, long).0 / leg.ratio)
+        .min()
+        .expect("a spread has legs");
+    let mut given = vec![Delta(0); prompts.len()];
+    for leg in legs {
+        // "Each leg takes number × ratio from the prompts of its tier on that side, earliest day
+        // first."
+        let mut wanted = Delta(number * leg.ratio);
+        for prompt in on_its_side(prompts, unused, leg, long) {
+            let taken = wanted.min(unused[prompt].size());
+            wanted -= taken;
+            let taken = if unused[prompt] < Delta(0) { -taken } else { taken };
+            given[prompt] += taken;
+            unused[prompt] -= taken;
+        }
+    }
+    Step { number: Spreads(number), given }
+}
+
+/// "A tier's long pool is the sum of its positive unused deltas, its short pool that of its negative
+/// ones, sign dropped": the pool that a leg takes from.
+fn pool(prompts: &[Net], unused: &[Delta], leg: &Leg, long: Side) -> Delta {
+    on_its_side(prompts, unused, leg, long).iter().map(|prompt| unused[*prompt].size()).sum()
+}
+
+/// The prompts of a leg's tier whose unused delta is on the side that the leg takes from.
+fn on_its_side(prompts: &[Net], unused: &[Delta], leg: &Leg, long: Side) -> Vec<usize> {
+    (0..prompts.len())
+        .filter(|prompt| prompts[*prompt].tier == leg.tier)
+        .filter(|prompt| {
+            if leg.side == long {
+                unused[*prompt] > Delta(0)
+            } else {
+                unused[*prompt] < Delta(0)
+            }
+        })
+        .collect()
+}

@@ -1,0 +1,253 @@
+//! A survey of generated files: how often each answer occurs, how large the files are, what their
+//! figures show, and which refusals compete in one file.
+
+use independent::book::{interprompt, intercontract, INTERCONTRACT};
+use independent::check::{fault, not_whole_records, too_long};
+use independent::format::{records, Record, CONTRACT, MOST_RECORDS, NUMBER, RECORD_BYTES};
+use independent::generate::{self, Random};
+use independent::margin::{figures_of, totals, twice_price_risk, Figures};
+use independent::refusal::*;
+use independent::steps::Step;
+use independent::units::{Amount, Delta, Spreads};
+use independent::{book, check, figures, Account, Refusal};
+use std::collections::BTreeMap;
+use std::fmt;
+use std::io;
+
+/// From this many files on, every refusal must have occurred.
+const TELLING: u64 = 2_000;
+
+/// The size classes of the histogram: the most records of each.
+const SIZES: [usize; 9] = [0, 5, 10, 20, 40, 80, 160, 320, MOST_RECORDS];
+
+pub struct Survey {
+    count: u64,
+    accepted: u64,
+    refusals: BTreeMap<u8, u64>,
+    sizes: BTreeMap<usize, u64>,
+    /// How many different numbers of records accepted files have.
+    lengths: Vec<bool>,
+    sights: BTreeMap<&'static str, u64>,
+    active: BTreeMap<usize, u64>,
+    /// The first fault of a file and another condition that holds for the same record.
+    in_one_record: BTreeMap<(u8, u8), u64>,
+    /// The first fault of a file and one of a later record, of the file or of the question.
+    in_one_file: BTreeMap<(u8, u8), u64>,
+}
+
+impl Survey {
+    pub fn of(seed: u64, count: u64) -> Survey {
+        let mut survey = Survey {
+            count,
+            accepted: 0,
+            refusals: BTreeMap::new(),
+            sizes: BTreeMap::new(),
+            lengths: vec![false; MOST_RECORDS + 1],
+            sights: BTreeMap::new(),
+            active: BTreeMap::new(),
+            in_one_record: BTreeMap::new(),
+            in_one_file: BTreeMap::new(),
+        };
+        for index in 0..count {
+            let file = generate::account(seed, index);
+            let mut random = Random::new(!seed, index);
+            survey.see(&file, &mut random);
+        }
+        survey
+    }
+
+    fn see(&mut self, file: &[u8], random: &mut Random) {
+        match check(file) {
+            Ok(account) => {
+                self.accepted += 1;
+                self.lengths[account.records] = true;
+                let class = SIZES.iter().find(|most| account.records <= **most);
+                *self.sizes.entry(*class.unwrap_or(&MOST_RECORDS)).or_default() += 1;
+                self.sights_of(&account);
+            }
+            Err(refusal) => {
+                *self.refusals.entry(refusal.number).or_default() += 1;
+                self.competitors(file, refusal);
+            }
+        }
+        self.ask(file, random);
+    }
+
+    /// Puts questions with numbers lent that may be too few; counts refusals 10 and 11.
+    fn ask(&mut self, file: &[u8], random: &mut Random) {
+        let question = generate::question(random);
+        let mut all = [0; 256];
+        let asked = figures(file, &mut all).and_then(|needed| {
+            figures(file, &mut all[..generate::lent(random, needed)])
+        });
+        let needed = book(file, question, &mut all);
+        let lent = generate::lent(random, *needed.as_ref().unwrap_or(&0));
+        let booked = book(file, question, &mut all[..lent]);
+        for answer in [asked, booked] {
+            match answer {
+                Err(refusal) if refusal.number >= TOO_FEW_LENT => {
+                    *self.refusals.entry(refusal.number).or_default() += 1;
+                }
+                _ => {}
+            }
+        }
+        let listed = |record: &Record| {
+            record.kind() == CONTRACT && u64::try_from(record.get(NUMBER)) == Ok(question)
+        };
+        let contract_unlisted = question != INTERCONTRACT && !records(file).iter().any(listed);
+        match booked {
+            Err(refusal) if refusal.number < UNLISTED_QUESTION && contract_unlisted => {
+                self.compete(refusal.number, UNLISTED_QUESTION);
+            }
+            Err(refusal) if refusal.number == UNLISTED_QUESTION && lent == 0 => {
+                self.compete(UNLISTED_QUESTION, TOO_FEW_LENT);
+            }
+            _ => {}
+        }
+    }
+
+    fn compete(&mut self, first: u8, other: u8) {
+        *self.in_one_file.entry((first, other)).or_default() += 1;
+    }
+
+    /// Notes the other conditions that hold in a refused file.
+    fn competitors(&mut self, file: &[u8], first: Refusal) {
+        let records = records(file);
+        let mut later = [false; OVER_LIMIT as usize + 1];
+        if first.number == TOO_LONG {
+            later[NOT_WHOLE_RECORDS as usize] = not_whole_records(file);
+        }
+        let whole_file = too_long(file) || not_whole_records(file);
+        for place in first.record..records.len().min(MOST_RECORDS) {
+            for number in UNKNOWN_KIND..=OVER_LIMIT {
+                if !fault(number, records[place], &records[..place]) {
+                    continue;
+                }
+                if whole_file || place > first.record {
+                    later[number as usize] = true;
+                } else if number > first.number {
+                    *self.in_one_record.entry((first.number, number)).or_default() += 1;
+                }
+            }
+        }
+        for number in NOT_WHOLE_RECORDS..=OVER_LIMIT {
+            if later[number as usize] {
+                self.compete(first.number, number);
+            }
+        }
+    }
+
+    fn sight(&mut self, what: &'static str, seen: bool) {
+        *self.sights.entry(what).or_default() += u64::from(seen);
+    }
+
+    fn sights_of(&mut self, account: &Account) {
+        let all = figures_of(account);
+        for contract in &all {
+            *self.active.entry(contract.active_scenario).or_default() += 1;
+        }
+        let any = |seen: fn(&Figures) -> bool| all.iter().any(seen);
+        self.sight("an interprompt charge", any(|of| of.interprompt_charge > Amount(0)));
+        self.sight("a prompt charge", any(|of| of.prompt_charge > Amount(0)));
+        self.sight("a credit", any(|of| of.credit > Amount(0)));
+        self.sight(
+            "a credit above the risk",
+            any(|of| of.credit > of.scanning_risk + of.interprompt_charge + of.prompt_charge),
+        );
+        self.sight(
+            "a short option minimum above the risk",
+            any(|of| {
+                let risk = of.scanning_risk + of.interprompt_charge + of.prompt_charge - of.credit;
+                of.short_option_minimum > risk
+            }),
+        );
+        self.sight("a contract without prompts", account.contracts.iter().any(|of| of.prompts.is_empty()));
+        self.sight("sixteen contracts", account.contracts.len() == 16);
+        self.totals_of(account);
+        self.steps_of(account);
+    }
+
+    fn totals_of(&mut self, account: &Account) {
+        let all: Vec<_> = account.contracts.iter().map(totals).collect();
+        let largest = |of: &[Amount; 16]| of.iter().max().copied().unwrap_or_default();
+        self.sight("an active total below 0", all.iter().any(|of| largest(of) < Amount(0)));
+        let ties = |of: &[Amount; 16]| of.iter().filter(|total| **total == largest(of)).count() > 1;
+        let moved = |of: &[Amount; 16]| of.iter().any(|total| *total != of[0]);
+        self.sight("scenarios that tie", all.iter().any(|of| ties(of) && moved(of)));
+        let table = intercontract(account);
+        let used = |place: usize| table.lines[place].used != Delta(0);
+        let without = |place: usize| twice_price_risk(&all[place]) == Amount(0);
+        self.sight(
+            "used between contracts without price risk",
+            (0..all.len()).any(|place| used(place) && without(place)),
+        );
+    }
+
+    fn steps_of(&mut self, account: &Account) {
+        let books: Vec<_> = account.contracts.iter().map(interprompt).collect();
+        let forms = |step: &Step| step.number > Spreads(0);
+        let spreads = || books.iter().flat_map(|book| &book.steps);
+        self.sight("an interprompt spread formed", spreads().flatten().any(forms));
+        self.sight("both steps of a spread formed", spreads().any(|of| of.iter().all(forms)));
+        let three = account.contracts.iter().zip(&books).any(|(contract, book)| {
+            let formed = |place: usize| book.steps[place].iter().any(forms);
+            (0..contract.spreads.len())
+                .any(|place| contract.spreads[place].legs.len() == 3 && formed(place))
+        });
+        self.sight("a spread of three legs formed", three);
+        let sharing = books.iter().any(|book| {
+            book.lines.iter().any(|line| line.used != Delta(0) && line.unused != Delta(0))
+        });
+        self.sight("a prompt used in part", sharing);
+        let table = intercontract(account);
+        self.sight("an intercontract spread formed", table.steps.iter().flatten().any(forms));
+        self.sight("an intercontract second step formed", table.steps.iter().any(|of| forms(&of[1])));
+        let flat = (0..account.contracts.len()).any(|place| {
+            table.lines[place].net == Delta(0)
+                && books[place].lines.iter().any(|line| line.net != Delta(0))
+        });
+        self.sight("a contract flat over prompts that are not", flat);
+    }
+
+    /// A fault if a refusal never occurred in a count that should show every one.
+    pub fn nothing_missing(&self) -> io::Result<()> {
+        let missing: Vec<String> = (TOO_LONG..=UNLISTED_QUESTION)
+            .filter(|number| !self.refusals.contains_key(number))
+            .map(|number| number.to_string())
+            .collect();
+        if self.count < TELLING || missing.is_empty() {
+            Ok(())
+        } else {
+            Err(io::Error::other(format!("refusals that never occurred: {}", missing.join(", "))))
+        }
+    }
+}
+
+impl fmt::Display for Survey {
+    fn fmt(&self, out: &mut fmt::Formatter<'_>) -> fmt::Result {
+        writeln!(out, "files {}", self.count)?;
+        writeln!(out, "accepted {}", self.accepted)?;
+        for (number, count) in &self.refusals {
+            writeln!(out, "refusal {number}: {count}")?;
+        }
+        let lengths = self.lengths.iter().filter(|seen| **seen).count();
+        writeln!(out, "different record counts among accepted files: {lengths} of 641")?;
+        for (most, count) in &self.sizes {
+            let bytes = most * RECORD_BYTES;
+            writeln!(out, "accepted with at most {most} records ({bytes} bytes): {count}")?;
+        }
+        for (what, count) in &self.sights {
+            writeln!(out, "accepted with {what}: {count}")?;
+        }
+        for (scenario, count) in &self.active {
+            writeln!(out, "active scenario {scenario}: {count} contracts")?;
+        }
+        for ((first, other), count) in &self.in_one_record {
+            writeln!(out, "refusal {first} while {other} holds for the same record: {count}")?;
+        }
+        for ((first, other), count) in &self.in_one_file {
+            writeln!(out, "refusal {first} while {other} holds elsewhere: {count}")?;
+        }
+        Ok(())
+    }
+}

@@ -1,0 +1,105 @@
+//! "Three units occur: deltas and numbers of spreads in ten-thousandths, amounts in hundredths of
+//! the currency, losses in ticks." The first three are kept apart here by type.
+
+use std::iter::Sum;
+use std::ops::{Add, AddAssign, Neg, Sub, SubAssign};
+
+/// How many ten-thousandths make one delta or one spread.
+pub const ONE: i64 = 10_000;
+
+/// A delta in ten-thousandths: above 0 long, below 0 short.
+#[derive(Clone, Copy, Debug, Default, PartialEq, Eq, PartialOrd, Ord)]
+pub struct Delta(pub i64);
+
+/// A number of spreads in ten-thousandths.
+#[derive(Clone, Copy, Debug, Default, PartialEq, Eq, PartialOrd, Ord)]
+pub struct Spreads(pub i64);
+
+/// An amount in hundredths of the currency.
+#[derive(Clone, Copy, Debug, Default, PartialEq, Eq, PartialOrd, Ord)]
+pub struct Amount(pub i64);
+
+impl Delta {
+    /// The delta with its sign dropped.
+    pub fn size(self) -> Delta {
+        Delta(self.0.abs())
+    }
+}
+
+impl Add for Delta {
+    type Output = Delta;
+    fn add(self, other: Delta) -> Delta {
+        Delta(self.0 + other.0)
+    }
+}
+
+impl Sub for Delta {
+    type Output = Delta;
+    fn sub(self, other: Delta) -> Delta {
+        Delta(self.0 - other.0)
+    }
+}
+
+impl Neg for Delta {
+    type Output = Delta;
+    fn neg(self) -> Delta {
+        Delta(-self.0)
+    }
+}
+
+impl AddAssign for Delta {
+    fn add_assign(&mut self, other: Delta) {
+        *self = *self + other;
+    }
+}
+
+impl SubAssign for Delta {
+    fn sub_assign(&mut self, other: Delta) {
+        *self = *self - other;
+    }
+}
+
+impl Sum for Delta {
+    fn sum<I: Iterator<Item = Delta>>(deltas: I) -> Delta {
+        deltas.fold(Delta(0), Add::add)
+    }
+}
+
+impl Add for Spreads {
+    type Output = Spreads;
+    fn add(self, other: Spreads) -> Spreads {
+        Spreads(self.0 + other.0)
+    }
+}
+
+impl Add for Amount {
+    type Output = Amount;
+    fn add(self, other: Amount) -> Amount {
+        Amount(self.0 + other.0)
+    }
+}
+
+impl Sub for Amount {
+    type Output = Amount;
+    fn sub(self, other: Amount) -> Amount {
+        Amount(self.0 - other.0)
+    }
+}
+
+impl AddAssign for Amount {
+    fn add_assign(&mut self, other: Amount) {
+        *self = *self + other;
+    }
+}
+
+impl Sum for Amount {
+    fn sum<I: Iterator<Item = Amount>>(amounts: I) -> Amount {
+        amounts.fold(Amount(0), Add::add)
+    }
+}
+
+/// A quotient rounded once to a whole number, halves up; for a dividend not below 0.
+pub fn halves_up(dividend: i128, divisor: i128) -> i64 {
+    let rounded = (2 * dividend + divisor) / (2 * divisor);
+    i64::try_from(rounded).expect("an answer of an accepted account fits in 64 bits")
+}

@@ -1,0 +1,12 @@
+//! The examples of the papers, the refusals and their order, and the program's lines.
+
+mod answers;
+mod builder;
+mod generated;
+mod lme;
+mod method;
+mod order;
+mod program;
+mod reckoned;
+mod refusals;
+mod wrong;

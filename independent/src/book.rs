@@ -78,7 +78,8 @@ pub fn interprompt(contract: &Contract) -> Book {
         .iter()
         .map(|prompt| Net { tier: prompt.tier, delta: net_delta(contract, prompt) })
         .collect();
-    let spreads: Vec<Vec<Leg>> = contract.spreads.iter().map(|spread| spread.legs.clone()).collect();
+    let spreads: Vec<Vec<Leg>> =
+        contract.spreads.iter().map(|spread| spread.legs.clone()).collect();
     Book::of(&prompts, &spreads)
 }
 

@@ -54,8 +54,7 @@ pub fn lent(random: &mut Random, needed: usize) -> usize {
 
 /// Records whose kinds rise and whose bytes are mostly small, without regard for anything else.
 fn loose_records(random: &mut Random) -> Vec<Bytes> {
-    let mut kinds: Vec<u8> =
-        (0..random.below(12)).map(|_| random.between(1, 5) as u8).collect();
+    let mut kinds: Vec<u8> = (0..random.below(12)).map(|_| random.between(1, 5) as u8).collect();
     kinds.sort_unstable();
     let loose = |kind| {
         let mut record = [0; RECORD_BYTES];
@@ -76,5 +75,5 @@ fn noise(random: &mut Random) -> Vec<u8> {
         2 => random.below(5_000) as usize,
         _ => MOST_BYTES - 100 + random.below(200) as usize,
     };
-    (0..length).map(|_| random.next() as u8).collect()
+    (0..length).map(|_| random.word() as u8).collect()
 }

@@ -7,7 +7,8 @@ use independent::{check, figures, generate, held_book};
 use std::io::{self, Read, Write};
 use std::process::ExitCode;
 
-const USAGE: &str = "usage: independent                     the figures of the file on standard input
+const USAGE: &str =
+    "usage: independent                     the figures of the file on standard input
        independent check               whether the file is accepted
        independent book QUESTION       a delta book, 0 to 15, or 16 for the intercontract table
        independent survey SEED COUNT   what occurs in so many generated files

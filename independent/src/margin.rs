@@ -2,7 +2,7 @@
 //! the total.
 
 use crate::account::{Account, Contract, Prompt};
-use crate::book::{interprompt, intercontract, Book, Line};
+use crate::book::{intercontract, interprompt, Book, Line};
 use crate::format::SCENARIOS;
 use crate::units::{halves_up, Amount, Delta, Spreads, ONE};
 
@@ -64,8 +64,12 @@ fn contract_figures(account: &Account, table: &Book, place: usize, contract: &Co
         .enumerate()
         .map(|(spread, terms)| spread_charge(book.formed(spread), terms.rate))
         .sum();
-    let prompt_charges =
-        contract.prompts.iter().zip(&book.lines).map(|(prompt, line)| prompt_charge(prompt, line)).sum();
+    let prompt_charges = contract
+        .prompts
+        .iter()
+        .zip(&book.lines)
+        .map(|(prompt, line)| prompt_charge(prompt, line))
+        .sum();
     let credit = credits(account, table, place, twice_price_risk(&totals));
     let minimum = short_option_minimum(contract);
     Figures {
@@ -156,8 +160,7 @@ pub fn credit(twice_price_risk: Amount, used: Delta, net: Delta, percent: i64) -
     if net == Delta(0) {
         return Amount(0);
     }
-    let product =
-        i128::from(twice_price_risk.0) * i128::from(used.size().0) * i128::from(percent);
+    let product = i128::from(twice_price_risk.0) * i128::from(used.size().0) * i128::from(percent);
     Amount(halves_up(product, 2 * 100 * i128::from(net.size().0)))
 }
 

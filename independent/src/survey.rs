@@ -1,7 +1,7 @@
 //! A survey of generated files: how often each answer occurs, how large the files are, what their
 //! figures show, and which refusals compete in one file.
 
-use independent::book::{interprompt, intercontract, INTERCONTRACT};
+use independent::book::{intercontract, interprompt, INTERCONTRACT};
 use independent::check::{fault, not_whole_records, too_long};
 use independent::format::{records, Record, CONTRACT, MOST_RECORDS, NUMBER, RECORD_BYTES};
 use independent::generate::{self, Random};
@@ -77,9 +77,8 @@ impl Survey {
     fn ask(&mut self, file: &[u8], random: &mut Random) {
         let question = generate::question(random);
         let mut all = [0; 256];
-        let asked = figures(file, &mut all).and_then(|needed| {
-            figures(file, &mut all[..generate::lent(random, needed)])
-        });
+        let asked = figures(file, &mut all)
+            .and_then(|needed| figures(file, &mut all[..generate::lent(random, needed)]));
         let needed = book(file, question, &mut all);
         let lent = generate::lent(random, *needed.as_ref().unwrap_or(&0));
         let booked = book(file, question, &mut all[..lent]);
@@ -161,7 +160,10 @@ impl Survey {
                 of.short_option_minimum > risk
             }),
         );
-        self.sight("a contract without prompts", account.contracts.iter().any(|of| of.prompts.is_empty()));
+        self.sight(
+            "a contract without prompts",
+            account.contracts.iter().any(|of| of.prompts.is_empty()),
+        );
         self.sight("sixteen contracts", account.contracts.len() == 16);
         self.totals_of(account);
         self.steps_of(account);
@@ -201,7 +203,10 @@ impl Survey {
         self.sight("a prompt used in part", sharing);
         let table = intercontract(account);
         self.sight("an intercontract spread formed", table.steps.iter().flatten().any(forms));
-        self.sight("an intercontract second step formed", table.steps.iter().any(|of| forms(&of[1])));
+        self.sight(
+            "an intercontract second step formed",
+            table.steps.iter().any(|of| forms(&of[1])),
+        );
         let flat = (0..account.contracts.len()).any(|place| {
             table.lines[place].net == Delta(0)
                 && books[place].lines.iter().any(|line| line.net != Delta(0))

@@ -1,3 +1,5 @@
 pub mod Lists
 pub mod Rounding
+pub mod Signed
+pub mod Wide
 pub mod Largest

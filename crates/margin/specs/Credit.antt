@@ -9,7 +9,8 @@ use lib.IntN.{ℤ, pos, _+ℤ_, _-ℤ_}
 use Rattle.exact.specs.Rounding.{halfUp}
 use Rattle.record.specs.Layout.{Record, percent}
 use Rattle.spread.specs.Steps.{Open, Market, long, short, pool, steps, left}
-use Rattle.margin.specs.Scanning.{orZero, activeScenario}
+use Rattle.exact.specs.Signed.{orZero}
+use Rattle.margin.specs.Scanning.{activeScenario}
 use Rattle.margin.specs.Pairs.{pairOf}
 use Rattle.margin.specs.Deltas.{intercontract}
 

@@ -2,8 +2,9 @@
 -- Assumes nothing.
 use Prim.Native.Nat.{ℕ}
 use mathlib.Core.List.{List, [], _∷_, map}
-use lib.IntN.{ℤ, pos, negsuc, _*ℤ_}
+use lib.IntN.{ℤ, pos, _*ℤ_}
 use Rattle.exact.specs.Lists.{sumℤ}
+use Rattle.exact.specs.Signed.{orZero}
 use Rattle.exact.specs.Largest.{largest, firstAt}
 use Rattle.record.specs.Layout.{Record, lots, value, loss}
 
@@ -20,11 +21,6 @@ scenarios = 1 ∷ 2 ∷ 3 ∷ 4 ∷ 5 ∷ 6 ∷ 7 ∷ 8 ∷ 9 ∷ 10 ∷ 11 ∷ 
 
 abbrev pub totals : List Record → List ℤ
 totals rows = map (total rows) scenarios
-
--- ".. or 0 if that is negative"
-abbrev pub orZero : ℤ → ℕ
-orZero (pos n) = n
-orZero (negsuc n) = 0
 
 -- "Scanning risk is the largest total, or 0 if that is negative."
 abbrev pub scanningRisk : List ℤ → ℕ

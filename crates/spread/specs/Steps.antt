@@ -6,8 +6,9 @@ use mathlib.Core.Bool.{Bool, true, false, cond}
 use mathlib.Core.List.{List, [], _∷_, map}
 use lib.ListN.{take}
 use lib.Dec.{eqb}
-use lib.IntN.{ℤ, pos, negsuc, negℤ, _-ℤ_}
+use lib.IntN.{ℤ, pos, negsuc, _-ℤ_}
 use Rattle.exact.specs.Lists.{sum, least}
+use Rattle.exact.specs.Signed.{towardsZero}
 use Rattle.spread.specs.declared.Leg.{Leg}
 use Rattle.spread.specs.declared.Spread.{Spread}
 
@@ -71,10 +72,6 @@ abbrev pub useOf : ℕ → ℕ → ℕ
 useOf number ratio = number * ratio
 
 -- no prompt goes past zero
-abbrev pub towardsZero : ℤ → ℕ → ℤ
-towardsZero (pos n) a = pos (n - a)
-towardsZero (negsuc n) a = negℤ (pos (suc n - a))
-
 abbrev pub less : Open → ℕ → Open
 less p a = record { tier = p .tier; unused = towardsZero (p .unused) a }
 

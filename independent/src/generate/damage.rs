@@ -54,7 +54,9 @@ fn at(random: &mut Random, records: &mut Vec<Bytes>, place: usize) -> usize {
 fn unused_byte(random: &mut Random, record: &mut Bytes) {
     let fields = Record(record).fields();
     let unused: Vec<usize> = (1..RECORD_BYTES)
-        .filter(|byte| !fields.iter().any(|field| (field.at..field.at + field.bytes).contains(byte)))
+        .filter(|byte| {
+            !fields.iter().any(|field| (field.at..field.at + field.bytes).contains(byte))
+        })
         .collect();
     let edges = [unused[0], unused[unused.len() - 1], random.pick(&unused), random.pick(&unused)];
     record[random.pick(&edges)] = random.between(1, 255) as u8;
@@ -70,7 +72,7 @@ fn field_at_its_end(random: &mut Random, record: &mut Bytes) {
     let number = match random.below(6) {
         0 => field.least - 1,
         1 | 2 => field.most + 1,
-        3 => random.next() as i64,
+        3 => random.word() as i64,
         4 => random.pick(&[i64::from(i32::MIN), i64::from(i32::MAX), -1, 1 << 31]),
         _ => end(random, field),
     };
@@ -189,7 +191,7 @@ pub fn length(random: &mut Random, file: &mut Vec<u8>) {
         2 => file.truncate(file.len().saturating_sub(random.place(3))),
         3 | 4 => {
             for _ in 0..random.between(1, 200) {
-                file.push(random.next() as u8);
+                file.push(random.word() as u8);
             }
         }
         5 => file.resize(file.len() + random.pick(&[1, 95, 96, 97, 192]), 0),

@@ -6,12 +6,12 @@ impl Random {
     /// The draws of an index under a seed.
     pub fn new(seed: u64, index: u64) -> Random {
         let mut of_seed = Random(seed);
-        let start = of_seed.next();
+        let start = of_seed.word();
         let mut of_index = Random(start ^ index.wrapping_mul(0xd6e8_feb8_6659_fd93));
-        Random(of_index.next())
+        Random(of_index.word())
     }
 
-    pub fn next(&mut self) -> u64 {
+    pub fn word(&mut self) -> u64 {
         self.0 = self.0.wrapping_add(0x9e37_79b9_7f4a_7c15);
         let mut word = self.0;
         word = (word ^ (word >> 30)).wrapping_mul(0xbf58_476d_1ce4_e5b9);
@@ -21,7 +21,7 @@ impl Random {
 
     /// A number below the bound, which is above 0.
     pub fn below(&mut self, bound: u64) -> u64 {
-        self.next() % bound
+        self.word() % bound
     }
 
     pub fn between(&mut self, least: i64, most: i64) -> i64 {

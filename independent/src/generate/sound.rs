@@ -80,7 +80,7 @@ fn extreme(random: &mut Random) -> Vec<Bytes> {
 /// Moves a row to its limits; one-sided rows of a contract are all long or all short.
 fn row_at_limits(random: &mut Random, row: &mut Bytes, one_sided: bool, gain_at_rest: bool) {
     let class = random.pick(&[FORWARD, CALL]);
-    let long = if one_sided { row[NUMBER.at] % 2 == 0 } else { random.one_in(2) };
+    let long = if one_sided { row[NUMBER.at].is_multiple_of(2) } else { random.one_in(2) };
     let sign = if long { 1 } else { -1 };
     put(row, CLASS, class);
     put(row, strike(class), strike(class).most);
@@ -116,7 +116,8 @@ fn plan(random: &mut Random, size: usize) -> Plan {
         _ => random.between(least as i64, most.min(least + 3) as i64) as usize,
     };
     let mut plan = Plan { contracts: vec![Share::default(); contracts], entries: 0 };
-    let leaning = random.pick(&[(3, 8, 3, 2), (6, 8, 6, 1), (1, 12, 1, 1), (4, 6, 8, 4), (3, 6, 1, 6)]);
+    let leaning =
+        random.pick(&[(3, 8, 3, 2), (6, 8, 6, 1), (1, 12, 1, 1), (4, 6, 8, 4), (3, 6, 1, 6)]);
     let mut left = size - contracts;
     while left > 0 {
         if grow(random, &mut plan, leaning) {

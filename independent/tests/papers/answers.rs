@@ -147,7 +147,8 @@ fn a_prompts_two_parts_are_rounded_together() {
 
 #[test]
 fn credits_are_rounded_once_per_entry() {
-    // Price risk 1, half of the net delta in each of two entries: 0.5 and 0.5 give 1 and 1.
+    // Price risk 2, and half of the net delta at 50 percent in each of two entries: 0.5 and 0.5,
+    // which give 1 and 1.
     let mut losses = NO_LOSS;
     losses[2..4].copy_from_slice(&[1, 1]);
     let account = file(&[
@@ -159,7 +160,6 @@ fn credits_are_rounded_once_per_entry() {
         &[entry(50, (1, 1), (2, 1)), entry(50, (3, 1), (1, 1))],
     ]);
     assert_eq!(book_of(&account, 16)[9..], [10_000, 0, 0, 10_000]);
-    // Twice 1 is the price risk of two lots; the credits pass nothing below 0.
     assert_eq!(figures_of(&account)[..8], [1, 3, 2, 0, 0, 2, 0, 0]);
 }
 

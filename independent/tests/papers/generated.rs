@@ -1,7 +1,7 @@
 //! What generated files are worth: reproducible, of every sort, and with books that add up.
 
 use crate::builder::{refused, Record};
-use independent::book::{interprompt, intercontract, Book};
+use independent::book::{intercontract, interprompt, Book};
 use independent::check::fault;
 use independent::format::records;
 use independent::generate::{account, lent, question, Random};
@@ -114,7 +114,8 @@ fn books_add_up() {
     for account in accepted(3_000) {
         for contract in &account.contracts {
             let tiers: Vec<i64> = contract.prompts.iter().map(|prompt| prompt.tier).collect();
-            let spreads: Vec<Vec<Leg>> = contract.spreads.iter().map(|spread| spread.legs.clone()).collect();
+            let spreads: Vec<Vec<Leg>> =
+                contract.spreads.iter().map(|spread| spread.legs.clone()).collect();
             let book = interprompt(contract);
             adds_up(&book, &tiers, &spreads);
             formed += book.steps.iter().flatten().filter(|step| step.number.0 > 0).count();
@@ -149,8 +150,13 @@ fn a_step_leaves_no_spread_that_could_have_been_formed() {
                         *left -= *given;
                     }
                     let pool = |leg: &Leg| {
-                        let of_tier = contract.prompts.iter().zip(&unused).filter(|(prompt, _)| prompt.tier == leg.tier);
-                        let on_side = of_tier.map(|(_, left)| if leg.side == long { *left } else { -*left });
+                        let of_tier = contract
+                            .prompts
+                            .iter()
+                            .zip(&unused)
+                            .filter(|(prompt, _)| prompt.tier == leg.tier);
+                        let on_side =
+                            of_tier.map(|(_, left)| if leg.side == long { *left } else { -*left });
                         on_side.map(|left| left.max(Delta(0))).sum::<Delta>()
                     };
                     assert!(spread.legs.iter().any(|leg| pool(leg).0 < leg.ratio));
@@ -166,7 +172,8 @@ fn margins_are_the_larger_of_minimum_and_risk_and_add_up_to_the_total() {
         let figures = figures_of(&account);
         let mut sum = 0;
         for contract in &figures {
-            let risk = contract.scanning_risk.0 + contract.interprompt_charge.0 + contract.prompt_charge.0;
+            let risk =
+                contract.scanning_risk.0 + contract.interprompt_charge.0 + contract.prompt_charge.0;
             let after_credit = (risk - contract.credit.0).max(0);
             assert_eq!(contract.margin.0, after_credit.max(contract.short_option_minimum.0));
             assert!((1..=16).contains(&contract.active_scenario));
@@ -185,12 +192,18 @@ fn damage_to_the_order_of_two_records_is_seen() {
         if refused(&file).is_some() {
             continue;
         }
-        let mut records: Vec<Record> = file.chunks_exact(96).map(|bytes| bytes.try_into().unwrap()).collect();
-        let Some(place) = (1..records.len()).find(|place| records[*place][0] > records[*place - 1][0]) else {
+        let mut records: Vec<Record> =
+            file.chunks_exact(96).map(|bytes| bytes.try_into().unwrap()).collect();
+        let Some(place) =
+            (1..records.len()).find(|place| records[*place][0] > records[*place - 1][0])
+        else {
             continue;
         };
         records.swap(place - 1, place);
         let (number, named) = refused(&records.concat()).expect("a refusal");
-        assert!((number, named) == (4, place) || named == place - 1 && number == 7, "{number} {named}");
+        assert!(
+            (number, named) == (4, place) || named == place - 1 && number == 7,
+            "{number} {named}"
+        );
     }
 }

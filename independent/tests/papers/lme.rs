@@ -15,8 +15,12 @@ fn case_one_spreads_within_one_tier() {
         &net(1, 960620, -720_000),
         &[pair(1, 1_000, 1, 1)],
     ]);
-    let prompts =
-        [[520_000, 520_000, 0], [-170_000, -170_000, 0], [120_000, 120_000, 0], [-720_000, -470_000, -250_000]];
+    let prompts = [
+        [520_000, 520_000, 0],
+        [-170_000, -170_000, 0],
+        [120_000, 120_000, 0],
+        [-720_000, -470_000, -250_000],
+    ];
     assert_eq!(book_of(&account, 1), [prompts.concat(), vec![640_000, 0]].concat());
     // Interprompt charge $640 and prompt date charge $155.
     assert_eq!(figures_of(&account)[3..5], [64_000, 15_500]);
@@ -111,7 +115,13 @@ fn related_contracts() -> Vec<u8> {
     ch[2..4].copy_from_slice(&[24_174, 24_174]);
     file(&[
         &[contract(1, 0), contract(2, 0), contract(3, 0)],
-        &[prompt(1, 1, 301), prompt(1, 1, 409), prompt(1, 1, 504), prompt(2, 1, 301), prompt(3, 1, 301)],
+        &[
+            prompt(1, 1, 301),
+            prompt(1, 1, 409),
+            prompt(1, 1, 504),
+            prompt(2, 1, 301),
+            prompt(3, 1, 301),
+        ],
         &net(1, 301, 42_100),
         &net(1, 409, -86_600),
         &net(1, 504, 77_800),

@@ -3,26 +3,15 @@
 use crate::builder::*;
 use independent::{book, figures, Refusal};
 
-/// Contracts 1 and 2 with a prompt each, 128 rows of contract 1 and a row of contract 2: a further
-/// row of contract 1 breaks the order and the limit.
-fn start() -> Vec<Record> {
-    let mut records = vec![contract(1, 0), contract(2, 0), prompt(1, 1, 10), prompt(2, 1, 10)];
-    records.extend([forward(1, 10, (1, 1, 1, &NO_LOSS)); 128]);
-    records
-}
-
-const ROW_OF_2: fn() -> Record = || forward(2, 10, (1, 1, 1, &NO_LOSS));
-
-/// A row for which the conditions of these refusals of 4 to 9 hold, and no others, at the end of a
-/// file; with the place of the row.
+/// A file whose last record is a row of contract 1 for which the conditions of these refusals of 4 to
+/// 9 hold, and no others; with the place of that row.
 fn row_with(faults: &[u8]) -> (Vec<u8>, usize) {
     let has = |number| faults.contains(&number);
-    let mut records = start();
-    if !has(9) {
-        records.pop();
-    }
+    let mut records = vec![contract(1, 0), contract(2, 0), prompt(1, 1, 10), prompt(2, 1, 10)];
+    let rows = if has(9) { 128 } else { 127 };
+    records.extend(vec![forward(1, 10, (1, 1, 1, &NO_LOSS)); rows]);
     if has(8) {
-        records.push(ROW_OF_2());
+        records.push(forward(2, 10, (1, 1, 1, &NO_LOSS)));
     }
     if has(4) {
         records.push(pair(1, 0, 1, 1));

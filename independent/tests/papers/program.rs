@@ -56,8 +56,14 @@ fn a_book_is_printed_by_prompts_and_spreads() {
         &[spread(1, 0, &[(1, 'A', 2), (1, 'B', 1)])],
         &[entry(50, (2, 1), (1, 1))],
     ]);
-    assert_eq!(lines(&["book", "1"], &account), "P 30001 30001 0\nP -50000 -15002 -34998\nS 15000 1\n");
-    assert_eq!(lines(&["book", "16"], &account), "P -19999 -10000 -9999\nP 10000 10000 0\nS 10000 0\n");
+    assert_eq!(
+        lines(&["book", "1"], &account),
+        "P 30001 30001 0\nP -50000 -15002 -34998\nS 15000 1\n"
+    );
+    assert_eq!(
+        lines(&["book", "16"], &account),
+        "P -19999 -10000 -9999\nP 10000 10000 0\nS 10000 0\n"
+    );
     assert_eq!(lines(&["book", "3"], &account), "R 11 13\n");
 }
 
@@ -74,7 +80,10 @@ fn a_survey_counts_every_refusal() {
     let survey = lines(&["survey", "5", "2000"], &[]);
     assert!(survey.starts_with("files 2000\naccepted "));
     for number in 1..=11 {
-        assert!(survey.contains(&format!("\nrefusal {number}: ")), "refusal {number} is not counted");
+        assert!(
+            survey.contains(&format!("\nrefusal {number}: ")),
+            "refusal {number} is not counted"
+        );
     }
     assert!(survey.contains("\nrefusal 1 while 2 holds elsewhere: "));
     assert!(survey.contains("\nrefusal 11 while 10 holds elsewhere: "));
@@ -82,7 +91,14 @@ fn a_survey_counts_every_refusal() {
 
 #[test]
 fn wrong_usage_is_told() {
-    for arguments in [&["books"][..], &["book"], &["book", "x"], &["book", "-1"], &["survey", "1"], &["write", "1", "x"]] {
+    for arguments in [
+        &["books"][..],
+        &["book"],
+        &["book", "x"],
+        &["book", "-1"],
+        &["survey", "1"],
+        &["write", "1", "x"],
+    ] {
         let output = run(arguments, &[]);
         assert_eq!(output.status.code(), Some(2), "{arguments:?}");
         assert!(output.stdout.is_empty());

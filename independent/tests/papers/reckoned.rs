@@ -61,7 +61,10 @@ fn p2_of_000_forms_6_4_0() {
         &[pair(2, 0, 1, 1), pair(2, 0, 1, 2), pair(2, 0, 1, 3)],
     ]);
     let book = book_of(&account, 2);
-    assert_eq!(book[..12], [180_000, 100_000, 80_000, -60_000, -60_000, 0, -40_000, -40_000, 0, 38_101, 0, 38_101]);
+    assert_eq!(
+        book[..12],
+        [180_000, 100_000, 80_000, -60_000, -60_000, 0, -40_000, -40_000, 0, 38_101, 0, 38_101]
+    );
     assert_eq!(book[12..], [60_000, 0, 40_000, 0, 0, 0]);
 }
 
@@ -110,8 +113,7 @@ fn p5_and_p6_round_1_4999_and_1_5000_hundredths_to_1_and_2() {
 
 #[test]
 fn p7_totals_of_minus_4_give_scanning_risk_0_and_active_scenario_1() {
-    let account =
-        file(&[&[contract(9, 0), prompt(9, 1, 1), forward(9, 1, (1, 0, 1, &[-4; 16]))]]);
+    let account = file(&[&[contract(9, 0), prompt(9, 1, 1), forward(9, 1, (1, 0, 1, &[-4; 16]))]]);
     assert_eq!(figures_of(&account), [9, 1, 0, 0, 0, 0, 0, 0, 0]);
 }
 
@@ -137,11 +139,8 @@ fn p9_active_15_pairs_with_15() {
 
 #[test]
 fn p10_one_short_call_at_500_and_nothing_else_gives_margin_500() {
-    let account = file(&[&[
-        contract(1, 500),
-        prompt(1, 1, 1),
-        call(1, 1, 1850, (-1, 5_200, 1, &NO_LOSS)),
-    ]]);
+    let account =
+        file(&[&[contract(1, 500), prompt(1, 1, 1), call(1, 1, 1850, (-1, 5_200, 1, &NO_LOSS))]]);
     assert_eq!(figures_of(&account), [1, 1, 0, 0, 0, 0, 500, 500, 500]);
 }
 
@@ -152,7 +151,9 @@ fn largest() -> Vec<u8> {
     let prompts: Vec<Record> = numbers.iter().map(|number| prompt(*number, 1, 20260318)).collect();
     let rows: Vec<Record> = numbers
         .iter()
-        .flat_map(|number| vec![forward(*number, 20260318, (100_000, 10_000, 10_000, &[100_000; 16])); 126])
+        .flat_map(|number| {
+            vec![forward(*number, 20260318, (100_000, 10_000, 10_000, &[100_000; 16])); 126]
+        })
         .collect();
     file(&[&contracts, &prompts, &rows])
 }

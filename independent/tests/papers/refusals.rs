@@ -159,7 +159,11 @@ fn refusal_6_is_for_one_past_each_end_of_each_field() {
     ];
     for (place, at, bytes, least, most) in fields {
         for past in [least - 1, most + 1] {
-            assert_eq!(field(place, at, bytes, past), Some((6, place)), "record {place}, byte {at}: {past}");
+            assert_eq!(
+                field(place, at, bytes, past),
+                Some((6, place)),
+                "record {place}, byte {at}: {past}"
+            );
         }
         for end in [least, most] {
             let number = field(place, at, bytes, end).map(|refusal| refusal.0);
@@ -271,7 +275,8 @@ fn refusal_8_is_for_contract_numbers_that_do_not_rise() {
 
 #[test]
 fn refusal_8_is_for_prompts_that_do_not_rise() {
-    let prompts = |first, second| refused(&file(&[&[contract(1, 0), contract(2, 0), first, second]]));
+    let prompts =
+        |first, second| refused(&file(&[&[contract(1, 0), contract(2, 0), first, second]]));
     assert_eq!(prompts(prompt(1, 1, 10), prompt(1, 1, 11)), None);
     assert_eq!(prompts(prompt(1, 1, 10), prompt(1, 1, 10)), Some((8, 3)));
     assert_eq!(prompts(prompt(1, 1, 10), prompt(1, 2, 9)), Some((8, 3)));
@@ -344,11 +349,13 @@ fn refusal_9_is_for_the_33rd_prompt_spread_and_entry() {
     assert_eq!(with_prompts(32), None);
     assert_eq!(with_prompts(33), Some((9, 2 + 32)));
 
-    let with_spreads = |count| refused(&file(&[&contracts, &prompts[..1], &vec![pair(1, 0, 1, 1); count]]));
+    let with_spreads =
+        |count| refused(&file(&[&contracts, &prompts[..1], &vec![pair(1, 0, 1, 1); count]]));
     assert_eq!(with_spreads(32), None);
     assert_eq!(with_spreads(33), Some((9, 3 + 32)));
 
-    let with_entries = |count| refused(&file(&[&contracts, &vec![entry(1, (1, 1), (2, 1)); count]]));
+    let with_entries =
+        |count| refused(&file(&[&contracts, &vec![entry(1, (1, 1), (2, 1)); count]]));
     assert_eq!(with_entries(32), None);
     assert_eq!(with_entries(33), Some((9, 2 + 32)));
 }

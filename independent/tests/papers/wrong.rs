@@ -9,7 +9,8 @@ fn a_day_is_not_matched_by_a_part_of_its_digits() {
     let mut rising = days;
     rising.sort_unstable();
     let prompts: Vec<Record> = rising.iter().map(|day| prompt(1, 1, *day)).collect();
-    let rows: Vec<Record> = (1..).zip(rising).map(|(lots, day)| forward(1, day, (lots, 10_000, 1, &NO_LOSS))).collect();
+    let rows: Vec<Record> =
+        (1..).zip(rising).map(|(lots, day)| forward(1, day, (lots, 10_000, 1, &NO_LOSS))).collect();
     let book = book_of(&file(&[&[contract(1, 0)], &prompts, &rows]), 1);
     let nets: Vec<i64> = book.chunks(3).map(|prompt| prompt[0]).collect();
     assert_eq!(nets, [10_000, 20_000, 30_000, 40_000, 50_000, 60_000]);
@@ -81,11 +82,8 @@ fn no_prompt_goes_past_zero() {
 
 #[test]
 fn the_short_option_minimum_is_not_added_to_the_risk() {
-    let account = file(&[&[
-        contract(1, 500),
-        prompt(1, 1, 1),
-        call(1, 1, 5, (-1, 0, 1, &[-700; 16])),
-    ]]);
+    let account =
+        file(&[&[contract(1, 500), prompt(1, 1, 1), call(1, 1, 5, (-1, 0, 1, &[-700; 16]))]]);
     assert_eq!(figures_of(&account), [1, 1, 700, 0, 0, 0, 500, 700, 700]);
 }
 
@@ -129,9 +127,9 @@ fn the_credit_takes_the_net_delta_before_interprompt_use() {
 
 #[test]
 fn the_second_step_is_run_where_the_legs_share_a_tier() {
-    // Long 1, short 3: A takes 2 and B takes 1 of the tier. First step 0.5 of the long; nothing long
-    // is left. With 3 long and 1 short the first step takes 1 short, and the second finds none.
-    let both = |long, short| {
+    // A takes 3 and B takes 1 to a spread. Of 1.0000 long the first step takes 0.9999; the 0.0001 left
+    // is taken by B in the second. Where the first step takes all of a side, the second forms nothing.
+    let both = |long: i64, short: i64| {
         let account = file(&[
             &[contract(1, 0), prompt(1, 1, 1), prompt(1, 1, 2)],
             &net(1, 1, long),

@@ -1,0 +1,40 @@
+-- Rounding, halves up: what it is of a quotient and a remainder, and how large it gets.
+-- Assumes nothing.
+use mathlib.Core.Path.{_≡_, refl, sym, _∙_, ap}
+use Prim.Native.Nat.{ℕ, zero, suc, _+_, _*_, _/_, _%_, _≤_, _<_, zero-le}
+use native.Mathlib.Nat.{div-zero, div-add-mod', mul-add-div-right, div-eq-of-lt, div-eq-of-lt-le, div-lt-iff-lt-mul, mod-lt, le-mul-of-pos-right, le-of-eq}
+use native.Mathlib.Omega.{arith}
+use Rattle.exact.specs.Rounding.{halfUp}
+
+pub half-zero : (n : ℕ) → halfUp n 0 ≡ 0
+half-zero n = div-zero (2 * n + 0)
+
+-- the quotient, and the remainder rounded
+pub half-split : (n d : ℕ) → halfUp n d ≡ n / d + halfUp (n % d) d
+half-split n zero = half-zero n ∙ sym (omega (arith, div-zero n, half-zero (n % 0)))
+half-split n (suc k) =
+    let d = suc k in
+    let e : 2 * n + d ≡ n / d * (2 * d) + (2 * (n % d) + d) = omega (arith, div-add-mod' n d) in
+    ap (λ (x : ℕ). x / (2 * d)) e ∙ mul-add-div-right (omega arith) (n / d) (2 * (n % d) + d)
+
+pub half-down : (r d : ℕ) → 2 * r < d → halfUp r d ≡ 0
+half-down r d h = div-eq-of-lt (omega arith)
+
+pub half-one : (r d : ℕ) → r < d → d ≤ 2 * r → halfUp r d ≡ 1
+half-one r d h k = div-eq-of-lt-le (2 * d) (omega arith) (omega arith)
+
+-- a whole number of d stays
+pub half-whole : (k d : ℕ) → 0 < d → halfUp (k * d) d ≡ k
+half-whole k d h =
+    let e : 2 * (k * d) + d ≡ k * (2 * d) + d = omega arith in
+    let z : d / (2 * d) ≡ 0 = div-eq-of-lt (omega arith) in
+    ap (λ (x : ℕ). x / (2 * d)) e ∙ mul-add-div-right (omega arith) k d ∙ omega (arith, z)
+
+-- at most k where the number is at most k times d
+pub half-within : (k n d : ℕ) → n ≤ k * d → halfUp n d ≤ k
+half-within k n zero h = omega (arith, half-zero n)
+half-within k n (suc e) h = omega (arith, div-lt-iff-lt-mul {k = 2 * suc e} {x = 2 * n + suc e} {y = k + 1} (omega arith) .1 (omega arith))
+
+-- one more than a quotient that is rounded up is at most the number
+pub half-room : (n d : ℕ) → 0 < d → d ≤ 2 * (n % d) → n / d + 1 ≤ n
+half-room n d h k = omega (arith, div-add-mod' n d, le-mul-of-pos-right (n / d) h)

@@ -1,0 +1,197 @@
+-- Laws of the integers: range, size, order and sign. Each is by cases on the signs; the naturals do the rest.
+-- Sums and cancellation are the library's: `+ℤ-comm`, `+ℤ-assoc`, `+ℤ-idl`, `+ℤ-idr`, `-ℤ-+ℤ-cancel`, `+ℤ-negℤ-cancel` of lib.IntN.
+-- Assumes nothing.
+use mathlib.Core.Path.{_≡_, refl, sym, _∙_, ap, subst}
+use mathlib.Core.Logic.{_⊎_, inl, inr}
+use mathlib.Core.Bool.{Bool, true, false, not, cond, false≢true, true≢false}
+use Prim.Native.Nat.{ℕ, zero, suc, _+_, _*_, _-_, _^_, _≤_, _<_, min}
+use native.Mathlib.Nat.{le-refl}
+use native.Mathlib.Omega.{arith}
+use lib.Dec.{leb, ltb}
+use lib.IntN.{ℤ, pos, negsuc, negℤ, natAbs, subℕ, _+ℤ_, _-ℤ_, _*ℤ_}
+use lib.Signed.{mag, ltZ, leZ}
+use mir.Syntax.{w64}
+use mir.Val.{SFits, toZ, ofZ}
+use mir.Facts.{toZ-ofZ}
+use borrow.Author.Tests.{ltb-true, ltb-false, leb-true, leb-false, lt-ltb, le-ltb, le-leb, lt-leb}
+use Rattle.exact.specs.Signed.{negative, larger, orZero, withSignOf, towardsZero}
+
+-- ---- range
+
+-- a number in range is what the machine reads back from its bits
+pub back : (z : ℤ) → SFits w64 z → toZ w64 (ofZ w64 z) ≡ z
+back z h = toZ-ofZ {w = w64} {z = z} h
+
+-- what a callee says of a signed argument, said of the number itself
+pub seen {ℓ} : {A : Type ℓ} (f : ℤ → A) (z : ℤ) {x : A} → SFits w64 z → x ≡ f (toZ w64 (ofZ w64 z)) → x ≡ f z
+seen f z h e = e ∙ ap f (back z h)
+
+pub sfits-abs : (z : ℤ) → natAbs z < 2 ^ 63 → SFits w64 z
+sfits-abs (pos n) h = record { sfits = h }
+sfits-abs (negsuc n) h = record { sfits = omega arith }
+
+pub abs-sfits : (z : ℤ) → SFits w64 z → natAbs z ≤ 2 ^ 63
+abs-sfits (pos n) h = omega (arith, h .sfits)
+abs-sfits (negsuc n) h = omega (arith, h .sfits)
+
+-- ---- size
+
+pub abs-neg : (z : ℤ) → natAbs (negℤ z) ≡ natAbs z
+abs-neg (pos zero) = refl
+abs-neg (pos (suc n)) = refl
+abs-neg (negsuc n) = refl
+
+pub abs-mul : (a b : ℤ) → natAbs (a *ℤ b) ≡ natAbs a * natAbs b
+abs-mul (pos a) (pos b) = refl
+abs-mul (pos a) (negsuc b) = abs-neg (pos (a * suc b))
+abs-mul (negsuc a) (pos b) = abs-neg (pos (suc a * b))
+abs-mul (negsuc a) (negsuc b) = refl
+
+-- a difference of two naturals: one of the two parts is 0
+pub abs-difference : (a b : ℕ) → natAbs (subℕ a b) ≡ (a - b) + (b - a)
+abs-difference a b = go (ltb a b) refl
+  where
+    go : (t : Bool) → ltb a b ≡ t → natAbs (cond t (negsuc (b - suc a)) (pos (a - b))) ≡ (a - b) + (b - a)
+    go true e = omega (arith, ltb-true a b e)
+    go false e = omega (arith, ltb-false a b e)
+
+pub abs-add : (a b : ℤ) → natAbs (a +ℤ b) ≤ natAbs a + natAbs b
+abs-add (pos a) (pos b) = le-refl (a + b)
+abs-add (pos a) (negsuc b) = omega (arith, abs-difference a (suc b))
+abs-add (negsuc a) (pos b) = omega (arith, abs-difference b (suc a))
+abs-add (negsuc a) (negsuc b) = omega arith
+
+pub abs-sub : (a b : ℤ) → natAbs (a -ℤ b) ≤ natAbs a + natAbs b
+abs-sub a b = subst (λ (n : ℕ). natAbs (a -ℤ b) ≤ natAbs a + n) (abs-neg b) (abs-add a (negℤ b))
+
+-- ---- order
+
+pub not-below : (a b : ℤ) → leZ b a ≡ not (ltZ a b)
+not-below (pos a) (pos b) = go (ltb a b) refl
+  where
+    go : (t : Bool) → ltb a b ≡ t → leb b a ≡ not t
+    go true e = lt-leb b a (ltb-true a b e)
+    go false e = le-leb b a (ltb-false a b e)
+not-below (pos a) (negsuc b) = refl
+not-below (negsuc a) (pos b) = refl
+not-below (negsuc a) (negsuc b) = go (ltb b a) refl
+  where
+    go : (t : Bool) → ltb b a ≡ t → leb a b ≡ not t
+    go true e = lt-leb a b (ltb-true b a e)
+    go false e = le-leb a b (ltb-false b a e)
+
+pub at-most-refl : (a : ℤ) → leZ a a ≡ true
+at-most-refl (pos a) = le-leb a a (le-refl a)
+at-most-refl (negsuc a) = le-leb a a (le-refl a)
+
+pub at-most-trans : (a b c : ℤ) → leZ a b ≡ true → leZ b c ≡ true → leZ a c ≡ true
+at-most-trans (pos a) (pos b) (pos c) h k = le-leb a c (omega (arith, leb-true a b h, leb-true b c k))
+at-most-trans (pos a) (pos b) (negsuc c) h k = k
+at-most-trans (pos a) (negsuc b) c h k = absurd (false≢true h)
+at-most-trans (negsuc a) (pos b) (pos c) h k = refl
+at-most-trans (negsuc a) (pos b) (negsuc c) h k = absurd (false≢true k)
+at-most-trans (negsuc a) (negsuc b) (pos c) h k = refl
+at-most-trans (negsuc a) (negsuc b) (negsuc c) h k = le-leb c a (omega (arith, leb-true b a h, leb-true c b k))
+
+pub at-most-antisym : (a b : ℤ) → leZ a b ≡ true → leZ b a ≡ true → a ≡ b
+at-most-antisym (pos a) (pos b) h k = ap pos (omega (arith, leb-true a b h, leb-true b a k))
+at-most-antisym (pos a) (negsuc b) h k = absurd (false≢true h)
+at-most-antisym (negsuc a) (pos b) h k = absurd (false≢true k)
+at-most-antisym (negsuc a) (negsuc b) h k = ap negsuc (omega (arith, leb-true b a h, leb-true a b k))
+
+pub below-at-most : (a b : ℤ) → ltZ a b ≡ true → leZ a b ≡ true
+below-at-most (pos a) (pos b) h = le-leb a b (omega (arith, ltb-true a b h))
+below-at-most (pos a) (negsuc b) h = h
+below-at-most (negsuc a) (pos b) h = refl
+below-at-most (negsuc a) (negsuc b) h = le-leb b a (omega (arith, ltb-true b a h))
+
+pub not-below-at-most : (a b : ℤ) → ltZ a b ≡ false → leZ b a ≡ true
+not-below-at-most a b h = not-below a b ∙ ap not h
+
+-- one of two is at most the other
+pub total : (a b : ℤ) → (leZ a b ≡ true) ⊎ (leZ b a ≡ true)
+total a b = go (ltZ a b) refl
+  where
+    go : (t : Bool) → ltZ a b ≡ t → (leZ a b ≡ true) ⊎ (leZ b a ≡ true)
+    go true e = inl (below-at-most a b e)
+    go false e = inr (not-below-at-most a b e)
+
+-- the larger of two is at least each of them, and is one of them
+pub larger-first : (a b : ℤ) → leZ a (larger a b) ≡ true
+larger-first a b = go (ltZ a b) refl
+  where
+    go : (t : Bool) → ltZ a b ≡ t → leZ a (cond t b a) ≡ true
+    go true e = below-at-most a b e
+    go false e = at-most-refl a
+
+pub larger-second : (a b : ℤ) → leZ b (larger a b) ≡ true
+larger-second a b = go (ltZ a b) refl
+  where
+    go : (t : Bool) → ltZ a b ≡ t → leZ b (cond t b a) ≡ true
+    go true e = at-most-refl b
+    go false e = not-below-at-most a b e
+
+pub larger-within : (a b c : ℤ) → leZ a c ≡ true → leZ b c ≡ true → leZ (larger a b) c ≡ true
+larger-within a b c h k = go (ltZ a b)
+  where
+    go : (t : Bool) → leZ (cond t b a) c ≡ true
+    go true = k
+    go false = h
+
+-- ---- sign
+
+pub negative-below : (z : ℤ) → ltZ z (pos 0) ≡ negative z
+negative-below (pos n) = le-ltb n 0 (omega arith)
+negative-below (negsuc n) = refl
+
+pub or-zero-larger : (z : ℤ) → pos (orZero z) ≡ larger z (pos 0)
+or-zero-larger (pos n) = sym (ap (λ (t : Bool). cond t (pos 0) (pos n)) (negative-below (pos n)))
+or-zero-larger (negsuc n) = refl
+
+pub or-zero-negative : (z : ℤ) → negative z ≡ true → orZero z ≡ 0
+or-zero-negative (pos n) h = absurd (false≢true h)
+or-zero-negative (negsuc n) h = refl
+
+pub or-zero-natural : (z : ℤ) → negative z ≡ false → orZero z ≡ natAbs z
+or-zero-natural (pos n) h = refl
+or-zero-natural (negsuc n) h = absurd (true≢false h)
+
+pub or-zero-abs : (z : ℤ) → orZero z ≤ natAbs z
+or-zero-abs (pos n) = le-refl n
+or-zero-abs (negsuc n) = omega arith
+
+pub sign-abs : (z : ℤ) → withSignOf z (natAbs z) ≡ z
+sign-abs (pos n) = refl
+sign-abs (negsuc n) = refl
+
+pub abs-sign : (z : ℤ) (m : ℕ) → natAbs (withSignOf z m) ≡ m
+abs-sign (pos n) m = refl
+abs-sign (negsuc n) m = abs-neg (pos m)
+
+pub towards-zero-sign : (z : ℤ) (a : ℕ) → towardsZero z a ≡ withSignOf z (natAbs z - a)
+towards-zero-sign (pos n) a = refl
+towards-zero-sign (negsuc n) a = refl
+
+pub abs-towards-zero : (z : ℤ) (a : ℕ) → natAbs (towardsZero z a) ≡ natAbs z - a
+abs-towards-zero (pos n) a = refl
+abs-towards-zero (negsuc n) a = abs-neg (pos (suc n - a))
+
+pub sign-negative : (z : ℤ) (m : ℕ) → negative z ≡ true → withSignOf z m ≡ negℤ (pos m)
+sign-negative (pos n) m h = absurd (false≢true h)
+sign-negative (negsuc n) m h = refl
+
+pub sign-natural : (z : ℤ) (m : ℕ) → negative z ≡ false → withSignOf z m ≡ pos m
+sign-natural (pos n) m h = refl
+sign-natural (negsuc n) m h = absurd (true≢false h)
+
+pub sign-none : (z : ℤ) → withSignOf z 0 ≡ pos 0
+sign-none (pos n) = refl
+sign-none (negsuc n) = refl
+
+-- taking nothing leaves all, taking all leaves nothing
+pub towards-zero-none : (z : ℤ) → towardsZero z 0 ≡ z
+towards-zero-none z =
+    towards-zero-sign z 0 ∙ ap (withSignOf z) (omega arith) ∙ sign-abs z
+
+pub towards-zero-all : (z : ℤ) (a : ℕ) → natAbs z ≤ a → towardsZero z a ≡ pos 0
+towards-zero-all z a h = towards-zero-sign z a ∙ ap (withSignOf z) (omega arith) ∙ sign-none z

@@ -256,3 +256,16 @@ impl fmt::Display for Survey {
         Ok(())
     }
 }
+
+#[cfg(test)]
+mod tests {
+    use super::Survey;
+
+    #[test]
+    fn a_refusal_that_never_occurred_is_told_from_2_000_files_on() {
+        let of_nothing = |count| Survey { count, ..Survey::of(1, 0) }.nothing_missing();
+        assert!(of_nothing(1_999).is_ok());
+        let told = of_nothing(2_000).expect_err("nothing occurred").to_string();
+        assert_eq!(told, "refusals that never occurred: 1, 2, 3, 4, 5, 6, 7, 8, 9, 10, 11");
+    }
+}

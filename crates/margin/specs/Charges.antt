@@ -23,12 +23,13 @@ interpromptCharge (s ∷ ss) (first ∷ second ∷ numbers) =
     spreadCharge (ratePerSpread s) first second + interpromptCharge ss numbers
 
 -- "A prompt's charge is (|used| × first rate + |unused| × second rate) / 10,000."
-abbrev pub promptCharge : Record → ℤ → ℤ → ℕ
-promptCharge p used unused = charged (natAbs used * spreadRate p + natAbs unused * outrightRate p)
+abbrev pub promptCharge : ℕ → ℕ → ℤ → ℤ → ℕ
+promptCharge firstRate secondRate used unused = charged (natAbs used * firstRate + natAbs unused * secondRate)
 
 -- over a contract's prompts, each with its used and its unused delta
 abbrev pub promptCharges : List Record → List ℤ → List ℤ → ℕ
 promptCharges [] used unused = 0
 promptCharges (p ∷ ps) [] unused = 0
 promptCharges (p ∷ ps) (u ∷ used) [] = 0
-promptCharges (p ∷ ps) (u ∷ used) (n ∷ unused) = promptCharge p u n + promptCharges ps used unused
+promptCharges (p ∷ ps) (u ∷ used) (n ∷ unused) =
+    promptCharge (spreadRate p) (outrightRate p) u n + promptCharges ps used unused

@@ -1,3 +1,4 @@
+pub mod Bounds
 pub mod Scanning
 pub mod Deltas
 pub mod Charges

@@ -1,2 +1,3 @@
 // Margin from an account: figures and delta books.
+mod amount;
 pub mod pairs;

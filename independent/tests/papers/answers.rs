@@ -215,6 +215,24 @@ fn credits_at_the_limits_are_exact() {
 }
 
 #[test]
+fn charges_and_minimum_at_the_limits_are_exact() {
+    // 64 rows long at one prompt and 64 short at another, with all rates at 100,000.00.
+    let rate = 10_000_000;
+    let rows = |day, lots| vec![call(1, day, 1, (lots, 10_000, 1, &NO_LOSS)); 64];
+    let account = file(&[
+        &[contract(1, rate), prompt_at(1, 1, 1, rate, rate), prompt_at(1, 1, 2, rate, rate)],
+        &rows(1, 100_000),
+        &rows(2, -100_000),
+        &[spread(1, rate, &[(1, 'A', 1), (1, 'B', 1)])],
+    ]);
+    let side = 64 * 100_000 * 10_000;
+    assert_eq!(book_of(&account, 1), [side, side, 0, -side, -side, 0, side, 0]);
+    let charge = side * 1_000;
+    let minimum = 64 * 100_000 * 10_000_000;
+    assert_eq!(figures_of(&account)[2..8], [0, charge, 2 * charge, 0, minimum, 3 * charge]);
+}
+
+#[test]
 fn short_lots_of_options_count_row_by_row() {
     let account = file(&[&[
         contract(1, 10),

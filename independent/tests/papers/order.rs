@@ -139,3 +139,18 @@ fn refusal_11_answers_before_10() {
     assert_eq!(book(&account, 7, &mut []), Err(Refusal { number: 11, record: 3 }));
     assert_eq!(book(&account, 1, &mut []), Err(Refusal { number: 10, record: 3 }));
 }
+
+#[test]
+fn orders_that_a_quick_reading_misses() {
+    let contracts = [contract(1, 0), contract(2, 0)];
+    // An unlisted contract with itself.
+    assert_eq!(refused(&file(&[&contracts, &[entry(50, (7, 1), (7, 1))]])), Some((7, 2)));
+    // A 33rd prompt on a day that stands already.
+    let mut prompts: Vec<Record> = (1..=32).map(|day| prompt(1, 1, day)).collect();
+    prompts.push(prompt(1, 1, 32));
+    assert_eq!(refused(&file(&[&contracts, &prompts])), Some((8, 2 + 32)));
+    // A prompt of an unlisted contract in a tier that there is not.
+    assert_eq!(refused(&file(&[&contracts, &[prompt(7, 9, 1)]])), Some((6, 2)));
+    // A contract listed by a later record alone.
+    assert_eq!(refused(&file(&[&[contract(1, 0), prompt(2, 1, 1), contract(2, 0)]])), Some((7, 1)));
+}

@@ -228,6 +228,19 @@ fn lots_of_0_are_allowed_and_add_nothing() {
 }
 
 #[test]
+fn rows_of_0_lots_are_checked_and_counted_like_others() {
+    let rows = |count| {
+        let rows = vec![forward(1, 10, (0, 0, 1, &NO_LOSS)); count];
+        refused(&file(&[&[contract(1, 0), prompt(1, 1, 10)], &rows]))
+    };
+    assert_eq!(rows(128), None);
+    assert_eq!(rows(129), Some((9, 2 + 128)));
+    let unlisted = forward(1, 11, (0, 0, 1, &NO_LOSS));
+    let account = file(&[&[contract(1, 0), prompt(1, 1, 10), unlisted]]);
+    assert_eq!(refused(&account), Some((7, 2)));
+}
+
+#[test]
 fn refusal_7_is_for_a_contract_that_no_earlier_record_lists() {
     for place in [PROMPT, PUT, THREE_LEGS, ENTRY] {
         assert_eq!(changed(place, |record| record[1] = 3), Some((7, place)));

@@ -1,0 +1,31 @@
+-- The charge of a spread: the product fits, and is rounded once.
+-- Assumes nothing.
+use mathlib.Core.Path.{subst⁻¹}
+use Prim.Native.Nat.{ℕ, _≤_}
+use native.Mathlib.Omega.{arith}
+use borrow.Author.Needs.{needs}
+use Rattle.margin.specs.Bounds.{mostCharge}
+use Rattle.margin.proofs.AmountLaws.{spreads-rate, charged-within}
+use Rattle.margin.proofs.amount.spread_charge.Statement.{statement}
+use Rattle.margin.proofs.amount.spread_charge.Tie as tie
+
+add-half-up : tie.Need-add-half-up
+add-half-up c = search needs
+
+mul-half-up : tie.Need-mul-half-up
+mul-half-up c =
+    let s = c .before .before in
+    let p = spreads-rate (s .args .first .0) (s .args .second .0) (s .args .rate) (s .pre .0) (s .pre .1) (s .pre .2) in
+    omega arith
+
+half-up-requires : tie.Need-half-up-requires
+half-up-requires c κs = search needs
+
+returns : tie.Need-returns
+returns c =
+    let s = c .before .before .before in
+    let p = spreads-rate (s .args .first .0) (s .args .second .0) (s .args .rate) (s .pre .0) (s .pre .1) (s .pre .2) in
+    (c .half-up .ensures, subst⁻¹ (λ (x : ℕ). x ≤ mostCharge) (c .half-up .ensures) (charged-within _ p))
+
+pub spread-charge-spec : {M : Type 1} → statement M
+spread-charge-spec = tie.close (tie.spec add-half-up mul-half-up half-up-requires returns)

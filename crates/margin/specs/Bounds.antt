@@ -1,0 +1,23 @@
+-- The largest numbers that an accepted account can bring about.
+-- Assumes nothing.
+use Prim.Native.Nat.{ℕ, _+_, _*_}
+
+-- a net delta, a pool, a number of spreads: 128 rows × 100,000 lots × 10,000
+abbrev pub mostDelta : ℕ
+mostDelta = 128000000000
+
+-- "rates 0..10,000,000"
+abbrev pub mostRate : ℕ
+mostRate = 10000000
+
+-- a spread's or a prompt's charge: 2 × 128,000,000,000 × 10,000,000 / 10,000
+abbrev pub mostCharge : ℕ
+mostCharge = 256000000000000
+
+-- a scanning risk, 128 rows × 100,000 lots × 10,000 × 100,000, and with it the charges of a contract, 32 of each
+abbrev pub mostRisk : ℕ
+mostRisk = 12800000000000000
+
+-- short lots: 128 rows × 100,000
+abbrev pub mostLots : ℕ
+mostLots = 12800000

@@ -1,0 +1,80 @@
+// Amounts: the formulas of document 01 in which deltas and numbers of spreads become amounts. Nothing else crosses.
+use exact::rounding::half_up;
+use exact::signed::magnitude;
+use exact::wide::scaled_half_up;
+use spread::Delta;
+use spread::Spreads;
+ghost use mathlib.Core.Path.{_≡_};
+ghost use Prim.Native.Nat.{_+_, _*_, _≤_};
+ghost use lib.IntN.{natAbs};
+ghost use Rattle.margin.specs.Bounds.{mostDelta, mostRate, mostCharge, mostRisk, mostLots};
+ghost use Rattle.margin.specs.Charges.{spreadCharge, promptCharge};
+ghost use Rattle.margin.specs.Credit.{credit};
+ghost use Rattle.margin.specs.Margin.{shortOptionMinimum, risk, margin};
+
+// An amount, in hundredths of the currency. None is negative.
+pub struct Amount(pub u64);
+
+// The charge of a spread for the numbers of its two steps.
+pub(crate) fn spread_charge(first: Spreads, second: Spreads, rate: u64) -> Amount
+    requires { ⌜ (first .0 ≤ mostDelta) × (second .0 ≤ mostDelta) × (rate ≤ mostRate) ⌝ }
+    ensures { λ r. ⌜ (r .0 ≡ spreadCharge rate (first .0) (second .0)) × (r .0 ≤ mostCharge) ⌝ }
+{
+    Amount(half_up((first.0 + second.0) * rate, 10000))
+}
+
+// The charge of a prompt for what of it is used in spreads and what is not.
+pub(crate) fn prompt_charge(
+    used: Delta,
+    unused: Delta,
+    spread_rate: u64,
+    outright_rate: u64,
+) -> Amount
+    requires { ⌜ (natAbs (used .0) ≤ mostDelta) × (natAbs (unused .0) ≤ mostDelta) × («spread_rate» ≤ mostRate) × («outright_rate» ≤ mostRate) ⌝ }
+    ensures { λ r. ⌜ (r .0 ≡ promptCharge «spread_rate» «outright_rate» (used .0) (unused .0)) × (r .0 ≤ mostCharge) ⌝ }
+{
+    Amount(half_up(
+        magnitude(used.0) * spread_rate + magnitude(unused.0) * outright_rate,
+        10000,
+    ))
+}
+
+// A contract's credit from one entry, from twice its price risk and the sizes of what the entry used and of its net delta.
+pub(crate) fn credit(twice_risk: u64, used: u64, percent: u64, net: u64) -> Amount
+    requires { ⌜ (used ≤ net) × (net ≤ mostDelta) × (percent ≤ 100) ⌝ }
+    ensures { λ r. ⌜ (r .0 ≡ credit «twice_risk» used percent net) × (r .0 ≤ «twice_risk») ⌝ }
+{
+    if net == 0 {
+        return Amount(0);
+    }
+    Amount(scaled_half_up(twice_risk, used * percent, 200 * net))
+}
+
+// The short option minimum.
+pub(crate) fn short_option_minimum(shorts: u64, rate: u64) -> Amount
+    requires { ⌜ (shorts ≤ mostLots) × (rate ≤ mostRate) ⌝ }
+    ensures { λ r. ⌜ (r .0 ≡ shortOptionMinimum shorts rate) × (r .0 ≤ mostLots * mostRate) ⌝ }
+{
+    Amount(shorts * rate)
+}
+
+// The risk that the minimum is compared with: not below 0.
+pub(crate) fn risk(scanning: Amount, interprompt: Amount, prompt: Amount, credit: Amount) -> Amount
+    requires { ⌜ (scanning .0 ≤ mostRisk) × (interprompt .0 ≤ mostRisk) × (prompt .0 ≤ mostRisk) ⌝ }
+    ensures { λ r. ⌜ (r .0 ≡ risk (scanning .0) (interprompt .0) (prompt .0) (credit .0)) × (r .0 ≤ 3 * mostRisk) ⌝ }
+{
+    let all = scanning.0 + interprompt.0 + prompt.0;
+    let less = credit.0;
+    if all < less {
+        Amount(0)
+    } else {
+        Amount(all - less)
+    }
+}
+
+// The margin: the larger of the short option minimum and the risk.
+pub(crate) fn margin(minimum: Amount, risk: Amount) -> Amount
+    ensures { λ r. ⌜ r .0 ≡ margin (minimum .0) (risk .0) ⌝ }
+{
+    if minimum.0 < risk.0 { risk } else { minimum }
+}

@@ -25,7 +25,7 @@ pub struct Survey {
     accepted: u64,
     refusals: BTreeMap<u8, u64>,
     sizes: BTreeMap<usize, u64>,
-    /// How many different numbers of records accepted files have.
+    /// By number of records, whether an accepted file had so many.
     lengths: Vec<bool>,
     sights: BTreeMap<&'static str, u64>,
     active: BTreeMap<usize, u64>,

@@ -1,5 +1,5 @@
+pub mod Largest
 pub mod Lists
 pub mod Rounding
 pub mod Signed
 pub mod Wide
-pub mod Largest

@@ -1,3 +1,5 @@
 pub mod Reckoned
 pub mod PairLaws
 pub mod AmountLaws
+pub mod Calls
+pub mod RiskLaws

@@ -19,11 +19,12 @@ totalOf ts scenario = getD ts (scenario - 1) (pos 0)
 
 -- "Price risk = (active total + paired total)/2 - (total 1 + total 2)/2, halves kept, or 0 if negative."
 -- It is carried twice over, so that halves are kept.
+abbrev pub priceRiskAt : List ℤ → ℕ → ℕ
+priceRiskAt ts active =
+    orZero ((totalOf ts active +ℤ totalOf ts (pairOf active)) -ℤ (totalOf ts 1 +ℤ totalOf ts 2))
+
 abbrev pub twicePriceRisk : List ℤ → ℕ
-twicePriceRisk ts =
-    orZero
-    ((totalOf ts (activeScenario ts) +ℤ totalOf ts (pairOf (activeScenario ts)))
-    -ℤ (totalOf ts 1 +ℤ totalOf ts 2))
+twicePriceRisk ts = priceRiskAt ts (activeScenario ts)
 
 -- "A contract's credit from one entry = price risk × |used in that entry| × percent / (100 × |net delta|), rounded
 -- once, halves up; 0 where the net delta is 0."

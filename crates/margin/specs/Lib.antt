@@ -11,3 +11,4 @@ pub mod Books
 pub mod Questions
 pub mod Entered
 pub mod Reckoned
+pub mod Risks

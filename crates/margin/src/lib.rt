@@ -1,3 +1,4 @@
 // Margin from an account: figures and delta books.
 mod amount;
 pub mod pairs;
+mod risk;

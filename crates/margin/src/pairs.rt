@@ -2,10 +2,10 @@
 ghost use mathlib.Core.Path.{_≡_};
 ghost use Rattle.margin.specs.Pairs.{pairOf};
 
-const PAIRS: [u64; 16] = [2, 1, 4, 3, 6, 5, 8, 7, 10, 9, 12, 11, 14, 13, 15, 16];
+const PAIRS: [usize; 16] = [2, 1, 4, 3, 6, 5, 8, 7, 10, 9, 12, 11, 14, 13, 15, 16];
 
 // The scenario paired with a scenario 1 to 16; 0 for what is no scenario.
-pub fn pair_of(scenario: usize) -> u64
+pub fn pair_of(scenario: usize) -> usize
     ensures { λ r. ⌜ r ≡ pairOf scenario ⌝ }
 {
     if scenario == 0 {

@@ -43,9 +43,9 @@ pub fn account(random: &mut Random) -> Vec<Bytes> {
 
 fn size(random: &mut Random) -> usize {
     match random.below(16) {
-        0 => random.place(MOST_RECORDS + 1),
-        1 => random.place(8),
-        2..=8 => random.between(8, 40) as usize,
+        0 | 1 => random.place(MOST_RECORDS + 1),
+        2 => random.place(8),
+        3..=8 => random.between(8, 40) as usize,
         _ => random.between(20, 110) as usize,
     }
 }

@@ -59,10 +59,10 @@ returns c =
     let u = used-size (c .before .before .before) in
     let n = unused-size (c .before) in
     let first : c .before .before .before .magnitude .result * s .args .spread-rate ≡ natAbs (s .args .used .0) * s .args .spread-rate =
-      ap (λ (x : ℕ). x * s .args .spread-rate) u
+    ap (λ (x : ℕ). x * s .args .spread-rate) u
     in
     let second : c .before .magnitude2 .result * s .args .outright-rate ≡ natAbs (s .args .unused .0) * s .args .outright-rate =
-      ap (λ (x : ℕ). x * s .args .outright-rate) n
+    ap (λ (x : ℕ). x * s .args .outright-rate) n
     in
     let e = c .half-up .ensures in
     (e ∙ ap₂ (λ (a b : ℕ). charged (a + b)) first second, subst⁻¹ (λ (x : ℕ). x ≤ mostCharge) e (charged-within _ (omega arith)))

@@ -1,0 +1,45 @@
+-- Two totals added: each is within its bound, so the sum fits.
+-- Assumes nothing.
+use mathlib.Core.Path.{_≡_, subst⁻¹}
+use Prim.Native.Nat.{ℕ, _≤_, _<_, _^_}
+use native.Mathlib.Omega.{arith}
+use borrow.Author.Needs.{needs}
+use lib.IntN.{ℤ, natAbs, _+ℤ_}
+use Rattle.exact.proofs.Integers.{abs-add}
+use Rattle.margin.specs.Credit.{totalOf}
+use Rattle.margin.proofs.Calls.{op-fits, op-is}
+use Rattle.margin.proofs.risk.both.Statement.{statement}
+use Rattle.margin.proofs.risk.both.Tie as tie
+
+total-of-requires : tie.Need-total-of-requires
+total-of-requires c κs = search needs
+
+total-of-requires-2 : tie.Need-total-of-requires-2
+total-of-requires-2 c κs = search needs
+
+-- the two totals at entry, and the size of their sum
+sum-within : (c : tie.Start) → natAbs (totalOf (c .args .totals) (c .args .one) +ℤ totalOf (c .args .totals) (c .args .other)) ≤ 25600000000000000
+sum-within c =
+    let h = c .pre .each (c .args .one) in
+    let k = c .pre .each (c .args .other) in
+    let s = abs-add (totalOf (c .args .totals) (c .args .one)) (totalOf (c .args .totals) (c .args .other)) in
+    omega arith
+
+plus-requires : tie.Need-plus-requires
+plus-requires c κs =
+    let s = c .before .before in
+    let h = sum-within s in
+    op-fits _+ℤ_ (c .before .total-of .result) (c .total-of2 .result) (totalOf (s .args .totals) (s .args .one)) (totalOf (s .args .totals) (s .args .other))
+    (c .before .total-of .ok) (c .total-of2 .ok) (c .before .total-of .ensures) (c .total-of2 .ensures) (omega arith)
+
+returns : tie.Need-returns
+returns c =
+    let s = c .before .before .before in
+    let e = op-is _+ℤ_ (c .before .before .total-of .result) (c .before .total-of2 .result) (totalOf (s .args .totals) (s .args .one)) (totalOf (s .args .totals) (s .args .other))
+    (c .before .before .total-of .ok) (c .before .total-of2 .ok) (c .before .before .total-of .ensures) (c .before .total-of2 .ensures)
+    (c .plus .result) (c .plus .ok) (c .plus .ensures)
+    in
+    (e, subst⁻¹ (λ (z : ℤ). natAbs z ≤ 25600000000000000) e (sum-within s))
+
+pub both-spec : {M : Type 1} → statement M
+both-spec = tie.close (tie.spec total-of-requires total-of-requires-2 plus-requires returns)

@@ -1,14 +1,14 @@
 -- Laws of the integers: range, size, order and sign. Each is by cases on the signs; the naturals do the rest.
 -- Sums and cancellation are the library's: `+ℤ-comm`, `+ℤ-assoc`, `+ℤ-idl`, `+ℤ-idr`, `-ℤ-+ℤ-cancel`, `+ℤ-negℤ-cancel` of lib.IntN.
 -- Assumes nothing.
-use mathlib.Core.Path.{_≡_, refl, sym, _∙_, ap, subst}
+use mathlib.Core.Path.{_≡_, refl, sym, _∙_, ap, ap₂, subst}
 use mathlib.Core.Logic.{_⊎_, inl, inr}
 use mathlib.Core.Bool.{Bool, true, false, not, cond, false≢true, true≢false}
 use Prim.Native.Nat.{ℕ, zero, suc, _+_, _*_, _-_, _^_, _≤_, _<_, min}
 use native.Mathlib.Nat.{le-refl}
 use native.Mathlib.Omega.{arith}
 use lib.Dec.{leb, ltb}
-use lib.IntN.{ℤ, pos, negsuc, negℤ, natAbs, subℕ, _+ℤ_, _-ℤ_, _*ℤ_}
+use lib.IntN.{ℤ, pos, negsuc, negℤ, natAbs, subℕ, sucℤ, predℤ, _+ℤ_, _-ℤ_, _*ℤ_, +ℤ-idl, +ℤ-assoc, +ℤ-comm, +ℤ-negℤ-cancel, negℤ-negℤ, negℤ-+ℤ, zero-*ℤ, *ℤ-comm, sucℤ-+ℤ, predℤ-+ℤ, sucℤ-*ℤ, predℤ-*ℤ}
 use lib.Signed.{mag, ltZ, leZ}
 use mir.Syntax.{w64}
 use mir.Val.{SFits, toZ, ofZ}
@@ -25,6 +25,9 @@ back z h = toZ-ofZ {w = w64} {z = z} h
 -- what a callee says of a signed argument, said of the number itself
 pub seen {ℓ} : {A : Type ℓ} (f : ℤ → A) (z : ℤ) {x : A} → SFits w64 z → x ≡ f (toZ w64 (ofZ w64 z)) → x ≡ f z
 seen f z h e = e ∙ ap f (back z h)
+
+pub seen₂ {ℓ} : {A : Type ℓ} (f : ℤ → ℤ → A) (a b : ℤ) {x : A} → SFits w64 a → SFits w64 b → x ≡ f (toZ w64 (ofZ w64 a)) (toZ w64 (ofZ w64 b)) → x ≡ f a b
+seen₂ f a b ha hb e = e ∙ ap₂ f (back a ha) (back b hb)
 
 pub sfits-abs : (z : ℤ) → natAbs z < 2 ^ 63 → SFits w64 z
 sfits-abs (pos n) h = record { sfits = h }
@@ -63,6 +66,57 @@ abs-add (negsuc a) (negsuc b) = omega arith
 
 pub abs-sub : (a b : ℤ) → natAbs (a -ℤ b) ≤ natAbs a + natAbs b
 abs-sub a b = subst (λ (n : ℕ). natAbs (a -ℤ b) ≤ natAbs a + n) (abs-neg b) (abs-add a (negℤ b))
+
+-- what `plus`, `minus` and `times` require at a call, from the sizes of the two numbers
+pub plus-fits : (a b : ℤ) → SFits w64 a → SFits w64 b → natAbs a + natAbs b < 2 ^ 63 → SFits w64 (toZ w64 (ofZ w64 a) +ℤ toZ w64 (ofZ w64 b))
+plus-fits a b ha hb h = rw (back a ha, back b hb) (sfits-abs (a +ℤ b) (omega (arith, abs-add a b)))
+
+pub minus-fits : (a b : ℤ) → SFits w64 a → SFits w64 b → natAbs a + natAbs b < 2 ^ 63 → SFits w64 (toZ w64 (ofZ w64 a) -ℤ toZ w64 (ofZ w64 b))
+minus-fits a b ha hb h = rw (back a ha, back b hb) (sfits-abs (a -ℤ b) (omega (arith, abs-sub a b)))
+
+pub times-fits : (a b : ℤ) → SFits w64 a → SFits w64 b → natAbs a * natAbs b < 2 ^ 63 → SFits w64 (toZ w64 (ofZ w64 a) *ℤ toZ w64 (ofZ w64 b))
+times-fits a b ha hb h = rw (back a ha, back b hb) (sfits-abs (a *ℤ b) (rw (abs-mul a b) h))
+
+-- ---- sums and products
+
+pub sub-naturals : (n m : ℕ) → m ≤ n → pos n -ℤ pos m ≡ pos (n - m)
+sub-naturals n m h =
+    let e : n ≡ n - m + m = omega arith in
+    ap (λ (k : ℕ). pos k -ℤ pos m) e ∙ +ℤ-negℤ-cancel (pos (n - m)) (pos m)
+
+pub mul-neg : (a b : ℤ) → negℤ a *ℤ b ≡ negℤ (a *ℤ b)
+mul-neg (pos zero) b = zero-*ℤ b ∙ sym (ap negℤ (zero-*ℤ b))
+mul-neg (pos (suc n)) (pos m) = refl
+mul-neg (pos (suc n)) (negsuc m) = sym (negℤ-negℤ (pos (suc n * suc m)))
+mul-neg (negsuc n) (pos m) = sym (negℤ-negℤ (pos (suc n * m)))
+mul-neg (negsuc n) (negsuc m) = refl
+
+pub sums-cross : (a b c d : ℤ) → a +ℤ b +ℤ (c +ℤ d) ≡ a +ℤ c +ℤ (b +ℤ d)
+sums-cross a b c d =
+    +ℤ-assoc a b (c +ℤ d)
+    ∙ ap (λ (z : ℤ). a +ℤ z) (sym (+ℤ-assoc b c d) ∙ ap (λ (z : ℤ). z +ℤ d) (+ℤ-comm b c) ∙ +ℤ-assoc c b d)
+    ∙ sym (+ℤ-assoc a c (b +ℤ d))
+
+-- a step of one in the first summand, up or down: `s` is the step and `by` what it adds to a product
+one-step : (s : ℤ → ℤ) (by : ℤ → ℤ) → ((a b : ℤ) → s a +ℤ b ≡ s (a +ℤ b)) → ((a c : ℤ) → s a *ℤ c ≡ a *ℤ c +ℤ by c)
+    → (a b c : ℤ) → (a +ℤ b) *ℤ c ≡ a *ℤ c +ℤ b *ℤ c → (s a +ℤ b) *ℤ c ≡ s a *ℤ c +ℤ b *ℤ c
+one-step s by sum prod a b c h =
+    ap (λ (z : ℤ). z *ℤ c) (sum a b)
+    ∙ prod (a +ℤ b) c
+    ∙ ap (λ (z : ℤ). z +ℤ by c) h
+    ∙ +ℤ-assoc (a *ℤ c) (b *ℤ c) (by c)
+    ∙ ap (λ (z : ℤ). a *ℤ c +ℤ z) (+ℤ-comm (b *ℤ c) (by c))
+    ∙ sym (+ℤ-assoc (a *ℤ c) (by c) (b *ℤ c))
+    ∙ ap (λ (z : ℤ). z +ℤ b *ℤ c) (sym (prod a c))
+
+pub add-times : (a b c : ℤ) → (a +ℤ b) *ℤ c ≡ a *ℤ c +ℤ b *ℤ c
+add-times (pos zero) b c = ap (λ (z : ℤ). z *ℤ c) (+ℤ-idl b) ∙ sym (ap (λ (z : ℤ). z +ℤ b *ℤ c) (zero-*ℤ c) ∙ +ℤ-idl (b *ℤ c))
+add-times (pos (suc n)) b c = one-step sucℤ (λ z. z) sucℤ-+ℤ sucℤ-*ℤ (pos n) b c (add-times (pos n) b c)
+add-times (negsuc zero) b c = one-step predℤ negℤ predℤ-+ℤ predℤ-*ℤ (pos zero) b c (ap (λ (z : ℤ). z *ℤ c) (+ℤ-idl b) ∙ sym (ap (λ (z : ℤ). z +ℤ b *ℤ c) (zero-*ℤ c) ∙ +ℤ-idl (b *ℤ c)))
+add-times (negsuc (suc n)) b c = one-step predℤ negℤ predℤ-+ℤ predℤ-*ℤ (negsuc n) b c (add-times (negsuc n) b c)
+
+pub times-add : (a b c : ℤ) → a *ℤ (b +ℤ c) ≡ a *ℤ b +ℤ a *ℤ c
+times-add a b c = *ℤ-comm a (b +ℤ c) ∙ add-times b c a ∙ ap₂ _+ℤ_ (*ℤ-comm b a) (*ℤ-comm c a)
 
 -- ---- order
 
@@ -195,3 +249,11 @@ towards-zero-none z =
 
 pub towards-zero-all : (z : ℤ) (a : ℕ) → natAbs z ≤ a → towardsZero z a ≡ pos 0
 towards-zero-all z a h = towards-zero-sign z a ∙ ap (withSignOf z) (omega arith) ∙ sign-none z
+
+-- what was taken carries the sign too: it is as much as was asked, and at most all
+pub taken-sign : (z : ℤ) (a : ℕ) → z -ℤ towardsZero z a ≡ withSignOf z (min a (natAbs z))
+taken-sign (pos n) a = sub-naturals n (n - a) (omega arith) ∙ ap pos (omega arith)
+taken-sign (negsuc n) a =
+    let e : suc n - (suc n - a) ≡ min a (suc n) = omega arith in
+    sym (negℤ-+ℤ (pos (suc n)) (negℤ (pos (suc n - a))))
+    ∙ ap negℤ (sub-naturals (suc n) (suc n - a) (omega arith) ∙ ap pos e)

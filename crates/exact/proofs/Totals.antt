@@ -14,6 +14,7 @@ use lib.Signed.{ltZ, leZ}
 use borrow.Author.Tests.{eq-eqb, ne-eqb, eqb-true, ltb-true}
 use Rattle.exact.specs.Signed.{larger}
 use Rattle.exact.specs.Largest.{largest, same, firstAt, IsLargest}
+use Rattle.exact.proofs.Lists.{Held}
 use Rattle.exact.proofs.Integers.{at-most-refl, at-most-trans, larger-first, larger-second}
 
 pub same-refl : (z : ℤ) → same z z ≡ true
@@ -41,6 +42,65 @@ largest-most (x ∷ y ∷ ys) zero h = larger-first x (largest (y ∷ ys))
 largest-most (x ∷ y ∷ ys) (suc k) h =
     at-most-trans (getD (y ∷ ys) k (pos 0)) (largest (y ∷ ys)) (larger x (largest (y ∷ ys)))
     (largest-most (y ∷ ys) k (le-of-suc-le-suc h)) (larger-second x (largest (y ∷ ys)))
+
+-- the largest is one of the totals
+pub largest-held : (xs : List ℤ) → 0 < length xs → Held xs (pos 0) (largest xs)
+largest-held [] h = absurd (not-suc-le-zero h)
+largest-held (x ∷ []) h = record { place = 0; within = omega arith; holds = refl }
+largest-held (x ∷ y ∷ ys) h = go (ltZ x (largest (y ∷ ys))) (largest-held (y ∷ ys) (omega arith))
+  where
+    go : (t : Bool) → Held (y ∷ ys) (pos 0) (largest (y ∷ ys)) → Held (x ∷ y ∷ ys) (pos 0) (cond t (largest (y ∷ ys)) x)
+    go true r = record { place = suc (r .place); within = omega (arith, r .within); holds = r .holds }
+    go false r = record { place = 0; within = omega arith; holds = refl }
+
+-- the first number: it holds z, none before it does, and it is within the list where any place holds z
+pub first-above : (z : ℤ) (xs : List ℤ) → 0 < firstAt z xs
+first-above z [] = omega arith
+first-above z (x ∷ xs) = go (same x z)
+  where
+    go : (t : Bool) → 0 < cond t 1 (suc (firstAt z xs))
+    go true = omega arith
+    go false = omega arith
+
+pub first-holds : (z : ℤ) (xs : List ℤ) (k : ℕ) → firstAt z xs ≡ suc k → k < length xs → getD xs k (pos 0) ≡ z
+first-holds z [] k e h = absurd (not-suc-le-zero h)
+first-holds z (x ∷ xs) zero e h = go (same x z) refl e
+  where
+    go : (t : Bool) → same x z ≡ t → cond t 1 (suc (firstAt z xs)) ≡ 1 → x ≡ z
+    go true q e = same-true x z q
+    go false q e = absurd (omega (arith, first-above z xs))
+first-holds z (x ∷ xs) (suc k) e h = go (same x z) e (λ q. first-holds z xs k q (le-of-suc-le-suc h))
+  where
+    go : (t : Bool) → cond t 1 (suc (firstAt z xs)) ≡ suc (suc k) → (firstAt z xs ≡ suc k → getD xs k (pos 0) ≡ z) → getD xs k (pos 0) ≡ z
+    go true e rest = absurd (omega arith)
+    go false e rest = rest (omega arith)
+
+pub first-none-before : (z : ℤ) (xs : List ℤ) (k : ℕ) → suc k < firstAt z xs → same (getD xs k (pos 0)) z ≡ false
+first-none-before z [] k h = absurd (omega arith)
+first-none-before z (x ∷ xs) zero h = go (same x z) h
+  where
+    go : (t : Bool) → 1 < cond t 1 (suc (firstAt z xs)) → t ≡ false
+    go true h = absurd (omega arith)
+    go false h = refl
+first-none-before z (x ∷ xs) (suc k) h = go (same x z) h (first-none-before z xs k)
+  where
+    go : (t : Bool) → suc (suc k) < cond t 1 (suc (firstAt z xs)) → (suc k < firstAt z xs → same (getD xs k (pos 0)) z ≡ false) → same (getD xs k (pos 0)) z ≡ false
+    go true h rest = absurd (omega arith)
+    go false h rest = rest (omega arith)
+
+pub first-at-most : (z : ℤ) (xs : List ℤ) (k : ℕ) → k < length xs → getD xs k (pos 0) ≡ z → firstAt z xs ≤ suc k
+first-at-most z [] k h e = absurd (not-suc-le-zero h)
+first-at-most z (x ∷ xs) zero h e = rw (ap (λ (y : ℤ). same y z) e ∙ same-refl z) (omega arith)
+first-at-most z (x ∷ xs) (suc k) h e = go (same x z) (first-at-most z xs k (le-of-suc-le-suc h) e)
+  where
+    go : (t : Bool) → firstAt z xs ≤ suc k → cond t 1 (suc (firstAt z xs)) ≤ suc (suc k)
+    go true r = omega arith
+    go false r = omega arith
+
+pub first-within : (xs : List ℤ) → 0 < length xs → firstAt (largest xs) xs ≤ length xs
+first-within xs h =
+    let r = largest-held xs h in
+    omega (arith, r .within, first-at-most (largest xs) xs (r .place) (r .within) (r .holds))
 
 -- ---- from the last total to the first
 

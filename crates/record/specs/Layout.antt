@@ -126,9 +126,12 @@ legCount = numberIn legCountField
 abbrev pub twoLegs : Record → Bool
 twoLegs r = eqb (legCount r) 2
 
+abbrev pub thirdLeg : Record → List Field
+thirdLeg r = cond (twoLegs r) [] (legFields 2)
+
 abbrev pub spreadFields : Record → List Field
 spreadFields r =
-    contractField ∷ legCountField ∷ ratePerSpreadField ∷ legFields 0 ++ legFields 1 ++ cond (twoLegs r) [] (legFields 2)
+    contractField ∷ legCountField ∷ ratePerSpreadField ∷ legFields 0 ++ legFields 1 ++ thirdLeg r
 
 -- "5 intercontract spread | 1, 2: contracts; 3: credit percent 0..100; 4-5, 6-7: their ratios"
 abbrev pub secondContractField : Field

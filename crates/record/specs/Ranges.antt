@@ -4,9 +4,9 @@ use Prim.Native.Nat.{ℕ, _+_}
 use mathlib.Core.Bool.{Bool, true, false, not, _&&_, _||_}
 use mathlib.Core.List.{List, [], _∷_}
 use lib.Dec.{eqb, leb, ltb}
-use lib.IntN.{ℤ, pos, negsuc}
+use lib.Signed.{leZ}
 use Rattle.exact.specs.Lists.{any}
-use Rattle.record.specs.Bytes.{Record, recordBytes, byteAt, bytesOf, Range, plain, signed, Field, numberIn, signedIn, countFrom}
+use Rattle.record.specs.Bytes.{Record, recordBytes, byteAt, bytesOf, twosComplement, Range, plain, signed, Field, numberIn, countFrom}
 use Rattle.record.specs.Layout.{kind, fieldsOf}
 
 -- 3: "kind not 1..5"
@@ -24,19 +24,22 @@ abbrev pub notZero : Record → ℕ → Bool
 notZero r o = not (eqb (byteAt r o) 0)
 
 -- 5: "an unused byte is not zero"
+abbrev pub unusedBeside : List Field → Record → Bool
+unusedBeside fs r = any (λ o. not (named fs o) && notZero r o) (countFrom 0 recordBytes)
+
 abbrev pub unusedByte : Record → Bool
-unusedByte r = any (λ o. not (named (fieldsOf r) o) && notZero r o) (countFrom 0 recordBytes)
+unusedByte r = unusedBeside (fieldsOf r) r
 
-abbrev pub leℤ : ℤ → ℤ → Bool
-leℤ (pos m) (pos n) = leb m n
-leℤ (pos m) (negsuc n) = false
-leℤ (negsuc m) (pos n) = true
-leℤ (negsuc m) (negsuc n) = leb n m
-
-abbrev pub outside : Range → Field → Record → Bool
-outside (plain low high) f r = not (leb low (numberIn f r) && leb (numberIn f r) high)
-outside (signed low high) f r = not (leℤ low (signedIn f r) && leℤ (signedIn f r) high)
+abbrev pub beyond : Range → ℕ → Bool
+beyond (plain low high) x = not (leb low x && leb x high)
+beyond (signed low high) x = not (leZ low (twosComplement x) && leZ (twosComplement x) high)
 
 -- 6: "a field outside its range"
+abbrev pub outside : Record → Field → Bool
+outside r f = beyond (f .range) (numberIn f r)
+
+abbrev pub outsideAmong : List Field → Record → Bool
+outsideAmong fs r = any (outside r) fs
+
 abbrev pub fieldOutside : Record → Bool
-fieldOutside r = any (λ f. outside (f .range) f r) (fieldsOf r)
+fieldOutside r = outsideAmong (fieldsOf r) r

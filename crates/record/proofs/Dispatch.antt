@@ -1,0 +1,29 @@
+-- The fields of a record whose kind is known.
+-- Assumes nothing.
+use Prim.Native.Nat.{ℕ}
+use mathlib.Core.Path.{_≡_, refl}
+use mathlib.Core.List.{[]}
+use borrow.Author.Tests.{ne-eqb}
+use Rattle.record.specs.Bytes.{Record}
+use Rattle.record.specs.Layout.{kind, fieldsOf, contractFields, promptFields, rowFields, spreadFields, entryFields}
+
+module _ (r : Record) where
+  pub of-contract : kind r ≡ 1 → fieldsOf r ≡ contractFields
+  of-contract e = rw e
+
+  pub of-prompt : kind r ≡ 2 → fieldsOf r ≡ promptFields
+  of-prompt e = rw e
+
+  pub of-row : kind r ≡ 3 → fieldsOf r ≡ rowFields r
+  of-row e = rw e
+
+  pub of-spread : kind r ≡ 4 → fieldsOf r ≡ spreadFields r
+  of-spread e = rw e
+
+  pub of-entry : kind r ≡ 5 → fieldsOf r ≡ entryFields
+  of-entry e = rw e
+
+  pub of-none :
+      (kind r ≡ 1 → ⊥) → (kind r ≡ 2 → ⊥) → (kind r ≡ 3 → ⊥) → (kind r ≡ 4 → ⊥) → (kind r ≡ 5 → ⊥) → fieldsOf r ≡ []
+  of-none a b c d e =
+      rw (ne-eqb (kind r) 1 a, ne-eqb (kind r) 2 b, ne-eqb (kind r) 3 c, ne-eqb (kind r) 4 d, ne-eqb (kind r) 5 e)

@@ -1,0 +1,44 @@
+-- Tests in a row, and a test over a count of numbers, taken one number at a time.
+-- Assumes nothing.
+use Prim.Native.Nat.{ℕ, suc, _+_, _-_, _≤_, _<_}
+use mathlib.Core.Path.{_≡_, refl, sym, _∙_}
+use mathlib.Core.Bool.{Bool, true, false, _||_}
+use mathlib.Core.List.{List, [], _∷_, _++_}
+use native.Mathlib.Omega.{arith}
+use Rattle.exact.specs.Lists.{any}
+use Rattle.record.specs.Bytes.{countFrom}
+
+pub both : {a b c d : Bool} → a ≡ b → c ≡ d → a || c ≡ b || d
+both p q = rw (p, q)
+
+pub or-false : (a : Bool) → a || false ≡ a
+or-false true = refl
+or-false false = refl
+
+pub last : {a b : Bool} → a ≡ b → a ≡ b || false
+last {a} {b} p = p ∙ sym (or-false b)
+
+or-assoc : (a b c : Bool) → (a || b) || c ≡ a || (b || c)
+or-assoc true b c = refl
+or-assoc false b c = refl
+
+pub any-append {ℓ} : {A : Type ℓ} (p : A → Bool) (xs ys : List A) → any p (xs ++ ys) ≡ any p xs || any p ys
+any-append p [] ys = refl
+any-append p (x ∷ xs) ys = rw (any-append p xs ys) (sym (or-assoc (p x) (any p xs) (any p ys)))
+
+pub counts-on : (e i : ℕ) → i < e → countFrom i (e - i) ≡ i ∷ countFrom (i + 1) (e - (i + 1))
+counts-on e i h =
+    let s : e - i ≡ suc (e - (i + 1)) = omega arith in
+    rw s
+
+module _ (p : ℕ → Bool) (e i : ℕ) where
+  pub any-here : i < e → p i ≡ true → any p (countFrom i (e - i)) ≡ true
+  any-here h t = rw (counts-on e i h, t)
+
+  pub any-next : i < e → p i ≡ false → any p (countFrom i (e - i)) ≡ any p (countFrom (i + 1) (e - (i + 1)))
+  any-next h t = rw (counts-on e i h, t)
+
+  pub any-past : e ≤ i → any p (countFrom i (e - i)) ≡ false
+  any-past h =
+      let s : e - i ≡ 0 = omega arith in
+      rw s

@@ -1,0 +1,26 @@
+-- `record::fields::leg_tier` meets its contract. Assumes nothing.
+use borrow.Author.Needs.{needs}
+use Prim.Native.Nat.{_+_, _*_}
+use mathlib.Core.Path.{sym}
+use native.Mathlib.Omega.{arith}
+use Rattle.record.proofs.Reading.{byte-past}
+use Rattle.record.proofs.fields.leg_tier.Statement.{statement}
+use Rattle.record.proofs.fields.leg_tier.Tie as tie
+
+mul-byte-at : tie.Need-mul-byte-at
+mul-byte-at c = search needs
+
+add-byte-at : tie.Need-add-byte-at
+add-byte-at c = search needs
+
+byte-at-requires : tie.Need-byte-at-requires
+byte-at-requires c κs = search needs
+
+returns : tie.Need-returns
+returns c = (sym (byte-past (c .before .before .args .r .now) (8 + 4 * c .before .before .args .leg) (omega arith)), search needs)
+
+returns-2 : tie.Need-returns-2
+returns-2 c = search needs
+
+pub leg-tier-spec : {M : Type 1} → statement M
+leg-tier-spec = tie.close (tie.spec mul-byte-at add-byte-at byte-at-requires returns returns-2)

@@ -1,0 +1,33 @@
+-- `record::ranges::in_contract` meets its contract. Assumes nothing.
+use borrow.Author.Needs.{needs}
+use mathlib.Core.Path.{ap, _∙_}
+use Rattle.record.specs.Ranges.{beyond}
+use Rattle.record.proofs.Tests.{both, last}
+use Rattle.record.specs.Layout.{contracts, rates}
+use Rattle.record.proofs.ranges.in_contract.Statement.{statement}
+use Rattle.record.proofs.ranges.in_contract.Tie as tie
+
+contract-requires : tie.Need-contract-requires
+contract-requires c κs = search needs
+
+no-contract-requires : tie.Need-no-contract-requires
+no-contract-requires c κs = search needs
+
+short-option-rate-requires : tie.Need-short-option-rate-requires
+short-option-rate-requires c κs = search needs
+
+no-rate-requires : tie.Need-no-rate-requires
+no-rate-requires c κs = search needs
+
+returns : tie.Need-returns
+returns c = both (c .before .before .no-contract .ensures ∙ ap (beyond contracts) (c .before .before .before .contract .ensures .0)) (last (c .no-rate .ensures ∙ ap (beyond rates) (c .before .short-option-rate .ensures .0)))
+
+pub in-contract-spec : {M : Type 1} → statement M
+in-contract-spec =
+    tie.close
+    (tie.spec
+    contract-requires
+    no-contract-requires
+    short-option-rate-requires
+    no-rate-requires
+    returns)

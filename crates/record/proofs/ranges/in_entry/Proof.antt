@@ -1,0 +1,58 @@
+-- `record::ranges::in_entry` meets its contract. Assumes nothing.
+use borrow.Author.Needs.{needs}
+use mathlib.Core.Path.{ap, _∙_}
+use Rattle.record.specs.Ranges.{beyond}
+use Rattle.record.proofs.Tests.{both, last}
+use Rattle.record.specs.Bytes.{plain}
+use Rattle.record.specs.Layout.{contracts, ratios}
+use Rattle.record.proofs.ranges.in_entry.Statement.{statement}
+use Rattle.record.proofs.ranges.in_entry.Tie as tie
+
+contract-requires : tie.Need-contract-requires
+contract-requires c κs = search needs
+
+no-contract-requires : tie.Need-no-contract-requires
+no-contract-requires c κs = search needs
+
+second-contract-requires : tie.Need-second-contract-requires
+second-contract-requires c κs = search needs
+
+no-contract-requires-2 : tie.Need-no-contract-requires-2
+no-contract-requires-2 c κs = search needs
+
+percent-requires : tie.Need-percent-requires
+percent-requires c κs = search needs
+
+beyond-requires : tie.Need-beyond-requires
+beyond-requires c κs = search needs
+
+first-ratio-requires : tie.Need-first-ratio-requires
+first-ratio-requires c κs = search needs
+
+no-ratio-requires : tie.Need-no-ratio-requires
+no-ratio-requires c κs = search needs
+
+second-ratio-requires : tie.Need-second-ratio-requires
+second-ratio-requires c κs = search needs
+
+no-ratio-requires-2 : tie.Need-no-ratio-requires-2
+no-ratio-requires-2 c κs = search needs
+
+returns : tie.Need-returns
+returns c = both (c .before .before .before .before .before .before .before .before .no-contract .ensures ∙ ap (beyond contracts) (c .before .before .before .before .before .before .before .before .before .contract .ensures .0)) (both (c .before .before .before .before .before .before .no-contract2 .ensures ∙ ap (beyond contracts) (c .before .before .before .before .before .before .before .second-contract .ensures .0)) (both (c .before .before .before .before .beyond .ensures ∙ ap (beyond (plain 0 100)) (c .before .before .before .before .before .percent .ensures .0)) (both (c .before .before .no-ratio .ensures ∙ ap (beyond ratios) (c .before .before .before .first-ratio .ensures .0)) (last (c .no-ratio2 .ensures ∙ ap (beyond ratios) (c .before .second-ratio .ensures .0))))))
+
+pub in-entry-spec : {M : Type 1} → statement M
+in-entry-spec =
+    tie.close
+    (tie.spec
+    contract-requires
+    no-contract-requires
+    second-contract-requires
+    no-contract-requires-2
+    percent-requires
+    beyond-requires
+    first-ratio-requires
+    no-ratio-requires
+    second-ratio-requires
+    no-ratio-requires-2
+    returns)

@@ -1,0 +1,70 @@
+-- `record::ranges::in_row` meets its contract. Assumes nothing.
+use borrow.Author.Needs.{needs}
+use mathlib.Core.Path.{ap, _∙_}
+use Rattle.record.specs.Bytes.{plain}
+use Rattle.record.specs.Layout.{contracts, days, hundredThousands, values}
+use Rattle.record.specs.Ranges.{beyond}
+use Rattle.record.proofs.Tests.{both}
+use Rattle.record.proofs.ranges.in_row.Statement.{statement}
+use Rattle.record.proofs.ranges.in_row.Tie as tie
+
+contract-requires : tie.Need-contract-requires
+contract-requires c κs = search needs
+
+no-contract-requires : tie.Need-no-contract-requires
+no-contract-requires c κs = search needs
+
+row-type-requires : tie.Need-row-type-requires
+row-type-requires c κs = search needs
+
+beyond-requires : tie.Need-beyond-requires
+beyond-requires c κs = search needs
+
+day-requires : tie.Need-day-requires
+day-requires c κs = search needs
+
+no-day-requires : tie.Need-no-day-requires
+no-day-requires c κs = search needs
+
+no-strike-requires : tie.Need-no-strike-requires
+no-strike-requires c κs = search needs
+
+u32-at-requires : tie.Need-u32-at-requires
+u32-at-requires c κs = search needs
+
+too-many-requires : tie.Need-too-many-requires
+too-many-requires c κs = search needs
+
+no-delta-requires : tie.Need-no-delta-requires
+no-delta-requires c κs = search needs
+
+value-requires : tie.Need-value-requires
+value-requires c κs = search needs
+
+beyond-requires-2 : tie.Need-beyond-requires-2
+beyond-requires-2 c κs = search needs
+
+no-losses-requires : tie.Need-no-losses-requires
+no-losses-requires c κs = search needs
+
+returns : tie.Need-returns
+returns c = both (c .before .before .before .before .before .before .before .before .before .before .before .no-contract .ensures ∙ ap (beyond contracts) (c .before .before .before .before .before .before .before .before .before .before .before .before .contract .ensures .0)) (both (c .before .before .before .before .before .before .before .before .before .beyond .ensures ∙ ap (beyond (plain 0 2)) (c .before .before .before .before .before .before .before .before .before .before .row-type .ensures .0)) (both (c .before .before .before .before .before .before .before .no-day .ensures ∙ ap (beyond days) (c .before .before .before .before .before .before .before .before .day .ensures .0)) (both (c .before .before .before .before .before .before .no-strike .ensures) (both (c .before .before .before .before .too-many .ensures ∙ ap (beyond hundredThousands) (c .before .before .before .before .before .u32-at .ensures .0)) (both (c .before .before .before .no-delta .ensures) (both (c .before .beyond2 .ensures ∙ ap (beyond values) (c .before .before .value .ensures .0)) (c .no-losses .ensures)))))))
+
+pub in-row-spec : {M : Type 1} → statement M
+in-row-spec =
+    tie.close
+    (tie.spec
+    contract-requires
+    no-contract-requires
+    row-type-requires
+    beyond-requires
+    day-requires
+    no-day-requires
+    no-strike-requires
+    u32-at-requires
+    too-many-requires
+    no-delta-requires
+    value-requires
+    beyond-requires-2
+    no-losses-requires
+    returns)

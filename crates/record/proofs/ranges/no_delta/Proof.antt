@@ -1,0 +1,48 @@
+-- `record::ranges::no_delta` meets its contract. Assumes nothing.
+use borrow.Author.Needs.{needs}
+use mathlib.Core.Path.{_≡_, sym, ap, _∙_}
+use borrow.Author.Tests.{eq-eqb, ne-eqb}
+use mathlib.Core.Bool.{true, false}
+use lib.IntN.{pos, negℤ}
+use Rattle.record.specs.Bytes.{signed}
+use Rattle.record.specs.Layout.{put}
+use Rattle.record.specs.Ranges.{beyond}
+use Rattle.record.proofs.ranges.no_delta.Statement.{statement}
+use Rattle.record.proofs.ranges.no_delta.Tie as tie
+
+row-type-requires : tie.Need-row-type-requires
+row-type-requires c κs = search needs
+
+u32-at-requires : tie.Need-u32-at-requires
+u32-at-requires c κs = search needs
+
+signed-beyond-requires : tie.Need-signed-beyond-requires
+signed-beyond-requires c κs = search needs
+
+u32-at-requires-2 : tie.Need-u32-at-requires-2
+u32-at-requires-2 c κs = search needs
+
+signed-beyond-requires-2 : tie.Need-signed-beyond-requires-2
+signed-beyond-requires-2 c κs = search needs
+
+returns : tie.Need-returns
+returns c =
+    let picked : put (c .before .before .before .before .before .args .r .now) ≡ true = eq-eqb _ _ (sym (c .before .before .before .row-type .ensures .0) ∙ c .before .before .if1 .taken) in
+    rw picked (c .signed-beyond .ensures ∙ ap (beyond (signed (negℤ (pos 10000)) (pos 0))) (c .before .u32-at .ensures .0))
+
+returns-2 : tie.Need-returns-2
+returns-2 c =
+    let picked : put (c .before .before .before .before .before .args .r .now) ≡ false = ne-eqb _ _ (λ e. c .before .before .if1 .left (c .before .before .before .row-type .ensures .0 ∙ e)) in
+    rw picked (c .signed-beyond2 .ensures ∙ ap (beyond (signed (pos 0) (pos 10000))) (c .before .u32-at2 .ensures .0))
+
+pub no-delta-spec : {M : Type 1} → statement M
+no-delta-spec =
+    tie.close
+    (tie.spec
+    row-type-requires
+    u32-at-requires
+    signed-beyond-requires
+    u32-at-requires-2
+    signed-beyond-requires-2
+    returns
+    returns-2)

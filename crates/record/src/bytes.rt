@@ -1,0 +1,54 @@
+// Numbers in a record: little-endian, two's complement where signed. Past the record's end a byte counts as 0.
+ghost use mathlib.Core.Path.{_≡_};
+ghost use Prim.Native.Nat.{_<_};
+ghost use Rattle.record.specs.Bytes.{byteAt, u16At, u32At, i32At, twosComplement};
+
+fn wide(x: u8) -> usize
+    ensures { λ n. ⌜ (n ≡ x) × (n < 256) ⌝ }
+{
+    x as usize
+}
+
+pub fn byte_at(r: &[u8], o: usize) -> usize
+    ensures { λ n. ⌜ (n ≡ byteAt (now (r .entry)) o) × (n < 256) ⌝ }
+{
+    if o < r.len() { wide(r[o]) } else { 0 }
+}
+
+pub fn u16_at(r: &[u8], o: usize) -> usize
+    ensures { λ n. ⌜ (n ≡ u16At (now (r .entry)) o) × (n < 65536) ⌝ }
+{
+    if o < r.len() {
+        byte_at(r, o) + 256 * byte_at(r, o + 1)
+    } else {
+        0
+    }
+}
+
+pub fn u32_at(r: &[u8], o: usize) -> usize
+    ensures { λ n. ⌜ (n ≡ u32At (now (r .entry)) o) × (n < 4294967296) ⌝ }
+{
+    if o < r.len() {
+        u16_at(r, o) + 65536 * u16_at(r, o + 2)
+    } else {
+        0
+    }
+}
+
+// The signed number that 32 bits stand for.
+fn signed(x: usize) -> i64
+    requires { ⌜ x < 4294967296 ⌝ }
+    ensures { λ z. ⌜ z ≡ twosComplement x ⌝ }
+{
+    if x < 2147483648 {
+        x as i64
+    } else {
+        -1 - (4294967295 - x) as i64
+    }
+}
+
+pub fn i32_at(r: &[u8], o: usize) -> i64
+    ensures { λ z. ⌜ z ≡ i32At (now (r .entry)) o ⌝ }
+{
+    signed(u32_at(r, o))
+}

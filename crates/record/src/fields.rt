@@ -1,0 +1,169 @@
+// The fields of a record, by document 01's table. Unsigned fields come as they stand, signed ones as signed numbers.
+ghost use mathlib.Core.Path.{_≡_};
+ghost use Prim.Native.Nat.{_<_};
+ghost use Rattle.record.specs.Layout.{kind, contract, shortOptionRate, tier, day, spreadRate, outrightRate};
+ghost use Rattle.record.specs.Layout.{rowType, strike, lots, delta, value, loss};
+ghost use Rattle.record.specs.Layout.{legCount, ratePerSpread, legTier, legSide, legRatio};
+ghost use Rattle.record.specs.Layout.{secondContract, percent, firstRatio, secondRatio};
+use crate::bytes::byte_at;
+use crate::bytes::i32_at;
+use crate::bytes::u16_at;
+use crate::bytes::u32_at;
+
+pub fn kind(r: &[u8]) -> usize
+    ensures { λ n. ⌜ (n ≡ kind (now (r .entry))) × (n < 256) ⌝ }
+{
+    byte_at(r, 0)
+}
+
+pub fn contract(r: &[u8]) -> usize
+    ensures { λ n. ⌜ (n ≡ contract (now (r .entry))) × (n < 256) ⌝ }
+{
+    byte_at(r, 1)
+}
+
+// Of a contract.
+pub fn short_option_rate(r: &[u8]) -> usize
+    ensures { λ n. ⌜ (n ≡ shortOptionRate (now (r .entry))) × (n < 4294967296) ⌝ }
+{
+    u32_at(r, 4)
+}
+
+// Of a prompt; the day is also that of a row.
+pub fn tier(r: &[u8]) -> usize
+    ensures { λ n. ⌜ (n ≡ tier (now (r .entry))) × (n < 256) ⌝ }
+{
+    byte_at(r, 2)
+}
+
+pub fn day(r: &[u8]) -> usize
+    ensures { λ n. ⌜ (n ≡ day (now (r .entry))) × (n < 4294967296) ⌝ }
+{
+    u32_at(r, 4)
+}
+
+pub fn spread_rate(r: &[u8]) -> usize
+    ensures { λ n. ⌜ (n ≡ spreadRate (now (r .entry))) × (n < 4294967296) ⌝ }
+{
+    u32_at(r, 8)
+}
+
+pub fn outright_rate(r: &[u8]) -> usize
+    ensures { λ n. ⌜ (n ≡ outrightRate (now (r .entry))) × (n < 4294967296) ⌝ }
+{
+    u32_at(r, 12)
+}
+
+// Of a row.
+pub fn row_type(r: &[u8]) -> usize
+    ensures { λ n. ⌜ (n ≡ rowType (now (r .entry))) × (n < 256) ⌝ }
+{
+    byte_at(r, 2)
+}
+
+pub fn strike(r: &[u8]) -> usize
+    ensures { λ n. ⌜ (n ≡ strike (now (r .entry))) × (n < 4294967296) ⌝ }
+{
+    u32_at(r, 8)
+}
+
+pub fn lots(r: &[u8]) -> i64
+    ensures { λ z. ⌜ z ≡ lots (now (r .entry)) ⌝ }
+{
+    i32_at(r, 12)
+}
+
+pub fn delta(r: &[u8]) -> i64
+    ensures { λ z. ⌜ z ≡ delta (now (r .entry)) ⌝ }
+{
+    i32_at(r, 16)
+}
+
+pub fn value(r: &[u8]) -> usize
+    ensures { λ n. ⌜ (n ≡ value (now (r .entry))) × (n < 4294967296) ⌝ }
+{
+    u32_at(r, 20)
+}
+
+// The loss in a scenario, 1 to 16.
+pub fn loss(r: &[u8], scenario: usize) -> i64
+    ensures { λ z. ⌜ z ≡ loss (now (r .entry)) scenario ⌝ }
+{
+    if scenario < 1 {
+        return i32_at(r, 24);
+    }
+    let later = scenario - 1;
+    if r.len() / 4 < later {
+        0
+    } else {
+        i32_at(r, 24 + 4 * later)
+    }
+}
+
+// Of an interprompt spread; its legs are 0, 1 and 2.
+pub fn leg_count(r: &[u8]) -> usize
+    ensures { λ n. ⌜ (n ≡ legCount (now (r .entry))) × (n < 256) ⌝ }
+{
+    byte_at(r, 2)
+}
+
+pub fn rate_per_spread(r: &[u8]) -> usize
+    ensures { λ n. ⌜ (n ≡ ratePerSpread (now (r .entry))) × (n < 4294967296) ⌝ }
+{
+    u32_at(r, 4)
+}
+
+pub fn leg_tier(r: &[u8], leg: usize) -> usize
+    ensures { λ n. ⌜ (n ≡ legTier (now (r .entry)) leg) × (n < 256) ⌝ }
+{
+    if r.len() / 4 < leg {
+        0
+    } else {
+        byte_at(r, 8 + 4 * leg)
+    }
+}
+
+pub fn leg_side(r: &[u8], leg: usize) -> usize
+    ensures { λ n. ⌜ (n ≡ legSide (now (r .entry)) leg) × (n < 256) ⌝ }
+{
+    if r.len() / 4 < leg {
+        0
+    } else {
+        byte_at(r, 9 + 4 * leg)
+    }
+}
+
+pub fn leg_ratio(r: &[u8], leg: usize) -> usize
+    ensures { λ n. ⌜ (n ≡ legRatio (now (r .entry)) leg) × (n < 65536) ⌝ }
+{
+    if r.len() / 4 < leg {
+        0
+    } else {
+        u16_at(r, 10 + 4 * leg)
+    }
+}
+
+// Of an intercontract spread.
+pub fn second_contract(r: &[u8]) -> usize
+    ensures { λ n. ⌜ (n ≡ secondContract (now (r .entry))) × (n < 256) ⌝ }
+{
+    byte_at(r, 2)
+}
+
+pub fn percent(r: &[u8]) -> usize
+    ensures { λ n. ⌜ (n ≡ percent (now (r .entry))) × (n < 256) ⌝ }
+{
+    byte_at(r, 3)
+}
+
+pub fn first_ratio(r: &[u8]) -> usize
+    ensures { λ n. ⌜ (n ≡ firstRatio (now (r .entry))) × (n < 65536) ⌝ }
+{
+    u16_at(r, 4)
+}
+
+pub fn second_ratio(r: &[u8]) -> usize
+    ensures { λ n. ⌜ (n ≡ secondRatio (now (r .entry))) × (n < 65536) ⌝ }
+{
+    u16_at(r, 6)
+}

@@ -1,0 +1,174 @@
+// What each field may hold.
+ghost use mathlib.Core.Path.{_≡_};
+ghost use mathlib.Core.List.{map};
+ghost use Prim.Native.Nat.{_<_, _≤_};
+ghost use lib.IntN.{pos, negℤ};
+ghost use Rattle.record.specs.Bytes.{plain, signed, countFrom};
+ghost use Rattle.record.specs.Layout.{contracts, days, tiers, rates, ratios, hundredThousands, values};
+ghost use Rattle.record.specs.Layout.{contractFields, promptFields, rowFields, spreadFields, entryFields};
+ghost use Rattle.record.specs.Layout.{strikeField, deltaField, forward, put, lossField, legFields, thirdLeg};
+ghost use Rattle.record.specs.Ranges.{beyond, outside, outsideAmong};
+use crate::bytes::u32_at;
+use crate::fields::contract;
+use crate::fields::day;
+use crate::fields::first_ratio;
+use crate::fields::leg_count;
+use crate::fields::leg_ratio;
+use crate::fields::leg_side;
+use crate::fields::leg_tier;
+use crate::fields::outright_rate;
+use crate::fields::percent;
+use crate::fields::rate_per_spread;
+use crate::fields::row_type;
+use crate::fields::second_contract;
+use crate::fields::second_ratio;
+use crate::fields::short_option_rate;
+use crate::fields::spread_rate;
+use crate::fields::strike;
+use crate::fields::tier;
+use crate::fields::value;
+
+fn beyond(x: usize, low: usize, high: usize) -> bool
+    ensures { λ b. ⌜ b ≡ beyond (plain low high) x ⌝ }
+{
+    !((low <= x) & (x <= high))
+}
+
+// Of 32 bits in two's complement: below -low or above high.
+fn signed_beyond(x: usize, low: usize, high: usize) -> bool
+    requires { ⌜ (x < 4294967296) × ((low ≤ 2147483648) × (high < 2147483648)) ⌝ }
+    ensures { λ b. ⌜ b ≡ beyond (signed (negℤ (pos low)) (pos high)) x ⌝ }
+{
+    !((x <= high) | (4294967296 - low <= x))
+}
+
+fn no_contract(x: usize) -> bool
+    ensures { λ b. ⌜ b ≡ beyond contracts x ⌝ }
+{
+    beyond(x, 0, 15)
+}
+
+fn no_day(x: usize) -> bool
+    ensures { λ b. ⌜ b ≡ beyond days x ⌝ }
+{
+    beyond(x, 1, 99999999)
+}
+
+fn no_tier(x: usize) -> bool
+    ensures { λ b. ⌜ b ≡ beyond tiers x ⌝ }
+{
+    beyond(x, 1, 8)
+}
+
+fn no_rate(x: usize) -> bool
+    ensures { λ b. ⌜ b ≡ beyond rates x ⌝ }
+{
+    beyond(x, 0, 10000000)
+}
+
+fn no_ratio(x: usize) -> bool
+    ensures { λ b. ⌜ b ≡ beyond ratios x ⌝ }
+{
+    beyond(x, 1, 100)
+}
+
+// The hundred thousands of lots and losses, either way.
+fn too_many(x: usize) -> bool
+    requires { ⌜ x < 4294967296 ⌝ }
+    ensures { λ b. ⌜ b ≡ beyond hundredThousands x ⌝ }
+{
+    signed_beyond(x, 100000, 100000)
+}
+
+pub fn in_contract(r: &[u8]) -> bool
+    ensures { λ b. ⌜ b ≡ outsideAmong contractFields (now (r .entry)) ⌝ }
+{
+    no_contract(contract(r)) | no_rate(short_option_rate(r))
+}
+
+pub fn in_prompt(r: &[u8]) -> bool
+    ensures { λ b. ⌜ b ≡ outsideAmong promptFields (now (r .entry)) ⌝ }
+{
+    no_contract(contract(r))
+        | (no_tier(tier(r))
+            | (no_day(day(r)) | (no_rate(spread_rate(r)) | no_rate(outright_rate(r)))))
+}
+
+// A strike of 0 for a forward, any other otherwise.
+fn no_strike(r: &[u8]) -> bool
+    ensures { λ b. ⌜ b ≡ outside (now (r .entry)) (strikeField (forward (now (r .entry)))) ⌝ }
+{
+    if row_type(r) == 0 {
+        beyond(strike(r), 0, 0)
+    } else {
+        beyond(strike(r), 1, 4294967295)
+    }
+}
+
+// A delta not above 0 for a put, not below it otherwise.
+fn no_delta(r: &[u8]) -> bool
+    ensures { λ b. ⌜ b ≡ outside (now (r .entry)) (deltaField (put (now (r .entry)))) ⌝ }
+{
+    if row_type(r) == 2 {
+        signed_beyond(u32_at(r, 16), 10000, 0)
+    } else {
+        signed_beyond(u32_at(r, 16), 0, 10000)
+    }
+}
+
+fn no_losses(r: &[u8]) -> bool
+    ensures { λ b. ⌜ b ≡ outsideAmong (map lossField (countFrom 1 16)) (now (r .entry)) ⌝ }
+{
+    let mut scenario = 1;
+    while scenario < 17 {
+        if too_many(u32_at(r, 20 + 4 * scenario)) {
+            return true;
+        }
+        scenario += 1;
+    }
+    false
+}
+
+pub fn in_row(r: &[u8]) -> bool
+    ensures { λ b. ⌜ b ≡ outsideAmong (rowFields (now (r .entry))) (now (r .entry)) ⌝ }
+{
+    no_contract(contract(r))
+        | (beyond(row_type(r), 0, 2)
+            | (no_day(day(r))
+                | (no_strike(r)
+                    | (too_many(u32_at(r, 12))
+                        | (no_delta(r) | (beyond(value(r), 1, 10000) | no_losses(r)))))))
+}
+
+fn no_leg(r: &[u8], leg: usize) -> bool
+    ensures { λ b. ⌜ b ≡ outsideAmong (legFields leg) (now (r .entry)) ⌝ }
+{
+    no_tier(leg_tier(r, leg)) | (beyond(leg_side(r, leg), 1, 2) | no_ratio(leg_ratio(r, leg)))
+}
+
+// The third leg, where there is one.
+fn no_third_leg(r: &[u8]) -> bool
+    ensures { λ b. ⌜ b ≡ outsideAmong (thirdLeg (now (r .entry))) (now (r .entry)) ⌝ }
+{
+    if leg_count(r) == 2 {
+        false
+    } else {
+        no_leg(r, 2)
+    }
+}
+
+pub fn in_spread(r: &[u8]) -> bool
+    ensures { λ b. ⌜ b ≡ outsideAmong (spreadFields (now (r .entry))) (now (r .entry)) ⌝ }
+{
+    no_contract(contract(r))
+        | (beyond(leg_count(r), 2, 3)
+            | (no_rate(rate_per_spread(r)) | (no_leg(r, 0) | (no_leg(r, 1) | no_third_leg(r)))))
+}
+
+pub fn in_entry(r: &[u8]) -> bool
+    ensures { λ b. ⌜ b ≡ outsideAmong entryFields (now (r .entry)) ⌝ }
+{
+    no_contract(contract(r))
+        | (no_contract(second_contract(r))
+            | (beyond(percent(r), 0, 100) | (no_ratio(first_ratio(r)) | no_ratio(second_ratio(r)))))
+}

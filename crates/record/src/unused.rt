@@ -1,0 +1,72 @@
+// The bytes that no field of a kind covers.
+ghost use mathlib.Core.Path.{_≡_};
+ghost use mathlib.Core.List.{[]};
+ghost use Prim.Native.Nat.{_-_};
+ghost use Rattle.exact.specs.Lists.{any};
+ghost use Rattle.record.specs.Bytes.{countFrom};
+ghost use Rattle.record.specs.Layout.{contractFields, promptFields, rowFields, spreadFields, entryFields};
+ghost use Rattle.record.specs.Ranges.{notZero, unusedBeside};
+use crate::bytes::byte_at;
+use crate::fields::leg_count;
+
+const RECORD_BYTES: usize = 96;
+
+fn is_set(r: &[u8], o: usize) -> bool
+    ensures { λ b. ⌜ b ≡ notZero (now (r .entry)) o ⌝ }
+{
+    byte_at(r, o) != 0
+}
+
+// Whether any byte from `o` to the record's end is set.
+fn set_from(r: &[u8], o: usize) -> bool
+    ensures { λ b. ⌜ b ≡ any (notZero (now (r .entry))) (countFrom o (96 - o)) ⌝ }
+{
+    let mut i = o;
+    while i < RECORD_BYTES {
+        if is_set(r, i) {
+            return true;
+        }
+        i += 1;
+    }
+    false
+}
+
+pub fn beside_contract(r: &[u8]) -> bool
+    ensures { λ b. ⌜ b ≡ unusedBeside contractFields (now (r .entry)) ⌝ }
+{
+    is_set(r, 2) | (is_set(r, 3) | set_from(r, 8))
+}
+
+pub fn beside_prompt(r: &[u8]) -> bool
+    ensures { λ b. ⌜ b ≡ unusedBeside promptFields (now (r .entry)) ⌝ }
+{
+    is_set(r, 3) | set_from(r, 16)
+}
+
+pub fn beside_row(r: &[u8]) -> bool
+    ensures { λ b. ⌜ b ≡ unusedBeside (rowFields (now (r .entry))) (now (r .entry)) ⌝ }
+{
+    is_set(r, 3) | set_from(r, 88)
+}
+
+pub fn beside_spread(r: &[u8]) -> bool
+    ensures { λ b. ⌜ b ≡ unusedBeside (spreadFields (now (r .entry))) (now (r .entry)) ⌝ }
+{
+    if leg_count(r) == 2 {
+        is_set(r, 3) | set_from(r, 16)
+    } else {
+        is_set(r, 3) | set_from(r, 20)
+    }
+}
+
+pub fn beside_entry(r: &[u8]) -> bool
+    ensures { λ b. ⌜ b ≡ unusedBeside entryFields (now (r .entry)) ⌝ }
+{
+    set_from(r, 8)
+}
+
+pub fn beside_none(r: &[u8]) -> bool
+    ensures { λ b. ⌜ b ≡ unusedBeside [] (now (r .entry)) ⌝ }
+{
+    set_from(r, 1)
+}

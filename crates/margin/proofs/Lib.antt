@@ -3,3 +3,4 @@ pub mod PairLaws
 pub mod AmountLaws
 pub mod Calls
 pub mod RiskLaws
+pub mod RecordLaws

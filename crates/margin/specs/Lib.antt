@@ -12,3 +12,4 @@ pub mod Questions
 pub mod Entered
 pub mod Reckoned
 pub mod Risks
+pub mod Tables

@@ -2,3 +2,4 @@
 mod amount;
 pub mod pairs;
 mod risk;
+mod tables;

@@ -1,0 +1,68 @@
+-- The records of a part of the file, one after the other.
+-- Assumes nothing.
+use mathlib.Core.Path.{_≡_, refl, sym, ap, ap₂, _∙_, subst}
+use mathlib.Core.List.{List, [], _∷_, _++_, map}
+use Prim.Native.Nat.{ℕ, zero, suc, _+_, _-_, _*_, _/_, _≤_, _<_, zero-le}
+use native.Mathlib.Nat.{suc-mul, add-comm, le-refl, le-of-suc-le-suc, not-suc-le-zero}
+use native.Mathlib.Numerals.{add-one}
+use native.Mathlib.Omega.{arith}
+use lib.ListN.{length, getD, take, drop, set, length-map, length-set}
+use lib.Seq.{take-suc, take-suc-set, take-all, drop-drop}
+use Rattle.exact.proofs.Lists.{getD-map}
+use Rattle.record.specs.Layout.{Record}
+use Rattle.account.specs.Records.{cut, records, recordCount}
+
+pub length-cut : (n : ℕ) (f : List ℕ) → length (cut n f) ≡ n
+length-cut zero f = refl
+length-cut (suc n) f = ap suc (length-cut n (drop 96 f))
+
+-- the record at a place, as a part of the file gives it
+abbrev pub recordAt : List ℕ → ℕ → Record
+recordAt f k = take 96 (drop (k * 96) f)
+
+pub cut-at : (n k : ℕ) (f : List ℕ) → k < n → getD (cut n f) k [] ≡ recordAt f k
+cut-at zero k f h = absurd (not-suc-le-zero h)
+cut-at (suc n) zero f h = refl
+cut-at (suc n) (suc k) f h =
+    cut-at n k (drop 96 f) (le-of-suc-le-suc h)
+    ∙ ap (take 96) (drop-drop (k * 96) 96 f ∙ ap (λ (m : ℕ). drop m f) (add-comm 96 (k * 96) ∙ sym (suc-mul k 96)))
+
+pub record-at : (f : List ℕ) (k : ℕ) → k < recordCount f → getD (records f) k [] ≡ recordAt f k
+record-at f k h = cut-at (recordCount f) k f h
+
+-- the part that the code lends
+pub lent-record : (f : List ℕ) (k : ℕ) → take (k * 96 + 96 - k * 96) (drop (k * 96) f) ≡ recordAt f k
+lent-record f k = let e : k * 96 + 96 - k * 96 ≡ 96 = omega arith in ap (λ (n : ℕ). take n (drop (k * 96) f)) e
+
+-- within the part's length
+pub record-ends : (f : List ℕ) (k : ℕ) → k < recordCount f → k * 96 + 96 ≤ length f
+record-ends f k h = omega arith
+
+-- a table that is made of the records of a part, place by place
+module _ {A : Type 0} (g : Record → A) (f : List ℕ) where
+  pub record Filled (k : ℕ) (table : List A) : Type 0 where
+    pub room : recordCount f ≤ length table
+    pub within : k ≤ recordCount f
+    pub so-far : take k table ≡ take k (map g (records f))
+
+  pub start : (table : List A) → recordCount f ≤ length table → Filled 0 table
+  start table h = record { room = h; within = zero-le; so-far = refl }
+
+  pub next : (k : ℕ) (table : List A) (a : A) → Filled k table → k < recordCount f → a ≡ g (recordAt f k) → Filled (k + 1) (set table k a)
+  next k table a filled h e =
+      record {
+        room = rw (length-set) (filled .room);
+        within = omega arith;
+        so-far =
+            ap (λ (n : ℕ). take n (set table k a)) (add-one k)
+            ∙ take-suc-set table k a (omega (arith, filled .room))
+            ∙ ap₂ (λ (xs : List A) (x : A). xs ++ (x ∷ [])) (filled .so-far) (e ∙ ap g (sym (record-at f k h)) ∙ sym (getD-map g (records f) k [] (g []) (rw (length-cut) h)))
+            ∙ sym (take-suc (map g (records f)) k (g []) (rw (length-map, length-cut) h))
+            ∙ ap (λ (n : ℕ). take n (map g (records f))) (sym (add-one k));
+      }
+
+  pub finish : (k : ℕ) (table : List A) → Filled k table → recordCount f ≤ k → take (recordCount f) table ≡ map g (records f)
+  finish k table filled h =
+      let e : k ≡ recordCount f = omega (arith, filled .within) in
+      subst (λ (n : ℕ). take n table ≡ take n (map g (records f))) e (filled .so-far)
+      ∙ take-all (recordCount f) (map g (records f)) (rw (length-map, length-cut) (le-refl (recordCount f)))

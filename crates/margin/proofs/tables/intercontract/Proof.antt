@@ -1,0 +1,40 @@
+-- An intercontract spread: the first contract is A, the second B.
+-- Assumes nothing.
+use mathlib.Core.List.{[], _∷_}
+use borrow.Author.Needs.{needs}
+use Rattle.margin.proofs.tables.intercontract.Statement.{statement}
+use Rattle.margin.proofs.tables.intercontract.Tie as tie
+
+contract-requires : tie.Need-contract-requires
+contract-requires c κs = search needs
+
+first-ratio-requires : tie.Need-first-ratio-requires
+first-ratio-requires c κs = search needs
+
+second-contract-requires : tie.Need-second-contract-requires
+second-contract-requires c κs = search needs
+
+second-ratio-requires : tie.Need-second-ratio-requires
+second-ratio-requires c κs = search needs
+
+returns : tie.Need-returns
+returns c =
+    λ i.
+    record {
+      legs = 2;
+      leg =
+          record { tier = c .before .before .before .contract .ensures .0 i; side = 1; ratio = c .before .before .first-ratio .ensures .0 i }
+          ∷ record { tier = c .before .second-contract .ensures .0 i; side = 2; ratio = c .second-ratio .ensures .0 i }
+          ∷ record { tier = 0; side = 0; ratio = 0 }
+          ∷ [];
+    }
+
+pub intercontract-spec : {M : Type 1} → statement M
+intercontract-spec =
+    tie.close
+    (tie.spec
+    contract-requires
+    first-ratio-requires
+    second-contract-requires
+    second-ratio-requires
+    returns)

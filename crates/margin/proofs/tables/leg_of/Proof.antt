@@ -1,0 +1,20 @@
+-- A leg: its three fields.
+-- Assumes nothing.
+use borrow.Author.Needs.{needs}
+use Rattle.margin.proofs.tables.leg_of.Statement.{statement}
+use Rattle.margin.proofs.tables.leg_of.Tie as tie
+
+leg-tier-requires : tie.Need-leg-tier-requires
+leg-tier-requires c κs = search needs
+
+leg-side-requires : tie.Need-leg-side-requires
+leg-side-requires c κs = search needs
+
+leg-ratio-requires : tie.Need-leg-ratio-requires
+leg-ratio-requires c κs = search needs
+
+returns : tie.Need-returns
+returns c = λ i. record { tier = c .before .before .leg-tier .ensures .0 i; side = c .before .leg-side .ensures .0 i; ratio = c .leg-ratio .ensures .0 i }
+
+pub leg-of-spec : {M : Type 1} → statement M
+leg-of-spec = tie.close (tie.spec leg-tier-requires leg-side-requires leg-ratio-requires returns)

@@ -1,0 +1,134 @@
+// A contract's prompts and interprompt spreads, and the intercontract spreads, as the spread steps take them.
+use record::fields::contract;
+use record::fields::first_ratio;
+use record::fields::leg_count;
+use record::fields::leg_ratio;
+use record::fields::leg_side;
+use record::fields::leg_tier;
+use record::fields::second_contract;
+use record::fields::second_ratio;
+use record::fields::tier;
+use spread::Delta;
+use spread::Leg;
+use spread::Prompts;
+use spread::Spread;
+use spread::Table;
+ghost use mathlib.Core.Path.{_≡_};
+ghost use Prim.Native.Nat.{_≤_};
+ghost use Rattle.account.specs.Records.{recordCount};
+ghost use Rattle.margin.specs.Deltas.{legOf, interprompt, intercontract};
+ghost use Rattle.margin.specs.Tables.{TiersOf, TableOf};
+
+fn leg_of(s: &[u8], i: usize) -> Leg
+    ensures { λ r. ⌜ r ≡ legOf (now (s .entry)) i ⌝ }
+{
+    Leg {
+        tier: leg_tier(s, i),
+        side: leg_side(s, i),
+        ratio: leg_ratio(s, i) as u64,
+    }
+}
+
+fn interprompt(s: &[u8]) -> Spread
+    ensures { λ r. ⌜ r ≡ interprompt (now (s .entry)) ⌝ }
+{
+    Spread {
+        legs: leg_count(s),
+        leg: [leg_of(s, 0), leg_of(s, 1), leg_of(s, 2)],
+    }
+}
+
+// The first contract is A.
+fn intercontract(e: &[u8]) -> Spread
+    ensures { λ r. ⌜ r ≡ intercontract (now (e .entry)) ⌝ }
+{
+    let a = Leg {
+        tier: contract(e),
+        side: 1,
+        ratio: first_ratio(e) as u64,
+    };
+    let b = Leg {
+        tier: second_contract(e),
+        side: 2,
+        ratio: second_ratio(e) as u64,
+    };
+    let none = Leg {
+        tier: 0,
+        side: 0,
+        ratio: 0,
+    };
+    Spread {
+        legs: 2,
+        leg: [a, b, none],
+    }
+}
+
+fn no_spread() -> Spread {
+    let none = Leg {
+        tier: 0,
+        side: 0,
+        ratio: 0,
+    };
+    Spread {
+        legs: 0,
+        leg: [none, none, none],
+    }
+}
+
+// The table of a contract's interprompt spreads, in file order.
+pub(crate) fn interprompt_table(spreads: &[u8]) -> Table
+    requires { ⌜ recordCount (now spreads) ≤ 32 ⌝ }
+    ensures { λ r. ⌜ TableOf interprompt (now (spreads .entry)) r ⌝ }
+{
+    let count = spreads.len() / 96;
+    let mut table = [no_spread(); 32];
+    let mut i = 0;
+    while i < count {
+        let at = i * 96;
+        table[i] = interprompt(&spreads[at..at + 96]);
+        i += 1;
+    }
+    Table {
+        count: count,
+        spread: table,
+    }
+}
+
+// The table of intercontract spreads, in file order.
+pub(crate) fn intercontract_table(entries: &[u8]) -> Table
+    requires { ⌜ recordCount (now entries) ≤ 32 ⌝ }
+    ensures { λ r. ⌜ TableOf intercontract (now (entries .entry)) r ⌝ }
+{
+    let count = entries.len() / 96;
+    let mut table = [no_spread(); 32];
+    let mut i = 0;
+    while i < count {
+        let at = i * 96;
+        table[i] = intercontract(&entries[at..at + 96]);
+        i += 1;
+    }
+    Table {
+        count: count,
+        spread: table,
+    }
+}
+
+// A contract's prompts with their tiers and net deltas.
+pub(crate) fn prompts_with(prompts: &[u8], nets: [Delta; 32]) -> Prompts
+    requires { ⌜ recordCount (now prompts) ≤ 32 ⌝ }
+    ensures { λ r. ⌜ TiersOf (now (prompts .entry)) nets r ⌝ }
+{
+    let count = prompts.len() / 96;
+    let mut tiers = [0usize; 32];
+    let mut i = 0;
+    while i < count {
+        let at = i * 96;
+        tiers[i] = tier(&prompts[at..at + 96]);
+        i += 1;
+    }
+    Prompts {
+        count: count,
+        tier: tiers,
+        net: nets,
+    }
+}

@@ -1,8 +1,8 @@
 -- Rounding, halves up: what it is of a quotient and a remainder, and how large it gets.
 -- Assumes nothing.
-use mathlib.Core.Path.{_≡_, refl, sym, _∙_, ap}
-use Prim.Native.Nat.{ℕ, zero, suc, _+_, _*_, _/_, _%_, _≤_, _<_, zero-le}
-use native.Mathlib.Nat.{div-zero, div-add-mod', mul-add-div-right, div-eq-of-lt, div-eq-of-lt-le, div-lt-iff-lt-mul, mod-lt, le-mul-of-pos-right, le-of-eq}
+use mathlib.Core.Path.{_≡_, sym, _∙_, ap}
+use Prim.Native.Nat.{ℕ, zero, suc, _+_, _*_, _/_, _%_, _≤_, _<_}
+use native.Mathlib.Nat.{div-zero, div-add-mod', mul-add-div-right, div-eq-of-lt, div-eq-of-lt-le, div-lt-iff-lt-mul, mod-lt, le-mul-of-pos-right}
 use native.Mathlib.Omega.{arith}
 use Rattle.exact.specs.Rounding.{halfUp}
 
@@ -22,6 +22,13 @@ half-down r d h = div-eq-of-lt (omega arith)
 
 pub half-one : (r d : ℕ) → r < d → d ≤ 2 * r → halfUp r d ≡ 1
 half-one r d h k = div-eq-of-lt-le (2 * d) (omega arith) (omega arith)
+
+-- the remainder is at least half of d, or below it
+pub half-above : (n d : ℕ) → 0 < d → d ≤ 2 * (n % d) → halfUp n d ≡ n / d + 1
+half-above n d h k = half-split n d ∙ ap (λ (x : ℕ). n / d + x) (half-one (n % d) d (mod-lt n h) k)
+
+pub half-below : (n d : ℕ) → 2 * (n % d) < d → halfUp n d ≡ n / d
+half-below n d h = half-split n d ∙ omega (arith, half-down (n % d) d h)
 
 -- a whole number of d stays
 pub half-whole : (k d : ℕ) → 0 < d → halfUp (k * d) d ≡ k

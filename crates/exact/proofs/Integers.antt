@@ -8,12 +8,13 @@ use Prim.Native.Nat.{ℕ, zero, suc, _+_, _*_, _-_, _^_, _≤_, _<_, min}
 use native.Mathlib.Nat.{le-refl}
 use native.Mathlib.Omega.{arith}
 use lib.Dec.{leb, ltb}
-use lib.IntN.{ℤ, pos, negsuc, negℤ, natAbs, subℕ, sucℤ, predℤ, _+ℤ_, _-ℤ_, _*ℤ_, +ℤ-idl, +ℤ-assoc, +ℤ-comm, +ℤ-negℤ-cancel, negℤ-negℤ, negℤ-+ℤ, zero-*ℤ, *ℤ-comm, sucℤ-+ℤ, predℤ-+ℤ, sucℤ-*ℤ, predℤ-*ℤ}
-use lib.Signed.{mag, ltZ, leZ}
+use lib.IntN.{ℤ, pos, negsuc, negℤ, natAbs, subℕ, sucℤ, predℤ, _+ℤ_, _-ℤ_, _*ℤ_}
+use lib.IntN.{+ℤ-idl, +ℤ-assoc, +ℤ-comm, +ℤ-negℤ-cancel, negℤ-negℤ, negℤ-+ℤ, zero-*ℤ, *ℤ-comm, sucℤ-+ℤ, predℤ-+ℤ, sucℤ-*ℤ, predℤ-*ℤ}
+use lib.Signed.{ltZ, leZ}
 use mir.Syntax.{w64}
 use mir.Val.{SFits, toZ, ofZ}
 use mir.Facts.{toZ-ofZ}
-use borrow.Author.Tests.{ltb-true, ltb-false, leb-true, leb-false, lt-ltb, le-ltb, le-leb, lt-leb}
+use borrow.Author.Tests.{ltb-true, ltb-false, leb-true, le-ltb, le-leb, lt-leb}
 use Rattle.exact.specs.Signed.{negative, larger, orZero, withSignOf, towardsZero}
 
 -- ---- range
@@ -26,7 +27,8 @@ back z h = toZ-ofZ {w = w64} {z = z} h
 pub seen {ℓ} : {A : Type ℓ} (f : ℤ → A) (z : ℤ) {x : A} → SFits w64 z → x ≡ f (toZ w64 (ofZ w64 z)) → x ≡ f z
 seen f z h e = e ∙ ap f (back z h)
 
-pub seen₂ {ℓ} : {A : Type ℓ} (f : ℤ → ℤ → A) (a b : ℤ) {x : A} → SFits w64 a → SFits w64 b → x ≡ f (toZ w64 (ofZ w64 a)) (toZ w64 (ofZ w64 b)) → x ≡ f a b
+pub seen₂ {ℓ} : {A : Type ℓ} (f : ℤ → ℤ → A) (a b : ℤ) {x : A} → SFits w64 a → SFits w64 b
+    → x ≡ f (toZ w64 (ofZ w64 a)) (toZ w64 (ofZ w64 b)) → x ≡ f a b
 seen₂ f a b ha hb e = e ∙ ap₂ f (back a ha) (back b hb)
 
 pub sfits-abs : (z : ℤ) → natAbs z < 2 ^ 63 → SFits w64 z
@@ -97,7 +99,7 @@ sums-cross a b c d =
     ∙ ap (λ (z : ℤ). a +ℤ z) (sym (+ℤ-assoc b c d) ∙ ap (λ (z : ℤ). z +ℤ d) (+ℤ-comm b c) ∙ +ℤ-assoc c b d)
     ∙ sym (+ℤ-assoc a c (b +ℤ d))
 
--- a step of one in the first summand, up or down: `s` is the step and `by` what it adds to a product
+-- a step of one, up or down, in the first number: `s` is the step and `by` what it adds to a product
 one-step : (s : ℤ → ℤ) (by : ℤ → ℤ) → ((a b : ℤ) → s a +ℤ b ≡ s (a +ℤ b)) → ((a c : ℤ) → s a *ℤ c ≡ a *ℤ c +ℤ by c)
     → (a b c : ℤ) → (a +ℤ b) *ℤ c ≡ a *ℤ c +ℤ b *ℤ c → (s a +ℤ b) *ℤ c ≡ s a *ℤ c +ℤ b *ℤ c
 one-step s by sum prod a b c h =
@@ -109,14 +111,35 @@ one-step s by sum prod a b c h =
     ∙ sym (+ℤ-assoc (a *ℤ c) (by c) (b *ℤ c))
     ∙ ap (λ (z : ℤ). z +ℤ b *ℤ c) (sym (prod a c))
 
+none-times : (b c : ℤ) → (pos 0 +ℤ b) *ℤ c ≡ pos 0 *ℤ c +ℤ b *ℤ c
+none-times b c =
+    ap (λ (z : ℤ). z *ℤ c) (+ℤ-idl b) ∙ sym (ap (λ (z : ℤ). z +ℤ b *ℤ c) (zero-*ℤ c) ∙ +ℤ-idl (b *ℤ c))
+
 pub add-times : (a b c : ℤ) → (a +ℤ b) *ℤ c ≡ a *ℤ c +ℤ b *ℤ c
-add-times (pos zero) b c = ap (λ (z : ℤ). z *ℤ c) (+ℤ-idl b) ∙ sym (ap (λ (z : ℤ). z +ℤ b *ℤ c) (zero-*ℤ c) ∙ +ℤ-idl (b *ℤ c))
+add-times (pos zero) b c = none-times b c
 add-times (pos (suc n)) b c = one-step sucℤ (λ z. z) sucℤ-+ℤ sucℤ-*ℤ (pos n) b c (add-times (pos n) b c)
-add-times (negsuc zero) b c = one-step predℤ negℤ predℤ-+ℤ predℤ-*ℤ (pos zero) b c (ap (λ (z : ℤ). z *ℤ c) (+ℤ-idl b) ∙ sym (ap (λ (z : ℤ). z +ℤ b *ℤ c) (zero-*ℤ c) ∙ +ℤ-idl (b *ℤ c)))
+add-times (negsuc zero) b c = one-step predℤ negℤ predℤ-+ℤ predℤ-*ℤ (pos zero) b c (none-times b c)
 add-times (negsuc (suc n)) b c = one-step predℤ negℤ predℤ-+ℤ predℤ-*ℤ (negsuc n) b c (add-times (negsuc n) b c)
 
 pub times-add : (a b c : ℤ) → a *ℤ (b +ℤ c) ≡ a *ℤ b +ℤ a *ℤ c
 times-add a b c = *ℤ-comm a (b +ℤ c) ∙ add-times b c a ∙ ap₂ _+ℤ_ (*ℤ-comm b a) (*ℤ-comm c a)
+
+one-factor : (s : ℤ → ℤ) (by : ℤ → ℤ) → ((a c : ℤ) → s a *ℤ c ≡ a *ℤ c +ℤ by c) → ((b c : ℤ) → by b *ℤ c ≡ by (b *ℤ c))
+    → (a b c : ℤ) → a *ℤ b *ℤ c ≡ a *ℤ (b *ℤ c) → s a *ℤ b *ℤ c ≡ s a *ℤ (b *ℤ c)
+one-factor s by prod out a b c h =
+    ap (λ (z : ℤ). z *ℤ c) (prod a b)
+    ∙ add-times (a *ℤ b) (by b) c
+    ∙ ap₂ _+ℤ_ h (out b c)
+    ∙ sym (prod a (b *ℤ c))
+
+none-factor : (b c : ℤ) → pos 0 *ℤ b *ℤ c ≡ pos 0 *ℤ (b *ℤ c)
+none-factor b c = ap (λ (z : ℤ). z *ℤ c) (zero-*ℤ b) ∙ zero-*ℤ c ∙ sym (zero-*ℤ (b *ℤ c))
+
+pub times-assoc : (a b c : ℤ) → a *ℤ b *ℤ c ≡ a *ℤ (b *ℤ c)
+times-assoc (pos zero) b c = none-factor b c
+times-assoc (pos (suc n)) b c = one-factor sucℤ (λ z. z) sucℤ-*ℤ (λ y z. refl) (pos n) b c (times-assoc (pos n) b c)
+times-assoc (negsuc zero) b c = one-factor predℤ negℤ predℤ-*ℤ mul-neg (pos zero) b c (none-factor b c)
+times-assoc (negsuc (suc n)) b c = one-factor predℤ negℤ predℤ-*ℤ mul-neg (negsuc n) b c (times-assoc (negsuc n) b c)
 
 -- ---- order
 

@@ -1,4 +1,6 @@
--- The laws that several functions and the layers above cite.
+-- The laws that the layers above cite, and two files for one function each.
+mod Digits
+mod Downward
 pub mod HalfUp
 pub mod Integers
 pub mod Lists

@@ -2,11 +2,11 @@
 -- `length-map`, `length-take`, `length-drop`, `take-append-drop` of lib.ListN, `ext-getD`, `drop-cons`, `take-suc`, `getD-take`,
 -- `getD-drop` of lib.Seq, `append-assoc`, `map-append`, `map-map` of mathlib.Core.List.
 -- Assumes nothing.
-use mathlib.Core.Path.{_≡_, refl, sym, _∙_, ap, ap₂, subst}
+use mathlib.Core.Path.{_≡_, refl, sym, _∙_, ap, ap₂}
 use mathlib.Core.Bool.{Bool, true, false, _||_, or-assoc, or-true, false≢true, true≢false}
 use mathlib.Core.List.{List, [], _∷_, _++_, map}
-use Prim.Native.Nat.{ℕ, zero, suc, _+_, _*_, _-_, _≤_, _<_, min, zero-le}
-use native.Mathlib.Nat.{le-refl, le-trans, add-assoc, add-zero, mul-zero, mul-add, le-of-suc-le-suc, not-suc-le-zero}
+use Prim.Native.Nat.{ℕ, zero, suc, _+_, _*_, _≤_, _<_, zero-le}
+use native.Mathlib.Nat.{le-refl, mul-zero, le-of-suc-le-suc, not-suc-le-zero}
 use native.Mathlib.Omega.{arith}
 use lib.IntN.{ℤ, pos, natAbs, _+ℤ_, _*ℤ_, +ℤ-idl, +ℤ-idr, +ℤ-assoc, +ℤ-comm, *ℤ-zero}
 use lib.ListN.{length, getD, take, drop}

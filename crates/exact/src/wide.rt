@@ -1,13 +1,12 @@
 // Products beyond 64 bits.
 use crate::rounding::half_up;
-ghost use mathlib.Core.Path.{_≡_};
-ghost use Prim.Native.Nat.{_*_, _/_, _%_, _^_, _<_, _≤_};
+ghost use Prim.Native.Nat.{_^_, _<_, _≤_};
 ghost use Rattle.exact.specs.Wide.{Shared, Scaled};
 
 // A whole number of times, and what remains.
-pub struct Share {
-    pub whole: u64,
-    pub rest: u64,
+struct Share {
+    whole: u64,
+    rest: u64,
 }
 
 // a * b / d and its remainder, exactly: a goes in by its digits to the base 256, the highest first, so that what remains

@@ -4,3 +4,4 @@ pub mod AmountLaws
 pub mod Calls
 pub mod RiskLaws
 pub mod RecordLaws
+pub mod CreditLaws

@@ -7,7 +7,7 @@ use lib.ListN.{getD}
 use lib.Dec.{eqb}
 use lib.IntN.{ℤ, pos, _+ℤ_, _-ℤ_}
 use Rattle.exact.specs.Rounding.{halfUp}
-use Rattle.record.specs.Layout.{Record, percent}
+use Rattle.record.specs.Layout.{Record, contract, secondContract, percent, firstRatio, secondRatio}
 use Rattle.spread.specs.Steps.{Open, Market, long, short, pool, steps, left}
 use Rattle.exact.specs.Signed.{orZero}
 use Rattle.margin.specs.Scanning.{activeScenario}
@@ -47,3 +47,16 @@ abbrev pub credits : ℕ → ℕ → ℕ → List Record → List Open → ℕ
 credits c twiceRisk net [] contracts = 0
 credits c twiceRisk net (e ∷ es) contracts =
     credit twiceRisk (usedIn e c contracts) (percent e) net + credits c twiceRisk net es (afterEntry e contracts)
+
+-- the same from the numbers that the entries' steps form: what an entry uses of a contract that it names
+abbrev pub entryUse : ℕ → Record → ℕ → ℕ → ℕ
+entryUse c e first second =
+    cond (eqb c (contract e)) ((first + second) * firstRatio e)
+    (cond (eqb c (secondContract e)) ((first + second) * secondRatio e) 0)
+
+abbrev pub creditsBy : ℕ → ℕ → ℕ → List Record → List ℕ → ℕ
+creditsBy c twiceRisk net [] numbers = 0
+creditsBy c twiceRisk net (e ∷ es) [] = 0
+creditsBy c twiceRisk net (e ∷ es) (first ∷ []) = 0
+creditsBy c twiceRisk net (e ∷ es) (first ∷ second ∷ numbers) =
+    credit twiceRisk (entryUse c e first second) (percent e) net + creditsBy c twiceRisk net es numbers

@@ -8,7 +8,7 @@ use lib.ListN.{take}
 use lib.Dec.{eqb}
 use lib.IntN.{ℤ, pos, negsuc, _-ℤ_}
 use Rattle.exact.specs.Lists.{sum, least}
-use Rattle.exact.specs.Signed.{towardsZero}
+pub use Rattle.exact.specs.Signed.{towardsZero}
 use Rattle.spread.specs.declared.Leg.{Leg}
 use Rattle.spread.specs.declared.Spread.{Spread}
 

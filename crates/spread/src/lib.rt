@@ -1,6 +1,10 @@
 // The spread steps: which prompts pay for which spread.
 // One engine serves both tables of spreads, the interprompt spreads of a contract and the intercontract spreads.
 
+pub mod accepted;
+pub mod deltas;
+pub mod pools;
+
 // A delta, in ten-thousandths of a lot, long above zero and short below.
 pub struct Delta(pub i64);
 

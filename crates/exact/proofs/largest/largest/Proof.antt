@@ -1,17 +1,16 @@
 -- `largest`: the totals from place i on are seen, from the last to the first.
-use mathlib.Core.Path.{_≡_, _∙_, sym, ap}
-use Prim.Native.Nat.{ℕ, _+_, _-_, _<_}
+use Prim.Native.Nat.{_+_, _-_}
 use native.Mathlib.Omega.{arith}
 use mathlib.Core.Bool.{cond}
 use lib.IntN.{ℤ, pos}
-use lib.ListN.{length, getD}
+use lib.ListN.{getD}
 use lib.Signed.{ltZ}
 use mir.Syntax.{w64}
 use mir.Val.{SFits}
 use borrow.Author.Needs.{needs}
 use Rattle.exact.specs.Signed.{larger}
 use Rattle.exact.proofs.Integers.{back, seen}
-use Rattle.exact.proofs.Totals.{Seen, start, next, finish}
+use Rattle.exact.proofs.Downward.{Seen, start, next, finish}
 use Rattle.exact.proofs.largest.largest.Statement.{statement}
 use Rattle.exact.proofs.largest.largest.Tie as tie
 

@@ -1,10 +1,9 @@
 -- `half_up`: the quotient, and one more where the remainder is at least half of the divisor.
-use Prim.Native.Nat.{ℕ, _+_, _/_, _%_}
-use mathlib.Core.Path.{_∙_, sym, ap}
+use mathlib.Core.Path.{sym}
 use native.Mathlib.Nat.{mod-lt, pos-of-ne-zero}
 use native.Mathlib.Omega.{arith}
-use Rattle.exact.proofs.HalfUp.{half-zero, half-split, half-one, half-down, half-room}
 use borrow.Author.Needs.{needs}
+use Rattle.exact.proofs.HalfUp.{half-zero, half-above, half-below, half-room}
 use Rattle.exact.proofs.rounding.half_up.Statement.{statement}
 use Rattle.exact.proofs.rounding.half_up.Tie as tie
 
@@ -21,16 +20,22 @@ div-result : tie.Need-div-result
 div-result c = search needs
 
 add-result : tie.Need-add-result
-add-result c = omega (arith, half-room (c .before .before .args .n) (c .before .before .args .d) (pos-of-ne-zero (c .before .if1 .left)) (omega arith))
+add-result c =
+    let s = c .before .before in
+    omega (arith, half-room (s .args .n) (s .args .d) (pos-of-ne-zero (c .before .if1 .left)) (omega arith))
 
 div-result-2 : tie.Need-div-result-2
 div-result-2 c = search needs
 
 returns-2 : tie.Need-returns-2
-returns-2 c = sym (half-split (c .before .before .args .n) (c .before .before .args .d) ∙ ap (λ (x : ℕ). c .before .before .args .n / c .before .before .args .d + x) (half-one _ _ (mod-lt (c .before .before .args .n) (pos-of-ne-zero (c .before .if1 .left))) (omega arith)))
+returns-2 c =
+    let s = c .before .before in
+    sym (half-above (s .args .n) (s .args .d) (pos-of-ne-zero (c .before .if1 .left)) (omega arith))
 
 returns-3 : tie.Need-returns-3
-returns-3 c = sym (half-split (c .before .before .args .n) (c .before .before .args .d) ∙ ap (λ (x : ℕ). c .before .before .args .n / c .before .before .args .d + x) (half-down (c .before .before .args .n % c .before .before .args .d) (c .before .before .args .d) (omega arith)) ∙ omega arith)
+returns-3 c =
+    let s = c .before .before in
+    sym (half-below (s .args .n) (s .args .d) (omega arith))
 
 pub half-up-spec : {M : Type 1} → statement M
 half-up-spec =

@@ -1,5 +1,5 @@
 -- `larger`: the definition's own test.
-use mathlib.Core.Path.{_≡_, _∙_, sym, ap}
+use mathlib.Core.Path.{_∙_, sym, ap}
 use mathlib.Core.Bool.{Bool, cond}
 use lib.Signed.{ltZ}
 use borrow.Author.Needs.{needs}

@@ -1,11 +1,11 @@
 -- `magnitude`: of a negative number, one more than the size of -1 - z, which no least number overflows.
-use mathlib.Core.Path.{_≡_, refl, _∙_, sym, ap}
-use mathlib.Core.Bool.{true, false, false≢true}
+use mathlib.Core.Path.{_≡_, _∙_, sym, ap}
+use mathlib.Core.Bool.{true, false≢true}
 use Prim.Native.Nat.{ℕ, suc, _+_, _≤_, _^_}
 use native.Mathlib.Omega.{arith}
 use lib.IntN.{ℤ, pos, negsuc, natAbs, _-ℤ_}
 use mir.Syntax.{w64}
-use mir.Val.{SFits, Fits, toZ, ofZ}
+use mir.Val.{SFits, toZ, ofZ}
 use borrow.Author.Needs.{needs}
 use borrow.Author.Tests.{le-ltb}
 use Rattle.exact.specs.Signed.{negative, orZero}
@@ -24,7 +24,10 @@ one-more : (z : ℤ) → negative z ≡ true → orZero (negsuc 0 -ℤ z) + 1 �
 one-more (pos n) h = absurd (false≢true h)
 one-more (negsuc n) h = rw (from-minus-one n) (omega arith)
 
-size : (z m : ℤ) (n : ℕ) → SFits w64 z → SFits w64 m → negative z ≡ true → m ≡ negsuc 0 -ℤ toZ w64 (ofZ w64 z) → n ≡ orZero (toZ w64 (ofZ w64 m)) → (n + 1 ≡ natAbs z) × (natAbs z ≤ 2 ^ 63)
+size : (z m : ℤ) (n : ℕ) → SFits w64 z → SFits w64 m → negative z ≡ true
+    → m ≡ negsuc 0 -ℤ toZ w64 (ofZ w64 z)
+    → n ≡ orZero (toZ w64 (ofZ w64 m))
+    → (n + 1 ≡ natAbs z) × (natAbs z ≤ 2 ^ 63)
 size z m n fz fm h em en =
     let e : n ≡ orZero (negsuc 0 -ℤ z) = seen orZero m fm en ∙ ap orZero (seen (λ (x : ℤ). negsuc 0 -ℤ x) z fz em) in
     (omega (arith, e, one-more z h), abs-sfits z fz)

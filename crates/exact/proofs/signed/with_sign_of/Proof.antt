@@ -1,12 +1,11 @@
 -- `with_sign_of`: by the sign.
 use mathlib.Core.Path.{_≡_, _∙_, sym, ap}
-use mathlib.Core.Bool.{true, false}
 use Prim.Native.Nat.{ℕ, _<_, _^_}
 use lib.IntN.{ℤ, pos, negℤ, _-ℤ_, +ℤ-idl}
 use mir.Syntax.{w64}
 use mir.Val.{SFits, toZ, ofZ}
 use borrow.Author.Needs.{needs}
-use Rattle.exact.specs.Signed.{negative, withSignOf}
+use Rattle.exact.specs.Signed.{negative}
 use Rattle.exact.proofs.Integers.{back, seen, sfits-abs, abs-neg, sign-negative, sign-natural}
 use Rattle.exact.proofs.signed.with_sign_of.Statement.{statement}
 use Rattle.exact.proofs.signed.with_sign_of.Tie as tie

@@ -1,8 +1,6 @@
 -- `scaled`: one digit more at each call, by the law `step`. The measure is the first factor.
 use native.Mathlib.Omega.{arith}
-use mathlib.Core.Path.{_≡_, sym, subst}
-use Rattle.exact.specs.Wide.{Shared}
-use Rattle.exact.proofs.Scaling.{Step, step, none}
+use Rattle.exact.proofs.Digits.{Step, step, none}
 use Prim.Native.Nat.{ℕ, _<_}
 use borrow.Fn.Kinds.{In}
 use borrow.Fn.PlainCycle.{Measures, is, falls, and}

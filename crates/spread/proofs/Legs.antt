@@ -1,0 +1,72 @@
+-- The legs of a spread, one by one: what the code does leg after leg is what the step does.
+-- Assumes nothing.
+use Prim.Native.Nat.{ℕ, zero, suc, _<_, min}
+use native.Mathlib.Omega.{arith}
+use mathlib.Core.Path.{_≡_, refl, sym, _∙_, ap}
+use mathlib.Core.Bool.{Bool, true, false, cond}
+use mathlib.Core.List.{List, [], _∷_, map}
+use lib.ListN.{length, getD, take}
+use lib.Seq.{take-nil}
+use lib.Dec.{ltb}
+use borrow.Author.Tests.{lt-ltb}
+use Rattle.exact.specs.Lists.{least}
+use Rattle.spread.specs.Steps.{Taker, taker, legsOf}
+use Rattle.spread.specs.Cells.{marketIn, stepOf, roomIn, formedIn, lessIn, afterIn}
+use Rattle.spread.specs.declared.Leg.{Leg}
+use Rattle.spread.specs.declared.Spread.{Spread}
+
+pub three {ℓ} : {A : Type ℓ} (d : A) (l : List A) → length l ≡ 3 → l ≡ getD l 0 d ∷ getD l 1 d ∷ getD l 2 d ∷ []
+three d [] e = absurd (omega arith)
+three d (x ∷ []) e = absurd (omega arith)
+three d (x ∷ y ∷ []) e = absurd (omega arith)
+three d (x ∷ y ∷ z ∷ []) e = refl
+three d (x ∷ y ∷ z ∷ w ∷ l) e = absurd (omega arith)
+
+map-take {ℓ κ} : {A : Type ℓ} {B : Type κ} (f : A → B) (n : ℕ) (l : List A) → map f (take n l) ≡ take n (map f l)
+map-take f zero l = refl
+map-take f (suc n) [] = refl
+map-take f (suc n) (x ∷ l) = ap (λ k. f x ∷ k) (map-take f n l)
+
+-- the smallest of the first rooms
+pub least-three : (legs a b c : ℕ) → 2 < legs → least (take legs (a ∷ b ∷ c ∷ [])) ≡ min a (min b c)
+least-three zero a b c h = absurd (omega arith)
+least-three (suc zero) a b c h = absurd (omega arith)
+least-three (suc (suc zero)) a b c h = absurd (omega arith)
+least-three (suc (suc (suc n))) a b c h = ap (λ l. least (a ∷ b ∷ c ∷ l)) (take-nil n)
+
+pub formed-legs : (second : Bool) (s : Spread) (x y z : Leg) → s .leg ≡ x ∷ y ∷ z ∷ [] → (cells : List ℕ) (a b c number : ℕ)
+    → a ≡ roomIn cells (taker (marketIn second) x)
+    → b ≡ roomIn cells (taker (marketIn second) y)
+    → c ≡ roomIn cells (taker (marketIn second) z)
+    → number ≡ least (take (s .legs) (a ∷ b ∷ c ∷ []))
+    → number ≡ formedIn (stepOf second s) cells
+formed-legs second s x y z legs cells a b c number ea eb ec e =
+    e
+    ∙ (λ i. least (take (s .legs) (ea i ∷ eb i ∷ ec i ∷ [])))
+    ∙ sym (ap least (map-take (roomIn cells) (s .legs) (map (taker (marketIn second)) (x ∷ y ∷ z ∷ []))))
+    ∙ sym (ap (λ l. least (map (roomIn cells) l)) (map-take (taker (marketIn second)) (s .legs) (x ∷ y ∷ z ∷ [])))
+    ∙ sym (ap (λ l. least (map (roomIn cells) (map (taker (marketIn second)) (take (s .legs) l)))) legs)
+
+after-three : (f : Leg → Taker) (number : ℕ) (x y z : Leg) (legs : ℕ) (c₀ c₁ c₂ c₃ : List ℕ)
+    → c₁ ≡ cond (ltb 0 legs) (lessIn number (f x) c₀) c₀
+    → c₂ ≡ cond (ltb 1 legs) (lessIn number (f y) c₁) c₁
+    → c₃ ≡ cond (ltb 2 legs) (lessIn number (f z) c₂) c₂
+    → c₃ ≡ afterIn (map f (take legs (x ∷ y ∷ z ∷ []))) number c₀
+after-three f number x y z zero c₀ c₁ c₂ c₃ e₁ e₂ e₃ = e₃ ∙ e₂ ∙ e₁
+after-three f number x y z (suc zero) c₀ c₁ c₂ c₃ e₁ e₂ e₃ = e₃ ∙ e₂ ∙ e₁
+after-three f number x y z (suc (suc zero)) c₀ c₁ c₂ c₃ e₁ e₂ e₃ = e₃ ∙ e₂ ∙ ap (lessIn number (f y)) e₁
+after-three f number x y z (suc (suc (suc n))) c₀ c₁ c₂ c₃ e₁ e₂ e₃ =
+    (rw (lt-ltb 2 (suc (suc (suc n))) (omega arith)) at e₃)
+    ∙ ap (lessIn number (f z))
+    ((rw (lt-ltb 1 (suc (suc (suc n))) (omega arith)) at e₂)
+    ∙ ap (lessIn number (f y)) (rw (lt-ltb 0 (suc (suc (suc n))) (omega arith)) at e₁))
+    ∙ sym (ap (λ l. afterIn (map f (x ∷ y ∷ z ∷ l)) number c₀) (take-nil n))
+
+pub after-legs : (second : Bool) (s : Spread) (x y z : Leg) → s .leg ≡ x ∷ y ∷ z ∷ [] → (number : ℕ) (c₀ c₁ c₂ c₃ : List ℕ)
+    → c₁ ≡ cond (ltb 0 (s .legs)) (lessIn number (taker (marketIn second) x) c₀) c₀
+    → c₂ ≡ cond (ltb 1 (s .legs)) (lessIn number (taker (marketIn second) y) c₁) c₁
+    → c₃ ≡ cond (ltb 2 (s .legs)) (lessIn number (taker (marketIn second) z) c₂) c₂
+    → c₃ ≡ afterIn (stepOf second s) number c₀
+after-legs second s x y z legs number c₀ c₁ c₂ c₃ e₁ e₂ e₃ =
+    after-three (taker (marketIn second)) number x y z (s .legs) c₀ c₁ c₂ c₃ e₁ e₂ e₃
+    ∙ sym (ap (λ l. afterIn (map (taker (marketIn second)) (take (s .legs) l)) number c₀) legs)

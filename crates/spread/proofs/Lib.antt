@@ -1,0 +1,9 @@
+pub mod Best
+pub mod Both
+pub mod Demand3
+pub mod Every
+pub mod Legs
+pub mod Parts
+pub mod Pooling
+pub mod Signs
+pub mod Spending

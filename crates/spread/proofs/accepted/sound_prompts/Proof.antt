@@ -1,0 +1,98 @@
+use lib.IntN.{pos}
+use Rattle.spread.proofs.Every.{Tested, tested-next, tested-end, open-length, open-at}
+use Rattle.spread.specs.Accepted.{every, openOf, soundPrompt}
+use lib.ListN.{length, length-map, getD, take}
+use borrow.Author.Tests.{lt-leb, le-leb}
+use borrow.Author.Needs.{needs}
+use native.Mathlib.Omega.{arith}
+use Prim.Native.Nat.{ℕ, _≤_, _-_}
+use mathlib.Core.Bool.{Bool, true, false, _&&_}
+use mathlib.Core.Path.{_≡_, refl, sym, _∙_, ap}
+use Rattle.spread.proofs.accepted.sound_prompts.Statement.{statement}
+use Rattle.spread.proofs.accepted.sound_prompts.Tie as tie
+use Rattle.spread.proofs.accepted.sound_prompts.Reads as reads
+use Rattle.spread.proofs.accepted.sound_prompts.Lts as lts
+use Rattle.spread.proofs.accepted.sound_prompt.Reads as sound-prompt-reads
+
+abbrev Inv-loop : tie.InvT-loop
+Inv-loop prompts n sound₀ i₀ sound i = (i ≤ n) × Tested soundPrompt (openOf prompts) i sound
+
+abbrev μ-loop : tie.MeasureT-loop
+μ-loop prompts n sound₀ i₀ sound i = n - i
+
+-- src/accepted.rt:77:9
+returns : tie.Need-returns Inv-loop μ-loop
+returns c = rw (lt-leb (c .before .args .t1 .count) 32 (c .if1 .taken))
+
+-- src/accepted.rt:81:5
+loop-holds : tie.Need-loop-holds Inv-loop μ-loop
+loop-holds c = (omega arith, refl)
+
+-- src/accepted.rt:82:32
+mul-sound-prompt : tie.Need-mul-sound-prompt Inv-loop μ-loop
+mul-sound-prompt c = omega arith
+
+-- src/accepted.rt:82:32
+element-copy-out-sound-prompt : tie.Need-element-copy-out-sound-prompt Inv-loop μ-loop
+element-copy-out-sound-prompt c = omega arith
+
+-- src/accepted.rt:82:49
+mul-sound-prompt-2 : tie.Need-mul-sound-prompt-2 Inv-loop μ-loop
+mul-sound-prompt-2 c = omega arith
+
+-- src/accepted.rt:82:49
+element-copy-out-sound-prompt-2 : tie.Need-element-copy-out-sound-prompt-2 Inv-loop μ-loop
+element-copy-out-sound-prompt-2 c = omega arith
+
+-- src/accepted.rt:82:13
+sound-prompt-requires : tie.Need-sound-prompt-requires Inv-loop μ-loop
+sound-prompt-requires c κs = search needs
+
+-- src/accepted.rt:84:9
+add-i : tie.Need-add-i Inv-loop μ-loop
+add-i c = omega arith
+
+-- src/accepted.rt:81:5
+loop-less : tie.Need-loop-less Inv-loop μ-loop
+loop-less c = omega arith
+
+-- src/accepted.rt:81:5
+loop-again : tie.Need-loop-again Inv-loop μ-loop
+loop-again c = let s = c .before .before .before .before .before .before in
+    let p = s .args .t1 in
+    let i = c .before .before .before .before .loop .i in
+    let lt : length (p .tier) ≡ 32 = sym (length-map (p .tier) _) ∙ s .good .0 .1 .1 .1 .0 .1 .0 .1 in
+    let ln : length (p .net) ≡ 32 = sym (length-map (p .net) _) ∙ s .good .0 .1 .1 .1 .1 .0 .1 .0 .1 in
+    let n = open-length p lt ln (omega arith) in (
+      omega arith,
+      tested-next soundPrompt (openOf p) i (record { tier = 0; unused = pos 0 }) (c .before .before .before .before .loop .sound) _ (omega arith) (c .before .before .before .before .loop .inv .1)
+          (c .sound-prompt .ensures ∙ sym (ap soundPrompt (open-at p i _ _ _ lt ln (omega arith) (c .before .before .before .loop-test .taken)))),
+    )
+
+-- src/accepted.rt:72:1
+returns-2 : tie.Need-returns-2 Inv-loop μ-loop
+returns-2 c = let s = c .before .before .before in
+    let p = s .args .t1 in
+    let lt : length (p .tier) ≡ 32 = sym (length-map (p .tier) _) ∙ s .good .0 .1 .1 .1 .0 .1 .0 .1 in
+    let ln : length (p .net) ≡ 32 = sym (length-map (p .net) _) ∙ s .good .0 .1 .1 .1 .1 .0 .1 .0 .1 in
+    let n = open-length p lt ln (omega arith) in
+    tested-end soundPrompt (openOf p) (c .before .loop .i) _ (omega arith) (c .before .loop .inv .1)
+    ∙ sym (ap (λ (b : Bool). b && every soundPrompt (openOf p)) (le-leb (p .count) 32 (omega arith)))
+
+pub sound-prompts-spec : {M : Type 1} → statement M
+sound-prompts-spec =
+    tie.close
+    (tie.spec
+    Inv-loop
+    μ-loop
+    returns
+    loop-holds
+    mul-sound-prompt
+    element-copy-out-sound-prompt
+    mul-sound-prompt-2
+    element-copy-out-sound-prompt-2
+    sound-prompt-requires
+    add-i
+    loop-less
+    loop-again
+    returns-2)

@@ -1,0 +1,66 @@
+-- The prompts and spreads that are given, and which of them are accepted.
+-- Assumes nothing.
+use Prim.Native.Nat.{ℕ}
+use mathlib.Core.Bool.{Bool, true, false, not, _&&_, _||_}
+use mathlib.Core.List.{List, [], _∷_}
+use lib.ListN.{take}
+use lib.Dec.{eqb, leb, ltb}
+use lib.IntN.{natAbs}
+use Rattle.exact.specs.Lists.{any}
+use Rattle.spread.specs.Steps.{Open, Taker, legsOf, steps}
+use Rattle.spread.specs.declared.Delta.{Delta}
+use Rattle.spread.specs.declared.Leg.{Leg}
+use Rattle.spread.specs.declared.Spread.{Spread}
+use Rattle.spread.specs.declared.Table.{Table}
+use Rattle.spread.specs.declared.Prompts.{Prompts}
+
+-- the first `count` prompts, nothing of their net deltas used yet
+abbrev pub opens : List ℕ → List Delta → List Open
+opens [] ds = []
+opens (t ∷ ts) [] = []
+opens (t ∷ ts) (d ∷ ds) = record { tier = t; unused = d .0 } ∷ opens ts ds
+
+abbrev pub openOf : Prompts → List Open
+openOf p = take (p .count) (opens (p .tier) (p .net))
+
+-- the first `count` spreads, and their steps
+abbrev pub spreadsOf : Table → List Spread
+spreadsOf t = take (t .count) (t .spread)
+
+abbrev pub stepsOf : Table → List (List Taker)
+stepsOf t = steps (spreadsOf t)
+
+abbrev pub every {ℓ} : {A : Type ℓ} → (A → Bool) → List A → Bool
+every p [] = true
+every p (x ∷ xs) = p x && every p xs
+
+-- 128 rows of 100,000 lots at a delta of 1.0000
+abbrev pub mostDelta : ℕ
+mostDelta = 128000000000
+
+abbrev pub soundPrompt : Open → Bool
+soundPrompt p = ltb (p .tier) 16 && leb (natAbs (p .unused)) mostDelta
+
+abbrev pub soundPrompts : Prompts → Bool
+soundPrompts p = leb (p .count) 32 && every soundPrompt (openOf p)
+
+-- a tier, a side A or B, a ratio above 0
+abbrev pub soundLeg : Leg → Bool
+soundLeg l = ltb (l .tier) 16 && ((eqb (l .side) 1 || eqb (l .side) 2) && ltb 0 (l .ratio))
+
+abbrev pub sameLeg : Leg → Leg → Bool
+sameLeg l k = eqb (l .tier) (k .tier) && eqb (l .side) (k .side)
+
+-- no two legs of a spread with the same tier and side
+abbrev pub soundLegsOf : List Leg → Bool
+soundLegsOf [] = true
+soundLegsOf (l ∷ ls) = soundLeg l && (not (any (sameLeg l) ls) && soundLegsOf ls)
+
+abbrev pub soundSpread : Spread → Bool
+soundSpread s = (eqb (s .legs) 2 || eqb (s .legs) 3) && soundLegsOf (legsOf s)
+
+abbrev pub soundTable : Table → Bool
+soundTable t = leb (t .count) 32 && every soundSpread (spreadsOf t)
+
+abbrev pub sound : Prompts → Table → Bool
+sound p t = soundPrompts p && soundTable t

@@ -1,0 +1,13 @@
+-- Deltas by their side and their size.
+-- Assumes nothing.
+use Prim.Native.Nat.{ℕ}
+use mathlib.Core.Bool.{Bool, true, false}
+use lib.IntN.{ℤ, pos, negsuc, negℤ}
+
+abbrev pub isShort : ℤ → Bool
+isShort (pos n) = false
+isShort (negsuc n) = true
+
+abbrev pub sized : Bool → ℕ → ℤ
+sized false n = pos n
+sized true n = negℤ (pos n)

@@ -1,0 +1,16 @@
+-- One spend over the prompts: what each tier and market side is to give in all, earliest prompt first.
+-- Assumes nothing.
+use Prim.Native.Nat.{ℕ, _-_}
+use mathlib.Core.List.{List, [], _∷_}
+use lib.IntN.{ℤ, pos, negsuc}
+use Rattle.spread.specs.Steps.{Market, long, short, Open, inTier, less}
+
+-- the side that a delta lies on
+abbrev pub marketOf : ℤ → Market
+marketOf (pos n) = long
+marketOf (negsuc n) = short
+
+-- each prompt gives what is wanted of its tier and side as far as it goes; the rest is wanted of the later ones
+abbrev pub spend : (Market → ℕ → ℕ) → List Open → List Open
+spend wanted [] = []
+spend wanted (p ∷ ps) = less p (wanted (marketOf (p .unused)) (p .tier)) ∷ spend (λ m t. wanted m t - inTier m t p) ps

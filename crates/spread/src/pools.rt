@@ -1,0 +1,162 @@
+// The pools: of each tier the long and the short one, by value. What one step leaves is handed to the next.
+use crate::Leg;
+use crate::Spread;
+use crate::Spreads;
+ghost use mathlib.Core.Path.{_≡_};
+ghost use mathlib.Core.Bool.{cond};
+ghost use mathlib.Core.List.{[], _∷_};
+ghost use Prim.Native.Nat.{_-_, min};
+ghost use lib.ListN.{getD, set, take};
+ghost use Rattle.exact.specs.Lists.{least};
+ghost use Rattle.spread.specs.Steps.{room, useOf, taker};
+ghost use Rattle.spread.specs.Cells.{cellOf, shortIf, marketIn, stepOf, roomIn, lessIn, formedIn, afterIn, Taken};
+
+pub const TIERS: usize = 16;
+
+const CELLS: usize = 32;
+
+// Cell 2t is the long pool of tier t, cell 2t + 1 the short one, both without their sign.
+pub struct Pools {
+    pub cell: [u64; 32],
+}
+
+// A step taken: the pools that it leaves, and the number of spreads that it formed.
+pub struct Took {
+    pub left: Pools,
+    pub number: Spreads,
+}
+
+// The pool of a tier on a side; no cell for a tier out of range.
+pub fn cell_of(tier: usize, short: bool) -> usize
+    ensures { λ r. ⌜ r ≡ cellOf (shortIf short) tier ⌝ }
+{
+    if tier >= TIERS {
+        return CELLS;
+    }
+    if short { 2 * tier + 1 } else { 2 * tier }
+}
+
+// The pool that a leg takes from, in its spread's first step or in the second.
+fn cell_for(leg: Leg, second: bool) -> usize
+    ensures { λ r. ⌜ r ≡ cellOf (marketIn second (leg .side)) (leg .tier) ⌝ }
+{
+    let a = leg.side == 1;
+    cell_of(leg.tier, a == second)
+}
+
+// "pool divided by ratio, whole ten-thousandths, rounded down"
+fn room(pool: u64, ratio: u64) -> u64
+    ensures { λ r. ⌜ r ≡ room pool ratio ⌝ }
+{
+    if ratio == 0 { 0 } else { pool / ratio }
+}
+
+// What a pool keeps when a leg takes number × ratio from it.
+fn kept(pool: u64, number: u64, ratio: u64) -> u64
+    ensures { λ r. ⌜ r ≡ pool - useOf number ratio ⌝ }
+{
+    if ratio == 0 {
+        return pool;
+    }
+    if number <= pool / ratio {
+        pool - number * ratio
+    } else {
+        0
+    }
+}
+
+fn lesser(a: u64, b: u64) -> u64
+    ensures { λ r. ⌜ r ≡ min a b ⌝ }
+{
+    if a < b { a } else { b }
+}
+
+// The smallest of the first legs' rooms.
+fn smallest(legs: usize, a: u64, b: u64, c: u64) -> u64
+    ensures { λ r. ⌜ r ≡ least (take legs (a ∷ b ∷ c ∷ [])) ⌝ }
+{
+    if legs == 0 {
+        return 0;
+    }
+    if legs == 1 {
+        return a;
+    }
+    if legs == 2 {
+        return lesser(a, b);
+    }
+    lesser(a, lesser(b, c))
+}
+
+impl Pools {
+    // A pool; 0 where there is no such cell.
+    pub fn at(self, cell: usize) -> u64
+        ensures { λ r. ⌜ r ≡ getD (self .cell) cell 0 ⌝ }
+    {
+        if cell < CELLS { self.cell[cell] } else { 0 }
+    }
+
+    // The pools with one of them changed.
+    pub fn with(mut self, cell: usize, pool: u64) -> Pools
+        ensures { λ r. ⌜ r .cell ≡ set (self .cell) cell pool ⌝ }
+    {
+        if cell < CELLS {
+            self.cell[cell] = pool;
+        }
+        self
+    }
+
+    fn room_for(self, leg: Leg, second: bool) -> u64
+        ensures { λ r. ⌜ r ≡ roomIn (self .cell) (taker (marketIn second) leg) ⌝ }
+    {
+        room(self.at(cell_for(leg, second)), leg.ratio)
+    }
+
+    fn less(self, leg: Leg, second: bool, number: u64) -> Pools
+        ensures { λ r. ⌜ r .cell ≡ lessIn number (taker (marketIn second) leg) (self .cell) ⌝ }
+    {
+        let cell = cell_for(leg, second);
+        self.with(cell, kept(self.at(cell), number, leg.ratio))
+    }
+
+    fn less_if(self, there: bool, leg: Leg, second: bool, number: u64) -> Pools
+        ensures { λ r. ⌜ r .cell ≡ cond there (lessIn number (taker (marketIn second) leg) (self .cell)) (self .cell) ⌝ }
+    {
+        if there {
+            self.less(leg, second, number)
+        } else {
+            self
+        }
+    }
+
+    // "The number formed is the smallest over its legs".
+    fn formed(self, spread: Spread, second: bool) -> u64
+        ensures { λ r. ⌜ r ≡ formedIn (stepOf second spread) (self .cell) ⌝ }
+    {
+        let a = self.room_for(spread.leg[0], second);
+        let b = self.room_for(spread.leg[1], second);
+        let c = self.room_for(spread.leg[2], second);
+        smallest(spread.legs, a, b, c)
+    }
+
+    // "Each leg takes number × ratio".
+    fn after(self, spread: Spread, second: bool, number: u64) -> Pools
+        ensures { λ r. ⌜ r .cell ≡ afterIn (stepOf second spread) number (self .cell) ⌝ }
+    {
+        let legs = spread.legs;
+        let one = self.less_if(0 < legs, spread.leg[0], second, number);
+        let two = one.less_if(1 < legs, spread.leg[1], second, number);
+        two.less_if(2 < legs, spread.leg[2], second, number)
+    }
+
+    // A step of a spread, the first or the second: the number that it forms, and the pools that it leaves.
+    pub fn take(self, spread: Spread, second: bool) -> Took
+        ensures { λ r. ⌜ Taken (stepOf second spread) (self .cell) (r .left .cell) (r .number .0) ⌝ }
+    {
+        let number = self.formed(spread, second);
+        let left = self.after(spread, second, number);
+        Took {
+            left: left,
+            number: Spreads(number),
+        }
+    }
+}

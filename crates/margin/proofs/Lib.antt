@@ -5,3 +5,4 @@ pub mod Calls
 pub mod RiskLaws
 pub mod RecordLaws
 pub mod CreditLaws
+pub mod SumLaws

@@ -1,6 +1,6 @@
 -- The records of a part of the file, one after the other.
 -- Assumes nothing.
-use mathlib.Core.Path.{_≡_, refl, sym, ap, ap₂, _∙_, subst}
+use mathlib.Core.Path.{_≡_, refl, sym, ap, ap₂, _∙_, subst, subst⁻¹}
 use mathlib.Core.List.{List, [], _∷_, _++_, map}
 use Prim.Native.Nat.{ℕ, zero, suc, _+_, _-_, _*_, _/_, _≤_, _<_, zero-le}
 use native.Mathlib.Nat.{suc-mul, add-comm, le-refl, le-of-suc-le-suc, not-suc-le-zero}
@@ -66,3 +66,10 @@ module _ {A : Type 0} (g : Record → A) (f : List ℕ) where
       let e : k ≡ recordCount f = omega (arith, filled .within) in
       subst (λ (n : ℕ). take n table ≡ take n (map g (records f))) e (filled .so-far)
       ∙ take-all (recordCount f) (map g (records f)) (rw (length-map, length-cut) (le-refl (recordCount f)))
+
+-- the part that the code lends is the record at that place
+pub lent-at : (f : List ℕ) (k : ℕ) → k < recordCount f → take (k * 96 + 96 - k * 96) (drop (k * 96) f) ≡ getD (records f) k []
+lent-at f k h = lent-record f k ∙ sym (record-at f k h)
+
+pub below-records : (f : List ℕ) (k : ℕ) → k < recordCount f → k < length (records f)
+below-records f k h = subst⁻¹ (λ (n : ℕ). k < n) (length-cut (recordCount f) f) h

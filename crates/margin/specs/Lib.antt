@@ -12,4 +12,5 @@ pub mod Questions
 pub mod Entered
 pub mod Reckoned
 pub mod Risks
+pub mod Sums
 pub mod Tables

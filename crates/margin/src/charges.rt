@@ -1,0 +1,127 @@
+// Charges and credits added up over a contract's spreads, its prompts, and the entries of the intercontract table.
+use crate::amount::Amount;
+use crate::amount::credit;
+use crate::amount::prompt_charge;
+use crate::amount::spread_charge;
+use record::fields::contract;
+use record::fields::first_ratio;
+use record::fields::outright_rate;
+use record::fields::percent;
+use record::fields::rate_per_spread;
+use record::fields::second_contract;
+use record::fields::second_ratio;
+use record::fields::spread_rate;
+use spread::Delta;
+use spread::Spreads;
+ghost use mathlib.Core.Path.{_≡_};
+ghost use Prim.Native.Nat.{_*_, _≤_};
+ghost use Rattle.account.specs.Records.{records};
+ghost use Rattle.margin.specs.Bounds.{mostCharge, mostRisk};
+ghost use Rattle.margin.specs.Charges.{spreadCharge, interpromptCharge, promptCharge, promptCharges};
+ghost use Rattle.margin.specs.Credit.{credit, entryUse, creditsBy};
+ghost use Rattle.margin.specs.Sums.{interleaved, deltasIn, SpreadRoom, SpreadsWithin, PromptRoom, PromptsWithin, EntryRoom, CreditRoom, EntriesRoom};
+ghost use Rattle.record.specs.Layout.{ratePerSpread, spreadRate, outrightRate, percent};
+
+fn charge_of_spread(s: &[u8], first: Spreads, second: Spreads) -> Amount
+    requires { ⌜ SpreadRoom (now s) (first .0) (second .0) ⌝ }
+    ensures { λ r. ⌜ (r .0 ≡ spreadCharge (ratePerSpread (now (s .entry))) (first .0) (second .0)) × (r .0 ≤ mostCharge) ⌝ }
+{
+    spread_charge(first, second, rate_per_spread(s) as u64)
+}
+
+// The interprompt charge: each spread's charge for the numbers of its two steps.
+pub(crate) fn interprompt_charge(
+    spreads: &[u8],
+    first: [Spreads; 32],
+    second: [Spreads; 32],
+) -> Amount
+    requires { ⌜ SpreadsWithin (records (now spreads)) first second ⌝ }
+    ensures { λ r. ⌜ (r .0 ≡ interpromptCharge (records (now (spreads .entry))) (interleaved first second)) × (r .0 ≤ 32 * mostCharge) ⌝ }
+{
+    let count = spreads.len() / 96;
+    let mut sum: u64 = 0;
+    let mut i = 0;
+    while i < count {
+        let at = i * 96;
+        let charge = charge_of_spread(&spreads[at..at + 96], first[i], second[i]);
+        sum += charge.0;
+        i += 1;
+    }
+    Amount(sum)
+}
+
+fn charge_of_prompt(p: &[u8], used: Delta, unused: Delta) -> Amount
+    requires { ⌜ PromptRoom (now p) (used .0) (unused .0) ⌝ }
+    ensures { λ r. ⌜ (r .0 ≡ promptCharge (spreadRate (now (p .entry))) (outrightRate (now (p .entry))) (used .0) (unused .0)) × (r .0 ≤ mostCharge) ⌝ }
+{
+    prompt_charge(used, unused, spread_rate(p) as u64, outright_rate(p) as u64)
+}
+
+// The prompt date charges: each prompt's charge for what of it is used and what is not.
+pub(crate) fn prompt_charges(prompts: &[u8], used: [Delta; 32], unused: [Delta; 32]) -> Amount
+    requires { ⌜ PromptsWithin (records (now prompts)) used unused ⌝ }
+    ensures { λ r. ⌜ (r .0 ≡ promptCharges (records (now (prompts .entry))) (deltasIn used) (deltasIn unused)) × (r .0 ≤ 32 * mostCharge) ⌝ }
+{
+    let count = prompts.len() / 96;
+    let mut sum: u64 = 0;
+    let mut i = 0;
+    while i < count {
+        let at = i * 96;
+        let charge = charge_of_prompt(&prompts[at..at + 96], used[i], unused[i]);
+        sum += charge.0;
+        i += 1;
+    }
+    Amount(sum)
+}
+
+// What an entry uses of a contract.
+fn entry_use(c: usize, e: &[u8], first: Spreads, second: Spreads) -> u64
+    requires { ⌜ EntryRoom c (now e) (first .0) (second .0) ⌝ }
+    ensures { λ r. ⌜ r ≡ entryUse c (now (e .entry)) (first .0) (second .0) ⌝ }
+{
+    let number = first.0 + second.0;
+    if c == contract(e) {
+        return number * (first_ratio(e) as u64);
+    }
+    if c == second_contract(e) {
+        return number * (second_ratio(e) as u64);
+    }
+    0
+}
+
+// A contract as the intercontract table sees it: its number, twice its price risk, and the size of its net delta.
+pub struct Earner {
+    pub contract: usize,
+    pub twice_price: u64,
+    pub net: u64,
+}
+
+fn credit_from(e: &[u8], earner: Earner, first: Spreads, second: Spreads) -> Amount
+    requires { ⌜ CreditRoom (earner .contract) (earner .net) (now e) (first .0) (second .0) ⌝ }
+    ensures { λ r. ⌜ (r .0 ≡ credit (earner .«twice_price») (entryUse (earner .contract) (now (e .entry)) (first .0) (second .0)) (percent (now (e .entry))) (earner .net)) × (r .0 ≤ earner .«twice_price») ⌝ }
+{
+    let used = entry_use(earner.contract, e, first, second);
+    credit(earner.twice_price, used, percent(e) as u64, earner.net)
+}
+
+// A contract's credits over the entries of the intercontract table.
+pub(crate) fn credits(
+    entries: &[u8],
+    earner: Earner,
+    first: [Spreads; 32],
+    second: [Spreads; 32],
+) -> Amount
+    requires { ⌜ EntriesRoom (earner .contract) (earner .«twice_price») (earner .net) (records (now entries)) first second ⌝ }
+    ensures { λ r. ⌜ (r .0 ≡ creditsBy (earner .contract) (earner .«twice_price») (earner .net) (records (now (entries .entry))) (interleaved first second)) × (r .0 ≤ 128 * mostRisk) ⌝ }
+{
+    let count = entries.len() / 96;
+    let mut sum: u64 = 0;
+    let mut i = 0;
+    while i < count {
+        let at = i * 96;
+        let more = credit_from(&entries[at..at + 96], earner, first[i], second[i]);
+        sum += more.0;
+        i += 1;
+    }
+    Amount(sum)
+}

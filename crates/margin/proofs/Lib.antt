@@ -6,3 +6,8 @@ pub mod RiskLaws
 pub mod RecordLaws
 pub mod CreditLaws
 pub mod SumLaws
+pub mod SignedCalls
+pub mod AddedLaws
+pub mod PositionLaws
+pub mod PositionBounds
+pub mod NetLaws

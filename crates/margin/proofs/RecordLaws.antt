@@ -27,8 +27,8 @@ cut-at (suc n) (suc k) f h =
     cut-at n k (drop 96 f) (le-of-suc-le-suc h)
     ∙ ap (take 96) (drop-drop (k * 96) 96 f ∙ ap (λ (m : ℕ). drop m f) (add-comm 96 (k * 96) ∙ sym (suc-mul k 96)))
 
-pub record-at : (f : List ℕ) (k : ℕ) → k < recordCount f → getD (records f) k [] ≡ recordAt f k
-record-at f k h = cut-at (recordCount f) k f h
+pub record-here : (f : List ℕ) (k : ℕ) → k < recordCount f → getD (records f) k [] ≡ recordAt f k
+record-here f k h = cut-at (recordCount f) k f h
 
 -- the part that the code lends
 pub lent-record : (f : List ℕ) (k : ℕ) → take (k * 96 + 96 - k * 96) (drop (k * 96) f) ≡ recordAt f k
@@ -56,7 +56,7 @@ module _ {A : Type 0} (g : Record → A) (f : List ℕ) where
         so-far =
             ap (λ (n : ℕ). take n (set table k a)) (add-one k)
             ∙ take-suc-set table k a (omega (arith, filled .room))
-            ∙ ap₂ (λ (xs : List A) (x : A). xs ++ (x ∷ [])) (filled .so-far) (e ∙ ap g (sym (record-at f k h)) ∙ sym (getD-map g (records f) k [] (g []) (rw (length-cut) h)))
+            ∙ ap₂ (λ (xs : List A) (x : A). xs ++ (x ∷ [])) (filled .so-far) (e ∙ ap g (sym (record-here f k h)) ∙ sym (getD-map g (records f) k [] (g []) (rw (length-cut) h)))
             ∙ sym (take-suc (map g (records f)) k (g []) (rw (length-map, length-cut) h))
             ∙ ap (λ (n : ℕ). take n (map g (records f))) (sym (add-one k));
       }
@@ -69,7 +69,13 @@ module _ {A : Type 0} (g : Record → A) (f : List ℕ) where
 
 -- the part that the code lends is the record at that place
 pub lent-at : (f : List ℕ) (k : ℕ) → k < recordCount f → take (k * 96 + 96 - k * 96) (drop (k * 96) f) ≡ getD (records f) k []
-lent-at f k h = lent-record f k ∙ sym (record-at f k h)
+lent-at f k h = lent-record f k ∙ sym (record-here f k h)
 
 pub below-records : (f : List ℕ) (k : ℕ) → k < recordCount f → k < length (records f)
 below-records f k h = subst⁻¹ (λ (n : ℕ). k < n) (length-cut (recordCount f) f) h
+
+pub record-at : (f : List ℕ) (k : ℕ) → k < recordCount f → getD (records f) k [] ≡ take (k * 96 + 96 - k * 96) (drop (k * 96) f)
+record-at f k h = sym (lent-at f k h)
+
+pub count-is : (f : List ℕ) → length (records f) ≡ recordCount f
+count-is f = length-cut (recordCount f) f

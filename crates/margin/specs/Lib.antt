@@ -14,3 +14,4 @@ pub mod Reckoned
 pub mod Risks
 pub mod Sums
 pub mod Tables
+pub mod Position

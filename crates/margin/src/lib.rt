@@ -3,4 +3,5 @@ mod amount;
 mod charges;
 pub mod pairs;
 mod risk;
+pub mod rows;
 mod tables;

@@ -1,0 +1,129 @@
+-- How large totals, net deltas and short lots of rows within their ranges can be.
+-- Assumes nothing.
+use mathlib.Core.Path.{_≡_, refl, sym, _∙_, ap, ap₂, subst}
+use mathlib.Core.Bool.{Bool, true, false, cond}
+use mathlib.Core.List.{List, [], _∷_, map}
+use Prim.Native.Nat.{ℕ, zero, suc, _+_, _*_, _≤_, _<_, zero-le}
+use native.Mathlib.Nat.{le-refl, le-trans, le-of-suc-le-suc, not-suc-le-zero, mul-le-mul-right}
+use native.Mathlib.Omega.{arith}
+use lib.Dec.{eqb, ltb}
+use lib.IntN.{ℤ, pos, negsuc, natAbs, _+ℤ_, _*ℤ_, +ℤ-idr, +ℤ-idl, +ℤ-assoc}
+use lib.ListN.{length, getD, take, length-map, length-take, List·getD-eq-default}
+use lib.Seq.{getD-take}
+use borrow.Author.Tests.{eqb-true, ne-eqb, ltb-true, ltb-false}
+use Rattle.exact.specs.Lists.{consIf, keep, sum, sumℤ}
+use Rattle.exact.proofs.Lists.{map-same, sumℤ-map-add}
+use Rattle.record.specs.Layout.{Record, day, lots, value, loss, delta, rowType}
+use Rattle.margin.specs.declared.rows.Position.{Position}
+use Rattle.margin.specs.Scanning.{product, total, totals}
+use Rattle.margin.specs.Deltas.{rowDelta, ofDay, netDelta, netDeltas}
+use Rattle.margin.specs.Margin.{short, shortOptions, shortLots}
+use Rattle.margin.specs.Position.{RowWithin, Within, AtMost, PositionOf, Bounded, Rising, deltasOf}
+use Rattle.margin.proofs.SignedCalls.{abs-times, abs-plus}
+use Rattle.margin.proofs.PositionLaws.{totals-at, net-here}
+
+-- ---- of one row
+
+pub product-most : (row : Record) → RowWithin row → (s : ℕ) → 1 ≤ s → s ≤ 16 → natAbs (product s row) ≤ 100000000000000
+product-most row w s l h =
+    abs-times (lots row *ℤ pos (value row)) (loss row s) (abs-times (lots row) (pos (value row)) (w .lots-within) (w .value-within)) (w .loss-within s l h)
+
+pub delta-most : (row : Record) → RowWithin row → natAbs (rowDelta row) ≤ 1000000000
+delta-most row w = abs-times (lots row) (delta row) (w .lots-within) (w .delta-within)
+
+short-le : (z : ℤ) → short z ≤ natAbs z
+short-le (pos n) = zero-le
+short-le (negsuc n) = le-refl (suc n)
+
+pub shorts-most : (row : Record) → RowWithin row → shortOptions row ≤ 100000
+shorts-most row w = go (eqb (rowType row) 0)
+  where
+    go : (t : Bool) → cond t 0 (short (lots row)) ≤ 100000
+    go true = zero-le
+    go false = le-trans (short-le (lots row)) (w .lots-within)
+
+-- ---- of several
+
+Each : List Record → Type 0
+Each rows = (k : ℕ) → k < length rows → RowWithin (getD rows k [])
+
+first : (row : Record) (rows : List Record) → Each (row ∷ rows) → RowWithin row
+unfolding Each
+first row rows e = e 0 (omega arith)
+
+later : (row : Record) (rows : List Record) → Each (row ∷ rows) → Each rows
+unfolding Each
+later row rows e = λ k h. e (suc k) (omega arith)
+
+total-most : (rows : List Record) → Each rows → (s : ℕ) → 1 ≤ s → s ≤ 16 → natAbs (total rows s) ≤ length rows * 100000000000000
+total-most [] e s l h = zero-le
+total-most (row ∷ rows) e s l h =
+    let one = product-most row (first row rows e) s l h in
+    let rest = total-most rows (later row rows e) s l h in
+    let both = abs-plus (product s row) (total rows s) one rest in
+    omega arith
+
+net-most : (rows : List Record) → Each rows → (prompt : Record) → natAbs (netDelta rows prompt) ≤ length rows * 1000000000
+net-most [] e prompt = zero-le
+net-most (row ∷ rows) e prompt = go (ofDay (day prompt) row) (net-most rows (later row rows e) prompt)
+  where
+    go : (t : Bool) → natAbs (netDelta rows prompt) ≤ length rows * 1000000000 → natAbs (sumℤ (map rowDelta (consIf t row (keep (ofDay (day prompt)) rows)))) ≤ suc (length rows) * 1000000000
+    go true rest =
+        let both = abs-plus (rowDelta row) (netDelta rows prompt) (delta-most row (first row rows e)) rest in
+        omega arith
+    go false rest = omega arith
+
+short-lots-most : (rows : List Record) → Each rows → shortLots rows ≤ length rows * 100000
+short-lots-most [] e = zero-le
+short-lots-most (row ∷ rows) e =
+    let one = shorts-most row (first row rows e) in
+    let rest = short-lots-most rows (later row rows e) in
+    omega arith
+
+-- ---- of a position
+
+-- the nets of the prompts and those past them
+net-place : (prompts rows : List Record) (p : Position) → Each rows → PositionOf prompts rows p → (j : ℕ) → natAbs (getD (deltasOf (p .nets)) j (pos 0)) ≤ length rows * 1000000000
+net-place prompts rows p e is j = go (ltb j (length prompts)) refl
+  where
+    go : (t : Bool) → ltb j (length prompts) ≡ t → natAbs (getD (deltasOf (p .nets)) j (pos 0)) ≤ length rows * 1000000000
+    go true h =
+        subst (λ (z : ℤ). natAbs z ≤ length rows * 1000000000) (sym (net-here prompts rows p is j (ltb-true j (length prompts) h)))
+        (net-most rows e (getD prompts j []))
+    go false h =
+        subst (λ (z : ℤ). natAbs z ≤ length rows * 1000000000) (sym (is .nets-beyond j (ltb-false j (length prompts) h))) zero-le
+
+pub bounded : (prompts rows : List Record) (p : Position) → Within rows → PositionOf prompts rows p → Bounded (length rows) p
+unfolding Each
+bounded prompts rows p w is =
+    record {
+      totals-most =
+          record {
+            as-many = ap length (is .totals-are);
+            size = λ k h.
+                subst (λ (z : ℤ). natAbs z ≤ length rows * 100000000000000)
+                (sym (ap (λ (zs : List ℤ). getD zs k (pos 0)) (is .totals-are) ∙ totals-at rows k h))
+                (total-most rows (w .each) (k + 1) (omega arith) (omega arith));
+          };
+      nets-most = record { as-many = is .places; size = λ j h. net-place prompts rows p (w .each) is j };
+      shorts-most = subst (λ (n : ℕ). n ≤ length rows * 100000) (sym (is .shorts-are)) (short-lots-most rows (w .each));
+    }
+
+-- what n rows cannot go past, m rows cannot either
+pub wider : (n m : ℕ) (p : Position) → n ≤ m → Bounded n p → Bounded m p
+wider n m p h b =
+    record {
+      totals-most = record { as-many = b .totals-most .as-many; size = λ k l. le-trans (b .totals-most .size k l) (mul-le-mul-right 100000000000000 h) };
+      nets-most = record { as-many = b .nets-most .as-many; size = λ j l. le-trans (b .nets-most .size j l) (mul-le-mul-right 1000000000 h) };
+      shorts-most = le-trans (b .shorts-most) (mul-le-mul-right 100000 h);
+    }
+
+pub within-take : (rows : List Record) (n : ℕ) → Within rows → Within (take n rows)
+within-take rows n w =
+    record {
+      few = omega (arith, length-take n rows, w .few);
+      each = λ k h.
+          let n-above : k < n = omega (arith, length-take n rows) in
+          let rows-above : k < length rows = omega (arith, length-take n rows) in
+          subst (λ (row : Record). RowWithin row) (sym (getD-take n rows k [] n-above)) (w .each k rows-above);
+    }

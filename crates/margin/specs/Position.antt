@@ -1,0 +1,86 @@
+-- What a contract's rows come to, and the ranges under which it is counted without loss.
+-- Assumes nothing.
+use mathlib.Core.Path.{_≡_}
+use mathlib.Core.Bool.{cond}
+use mathlib.Core.List.{List, [], _∷_, _++_, map}
+use Prim.Native.Nat.{ℕ, suc, _+_, _*_, _≤_, _<_}
+use lib.Dec.{eqb}
+use lib.IntN.{ℤ, pos, natAbs, _+ℤ_}
+use lib.ListN.{length, getD, take}
+use Rattle.record.specs.Layout.{Record, lots, delta, value, loss, day}
+use Rattle.spread.specs.declared.Delta.{Delta}
+use Rattle.margin.specs.declared.rows.Days.{Days}
+use Rattle.margin.specs.declared.rows.Position.{Position}
+use Rattle.margin.specs.Scanning.{product, totals}
+use Rattle.margin.specs.Deltas.{rowDelta, netDeltas}
+use Rattle.margin.specs.Margin.{shortOptions, shortLots}
+
+-- "lots -100,000..100,000 ..; value 1..10,000; losses -100,000..100,000; delta 0..10,000 .., -10,000..0 for puts"
+pub record RowWithin (row : Record) : Type 0 where
+  pub lots-within : natAbs (lots row) ≤ 100000
+  pub delta-within : natAbs (delta row) ≤ 10000
+  pub value-within : value row ≤ 10000
+  pub loss-within : (s : ℕ) → 1 ≤ s → s ≤ 16 → natAbs (loss row s) ≤ 100000
+
+-- "per contract .. 128 rows", each within its ranges
+pub record Within (rows : List Record) : Type 0 where
+  pub few : length rows ≤ 128
+  pub each : (k : ℕ) → k < length rows → RowWithin (getD rows k [])
+
+-- a result, and how large it can be
+pub record Sized (most : ℕ) (z r : ℤ) : Type 0 where
+  pub is : r ≡ z
+  pub size : natAbs r ≤ most
+
+abbrev pub deltasOf : List Delta → List ℤ
+deltasOf ds = map (λ d. d .0) ds
+
+-- n numbers, each of a size up to the most
+pub record AtMost (n most : ℕ) (zs : List ℤ) : Type 0 where
+  pub as-many : length zs ≡ n
+  pub size : (k : ℕ) → k < n → natAbs (getD zs k (pos 0)) ≤ most
+
+-- the first n numbers, each with more added to it, and the others as they were
+pub record Added (n : ℕ) (more : ℕ → ℤ) (xs ys : List ℤ) : Type 0 where
+  pub as-many : length ys ≡ length xs
+  pub added : (k : ℕ) → k < n → getD ys k (pos 0) ≡ getD xs k (pos 0) +ℤ more k
+  pub others : (k : ℕ) → n ≤ k → getD ys k (pos 0) ≡ getD xs k (pos 0)
+
+-- what a row adds to each total, scenario 1 first
+abbrev pub products : Record → ℕ → ℤ
+products row k = product (k + 1) row
+
+-- what a row of a day adds to the net delta of each prompt, by the prompts' days
+abbrev pub onDay : List ℕ → ℕ → ℤ → ℕ → ℤ
+onDay days d more j = cond (eqb d (getD days j 0)) more (pos 0)
+
+-- the days of prompts
+pub record DaysOf (prompts : List Record) (d : Days) : Type 0 where
+  pub count-is : d .count ≡ length prompts
+  pub few : d .count ≤ 32
+  pub day-is : (j : ℕ) → j < length prompts → getD (d .day) j 0 ≡ day (getD prompts j [])
+
+-- what rows come to, for a contract with these prompts; the nets past its prompts are 0
+pub record PositionOf (prompts rows : List Record) (p : Position) : Type 0 where
+  pub totals-are : p .totals .0 ≡ totals rows
+  pub nets-are : take (length prompts) (deltasOf (p .nets)) ≡ netDeltas prompts rows
+  pub nets-beyond : (j : ℕ) → length prompts ≤ j → getD (deltasOf (p .nets)) j (pos 0) ≡ pos 0
+  pub places : length (deltasOf (p .nets)) ≡ 32
+  pub shorts-are : p .shorts ≡ shortLots rows
+
+-- no more than n rows within their ranges can come to
+pub record Bounded (n : ℕ) (p : Position) : Type 0 where
+  pub totals-most : AtMost 16 (n * 100000000000000) (p .totals .0)
+  pub nets-most : AtMost 32 (n * 1000000000) (deltasOf (p .nets))
+  pub shorts-most : p .shorts ≤ n * 100000
+
+-- q is the position p with one row more: of the rows before it and this one, whichever those were
+pub record WithRow (days : Days) (p : Position) (row : Record) (q : Position) : Type 0 where
+  pub totals-added : Added 16 (products row) (p .totals .0) (q .totals .0)
+  pub nets-added : Added (days .count) (onDay (days .day) (day row) (rowDelta row)) (deltasOf (p .nets)) (deltasOf (q .nets))
+  pub shorts-added : q .shorts ≡ p .shorts + shortOptions row
+  pub more : (prompts rows : List Record) → DaysOf prompts days → PositionOf prompts rows p → PositionOf prompts (rows ++ row ∷ []) q
+
+-- "a prompt whose (contract, day) is not above the one before" is refused: within a contract the days rise
+pub record Rising (prompts : List Record) : Type 0 where
+  pub above : (k : ℕ) → suc k < length prompts → day (getD prompts k []) < day (getD prompts (suc k) [])

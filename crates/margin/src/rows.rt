@@ -1,0 +1,189 @@
+// What a contract's rows come to: its sixteen totals, its prompts' net deltas and its short lots.
+ghost use mathlib.Core.Path.{_≡_};
+ghost use mathlib.Core.Bool.{cond};
+ghost use mathlib.Core.List.{List, [], _∷_, _++_};
+ghost use Prim.Native.Nat.{ℕ, _≤_, _<_, _+_};
+ghost use lib.IntN.{pos, natAbs, _+ℤ_, _*ℤ_};
+ghost use Rattle.record.specs.Layout.{Record, lots, value};
+ghost use Rattle.account.specs.Records.{records, recordCount};
+ghost use Rattle.margin.specs.Deltas.{rowDelta};
+ghost use Rattle.margin.specs.Margin.{short, shortOptions};
+ghost use Rattle.margin.specs.Position.{RowWithin, Within, Sized, AtMost, Added, products, onDay, DaysOf, deltasOf};
+ghost use Rattle.margin.specs.Position.{PositionOf, Bounded, WithRow};
+ghost use lib.ListN.{length};
+use exact::signed::as_signed;
+use exact::signed::is_negative;
+use exact::signed::magnitude;
+use exact::signed::plus;
+use exact::signed::times;
+use record::fields::day;
+use record::fields::delta;
+use record::fields::loss;
+use record::fields::lots;
+use record::fields::row_type;
+use record::fields::value;
+use spread::Delta;
+
+// The sixteen totals, in hundredths of the currency, scenario 1 first.
+pub struct Totals(pub [i64; 16]);
+
+// What a contract's rows come to. The net deltas are those of its prompts in file order, and 0 beyond them.
+pub struct Position {
+    pub totals: Totals,
+    pub nets: [Delta; 32],
+    pub shorts: u64,
+}
+
+// The days of a contract's prompts, the first `count`.
+pub struct Days {
+    pub count: usize,
+    pub day: [usize; 32],
+}
+
+// Lots × value: what a row loses for each tick.
+fn per_tick(row: &[u8]) -> i64
+    requires { ⌜ RowWithin (now row) ⌝ }
+    ensures { λ r. ⌜ Sized 1000000000 (lots (now (row .entry)) *ℤ pos (value (now (row .entry)))) r ⌝ }
+{
+    times(lots(row), as_signed(value(row) as u64))
+}
+
+// Lots × delta.
+fn row_delta(row: &[u8]) -> Delta
+    requires { ⌜ RowWithin (now row) ⌝ }
+    ensures { λ r. ⌜ Sized 1000000000 (rowDelta (now (row .entry))) (r .0) ⌝ }
+{
+    Delta(times(lots(row), delta(row)))
+}
+
+// The lots of a short position, 0 of a long one.
+fn short(lots: i64) -> u64
+    ensures { λ r. ⌜ r ≡ short lots ⌝ }
+{
+    if is_negative(lots) {
+        magnitude(lots)
+    } else {
+        0
+    }
+}
+
+// The short lots of a call or put, 0 of a forward.
+fn short_options(row: &[u8]) -> u64
+    ensures { λ r. ⌜ r ≡ shortOptions (now (row .entry)) ⌝ }
+{
+    if row_type(row) == 0 {
+        0
+    } else {
+        short(lots(row))
+    }
+}
+
+// A prompt's net delta with one row more, which counts where it is of the prompt's day.
+fn net_with(net: Delta, same: bool, more: Delta) -> Delta
+    requires { ⌜ (natAbs (net .0) ≤ 127000000000) × (natAbs (more .0) ≤ 1000000000) ⌝ }
+    ensures { λ r. ⌜ r .0 ≡ net .0 +ℤ cond same (more .0) (pos 0) ⌝ }
+{
+    if same {
+        Delta(plus(net.0, more.0))
+    } else {
+        net
+    }
+}
+
+// Each total with one row more.
+fn totals_with(t: Totals, row: &[u8]) -> Totals
+    requires { ⌜ RowWithin (now row) × AtMost 16 12700000000000000 (t .0) ⌝ }
+    ensures { λ r. ⌜ Added 16 (products (now (row .entry))) (t .0) (r .0) ⌝ }
+{
+    let each = per_tick(row);
+    let mut totals = t.0;
+    let mut s = 0;
+    while s < 16 {
+        let product = times(each, loss(row, s + 1));
+        totals[s] = plus(totals[s], product);
+        s += 1;
+    }
+    Totals(totals)
+}
+
+// Each net delta with one row more.
+fn nets_with(nets: [Delta; 32], days: Days, day: usize, more: Delta) -> [Delta; 32]
+    requires { ⌜ (days .count ≤ 32) × (AtMost 32 127000000000 (deltasOf nets) × (natAbs (more .0) ≤ 1000000000)) ⌝ }
+    ensures { λ r. ⌜ Added (days .count) (onDay (days .day) day (more .0)) (deltasOf nets) (deltasOf r) ⌝ }
+{
+    let count = days.count;
+    let mut sums = nets;
+    let mut j = 0;
+    while j < count {
+        let net = net_with(sums[j], day == days.day[j], more);
+        sums[j] = net;
+        j += 1;
+    }
+    sums
+}
+
+// The days of prompts.
+pub(crate) fn days_of(prompts: &[u8]) -> Days
+    requires { ⌜ recordCount (now prompts) ≤ 32 ⌝ }
+    ensures { λ d. ⌜ DaysOf (records (now (prompts .entry))) d ⌝ }
+{
+    let count = prompts.len() / 96;
+    let mut days = [0usize; 32];
+    let mut j = 0;
+    while j < count {
+        let at = j * 96;
+        days[j] = day(&prompts[at..at + 96]);
+        j += 1;
+    }
+    Days { count, day: days }
+}
+
+// What rows come to with one row more.
+pub(crate) fn with_row(p: Position, days: Days, row: &[u8]) -> Position
+    requires { ⌜ (days .count ≤ 32) × (RowWithin (now row) × Bounded 127 p) ⌝ }
+    ensures { λ q. ⌜ WithRow days p (now (row .entry)) q ⌝ }
+{
+    let old_totals = p.totals;
+    let totals = totals_with(old_totals, row);
+    let old_nets = p.nets;
+    let nets = nets_with(old_nets, days, day(row), row_delta(row));
+    let shorts = p.shorts + short_options(row);
+    Position {
+        totals,
+        nets,
+        shorts,
+    }
+}
+
+// What no rows come to.
+pub(crate) fn flat() -> Position
+    ensures { λ p. ⌜ ((prompts : List Record) → length prompts ≤ 32 → PositionOf prompts [] p) ⌝ }
+{
+    let totals = [0i64; 16];
+    let none = Delta(0);
+    let nets = [none; 32];
+    Position {
+        totals: Totals(totals),
+        nets,
+        shorts: 0,
+    }
+}
+
+// What a contract's rows come to, by its prompts' days.
+pub(crate) fn position_of(prompts: &[u8], rows: &[u8]) -> Position
+    requires { ⌜ (recordCount (now prompts) ≤ 32) × Within (records (now rows)) ⌝ }
+    ensures is { λ p. ⌜ PositionOf (records (now (prompts .entry))) (records (now (rows .entry))) p ⌝ }
+    ensures most { λ p. ⌜ Bounded 128 p ⌝ }
+{
+    let days = days_of(prompts);
+    let count = rows.len() / 96;
+    let mut p = flat();
+    let mut i = 0;
+    while i < count {
+        let at = i * 96;
+        let q = with_row(p, days, &rows[at..at + 96]);
+        p = q;
+        i += 1;
+    }
+    p
+}

@@ -15,3 +15,4 @@ pub mod Risks
 pub mod Sums
 pub mod Tables
 pub mod Position
+pub mod Lines

@@ -1,6 +1,7 @@
 // Margin from an account: figures and delta books.
-mod amount;
+pub mod amount;
 mod charges;
+pub mod line;
 pub mod pairs;
 mod risk;
 pub mod rows;

@@ -9,8 +9,12 @@ use mathlib.Core.Logic.{⊎-elim}
 use lib.ListN.{length, getD}
 use Rattle.spread.specs.Steps.{Market, Open, Taker, formed, after, numbers, left}
 use Rattle.spread.specs.Demand.{Demand3, Feasible, FirstDifference, totalUse, soundSteps}
+use Rattle.spread.specs.Accepted.{openOf, stepsOf, sound}
+use Rattle.spread.specs.declared.Table.{Table}
+use Rattle.spread.specs.declared.Prompts.{Prompts}
 use Rattle.spread.proofs.Best.{Stepwise, ours-stepwise, ours-larger, stepwise-within, within-stepwise, difference}
-use Rattle.spread.proofs.Parts.{deltas, usedBy, parts-add, used-sign, unused-sign, earlier-first, used-adds}
+use Rattle.spread.proofs.Parts.{parts-add, used-sign, unused-sign, earlier-first, used-adds}
+use Rattle.spread.proofs.Soundness.{table-sound}
 use Rattle.spread.proofs.Spending.{left-spend}
 
 pub one-per-step : (ss : List (List Taker)) (ps : List Open) → length (numbers ss ps) ≡ length ss
@@ -50,3 +54,7 @@ module _ (ss : List (List Taker)) (ps : List Open) (sound : soundSteps ss ≡ tr
         earlier = λ m i j l e. rw (left-spend ss ps) (earlier-first wanted ps m i j l e);
         sums = λ m t. rw (left-spend ss ps) (used-adds wanted m t ps (ours .within m t));
       }
+
+-- "For each accepted account and each spread table"
+pub demand3-accepted : (p : Prompts) (t : Table) → sound p t ≡ true → Demand3 (stepsOf t) (openOf p)
+demand3-accepted p t e = demand3 (stepsOf t) (openOf p) (table-sound p t e)

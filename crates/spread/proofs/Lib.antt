@@ -1,9 +1,14 @@
 pub mod Best
+pub mod Booking
 pub mod Both
 pub mod Demand3
 pub mod Every
+pub mod Filling
 pub mod Legs
 pub mod Parts
+pub mod Paying
 pub mod Pooling
+pub mod Running
 pub mod Signs
+pub mod Soundness
 pub mod Spending

@@ -10,21 +10,10 @@ use lib.Dec.{eqb}
 use lib.IntN.{ℤ, pos, negsuc, negℤ, _+ℤ_, _-ℤ_, negℤ-+ℤ, -ℤ-+ℤ-cancel, +ℤ-negℤ-cancel}
 use borrow.Author.Tests.{eq-eqb}
 use Rattle.spread.specs.Steps.{Market, long, short, Open, onSide, inTier, pool, towardsZero, less, minus}
+use Rattle.spread.specs.Deltas.{part}
 use Rattle.spread.specs.Demand.{opposite, tierAt, netAt, deltaAt, addedUp}
-use Rattle.spread.specs.Spend.{marketOf, spend}
+use Rattle.spread.specs.Spend.{marketOf, spend, deltas, usedBy}
 use Rattle.spread.proofs.Spending.{neg-long, neg-short, side-towards, pool-spend}
-
--- the deltas of prompts, and what a spend uses of them
-abbrev pub deltas : List Open → List ℤ
-deltas ps = map (λ p. p .unused) ps
-
-abbrev pub usedBy : (Market → ℕ → ℕ) → List Open → List ℤ
-usedBy w ps = minus (deltas ps) (deltas (spend w ps))
-
--- the part of a delta that is taken, with its sign
-abbrev pub part : ℤ → ℕ → ℤ
-part (pos n) a = pos (min a n)
-part (negsuc n) a = negℤ (pos (min a (suc n)))
 
 min-rest : (a n : ℕ) → min a n + (n - a) ≡ n
 min-rest a n = omega arith

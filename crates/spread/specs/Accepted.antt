@@ -51,10 +51,11 @@ soundLeg l = ltb (l .tier) 16 && ((eqb (l .side) 1 || eqb (l .side) 2) && ltb 0 
 abbrev pub sameLeg : Leg → Leg → Bool
 sameLeg l k = eqb (l .tier) (k .tier) && eqb (l .side) (k .side)
 
--- no two legs of a spread with the same tier and side
+-- each leg is sound, and no two have the same tier and side
 abbrev pub soundLegsOf : List Leg → Bool
-soundLegsOf [] = true
-soundLegsOf (l ∷ ls) = soundLeg l && (not (any (sameLeg l) ls) && soundLegsOf ls)
+soundLegsOf [] = false
+soundLegsOf (l ∷ []) = soundLeg l
+soundLegsOf (l ∷ k ∷ ls) = soundLeg l && (not (any (sameLeg l) (k ∷ ls)) && soundLegsOf (k ∷ ls))
 
 abbrev pub soundSpread : Spread → Bool
 soundSpread s = (eqb (s .legs) 2 || eqb (s .legs) 3) && soundLegsOf (legsOf s)

@@ -2,6 +2,7 @@
 // One engine serves both tables of spreads, the interprompt spreads of a contract and the intercontract spreads.
 
 pub mod accepted;
+pub mod book;
 pub mod deltas;
 pub mod pools;
 

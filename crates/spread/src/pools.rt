@@ -6,7 +6,7 @@ ghost use mathlib.Core.Path.{_≡_};
 ghost use mathlib.Core.Bool.{cond};
 ghost use mathlib.Core.List.{[], _∷_};
 ghost use Prim.Native.Nat.{_-_, min};
-ghost use lib.ListN.{getD, set, take};
+ghost use lib.ListN.{getD, set, take, replicate};
 ghost use Rattle.exact.specs.Lists.{least};
 ghost use Rattle.spread.specs.Steps.{room, useOf, taker};
 ghost use Rattle.spread.specs.Cells.{cellOf, shortIf, marketIn, stepOf, roomIn, lessIn, formedIn, afterIn, Taken};
@@ -65,7 +65,7 @@ fn kept(pool: u64, number: u64, ratio: u64) -> u64
     }
 }
 
-fn lesser(a: u64, b: u64) -> u64
+pub(crate) fn lesser(a: u64, b: u64) -> u64
     ensures { λ r. ⌜ r ≡ min a b ⌝ }
 {
     if a < b { a } else { b }
@@ -88,6 +88,13 @@ fn smallest(legs: usize, a: u64, b: u64, c: u64) -> u64
 }
 
 impl Pools {
+    // Nothing in any pool.
+    pub fn none() -> Pools
+        ensures { λ r. ⌜ r .cell ≡ replicate 32 0 ⌝ }
+    {
+        Pools { cell: [0; 32] }
+    }
+
     // A pool; 0 where there is no such cell.
     pub fn at(self, cell: usize) -> u64
         ensures { λ r. ⌜ r ≡ getD (self .cell) cell 0 ⌝ }

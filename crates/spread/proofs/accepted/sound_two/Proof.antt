@@ -9,11 +9,9 @@ use Rattle.spread.proofs.accepted.sound_two.Lts as lts
 use Rattle.spread.proofs.accepted.same_leg.Reads as same-leg-reads
 use Rattle.spread.proofs.accepted.sound_leg.Reads as sound-leg-reads
 
-two : (x y z : Bool) → x && (not y && z) ≡ x && (not (y || false) && (z && true))
-two false y z = refl
-two true true z = refl
-two true false true = refl
-two true false false = refl
+two : (x y z : Bool) → x && (not y && z) ≡ x && (not (y || false) && z)
+two x true z = refl
+two x false z = refl
 
 -- src/accepted.rt:28:5
 sound-leg-requires : tie.Need-sound-leg-requires

@@ -1,0 +1,113 @@
+-- Pools, a run on them and one spend give the steps' numbers and the prompts' used and unused deltas; and the promise of a book
+-- leaves no choice.
+-- Assumes nothing.
+use Prim.Native.Nat.{ℕ, _+_, _-_, _*_, _≤_, _<_}
+use native.Mathlib.Omega.{arith}
+use mathlib.Core.Path.{_≡_, refl, sym, _∙_, ap}
+use mathlib.Core.Bool.{Bool, true, false, cond}
+use mathlib.Core.List.{List, []}
+use lib.ListN.{length, getD, replicate}
+use lib.Dec.{ltb}
+use lib.IntN.{ℤ, pos}
+use borrow.Author.Tests.{ltb-true, ltb-false}
+use Rattle.spread.specs.Steps.{Market, Open, pool, numbers, left, minus, usedOf, unusedOf}
+use Rattle.spread.specs.Demand.{totalUse}
+use Rattle.spread.specs.Spend.{spend, deltas}
+use Rattle.spread.specs.Cells.{cellOf, cellAt, Pooled, numbersIn}
+use Rattle.spread.specs.Accepted.{openOf, spreadsOf, stepsOf, sound}
+use Rattle.spread.specs.Book.{numbersOf, usedIn, unusedIn, entries, spreadsEntry, deltaEntry, Booked, Refused, Run, Wanted, Spent}
+use Rattle.spread.specs.declared.Delta.{Delta}
+use Rattle.spread.specs.declared.Spreads.{Spreads}
+use Rattle.spread.specs.declared.Table.{Table}
+use Rattle.spread.specs.declared.Prompts.{Prompts}
+use Rattle.spread.specs.declared.book.Book.{Book}
+use Rattle.spread.proofs.Demand3.{demand3-accepted}
+use Rattle.spread.proofs.Filling.{filled-none, filled-all}
+use Rattle.spread.proofs.Paying.{noDelta}
+use Rattle.spread.proofs.Pooling.{cell-small, no-cell, pooled-numbers, pooled-left}
+use Rattle.spread.proofs.Running.{noSpreads}
+use Rattle.spread.proofs.Spending.{left-spend, pool-spend, spend-same}
+
+-- two books that the promise allows are the same
+pub booked-one : (p : Prompts) (t : Table) (r s : Book) → Booked p t r → Booked p t s → r ≡ s
+booked-one p t r s a b =
+    λ i.
+    record {
+      accepted = (a .accepted ∙ sym (b .accepted)) i;
+      first = (a .first ∙ sym (b .first)) i;
+      second = (a .second ∙ sym (b .second)) i;
+      used = (a .used ∙ sym (b .used)) i;
+      unused = (a .unused ∙ sym (b .unused)) i;
+    }
+
+-- what is refused has no numbers
+
+all-none {ℓ} : {A : Type ℓ} (z : A) (f : ℕ → A) → ((k : ℕ) → f k ≡ z) → replicate 32 z ≡ entries 32 f
+all-none z f h = filled-all z f 0 (replicate 32 z) (filled-none z f) (λ k g. h k)
+
+pub booked-refused : (p : Prompts) (t : Table) (r : Book) → sound p t ≡ false → Refused r → Booked p t r
+booked-refused p t r e h =
+    record {
+      accepted = h .accepted ∙ sym e;
+      first = h .first ∙ all-none noSpreads (λ k. spreadsEntry (numbersOf p t) (2 * k)) (λ k. no-spreads (2 * k));
+      second = h .second ∙ all-none noSpreads (λ k. spreadsEntry (numbersOf p t) (2 * k + 1)) (λ k. no-spreads (2 * k + 1));
+      used = h .used ∙ all-none noDelta (deltaEntry (usedIn p t)) (λ k. ap (λ (b : Bool). deltaEntry (cond b (usedOf (stepsOf t) (openOf p)) []) k) e);
+      unused = h .unused ∙ all-none noDelta (deltaEntry (unusedIn p t)) (λ k. ap (λ (b : Bool). deltaEntry (cond b (unusedOf (stepsOf t) (openOf p)) []) k) e);
+    }
+  where
+    no-spreads : (k : ℕ) → spreadsEntry (numbersOf p t) k ≡ noSpreads
+    no-spreads k = ap (λ (b : Bool). spreadsEntry (cond b (numbers (stepsOf t) (openOf p)) []) k) e
+
+-- what is accepted
+
+module _ (p : Prompts) (t : Table) (e : sound p t ≡ true) (cells l wanted : List ℕ)
+    (pools : Pooled cells (openOf p)) (leaves : Pooled l (left (stepsOf t) (openOf p))) (w : Wanted cells l wanted) where
+  -- what is wanted of a pool is the list's use there
+  wants-use : (m : Market) (u : ℕ) → cellAt wanted m u ≡ totalUse m u (stepsOf t) (numbers (stepsOf t) (openOf p))
+  wants-use m u = go (ltb u 16) refl
+    where
+      go : (b : Bool) → ltb u 16 ≡ b → cellAt wanted m u ≡ totalUse m u (stepsOf t) (numbers (stepsOf t) (openOf p))
+      go true f =
+          let a = w .each (cellOf m u) (cell-small m u (ltb-true u 16 f)) in
+          let b = pools .each m u in
+          let c = leaves .each m u ∙ ap (pool m u) (left-spend (stepsOf t) (openOf p)) ∙ pool-spend (λ m u. totalUse m u (stepsOf t) (numbers (stepsOf t) (openOf p))) m u (openOf p) in
+          let d = demand3-accepted p t e .ours .within m u in
+          omega arith
+      go false f =
+          let a = no-cell wanted m u (w .size) (ltb-false u 16 f) in
+          let b = no-cell cells m u (pools .size) (ltb-false u 16 f) in
+          let c = pools .each m u in
+          let d = demand3-accepted p t e .ours .within m u in
+          omega arith
+
+  spend-left : spend (cellAt wanted) (openOf p) ≡ left (stepsOf t) (openOf p)
+  spend-left = spend-same (openOf p) wants-use ∙ sym (left-spend (stepsOf t) (openOf p))
+
+pub booked-accepted : (p : Prompts) (t : Table) (cells l wanted : List ℕ) (first second : List Spreads) (used unused : List Delta) → sound p t ≡ true
+    → Pooled cells (openOf p) → Run cells (spreadsOf t) l first second → Wanted cells l wanted → Spent wanted (openOf p) used unused
+    → Booked p t (record { accepted = true; first = first; second = second; used = used; unused = unused })
+booked-accepted p t cells l wanted first second used unused e pools run w spent =
+    record {
+      accepted = sym e;
+      first = run .firsts ∙ ap (λ (xs : List ℕ). entries 32 (λ k. spreadsEntry xs (2 * k))) formed;
+      second = run .seconds ∙ ap (λ (xs : List ℕ). entries 32 (λ k. spreadsEntry xs (2 * k + 1))) formed;
+      used =
+          spent .useds
+          ∙ ap (λ (ps : List Open). entries 32 (deltaEntry (minus (deltas (openOf p)) (deltas ps)))) paid
+          ∙ ap (λ (b : Bool). entries 32 (deltaEntry (cond b (usedOf (stepsOf t) (openOf p)) []))) (sym e);
+      unused =
+          spent .unuseds
+          ∙ ap (λ (ps : List Open). entries 32 (deltaEntry (deltas ps))) paid
+          ∙ ap (λ (b : Bool). entries 32 (deltaEntry (cond b (unusedOf (stepsOf t) (openOf p)) []))) (sym e);
+    }
+  where
+    formed : numbersIn (stepsOf t) cells ≡ numbersOf p t
+    formed =
+        pooled-numbers (stepsOf t) cells (openOf p) pools
+        ∙ ap (λ (b : Bool). cond b (numbers (stepsOf t) (openOf p)) []) (sym e)
+
+    after-run : Pooled l (left (stepsOf t) (openOf p))
+    after-run = rw (run .leaves) (pooled-left (stepsOf t) cells (openOf p) pools)
+
+    paid : spend (cellAt wanted) (openOf p) ≡ left (stepsOf t) (openOf p)
+    paid = spend-left p t e cells l wanted pools after-run w

@@ -1,0 +1,68 @@
+-- An array of 32 places that a loop fills from the front: what is filled, and nothing beyond it.
+-- Assumes nothing.
+use Prim.Native.Nat.{ℕ, zero, suc, _+_, _≤_, _<_}
+use native.Mathlib.Omega.{arith}
+use mathlib.Core.Path.{_≡_, refl, sym, _∙_, ap, ap₂}
+use mathlib.Core.Bool.{Bool, true, false, cond}
+use mathlib.Core.List.{List, [], _∷_}
+use lib.ListN.{length, getD, set, replicate, length-replicate, length-set}
+use lib.Seq.{getD-set-same, getD-set-other}
+use lib.Dec.{eqb, ltb}
+use borrow.Author.Tests.{eqb-true, eqb-false, lt-ltb, le-ltb, ltb-true, ltb-false}
+use Rattle.spread.specs.Book.{entries}
+
+module _ {ℓ} {A : Type ℓ} where
+  pub entries-at : (n : ℕ) (f : ℕ → A) (k : ℕ) (d : A) → k < n → getD (entries n f) k d ≡ f k
+  unfolding entries
+  entries-at zero f k d h = absurd (omega arith)
+  entries-at (suc n) f zero d h = refl
+  entries-at (suc n) f (suc k) d h = entries-at n (λ k. f (suc k)) k d (omega arith)
+
+  entries-from : (n : ℕ) (f : ℕ → A) (d : A) (l : List A) → length l ≡ n → ((k : ℕ) → k < n → getD l k d ≡ f k) → l ≡ entries n f
+  unfolding entries
+  entries-from zero f d [] e h = refl
+  entries-from zero f d (x ∷ l) e h = absurd (omega arith)
+  entries-from (suc n) f d [] e h = absurd (omega arith)
+  entries-from (suc n) f d (x ∷ l) e h =
+      ap₂ _∷_ (h 0 (omega arith)) (entries-from n (λ k. f (suc k)) d l (omega arith) (λ k g. h (suc k) (omega arith)))
+
+  pub getD-same : (n : ℕ) (z : A) (k : ℕ) → getD (replicate n z) k z ≡ z
+  getD-same zero z k = refl
+  getD-same (suc n) z zero = refl
+  getD-same (suc n) z (suc k) = getD-same n z k
+
+  pub record Filled (z : A) (f : ℕ → A) (i : ℕ) (l : List A) : Type ℓ where
+    pub size : length l ≡ 32
+    pub each : (k : ℕ) → getD l k z ≡ cond (ltb k i) (f k) z
+
+  pub filled-none : (z : A) (f : ℕ → A) → Filled z f 0 (replicate 32 z)
+  filled-none z f =
+      record {
+        size = length-replicate 32 z;
+        each = λ k. getD-same 32 z k ∙ sym (ap (λ (b : Bool). cond b (f k) z) (le-ltb k 0 (omega arith)));
+      }
+
+  pub filled-next : (z : A) (f : ℕ → A) (i : ℕ) (l : List A) (v : A) → Filled z f i l → i < 32 → v ≡ f i → Filled z f (i + 1) (set l i v)
+  filled-next z f i l v h g e = record { size = length-set l i v ∙ h .size; each = λ k. go k (eqb k i) refl }
+    where
+      further : (k : ℕ) (b : Bool) → (k ≡ i → ⊥) → ltb k i ≡ b → ltb k (i + 1) ≡ b
+      further k true d t = lt-ltb k (i + 1) (let s = ltb-true k i t in omega arith)
+      further k false d t = le-ltb k (i + 1) (let s = ltb-false k i t in omega arith)
+
+      go : (k : ℕ) (b : Bool) → eqb k i ≡ b → getD (set l i v) k z ≡ cond (ltb k (i + 1)) (f k) z
+      go k true t =
+          ap (λ (j : ℕ). getD (set l i v) j z) (eqb-true k i t)
+          ∙ getD-set-same l i v z (let s = h .size in omega arith)
+          ∙ e
+          ∙ sym (ap₂ (λ (b : Bool) (j : ℕ). cond b (f j) z) (lt-ltb k (i + 1) (let s = eqb-true k i t in omega arith)) (eqb-true k i t))
+      go k false t =
+          getD-set-other l i k v z (eqb-false k i t)
+          ∙ h .each k
+          ∙ sym (ap (λ (b : Bool). cond b (f k) z) (further k (ltb k i) (eqb-false k i t) refl))
+
+  pub filled-all : (z : A) (f : ℕ → A) (i : ℕ) (l : List A) → Filled z f i l → ((k : ℕ) → i ≤ k → f k ≡ z) → l ≡ entries 32 f
+  filled-all z f i l h beyond = entries-from 32 f z l (h .size) (λ k g. h .each k ∙ go k (ltb k i) refl)
+    where
+      go : (k : ℕ) (b : Bool) → ltb k i ≡ b → cond b (f k) z ≡ f k
+      go k true t = refl
+      go k false t = sym (beyond k (ltb-false k i t))

@@ -1,0 +1,126 @@
+-- The steps of an accepted table can be run: what is asked of its legs is what demand 3 rests on.
+-- Assumes nothing.
+use Prim.Native.Nat.{ℕ}
+use mathlib.Core.Path.{_≡_, refl, sym, _∙_, ap, subst}
+use mathlib.Core.Logic.{_⊎_, inl, inr}
+use mathlib.Core.Bool.{Bool, true, false, cond, not, _&&_, _||_, true≢false, false≢true}
+use mathlib.Core.List.{List, [], _∷_, map}
+use lib.Dec.{eqb, leb, ltb}
+use borrow.Author.Tests.{eqb-true, not-true}
+use Rattle.exact.specs.Lists.{any}
+use Rattle.spread.specs.Steps.{Market, long, short, Taker, taker, legsOf, steps}
+use Rattle.spread.specs.Demand.{sameMarket, draws, soundLegs, soundStep, soundSteps}
+use Rattle.spread.specs.Cells.{marketIn, stepOf}
+use Rattle.spread.specs.Accepted.{spreadsOf, stepsOf, every, soundLeg, sameLeg, soundLegsOf, soundSpread, soundPrompts, soundTable, sound}
+use Rattle.spread.specs.declared.Leg.{Leg}
+use Rattle.spread.specs.declared.Spread.{Spread}
+use Rattle.spread.specs.declared.Table.{Table}
+use Rattle.spread.specs.declared.Prompts.{Prompts}
+use Rattle.spread.proofs.Both.{and-left, and-right, and-both}
+
+-- a side is A or B, and in each step the two take from different sides of the market
+
+sides : (s : ℕ) → eqb s 1 || eqb s 2 ≡ true → (s ≡ 1) ⊎ (s ≡ 2)
+sides s e = go (eqb s 1) refl e
+  where
+    go : (b : Bool) → eqb s 1 ≡ b → b || eqb s 2 ≡ true → (s ≡ 1) ⊎ (s ≡ 2)
+    go true f h = inl (eqb-true s 1 f)
+    go false f h = inr (eqb-true s 2 h)
+
+market-apart : (second : Bool) (a b : ℕ) → (a ≡ 1) ⊎ (a ≡ 2) → (b ≡ 1) ⊎ (b ≡ 2) → eqb a b ≡ false → sameMarket (marketIn second b) (marketIn second a) ≡ false
+market-apart second a b (inl ea) (inl eb) h = absurd (true≢false (rw (ea, eb) at h))
+market-apart true a b (inl ea) (inr eb) h = rw (ea, eb)
+market-apart false a b (inl ea) (inr eb) h = rw (ea, eb)
+market-apart true a b (inr ea) (inl eb) h = rw (ea, eb)
+market-apart false a b (inr ea) (inl eb) h = rw (ea, eb)
+market-apart second a b (inr ea) (inr eb) h = absurd (true≢false (rw (ea, eb) at h))
+
+side-of : (l : Leg) → soundLeg l ≡ true → (l .side ≡ 1) ⊎ (l .side ≡ 2)
+side-of l e =
+    sides (l .side)
+    (and-left (eqb (l .side) 1 || eqb (l .side) 2) (ltb 0 (l .ratio))
+    (and-right (ltb (l .tier) 16) ((eqb (l .side) 1 || eqb (l .side) 2) && ltb 0 (l .ratio)) e))
+
+ratio-of : (l : Leg) → soundLeg l ≡ true → ltb 0 (l .ratio) ≡ true
+ratio-of l e =
+    and-right (eqb (l .side) 1 || eqb (l .side) 2) (ltb 0 (l .ratio))
+    (and-right (ltb (l .tier) 16) ((eqb (l .side) 1 || eqb (l .side) 2) && ltb 0 (l .ratio)) e)
+
+-- what a sound list of legs says of its first and of the others
+
+first-sound : (l : Leg) (ls : List Leg) → soundLegsOf (l ∷ ls) ≡ true → soundLeg l ≡ true
+first-sound l [] e = e
+first-sound l (k ∷ ls) e = and-left (soundLeg l) (not (any (sameLeg l) (k ∷ ls)) && soundLegsOf (k ∷ ls)) e
+
+others-sound : (l k : Leg) (ls : List Leg) → soundLegsOf (l ∷ k ∷ ls) ≡ true → soundLegsOf (k ∷ ls) ≡ true
+others-sound l k ls e =
+    and-right (not (any (sameLeg l) (k ∷ ls))) (soundLegsOf (k ∷ ls))
+    (and-right (soundLeg l) (not (any (sameLeg l) (k ∷ ls)) && soundLegsOf (k ∷ ls)) e)
+
+others-apart : (l k : Leg) (ls : List Leg) → soundLegsOf (l ∷ k ∷ ls) ≡ true → any (sameLeg l) (k ∷ ls) ≡ false
+others-apart l k ls e =
+    not-true (any (sameLeg l) (k ∷ ls))
+    (and-left (not (any (sameLeg l) (k ∷ ls))) (soundLegsOf (k ∷ ls))
+    (and-right (soundLeg l) (not (any (sameLeg l) (k ∷ ls)) && soundLegsOf (k ∷ ls)) e))
+
+or-left : (a b : Bool) → a || b ≡ false → a ≡ false
+or-left true b e = e
+or-left false b e = refl
+
+or-right : (a b : Bool) → a || b ≡ false → b ≡ false
+or-right true b e = absurd (true≢false e)
+or-right false b e = e
+
+neither : (a b : Bool) → a ≡ false → b ≡ false → a || b ≡ false
+neither true b e f = absurd (true≢false e)
+neither false b e f = f
+
+module _ (second : Bool) where
+  leg-apart : (l k : Leg) → soundLeg l ≡ true → soundLeg k ≡ true → sameLeg l k ≡ false → draws (marketIn second (l .side)) (l .tier) (taker (marketIn second) k) ≡ false
+  leg-apart l k sl sk h = go (eqb (l .tier) (k .tier)) h
+    where
+      none : (b : Bool) → b && false ≡ false
+      none true = refl
+      none false = refl
+
+      go : (b : Bool) → b && eqb (l .side) (k .side) ≡ false → sameMarket (marketIn second (k .side)) (marketIn second (l .side)) && b ≡ false
+      go true f = rw (market-apart second (l .side) (k .side) (side-of l sl) (side-of k sk) f)
+      go false f = none (sameMarket (marketIn second (k .side)) (marketIn second (l .side)))
+
+  none-drawn : (l : Leg) (ls : List Leg) → soundLeg l ≡ true → soundLegsOf ls ≡ true → any (sameLeg l) ls ≡ false
+      → any (draws (marketIn second (l .side)) (l .tier)) (map (taker (marketIn second)) ls) ≡ false
+  none-drawn l [] sl ss h = refl
+  none-drawn l (k ∷ []) sl ss h = neither _ false (leg-apart l k sl ss (or-left (sameLeg l k) false h)) refl
+  none-drawn l (k ∷ j ∷ ls) sl ss h =
+      neither (draws (marketIn second (l .side)) (l .tier) (taker (marketIn second) k))
+      (any (draws (marketIn second (l .side)) (l .tier)) (map (taker (marketIn second)) (j ∷ ls)))
+      (leg-apart l k sl (first-sound k (j ∷ ls) ss) (or-left (sameLeg l k) (any (sameLeg l) (j ∷ ls)) h))
+      (none-drawn l (j ∷ ls) sl (others-sound k j ls ss) (or-right (sameLeg l k) (any (sameLeg l) (j ∷ ls)) h))
+
+  legs-sound : (l : Leg) (ls : List Leg) → soundLegsOf (l ∷ ls) ≡ true → soundLegs (map (taker (marketIn second)) (l ∷ ls)) ≡ true
+  legs-sound l [] e = rw (ratio-of l e)
+  legs-sound l (k ∷ ls) e =
+      rw (
+        ratio-of l (first-sound l (k ∷ ls) e),
+        none-drawn l (k ∷ ls) (first-sound l (k ∷ ls) e) (others-sound l k ls e) (others-apart l k ls e),
+      ) (legs-sound k ls (others-sound l k ls e))
+
+  step-sound : (ls : List Leg) → soundLegsOf ls ≡ true → soundStep (map (taker (marketIn second)) ls) ≡ true
+  step-sound [] e = e
+  step-sound (l ∷ ls) e = legs-sound l ls e
+
+spread-sound : (second : Bool) (s : Spread) → soundSpread s ≡ true → soundStep (stepOf second s) ≡ true
+spread-sound second s e = step-sound second (legsOf s) (and-right (eqb (s .legs) 2 || eqb (s .legs) 3) (soundLegsOf (legsOf s)) e)
+
+steps-sound : (ss : List Spread) → every soundSpread ss ≡ true → soundSteps (steps ss) ≡ true
+steps-sound [] e = refl
+steps-sound (s ∷ ss) e =
+    let here = and-left (soundSpread s) (every soundSpread ss) e in
+    and-both (soundStep (stepOf false s)) (soundStep (stepOf true s) && soundSteps (steps ss)) (spread-sound false s here)
+    (and-both (soundStep (stepOf true s)) (soundSteps (steps ss)) (spread-sound true s here)
+    (steps-sound ss (and-right (soundSpread s) (every soundSpread ss) e)))
+
+pub table-sound : (p : Prompts) (t : Table) → sound p t ≡ true → soundSteps (stepsOf t) ≡ true
+table-sound p t e =
+    steps-sound (spreadsOf t)
+    (and-right (leb (t .count) 32) (every soundSpread (spreadsOf t)) (and-right (soundPrompts p) (soundTable t) e))

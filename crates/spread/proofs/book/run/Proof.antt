@@ -1,0 +1,108 @@
+use Rattle.spread.proofs.Running.{table-length, table-next}
+use Rattle.spread.proofs.Running.{Running, running-none, running-next, running-all}
+use Rattle.spread.specs.declared.Spread.{Spread}
+use Rattle.spread.specs.Cells.{stepOf, Taken}
+use Rattle.spread.specs.Accepted.{spreadsOf}
+use lib.Seq.{length-take-le, getD-take}
+use lib.ListN.{length, length-map, getD, set, take}
+use borrow.Author.Needs.{needs}
+use native.Mathlib.Omega.{arith}
+use Prim.Native.Nat.{ℕ, _+_, _-_, _≤_, _<_}
+use mathlib.Core.List.{List}
+use mathlib.Core.Bool.{Bool, true, false, cond}
+use mathlib.Core.Path.{_≡_, refl, sym, _∙_, ap, ap₂, subst}
+use Rattle.spread.proofs.book.run.Statement.{statement}
+use Rattle.spread.proofs.book.run.Tie as tie
+use Rattle.spread.proofs.book.run.Reads as reads
+use Rattle.spread.proofs.book.run.Lts as lts
+use Rattle.spread.proofs.pools.Pools.take.Reads as take-reads
+
+abbrev Inv-loop : tie.InvT-loop
+Inv-loop table n left₀ first₀ second₀ i₀ left first second i = (i ≤ n) × Running (left₀ .cell) (spreadsOf table) i (left .cell) first second
+
+abbrev μ-loop : tie.MeasureT-loop
+μ-loop table n left₀ first₀ second₀ i₀ left first second i = n - i
+
+-- src/book.rt:81:5
+loop-holds : tie.Need-loop-holds Inv-loop μ-loop
+loop-holds c = (omega arith, running-none (c .args .pools .cell) (spreadsOf (c .args .t2)))
+
+-- src/book.rt:82:22
+mul-spread : tie.Need-mul-spread Inv-loop μ-loop
+mul-spread c = omega arith
+
+-- src/book.rt:82:22
+element-copy-out-spread : tie.Need-element-copy-out-spread Inv-loop μ-loop
+element-copy-out-spread c = omega arith
+
+-- src/book.rt:83:13
+take-requires : tie.Need-take-requires Inv-loop μ-loop
+take-requires c κs = search needs
+
+-- src/book.rt:85:13
+take-requires-2 : tie.Need-take-requires-2 Inv-loop μ-loop
+take-requires-2 c κs = search needs
+
+-- src/book.rt:88:9
+mul-first : tie.Need-mul-first Inv-loop μ-loop
+mul-first c = omega arith
+
+-- src/book.rt:88:9
+array-set-from-first : tie.Need-array-set-from-first Inv-loop μ-loop
+array-set-from-first c = omega arith
+
+-- src/book.rt:89:9
+mul-second : tie.Need-mul-second Inv-loop μ-loop
+mul-second c = omega arith
+
+-- src/book.rt:89:9
+array-set-from-second : tie.Need-array-set-from-second Inv-loop μ-loop
+array-set-from-second c = omega arith
+
+-- src/book.rt:91:9
+add-i : tie.Need-add-i Inv-loop μ-loop
+add-i c = omega arith
+
+-- src/book.rt:81:5
+loop-less : tie.Need-loop-less Inv-loop μ-loop
+loop-less c = omega arith
+
+-- src/book.rt:81:5
+loop-again : tie.Need-loop-again Inv-loop μ-loop
+loop-again c = let s = c .before .before .before .before .before .before .before .before .before in
+    let t = s .args .t2 in
+    let l = c .before .before .before .before .before .before .before .before .loop in
+    let len : length (t .spread) ≡ 32 = sym (length-map (t .spread) _) ∙ s .good .1 .0 .1 .1 .1 .0 .1 .0 .1 in (
+      omega arith,
+      table-next t (s .args .pools .cell) (l .i) (l .left .cell) _ _ (l .first) (l .second) _ _ _ len (s .pre) (c .before .before .before .before .before .before .before .loop-test .taken)
+          (c .before .before .before .before .before .take .ensures) (c .before .before .before .take2 .ensures) (l .inv .1),
+    )
+
+-- src/book.rt:72:1
+returns : tie.Need-returns Inv-loop μ-loop
+returns c = let s = c .before .before in
+    let t = s .args .t2 in
+    let l = c .before .loop in
+    let len : length (t .spread) ≡ 32 = sym (length-map (t .spread) _) ∙ s .good .1 .0 .1 .1 .1 .0 .1 .0 .1 in
+    let n = table-length t len (s .pre) in
+    running-all (s .args .pools .cell) (spreadsOf t) (l .i) (l .left .cell) (l .first) (l .second) (omega arith) (l .inv .1)
+
+pub run-spec : {M : Type 1} → statement M
+run-spec =
+    tie.close
+    (tie.spec
+    Inv-loop
+    μ-loop
+    loop-holds
+    mul-spread
+    element-copy-out-spread
+    take-requires
+    take-requires-2
+    mul-first
+    array-set-from-first
+    mul-second
+    array-set-from-second
+    add-i
+    loop-less
+    loop-again
+    returns)

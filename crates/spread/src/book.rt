@@ -1,0 +1,204 @@
+// The delta book of a table of spreads: each step's number, and used and unused at each prompt.
+use crate::Delta;
+use crate::Prompts;
+use crate::Spreads;
+use crate::Table;
+use crate::accepted::accepted;
+use crate::deltas::sized;
+use crate::pools::Pools;
+use crate::pools::cell_of;
+use crate::pools::lesser;
+ghost use mathlib.Core.Path.{_≡_};
+ghost use mathlib.Core.Bool.{true};
+ghost use Prim.Native.Nat.{ℕ, _+_, _-_, _≤_, _<_, _^_};
+ghost use lib.ListN.{getD, set};
+ghost use lib.IntN.{natAbs};
+ghost use Rattle.spread.specs.Steps.{towardsZero};
+ghost use Rattle.spread.specs.Deltas.{part};
+ghost use Rattle.spread.specs.Accepted.{openOf, spreadsOf, soundPrompts, sound};
+ghost use Rattle.spread.specs.Cells.{Pooled};
+ghost use Rattle.spread.specs.Book.{Booked, Refused, Run, Wanted, Spent};
+
+// Spread k formed first[k] in its first step and second[k] in its second; used[k] and unused[k] are the parts of prompt k's
+// net delta. All are zero beyond the spreads and prompts given, and where these are not accepted.
+pub struct Book {
+    pub accepted: bool,
+    pub first: [Spreads; 32],
+    pub second: [Spreads; 32],
+    pub used: [Delta; 32],
+    pub unused: [Delta; 32],
+}
+
+// All steps run: the pools left, and the numbers formed.
+struct Ran {
+    left: Pools,
+    first: [Spreads; 32],
+    second: [Spreads; 32],
+}
+
+// The two parts of one net delta, or of each prompt's.
+struct Parts {
+    used: Delta,
+    unused: Delta,
+}
+
+struct Paid {
+    used: [Delta; 32],
+    unused: [Delta; 32],
+}
+
+// A pool with a net delta added to it.
+fn grown(pools: Pools, cell: usize, size: u64) -> Pools
+    requires { ⌜ getD (pools .cell) cell 0 + size < 2 ^ 64 ⌝ }
+    ensures { λ r. ⌜ r .cell ≡ set (pools .cell) cell (getD (pools .cell) cell 0 + size) ⌝ }
+{
+    pools.with(cell, pools.at(cell) + size)
+}
+
+// "A tier's long pool is the sum of its positive unused deltas, its short pool that of its negative ones".
+fn pools_of(prompts: Prompts) -> Pools
+    requires { ⌜ soundPrompts prompts ≡ true ⌝ }
+    ensures { λ r. ⌜ Pooled (r .cell) (openOf prompts) ⌝ }
+{
+    let n = prompts.count;
+    let mut pools = Pools::none();
+    let mut i = 0;
+    while i < n {
+        let net = prompts.net[i];
+        let cell = cell_of(prompts.tier[i], net.is_short());
+        let more = grown(pools, cell, net.size());
+        pools = more;
+        i += 1;
+    }
+    pools
+}
+
+// "Each spread, in file order, is two steps".
+fn run(pools: Pools, table: Table) -> Ran
+    requires { ⌜ table .count ≤ 32 ⌝ }
+    ensures { λ r. ⌜ Run (pools .cell) (spreadsOf table) (r .left .cell) (r .first) (r .second) ⌝ }
+{
+    let n = table.count;
+    let mut left = pools;
+    let mut first = [Spreads(0); 32];
+    let mut second = [Spreads(0); 32];
+    let mut i = 0;
+    while i < n {
+        let spread = table.spread[i];
+        let one = left.take(spread, false);
+        let between = one.left;
+        let two = between.take(spread, true);
+        let formed = one.number;
+        let reverse = two.number;
+        first[i] = formed;
+        second[i] = reverse;
+        left = two.left;
+        i += 1;
+    }
+    Ran {
+        left: left,
+        first: first,
+        second: second,
+    }
+}
+
+// What is beyond b.
+fn beyond(a: u64, b: u64) -> u64
+    ensures { λ r. ⌜ r ≡ a - b ⌝ }
+{
+    if b < a { a - b } else { 0 }
+}
+
+// What the steps used of each pool.
+fn used_of(pools: Pools, left: Pools) -> Pools
+    ensures { λ r. ⌜ Wanted (pools .cell) (left .cell) (r .cell) ⌝ }
+{
+    let mut used = Pools::none();
+    let mut k = 0;
+    while k < 32 {
+        let next = used.with(k, beyond(pools.at(k), left.at(k)));
+        used = next;
+        k += 1;
+    }
+    used
+}
+
+// A net delta of which so much is wanted: no prompt goes past zero.
+fn parts_of(net: Delta, wanted: u64) -> Parts
+    requires { ⌜ natAbs (net .0) < 2 ^ 63 ⌝ }
+    ensures { λ r. ⌜ (r .used .0 ≡ part (net .0) wanted) × (r .unused .0 ≡ towardsZero (net .0) wanted) ⌝ }
+{
+    let short = net.is_short();
+    let size = net.size();
+    let taken = lesser(wanted, size);
+    let used = sized(short, taken);
+    let unused = sized(short, size - taken);
+    Parts {
+        used: used,
+        unused: unused,
+    }
+}
+
+// "from the prompts of its tier on that side, earliest day first"
+fn paid_by(prompts: Prompts, wanted: Pools) -> Paid
+    requires { ⌜ soundPrompts prompts ≡ true ⌝ }
+    ensures { λ r. ⌜ Spent (wanted .cell) (openOf prompts) (r .used) (r .unused) ⌝ }
+{
+    let n = prompts.count;
+    let mut left = wanted;
+    let mut used = [Delta(0); 32];
+    let mut unused = [Delta(0); 32];
+    let mut i = 0;
+    while i < n {
+        let net = prompts.net[i];
+        let cell = cell_of(prompts.tier[i], net.is_short());
+        let parts = parts_of(net, left.at(cell));
+        let taken = parts.used;
+        let kept = parts.unused;
+        used[i] = taken;
+        unused[i] = kept;
+        let rest = left.with(cell, beyond(left.at(cell), net.size()));
+        left = rest;
+        i += 1;
+    }
+    Paid {
+        used: used,
+        unused: unused,
+    }
+}
+
+fn refused() -> Book
+    ensures { λ r. ⌜ Refused r ⌝ }
+{
+    Book {
+        accepted: false,
+        first: [Spreads(0); 32],
+        second: [Spreads(0); 32],
+        used: [Delta(0); 32],
+        unused: [Delta(0); 32],
+    }
+}
+
+// The run over a table: pools, all steps on them, then one spend over the prompts.
+pub fn delta_book(prompts: Prompts, table: Table) -> Book
+    ensures { λ r. ⌜ Booked prompts table r ⌝ }
+{
+    if !accepted(prompts, table) {
+        return refused();
+    }
+    let pools = pools_of(prompts);
+    let ran = run(pools, table);
+    let left = ran.left;
+    let paid = paid_by(prompts, used_of(pools, left));
+    let first = ran.first;
+    let second = ran.second;
+    let used = paid.used;
+    let unused = paid.unused;
+    Book {
+        accepted: true,
+        first: first,
+        second: second,
+        used: used,
+        unused: unused,
+    }
+}

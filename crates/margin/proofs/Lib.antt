@@ -11,3 +11,5 @@ pub mod AddedLaws
 pub mod PositionLaws
 pub mod PositionBounds
 pub mod NetLaws
+pub mod StepBounds
+pub mod BookLaws

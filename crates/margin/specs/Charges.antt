@@ -14,13 +14,15 @@ charged amount = halfUp amount 10000
 abbrev pub spreadCharge : ℕ → ℕ → ℕ → ℕ
 spreadCharge rate first second = charged ((first + second) * rate)
 
--- over a contract's spreads, each with the numbers of its two steps
+-- over a table of spreads, each with the numbers of its two steps
+abbrev pub overSteps : (Record → ℕ → ℕ → ℕ) → List Record → List ℕ → ℕ
+overSteps amount [] numbers = 0
+overSteps amount (s ∷ ss) [] = 0
+overSteps amount (s ∷ ss) (first ∷ []) = 0
+overSteps amount (s ∷ ss) (first ∷ second ∷ numbers) = amount s first second + overSteps amount ss numbers
+
 abbrev pub interpromptCharge : List Record → List ℕ → ℕ
-interpromptCharge [] numbers = 0
-interpromptCharge (s ∷ ss) [] = 0
-interpromptCharge (s ∷ ss) (first ∷ []) = 0
-interpromptCharge (s ∷ ss) (first ∷ second ∷ numbers) =
-    spreadCharge (ratePerSpread s) first second + interpromptCharge ss numbers
+interpromptCharge = overSteps (λ s. spreadCharge (ratePerSpread s))
 
 -- "A prompt's charge is (|used| × first rate + |unused| × second rate) / 10,000."
 abbrev pub promptCharge : ℕ → ℕ → ℤ → ℤ → ℕ

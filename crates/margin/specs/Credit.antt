@@ -10,6 +10,7 @@ use Rattle.exact.specs.Rounding.{halfUp}
 use Rattle.record.specs.Layout.{Record, contract, secondContract, percent, firstRatio, secondRatio}
 use Rattle.spread.specs.Steps.{Open, Market, long, short, pool, steps, left}
 use Rattle.exact.specs.Signed.{orZero}
+use Rattle.margin.specs.Charges.{overSteps}
 use Rattle.margin.specs.Scanning.{activeScenario}
 use Rattle.margin.specs.Pairs.{pairOf}
 use Rattle.margin.specs.Deltas.{intercontract}
@@ -55,8 +56,5 @@ entryUse c e first second =
     (cond (eqb c (secondContract e)) ((first + second) * secondRatio e) 0)
 
 abbrev pub creditsBy : ℕ → ℕ → ℕ → List Record → List ℕ → ℕ
-creditsBy c twiceRisk net [] numbers = 0
-creditsBy c twiceRisk net (e ∷ es) [] = 0
-creditsBy c twiceRisk net (e ∷ es) (first ∷ []) = 0
-creditsBy c twiceRisk net (e ∷ es) (first ∷ second ∷ numbers) =
-    credit twiceRisk (entryUse c e first second) (percent e) net + creditsBy c twiceRisk net es numbers
+creditsBy c twiceRisk net =
+    overSteps (λ e first second. credit twiceRisk (entryUse c e first second) (percent e) net)

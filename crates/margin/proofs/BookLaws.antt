@@ -5,16 +5,31 @@ use native.Mathlib.Nat.{le-of-suc-le-suc, not-suc-le-zero, le-trans}
 use native.Mathlib.Numerals.{add-one}
 use native.Mathlib.Omega.{arith}
 use mathlib.Core.Path.{_≡_, refl, sym, ap, ap₂, _∙_, subst, subst⁻¹}
-use mathlib.Core.Bool.{Bool, true, false, cond}
+use mathlib.Core.Bool.{Bool, true, false, cond, _&&_}
 use mathlib.Core.List.{List, [], _∷_, _++_, map}
 use lib.IntN.{ℤ, pos, natAbs}
 use lib.ListN.{length, getD, take}
-use Rattle.record.specs.Layout.{Record, spreadRate, outrightRate}
-use Rattle.spread.specs.Book.{entries, spreadsEntry, deltaEntry}
+use borrow.Author.Tests.{le-leb}
+use lib.Dec.{leb}
+use Rattle.record.specs.Layout.{Record, tier, spreadRate, outrightRate}
+use Rattle.account.specs.Records.{records}
+use Rattle.spread.specs.Accepted as given
+use Rattle.spread.specs.Accepted.{every, soundPrompt, soundSpread}
+use Rattle.spread.specs.Steps.{Open, Taker, steps, numbers, usedOf, unusedOf}
+use Rattle.spread.specs.declared.Spread.{Spread}
+use Rattle.spread.specs.declared.Table.{Table}
+use Rattle.spread.specs.declared.Prompts.{Prompts}
+use Rattle.spread.specs.declared.book.Book.{Book}
+use Rattle.spread.proofs.Both.{and-both}
+use Rattle.spread.specs.Book.{entries, spreadsEntry, deltaEntry, Booked, numbersOf, usedIn, unusedIn}
 use Rattle.spread.specs.declared.Spreads.{Spreads}
 use Rattle.spread.specs.declared.Delta.{Delta}
 use Rattle.margin.specs.Charges.{overSteps, promptCharge, promptCharges}
+use Rattle.margin.specs.Deltas.{opens, interprompt}
+use Rattle.margin.specs.Promised.{BookOf, BookRoom}
 use Rattle.margin.specs.Sums.{interleaved, deltasIn}
+use Rattle.margin.specs.Tables.{TiersOf, TableOf}
+use Rattle.margin.proofs.RecordLaws.{count-is}
 
 entries-same : {A : Type 0} (n : ℕ) (f g : ℕ → A) → ((k : ℕ) → f k ≡ g k) → entries n f ≡ entries n g
 unfolding entries
@@ -67,3 +82,51 @@ prompts-arrays (r ∷ rs) (u ∷ used) [] (suc n) e g h = absurd (omega arith)
 prompts-arrays (r ∷ rs) (u ∷ used) (v ∷ unused) (suc n) e g h =
     ap₂ (λ (xs ys : List Delta). promptCharges (r ∷ rs) (deltasIn xs) (deltasIn ys)) (deltas-next n u used) (deltas-next n v unused)
     ∙ ap (λ (x : ℕ). promptCharge (spreadRate r) (outrightRate r) u v + x) (prompts-arrays rs used unused n (omega arith) (omega arith) (le-of-suc-le-suc h))
+
+-- ---- what the spread steps are handed is what the definitions speak of
+
+open-first : (n : ℕ) (ts : List ℕ) (ds : List Delta) → take n (given.opens ts ds) ≡ given.opens (take n ts) ds
+open-first zero ts ds = refl
+open-first (suc n) [] ds = refl
+open-first (suc n) (t ∷ ts) [] = refl
+open-first (suc n) (t ∷ ts) (d ∷ ds) = ap (λ (ps : List Open). record { tier = t; unused = d .0 } ∷ ps) (open-first n ts ds)
+
+open-records : (rs : List Record) (ds : List Delta) → given.opens (map tier rs) ds ≡ opens rs (deltasIn ds)
+open-records [] ds = refl
+open-records (r ∷ rs) [] = refl
+open-records (r ∷ rs) (d ∷ ds) = ap (λ (ps : List Open). record { tier = tier r; unused = d .0 } ∷ ps) (open-records rs ds)
+
+pub opens-are : (part : List ℕ) (ds : List Delta) (p : Prompts) → TiersOf part ds p → given.openOf p ≡ opens (records part) (deltasIn ds)
+opens-are part ds p is =
+    open-first (p .count) (p .tier) (p .net)
+    ∙ ap₂ given.opens (is .tiers-are) (is .nets-are)
+    ∙ open-records (records part) ds
+
+-- a book of accepted prompts and spreads
+pub book-accepted : (ss : List (List Taker)) (ps : List Open) (p : Prompts) (t : Table) (b : Book) → given.openOf p ≡ ps → given.stepsOf t ≡ ss → given.sound p t ≡ true → Booked p t b → BookOf ss ps b
+book-accepted ss ps p t b eo es sound is =
+    let n : numbersOf p t ≡ numbers ss ps = ap (λ (x : Bool). cond x (numbers (given.stepsOf t) (given.openOf p)) []) sound ∙ ap₂ numbers es eo in
+    let u : usedIn p t ≡ usedOf ss ps = ap (λ (x : Bool). cond x (usedOf (given.stepsOf t) (given.openOf p)) []) sound ∙ ap₂ usedOf es eo in
+    let l : unusedIn p t ≡ unusedOf ss ps = ap (λ (x : Bool). cond x (unusedOf (given.stepsOf t) (given.openOf p)) []) sound ∙ ap₂ unusedOf es eo in
+    record {
+      first-is = is .first ∙ ap (λ (xs : List ℕ). entries 32 (λ k. spreadsEntry xs (2 * k))) n;
+      second-is = is .second ∙ ap (λ (xs : List ℕ). entries 32 (λ k. spreadsEntry xs (2 * k + 1))) n;
+      used-is = is .used ∙ ap (λ (xs : List ℤ). entries 32 (deltaEntry xs)) u;
+      unused-is = is .unused ∙ ap (λ (xs : List ℤ). entries 32 (deltaEntry xs)) l;
+    }
+
+pub handed-sound : (p : Prompts) (t : Table) (ps : List Open) (spreads : List Spread) → given.openOf p ≡ ps → given.spreadsOf t ≡ spreads → p .count ≤ 32 → t .count ≤ 32
+    → every soundPrompt ps ≡ true → every soundSpread spreads ≡ true → given.sound p t ≡ true
+handed-sound p t ps spreads eo es np nt hp ht =
+    and-both (leb (p .count) 32 && every soundPrompt (given.openOf p)) (leb (t .count) 32 && every soundSpread (given.spreadsOf t))
+    (and-both (leb (p .count) 32) (every soundPrompt (given.openOf p)) (le-leb (p .count) 32 np) (ap (every soundPrompt) eo ∙ hp))
+    (and-both (leb (t .count) 32) (every soundSpread (given.spreadsOf t)) (le-leb (t .count) 32 nt) (ap (every soundSpread) es ∙ ht))
+
+pub contract-book-is : (part spreads : List ℕ) (ds : List Delta) (p : Prompts) (t : Table) (b : Book) → TiersOf part ds p → TableOf interprompt spreads t → BookRoom (records part) (deltasIn ds) (records spreads) → Booked p t b
+    → BookOf (steps (map interprompt (records spreads))) (opens (records part) (deltasIn ds)) b
+contract-book-is part spreads ds p t b tiers table room is =
+    let eo = opens-are part ds p tiers in
+    book-accepted (steps (map interprompt (records spreads))) (opens (records part) (deltasIn ds)) p t b eo (ap steps (table .spreads-are))
+    (handed-sound p t (opens (records part) (deltasIn ds)) (map interprompt (records spreads)) eo (table .spreads-are)
+    (omega (arith, tiers .count-is, room .few-prompts, count-is part)) (omega (arith, table .count-is, room .few-spreads, count-is spreads)) (room .prompts-sound) (room .spreads-sound))
+    is

@@ -15,13 +15,8 @@ use Rattle.spread.specs.Demand.{totalUse, soundSteps}
 use Rattle.spread.proofs.Demand3.{demand3}
 use Rattle.spread.proofs.Spending.{left-spend, pool-spend}
 use Rattle.margin.specs.Deltas.{intercontract}
+use Rattle.margin.specs.Within.{EntryWithin, EntriesWithin}
 use Rattle.margin.specs.Credit.{credit, credits, creditsBy, unusedBy, usedIn, afterEntry, entryUse}
-
--- an entry as the check leaves it: between two contracts, no ratio 0
-pub record EntryWithin (e : Record) : Type 0 where
-  pub apart : contract e ≡ secondContract e → ⊥
-  pub first-ratio : 0 < firstRatio e
-  pub second-ratio : 0 < secondRatio e
 
 abbrev entrySteps : Record → List (List Taker)
 entrySteps e = steps (intercontract e ∷ [])
@@ -85,16 +80,12 @@ left-within c e ps w =
     let ps′ = pool-left short c e ps in
     omega arith
 
--- all entries of a table within their ranges
-abbrev pub EntriesWithin : List Record → Type 0
-EntriesWithin es = (k : ℕ) → k < length es → EntryWithin (getD es k [])
-
 rest-within : (e : Record) (es : List Record) → EntriesWithin (e ∷ es) → EntriesWithin es
-rest-within e es w k h = w (suc k) (suc-le-suc h)
+rest-within e es w = record { few = omega (arith, w .few); each = λ k h. w .each (suc k) (suc-le-suc h) }
 
 pub credits-by : (c twice net : ℕ) (es : List Record) (ps : List Open) → EntriesWithin es
     → credits c twice net es ps ≡ creditsBy c twice net es (numbers (steps (map intercontract es)) ps)
 credits-by c twice net [] ps w = refl
 credits-by c twice net (e ∷ es) ps w =
-    ap₂ _+_ (ap (λ (u : ℕ). credit twice u (percent e) net) (used-in c e ps (w 0 (suc-le-suc zero-le))))
+    ap₂ _+_ (ap (λ (u : ℕ). credit twice u (percent e) net) (used-in c e ps (w .each 0 (suc-le-suc zero-le))))
     (credits-by c twice net es (afterEntry e ps) (rest-within e es w))

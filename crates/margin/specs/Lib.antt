@@ -16,3 +16,5 @@ pub mod Sums
 pub mod Tables
 pub mod Position
 pub mod Lines
+pub mod Within
+pub mod Promised

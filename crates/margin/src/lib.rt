@@ -1,5 +1,6 @@
 // Margin from an account: figures and delta books.
 pub mod amount;
+mod books;
 mod charges;
 pub mod line;
 pub mod pairs;

@@ -1,0 +1,47 @@
+-- What the functions over a contract promise.
+-- Assumes nothing.
+use Prim.Native.Nat.{ℕ, _+_, _*_, _≤_, _<_}
+use mathlib.Core.Path.{_≡_}
+use mathlib.Core.Bool.{true}
+use mathlib.Core.List.{List, [], _∷_, map}
+use lib.IntN.{ℤ, natAbs}
+use lib.ListN.{length}
+use Rattle.record.specs.Layout.{Record, contract}
+use Rattle.spread.specs.Steps.{Open, Taker, numbers, usedOf, unusedOf}
+use Rattle.spread.specs.Accepted.{every, soundPrompt, soundSpread}
+use Rattle.spread.specs.Book.{entries, spreadsEntry, deltaEntry}
+use Rattle.spread.specs.declared.book.Book.{Book}
+use Rattle.margin.specs.declared.line.Line.{Line}
+use Rattle.margin.specs.Bounds.{mostDelta, mostRisk}
+use Rattle.margin.specs.Contract.{Contract, activeOf, scanningOf, interpromptOf, promptOf, minimumOf, contractNet}
+use Rattle.margin.specs.Deltas.{opens, interprompt}
+use Rattle.margin.specs.Credit.{twicePriceRisk}
+use Rattle.margin.specs.Lines.{LineWithin}
+
+-- the book of steps over prompts, place by place, and zeros beyond
+pub record BookOf (ss : List (List Taker)) (ps : List Open) (b : Book) : Type 0 where
+  pub first-is : b .first ≡ entries 32 (λ k. spreadsEntry (numbers ss ps) (2 * k))
+  pub second-is : b .second ≡ entries 32 (λ k. spreadsEntry (numbers ss ps) (2 * k + 1))
+  pub used-is : b .used ≡ entries 32 (deltaEntry (usedOf ss ps))
+  pub unused-is : b .unused ≡ entries 32 (deltaEntry (unusedOf ss ps))
+
+-- prompts and spreads that the spread steps accept
+pub record BookRoom (prompts : List Record) (nets : List ℤ) (spreads : List Record) : Type 0 where
+  pub few-prompts : length prompts ≤ 32
+  pub few-spreads : length spreads ≤ 32
+  pub prompts-sound : every soundPrompt (opens prompts nets) ≡ true
+  pub spreads-sound : every soundSpread (map interprompt spreads) ≡ true
+
+-- a contract's line
+pub record LineOf (k : Contract) (l : Line) : Type 0 where
+  pub contract-is : l .contract ≡ contract (k .own)
+  pub active-is : l .active ≡ activeOf k
+  pub scanning-is : l .scanning .0 ≡ scanningOf k
+  pub interprompt-is : l .interprompt .0 ≡ interpromptOf k
+  pub prompt-is : l .prompt .0 ≡ promptOf k
+  pub minimum-is : l .minimum .0 ≡ minimumOf k
+  pub price-is : l .«twice_price» ≡ twicePriceRisk (k .totals)
+  pub net-is : l .net .0 ≡ contractNet k
+  pub within : LineWithin l
+  pub price-within : l .«twice_price» ≤ 4 * mostRisk
+  pub net-within : natAbs (l .net .0) ≤ mostDelta

@@ -1,0 +1,44 @@
+-- A contract's records as the check leaves them: what the figures and books rest on.
+-- Assumes nothing.
+use Prim.Native.Nat.{ℕ, _≤_, _<_}
+use mathlib.Core.Path.{_≡_}
+use mathlib.Core.Bool.{true}
+use mathlib.Core.List.{List, []}
+use lib.ListN.{length, getD}
+use Rattle.record.specs.Layout.{Record, contract, shortOptionRate, tier, spreadRate, outrightRate, ratePerSpread, secondContract, percent, firstRatio, secondRatio}
+use Rattle.spread.specs.Accepted.{soundSpread}
+use Rattle.margin.specs.Bounds.{mostRate}
+use Rattle.margin.specs.Deltas.{interprompt, intercontract}
+use Rattle.margin.specs.Position.{Within, Rising}
+
+pub record PromptWithin (p : Record) : Type 0 where
+  pub tier-within : tier p < 16
+  pub spread-rate : spreadRate p ≤ mostRate
+  pub outright-rate : outrightRate p ≤ mostRate
+
+pub record SpreadWithin (s : Record) : Type 0 where
+  pub rate : ratePerSpread s ≤ mostRate
+  pub sound : soundSpread (interprompt s) ≡ true
+
+pub record ContractWithin (own : Record) (prompts rows spreads : List Record) : Type 0 where
+  pub number : contract own ≤ 15
+  pub rate : shortOptionRate own ≤ mostRate
+  pub few-prompts : length prompts ≤ 32
+  pub few-spreads : length spreads ≤ 32
+  pub each-prompt : (k : ℕ) → k < length prompts → PromptWithin (getD prompts k [])
+  pub rising : Rising prompts
+  pub rows-within : Within rows
+  pub each-spread : (k : ℕ) → k < length spreads → SpreadWithin (getD spreads k [])
+
+-- an entry of the intercontract table
+pub record EntryWithin (e : Record) : Type 0 where
+  pub apart : contract e ≡ secondContract e → ⊥
+  pub first-number : contract e ≤ 15
+  pub second-number : secondContract e ≤ 15
+  pub first-ratio : 0 < firstRatio e
+  pub second-ratio : 0 < secondRatio e
+  pub percent-within : percent e ≤ 100
+
+pub record EntriesWithin (entries : List Record) : Type 0 where
+  pub few : length entries ≤ 32
+  pub each : (k : ℕ) → k < length entries → EntryWithin (getD entries k [])

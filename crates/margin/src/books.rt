@@ -1,0 +1,25 @@
+// The delta book of a contract, and of the intercontract table, by the spread steps.
+use crate::tables::interprompt_table;
+use crate::tables::prompts_with;
+use spread::Delta;
+use spread::book::Book;
+use spread::book::delta_book;
+ghost use mathlib.Core.Path.{_≡_};
+ghost use mathlib.Core.Bool.{true};
+ghost use mathlib.Core.List.{map};
+ghost use Prim.Native.Nat.{_≤_};
+ghost use lib.ListN.{length, take};
+ghost use Rattle.account.specs.Records.{records};
+ghost use Rattle.spread.specs.Accepted.{every, soundPrompt, soundSpread};
+ghost use Rattle.spread.specs.Steps.{steps};
+ghost use Rattle.margin.specs.Deltas.{opens, interprompt};
+ghost use Rattle.margin.specs.Sums.{deltasIn};
+ghost use Rattle.margin.specs.Promised.{BookOf, BookRoom};
+
+// The book of a contract's interprompt spreads, over its prompts and their net deltas.
+pub(crate) fn contract_book(prompts: &[u8], nets: [Delta; 32], spreads: &[u8]) -> Book
+    requires { ⌜ BookRoom (records (now prompts)) (deltasIn nets) (records (now spreads)) ⌝ }
+    ensures { λ r. ⌜ BookOf (steps (map interprompt (records (now (spreads .entry))))) (opens (records (now (prompts .entry))) (deltasIn nets)) r ⌝ }
+{
+    delta_book(prompts_with(prompts, nets), interprompt_table(spreads))
+}

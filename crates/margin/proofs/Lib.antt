@@ -13,3 +13,5 @@ pub mod PositionBounds
 pub mod NetLaws
 pub mod StepBounds
 pub mod BookLaws
+pub mod LineLaws
+pub mod ContractLaws

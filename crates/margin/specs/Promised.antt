@@ -12,7 +12,9 @@ use Rattle.spread.specs.Accepted.{every, soundPrompt, soundSpread}
 use Rattle.spread.specs.Book.{entries, spreadsEntry, deltaEntry}
 use Rattle.spread.specs.declared.book.Book.{Book}
 use Rattle.margin.specs.declared.line.Line.{Line}
-use Rattle.margin.specs.Bounds.{mostDelta, mostRisk}
+use Rattle.margin.specs.Bounds.{mostDelta, mostCharge, mostRisk}
+use Rattle.margin.specs.Charges.{interpromptCharge, promptCharges}
+use Rattle.margin.specs.Sums.{interleaved, deltasIn}
 use Rattle.margin.specs.Contract.{Contract, activeOf, scanningOf, interpromptOf, promptOf, minimumOf, contractNet}
 use Rattle.margin.specs.Deltas.{opens, interprompt}
 use Rattle.margin.specs.Credit.{twicePriceRisk}
@@ -31,6 +33,13 @@ pub record BookRoom (prompts : List Record) (nets : List ℤ) (spreads : List Re
   pub few-spreads : length spreads ≤ 32
   pub prompts-sound : every soundPrompt (opens prompts nets) ≡ true
   pub spreads-sound : every soundSpread (map interprompt spreads) ≡ true
+
+-- what a contract is charged, over the arrays of its book
+pub record Charged (prompts spreads : List Record) (b : Book) (interprompt prompt : ℕ) : Type 0 where
+  pub interprompt-is : interprompt ≡ interpromptCharge spreads (interleaved (b .first) (b .second))
+  pub prompt-is : prompt ≡ promptCharges prompts (deltasIn (b .used)) (deltasIn (b .unused))
+  pub interprompt-within : interprompt ≤ 32 * mostCharge
+  pub prompt-within : prompt ≤ 32 * mostCharge
 
 -- a contract's line
 pub record LineOf (k : Contract) (l : Line) : Type 0 where

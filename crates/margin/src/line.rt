@@ -1,6 +1,27 @@
 // A contract's line of figures, before the intercontract table.
 use crate::amount::Amount;
+use crate::amount::short_option_minimum;
+use crate::books::contract_book;
+use crate::charges::interprompt_charge;
+use crate::charges::prompt_charges;
+use crate::risk::scanned;
+use crate::rows::position_of;
+use exact::signed::plus;
+use record::fields::contract;
+use record::fields::short_option_rate;
 use spread::Delta;
+use spread::book::Book;
+ghost use mathlib.Core.Path.{_≡_};
+ghost use mathlib.Core.List.{map};
+ghost use Prim.Native.Nat.{_+_, _^_, _≤_, _<_};
+ghost use lib.IntN.{natAbs, _+ℤ_};
+ghost use Rattle.exact.specs.Lists.{sum, sumℤ};
+ghost use Rattle.account.specs.Records.{records};
+ghost use Rattle.margin.specs.Bounds.{mostDelta};
+ghost use Rattle.margin.specs.Contract.{contractFrom};
+ghost use Rattle.margin.specs.Promised.{Charged, LineOf};
+ghost use Rattle.margin.specs.Sums.{deltasIn, SpreadsWithin, PromptsWithin};
+ghost use Rattle.margin.specs.Within.{ContractWithin};
 
 // What the figures say of a contract, but for its credit and its margin; and what its credit is reckoned from.
 pub struct Line {
@@ -12,4 +33,77 @@ pub struct Line {
     pub minimum: Amount,
     pub twice_price: u64,
     pub net: Delta,
+}
+
+// Two deltas together.
+fn joined(a: Delta, b: Delta) -> Delta
+    requires { ⌜ natAbs (a .0) + natAbs (b .0) < 2 ^ 63 ⌝ }
+    ensures { λ r. ⌜ r .0 ≡ a .0 +ℤ b .0 ⌝ }
+{
+    Delta(plus(a.0, b.0))
+}
+
+// The net delta of a contract: the sum over its prompts.
+fn contract_net(nets: [Delta; 32]) -> Delta
+    requires { ⌜ sum (map natAbs (deltasIn nets)) ≤ mostDelta ⌝ }
+    ensures { λ r. ⌜ r .0 ≡ sumℤ (deltasIn nets) ⌝ }
+{
+    let mut net = Delta(0);
+    let mut i = 0;
+    while i < 32 {
+        let more = joined(net, nets[i]);
+        net = more;
+        i += 1;
+    }
+    net
+}
+
+// What a contract is charged for its spreads and its prompts.
+struct Charges {
+    interprompt: Amount,
+    prompt: Amount,
+}
+
+fn charges_of(prompts: &[u8], spreads: &[u8], book: Book) -> Charges
+    requires { ⌜ SpreadsWithin (records (now spreads)) (book .first) (book .second) × PromptsWithin (records (now prompts)) (book .used) (book .unused) ⌝ }
+    ensures { λ r. ⌜ Charged (records (now (prompts .entry))) (records (now (spreads .entry))) book (r .interprompt .0) (r .prompt .0) ⌝ }
+{
+    let first = book.first;
+    let second = book.second;
+    let interprompt = interprompt_charge(spreads, first, second);
+    let used = book.used;
+    let unused = book.unused;
+    let prompt = prompt_charges(prompts, used, unused);
+    Charges {
+        interprompt: interprompt,
+        prompt: prompt,
+    }
+}
+
+// The line of a contract, from its own record and the stretches of its prompts, rows and interprompt spreads.
+pub(crate) fn line_of(own: &[u8], prompts: &[u8], rows: &[u8], spreads: &[u8]) -> Line
+    requires { ⌜ ContractWithin (now own) (records (now prompts)) (records (now rows)) (records (now spreads)) ⌝ }
+    ensures { λ r. ⌜ LineOf (contractFrom (now (own .entry)) (records (now (prompts .entry))) (records (now (rows .entry))) (records (now (spreads .entry)))) r ⌝ }
+{
+    let p = position_of(prompts, rows);
+    let nets = p.nets;
+    let sixteen = p.totals;
+    let totals = sixteen.0;
+    let risks = scanned(totals);
+    let charges = charges_of(prompts, spreads, contract_book(prompts, nets, spreads));
+    let minimum = short_option_minimum(p.shorts, short_option_rate(own) as u64);
+    let net = contract_net(nets);
+    let scanning = risks.scanning;
+    let interprompt = charges.interprompt;
+    let prompt = charges.prompt;
+    Line {
+        contract: contract(own),
+        active: risks.active,
+        scanning: scanning,
+        interprompt: interprompt,
+        prompt: prompt,
+        minimum: minimum,
+        twice_price: risks.twice_price,
+        net: net,
+    }
 }

@@ -15,3 +15,4 @@ pub mod StepBounds
 pub mod BookLaws
 pub mod LineLaws
 pub mod ContractLaws
+pub mod TableLaws

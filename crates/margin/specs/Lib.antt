@@ -18,3 +18,4 @@ pub mod Position
 pub mod Lines
 pub mod Within
 pub mod Promised
+pub mod Table

@@ -2,6 +2,7 @@
 pub mod amount;
 mod books;
 mod charges;
+mod intercontract;
 pub mod line;
 pub mod pairs;
 mod risk;

@@ -1,0 +1,84 @@
+// The intercontract table: each contract a tier with one prompt, and the credits that its entries earn.
+use crate::amount::Amount;
+use crate::charges::Earner;
+use crate::charges::credits;
+use crate::line::Line;
+use crate::tables::intercontract_table;
+use exact::signed::magnitude;
+use spread::Delta;
+use spread::Prompts;
+use spread::book::Book;
+use spread::book::delta_book;
+ghost use mathlib.Core.Path.{_≡_};
+ghost use mathlib.Core.List.{map};
+ghost use Prim.Native.Nat.{_≤_};
+ghost use lib.ListN.{take};
+ghost use lib.IntN.{natAbs};
+ghost use Rattle.account.specs.Records.{records};
+ghost use Rattle.spread.specs.Accepted.{openOf};
+ghost use Rattle.spread.specs.Steps.{steps};
+ghost use Rattle.margin.specs.Deltas.{intercontract};
+ghost use Rattle.margin.specs.Promised.{BookOf};
+ghost use Rattle.margin.specs.Table.{tierOf, TiersFrom, TableRoom, EarnerOf, CreditsRoom, CreditsOf};
+
+// The contracts as the spread steps take them.
+fn tiers_of(count: usize, lines: [Line; 16]) -> Prompts
+    requires { ⌜ count ≤ 16 ⌝ }
+    ensures { λ r. ⌜ TiersFrom count lines r ⌝ }
+{
+    let mut tiers = [0usize; 32];
+    let mut nets = [Delta(0); 32];
+    let mut i = 0;
+    while i < count {
+        let line = lines[i];
+        tiers[i] = line.contract;
+        let net = line.net;
+        nets[i] = net;
+        i += 1;
+    }
+    Prompts {
+        count: count,
+        tier: tiers,
+        net: nets,
+    }
+}
+
+// The book of the intercontract spreads, over the contracts.
+pub(crate) fn table_book(count: usize, lines: [Line; 16], entries: &[u8]) -> Book
+    requires { ⌜ TableRoom count lines (records (now entries)) ⌝ }
+    ensures { λ r. ⌜ BookOf (steps (map intercontract (records (now (entries .entry))))) (map tierOf (take count lines)) r ⌝ }
+{
+    delta_book(tiers_of(count, lines), intercontract_table(entries))
+}
+
+fn earner_of(line: Line) -> Earner
+    ensures { λ r. ⌜ EarnerOf line r ⌝ }
+{
+    let net = line.net;
+    Earner {
+        contract: line.contract,
+        twice_price: line.twice_price,
+        net: magnitude(net.0),
+    }
+}
+
+// Each contract's credits from the entries of the table.
+pub(crate) fn credits_of(
+    count: usize,
+    lines: [Line; 16],
+    entries: &[u8],
+    book: Book,
+) -> [Amount; 16]
+    requires { ⌜ CreditsRoom count lines (records (now entries)) (book .first) (book .second) ⌝ }
+    ensures { λ r. ⌜ CreditsOf count lines (records (now (entries .entry))) (book .first) (book .second) r ⌝ }
+{
+    let first = book.first;
+    let second = book.second;
+    let mut earned = [Amount(0); 16];
+    let mut i = 0;
+    while i < count {
+        earned[i] = credits(entries, earner_of(lines[i]), first, second);
+        i += 1;
+    }
+    earned
+}

@@ -16,3 +16,4 @@ pub mod BookLaws
 pub mod LineLaws
 pub mod ContractLaws
 pub mod TableLaws
+pub mod WalkLaws

@@ -1,24 +1,23 @@
 -- How large totals, net deltas and short lots of rows within their ranges can be.
 -- Assumes nothing.
-use mathlib.Core.Path.{_≡_, refl, sym, _∙_, ap, ap₂, subst}
+use mathlib.Core.Path.{_≡_, refl, sym, _∙_, ap, subst}
 use mathlib.Core.Bool.{Bool, true, false, cond}
 use mathlib.Core.List.{List, [], _∷_, map}
-use Prim.Native.Nat.{ℕ, zero, suc, _+_, _*_, _≤_, _<_, zero-le}
-use native.Mathlib.Nat.{le-refl, le-trans, le-of-suc-le-suc, not-suc-le-zero, mul-le-mul-right}
+use Prim.Native.Nat.{ℕ, suc, _+_, _*_, _≤_, _<_, zero-le}
+use native.Mathlib.Nat.{le-refl, le-trans, mul-le-mul-right}
 use native.Mathlib.Omega.{arith}
 use lib.Dec.{eqb, ltb}
-use lib.IntN.{ℤ, pos, negsuc, natAbs, _+ℤ_, _*ℤ_, +ℤ-idr, +ℤ-idl, +ℤ-assoc}
-use lib.ListN.{length, getD, take, length-map, length-take, List·getD-eq-default}
+use lib.IntN.{ℤ, pos, negsuc, natAbs, _*ℤ_}
+use lib.ListN.{length, getD, take, length-take}
 use lib.Seq.{getD-take}
-use borrow.Author.Tests.{eqb-true, ne-eqb, ltb-true, ltb-false}
-use Rattle.exact.specs.Lists.{consIf, keep, sum, sumℤ}
-use Rattle.exact.proofs.Lists.{map-same, sumℤ-map-add}
+use borrow.Author.Tests.{ltb-true, ltb-false}
+use Rattle.exact.specs.Lists.{consIf, keep, sumℤ}
 use Rattle.record.specs.Layout.{Record, day, lots, value, loss, delta, rowType}
 use Rattle.margin.specs.declared.rows.Position.{Position}
-use Rattle.margin.specs.Scanning.{product, total, totals}
-use Rattle.margin.specs.Deltas.{rowDelta, ofDay, netDelta, netDeltas}
+use Rattle.margin.specs.Scanning.{product, total}
+use Rattle.margin.specs.Deltas.{rowDelta, ofDay}
 use Rattle.margin.specs.Margin.{short, shortOptions, shortLots}
-use Rattle.margin.specs.Position.{RowWithin, Within, AtMost, PositionOf, Bounded, Rising, deltasOf}
+use Rattle.margin.specs.Position.{RowWithin, Within, PositionOf, Bounded, deltasOf, netOn}
 use Rattle.margin.proofs.SignedCalls.{abs-times, abs-plus}
 use Rattle.margin.proofs.PositionLaws.{totals-at, net-here}
 
@@ -44,40 +43,32 @@ shorts-most row w = go (eqb (rowType row) 0)
 
 -- ---- of several
 
-Each : List Record → Type 0
+abbrev pub Each : List Record → Type 0
 Each rows = (k : ℕ) → k < length rows → RowWithin (getD rows k [])
 
-first : (row : Record) (rows : List Record) → Each (row ∷ rows) → RowWithin row
-unfolding Each
-first row rows e = e 0 (omega arith)
-
-later : (row : Record) (rows : List Record) → Each (row ∷ rows) → Each rows
-unfolding Each
-later row rows e = λ k h. e (suc k) (omega arith)
-
-total-most : (rows : List Record) → Each rows → (s : ℕ) → 1 ≤ s → s ≤ 16 → natAbs (total rows s) ≤ length rows * 100000000000000
+pub total-most : (rows : List Record) → Each rows → (s : ℕ) → 1 ≤ s → s ≤ 16 → natAbs (total rows s) ≤ length rows * 100000000000000
 total-most [] e s l h = zero-le
 total-most (row ∷ rows) e s l h =
-    let one = product-most row (first row rows e) s l h in
-    let rest = total-most rows (later row rows e) s l h in
+    let one = product-most row (e 0 (omega arith)) s l h in
+    let rest = total-most rows (λ k l. e (suc k) (omega arith)) s l h in
     let both = abs-plus (product s row) (total rows s) one rest in
     omega arith
 
-net-most : (rows : List Record) → Each rows → (prompt : Record) → natAbs (netDelta rows prompt) ≤ length rows * 1000000000
-net-most [] e prompt = zero-le
-net-most (row ∷ rows) e prompt = go (ofDay (day prompt) row) (net-most rows (later row rows e) prompt)
+pub net-most : (rows : List Record) → Each rows → (d : ℕ) → natAbs (netOn rows d) ≤ length rows * 1000000000
+net-most [] e d = zero-le
+net-most (row ∷ rows) e d = go (ofDay d row) (net-most rows (λ k l. e (suc k) (omega arith)) d)
   where
-    go : (t : Bool) → natAbs (netDelta rows prompt) ≤ length rows * 1000000000 → natAbs (sumℤ (map rowDelta (consIf t row (keep (ofDay (day prompt)) rows)))) ≤ suc (length rows) * 1000000000
+    go : (t : Bool) → natAbs (netOn rows d) ≤ length rows * 1000000000 → natAbs (sumℤ (map rowDelta (consIf t row (keep (ofDay d) rows)))) ≤ suc (length rows) * 1000000000
     go true rest =
-        let both = abs-plus (rowDelta row) (netDelta rows prompt) (delta-most row (first row rows e)) rest in
+        let both = abs-plus (rowDelta row) (netOn rows d) (delta-most row (e 0 (omega arith))) rest in
         omega arith
     go false rest = omega arith
 
-short-lots-most : (rows : List Record) → Each rows → shortLots rows ≤ length rows * 100000
+pub short-lots-most : (rows : List Record) → Each rows → shortLots rows ≤ length rows * 100000
 short-lots-most [] e = zero-le
 short-lots-most (row ∷ rows) e =
-    let one = shorts-most row (first row rows e) in
-    let rest = short-lots-most rows (later row rows e) in
+    let one = shorts-most row (e 0 (omega arith)) in
+    let rest = short-lots-most rows (λ k l. e (suc k) (omega arith)) in
     omega arith
 
 -- ---- of a position
@@ -89,12 +80,11 @@ net-place prompts rows p e is j = go (ltb j (length prompts)) refl
     go : (t : Bool) → ltb j (length prompts) ≡ t → natAbs (getD (deltasOf (p .nets)) j (pos 0)) ≤ length rows * 1000000000
     go true h =
         subst (λ (z : ℤ). natAbs z ≤ length rows * 1000000000) (sym (net-here prompts rows p is j (ltb-true j (length prompts) h)))
-        (net-most rows e (getD prompts j []))
+        (net-most rows e (day (getD prompts j [])))
     go false h =
         subst (λ (z : ℤ). natAbs z ≤ length rows * 1000000000) (sym (is .nets-beyond j (ltb-false j (length prompts) h))) zero-le
 
 pub bounded : (prompts rows : List Record) (p : Position) → Within rows → PositionOf prompts rows p → Bounded (length rows) p
-unfolding Each
 bounded prompts rows p w is =
     record {
       totals-most =
@@ -118,12 +108,8 @@ wider n m p h b =
       shorts-most = le-trans (b .shorts-most) (mul-le-mul-right 100000 h);
     }
 
-pub within-take : (rows : List Record) (n : ℕ) → Within rows → Within (take n rows)
-within-take rows n w =
-    record {
-      few = omega (arith, length-take n rows, w .few);
-      each = λ k h.
-          let n-above : k < n = omega (arith, length-take n rows) in
-          let rows-above : k < length rows = omega (arith, length-take n rows) in
-          subst (λ (row : Record). RowWithin row) (sym (getD-take n rows k [] n-above)) (w .each k rows-above);
-    }
+pub each-take : (rows : List Record) (n : ℕ) → Each rows → Each (take n rows)
+each-take rows n e k h =
+    let n-above : k < n = omega (arith, length-take n rows) in
+    let rows-above : k < length rows = omega (arith, length-take n rows) in
+    subst (λ (row : Record). RowWithin row) (sym (getD-take n rows k [] n-above)) (e k rows-above)

@@ -1,49 +1,51 @@
 -- What one row more does to totals, net deltas and short lots, and how large they can be.
 -- Assumes nothing.
-use mathlib.Core.Path.{_≡_, refl, sym, _∙_, ap, ap₂, subst}
+use mathlib.Core.Path.{_≡_, refl, sym, _∙_, ap, ap₂}
 use mathlib.Core.Bool.{Bool, true, false, cond}
 use mathlib.Core.List.{List, [], _∷_, _++_, map, map-append}
-use Prim.Native.Nat.{ℕ, zero, suc, _+_, _*_, _-_, _≤_, _<_, min}
-use native.Mathlib.Nat.{le-of-suc-le-suc, not-suc-le-zero, le-trans}
+use Prim.Native.Nat.{ℕ, zero, suc, _+_, _≤_, _<_}
 use native.Mathlib.Omega.{arith}
-use lib.Dec.{T, eqb, eqb→eq}
-use lib.IntN.{ℤ, pos, negsuc, natAbs, _+ℤ_, _*ℤ_, +ℤ-idr, +ℤ-idl}
-use lib.ListN.{length, getD, take, replicate, length-map, length-take, List·getD-eq-default}
+use lib.Dec.{eqb, ltb, eqb→eq}
+use lib.IntN.{ℤ, pos, _+ℤ_, +ℤ-idr}
+use lib.ListN.{length, getD, take, replicate, length-map, List·getD-eq-default}
 use lib.Seq.{ext-getD, getD-take, length-take-le}
+use borrow.Author.Tests.{ltb-true, ltb-false}
 use Rattle.exact.specs.Lists.{consIf, keep, sum, sumℤ}
 use Rattle.exact.proofs.Table.{at}
 use Rattle.exact.proofs.Lists.{keep-append, sum-append, sumℤ-append, getD-map}
-use Rattle.record.specs.Layout.{Record, day, lots, value, loss, delta, rowType}
+use Rattle.record.specs.Layout.{Record, day}
 use Rattle.margin.specs.declared.rows.Days.{Days}
 use Rattle.margin.specs.declared.rows.Position.{Position}
 use Rattle.margin.specs.Scanning.{product, total, scenarios, totals}
 use Rattle.margin.specs.Deltas.{rowDelta, ofDay, netDelta, netDeltas}
-use Rattle.margin.specs.Margin.{short, shortOptions, shortLots}
-use Rattle.margin.specs.Position.{RowWithin, Within, AtMost, Added, DaysOf, PositionOf, WithRow, products, onDay, deltasOf}
-use Rattle.margin.proofs.SignedCalls.{abs-times, abs-plus}
+use Rattle.margin.specs.Margin.{shortOptions, shortLots}
+use Rattle.margin.specs.Position.{DaysOf, PositionOf, WithRows, netOn, deltasOf}
 
--- ---- one row more
+-- ---- rows before and rows after
 
-pub total-more : (rows : List Record) (row : Record) (s : ℕ) → total (rows ++ row ∷ []) s ≡ total rows s +ℤ product s row
-total-more rows row s =
-    ap sumℤ (map-append (product s) rows (row ∷ []))
-    ∙ sumℤ-append (map (product s) rows) (product s row ∷ [])
-    ∙ ap (λ (z : ℤ). total rows s +ℤ z) (+ℤ-idr (product s row))
+pub total-append : (xs ys : List Record) (s : ℕ) → total (xs ++ ys) s ≡ total xs s +ℤ total ys s
+total-append xs ys s = ap sumℤ (map-append (product s) xs ys) ∙ sumℤ-append (map (product s) xs) (map (product s) ys)
 
-kept : (t : Bool) (row : Record) → sumℤ (map rowDelta (consIf t row [])) ≡ cond t (rowDelta row) (pos 0)
-kept true row = +ℤ-idr (rowDelta row)
-kept false row = refl
+pub net-append : (xs ys : List Record) (d : ℕ) → netOn (xs ++ ys) d ≡ netOn xs d +ℤ netOn ys d
+net-append xs ys d =
+    ap (λ (rs : List Record). sumℤ (map rowDelta rs)) (keep-append (ofDay d) xs ys)
+    ∙ ap sumℤ (map-append rowDelta (keep (ofDay d) xs) (keep (ofDay d) ys))
+    ∙ sumℤ-append (map rowDelta (keep (ofDay d) xs)) (map rowDelta (keep (ofDay d) ys))
 
-pub net-more : (rows : List Record) (row prompt : Record) → netDelta (rows ++ row ∷ []) prompt ≡ netDelta rows prompt +ℤ cond (ofDay (day prompt) row) (rowDelta row) (pos 0)
-net-more rows row prompt =
-    ap (λ (rs : List Record). sumℤ (map rowDelta rs)) (keep-append (ofDay (day prompt)) rows (row ∷ []))
-    ∙ ap sumℤ (map-append rowDelta (keep (ofDay (day prompt)) rows) (keep (ofDay (day prompt)) (row ∷ [])))
-    ∙ sumℤ-append (map rowDelta (keep (ofDay (day prompt)) rows)) (map rowDelta (keep (ofDay (day prompt)) (row ∷ [])))
-    ∙ ap (λ (z : ℤ). netDelta rows prompt +ℤ z) (kept (ofDay (day prompt) row) row)
+pub shorts-append : (xs ys : List Record) → shortLots (xs ++ ys) ≡ shortLots xs + shortLots ys
+shorts-append xs ys = ap sum (map-append shortOptions xs ys) ∙ sum-append (map shortOptions xs) (map shortOptions ys)
 
-pub shorts-more : (rows : List Record) (row : Record) → shortLots (rows ++ row ∷ []) ≡ shortLots rows + shortOptions row
-shorts-more rows row =
-    ap sum (map-append shortOptions rows (row ∷ [])) ∙ sum-append (map shortOptions rows) (shortOptions row ∷ []) ∙ omega arith
+-- ---- one row
+
+pub total-one : (row : Record) (s : ℕ) → product s row ≡ total (row ∷ []) s
+total-one row s = sym (+ℤ-idr (product s row))
+
+pub net-one : (row : Record) (d : ℕ) → cond (ofDay d row) (rowDelta row) (pos 0) ≡ netOn (row ∷ []) d
+net-one row d = go (ofDay d row)
+  where
+    go : (t : Bool) → cond t (rowDelta row) (pos 0) ≡ sumℤ (map rowDelta (consIf t row []))
+    go true = sym (+ℤ-idr (rowDelta row))
+    go false = refl
 
 -- ---- place by place
 
@@ -66,6 +68,18 @@ net-here prompts rows p is j h =
     sym (getD-take (length prompts) (deltasOf (p .nets)) j (pos 0) h)
     ∙ ap (λ (zs : List ℤ). getD zs j (pos 0)) (is .nets-are)
     ∙ nets-at prompts rows j h
+
+-- at every place, also past the prompts
+pub net-entry : (prompts rows : List Record) (p : Position) → PositionOf prompts rows p → (j : ℕ) → getD (deltasOf (p .nets)) j (pos 0) ≡ getD (netDeltas prompts rows) j (pos 0)
+net-entry prompts rows p is j = go (ltb j (length prompts)) refl
+  where
+    go : (t : Bool) → ltb j (length prompts) ≡ t → getD (deltasOf (p .nets)) j (pos 0) ≡ getD (netDeltas prompts rows) j (pos 0)
+    go true e =
+        let h : j < length prompts = ltb-true j (length prompts) e in
+        net-here prompts rows p is j h ∙ sym (nets-at prompts rows j h)
+    go false e =
+        let h : length prompts ≤ j = ltb-false j (length prompts) e in
+        is .nets-beyond j h ∙ sym (List·getD-eq-default (netDeltas prompts rows) (pos 0) (omega (arith, length-map prompts (netDelta rows))))
 
 -- ---- no rows
 
@@ -91,54 +105,45 @@ nothing prompts p few et en es =
       shorts-are = es;
     }
 
--- ---- the position with one row more
+-- ---- the position with more rows
 
-module _ (prompts rows : List Record) (row : Record) (days : Days) (p q : Position) (known : DaysOf prompts days) (is : PositionOf prompts rows p) where
-  same-totals : Added 16 (products row) (p .totals .0) (q .totals .0) → q .totals .0 ≡ totals (rows ++ row ∷ [])
-  same-totals a =
-      let sixteen : length (q .totals .0) ≡ 16 = a .as-many ∙ ap length (is .totals-are) in
-      ext-getD (pos 0) (q .totals .0) (totals (rows ++ row ∷ [])) sixteen (λ k h. here k (omega arith))
+module _ (prompts earlier rows : List Record) (days : Days) (p q : Position) (known : DaysOf prompts days) (is : PositionOf prompts earlier p) (w : WithRows days p rows q) where
+  same-totals : q .totals .0 ≡ totals (earlier ++ rows)
+  same-totals =
+      let sixteen : length (q .totals .0) ≡ 16 = w .totals-added .as-many ∙ ap length (is .totals-are) in
+      ext-getD (pos 0) (q .totals .0) (totals (earlier ++ rows)) sixteen (λ k h. here k (omega arith))
     where
-      here : (k : ℕ) → k < 16 → getD (q .totals .0) k (pos 0) ≡ getD (totals (rows ++ row ∷ [])) k (pos 0)
+      here : (k : ℕ) → k < 16 → getD (q .totals .0) k (pos 0) ≡ getD (totals (earlier ++ rows)) k (pos 0)
       here k h =
-          a .added k h
-          ∙ ap (λ (zs : List ℤ). getD zs k (pos 0) +ℤ product (k + 1) row) (is .totals-are)
-          ∙ ap (λ (z : ℤ). z +ℤ product (k + 1) row) (totals-at rows k h)
-          ∙ sym (total-more rows row (k + 1))
-          ∙ sym (totals-at (rows ++ row ∷ []) k h)
+          w .totals-added .added k h
+          ∙ ap (λ (zs : List ℤ). getD zs k (pos 0) +ℤ total rows (k + 1)) (is .totals-are)
+          ∙ ap (λ (z : ℤ). z +ℤ total rows (k + 1)) (totals-at earlier k h)
+          ∙ sym (total-append earlier rows (k + 1))
+          ∙ sym (totals-at (earlier ++ rows) k h)
 
-  same-nets : Added (days .count) (onDay (days .day) (day row) (rowDelta row)) (deltasOf (p .nets)) (deltasOf (q .nets)) → take (length prompts) (deltasOf (q .nets)) ≡ netDeltas prompts (rows ++ row ∷ [])
-  same-nets a =
-      let thirty-two : length (deltasOf (q .nets)) ≡ 32 = a .as-many ∙ is .places in
+  same-nets : take (length prompts) (deltasOf (q .nets)) ≡ netDeltas prompts (earlier ++ rows)
+  same-nets =
+      let thirty-two : length (deltasOf (q .nets)) ≡ 32 = w .nets-added .as-many ∙ is .places in
       let as-many : length (take (length prompts) (deltasOf (q .nets))) ≡ length prompts = length-take-le (length prompts) (deltasOf (q .nets)) (omega (arith, known .few, known .count-is)) in
-      ext-getD (pos 0) (take (length prompts) (deltasOf (q .nets))) (netDeltas prompts (rows ++ row ∷ []))
-      (as-many ∙ sym (length-map prompts (netDelta (rows ++ row ∷ []))))
+      ext-getD (pos 0) (take (length prompts) (deltasOf (q .nets))) (netDeltas prompts (earlier ++ rows))
+      (as-many ∙ sym (length-map prompts (netDelta (earlier ++ rows))))
       (λ j h. here j (omega arith))
     where
-      here : (j : ℕ) → j < length prompts → getD (take (length prompts) (deltasOf (q .nets))) j (pos 0) ≡ getD (netDeltas prompts (rows ++ row ∷ [])) j (pos 0)
+      here : (j : ℕ) → j < length prompts → getD (take (length prompts) (deltasOf (q .nets))) j (pos 0) ≡ getD (netDeltas prompts (earlier ++ rows)) j (pos 0)
       here j h =
           getD-take (length prompts) (deltasOf (q .nets)) j (pos 0) h
-          ∙ a .added j (omega (arith, known .count-is))
-          ∙ ap₂ (λ (z : ℤ) (d : ℕ). z +ℤ cond (eqb (day row) d) (rowDelta row) (pos 0)) (net-here prompts rows p is j h) (known .day-is j h)
-          ∙ sym (net-more rows row (getD prompts j []))
-          ∙ sym (nets-at prompts (rows ++ row ∷ []) j h)
+          ∙ w .nets-added .added j (omega (arith, known .count-is))
+          ∙ ap₂ (λ (z : ℤ) (d : ℕ). z +ℤ netOn rows d) (net-here prompts earlier p is j h) (known .day-is j h)
+          ∙ sym (net-append earlier rows (day (getD prompts j [])))
+          ∙ sym (nets-at prompts (earlier ++ rows) j h)
 
-  pub more : Added 16 (products row) (p .totals .0) (q .totals .0) → Added (days .count) (onDay (days .day) (day row) (rowDelta row)) (deltasOf (p .nets)) (deltasOf (q .nets)) → q .shorts ≡ p .shorts + shortOptions row → PositionOf prompts (rows ++ row ∷ []) q
-  more t n s =
+  -- what the rows before and these come to
+  pub joined : PositionOf prompts (earlier ++ rows) q
+  joined =
       record {
-        totals-are = same-totals t;
-        nets-are = same-nets n;
-        nets-beyond = λ j h. n .others j (omega (arith, known .count-is)) ∙ is .nets-beyond j h;
-        places = n .as-many ∙ is .places;
-        shorts-are = s ∙ ap (λ (k : ℕ). k + shortOptions row) (is .shorts-are) ∙ sym (shorts-more rows row);
+        totals-are = same-totals;
+        nets-are = same-nets;
+        nets-beyond = λ j h. w .nets-added .others j (omega (arith, known .count-is)) ∙ is .nets-beyond j h;
+        places = w .nets-added .as-many ∙ is .places;
+        shorts-are = w .shorts-added ∙ ap (λ (k : ℕ). k + shortLots rows) (is .shorts-are) ∙ sym (shorts-append earlier rows);
       }
-
--- from what is added to each part
-pub with-row : (days : Days) (p q : Position) (row : Record) → Added 16 (products row) (p .totals .0) (q .totals .0) → Added (days .count) (onDay (days .day) (day row) (rowDelta row)) (deltasOf (p .nets)) (deltasOf (q .nets)) → q .shorts ≡ p .shorts + shortOptions row → WithRow days p row q
-with-row days p q row t n s =
-    record {
-      totals-added = t;
-      nets-added = n;
-      shorts-added = s;
-      more = λ prompts rows known is. more prompts rows row days p q known is t n s;
-    }

@@ -2,18 +2,19 @@
 -- Assumes nothing.
 use mathlib.Core.Path.{_≡_}
 use mathlib.Core.Bool.{cond}
-use mathlib.Core.List.{List, [], _∷_, _++_, map}
+use mathlib.Core.List.{List, [], map}
 use Prim.Native.Nat.{ℕ, suc, _+_, _*_, _≤_, _<_}
 use lib.Dec.{eqb}
 use lib.IntN.{ℤ, pos, natAbs, _+ℤ_}
 use lib.ListN.{length, getD, take}
+use Rattle.exact.specs.Lists.{keep, sumℤ}
 use Rattle.record.specs.Layout.{Record, lots, delta, value, loss, day}
 use Rattle.spread.specs.declared.Delta.{Delta}
 use Rattle.margin.specs.declared.rows.Days.{Days}
 use Rattle.margin.specs.declared.rows.Position.{Position}
-use Rattle.margin.specs.Scanning.{product, totals}
-use Rattle.margin.specs.Deltas.{rowDelta, netDeltas}
-use Rattle.margin.specs.Margin.{shortOptions, shortLots}
+use Rattle.margin.specs.Scanning.{product, total, totals}
+use Rattle.margin.specs.Deltas.{rowDelta, ofDay, netDeltas}
+use Rattle.margin.specs.Margin.{shortLots}
 
 -- "lots -100,000..100,000 ..; value 1..10,000; losses -100,000..100,000; delta 0..10,000 .., -10,000..0 for puts"
 pub record RowWithin (row : Record) : Type 0 where
@@ -46,6 +47,10 @@ pub record Added (n : ℕ) (more : ℕ → ℤ) (xs ys : List ℤ) : Type 0 wher
   pub added : (k : ℕ) → k < n → getD ys k (pos 0) ≡ getD xs k (pos 0) +ℤ more k
   pub others : (k : ℕ) → n ≤ k → getD ys k (pos 0) ≡ getD xs k (pos 0)
 
+-- lots × delta over the rows of a day
+abbrev pub netOn : List Record → ℕ → ℤ
+netOn rows d = sumℤ (map rowDelta (keep (ofDay d) rows))
+
 -- what a row adds to each total, scenario 1 first
 abbrev pub products : Record → ℕ → ℤ
 products row k = product (k + 1) row
@@ -68,18 +73,17 @@ pub record PositionOf (prompts rows : List Record) (p : Position) : Type 0 where
   pub places : length (deltasOf (p .nets)) ≡ 32
   pub shorts-are : p .shorts ≡ shortLots rows
 
--- no more than n rows within their ranges can come to
+-- no more than what n rows within their ranges can come to
 pub record Bounded (n : ℕ) (p : Position) : Type 0 where
   pub totals-most : AtMost 16 (n * 100000000000000) (p .totals .0)
   pub nets-most : AtMost 32 (n * 1000000000) (deltasOf (p .nets))
   pub shorts-most : p .shorts ≤ n * 100000
 
--- q is the position p with one row more: of the rows before it and this one, whichever those were
-pub record WithRow (days : Days) (p : Position) (row : Record) (q : Position) : Type 0 where
-  pub totals-added : Added 16 (products row) (p .totals .0) (q .totals .0)
-  pub nets-added : Added (days .count) (onDay (days .day) (day row) (rowDelta row)) (deltasOf (p .nets)) (deltasOf (q .nets))
-  pub shorts-added : q .shorts ≡ p .shorts + shortOptions row
-  pub more : (prompts rows : List Record) → DaysOf prompts days → PositionOf prompts rows p → PositionOf prompts (rows ++ row ∷ []) q
+-- q is the position p with more rows
+pub record WithRows (days : Days) (p : Position) (rows : List Record) (q : Position) : Type 0 where
+  pub totals-added : Added 16 (λ k. total rows (k + 1)) (p .totals .0) (q .totals .0)
+  pub nets-added : Added (days .count) (λ j. netOn rows (getD (days .day) j 0)) (deltasOf (p .nets)) (deltasOf (q .nets))
+  pub shorts-added : q .shorts ≡ p .shorts + shortLots rows
 
 -- "a prompt whose (contract, day) is not above the one before" is refused: within a contract the days rise
 pub record Rising (prompts : List Record) : Type 0 where

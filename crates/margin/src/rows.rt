@@ -1,16 +1,16 @@
 // What a contract's rows come to: its sixteen totals, its prompts' net deltas and its short lots.
 ghost use mathlib.Core.Path.{_≡_};
 ghost use mathlib.Core.Bool.{cond};
-ghost use mathlib.Core.List.{List, [], _∷_, _++_};
-ghost use Prim.Native.Nat.{ℕ, _≤_, _<_, _+_};
+ghost use mathlib.Core.List.{List, [], _++_};
+ghost use Prim.Native.Nat.{_≤_, _-_};
 ghost use lib.IntN.{pos, natAbs, _+ℤ_, _*ℤ_};
+ghost use lib.ListN.{length};
 ghost use Rattle.record.specs.Layout.{Record, lots, value};
 ghost use Rattle.account.specs.Records.{records, recordCount};
 ghost use Rattle.margin.specs.Deltas.{rowDelta};
 ghost use Rattle.margin.specs.Margin.{short, shortOptions};
-ghost use Rattle.margin.specs.Position.{RowWithin, Within, Sized, AtMost, Added, products, onDay, DaysOf, deltasOf};
-ghost use Rattle.margin.specs.Position.{PositionOf, Bounded, WithRow};
-ghost use lib.ListN.{length};
+ghost use Rattle.margin.specs.Position.{RowWithin, Within, Sized, AtMost, Added, products, DaysOf};
+ghost use Rattle.margin.specs.Position.{PositionOf, Bounded, WithRows};
 use exact::signed::as_signed;
 use exact::signed::is_negative;
 use exact::signed::magnitude;
@@ -106,23 +106,7 @@ fn totals_with(t: Totals, row: &[u8]) -> Totals
     Totals(totals)
 }
 
-// Each net delta with one row more.
-fn nets_with(nets: [Delta; 32], days: Days, day: usize, more: Delta) -> [Delta; 32]
-    requires { ⌜ (days .count ≤ 32) × (AtMost 32 127000000000 (deltasOf nets) × (natAbs (more .0) ≤ 1000000000)) ⌝ }
-    ensures { λ r. ⌜ Added (days .count) (onDay (days .day) day (more .0)) (deltasOf nets) (deltasOf r) ⌝ }
-{
-    let count = days.count;
-    let mut sums = nets;
-    let mut j = 0;
-    while j < count {
-        let net = net_with(sums[j], day == days.day[j], more);
-        sums[j] = net;
-        j += 1;
-    }
-    sums
-}
-
-// The days of prompts.
+// The days of a contract's prompts.
 pub(crate) fn days_of(prompts: &[u8]) -> Days
     requires { ⌜ recordCount (now prompts) ≤ 32 ⌝ }
     ensures { λ d. ⌜ DaysOf (records (now (prompts .entry))) d ⌝ }
@@ -136,23 +120,6 @@ pub(crate) fn days_of(prompts: &[u8]) -> Days
         j += 1;
     }
     Days { count, day: days }
-}
-
-// What rows come to with one row more.
-pub(crate) fn with_row(p: Position, days: Days, row: &[u8]) -> Position
-    requires { ⌜ (days .count ≤ 32) × (RowWithin (now row) × Bounded 127 p) ⌝ }
-    ensures { λ q. ⌜ WithRow days p (now (row .entry)) q ⌝ }
-{
-    let old_totals = p.totals;
-    let totals = totals_with(old_totals, row);
-    let old_nets = p.nets;
-    let nets = nets_with(old_nets, days, day(row), row_delta(row));
-    let shorts = p.shorts + short_options(row);
-    Position {
-        totals,
-        nets,
-        shorts,
-    }
 }
 
 // What no rows come to.
@@ -169,21 +136,47 @@ pub(crate) fn flat() -> Position
     }
 }
 
+// What rows come to with more rows, in one walk over these. A ticket is one row more.
+pub(crate) fn with_rows(p: Position, days: Days, rows: &[u8]) -> Position
+    requires { ⌜ (days .count ≤ 32) × (Within (records (now rows)) × Bounded (128 - length (records (now rows))) p) ⌝ }
+    ensures added { λ q. ⌜ WithRows days p (records (now (rows .entry))) q ⌝ }
+    ensures more { λ q. ⌜ ((prompts earlier : List Record) → DaysOf prompts days → PositionOf prompts earlier p → PositionOf prompts (earlier ++ records (now (rows .entry))) q) ⌝ }
+    ensures most { λ q. ⌜ Bounded 128 q ⌝ }
+{
+    let count = rows.len() / 96;
+    let prompts = days.count;
+    let mut totals = p.totals;
+    let mut nets = p.nets;
+    let mut shorts = p.shorts;
+    let mut i = 0;
+    while i < count {
+        let at = i * 96;
+        let row = &rows[at..at + 96];
+        let sums = totals_with(totals, row);
+        totals = sums;
+        shorts = shorts + short_options(row);
+        let row_day = day(row);
+        let more = row_delta(row);
+        let mut j = 0;
+        while j < prompts {
+            let net = net_with(nets[j], row_day == days.day[j], more);
+            nets[j] = net;
+            j += 1;
+        }
+        i += 1;
+    }
+    Position {
+        totals,
+        nets,
+        shorts,
+    }
+}
+
 // What a contract's rows come to, by its prompts' days.
 pub(crate) fn position_of(prompts: &[u8], rows: &[u8]) -> Position
     requires { ⌜ (recordCount (now prompts) ≤ 32) × Within (records (now rows)) ⌝ }
     ensures is { λ p. ⌜ PositionOf (records (now (prompts .entry))) (records (now (rows .entry))) p ⌝ }
     ensures most { λ p. ⌜ Bounded 128 p ⌝ }
 {
-    let days = days_of(prompts);
-    let count = rows.len() / 96;
-    let mut p = flat();
-    let mut i = 0;
-    while i < count {
-        let at = i * 96;
-        let q = with_row(p, days, &rows[at..at + 96]);
-        p = q;
-        i += 1;
-    }
-    p
+    with_rows(flat(), days_of(prompts), rows)
 }

@@ -1,8 +1,8 @@
 -- `days_of`: the days of the prompts before j are noted.
 -- Assumes nothing.
-use mathlib.Core.Path.{_≡_, refl, sym, _∙_, ap, subst}
-use mathlib.Core.List.{List, [], _∷_}
-use Prim.Native.Nat.{ℕ, _+_, _-_, _*_, _/_, _≤_, _<_}
+use mathlib.Core.Path.{_≡_, refl, sym, _∙_, ap}
+use mathlib.Core.List.{List, []}
+use Prim.Native.Nat.{ℕ, _+_, _-_, _/_, _≤_, _<_}
 use native.Mathlib.Nat.{not-suc-le-zero}
 use native.Mathlib.Omega.{arith}
 use lib.ListN.{length, getD, set, length-set}
@@ -12,13 +12,9 @@ use borrow.Author.Needs.{needs}
 use borrow.Author.Count.{below-more}
 use Rattle.record.specs.Layout.{Record, day}
 use Rattle.account.specs.Records.{records}
-use Rattle.margin.specs.Position.{DaysOf}
 use Rattle.margin.proofs.RecordLaws.{count-is, record-at}
 use Rattle.margin.proofs.rows.days_of.Statement.{statement}
 use Rattle.margin.proofs.rows.days_of.Tie as tie
-use Rattle.margin.proofs.rows.days_of.Reads as reads
-use Rattle.margin.proofs.rows.days_of.Lts as lts
-use Rattle.record.proofs.fields.day.Reads as day-reads
 
 -- the days of the first j prompts
 record Noted (prompts : List Record) (days : List ℕ) (j : ℕ) : Type 0 where

@@ -1,9 +1,9 @@
 -- `net_with`: the row's delta is added, or 0.
 -- Assumes nothing.
-use mathlib.Core.Path.{_≡_, sym, _∙_, ap, refl}
-use mathlib.Core.Bool.{Bool, true, false, cond}
+use mathlib.Core.Path.{sym, _∙_, ap, refl}
+use mathlib.Core.Bool.{Bool, cond}
 use native.Mathlib.Omega.{arith}
-use lib.IntN.{ℤ, pos, natAbs, _+ℤ_, +ℤ-idr}
+use lib.IntN.{pos, _+ℤ_, +ℤ-idr}
 use Rattle.exact.proofs.Integers.{back, sfits-abs}
 use Rattle.margin.proofs.SignedCalls.{plus-fits, plus-is}
 use Rattle.margin.proofs.rows.net_with.Statement.{statement}

@@ -6,7 +6,6 @@ use lib.IntN.{pos}
 use denote.Ref.{now}
 use borrow.Author.Needs.{needs}
 use Rattle.record.specs.Layout.{lots, value}
-use Rattle.margin.specs.Position.{Sized}
 use Rattle.margin.proofs.SignedCalls.{times-fits, times-is, sized-back}
 use Rattle.margin.proofs.rows.per_tick.Statement.{statement}
 use Rattle.margin.proofs.rows.per_tick.Tie as tie

@@ -1,7 +1,7 @@
 -- `short`: by the sign.
 -- Assumes nothing.
 use mathlib.Core.Path.{_≡_, refl, sym, _∙_}
-use mathlib.Core.Bool.{Bool, true, false, false≢true, true≢false}
+use mathlib.Core.Bool.{true, false, false≢true, true≢false}
 use lib.IntN.{ℤ, pos, negsuc, natAbs}
 use borrow.Author.Needs.{needs}
 use Rattle.exact.specs.Signed.{negative}

@@ -1,10 +1,7 @@
 -- `short_options`: the definition's own test.
 -- Assumes nothing.
 use mathlib.Core.Path.{_≡_, sym, _∙_, ap}
-use mathlib.Core.Bool.{Bool, true, false, cond}
-use Prim.Native.Nat.{ℕ}
-use lib.Dec.{eqb}
-use lib.IntN.{ℤ}
+use mathlib.Core.Bool.{Bool, cond}
 use denote.Ref.{now}
 use borrow.Author.Needs.{needs}
 use borrow.Author.Tests.{eq-eqb, ne-eqb}

@@ -1,27 +1,21 @@
 -- `totals_with`: each turn adds one product, of at most 100,000,000,000,000.
 -- Assumes nothing.
-use mathlib.Core.Path.{_≡_, refl, sym, _∙_, ap, subst}
-use Prim.Native.Nat.{ℕ, _+_, _-_, _≤_, _<_, _*_}
+use mathlib.Core.Path.{_≡_, refl, _∙_, ap, subst}
+use Prim.Native.Nat.{ℕ, _+_, _-_, _≤_}
 use native.Mathlib.Omega.{arith}
-use lib.IntN.{ℤ, pos, natAbs, _*ℤ_, _+ℤ_}
-use lib.ListN.{length, getD}
+use lib.IntN.{ℤ, pos, natAbs, _*ℤ_}
+use lib.ListN.{getD}
 use denote.Ref.{now}
 use borrow.Author.Needs.{needs}
-use Rattle.record.specs.Layout.{Record, lots, value, loss}
+use Rattle.record.specs.Layout.{lots, value, loss}
 use mir.Syntax.{w64}
 use mir.Val.{toZ, ofZ}
 use Rattle.exact.proofs.Integers.{back, sfits-abs}
-use Rattle.margin.specs.Position.{Sized, AtMost, Added, products}
+use Rattle.margin.specs.Position.{Sized, Added, products}
 use Rattle.margin.proofs.SignedCalls.{times-fits, times-is, plus-fits, plus-is}
 use Rattle.margin.proofs.AddedLaws.{start, next}
 use Rattle.margin.proofs.rows.totals_with.Statement.{statement}
 use Rattle.margin.proofs.rows.totals_with.Tie as tie
-use Rattle.margin.proofs.rows.totals_with.Reads as reads
-use Rattle.margin.proofs.rows.totals_with.Lts as lts
-use Rattle.exact.proofs.signed.plus.Reads as plus-reads
-use Rattle.exact.proofs.signed.times.Reads as times-reads
-use Rattle.record.proofs.fields.loss.Reads as loss-reads
-use Rattle.margin.proofs.rows.per_tick.Reads as per-tick-reads
 
 abbrev Inv-loop : tie.InvT-loop
 Inv-loop row each totals₀ s₀ totals s = (s ≤ 16) × Added s (products row) totals₀ totals

@@ -1,0 +1,98 @@
+-- The walk over rows: what is added so far, that there is room for the next row, and what is added in the end.
+-- Assumes nothing.
+use mathlib.Core.Path.{_≡_, refl, sym, _∙_, ap, subst}
+use mathlib.Core.List.{List, [], _∷_, _++_}
+use Prim.Native.Nat.{ℕ, _+_, _-_, _*_, _/_, _≤_, _<_}
+use native.Mathlib.Numerals.{add-one}
+use native.Mathlib.Omega.{arith}
+use lib.IntN.{ℤ, _+ℤ_}
+use lib.ListN.{length, getD, take, length-take}
+use lib.Seq.{take-suc, take-all}
+use Rattle.record.specs.Layout.{Record, day}
+use Rattle.account.specs.Records.{cut, records}
+use Rattle.margin.specs.Scanning.{total}
+use Rattle.margin.specs.Deltas.{rowDelta}
+use Rattle.margin.specs.Margin.{shortOptions, shortLots}
+use Rattle.margin.specs.Position.{Within, AtMost, Added, products, onDay, netOn}
+use Rattle.margin.proofs.AddedLaws.{nothing-added, twice, at-most-added, at-most-wider}
+use Rattle.margin.proofs.PositionLaws.{total-append, total-one, net-append, net-one, shorts-append}
+use Rattle.margin.proofs.PositionBounds.{total-most, net-most, short-lots-most, each-take}
+
+-- totals us, nets ms and short lots v are ts, ns and u with the first i rows
+pub record SoFar (rows : List Record) (count : ℕ) (days : List ℕ) (ts ns : List ℤ) (u i : ℕ) (us ms : List ℤ) (v : ℕ) : Type 0 where
+  pub passed : i ≤ length rows
+  pub totals-so-far : Added 16 (λ k. total (take i rows) (k + 1)) ts us
+  pub nets-so-far : Added count (λ j. netOn (take i rows) (getD days j 0)) ns ms
+  pub shorts-so-far : v ≡ u + shortLots (take i rows)
+
+module _ (rows : List Record) (count : ℕ) (days : List ℕ) (ts ns : List ℤ) (u : ℕ) where
+  pub start : SoFar rows count days ts ns u 0 ts ns u
+  start =
+      record {
+        passed = omega arith;
+        totals-so-far = nothing-added 16 (λ k. total [] (k + 1)) ts (λ k. refl);
+        nets-so-far = nothing-added count (λ j. netOn [] (getD days j 0)) ns (λ j. refl);
+        shorts-so-far = omega arith;
+      }
+
+  pub next : (i : ℕ) (us ms us′ ms′ : List ℤ) (v v′ : ℕ) (row : Record) → SoFar rows count days ts ns u i us ms v → i < length rows → getD rows i [] ≡ row → Added 16 (products row) us us′ → Added count (onDay days (day row) (rowDelta row)) ms ms′ → v′ ≡ v + shortOptions row → SoFar rows count days ts ns u (i + 1) us′ ms′ v′
+  next i us ms us′ ms′ v v′ row s h e t n o =
+      let passed : take i rows ++ row ∷ [] ≡ take (i + 1) rows =
+      ap (λ (r : Record). take i rows ++ r ∷ []) (sym e) ∙ sym (take-suc rows i [] h) ∙ ap (λ (m : ℕ). take m rows) (sym (add-one i)) in
+      record {
+        passed = omega arith;
+        totals-so-far =
+            twice 16 (λ k. total (take i rows) (k + 1)) (products row) (λ k. total (take (i + 1) rows) (k + 1)) ts us us′
+            (λ k l.
+            ap (λ (z : ℤ). total (take i rows) (k + 1) +ℤ z) (total-one row (k + 1))
+            ∙ sym (total-append (take i rows) (row ∷ []) (k + 1))
+            ∙ ap (λ (rs : List Record). total rs (k + 1)) passed)
+            (s .totals-so-far) t;
+        nets-so-far =
+            twice count (λ j. netOn (take i rows) (getD days j 0)) (onDay days (day row) (rowDelta row)) (λ j. netOn (take (i + 1) rows) (getD days j 0)) ns ms ms′
+            (λ j l.
+            ap (λ (z : ℤ). netOn (take i rows) (getD days j 0) +ℤ z) (net-one row (getD days j 0))
+            ∙ sym (net-append (take i rows) (row ∷ []) (getD days j 0))
+            ∙ ap (λ (rs : List Record). netOn rs (getD days j 0)) passed)
+            (s .nets-so-far) n;
+        shorts-so-far =
+            let one : shortLots (take i rows ++ row ∷ []) ≡ shortLots (take i rows) + (shortOptions row + 0) = shorts-append (take i rows) (row ∷ []) in
+            let all : shortLots (take i rows ++ row ∷ []) ≡ shortLots (take (i + 1) rows) = ap shortLots passed in
+            omega (arith, s .shorts-so-far);
+      }
+
+-- what is within the bounds of n rows
+pub record Most (n : ℕ) (us ms : List ℤ) (v : ℕ) : Type 0 where
+  pub totals-most : AtMost 16 (n * 100000000000000) us
+  pub nets-most : AtMost 32 (n * 1000000000) ms
+  pub shorts-most : v ≤ n * 100000
+
+module _ (rows : List Record) (count : ℕ) (days : List ℕ) (ts ns : List ℤ) (u : ℕ) (w : Within rows) (m : Most (128 - length rows) ts ns u) where
+  -- room for what n rows in all can come to
+  pub room : (i n : ℕ) (us ms : List ℤ) (v : ℕ) → SoFar rows count days ts ns u i us ms v → 128 - length rows + i ≤ n → Most n us ms v
+  room i n us ms v s h =
+      let few : length (take i rows) ≤ i = omega (arith, length-take i rows) in
+      let each = each-take rows i (w .each) in
+      record {
+        totals-most =
+            at-most-wider 16 ((128 - length rows) * 100000000000000 + length (take i rows) * 100000000000000) (n * 100000000000000) us (omega arith)
+            (at-most-added 16 16 ((128 - length rows) * 100000000000000) (length (take i rows) * 100000000000000) (λ k. total (take i rows) (k + 1)) ts us
+            (m .totals-most) (s .totals-so-far) (λ k l. total-most (take i rows) each (k + 1) (omega arith) (omega arith)));
+        nets-most =
+            at-most-wider 32 ((128 - length rows) * 1000000000 + length (take i rows) * 1000000000) (n * 1000000000) ms (omega arith)
+            (at-most-added 32 count ((128 - length rows) * 1000000000) (length (take i rows) * 1000000000) (λ j. netOn (take i rows) (getD days j 0)) ns ms
+            (m .nets-most) (s .nets-so-far) (λ j l. net-most (take i rows) each (getD days j 0)));
+        shorts-most = omega (arith, s .shorts-so-far, m .shorts-most, short-lots-most (take i rows) each);
+      }
+
+-- all rows
+pub finish : (rows : List Record) (count : ℕ) (days : List ℕ) (ts ns : List ℤ) (u i : ℕ) (us ms : List ℤ) (v : ℕ) → length rows ≤ i → SoFar rows count days ts ns u i us ms v → (Added 16 (λ k. total rows (k + 1)) ts us) × ((Added count (λ j. netOn rows (getD days j 0)) ns ms) × (v ≡ u + shortLots rows))
+finish rows count days ts ns u i us ms v h s =
+    subst (λ (rs : List Record). (Added 16 (λ k. total rs (k + 1)) ts us) × ((Added count (λ j. netOn rs (getD days j 0)) ns ms) × (v ≡ u + shortLots rs)))
+    (take-all i rows h) (s .totals-so-far, (s .nets-so-far, s .shorts-so-far))
+
+-- a stretch of one record, as a ticket is
+pub one-record : (row : List ℕ) → length row ≡ 96 → records row ≡ row ∷ []
+one-record row h =
+    let one : length row / 96 ≡ 1 = omega arith in
+    ap (λ (n : ℕ). cut n row) one ∙ ap (λ (r : Record). r ∷ []) (take-all 96 row (omega arith))

@@ -1,29 +1,28 @@
 -- The check of an account file: the table of refusals of document 01, "What comes back", and its order.
 -- `earlier` are the records before the one looked at, the latest first.
 -- Assumes nothing.
-use Prim.Native.Nat.{ℕ, suc, _+_, _*_, _%_}
-use mathlib.Core.Bool.{Bool, true, false, not, _&&_, _||_, cond}
-use mathlib.Core.List.{List, [], _∷_, map}
-use lib.ListN.{length, take}
+use Prim.Native.Nat.{ℕ, _+_, _*_, _%_}
+use mathlib.Core.Bool.{Bool, false, not, _&&_, _||_, cond}
+use mathlib.Core.List.{List, [], _∷_}
+use lib.ListN.{length}
 use lib.Dec.{eqb, leb, ltb}
 use Rattle.exact.specs.Lists.{any, count}
-use Rattle.record.specs.Bytes.{countFrom}
-use Rattle.record.specs.Layout.{Record, recordBytes, byKind, kind, contract, tier, day, legCount, legTier, legSide, secondContract}
+use Rattle.record.specs.Layout.{Record, recordBytes, byKind, kind, contract, tier, day, legsOf, legTier, legSide, secondContract}
 use Rattle.record.specs.Ranges.{unknownKind, unusedByte, fieldOutside}
 use Rattle.account.specs.Answers.{refusal}
 use Rattle.account.specs.Parts.{ofKind, ofContract}
 use Rattle.account.specs.Records.{records}
-use Rattle.account.specs.declared.Answer.{Answer}
-use Rattle.account.specs.declared.Answer.the-variants.{Accepted, TooLong, CutRecord}
+use Rattle.account.specs.declared.answers.Answer.{Answer}
+use Rattle.account.specs.declared.answers.Answer.the-variants.{Accepted, TooLong, CutRecord}
 
--- What holds of the record before, if there is one.
-abbrev pub ofTheOneBefore : (Record → Bool) → List Record → Bool
-ofTheOneBefore p [] = false
-ofTheOneBefore p (e ∷ earlier) = p e
+-- The record before; where there is none, one of no bytes, so that its kind is 0.
+abbrev pub theOneBefore : List Record → Record
+theOneBefore [] = []
+theOneBefore (e ∷ earlier) = e
 
 -- 4: "kind below the kind before it"
-abbrev pub kindFalls : List Record → Record → Bool
-kindFalls earlier r = ofTheOneBefore (λ e. ltb (kind r) (kind e)) earlier
+abbrev pub kindFalls : Record → Record → Bool
+kindFalls before r = ltb (kind r) (kind before)
 
 -- 7: "kinds 2 to 5 only: it names a contract, a prompt day of its contract, or a tier with a prompt of its contract, that no
 -- earlier record lists (a prompt's own day and tier are listed by it, not named)"
@@ -38,10 +37,6 @@ listsTier c t e = ofContract 2 c e && eqb (tier e) t
 
 abbrev pub none : (Record → Bool) → List Record → Bool
 none lists earlier = not (any lists earlier)
-
--- the legs of an interprompt spread, counted from 0
-abbrev pub legsOf : Record → List ℕ
-legsOf r = countFrom 0 (legCount r)
 
 abbrev pub legUnlisted : List Record → Record → ℕ → Bool
 legUnlisted earlier r leg = none (listsTier (contract r) (legTier r leg)) earlier
@@ -58,18 +53,19 @@ unlisted earlier r =
 -- 8: "a contract number not above the one before; a prompt whose (contract, day) is not above the one before, or whose tier
 -- is below that of the prompt before it in its contract; a row or an interprompt spread whose contract is below that of the
 -- one before of its kind; .."
-abbrev pub notAbove : Record → Record → Bool
-notAbove r e = ofKind 1 e && leb (contract r) (contract e)
+abbrev pub numberNotAbove : Record → Record → Bool
+numberNotAbove before r = ofKind 1 before && leb (contract r) (contract before)
 
 abbrev pub dayNotAbove : Record → Record → Bool
-dayNotAbove r e =
-    ofKind 2 e && (ltb (contract r) (contract e) || (eqb (contract r) (contract e) && leb (day r) (day e)))
+dayNotAbove before r =
+    ofKind 2 before
+    && (ltb (contract r) (contract before) || (eqb (contract r) (contract before) && leb (day r) (day before)))
 
 abbrev pub tierFalls : Record → Record → Bool
-tierFalls r e = ofContract 2 (contract r) e && ltb (tier r) (tier e)
+tierFalls before r = ofContract 2 (contract r) before && ltb (tier r) (tier before)
 
 abbrev pub contractFalls : Record → Record → Bool
-contractFalls r e = ofKind (kind r) e && ltb (contract r) (contract e)
+contractFalls before r = ofKind (kind r) before && ltb (contract r) (contract before)
 
 -- ".. two legs with the same tier and side; no leg A or no leg B; .."
 abbrev pub sameLeg : Record → ℕ → ℕ → Bool
@@ -82,15 +78,21 @@ alikeAmong r (leg ∷ legs) = any (sameLeg r leg) legs || alikeAmong r legs
 abbrev pub noLegOn : ℕ → Record → Bool
 noLegOn side r = not (any (λ leg. eqb (legSide r leg) side) (legsOf r))
 
-abbrev pub outOfOrder : List Record → Record → Bool
-outOfOrder earlier r =
+abbrev pub legsClash : Record → Bool
+legsClash r = alikeAmong r (legsOf r) || (noLegOn 1 r || noLegOn 2 r)
+
+-- ".. an intercontract spread of a contract with itself"
+abbrev pub withItself : Record → Bool
+withItself r = eqb (contract r) (secondContract r)
+
+abbrev pub outOfOrder : Record → Record → Bool
+outOfOrder before r =
     byKind (kind r)
-    (ofTheOneBefore (notAbove r) earlier)
-    (ofTheOneBefore (dayNotAbove r) earlier || ofTheOneBefore (tierFalls r) earlier)
-    (ofTheOneBefore (contractFalls r) earlier)
-    (ofTheOneBefore (contractFalls r) earlier || (alikeAmong r (legsOf r) || (noLegOn 1 r || noLegOn 2 r)))
-    -- ".. an intercontract spread of a contract with itself"
-    (eqb (contract r) (secondContract r))
+    (numberNotAbove before r)
+    (dayNotAbove before r || tierFalls before r)
+    (contractFalls before r)
+    (contractFalls before r || legsClash r)
+    (withItself r)
     false
 
 -- "per contract 32 prompts, 128 rows, 32 interprompt spreads; 32 intercontract spreads"
@@ -124,13 +126,14 @@ pub record Refusal : Type 0 where
   pub number : ℕ
   pub given : Bool
 
-abbrev pub if : ℕ → Bool → Refusal
-if n b = record { number = n; given = b }
+infixl 70 _when_
+abbrev pub _when_ : ℕ → Bool → Refusal
+n when b = record { number = n; given = b }
 
 abbrev pub refusals : List Record → Record → List Refusal
 refusals earlier r =
-    if 3 (unknownKind r) ∷ if 4 (kindFalls earlier r) ∷ if 5 (unusedByte r) ∷ if 6 (fieldOutside r)
-    ∷ if 7 (unlisted earlier r) ∷ if 8 (outOfOrder earlier r) ∷ if 9 (overLimit earlier r) ∷ []
+    3 when unknownKind r ∷ 4 when kindFalls (theOneBefore earlier) r ∷ 5 when unusedByte r ∷ 6 when fieldOutside r
+    ∷ 7 when unlisted earlier r ∷ 8 when outOfOrder (theOneBefore earlier) r ∷ 9 when overLimit earlier r ∷ []
 
 -- "each tested 3 to 9, the first fault answering"; 0 where there is none
 abbrev pub firstOf : List Refusal → ℕ

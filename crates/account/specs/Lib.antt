@@ -2,3 +2,5 @@ pub mod Answers
 pub mod Records
 pub mod Parts
 pub mod Check
+pub mod Notes
+pub mod Surveyed

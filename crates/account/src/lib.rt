@@ -1,18 +1,11 @@
-// The account file: accepted, or refused at its first fault.
+// The account file: accepted, or refused at its first fault, and the parts of an accepted one.
 
-// What comes back for an account file and the questions put to it. The record at fault, or the number of records, is
-// with the case; `numberOf` and `recordOf` give the paper's number and record of each.
-pub enum Answer {
-    Accepted,
-    TooLong,
-    CutRecord,
-    UnknownKind(usize),
-    KindFalls(usize),
-    UnusedByte(usize),
-    FieldOutside(usize),
-    Unlisted(usize),
-    OutOfOrder(usize),
-    OverLimit(usize),
-    TooFewNumbers(usize),
-    NoSuchQuestion(usize),
-}
+pub mod answers; // answers.rt: what comes back
+pub mod stretches; // stretches.rt: records as they stand in a file
+pub mod prompts; // prompts.rt: a prompt by its day or its tier
+mod notes; // notes.rt: what the check notes of the records passed
+mod listed; // listed.rt: refusal 7
+mod order; // order.rt: refusals 4 and 8
+mod limits; // limits.rt: refusal 9
+mod fault; // fault.rt: the first refusal of a record
+pub mod check; // check.rt: the check of a file

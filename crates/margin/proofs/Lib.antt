@@ -17,3 +17,4 @@ pub mod LineLaws
 pub mod ContractLaws
 pub mod TableLaws
 pub mod WalkLaws
+pub mod NumberLaws

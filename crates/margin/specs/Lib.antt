@@ -19,3 +19,4 @@ pub mod Lines
 pub mod Within
 pub mod Promised
 pub mod Table
+pub mod Numbers

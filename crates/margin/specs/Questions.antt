@@ -10,8 +10,8 @@ use lib.IntN.{ℤ}
 use Rattle.account.specs.Answers.{numberOf}
 use Rattle.account.specs.Check.{checked}
 use Rattle.account.specs.Records.{records, recordCount}
-use Rattle.account.specs.declared.Answer.{Answer}
-use Rattle.account.specs.declared.Answer.the-variants.{Accepted, TooFewNumbers, NoSuchQuestion}
+use Rattle.account.specs.declared.answers.Answer.{Answer}
+use Rattle.account.specs.declared.answers.Answer.the-variants.{Accepted, TooFewNumbers, NoSuchQuestion}
 use Rattle.margin.specs.Figures.{figures}
 use Rattle.margin.specs.Books.{answered, book}
 

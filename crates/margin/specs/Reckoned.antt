@@ -9,7 +9,7 @@ use lib.ListN.{replicate}
 use Rattle.record.specs.Layout.{Record}
 use Rattle.account.specs.Records.{records}
 use Rattle.account.specs.Check.{checked}
-use Rattle.account.specs.declared.Answer.the-variants.{Accepted}
+use Rattle.account.specs.declared.answers.Answer.the-variants.{Accepted}
 use Rattle.margin.specs.Entered.{contractRecord, promptRecord, rowRecord, spreadRecord}
 use Rattle.margin.specs.Scanning.{scanningRisk, activeScenario}
 use Rattle.margin.specs.Charges.{spreadCharge}

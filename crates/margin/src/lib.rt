@@ -4,6 +4,7 @@ mod books;
 mod charges;
 mod intercontract;
 pub mod line;
+pub mod numbers;
 pub mod pairs;
 mod risk;
 pub mod rows;

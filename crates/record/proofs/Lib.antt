@@ -2,3 +2,4 @@ pub mod Reading
 pub mod Tests
 pub mod Dispatch
 pub mod TwosComplement
+pub mod Within

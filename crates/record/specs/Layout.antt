@@ -126,6 +126,10 @@ legCount = numberIn legCountField
 abbrev pub twoLegs : Record → Bool
 twoLegs r = eqb (legCount r) 2
 
+-- the legs, counted from 0
+abbrev pub legsOf : Record → List ℕ
+legsOf r = 0 ∷ 1 ∷ cond (twoLegs r) [] (2 ∷ [])
+
 abbrev pub thirdLeg : Record → List Field
 thirdLeg r = cond (twoLegs r) [] (legFields 2)
 

@@ -1,20 +1,20 @@
 -- Among all feasible lists of numbers ours is the first: feasible said step by step, each step forming the most that fits.
 -- Of a number's room and use two laws alone are used: what is within the room fits the pool, and what fits is within the room.
 -- Assumes nothing.
-use Prim.Native.Nat.{ℕ, zero, suc, _+_, _-_, _*_, _/_, _≤_, _<_, min}
+use Prim.Native.Nat.{ℕ, zero, suc, _+_, _-_, _≤_, _<_, min}
+use native.Mathlib.Decide.{ℕ-discrete}
 use native.Mathlib.Nat.{le-div-iff-mul-le, div-lt-iff-lt-mul, not-suc-le-zero}
 use native.Mathlib.Omega.{arith}
-use mathlib.Core.Path.{_≡_, refl, sym, ap₂, subst}
 use mathlib.Core.Bool.{Bool, true, false, cond, not, _&&_, _||_, false≢true}
-use mathlib.Core.List.{List, [], _∷_, map, head-eq-of-cons-eq}
-use mathlib.Core.Logic.{⊎-elim, _⊎_, inl, inr}
+use mathlib.Core.List.{List, [], _∷_}
+use mathlib.Core.Logic.{_⊎_, inl, inr}
+use mathlib.Core.Path.{_≡_, refl, sym, ap₂, subst}
+use lib.Dec.{ltb}
 use lib.ListN.{length, getD}
-use lib.Dec.{eqb, ltb}
 use borrow.Author.Tests.{eq-eqb, ltb-true, not-true}
-use native.Mathlib.Decide.{ℕ-discrete}
-use Rattle.exact.specs.Lists.{sum, any, least}
+use Rattle.exact.specs.Lists.{any}
+use Rattle.spread.specs.Demand.{sameMarket, draws, legUse, stepUse, totalUse, FirstDifference, soundLegs, soundStep, soundSteps}
 use Rattle.spread.specs.Steps.{Market, long, short, Open, Taker, pool, room, roomFor, useOf, formed, after, numbers}
-use Rattle.spread.specs.Demand.{sameMarket, draws, legUse, stepUse, totalUse, Feasible, FirstDifference, soundLegs, soundStep, soundSteps}
 use Rattle.spread.proofs.Both.{and-left, and-right}
 use Rattle.spread.proofs.Spending.{draws-market, draws-tier, pool-after}
 

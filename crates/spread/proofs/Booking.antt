@@ -1,25 +1,24 @@
 -- Pools, a run on them and one spend give the steps' numbers and the prompts' used and unused deltas; and the promise of a book
 -- leaves no choice.
 -- Assumes nothing.
-use Prim.Native.Nat.{ℕ, _+_, _-_, _*_, _≤_, _<_}
+use Prim.Native.Nat.{ℕ, _+_, _*_}
 use native.Mathlib.Omega.{arith}
-use mathlib.Core.Path.{_≡_, refl, sym, _∙_, ap}
 use mathlib.Core.Bool.{Bool, true, false, cond}
 use mathlib.Core.List.{List, []}
-use lib.ListN.{length, getD, replicate}
+use mathlib.Core.Path.{_≡_, refl, sym, _∙_, ap}
 use lib.Dec.{ltb}
-use lib.IntN.{ℤ, pos}
+use lib.ListN.{replicate}
 use borrow.Author.Tests.{ltb-true, ltb-false}
-use Rattle.spread.specs.Steps.{Market, Open, pool, numbers, left, minus, usedOf, unusedOf}
-use Rattle.spread.specs.Demand.{totalUse}
-use Rattle.spread.specs.Spend.{spend, deltas}
-use Rattle.spread.specs.Cells.{cellOf, cellAt, Pooled, numbersIn}
 use Rattle.spread.specs.Accepted.{openOf, spreadsOf, stepsOf, sound}
 use Rattle.spread.specs.Book.{numbersOf, usedIn, unusedIn, entries, spreadsEntry, deltaEntry, Booked, Refused, Run, Wanted, Spent}
+use Rattle.spread.specs.Cells.{cellOf, cellAt, Pooled, numbersIn}
+use Rattle.spread.specs.Demand.{totalUse, Demand3}
+use Rattle.spread.specs.Spend.{spend, deltas}
+use Rattle.spread.specs.Steps.{Market, Open, pool, numbers, left, minus, usedOf, unusedOf}
 use Rattle.spread.specs.declared.Delta.{Delta}
+use Rattle.spread.specs.declared.Prompts.{Prompts}
 use Rattle.spread.specs.declared.Spreads.{Spreads}
 use Rattle.spread.specs.declared.Table.{Table}
-use Rattle.spread.specs.declared.Prompts.{Prompts}
 use Rattle.spread.specs.declared.book.Book.{Book}
 use Rattle.spread.proofs.Demand3.{demand3-accepted}
 use Rattle.spread.proofs.Filling.{filled-none, filled-all}
@@ -39,6 +38,10 @@ booked-one p t r s a b =
       used = (a .used ∙ sym (b .used)) i;
       unused = (a .unused ∙ sym (b .unused)) i;
     }
+
+-- what a book says of accepted prompts and spreads is what demand 3 asks
+pub booked-demand3 : (p : Prompts) (t : Table) (r : Book) → Booked p t r → r .accepted ≡ true → Demand3 (stepsOf t) (openOf p)
+booked-demand3 p t r b e = demand3-accepted p t (sym (b .accepted) ∙ e)
 
 -- what is refused has no numbers
 

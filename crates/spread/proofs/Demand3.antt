@@ -2,17 +2,17 @@
 -- Assumes nothing.
 use Prim.Native.Nat.{ℕ, _<_}
 use native.Mathlib.Omega.{arith}
-use mathlib.Core.Path.{_≡_, refl, sym, _∙_, ap}
 use mathlib.Core.Bool.{true}
 use mathlib.Core.List.{List, [], _∷_}
 use mathlib.Core.Logic.{⊎-elim}
+use mathlib.Core.Path.{_≡_, refl, sym, _∙_}
 use lib.ListN.{length, getD}
-use Rattle.spread.specs.Steps.{Market, Open, Taker, formed, after, numbers, left}
-use Rattle.spread.specs.Demand.{Demand3, Feasible, FirstDifference, totalUse, soundSteps}
 use Rattle.spread.specs.Accepted.{openOf, stepsOf, sound}
-use Rattle.spread.specs.declared.Table.{Table}
+use Rattle.spread.specs.Demand.{Demand3, Feasible, FirstDifference, totalUse, soundSteps}
+use Rattle.spread.specs.Steps.{Market, Open, Taker, formed, after, numbers}
 use Rattle.spread.specs.declared.Prompts.{Prompts}
-use Rattle.spread.proofs.Best.{Stepwise, ours-stepwise, ours-larger, stepwise-within, within-stepwise, difference}
+use Rattle.spread.specs.declared.Table.{Table}
+use Rattle.spread.proofs.Best.{ours-stepwise, ours-larger, stepwise-within, within-stepwise, difference}
 use Rattle.spread.proofs.Parts.{parts-add, used-sign, unused-sign, earlier-first, used-adds}
 use Rattle.spread.proofs.Soundness.{table-sound}
 use Rattle.spread.proofs.Spending.{left-spend}

@@ -2,16 +2,17 @@
 -- Assumes nothing.
 use Prim.Native.Nat.{ℕ, zero, suc, _<_, min}
 use native.Mathlib.Omega.{arith}
-use mathlib.Core.Path.{_≡_, refl, sym, _∙_, ap}
-use mathlib.Core.Bool.{Bool, true, false, cond}
+use mathlib.Core.Bool.{Bool, cond}
 use mathlib.Core.List.{List, [], _∷_, map}
+use mathlib.Core.Path.{_≡_, refl, sym, _∙_, ap}
+use lib.Dec.{ltb}
 use lib.ListN.{length, getD, take}
 use lib.Seq.{take-nil}
-use lib.Dec.{ltb}
 use borrow.Author.Tests.{lt-ltb}
+use Rattle.exact.proofs.Lists.{map-take}
 use Rattle.exact.specs.Lists.{least}
-use Rattle.spread.specs.Steps.{Taker, taker, legsOf}
 use Rattle.spread.specs.Cells.{marketIn, stepOf, roomIn, formedIn, lessIn, afterIn}
+use Rattle.spread.specs.Steps.{Taker, taker}
 use Rattle.spread.specs.declared.Leg.{Leg}
 use Rattle.spread.specs.declared.Spread.{Spread}
 
@@ -21,11 +22,6 @@ three d (x ∷ []) e = absurd (omega arith)
 three d (x ∷ y ∷ []) e = absurd (omega arith)
 three d (x ∷ y ∷ z ∷ []) e = refl
 three d (x ∷ y ∷ z ∷ w ∷ l) e = absurd (omega arith)
-
-map-take {ℓ κ} : {A : Type ℓ} {B : Type κ} (f : A → B) (n : ℕ) (l : List A) → map f (take n l) ≡ take n (map f l)
-map-take f zero l = refl
-map-take f (suc n) [] = refl
-map-take f (suc n) (x ∷ l) = ap (λ k. f x ∷ k) (map-take f n l)
 
 -- the smallest of the first rooms
 pub least-three : (legs a b c : ℕ) → 2 < legs → least (take legs (a ∷ b ∷ c ∷ [])) ≡ min a (min b c)

@@ -9,6 +9,5 @@ pub mod Parts
 pub mod Paying
 pub mod Pooling
 pub mod Running
-pub mod Signs
 pub mod Soundness
 pub mod Spending

@@ -2,39 +2,27 @@
 -- Assumes nothing.
 use Prim.Native.Nat.{ℕ, zero, suc, _+_, _-_, _≤_, _<_, min}
 use native.Mathlib.Omega.{arith}
-use mathlib.Core.Path.{_≡_, refl, sym, _∙_, ap, subst}
 use mathlib.Core.Bool.{Bool, true, false, cond}
-use mathlib.Core.List.{List, [], _∷_, map}
-use lib.ListN.{length, getD}
+use mathlib.Core.List.{List, [], _∷_}
+use mathlib.Core.Path.{_≡_, refl, sym, _∙_, ap, subst}
 use lib.Dec.{eqb}
-use lib.IntN.{ℤ, pos, negsuc, negℤ, _+ℤ_, _-ℤ_, negℤ-+ℤ, -ℤ-+ℤ-cancel, +ℤ-negℤ-cancel}
+use lib.IntN.{ℤ, pos, natAbs, negsuc, _+ℤ_, _-ℤ_, -ℤ-+ℤ-cancel}
 use borrow.Author.Tests.{eq-eqb}
-use Rattle.spread.specs.Steps.{Market, long, short, Open, onSide, inTier, pool, towardsZero, less, minus}
-use Rattle.spread.specs.Deltas.{part}
+use Rattle.exact.proofs.Integers.{taken-sign}
+use Rattle.exact.specs.Signed.{withSignOf}
 use Rattle.spread.specs.Demand.{opposite, tierAt, netAt, deltaAt, addedUp}
 use Rattle.spread.specs.Spend.{marketOf, spend, deltas, usedBy}
+use Rattle.spread.specs.Steps.{Market, long, short, Open, onSide, inTier, pool, towardsZero}
 use Rattle.spread.proofs.Spending.{neg-long, neg-short, side-towards, pool-spend}
 
-min-rest : (a n : ℕ) → min a n + (n - a) ≡ n
-min-rest a n = omega arith
-
-part-and-rest : (z : ℤ) (a : ℕ) → part z a +ℤ towardsZero z a ≡ z
-part-and-rest (pos n) a = ap pos (min-rest a n)
-part-and-rest (negsuc n) a =
-    sym (negℤ-+ℤ (pos (min a (suc n))) (pos (suc n - a))) ∙ ap (λ k. negℤ (pos k)) (min-rest a (suc n))
-
-pub used-part : (z : ℤ) (a : ℕ) → z -ℤ towardsZero z a ≡ part z a
-used-part z a =
-    ap (λ y. y -ℤ towardsZero z a) (sym (part-and-rest z a)) ∙ +ℤ-negℤ-cancel (part z a) (towardsZero z a)
-
-side-part : (f : Market → ℕ) (m : Market) (z : ℤ) → onSide m (part z (f (marketOf z))) ≡ min (f m) (onSide m z)
+side-part : (f : Market → ℕ) (m : Market) (z : ℤ) → onSide m (withSignOf z (min (f (marketOf z)) (natAbs z))) ≡ min (f m) (onSide m z)
 side-part f long (pos n) = refl
 side-part f long (negsuc n) = neg-long (min (f short) (suc n)) ∙ omega arith
 side-part f short (pos n) = omega arith
 side-part f short (negsuc n) = neg-short (min (f short) (suc n))
 
 side-used : (f : Market → ℕ) (m : Market) (z : ℤ) → onSide m (z -ℤ towardsZero z (f (marketOf z))) ≡ min (f m) (onSide m z)
-side-used f m z = ap (onSide m) (used-part z (f (marketOf z))) ∙ side-part f m z
+side-used f m z = ap (onSide m) (taken-sign z (f (marketOf z))) ∙ side-part f m z
 
 none-opposite : (z : ℤ) → onSide (opposite z) z ≡ 0
 none-opposite (pos n) = refl

@@ -1,52 +1,39 @@
 -- The spend over the prompts, one prompt after the other, with the cells for what is still wanted.
 -- Assumes nothing.
-use Prim.Native.Nat.{ℕ, zero, suc, _+_, _-_, _*_, _≤_, _<_, _^_, min}
+use Prim.Native.Nat.{ℕ, zero, suc, _+_, _-_, _*_, _≤_, _<_, _^_}
 use native.Mathlib.Numerals.{add-one}
 use native.Mathlib.Omega.{arith}
-use mathlib.Core.Path.{_≡_, refl, sym, _∙_, ap, ap₂, subst}
 use mathlib.Core.Bool.{Bool, true, false, cond, _&&_}
-use mathlib.Core.List.{List, [], _∷_, _++_, map}
-use lib.ListN.{length, getD, set, take, drop, replicate, length-set, length-replicate, drop-of-length-le}
-use lib.Seq.{drop-cons, take-suc, take-all}
+use mathlib.Core.List.{List, [], _∷_, _++_}
+use mathlib.Core.Path.{_≡_, refl, sym, _∙_, ap, ap₂, subst}
 use lib.Dec.{eqb, leb, ltb}
 use lib.IntN.{ℤ, pos, negsuc, natAbs, _-ℤ_}
+use lib.ListN.{length, getD, set, take, drop, replicate, length-set, length-replicate, drop-of-length-le}
+use lib.Seq.{drop-cons, take-suc}
 use borrow.Author.Tests.{eqb-true, eqb-false, eq-eqb, ne-eqb, ltb-true, leb-true}
-use Rattle.exact.specs.Lists.{sum}
-use Rattle.spread.specs.Steps.{Market, long, short, Open, Taker, onSide, inTier, pool, towardsZero, less, minus}
-use Rattle.spread.specs.Deltas.{isShort, sized, part}
-use Rattle.spread.specs.Demand.{sameMarket, draws}
-use Rattle.spread.specs.Spend.{marketOf, spend, deltas, usedBy}
-use Rattle.spread.specs.Cells.{shortIf, cellOf, cellAt, Pooled}
+use Rattle.exact.specs.Signed.{negative}
 use Rattle.spread.specs.Accepted.{openOf, every, mostDelta, soundPrompt, soundPrompts}
 use Rattle.spread.specs.Book.{deltaEntry, Spent}
+use Rattle.spread.specs.Cells.{shortIf, cellOf, cellAt, Pooled}
+use Rattle.spread.specs.Demand.{sameMarket, draws}
+use Rattle.spread.specs.Spend.{marketOf, spend, deltas, usedBy}
+use Rattle.spread.specs.Steps.{Market, long, short, Open, Taker, onSide, inTier, pool, towardsZero, minus}
 use Rattle.spread.specs.declared.Delta.{Delta}
 use Rattle.spread.specs.declared.Prompts.{Prompts}
 use Rattle.spread.proofs.Both.{and-left, and-right}
 use Rattle.spread.proofs.Every.{open-length, open-at}
 use Rattle.spread.proofs.Filling.{getD-same, Filled, filled-none, filled-next, filled-all}
-use Rattle.spread.proofs.Parts.{used-part}
 use Rattle.spread.proofs.Pooling.{cell-set, cell-less}
 use Rattle.spread.proofs.Spending.{draws-market, draws-tier, spend-same}
 
 abbrev pub none : Open
 none = record { tier = 0; unused = pos 0 }
 
--- a delta by its side and size
+-- the side of a delta
 
-pub side-market : (z : ℤ) → shortIf (isShort z) ≡ marketOf z
+pub side-market : (z : ℤ) → shortIf (negative z) ≡ marketOf z
 side-market (pos n) = refl
 side-market (negsuc n) = refl
-
-pub part-sized : (z : ℤ) (a : ℕ) → part z a ≡ sized (isShort z) (min a (natAbs z))
-part-sized (pos n) a = refl
-part-sized (negsuc n) a = refl
-
-beyond-min : (a n : ℕ) → n - a ≡ n - min a n
-beyond-min a n = omega arith
-
-pub towards-sized : (z : ℤ) (a : ℕ) → towardsZero z a ≡ sized (isShort z) (natAbs z - min a (natAbs z))
-towards-sized (pos n) a = ap pos (beyond-min a n)
-towards-sized (negsuc n) a = ap (sized true) (beyond-min a (suc n))
 
 -- a prompt as a leg on its own pool
 abbrev own : Open → Taker
@@ -126,7 +113,7 @@ given p i dt dd lt ln e h =
     }
 
 -- the cell that the code finds for a prompt
-pub own-cell : (z : ℤ) (t cell : ℕ) (b : Bool) → b ≡ isShort z → cell ≡ cellOf (shortIf b) t → cell ≡ cellOf (marketOf z) t
+pub own-cell : (z : ℤ) (t cell : ℕ) (b : Bool) → b ≡ negative z → cell ≡ cellOf (shortIf b) t → cell ≡ cellOf (marketOf z) t
 own-cell z t cell b e f = f ∙ ap (λ (m : Market). cellOf m t) (ap shortIf e ∙ side-market z)
 
 -- the pools of the prompts, one prompt after the other
@@ -213,7 +200,7 @@ wanted-after now p ps l =
 
 module _ (wanted : List ℕ) (ps : List Open) (i : ℕ) (now : List ℕ) (used unused : List Delta) (p : Open) (u v : Delta) (d : Open)
     (h : i < length ps) (g : i < 32) (here : getD ps i d ≡ p)
-    (eu : u .0 ≡ part (p .unused) (cellAt now (marketOf (p .unused)) (p .tier)))
+    (eu : u .0 ≡ p .unused -ℤ towardsZero (p .unused) (cellAt now (marketOf (p .unused)) (p .tier)))
     (ev : v .0 ≡ towardsZero (p .unused) (cellAt now (marketOf (p .unused)) (p .tier)))
     (r : Paying wanted ps i now used unused) where
   after-p : List ℕ
@@ -235,7 +222,7 @@ module _ (wanted : List ℕ) (ps : List Open) (i : ℕ) (now : List ℕ) (used u
       r .toUse j
       ∙ ap (λ (l : List Open). getD (usedBy (cellAt now) l) j (pos 0)) to-go
       ∙ ap₂ (λ (z : ℤ) (l : List Open). getD (z ∷ minus (deltas (drop (i + 1) ps)) (deltas l)) j (pos 0))
-      (used-part (p .unused) (cellAt now (marketOf (p .unused)) (p .tier)) ∙ sym eu) (wanted-after now p (drop (i + 1) ps) (r .size))
+      (sym eu) (wanted-after now p (drop (i + 1) ps) (r .size))
 
   here-at : (l : List ℤ) (z : ℤ) → getD l (i + 0) (pos 0) ≡ z → z ≡ getD l i (pos 0)
   here-at l z e = sym e ∙ ap (λ (k : ℕ). getD l k (pos 0)) (omega arith)

@@ -1,21 +1,19 @@
 -- The steps on the cells are the steps on the prompts: two tiers and sides have one cell only if they are the same.
 -- Assumes nothing.
-use Prim.Native.Nat.{ℕ, zero, suc, _+_, _-_, _*_, _≤_, _<_}
-use native.Mathlib.Nat.{sub-zero, zero-sub}
+use Prim.Native.Nat.{ℕ, _+_, _-_, _*_, _≤_, _<_}
+use native.Mathlib.Nat.{sub-zero}
 use native.Mathlib.Omega.{arith}
+use mathlib.Core.Bool.{Bool, true, false, cond, _&&_}
+use mathlib.Core.List.{List, [], _∷_, map}
 use mathlib.Core.Path.{_≡_, refl, sym, _∙_, ap, ap₂, subst, fun-ext}
-use mathlib.Core.Bool.{Bool, true, false, cond, _&&_, true≢false, false≢true}
-use mathlib.Core.List.{List, [], _∷_, _++_, map}
+use lib.Dec.{eqb, ltb}
 use lib.ListN.{length, getD, set, length-set, List·getD-eq-default}
 use lib.Seq.{getD-set-same, getD-set-other, set-out}
-use lib.Dec.{eqb, ltb}
-use lib.IntN.{ℤ, pos, negsuc, natAbs}
 use borrow.Author.Tests.{eqb-true, eqb-false, eq-eqb, ne-eqb, ltb-true, ltb-false, lt-ltb, le-ltb}
-use Rattle.exact.specs.Lists.{sum, least}
-use Rattle.spread.specs.Steps.{Market, long, short, Open, Taker, onSide, inTier, pool, room, roomFor, useOf, takeFrom, formed, after, numbers, left}
+use Rattle.exact.specs.Lists.{least}
+use Rattle.spread.specs.Cells.{parity, cellOf, cellAt, Pooled, formedIn, lessIn, afterIn, numbersIn, leftIn}
 use Rattle.spread.specs.Demand.{sameMarket, draws}
-use Rattle.spread.specs.Spend.{marketOf}
-use Rattle.spread.specs.Cells.{parity, cellOf, cellAt, Pooled, roomIn, formedIn, lessIn, afterIn, numbersIn, leftIn}
+use Rattle.spread.specs.Steps.{Market, long, short, Open, Taker, pool, room, useOf, takeFrom, formed, after, numbers, left}
 use Rattle.spread.proofs.Spending.{draws-market, draws-tier, take-spend, pool-spend}
 
 -- a test is as another that holds exactly when it does

@@ -1,20 +1,20 @@
 -- The run of all steps, spread after spread: the numbers of the steps still to come are those of the run from the cells left.
 -- Assumes nothing.
-use Prim.Native.Nat.{ℕ, zero, suc, _+_, _-_, _*_, _≤_, _<_}
+use Prim.Native.Nat.{ℕ, suc, _+_, _-_, _*_, _≤_, _<_}
 use native.Mathlib.Numerals.{add-one}
 use native.Mathlib.Omega.{arith}
-use mathlib.Core.Path.{_≡_, refl, sym, _∙_, ap, ap₂, subst}
 use mathlib.Core.Bool.{true, false}
-use mathlib.Core.List.{List, [], _∷_}
-use lib.ListN.{length, getD, set, take, drop, replicate, drop-of-length-le}
+use mathlib.Core.List.{List, _∷_}
+use mathlib.Core.Path.{_≡_, refl, sym, _∙_, ap, ap₂, subst}
+use lib.ListN.{length, getD, set, drop, replicate, drop-of-length-le}
 use lib.Seq.{drop-cons, getD-take, length-take-le}
-use Rattle.spread.specs.Steps.{steps}
-use Rattle.spread.specs.Cells.{stepOf, numbersIn, leftIn, formedIn, afterIn, Taken}
 use Rattle.spread.specs.Accepted.{spreadsOf}
 use Rattle.spread.specs.Book.{spreadsEntry, Run}
+use Rattle.spread.specs.Cells.{stepOf, numbersIn, leftIn, Taken}
+use Rattle.spread.specs.Steps.{steps}
 use Rattle.spread.specs.declared.Spread.{Spread}
-use Rattle.spread.specs.declared.Table.{Table}
 use Rattle.spread.specs.declared.Spreads.{Spreads}
+use Rattle.spread.specs.declared.Table.{Table}
 use Rattle.spread.proofs.Filling.{Filled, filled-none, filled-next, filled-all}
 
 abbrev pub noSpreads : Spreads

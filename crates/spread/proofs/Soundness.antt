@@ -1,21 +1,21 @@
 -- The steps of an accepted table can be run: what is asked of its legs is what demand 3 rests on.
 -- Assumes nothing.
 use Prim.Native.Nat.{ℕ}
-use mathlib.Core.Path.{_≡_, refl, sym, _∙_, ap, subst}
-use mathlib.Core.Logic.{_⊎_, inl, inr}
-use mathlib.Core.Bool.{Bool, true, false, cond, not, _&&_, _||_, true≢false, false≢true}
+use mathlib.Core.Bool.{Bool, true, false, not, _&&_, _||_, true≢false}
 use mathlib.Core.List.{List, [], _∷_, map}
+use mathlib.Core.Logic.{_⊎_, inl, inr}
+use mathlib.Core.Path.{_≡_, refl}
 use lib.Dec.{eqb, leb, ltb}
 use borrow.Author.Tests.{eqb-true, not-true}
 use Rattle.exact.specs.Lists.{any}
-use Rattle.spread.specs.Steps.{Market, long, short, Taker, taker, legsOf, steps}
-use Rattle.spread.specs.Demand.{sameMarket, draws, soundLegs, soundStep, soundSteps}
-use Rattle.spread.specs.Cells.{marketIn, stepOf}
 use Rattle.spread.specs.Accepted.{spreadsOf, stepsOf, every, soundLeg, sameLeg, soundLegsOf, soundSpread, soundPrompts, soundTable, sound}
+use Rattle.spread.specs.Cells.{marketIn, stepOf}
+use Rattle.spread.specs.Demand.{sameMarket, draws, soundLegs, soundStep, soundSteps}
+use Rattle.spread.specs.Steps.{taker, legsOf, steps}
 use Rattle.spread.specs.declared.Leg.{Leg}
+use Rattle.spread.specs.declared.Prompts.{Prompts}
 use Rattle.spread.specs.declared.Spread.{Spread}
 use Rattle.spread.specs.declared.Table.{Table}
-use Rattle.spread.specs.declared.Prompts.{Prompts}
 use Rattle.spread.proofs.Both.{and-left, and-right, and-both}
 
 -- a side is A or B, and in each step the two take from different sides of the market

@@ -1,24 +1,21 @@
 -- One spend at the end leaves the prompts as the steps leave them, each leg taking by itself: spends add up.
 -- Assumes nothing.
 use Prim.Native.Nat.{ℕ, zero, suc, _+_, _-_, min}
-use native.Mathlib.Nat.{sub-zero, zero-sub}
+use native.Mathlib.Nat.{zero-sub}
 use native.Mathlib.Omega.{arith}
+use mathlib.Core.Bool.{Bool, true, false, cond, _&&_, false≢true}
+use mathlib.Core.List.{List, [], _∷_}
 use mathlib.Core.Path.{_≡_, refl, sym, _∙_, ap, ap₂, fun-ext}
-use mathlib.Core.Bool.{Bool, true, false, cond, _&&_, true≢false, false≢true}
-use mathlib.Core.List.{List, [], _∷_, map}
-use lib.IntN.{ℤ, pos, negsuc, negℤ}
 use lib.Dec.{eqb}
+use lib.IntN.{ℤ, pos, negsuc, negℤ}
 use borrow.Author.Tests.{eqb-true}
-use Rattle.spread.specs.Steps.{Market, long, short, Open, Taker, onSide, inTier, pool, useOf, towardsZero, less, gives, takeFrom, formed, after, numbers, left}
+use Rattle.exact.proofs.Integers.{towards-zero-none}
 use Rattle.spread.specs.Demand.{sameMarket, draws, legUse, stepUse, totalUse}
 use Rattle.spread.specs.Spend.{marketOf, spend}
+use Rattle.spread.specs.Steps.{Market, long, short, Open, Taker, onSide, inTier, pool, useOf, towardsZero, less, gives, takeFrom, formed, after, numbers, left}
 use Rattle.spread.proofs.Both.{and-left, and-right}
 
 -- a delta moved towards zero
-
-towards-none : (z : ℤ) → towardsZero z 0 ≡ z
-towards-none (pos n) = ap pos (sub-zero n)
-towards-none (negsuc n) = ap (λ k. negℤ (pos k)) (sub-zero (suc n))
 
 pub neg-long : (k : ℕ) → onSide long (negℤ (pos k)) ≡ 0
 neg-long zero = refl
@@ -82,7 +79,7 @@ pub spend-none : (w : Market → ℕ → ℕ) → ((m : Market) (t : ℕ) → w 
 spend-none w h [] = refl
 spend-none w h (p ∷ ps) =
     ap₂ _∷_
-    (at-delta p (ap (towardsZero (p .unused)) (h (marketOf (p .unused)) (p .tier)) ∙ towards-none (p .unused)))
+    (at-delta p (ap (towardsZero (p .unused)) (h (marketOf (p .unused)) (p .tier)) ∙ towards-zero-none (p .unused)))
     (spend-none (λ m t. w m t - inTier m t p) (λ m t. ap (λ a. a - inTier m t p) (h m t) ∙ zero-sub (inTier m t p)) ps)
 
 pub spend-spend : (w v : Market → ℕ → ℕ) (ps : List Open) → spend v (spend w ps) ≡ spend (λ m t. w m t + v m t) ps

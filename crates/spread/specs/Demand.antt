@@ -1,4 +1,5 @@
--- Demand 3, as claims about the steps of Steps.antt; Laws of proofs/Demand3.antt prove them of every accepted table.
+-- Demand 3, "For each accepted account and each spread table", as claims about the steps of Steps.antt, each under its words.
+-- `demand3-accepted` of proofs/Demand3.antt proves them of all prompts and spreads that are accepted.
 -- Assumes nothing.
 use Prim.Native.Nat.{ℕ, _+_, _≤_, _<_}
 use mathlib.Core.Path.{_≡_}

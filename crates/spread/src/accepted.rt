@@ -91,7 +91,8 @@ fn sound_prompts(prompts: Prompts) -> bool
     sound
 }
 
-// Whether the prompts and the table are in range.
+// Whether prompts and spreads can be run: at most 32 of each; tiers 0 to 15 and net deltas within the most; each spread of
+// 2 or 3 legs, with sides A or B, ratios above 0, and no two legs with the same tier and side.
 pub fn accepted(prompts: Prompts, table: Table) -> bool
     ensures { λ r. ⌜ r ≡ sound prompts table ⌝ }
 {

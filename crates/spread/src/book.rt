@@ -4,18 +4,18 @@ use crate::Prompts;
 use crate::Spreads;
 use crate::Table;
 use crate::accepted::accepted;
-use crate::deltas::sized;
+use crate::pools::CELLS;
 use crate::pools::Pools;
 use crate::pools::cell_of;
-use crate::pools::lesser;
+use exact::signed::minus;
+use exact::signed::towards_zero;
 ghost use mathlib.Core.Path.{_≡_};
 ghost use mathlib.Core.Bool.{true};
-ghost use Prim.Native.Nat.{ℕ, _+_, _-_, _≤_, _<_, _^_};
+ghost use Prim.Native.Nat.{_+_, _-_, _≤_, _<_, _^_};
 ghost use lib.ListN.{getD, set};
-ghost use lib.IntN.{natAbs};
+ghost use lib.IntN.{_-ℤ_};
 ghost use Rattle.spread.specs.Steps.{towardsZero};
-ghost use Rattle.spread.specs.Deltas.{part};
-ghost use Rattle.spread.specs.Accepted.{openOf, spreadsOf, soundPrompts, sound};
+ghost use Rattle.spread.specs.Accepted.{openOf, spreadsOf, soundPrompts};
 ghost use Rattle.spread.specs.Cells.{Pooled};
 ghost use Rattle.spread.specs.Book.{Booked, Refused, Run, Wanted, Spent};
 
@@ -36,12 +36,13 @@ struct Ran {
     second: [Spreads; 32],
 }
 
-// The two parts of one net delta, or of each prompt's.
+// The two parts of a net delta.
 struct Parts {
     used: Delta,
     unused: Delta,
 }
 
+// The two parts of each prompt's net delta.
 struct Paid {
     used: [Delta; 32],
     unused: [Delta; 32],
@@ -102,7 +103,7 @@ fn run(pools: Pools, table: Table) -> Ran
     }
 }
 
-// What is beyond b.
+// What of a is beyond b.
 fn beyond(a: u64, b: u64) -> u64
     ensures { λ r. ⌜ r ≡ a - b ⌝ }
 {
@@ -114,28 +115,24 @@ fn used_of(pools: Pools, left: Pools) -> Pools
     ensures { λ r. ⌜ Wanted (pools .cell) (left .cell) (r .cell) ⌝ }
 {
     let mut used = Pools::none();
-    let mut k = 0;
-    while k < 32 {
-        let next = used.with(k, beyond(pools.at(k), left.at(k)));
+    let mut cell = 0;
+    while cell < CELLS {
+        let next = used.with(cell, beyond(pools.at(cell), left.at(cell)));
         used = next;
-        k += 1;
+        cell += 1;
     }
     used
 }
 
 // A net delta of which so much is wanted: no prompt goes past zero.
 fn parts_of(net: Delta, wanted: u64) -> Parts
-    requires { ⌜ natAbs (net .0) < 2 ^ 63 ⌝ }
-    ensures { λ r. ⌜ (r .used .0 ≡ part (net .0) wanted) × (r .unused .0 ≡ towardsZero (net .0) wanted) ⌝ }
+    ensures { λ r. ⌜ (r .used .0 ≡ net .0 -ℤ towardsZero (net .0) wanted) × (r .unused .0 ≡ towardsZero (net .0) wanted) ⌝ }
 {
-    let short = net.is_short();
-    let size = net.size();
-    let taken = lesser(wanted, size);
-    let used = sized(short, taken);
-    let unused = sized(short, size - taken);
+    let unused = towards_zero(net.0, wanted);
+    let used = minus(net.0, unused);
     Parts {
-        used: used,
-        unused: unused,
+        used: Delta(used),
+        unused: Delta(unused),
     }
 }
 
@@ -148,18 +145,18 @@ fn paid_by(prompts: Prompts, wanted: Pools) -> Paid
     let mut left = wanted;
     let mut used = [Delta(0); 32];
     let mut unused = [Delta(0); 32];
-    let mut i = 0;
-    while i < n {
-        let net = prompts.net[i];
-        let cell = cell_of(prompts.tier[i], net.is_short());
+    let mut k = 0;
+    while k < n {
+        let net = prompts.net[k];
+        let cell = cell_of(prompts.tier[k], net.is_short());
         let parts = parts_of(net, left.at(cell));
         let taken = parts.used;
         let kept = parts.unused;
-        used[i] = taken;
-        unused[i] = kept;
+        used[k] = taken;
+        unused[k] = kept;
         let rest = left.with(cell, beyond(left.at(cell), net.size()));
         left = rest;
-        i += 1;
+        k += 1;
     }
     Paid {
         used: used,
@@ -167,6 +164,7 @@ fn paid_by(prompts: Prompts, wanted: Pools) -> Paid
     }
 }
 
+// Nothing is accepted, and nothing formed or used.
 fn refused() -> Book
     ensures { λ r. ⌜ Refused r ⌝ }
 {
@@ -179,7 +177,9 @@ fn refused() -> Book
     }
 }
 
-// The run over a table: pools, all steps on them, then one spend over the prompts.
+// The delta book of prompts, the earliest of a tier first, under a table of spreads in order of priority: what each spread
+// forms in its two steps, and what of each prompt's net delta is used and what is not. Prompts or spreads that are not
+// accepted get zeros.
 pub fn delta_book(prompts: Prompts, table: Table) -> Book
     ensures { λ r. ⌜ Booked prompts table r ⌝ }
 {

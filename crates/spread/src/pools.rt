@@ -1,4 +1,4 @@
-// The pools: of each tier the long and the short one, by value. What one step leaves is handed to the next.
+// "What one step leaves is handed to the next": the long and the short pool of each tier, by value.
 use crate::Leg;
 use crate::Spread;
 use crate::Spreads;
@@ -13,7 +13,7 @@ ghost use Rattle.spread.specs.Cells.{cellOf, shortIf, marketIn, stepOf, 
 
 pub const TIERS: usize = 16;
 
-const CELLS: usize = 32;
+pub(crate) const CELLS: usize = 32;
 
 // Cell 2t is the long pool of tier t, cell 2t + 1 the short one, both without their sign.
 pub struct Pools {
@@ -27,7 +27,7 @@ pub struct Took {
 }
 
 // The pool of a tier on a side; no cell for a tier out of range.
-pub fn cell_of(tier: usize, short: bool) -> usize
+pub(crate) fn cell_of(tier: usize, short: bool) -> usize
     ensures { λ r. ⌜ r ≡ cellOf (shortIf short) tier ⌝ }
 {
     if tier >= TIERS {
@@ -65,7 +65,7 @@ fn kept(pool: u64, number: u64, ratio: u64) -> u64
     }
 }
 
-pub(crate) fn lesser(a: u64, b: u64) -> u64
+fn lesser(a: u64, b: u64) -> u64
     ensures { λ r. ⌜ r ≡ min a b ⌝ }
 {
     if a < b { a } else { b }
@@ -89,21 +89,21 @@ fn smallest(legs: usize, a: u64, b: u64, c: u64) -> u64
 
 impl Pools {
     // Nothing in any pool.
-    pub fn none() -> Pools
+    pub(crate) fn none() -> Pools
         ensures { λ r. ⌜ r .cell ≡ replicate 32 0 ⌝ }
     {
         Pools { cell: [0; 32] }
     }
 
     // A pool; 0 where there is no such cell.
-    pub fn at(self, cell: usize) -> u64
+    pub(crate) fn at(self, cell: usize) -> u64
         ensures { λ r. ⌜ r ≡ getD (self .cell) cell 0 ⌝ }
     {
         if cell < CELLS { self.cell[cell] } else { 0 }
     }
 
     // The pools with one of them changed.
-    pub fn with(mut self, cell: usize, pool: u64) -> Pools
+    pub(crate) fn with(mut self, cell: usize, pool: u64) -> Pools
         ensures { λ r. ⌜ r .cell ≡ set (self .cell) cell pool ⌝ }
     {
         if cell < CELLS {
@@ -155,7 +155,8 @@ impl Pools {
         two.less_if(2 < legs, spread.leg[2], second, number)
     }
 
-    // A step of a spread, the first or the second: the number that it forms, and the pools that it leaves.
+    // A step of a spread, "first A legs take long and B legs short, then the reverse": the number that it forms, and the
+    // pools that it leaves.
     pub fn take(self, spread: Spread, second: bool) -> Took
         ensures { λ r. ⌜ Taken (stepOf second spread) (self .cell) (r .left .cell) (r .number .0) ⌝ }
     {

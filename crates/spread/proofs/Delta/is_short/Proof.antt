@@ -1,14 +1,16 @@
-use Rattle.spread.proofs.Signs.{back, below-zero}
-use mathlib.Core.Path.{_≡_, refl, sym, _∙_, ap}
+-- `is_short`: the sign of the number that the machine reads back.
+-- Assumes nothing.
+use borrow.Author.Needs.{needs}
+use Rattle.exact.proofs.Integers.{seen}
+use Rattle.exact.specs.Signed.{negative}
 use Rattle.spread.proofs.Delta.is_short.Statement.{statement}
 use Rattle.spread.proofs.Delta.is_short.Tie as tie
-use Rattle.spread.proofs.Delta.is_short.Reads as reads
-use Rattle.spread.proofs.Delta.is_short.Lts as lts
 
--- src/deltas.rt:9:5
+is-negative-requires : tie.Need-is-negative-requires
+is-negative-requires c κs = search needs
+
 returns : tie.Need-returns
-returns c = let z = c .before .before .args .self .0 in
-    rw (back z (record { sfits = c .struct-told .given .0 .1 })) (below-zero z)
+returns c = seen negative (c .before .before .args .self .0) (record { sfits = c .before .struct-told .given .0 .1 }) (c .is-negative .ensures)
 
 pub is-short-spec : {M : Type 1} → statement M
-is-short-spec = tie.close (tie.spec returns)
+is-short-spec = tie.close (tie.spec is-negative-requires returns)

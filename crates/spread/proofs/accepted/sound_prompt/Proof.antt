@@ -1,20 +1,17 @@
-use Rattle.spread.specs.Accepted.{mostDelta}
-use lib.Dec.{leb, ltb}
+-- `sound_prompt`: the test itself, of the delta's size.
+-- Assumes nothing.
 use Prim.Native.Nat.{ℕ}
-use mathlib.Core.Bool.{Bool, _&&_}
-use mathlib.Core.Path.{_≡_, refl, sym, _∙_, ap}
+use mathlib.Core.Bool.{_&&_}
+use mathlib.Core.Path.{ap}
+use lib.Dec.{leb, ltb}
 use borrow.Author.Needs.{needs}
+use Rattle.spread.specs.Accepted.{mostDelta}
 use Rattle.spread.proofs.accepted.sound_prompt.Statement.{statement}
 use Rattle.spread.proofs.accepted.sound_prompt.Tie as tie
-use Rattle.spread.proofs.accepted.sound_prompt.Reads as reads
-use Rattle.spread.proofs.accepted.sound_prompt.Lts as lts
-use Rattle.spread.proofs.Delta.size.Reads as size-reads
 
--- src/accepted.rt:69:23
 size-requires : tie.Need-size-requires
 size-requires c κs = search needs
 
--- src/accepted.rt:66:1
 returns : tie.Need-returns
 returns c = ap (λ (x : ℕ). ltb (c .before .args .tier) 16 && leb x mostDelta) (c .size .ensures)
 

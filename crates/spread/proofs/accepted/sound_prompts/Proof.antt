@@ -1,18 +1,17 @@
-use lib.IntN.{pos}
-use Rattle.spread.proofs.Every.{Tested, tested-next, tested-end, open-length, open-at}
-use Rattle.spread.specs.Accepted.{every, openOf, soundPrompt}
-use lib.ListN.{length, length-map, getD, take}
-use borrow.Author.Tests.{lt-leb, le-leb}
-use borrow.Author.Needs.{needs}
+-- `sound_prompts`: prompt after prompt; what is tested so far, and what is still to test.
+-- Assumes nothing.
+use Prim.Native.Nat.{_≤_, _-_}
 use native.Mathlib.Omega.{arith}
-use Prim.Native.Nat.{ℕ, _≤_, _-_}
-use mathlib.Core.Bool.{Bool, true, false, _&&_}
+use mathlib.Core.Bool.{Bool, _&&_}
 use mathlib.Core.Path.{_≡_, refl, sym, _∙_, ap}
+use lib.IntN.{pos}
+use lib.ListN.{length, length-map}
+use borrow.Author.Needs.{needs}
+use borrow.Author.Tests.{lt-leb, le-leb}
+use Rattle.spread.specs.Accepted.{every, openOf, soundPrompt}
+use Rattle.spread.proofs.Every.{Tested, tested-next, tested-end, open-length, open-at}
 use Rattle.spread.proofs.accepted.sound_prompts.Statement.{statement}
 use Rattle.spread.proofs.accepted.sound_prompts.Tie as tie
-use Rattle.spread.proofs.accepted.sound_prompts.Reads as reads
-use Rattle.spread.proofs.accepted.sound_prompts.Lts as lts
-use Rattle.spread.proofs.accepted.sound_prompt.Reads as sound-prompt-reads
 
 abbrev Inv-loop : tie.InvT-loop
 Inv-loop prompts n sound₀ i₀ sound i = (i ≤ n) × Tested soundPrompt (openOf prompts) i sound
@@ -20,43 +19,33 @@ Inv-loop prompts n sound₀ i₀ sound i = (i ≤ n) × Tested soundPrompt (open
 abbrev μ-loop : tie.MeasureT-loop
 μ-loop prompts n sound₀ i₀ sound i = n - i
 
--- src/accepted.rt:77:9
 returns : tie.Need-returns Inv-loop μ-loop
 returns c = rw (lt-leb (c .before .args .t1 .count) 32 (c .if1 .taken))
 
--- src/accepted.rt:81:5
 loop-holds : tie.Need-loop-holds Inv-loop μ-loop
 loop-holds c = (omega arith, refl)
 
--- src/accepted.rt:82:32
 mul-sound-prompt : tie.Need-mul-sound-prompt Inv-loop μ-loop
 mul-sound-prompt c = omega arith
 
--- src/accepted.rt:82:32
 element-copy-out-sound-prompt : tie.Need-element-copy-out-sound-prompt Inv-loop μ-loop
 element-copy-out-sound-prompt c = omega arith
 
--- src/accepted.rt:82:49
 mul-sound-prompt-2 : tie.Need-mul-sound-prompt-2 Inv-loop μ-loop
 mul-sound-prompt-2 c = omega arith
 
--- src/accepted.rt:82:49
 element-copy-out-sound-prompt-2 : tie.Need-element-copy-out-sound-prompt-2 Inv-loop μ-loop
 element-copy-out-sound-prompt-2 c = omega arith
 
--- src/accepted.rt:82:13
 sound-prompt-requires : tie.Need-sound-prompt-requires Inv-loop μ-loop
 sound-prompt-requires c κs = search needs
 
--- src/accepted.rt:84:9
 add-i : tie.Need-add-i Inv-loop μ-loop
 add-i c = omega arith
 
--- src/accepted.rt:81:5
 loop-less : tie.Need-loop-less Inv-loop μ-loop
 loop-less c = omega arith
 
--- src/accepted.rt:81:5
 loop-again : tie.Need-loop-again Inv-loop μ-loop
 loop-again c = let s = c .before .before .before .before .before .before in
     let p = s .args .t1 in
@@ -69,7 +58,6 @@ loop-again c = let s = c .before .before .before .before .before .before in
           (c .sound-prompt .ensures ∙ sym (ap soundPrompt (open-at p i _ _ _ lt ln (omega arith) (c .before .before .before .loop-test .taken)))),
     )
 
--- src/accepted.rt:72:1
 returns-2 : tie.Need-returns-2 Inv-loop μ-loop
 returns-2 c = let s = c .before .before .before in
     let p = s .args .t1 in

@@ -1,18 +1,17 @@
-use Rattle.spread.proofs.Every.{Tested, tested-next, tested-end}
-use Rattle.spread.specs.Accepted.{every, soundSpread}
-use lib.Seq.{length-take-le, getD-take}
-use lib.ListN.{length, length-map, getD, take}
-use borrow.Author.Tests.{lt-leb, le-leb}
-use borrow.Author.Needs.{needs}
+-- `sound_table`: spread after spread; what is tested so far, and what is still to test.
+-- Assumes nothing.
+use Prim.Native.Nat.{_≤_, _-_}
 use native.Mathlib.Omega.{arith}
-use Prim.Native.Nat.{ℕ, _≤_, _-_}
-use mathlib.Core.Bool.{Bool, true, false, _&&_}
+use mathlib.Core.Bool.{Bool, _&&_}
 use mathlib.Core.Path.{_≡_, refl, sym, _∙_, ap}
+use lib.ListN.{length, length-map, take}
+use lib.Seq.{length-take-le, getD-take}
+use borrow.Author.Needs.{needs}
+use borrow.Author.Tests.{lt-leb, le-leb}
+use Rattle.spread.specs.Accepted.{every, soundSpread}
+use Rattle.spread.proofs.Every.{Tested, tested-next, tested-end}
 use Rattle.spread.proofs.accepted.sound_table.Statement.{statement}
 use Rattle.spread.proofs.accepted.sound_table.Tie as tie
-use Rattle.spread.proofs.accepted.sound_table.Reads as reads
-use Rattle.spread.proofs.accepted.sound_table.Lts as lts
-use Rattle.spread.proofs.accepted.sound_spread.Reads as sound-spread-reads
 
 abbrev Inv-loop : tie.InvT-loop
 Inv-loop table n sound₀ i₀ sound i = (i ≤ n) × Tested soundSpread (take n (table .spread)) i sound
@@ -20,35 +19,27 @@ Inv-loop table n sound₀ i₀ sound i = (i ≤ n) × Tested soundSpread (take n
 abbrev μ-loop : tie.MeasureT-loop
 μ-loop table n sound₀ i₀ sound i = n - i
 
--- src/accepted.rt:54:9
 returns : tie.Need-returns Inv-loop μ-loop
 returns c = rw (lt-leb (c .before .args .t1 .count) 32 (c .if1 .taken))
 
--- src/accepted.rt:58:5
 loop-holds : tie.Need-loop-holds Inv-loop μ-loop
 loop-holds c = (omega arith, refl)
 
--- src/accepted.rt:59:32
 mul-sound-spread : tie.Need-mul-sound-spread Inv-loop μ-loop
 mul-sound-spread c = omega arith
 
--- src/accepted.rt:59:32
 element-copy-out-sound-spread : tie.Need-element-copy-out-sound-spread Inv-loop μ-loop
 element-copy-out-sound-spread c = omega arith
 
--- src/accepted.rt:59:13
 sound-spread-requires : tie.Need-sound-spread-requires Inv-loop μ-loop
 sound-spread-requires c κs = search needs
 
--- src/accepted.rt:61:9
 add-i : tie.Need-add-i Inv-loop μ-loop
 add-i c = omega arith
 
--- src/accepted.rt:58:5
 loop-less : tie.Need-loop-less Inv-loop μ-loop
 loop-less c = omega arith
 
--- src/accepted.rt:58:5
 loop-again : tie.Need-loop-again Inv-loop μ-loop
 loop-again c = let s = c .before .before .before .before .before in
     let t = s .args .t1 in
@@ -60,7 +51,6 @@ loop-again c = let s = c .before .before .before .before .before in
           (c .sound-spread .ensures ∙ sym (ap soundSpread (getD-take (t .count) (t .spread) i _ (c .before .before .loop-test .taken)))),
     )
 
--- src/accepted.rt:49:1
 returns-2 : tie.Need-returns-2 Inv-loop μ-loop
 returns-2 c = let s = c .before .before .before in
     let t = s .args .t1 in

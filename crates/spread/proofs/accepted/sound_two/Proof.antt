@@ -1,31 +1,25 @@
-use Rattle.spread.specs.Accepted.{soundLeg, sameLeg}
+-- `sound_two`: the definition, leg by leg.
+-- Assumes nothing.
 use mathlib.Core.Bool.{Bool, true, false, not, _&&_, _||_}
-use mathlib.Core.Path.{_≡_, refl, sym, _∙_, ap}
+use mathlib.Core.Path.{_≡_, refl}
 use borrow.Author.Needs.{needs}
+use Rattle.spread.specs.Accepted.{soundLeg, sameLeg}
 use Rattle.spread.proofs.accepted.sound_two.Statement.{statement}
 use Rattle.spread.proofs.accepted.sound_two.Tie as tie
-use Rattle.spread.proofs.accepted.sound_two.Reads as reads
-use Rattle.spread.proofs.accepted.sound_two.Lts as lts
-use Rattle.spread.proofs.accepted.same_leg.Reads as same-leg-reads
-use Rattle.spread.proofs.accepted.sound_leg.Reads as sound-leg-reads
 
 two : (x y z : Bool) → x && (not y && z) ≡ x && (not (y || false) && z)
 two x true z = refl
 two x false z = refl
 
--- src/accepted.rt:28:5
 sound-leg-requires : tie.Need-sound-leg-requires
 sound-leg-requires c κs = search needs
 
--- src/accepted.rt:28:22
 same-leg-requires : tie.Need-same-leg-requires
 same-leg-requires c κs = search needs
 
--- src/accepted.rt:28:39
 sound-leg-requires-2 : tie.Need-sound-leg-requires-2
 sound-leg-requires-2 c κs = search needs
 
--- src/accepted.rt:25:1
 returns : tie.Need-returns
 returns c = let s = c .before .before .before in
     rw (c .before .before .sound-leg .ensures, c .before .same-leg .ensures, c .sound-leg2 .ensures)

@@ -1,57 +1,42 @@
+-- `delta_book`: what is refused has no numbers; what is accepted has those of the pools, the run and the spend.
+-- Assumes nothing.
+use mathlib.Core.Path.{sym, _∙_}
+use lib.Dec.{leb}
+use borrow.Author.Needs.{needs}
+use borrow.Author.Tests.{leb-true, not-true, not-false}
+use Rattle.spread.specs.Accepted.{every, spreadsOf, soundSpread, soundPrompts, soundTable}
 use Rattle.spread.proofs.Booking.{booked-refused, booked-accepted}
 use Rattle.spread.proofs.Both.{and-left, and-right}
-use Rattle.spread.specs.Accepted.{every, spreadsOf, soundSpread, soundPrompts, soundTable, sound}
-use borrow.Author.Tests.{leb-true, not-true, not-false}
-use lib.Dec.{leb}
-use mathlib.Core.Bool.{Bool, true, false, _&&_}
-use mathlib.Core.Path.{_≡_, refl, sym, _∙_, ap}
-use borrow.Author.Needs.{needs}
 use Rattle.spread.proofs.book.delta_book.Statement.{statement}
 use Rattle.spread.proofs.book.delta_book.Tie as tie
-use Rattle.spread.proofs.book.delta_book.Reads as reads
-use Rattle.spread.proofs.book.delta_book.Lts as lts
-use Rattle.spread.proofs.accepted.accepted.Reads as accepted-reads
-use Rattle.spread.proofs.book.paid_by.Reads as paid-by-reads
-use Rattle.spread.proofs.book.pools_of.Reads as pools-of-reads
-use Rattle.spread.proofs.book.refused.Reads as refused-reads
-use Rattle.spread.proofs.book.run.Reads as run-reads
-use Rattle.spread.proofs.book.used_of.Reads as used-of-reads
 
--- src/book.rt:181:9
 accepted-requires : tie.Need-accepted-requires
 accepted-requires c κs = search needs
 
--- src/book.rt:182:9
 refused-requires : tie.Need-refused-requires
 refused-requires c κs = search needs
 
--- src/book.rt:182:9
 returns : tie.Need-returns
 returns c = let s = c .before .before .before in
     booked-refused (s .args .prompts) (s .args .table) (c .refused .result) (sym (c .before .before .accepted .ensures) ∙ not-true _ (c .before .if1 .taken)) (c .refused .ensures)
 
--- src/book.rt:184:9
 pools-of-requires : tie.Need-pools-of-requires
 pools-of-requires c κs = let s = c .before .before in
     and-left (soundPrompts (s .args .prompts)) (soundTable (s .args .table)) (sym (c .before .accepted .ensures) ∙ not-false _ (c .if1 .left))
 
--- src/book.rt:185:9
 run-requires : tie.Need-run-requires
 run-requires c κs = let s = c .before .before .before in
     leb-true (s .args .table .count) 32
     (and-left (leb (s .args .table .count) 32) (every soundSpread (spreadsOf (s .args .table)))
     (and-right (soundPrompts (s .args .prompts)) (soundTable (s .args .table)) (sym (c .before .before .accepted .ensures) ∙ not-false _ (c .before .if1 .left))))
 
--- src/book.rt:187:33
 used-of-requires : tie.Need-used-of-requires
 used-of-requires c κs = search needs
 
--- src/book.rt:187:9
 paid-by-requires : tie.Need-paid-by-requires
 paid-by-requires c κs = let s = c .before .before .before .before .before .before in
     and-left (soundPrompts (s .args .prompts)) (soundTable (s .args .table)) (sym (c .before .before .before .before .before .accepted .ensures) ∙ not-false _ (c .before .before .before .before .if1 .left))
 
--- src/book.rt:178:1
 returns-2 : tie.Need-returns-2
 returns-2 c = let b = c .before .before .before .before in
     let s = b .before .before .before .before .before .before .before in

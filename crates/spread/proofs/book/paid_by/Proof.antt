@@ -1,29 +1,21 @@
-use Rattle.spread.proofs.Paying.{Given, given, few, own-cell, none, Paying, paying-none, paying-next, paying-all}
-use Rattle.spread.proofs.Every.{open-length}
-use Rattle.spread.specs.declared.Prompts.{Prompts}
-use Rattle.spread.specs.Cells.{cellOf, cellAt}
-use Rattle.spread.specs.Accepted.{openOf}
-use Rattle.spread.specs.Spend.{marketOf}
-use Rattle.spread.specs.Deltas.{part}
-use Rattle.spread.specs.Steps.{Open, towardsZero}
-use lib.IntN.{ℤ, pos, natAbs}
+-- `paid_by`: the prompts passed have paid, and the cells hold what is still wanted of the later ones.
+-- Assumes nothing.
+use Prim.Native.Nat.{ℕ, _+_, _-_, _≤_}
+use native.Mathlib.Omega.{arith}
+use mathlib.Core.List.{List}
+use mathlib.Core.Path.{_≡_, sym, _∙_, ap, subst}
+use lib.IntN.{pos, natAbs, _-ℤ_}
 use lib.ListN.{length, length-map, getD, set}
 use borrow.Author.Needs.{needs}
-use native.Mathlib.Omega.{arith}
-use Prim.Native.Nat.{ℕ, _+_, _-_, _≤_, _<_}
-use mathlib.Core.List.{List}
-use mathlib.Core.Path.{_≡_, refl, sym, _∙_, ap, ap₂, subst}
+use Rattle.spread.specs.Accepted.{openOf}
+use Rattle.spread.specs.Cells.{cellOf, cellAt}
+use Rattle.spread.specs.Spend.{marketOf}
+use Rattle.spread.specs.Steps.{Open, towardsZero}
+use Rattle.spread.specs.declared.Prompts.{Prompts}
+use Rattle.spread.proofs.Every.{open-length}
+use Rattle.spread.proofs.Paying.{Given, given, few, own-cell, none, Paying, paying-none, paying-next, paying-all}
 use Rattle.spread.proofs.book.paid_by.Statement.{statement}
 use Rattle.spread.proofs.book.paid_by.Tie as tie
-use Rattle.spread.proofs.book.paid_by.Reads as reads
-use Rattle.spread.proofs.book.paid_by.Lts as lts
-use Rattle.spread.proofs.Delta.is_short.Reads as is-short-reads
-use Rattle.spread.proofs.Delta.size.Reads as size-reads
-use Rattle.spread.proofs.book.beyond.Reads as beyond-reads
-use Rattle.spread.proofs.book.parts_of.Reads as parts-of-reads
-use Rattle.spread.proofs.pools.Pools.at.Reads as at-reads
-use Rattle.spread.proofs.pools.Pools.with.Reads as with-reads
-use Rattle.spread.proofs.pools.cell_of.Reads as cell-of-reads
 
 -- the pool lowered by the prompt's size
 lowered : (now more : List ℕ) (cell own rest w size a : ℕ) → more ≡ set now cell rest → rest ≡ w - size → w ≡ getD now cell 0 → size ≡ a → cell ≡ own
@@ -31,48 +23,40 @@ lowered : (now more : List ℕ) (cell own rest w size a : ℕ) → more ≡ set 
 lowered now more cell own rest w size a e f g h k = cc
 
 abbrev Inv-loop : tie.InvT-loop
-Inv-loop prompts n left₀ used₀ unused₀ i₀ left used unused i = (i ≤ n) × Paying (left₀ .cell) (openOf prompts) i (left .cell) used unused
+Inv-loop prompts n left₀ used₀ unused₀ k₀ left used unused k = (k ≤ n) × Paying (left₀ .cell) (openOf prompts) k (left .cell) used unused
 
 abbrev μ-loop : tie.MeasureT-loop
-μ-loop prompts n left₀ used₀ unused₀ i₀ left used unused i = n - i
+μ-loop prompts n left₀ used₀ unused₀ k₀ left used unused k = n - k
 
--- src/book.rt:147:5
 loop-holds : tie.Need-loop-holds Inv-loop μ-loop
 loop-holds c = let len : length (c .args .wanted .cell) ≡ 32 = sym (length-map (c .args .wanted .cell) _) ∙ c .good .1 .0 .1 .1 .0 .1 .0 .1 in
     (omega arith, paying-none (c .args .wanted .cell) (openOf (c .args .t1)) len)
 
--- src/book.rt:148:19
 mul-net : tie.Need-mul-net Inv-loop μ-loop
 mul-net c = let f = few (c .before .before .args .t1) (c .before .before .pre) in omega arith
 
--- src/book.rt:148:19
 element-copy-out-net : tie.Need-element-copy-out-net Inv-loop μ-loop
 element-copy-out-net c = let f = few (c .before .before .args .t1) (c .before .before .pre) in omega arith
 
--- src/book.rt:149:28
 mul-cell-of : tie.Need-mul-cell-of Inv-loop μ-loop
 mul-cell-of c = let f = few (c .before .before .before .args .t1) (c .before .before .before .pre) in omega arith
 
--- src/book.rt:149:28
 element-copy-out-cell-of : tie.Need-element-copy-out-cell-of Inv-loop μ-loop
 element-copy-out-cell-of c = let f = few (c .before .before .before .args .t1) (c .before .before .before .pre) in omega arith
 
--- src/book.rt:149:45
 is-short-requires : tie.Need-is-short-requires Inv-loop μ-loop
 is-short-requires c κs = search needs
 
--- src/book.rt:149:13
 cell-of-requires : tie.Need-cell-of-requires Inv-loop μ-loop
 cell-of-requires c κs = search needs
 
--- src/book.rt:150:35
 at-requires : tie.Need-at-requires Inv-loop μ-loop
 at-requires c κs = search needs
 
 -- the prompt of this turn, and the cell found for it
 module _ (c : tie.After-at Inv-loop μ-loop) where
   turn : ℕ
-  turn = c .before .before .before .before .before .before .loop .i
+  turn = c .before .before .before .before .before .before .loop .k
 
   prompts : Prompts
   prompts = c .before .before .before .before .before .before .before .args .t1
@@ -98,52 +82,39 @@ module _ (c : tie.After-at Inv-loop μ-loop) where
   unfolding prompts turn prompt
   want = c .at .ensures ∙ ap (λ (k : ℕ). getD (c .before .before .before .before .before .before .loop .left .cell) k 0) cell
 
--- src/book.rt:150:13
 parts-of-requires : tie.Need-parts-of-requires Inv-loop μ-loop
-unfolding prompts turn prompt
-parts-of-requires c κs = let h = here c .sizedTo in omega arith
+parts-of-requires c κs = search needs
 
--- src/book.rt:153:9
 mul-used : tie.Need-mul-used Inv-loop μ-loop
 mul-used c = let f = few (c .before .before .before .before .before .before .before .before .before .before .args .t1) (c .before .before .before .before .before .before .before .before .before .before .pre) in omega arith
 
--- src/book.rt:153:9
 array-set-from-used : tie.Need-array-set-from-used Inv-loop μ-loop
 array-set-from-used c = let f = few (c .before .before .before .before .before .before .before .before .before .before .args .t1) (c .before .before .before .before .before .before .before .before .before .before .pre) in omega arith
 
--- src/book.rt:154:9
 mul-unused : tie.Need-mul-unused Inv-loop μ-loop
 mul-unused c = let f = few (c .before .before .before .before .before .before .before .before .before .before .args .t1) (c .before .before .before .before .before .before .before .before .before .before .pre) in omega arith
 
--- src/book.rt:154:9
 array-set-from-unused : tie.Need-array-set-from-unused Inv-loop μ-loop
 array-set-from-unused c = let f = few (c .before .before .before .before .before .before .before .before .before .before .args .t1) (c .before .before .before .before .before .before .before .before .before .before .pre) in omega arith
 
--- src/book.rt:155:43
 at-requires-2 : tie.Need-at-requires-2 Inv-loop μ-loop
 at-requires-2 c κs = search needs
 
--- src/book.rt:155:58
 size-requires : tie.Need-size-requires Inv-loop μ-loop
 size-requires c κs = search needs
 
--- src/book.rt:155:36
 beyond-requires : tie.Need-beyond-requires Inv-loop μ-loop
 beyond-requires c κs = search needs
 
--- src/book.rt:155:13
 with-requires : tie.Need-with-requires Inv-loop μ-loop
 with-requires c κs = search needs
 
--- src/book.rt:157:9
-add-i : tie.Need-add-i Inv-loop μ-loop
-add-i c = let f = few (c .before .before .before .before .before .before .before .before .before .before .before .before .before .before .args .t1) (c .before .before .before .before .before .before .before .before .before .before .before .before .before .before .pre) in omega arith
+add-k : tie.Need-add-k Inv-loop μ-loop
+add-k c = let f = few (c .before .before .before .before .before .before .before .before .before .before .before .before .before .before .args .t1) (c .before .before .before .before .before .before .before .before .before .before .before .before .before .before .pre) in omega arith
 
--- src/book.rt:147:5
 loop-less : tie.Need-loop-less Inv-loop μ-loop
 loop-less c = omega arith
 
--- src/book.rt:147:5
 loop-again : tie.Need-loop-again Inv-loop μ-loop
 unfolding prompts turn prompt
 loop-again c = let b = c .before .before .before .before .before .before .before in
@@ -155,12 +126,11 @@ loop-again c = let b = c .before .before .before .before .before .before .before
           (sym (lowered (l .left .cell) (c .with .result .cell) (b .before .cell-of .result) (cellOf (marketOf (p .unused)) (p .tier)) (c .before .beyond .result) (c .before .before .before .at2 .result) (c .before .before .size .result) (natAbs (p .unused)) (c .with .ensures) (c .before .beyond .ensures) (c .before .before .before .at2 .ensures) (c .before .before .size .ensures) (cell b)))
           (paying-next (s .args .wanted .cell) (openOf (prompts b)) (turn b) (l .left .cell) (l .used) (l .unused) p (c .before .before .before .before .before .before .parts-of .result .used) (c .before .before .before .before .before .before .parts-of .result .unused) none
           (here b .within) (let f = few (prompts b) (s .pre) in omega arith) (here b .is)
-          (c .before .before .before .before .before .before .parts-of .ensures .0 ∙ ap (part (p .unused)) (want b))
+          (c .before .before .before .before .before .before .parts-of .ensures .0 ∙ ap (λ (a : ℕ). p .unused -ℤ towardsZero (p .unused) a) (want b))
           (c .before .before .before .before .before .before .parts-of .ensures .1 ∙ ap (towardsZero (p .unused)) (want b))
           (l .inv .1)),
     )
 
--- src/book.rt:138:1
 returns : tie.Need-returns Inv-loop μ-loop
 returns c = let s = c .before .before in
     let p = s .args .t1 in
@@ -168,7 +138,7 @@ returns c = let s = c .before .before in
     let lt : length (p .tier) ≡ 32 = sym (length-map (p .tier) _) ∙ s .good .0 .1 .1 .1 .0 .1 .0 .1 in
     let ln : length (p .net) ≡ 32 = sym (length-map (p .net) _) ∙ s .good .0 .1 .1 .1 .1 .0 .1 .0 .1 in
     let n = open-length p lt ln (few p (s .pre)) in
-    paying-all (s .args .wanted .cell) (openOf p) (l .i) (l .left .cell) (l .used) (l .unused) (omega arith) (l .inv .1)
+    paying-all (s .args .wanted .cell) (openOf p) (l .k) (l .left .cell) (l .used) (l .unused) (omega arith) (l .inv .1)
 
 pub paid-by-spec : {M : Type 1} → statement M
 paid-by-spec =
@@ -193,7 +163,7 @@ paid-by-spec =
     size-requires
     beyond-requires
     with-requires
-    add-i
+    add-k
     loop-less
     loop-again
     returns)

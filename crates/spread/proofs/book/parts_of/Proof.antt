@@ -1,71 +1,49 @@
-use Rattle.spread.proofs.Paying.{part-sized, towards-sized}
-use Rattle.spread.specs.Deltas.{isShort, sized, part}
-use Rattle.spread.specs.Steps.{towardsZero}
-use lib.IntN.{ℤ, natAbs}
-use Prim.Native.Nat.{ℕ, _-_, min}
-use mathlib.Core.Bool.{Bool}
-use mathlib.Core.Path.{_≡_, refl, sym, _∙_, ap, ap₂}
+-- `parts_of`: what is taken has the net delta's sign and no more than its size, so the difference is in range.
+-- Assumes nothing.
+use Prim.Native.Nat.{ℕ, zero, suc, _≤_, _<_, _^_, min}
+use native.Mathlib.Omega.{arith}
+use mathlib.Core.Path.{_∙_, ap}
+use lib.IntN.{ℤ, pos, negsuc, negℤ, _-ℤ_}
+use mir.Syntax.{w64}
+use mir.Val.{SFits}
 use borrow.Author.Needs.{needs}
+use Rattle.exact.proofs.Integers.{back, seen, seen₂, taken-sign}
+use Rattle.exact.specs.Signed.{towardsZero}
 use Rattle.spread.proofs.book.parts_of.Statement.{statement}
 use Rattle.spread.proofs.book.parts_of.Tie as tie
-use Rattle.spread.proofs.book.parts_of.Reads as reads
-use Rattle.spread.proofs.book.parts_of.Lts as lts
-use Rattle.spread.proofs.Delta.is_short.Reads as is-short-reads
-use Rattle.spread.proofs.Delta.size.Reads as size-reads
-use Rattle.spread.proofs.deltas.sized.Reads as sized-reads
-use Rattle.spread.proofs.pools.lesser.Reads as lesser-reads
 
--- the two sizes, on the net delta's side
-used-is : (z u : ℤ) (w size taken : ℕ) (b : Bool) → b ≡ isShort z → size ≡ natAbs z → taken ≡ min w size → u ≡ sized b taken → u ≡ part z w
-used-is z u w size taken b eb es et e =
-    e ∙ ap₂ sized eb (et ∙ ap (min w) es) ∙ sym (part-sized z w)
+-- what is taken of a delta in range is in range
+negative-fits : (m n : ℕ) → m ≤ suc n → n < 2 ^ 63 → SFits w64 (negℤ (pos m))
+negative-fits zero n h f = record { sfits = omega arith }
+negative-fits (suc m) n h f = record { sfits = omega arith }
 
-unused-is : (z u : ℤ) (w size taken : ℕ) (b : Bool) → b ≡ isShort z → size ≡ natAbs z → taken ≡ min w size → u ≡ sized b (size - taken) → u ≡ towardsZero z w
-unused-is z u w size taken b eb es et e =
-    e ∙ ap₂ sized eb (ap₂ _-_ es (et ∙ ap (min w) es)) ∙ sym (towards-sized z w)
+taken-fits : (z : ℤ) (a : ℕ) → SFits w64 z → SFits w64 (z -ℤ towardsZero z a)
+taken-fits (pos n) a f = let h = f .sfits in rw (taken-sign (pos n) a) (record { sfits = omega arith })
+taken-fits (negsuc n) a f = let h = f .sfits in rw (taken-sign (negsuc n) a) (negative-fits (min a (suc n)) n (omega arith) (omega arith))
 
--- src/book.rt:126:9
-is-short-requires : tie.Need-is-short-requires
-is-short-requires c κs = search needs
+towards-zero-requires : tie.Need-towards-zero-requires
+towards-zero-requires c κs = search needs
 
--- src/book.rt:127:9
-size-requires : tie.Need-size-requires
-size-requires c κs = search needs
+minus-requires : tie.Need-minus-requires
+minus-requires c κs = let s = c .before .before .before in
+    let z = s .args .net .0 in
+    let f : SFits w64 z = record { sfits = c .struct-told2 .given .0 .1 } in
+    rw (
+      back (c .before .towards-zero .result) (record { sfits = c .before .towards-zero .ok }),
+      seen (λ (x : ℤ). towardsZero x (s .args .wanted)) z f (c .before .towards-zero .ensures),
+      back z f,
+    ) (taken-fits z (s .args .wanted) f)
 
--- src/book.rt:128:9
-lesser-requires : tie.Need-lesser-requires
-lesser-requires c κs = search needs
-
--- src/book.rt:129:9
-sized-requires : tie.Need-sized-requires
-sized-requires c κs = search needs
-
--- src/book.rt:130:31
-sub-sized : tie.Need-sub-sized
-sub-sized c = search needs
-
--- src/book.rt:130:9
-sized-requires-2 : tie.Need-sized-requires-2
-sized-requires-2 c κs = search needs
-
--- src/book.rt:122:1
 returns : tie.Need-returns
-returns c = let s = c .before .before .before .before .before in
-    let eb = c .before .before .before .before .is-short .ensures in
-    let es = c .before .before .before .size .ensures in
-    let et = c .before .before .lesser .ensures in (
-      used-is (s .args .net .0) _ (s .args .wanted) _ _ _ eb es et (c .before .sized .ensures),
-      unused-is (s .args .net .0) _ (s .args .wanted) _ _ _ eb es et (c .sized2 .ensures),
+returns c = let s = c .before .before .before .before in
+    let z = s .args .net .0 in
+    let y = c .before .before .towards-zero .result in
+    let f : SFits w64 z = record { sfits = c .before .struct-told2 .given .0 .1 } in
+    let g : SFits w64 y = record { sfits = c .before .before .towards-zero .ok } in
+    let e = seen (λ (x : ℤ). towardsZero x (s .args .wanted)) z f (c .before .before .towards-zero .ensures) in (
+      back (c .minus .result) (record { sfits = c .minus .ok }) ∙ seen₂ (λ (a b : ℤ). a -ℤ b) z y f g (c .minus .ensures) ∙ ap (λ (x : ℤ). z -ℤ x) e,
+      back y g ∙ e,
     )
 
 pub parts-of-spec : {M : Type 1} → statement M
-parts-of-spec =
-    tie.close
-    (tie.spec
-    is-short-requires
-    size-requires
-    lesser-requires
-    sized-requires
-    sub-sized
-    sized-requires-2
-    returns)
+parts-of-spec = tie.close (tie.spec towards-zero-requires minus-requires returns)

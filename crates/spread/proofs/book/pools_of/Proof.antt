@@ -1,29 +1,22 @@
-use Rattle.spread.specs.declared.Prompts.{Prompts}
-use Rattle.spread.specs.Cells.{cellOf}
-use Rattle.spread.specs.Spend.{marketOf}
-use lib.IntN.{pos}
-use Rattle.spread.proofs.Paying.{Given, given, few, own-cell, pooled-none, pools-fit, pools-next}
-use Rattle.spread.proofs.Every.{open-length}
-use Rattle.spread.specs.Cells.{Pooled}
-use Rattle.spread.specs.Accepted.{openOf}
-use Rattle.spread.specs.Steps.{Open}
-use lib.IntN.{ℤ, natAbs}
-use lib.Seq.{take-all}
-use lib.ListN.{length, length-map, getD, set, take}
-use borrow.Author.Needs.{needs}
+-- `pools_of`: the cells hold the pools of the prompts passed; none is more than the most of each.
+-- Assumes nothing.
+use Prim.Native.Nat.{ℕ, _+_, _-_, _≤_}
 use native.Mathlib.Omega.{arith}
-use Prim.Native.Nat.{ℕ, _+_, _-_, _≤_, _<_}
 use mathlib.Core.List.{List}
-use mathlib.Core.Path.{_≡_, refl, sym, _∙_, ap, subst}
+use mathlib.Core.Path.{_≡_, sym, _∙_, ap, subst}
+use lib.IntN.{pos}
+use lib.ListN.{length, length-map, getD, set, take}
+use lib.Seq.{take-all}
+use borrow.Author.Needs.{needs}
+use Rattle.spread.specs.Accepted.{openOf}
+use Rattle.spread.specs.Cells.{cellOf, Pooled}
+use Rattle.spread.specs.Spend.{marketOf}
+use Rattle.spread.specs.Steps.{Open}
+use Rattle.spread.specs.declared.Prompts.{Prompts}
+use Rattle.spread.proofs.Every.{open-length}
+use Rattle.spread.proofs.Paying.{Given, given, few, own-cell, pooled-none, pools-fit, pools-next}
 use Rattle.spread.proofs.book.pools_of.Statement.{statement}
 use Rattle.spread.proofs.book.pools_of.Tie as tie
-use Rattle.spread.proofs.book.pools_of.Reads as reads
-use Rattle.spread.proofs.book.pools_of.Lts as lts
-use Rattle.spread.proofs.Delta.is_short.Reads as is-short-reads
-use Rattle.spread.proofs.Delta.size.Reads as size-reads
-use Rattle.spread.proofs.book.grown.Reads as grown-reads
-use Rattle.spread.proofs.pools.Pools.none.Reads as none-reads
-use Rattle.spread.proofs.pools.cell_of.Reads as cell-of-reads
 
 abbrev Inv-loop : tie.InvT-loop
 Inv-loop prompts n pools₀ i₀ pools i = (i ≤ n) × Pooled (pools .cell) (take i (openOf prompts))
@@ -31,40 +24,31 @@ Inv-loop prompts n pools₀ i₀ pools i = (i ≤ n) × Pooled (pools .cell) (ta
 abbrev μ-loop : tie.MeasureT-loop
 μ-loop prompts n pools₀ i₀ pools i = n - i
 
--- src/book.rt:59:9
 none-requires : tie.Need-none-requires Inv-loop μ-loop
 none-requires c κs = search needs
 
--- src/book.rt:61:5
 loop-holds : tie.Need-loop-holds Inv-loop μ-loop
 loop-holds c = let s = c .before in
     (omega arith, subst (λ (l : List ℕ). Pooled l (take 0 (openOf (s .args .t1)))) (sym (c .none .ensures)) (pooled-none (openOf (s .args .t1))))
 
--- src/book.rt:62:19
 mul-net : tie.Need-mul-net Inv-loop μ-loop
 mul-net c = let f = few (c .before .before .before .args .t1) (c .before .before .before .pre) in omega arith
 
--- src/book.rt:62:19
 element-copy-out-net : tie.Need-element-copy-out-net Inv-loop μ-loop
 element-copy-out-net c = let f = few (c .before .before .before .args .t1) (c .before .before .before .pre) in omega arith
 
--- src/book.rt:63:28
 mul-cell-of : tie.Need-mul-cell-of Inv-loop μ-loop
 mul-cell-of c = let f = few (c .before .before .before .before .args .t1) (c .before .before .before .before .pre) in omega arith
 
--- src/book.rt:63:28
 element-copy-out-cell-of : tie.Need-element-copy-out-cell-of Inv-loop μ-loop
 element-copy-out-cell-of c = let f = few (c .before .before .before .before .args .t1) (c .before .before .before .before .pre) in omega arith
 
--- src/book.rt:63:45
 is-short-requires : tie.Need-is-short-requires Inv-loop μ-loop
 is-short-requires c κs = search needs
 
--- src/book.rt:63:13
 cell-of-requires : tie.Need-cell-of-requires Inv-loop μ-loop
 cell-of-requires c κs = search needs
 
--- src/book.rt:64:39
 size-requires : tie.Need-size-requires Inv-loop μ-loop
 size-requires c κs = search needs
 
@@ -92,7 +76,6 @@ module _ (c : tie.After-size Inv-loop μ-loop) where
   unfolding prompts turn prompt
   cell = own-cell (prompt .unused) (prompt .tier) (c .before .cell-of .result) (c .before .before .is-short .result) (c .before .before .is-short .ensures) (c .before .cell-of .ensures)
 
--- src/book.rt:64:13
 grown-requires : tie.Need-grown-requires Inv-loop μ-loop
 unfolding prompts turn prompt
 grown-requires c κs = let s = c .before .before .before .before .before .before .before .before in
@@ -101,15 +84,12 @@ grown-requires c κs = let s = c .before .before .before .before .before .before
     let h = pools-fit (prompts c) (turn c) (prompt c) (here c) (s .pre) (c .before .before .before .before .before .before .loop .pools .cell) (c .before .before .before .before .before .before .loop .inv .1) (c .before .cell-of .result) (cell c) (omega arith) in
     omega arith
 
--- src/book.rt:66:9
 add-i : tie.Need-add-i Inv-loop μ-loop
 add-i c = let f = few (c .before .before .before .before .before .before .before .before .before .args .t1) (c .before .before .before .before .before .before .before .before .before .pre) in omega arith
 
--- src/book.rt:61:5
 loop-less : tie.Need-loop-less Inv-loop μ-loop
 loop-less c = omega arith
 
--- src/book.rt:61:5
 loop-again : tie.Need-loop-again Inv-loop μ-loop
 unfolding prompts turn prompt
 loop-again c = let b = c .before in
@@ -120,7 +100,6 @@ loop-again c = let b = c .before in
           (c .grown .ensures ∙ ap (λ (x : ℕ). set cells (b .before .cell-of .result) (getD cells (b .before .cell-of .result) 0 + x)) (b .size .ensures)),
     )
 
--- src/book.rt:54:1
 returns : tie.Need-returns Inv-loop μ-loop
 returns c = let s = c .before .before .before in
     let p = s .args .t1 in

@@ -1,21 +1,14 @@
-use Rattle.spread.proofs.Running.{table-length, table-next}
-use Rattle.spread.proofs.Running.{Running, running-none, running-next, running-all}
-use Rattle.spread.specs.declared.Spread.{Spread}
-use Rattle.spread.specs.Cells.{stepOf, Taken}
-use Rattle.spread.specs.Accepted.{spreadsOf}
-use lib.Seq.{length-take-le, getD-take}
-use lib.ListN.{length, length-map, getD, set, take}
-use borrow.Author.Needs.{needs}
+-- `run`: the spreads passed have their numbers, and the steps to come run on the cells left.
+-- Assumes nothing.
+use Prim.Native.Nat.{_-_, _≤_}
 use native.Mathlib.Omega.{arith}
-use Prim.Native.Nat.{ℕ, _+_, _-_, _≤_, _<_}
-use mathlib.Core.List.{List}
-use mathlib.Core.Bool.{Bool, true, false, cond}
-use mathlib.Core.Path.{_≡_, refl, sym, _∙_, ap, ap₂, subst}
+use mathlib.Core.Path.{_≡_, sym, _∙_}
+use lib.ListN.{length, length-map, take}
+use borrow.Author.Needs.{needs}
+use Rattle.spread.specs.Accepted.{spreadsOf}
+use Rattle.spread.proofs.Running.{table-length, table-next, Running, running-none, running-all}
 use Rattle.spread.proofs.book.run.Statement.{statement}
 use Rattle.spread.proofs.book.run.Tie as tie
-use Rattle.spread.proofs.book.run.Reads as reads
-use Rattle.spread.proofs.book.run.Lts as lts
-use Rattle.spread.proofs.pools.Pools.take.Reads as take-reads
 
 abbrev Inv-loop : tie.InvT-loop
 Inv-loop table n left₀ first₀ second₀ i₀ left first second i = (i ≤ n) × Running (left₀ .cell) (spreadsOf table) i (left .cell) first second
@@ -23,51 +16,39 @@ Inv-loop table n left₀ first₀ second₀ i₀ left first second i = (i ≤ n)
 abbrev μ-loop : tie.MeasureT-loop
 μ-loop table n left₀ first₀ second₀ i₀ left first second i = n - i
 
--- src/book.rt:81:5
 loop-holds : tie.Need-loop-holds Inv-loop μ-loop
 loop-holds c = (omega arith, running-none (c .args .pools .cell) (spreadsOf (c .args .t2)))
 
--- src/book.rt:82:22
 mul-spread : tie.Need-mul-spread Inv-loop μ-loop
 mul-spread c = omega arith
 
--- src/book.rt:82:22
 element-copy-out-spread : tie.Need-element-copy-out-spread Inv-loop μ-loop
 element-copy-out-spread c = omega arith
 
--- src/book.rt:83:13
 take-requires : tie.Need-take-requires Inv-loop μ-loop
 take-requires c κs = search needs
 
--- src/book.rt:85:13
 take-requires-2 : tie.Need-take-requires-2 Inv-loop μ-loop
 take-requires-2 c κs = search needs
 
--- src/book.rt:88:9
 mul-first : tie.Need-mul-first Inv-loop μ-loop
 mul-first c = omega arith
 
--- src/book.rt:88:9
 array-set-from-first : tie.Need-array-set-from-first Inv-loop μ-loop
 array-set-from-first c = omega arith
 
--- src/book.rt:89:9
 mul-second : tie.Need-mul-second Inv-loop μ-loop
 mul-second c = omega arith
 
--- src/book.rt:89:9
 array-set-from-second : tie.Need-array-set-from-second Inv-loop μ-loop
 array-set-from-second c = omega arith
 
--- src/book.rt:91:9
 add-i : tie.Need-add-i Inv-loop μ-loop
 add-i c = omega arith
 
--- src/book.rt:81:5
 loop-less : tie.Need-loop-less Inv-loop μ-loop
 loop-less c = omega arith
 
--- src/book.rt:81:5
 loop-again : tie.Need-loop-again Inv-loop μ-loop
 loop-again c = let s = c .before .before .before .before .before .before .before .before .before in
     let t = s .args .t2 in
@@ -78,7 +59,6 @@ loop-again c = let s = c .before .before .before .before .before .before .before
           (c .before .before .before .before .before .take .ensures) (c .before .before .before .take2 .ensures) (l .inv .1),
     )
 
--- src/book.rt:72:1
 returns : tie.Need-returns Inv-loop μ-loop
 returns c = let s = c .before .before in
     let t = s .args .t2 in

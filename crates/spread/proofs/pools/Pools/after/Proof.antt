@@ -1,39 +1,30 @@
-use Rattle.spread.proofs.Legs.{three, after-legs}
-use lib.ListN.{length, length-map, getD}
-use Prim.Native.Nat.{ℕ}
-use mathlib.Core.Path.{_≡_, refl, sym, _∙_, ap}
+-- `after`: leg after leg.
+-- Assumes nothing.
+use mathlib.Core.Path.{_≡_, sym, _∙_}
+use lib.ListN.{length, length-map}
 use borrow.Author.Needs.{needs}
+use Rattle.spread.proofs.Legs.{three, after-legs}
 use Rattle.spread.proofs.pools.Pools.after.Statement.{statement}
 use Rattle.spread.proofs.pools.Pools.after.Tie as tie
-use Rattle.spread.proofs.pools.Pools.after.Reads as reads
-use Rattle.spread.proofs.pools.Pools.after.Lts as lts
-use Rattle.spread.proofs.pools.Pools.less_if.Reads as less-if-reads
 
--- src/pools.rt:135:42
 element-copy-out-less-if : tie.Need-element-copy-out-less-if
 element-copy-out-less-if c = search needs
 
--- src/pools.rt:135:13
 less-if-requires : tie.Need-less-if-requires
 less-if-requires c κs = search needs
 
--- src/pools.rt:136:41
 element-copy-out-less-if-2 : tie.Need-element-copy-out-less-if-2
 element-copy-out-less-if-2 c = search needs
 
--- src/pools.rt:136:13
 less-if-requires-2 : tie.Need-less-if-requires-2
 less-if-requires-2 c κs = search needs
 
--- src/pools.rt:137:31
 element-copy-out-less-if-3 : tie.Need-element-copy-out-less-if-3
 element-copy-out-less-if-3 c = search needs
 
--- src/pools.rt:137:9
 less-if-requires-3 : tie.Need-less-if-requires-3
 less-if-requires-3 c κs = search needs
 
--- src/pools.rt:131:5
 returns : tie.Need-returns
 returns c = let s = c .before .before .before .before .before .before in
     let l : length (s .args .t2 .leg) ≡ 3 = sym (length-map (s .args .t2 .leg) _) ∙ s .good .1 .0 .1 .1 .1 .0 .1 .0 .1 in

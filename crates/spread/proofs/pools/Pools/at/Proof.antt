@@ -1,26 +1,21 @@
+-- `at`: beyond the cells there is nothing.
+-- Assumes nothing.
 use native.Mathlib.Omega.{arith}
-use lib.ListN.{length, length-map, List·getD-eq-default}
 use mathlib.Core.Path.{_≡_, sym, _∙_}
-use Prim.Native.Nat.{ℕ}
+use lib.ListN.{length, length-map, List·getD-eq-default}
 use borrow.Author.Needs.{needs}
 use Rattle.spread.proofs.pools.Pools.at.Statement.{statement}
 use Rattle.spread.proofs.pools.Pools.at.Tie as tie
-use Rattle.spread.proofs.pools.Pools.at.Reads as reads
-use Rattle.spread.proofs.pools.Pools.at.Lts as lts
 
--- src/pools.rt:88:27
 mul-result : tie.Need-mul-result
 mul-result c = search needs
 
--- src/pools.rt:88:27
 element-copy-out-result : tie.Need-element-copy-out-result
 element-copy-out-result c = search needs
 
--- src/pools.rt:85:5
 returns : tie.Need-returns
 returns c = search needs
 
--- src/pools.rt:85:5
 returns-2 : tie.Need-returns-2
 returns-2 c = let s = c .before in
     let l : length (s .args .t1 .cell) ≡ 32 = sym (length-map (s .args .t1 .cell) _) ∙ s .good .0 .1 .1 .0 .1 .0 .1 in

@@ -1,19 +1,15 @@
+-- `less_if`: by the test.
+-- Assumes nothing.
 use borrow.Author.Needs.{needs}
 use Rattle.spread.proofs.pools.Pools.less_if.Statement.{statement}
 use Rattle.spread.proofs.pools.Pools.less_if.Tie as tie
-use Rattle.spread.proofs.pools.Pools.less_if.Reads as reads
-use Rattle.spread.proofs.pools.Pools.less_if.Lts as lts
-use Rattle.spread.proofs.pools.Pools.less.Reads as less-reads
 
--- src/pools.rt:117:20
 less-requires : tie.Need-less-requires
 less-requires c κs = search needs
 
--- src/pools.rt:114:5
 returns : tie.Need-returns
 returns c = rw (c .before .if1 .taken) (c .less .ensures)
 
--- src/pools.rt:114:5
 returns-2 : tie.Need-returns-2
 returns-2 c = search needs
 

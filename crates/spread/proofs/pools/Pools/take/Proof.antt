@@ -1,23 +1,18 @@
-use Rattle.spread.specs.Cells.{stepOf, afterIn}
+-- `take`: the number formed, and the pools after it.
+-- Assumes nothing.
 use Prim.Native.Nat.{ℕ}
-use mathlib.Core.Path.{_≡_, refl, sym, _∙_, ap}
+use mathlib.Core.Path.{_∙_, ap}
 use borrow.Author.Needs.{needs}
+use Rattle.spread.specs.Cells.{stepOf, afterIn}
 use Rattle.spread.proofs.pools.Pools.take.Statement.{statement}
 use Rattle.spread.proofs.pools.Pools.take.Tie as tie
-use Rattle.spread.proofs.pools.Pools.take.Reads as reads
-use Rattle.spread.proofs.pools.Pools.take.Lts as lts
-use Rattle.spread.proofs.pools.Pools.after.Reads as after-reads
-use Rattle.spread.proofs.pools.Pools.formed.Reads as formed-reads
 
--- src/pools.rt:144:13
 formed-requires : tie.Need-formed-requires
 formed-requires c κs = search needs
 
--- src/pools.rt:145:13
 after-requires : tie.Need-after-requires
 after-requires c κs = search needs
 
--- src/pools.rt:141:5
 returns : tie.Need-returns
 returns c = let s = c .before .before in
     record {

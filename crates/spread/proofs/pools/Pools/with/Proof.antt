@@ -1,26 +1,22 @@
+-- `with`: beyond the cells nothing changes.
+-- Assumes nothing.
 use native.Mathlib.Omega.{arith}
-use lib.Seq.{set-out}
-use lib.ListN.{length, length-map}
 use mathlib.Core.Path.{_≡_, sym, _∙_}
+use lib.ListN.{length, length-map}
+use lib.Seq.{set-out}
 use borrow.Author.Needs.{needs}
 use Rattle.spread.proofs.pools.Pools.with.Statement.{statement}
 use Rattle.spread.proofs.pools.Pools.with.Tie as tie
-use Rattle.spread.proofs.pools.Pools.with.Reads as reads
-use Rattle.spread.proofs.pools.Pools.with.Lts as lts
 
--- src/pools.rt:96:13
 mul-self : tie.Need-mul-self
 mul-self c = search needs
 
--- src/pools.rt:96:13
 element-write-self : tie.Need-element-write-self
 element-write-self c = search needs
 
--- src/pools.rt:92:5
 returns : tie.Need-returns
 returns c = search needs
 
--- src/pools.rt:92:5
 returns-2 : tie.Need-returns-2
 returns-2 c = let s = c .before in
     let l : length (s .args .t1 .cell) ≡ 32 = sym (length-map (s .args .t1 .cell) _) ∙ s .good .0 .1 .1 .0 .1 .0 .1 in

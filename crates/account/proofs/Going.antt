@@ -1,0 +1,166 @@
+-- The check on its way: no fault before record k, and the notes are those of the records before it.
+-- Assumes nothing.
+use Prim.Native.Nat.{ℕ, zero, suc, _+_, _*_, _≤_, _<_}
+use mathlib.Core.Path.{_≡_, refl, sym, ap, subst, subst⁻¹, _∙_}
+use mathlib.Core.Bool.{Bool, true, false, cond}
+use mathlib.Core.List.{List, [], _∷_, _++_}
+use lib.ListN.{length, getD, replicate, getD-replicate}
+use native.Mathlib.Omega.{arith}
+use native.Mathlib.Numerals.{add-one}
+use borrow.Author.Count.{below-more}
+use borrow.Author.Tests.{ne-eqb}
+use Rattle.exact.specs.Lists.{oneIf, count}
+use Rattle.record.specs.Layout.{Record}
+use Rattle.account.specs.Answers.{numberOf, refusal}
+use Rattle.account.specs.Check.{faultOf, tooLong, cutRecord, checked}
+use Rattle.account.specs.Notes.{partOf, inPart, oneMore, firstAt, faultAt}
+use Rattle.account.specs.Parts.{ofKind, startOf}
+use Rattle.account.specs.Records.{cut, recordAt, records, recordCount, earlier}
+use Rattle.account.specs.Surveyed.{ifAccepted, Surveyed, Empty}
+use Rattle.account.specs.declared.answers.Answer.{Answer}
+use Rattle.account.specs.declared.answers.Answer.the-variants.{Accepted}
+use Rattle.account.specs.declared.check.Survey.{Survey}
+use Rattle.account.proofs.Earlier.{cut-more}
+use Rattle.account.proofs.Faults.{same-fault}
+use Rattle.account.proofs.Firsts.{number-refusal}
+use Rattle.account.proofs.Laid.{Faultless}
+use Rattle.account.proofs.Lists.{count-append}
+use Rattle.account.proofs.Noted.{Noted, noted-none, noted-more}
+use Rattle.account.proofs.Passed.{passed, Known, known-of, part-bound}
+use Rattle.account.proofs.Verdict.{stops, ends, by-records, fault-number}
+use Rattle.account.proofs.Walk.{length-cut}
+
+pub count-most : (p : Record → Bool) (xs : List Record) → count p xs ≤ length xs
+count-most p [] = omega arith
+count-most p (x ∷ xs) = go (p x) refl (count-most p xs)
+  where
+    go : (t : Bool) → p x ≡ t → count p xs ≤ length xs → count p (x ∷ xs) ≤ length (x ∷ xs)
+    go true e h = rw e (omega arith)
+    go false e h = rw e (omega arith)
+
+pub one-at-most : (t : Bool) → oneIf t ≤ 1
+one-at-most true = omega arith
+one-at-most false = omega arith
+
+pub record Going (file first counts : List ℕ) (contracts k : ℕ) : Type 0 where
+  pub inside : k ≤ recordCount file
+  pub fine : Faultless file k
+  pub notes : Noted first counts (cut k file)
+  pub owned : contracts ≡ count (ofKind 1) (cut k file)
+
+pub going-start : (file : List ℕ) → Going file (replicate 81 0) (replicate 81 0) 0 0
+going-start file = record { inside = omega arith; fine = λ j h. absurd (omega arith); notes = noted-none; owned = refl }
+
+-- ---- what is handed out with a verdict
+if-accepted : (a : Answer) (n : ℕ) → a ≡ Accepted → ifAccepted a n ≡ n
+if-accepted a n e = ap (λ (b : Answer). ifAccepted b n) e
+
+if-refused : (a : Answer) (n : ℕ) → (numberOf a ≡ 0 → ⊥) → ifAccepted a n ≡ 0
+if-refused a n nz = ap (λ (b : Bool). cond b n 0) (ne-eqb (numberOf a) 0 nz)
+
+-- a refused file
+pub nothing : (file : List ℕ) (a : Answer) (s : Survey) → checked file ≡ a → (numberOf a ≡ 0 → ⊥) → Empty a s → Surveyed file s
+nothing file a s e nz h =
+    let none : (n : ℕ) → ifAccepted (checked file) n ≡ 0 =
+    λ n. ap (λ (b : Answer). ifAccepted b n) e ∙ if-refused a n nz in
+    record {
+      answer = h .answer ∙ sym e;
+      contracts = h .contracts ∙ sym (none _);
+      first = λ v l. ap (λ (xs : List ℕ). getD xs v 0) (h .first) ∙ getD-replicate {A = ℕ} 81 v 0 0 l ∙ sym (none _);
+      counts = λ v l. ap (λ (xs : List ℕ). getD xs v 0) (h .counts) ∙ getD-replicate {A = ℕ} 81 v 0 0 l ∙ sym (none _);
+    }
+
+module _ {file first counts : List ℕ} {contracts k : ℕ} (g : Going file first counts contracts k) (more : k < recordCount file) where
+  fault-is : faultAt file first counts k ≡ faultOf (earlier file k) (recordAt file k)
+  fault-is = same-fault file first counts k (g .notes) (g .fine) (g .inside)
+
+  pub owned-small : contracts ≤ k
+  owned-small = omega (arith, g .owned, count-most (ofKind 1) (cut k file), length-cut k file)
+
+  -- a fault: the verdict
+  pub going-stops :
+      (n : ℕ) → n ≡ faultAt file first counts k → (n ≡ 0 → ⊥) → tooLong file ≡ false → cutRecord file ≡ false
+      → (s : Survey) → Empty (refusal n k) s → Surveyed file s
+  going-stops n e nz a b s h =
+      let f = sym (e ∙ fault-is) in
+      let i = fault-number (earlier file k) (recordAt file k) n f nz in
+      let m = number-refusal n k (i .0) (i .1) in
+      nothing file (refusal n k) s (by-records file a b ∙ stops file k n more (g .fine) f nz) (λ z. nz (sym m ∙ z)) h
+
+  -- no fault: what the next turn begins with
+  module _ (none : faultAt file first counts k ≡ 0) where
+    no-fault : faultOf (earlier file k) (recordAt file k) ≡ 0
+    no-fault = sym fault-is ∙ none
+
+    known : Known (recordAt file k)
+    known = known-of (recordAt file k) (passed (earlier file k) (recordAt file k) no-fault)
+
+    pub part-in : partOf (recordAt file k) < 81
+    part-in = part-bound (recordAt file k) known
+
+    pub count-small : getD counts (partOf (recordAt file k)) 0 ≤ k
+    count-small =
+        let v = partOf (recordAt file k) in
+        omega (arith, g .notes .counted v part-in, count-most (inPart v) (cut k file), length-cut k file)
+
+    grown : cut (k + 1) file ≡ cut k file ++ recordAt file k ∷ []
+    grown = ap (λ (n : ℕ). cut n file) (add-one k) ∙ cut-more k file
+
+    pub going-next :
+        Going file (firstAt first counts (partOf (recordAt file k)) k) (oneMore counts (partOf (recordAt file k)))
+        (contracts + oneIf (ofKind 1 (recordAt file k))) (k + 1)
+    going-next =
+        record {
+          inside = omega arith;
+          fine = below-more (λ (j : ℕ). faultOf (earlier file j) (recordAt file j) ≡ 0) k (g .fine) no-fault;
+          notes =
+              subst (λ (rs : List Record). Noted (firstAt first counts (partOf (recordAt file k)) k) (oneMore counts (partOf (recordAt file k))) rs) (sym grown)
+              (subst (λ (n : ℕ). Noted (firstAt first counts (partOf (recordAt file k)) n) (oneMore counts (partOf (recordAt file k))) (cut k file ++ recordAt file k ∷ []))
+              (length-cut k file) (noted-more first counts (cut k file) (g .notes) (recordAt file k) known));
+          owned =
+              let a = count-append (ofKind 1) (cut k file) (recordAt file k ∷ []) in
+              let e = ap (count (ofKind 1)) grown in
+              let o = g .owned in
+              omega arith;
+        }
+
+    pub going-on :
+        {first′ counts′ r : List ℕ} {v one : ℕ} → first′ ≡ firstAt first counts v k → counts′ ≡ oneMore counts v
+        → v ≡ partOf (recordAt file k) → one ≡ oneIf (ofKind 1 r) → r ≡ recordAt file k
+        → Going file first′ counts′ (contracts + one) (k + 1)
+    going-on {first′} {counts′} {r} {v} {one} hf hc hv ho hr =
+        let v₀ = partOf (recordAt file k) in
+        subst⁻¹ (λ (f : List ℕ). Going file f counts′ (contracts + one) (k + 1))
+        (hf ∙ ap (λ (u : ℕ). firstAt first counts u k) hv)
+        (subst⁻¹ (λ (c : List ℕ). Going file (firstAt first counts v₀ k) c (contracts + one) (k + 1))
+        (hc ∙ ap (oneMore counts) hv)
+        (subst⁻¹ (λ (n : ℕ). Going file (firstAt first counts v₀ k) (oneMore counts v₀) (contracts + n) (k + 1))
+        (ho ∙ ap (λ (x : Record). oneIf (ofKind 1 x)) hr) going-next))
+
+-- ---- the end
+module _ {file first counts : List ℕ} {contracts k : ℕ} (g : Going file first counts contracts k) (done : recordCount file ≤ k) where
+  at-end : k ≡ recordCount file
+  at-end =
+      let i = g .inside in
+      omega arith
+
+  pub going-ends : tooLong file ≡ false → cutRecord file ≡ false → checked file ≡ Accepted
+  going-ends a b = by-records file a b ∙ ends file (subst (Faultless file) at-end (g .fine))
+
+  pub surveyed :
+      (s : Survey) → checked file ≡ Accepted → s .answer ≡ Accepted → s .contracts ≡ contracts → s .first ≡ first → s .counts ≡ counts
+      → Surveyed file s
+  surveyed s e a o f n =
+      record {
+        answer = a ∙ sym e;
+        contracts =
+            o ∙ g .owned ∙ ap (λ (m : ℕ). count (ofKind 1) (cut m file)) at-end ∙ sym (if-accepted (checked file) _ e);
+        first =
+            λ v h.
+            ap (λ (l : List ℕ). getD l v 0) f ∙ g .notes .started v h
+            ∙ ap (λ (m : ℕ). startOf (inPart v) (cut m file)) at-end ∙ sym (if-accepted (checked file) _ e);
+        counts =
+            λ v h.
+            ap (λ (l : List ℕ). getD l v 0) n ∙ g .notes .counted v h
+            ∙ ap (λ (m : ℕ). count (inPart v) (cut m file)) at-end ∙ sym (if-accepted (checked file) _ e);
+      }

@@ -1,0 +1,11 @@
+pub mod Walk
+pub mod Dispatch
+pub mod Firsts
+pub mod Lists
+pub mod Earlier
+pub mod Passed
+pub mod Laid
+pub mod Noted
+pub mod Faults
+pub mod Verdict
+pub mod Going

@@ -1,0 +1,179 @@
+-- A record with no fault: each of the seven refusals is off, it belongs to one part, and its part is not below that of the
+-- record before.
+-- Assumes nothing.
+use Prim.Native.Nat.{ℕ, zero, suc, _+_, _*_, _/_, _%_, _≤_, _<_}
+use mathlib.Core.Path.{_≡_, refl, sym, ap, _∙_}
+use mathlib.Core.Bool.{Bool, true, false, _&&_, _||_, cond}
+use mathlib.Core.List.{List, []}
+use lib.Dec.{eqb, leb, ltb}
+use native.Mathlib.Omega.{arith}
+use borrow.Author.Tests.{eq-eqb, ne-eqb, eqb-true, eqb-false, leb-false, ltb-false}
+use Rattle.record.specs.Layout.{Record, kind, contract, day}
+use Rattle.record.specs.Ranges.{unknownKind, unusedByte, fieldOutside}
+use Rattle.record.proofs.Within.{both-true, neither, by-kind, kind-known, contract-known}
+use Rattle.account.specs.Check.{theOneBefore, kindFalls, unlisted, outOfOrder, overLimit, faultOf, numberNotAbove, dayNotAbove, tierFalls, contractFalls, legsClash}
+use Rattle.account.specs.Notes.{part, partOf, inPart}
+use Rattle.account.specs.Parts.{ofKind, ofContract}
+use Rattle.account.proofs.Dispatch.{order-1, order-2, order-3, order-4}
+use Rattle.account.proofs.Firsts.{seven}
+
+pub record Passed (earlier : List Record) (r : Record) : Type 0 where
+  pub known : unknownKind r ≡ false
+  pub rises : kindFalls (theOneBefore earlier) r ≡ false
+  pub unused : unusedByte r ≡ false
+  pub within : fieldOutside r ≡ false
+  pub listed : unlisted earlier r ≡ false
+  pub ordered : outOfOrder (theOneBefore earlier) r ≡ false
+  pub room : overLimit earlier r ≡ false
+
+all-off :
+    (a b c d e f g : Bool) → seven a b c d e f g ≡ 0
+    → (a ≡ false) × ((b ≡ false) × ((c ≡ false) × ((d ≡ false) × ((e ≡ false) × ((f ≡ false) × (g ≡ false))))))
+all-off true b c d e f g h = absurd (omega arith)
+all-off false true c d e f g h = absurd (omega arith)
+all-off false false true d e f g h = absurd (omega arith)
+all-off false false false true e f g h = absurd (omega arith)
+all-off false false false false true f g h = absurd (omega arith)
+all-off false false false false false true g h = absurd (omega arith)
+all-off false false false false false false true h = absurd (omega arith)
+all-off false false false false false false false h = (refl, (refl, (refl, (refl, (refl, (refl, refl))))))
+
+pub passed : (earlier : List Record) (r : Record) → faultOf earlier r ≡ 0 → Passed earlier r
+passed earlier r h =
+    let t =
+    all-off (unknownKind r) (kindFalls (theOneBefore earlier) r) (unusedByte r) (fieldOutside r) (unlisted earlier r)
+    (outOfOrder (theOneBefore earlier) r) (overLimit earlier r) h in
+    record {
+      known = t .0;
+      rises = t .1 .0;
+      unused = t .1 .1 .0;
+      within = t .1 .1 .1 .0;
+      listed = t .1 .1 .1 .1 .0;
+      ordered = t .1 .1 .1 .1 .1 .0;
+      room = t .1 .1 .1 .1 .1 .1;
+    }
+
+-- ---- a record's part
+pub record Known (r : Record) : Type 0 where
+  pub low : 1 ≤ kind r
+  pub high : kind r ≤ 5
+  pub contracts : contract r ≤ 15
+
+pub known-of : {earlier : List Record} (r : Record) → Passed earlier r → Known r
+known-of r p =
+    let k = kind-known r (p .known) in
+    record { low = k .least; high = k .most; contracts = contract-known r (p .known) (p .within) }
+
+pub part-entry : (r : Record) → kind r ≡ 5 → partOf r ≡ 80
+part-entry r e = rw e
+
+pub part-other : (r : Record) → (kind r ≡ 5 → ⊥) → partOf r ≡ 16 * kind r + contract r
+part-other r h = rw (ne-eqb (kind r) 5 h)
+
+pub same-tests : (a b : Bool) → (a ≡ true → b ≡ true) → (b ≡ true → a ≡ true) → a ≡ b
+same-tests true b f g = sym (f refl)
+same-tests false true f g = g refl
+same-tests false false f g = refl
+
+both-hold : {a b : Bool} → a ≡ true → b ≡ true → a && b ≡ true
+both-hold p q = rw (p, q)
+
+module _ (r : Record) (k : Known r) where
+  part-cases : (P : Type 0) → (kind r ≡ 5 → partOf r ≡ 80 → P) → (kind r < 5 → partOf r ≡ 16 * kind r + contract r → P) → P
+  part-cases P f g = go (eqb (kind r) 5) refl
+    where
+      go : (t : Bool) → eqb (kind r) 5 ≡ t → P
+      go true e = f (eqb-true _ _ e) (part-entry r (eqb-true _ _ e))
+      go false e =
+          let d = eqb-false (kind r) 5 e in
+          let h = k .high in
+          g (omega arith) (part-other r d)
+
+  pub part-bound : partOf r < 81
+  part-bound =
+      let c = k .contracts in
+      part-cases (partOf r < 81) (λ e p. omega arith) (λ l p. omega arith)
+
+  pub mine : (v : ℕ) → v < 81 → inPart v r ≡ eqb (partOf r) v
+  mine v h = go (eqb v 80) refl
+    where
+      entries : v ≡ 80 → eqb (kind r) 5 ≡ eqb (partOf r) v
+      entries e =
+          same-tests _ _ (λ t. eq-eqb _ _ (part-entry r (eqb-true _ _ t) ∙ sym e))
+          (λ t.
+          let p = eqb-true (partOf r) v t in
+          let c = k .contracts in
+          part-cases (eqb (kind r) 5 ≡ true) (λ i q. eq-eqb _ _ i) (λ l q. absurd (omega arith)))
+
+      others : (v ≡ 80 → ⊥) → ofContract (v / 16) (v % 16) r ≡ eqb (partOf r) v
+      others n =
+          let c = k .contracts in
+          same-tests (ofContract (v / 16) (v % 16) r) (eqb (partOf r) v)
+          (λ t.
+          let b = both-true (eqb (kind r) (v / 16)) (eqb (contract r) (v % 16)) t in
+          let i : kind r ≡ v / 16 = eqb-true (kind r) (v / 16) (b .0) in
+          let j : contract r ≡ v % 16 = eqb-true (contract r) (v % 16) (b .1) in
+          eq-eqb _ _ (part-cases (partOf r ≡ v) (λ a q. absurd (omega arith)) (λ l q. omega arith)))
+          (λ t.
+          let p = eqb-true (partOf r) v t in
+          part-cases (ofContract (v / 16) (v % 16) r ≡ true) (λ a q. absurd (omega arith))
+          (λ l q. both-hold (eq-eqb (kind r) (v / 16) (omega arith)) (eq-eqb (contract r) (v % 16) (omega arith))))
+
+      go : (t : Bool) → eqb v 80 ≡ t → inPart v r ≡ eqb (partOf r) v
+      go true e = rw e (entries (eqb-true _ _ e))
+      go false e = rw e (others (eqb-false _ _ e))
+
+-- ---- the part does not fall
+right-off : {a b : Bool} → a ≡ true → a && b ≡ false → b ≡ false
+right-off {a} {b} t h = ap (λ (x : Bool). x && b) (sym t) ∙ h
+
+module _ (before r : Record) (off : outOfOrder before r ≡ false) where
+  contract-rises : (n : ℕ) → 1 ≤ n → n ≤ 5 → n < 5 → kind r ≡ n → kind before ≡ n → contract before ≤ contract r
+  contract-rises n l h s e b =
+      by-kind (λ m. m < 5 → kind r ≡ m → kind before ≡ m → contract before ≤ contract r)
+      (λ _ e b.
+      let t = right-off (eq-eqb _ _ b) (sym (order-1 before r e) ∙ off) in
+      let g = leb-false (contract r) (contract before) t in
+      omega arith)
+      (λ _ e b.
+      let d = neither (dayNotAbove before r) (tierFalls before r) (sym (order-2 before r e) ∙ off) in
+      let t = right-off (eq-eqb _ _ b) (d .0) in
+      let f = neither (ltb (contract r) (contract before)) _ t in
+      ltb-false _ _ (f .0))
+      (λ _ e b. falls (b ∙ sym e) (sym (order-3 before r e) ∙ off))
+      (λ _ e b. falls (b ∙ sym e) (neither (contractFalls before r) (legsClash r) (sym (order-4 before r e) ∙ off) .0))
+      (λ s e b. absurd (omega arith)) n l h s e b
+    where
+      falls : kind before ≡ kind r → contractFalls before r ≡ false → contract before ≤ contract r
+      falls e t = ltb-false (contract r) (contract before) (right-off (eq-eqb _ _ e) t)
+
+  pub part-rises :
+      Known r → kind before ≤ 5 → contract before ≤ 15 → kindFalls before r ≡ false → partOf before ≤ partOf r
+  part-rises k hb cb f = go (eqb (kind before) (kind r)) refl
+    where
+      up : kind before ≤ kind r
+      up = ltb-false (kind r) (kind before) f
+
+      less : kind before < kind r → partOf before ≤ partOf r
+      less h =
+          let top = k .high in
+          let p = part-other before (λ e. omega arith) in
+          part-cases r k (partOf before ≤ partOf r) (λ e q. omega arith) (λ l q. omega arith)
+
+      alike : kind before ≡ kind r → partOf before ≤ partOf r
+      alike e =
+          let low = k .low in
+          part-cases r k (partOf before ≤ partOf r)
+          (λ i q.
+          let p = part-entry before (e ∙ i) in
+          omega arith)
+          (λ l q.
+          let p = part-other before (λ i. omega arith) in
+          let c = contract-rises (kind r) (k .low) (k .high) l refl e in
+          omega arith)
+
+      go : (t : Bool) → eqb (kind before) (kind r) ≡ t → partOf before ≤ partOf r
+      go true e = alike (eqb-true _ _ e)
+      go false e =
+          let d = eqb-false (kind before) (kind r) e in
+          less (omega (arith, up))

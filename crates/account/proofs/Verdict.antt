@@ -1,0 +1,79 @@
+-- The verdict, from the faults of the records: the first fault answers, and without one the file is accepted.
+-- Assumes nothing.
+use Prim.Native.Nat.{ℕ, zero, suc, _+_, _-_, _*_, _≤_, _<_}
+use mathlib.Core.Path.{_≡_, refl, sym, ap, _∙_}
+use mathlib.Core.Bool.{Bool, true, false, cond}
+use mathlib.Core.List.{List, [], _∷_}
+use lib.ListN.{length, drop}
+use lib.Dec.{eqb}
+use native.Mathlib.Omega.{arith}
+use native.Mathlib.Numerals.{add-one}
+use borrow.Author.Tests.{ne-eqb}
+use Rattle.record.specs.Layout.{Record}
+use Rattle.record.specs.Ranges.{unknownKind, unusedByte, fieldOutside}
+use Rattle.account.specs.Answers.{refusal}
+use Rattle.account.specs.Check.{theOneBefore, kindFalls, unlisted, outOfOrder, overLimit, faultOf, orElse, firstFault, tooLong, cutRecord, checked}
+use Rattle.account.specs.Records.{cut, recordAt, records, recordCount, earlier}
+use Rattle.account.specs.declared.answers.Answer.{Answer}
+use Rattle.account.specs.declared.answers.Answer.the-variants.{Accepted, TooLong, CutRecord}
+use Rattle.account.proofs.Firsts.{fault-range}
+use Rattle.account.proofs.Laid.{Faultless}
+use Rattle.account.proofs.Walk.{cut-on}
+
+module _ (file : List ℕ) where
+  -- the verdict of the records from record k on
+  abbrev fromOn : ℕ → Answer
+  fromOn k = firstFault k (earlier file k) (cut (recordCount file - k) (drop (k * 96) file))
+
+  abbrev rest : ℕ → Answer
+  rest k =
+      firstFault (k + 1) (recordAt file k ∷ earlier file k) (cut (recordCount file - (k + 1)) (drop ((k + 1) * 96) file))
+
+  step : (k : ℕ) → k < recordCount file → fromOn k ≡ orElse (faultOf (earlier file k) (recordAt file k)) k (rest k)
+  step k h = ap (firstFault k (earlier file k)) (cut-on file (recordCount file) k h)
+
+  on : (k : ℕ) → rest k ≡ fromOn (k + 1)
+  on k =
+      ap (λ (es : List Record). firstFault (k + 1) es (cut (recordCount file - (k + 1)) (drop ((k + 1) * 96) file)))
+      (ap (earlier file) (sym (add-one k)))
+
+  pub reach : (k : ℕ) → k ≤ recordCount file → Faultless file k → firstFault 0 [] (records file) ≡ fromOn k
+  reach zero h fine =
+      let e : recordCount file - 0 ≡ recordCount file = omega arith in
+      ap (λ (n : ℕ). firstFault 0 [] (cut n file)) (sym e)
+  reach (suc k) h fine =
+      reach k (omega arith) (λ j l. fine j (omega arith)) ∙ step k (omega arith)
+      ∙ ap (λ (n : ℕ). orElse n k (rest k)) (fine k (omega arith)) ∙ on k ∙ ap fromOn (add-one k)
+
+  pub stops :
+      (k n : ℕ) → k < recordCount file → Faultless file k → faultOf (earlier file k) (recordAt file k) ≡ n → (n ≡ 0 → ⊥)
+      → firstFault 0 [] (records file) ≡ refusal n k
+  stops k n h fine e nz =
+      reach k (omega arith) fine ∙ step k h ∙ ap (λ (m : ℕ). orElse m k (rest k)) e
+      ∙ ap (λ (b : Bool). cond b (rest k) (refusal n k)) (ne-eqb n 0 nz)
+
+  pub ends : Faultless file (recordCount file) → firstFault 0 [] (records file) ≡ Accepted
+  ends fine =
+      let n = recordCount file in
+      let e : n - n ≡ 0 = omega arith in
+      reach n (omega arith) fine
+      ∙ ap (λ (m : ℕ). firstFault n (earlier file n) (cut m (drop (n * 96) file))) e
+
+  pub too-long : tooLong file ≡ true → checked file ≡ TooLong
+  too-long e = ap (λ (b : Bool). cond b TooLong (cond (cutRecord file) CutRecord (firstFault 0 [] (records file)))) e
+
+  pub cut-short : tooLong file ≡ false → cutRecord file ≡ true → checked file ≡ CutRecord
+  cut-short e f =
+      ap (λ (b : Bool). cond b TooLong (cond (cutRecord file) CutRecord (firstFault 0 [] (records file)))) e
+      ∙ ap (λ (b : Bool). cond b CutRecord (firstFault 0 [] (records file))) f
+
+  pub by-records : tooLong file ≡ false → cutRecord file ≡ false → checked file ≡ firstFault 0 [] (records file)
+  by-records e f =
+      ap (λ (b : Bool). cond b TooLong (cond (cutRecord file) CutRecord (firstFault 0 [] (records file)))) e
+      ∙ ap (λ (b : Bool). cond b CutRecord (firstFault 0 [] (records file))) f
+
+-- a fault has a number from 3 to 9
+pub fault-number : (es : List Record) (r : Record) (n : ℕ) → faultOf es r ≡ n → (n ≡ 0 → ⊥) → (3 ≤ n) × (n ≤ 9)
+fault-number es r n h nz =
+    fault-range (unknownKind r) (kindFalls (theOneBefore es) r) (unusedByte r) (fieldOutside r) (unlisted es r)
+    (outOfOrder (theOneBefore es) r) (overLimit es r) n h nz

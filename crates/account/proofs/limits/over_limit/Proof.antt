@@ -1,0 +1,59 @@
+-- `account::limits::over_limit` meets its contract. Assumes nothing.
+use borrow.Author.Needs.{needs}
+use Prim.Native.Nat.{ℕ}
+use mathlib.Core.Path.{sym, ap, _∙_}
+use lib.ListN.{getD}
+use lib.Dec.{leb}
+use Rattle.account.proofs.Dispatch.{limit-2, limit-3, limit-4, limit-5, limit-none}
+use Rattle.account.proofs.limits.over_limit.Statement.{statement}
+use Rattle.account.proofs.limits.over_limit.Tie as tie
+
+kind-requires : tie.Need-kind-requires
+kind-requires c κs = search needs
+
+part-of-requires : tie.Need-part-of-requires
+part-of-requires c κs = search needs
+
+noted-requires : tie.Need-noted-requires
+noted-requires c κs = search needs
+
+returns : tie.Need-returns
+returns c =
+    let counts = c .before .before .before .before .before .before .args .counts .now in
+    ap (λ (n : ℕ). leb 32 n) (c .before .noted .ensures ∙ ap (λ (v : ℕ). getD counts v 0) (c .before .before .part-of .ensures))
+    ∙ sym (limit-2 counts (c .before .before .before .before .before .before .args .r .now) (sym (c .before .before .before .kind .ensures .0) ∙ c .if1 .taken))
+
+returns-2 : tie.Need-returns-2
+returns-2 c =
+    let counts = c .before .before .before .before .before .before .before .args .counts .now in
+    ap (λ (n : ℕ). leb 128 n) (c .before .before .noted .ensures ∙ ap (λ (v : ℕ). getD counts v 0) (c .before .before .before .part-of .ensures))
+    ∙ sym (limit-3 counts (c .before .before .before .before .before .before .before .args .r .now) (sym (c .before .before .before .before .kind .ensures .0) ∙ c .if2 .taken))
+
+returns-3 : tie.Need-returns-3
+returns-3 c =
+    let counts = c .before .before .before .before .before .before .before .before .args .counts .now in
+    ap (λ (n : ℕ). leb 32 n) (c .before .before .before .noted .ensures ∙ ap (λ (v : ℕ). getD counts v 0) (c .before .before .before .before .part-of .ensures))
+    ∙ sym (limit-4 counts (c .before .before .before .before .before .before .before .before .args .r .now) (sym (c .before .before .before .before .before .kind .ensures .0) ∙ c .if3 .taken))
+
+returns-4 : tie.Need-returns-4
+returns-4 c =
+    let counts = c .before .before .before .before .before .before .before .before .before .args .counts .now in
+    ap (λ (n : ℕ). leb 32 n) (c .before .before .before .before .noted .ensures ∙ ap (λ (v : ℕ). getD counts v 0) (c .before .before .before .before .before .part-of .ensures))
+    ∙ sym (limit-5 counts (c .before .before .before .before .before .before .before .before .before .args .r .now) (sym (c .before .before .before .before .before .before .kind .ensures .0) ∙ c .if4 .taken))
+
+returns-5 : tie.Need-returns-5
+returns-5 c =
+    sym (limit-none (c .before .before .before .before .before .before .before .before .before .args .counts .now) (c .before .before .before .before .before .before .before .before .before .args .r .now) (λ e. c .before .before .before .if1 .left (c .before .before .before .before .before .before .kind .ensures .0 ∙ e)) (λ e. c .before .before .if2 .left (c .before .before .before .before .before .before .kind .ensures .0 ∙ e)) (λ e. c .before .if3 .left (c .before .before .before .before .before .before .kind .ensures .0 ∙ e)) (λ e. c .if4 .left (c .before .before .before .before .before .before .kind .ensures .0 ∙ e)))
+
+pub over-limit-spec : {M : Type 1} → statement M
+over-limit-spec =
+    tie.close
+    (tie.spec
+    kind-requires
+    part-of-requires
+    noted-requires
+    returns
+    returns-2
+    returns-3
+    returns-4
+    returns-5)

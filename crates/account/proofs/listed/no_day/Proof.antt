@@ -1,0 +1,25 @@
+-- `account::listed::no_day` meets its contract. Assumes nothing.
+use borrow.Author.Needs.{needs}
+use mathlib.Core.Path.{_≡_, sym, _∙_}
+use lib.ListN.{length}
+use Rattle.account.specs.Parts.{onDay}
+use Rattle.account.specs.Records.{records, recordCount}
+use Rattle.account.proofs.Walk.{length-cut, none-place}
+use Rattle.account.proofs.listed.no_day.Statement.{statement}
+use Rattle.account.proofs.listed.no_day.Tie as tie
+
+record-count-requires : tie.Need-record-count-requires
+record-count-requires c κs = search needs
+
+place-of-day-requires : tie.Need-place-of-day-requires
+place-of-day-requires c κs = search needs
+
+returns : tie.Need-returns
+returns c =
+    let p = onDay (c .before .before .before .args .d) in
+    let ps = records (c .before .before .before .args .prompts .now) in
+    let n : c .before .record-count .result ≡ length ps = c .before .record-count .ensures ∙ sym (length-cut (recordCount (c .before .before .before .args .prompts .now)) (c .before .before .before .args .prompts .now)) in
+    rw (n, c .place-of-day .ensures) (none-place p ps)
+
+pub no-day-spec : {M : Type 1} → statement M
+no-day-spec = tie.close (tie.spec record-count-requires place-of-day-requires returns)

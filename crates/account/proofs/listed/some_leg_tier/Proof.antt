@@ -1,0 +1,50 @@
+-- `account::listed::some_leg_tier` meets its contract. Assumes nothing.
+use borrow.Author.Needs.{needs}
+use mathlib.Core.Path.{_≡_, refl, sym, ap, _∙_}
+use mathlib.Core.Bool.{Bool, true, false, not, _||_}
+use borrow.Author.Tests.{eq-eqb, ne-eqb}
+use Rattle.record.specs.Layout.{twoLegs}
+use Rattle.record.proofs.Tests.{both, last}
+use Rattle.account.proofs.listed.some_leg_tier.Statement.{statement}
+use Rattle.account.proofs.listed.some_leg_tier.Tie as tie
+
+leg-count-requires : tie.Need-leg-count-requires
+leg-count-requires c κs = search needs
+
+no-leg-tier-requires : tie.Need-no-leg-tier-requires
+no-leg-tier-requires c κs = search needs
+
+no-leg-tier-requires-2 : tie.Need-no-leg-tier-requires-2
+no-leg-tier-requires-2 c κs = search needs
+
+no-leg-tier-requires-3 : tie.Need-no-leg-tier-requires-3
+no-leg-tier-requires-3 c κs = search needs
+
+no-leg-tier-requires-4 : tie.Need-no-leg-tier-requires-4
+no-leg-tier-requires-4 c κs = search needs
+
+no-leg-tier-requires-5 : tie.Need-no-leg-tier-requires-5
+no-leg-tier-requires-5 c κs = search needs
+
+returns : tie.Need-returns
+returns c =
+    let legs : twoLegs (c .before .before .before .before .before .before .args .r .now) ≡ true = eq-eqb _ _ (sym (c .before .before .before .leg-count .ensures .0) ∙ c .before .before .if1 .taken) in
+    rw legs (both (c .before .no-leg-tier .ensures) (last (c .no-leg-tier2 .ensures)))
+
+returns-2 : tie.Need-returns-2
+returns-2 c =
+    let legs : twoLegs (c .before .before .before .before .before .before .before .args .r .now) ≡ false = ne-eqb _ _ (λ e. c .before .before .before .if1 .left (c .before .before .before .before .leg-count .ensures .0 ∙ e)) in
+    rw legs (both (c .before .before .no-leg-tier3 .ensures) (both (c .before .no-leg-tier4 .ensures) (last (c .no-leg-tier5 .ensures))))
+
+pub some-leg-tier-spec : {M : Type 1} → statement M
+some-leg-tier-spec =
+    tie.close
+    (tie.spec
+    leg-count-requires
+    no-leg-tier-requires
+    no-leg-tier-requires-2
+    no-leg-tier-requires-3
+    no-leg-tier-requires-4
+    no-leg-tier-requires-5
+    returns
+    returns-2)

@@ -1,0 +1,21 @@
+-- `account::notes::noted` meets its contract. Assumes nothing.
+use borrow.Author.Needs.{needs}
+use mathlib.Core.Path.{sym}
+use lib.ListN.{List·getD-eq-default}
+use Rattle.account.proofs.notes.noted.Statement.{statement}
+use Rattle.account.proofs.notes.noted.Tie as tie
+
+mul-result : tie.Need-mul-result
+mul-result c = search needs
+
+shared-slice-read-result : tie.Need-shared-slice-read-result
+shared-slice-read-result c = search needs
+
+returns : tie.Need-returns
+returns c = search needs
+
+returns-2 : tie.Need-returns-2
+returns-2 c = sym (List·getD-eq-default (c .before .args .notes .now) 0 {n = c .before .args .v} (c .if1 .left))
+
+pub noted-spec : {M : Type 1} → statement M
+noted-spec = tie.close (tie.spec mul-result shared-slice-read-result returns returns-2)

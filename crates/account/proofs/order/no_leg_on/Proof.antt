@@ -1,0 +1,50 @@
+-- `account::order::no_leg_on` meets its contract. Assumes nothing.
+use borrow.Author.Needs.{needs}
+use mathlib.Core.Path.{_≡_, refl, sym, ap, _∙_}
+use mathlib.Core.Bool.{Bool, true, false, not, _||_}
+use borrow.Author.Tests.{eq-eqb, ne-eqb}
+use Rattle.record.specs.Layout.{twoLegs}
+use Rattle.record.proofs.Tests.{both, last}
+use Rattle.account.proofs.order.no_leg_on.Statement.{statement}
+use Rattle.account.proofs.order.no_leg_on.Tie as tie
+
+leg-count-requires : tie.Need-leg-count-requires
+leg-count-requires c κs = search needs
+
+on-side-requires : tie.Need-on-side-requires
+on-side-requires c κs = search needs
+
+on-side-requires-2 : tie.Need-on-side-requires-2
+on-side-requires-2 c κs = search needs
+
+on-side-requires-3 : tie.Need-on-side-requires-3
+on-side-requires-3 c κs = search needs
+
+on-side-requires-4 : tie.Need-on-side-requires-4
+on-side-requires-4 c κs = search needs
+
+on-side-requires-5 : tie.Need-on-side-requires-5
+on-side-requires-5 c κs = search needs
+
+returns : tie.Need-returns
+returns c =
+    let legs : twoLegs (c .before .before .before .before .before .args .r .now) ≡ true = eq-eqb _ _ (sym (c .before .before .before .leg-count .ensures .0) ∙ c .before .before .if1 .taken) in
+    rw legs (ap not (both (c .before .on-side .ensures) (last (c .on-side2 .ensures))))
+
+returns-2 : tie.Need-returns-2
+returns-2 c =
+    let legs : twoLegs (c .before .before .before .before .before .before .args .r .now) ≡ false = ne-eqb _ _ (λ e. c .before .before .before .if1 .left (c .before .before .before .before .leg-count .ensures .0 ∙ e)) in
+    rw legs (ap not (both (c .before .before .on-side3 .ensures) (both (c .before .on-side4 .ensures) (last (c .on-side5 .ensures)))))
+
+pub no-leg-on-spec : {M : Type 1} → statement M
+no-leg-on-spec =
+    tie.close
+    (tie.spec
+    leg-count-requires
+    on-side-requires
+    on-side-requires-2
+    on-side-requires-3
+    on-side-requires-4
+    on-side-requires-5
+    returns
+    returns-2)

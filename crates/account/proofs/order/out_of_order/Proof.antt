@@ -1,0 +1,79 @@
+-- `account::order::out_of_order` meets its contract. Assumes nothing.
+use borrow.Author.Needs.{needs}
+use mathlib.Core.Path.{sym, _∙_}
+use Rattle.record.proofs.Tests.{both}
+use Rattle.account.proofs.Dispatch.{order-1, order-2, order-3, order-4, order-5, order-none}
+use Rattle.account.proofs.order.out_of_order.Statement.{statement}
+use Rattle.account.proofs.order.out_of_order.Tie as tie
+
+kind-requires : tie.Need-kind-requires
+kind-requires c κs = search needs
+
+number-not-above-requires : tie.Need-number-not-above-requires
+number-not-above-requires c κs = search needs
+
+returns : tie.Need-returns
+returns c =
+    c .number-not-above .ensures
+    ∙ sym (order-1 (c .before .before .before .before .before .args .before .now) (c .before .before .before .before .before .args .r .now) (sym (c .before .before .kind .ensures .0) ∙ c .before .if1 .taken))
+
+day-not-above-requires : tie.Need-day-not-above-requires
+day-not-above-requires c κs = search needs
+
+tier-falls-requires : tie.Need-tier-falls-requires
+tier-falls-requires c κs = search needs
+
+returns-2 : tie.Need-returns-2
+returns-2 c =
+    both (c .before .day-not-above .ensures) (c .tier-falls .ensures)
+    ∙ sym (order-2 (c .before .before .before .before .before .before .before .args .before .now) (c .before .before .before .before .before .before .before .args .r .now) (sym (c .before .before .before .before .kind .ensures .0) ∙ c .before .before .if2 .taken))
+
+contract-falls-requires : tie.Need-contract-falls-requires
+contract-falls-requires c κs = search needs
+
+returns-3 : tie.Need-returns-3
+returns-3 c =
+    c .contract-falls .ensures
+    ∙ sym (order-3 (c .before .before .before .before .before .before .before .args .before .now) (c .before .before .before .before .before .before .before .args .r .now) (sym (c .before .before .before .before .kind .ensures .0) ∙ c .before .if3 .taken))
+
+contract-falls-requires-2 : tie.Need-contract-falls-requires-2
+contract-falls-requires-2 c κs = search needs
+
+legs-clash-requires : tie.Need-legs-clash-requires
+legs-clash-requires c κs = search needs
+
+returns-4 : tie.Need-returns-4
+returns-4 c =
+    both (c .before .contract-falls2 .ensures) (c .legs-clash .ensures)
+    ∙ sym (order-4 (c .before .before .before .before .before .before .before .before .before .args .before .now) (c .before .before .before .before .before .before .before .before .before .args .r .now) (sym (c .before .before .before .before .before .before .kind .ensures .0) ∙ c .before .before .if4 .taken))
+
+with-itself-requires : tie.Need-with-itself-requires
+with-itself-requires c κs = search needs
+
+returns-5 : tie.Need-returns-5
+returns-5 c =
+    c .with-itself .ensures
+    ∙ sym (order-5 (c .before .before .before .before .before .before .before .before .before .args .before .now) (c .before .before .before .before .before .before .before .before .before .args .r .now) (sym (c .before .before .before .before .before .before .kind .ensures .0) ∙ c .before .if5 .taken))
+
+returns-6 : tie.Need-returns-6
+returns-6 c =
+    sym (order-none (c .before .before .before .before .before .before .before .before .args .before .now) (c .before .before .before .before .before .before .before .before .args .r .now) (λ e. c .before .before .before .before .if1 .left (c .before .before .before .before .before .kind .ensures .0 ∙ e)) (λ e. c .before .before .before .if2 .left (c .before .before .before .before .before .kind .ensures .0 ∙ e)) (λ e. c .before .before .if3 .left (c .before .before .before .before .before .kind .ensures .0 ∙ e)) (λ e. c .before .if4 .left (c .before .before .before .before .before .kind .ensures .0 ∙ e)) (λ e. c .if5 .left (c .before .before .before .before .before .kind .ensures .0 ∙ e)))
+
+pub out-of-order-spec : {M : Type 1} → statement M
+out-of-order-spec =
+    tie.close
+    (tie.spec
+    kind-requires
+    number-not-above-requires
+    returns
+    day-not-above-requires
+    tier-falls-requires
+    returns-2
+    contract-falls-requires
+    returns-3
+    contract-falls-requires-2
+    legs-clash-requires
+    returns-4
+    with-itself-requires
+    returns-5
+    returns-6)

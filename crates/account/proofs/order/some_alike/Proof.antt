@@ -1,0 +1,53 @@
+-- `account::order::some_alike` meets its contract. Assumes nothing.
+use borrow.Author.Needs.{needs}
+use mathlib.Core.Path.{_≡_, refl, sym, ap, _∙_}
+use mathlib.Core.Bool.{Bool, true, false, not, _||_}
+use borrow.Author.Tests.{eq-eqb, ne-eqb}
+use Rattle.record.specs.Layout.{twoLegs}
+use Rattle.record.proofs.Tests.{both, last}
+use Rattle.account.specs.Check.{sameLeg}
+use Rattle.account.proofs.order.some_alike.Statement.{statement}
+use Rattle.account.proofs.order.some_alike.Tie as tie
+
+grouped : (x y z : Bool) → x || (y || z) ≡ (x || (y || false)) || ((z || false) || false)
+grouped true y z = refl
+grouped false true z = refl
+grouped false false true = refl
+grouped false false false = refl
+
+leg-count-requires : tie.Need-leg-count-requires
+leg-count-requires c κs = search needs
+
+same-leg-requires : tie.Need-same-leg-requires
+same-leg-requires c κs = search needs
+
+same-leg-requires-2 : tie.Need-same-leg-requires-2
+same-leg-requires-2 c κs = search needs
+
+same-leg-requires-3 : tie.Need-same-leg-requires-3
+same-leg-requires-3 c κs = search needs
+
+same-leg-requires-4 : tie.Need-same-leg-requires-4
+same-leg-requires-4 c κs = search needs
+
+returns : tie.Need-returns
+returns c =
+    let legs : twoLegs (c .before .before .before .before .args .r .now) ≡ true = eq-eqb _ _ (sym (c .before .before .leg-count .ensures .0) ∙ c .before .if1 .taken) in
+    rw legs (last (last (c .same-leg .ensures)))
+
+returns-2 : tie.Need-returns-2
+returns-2 c =
+    let legs : twoLegs (c .before .before .before .before .before .before .args .r .now) ≡ false = ne-eqb _ _ (λ e. c .before .before .before .if1 .left (c .before .before .before .before .leg-count .ensures .0 ∙ e)) in
+    rw legs (both (c .before .before .same-leg2 .ensures) (both (c .before .same-leg3 .ensures) (c .same-leg4 .ensures)) ∙ grouped (sameLeg (c .before .before .before .before .before .before .args .r .now) 0 1) (sameLeg (c .before .before .before .before .before .before .args .r .now) 0 2) (sameLeg (c .before .before .before .before .before .before .args .r .now) 1 2))
+
+pub some-alike-spec : {M : Type 1} → statement M
+some-alike-spec =
+    tie.close
+    (tie.spec
+    leg-count-requires
+    same-leg-requires
+    same-leg-requires-2
+    same-leg-requires-3
+    same-leg-requires-4
+    returns
+    returns-2)

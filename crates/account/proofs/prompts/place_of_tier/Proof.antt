@@ -1,0 +1,73 @@
+-- `account::prompts::place_of_tier` meets its contract. Assumes nothing.
+use Prim.Native.Nat.{_-_, _≤_, _<_}
+use mathlib.Core.Path.{_≡_, sym, ap, _∙_}
+use native.Mathlib.Omega.{arith}
+use borrow.Author.Tests.{eq-eqb, ne-eqb}
+use Rattle.record.specs.Layout.{tier}
+use Rattle.account.specs.Parts.{placeOf, onTier}
+use Rattle.account.specs.Records.{records, recordCount}
+use Rattle.account.proofs.Walk.{placeFrom, place-start, place-here, place-next, place-past}
+use Rattle.account.proofs.prompts.place_of_tier.Statement.{statement}
+use Rattle.account.proofs.prompts.place_of_tier.Tie as tie
+
+abbrev Inv-loop : tie.InvT-loop
+Inv-loop prompts t count i₀ i =
+    placeOf (onTier t) (records prompts) ≡ placeFrom (onTier t) prompts (recordCount prompts) i
+
+abbrev μ-loop : tie.MeasureT-loop
+μ-loop prompts t count i₀ i = count - i
+
+record-count-requires : tie.Need-record-count-requires Inv-loop μ-loop
+record-count-requires c κs = tt
+
+loop-holds : tie.Need-loop-holds Inv-loop μ-loop
+loop-holds c = place-start (onTier (c .before .before .args .t)) (c .before .before .args .prompts .now)
+
+record-at-requires : tie.Need-record-at-requires Inv-loop μ-loop
+record-at-requires c κs = tt
+
+tier-requires : tie.Need-tier-requires Inv-loop μ-loop
+tier-requires c κs = tt
+
+returns : tie.Need-returns Inv-loop μ-loop
+returns c =
+    let p = onTier (c .before .before .before .before .before .before .before .args .t) in
+    let ps = c .before .before .before .before .before .before .before .args .prompts .now in
+    let n : c .before .before .before .before .loop .i < recordCount ps = omega arith in
+    sym (c .before .before .before .before .loop .inv ∙ place-here p ps (recordCount ps) (c .before .before .before .before .loop .i) n (eq-eqb _ _ (ap tier (sym (c .before .before .record-at .ensures)) ∙ sym (c .before .tier .ensures .0) ∙ c .if1 .taken)))
+
+add-i : tie.Need-add-i Inv-loop μ-loop
+add-i c = omega arith
+
+loop-less : tie.Need-loop-less Inv-loop μ-loop
+loop-less c = omega arith
+
+loop-again : tie.Need-loop-again Inv-loop μ-loop
+loop-again c =
+    let p = onTier (c .before .before .before .before .before .before .before .args .t) in
+    let ps = c .before .before .before .before .before .before .before .args .prompts .now in
+    let n : c .before .before .before .before .loop .i < recordCount ps = omega arith in
+    c .before .before .before .before .loop .inv ∙ place-next p ps (recordCount ps) (c .before .before .before .before .loop .i) n (ne-eqb _ _ (λ e. c .if1 .left (sym (ap tier (sym (c .before .before .record-at .ensures)) ∙ sym (c .before .tier .ensures .0)) ∙ e)))
+
+returns-2 : tie.Need-returns-2 Inv-loop μ-loop
+returns-2 c =
+    let p = onTier (c .before .before .before .before .args .t) in
+    let ps = c .before .before .before .before .args .prompts .now in
+    let n : recordCount ps ≤ c .before .loop .i = omega arith in
+    sym (c .before .loop .inv ∙ place-past p ps (recordCount ps) (c .before .loop .i) n)
+
+pub place-of-tier-spec : {M : Type 1} → statement M
+place-of-tier-spec =
+    tie.close
+    (tie.spec
+    Inv-loop
+    μ-loop
+    record-count-requires
+    loop-holds
+    record-at-requires
+    tier-requires
+    returns
+    add-i
+    loop-less
+    loop-again
+    returns-2)

@@ -1,0 +1,81 @@
+-- What the check notes of the records passed, so that no record is read again: of each part how many records it has and
+-- where it begins. A part is the contract's own record, its prompts, its rows or its interprompt spreads, or all the
+-- intercontract spreads.
+-- Assumes nothing.
+use Prim.Native.Nat.{ℕ, zero, suc, _+_, _-_, _*_, _/_, _%_}
+use mathlib.Core.Bool.{Bool, false, not, _||_, cond}
+use mathlib.Core.List.{List, [], _∷_}
+use lib.ListN.{getD, set}
+use lib.Dec.{eqb, leb}
+use Rattle.exact.specs.Lists.{any}
+use Rattle.record.specs.Layout.{Record, byKind, kind, contract, day, legsOf, legTier, secondContract}
+use Rattle.record.specs.Ranges.{unknownKind, unusedByte, fieldOutside}
+use Rattle.account.specs.Check.{theOneBefore, kindFalls, outOfOrder, mostPrompts, mostRows, mostSpreads, mostEntries, _when_, Refusal, firstOf}
+use Rattle.account.specs.Parts.{ofKind, ofContract, onDay, onTier}
+use Rattle.account.specs.Records.{recordAt, stretch, records, earlier}
+
+-- the number of a part: by kind and contract, and one for all intercontract spreads
+abbrev pub part : ℕ → ℕ → ℕ
+part n c = 16 * n + c
+
+abbrev pub entryPart : ℕ
+entryPart = 80
+
+abbrev pub partOf : Record → ℕ
+partOf r = cond (eqb (kind r) 5) entryPart (part (kind r) (contract r))
+
+abbrev pub inPart : ℕ → Record → Bool
+inPart v r = cond (eqb v entryPart) (ofKind 5 r) (ofContract (v / 16) (v % 16) r)
+
+-- the notes with one more record, the k-th
+abbrev pub oneMore : List ℕ → ℕ → List ℕ
+oneMore counts v = set counts v (getD counts v 0 + 1)
+
+abbrev pub firstAt : List ℕ → List ℕ → ℕ → ℕ → List ℕ
+firstAt first counts v k = cond (eqb (getD counts v 0) 0) (set first v k) first
+
+-- refusals 7 and 9 from the notes, and from the prompts of the record's contract
+abbrev pub noContract : List ℕ → ℕ → Bool
+noContract counts c = eqb (getD counts (part 1 c) 0) 0
+
+abbrev pub noDay : List Record → ℕ → Bool
+noDay prompts d = not (any (onDay d) prompts)
+
+abbrev pub noTier : List Record → ℕ → Bool
+noTier prompts t = not (any (onTier t) prompts)
+
+abbrev pub unlistedBy : List ℕ → List Record → Record → Bool
+unlistedBy counts prompts r =
+    byKind (kind r) false
+    (noContract counts (contract r))
+    (noContract counts (contract r) || noDay prompts (day r))
+    (noContract counts (contract r) || any (λ leg. noTier prompts (legTier r leg)) (legsOf r))
+    (noContract counts (contract r) || noContract counts (secondContract r))
+    false
+
+abbrev pub overLimitBy : List ℕ → Record → Bool
+overLimitBy counts r =
+    byKind (kind r) false
+    (leb mostPrompts (getD counts (partOf r) 0))
+    (leb mostRows (getD counts (partOf r) 0))
+    (leb mostSpreads (getD counts (partOf r) 0))
+    (leb mostEntries (getD counts (partOf r) 0))
+    false
+
+abbrev pub faultBy : List ℕ → List Record → Record → Record → ℕ
+faultBy counts prompts before r =
+    firstOf
+    (3 when unknownKind r ∷ 4 when kindFalls before r ∷ 5 when unusedByte r ∷ 6 when fieldOutside r
+    ∷ 7 when unlistedBy counts prompts r ∷ 8 when outOfOrder before r ∷ 9 when overLimitBy counts r ∷ [])
+
+-- the record before record k, of no bytes where there is none
+abbrev pub beforeAt : List ℕ → ℕ → Record
+beforeAt file k = theOneBefore (earlier file k)
+
+-- the prompts noted for a contract
+abbrev pub promptsNoted : List ℕ → List ℕ → List ℕ → ℕ → List Record
+promptsNoted file first counts c = records (stretch file (getD first (part 2 c) 0) (getD counts (part 2 c) 0))
+
+abbrev pub faultAt : List ℕ → List ℕ → List ℕ → ℕ → ℕ
+faultAt file first counts k =
+    faultBy counts (promptsNoted file first counts (contract (recordAt file k))) (beforeAt file k) (recordAt file k)

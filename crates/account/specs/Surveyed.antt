@@ -1,0 +1,42 @@
+-- What the check hands out with its verdict: how many contracts an accepted file lists, and of each part where it begins
+-- and how many records it has; all 0 for a refused file.
+-- Assumes nothing.
+use Prim.Native.Nat.{ℕ, _<_}
+use mathlib.Core.Path.{_≡_}
+use mathlib.Core.Bool.{Bool, cond}
+use mathlib.Core.List.{List}
+use lib.ListN.{getD, replicate}
+use lib.Dec.{eqb}
+use Rattle.exact.specs.Lists.{count}
+use Rattle.account.specs.Answers.{numberOf}
+use Rattle.account.specs.Check.{checked}
+use Rattle.account.specs.Notes.{inPart}
+use Rattle.account.specs.Parts.{ofKind, startOf}
+use Rattle.account.specs.Records.{records}
+use Rattle.account.specs.declared.answers.Answer.{Answer}
+use Rattle.account.specs.declared.check.Survey.{Survey}
+
+abbrev pub ifAccepted : Answer → ℕ → ℕ
+ifAccepted a n = cond (eqb (numberOf a) 0) n 0
+
+abbrev pub contractCount : List ℕ → ℕ
+contractCount file = ifAccepted (checked file) (count (ofKind 1) (records file))
+
+abbrev pub partStart : List ℕ → ℕ → ℕ
+partStart file v = ifAccepted (checked file) (startOf (inPart v) (records file))
+
+abbrev pub partCount : List ℕ → ℕ → ℕ
+partCount file v = ifAccepted (checked file) (count (inPart v) (records file))
+
+pub record Surveyed (file : List ℕ) (s : Survey) : Type 0 where
+  pub answer : s .answer ≡ checked file
+  pub contracts : s .contracts ≡ contractCount file
+  pub first : (v : ℕ) → v < 81 → getD (s .first) v 0 ≡ partStart file v
+  pub counts : (v : ℕ) → v < 81 → getD (s .counts) v 0 ≡ partCount file v
+
+-- a verdict with no parts
+pub record Empty (a : Answer) (s : Survey) : Type 0 where
+  pub answer : s .answer ≡ a
+  pub contracts : s .contracts ≡ 0
+  pub first : s .first ≡ replicate 81 0
+  pub counts : s .counts ≡ replicate 81 0

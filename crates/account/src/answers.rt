@@ -1,0 +1,87 @@
+// What comes back for an account file and for the questions put to it.
+ghost use mathlib.Core.Path.{_≡_};
+ghost use Rattle.account.specs.Answers.{numberOf, recordOf, refusal};
+
+// The record at fault, or how many records there are, is with the case.
+pub enum Answer {
+    Accepted,
+    TooLong,
+    CutRecord,
+    UnknownKind(usize),
+    KindFalls(usize),
+    UnusedByte(usize),
+    FieldOutside(usize),
+    Unlisted(usize),
+    OutOfOrder(usize),
+    OverLimit(usize),
+    TooFewNumbers(usize),
+    NoSuchQuestion(usize),
+}
+
+// The paper's number of an answer, 0 where nothing is refused.
+pub fn number_of(a: Answer) -> usize
+    ensures { λ n. ⌜ n ≡ numberOf a ⌝ }
+{
+    match a {
+        Answer::Accepted => 0,
+        Answer::TooLong => 1,
+        Answer::CutRecord => 2,
+        Answer::UnknownKind(_) => 3,
+        Answer::KindFalls(_) => 4,
+        Answer::UnusedByte(_) => 5,
+        Answer::FieldOutside(_) => 6,
+        Answer::Unlisted(_) => 7,
+        Answer::OutOfOrder(_) => 8,
+        Answer::OverLimit(_) => 9,
+        Answer::TooFewNumbers(_) => 10,
+        Answer::NoSuchQuestion(_) => 11,
+    }
+}
+
+// The record that an answer names, 0 where it names none.
+pub fn record_of(a: Answer) -> usize
+    ensures { λ k. ⌜ k ≡ recordOf a ⌝ }
+{
+    match a {
+        Answer::Accepted => 0,
+        Answer::TooLong => 0,
+        Answer::CutRecord => 0,
+        Answer::UnknownKind(k) => k,
+        Answer::KindFalls(k) => k,
+        Answer::UnusedByte(k) => k,
+        Answer::FieldOutside(k) => k,
+        Answer::Unlisted(k) => k,
+        Answer::OutOfOrder(k) => k,
+        Answer::OverLimit(k) => k,
+        Answer::TooFewNumbers(n) => n,
+        Answer::NoSuchQuestion(n) => n,
+    }
+}
+
+// The refusal of record `k` by its number, 3 to 9.
+pub fn refusal(number: usize, k: usize) -> Answer
+    ensures { λ a. ⌜ a ≡ refusal number k ⌝ }
+{
+    if number == 3 {
+        return Answer::UnknownKind(k);
+    }
+    if number == 4 {
+        return Answer::KindFalls(k);
+    }
+    if number == 5 {
+        return Answer::UnusedByte(k);
+    }
+    if number == 6 {
+        return Answer::FieldOutside(k);
+    }
+    if number == 7 {
+        return Answer::Unlisted(k);
+    }
+    if number == 8 {
+        return Answer::OutOfOrder(k);
+    }
+    if number == 9 {
+        return Answer::OverLimit(k);
+    }
+    Answer::Accepted
+}

@@ -1,0 +1,92 @@
+// The check of an account file, and what it hands out with its verdict: where the parts of an accepted file stand.
+ghost use mathlib.Core.Path.{_≡_};
+ghost use lib.ListN.{replicate};
+ghost use Rattle.exact.specs.Lists.{oneIf};
+ghost use Rattle.account.specs.Check.{checked};
+ghost use Rattle.account.specs.Parts.{ofKind};
+ghost use Rattle.account.specs.Surveyed.{Surveyed, Empty};
+use crate::answers::Answer;
+use crate::answers::refusal;
+use crate::fault::fault_at;
+use crate::notes::note_first;
+use crate::notes::note_one;
+use crate::notes::part_of;
+use crate::stretches::record_at;
+use crate::stretches::record_count;
+use record::fields::kind;
+
+const MOST_BYTES: usize = 61440;
+
+const RECORD_BYTES: usize = 96;
+
+const PARTS: usize = 81;
+
+// A verdict and, of an accepted file, how many contracts it lists and of each part where it begins and how many records
+// it has. The part of a contract's own record, its prompts, its rows or its interprompt spreads is number 16 * kind +
+// contract, that of the intercontract spreads number 80.
+pub struct Survey {
+    pub answer: Answer,
+    pub contracts: usize,
+    pub first: [usize; 81],
+    pub counts: [usize; 81],
+}
+
+fn refused(answer: Answer) -> Survey
+    ensures { λ s. ⌜ Empty answer s ⌝ }
+{
+    Survey {
+        answer,
+        contracts: 0,
+        first: [0; 81],
+        counts: [0; 81],
+    }
+}
+
+fn one_if_contract(r: &[u8]) -> usize
+    ensures { λ n. ⌜ n ≡ oneIf (ofKind 1 (now (r .entry))) ⌝ }
+{
+    if kind(r) == 1 { 1 } else { 0 }
+}
+
+// The verdict on any bytes, with the parts of an accepted file.
+pub fn take_survey(file: &[u8]) -> Survey
+    ensures { λ s. ⌜ Surveyed (now (file .entry)) s ⌝ }
+{
+    if MOST_BYTES < file.len() {
+        return refused(Answer::TooLong);
+    }
+    if file.len() % RECORD_BYTES != 0 {
+        return refused(Answer::CutRecord);
+    }
+    let count = record_count(file);
+    let mut contracts = 0;
+    let mut first = [0usize; 81];
+    let mut counts = [0usize; 81];
+    let mut k = 0;
+    while k < count {
+        let number = fault_at(file, &first, &counts, k);
+        if number != 0 {
+            return refused(refusal(number, k));
+        }
+        let r = record_at(file, k);
+        let v = part_of(r);
+        note_first(&mut first, &counts, v, k);
+        note_one(&mut counts, v);
+        contracts += one_if_contract(r);
+        k += 1;
+    }
+    Survey {
+        answer: Answer::Accepted,
+        contracts,
+        first,
+        counts,
+    }
+}
+
+// The verdict on any bytes.
+pub fn check(file: &[u8]) -> Answer
+    ensures { λ a. ⌜ a ≡ checked (now (file .entry)) ⌝ }
+{
+    let s = take_survey(file);
+    s.answer
+}

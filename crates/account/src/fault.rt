@@ -1,0 +1,54 @@
+// The first refusal of a record, 3 to 9 in that order, or 0.
+ghost use mathlib.Core.Path.{_≡_};
+ghost use Rattle.account.specs.Notes.{faultBy, faultAt};
+ghost use Rattle.account.specs.Records.{records};
+use crate::limits::over_limit;
+use crate::listed::unlisted;
+use crate::notes::noted;
+use crate::order::kind_falls;
+use crate::order::out_of_order;
+use crate::stretches::before_at;
+use crate::stretches::record_at;
+use crate::stretches::stretch;
+use record::fields::contract;
+use record::refusals::field_outside;
+use record::refusals::unknown_kind;
+use record::refusals::unused_byte;
+
+// `prompts` are those of the record's contract, `before` is the record before.
+fn fault(counts: &[usize], prompts: &[u8], before: &[u8], r: &[u8]) -> usize
+    ensures { λ n. ⌜ n ≡ faultBy (now (counts .entry)) (records (now (prompts .entry))) (now (before .entry)) (now (r .entry)) ⌝ }
+{
+    if unknown_kind(r) {
+        return 3;
+    }
+    if kind_falls(before, r) {
+        return 4;
+    }
+    if unused_byte(r) {
+        return 5;
+    }
+    if field_outside(r) {
+        return 6;
+    }
+    if unlisted(counts, prompts, r) {
+        return 7;
+    }
+    if out_of_order(before, r) {
+        return 8;
+    }
+    if over_limit(counts, r) {
+        return 9;
+    }
+    0
+}
+
+// Of record `k`, from the notes of the records before it.
+pub fn fault_at(file: &[u8], first: &[usize], counts: &[usize], k: usize) -> usize
+    ensures { λ n. ⌜ n ≡ faultAt (now (file .entry)) (now (first .entry)) (now (counts .entry)) k ⌝ }
+{
+    let r = record_at(file, k);
+    let v = 32 + contract(r);
+    let prompts = stretch(file, noted(first, v), noted(counts, v));
+    fault(counts, prompts, before_at(file, k), r)
+}

@@ -1,0 +1,34 @@
+// Refusal 9: one record more than a limit.
+ghost use mathlib.Core.Path.{_≡_};
+ghost use Rattle.account.specs.Notes.{overLimitBy};
+use crate::notes::noted;
+use crate::notes::part_of;
+use record::fields::kind;
+
+const MOST_PROMPTS: usize = 32;
+
+const MOST_ROWS: usize = 128;
+
+const MOST_SPREADS: usize = 32;
+
+const MOST_ENTRIES: usize = 32;
+
+pub fn over_limit(counts: &[usize], r: &[u8]) -> bool
+    ensures { λ b. ⌜ b ≡ overLimitBy (now (counts .entry)) (now (r .entry)) ⌝ }
+{
+    let k = kind(r);
+    let count = noted(counts, part_of(r));
+    if k == 2 {
+        return MOST_PROMPTS <= count;
+    }
+    if k == 3 {
+        return MOST_ROWS <= count;
+    }
+    if k == 4 {
+        return MOST_SPREADS <= count;
+    }
+    if k == 5 {
+        return MOST_ENTRIES <= count;
+    }
+    false
+}

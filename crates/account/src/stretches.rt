@@ -1,0 +1,43 @@
+// Records as they stand in a file.
+ghost use mathlib.Core.Path.{_≡_};
+ghost use Rattle.account.specs.Records.{stretch, recordAt, recordCount};
+ghost use Rattle.account.specs.Notes.{beforeAt};
+
+// How many whole records a file has.
+pub fn record_count(file: &[u8]) -> usize
+    ensures { λ n. ⌜ n ≡ recordCount (now (file .entry)) ⌝ }
+{
+    file.len() / 96
+}
+
+// `n` records from record `k` on, or what the file has of them.
+pub fn stretch(file: &[u8], k: usize, n: usize) -> &[u8]
+    ensures { λ r. ⌜ now r ≡ stretch (now (file .entry)) k n ⌝ }
+{
+    if file.len() / 96 < k {
+        let end = file.len();
+        return &file[end..];
+    }
+    let start = k * 96;
+    if (file.len() - start) / 96 < n {
+        return &file[start..];
+    }
+    let end = start + n * 96;
+    &file[start..end]
+}
+
+pub fn record_at(file: &[u8], k: usize) -> &[u8]
+    ensures { λ r. ⌜ now r ≡ recordAt (now (file .entry)) k ⌝ }
+{
+    stretch(file, k, 1)
+}
+
+// The record before record `k`, of no bytes where there is none.
+pub fn before_at(file: &[u8], k: usize) -> &[u8]
+    ensures { λ r. ⌜ now r ≡ beforeAt (now (file .entry)) k ⌝ }
+{
+    if k == 0 {
+        return &file[..0];
+    }
+    record_at(file, k - 1)
+}

@@ -1,0 +1,194 @@
+-- Numbers written one after the other: what is written and what is still to write are the whole.
+-- Assumes nothing.
+use mathlib.Core.Path.{_≡_, refl, sym, _∙_, ap, subst}
+use mathlib.Core.List.{List, [], _∷_, _++_, map, map-append}
+use Prim.Native.Nat.{ℕ, suc, _+_, _*_, _≤_, _<_, zero-le}
+use native.Mathlib.Nat.{add-suc, suc-add, add-zero, zero-add}
+use native.Mathlib.Numerals.{add-one}
+use native.Mathlib.Omega.{arith}
+use lib.ListN.{length, getD, take, drop, set, length-append, length-map}
+use lib.Seq.{sets, sets-eq, take-at, length-take-le, slice, slice-cons, slice-empty}
+use lib.IntN.{ℤ, pos}
+use Rattle.spread.specs.declared.Delta.{Delta}
+use Rattle.spread.specs.declared.Spreads.{Spreads}
+use Rattle.margin.specs.declared.amount.Amount.{Amount}
+use Rattle.margin.specs.declared.line.Line.{Line}
+use Rattle.margin.specs.Books.{threes}
+use Rattle.margin.specs.Lines.{marginWith, eightOf, eightsFrom, totalFrom, figuresFrom, noLine}
+use Rattle.margin.specs.Numbers.{amountAt}
+use Rattle.margin.specs.Sums.{interleaved, deltasIn, spreadsAt, deltaAt}
+use Rattle.margin.proofs.AddedLaws.{delta-at}
+
+module _ {ℓ} {A : Type ℓ} where
+  -- stores at `at + n`, `at + (n + 1)` and so on, as the code makes them
+  abbrev storesFrom : List A → ℕ → ℕ → List A → List A
+  storesFrom l at n [] = l
+  storesFrom l at n (a ∷ vs) = storesFrom (set l (at + n) a) at (suc n) vs
+
+  abbrev stores : List A → ℕ → List A → List A
+  stores l at [] = l
+  stores l at (a ∷ vs) = storesFrom (set l at a) at 1 vs
+
+  from-sets : (l : List A) (at n : ℕ) (vs : List A) → storesFrom l at n vs ≡ sets l (at + n) vs
+  from-sets l at n [] = refl
+  from-sets l at n (a ∷ vs) =
+      from-sets (set l (at + n) a) at (suc n) vs ∙ ap (λ (k : ℕ). sets (set l (at + n) a) k vs) (add-suc at n)
+
+  pub stores-sets : (l : List A) (at : ℕ) (vs : List A) → stores l at vs ≡ sets l at vs
+  stores-sets l at [] = refl
+  stores-sets l at (a ∷ vs) =
+      from-sets (set l at a) at 1 vs ∙ ap (λ (k : ℕ). sets (set l at a) k vs) (add-one at)
+
+  pub sets-append : (l : List A) (at : ℕ) (vs ws : List A) → sets l at (vs ++ ws) ≡ sets (sets l at vs) (at + length vs) ws
+  sets-append l at [] ws = ap (λ (k : ℕ). sets l k ws) (sym (add-zero at))
+  sets-append l at (a ∷ vs) ws =
+      sets-append (set l at a) (suc at) vs ws
+      ∙ ap (λ (k : ℕ). sets (sets (set l at a) (suc at) vs) k ws) (suc-add at (length vs) ∙ sym (add-suc at (length vs)))
+
+  -- at the front: the list written, then what was there
+  pub sets-front : (vs l : List A) → length vs ≤ length l → sets l 0 vs ≡ vs ++ drop (length vs) l
+  sets-front vs l h = sets-eq vs l 0 (omega arith) ∙ ap (λ (k : ℕ). vs ++ drop k l) (zero-add (length vs))
+
+  pub take-sets : (n : ℕ) (vs l : List A) → length vs ≡ n → n ≤ length l → take n (sets l 0 vs) ≡ vs
+  take-sets n vs l e h = ap (take n) (sets-front vs l (omega arith)) ∙ take-at vs (drop (length vs) l) n e
+
+  -- n groups, written from the first: `rest i` is what is written from group i on, at the place `at`
+  pub record ToWrite (n : ℕ) (rest : ℕ → List A) (all : List A) (i at : ℕ) (out : List A) : Type ℓ where
+    pub whole : sets out at (rest i) ≡ all
+    pub within : i ≤ n
+
+  pub start : (n : ℕ) (rest : ℕ → List A) (at at′ : ℕ) (out : List A) → at′ ≡ at → ToWrite n rest (sets out at (rest 0)) 0 at′ out
+  start n rest at at′ out e = record { whole = ap (λ (k : ℕ). sets out k (rest 0)) e; within = zero-le }
+
+  pub next : {n : ℕ} {rest : ℕ → List A} {all : List A} (i at at′ : ℕ) (out out′ vs : List A) → ToWrite n rest all i at out → i < n → rest i ≡ vs ++ rest (i + 1) → out′ ≡ sets out at vs → at′ ≡ at + length vs → ToWrite n rest all (i + 1) at′ out′
+  next {n} {rest} {all} i at at′ out out′ vs t h e o p =
+      record {
+        whole =
+            ap (λ (l : List A). sets l at′ (rest (i + 1))) o
+            ∙ ap (λ (k : ℕ). sets (sets out at vs) k (rest (i + 1))) p
+            ∙ sym (sets-append out at vs (rest (i + 1)))
+            ∙ ap (sets out at) (sym e)
+            ∙ t .whole;
+        within = omega arith;
+      }
+
+  pub finish : {n : ℕ} {rest : ℕ → List A} {all : List A} (i at : ℕ) (out : List A) → ToWrite n rest all i at out → n ≤ i → rest n ≡ [] → out ≡ all
+  finish {n} {rest} {all} i at out t h e =
+      let same : n ≡ i = omega (arith, t .within) in
+      ap (sets out at) (sym (subst (λ (k : ℕ). rest k ≡ []) same e)) ∙ t .whole
+
+-- eight numbers for each line, then the total of the margins
+length-eights : (ls : List Line) (cs : List Amount) → length ls ≤ length cs → length (eightsFrom ls cs) ≡ 8 * length ls
+length-eights [] cs h = refl
+length-eights (l ∷ ls) [] h = omega arith
+length-eights (l ∷ ls) (c ∷ cs) h = omega (arith, length-eights ls cs (omega arith))
+
+module _ (count : ℕ) (lines : List Line) (credits : List Amount) where
+  -- from line i on
+  abbrev pub eightsOn : ℕ → List ℤ
+  eightsOn i = map pos (eightsFrom (slice i count lines) (slice i count credits))
+
+  abbrev pub totalOn : ℕ → ℕ
+  totalOn i = totalFrom (slice i count lines) (slice i count credits)
+
+  pub eights-none : eightsOn count ≡ []
+  eights-none = rw (slice-empty count lines)
+
+  pub total-none : totalOn count ≡ 0
+  total-none = rw (slice-empty count lines)
+
+  module _ (hl : count ≤ length lines) (hc : count ≤ length credits) where
+    pub eights-step : (i : ℕ) → i < count → eightsOn i ≡ map pos (eightOf (getD lines i noLine) (amountAt credits i)) ++ eightsOn (i + 1)
+    eights-step i h = rw (add-one i, slice-cons i count lines noLine h hl, slice-cons i count credits (record { 0 = 0 }) h hc)
+
+    pub total-step : (i : ℕ) → i < count → totalOn i ≡ marginWith (getD lines i noLine) (amountAt credits i) + totalOn (i + 1)
+    total-step i h = rw (add-one i, slice-cons i count lines noLine h hl, slice-cons i count credits (record { 0 = 0 }) h hc)
+
+    eights-length : length (eightsOn 0) ≡ 8 * count
+    eights-length =
+        length-map (eightsFrom (take count lines) (take count credits)) pos
+        ∙ length-eights (take count lines) (take count credits) (rw (length-take-le count lines hl, length-take-le count credits hc) (omega arith))
+        ∙ ap (λ (n : ℕ). 8 * n) (length-take-le count lines hl)
+
+    -- the total after the last line
+    pub figures-listed : (none number : List ℤ) (total : ℕ) → 8 * count + 1 ≤ length none → number ≡ sets none 0 (eightsOn 0) → total ≡ totalOn 0 → take (count * 8 + 1) (set number (count * 8) (pos total)) ≡ map pos (figuresFrom (take count lines) (take count credits))
+    figures-listed none number total h e t =
+        let at : 0 + length (eightsOn 0) ≡ count * 8 = omega (arith, eights-length) in
+        let all = eightsOn 0 ++ (pos total ∷ []) in
+        let long : length all ≡ count * 8 + 1 = length-append (eightsOn 0) (pos total ∷ []) ∙ omega (arith, eights-length) in
+        ap (take (count * 8 + 1))
+        (ap (λ (l : List ℤ). set l (count * 8) (pos total)) e
+        ∙ ap (λ (n : ℕ). set (sets none 0 (eightsOn 0)) n (pos total)) (sym at)
+        ∙ sym (sets-append none 0 (eightsOn 0) (pos total ∷ [])))
+        ∙ take-sets (count * 8 + 1) all none long (omega arith)
+        ∙ ap (λ (n : ℕ). eightsOn 0 ++ (pos n ∷ [])) t
+        ∙ sym (map-append pos (eightsFrom (take count lines) (take count credits)) (totalOn 0 ∷ []))
+
+-- three numbers for each prompt
+length-threes : (xs ys zs : List ℤ) → length xs ≤ length ys → length xs ≤ length zs → length (threes xs ys zs) ≡ 3 * length xs
+length-threes [] ys zs h k = refl
+length-threes (x ∷ xs) [] zs h k = omega arith
+length-threes (x ∷ xs) (y ∷ ys) [] h k = omega arith
+length-threes (x ∷ xs) (y ∷ ys) (z ∷ zs) h k = omega (arith, length-threes xs ys zs (omega arith) (omega arith))
+
+module _ (count : ℕ) (nets used unused : List Delta) where
+  -- from prompt i on
+  abbrev pub threesOn : ℕ → List ℤ
+  threesOn i = threes (slice i count (deltasIn nets)) (slice i count (deltasIn used)) (slice i count (deltasIn unused))
+
+  pub threes-none : threesOn count ≡ []
+  threes-none = rw (slice-empty count (deltasIn nets))
+
+  module _ (hn : count ≤ length nets) (hu : count ≤ length used) (ho : count ≤ length unused) where
+    within : (ds : List Delta) → count ≤ length ds → count ≤ length (deltasIn ds)
+    within ds h = rw (length-map ds (λ (d : Delta). d .0)) h
+
+    pub threes-step : (i : ℕ) → i < count → threesOn i ≡ (deltaAt nets i ∷ deltaAt used i ∷ deltaAt unused i ∷ []) ++ threesOn (i + 1)
+    threes-step i h =
+        rw (add-one i, slice-cons i count (deltasIn nets) (pos 0) h (within nets hn), slice-cons i count (deltasIn used) (pos 0) h (within used hu), slice-cons i count (deltasIn unused) (pos 0) h (within unused ho), delta-at nets i, delta-at used i, delta-at unused i)
+
+    pub threes-length : length (threesOn 0) ≡ 3 * count
+    threes-length =
+        let n = length-take-le count (deltasIn nets) (within nets hn) in
+        let u = length-take-le count (deltasIn used) (within used hu) in
+        let o = length-take-le count (deltasIn unused) (within unused ho) in
+        length-threes (take count (deltasIn nets)) (take count (deltasIn used)) (take count (deltasIn unused)) (omega arith) (omega arith)
+        ∙ ap (λ (k : ℕ). 3 * k) n
+
+-- two numbers for each spread
+length-interleaved : (xs ys : List Spreads) → length xs ≤ length ys → length (interleaved xs ys) ≡ 2 * length xs
+length-interleaved [] ys h = refl
+length-interleaved (x ∷ xs) [] h = omega arith
+length-interleaved (x ∷ xs) (y ∷ ys) h = omega (arith, length-interleaved xs ys (omega arith))
+
+module _ (count : ℕ) (firsts seconds : List Spreads) where
+  -- from spread i on
+  abbrev pub twosOn : ℕ → List ℤ
+  twosOn i = map pos (interleaved (slice i count firsts) (slice i count seconds))
+
+  pub twos-none : twosOn count ≡ []
+  twos-none = rw (slice-empty count firsts)
+
+  module _ (hf : count ≤ length firsts) (hs : count ≤ length seconds) where
+    pub twos-step : (i : ℕ) → i < count → twosOn i ≡ (pos (spreadsAt firsts i) ∷ pos (spreadsAt seconds i) ∷ []) ++ twosOn (i + 1)
+    twos-step i h = rw (add-one i, slice-cons i count firsts (record { 0 = 0 }) h hf, slice-cons i count seconds (record { 0 = 0 }) h hs)
+
+    pub twos-length : length (twosOn 0) ≡ 2 * count
+    twos-length =
+        let f = length-take-le count firsts hf in
+        let s = length-take-le count seconds hs in
+        length-map (interleaved (take count firsts) (take count seconds)) pos
+        ∙ length-interleaved (take count firsts) (take count seconds) (omega arith)
+        ∙ ap (λ (k : ℕ). 2 * k) f
+
+-- prompts first, then spreads
+pub book-listed : (prompts spreads : ℕ) (none number number′ threes twos : List ℤ) → length threes ≡ 3 * prompts → length twos ≡ 2 * spreads → 3 * prompts + 2 * spreads ≤ length none → number ≡ sets none 0 threes → number′ ≡ sets number (prompts * 3) twos → take (prompts * 3 + spreads * 2) number′ ≡ threes ++ twos
+book-listed prompts spreads none number number′ threes twos lt ls h e f =
+    let at : 0 + length threes ≡ prompts * 3 = omega arith in
+    let long : length (threes ++ twos) ≡ prompts * 3 + spreads * 2 = length-append threes twos ∙ omega arith in
+    ap (take (prompts * 3 + spreads * 2))
+    (f
+    ∙ ap (λ (l : List ℤ). sets l (prompts * 3) twos) e
+    ∙ ap (λ (n : ℕ). sets (sets none 0 threes) n twos) (sym at)
+    ∙ sym (sets-append none 0 threes twos))
+    ∙ take-sets (prompts * 3 + spreads * 2) (threes ++ twos) none long (omega arith)

@@ -1,0 +1,32 @@
+-- Answers as lists of numbers, and the bounds within which they are made.
+-- Assumes nothing.
+use Prim.Native.Nat.{ℕ, _*_, _^_, _≤_, _<_}
+use mathlib.Core.List.{List}
+use lib.ListN.{getD, take}
+use lib.IntN.{ℤ}
+use Rattle.spread.specs.declared.Spreads.{Spreads}
+use Rattle.margin.specs.declared.amount.Amount.{Amount}
+use Rattle.margin.specs.declared.line.Line.{Line}
+use Rattle.margin.specs.declared.numbers.Numbers.{Numbers}
+use Rattle.margin.specs.Bounds.{mostRisk}
+use Rattle.margin.specs.Lines.{LineWithin, noLine}
+use Rattle.margin.specs.Sums.{spreadsAt}
+
+-- the numbers of an answer
+abbrev pub listed : Numbers → List ℤ
+listed n = take (n .count) (n .number)
+
+abbrev pub amountAt : List Amount → ℕ → ℕ
+amountAt amounts k = getD amounts k (record { 0 = 0 }) .0
+
+-- the lines of an accepted account's contracts with their credits
+pub record LinesWithin (count : ℕ) (lines : List Line) (credits : List Amount) : Type 0 where
+  pub most : count ≤ 16
+  pub line-within : (k : ℕ) → k < count → LineWithin (getD lines k noLine)
+  pub credit-within : (k : ℕ) → k < count → amountAt credits k ≤ 128 * mostRisk
+
+-- numbers of spreads that can be written signed
+pub record SpreadsSigned (count : ℕ) (firsts seconds : List Spreads) : Type 0 where
+  pub most : count ≤ 32
+  pub first-within : (k : ℕ) → k < count → spreadsAt firsts k < 2 ^ 63
+  pub second-within : (k : ℕ) → k < count → spreadsAt seconds k < 2 ^ 63

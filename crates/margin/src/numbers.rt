@@ -1,0 +1,181 @@
+// Answers: lists of numbers, and writing them to lent memory.
+use crate::amount::Amount;
+use crate::amount::margin;
+use crate::amount::risk;
+use crate::line::Line;
+use exact::signed::as_signed;
+use spread::Delta;
+use spread::Spreads;
+ghost use mathlib.Core.Path.{_≡_};
+ghost use mathlib.Core.List.{[], _∷_, _++_, map};
+ghost use Prim.Native.Nat.{_+_, _*_, _^_, _≤_, _<_};
+ghost use lib.IntN.{pos};
+ghost use lib.ListN.{length, take, drop, set};
+ghost use lib.Seq.{sets};
+ghost use Rattle.margin.specs.Bounds.{mostRisk};
+ghost use Rattle.margin.specs.Lines.{LineWithin, marginWith, eightOf, figuresFrom};
+ghost use Rattle.margin.specs.Numbers.{listed, LinesWithin, SpreadsSigned};
+ghost use Rattle.margin.specs.Books.{threes};
+ghost use Rattle.margin.specs.Sums.{interleaved, deltasIn};
+
+// An answer: its first `count` numbers. A contract's book has the most, 3 for each of 32 prompts and 2 for each of 32
+// spreads.
+pub struct Numbers {
+    pub count: usize,
+    pub number: [i64; 160],
+}
+
+// A number that is not negative, at a place.
+fn put(out: &mut [i64; 160], at: usize, x: u64)
+    requires { ⌜ (at < 160) × (x < 2 ^ 63) ⌝ }
+    ensures { λ r. ⌜ now (out .exit) ≡ set (now (out .entry)) at (pos x) ⌝ }
+{
+    out[at] = as_signed(x);
+}
+
+// A contract's margin.
+fn margin_of(l: Line, credit: Amount) -> Amount
+    requires { ⌜ LineWithin l ⌝ }
+    ensures { λ r. ⌜ (r .0 ≡ marginWith l (credit .0)) × (r .0 ≤ 3 * mostRisk) ⌝ }
+{
+    margin(l.minimum, risk(l.scanning, l.interprompt, l.prompt, credit))
+}
+
+// A contract's eight numbers, from a place on.
+fn put_eight(out: &mut [i64; 160], at: usize, l: Line, credit: Amount, margin: Amount)
+    requires { ⌜ (at + 8 ≤ 160) × (LineWithin l × ((credit .0 ≤ 128 * mostRisk) × ((margin .0 ≡ marginWith l (credit .0)) × (margin .0 ≤ 3 * mostRisk)))) ⌝ }
+    ensures { λ r. ⌜ now (out .exit) ≡ sets (now (out .entry)) at (map pos (eightOf l (credit .0))) ⌝ }
+{
+    put(out, at, l.contract as u64);
+    put(out, at + 1, l.active as u64);
+    put(out, at + 2, l.scanning.0);
+    put(out, at + 3, l.interprompt.0);
+    put(out, at + 4, l.prompt.0);
+    put(out, at + 5, credit.0);
+    put(out, at + 6, l.minimum.0);
+    put(out, at + 7, margin.0);
+}
+
+// A delta, at a place.
+fn put_delta(out: &mut [i64; 160], at: usize, d: Delta)
+    requires { ⌜ at < 160 ⌝ }
+    ensures { λ r. ⌜ now (out .exit) ≡ set (now (out .entry)) at (d .0) ⌝ }
+{
+    let z = d.0;
+    out[at] = z;
+}
+
+// The net delta of a prompt, and what of it is used and unused, from a place on.
+fn put_three(out: &mut [i64; 160], at: usize, net: Delta, used: Delta, unused: Delta)
+    requires { ⌜ at + 3 ≤ 160 ⌝ }
+    ensures { λ r. ⌜ now (out .exit) ≡ sets (now (out .entry)) at (net .0 ∷ used .0 ∷ unused .0 ∷ []) ⌝ }
+{
+    put_delta(out, at, net);
+    put_delta(out, at + 1, used);
+    put_delta(out, at + 2, unused);
+}
+
+// The numbers of a spread's two steps, from a place on.
+fn put_two(out: &mut [i64; 160], at: usize, first: Spreads, second: Spreads)
+    requires { ⌜ (at + 2 ≤ 160) × ((first .0 < 2 ^ 63) × (second .0 < 2 ^ 63)) ⌝ }
+    ensures { λ r. ⌜ now (out .exit) ≡ sets (now (out .entry)) at (pos (first .0) ∷ pos (second .0) ∷ []) ⌝ }
+{
+    put(out, at, first.0);
+    put(out, at + 1, second.0);
+}
+
+// The figures: eight numbers for each of the first `count` lines, then the total of the margins.
+pub(crate) fn figures_numbers(count: usize, lines: [Line; 16], credits: [Amount; 16]) -> Numbers
+    requires { ⌜ LinesWithin count lines credits ⌝ }
+    ensures { λ r. ⌜ (r .count ≡ 8 * count + 1) × (listed r ≡ map pos (figuresFrom (take count lines) (take count credits))) ⌝ }
+{
+    let mut number = [0i64; 160];
+    let mut total: u64 = 0;
+    let mut i = 0;
+    while i < count {
+        let line = lines[i];
+        let credit = credits[i];
+        let margin = margin_of(line, credit);
+        put_eight(&mut number, i * 8, line, credit, margin);
+        total += margin.0;
+        i += 1;
+    }
+    put(&mut number, count * 8, total);
+    Numbers {
+        count: count * 8 + 1,
+        number: number,
+    }
+}
+
+// Three numbers for each prompt, from the front.
+fn put_prompts(
+    out: &mut [i64; 160],
+    prompts: usize,
+    nets: [Delta; 32],
+    used: [Delta; 32],
+    unused: [Delta; 32],
+)
+    requires { ⌜ prompts ≤ 32 ⌝ }
+    ensures { λ r. ⌜ now (out .exit) ≡ sets (now (out .entry)) 0 (threes (take prompts (deltasIn nets)) (take prompts (deltasIn used)) (take prompts (deltasIn unused))) ⌝ }
+{
+    let mut i = 0;
+    while i < prompts {
+        put_three(out, i * 3, nets[i], used[i], unused[i]);
+        i += 1;
+    }
+}
+
+// Two numbers for each spread, from a place on.
+fn put_spreads(
+    out: &mut [i64; 160],
+    at: usize,
+    spreads: usize,
+    first: [Spreads; 32],
+    second: [Spreads; 32],
+)
+    requires { ⌜ (at ≤ 96) × SpreadsSigned spreads first second ⌝ }
+    ensures { λ r. ⌜ now (out .exit) ≡ sets (now (out .entry)) at (map pos (interleaved (take spreads first) (take spreads second))) ⌝ }
+{
+    let mut i = 0;
+    while i < spreads {
+        put_two(out, at + i * 2, first[i], second[i]);
+        i += 1;
+    }
+}
+
+// A delta book: three numbers for each prompt, then two for each spread.
+pub(crate) fn book_numbers(
+    prompts: usize,
+    nets: [Delta; 32],
+    used: [Delta; 32],
+    unused: [Delta; 32],
+    spreads: usize,
+    first: [Spreads; 32],
+    second: [Spreads; 32],
+) -> Numbers
+    requires { ⌜ (prompts ≤ 32) × SpreadsSigned spreads first second ⌝ }
+    ensures { λ r. ⌜ (r .count ≡ 3 * prompts + 2 * spreads) × (listed r ≡ threes (take prompts (deltasIn nets)) (take prompts (deltasIn used)) (take prompts (deltasIn unused)) ++ map pos (interleaved (take spreads first) (take spreads second))) ⌝ }
+{
+    let mut number = [0i64; 160];
+    put_prompts(&mut number, prompts, nets, used, unused);
+    put_spreads(&mut number, prompts * 3, spreads, first, second);
+    Numbers {
+        count: prompts * 3 + spreads * 2,
+        number: number,
+    }
+}
+
+// Success writes the answer at the front and nothing after it.
+pub(crate) fn lend(out: &mut [i64], numbers: Numbers)
+    requires { ⌜ (numbers .count ≤ 160) × (numbers .count ≤ length (now out)) ⌝ }
+    ensures { λ r. ⌜ now (out .exit) ≡ listed numbers ++ drop (numbers .count) (now (out .entry)) ⌝ }
+{
+    let end = numbers.count;
+    let number = numbers.number;
+    let mut i = 0;
+    while i < end {
+        let z = number[i];
+        out[i] = z;
+        i += 1;
+    }
+}

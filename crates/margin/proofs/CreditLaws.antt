@@ -80,7 +80,7 @@ left-within c e ps w =
     let ps′ = pool-left short c e ps in
     omega arith
 
-rest-within : (e : Record) (es : List Record) → EntriesWithin (e ∷ es) → EntriesWithin es
+pub rest-within : (e : Record) (es : List Record) → EntriesWithin (e ∷ es) → EntriesWithin es
 rest-within e es w = record { few = omega (arith, w .few); each = λ k h. w .each (suc k) (suc-le-suc h) }
 
 pub credits-by : (c twice net : ℕ) (es : List Record) (ps : List Open) → EntriesWithin es

@@ -18,3 +18,4 @@ pub mod ContractLaws
 pub mod TableLaws
 pub mod WalkLaws
 pub mod NumberLaws
+pub mod FigureLaws

@@ -47,16 +47,16 @@ pub record PromptsWithin (prompts : List Record) (used unused : List Delta) : Ty
 
 -- an entry that uses no more of a contract than a delta can be
 pub record EntryRoom (c : ℕ) (e : Record) (first second : ℕ) : Type 0 where
-  pub first-within : first ≤ mostDelta
-  pub second-within : second ≤ mostDelta
+  pub first-within : first ≤ 16 * mostDelta
+  pub second-within : second ≤ 16 * mostDelta
   pub use-within : entryUse c e first second ≤ mostDelta
 
 -- .. and no more than the contract's net delta
 pub record CreditRoom (c net : ℕ) (e : Record) (first second : ℕ) : Type 0 where
   pub net-within : net ≤ mostDelta
   pub percent-within : percent e ≤ 100
-  pub first-within : first ≤ mostDelta
-  pub second-within : second ≤ mostDelta
+  pub first-within : first ≤ 16 * mostDelta
+  pub second-within : second ≤ 16 * mostDelta
   pub use-within : entryUse c e first second ≤ net
 
 pub record EntriesRoom (c twice net : ℕ) (entries : List Record) (firsts seconds : List Spreads) : Type 0 where

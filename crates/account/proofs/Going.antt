@@ -52,7 +52,7 @@ pub going-start : (file : List ℕ) → Going file (replicate 81 0) (replicate 8
 going-start file = record { inside = omega arith; fine = λ j h. absurd (omega arith); notes = noted-none; owned = refl }
 
 -- ---- what is handed out with a verdict
-if-accepted : (a : Answer) (n : ℕ) → a ≡ Accepted → ifAccepted a n ≡ n
+pub if-accepted : (a : Answer) (n : ℕ) → a ≡ Accepted → ifAccepted a n ≡ n
 if-accepted a n e = ap (λ (b : Answer). ifAccepted b n) e
 
 if-refused : (a : Answer) (n : ℕ) → (numberOf a ≡ 0 → ⊥) → ifAccepted a n ≡ 0

@@ -9,3 +9,8 @@ pub mod Noted
 pub mod Faults
 pub mod Verdict
 pub mod Going
+pub mod Exactly
+pub mod Every
+pub mod Own
+pub mod Days
+pub mod Accepted

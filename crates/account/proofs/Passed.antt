@@ -124,7 +124,7 @@ module _ (r : Record) (k : Known r) where
       go false e = rw e (others (eqb-false _ _ e))
 
 -- ---- the part does not fall
-right-off : {a b : Bool} → a ≡ true → a && b ≡ false → b ≡ false
+pub right-off : {a b : Bool} → a ≡ true → a && b ≡ false → b ≡ false
 right-off {a} {b} t h = ap (λ (x : Bool). x && b) (sym t) ∙ h
 
 module _ (before r : Record) (off : outOfOrder before r ≡ false) where

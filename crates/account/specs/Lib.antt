@@ -4,3 +4,5 @@ pub mod Parts
 pub mod Check
 pub mod Notes
 pub mod Surveyed
+pub mod Claims
+pub mod Accepted

@@ -1,12 +1,11 @@
 -- `account::check::one_if_contract` meets its contract. Assumes nothing.
-use borrow.Author.Needs.{needs}
 use mathlib.Core.Path.{sym, _∙_}
 use borrow.Author.Tests.{eq-eqb, ne-eqb}
 use Rattle.account.proofs.check.one_if_contract.Statement.{statement}
 use Rattle.account.proofs.check.one_if_contract.Tie as tie
 
 kind-requires : tie.Need-kind-requires
-kind-requires c κs = search needs
+kind-requires c κs = tt
 
 returns : tie.Need-returns
 returns c = rw (eq-eqb _ _ (sym (c .before .kind .ensures .0) ∙ c .if1 .taken))

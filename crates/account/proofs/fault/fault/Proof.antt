@@ -1,5 +1,4 @@
 -- `account::fault::fault` meets its contract. Assumes nothing.
-use borrow.Author.Needs.{needs}
 use mathlib.Core.Path.{sym, _∙_}
 use Rattle.record.specs.Ranges.{unknownKind, unusedByte, fieldOutside}
 use Rattle.account.specs.Check.{kindFalls, outOfOrder}
@@ -10,7 +9,7 @@ use Rattle.account.proofs.fault.fault.Statement.{statement}
 use Rattle.account.proofs.fault.fault.Tie as tie
 
 unknown-kind-requires : tie.Need-unknown-kind-requires
-unknown-kind-requires c κs = search needs
+unknown-kind-requires c κs = tt
 
 returns : tie.Need-returns
 returns c =
@@ -21,7 +20,7 @@ returns c =
     is-3 (unknownKind r) (kindFalls e r) (unusedByte r) (fieldOutside r) (unlistedBy n ps r) (outOfOrder e r) (overLimitBy n r) (sym (c .before .unknown-kind .ensures) ∙ c .if1 .taken)
 
 kind-falls-requires : tie.Need-kind-falls-requires
-kind-falls-requires c κs = search needs
+kind-falls-requires c κs = tt
 
 returns-2 : tie.Need-returns-2
 returns-2 c =
@@ -32,7 +31,7 @@ returns-2 c =
     is-4 (unknownKind r) (kindFalls e r) (unusedByte r) (fieldOutside r) (unlistedBy n ps r) (outOfOrder e r) (overLimitBy n r) (sym (c .before .before .before .unknown-kind .ensures) ∙ c .before .before .if1 .left) (sym (c .before .kind-falls .ensures) ∙ c .if2 .taken)
 
 unused-byte-requires : tie.Need-unused-byte-requires
-unused-byte-requires c κs = search needs
+unused-byte-requires c κs = tt
 
 returns-3 : tie.Need-returns-3
 returns-3 c =
@@ -43,7 +42,7 @@ returns-3 c =
     is-5 (unknownKind r) (kindFalls e r) (unusedByte r) (fieldOutside r) (unlistedBy n ps r) (outOfOrder e r) (overLimitBy n r) (sym (c .before .before .before .before .before .unknown-kind .ensures) ∙ c .before .before .before .before .if1 .left) (sym (c .before .before .before .kind-falls .ensures) ∙ c .before .before .if2 .left) (sym (c .before .unused-byte .ensures) ∙ c .if3 .taken)
 
 field-outside-requires : tie.Need-field-outside-requires
-field-outside-requires c κs = search needs
+field-outside-requires c κs = tt
 
 returns-4 : tie.Need-returns-4
 returns-4 c =
@@ -54,7 +53,7 @@ returns-4 c =
     is-6 (unknownKind r) (kindFalls e r) (unusedByte r) (fieldOutside r) (unlistedBy n ps r) (outOfOrder e r) (overLimitBy n r) (sym (c .before .before .before .before .before .before .before .unknown-kind .ensures) ∙ c .before .before .before .before .before .before .if1 .left) (sym (c .before .before .before .before .before .kind-falls .ensures) ∙ c .before .before .before .before .if2 .left) (sym (c .before .before .before .unused-byte .ensures) ∙ c .before .before .if3 .left) (sym (c .before .field-outside .ensures) ∙ c .if4 .taken)
 
 unlisted-requires : tie.Need-unlisted-requires
-unlisted-requires c κs = search needs
+unlisted-requires c κs = tt
 
 returns-5 : tie.Need-returns-5
 returns-5 c =
@@ -65,7 +64,7 @@ returns-5 c =
     is-7 (unknownKind r) (kindFalls e r) (unusedByte r) (fieldOutside r) (unlistedBy n ps r) (outOfOrder e r) (overLimitBy n r) (sym (c .before .before .before .before .before .before .before .before .before .unknown-kind .ensures) ∙ c .before .before .before .before .before .before .before .before .if1 .left) (sym (c .before .before .before .before .before .before .before .kind-falls .ensures) ∙ c .before .before .before .before .before .before .if2 .left) (sym (c .before .before .before .before .before .unused-byte .ensures) ∙ c .before .before .before .before .if3 .left) (sym (c .before .before .before .field-outside .ensures) ∙ c .before .before .if4 .left) (sym (c .before .unlisted .ensures) ∙ c .if5 .taken)
 
 out-of-order-requires : tie.Need-out-of-order-requires
-out-of-order-requires c κs = search needs
+out-of-order-requires c κs = tt
 
 returns-6 : tie.Need-returns-6
 returns-6 c =
@@ -76,7 +75,7 @@ returns-6 c =
     is-8 (unknownKind r) (kindFalls e r) (unusedByte r) (fieldOutside r) (unlistedBy n ps r) (outOfOrder e r) (overLimitBy n r) (sym (c .before .before .before .before .before .before .before .before .before .before .before .unknown-kind .ensures) ∙ c .before .before .before .before .before .before .before .before .before .before .if1 .left) (sym (c .before .before .before .before .before .before .before .before .before .kind-falls .ensures) ∙ c .before .before .before .before .before .before .before .before .if2 .left) (sym (c .before .before .before .before .before .before .before .unused-byte .ensures) ∙ c .before .before .before .before .before .before .if3 .left) (sym (c .before .before .before .before .before .field-outside .ensures) ∙ c .before .before .before .before .if4 .left) (sym (c .before .before .before .unlisted .ensures) ∙ c .before .before .if5 .left) (sym (c .before .out-of-order .ensures) ∙ c .if6 .taken)
 
 over-limit-requires : tie.Need-over-limit-requires
-over-limit-requires c κs = search needs
+over-limit-requires c κs = tt
 
 returns-7 : tie.Need-returns-7
 returns-7 c =

@@ -1,5 +1,4 @@
 -- `account::limits::over_limit` meets its contract. Assumes nothing.
-use borrow.Author.Needs.{needs}
 use Prim.Native.Nat.{ℕ}
 use mathlib.Core.Path.{sym, ap, _∙_}
 use lib.ListN.{getD}
@@ -9,13 +8,13 @@ use Rattle.account.proofs.limits.over_limit.Statement.{statement}
 use Rattle.account.proofs.limits.over_limit.Tie as tie
 
 kind-requires : tie.Need-kind-requires
-kind-requires c κs = search needs
+kind-requires c κs = tt
 
 part-of-requires : tie.Need-part-of-requires
-part-of-requires c κs = search needs
+part-of-requires c κs = tt
 
 noted-requires : tie.Need-noted-requires
-noted-requires c κs = search needs
+noted-requires c κs = tt
 
 returns : tie.Need-returns
 returns c =

@@ -7,7 +7,7 @@ add-noted : tie.Need-add-noted
 add-noted c = search needs
 
 noted-requires : tie.Need-noted-requires
-noted-requires c κs = search needs
+noted-requires c κs = tt
 
 returns : tie.Need-returns
 returns c = rw (c .noted .ensures)

@@ -1,5 +1,4 @@
 -- `account::listed::no_day` meets its contract. Assumes nothing.
-use borrow.Author.Needs.{needs}
 use mathlib.Core.Path.{_≡_, sym, _∙_}
 use lib.ListN.{length}
 use Rattle.account.specs.Parts.{onDay}
@@ -9,10 +8,10 @@ use Rattle.account.proofs.listed.no_day.Statement.{statement}
 use Rattle.account.proofs.listed.no_day.Tie as tie
 
 record-count-requires : tie.Need-record-count-requires
-record-count-requires c κs = search needs
+record-count-requires c κs = tt
 
 place-of-day-requires : tie.Need-place-of-day-requires
-place-of-day-requires c κs = search needs
+place-of-day-requires c κs = tt
 
 returns : tie.Need-returns
 returns c =

@@ -1,5 +1,4 @@
 -- `account::listed::no_leg_tier` meets its contract. Assumes nothing.
-use borrow.Author.Needs.{needs}
 use mathlib.Core.Path.{ap, _∙_}
 use Rattle.account.specs.Notes.{noTier}
 use Rattle.account.specs.Records.{records}
@@ -7,10 +6,10 @@ use Rattle.account.proofs.listed.no_leg_tier.Statement.{statement}
 use Rattle.account.proofs.listed.no_leg_tier.Tie as tie
 
 leg-tier-requires : tie.Need-leg-tier-requires
-leg-tier-requires c κs = search needs
+leg-tier-requires c κs = tt
 
 no-tier-requires : tie.Need-no-tier-requires
-no-tier-requires c κs = search needs
+no-tier-requires c κs = tt
 
 returns : tie.Need-returns
 returns c = c .no-tier .ensures ∙ ap (noTier (records (c .before .before .before .before .args .prompts .now))) (c .before .leg-tier .ensures .0)

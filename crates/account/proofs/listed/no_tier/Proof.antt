@@ -1,5 +1,4 @@
 -- `account::listed::no_tier` meets its contract. Assumes nothing.
-use borrow.Author.Needs.{needs}
 use mathlib.Core.Path.{_≡_, sym, _∙_}
 use lib.ListN.{length}
 use Rattle.account.specs.Parts.{onTier}
@@ -9,10 +8,10 @@ use Rattle.account.proofs.listed.no_tier.Statement.{statement}
 use Rattle.account.proofs.listed.no_tier.Tie as tie
 
 record-count-requires : tie.Need-record-count-requires
-record-count-requires c κs = search needs
+record-count-requires c κs = tt
 
 place-of-tier-requires : tie.Need-place-of-tier-requires
-place-of-tier-requires c κs = search needs
+place-of-tier-requires c κs = tt
 
 returns : tie.Need-returns
 returns c =

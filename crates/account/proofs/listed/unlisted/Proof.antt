@@ -9,10 +9,10 @@ use Rattle.account.proofs.listed.unlisted.Statement.{statement}
 use Rattle.account.proofs.listed.unlisted.Tie as tie
 
 kind-requires : tie.Need-kind-requires
-kind-requires c κs = search needs
+kind-requires c κs = tt
 
 contract-requires : tie.Need-contract-requires
-contract-requires c κs = search needs
+contract-requires c κs = tt
 
 no-contract-requires : tie.Need-no-contract-requires
 no-contract-requires c κs = search needs
@@ -23,16 +23,16 @@ returns c =
     ∙ sym (listed-2 (c .before .before .before .before .before .before .before .args .counts .now) (records (c .before .before .before .before .before .before .before .args .prompts .now)) (c .before .before .before .before .before .before .before .args .r .now) (sym (c .before .before .before .kind .ensures .0) ∙ c .before .before .if1 .taken))
 
 contract-requires-2 : tie.Need-contract-requires-2
-contract-requires-2 c κs = search needs
+contract-requires-2 c κs = tt
 
 no-contract-requires-2 : tie.Need-no-contract-requires-2
 no-contract-requires-2 c κs = search needs
 
 day-requires : tie.Need-day-requires
-day-requires c κs = search needs
+day-requires c κs = tt
 
 no-day-requires : tie.Need-no-day-requires
-no-day-requires c κs = search needs
+no-day-requires c κs = tt
 
 returns-2 : tie.Need-returns-2
 returns-2 c =
@@ -40,13 +40,13 @@ returns-2 c =
     ∙ sym (listed-3 (c .before .before .before .before .before .before .before .before .before .before .args .counts .now) (records (c .before .before .before .before .before .before .before .before .before .before .args .prompts .now)) (c .before .before .before .before .before .before .before .before .before .before .args .r .now) (sym (c .before .before .before .before .before .before .kind .ensures .0) ∙ c .before .before .before .before .if2 .taken))
 
 contract-requires-3 : tie.Need-contract-requires-3
-contract-requires-3 c κs = search needs
+contract-requires-3 c κs = tt
 
 no-contract-requires-3 : tie.Need-no-contract-requires-3
 no-contract-requires-3 c κs = search needs
 
 some-leg-tier-requires : tie.Need-some-leg-tier-requires
-some-leg-tier-requires c κs = search needs
+some-leg-tier-requires c κs = tt
 
 returns-3 : tie.Need-returns-3
 returns-3 c =
@@ -54,13 +54,13 @@ returns-3 c =
     ∙ sym (listed-4 (c .before .before .before .before .before .before .before .before .before .before .args .counts .now) (records (c .before .before .before .before .before .before .before .before .before .before .args .prompts .now)) (c .before .before .before .before .before .before .before .before .before .before .args .r .now) (sym (c .before .before .before .before .before .before .kind .ensures .0) ∙ c .before .before .before .if3 .taken))
 
 contract-requires-4 : tie.Need-contract-requires-4
-contract-requires-4 c κs = search needs
+contract-requires-4 c κs = tt
 
 no-contract-requires-4 : tie.Need-no-contract-requires-4
 no-contract-requires-4 c κs = search needs
 
 second-contract-requires : tie.Need-second-contract-requires
-second-contract-requires c κs = search needs
+second-contract-requires c κs = tt
 
 no-contract-requires-5 : tie.Need-no-contract-requires-5
 no-contract-requires-5 c κs = search needs

@@ -6,7 +6,7 @@ use Rattle.account.proofs.notes.note_first.Statement.{statement}
 use Rattle.account.proofs.notes.note_first.Tie as tie
 
 noted-requires : tie.Need-noted-requires
-noted-requires c κs = search needs
+noted-requires c κs = tt
 
 mul-first : tie.Need-mul-first
 mul-first c = search needs

@@ -9,16 +9,16 @@ use Rattle.account.proofs.notes.part_of.Statement.{statement}
 use Rattle.account.proofs.notes.part_of.Tie as tie
 
 kind-requires : tie.Need-kind-requires
-kind-requires c κs = search needs
+kind-requires c κs = tt
 
 kind-requires-2 : tie.Need-kind-requires-2
-kind-requires-2 c κs = search needs
+kind-requires-2 c κs = tt
 
 mul-result : tie.Need-mul-result
 mul-result c = search needs
 
 contract-requires : tie.Need-contract-requires
-contract-requires c κs = search needs
+contract-requires c κs = tt
 
 add-result : tie.Need-add-result
 add-result c = search needs

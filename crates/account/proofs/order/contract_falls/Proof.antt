@@ -1,19 +1,18 @@
 -- `account::order::contract_falls` meets its contract. Assumes nothing.
-use borrow.Author.Needs.{needs}
 use Rattle.account.proofs.order.contract_falls.Statement.{statement}
 use Rattle.account.proofs.order.contract_falls.Tie as tie
 
 kind-requires : tie.Need-kind-requires
-kind-requires c κs = search needs
+kind-requires c κs = tt
 
 kind-requires-2 : tie.Need-kind-requires-2
-kind-requires-2 c κs = search needs
+kind-requires-2 c κs = tt
 
 contract-requires : tie.Need-contract-requires
-contract-requires c κs = search needs
+contract-requires c κs = tt
 
 contract-requires-2 : tie.Need-contract-requires-2
-contract-requires-2 c κs = search needs
+contract-requires-2 c κs = tt
 
 returns : tie.Need-returns
 returns c = rw (c .before .before .before .kind .ensures .0, c .before .before .kind2 .ensures .0, c .before .contract .ensures .0, c .contract2 .ensures .0)

@@ -1,22 +1,21 @@
 -- `account::order::day_not_above` meets its contract. Assumes nothing.
-use borrow.Author.Needs.{needs}
 use Rattle.account.proofs.order.day_not_above.Statement.{statement}
 use Rattle.account.proofs.order.day_not_above.Tie as tie
 
 contract-requires : tie.Need-contract-requires
-contract-requires c κs = search needs
+contract-requires c κs = tt
 
 contract-requires-2 : tie.Need-contract-requires-2
-contract-requires-2 c κs = search needs
+contract-requires-2 c κs = tt
 
 kind-requires : tie.Need-kind-requires
-kind-requires c κs = search needs
+kind-requires c κs = tt
 
 day-requires : tie.Need-day-requires
-day-requires c κs = search needs
+day-requires c κs = tt
 
 day-requires-2 : tie.Need-day-requires-2
-day-requires-2 c κs = search needs
+day-requires-2 c κs = tt
 
 returns : tie.Need-returns
 returns c = rw (c .before .before .before .before .contract .ensures .0, c .before .before .before .contract2 .ensures .0, c .before .before .kind .ensures .0, c .before .day .ensures .0, c .day2 .ensures .0)

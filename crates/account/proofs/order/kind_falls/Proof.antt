@@ -1,13 +1,12 @@
 -- `account::order::kind_falls` meets its contract. Assumes nothing.
-use borrow.Author.Needs.{needs}
 use Rattle.account.proofs.order.kind_falls.Statement.{statement}
 use Rattle.account.proofs.order.kind_falls.Tie as tie
 
 kind-requires : tie.Need-kind-requires
-kind-requires c κs = search needs
+kind-requires c κs = tt
 
 kind-requires-2 : tie.Need-kind-requires-2
-kind-requires-2 c κs = search needs
+kind-requires-2 c κs = tt
 
 returns : tie.Need-returns
 returns c = rw (c .before .kind .ensures .0, c .kind2 .ensures .0)

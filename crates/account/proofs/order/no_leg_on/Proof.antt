@@ -1,5 +1,4 @@
 -- `account::order::no_leg_on` meets its contract. Assumes nothing.
-use borrow.Author.Needs.{needs}
 use mathlib.Core.Path.{_≡_, refl, sym, ap, _∙_}
 use mathlib.Core.Bool.{Bool, true, false, not, _||_}
 use borrow.Author.Tests.{eq-eqb, ne-eqb}
@@ -9,22 +8,22 @@ use Rattle.account.proofs.order.no_leg_on.Statement.{statement}
 use Rattle.account.proofs.order.no_leg_on.Tie as tie
 
 leg-count-requires : tie.Need-leg-count-requires
-leg-count-requires c κs = search needs
+leg-count-requires c κs = tt
 
 on-side-requires : tie.Need-on-side-requires
-on-side-requires c κs = search needs
+on-side-requires c κs = tt
 
 on-side-requires-2 : tie.Need-on-side-requires-2
-on-side-requires-2 c κs = search needs
+on-side-requires-2 c κs = tt
 
 on-side-requires-3 : tie.Need-on-side-requires-3
-on-side-requires-3 c κs = search needs
+on-side-requires-3 c κs = tt
 
 on-side-requires-4 : tie.Need-on-side-requires-4
-on-side-requires-4 c κs = search needs
+on-side-requires-4 c κs = tt
 
 on-side-requires-5 : tie.Need-on-side-requires-5
-on-side-requires-5 c κs = search needs
+on-side-requires-5 c κs = tt
 
 returns : tie.Need-returns
 returns c =

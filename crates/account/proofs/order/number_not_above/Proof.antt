@@ -1,16 +1,15 @@
 -- `account::order::number_not_above` meets its contract. Assumes nothing.
-use borrow.Author.Needs.{needs}
 use Rattle.account.proofs.order.number_not_above.Statement.{statement}
 use Rattle.account.proofs.order.number_not_above.Tie as tie
 
 kind-requires : tie.Need-kind-requires
-kind-requires c κs = search needs
+kind-requires c κs = tt
 
 contract-requires : tie.Need-contract-requires
-contract-requires c κs = search needs
+contract-requires c κs = tt
 
 contract-requires-2 : tie.Need-contract-requires-2
-contract-requires-2 c κs = search needs
+contract-requires-2 c κs = tt
 
 returns : tie.Need-returns
 returns c = rw (c .before .before .kind .ensures .0, c .before .contract .ensures .0, c .contract2 .ensures .0)

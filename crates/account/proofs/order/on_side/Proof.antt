@@ -1,10 +1,9 @@
 -- `account::order::on_side` meets its contract. Assumes nothing.
-use borrow.Author.Needs.{needs}
 use Rattle.account.proofs.order.on_side.Statement.{statement}
 use Rattle.account.proofs.order.on_side.Tie as tie
 
 leg-side-requires : tie.Need-leg-side-requires
-leg-side-requires c κs = search needs
+leg-side-requires c κs = tt
 
 returns : tie.Need-returns
 returns c = rw (c .leg-side .ensures .0)

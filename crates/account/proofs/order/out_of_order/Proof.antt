@@ -1,5 +1,4 @@
 -- `account::order::out_of_order` meets its contract. Assumes nothing.
-use borrow.Author.Needs.{needs}
 use mathlib.Core.Path.{sym, _∙_}
 use Rattle.record.proofs.Tests.{both}
 use Rattle.account.proofs.Dispatch.{order-1, order-2, order-3, order-4, order-5, order-none}
@@ -7,10 +6,10 @@ use Rattle.account.proofs.order.out_of_order.Statement.{statement}
 use Rattle.account.proofs.order.out_of_order.Tie as tie
 
 kind-requires : tie.Need-kind-requires
-kind-requires c κs = search needs
+kind-requires c κs = tt
 
 number-not-above-requires : tie.Need-number-not-above-requires
-number-not-above-requires c κs = search needs
+number-not-above-requires c κs = tt
 
 returns : tie.Need-returns
 returns c =
@@ -18,10 +17,10 @@ returns c =
     ∙ sym (order-1 (c .before .before .before .before .before .args .before .now) (c .before .before .before .before .before .args .r .now) (sym (c .before .before .kind .ensures .0) ∙ c .before .if1 .taken))
 
 day-not-above-requires : tie.Need-day-not-above-requires
-day-not-above-requires c κs = search needs
+day-not-above-requires c κs = tt
 
 tier-falls-requires : tie.Need-tier-falls-requires
-tier-falls-requires c κs = search needs
+tier-falls-requires c κs = tt
 
 returns-2 : tie.Need-returns-2
 returns-2 c =
@@ -29,7 +28,7 @@ returns-2 c =
     ∙ sym (order-2 (c .before .before .before .before .before .before .before .args .before .now) (c .before .before .before .before .before .before .before .args .r .now) (sym (c .before .before .before .before .kind .ensures .0) ∙ c .before .before .if2 .taken))
 
 contract-falls-requires : tie.Need-contract-falls-requires
-contract-falls-requires c κs = search needs
+contract-falls-requires c κs = tt
 
 returns-3 : tie.Need-returns-3
 returns-3 c =
@@ -37,10 +36,10 @@ returns-3 c =
     ∙ sym (order-3 (c .before .before .before .before .before .before .before .args .before .now) (c .before .before .before .before .before .before .before .args .r .now) (sym (c .before .before .before .before .kind .ensures .0) ∙ c .before .if3 .taken))
 
 contract-falls-requires-2 : tie.Need-contract-falls-requires-2
-contract-falls-requires-2 c κs = search needs
+contract-falls-requires-2 c κs = tt
 
 legs-clash-requires : tie.Need-legs-clash-requires
-legs-clash-requires c κs = search needs
+legs-clash-requires c κs = tt
 
 returns-4 : tie.Need-returns-4
 returns-4 c =
@@ -48,7 +47,7 @@ returns-4 c =
     ∙ sym (order-4 (c .before .before .before .before .before .before .before .before .before .args .before .now) (c .before .before .before .before .before .before .before .before .before .args .r .now) (sym (c .before .before .before .before .before .before .kind .ensures .0) ∙ c .before .before .if4 .taken))
 
 with-itself-requires : tie.Need-with-itself-requires
-with-itself-requires c κs = search needs
+with-itself-requires c κs = tt
 
 returns-5 : tie.Need-returns-5
 returns-5 c =

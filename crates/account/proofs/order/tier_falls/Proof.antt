@@ -1,22 +1,21 @@
 -- `account::order::tier_falls` meets its contract. Assumes nothing.
-use borrow.Author.Needs.{needs}
 use Rattle.account.proofs.order.tier_falls.Statement.{statement}
 use Rattle.account.proofs.order.tier_falls.Tie as tie
 
 kind-requires : tie.Need-kind-requires
-kind-requires c κs = search needs
+kind-requires c κs = tt
 
 contract-requires : tie.Need-contract-requires
-contract-requires c κs = search needs
+contract-requires c κs = tt
 
 contract-requires-2 : tie.Need-contract-requires-2
-contract-requires-2 c κs = search needs
+contract-requires-2 c κs = tt
 
 tier-requires : tie.Need-tier-requires
-tier-requires c κs = search needs
+tier-requires c κs = tt
 
 tier-requires-2 : tie.Need-tier-requires-2
-tier-requires-2 c κs = search needs
+tier-requires-2 c κs = tt
 
 returns : tie.Need-returns
 returns c = rw (c .before .before .before .before .kind .ensures .0, c .before .before .before .contract .ensures .0, c .before .before .contract2 .ensures .0, c .before .tier .ensures .0, c .tier2 .ensures .0)

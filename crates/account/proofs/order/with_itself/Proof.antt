@@ -1,13 +1,12 @@
 -- `account::order::with_itself` meets its contract. Assumes nothing.
-use borrow.Author.Needs.{needs}
 use Rattle.account.proofs.order.with_itself.Statement.{statement}
 use Rattle.account.proofs.order.with_itself.Tie as tie
 
 contract-requires : tie.Need-contract-requires
-contract-requires c κs = search needs
+contract-requires c κs = tt
 
 second-contract-requires : tie.Need-second-contract-requires
-second-contract-requires c κs = search needs
+second-contract-requires c κs = tt
 
 returns : tie.Need-returns
 returns c = rw (c .before .contract .ensures .0, c .second-contract .ensures .0)

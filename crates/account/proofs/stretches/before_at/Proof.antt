@@ -15,7 +15,7 @@ sub-record-at : tie.Need-sub-record-at
 sub-record-at c = search needs
 
 record-at-requires : tie.Need-record-at-requires
-record-at-requires c κs = search needs
+record-at-requires c κs = tt
 
 returns-2 : tie.Need-returns-2
 returns-2 c =

@@ -8,7 +8,7 @@ use Rattle.record.proofs.bytes.i32_at.Statement.{statement}
 use Rattle.record.proofs.bytes.i32_at.Tie as tie
 
 u32-at-requires : tie.Need-u32-at-requires
-u32-at-requires c κs = search needs
+u32-at-requires c κs = tt
 
 signed-requires : tie.Need-signed-requires
 signed-requires c κs = search needs

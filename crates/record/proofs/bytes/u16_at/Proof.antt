@@ -6,13 +6,13 @@ use Rattle.record.proofs.bytes.u16_at.Statement.{statement}
 use Rattle.record.proofs.bytes.u16_at.Tie as tie
 
 byte-at-requires : tie.Need-byte-at-requires
-byte-at-requires c κs = search needs
+byte-at-requires c κs = tt
 
 add-byte-at : tie.Need-add-byte-at
 add-byte-at c = search needs
 
 byte-at-requires-2 : tie.Need-byte-at-requires-2
-byte-at-requires-2 c κs = search needs
+byte-at-requires-2 c κs = tt
 
 mul-result : tie.Need-mul-result
 mul-result c = search needs

@@ -6,13 +6,13 @@ use Rattle.record.proofs.bytes.u32_at.Statement.{statement}
 use Rattle.record.proofs.bytes.u32_at.Tie as tie
 
 u16-at-requires : tie.Need-u16-at-requires
-u16-at-requires c κs = search needs
+u16-at-requires c κs = tt
 
 add-u16-at : tie.Need-add-u16-at
 add-u16-at c = search needs
 
 u16-at-requires-2 : tie.Need-u16-at-requires-2
-u16-at-requires-2 c κs = search needs
+u16-at-requires-2 c κs = tt
 
 mul-result : tie.Need-mul-result
 mul-result c = search needs

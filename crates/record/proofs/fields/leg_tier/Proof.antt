@@ -14,7 +14,7 @@ add-byte-at : tie.Need-add-byte-at
 add-byte-at c = search needs
 
 byte-at-requires : tie.Need-byte-at-requires
-byte-at-requires c κs = search needs
+byte-at-requires c κs = tt
 
 returns : tie.Need-returns
 returns c = (sym (byte-past (c .before .before .args .r .now) (8 + 4 * c .before .before .args .leg) (omega arith)), search needs)

@@ -9,7 +9,7 @@ use Rattle.record.proofs.fields.loss.Statement.{statement}
 use Rattle.record.proofs.fields.loss.Tie as tie
 
 i32-at-requires : tie.Need-i32-at-requires
-i32-at-requires c κs = search needs
+i32-at-requires c κs = tt
 
 returns : tie.Need-returns
 returns c =
@@ -23,7 +23,7 @@ add-i32-at : tie.Need-add-i32-at
 add-i32-at c = search needs
 
 i32-at-requires-2 : tie.Need-i32-at-requires-2
-i32-at-requires-2 c κs = search needs
+i32-at-requires-2 c κs = tt
 
 returns-2 : tie.Need-returns-2
 returns-2 c =

@@ -1,5 +1,4 @@
 -- `record::ranges::in_contract` meets its contract. Assumes nothing.
-use borrow.Author.Needs.{needs}
 use mathlib.Core.Path.{ap, _∙_}
 use Rattle.record.specs.Ranges.{beyond}
 use Rattle.record.proofs.Tests.{both, last}
@@ -8,16 +7,16 @@ use Rattle.record.proofs.ranges.in_contract.Statement.{statement}
 use Rattle.record.proofs.ranges.in_contract.Tie as tie
 
 contract-requires : tie.Need-contract-requires
-contract-requires c κs = search needs
+contract-requires c κs = tt
 
 no-contract-requires : tie.Need-no-contract-requires
-no-contract-requires c κs = search needs
+no-contract-requires c κs = tt
 
 short-option-rate-requires : tie.Need-short-option-rate-requires
-short-option-rate-requires c κs = search needs
+short-option-rate-requires c κs = tt
 
 no-rate-requires : tie.Need-no-rate-requires
-no-rate-requires c κs = search needs
+no-rate-requires c κs = tt
 
 returns : tie.Need-returns
 returns c = both (c .before .before .no-contract .ensures ∙ ap (beyond contracts) (c .before .before .before .contract .ensures .0)) (last (c .no-rate .ensures ∙ ap (beyond rates) (c .before .short-option-rate .ensures .0)))

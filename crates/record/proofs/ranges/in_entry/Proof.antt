@@ -1,5 +1,4 @@
 -- `record::ranges::in_entry` meets its contract. Assumes nothing.
-use borrow.Author.Needs.{needs}
 use mathlib.Core.Path.{ap, _∙_}
 use Rattle.record.specs.Ranges.{beyond}
 use Rattle.record.proofs.Tests.{both, last}
@@ -9,34 +8,34 @@ use Rattle.record.proofs.ranges.in_entry.Statement.{statement}
 use Rattle.record.proofs.ranges.in_entry.Tie as tie
 
 contract-requires : tie.Need-contract-requires
-contract-requires c κs = search needs
+contract-requires c κs = tt
 
 no-contract-requires : tie.Need-no-contract-requires
-no-contract-requires c κs = search needs
+no-contract-requires c κs = tt
 
 second-contract-requires : tie.Need-second-contract-requires
-second-contract-requires c κs = search needs
+second-contract-requires c κs = tt
 
 no-contract-requires-2 : tie.Need-no-contract-requires-2
-no-contract-requires-2 c κs = search needs
+no-contract-requires-2 c κs = tt
 
 percent-requires : tie.Need-percent-requires
-percent-requires c κs = search needs
+percent-requires c κs = tt
 
 beyond-requires : tie.Need-beyond-requires
-beyond-requires c κs = search needs
+beyond-requires c κs = tt
 
 first-ratio-requires : tie.Need-first-ratio-requires
-first-ratio-requires c κs = search needs
+first-ratio-requires c κs = tt
 
 no-ratio-requires : tie.Need-no-ratio-requires
-no-ratio-requires c κs = search needs
+no-ratio-requires c κs = tt
 
 second-ratio-requires : tie.Need-second-ratio-requires
-second-ratio-requires c κs = search needs
+second-ratio-requires c κs = tt
 
 no-ratio-requires-2 : tie.Need-no-ratio-requires-2
-no-ratio-requires-2 c κs = search needs
+no-ratio-requires-2 c κs = tt
 
 returns : tie.Need-returns
 returns c = both (c .before .before .before .before .before .before .before .before .no-contract .ensures ∙ ap (beyond contracts) (c .before .before .before .before .before .before .before .before .before .contract .ensures .0)) (both (c .before .before .before .before .before .before .no-contract2 .ensures ∙ ap (beyond contracts) (c .before .before .before .before .before .before .before .second-contract .ensures .0)) (both (c .before .before .before .before .beyond .ensures ∙ ap (beyond (plain 0 100)) (c .before .before .before .before .before .percent .ensures .0)) (both (c .before .before .no-ratio .ensures ∙ ap (beyond ratios) (c .before .before .before .first-ratio .ensures .0)) (last (c .no-ratio2 .ensures ∙ ap (beyond ratios) (c .before .second-ratio .ensures .0))))))

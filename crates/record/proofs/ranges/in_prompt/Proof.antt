@@ -1,5 +1,4 @@
 -- `record::ranges::in_prompt` meets its contract. Assumes nothing.
-use borrow.Author.Needs.{needs}
 use mathlib.Core.Path.{ap, _∙_}
 use Rattle.record.specs.Ranges.{beyond}
 use Rattle.record.proofs.Tests.{both, last}
@@ -8,34 +7,34 @@ use Rattle.record.proofs.ranges.in_prompt.Statement.{statement}
 use Rattle.record.proofs.ranges.in_prompt.Tie as tie
 
 contract-requires : tie.Need-contract-requires
-contract-requires c κs = search needs
+contract-requires c κs = tt
 
 no-contract-requires : tie.Need-no-contract-requires
-no-contract-requires c κs = search needs
+no-contract-requires c κs = tt
 
 tier-requires : tie.Need-tier-requires
-tier-requires c κs = search needs
+tier-requires c κs = tt
 
 no-tier-requires : tie.Need-no-tier-requires
-no-tier-requires c κs = search needs
+no-tier-requires c κs = tt
 
 day-requires : tie.Need-day-requires
-day-requires c κs = search needs
+day-requires c κs = tt
 
 no-day-requires : tie.Need-no-day-requires
-no-day-requires c κs = search needs
+no-day-requires c κs = tt
 
 spread-rate-requires : tie.Need-spread-rate-requires
-spread-rate-requires c κs = search needs
+spread-rate-requires c κs = tt
 
 no-rate-requires : tie.Need-no-rate-requires
-no-rate-requires c κs = search needs
+no-rate-requires c κs = tt
 
 outright-rate-requires : tie.Need-outright-rate-requires
-outright-rate-requires c κs = search needs
+outright-rate-requires c κs = tt
 
 no-rate-requires-2 : tie.Need-no-rate-requires-2
-no-rate-requires-2 c κs = search needs
+no-rate-requires-2 c κs = tt
 
 returns : tie.Need-returns
 returns c = both (c .before .before .before .before .before .before .before .before .no-contract .ensures ∙ ap (beyond contracts) (c .before .before .before .before .before .before .before .before .before .contract .ensures .0)) (both (c .before .before .before .before .before .before .no-tier .ensures ∙ ap (beyond tiers) (c .before .before .before .before .before .before .before .tier .ensures .0)) (both (c .before .before .before .before .no-day .ensures ∙ ap (beyond days) (c .before .before .before .before .before .day .ensures .0)) (both (c .before .before .no-rate .ensures ∙ ap (beyond rates) (c .before .before .before .spread-rate .ensures .0)) (last (c .no-rate2 .ensures ∙ ap (beyond rates) (c .before .outright-rate .ensures .0))))))

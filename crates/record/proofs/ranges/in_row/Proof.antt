@@ -9,43 +9,43 @@ use Rattle.record.proofs.ranges.in_row.Statement.{statement}
 use Rattle.record.proofs.ranges.in_row.Tie as tie
 
 contract-requires : tie.Need-contract-requires
-contract-requires c κs = search needs
+contract-requires c κs = tt
 
 no-contract-requires : tie.Need-no-contract-requires
-no-contract-requires c κs = search needs
+no-contract-requires c κs = tt
 
 row-type-requires : tie.Need-row-type-requires
-row-type-requires c κs = search needs
+row-type-requires c κs = tt
 
 beyond-requires : tie.Need-beyond-requires
-beyond-requires c κs = search needs
+beyond-requires c κs = tt
 
 day-requires : tie.Need-day-requires
-day-requires c κs = search needs
+day-requires c κs = tt
 
 no-day-requires : tie.Need-no-day-requires
-no-day-requires c κs = search needs
+no-day-requires c κs = tt
 
 no-strike-requires : tie.Need-no-strike-requires
-no-strike-requires c κs = search needs
+no-strike-requires c κs = tt
 
 u32-at-requires : tie.Need-u32-at-requires
-u32-at-requires c κs = search needs
+u32-at-requires c κs = tt
 
 too-many-requires : tie.Need-too-many-requires
 too-many-requires c κs = search needs
 
 no-delta-requires : tie.Need-no-delta-requires
-no-delta-requires c κs = search needs
+no-delta-requires c κs = tt
 
 value-requires : tie.Need-value-requires
-value-requires c κs = search needs
+value-requires c κs = tt
 
 beyond-requires-2 : tie.Need-beyond-requires-2
-beyond-requires-2 c κs = search needs
+beyond-requires-2 c κs = tt
 
 no-losses-requires : tie.Need-no-losses-requires
-no-losses-requires c κs = search needs
+no-losses-requires c κs = tt
 
 returns : tie.Need-returns
 returns c = both (c .before .before .before .before .before .before .before .before .before .before .before .no-contract .ensures ∙ ap (beyond contracts) (c .before .before .before .before .before .before .before .before .before .before .before .before .contract .ensures .0)) (both (c .before .before .before .before .before .before .before .before .before .beyond .ensures ∙ ap (beyond (plain 0 2)) (c .before .before .before .before .before .before .before .before .before .before .row-type .ensures .0)) (both (c .before .before .before .before .before .before .before .no-day .ensures ∙ ap (beyond days) (c .before .before .before .before .before .before .before .before .day .ensures .0)) (both (c .before .before .before .before .before .before .no-strike .ensures) (both (c .before .before .before .before .too-many .ensures ∙ ap (beyond hundredThousands) (c .before .before .before .before .before .u32-at .ensures .0)) (both (c .before .before .before .no-delta .ensures) (both (c .before .beyond2 .ensures ∙ ap (beyond values) (c .before .before .value .ensures .0)) (c .no-losses .ensures)))))))

@@ -1,5 +1,4 @@
 -- `record::ranges::in_spread` meets its contract. Assumes nothing.
-use borrow.Author.Needs.{needs}
 use mathlib.Core.Path.{_≡_, sym, ap, _∙_}
 use mathlib.Core.Bool.{Bool, _||_}
 use mathlib.Core.List.{List, _++_}
@@ -16,31 +15,31 @@ joined :
 joined p a b d = rw (any-append p a (b ++ d), any-append p b d)
 
 contract-requires : tie.Need-contract-requires
-contract-requires c κs = search needs
+contract-requires c κs = tt
 
 no-contract-requires : tie.Need-no-contract-requires
-no-contract-requires c κs = search needs
+no-contract-requires c κs = tt
 
 leg-count-requires : tie.Need-leg-count-requires
-leg-count-requires c κs = search needs
+leg-count-requires c κs = tt
 
 beyond-requires : tie.Need-beyond-requires
-beyond-requires c κs = search needs
+beyond-requires c κs = tt
 
 rate-per-spread-requires : tie.Need-rate-per-spread-requires
-rate-per-spread-requires c κs = search needs
+rate-per-spread-requires c κs = tt
 
 no-rate-requires : tie.Need-no-rate-requires
-no-rate-requires c κs = search needs
+no-rate-requires c κs = tt
 
 no-leg-requires : tie.Need-no-leg-requires
-no-leg-requires c κs = search needs
+no-leg-requires c κs = tt
 
 no-leg-requires-2 : tie.Need-no-leg-requires-2
-no-leg-requires-2 c κs = search needs
+no-leg-requires-2 c κs = tt
 
 no-third-leg-requires : tie.Need-no-third-leg-requires
-no-third-leg-requires c κs = search needs
+no-third-leg-requires c κs = tt
 
 returns : tie.Need-returns
 returns c =

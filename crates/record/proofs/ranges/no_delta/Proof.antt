@@ -11,16 +11,16 @@ use Rattle.record.proofs.ranges.no_delta.Statement.{statement}
 use Rattle.record.proofs.ranges.no_delta.Tie as tie
 
 row-type-requires : tie.Need-row-type-requires
-row-type-requires c κs = search needs
+row-type-requires c κs = tt
 
 u32-at-requires : tie.Need-u32-at-requires
-u32-at-requires c κs = search needs
+u32-at-requires c κs = tt
 
 signed-beyond-requires : tie.Need-signed-beyond-requires
 signed-beyond-requires c κs = search needs
 
 u32-at-requires-2 : tie.Need-u32-at-requires-2
-u32-at-requires-2 c κs = search needs
+u32-at-requires-2 c κs = tt
 
 signed-beyond-requires-2 : tie.Need-signed-beyond-requires-2
 signed-beyond-requires-2 c κs = search needs

@@ -38,7 +38,7 @@ add-u32-at : tie.Need-add-u32-at Inv-loop μ-loop
 add-u32-at c = omega arith
 
 u32-at-requires : tie.Need-u32-at-requires Inv-loop μ-loop
-u32-at-requires c κs = search needs
+u32-at-requires c κs = tt
 
 too-many-requires : tie.Need-too-many-requires Inv-loop μ-loop
 too-many-requires c κs = search needs

@@ -1,5 +1,4 @@
 -- `record::ranges::no_third_leg` meets its contract. Assumes nothing.
-use borrow.Author.Needs.{needs}
 use mathlib.Core.Path.{_≡_, sym, ap, _∙_}
 use borrow.Author.Tests.{eq-eqb, ne-eqb}
 use mathlib.Core.Bool.{true, false}
@@ -8,10 +7,10 @@ use Rattle.record.proofs.ranges.no_third_leg.Statement.{statement}
 use Rattle.record.proofs.ranges.no_third_leg.Tie as tie
 
 leg-count-requires : tie.Need-leg-count-requires
-leg-count-requires c κs = search needs
+leg-count-requires c κs = tt
 
 no-leg-requires : tie.Need-no-leg-requires
-no-leg-requires c κs = search needs
+no-leg-requires c κs = tt
 
 returns : tie.Need-returns
 returns c =

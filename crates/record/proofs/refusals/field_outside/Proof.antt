@@ -1,5 +1,4 @@
 -- `record::refusals::field_outside` meets its contract. Assumes nothing.
-use borrow.Author.Needs.{needs}
 use mathlib.Core.Path.{sym, ap, _∙_}
 use mathlib.Core.List.{List}
 use Rattle.record.specs.Bytes.{Field}
@@ -9,10 +8,10 @@ use Rattle.record.proofs.refusals.field_outside.Statement.{statement}
 use Rattle.record.proofs.refusals.field_outside.Tie as tie
 
 kind-requires : tie.Need-kind-requires
-kind-requires c κs = search needs
+kind-requires c κs = tt
 
 in-contract-requires : tie.Need-in-contract-requires
-in-contract-requires c κs = search needs
+in-contract-requires c κs = tt
 
 returns : tie.Need-returns
 returns c =
@@ -21,7 +20,7 @@ returns c =
     ∙ ap (λ (fs : List Field). outsideAmong fs r) (sym (of-contract r (sym (c .before .before .kind .ensures .0) ∙ c .before .if1 .taken)))
 
 in-prompt-requires : tie.Need-in-prompt-requires
-in-prompt-requires c κs = search needs
+in-prompt-requires c κs = tt
 
 returns-2 : tie.Need-returns-2
 returns-2 c =
@@ -30,7 +29,7 @@ returns-2 c =
     ∙ ap (λ (fs : List Field). outsideAmong fs r) (sym (of-prompt r (sym (c .before .before .before .kind .ensures .0) ∙ c .before .if2 .taken)))
 
 in-row-requires : tie.Need-in-row-requires
-in-row-requires c κs = search needs
+in-row-requires c κs = tt
 
 returns-3 : tie.Need-returns-3
 returns-3 c =
@@ -39,7 +38,7 @@ returns-3 c =
     ∙ ap (λ (fs : List Field). outsideAmong fs r) (sym (of-row r (sym (c .before .before .before .before .kind .ensures .0) ∙ c .before .if3 .taken)))
 
 in-spread-requires : tie.Need-in-spread-requires
-in-spread-requires c κs = search needs
+in-spread-requires c κs = tt
 
 returns-4 : tie.Need-returns-4
 returns-4 c =
@@ -48,7 +47,7 @@ returns-4 c =
     ∙ ap (λ (fs : List Field). outsideAmong fs r) (sym (of-spread r (sym (c .before .before .before .before .before .kind .ensures .0) ∙ c .before .if4 .taken)))
 
 in-entry-requires : tie.Need-in-entry-requires
-in-entry-requires c κs = search needs
+in-entry-requires c κs = tt
 
 returns-5 : tie.Need-returns-5
 returns-5 c =

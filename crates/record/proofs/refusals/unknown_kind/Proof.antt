@@ -1,10 +1,9 @@
 -- `record::refusals::unknown_kind` meets its contract. Assumes nothing.
-use borrow.Author.Needs.{needs}
 use Rattle.record.proofs.refusals.unknown_kind.Statement.{statement}
 use Rattle.record.proofs.refusals.unknown_kind.Tie as tie
 
 kind-requires : tie.Need-kind-requires
-kind-requires c κs = search needs
+kind-requires c κs = tt
 
 returns : tie.Need-returns
 returns c = rw (c .kind .ensures .0)

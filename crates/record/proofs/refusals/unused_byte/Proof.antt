@@ -1,5 +1,4 @@
 -- `record::refusals::unused_byte` meets its contract. Assumes nothing.
-use borrow.Author.Needs.{needs}
 use mathlib.Core.Path.{sym, ap, _∙_}
 use mathlib.Core.List.{List}
 use Rattle.record.specs.Bytes.{Field}
@@ -9,10 +8,10 @@ use Rattle.record.proofs.refusals.unused_byte.Statement.{statement}
 use Rattle.record.proofs.refusals.unused_byte.Tie as tie
 
 kind-requires : tie.Need-kind-requires
-kind-requires c κs = search needs
+kind-requires c κs = tt
 
 beside-contract-requires : tie.Need-beside-contract-requires
-beside-contract-requires c κs = search needs
+beside-contract-requires c κs = tt
 
 returns : tie.Need-returns
 returns c =
@@ -21,7 +20,7 @@ returns c =
     ∙ ap (λ (fs : List Field). unusedBeside fs r) (sym (of-contract r (sym (c .before .before .kind .ensures .0) ∙ c .before .if1 .taken)))
 
 beside-prompt-requires : tie.Need-beside-prompt-requires
-beside-prompt-requires c κs = search needs
+beside-prompt-requires c κs = tt
 
 returns-2 : tie.Need-returns-2
 returns-2 c =
@@ -30,7 +29,7 @@ returns-2 c =
     ∙ ap (λ (fs : List Field). unusedBeside fs r) (sym (of-prompt r (sym (c .before .before .before .kind .ensures .0) ∙ c .before .if2 .taken)))
 
 beside-row-requires : tie.Need-beside-row-requires
-beside-row-requires c κs = search needs
+beside-row-requires c κs = tt
 
 returns-3 : tie.Need-returns-3
 returns-3 c =
@@ -39,7 +38,7 @@ returns-3 c =
     ∙ ap (λ (fs : List Field). unusedBeside fs r) (sym (of-row r (sym (c .before .before .before .before .kind .ensures .0) ∙ c .before .if3 .taken)))
 
 beside-spread-requires : tie.Need-beside-spread-requires
-beside-spread-requires c κs = search needs
+beside-spread-requires c κs = tt
 
 returns-4 : tie.Need-returns-4
 returns-4 c =
@@ -48,7 +47,7 @@ returns-4 c =
     ∙ ap (λ (fs : List Field). unusedBeside fs r) (sym (of-spread r (sym (c .before .before .before .before .before .kind .ensures .0) ∙ c .before .if4 .taken)))
 
 beside-entry-requires : tie.Need-beside-entry-requires
-beside-entry-requires c κs = search needs
+beside-entry-requires c κs = tt
 
 returns-5 : tie.Need-returns-5
 returns-5 c =
@@ -57,7 +56,7 @@ returns-5 c =
     ∙ ap (λ (fs : List Field). unusedBeside fs r) (sym (of-entry r (sym (c .before .before .before .before .before .before .kind .ensures .0) ∙ c .before .if5 .taken)))
 
 beside-none-requires : tie.Need-beside-none-requires
-beside-none-requires c κs = search needs
+beside-none-requires c κs = tt
 
 returns-6 : tie.Need-returns-6
 returns-6 c =

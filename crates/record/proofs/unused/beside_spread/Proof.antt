@@ -1,5 +1,4 @@
 -- `record::unused::beside_spread` meets its contract. Assumes nothing.
-use borrow.Author.Needs.{needs}
 use mathlib.Core.Path.{_≡_, sym, ap, _∙_}
 use borrow.Author.Tests.{eq-eqb, ne-eqb}
 use mathlib.Core.Bool.{true, false}
@@ -9,19 +8,19 @@ use Rattle.record.proofs.unused.beside_spread.Statement.{statement}
 use Rattle.record.proofs.unused.beside_spread.Tie as tie
 
 leg-count-requires : tie.Need-leg-count-requires
-leg-count-requires c κs = search needs
+leg-count-requires c κs = tt
 
 is-set-requires : tie.Need-is-set-requires
-is-set-requires c κs = search needs
+is-set-requires c κs = tt
 
 set-from-requires : tie.Need-set-from-requires
-set-from-requires c κs = search needs
+set-from-requires c κs = tt
 
 is-set-requires-2 : tie.Need-is-set-requires-2
-is-set-requires-2 c κs = search needs
+is-set-requires-2 c κs = tt
 
 set-from-requires-2 : tie.Need-set-from-requires-2
-set-from-requires-2 c κs = search needs
+set-from-requires-2 c κs = tt
 
 returns : tie.Need-returns
 returns c =

@@ -1,10 +1,9 @@
 -- `record::unused::is_set` meets its contract. Assumes nothing.
-use borrow.Author.Needs.{needs}
 use Rattle.record.proofs.unused.is_set.Statement.{statement}
 use Rattle.record.proofs.unused.is_set.Tie as tie
 
 byte-at-requires : tie.Need-byte-at-requires
-byte-at-requires c κs = search needs
+byte-at-requires c κs = tt
 
 returns : tie.Need-returns
 returns c = rw (c .byte-at .ensures .0)

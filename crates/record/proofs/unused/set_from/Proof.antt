@@ -2,7 +2,6 @@
 use Prim.Native.Nat.{_-_}
 use mathlib.Core.Path.{_≡_, refl, sym, _∙_}
 use native.Mathlib.Omega.{arith}
-use borrow.Author.Needs.{needs}
 use Rattle.exact.specs.Lists.{any}
 use Rattle.record.specs.Bytes.{countFrom}
 use Rattle.record.specs.Ranges.{notZero}
@@ -20,7 +19,7 @@ loop-holds : tie.Need-loop-holds Inv-loop μ-loop
 loop-holds c = refl
 
 is-set-requires : tie.Need-is-set-requires Inv-loop μ-loop
-is-set-requires c κs = search needs
+is-set-requires c κs = tt
 
 returns : tie.Need-returns Inv-loop μ-loop
 returns c =

@@ -1,0 +1,194 @@
+-- What is known of an accepted file.
+-- Assumes nothing.
+use Prim.Native.Nat.{ℕ, zero, suc, _+_, _≤_, _<_}
+use mathlib.Core.Path.{_≡_, refl, sym, ap, subst, _∙_}
+use mathlib.Core.Bool.{Bool, true, false, not, _&&_, _||_}
+use mathlib.Core.List.{List, [], _∷_, _++_}
+use lib.ListN.{length, take, drop}
+use lib.Dec.{eqb, leb}
+use native.Mathlib.Omega.{arith}
+use borrow.Author.Tests.{eqb-true, eqb-false, leb-false, ltb-false, not-false}
+use Rattle.exact.specs.Lists.{any, keep, count}
+use Rattle.record.specs.Layout.{Record, kind, contract, day}
+use Rattle.record.specs.Within.{ContractWithin, PromptWithin, RowWithin, SpreadWithin, EntryWithin}
+use Rattle.record.proofs.Tests.{any-append}
+use Rattle.record.proofs.Within.{both-true, neither, contract-within, prompt-within, row-within, spread-within, entry-within}
+use Rattle.account.specs.Accepted.{every, partBytes, Standing, Ranges, Limits, OnePrompt, Accepts}
+use Rattle.account.specs.Answers.{numberOf, recordOf}
+use Rattle.account.specs.Check.{tooLong, checked, none, listsContract, listsDay, overLimit}
+use Rattle.account.specs.Notes.{part, inPart}
+use Rattle.account.specs.Parts.{ofKind, ofContract, onDay, startOf, promptsOf}
+use Rattle.account.specs.Records.{cut, recordAt, records, recordCount, stretch, earlier}
+use Rattle.account.specs.Surveyed.{contractCount, partCount}
+use Rattle.account.specs.declared.answers.Answer.the-variants.{Accepted}
+use Rattle.account.proofs.Days.{days}
+use Rattle.account.proofs.Dispatch.{unlisted-3, over-2, over-3, over-4, over-5}
+use Rattle.account.proofs.Earlier.{cut-more, any-earlier, stretch-cut}
+use Rattle.account.proofs.Every.{every-kept, few, length-kept}
+use Rattle.account.proofs.Exactly.{exactly, faultless}
+use Rattle.account.proofs.Going.{if-accepted}
+use Rattle.account.proofs.Laid.{Faultless, laid, passed-at}
+use Rattle.account.proofs.Lists.{Stretch, any-keep, none-counted}
+use Rattle.account.proofs.Noted.{part-is}
+use Rattle.account.proofs.Own.{own}
+use Rattle.account.proofs.Passed.{Passed, Known, known-of}
+use Rattle.account.proofs.Walk.{length-cut}
+
+-- what one record lists stays listed
+stays : (p : Record → Bool) (file : List ℕ) (k n : ℕ) → k ≤ n → any p (cut k file) ≡ true → any p (cut n file) ≡ true
+stays p file k zero h t =
+    let e : k ≡ 0 = omega arith in
+    subst (λ (m : ℕ). any p (cut m file) ≡ true) e t
+stays p file k (suc n) h t = go (eqb k (suc n)) refl (λ l. stays p file k n l t)
+  where
+    go : (b : Bool) → eqb k (suc n) ≡ b → (k ≤ n → any p (cut n file) ≡ true) → any p (cut (suc n) file) ≡ true
+    go true e f = subst (λ (m : ℕ). any p (cut m file) ≡ true) (eqb-true k (suc n) e) t
+    go false e f =
+        let d = eqb-false k (suc n) e in
+        ap (any p) (cut-more n file) ∙ any-append p (cut n file) (recordAt file n ∷ [])
+        ∙ ap (λ (x : Bool). x || any p (recordAt file n ∷ [])) (f (omega arith))
+
+module _ (file : List ℕ) (ok : checked file ≡ Accepted) where
+  fine : Faultless file (recordCount file)
+  fine =
+      let g = exactly file .accepted .forth (record { number = ap numberOf ok; place = ap recordOf ok }) in
+      faultless file (recordCount file) (g .none)
+
+  short : length (records file) ≤ 640
+  short =
+      let g = exactly file .accepted .forth (record { number = ap numberOf ok; place = ap recordOf ok }) in
+      let l = ltb-false 61440 (length file) (g .long) in
+      omega (arith, length-cut (recordCount file) file)
+
+  at : (k : ℕ) → k < recordCount file → Passed (earlier file k) (recordAt file k)
+  at k h = passed-at file (recordCount file) fine k h
+
+  -- ---- the parts stand in one stretch each
+  stands : (v : ℕ) → v < 81 → records (partBytes file v) ≡ keep (inPart v) (records file)
+  stands v h =
+      let n = recordCount file in
+      let s = laid file n fine .parts v h in
+      let w = s .within in
+      ap (λ (i : ℕ). records (stretch file i (partCount file v))) (if-accepted (checked file) (startOf (inPart v) (records file)) ok)
+      ∙ ap (λ (i : ℕ). records (stretch file (startOf (inPart v) (records file)) i)) (if-accepted (checked file) (count (inPart v) (records file)) ok)
+      ∙ stretch-cut file (startOf (inPart v) (records file)) (count (inPart v) (records file)) n
+      (omega (arith, length-cut n file)) (omega arith)
+      ∙ sym (s .kept)
+
+  part-stands : (n c : ℕ) → n ≤ 4 → c ≤ 15 → records (partBytes file (part n c)) ≡ keep (ofContract n c) (records file)
+  part-stands n c hn hc =
+      stands (part n c) (omega arith) ∙ ap (λ (p : Record → Bool). keep p (records file)) (part-is n c hn hc)
+
+  own-stands : records (stretch file 0 (contractCount file)) ≡ keep (ofKind 1) (records file)
+  own-stands =
+      let n = recordCount file in
+      let o = own file n fine in
+      let w = o .one .within in
+      let b = o .begins in
+      ap (λ (i : ℕ). records (stretch file 0 i)) (if-accepted (checked file) (count (ofKind 1) (records file)) ok)
+      ∙ stretch-cut file 0 (count (ofKind 1) (records file)) n (omega (arith, length-cut n file)) (omega arith)
+      ∙ ap (λ (i : ℕ). take (count (ofKind 1) (records file)) (drop i (records file))) (sym b)
+      ∙ sym (o .one .kept)
+
+  -- ---- ranges
+  kind-of : (n c : ℕ) (r : Record) → ofContract n c r ≡ true → (kind r ≡ n) × (contract r ≡ c)
+  kind-of n c r e =
+      let t = both-true (eqb (kind r) n) (eqb (contract r) c) e in
+      (eqb-true _ _ (t .0), eqb-true _ _ (t .1))
+
+  ranges-hold : Ranges (records file)
+  ranges-hold =
+      let n = recordCount file in
+      record {
+        contracts =
+            every-kept ContractWithin (ofKind 1) file n
+            (λ k h e. contract-within (recordAt file k) (eqb-true _ _ e) (at k h .within));
+        prompts =
+            λ c.
+            every-kept PromptWithin (ofContract 2 c) file n
+            (λ k h e. prompt-within (recordAt file k) (kind-of 2 c (recordAt file k) e .0) (at k h .within));
+        rows =
+            λ c.
+            every-kept RowWithin (ofContract 3 c) file n
+            (λ k h e. row-within (recordAt file k) (kind-of 3 c (recordAt file k) e .0) (at k h .within));
+        spreads =
+            λ c.
+            every-kept SpreadWithin (ofContract 4 c) file n
+            (λ k h e. spread-within (recordAt file k) (kind-of 4 c (recordAt file k) e .0) (at k h .within));
+        entries =
+            every-kept EntryWithin (ofKind 5) file n
+            (λ k h e. entry-within (recordAt file k) (eqb-true _ _ e) (at k h .within));
+      }
+
+  -- ---- limits
+  part-few :
+      (n c most : ℕ)
+      → ((es : List Record) (r : Record) → kind r ≡ n → overLimit es r ≡ leb most (count (ofContract n (contract r)) es))
+      → length (keep (ofContract n c) (records file)) ≤ most
+  part-few n c most law =
+      let m = recordCount file in
+      omega (
+        arith,
+        length-kept (ofContract n c) (records file),
+        few (ofContract n c) file most m (λ k h e.
+            let r = recordAt file k in
+            let i = kind-of n c r e in
+            let room = leb-false most (count (ofContract n (contract r)) (earlier file k)) (sym (law (earlier file k) r (i .0)) ∙ at k h .room) in
+            subst (λ (d : ℕ). count (ofContract n d) (earlier file k) < most) (i .1) room),
+      )
+
+  limits-hold : Limits (records file)
+  limits-hold =
+      let m = recordCount file in
+      record {
+        all = short;
+        contracts = omega (arith, length-kept (ofKind 1) (records file), own file m fine .most);
+        prompts = λ c. part-few 2 c 32 over-2;
+        rows = λ c. part-few 3 c 128 over-3;
+        spreads = λ c. part-few 4 c 32 over-4;
+        entries =
+            omega (
+              arith,
+              length-kept (ofKind 5) (records file),
+              few (ofKind 5) file 32 m (λ k h e.
+                  leb-false 32 (count (ofKind 5) (earlier file k))
+                  (sym (over-5 (earlier file k) (recordAt file k) (eqb-true _ _ e)) ∙ at k h .room)),
+            );
+      }
+
+  -- ---- every row has its prompt
+  one-prompt : OnePrompt (records file)
+  one-prompt c =
+      let n = recordCount file in
+      every-kept (λ r. count (onDay (day r)) (promptsOf c (records file)) ≡ 1) (ofContract 3 c) file n
+      (λ k h e.
+      let r = recordAt file k in
+      let i = kind-of 3 c r e in
+      let p = at k h in
+      let hc = known-of r p .contracts in
+      let u = neither (none (listsContract (contract r)) (earlier file k)) (none (listsDay (contract r) (day r)) (earlier file k))
+      (sym (unlisted-3 (earlier file k) r (i .0)) ∙ p .listed) .1 in
+      let there = sym (any-earlier (listsDay (contract r) (day r)) file k) ∙ not-false _ u in
+      let whole = stays (listsDay (contract r) (day r)) file k n (omega arith) there in
+      let some : any (onDay (day r)) (promptsOf (contract r) (records file)) ≡ true =
+      any-keep (ofContract 2 (contract r)) (onDay (day r)) (records file) ∙ whole in
+      let counted = eqb-false (count (onDay (day r)) (promptsOf (contract r) (records file))) 0
+      (none-counted (onDay (day r)) (promptsOf (contract r) (records file)) ∙ ap not some) in
+      let once = days file (contract r) hc n fine .once (day r) in
+      subst (λ (d : ℕ). count (onDay (day r)) (promptsOf d (records file)) ≡ 1) (i .1) (omega arith))
+
+  pub accepts : Accepts file
+  accepts =
+      record {
+        standing =
+            record {
+              contracts = own-stands;
+              prompts = λ c h. part-stands 2 c (omega arith) h;
+              rows = λ c h. part-stands 3 c (omega arith) h;
+              spreads = λ c h. part-stands 4 c (omega arith) h;
+              entries = stands 80 (omega arith);
+            };
+        ranges = ranges-hold;
+        limits = limits-hold;
+        onePrompt = one-prompt;
+      }

@@ -1,0 +1,54 @@
+-- What is known of an accepted file: its parts stand in one stretch each, every field is within its range, the limits hold,
+-- and every row belongs to exactly one prompt of its contract.
+-- Assumes nothing.
+use Prim.Native.Nat.{ℕ, _≤_}
+use mathlib.Core.Path.{_≡_}
+use mathlib.Core.List.{List, [], _∷_}
+use lib.ListN.{length}
+use Rattle.exact.specs.Lists.{count}
+use Rattle.record.specs.Layout.{Record, day}
+use Rattle.record.specs.Within.{ContractWithin, PromptWithin, RowWithin, SpreadWithin, EntryWithin}
+use Rattle.account.specs.Notes.{part, entryPart}
+use Rattle.account.specs.Parts.{onDay, contractsOf, promptsOf, rowsOf, spreadsOf, entriesOf}
+use Rattle.account.specs.Records.{records, stretch}
+use Rattle.account.specs.Surveyed.{contractCount, partStart, partCount}
+
+abbrev pub every : (Record → Type 0) → List Record → Type 0
+every P [] = Unit
+every P (r ∷ rs) = P r × every P rs
+
+-- the bytes of a part, from what the check hands out
+abbrev pub partBytes : List ℕ → ℕ → List ℕ
+partBytes file v = stretch file (partStart file v) (partCount file v)
+
+pub record Standing (file : List ℕ) : Type 0 where
+  pub contracts : records (stretch file 0 (contractCount file)) ≡ contractsOf (records file)
+  pub prompts : (c : ℕ) → c ≤ 15 → records (partBytes file (part 2 c)) ≡ promptsOf c (records file)
+  pub rows : (c : ℕ) → c ≤ 15 → records (partBytes file (part 3 c)) ≡ rowsOf c (records file)
+  pub spreads : (c : ℕ) → c ≤ 15 → records (partBytes file (part 4 c)) ≡ spreadsOf c (records file)
+  pub entries : records (partBytes file entryPart) ≡ entriesOf (records file)
+
+pub record Ranges (rs : List Record) : Type 0 where
+  pub contracts : every ContractWithin (contractsOf rs)
+  pub prompts : (c : ℕ) → every PromptWithin (promptsOf c rs)
+  pub rows : (c : ℕ) → every RowWithin (rowsOf c rs)
+  pub spreads : (c : ℕ) → every SpreadWithin (spreadsOf c rs)
+  pub entries : every EntryWithin (entriesOf rs)
+
+pub record Limits (rs : List Record) : Type 0 where
+  pub all : length rs ≤ 640
+  pub contracts : length (contractsOf rs) ≤ 16
+  pub prompts : (c : ℕ) → length (promptsOf c rs) ≤ 32
+  pub rows : (c : ℕ) → length (rowsOf c rs) ≤ 128
+  pub spreads : (c : ℕ) → length (spreadsOf c rs) ≤ 32
+  pub entries : length (entriesOf rs) ≤ 32
+
+-- no row is left out and none is taken twice
+abbrev pub OnePrompt : List Record → Type 0
+OnePrompt rs = (c : ℕ) → every (λ r. count (onDay (day r)) (promptsOf c rs) ≡ 1) (rowsOf c rs)
+
+pub record Accepts (file : List ℕ) : Type 0 where
+  pub standing : Standing file
+  pub ranges : Ranges (records file)
+  pub limits : Limits (records file)
+  pub onePrompt : OnePrompt (records file)

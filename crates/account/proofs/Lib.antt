@@ -14,3 +14,4 @@ pub mod Every
 pub mod Own
 pub mod Days
 pub mod Accepted
+pub mod Orders

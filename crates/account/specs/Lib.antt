@@ -6,3 +6,4 @@ pub mod Notes
 pub mod Surveyed
 pub mod Claims
 pub mod Accepted
+pub mod Orders

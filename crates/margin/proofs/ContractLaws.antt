@@ -78,7 +78,7 @@ module _ (own : Record) (prompts rows spreads : List Record) (w : ContractWithin
   sizes-within : sizes ps ≤ mostDelta
   sizes-within =
       subst⁻¹ (λ (x : List Open). sizes x ≤ mostDelta) nets-are
-      (le-trans (opens-sizes prompts (netDeltas prompts rows)) (net-sizes-most prompts rows (w .rising) (w .rows-within)))
+      (le-trans (opens-sizes prompts (netDeltas prompts rows)) (net-sizes-most prompts rows (w .one-day) (w .rows-within)))
 
   -- the net delta of the contract
   pub net-is : sumℤ nets ≡ contractNet k
@@ -87,7 +87,7 @@ module _ (own : Record) (prompts rows spreads : List Record) (w : ContractWithin
   pub net-sizes : sum (map natAbs nets) ≤ mostDelta
   net-sizes =
       subst⁻¹ (λ (n : ℕ). n ≤ mostDelta) (size-zeros (length prompts) nets (is .nets-beyond) ∙ ap (λ (zs : List ℤ). sum (map natAbs zs)) (is .nets-are))
-      (net-sizes-most prompts rows (w .rising) (w .rows-within))
+      (net-sizes-most prompts rows (w .one-day) (w .rows-within))
 
   number-most : (j : ℕ) → getD (numbers ss ps) j 0 ≤ mostDelta
   number-most j = le-trans (number-within ss ps j) sizes-within

@@ -25,7 +25,7 @@ use Rattle.spread.proofs.Demand3.{one-per-step}
 use Rattle.spread.proofs.Filling.{entries-at}
 use Rattle.margin.specs.Bounds.{mostDelta}
 use Rattle.margin.specs.Deltas.{opens, interprompt, netDeltas}
-use Rattle.margin.specs.Position.{Within, Rising}
+use Rattle.margin.specs.Position.{Within, OneDay}
 use Rattle.margin.specs.Sums.{deltasIn, spreadsAt, deltaAt, SpreadsWithin, PromptsWithin}
 use Rattle.margin.specs.Within.{PromptWithin, SpreadWithin, ContractWithin}
 use Rattle.margin.proofs.NetLaws.{net-sizes-most}

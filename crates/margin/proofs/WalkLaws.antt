@@ -13,7 +13,7 @@ use Rattle.account.specs.Records.{cut, records}
 use Rattle.margin.specs.Scanning.{total}
 use Rattle.margin.specs.Deltas.{rowDelta}
 use Rattle.margin.specs.Margin.{shortOptions, shortLots}
-use Rattle.margin.specs.Position.{Within, AtMost, Added, products, onDay, netOn}
+use Rattle.margin.specs.Position.{Within, AtMost, Added, products, addsOn, netOn}
 use Rattle.margin.proofs.AddedLaws.{nothing-added, twice, at-most-added, at-most-wider}
 use Rattle.margin.proofs.PositionLaws.{total-append, total-one, net-append, net-one, shorts-append}
 use Rattle.margin.proofs.PositionBounds.{total-most, net-most, short-lots-most, each-take}
@@ -35,7 +35,7 @@ module _ (rows : List Record) (count : ℕ) (days : List ℕ) (ts ns : List ℤ)
         shorts-so-far = omega arith;
       }
 
-  pub next : (i : ℕ) (us ms us′ ms′ : List ℤ) (v v′ : ℕ) (row : Record) → SoFar rows count days ts ns u i us ms v → i < length rows → getD rows i [] ≡ row → Added 16 (products row) us us′ → Added count (onDay days (day row) (rowDelta row)) ms ms′ → v′ ≡ v + shortOptions row → SoFar rows count days ts ns u (i + 1) us′ ms′ v′
+  pub next : (i : ℕ) (us ms us′ ms′ : List ℤ) (v v′ : ℕ) (row : Record) → SoFar rows count days ts ns u i us ms v → i < length rows → getD rows i [] ≡ row → Added 16 (products row) us us′ → Added count (addsOn days (day row) (rowDelta row)) ms ms′ → v′ ≡ v + shortOptions row → SoFar rows count days ts ns u (i + 1) us′ ms′ v′
   next i us ms us′ ms′ v v′ row s h e t n o =
       let passed : take i rows ++ row ∷ [] ≡ take (i + 1) rows =
       ap (λ (r : Record). take i rows ++ r ∷ []) (sym e) ∙ sym (take-suc rows i [] h) ∙ ap (λ (m : ℕ). take m rows) (sym (add-one i)) in
@@ -49,7 +49,7 @@ module _ (rows : List Record) (count : ℕ) (days : List ℕ) (ts ns : List ℤ)
             ∙ ap (λ (rs : List Record). total rs (k + 1)) passed)
             (s .totals-so-far) t;
         nets-so-far =
-            twice count (λ j. netOn (take i rows) (getD days j 0)) (onDay days (day row) (rowDelta row)) (λ j. netOn (take (i + 1) rows) (getD days j 0)) ns ms ms′
+            twice count (λ j. netOn (take i rows) (getD days j 0)) (addsOn days (day row) (rowDelta row)) (λ j. netOn (take (i + 1) rows) (getD days j 0)) ns ms ms′
             (λ j l.
             ap (λ (z : ℤ). netOn (take i rows) (getD days j 0) +ℤ z) (net-one row (getD days j 0))
             ∙ sym (net-append (take i rows) (row ∷ []) (getD days j 0))

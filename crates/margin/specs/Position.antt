@@ -9,6 +9,8 @@ use lib.IntN.{ℤ, pos, natAbs, _+ℤ_}
 use lib.ListN.{length, getD, take}
 use Rattle.exact.specs.Lists.{keep, sumℤ}
 use Rattle.record.specs.Layout.{Record, lots, delta, value, loss, day}
+use Rattle.exact.specs.Lists.{count}
+use Rattle.account.specs.Parts.{onDay}
 use Rattle.spread.specs.declared.Delta.{Delta}
 use Rattle.margin.specs.declared.rows.Days.{Days}
 use Rattle.margin.specs.declared.rows.Position.{Position}
@@ -56,8 +58,8 @@ abbrev pub products : Record → ℕ → ℤ
 products row k = product (k + 1) row
 
 -- what a row of a day adds to the net delta of each prompt, by the prompts' days
-abbrev pub onDay : List ℕ → ℕ → ℤ → ℕ → ℤ
-onDay days d more j = cond (eqb d (getD days j 0)) more (pos 0)
+abbrev pub addsOn : List ℕ → ℕ → ℤ → ℕ → ℤ
+addsOn days d more j = cond (eqb d (getD days j 0)) more (pos 0)
 
 -- the days of prompts
 pub record DaysOf (prompts : List Record) (d : Days) : Type 0 where
@@ -85,6 +87,6 @@ pub record WithRows (days : Days) (p : Position) (rows : List Record) (q : Posit
   pub nets-added : Added (days .count) (λ j. netOn rows (getD (days .day) j 0)) (deltasOf (p .nets)) (deltasOf (q .nets))
   pub shorts-added : q .shorts ≡ p .shorts + shortLots rows
 
--- "a prompt whose (contract, day) is not above the one before" is refused: within a contract the days rise
-pub record Rising (prompts : List Record) : Type 0 where
-  pub above : (k : ℕ) → suc k < length prompts → day (getD prompts k []) < day (getD prompts (suc k) [])
+-- each row is of the day of one prompt at most
+abbrev pub OneDay : List Record → List Record → Type 0
+OneDay prompts rows = (k : ℕ) → k < length rows → count (onDay (day (getD rows k []))) prompts ≤ 1

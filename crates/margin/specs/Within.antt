@@ -9,7 +9,7 @@ use Rattle.record.specs.Layout.{Record, contract, shortOptionRate, tier, spread
 use Rattle.spread.specs.Accepted.{soundSpread}
 use Rattle.margin.specs.Bounds.{mostRate}
 use Rattle.margin.specs.Deltas.{interprompt, intercontract}
-use Rattle.margin.specs.Position.{Within, Rising}
+use Rattle.margin.specs.Position.{Within, OneDay}
 
 pub record PromptWithin (p : Record) : Type 0 where
   pub tier-within : tier p < 16
@@ -26,7 +26,7 @@ pub record ContractWithin (own : Record) (prompts rows spreads : List Record) : 
   pub few-prompts : length prompts ≤ 32
   pub few-spreads : length spreads ≤ 32
   pub each-prompt : (k : ℕ) → k < length prompts → PromptWithin (getD prompts k [])
-  pub rising : Rising prompts
+  pub one-day : OneDay prompts rows
   pub rows-within : Within rows
   pub each-spread : (k : ℕ) → k < length spreads → SpreadWithin (getD spreads k [])
 

@@ -12,7 +12,7 @@ use Rattle.record.specs.Layout.{Record, day}
 use Rattle.account.specs.Records.{records}
 use Rattle.margin.specs.declared.rows.Position.{Position}
 use Rattle.margin.specs.Deltas.{rowDelta}
-use Rattle.margin.specs.Position.{RowWithin, Added, WithRows, Bounded, onDay, deltasOf}
+use Rattle.margin.specs.Position.{RowWithin, Added, WithRows, Bounded, addsOn, deltasOf}
 use Rattle.margin.proofs.AddedLaws as adding
 use Rattle.margin.proofs.RecordLaws.{count-is, record-at}
 use Rattle.margin.proofs.PositionLaws.{joined}
@@ -26,7 +26,7 @@ most p b = record { totals-most = b .totals-most; nets-most = b .nets-most; shor
 
 abbrev Inv-loop2 : tie.InvT-loop2
 Inv-loop2 rows days count prompts totals nets₀ shorts i at of-row more j₀ nets j =
-    (j ≤ days .count) × Added j (onDay (days .day) of-row (more .0)) (deltasOf nets₀) (deltasOf nets)
+    (j ≤ days .count) × Added j (addsOn (days .day) of-row (more .0)) (deltasOf nets₀) (deltasOf nets)
 
 abbrev μ-loop2 : tie.MeasureT-loop2
 μ-loop2 rows days count prompts totals nets₀ shorts i at of-row more j₀ nets j = days .count - j
@@ -95,7 +95,7 @@ row-delta-requires c κs = row-within (c .before .before .before .before)
 loop2-holds : tie.Need-loop2-holds Inv-loop2 μ-loop2 Inv-loop μ-loop
 loop2-holds c =
     let s = c .before .before .before .before .before .before .before .before .before .before in
-    (omega arith, adding.start (onDay (s .args .t2 .day) (c .before .day .result) (c .row-delta .result .0)) (deltasOf (c .before .before .before .before .before .before .loop .nets)))
+    (omega arith, adding.start (addsOn (s .args .t2 .day) (c .before .day .result) (c .row-delta .result .0)) (deltasOf (c .before .before .before .before .before .before .loop .nets)))
 
 mul-net-with : tie.Need-mul-net-with Inv-loop2 μ-loop2 Inv-loop μ-loop
 mul-net-with c = omega (arith, c .before .before .before .before .before .before .before .before .before .before .before .before .pre .0)
@@ -136,7 +136,7 @@ loop2-again c =
     let s = c .before .before .before .before .before .before .before .before .before .before .before .before .before .before .before in
     let i = c .before .before .before .before .before .before .before .before .before .before .before .loop in
     let k = c .before .before .before .before .loop2 in
-    let more = onDay (s .args .t2 .day) (c .before .before .before .before .before .before .day .result) (c .before .before .before .before .before .row-delta .result .0) in
+    let more = addsOn (s .args .t2 .day) (c .before .before .before .before .before .before .day .result) (c .before .before .before .before .before .row-delta .result .0) in
     let same : getD (k .nets) (k .j) (record { 0 = pos 0 }) .0 ≡ getD (deltasOf (i .nets)) (k .j) (pos 0) = sym (adding.delta-at (k .nets) (k .j)) ∙ k .inv .1 .others (k .j) (omega arith) in
     let few : k .j < 32 = omega (arith, s .pre .0) in
     let places : length (deltasOf (i .nets)) ≡ 32 = has-room (c .before .before .before .before .before .before .before .before .before .before) .nets-most .as-many in (
@@ -165,9 +165,9 @@ loop-again c =
     (i .i) (i .totals .0) (deltasOf (i .nets)) (c .before .before .before .before .before .totals-with .result .0) (deltasOf (k .nets)) (i .shorts) _ row
     (i .inv) (omega (arith, count-is file)) (record-at file (i .i) turn)
     (c .before .before .before .before .before .totals-with .ensures)
-    (subst (λ (n : ℕ). Added n (onDay days (day row) (rowDelta row)) (deltasOf (i .nets)) (deltasOf (k .nets))) all
-    (subst (λ (d : ℕ). Added (k .j) (onDay days d (rowDelta row)) (deltasOf (i .nets)) (deltasOf (k .nets))) (c .before .before .before .day .ensures .0)
-    (subst (λ (z : ℤ). Added (k .j) (onDay days (c .before .before .before .day .result) z) (deltasOf (i .nets)) (deltasOf (k .nets))) (c .before .before .row-delta .ensures .is)
+    (subst (λ (n : ℕ). Added n (addsOn days (day row) (rowDelta row)) (deltasOf (i .nets)) (deltasOf (k .nets))) all
+    (subst (λ (d : ℕ). Added (k .j) (addsOn days d (rowDelta row)) (deltasOf (i .nets)) (deltasOf (k .nets))) (c .before .before .before .day .ensures .0)
+    (subst (λ (z : ℤ). Added (k .j) (addsOn days (c .before .before .before .day .result) z) (deltasOf (i .nets)) (deltasOf (k .nets))) (c .before .before .row-delta .ensures .is)
     (k .inv .1))))
     (ap (λ (n : ℕ). i .shorts + n) (c .before .before .before .before .short-options .ensures))
 

@@ -50,7 +50,7 @@ module _ (file : List ℕ) (ok : checked file ≡ Accepted) where
   at k h = passed-at file (recordCount file) fine k h
 
   -- the contracts are the first records
-  contract-at : (k : ℕ) → k < length (contractsOf (records file)) → (getD (contractsOf (records file)) k [] ≡ recordAt file k) × (k < recordCount file)
+  pub contract-at : (k : ℕ) → k < length (contractsOf (records file)) → (getD (contractsOf (records file)) k [] ≡ recordAt file k) × (k < recordCount file)
   contract-at k h =
       let n = recordCount file in
       let o = own file n fine in

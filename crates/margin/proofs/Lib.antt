@@ -19,3 +19,6 @@ pub mod TableLaws
 pub mod WalkLaws
 pub mod NumberLaws
 pub mod FigureLaws
+pub mod AcceptLaws
+pub mod StandLaws
+pub mod AccountLaws

@@ -20,3 +20,4 @@ pub mod Within
 pub mod Promised
 pub mod Table
 pub mod Numbers
+pub mod Stands

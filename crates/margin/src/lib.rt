@@ -1,4 +1,5 @@
 // Margin from an account: figures and delta books.
+pub mod accepted;
 pub mod amount;
 mod books;
 mod charges;

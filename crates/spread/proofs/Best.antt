@@ -18,12 +18,16 @@ use Rattle.spread.specs.Steps.{Market, long, short, Open, Taker, pool, r
 use Rattle.spread.proofs.Both.{and-left, and-right}
 use Rattle.spread.proofs.Spending.{draws-market, draws-tier, pool-after}
 
--- The two laws of room and use.
+-- A number fits a pool at a ratio: its use is within the pool. The two laws of room and use say that the room is the most that
+-- fits, and nothing below looks further into either.
 
-pub room-fits : (x p ratio : ℕ) → 0 < ratio → x ≤ room p ratio → useOf x ratio ≤ p
+abbrev pub Fits : ℕ → ℕ → ℕ → Type 0
+Fits x p ratio = useOf x ratio ≤ p
+
+pub room-fits : (x p ratio : ℕ) → 0 < ratio → x ≤ room p ratio → Fits x p ratio
 room-fits x p ratio h le = le-div-iff-mul-le h .0 le
 
-pub fits-room : (x p ratio : ℕ) → 0 < ratio → useOf x ratio ≤ p → x ≤ room p ratio
+pub fits-room : (x p ratio : ℕ) → 0 < ratio → Fits x p ratio → x ≤ room p ratio
 fits-room x p ratio h le = le-div-iff-mul-le h .1 le
 
 pub beyond-room : (x p ratio : ℕ) → 0 < ratio → room p ratio < x → p < useOf x ratio
@@ -33,7 +37,7 @@ beyond-room x p ratio h lt = div-lt-iff-lt-mul h .0 lt
 
 abbrev pub Within : List Taker → ℕ → List Open → Type 0
 Within [] x ps = Unit {0}
-Within (k ∷ ks) x ps = (useOf x (k .ratio) ≤ pool (k .market) (k .tier) ps) × Within ks x ps
+Within (k ∷ ks) x ps = Fits x (pool (k .market) (k .tier) ps) (k .ratio) × Within ks x ps
 
 abbrev pub Stepwise : List (List Taker) → List ℕ → List Open → Type 0
 Stepwise [] [] ps = Unit {0}
@@ -154,11 +158,11 @@ legs-within : (x : ℕ) (ks : List Taker) (ps : List Open) → ((m : Market) (t 
 legs-within x [] ps h = tt
 legs-within x (k ∷ ks) ps h = (own, legs-within x ks ps (λ m t. rest (legUse m t x k) (h m t)))
   where
-    own : useOf x (k .ratio) ≤ pool (k .market) (k .tier) ps
-    own = rest' (stepUse (k .market) (k .tier) ks x) (rw (draws-itself k) at (h (k .market) (k .tier)))
+    own : Fits x (pool (k .market) (k .tier) ps) (k .ratio)
+    own = first (stepUse (k .market) (k .tier) ks x) (rw (draws-itself k) at (h (k .market) (k .tier)))
       where
-        rest' : (b : ℕ) {a p : ℕ} → a + b ≤ p → a ≤ p
-        rest' b h = omega arith
+        first : (b : ℕ) {a p : ℕ} → a + b ≤ p → a ≤ p
+        first b h = omega arith
 
     rest : (a : ℕ) {b p : ℕ} → a + b ≤ p → b ≤ p
     rest a h = omega arith

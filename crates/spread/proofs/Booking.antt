@@ -1,5 +1,5 @@
--- Pools, a run on them and one spend give the steps' numbers and the prompts' used and unused deltas; and the promise of a book
--- leaves no choice.
+-- Pools, a run on them and one spend give the steps' numbers and the prompts' used and unused deltas; and the promises of a
+-- take and of a book leave no choice.
 -- Assumes nothing.
 use Prim.Native.Nat.{ℕ, _+_, _*_}
 use native.Mathlib.Omega.{arith}
@@ -11,15 +11,16 @@ use lib.ListN.{replicate}
 use borrow.Author.Tests.{ltb-true, ltb-false}
 use Rattle.spread.specs.Accepted.{openOf, spreadsOf, stepsOf, sound}
 use Rattle.spread.specs.Book.{numbersOf, usedIn, unusedIn, entries, spreadsEntry, deltaEntry, Booked, Refused, Run, Wanted, Spent}
-use Rattle.spread.specs.Cells.{cellOf, cellAt, Pooled, numbersIn}
+use Rattle.spread.specs.Cells.{cellOf, cellAt, Pooled, numbersIn, Taken}
 use Rattle.spread.specs.Demand.{totalUse, Demand3}
 use Rattle.spread.specs.Spend.{spend, deltas}
-use Rattle.spread.specs.Steps.{Market, Open, pool, numbers, left, minus, usedOf, unusedOf}
+use Rattle.spread.specs.Steps.{Market, Open, Taker, pool, numbers, left, minus, usedOf, unusedOf}
 use Rattle.spread.specs.declared.Delta.{Delta}
 use Rattle.spread.specs.declared.Prompts.{Prompts}
 use Rattle.spread.specs.declared.Spreads.{Spreads}
 use Rattle.spread.specs.declared.Table.{Table}
 use Rattle.spread.specs.declared.book.Book.{Book}
+use Rattle.spread.specs.declared.pools.Took.{Took}
 use Rattle.spread.proofs.Demand3.{demand3-accepted}
 use Rattle.spread.proofs.Filling.{filled-none, filled-all}
 use Rattle.spread.proofs.Paying.{noDelta}
@@ -27,7 +28,16 @@ use Rattle.spread.proofs.Pooling.{cell-small, no-cell, pooled-numbers, 
 use Rattle.spread.proofs.Running.{noSpreads}
 use Rattle.spread.proofs.Spending.{left-spend, pool-spend, spend-same}
 
--- two books that the promise allows are the same
+-- two takes that the promise allows are the same, and two books
+pub took-one : (ks : List Taker) (cells : List ℕ) (r s : Took) → Taken ks cells (r .left .cell) (r .number .0) → Taken ks cells (s .left .cell) (s .number .0)
+    → r ≡ s
+took-one ks cells r s a b =
+    λ i.
+    record {
+      left = record { cell = (a .leaves ∙ sym (b .leaves)) i };
+      number = record { 0 = (a .formed ∙ sym (b .formed)) i };
+    }
+
 pub booked-one : (p : Prompts) (t : Table) (r s : Book) → Booked p t r → Booked p t s → r ≡ s
 booked-one p t r s a b =
     λ i.

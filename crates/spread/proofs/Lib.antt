@@ -4,6 +4,7 @@ pub mod Both
 pub mod Demand3
 pub mod Every
 pub mod Filling
+pub mod Gathering
 pub mod Legs
 pub mod Parts
 pub mod Paying

@@ -17,7 +17,7 @@ ghost use lib.IntN.{_-ℤ_};
 ghost use Rattle.spread.specs.Steps.{towardsZero};
 ghost use Rattle.spread.specs.Accepted.{openOf, spreadsOf, soundPrompts};
 ghost use Rattle.spread.specs.Cells.{Pooled};
-ghost use Rattle.spread.specs.Book.{Booked, Refused, Run, Wanted, Spent};
+ghost use Rattle.spread.specs.Book.{Booked, Refused, Placed, Run, Wanted, Spent};
 
 // Spread k formed first[k] in its first step and second[k] in its second; used[k] and unused[k] are the parts of prompt k's
 // net delta. All are zero beyond the spreads and prompts given, and where these are not accepted.
@@ -48,6 +48,24 @@ struct Paid {
     unused: [Delta; 32],
 }
 
+// A prompt's net delta, and the pool of its tier and side.
+struct Due {
+    net: Delta,
+    cell: usize,
+}
+
+fn due_at(prompts: Prompts, k: usize) -> Due
+    requires { ⌜ (soundPrompts prompts ≡ true) × (k < prompts .count) ⌝ }
+    ensures { λ r. ⌜ Placed (openOf prompts) k (r .net .0) (r .cell) ⌝ }
+{
+    let net = prompts.net[k];
+    let cell = cell_of(prompts.tier[k], net.is_short());
+    Due {
+        net: net,
+        cell: cell,
+    }
+}
+
 // A pool with a net delta added to it.
 fn grown(pools: Pools, cell: usize, size: u64) -> Pools
     requires { ⌜ getD (pools .cell) cell 0 + size < 2 ^ 64 ⌝ }
@@ -65,8 +83,9 @@ fn pools_of(prompts: Prompts) -> Pools
     let mut pools = Pools::none();
     let mut i = 0;
     while i < n {
-        let net = prompts.net[i];
-        let cell = cell_of(prompts.tier[i], net.is_short());
+        let due = due_at(prompts, i);
+        let cell = due.cell;
+        let net = due.net;
         let more = grown(pools, cell, net.size());
         pools = more;
         i += 1;
@@ -147,8 +166,9 @@ fn paid_by(prompts: Prompts, wanted: Pools) -> Paid
     let mut unused = [Delta(0); 32];
     let mut k = 0;
     while k < n {
-        let net = prompts.net[k];
-        let cell = cell_of(prompts.tier[k], net.is_short());
+        let due = due_at(prompts, k);
+        let cell = due.cell;
+        let net = due.net;
         let parts = parts_of(net, left.at(cell));
         let taken = parts.used;
         let kept = parts.unused;

@@ -1,0 +1,216 @@
+-- The lines of an accepted account's contracts, the intercontract table over them, credits and figures.
+-- Assumes nothing.
+use Prim.Native.Nat.{ℕ, zero, suc, _+_, _-_, _*_, _≤_, _<_, zero-le, suc-le-suc}
+use native.Mathlib.Nat.{le-trans, le-of-suc-le-suc, not-suc-le-zero, mul-le-mul-right}
+use native.Mathlib.Decide.{ℕ-discrete}
+use native.Mathlib.Omega.{arith}
+use mathlib.Core.Path.{_≡_, refl, sym, ap, ap₂, _∙_, subst, subst⁻¹}
+use mathlib.Core.List.{List, [], _∷_, map}
+use lib.IntN.{ℤ, pos, natAbs}
+use lib.ListN.{length, getD, take, drop, set, length-set, length-map, length-take}
+use lib.Seq.{getD-set-same, getD-set-other, getD-take, length-take-le}
+use Rattle.exact.proofs.Lists.{getD-map}
+use Rattle.record.specs.Layout.{Record, contract, percent}
+use Rattle.account.specs.Parts.{contractsOf, entriesOf}
+use Rattle.account.specs.Records.{records, stretch}
+use Rattle.account.specs.declared.check.Survey.{Survey}
+use Rattle.spread.specs.Book.{entries, spreadsEntry}
+use Rattle.spread.specs.Steps.{Open, steps, numbers}
+use Rattle.spread.specs.declared.Spreads.{Spreads}
+use Rattle.spread.specs.declared.book.Book.{Book}
+use Rattle.spread.proofs.Filling.{entries-at}
+use Rattle.margin.specs.declared.accepted.Lines.{Lines}
+use Rattle.margin.specs.declared.amount.Amount.{Amount}
+use Rattle.margin.specs.declared.line.Line.{Line}
+use Rattle.margin.specs.Bounds.{mostDelta, mostRisk}
+use Rattle.margin.specs.Contract.{Contract, contracts, partsIn, asTier, contractNet, creditOf}
+use Rattle.margin.specs.Credit.{credit, creditsBy, entryUse, unusedBy, twicePriceRisk}
+use Rattle.margin.specs.Within.{EntriesWithin}
+use Rattle.margin.specs.Deltas.{intercontract}
+use Rattle.margin.specs.Figures.{figures, figuresOver}
+use Rattle.margin.specs.Lines.{noLine, figuresFrom}
+use Rattle.margin.specs.Numbers.{LinesWithin}
+use Rattle.margin.specs.Promised.{BookOf, LineOf}
+use Rattle.margin.specs.Stands.{Stands, LinesOf}
+use Rattle.margin.specs.Sums.{interleaved, spreadsAt, EntriesRoom}
+use Rattle.margin.specs.Table.{tierOf, TableRoom, CreditsRoom, CreditsOf, earns}
+use Rattle.margin.proofs.AcceptLaws.{entries-within, numbers-rise}
+use Rattle.margin.proofs.BookLaws.{over-arrays}
+use Rattle.margin.proofs.CreditLaws.{credits-by}
+use Rattle.margin.proofs.FigureLaws.{Lined, Apart, Credited, tiers-are, tiers-sound, tier-sizes, unused-is, entry-use-within, figures-are}
+use Rattle.margin.proofs.LineLaws.{numbers-length, first-within}
+use Rattle.margin.proofs.StandLaws.{contracts-are, entries-stand}
+use Rattle.margin.proofs.StepBounds.{sizes, number-within}
+
+-- ---- lines, filled place by place
+
+pub record LinedTo (file : List ℕ) (i : ℕ) (ls : List Line) : Type 0 where
+  pub places : length ls ≡ 16
+  pub each : (j : ℕ) → j < i → LineOf (partsIn (records file) (getD (contractsOf (records file)) j [])) (getD ls j noLine)
+
+pub lined-next : (file : List ℕ) (i : ℕ) (ls : List Line) (l : Line) → LinedTo file i ls → i < 16 → LineOf (partsIn (records file) (getD (contractsOf (records file)) i [])) l → LinedTo file (i + 1) (set ls i l)
+lined-next file i ls l is h e =
+    record { places = rw length-set (is .places); each = λ j k. go j k (ℕ-discrete j i) }
+  where
+    go : (j : ℕ) → j < i + 1 → Dec (j ≡ i) → LineOf (partsIn (records file) (getD (contractsOf (records file)) j [])) (getD (set ls i l) j noLine)
+    go j k (yes q) =
+        subst⁻¹ (λ (n : ℕ). LineOf (partsIn (records file) (getD (contractsOf (records file)) n [])) (getD (set ls i l) n noLine)) q
+        (subst⁻¹ (LineOf (partsIn (records file) (getD (contractsOf (records file)) i []))) (getD-set-same ls i l noLine (omega (arith, is .places))) e)
+    go j k (no q) =
+        subst⁻¹ (LineOf (partsIn (records file) (getD (contractsOf (records file)) j []))) (getD-set-other ls i j l noLine q) (is .each j (omega (arith, q)))
+
+-- ---- from places to lists
+
+lined-from : (ks : List Contract) (d : Contract) (ls : List Line) → length ks ≤ length ls → ((i : ℕ) → i < length ks → LineOf (getD ks i d) (getD ls i noLine)) → Lined ks (take (length ks) ls)
+lined-from [] d ls h e = tt
+lined-from (k ∷ ks) d [] h e = absurd (not-suc-le-zero h)
+lined-from (k ∷ ks) d (l ∷ ls) h e = (e 0 (suc-le-suc zero-le), lined-from ks d ls (le-of-suc-le-suc h) (λ i m. e (suc i) (suc-le-suc m)))
+
+apart-from : (ls : List Line) → ((i j : ℕ) → i < j → j < length ls → getD (map (λ l. l .contract) ls) i 0 < getD (map (λ l. l .contract) ls) j 0) → Apart ls
+apart-from [] h = tt
+apart-from (l ∷ ls) h =
+    (λ k m e. let a = h 0 (suc k) (suc-le-suc zero-le) (suc-le-suc m) in omega arith, apart-from ls (λ i j k m. h (suc i) (suc j) (suc-le-suc k) (suc-le-suc m)))
+
+credited-from : (es : List Record) (table : List Open) (ks : List Contract) (d : Contract) (cs : List Amount) → length ks ≤ length cs → ((i : ℕ) → i < length ks → getD cs i (record { 0 = 0 }) .0 ≡ creditOf es table (getD ks i d)) → Credited es table ks (take (length ks) cs)
+credited-from es table [] d cs h e = tt
+credited-from es table (k ∷ ks) d [] h e = absurd (not-suc-le-zero h)
+credited-from es table (k ∷ ks) d (c ∷ cs) h e = (e 0 (suc-le-suc zero-le), credited-from es table ks d cs (le-of-suc-le-suc h) (λ i m. e (suc i) (suc-le-suc m)))
+
+module _ (file : List ℕ) (s : Survey) (st : Stands file s) (all : Lines) (is : LinesOf file all) (part : List ℕ) (ep : part ≡ stretch file (getD (s .first) 80 0) (getD (s .counts) 80 0)) where
+  abbrev account : List Record
+  account = records file
+
+  abbrev n : ℕ
+  n = all .count
+
+  abbrev ls : List Line
+  ls = take (all .count) (all .line)
+
+  abbrev ks : List Contract
+  ks = contracts (records file)
+
+  abbrev kd : Contract
+  kd = partsIn (records file) []
+
+  es-are : records part ≡ entriesOf account
+  es-are = ap records ep ∙ entries-stand file s st
+
+  es-within : EntriesWithin (records part)
+  es-within = subst⁻¹ EntriesWithin es-are (entries-within file (st .accepted))
+
+  ks-length : length ks ≡ n
+  ks-length = length-map (contractsOf account) (partsIn account) ∙ sym (is .count-is)
+
+  ls-length : length ls ≡ n
+  ls-length = length-take-le n (all .line) (omega (arith, is .few, is .places))
+
+  k-at : (i : ℕ) → i < n → getD ks i kd ≡ partsIn account (getD (contractsOf account) i [])
+  k-at i h = getD-map (partsIn account) (contractsOf account) i [] kd (omega (arith, is .count-is))
+
+  line-at : (i : ℕ) → i < n → LineOf (getD ks i kd) (getD (all .line) i noLine)
+  line-at i h = subst⁻¹ (λ (k : Contract). LineOf k (getD (all .line) i noLine)) (k-at i h) (is .each i h)
+
+  pub lined : Lined ks ls
+  lined =
+      subst (λ (m : ℕ). Lined ks (take m (all .line))) ks-length
+      (lined-from ks kd (all .line) (omega (arith, ks-length, is .few, is .places)) (λ i h. line-at i (omega (arith, ks-length))))
+
+  number-at : (i : ℕ) → i < n → getD (map (λ l. l .contract) ls) i 0 ≡ contract (getD (contractsOf account) i [])
+  number-at i h =
+      getD-map (λ l. l .contract) ls i noLine 0 (omega (arith, ls-length))
+      ∙ ap (λ (l : Line). l .contract) (getD-take n (all .line) i noLine h)
+      ∙ is .each i h .contract-is
+
+  apart : Apart ls
+  apart =
+      apart-from ls
+      (λ i j k m.
+      let a : j < n = omega (arith, ls-length) in
+      let b : i < n = omega arith in
+      let c = numbers-rise file (st .accepted) i j k (omega (arith, is .count-is)) in
+      let e = number-at i b in
+      let f = number-at j a in
+      omega arith)
+
+  pub table-room : TableRoom n (all .line) (records part)
+  table-room = record { few = is .few; tiers-sound = tiers-sound ks ls lined; entries-within = es-within }
+
+  module _ (b : Book) (bk : BookOf (steps (map intercontract (records part))) (map tierOf ls) b) where
+    abbrev ns : List ℕ
+    ns = numbers (steps (map intercontract (records part))) (map tierOf ls)
+
+    formed-most : (j : ℕ) → getD ns j 0 ≤ 16 * mostDelta
+    formed-most j =
+        let t = tier-sizes ks ls lined in
+        let m = mul-le-mul-right mostDelta (is .few) in
+        le-trans (number-within (steps (map intercontract (records part))) (map tierOf ls) j) (omega (arith, ap (λ (x : ℕ). x * mostDelta) ls-length))
+
+    first-at : (k : ℕ) → k < 32 → spreadsAt (b .first) k ≡ getD ns (2 * k) 0
+    first-at k h = ap (λ (xs : List Spreads). spreadsAt xs k) (bk .first-is) ∙ ap (λ (x : Spreads). x .0) (entries-at 32 (λ i. spreadsEntry ns (2 * i)) k (record { 0 = 0 }) h)
+
+    second-at : (k : ℕ) → k < 32 → spreadsAt (b .second) k ≡ getD ns (2 * k + 1) 0
+    second-at k h = ap (λ (xs : List Spreads). spreadsAt xs k) (bk .second-is) ∙ ap (λ (x : Spreads). x .0) (entries-at 32 (λ i. spreadsEntry ns (2 * i + 1)) k (record { 0 = 0 }) h)
+
+    line-here : (i : ℕ) → i < n → getD ls i noLine ≡ getD (all .line) i noLine
+    line-here i h = getD-take n (all .line) i noLine h
+
+    use-most : (i : ℕ) → i < n → (k : ℕ) → k < length (records part) → entryUse (getD (all .line) i noLine .contract) (getD (records part) k []) (spreadsAt (b .first) k) (spreadsAt (b .second) k) ≤ natAbs (getD (all .line) i noLine .net .0)
+    use-most i h k m =
+        let l : k < 32 = omega (arith, es-within .few) in
+        let c = getD (all .line) i noLine .contract in
+        let u = entry-use-within c (records part) (map tierOf ls) es-within k m in
+        let v : unusedBy c (map tierOf ls) ≡ natAbs (getD (all .line) i noLine .net .0) =
+        subst (λ (x : Line). unusedBy (x .contract) (map tierOf ls) ≡ natAbs (x .net .0)) (line-here i h) (unused-is ls noLine apart i (omega (arith, ls-length)))
+        in
+        let w = ap₂ (λ (x y : ℕ). entryUse c (getD (records part) k []) x y) (first-at k l) (second-at k l) in
+        omega arith
+
+    pub credits-room : CreditsRoom n (all .line) (records part) (b .first) (b .second)
+    credits-room =
+        record {
+          few = is .few;
+          each =
+              λ i h.
+              record {
+                most = es-within .few;
+                price-within = line-at i h .price-within;
+                each =
+                    λ k m.
+                    let l : k < 32 = omega (arith, es-within .few) in
+                    record {
+                      net-within = line-at i h .net-within;
+                      percent-within = es-within .each k m .percent-within;
+                      first-within = subst⁻¹ (λ (x : ℕ). x ≤ 16 * mostDelta) (first-at k l) (formed-most (2 * k));
+                      second-within = subst⁻¹ (λ (x : ℕ). x ≤ 16 * mostDelta) (second-at k l) (formed-most (2 * k + 1));
+                      use-within = use-most i h k m;
+                    };
+              };
+        }
+
+    module _ (cs : List Amount) (earned : CreditsOf n (all .line) (records part) (b .first) (b .second) cs) where
+      pub lines-within : LinesWithin n (all .line) cs
+      lines-within = record { most = is .few; line-within = λ k h. line-at k h .within; credit-within = earned .most }
+
+      -- what a line earns is its contract's credit
+      earns-credit : (i : ℕ) → i < n → earns (getD (all .line) i noLine) (records part) (b .first) (b .second) ≡ creditOf (records part) (map asTier ks) (getD ks i kd)
+      earns-credit i h =
+          let l = getD (all .line) i noLine in
+          let k = getD ks i kd in
+          let li = line-at i h in
+          ap (λ (c : ℕ). creditsBy c (l .«twice_price») (natAbs (l .net .0)) (records part) (interleaved (b .first) (b .second))) (li .contract-is)
+          ∙ ap₂ (λ (t : ℕ) (z : ℤ). creditsBy (contract (k .own)) t (natAbs z) (records part) (interleaved (b .first) (b .second))) (li .price-is) (li .net-is)
+          ∙ ap₂ (λ (x y : List Spreads). creditsBy (contract (k .own)) (twicePriceRisk (k .totals)) (natAbs (contractNet k)) (records part) (interleaved x y)) (bk .first-is) (bk .second-is)
+          ∙ over-arrays (λ e x y. credit (twicePriceRisk (k .totals)) (entryUse (contract (k .own)) e x y) (percent e) (natAbs (contractNet k))) (records part) ns 32 (numbers-length intercontract (records part) (map tierOf ls)) (es-within .few)
+          ∙ ap (λ (ps : List Open). creditsBy (contract (k .own)) (twicePriceRisk (k .totals)) (natAbs (contractNet k)) (records part) (numbers (steps (map intercontract (records part))) ps)) (tiers-are ks ls lined)
+          ∙ sym (credits-by (contract (k .own)) (twicePriceRisk (k .totals)) (natAbs (contractNet k)) (records part) (map asTier ks) es-within)
+
+      credited : Credited (records part) (map asTier ks) ks (take n cs)
+      credited =
+          subst (λ (m : ℕ). Credited (records part) (map asTier ks) ks (take m cs)) ks-length
+          (credited-from (records part) (map asTier ks) ks kd cs (omega (arith, ks-length, is .few, earned .places))
+          (λ i h. let l : i < n = omega (arith, ks-length) in earned .each i l ∙ earns-credit i l))
+
+      pub answer-is : map pos (figuresFrom ls (take n cs)) ≡ figures account
+      answer-is =
+          ap (map pos) (figures-are (records part) ks ls (take n cs) lined credited)
+          ∙ ap (λ (x : List Record). map pos (figuresOver x ks)) es-are

@@ -1,0 +1,60 @@
+-- The line of the i-th contract: its parts stand where the survey says.
+-- Assumes nothing.
+use mathlib.Core.Path.{subst}
+use native.Mathlib.Omega.{arith}
+use borrow.Author.Needs.{needs}
+use Rattle.margin.specs.Contract.{Contract}
+use Rattle.margin.specs.Promised.{LineOf}
+use Rattle.margin.proofs.StandLaws.{own-number, line-room, parts-are}
+use Rattle.margin.proofs.accepted.line_at.Statement.{statement}
+use Rattle.margin.proofs.accepted.line_at.Tie as tie
+
+record-at-requires : tie.Need-record-at-requires
+record-at-requires c κs = search needs
+
+contract-requires : tie.Need-contract-requires
+contract-requires c κs = search needs
+
+add-part-at : tie.Need-add-part-at
+add-part-at c = search needs
+
+part-at-requires : tie.Need-part-at-requires
+part-at-requires c κs = omega (arith, own-number (c .before .before .before .args .file .now) (c .before .before .before .args .survey) (c .before .before .before .pre .0) (c .before .before .before .args .i) (c .before .before .before .pre .1) (c .before .record-at .result .now) (c .before .record-at .ensures) (c .contract .result) (c .contract .ensures .0))
+
+add-part-at-2 : tie.Need-add-part-at-2
+add-part-at-2 c = search needs
+
+part-at-requires-2 : tie.Need-part-at-requires-2
+part-at-requires-2 c κs = omega (arith, own-number (c .before .before .before .before .args .file .now) (c .before .before .before .before .args .survey) (c .before .before .before .before .pre .0) (c .before .before .before .before .args .i) (c .before .before .before .before .pre .1) (c .before .before .record-at .result .now) (c .before .before .record-at .ensures) (c .before .contract .result) (c .before .contract .ensures .0))
+
+add-part-at-3 : tie.Need-add-part-at-3
+add-part-at-3 c = search needs
+
+part-at-requires-3 : tie.Need-part-at-requires-3
+part-at-requires-3 c κs = omega (arith, own-number (c .before .before .before .before .before .args .file .now) (c .before .before .before .before .before .args .survey) (c .before .before .before .before .before .pre .0) (c .before .before .before .before .before .args .i) (c .before .before .before .before .before .pre .1) (c .before .before .before .record-at .result .now) (c .before .before .before .record-at .ensures) (c .before .before .contract .result) (c .before .before .contract .ensures .0))
+
+line-of-requires : tie.Need-line-of-requires
+line-of-requires c κs =
+    line-room (c .before .before .before .before .before .before .args .file .now) (c .before .before .before .before .before .before .args .survey) (c .before .before .before .before .before .before .pre .0) (c .before .before .before .before .before .before .args .i) (c .before .before .before .before .before .before .pre .1) (c .before .before .before .before .record-at .result .now) (c .before .before .before .before .record-at .ensures) (c .before .before .before .contract .result) (c .before .before .before .contract .ensures .0) (c .before .before .part-at .result .now) (c .before .part-at2 .result .now) (c .part-at3 .result .now)
+    (c .before .before .part-at .ensures) (c .before .part-at2 .ensures) (c .part-at3 .ensures)
+
+returns : tie.Need-returns
+returns c =
+    subst (λ (k : Contract). LineOf k (c .line-of .result))
+    (parts-are (c .before .before .before .before .before .before .before .args .file .now) (c .before .before .before .before .before .before .before .args .survey) (c .before .before .before .before .before .before .before .pre .0) (c .before .before .before .before .before .before .before .args .i) (c .before .before .before .before .before .before .before .pre .1) (c .before .before .before .before .before .record-at .result .now) (c .before .before .before .before .before .record-at .ensures) (c .before .before .before .before .contract .result) (c .before .before .before .before .contract .ensures .0) (c .before .before .before .part-at .result .now) (c .before .before .part-at2 .result .now) (c .before .part-at3 .result .now)
+    (c .before .before .before .part-at .ensures) (c .before .before .part-at2 .ensures) (c .before .part-at3 .ensures)) (c .line-of .ensures)
+
+pub line-at-spec : {M : Type 1} → statement M
+line-at-spec =
+    tie.close
+    (tie.spec
+    record-at-requires
+    contract-requires
+    add-part-at
+    part-at-requires
+    add-part-at-2
+    part-at-requires-2
+    add-part-at-3
+    part-at-requires-3
+    line-of-requires
+    returns)

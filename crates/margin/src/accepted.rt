@@ -1,0 +1,101 @@
+// An accepted account, by its survey: the lines of its contracts, and the numbers of its answers.
+use crate::amount::Amount;
+use crate::intercontract::credits_of;
+use crate::intercontract::table_book;
+use crate::line::Line;
+use crate::line::line_of;
+use crate::numbers::Numbers;
+use crate::numbers::figures_numbers;
+use account::check::Survey;
+use account::stretches::record_at;
+use account::stretches::stretch;
+use record::fields::contract;
+use spread::Delta;
+ghost use mathlib.Core.Path.{_≡_};
+ghost use mathlib.Core.List.{[], map};
+ghost use Prim.Native.Nat.{_+_, _*_, _≤_, _<_};
+ghost use lib.IntN.{pos};
+ghost use lib.ListN.{length, getD};
+ghost use Rattle.account.specs.Notes.{part, entryPart};
+ghost use Rattle.account.specs.Parts.{contractsOf};
+ghost use Rattle.account.specs.Records.{records, stretch};
+ghost use Rattle.margin.specs.Contract.{partsIn};
+ghost use Rattle.margin.specs.Figures.{figures};
+ghost use Rattle.margin.specs.Lines.{noLine};
+ghost use Rattle.margin.specs.Numbers.{listed};
+ghost use Rattle.margin.specs.Promised.{LineOf};
+ghost use Rattle.margin.specs.Stands.{Stands, LinesOf};
+
+// The lines of an account's contracts: the first `count`.
+pub struct Lines {
+    pub count: usize,
+    pub line: [Line; 16],
+}
+
+// A part of the file: number 16 * kind + contract, or 80 for the intercontract spreads.
+fn part_at(file: &[u8], survey: Survey, v: usize) -> &[u8]
+    requires { ⌜ v < 81 ⌝ }
+    ensures { λ r. ⌜ now r ≡ stretch (now (file .entry)) (getD (survey .first) v 0) (getD (survey .counts) v 0) ⌝ }
+{
+    let first = survey.first;
+    let counts = survey.counts;
+    stretch(file, first[v], counts[v])
+}
+
+// The line of the i-th contract.
+fn line_at(file: &[u8], survey: Survey, i: usize) -> Line
+    requires { ⌜ Stands (now file) survey × (i < survey .contracts) ⌝ }
+    ensures { λ r. ⌜ LineOf (partsIn (records (now (file .entry))) (getD (contractsOf (records (now (file .entry)))) i [])) r ⌝ }
+{
+    let own = record_at(file, i);
+    let c = contract(own);
+    let prompts = part_at(file, survey, 32 + c);
+    let rows = part_at(file, survey, 48 + c);
+    let spreads = part_at(file, survey, 64 + c);
+    line_of(own, prompts, rows, spreads)
+}
+
+fn no_line() -> Line {
+    Line {
+        contract: 0,
+        active: 0,
+        scanning: Amount(0),
+        interprompt: Amount(0),
+        prompt: Amount(0),
+        minimum: Amount(0),
+        twice_price: 0,
+        net: Delta(0),
+    }
+}
+
+// The lines of all contracts, in file order.
+fn lines_of(file: &[u8], survey: Survey) -> Lines
+    requires { ⌜ Stands (now file) survey ⌝ }
+    ensures { λ r. ⌜ LinesOf (now (file .entry)) r ⌝ }
+{
+    let count = survey.contracts;
+    let mut lines = [no_line(); 16];
+    let mut i = 0;
+    while i < count {
+        lines[i] = line_at(file, survey, i);
+        i += 1;
+    }
+    Lines {
+        count: count,
+        line: lines,
+    }
+}
+
+// The numbers of the figures.
+pub(crate) fn figures_over(file: &[u8], survey: Survey) -> Numbers
+    requires { ⌜ Stands (now file) survey ⌝ }
+    ensures { λ r. ⌜ (listed r ≡ figures (records (now (file .entry)))) × (r .count ≡ 8 * survey .contracts + 1) × (r .count ≤ 160) ⌝ }
+{
+    let all = lines_of(file, survey);
+    let count = all.count;
+    let lines = all.line;
+    let entries = part_at(file, survey, 80);
+    let book = table_book(count, lines, entries);
+    let credits = credits_of(count, lines, entries, book);
+    figures_numbers(count, lines, credits)
+}

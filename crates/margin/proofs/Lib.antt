@@ -22,3 +22,4 @@ pub mod FigureLaws
 pub mod AcceptLaws
 pub mod StandLaws
 pub mod AccountLaws
+pub mod QuestionLaws

@@ -7,6 +7,7 @@ mod intercontract;
 pub mod line;
 pub mod numbers;
 pub mod pairs;
+pub mod questions;
 mod risk;
 pub mod rows;
 mod tables;

@@ -1,0 +1,89 @@
+-- What a question answers and leaves behind, by what the check, the question and the lent numbers say.
+-- Assumes nothing.
+use Prim.Native.Nat.{ℕ, zero, suc, _+_, _*_, _≤_, _<_}
+use native.Mathlib.Omega.{arith}
+use mathlib.Core.Path.{_≡_, refl, sym, ap, ap₂, _∙_, subst, subst⁻¹}
+use mathlib.Core.Bool.{Bool, true, false, cond}
+use mathlib.Core.List.{List, [], _∷_, _++_, map}
+use borrow.Author.Tests.{lt-ltb, le-ltb, ne-eqb}
+use lib.Dec.{eqb, ltb}
+use lib.IntN.{ℤ, pos}
+use lib.ListN.{length, drop, length-append, length-map}
+use Rattle.record.specs.Layout.{Record}
+use Rattle.account.specs.Answers.{numberOf}
+use Rattle.account.specs.Check.{checked}
+use Rattle.account.specs.Parts.{contractsOf, entriesOf}
+use Rattle.account.specs.Records.{records, recordCount}
+use Rattle.account.specs.Surveyed.{Surveyed}
+use Rattle.account.specs.declared.answers.Answer.{Answer}
+use Rattle.account.specs.declared.answers.Answer.the-variants.{Accepted, TooLong, CutRecord, UnknownKind, KindFalls, UnusedByte, FieldOutside, Unlisted, OutOfOrder, OverLimit, TooFewNumbers, NoSuchQuestion}
+use Rattle.account.specs.declared.check.Survey.{Survey}
+use Rattle.spread.specs.Steps.{Open}
+use Rattle.margin.specs.Contract.{Contract, contracts, partsIn, asTier}
+use Rattle.margin.specs.Figures.{eights, figures, figuresOver, totalMargin}
+use Rattle.margin.specs.Questions.{accepted, ifAccepted, enough, afterwards, figuresAnswer, afterFigures}
+use Rattle.margin.specs.Stands.{Stands}
+
+some : {n : ℕ} → suc n ≡ 0 → ⊥
+some e = omega arith
+
+-- number 0 is given to an accepted file alone
+pub accepted-only : (a : Answer) → numberOf a ≡ 0 → a ≡ Accepted
+accepted-only Accepted e = refl
+accepted-only TooLong e = absurd (some e)
+accepted-only CutRecord e = absurd (some e)
+accepted-only (UnknownKind k) e = absurd (some e)
+accepted-only (KindFalls k) e = absurd (some e)
+accepted-only (UnusedByte k) e = absurd (some e)
+accepted-only (FieldOutside k) e = absurd (some e)
+accepted-only (Unlisted k) e = absurd (some e)
+accepted-only (OutOfOrder k) e = absurd (some e)
+accepted-only (OverLimit k) e = absurd (some e)
+accepted-only (TooFewNumbers k) e = absurd (some e)
+accepted-only (NoSuchQuestion k) e = absurd (some e)
+
+pub stands-from : (file : List ℕ) (s : Survey) → Surveyed file s → (n : ℕ) → n ≡ numberOf (s .answer) → n ≡ 0 → Stands file s
+stands-from file s is n e z = record { accepted = accepted-only (checked file) (ap numberOf (sym (is .answer)) ∙ sym e ∙ z); surveyed = is }
+
+-- ---- the answer and the lent numbers, case by case
+
+pub if-refused : (a next : Answer) → (numberOf a ≡ 0 → ⊥) → ifAccepted a next ≡ a
+if-refused a next h = rw (ne-eqb (numberOf a) 0 h)
+
+pub if-accepted : (a next : Answer) → a ≡ Accepted → ifAccepted a next ≡ next
+if-accepted a next e = ap (λ (x : Answer). cond (accepted x) next x) e
+
+pub after-refused : (a : Answer) (numbers out : List ℤ) → (numberOf a ≡ 0 → ⊥) → afterwards a numbers out ≡ out
+after-refused a numbers out h = rw (ne-eqb (numberOf a) 0 h)
+
+pub too-few : (file : List ℕ) (numbers : List ℤ) (lent : ℕ) → lent < length numbers → enough file numbers lent ≡ TooFewNumbers (recordCount file)
+too-few file numbers lent h = rw (lt-ltb lent (length numbers) h)
+
+pub as-many : (file : List ℕ) (numbers : List ℤ) (lent : ℕ) → length numbers ≤ lent → enough file numbers lent ≡ Accepted
+as-many file numbers lent h = rw (le-ltb lent (length numbers) h)
+
+-- an answer, and the lent numbers afterwards
+abbrev pub Answers : Answer → List ℤ → Answer → List ℤ → List ℤ → Type 0
+Answers a after answer numbers out = (a ≡ answer) × (after ≡ afterwards answer numbers out)
+
+pub refused-with : (a answer : Answer) (numbers out : List ℤ) → answer ≡ a → (numberOf a ≡ 0 → ⊥) → Answers a out answer numbers out
+refused-with a answer numbers out e h =
+    (sym e, sym (ap (λ (x : Answer). afterwards x numbers out) e ∙ after-refused a numbers out h))
+
+pub accepted-with : (answer : Answer) (numbers out after : List ℤ) (n : ℕ) → answer ≡ Accepted → length numbers ≡ n → after ≡ numbers ++ drop n out → Answers Accepted after answer numbers out
+accepted-with answer numbers out after n e l f =
+    (sym e, f ∙ ap (λ (m : ℕ). numbers ++ drop m out) (sym l) ∙ sym (ap (λ (x : Answer). afterwards x numbers out) e))
+
+-- ---- how many numbers the figures have
+
+eights-length : (entries : List Record) (table : List Open) (ks : List Contract) → length (eights entries table ks) ≡ 8 * length ks
+eights-length entries table [] = refl
+eights-length entries table (k ∷ ks) = let h = eights-length entries table ks in omega arith
+
+pub figures-length : (account : List Record) → length (figures account) ≡ 8 * length (contractsOf account) + 1
+figures-length account =
+    let ks = contracts account in
+    let es = entriesOf account in
+    length-map (figuresOver es ks) pos
+    ∙ length-append (eights es (map asTier ks) ks) (totalMargin es (map asTier ks) ks ∷ [])
+    ∙ ap (λ (n : ℕ). n + 1) (eights-length es (map asTier ks) ks ∙ ap (λ (n : ℕ). 8 * n) (length-map (contractsOf account) (partsIn account)))

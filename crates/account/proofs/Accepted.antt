@@ -1,52 +1,39 @@
 -- What is known of an accepted file.
 -- Assumes nothing.
-use Prim.Native.Nat.{ℕ, zero, suc, _+_, _≤_, _<_}
-use mathlib.Core.Path.{_≡_, refl, sym, ap, subst, _∙_}
-use mathlib.Core.Bool.{Bool, true, false, not, _&&_, _||_}
-use mathlib.Core.List.{List, [], _∷_, _++_}
-use lib.ListN.{length, take, drop}
-use lib.Dec.{eqb, leb}
+use Prim.Native.Nat.{ℕ, _≤_, _<_}
+use mathlib.Core.Path.{_≡_, sym, ap, subst, _∙_}
+use mathlib.Core.Bool.{Bool, true, not}
+use mathlib.Core.List.{List}
+use lib.ListN.{length, getD, take, drop}
+use lib.Dec.{leb}
 use native.Mathlib.Omega.{arith}
 use borrow.Author.Tests.{eqb-true, eqb-false, leb-false, ltb-false, not-false}
 use Rattle.exact.specs.Lists.{any, keep, count}
 use Rattle.record.specs.Layout.{Record, kind, contract, day}
 use Rattle.record.specs.Within.{ContractWithin, PromptWithin, RowWithin, SpreadWithin, EntryWithin}
-use Rattle.record.proofs.Tests.{any-append}
-use Rattle.record.proofs.Within.{both-true, neither, contract-within, prompt-within, row-within, spread-within, entry-within}
-use Rattle.account.specs.Accepted.{every, partBytes, Standing, Ranges, Limits, OnePrompt, Accepts}
+use Rattle.record.proofs.Within.{neither, contract-within, prompt-within, row-within, spread-within, entry-within}
+use Rattle.account.specs.Accepted.{partBytes, Ranges, Limits, OnePrompt, Accepts}
 use Rattle.account.specs.Answers.{numberOf, recordOf}
-use Rattle.account.specs.Check.{tooLong, checked, none, listsContract, listsDay, overLimit}
-use Rattle.account.specs.Notes.{part, inPart}
+use Rattle.account.specs.Check.{checked, none, listsContract, listsDay, overLimit}
+use Rattle.account.specs.Notes.{part, partAt, inPart}
 use Rattle.account.specs.Parts.{ofKind, ofContract, onDay, startOf, promptsOf}
-use Rattle.account.specs.Records.{cut, recordAt, records, recordCount, stretch, earlier}
-use Rattle.account.specs.Surveyed.{contractCount, partCount}
+use Rattle.account.specs.Records.{recordAt, records, recordCount, stretch, earlier}
+use Rattle.account.specs.Surveyed.{contractCount, partStart, partCount, Surveyed}
 use Rattle.account.specs.declared.answers.Answer.the-variants.{Accepted}
+use Rattle.account.specs.declared.check.Survey.{Survey}
 use Rattle.account.proofs.Days.{days}
 use Rattle.account.proofs.Dispatch.{unlisted-3, over-2, over-3, over-4, over-5}
-use Rattle.account.proofs.Earlier.{cut-more, any-earlier, stretch-cut}
+use Rattle.account.proofs.Earlier.{any-earlier, stretch-cut}
 use Rattle.account.proofs.Every.{every-kept, few, length-kept}
 use Rattle.account.proofs.Exactly.{exactly, faultless}
 use Rattle.account.proofs.Going.{if-accepted}
 use Rattle.account.proofs.Laid.{Faultless, laid, passed-at}
-use Rattle.account.proofs.Lists.{Stretch, any-keep, none-counted}
+use Rattle.account.proofs.Lists.{any-keep, none-counted}
+use Rattle.account.proofs.Named.{stays, kind-of, named}
 use Rattle.account.proofs.Noted.{part-is}
 use Rattle.account.proofs.Own.{own}
-use Rattle.account.proofs.Passed.{Passed, Known, known-of}
+use Rattle.account.proofs.Passed.{Passed, known-of}
 use Rattle.account.proofs.Walk.{length-cut}
-
--- what one record lists stays listed
-stays : (p : Record → Bool) (file : List ℕ) (k n : ℕ) → k ≤ n → any p (cut k file) ≡ true → any p (cut n file) ≡ true
-stays p file k zero h t =
-    let e : k ≡ 0 = omega arith in
-    subst (λ (m : ℕ). any p (cut m file) ≡ true) e t
-stays p file k (suc n) h t = go (eqb k (suc n)) refl (λ l. stays p file k n l t)
-  where
-    go : (b : Bool) → eqb k (suc n) ≡ b → (k ≤ n → any p (cut n file) ≡ true) → any p (cut (suc n) file) ≡ true
-    go true e f = subst (λ (m : ℕ). any p (cut m file) ≡ true) (eqb-true k (suc n) e) t
-    go false e f =
-        let d = eqb-false k (suc n) e in
-        ap (any p) (cut-more n file) ∙ any-append p (cut n file) (recordAt file n ∷ [])
-        ∙ ap (λ (x : Bool). x || any p (recordAt file n ∷ [])) (f (omega arith))
 
 module _ (file : List ℕ) (ok : checked file ≡ Accepted) where
   fine : Faultless file (recordCount file)
@@ -69,13 +56,16 @@ module _ (file : List ℕ) (ok : checked file ≡ Accepted) where
       let n = recordCount file in
       let s = laid file n fine .parts v h in
       let w = s .within in
-      ap (λ (i : ℕ). records (stretch file i (partCount file v))) (if-accepted (checked file) (startOf (inPart v) (records file)) ok)
-      ∙ ap (λ (i : ℕ). records (stretch file (startOf (inPart v) (records file)) i)) (if-accepted (checked file) (count (inPart v) (records file)) ok)
+      ap (λ (i : ℕ). records (stretch file i (partCount file v)))
+      (if-accepted (checked file) (startOf (inPart v) (records file)) ok)
+      ∙ ap (λ (i : ℕ). records (stretch file (startOf (inPart v) (records file)) i))
+      (if-accepted (checked file) (count (inPart v) (records file)) ok)
       ∙ stretch-cut file (startOf (inPart v) (records file)) (count (inPart v) (records file)) n
       (omega (arith, length-cut n file)) (omega arith)
       ∙ sym (s .kept)
 
-  part-stands : (n c : ℕ) → n ≤ 4 → c ≤ 15 → records (partBytes file (part n c)) ≡ keep (ofContract n c) (records file)
+  part-stands : (n c : ℕ) → n ≤ 4 → c ≤ 15 → records (partBytes file (part n c)) ≡ keep (ofContract n c)
+      (records file)
   part-stands n c hn hc =
       stands (part n c) (omega arith) ∙ ap (λ (p : Record → Bool). keep p (records file)) (part-is n c hn hc)
 
@@ -91,11 +81,6 @@ module _ (file : List ℕ) (ok : checked file ≡ Accepted) where
       ∙ sym (o .one .kept)
 
   -- ---- ranges
-  kind-of : (n c : ℕ) (r : Record) → ofContract n c r ≡ true → (kind r ≡ n) × (contract r ≡ c)
-  kind-of n c r e =
-      let t = both-true (eqb (kind r) n) (eqb (contract r) c) e in
-      (eqb-true _ _ (t .0), eqb-true _ _ (t .1))
-
   ranges-hold : Ranges (records file)
   ranges-hold =
       let n = recordCount file in
@@ -123,7 +108,8 @@ module _ (file : List ℕ) (ok : checked file ≡ Accepted) where
   -- ---- limits
   part-few :
       (n c most : ℕ)
-      → ((es : List Record) (r : Record) → kind r ≡ n → overLimit es r ≡ leb most (count (ofContract n (contract r)) es))
+      → ((es : List Record) (r : Record) → kind r ≡ n → overLimit es r ≡ leb most
+      (count (ofContract n (contract r)) es))
       → length (keep (ofContract n c) (records file)) ≤ most
   part-few n c most law =
       let m = recordCount file in
@@ -133,7 +119,8 @@ module _ (file : List ℕ) (ok : checked file ≡ Accepted) where
         few (ofContract n c) file most m (λ k h e.
             let r = recordAt file k in
             let i = kind-of n c r e in
-            let room = leb-false most (count (ofContract n (contract r)) (earlier file k)) (sym (law (earlier file k) r (i .0)) ∙ at k h .room) in
+            let room = leb-false most (count (ofContract n (contract r)) (earlier file k))
+            (sym (law (earlier file k) r (i .0)) ∙ at k h .room) in
             subst (λ (d : ℕ). count (ofContract n d) (earlier file k) < most) (i .1) room),
       )
 
@@ -166,7 +153,8 @@ module _ (file : List ℕ) (ok : checked file ≡ Accepted) where
       let i = kind-of 3 c r e in
       let p = at k h in
       let hc = known-of r p .contracts in
-      let u = neither (none (listsContract (contract r)) (earlier file k)) (none (listsDay (contract r) (day r)) (earlier file k))
+      let u = neither (none (listsContract (contract r)) (earlier file k))
+      (none (listsDay (contract r) (day r)) (earlier file k))
       (sym (unlisted-3 (earlier file k) r (i .0)) ∙ p .listed) .1 in
       let there = sym (any-earlier (listsDay (contract r) (day r)) file k) ∙ not-false _ u in
       let whole = stays (listsDay (contract r) (day r)) file k n (omega arith) there in
@@ -191,4 +179,27 @@ module _ (file : List ℕ) (ok : checked file ≡ Accepted) where
         ranges = ranges-hold;
         limits = limits-hold;
         onePrompt = one-prompt;
+        named = named file fine;
       }
+
+-- the part that is read from what the check hands out
+pub part-told :
+    (file : List ℕ) (s : Survey) → Surveyed file s → (v : ℕ) → v < 81 → partAt file (s .first)
+    (s .counts) v ≡ partBytes file v
+part-told file s t v h =
+    ap (λ (k : ℕ). stretch file k (getD (s .counts) v 0)) (t .first v h) ∙ ap (stretch file (partStart file v))
+    (t .counts v h)
+
+-- how many records a part has, and how many contracts there are, as the check hands it out
+module _ (file : List ℕ) (s : Survey) (t : Surveyed file s) (ok : checked file ≡ Accepted) where
+  pub count-told : (n c : ℕ) → n ≤ 4 → c ≤ 15 → getD (s .counts) (part n c) 0 ≡ length
+      (keep (ofContract n c) (records file))
+  count-told n c hn hc =
+      t .counts (part n c) (omega arith) ∙ if-accepted (checked file) (count (inPart (part n c)) (records file)) ok
+      ∙ ap (λ (p : Record → Bool). count p (records file)) (part-is n c hn hc)
+      ∙ sym (length-kept (ofContract n c) (records file))
+
+  pub contracts-told : s .contracts ≡ length (keep (ofKind 1) (records file))
+  contracts-told =
+      t .contracts ∙ if-accepted (checked file) (count (ofKind 1) (records file)) ok
+      ∙ sym (length-kept (ofKind 1) (records file))

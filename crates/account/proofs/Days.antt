@@ -1,33 +1,29 @@
 -- The prompts of a contract in a faultless file have different days.
 -- Assumes nothing.
-use Prim.Native.Nat.{ℕ, zero, suc, _+_, _≤_, _<_}
+use Prim.Native.Nat.{ℕ, zero, suc, _≤_, _<_}
 use mathlib.Core.Path.{_≡_, refl, sym, ap, subst, subst⁻¹, _∙_}
-use mathlib.Core.Bool.{Bool, true, false, _&&_, _||_}
+use mathlib.Core.Bool.{Bool, true, false, _&&_}
 use mathlib.Core.List.{List, [], _∷_, _++_, append-nil}
 use lib.ListN.{length}
 use lib.Dec.{eqb, leb, ltb}
 use native.Mathlib.Omega.{arith}
 use native.Mathlib.Nat.{le-refl}
-use borrow.Author.Tests.{eq-eqb, ne-eqb, eqb-true, eqb-false, leb-false}
-use Rattle.exact.specs.Lists.{consIf, keep, count, oneIf}
+use borrow.Author.Tests.{eq-eqb, ne-eqb, eqb-true, leb-false}
+use Rattle.exact.specs.Lists.{consIf, keep, count}
 use Rattle.record.specs.Layout.{Record, kind, contract, day}
 use Rattle.record.proofs.Within.{never, both-true, neither}
 use Rattle.account.specs.Accepted.{every}
 use Rattle.account.specs.Check.{dayNotAbove, tierFalls, outOfOrder}
 use Rattle.account.specs.Notes.{part, partOf, inPart, beforeAt}
 use Rattle.account.specs.Parts.{ofContract, onDay}
-use Rattle.account.specs.Records.{cut, recordAt, earlier}
+use Rattle.account.specs.Records.{cut, recordAt}
 use Rattle.account.proofs.Dispatch.{order-2}
 use Rattle.account.proofs.Earlier.{cut-more}
-use Rattle.account.proofs.Every.{every-append, length-kept}
-use Rattle.account.proofs.Laid.{Faultless, Laid, laid, passed-at}
-use Rattle.account.proofs.Lists.{keep-append, counts-one, counts-not, count-append}
+use Rattle.account.proofs.Every.{every-append, every-weaker, length-kept}
+use Rattle.account.proofs.Laid.{Faultless, laid, passed-at}
+use Rattle.account.proofs.Lists.{keep-append, counts-one, counts-not}
 use Rattle.account.proofs.Noted.{part-is}
-use Rattle.account.proofs.Passed.{Passed, known-of, mine, right-off, part-rises}
-
-every-weaker : {P Q : Record → Type 0} (xs : List Record) → ((r : Record) → P r → Q r) → every P xs → every Q xs
-every-weaker [] f a = tt
-every-weaker (x ∷ xs) f a = (f x (a .0), every-weaker xs f (a .1))
+use Rattle.account.proofs.Passed.{known-of, mine, right-off, part-rises}
 
 none-on : (d : ℕ) (xs : List Record) → every (λ r. day r < d) xs → count (onDay d) xs ≡ 0
 none-on d [] a = refl
@@ -59,7 +55,8 @@ module _ (c : ℕ) (xs : List Record) (before r : Record) where
       ∙ ap (λ (b : Bool). keep (ofContract 2 c) xs ++ consIf b r []) e ∙ append-nil (keep (ofContract 2 c) xs)
 
   -- a later day than every prompt so far
-  later : Days c xs before → ofContract 2 c r ≡ true → every (λ p. day p < day r) (keep (ofContract 2 c) xs) → Days c (xs ++ r ∷ []) r
+  later : Days c xs before → ofContract 2 c r ≡ true → every (λ p. day p < day r) (keep (ofContract 2 c) xs) → Days c
+      (xs ++ r ∷ []) r
   later old e a =
       let ks = keep (ofContract 2 c) xs in
       record {
@@ -67,13 +64,15 @@ module _ (c : ℕ) (xs : List Record) (before r : Record) where
         bound =
             λ h.
             subst⁻¹ (every (λ p. day p ≤ day r)) (grown e)
-            (every-append (λ p. day p ≤ day r) ks (r ∷ []) (every-weaker ks (λ p l. omega arith) a) (le-refl (day r), tt));
+            (every-append (λ p. day p ≤ day r) ks (r ∷ []) (every-weaker ks (λ p l. omega arith) a)
+            (le-refl (day r), tt));
       }
     where
       here : (d : ℕ) (t : Bool) → eqb (day r) d ≡ t → count (onDay d) (keep (ofContract 2 c) xs ++ r ∷ []) ≤ 1
       here d true i =
           let same-day = eqb-true (day r) d i in
-          let z = none-on d (keep (ofContract 2 c) xs) (subst (λ (n : ℕ). every (λ p. day p < n) (keep (ofContract 2 c) xs)) same-day a) in
+          let z = none-on d (keep (ofContract 2 c) xs)
+          (subst (λ (n : ℕ). every (λ p. day p < n) (keep (ofContract 2 c) xs)) same-day a) in
           omega (arith, z, counts-one (onDay d) (keep (ofContract 2 c) xs) r i)
       here d false i = omega (arith, old .once d, counts-not (onDay d) (keep (ofContract 2 c) xs) r i)
 
@@ -85,14 +84,16 @@ module _ (c : ℕ) (xs : List Record) (before r : Record) where
       }
 
   -- the day rises from one prompt of a contract to the next
-  day-rises : ofContract 2 c before ≡ true → ofContract 2 c r ≡ true → outOfOrder before r ≡ false → day before < day r
+  day-rises : ofContract 2 c before ≡ true → ofContract 2 c r ≡ true → outOfOrder before r ≡ false → day before < day
+      r
   day-rises b e off =
       let x = both-true (eqb (kind before) 2) (eqb (contract before) c) b in
       let y = both-true (eqb (kind r) 2) (eqb (contract r) c) e in
       let k = eqb-true (kind r) 2 (y .0) in
       let d = neither (dayNotAbove before r) (tierFalls before r) (sym (order-2 before r k) ∙ off) .0 in
       let t = right-off (x .0) d in
-      let s = neither (ltb (contract r) (contract before)) (eqb (contract r) (contract before) && leb (day r) (day before)) t .1 in
+      let s = neither (ltb (contract r) (contract before)) (eqb (contract r) (contract before) && leb (day r)
+      (day before)) t .1 in
       leb-false (day r) (day before)
       (right-off (eq-eqb (contract r) (contract before) (eqb-true _ _ (y .1) ∙ sym (eqb-true _ _ (x .1)))) s)
 
@@ -110,11 +111,14 @@ module _ (file : List ℕ) (c : ℕ) (hc : c ≤ 15) where
       let r = known-of (recordAt file (suc k)) p in
       let is = part-is 2 c (omega arith) hc in
       let lay = laid file (suc k) (λ j l. fine j (omega arith)) in
-      let some : 0 < count (inPart v) (cut (suc k) file) = subst⁻¹ (λ (t : Record → Bool). 0 < count t (cut (suc k) file)) is h in
+      let some : 0 < count (inPart v) (cut (suc k) file) = subst⁻¹
+      (λ (t : Record → Bool). 0 < count t (cut (suc k) file)) is h in
       let up = lay .upto v (omega arith) some in
       let mine-r : partOf (recordAt file (suc k)) ≡ v =
-      eqb-true _ _ (sym (mine (recordAt file (suc k)) r v (omega arith)) ∙ ap (λ (t : Record → Bool). t (recordAt file (suc k))) is ∙ e) in
-      let rise = part-rises (recordAt file k) (recordAt file (suc k)) (p .ordered) r (b .high) (b .contracts) (p .rises) in
+      eqb-true _ _ (sym (mine (recordAt file (suc k)) r v (omega arith)) ∙ ap
+      (λ (t : Record → Bool). t (recordAt file (suc k))) is ∙ e) in
+      let rise = part-rises (recordAt file k) (recordAt file (suc k)) (p .ordered) r (b .high) (b .contracts)
+      (p .rises) in
       ap (λ (t : Record → Bool). t (recordAt file k)) (sym is) ∙ mine (recordAt file k) b v (omega arith)
       ∙ eq-eqb (partOf (recordAt file k)) v (omega arith)
 
@@ -127,7 +131,8 @@ module _ (file : List ℕ) (c : ℕ) (hc : c ≤ 15) where
     where
       go :
           Days c (cut k file) (beforeAt file k) → (t : Bool) → ofContract 2 c (recordAt file k) ≡ t
-          → (n : ℕ) → count (ofContract 2 c) (cut k file) ≡ n → Days c (cut k file ++ recordAt file k ∷ []) (recordAt file k)
+          → (n : ℕ) → count (ofContract 2 c) (cut k file) ≡ n → Days c (cut k file ++ recordAt file k ∷ [])
+          (recordAt file k)
       go old false e n z = apart c (cut k file) (beforeAt file k) (recordAt file k) old e
       go old true e zero z =
           later c (cut k file) (beforeAt file k) (recordAt file k) old e

@@ -64,7 +64,8 @@ module _ (counts : List ℕ) (prompts : List Record) (r : Record) where
       (kind r ≡ 2 → ⊥) → (kind r ≡ 3 → ⊥) → (kind r ≡ 4 → ⊥) → (kind r ≡ 5 → ⊥)
       → unlistedBy counts prompts r ≡ false
   listed-none b c d e =
-      rw (ne-eqb (kind r) 2 b, ne-eqb (kind r) 3 c, ne-eqb (kind r) 4 d, ne-eqb (kind r) 5 e) (either (eqb (kind r) 1))
+      rw (ne-eqb (kind r) 2 b, ne-eqb (kind r) 3 c, ne-eqb (kind r) 4 d, ne-eqb (kind r) 5 e)
+      (either (eqb (kind r) 1))
 
 module _ (counts : List ℕ) (r : Record) where
   pub limit-2 : kind r ≡ 2 → overLimitBy counts r ≡ leb mostPrompts (getD counts (partOf r) 0)
@@ -82,7 +83,8 @@ module _ (counts : List ℕ) (r : Record) where
   pub limit-none :
       (kind r ≡ 2 → ⊥) → (kind r ≡ 3 → ⊥) → (kind r ≡ 4 → ⊥) → (kind r ≡ 5 → ⊥) → overLimitBy counts r ≡ false
   limit-none b c d e =
-      rw (ne-eqb (kind r) 2 b, ne-eqb (kind r) 3 c, ne-eqb (kind r) 4 d, ne-eqb (kind r) 5 e) (either (eqb (kind r) 1))
+      rw (ne-eqb (kind r) 2 b, ne-eqb (kind r) 3 c, ne-eqb (kind r) 4 d, ne-eqb (kind r) 5 e)
+      (either (eqb (kind r) 1))
 
 -- ---- the definitions themselves
 module _ (earlier : List Record) (r : Record) where

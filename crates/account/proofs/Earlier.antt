@@ -1,25 +1,25 @@
 -- The records of a file up to record k: in file order, `cut k file`, and the latest first, `earlier file k`.
 -- Assumes nothing.
-use Prim.Native.Nat.{ℕ, zero, suc, _+_, _-_, _*_, _/_, _≤_, _<_}
+use Prim.Native.Nat.{ℕ, zero, suc, _+_, _-_, _*_, _≤_}
 use mathlib.Core.Path.{_≡_, refl, sym, ap, _∙_}
 use mathlib.Core.Bool.{Bool, true, false, _||_}
 use mathlib.Core.List.{List, [], _∷_, _++_}
-use lib.ListN.{length, take, drop, length-take, length-drop, drop-of-length-le}
-use lib.Seq.{drop-drop, take-take, take-nil, take-add, drop-at, length-take-le}
+use lib.ListN.{length, take, drop, length-drop}
+use lib.Seq.{drop-drop, take-take, take-add, drop-at, length-take-le}
 use native.Mathlib.Omega.{arith}
-use Rattle.exact.specs.Lists.{any, oneIf, count}
+use Rattle.exact.specs.Lists.{any, count}
 use Rattle.record.specs.Layout.{Record}
 use Rattle.record.proofs.Tests.{any-append, or-false}
 use Rattle.account.specs.Records.{cut, stretch, recordAt, records, recordCount, earlier}
 use Rattle.account.proofs.Lists.{count-append}
-use Rattle.account.proofs.Walk.{length-cut}
 
 pub cut-more : (k : ℕ) (file : List ℕ) → cut (suc k) file ≡ cut k file ++ recordAt file k ∷ []
 cut-more zero file = refl
 cut-more (suc k) file =
     let d : 96 + k * 96 ≡ suc k * 96 = omega arith in
     ap (λ (l : List Record). take 96 file ∷ l) (cut-more k (drop 96 file))
-    ∙ ap (λ (b : List ℕ). take 96 file ∷ cut k (drop 96 file) ++ take 96 b ∷ []) (drop-drop (k * 96) 96 file ∙ ap (λ (n : ℕ). drop n file) d)
+    ∙ ap (λ (b : List ℕ). take 96 file ∷ cut k (drop 96 file) ++ take 96 b ∷ [])
+    (drop-drop (k * 96) 96 file ∙ ap (λ (n : ℕ). drop n file) d)
 
 or-comm : (a b : Bool) → a || b ≡ b || a
 or-comm true true = refl
@@ -59,7 +59,8 @@ drop-cut (suc f) (suc k) file h =
 take-cut : (n m : ℕ) (file : List ℕ) → n ≤ m → take n (cut m file) ≡ cut n file
 take-cut zero m file h = refl
 take-cut (suc n) zero file h = absurd (omega arith)
-take-cut (suc n) (suc m) file h = ap (λ (l : List Record). take 96 file ∷ l) (take-cut n m (drop 96 file) (omega arith))
+take-cut (suc n) (suc m) file h = ap (λ (l : List Record). take 96 file ∷ l)
+    (take-cut n m (drop 96 file) (omega arith))
 
 cut-take : (n : ℕ) (file : List ℕ) → n * 96 ≤ length file → cut n (take (n * 96) file) ≡ cut n file
 cut-take zero file h = refl

@@ -1,12 +1,12 @@
 -- What holds of every record of a part, and how many there can be, from what holds of each record as the check meets it.
 -- Assumes nothing.
-use Prim.Native.Nat.{ℕ, zero, suc, _+_, _≤_, _<_}
-use mathlib.Core.Path.{_≡_, refl, sym, ap, subst, subst⁻¹, _∙_}
+use Prim.Native.Nat.{ℕ, zero, suc, _≤_, _<_}
+use mathlib.Core.Path.{_≡_, refl, ap, subst⁻¹}
 use mathlib.Core.Bool.{Bool, true, false}
 use mathlib.Core.List.{List, [], _∷_, _++_}
 use lib.ListN.{length}
 use native.Mathlib.Omega.{arith}
-use Rattle.exact.specs.Lists.{consIf, keep, count, oneIf}
+use Rattle.exact.specs.Lists.{consIf, keep, count}
 use Rattle.record.specs.Layout.{Record}
 use Rattle.account.specs.Accepted.{every}
 use Rattle.account.specs.Records.{cut, recordAt, earlier}
@@ -17,14 +17,20 @@ pub every-append : (P : Record → Type 0) (xs ys : List Record) → every P xs 
 every-append P [] ys a b = b
 every-append P (x ∷ xs) ys a b = (a .0, every-append P xs ys (a .1) b)
 
+pub every-weaker : {P Q : Record → Type 0} (xs : List Record) → ((r : Record) → P r → Q r) → every P xs → every Q xs
+every-weaker [] f a = tt
+every-weaker (x ∷ xs) f a = (f x (a .0), every-weaker xs f (a .1))
+
 module _ (P : Record → Type 0) (p : Record → Bool) (file : List ℕ) where
-  pub every-kept : (n : ℕ) → ((k : ℕ) → k < n → p (recordAt file k) ≡ true → P (recordAt file k)) → every P (keep p (cut n file))
+  pub every-kept : (n : ℕ) → ((k : ℕ) → k < n → p (recordAt file k) ≡ true → P (recordAt file k)) → every P
+      (keep p (cut n file))
   every-kept zero f = tt
   every-kept (suc n) f =
       let r = recordAt file n in
       subst⁻¹ (λ (rs : List Record). every P (keep p rs)) (cut-more n file)
       (subst⁻¹ (every P) (keep-append p (cut n file) (r ∷ []))
-      (every-append P (keep p (cut n file)) (keep p (r ∷ [])) (every-kept n (λ k h. f k (omega arith))) (one (p r) refl)))
+      (every-append P (keep p (cut n file)) (keep p (r ∷ [])) (every-kept n (λ k h. f k (omega arith)))
+      (one (p r) refl)))
     where
       one : (t : Bool) → p (recordAt file n) ≡ t → every P (keep p (recordAt file n ∷ []))
       one true e =
@@ -32,13 +38,21 @@ module _ (P : Record → Type 0) (p : Record → Bool) (file : List ℕ) where
       one false e = subst⁻¹ (λ (b : Bool). every P (consIf b (recordAt file n) [])) e tt
 
 module _ (p : Record → Bool) (file : List ℕ) (most : ℕ) where
-  pub few : (n : ℕ) → ((k : ℕ) → k < n → p (recordAt file k) ≡ true → count p (earlier file k) < most) → count p (cut n file) ≤ most
+  pub few : (n : ℕ) → ((k : ℕ) → k < n → p (recordAt file k) ≡ true → count p (earlier file k) < most) → count p
+      (cut n file) ≤ most
   few zero f = omega arith
   few (suc n) f = go (p (recordAt file n)) refl (few n (λ k h. f k (omega arith)))
     where
       go : (t : Bool) → p (recordAt file n) ≡ t → count p (cut n file) ≤ most → count p (cut (suc n) file) ≤ most
       go true e h =
-          omega (arith, f n (omega arith) e, count-earlier p file n, ap (count p) (cut-more n file), counts-one p (cut n file) (recordAt file n) e)
+          omega (
+            arith,
+            f n (omega arith) e,
+            count-earlier p file n,
+            ap (count p) (cut-more n file),
+            counts-one p
+                (cut n file) (recordAt file n) e,
+          )
       go false e h =
           omega (arith, ap (count p) (cut-more n file), counts-not p (cut n file) (recordAt file n) e)
 

@@ -1,24 +1,21 @@
 -- The check's claim: a refusal comes exactly when it is the first to hold. Any table with rising numbers, then this one.
 -- Assumes nothing.
-use Prim.Native.Nat.{ℕ, zero, suc, _+_, _≤_, _<_}
+use Prim.Native.Nat.{ℕ, zero, suc, _≤_, _<_}
 use mathlib.Core.Path.{_≡_, refl, sym, ap, subst, _∙_}
-use mathlib.Core.Bool.{Bool, true, false, _&&_, _||_, cond}
+use mathlib.Core.Bool.{Bool, true, false}
 use mathlib.Core.List.{List, [], _∷_}
 use mathlib.Core.Logic.{_⊎_, inl, inr, ⊎-elim}
 use lib.Dec.{eqb, ltb, lit<}
 use native.Mathlib.Omega.{arith}
-use native.Mathlib.Numerals.{add-one}
 use borrow.Author.Count.{below-more}
 use borrow.Author.Tests.{eq-eqb, ne-eqb, eqb-true, eqb-false, ltb-true, ltb-false}
-use Rattle.exact.specs.Lists.{any}
 use Rattle.record.specs.Layout.{Record}
 use Rattle.record.proofs.Within.{never}
-use Rattle.account.specs.Answers.{numberOf, recordOf, refusal}
+use Rattle.account.specs.Answers.{numberOf, recordOf}
 use Rattle.account.specs.Check.{Refusal, firstOf, refusals, faultOf, tooLong, cutRecord, checked}
 use Rattle.account.specs.Claims.{Iff, givenIn, holdsAt, Gives, First, Clean, Exactly}
 use Rattle.account.specs.Records.{recordAt, recordCount, earlier}
 use Rattle.account.specs.declared.answers.Answer.{Answer}
-use Rattle.account.specs.declared.answers.Answer.the-variants.{Accepted, TooLong, CutRecord}
 use Rattle.account.proofs.Firsts.{number-refusal, record-refusal}
 use Rattle.account.proofs.Laid.{Faultless}
 use Rattle.account.proofs.Verdict.{stops, ends, too-long, cut-short, by-records, fault-number}
@@ -28,7 +25,8 @@ abbrev Rising : ℕ → List Refusal → Type 0
 Rising low [] = Unit
 Rising low (x ∷ xs) = (low < x .number) × Rising (x .number) xs
 
-off : (x : Refusal) (xs : List Refusal) (m : ℕ) → (x .number ≡ m → ⊥) → givenIn xs m ≡ false → givenIn (x ∷ xs) m ≡ false
+off : (x : Refusal) (xs : List Refusal) (m : ℕ) → (x .number ≡ m → ⊥) → givenIn xs m ≡ false → givenIn
+    (x ∷ xs) m ≡ false
 off x xs m d h = rw (ne-eqb (x .number) m d, h)
 
 none-below : (low : ℕ) (rows : List Refusal) → Rising low rows → (m : ℕ) → m ≤ low → givenIn rows m ≡ false
@@ -118,11 +116,13 @@ rises es r = (lit< tt, (lit< tt, (lit< tt, (lit< tt, (lit< tt, (lit< tt, (lit< t
 
 module _ (file : List ℕ) where
   pub faultless : (k : ℕ) → ((j : ℕ) → j < k → (m : ℕ) → holdsAt file j m ≡ false) → Faultless file k
-  faultless k f j h = clean-back 0 (refusals (earlier file j) (recordAt file j)) (rises (earlier file j) (recordAt file j)) (f j h)
+  faultless k f j h = clean-back 0 (refusals (earlier file j) (recordAt file j))
+      (rises (earlier file j) (recordAt file j)) (f j h)
 
   clean-so-far : (k : ℕ) → Faultless file k → (j : ℕ) → j < k → (m : ℕ) → holdsAt file j m ≡ false
   clean-so-far k fine j h m =
-      none-given 0 (refusals (earlier file j) (recordAt file j)) (rises (earlier file j) (recordAt file j)) (fine j h) m
+      none-given 0 (refusals (earlier file j) (recordAt file j)) (rises (earlier file j) (recordAt file j))
+      (fine j h) m
 
   -- either no record before record k has a fault, or there is a first one that has
   record Fault : Type 0 where
@@ -135,13 +135,23 @@ module _ (file : List ℕ) where
 
   look : (k : ℕ) → k ≤ recordCount file → Faultless file k ⊎ Fault
   look zero h = inl (λ j l. absurd (omega arith))
-  look (suc k) h = ⊎-elim (λ fine. go fine (faultOf (earlier file k) (recordAt file k)) refl) inr (look k (omega arith))
+  look (suc k) h = ⊎-elim (λ fine. go fine (faultOf (earlier file k) (recordAt file k)) refl) inr
+      (look k (omega arith))
     where
-      go : Faultless file k → (n : ℕ) → faultOf (earlier file k) (recordAt file k) ≡ n → Faultless file (suc k) ⊎ Fault
+      go : Faultless file k → (n : ℕ) → faultOf (earlier file k) (recordAt file k) ≡ n → Faultless file
+          (suc k) ⊎ Fault
       go fine zero e =
           inl (λ j l. below-more (λ (i : ℕ). faultOf (earlier file i) (recordAt file i) ≡ 0) k fine e j (omega arith))
       go fine (suc n) e =
-          inr (record { place = k; number = suc n; there = omega arith; fine = fine; is = e; some = λ z. omega arith })
+          inr (record {
+            place = k;
+            number = suc n;
+            there = omega arith;
+            fine = fine;
+            is = e;
+            some =
+                λ z. omega arith;
+          })
 
   -- ---- the verdict, case by case
   abbrev Told : Type 0 → Type 0
@@ -182,7 +192,8 @@ module _ (file : List ℕ) where
   first-of : tooLong file ≡ false → cutRecord file ≡ false → (f : Fault) → First file (f .number) (f .place)
   first-of l w f =
       let k = f .place in
-      let t = leads 0 (refusals (earlier file k) (recordAt file k)) (rises (earlier file k) (recordAt file k)) (f .number) (f .is) (f .some) in
+      let t = leads 0 (refusals (earlier file k) (recordAt file k)) (rises (earlier file k) (recordAt file k))
+      (f .number) (f .is) (f .some) in
       record {
         long = l;
         whole = w;
@@ -199,7 +210,8 @@ module _ (file : List ℕ) where
         number = n;
         there = f .there;
         fine = faultless k (f .before);
-        is = leads-back 0 (refusals (earlier file k) (recordAt file k)) (rises (earlier file k) (recordAt file k)) n (f .holds) (f .first);
+        is = leads-back 0 (refusals (earlier file k) (recordAt file k)) (rises (earlier file k) (recordAt file k)) n
+            (f .holds) (f .first);
         some = λ z. omega arith;
       }
 
@@ -218,7 +230,8 @@ module _ (file : List ℕ) where
       record {
         forth =
             λ g.
-            told (λ p h. differ g h (λ e. omega arith)) (λ p q h. (p, q)) (λ p q fine h. differ g h (λ e. omega arith))
+            told (λ p h. differ g h (λ e. omega arith)) (λ p q h. (p, q))
+            (λ p q fine h. differ g h (λ e. omega arith))
             (λ p q f h. differ g h (λ e. omega (arith, ranged f)));
         back = λ p. gives 2 0 (cut-short file (p .0) (p .1)) refl refl;
       }
@@ -245,7 +258,8 @@ module _ (file : List ℕ) where
             (λ p q fine h. record { long = p; whole = q; none = clean-so-far (recordCount file) fine })
             (λ p q f h. differ g h (λ e. omega (arith, ranged f)));
         back =
-            λ c. gives 0 0 (by-records file (c .long) (c .whole) ∙ ends file (faultless (recordCount file) (c .none))) refl refl;
+            λ c. gives 0 0 (by-records file (c .long) (c .whole) ∙ ends file
+            (faultless (recordCount file) (c .none))) refl refl;
       }
 
   pub exactly : Exactly file

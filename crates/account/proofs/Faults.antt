@@ -2,9 +2,9 @@
 -- Assumes nothing.
 use Prim.Native.Nat.{ℕ, _+_, _*_, _≤_, _<_}
 use mathlib.Core.Path.{_≡_, refl, sym, ap, _∙_}
-use mathlib.Core.Bool.{Bool, false, not, _&&_, _||_}
+use mathlib.Core.Bool.{Bool, false, not, _&&_}
 use mathlib.Core.List.{List, [], _∷_}
-use lib.ListN.{getD, take, drop}
+use lib.ListN.{getD}
 use lib.Dec.{eqb, leb}
 use native.Mathlib.Omega.{arith}
 use Rattle.exact.specs.Lists.{keep, any, count}
@@ -12,16 +12,16 @@ use Rattle.record.specs.Layout.{Record, kind, contract, day, legsOf, legTier, s
 use Rattle.record.specs.Ranges.{unknownKind, unusedByte, fieldOutside}
 use Rattle.record.proofs.Tests.{both}
 use Rattle.record.proofs.Within.{by-kind, kind-known, contract-known, entry-within}
-use Rattle.account.specs.Check.{kindFalls, outOfOrder, none, listsContract, listsDay, listsTier, legUnlisted, unlisted, reached, overLimit, faultOf}
-use Rattle.account.specs.Notes.{part, partOf, inPart, noContract, noDay, noTier, unlistedBy, overLimitBy, promptsNoted, beforeAt, faultAt}
+use Rattle.account.specs.Check.{kindFalls, outOfOrder, none, listsContract, legUnlisted, unlisted, overLimit, faultOf}
+use Rattle.account.specs.Notes.{part, partOf, inPart, noContract, noTier, unlistedBy, overLimitBy, promptsNoted, beforeAt, faultAt}
 use Rattle.account.specs.Parts.{ofKind, ofContract, onDay, onTier, startOf}
 use Rattle.account.specs.Records.{cut, recordAt, recordCount, records, stretch, earlier}
 use Rattle.account.proofs.Dispatch.{listed-2, listed-3, listed-4, listed-5, limit-2, limit-3, limit-4, limit-5}
-use Rattle.account.proofs.Dispatch.{unlisted-1, unlisted-2, unlisted-3, unlisted-4, unlisted-5, over-1, over-2, over-3, over-4, over-5}
+use Rattle.account.proofs.Dispatch.{unlisted-2, unlisted-3, unlisted-4, unlisted-5, over-2, over-3, over-4, over-5}
 use Rattle.account.proofs.Earlier.{any-earlier, count-earlier, stretch-cut}
 use Rattle.account.proofs.Firsts.{same-first}
-use Rattle.account.proofs.Laid.{Faultless, Laid, laid}
-use Rattle.account.proofs.Lists.{Stretch, none-counted, any-keep}
+use Rattle.account.proofs.Laid.{Faultless, laid}
+use Rattle.account.proofs.Lists.{none-counted, any-keep}
 use Rattle.account.proofs.Noted.{Noted, part-is}
 use Rattle.account.proofs.Passed.{part-entry, part-other}
 use Rattle.account.proofs.Walk.{length-cut}
@@ -51,11 +51,13 @@ module _
       let w = s .within in
       ap (λ (i : ℕ). records (stretch file i (getD counts v 0))) (notes .started v h)
       ∙ ap (λ (n : ℕ). records (stretch file (startOf (inPart v) (cut k file)) n)) (notes .counted v h)
-      ∙ stretch-cut file (startOf (inPart v) (cut k file)) (count (inPart v) (cut k file)) k (omega (arith, length-cut k file)) inside
+      ∙ stretch-cut file (startOf (inPart v) (cut k file)) (count (inPart v) (cut k file)) k
+      (omega (arith, length-cut k file)) inside
       ∙ sym (s .kept)
       ∙ ap (λ (p : Record → Bool). keep p (cut k file)) (part-is 2 c (omega arith) hc)
 
-  none-among : (c : ℕ) → c ≤ 15 → (q : Record → Bool) → not (any q (promptsNoted file first counts c)) ≡ none (λ e. ofContract 2 c e && q e) (earlier file k)
+  none-among : (c : ℕ) → c ≤ 15 → (q : Record → Bool) → not (any q (promptsNoted file first counts c)) ≡ none
+      (λ e. ofContract 2 c e && q e) (earlier file k)
   none-among c hc q =
       ap (λ (rs : List Record). not (any q rs)) (prompts-are c hc) ∙ ap not (any-keep (ofContract 2 c) q (cut k file))
       ∙ ap not (sym (any-earlier (λ e. ofContract 2 c e && q e) file k))
@@ -77,7 +79,8 @@ module _
       (λ e. listed-3 counts ps r e ∙ both c (none-among (contract r) hc (onDay (day r))) ∙ sym (unlisted-3 es r e))
       (λ e.
       listed-4 counts ps r e
-      ∙ both c (any-same (λ leg. noTier ps (legTier r leg)) (legUnlisted es r) (legsOf r) (λ leg. none-among (contract r) hc (onTier (legTier r leg))))
+      ∙ both c (any-same (λ leg. noTier ps (legTier r leg)) (legUnlisted es r) (legsOf r)
+      (λ leg. none-among (contract r) hc (onTier (legTier r leg))))
       ∙ sym (unlisted-4 es r e))
       (λ e.
       listed-5 counts ps r e ∙ both c (none-listed (secondContract r) (entry-within r e h .seconds))
@@ -102,7 +105,8 @@ module _
     where
       counts-of :
           (n : ℕ) → n ≤ 4 → n < 5 → contract (recordAt file k) ≤ 15 → kind (recordAt file k) ≡ n
-          → getD counts (partOf (recordAt file k)) 0 ≡ count (ofContract n (contract (recordAt file k))) (earlier file k)
+          → getD counts (partOf (recordAt file k)) 0 ≡ count (ofContract n (contract (recordAt file k)))
+          (earlier file k)
       counts-of n hn hs hc e =
           let r = recordAt file k in
           ap (λ (v : ℕ). getD counts v 0) (part-other r (λ z. omega arith) ∙ ap (λ (m : ℕ). 16 * m + contract r) e)
@@ -120,5 +124,7 @@ module _
       let r = recordAt file k in
       let es = earlier file k in
       let ps = promptsNoted file first counts (contract r) in
-      same-first (unknownKind r) (kindFalls (beforeAt file k) r) (unusedByte r) (fieldOutside r) (unlistedBy counts ps r)
-      (outOfOrder (beforeAt file k) r) (overLimitBy counts r) (unlisted es r) (overLimit es r) same-unlisted same-limit
+      same-first (unknownKind r) (kindFalls (beforeAt file k) r) (unusedByte r) (fieldOutside r)
+      (unlistedBy counts ps r)
+      (outOfOrder (beforeAt file k) r) (overLimitBy counts r) (unlisted es r)
+      (overLimit es r) same-unlisted same-limit

@@ -1,10 +1,11 @@
 -- The check on its way: no fault before record k, and the notes are those of the records before it.
 -- Assumes nothing.
-use Prim.Native.Nat.{ℕ, zero, suc, _+_, _*_, _≤_, _<_}
+use Prim.Native.Nat.{ℕ, _+_, _≤_, _<_}
 use mathlib.Core.Path.{_≡_, refl, sym, ap, subst, subst⁻¹, _∙_}
 use mathlib.Core.Bool.{Bool, true, false, cond}
 use mathlib.Core.List.{List, [], _∷_, _++_}
-use lib.ListN.{length, getD, replicate, getD-replicate}
+use lib.ListN.{length, getD, replicate, length-replicate, getD-replicate}
+use lib.Seq.{ext-getD}
 use native.Mathlib.Omega.{arith}
 use native.Mathlib.Numerals.{add-one}
 use borrow.Author.Count.{below-more}
@@ -15,8 +16,8 @@ use Rattle.account.specs.Answers.{numberOf, refusal}
 use Rattle.account.specs.Check.{faultOf, tooLong, cutRecord, checked}
 use Rattle.account.specs.Notes.{partOf, inPart, oneMore, firstAt, faultAt}
 use Rattle.account.specs.Parts.{ofKind, startOf}
-use Rattle.account.specs.Records.{cut, recordAt, records, recordCount, earlier}
-use Rattle.account.specs.Surveyed.{ifAccepted, Surveyed, Empty}
+use Rattle.account.specs.Records.{cut, recordAt, recordCount, earlier}
+use Rattle.account.specs.Surveyed.{ifAccepted, Surveyed, Empty, Alike}
 use Rattle.account.specs.declared.answers.Answer.{Answer}
 use Rattle.account.specs.declared.answers.Answer.the-variants.{Accepted}
 use Rattle.account.specs.declared.check.Survey.{Survey}
@@ -49,7 +50,13 @@ pub record Going (file first counts : List ℕ) (contracts k : ℕ) : Type 0 whe
   pub owned : contracts ≡ count (ofKind 1) (cut k file)
 
 pub going-start : (file : List ℕ) → Going file (replicate 81 0) (replicate 81 0) 0 0
-going-start file = record { inside = omega arith; fine = λ j h. absurd (omega arith); notes = noted-none; owned = refl }
+going-start file = record {
+  inside = omega arith;
+  fine = λ j h. absurd (omega arith);
+  notes = noted-none;
+  owned =
+      refl;
+}
 
 -- ---- what is handed out with a verdict
 pub if-accepted : (a : Answer) (n : ℕ) → a ≡ Accepted → ifAccepted a n ≡ n
@@ -59,18 +66,23 @@ if-refused : (a : Answer) (n : ℕ) → (numberOf a ≡ 0 → ⊥) → ifAccepte
 if-refused a n nz = ap (λ (b : Bool). cond b n 0) (ne-eqb (numberOf a) 0 nz)
 
 -- a refused file
-pub nothing : (file : List ℕ) (a : Answer) (s : Survey) → checked file ≡ a → (numberOf a ≡ 0 → ⊥) → Empty a s → Surveyed file s
+pub nothing : (file : List ℕ) (a : Answer) (s : Survey) → checked file ≡ a →
+    (numberOf a ≡ 0 → ⊥) → Empty a s → Surveyed file s
 nothing file a s e nz h =
     let none : (n : ℕ) → ifAccepted (checked file) n ≡ 0 =
     λ n. ap (λ (b : Answer). ifAccepted b n) e ∙ if-refused a n nz in
     record {
       answer = h .answer ∙ sym e;
       contracts = h .contracts ∙ sym (none _);
+      firsts = ap length (h .first) ∙ length-replicate {A = ℕ} 81 0;
+      sizes = ap length (h .counts) ∙ length-replicate {A = ℕ} 81 0;
       first = λ v l. ap (λ (xs : List ℕ). getD xs v 0) (h .first) ∙ getD-replicate {A = ℕ} 81 v 0 0 l ∙ sym (none _);
-      counts = λ v l. ap (λ (xs : List ℕ). getD xs v 0) (h .counts) ∙ getD-replicate {A = ℕ} 81 v 0 0 l ∙ sym (none _);
+      counts = λ v l. ap (λ (xs : List ℕ). getD xs v 0) (h .counts) ∙ getD-replicate {A = ℕ} 81 v 0 0 l ∙ sym
+          (none _);
     }
 
-module _ {file first counts : List ℕ} {contracts k : ℕ} (g : Going file first counts contracts k) (more : k < recordCount file) where
+module _ {file first counts : List ℕ} {contracts k : ℕ} (g : Going file first counts contracts k)
+    (more : k < recordCount file) where
   fault-is : faultAt file first counts k ≡ faultOf (earlier file k) (recordAt file k)
   fault-is = same-fault file first counts k (g .notes) (g .fine) (g .inside)
 
@@ -114,8 +126,10 @@ module _ {file first counts : List ℕ} {contracts k : ℕ} (g : Going file firs
           inside = omega arith;
           fine = below-more (λ (j : ℕ). faultOf (earlier file j) (recordAt file j) ≡ 0) k (g .fine) no-fault;
           notes =
-              subst (λ (rs : List Record). Noted (firstAt first counts (partOf (recordAt file k)) k) (oneMore counts (partOf (recordAt file k))) rs) (sym grown)
-              (subst (λ (n : ℕ). Noted (firstAt first counts (partOf (recordAt file k)) n) (oneMore counts (partOf (recordAt file k))) (cut k file ++ recordAt file k ∷ []))
+              subst (λ (rs : List Record). Noted (firstAt first counts (partOf (recordAt file k)) k)
+              (oneMore counts (partOf (recordAt file k))) rs) (sym grown)
+              (subst (λ (n : ℕ). Noted (firstAt first counts (partOf (recordAt file k)) n)
+              (oneMore counts (partOf (recordAt file k))) (cut k file ++ recordAt file k ∷ []))
               (length-cut k file) (noted-more first counts (cut k file) (g .notes) (recordAt file k) known));
           owned =
               let a = count-append (ofKind 1) (cut k file) (recordAt file k ∷ []) in
@@ -138,7 +152,8 @@ module _ {file first counts : List ℕ} {contracts k : ℕ} (g : Going file firs
         (ho ∙ ap (λ (x : Record). oneIf (ofKind 1 x)) hr) going-next))
 
 -- ---- the end
-module _ {file first counts : List ℕ} {contracts k : ℕ} (g : Going file first counts contracts k) (done : recordCount file ≤ k) where
+module _ {file first counts : List ℕ} {contracts k : ℕ} (g : Going file first counts contracts k)
+    (done : recordCount file ≤ k) where
   at-end : k ≡ recordCount file
   at-end =
       let i = g .inside in
@@ -148,13 +163,17 @@ module _ {file first counts : List ℕ} {contracts k : ℕ} (g : Going file firs
   going-ends a b = by-records file a b ∙ ends file (subst (Faultless file) at-end (g .fine))
 
   pub surveyed :
-      (s : Survey) → checked file ≡ Accepted → s .answer ≡ Accepted → s .contracts ≡ contracts → s .first ≡ first → s .counts ≡ counts
+      (s : Survey) → checked file ≡ Accepted → s .answer ≡ Accepted → s .contracts ≡ contracts → s .first ≡ first →
+      s .counts ≡ counts
       → Surveyed file s
   surveyed s e a o f n =
       record {
         answer = a ∙ sym e;
         contracts =
-            o ∙ g .owned ∙ ap (λ (m : ℕ). count (ofKind 1) (cut m file)) at-end ∙ sym (if-accepted (checked file) _ e);
+            o ∙ g .owned ∙ ap (λ (m : ℕ). count (ofKind 1) (cut m file)) at-end ∙ sym
+            (if-accepted (checked file) _ e);
+        firsts = ap length f ∙ g .notes .firsts;
+        sizes = ap length n ∙ g .notes .sizes;
         first =
             λ v h.
             ap (λ (l : List ℕ). getD l v 0) f ∙ g .notes .started v h
@@ -164,3 +183,17 @@ module _ {file first counts : List ℕ} {contracts k : ℕ} (g : Going file firs
             ap (λ (l : List ℕ). getD l v 0) n ∙ g .notes .counted v h
             ∙ ap (λ (m : ℕ). count (inPart v) (cut m file)) at-end ∙ sym (if-accepted (checked file) _ e);
       }
+
+-- the promise leaves one survey
+pub same-survey : (file : List ℕ) (s t : Survey) → Surveyed file s → Surveyed file t → Alike s t
+same-survey file s t a b =
+    record {
+      answer = a .answer ∙ sym (b .answer);
+      contracts = a .contracts ∙ sym (b .contracts);
+      first =
+          ext-getD 0 (s .first) (t .first) (a .firsts ∙ sym (b .firsts))
+          (λ v h. a .first v (omega (arith, a .firsts)) ∙ sym (b .first v (omega (arith, a .firsts))));
+      counts =
+          ext-getD 0 (s .counts) (t .counts) (a .sizes ∙ sym (b .sizes))
+          (λ v h. a .counts v (omega (arith, a .sizes)) ∙ sym (b .counts v (omega (arith, a .sizes))));
+    }

@@ -2,14 +2,13 @@
 -- end.
 -- Assumes nothing.
 use Prim.Native.Nat.{ℕ, zero, suc, _+_, _≤_, _<_}
-use mathlib.Core.Path.{_≡_, refl, sym, ap, subst, _∙_}
+use mathlib.Core.Path.{_≡_, refl, sym, subst, _∙_}
 use mathlib.Core.Bool.{Bool, true, false}
 use mathlib.Core.List.{List, [], _∷_, _++_}
 use lib.ListN.{length}
-use lib.Dec.{eqb}
 use native.Mathlib.Omega.{arith}
 use native.Mathlib.Nat.{le-refl}
-use borrow.Author.Tests.{eq-eqb, eqb-true, ltb-false}
+use borrow.Author.Tests.{eq-eqb, eqb-true}
 use Rattle.exact.specs.Lists.{count}
 use Rattle.record.specs.Layout.{Record, kind, contract}
 use Rattle.account.specs.Check.{faultOf}
@@ -42,11 +41,13 @@ module _ (xs : List Record) (top : ℕ) (old : Laid xs top) (r : Record) (k : Kn
   ours = mine r k (partOf r) (part-bound r k) ∙ eq-eqb (partOf r) (partOf r) refl
 
   -- where the record's part has records, it is the latest one
-  so-far : 0 < count (inPart (partOf r)) xs → startOf (inPart (partOf r)) xs + count (inPart (partOf r)) xs ≡ length xs
+  so-far : 0 < count (inPart (partOf r)) xs → startOf (inPart (partOf r)) xs + count
+      (inPart (partOf r)) xs ≡ length xs
   so-far h =
       let u = old .upto (partOf r) (part-bound r k) h in
       let e : top ≡ partOf r = omega arith in
-      subst (λ (v : ℕ). 0 < count (inPart v) xs → startOf (inPart v) xs + count (inPart v) xs ≡ length xs) e (old .latest) h
+      subst (λ (v : ℕ). 0 < count (inPart v) xs → startOf (inPart v) xs + count (inPart v) xs ≡ length xs) e
+      (old .latest) h
 
   laid-more : Laid (xs ++ r ∷ []) (partOf r)
   laid-more =
@@ -76,7 +77,7 @@ module _ (file : List ℕ) where
   passed-at k fine j h = passed (earlier file j) (recordAt file j) (fine j h)
 
   -- what the record before is known to be
-  before-known : (k : ℕ) → Faultless file k → (kind (beforeAt file k) ≤ 5) × (contract (beforeAt file k) ≤ 15)
+  pub before-known : (k : ℕ) → Faultless file k → (kind (beforeAt file k) ≤ 5) × (contract (beforeAt file k) ≤ 15)
   before-known zero fine = (omega arith, omega arith)
   before-known (suc k) fine =
       let b = known-of (recordAt file k) (passed-at (suc k) fine k (omega arith)) in

@@ -13,5 +13,7 @@ pub mod Exactly
 pub mod Every
 pub mod Own
 pub mod Days
+pub mod Named
 pub mod Accepted
+pub mod ByKind
 pub mod Orders

@@ -2,10 +2,10 @@
 -- Assumes nothing.
 use Prim.Native.Nat.{ℕ, zero, suc, _+_, _-_, _≤_, _<_}
 use mathlib.Core.Path.{_≡_, refl, sym, ap, _∙_}
-use mathlib.Core.Bool.{Bool, true, false, not, _&&_, _||_, cond}
+use mathlib.Core.Bool.{Bool, true, false, not, _&&_}
 use mathlib.Core.List.{List, [], _∷_, _++_, append-nil}
-use lib.ListN.{length, take, drop, length-append, length-take, length-drop}
-use lib.Seq.{take-all, take-append-le, drop-append-le, drop-append-seam, length-take-le}
+use lib.ListN.{length, take, drop, length-append, length-drop}
+use lib.Seq.{take-all, take-append-le, drop-append-le, drop-append-seam}
 use lib.Dec.{eqb}
 use native.Mathlib.Omega.{arith}
 use native.Mathlib.Numerals.{add-one}
@@ -132,7 +132,12 @@ part-end :
 part-end n s xs r h =
     let l : length (drop s xs) ≡ length xs - s = length-drop s xs in
     let m : length (drop s xs ++ r ∷ []) ≡ length (drop s xs) + 1 = length-append (drop s xs) (r ∷ []) in
-    rw (drop-append-le s xs (r ∷ []) (omega arith), take-all (n + 1) (drop s xs ++ r ∷ []) (omega arith), take-all n (drop s xs) (omega arith))
+    rw (
+      drop-append-le s xs (r ∷ []) (omega arith),
+      take-all (n + 1) (drop s xs ++ r ∷ []) (omega arith),
+      take-all n
+          (drop s xs) (omega arith),
+    )
 
 module _ (p : Record → Bool) (xs : List Record) (r : Record) (old : Stretch p xs) where
   longer : length (xs ++ r ∷ []) ≡ length xs + 1

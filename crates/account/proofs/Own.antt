@@ -1,7 +1,7 @@
 -- The contracts of a faultless file come first in it, and there are at most sixteen.
 -- Assumes nothing.
 use Prim.Native.Nat.{ℕ, zero, suc, _+_, _≤_, _<_}
-use mathlib.Core.Path.{_≡_, refl, sym, ap, subst⁻¹, _∙_}
+use mathlib.Core.Path.{_≡_, refl, sym, subst⁻¹, _∙_}
 use mathlib.Core.Bool.{Bool, true, false}
 use mathlib.Core.List.{List, [], _∷_, _++_}
 use lib.ListN.{length, length-append}
@@ -114,6 +114,8 @@ module _ (file : List ℕ) where
           let r = recordAt file k in
           let e = eqb-true (kind r) 1 t in
           own-one (cut k file) (beforeAt file k) r i (known-of r p) up e
-          (λ h. leb-false (contract r) (contract (beforeAt file k)) (right-off (eq-eqb _ _ h) (sym (order-1 (beforeAt file k) r e) ∙ p .ordered)))
+          (λ h. leb-false (contract r) (contract (beforeAt file k))
+          (right-off (eq-eqb _ _ h) (sym (order-1 (beforeAt file k) r e) ∙ p .ordered)))
       go b p i up false t =
-          own-other (cut k file) (beforeAt file k) (recordAt file k) i (known-of (recordAt file k) p) up (eqb-false _ _ t)
+          own-other (cut k file) (beforeAt file k) (recordAt file k) i (known-of (recordAt file k) p) up
+          (eqb-false _ _ t)

@@ -1,19 +1,19 @@
 -- A record with no fault: each of the seven refusals is off, it belongs to one part, and its part is not below that of the
 -- record before.
 -- Assumes nothing.
-use Prim.Native.Nat.{ℕ, zero, suc, _+_, _*_, _/_, _%_, _≤_, _<_}
+use Prim.Native.Nat.{ℕ, _+_, _*_, _/_, _%_, _≤_, _<_}
 use mathlib.Core.Path.{_≡_, refl, sym, ap, _∙_}
-use mathlib.Core.Bool.{Bool, true, false, _&&_, _||_, cond}
-use mathlib.Core.List.{List, []}
-use lib.Dec.{eqb, leb, ltb}
+use mathlib.Core.Bool.{Bool, true, false, _&&_}
+use mathlib.Core.List.{List}
+use lib.Dec.{eqb, ltb}
 use native.Mathlib.Omega.{arith}
 use borrow.Author.Tests.{eq-eqb, ne-eqb, eqb-true, eqb-false, leb-false, ltb-false}
-use Rattle.record.specs.Layout.{Record, kind, contract, day}
+use Rattle.record.specs.Layout.{Record, kind, contract}
 use Rattle.record.specs.Ranges.{unknownKind, unusedByte, fieldOutside}
 use Rattle.record.proofs.Within.{both-true, neither, by-kind, kind-known, contract-known}
-use Rattle.account.specs.Check.{theOneBefore, kindFalls, unlisted, outOfOrder, overLimit, faultOf, numberNotAbove, dayNotAbove, tierFalls, contractFalls, legsClash}
-use Rattle.account.specs.Notes.{part, partOf, inPart}
-use Rattle.account.specs.Parts.{ofKind, ofContract}
+use Rattle.account.specs.Check.{theOneBefore, kindFalls, unlisted, outOfOrder, overLimit, faultOf, dayNotAbove, tierFalls, contractFalls, legsClash}
+use Rattle.account.specs.Notes.{partOf, inPart}
+use Rattle.account.specs.Parts.{ofContract}
 use Rattle.account.proofs.Dispatch.{order-1, order-2, order-3, order-4}
 use Rattle.account.proofs.Firsts.{seven}
 
@@ -79,7 +79,8 @@ both-hold : {a b : Bool} → a ≡ true → b ≡ true → a && b ≡ true
 both-hold p q = rw (p, q)
 
 module _ (r : Record) (k : Known r) where
-  part-cases : (P : Type 0) → (kind r ≡ 5 → partOf r ≡ 80 → P) → (kind r < 5 → partOf r ≡ 16 * kind r + contract r → P) → P
+  part-cases : (P : Type 0) → (kind r ≡ 5 → partOf r ≡ 80 → P) →
+      (kind r < 5 → partOf r ≡ 16 * kind r + contract r → P) → P
   part-cases P f g = go (eqb (kind r) 5) refl
     where
       go : (t : Bool) → eqb (kind r) 5 ≡ t → P
@@ -141,7 +142,8 @@ module _ (before r : Record) (off : outOfOrder before r ≡ false) where
       let f = neither (ltb (contract r) (contract before)) _ t in
       ltb-false _ _ (f .0))
       (λ _ e b. falls (b ∙ sym e) (sym (order-3 before r e) ∙ off))
-      (λ _ e b. falls (b ∙ sym e) (neither (contractFalls before r) (legsClash r) (sym (order-4 before r e) ∙ off) .0))
+      (λ _ e b. falls (b ∙ sym e) (neither (contractFalls before r) (legsClash r)
+      (sym (order-4 before r e) ∙ off) .0))
       (λ s e b. absurd (omega arith)) n l h s e b
     where
       falls : kind before ≡ kind r → contractFalls before r ≡ false → contract before ≤ contract r

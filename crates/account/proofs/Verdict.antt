@@ -1,11 +1,10 @@
 -- The verdict, from the faults of the records: the first fault answers, and without one the file is accepted.
 -- Assumes nothing.
 use Prim.Native.Nat.{ℕ, zero, suc, _+_, _-_, _*_, _≤_, _<_}
-use mathlib.Core.Path.{_≡_, refl, sym, ap, _∙_}
+use mathlib.Core.Path.{_≡_, sym, ap, _∙_}
 use mathlib.Core.Bool.{Bool, true, false, cond}
 use mathlib.Core.List.{List, [], _∷_}
-use lib.ListN.{length, drop}
-use lib.Dec.{eqb}
+use lib.ListN.{drop}
 use native.Mathlib.Omega.{arith}
 use native.Mathlib.Numerals.{add-one}
 use borrow.Author.Tests.{ne-eqb}
@@ -27,7 +26,8 @@ module _ (file : List ℕ) where
 
   abbrev rest : ℕ → Answer
   rest k =
-      firstFault (k + 1) (recordAt file k ∷ earlier file k) (cut (recordCount file - (k + 1)) (drop ((k + 1) * 96) file))
+      firstFault (k + 1) (recordAt file k ∷ earlier file k)
+      (cut (recordCount file - (k + 1)) (drop ((k + 1) * 96) file))
 
   step : (k : ℕ) → k < recordCount file → fromOn k ≡ orElse (faultOf (earlier file k) (recordAt file k)) k (rest k)
   step k h = ap (firstFault k (earlier file k)) (cut-on file (recordCount file) k h)
@@ -46,7 +46,8 @@ module _ (file : List ℕ) where
       ∙ ap (λ (n : ℕ). orElse n k (rest k)) (fine k (omega arith)) ∙ on k ∙ ap fromOn (add-one k)
 
   pub stops :
-      (k n : ℕ) → k < recordCount file → Faultless file k → faultOf (earlier file k) (recordAt file k) ≡ n → (n ≡ 0 → ⊥)
+      (k n : ℕ) → k < recordCount file → Faultless file k → faultOf (earlier file k) (recordAt file k) ≡ n →
+      (n ≡ 0 → ⊥)
       → firstFault 0 [] (records file) ≡ refusal n k
   stops k n h fine e nz =
       reach k (omega arith) fine ∙ step k h ∙ ap (λ (m : ℕ). orElse m k (rest k)) e

@@ -3,13 +3,14 @@
 -- Assumes nothing.
 use Prim.Native.Nat.{ℕ, _≤_}
 use mathlib.Core.Path.{_≡_}
+use mathlib.Core.Bool.{Bool, true}
 use mathlib.Core.List.{List, [], _∷_}
 use lib.ListN.{length}
-use Rattle.exact.specs.Lists.{count}
-use Rattle.record.specs.Layout.{Record, day}
+use Rattle.exact.specs.Lists.{any, count}
+use Rattle.record.specs.Layout.{Record, contract, day, secondContract}
 use Rattle.record.specs.Within.{ContractWithin, PromptWithin, RowWithin, SpreadWithin, EntryWithin}
 use Rattle.account.specs.Notes.{part, entryPart}
-use Rattle.account.specs.Parts.{onDay, contractsOf, promptsOf, rowsOf, spreadsOf, entriesOf}
+use Rattle.account.specs.Parts.{ofContract, onDay, contractsOf, promptsOf, rowsOf, spreadsOf, entriesOf}
 use Rattle.account.specs.Records.{records, stretch}
 use Rattle.account.specs.Surveyed.{contractCount, partStart, partCount}
 
@@ -47,8 +48,25 @@ pub record Limits (rs : List Record) : Type 0 where
 abbrev pub OnePrompt : List Record → Type 0
 OnePrompt rs = (c : ℕ) → every (λ r. count (onDay (day r)) (promptsOf c rs) ≡ 1) (rowsOf c rs)
 
+-- what a record names is listed, each contract once
+abbrev pub listed : ℕ → List Record → Bool
+listed c rs = any (ofContract 1 c) rs
+
+pub record EntryNamed (rs : List Record) (e : Record) : Type 0 where
+  pub first : listed (contract e) rs ≡ true
+  pub second : listed (secondContract e) rs ≡ true
+  pub apart : contract e ≡ secondContract e → ⊥
+
+pub record Named (rs : List Record) : Type 0 where
+  pub once : (c : ℕ) → count (ofContract 1 c) rs ≤ 1
+  pub prompts : (c : ℕ) → every (λ r. listed c rs ≡ true) (promptsOf c rs)
+  pub rows : (c : ℕ) → every (λ r. listed c rs ≡ true) (rowsOf c rs)
+  pub spreads : (c : ℕ) → every (λ r. listed c rs ≡ true) (spreadsOf c rs)
+  pub entries : every (EntryNamed rs) (entriesOf rs)
+
 pub record Accepts (file : List ℕ) : Type 0 where
   pub standing : Standing file
   pub ranges : Ranges (records file)
   pub limits : Limits (records file)
   pub onePrompt : OnePrompt (records file)
+  pub named : Named (records file)

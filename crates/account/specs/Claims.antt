@@ -3,12 +3,16 @@
 -- Assumes nothing.
 use Prim.Native.Nat.{ℕ, _≤_, _<_}
 use mathlib.Core.Path.{_≡_}
-use mathlib.Core.Bool.{Bool, true, false, _&&_}
-use mathlib.Core.List.{List}
+use mathlib.Core.Bool.{Bool, true, false, _&&_, _||_, cond}
+use mathlib.Core.List.{List, [], _∷_}
 use lib.Dec.{eqb}
 use Rattle.exact.specs.Lists.{any}
+use Rattle.record.specs.Layout.{Record, byKind, kind, contract}
+use Rattle.record.specs.Ranges.{unknownKind, fieldOutside}
 use Rattle.account.specs.Answers.{numberOf, recordOf}
 use Rattle.account.specs.Check.{Refusal, refusals, tooLong, cutRecord, checked}
+use Rattle.account.specs.Check.{theOneBefore, kindFalls, numberNotAbove, dayNotAbove, tierFalls, contractFalls, legsClash, withItself, outOfOrder, faultOf}
+use Rattle.account.specs.Parts.{ofKind, ofContract}
 use Rattle.account.specs.Records.{recordAt, recordCount, earlier}
 
 pub record Iff (A B : Type 0) : Type 0 where
@@ -50,3 +54,29 @@ pub record Exactly (file : List ℕ) : Type 0 where
   pub others : (n k : ℕ) → 3 ≤ n → n ≤ 9 → Iff (Gives file n k) (First file n k)
   pub accepted : Iff (Gives file 0 0) (Clean file)
   pub most : numberOf (checked file) ≤ 9
+
+-- "the one before of its kind", "the prompt before it in its contract": the latest earlier record that passes a test, and
+-- where none does one of no bytes
+abbrev pub latest : (Record → Bool) → List Record → Record
+latest p [] = []
+latest p (e ∷ es) = cond (p e) e (latest p es)
+
+-- refusal 8 in these words
+abbrev pub outOfOrderByKind : List Record → Record → Bool
+outOfOrderByKind es r =
+    byKind (kind r)
+    (numberNotAbove (latest (ofKind 1) es) r)
+    (dayNotAbove (latest (ofKind 2) es) r || tierFalls (latest (ofContract 2 (contract r)) es) r)
+    (contractFalls (latest (ofKind 3) es) r)
+    (contractFalls (latest (ofKind 4) es) r || legsClash r)
+    (withItself r)
+    false
+
+-- it comes to the same at every record that the check comes to and that has no 3, 4 or 6
+abbrev pub ByKind : List ℕ → Type 0
+ByKind file =
+    (k : ℕ) → ((j : ℕ) → j < k → faultOf (earlier file j) (recordAt file j) ≡ 0)
+    → unknownKind (recordAt file k) ≡ false → kindFalls (theOneBefore (earlier file k)) (recordAt file k) ≡ false
+    → fieldOutside (recordAt file k) ≡ false
+    → outOfOrder (theOneBefore (earlier file k)) (recordAt file k) ≡ outOfOrderByKind (earlier file k)
+    (recordAt file k)

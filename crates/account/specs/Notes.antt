@@ -1,8 +1,8 @@
--- What the check notes of the records passed, so that no record is read again: of each part how many records it has and
--- where it begins. A part is the contract's own record, its prompts, its rows or its interprompt spreads, or all the
+-- What the check notes of the records passed, so that it never searches back over the file: of each part how many records
+-- it has and where it begins. A part is the contract's own record, its prompts, its rows or its interprompt spreads, or all the
 -- intercontract spreads.
 -- Assumes nothing.
-use Prim.Native.Nat.{ℕ, zero, suc, _+_, _-_, _*_, _/_, _%_}
+use Prim.Native.Nat.{ℕ, _+_, _*_, _/_, _%_}
 use mathlib.Core.Bool.{Bool, false, not, _||_, cond}
 use mathlib.Core.List.{List, [], _∷_}
 use lib.ListN.{getD, set}
@@ -10,7 +10,7 @@ use lib.Dec.{eqb, leb}
 use Rattle.exact.specs.Lists.{any}
 use Rattle.record.specs.Layout.{Record, byKind, kind, contract, day, legsOf, legTier, secondContract}
 use Rattle.record.specs.Ranges.{unknownKind, unusedByte, fieldOutside}
-use Rattle.account.specs.Check.{theOneBefore, kindFalls, outOfOrder, mostPrompts, mostRows, mostSpreads, mostEntries, _when_, Refusal, firstOf}
+use Rattle.account.specs.Check.{theOneBefore, kindFalls, outOfOrder, mostPrompts, mostRows, mostSpreads, mostEntries, _when_, firstOf}
 use Rattle.account.specs.Parts.{ofKind, ofContract, onDay, onTier}
 use Rattle.account.specs.Records.{recordAt, stretch, records, earlier}
 
@@ -72,9 +72,12 @@ faultBy counts prompts before r =
 abbrev pub beforeAt : List ℕ → ℕ → Record
 beforeAt file k = theOneBefore (earlier file k)
 
--- the prompts noted for a contract
+-- a part as it stands in the file, by what is noted of it
+abbrev pub partAt : List ℕ → List ℕ → List ℕ → ℕ → List ℕ
+partAt file first counts v = stretch file (getD first v 0) (getD counts v 0)
+
 abbrev pub promptsNoted : List ℕ → List ℕ → List ℕ → ℕ → List Record
-promptsNoted file first counts c = records (stretch file (getD first (part 2 c) 0) (getD counts (part 2 c) 0))
+promptsNoted file first counts c = records (partAt file first counts (part 2 c))
 
 abbrev pub faultAt : List ℕ → List ℕ → List ℕ → ℕ → ℕ
 faultAt file first counts k =

@@ -3,9 +3,9 @@
 -- Assumes nothing.
 use Prim.Native.Nat.{ℕ, _<_}
 use mathlib.Core.Path.{_≡_}
-use mathlib.Core.Bool.{Bool, cond}
+use mathlib.Core.Bool.{cond}
 use mathlib.Core.List.{List}
-use lib.ListN.{getD, replicate}
+use lib.ListN.{length, getD, replicate}
 use lib.Dec.{eqb}
 use Rattle.exact.specs.Lists.{count}
 use Rattle.account.specs.Answers.{numberOf}
@@ -31,7 +31,9 @@ partCount file v = ifAccepted (checked file) (count (inPart v) (records file))
 pub record Surveyed (file : List ℕ) (s : Survey) : Type 0 where
   pub answer : s .answer ≡ checked file
   pub contracts : s .contracts ≡ contractCount file
+  pub firsts : length (s .first) ≡ 81
   pub first : (v : ℕ) → v < 81 → getD (s .first) v 0 ≡ partStart file v
+  pub sizes : length (s .counts) ≡ 81
   pub counts : (v : ℕ) → v < 81 → getD (s .counts) v 0 ≡ partCount file v
 
 -- a verdict with no parts
@@ -40,3 +42,10 @@ pub record Empty (a : Answer) (s : Survey) : Type 0 where
   pub contracts : s .contracts ≡ 0
   pub first : s .first ≡ replicate 81 0
   pub counts : s .counts ≡ replicate 81 0
+
+-- two that agree in everything
+pub record Alike (s t : Survey) : Type 0 where
+  pub answer : s .answer ≡ t .answer
+  pub contracts : s .contracts ≡ t .contracts
+  pub first : s .first ≡ t .first
+  pub counts : s .counts ≡ t .counts

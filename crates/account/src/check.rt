@@ -1,23 +1,23 @@
 // The check of an account file, and what it hands out with its verdict: where the parts of an accepted file stand.
 ghost use mathlib.Core.Path.{_≡_};
-ghost use lib.ListN.{replicate};
+ghost use Prim.Native.Nat.{_<_};
+ghost use lib.ListN.{length, getD};
 ghost use Rattle.exact.specs.Lists.{oneIf};
 ghost use Rattle.account.specs.Check.{checked};
+ghost use Rattle.account.specs.Notes.{oneMore, firstAt};
 ghost use Rattle.account.specs.Parts.{ofKind};
 ghost use Rattle.account.specs.Surveyed.{Surveyed, Empty};
 use crate::answers::Answer;
 use crate::answers::refusal;
 use crate::fault::fault_at;
-use crate::notes::note_first;
-use crate::notes::note_one;
+use crate::notes::noted;
 use crate::notes::part_of;
 use crate::stretches::record_at;
 use crate::stretches::record_count;
+use record::bytes::RECORD_BYTES;
 use record::fields::kind;
 
-const MOST_BYTES: usize = 61440;
-
-const RECORD_BYTES: usize = 96;
+const MOST_BYTES: usize = 640 * RECORD_BYTES;
 
 const PARTS: usize = 81;
 
@@ -27,8 +27,8 @@ const PARTS: usize = 81;
 pub struct Survey {
     pub answer: Answer,
     pub contracts: usize,
-    pub first: [usize; 81],
-    pub counts: [usize; 81],
+    pub first: [usize; PARTS],
+    pub counts: [usize; PARTS],
 }
 
 fn refused(answer: Answer) -> Survey
@@ -37,9 +37,25 @@ fn refused(answer: Answer) -> Survey
     Survey {
         answer,
         contracts: 0,
-        first: [0; 81],
-        counts: [0; 81],
+        first: [0; PARTS],
+        counts: [0; PARTS],
     }
+}
+
+fn note_first(first: &mut [usize], counts: &[usize], v: usize, k: usize)
+    requires { ⌜ v < length (now first) ⌝ }
+    ensures { λ _. ⌜ now (first .exit) ≡ firstAt (now (first .entry)) (now (counts .entry)) v k ⌝ }
+{
+    if noted(counts, v) == 0 {
+        first[v] = k;
+    }
+}
+
+fn note_one(counts: &mut [usize], v: usize)
+    requires { ⌜ (v < length (now counts)) × (getD (now counts) v 0 < 65536) ⌝ }
+    ensures { λ _. ⌜ now (counts .exit) ≡ oneMore (now (counts .entry)) v ⌝ }
+{
+    counts[v] = counts[v] + 1;
 }
 
 fn one_if_contract(r: &[u8]) -> usize
@@ -60,8 +76,8 @@ pub fn take_survey(file: &[u8]) -> Survey
     }
     let count = record_count(file);
     let mut contracts = 0;
-    let mut first = [0usize; 81];
-    let mut counts = [0usize; 81];
+    let mut first = [0usize; PARTS];
+    let mut counts = [0usize; PARTS];
     let mut k = 0;
     while k < count {
         let number = fault_at(file, &first, &counts, k);

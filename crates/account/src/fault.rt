@@ -4,12 +4,12 @@ ghost use Rattle.account.specs.Notes.{faultBy, faultAt};
 ghost use Rattle.account.specs.Records.{records};
 use crate::limits::over_limit;
 use crate::listed::unlisted;
-use crate::notes::noted;
 use crate::order::kind_falls;
 use crate::order::out_of_order;
+use crate::parts::PROMPTS;
+use crate::parts::part_at;
 use crate::stretches::before_at;
 use crate::stretches::record_at;
-use crate::stretches::stretch;
 use record::fields::contract;
 use record::refusals::field_outside;
 use record::refusals::unknown_kind;
@@ -48,7 +48,6 @@ pub fn fault_at(file: &[u8], first: &[usize], counts: &[usize], k: usize) -> usi
     ensures { λ n. ⌜ n ≡ faultAt (now (file .entry)) (now (first .entry)) (now (counts .entry)) k ⌝ }
 {
     let r = record_at(file, k);
-    let v = 32 + contract(r);
-    let prompts = stretch(file, noted(first, v), noted(counts, v));
+    let prompts = part_at(file, first, counts, PROMPTS + contract(r));
     fault(counts, prompts, before_at(file, k), r)
 }

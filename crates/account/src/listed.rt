@@ -6,6 +6,7 @@ ghost use Rattle.record.specs.Layout.{legsOf, legTier};
 ghost use Rattle.account.specs.Notes.{noContract, noDay, noTier, unlistedBy};
 ghost use Rattle.account.specs.Records.{records};
 use crate::notes::noted;
+use crate::parts::OWN;
 use crate::prompts::place_of_day;
 use crate::prompts::place_of_tier;
 use crate::stretches::record_count;
@@ -20,7 +21,7 @@ fn no_contract(counts: &[usize], c: usize) -> bool
     requires { ⌜ c < 256 ⌝ }
     ensures { λ b. ⌜ b ≡ noContract (now (counts .entry)) c ⌝ }
 {
-    noted(counts, 16 + c) == 0
+    noted(counts, OWN + c) == 0
 }
 
 fn no_day(prompts: &[u8], d: usize) -> bool

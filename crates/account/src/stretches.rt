@@ -2,27 +2,28 @@
 ghost use mathlib.Core.Path.{_≡_};
 ghost use Rattle.account.specs.Records.{stretch, recordAt, recordCount};
 ghost use Rattle.account.specs.Notes.{beforeAt};
+use record::bytes::RECORD_BYTES;
 
 // How many whole records a file has.
 pub fn record_count(file: &[u8]) -> usize
     ensures { λ n. ⌜ n ≡ recordCount (now (file .entry)) ⌝ }
 {
-    file.len() / 96
+    file.len() / RECORD_BYTES
 }
 
 // `n` records from record `k` on, or what the file has of them.
 pub fn stretch(file: &[u8], k: usize, n: usize) -> &[u8]
     ensures { λ r. ⌜ now r ≡ stretch (now (file .entry)) k n ⌝ }
 {
-    if file.len() / 96 < k {
+    if file.len() / RECORD_BYTES < k {
         let end = file.len();
         return &file[end..];
     }
-    let start = k * 96;
-    if (file.len() - start) / 96 < n {
+    let start = k * RECORD_BYTES;
+    if (file.len() - start) / RECORD_BYTES < n {
         return &file[start..];
     }
-    let end = start + n * 96;
+    let end = start + n * RECORD_BYTES;
     &file[start..end]
 }
 

@@ -1,7 +1,6 @@
 -- The fields of a record whose kind is known.
 -- Assumes nothing.
-use Prim.Native.Nat.{ℕ}
-use mathlib.Core.Path.{_≡_, refl}
+use mathlib.Core.Path.{_≡_}
 use mathlib.Core.List.{[]}
 use borrow.Author.Tests.{ne-eqb}
 use Rattle.record.specs.Bytes.{Record}

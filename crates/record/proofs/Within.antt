@@ -1,8 +1,8 @@
 -- A record that gets no 6 has every field within its range, kind by kind.
 -- Assumes nothing.
-use Prim.Native.Nat.{ℕ, zero, suc, _+_, _-_, _≤_, _<_}
+use Prim.Native.Nat.{ℕ, zero, suc, _+_, _≤_, _<_}
 use mathlib.Core.Path.{_≡_, refl, sym, ap, _∙_}
-use mathlib.Core.Bool.{Bool, true, false, not, _&&_, _||_}
+use mathlib.Core.Bool.{Bool, true, false, _&&_, _||_}
 use mathlib.Core.List.{List, [], _∷_, map}
 use lib.Dec.{eqb, leb, lit≤}
 use lib.IntN.{ℤ, pos, negsuc, negℤ, natAbs}
@@ -10,7 +10,6 @@ use lib.Signed.{leZ}
 use native.Mathlib.Omega.{arith}
 use borrow.Author.Tests.{leb-true, not-false, eqb-true, eqb-false}
 use mathlib.Core.Logic.{_⊎_, inl, inr, ⊎-elim}
-use Rattle.exact.specs.Lists.{any}
 use Rattle.record.specs.Bytes.{Record, Field, countFrom, numberIn, plain, signed, twosComplement}
 use Rattle.record.specs.Layout.{kind, contract, shortOptionRate, tier, day, spreadRate, outrightRate, rowType, value, put}
 use Rattle.record.specs.Layout.{legCount, ratePerSpread, legTier, legSide, legRatio, secondContract, percent, firstRatio, secondRatio}
@@ -122,7 +121,8 @@ module _ (r : Record) where
             (loss-in 1 16 s (a .1 .1 .1 .1 .1 .1 .1) (b .least) (omega arith));
       }
     where
-      delta-in : (b : Bool) → outside r (deltaField b) ≡ false → natAbs (twosComplement (numberIn (deltaField b) r)) ≤ 10000
+      delta-in : (b : Bool) → outside r (deltaField b) ≡ false → natAbs
+          (twosComplement (numberIn (deltaField b) r)) ≤ 10000
       delta-in true e = sized 10000 0 10000 (numberIn (deltaField true) r) (lit≤ tt) (lit≤ tt) e
       delta-in false e = sized 0 10000 10000 (numberIn (deltaField false) r) (lit≤ tt) (lit≤ tt) e
 

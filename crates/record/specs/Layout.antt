@@ -2,12 +2,12 @@
 -- here and nowhere else.
 -- Assumes nothing.
 use Prim.Native.Nat.{ℕ, _+_, _-_, _*_}
-use mathlib.Core.Bool.{Bool, true, false, cond}
+use mathlib.Core.Bool.{Bool, cond}
 use mathlib.Core.List.{List, [], _∷_, _++_, map}
 use lib.Dec.{eqb}
 use lib.IntN.{ℤ, pos, negℤ}
 pub use Rattle.record.specs.Bytes.{Record, recordBytes, byteAt, u16At, u32At, i32At}
-use Rattle.record.specs.Bytes.{Width, one, two, four, Range, plain, signed, Field, field, numberIn, signedIn, countFrom}
+use Rattle.record.specs.Bytes.{one, two, four, Range, plain, signed, Field, field, numberIn, signedIn, countFrom}
 
 -- "Contract numbers, days and tiers have the same range wherever they stand."
 abbrev pub contracts : Range

@@ -3,6 +3,8 @@ ghost use mathlib.Core.Path.{_≡_};
 ghost use Prim.Native.Nat.{_<_};
 ghost use Rattle.record.specs.Bytes.{byteAt, u16At, u32At, i32At, twosComplement};
 
+pub const RECORD_BYTES: usize = 96;
+
 fn wide(x: u8) -> usize
     ensures { λ n. ⌜ (n ≡ x) × (n < 256) ⌝ }
 {

@@ -4,7 +4,7 @@ ghost use mathlib.Core.List.{map};
 ghost use Prim.Native.Nat.{_<_, _≤_};
 ghost use lib.IntN.{pos, negℤ};
 ghost use Rattle.record.specs.Bytes.{plain, signed, countFrom};
-ghost use Rattle.record.specs.Layout.{contracts, days, tiers, rates, ratios, hundredThousands, values};
+ghost use Rattle.record.specs.Layout.{contracts, days, tiers, rates, ratios, hundredThousands};
 ghost use Rattle.record.specs.Layout.{contractFields, promptFields, rowFields, spreadFields, entryFields};
 ghost use Rattle.record.specs.Layout.{strikeField, deltaField, forward, put, lossField, legFields, thirdLeg};
 ghost use Rattle.record.specs.Ranges.{beyond, outside, outsideAmong};

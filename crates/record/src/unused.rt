@@ -6,10 +6,9 @@ ghost use Rattle.exact.specs.Lists.{any};
 ghost use Rattle.record.specs.Bytes.{countFrom};
 ghost use Rattle.record.specs.Layout.{contractFields, promptFields, rowFields, spreadFields, entryFields};
 ghost use Rattle.record.specs.Ranges.{notZero, unusedBeside};
+use crate::bytes::RECORD_BYTES;
 use crate::bytes::byte_at;
 use crate::fields::leg_count;
-
-const RECORD_BYTES: usize = 96;
 
 fn is_set(r: &[u8], o: usize) -> bool
     ensures { λ b. ⌜ b ≡ notZero (now (r .entry)) o ⌝ }

@@ -27,7 +27,18 @@ returns-7 c = rw (c .if7 .taken)
 returns-8 : tie.Need-returns-8
 returns-8 c =
     let n = c .before .before .before .before .before .before .before .args .number in
-    rw (ne-eqb n 3 (c .before .before .before .before .before .before .if1 .left), ne-eqb n 4 (c .before .before .before .before .before .if2 .left), ne-eqb n 5 (c .before .before .before .before .if3 .left), ne-eqb n 6 (c .before .before .before .if4 .left), ne-eqb n 7 (c .before .before .if5 .left), ne-eqb n 8 (c .before .if6 .left), ne-eqb n 9 (c .if7 .left))
+    rw (
+      ne-eqb n 3 (c .before .before .before .before .before .before .if1 .left),
+      ne-eqb n 4
+          (c .before .before .before .before .before .if2 .left),
+      ne-eqb n 5
+          (c .before .before .before .before .if3 .left),
+      ne-eqb n 6 (c .before .before .before .if4 .left),
+      ne-eqb n 7
+          (c .before .before .if5 .left),
+      ne-eqb n 8 (c .before .if6 .left),
+      ne-eqb n 9 (c .if7 .left),
+    )
 
 pub refusal-spec : {M : Type 1} → statement M
 refusal-spec =

@@ -28,7 +28,8 @@ refused-requires c κs = tt
 returns : tie.Need-returns Inv-loop μ-loop
 returns c =
     let file = c .before .before .before .args .file .now in
-    nothing file TooLong (c .refused .result) (too-long file (lt-ltb 61440 (length file) (c .before .if1 .taken))) (λ z. omega arith) (c .refused .ensures)
+    nothing file TooLong (c .refused .result) (too-long file (lt-ltb 61440 (length file) (c .before .if1 .taken)))
+    (λ z. omega arith) (c .refused .ensures)
 
 refused-requires-2 : tie.Need-refused-requires-2 Inv-loop μ-loop
 refused-requires-2 c κs = tt
@@ -37,7 +38,8 @@ returns-2 : tie.Need-returns-2 Inv-loop μ-loop
 returns-2 c =
     let file = c .before .before .before .before .args .file .now in
     nothing file CutRecord (c .refused2 .result)
-    (cut-short file (le-ltb 61440 (length file) (c .before .before .if1 .left)) (ap not (ne-eqb (length file % 96) 0 (c .before .if2 .taken)))) (λ z. omega arith) (c .refused2 .ensures)
+    (cut-short file (le-ltb 61440 (length file) (c .before .before .if1 .left))
+    (ap not (ne-eqb (length file % 96) 0 (c .before .if2 .taken)))) (λ z. omega arith) (c .refused2 .ensures)
 
 record-count-requires : tie.Need-record-count-requires Inv-loop μ-loop
 record-count-requires c κs = tt
@@ -62,11 +64,16 @@ refused-requires-3 c κs = tt
 
 returns-3 : tie.Need-returns-3 Inv-loop μ-loop
 returns-3 c =
-    let file = c .before .before .before .before .before .before .before .before .before .before .before .before .args .file .now in
+    let file =
+    c .before .before .before .before .before .before .before .before .before .before .before .before .args .file .now in
     let g = c .before .before .before .before .before .before .before .loop .inv in
     let k = c .before .before .before .before .before .before .before .loop .k in
     let more : k < recordCount file = omega arith in
-    going-stops g more (c .before .before .before .fault-at .result) (c .before .before .before .fault-at .ensures) (c .before .before .if3 .taken) (le-ltb 61440 (length file) (c .before .before .before .before .before .before .before .before .before .before .if1 .left)) (ap not (eq-eqb (length file % 96) 0 (c .before .before .before .before .before .before .before .before .before .if2 .left))) (c .refused3 .result)
+    going-stops g more (c .before .before .before .fault-at .result) (c .before .before .before .fault-at .ensures)
+    (c .before .before .if3 .taken) (le-ltb 61440 (length file)
+    (c .before .before .before .before .before .before .before .before .before .before .if1 .left))
+    (ap not (eq-eqb (length file % 96) 0
+    (c .before .before .before .before .before .before .before .before .before .if2 .left))) (c .refused3 .result)
     (subst (λ (a : Answer). Empty a (c .refused3 .result)) (c .before .refusal .ensures) (c .refused3 .ensures))
 
 record-at-requires : tie.Need-record-at-requires Inv-loop μ-loop
@@ -76,46 +83,82 @@ part-of-requires : tie.Need-part-of-requires Inv-loop μ-loop
 part-of-requires c κs = tt
 
 slice-aggregate-note-first : tie.Need-slice-aggregate-note-first Inv-loop μ-loop
-slice-aggregate-note-first c = sym (c .before .before .before .before .before .before .before .before .loop .inv .notes .firsts)
+slice-aggregate-note-first c = sym
+    (c .before .before .before .before .before .before .before .before .loop .inv .notes .firsts)
 
 slice-aggregate-note-first-2 : tie.Need-slice-aggregate-note-first-2 Inv-loop μ-loop
-slice-aggregate-note-first-2 c = sym (c .before .before .before .before .before .before .before .before .before .loop .inv .notes .sizes)
+slice-aggregate-note-first-2 c = sym
+    (c .before .before .before .before .before .before .before .before .before .loop .inv .notes .sizes)
 
 note-first-requires : tie.Need-note-first-requires Inv-loop μ-loop
 note-first-requires c κs =
-    let file = c .before .before .before .before .before .before .before .before .before .before .before .before .before .before .args .file .now in
+    let file =
+    c .before .before .before .before .before .before .before .before .before .before .before .before .before .before .args .file .now in
     let g = c .before .before .before .before .before .before .before .before .before .loop .inv in
     let k = c .before .before .before .before .before .before .before .before .before .loop .k in
     let more : k < recordCount file = omega arith in
-    let none : faultAt file (c .before .before .before .before .before .before .before .before .before .loop .first) (c .before .before .before .before .before .before .before .before .before .loop .counts) k ≡ 0 = sym (c .before .before .before .before .before .fault-at .ensures) ∙ c .before .before .before .before .if3 .left in
-    let v : c .before .before .part-of .result ≡ partOf (recordAt file k) = c .before .before .part-of .ensures ∙ ap partOf (c .before .before .before .record-at .ensures) in
+    let none : faultAt file (c .before .before .before .before .before .before .before .before .before .loop .first)
+    (c .before .before .before .before .before .before .before .before .before .loop .counts) k ≡ 0 = sym
+    (c .before .before .before .before .before .fault-at .ensures)
+    ∙ c .before .before .before .before .if3 .left in
+    let v : c .before .before .part-of .result ≡ partOf (recordAt file k) = c .before .before .part-of .ensures
+    ∙ ap partOf (c .before .before .before .record-at .ensures) in
     omega (arith, part-in g more none, g .notes .firsts)
 
 slice-aggregate-note-one : tie.Need-slice-aggregate-note-one Inv-loop μ-loop
-slice-aggregate-note-one c = sym (c .before .before .before .before .before .before .before .before .before .before .before .before .loop .inv .notes .sizes)
+slice-aggregate-note-one c = sym
+    (c .before .before .before .before .before .before .before .before .before .before .before .before .loop .inv .notes .sizes)
 
 note-one-requires : tie.Need-note-one-requires Inv-loop μ-loop
 note-one-requires c κs =
-    let file = c .before .before .before .before .before .before .before .before .before .before .before .before .before .before .before .before .before .args .file .now in
-    let g = c .before .before .before .before .before .before .before .before .before .before .before .before .loop .inv in
-    let k = c .before .before .before .before .before .before .before .before .before .before .before .before .loop .k in
+    let file =
+    c .before .before .before .before .before .before .before .before .before .before .before .before .before .before .before .before .before .args .file .now in
+    let g =
+    c .before .before .before .before .before .before .before .before .before .before .before .before .loop .inv
+    in
+    let k =
+    c .before .before .before .before .before .before .before .before .before .before .before .before .loop .k in
     let more : k < recordCount file = omega arith in
-    let none : faultAt file (c .before .before .before .before .before .before .before .before .before .before .before .before .loop .first) (c .before .before .before .before .before .before .before .before .before .before .before .before .loop .counts) k ≡ 0 = sym (c .before .before .before .before .before .before .before .before .fault-at .ensures) ∙ c .before .before .before .before .before .before .before .if3 .left in
-    let v : c .before .before .before .before .before .part-of .result ≡ partOf (recordAt file k) = c .before .before .before .before .before .part-of .ensures ∙ ap partOf (c .before .before .before .before .before .before .record-at .ensures) in
-    let n = ap (λ (u : ℕ). getD (c .before .before .before .before .before .before .before .before .before .before .before .before .loop .counts) u 0) v in
-    let l = c .before .before .before .before .before .before .before .before .before .before .before .before .before .before .before .if1 .left in
-    (omega (arith, part-in g more none, g .notes .sizes), omega (arith, count-small g more none, c .before .before .before .before .before .before .before .before .before .before .before .before .before .record-count .ensures))
+    let none : faultAt file
+    (c .before .before .before .before .before .before .before .before .before .before .before .before .loop .first)
+    (c .before .before .before .before .before .before .before .before .before .before .before .before .loop .counts)
+    k ≡ 0 = sym (c .before .before .before .before .before .before .before .before .fault-at .ensures)
+    ∙ c .before .before .before .before .before .before .before .if3 .left in
+    let v : c .before .before .before .before .before .part-of .result ≡ partOf (recordAt file k) =
+    c .before .before .before .before .before .part-of .ensures ∙ ap partOf
+    (c .before .before .before .before .before .before .record-at .ensures) in
+    let n = ap (λ (u : ℕ). getD
+    (c .before .before .before .before .before .before .before .before .before .before .before .before .loop .counts)
+    u 0) v in
+    let l =
+    c .before .before .before .before .before .before .before .before .before .before .before .before .before .before .before .if1 .left in (
+      omega (arith, part-in g more none, g .notes .sizes),
+      omega (
+        arith,
+        count-small g more none,
+        c .before .before .before .before .before .before .before .before .before .before .before .before .before .record-count .ensures,
+      ),
+    )
 
 one-if-contract-requires : tie.Need-one-if-contract-requires Inv-loop μ-loop
 one-if-contract-requires c κs = tt
 
 add-contracts : tie.Need-add-contracts Inv-loop μ-loop
 add-contracts c =
-    let file = c .before .before .before .before .before .before .before .before .before .before .before .before .before .before .before .before .before .before .before .before .args .file .now in
-    let g = c .before .before .before .before .before .before .before .before .before .before .before .before .before .before .before .loop .inv in
-    let k = c .before .before .before .before .before .before .before .before .before .before .before .before .before .before .before .loop .k in
+    let file =
+    c .before .before .before .before .before .before .before .before .before .before .before .before .before .before .before .before .before .before .before .before .args .file .now in
+    let g =
+    c .before .before .before .before .before .before .before .before .before .before .before .before .before .before .before .loop .inv in
+    let k =
+    c .before .before .before .before .before .before .before .before .before .before .before .before .before .before .before .loop .k in
     let more : k < recordCount file = omega arith in
-    omega (arith, owned-small g more, one-at-most (ofKind 1 (c .before .before .before .before .before .before .before .before .before .record-at .result .now)), c .one-if-contract .ensures)
+    omega (
+      arith,
+      owned-small g more,
+      one-at-most (ofKind 1
+          (c .before .before .before .before .before .before .before .before .before .record-at .result .now)),
+      c .one-if-contract .ensures,
+    )
 
 add-k : tie.Need-add-k Inv-loop μ-loop
 add-k c = omega arith
@@ -125,20 +168,29 @@ loop-less c = omega arith
 
 loop-again : tie.Need-loop-again Inv-loop μ-loop
 loop-again c =
-    let file = c .before .before .before .before .before .before .before .before .before .before .before .before .before .before .before .before .before .before .before .before .args .file .now in
-    let g = c .before .before .before .before .before .before .before .before .before .before .before .before .before .before .before .loop .inv in
-    let k = c .before .before .before .before .before .before .before .before .before .before .before .before .before .before .before .loop .k in
+    let file =
+    c .before .before .before .before .before .before .before .before .before .before .before .before .before .before .before .before .before .before .before .before .args .file .now in
+    let g =
+    c .before .before .before .before .before .before .before .before .before .before .before .before .before .before .before .loop .inv in
+    let k =
+    c .before .before .before .before .before .before .before .before .before .before .before .before .before .before .before .loop .k in
     let more : k < recordCount file = omega arith in
-    let none : faultAt file (c .before .before .before .before .before .before .before .before .before .before .before .before .before .before .before .loop .first) (c .before .before .before .before .before .before .before .before .before .before .before .before .before .before .before .loop .counts) k ≡ 0 = sym (c .before .before .before .before .before .before .before .before .before .before .before .fault-at .ensures) ∙ c .before .before .before .before .before .before .before .before .before .before .if3 .left in
-    going-on g more none (c .before .before .before .before .before .note-first .ensures) (c .before .before .note-one .ensures)
-    (c .before .before .before .before .before .before .before .before .part-of .ensures ∙ ap partOf (c .before .before .before .before .before .before .before .before .before .record-at .ensures)) (c .one-if-contract .ensures) (c .before .before .before .before .before .before .before .before .before .record-at .ensures)
+    let none : faultAt file
+    (c .before .before .before .before .before .before .before .before .before .before .before .before .before .before .before .loop .first) (c .before .before .before .before .before .before .before .before .before .before .before .before .before .before .before .loop .counts) k ≡ 0 = sym (c .before .before .before .before .before .before .before .before .before .before .before .fault-at .ensures) ∙ c .before .before .before .before .before .before .before .before .before .before .if3 .left in
+    going-on g more none (c .before .before .before .before .before .note-first .ensures)
+    (c .before .before .note-one .ensures)
+    (c .before .before .before .before .before .before .before .before .part-of .ensures ∙ ap partOf
+    (c .before .before .before .before .before .before .before .before .before .record-at .ensures))
+    (c .one-if-contract .ensures)
+    (c .before .before .before .before .before .before .before .before .before .record-at .ensures)
 
 returns-4 : tie.Need-returns-4 Inv-loop μ-loop
 returns-4 c =
     let file = c .before .before .before .before .before .before .args .file .now in
     let g = c .before .loop .inv in
     let done : recordCount file ≤ c .before .loop .k = omega arith in
-    surveyed g done _ (going-ends g done (le-ltb 61440 (length file) (c .before .before .before .before .if1 .left)) (ap not (eq-eqb (length file % 96) 0 (c .before .before .before .if2 .left)))) refl refl refl refl
+    surveyed g done _ (going-ends g done (le-ltb 61440 (length file) (c .before .before .before .before .if1 .left))
+    (ap not (eq-eqb (length file % 96) 0 (c .before .before .before .if2 .left)))) refl refl refl refl
 
 pub take-survey-spec : {M : Type 1} → statement M
 take-survey-spec =

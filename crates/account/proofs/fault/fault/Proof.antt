@@ -13,85 +13,131 @@ unknown-kind-requires c κs = tt
 
 returns : tie.Need-returns
 returns c =
-    let n = c .before .before .before .before .before .before .args .counts .now in
-    let ps = records (c .before .before .before .before .before .before .args .prompts .now) in
-    let e = c .before .before .before .before .before .before .args .before .now in
-    let r = c .before .before .before .before .before .before .args .r .now in
-    is-3 (unknownKind r) (kindFalls e r) (unusedByte r) (fieldOutside r) (unlistedBy n ps r) (outOfOrder e r) (overLimitBy n r) (sym (c .before .unknown-kind .ensures) ∙ c .if1 .taken)
+    let args = c .before .before .before .before .before .before .args in
+    let n = args .counts .now in
+    let ps = records (args .prompts .now) in
+    let e = args .before .now in
+    let r = args .r .now in
+    is-3 (unknownKind r) (kindFalls e r) (unusedByte r) (fieldOutside r) (unlistedBy n ps r) (outOfOrder e r)
+    (overLimitBy n r) (sym (c .before .unknown-kind .ensures) ∙ c .if1 .taken)
 
 kind-falls-requires : tie.Need-kind-falls-requires
 kind-falls-requires c κs = tt
 
 returns-2 : tie.Need-returns-2
 returns-2 c =
-    let n = c .before .before .before .before .before .before .before .before .args .counts .now in
-    let ps = records (c .before .before .before .before .before .before .before .before .args .prompts .now) in
-    let e = c .before .before .before .before .before .before .before .before .args .before .now in
-    let r = c .before .before .before .before .before .before .before .before .args .r .now in
-    is-4 (unknownKind r) (kindFalls e r) (unusedByte r) (fieldOutside r) (unlistedBy n ps r) (outOfOrder e r) (overLimitBy n r) (sym (c .before .before .before .unknown-kind .ensures) ∙ c .before .before .if1 .left) (sym (c .before .kind-falls .ensures) ∙ c .if2 .taken)
+    let args = c .before .before .before .before .before .before .before .before .args in
+    let n = args .counts .now in
+    let ps = records (args .prompts .now) in
+    let e = args .before .now in
+    let r = args .r .now in
+    is-4 (unknownKind r) (kindFalls e r) (unusedByte r) (fieldOutside r) (unlistedBy n ps r) (outOfOrder e r)
+    (overLimitBy n r) (sym (c .before .before .before .unknown-kind .ensures) ∙ c .before .before .if1 .left)
+    (sym (c .before .kind-falls .ensures) ∙ c .if2 .taken)
 
 unused-byte-requires : tie.Need-unused-byte-requires
 unused-byte-requires c κs = tt
 
 returns-3 : tie.Need-returns-3
 returns-3 c =
-    let n = c .before .before .before .before .before .before .before .before .before .before .args .counts .now in
-    let ps = records (c .before .before .before .before .before .before .before .before .before .before .args .prompts .now) in
-    let e = c .before .before .before .before .before .before .before .before .before .before .args .before .now in
-    let r = c .before .before .before .before .before .before .before .before .before .before .args .r .now in
-    is-5 (unknownKind r) (kindFalls e r) (unusedByte r) (fieldOutside r) (unlistedBy n ps r) (outOfOrder e r) (overLimitBy n r) (sym (c .before .before .before .before .before .unknown-kind .ensures) ∙ c .before .before .before .before .if1 .left) (sym (c .before .before .before .kind-falls .ensures) ∙ c .before .before .if2 .left) (sym (c .before .unused-byte .ensures) ∙ c .if3 .taken)
+    let args = c .before .before .before .before .before .before .before .before .before .before .args in
+    let n = args .counts .now in
+    let ps = records (args .prompts .now) in
+    let e = args .before .now in
+    let r = args .r .now in
+    is-5 (unknownKind r) (kindFalls e r) (unusedByte r) (fieldOutside r) (unlistedBy n ps r) (outOfOrder e r)
+    (overLimitBy n r) (sym (c .before .before .before .before .before .unknown-kind .ensures)
+    ∙ c .before .before .before .before .if1 .left) (sym (c .before .before .before .kind-falls .ensures)
+    ∙ c .before .before .if2 .left) (sym (c .before .unused-byte .ensures) ∙ c .if3 .taken)
 
 field-outside-requires : tie.Need-field-outside-requires
 field-outside-requires c κs = tt
 
 returns-4 : tie.Need-returns-4
 returns-4 c =
-    let n = c .before .before .before .before .before .before .before .before .before .before .before .before .args .counts .now in
-    let ps = records (c .before .before .before .before .before .before .before .before .before .before .before .before .args .prompts .now) in
-    let e = c .before .before .before .before .before .before .before .before .before .before .before .before .args .before .now in
-    let r = c .before .before .before .before .before .before .before .before .before .before .before .before .args .r .now in
-    is-6 (unknownKind r) (kindFalls e r) (unusedByte r) (fieldOutside r) (unlistedBy n ps r) (outOfOrder e r) (overLimitBy n r) (sym (c .before .before .before .before .before .before .before .unknown-kind .ensures) ∙ c .before .before .before .before .before .before .if1 .left) (sym (c .before .before .before .before .before .kind-falls .ensures) ∙ c .before .before .before .before .if2 .left) (sym (c .before .before .before .unused-byte .ensures) ∙ c .before .before .if3 .left) (sym (c .before .field-outside .ensures) ∙ c .if4 .taken)
+    let args =
+    c .before .before .before .before .before .before .before .before .before .before .before .before .args in
+    let n = args .counts .now in
+    let ps = records (args .prompts .now) in
+    let e = args .before .now in
+    let r = args .r .now in
+    is-6 (unknownKind r) (kindFalls e r) (unusedByte r) (fieldOutside r) (unlistedBy n ps r) (outOfOrder e r)
+    (overLimitBy n r) (sym (c .before .before .before .before .before .before .before .unknown-kind .ensures)
+    ∙ c .before .before .before .before .before .before .if1 .left)
+    (sym (c .before .before .before .before .before .kind-falls .ensures)
+    ∙ c .before .before .before .before .if2 .left) (sym (c .before .before .before .unused-byte .ensures)
+    ∙ c .before .before .if3 .left) (sym (c .before .field-outside .ensures) ∙ c .if4 .taken)
 
 unlisted-requires : tie.Need-unlisted-requires
 unlisted-requires c κs = tt
 
 returns-5 : tie.Need-returns-5
 returns-5 c =
-    let n = c .before .before .before .before .before .before .before .before .before .before .before .before .before .before .args .counts .now in
-    let ps = records (c .before .before .before .before .before .before .before .before .before .before .before .before .before .before .args .prompts .now) in
-    let e = c .before .before .before .before .before .before .before .before .before .before .before .before .before .before .args .before .now in
-    let r = c .before .before .before .before .before .before .before .before .before .before .before .before .before .before .args .r .now in
-    is-7 (unknownKind r) (kindFalls e r) (unusedByte r) (fieldOutside r) (unlistedBy n ps r) (outOfOrder e r) (overLimitBy n r) (sym (c .before .before .before .before .before .before .before .before .before .unknown-kind .ensures) ∙ c .before .before .before .before .before .before .before .before .if1 .left) (sym (c .before .before .before .before .before .before .before .kind-falls .ensures) ∙ c .before .before .before .before .before .before .if2 .left) (sym (c .before .before .before .before .before .unused-byte .ensures) ∙ c .before .before .before .before .if3 .left) (sym (c .before .before .before .field-outside .ensures) ∙ c .before .before .if4 .left) (sym (c .before .unlisted .ensures) ∙ c .if5 .taken)
+    let args =
+    c .before .before .before .before .before .before .before .before .before .before .before .before .before .before .args in
+    let n = args .counts .now in
+    let ps = records (args .prompts .now) in
+    let e = args .before .now in
+    let r = args .r .now in
+    is-7 (unknownKind r) (kindFalls e r) (unusedByte r) (fieldOutside r) (unlistedBy n ps r) (outOfOrder e r)
+    (overLimitBy n r) (sym
+    (c .before .before .before .before .before .before .before .before .before .unknown-kind .ensures)
+    ∙ c .before .before .before .before .before .before .before .before .if1 .left)
+    (sym (c .before .before .before .before .before .before .before .kind-falls .ensures)
+    ∙ c .before .before .before .before .before .before .if2 .left)
+    (sym (c .before .before .before .before .before .unused-byte .ensures)
+    ∙ c .before .before .before .before .if3 .left) (sym (c .before .before .before .field-outside .ensures)
+    ∙ c .before .before .if4 .left) (sym (c .before .unlisted .ensures) ∙ c .if5 .taken)
 
 out-of-order-requires : tie.Need-out-of-order-requires
 out-of-order-requires c κs = tt
 
 returns-6 : tie.Need-returns-6
 returns-6 c =
-    let n = c .before .before .before .before .before .before .before .before .before .before .before .before .before .before .before .before .args .counts .now in
-    let ps = records (c .before .before .before .before .before .before .before .before .before .before .before .before .before .before .before .before .args .prompts .now) in
-    let e = c .before .before .before .before .before .before .before .before .before .before .before .before .before .before .before .before .args .before .now in
-    let r = c .before .before .before .before .before .before .before .before .before .before .before .before .before .before .before .before .args .r .now in
-    is-8 (unknownKind r) (kindFalls e r) (unusedByte r) (fieldOutside r) (unlistedBy n ps r) (outOfOrder e r) (overLimitBy n r) (sym (c .before .before .before .before .before .before .before .before .before .before .before .unknown-kind .ensures) ∙ c .before .before .before .before .before .before .before .before .before .before .if1 .left) (sym (c .before .before .before .before .before .before .before .before .before .kind-falls .ensures) ∙ c .before .before .before .before .before .before .before .before .if2 .left) (sym (c .before .before .before .before .before .before .before .unused-byte .ensures) ∙ c .before .before .before .before .before .before .if3 .left) (sym (c .before .before .before .before .before .field-outside .ensures) ∙ c .before .before .before .before .if4 .left) (sym (c .before .before .before .unlisted .ensures) ∙ c .before .before .if5 .left) (sym (c .before .out-of-order .ensures) ∙ c .if6 .taken)
+    let args =
+    c .before .before .before .before .before .before .before .before .before .before .before .before .before .before .before .before .args in
+    let n = args .counts .now in
+    let ps = records (args .prompts .now) in
+    let e = args .before .now in
+    let r = args .r .now in
+    is-8 (unknownKind r) (kindFalls e r) (unusedByte r) (fieldOutside r) (unlistedBy n ps r) (outOfOrder e r)
+    (overLimitBy n r) (sym
+    (c .before .before .before .before .before .before .before .before .before .before .before .unknown-kind .ensures)
+    ∙ c .before .before .before .before .before .before .before .before .before .before .if1 .left)
+    (sym (c .before .before .before .before .before .before .before .before .before .kind-falls .ensures)
+    ∙ c .before .before .before .before .before .before .before .before .if2 .left)
+    (sym (c .before .before .before .before .before .before .before .unused-byte .ensures)
+    ∙ c .before .before .before .before .before .before .if3 .left)
+    (sym (c .before .before .before .before .before .field-outside .ensures)
+    ∙ c .before .before .before .before .if4 .left) (sym (c .before .before .before .unlisted .ensures)
+    ∙ c .before .before .if5 .left) (sym (c .before .out-of-order .ensures) ∙ c .if6 .taken)
 
 over-limit-requires : tie.Need-over-limit-requires
 over-limit-requires c κs = tt
 
 returns-7 : tie.Need-returns-7
 returns-7 c =
-    let n = c .before .before .before .before .before .before .before .before .before .before .before .before .before .before .before .before .before .before .args .counts .now in
-    let ps = records (c .before .before .before .before .before .before .before .before .before .before .before .before .before .before .before .before .before .before .args .prompts .now) in
-    let e = c .before .before .before .before .before .before .before .before .before .before .before .before .before .before .before .before .before .before .args .before .now in
-    let r = c .before .before .before .before .before .before .before .before .before .before .before .before .before .before .before .before .before .before .args .r .now in
-    is-9 (unknownKind r) (kindFalls e r) (unusedByte r) (fieldOutside r) (unlistedBy n ps r) (outOfOrder e r) (overLimitBy n r) (sym (c .before .before .before .before .before .before .before .before .before .before .before .before .before .unknown-kind .ensures) ∙ c .before .before .before .before .before .before .before .before .before .before .before .before .if1 .left) (sym (c .before .before .before .before .before .before .before .before .before .before .before .kind-falls .ensures) ∙ c .before .before .before .before .before .before .before .before .before .before .if2 .left) (sym (c .before .before .before .before .before .before .before .before .before .unused-byte .ensures) ∙ c .before .before .before .before .before .before .before .before .if3 .left) (sym (c .before .before .before .before .before .before .before .field-outside .ensures) ∙ c .before .before .before .before .before .before .if4 .left) (sym (c .before .before .before .before .before .unlisted .ensures) ∙ c .before .before .before .before .if5 .left) (sym (c .before .before .before .out-of-order .ensures) ∙ c .before .before .if6 .left) (sym (c .before .over-limit .ensures) ∙ c .if7 .taken)
+    let args =
+    c .before .before .before .before .before .before .before .before .before .before .before .before .before .before .before .before .before .before .args in
+    let n = args .counts .now in
+    let ps = records (args .prompts .now) in
+    let e = args .before .now in
+    let r = args .r .now in
+    is-9 (unknownKind r) (kindFalls e r) (unusedByte r) (fieldOutside r) (unlistedBy n ps r) (outOfOrder e r)
+    (overLimitBy n r) (sym
+    (c .before .before .before .before .before .before .before .before .before .before .before .before .before .unknown-kind .ensures) ∙ c .before .before .before .before .before .before .before .before .before .before .before .before .if1 .left) (sym (c .before .before .before .before .before .before .before .before .before .before .before .kind-falls .ensures) ∙ c .before .before .before .before .before .before .before .before .before .before .if2 .left) (sym (c .before .before .before .before .before .before .before .before .before .unused-byte .ensures) ∙ c .before .before .before .before .before .before .before .before .if3 .left) (sym (c .before .before .before .before .before .before .before .field-outside .ensures) ∙ c .before .before .before .before .before .before .if4 .left) (sym (c .before .before .before .before .before .unlisted .ensures) ∙ c .before .before .before .before .if5 .left) (sym (c .before .before .before .out-of-order .ensures) ∙ c .before .before .if6 .left) (sym (c .before .over-limit .ensures) ∙ c .if7 .taken)
 
 returns-8 : tie.Need-returns-8
 returns-8 c =
-    let n = c .before .before .before .before .before .before .before .before .before .before .before .before .before .before .before .before .before .before .args .counts .now in
-    let ps = records (c .before .before .before .before .before .before .before .before .before .before .before .before .before .before .before .before .before .before .args .prompts .now) in
-    let e = c .before .before .before .before .before .before .before .before .before .before .before .before .before .before .before .before .before .before .args .before .now in
-    let r = c .before .before .before .before .before .before .before .before .before .before .before .before .before .before .before .before .before .before .args .r .now in
-    is-0 (unknownKind r) (kindFalls e r) (unusedByte r) (fieldOutside r) (unlistedBy n ps r) (outOfOrder e r) (overLimitBy n r) (sym (c .before .before .before .before .before .before .before .before .before .before .before .before .before .unknown-kind .ensures) ∙ c .before .before .before .before .before .before .before .before .before .before .before .before .if1 .left) (sym (c .before .before .before .before .before .before .before .before .before .before .before .kind-falls .ensures) ∙ c .before .before .before .before .before .before .before .before .before .before .if2 .left) (sym (c .before .before .before .before .before .before .before .before .before .unused-byte .ensures) ∙ c .before .before .before .before .before .before .before .before .if3 .left) (sym (c .before .before .before .before .before .before .before .field-outside .ensures) ∙ c .before .before .before .before .before .before .if4 .left) (sym (c .before .before .before .before .before .unlisted .ensures) ∙ c .before .before .before .before .if5 .left) (sym (c .before .before .before .out-of-order .ensures) ∙ c .before .before .if6 .left) (sym (c .before .over-limit .ensures) ∙ c .if7 .left)
+    let args =
+    c .before .before .before .before .before .before .before .before .before .before .before .before .before .before .before .before .before .before .args in
+    let n = args .counts .now in
+    let ps = records (args .prompts .now) in
+    let e = args .before .now in
+    let r = args .r .now in
+    is-0 (unknownKind r) (kindFalls e r) (unusedByte r) (fieldOutside r) (unlistedBy n ps r) (outOfOrder e r)
+    (overLimitBy n r) (sym
+    (c .before .before .before .before .before .before .before .before .before .before .before .before .before .unknown-kind .ensures) ∙ c .before .before .before .before .before .before .before .before .before .before .before .before .if1 .left) (sym (c .before .before .before .before .before .before .before .before .before .before .before .kind-falls .ensures) ∙ c .before .before .before .before .before .before .before .before .before .before .if2 .left) (sym (c .before .before .before .before .before .before .before .before .before .unused-byte .ensures) ∙ c .before .before .before .before .before .before .before .before .if3 .left) (sym (c .before .before .before .before .before .before .before .field-outside .ensures) ∙ c .before .before .before .before .before .before .if4 .left) (sym (c .before .before .before .before .before .unlisted .ensures) ∙ c .before .before .before .before .if5 .left) (sym (c .before .before .before .out-of-order .ensures) ∙ c .before .before .if6 .left) (sym (c .before .over-limit .ensures) ∙ c .if7 .left)
 
 pub fault-spec : {M : Type 1} → statement M
 fault-spec =

@@ -12,7 +12,8 @@ no-tier-requires : tie.Need-no-tier-requires
 no-tier-requires c κs = tt
 
 returns : tie.Need-returns
-returns c = c .no-tier .ensures ∙ ap (noTier (records (c .before .before .before .before .args .prompts .now))) (c .before .leg-tier .ensures .0)
+returns c = c .no-tier .ensures ∙ ap (noTier (records (c .before .before .before .before .args .prompts .now)))
+    (c .before .leg-tier .ensures .0)
 
 pub no-leg-tier-spec : {M : Type 1} → statement M
 no-leg-tier-spec = tie.close (tie.spec leg-tier-requires no-tier-requires returns)

@@ -1,6 +1,6 @@
 -- `account::listed::some_leg_tier` meets its contract. Assumes nothing.
-use mathlib.Core.Path.{_≡_, refl, sym, ap, _∙_}
-use mathlib.Core.Bool.{Bool, true, false, not, _||_}
+use mathlib.Core.Path.{_≡_, sym, _∙_}
+use mathlib.Core.Bool.{true, false}
 use borrow.Author.Tests.{eq-eqb, ne-eqb}
 use Rattle.record.specs.Layout.{twoLegs}
 use Rattle.record.proofs.Tests.{both, last}
@@ -27,13 +27,16 @@ no-leg-tier-requires-5 c κs = tt
 
 returns : tie.Need-returns
 returns c =
-    let legs : twoLegs (c .before .before .before .before .before .before .args .r .now) ≡ true = eq-eqb _ _ (sym (c .before .before .before .leg-count .ensures .0) ∙ c .before .before .if1 .taken) in
+    let legs : twoLegs (c .before .before .before .before .before .before .args .r .now) ≡ true = eq-eqb _ _
+    (sym (c .before .before .before .leg-count .ensures .0) ∙ c .before .before .if1 .taken) in
     rw legs (both (c .before .no-leg-tier .ensures) (last (c .no-leg-tier2 .ensures)))
 
 returns-2 : tie.Need-returns-2
 returns-2 c =
-    let legs : twoLegs (c .before .before .before .before .before .before .before .args .r .now) ≡ false = ne-eqb _ _ (λ e. c .before .before .before .if1 .left (c .before .before .before .before .leg-count .ensures .0 ∙ e)) in
-    rw legs (both (c .before .before .no-leg-tier3 .ensures) (both (c .before .no-leg-tier4 .ensures) (last (c .no-leg-tier5 .ensures))))
+    let legs : twoLegs (c .before .before .before .before .before .before .before .args .r .now) ≡ false = ne-eqb _ _
+    (λ e. c .before .before .before .if1 .left (c .before .before .before .before .leg-count .ensures .0 ∙ e)) in
+    rw legs (both (c .before .before .no-leg-tier3 .ensures)
+    (both (c .before .no-leg-tier4 .ensures) (last (c .no-leg-tier5 .ensures))))
 
 pub some-leg-tier-spec : {M : Type 1} → statement M
 some-leg-tier-spec =

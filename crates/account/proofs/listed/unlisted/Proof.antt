@@ -19,8 +19,10 @@ no-contract-requires c κs = search needs
 
 returns : tie.Need-returns
 returns c =
-    (c .no-contract .ensures ∙ ap (noContract (c .before .before .before .before .before .before .before .args .counts .now)) (c .before .contract .ensures .0))
-    ∙ sym (listed-2 (c .before .before .before .before .before .before .before .args .counts .now) (records (c .before .before .before .before .before .before .before .args .prompts .now)) (c .before .before .before .before .before .before .before .args .r .now) (sym (c .before .before .before .kind .ensures .0) ∙ c .before .before .if1 .taken))
+    let args = c .before .before .before .before .before .before .before .args in
+    (c .no-contract .ensures ∙ ap (noContract (args .counts .now)) (c .before .contract .ensures .0)) ∙ sym
+    (listed-2 (args .counts .now) (records (args .prompts .now)) (args .r .now)
+    (sym (c .before .before .before .kind .ensures .0) ∙ c .before .before .if1 .taken))
 
 contract-requires-2 : tie.Need-contract-requires-2
 contract-requires-2 c κs = tt
@@ -36,8 +38,13 @@ no-day-requires c κs = tt
 
 returns-2 : tie.Need-returns-2
 returns-2 c =
-    both (c .before .before .no-contract2 .ensures ∙ ap (noContract (c .before .before .before .before .before .before .before .before .before .before .args .counts .now)) (c .before .before .before .contract2 .ensures .0)) (c .no-day .ensures ∙ ap (noDay (records (c .before .before .before .before .before .before .before .before .before .before .args .prompts .now))) (c .before .day .ensures .0))
-    ∙ sym (listed-3 (c .before .before .before .before .before .before .before .before .before .before .args .counts .now) (records (c .before .before .before .before .before .before .before .before .before .before .args .prompts .now)) (c .before .before .before .before .before .before .before .before .before .before .args .r .now) (sym (c .before .before .before .before .before .before .kind .ensures .0) ∙ c .before .before .before .before .if2 .taken))
+    let args = c .before .before .before .before .before .before .before .before .before .before .args in
+    both (c .before .before .no-contract2 .ensures ∙ ap (noContract (args .counts .now))
+    (c .before .before .before .contract2 .ensures .0))
+    (c .no-day .ensures ∙ ap (noDay (records (args .prompts .now))) (c .before .day .ensures .0)) ∙ sym
+    (listed-3 (args .counts .now) (records (args .prompts .now)) (args .r .now)
+    (sym (c .before .before .before .before .before .before .kind .ensures .0)
+    ∙ c .before .before .before .before .if2 .taken))
 
 contract-requires-3 : tie.Need-contract-requires-3
 contract-requires-3 c κs = tt
@@ -50,8 +57,12 @@ some-leg-tier-requires c κs = tt
 
 returns-3 : tie.Need-returns-3
 returns-3 c =
-    both (c .before .no-contract3 .ensures ∙ ap (noContract (c .before .before .before .before .before .before .before .before .before .before .args .counts .now)) (c .before .before .contract3 .ensures .0)) (c .some-leg-tier .ensures)
-    ∙ sym (listed-4 (c .before .before .before .before .before .before .before .before .before .before .args .counts .now) (records (c .before .before .before .before .before .before .before .before .before .before .args .prompts .now)) (c .before .before .before .before .before .before .before .before .before .before .args .r .now) (sym (c .before .before .before .before .before .before .kind .ensures .0) ∙ c .before .before .before .if3 .taken))
+    let args = c .before .before .before .before .before .before .before .before .before .before .args in
+    both (c .before .no-contract3 .ensures ∙ ap (noContract (args .counts .now))
+    (c .before .before .contract3 .ensures .0)) (c .some-leg-tier .ensures) ∙ sym
+    (listed-4 (args .counts .now) (records (args .prompts .now)) (args .r .now)
+    (sym (c .before .before .before .before .before .before .kind .ensures .0)
+    ∙ c .before .before .before .if3 .taken))
 
 contract-requires-4 : tie.Need-contract-requires-4
 contract-requires-4 c κs = tt
@@ -67,12 +78,23 @@ no-contract-requires-5 c κs = search needs
 
 returns-4 : tie.Need-returns-4
 returns-4 c =
-    both (c .before .before .no-contract4 .ensures ∙ ap (noContract (c .before .before .before .before .before .before .before .before .before .before .before .before .args .counts .now)) (c .before .before .before .contract4 .ensures .0)) (c .no-contract5 .ensures ∙ ap (noContract (c .before .before .before .before .before .before .before .before .before .before .before .before .args .counts .now)) (c .before .second-contract .ensures .0))
-    ∙ sym (listed-5 (c .before .before .before .before .before .before .before .before .before .before .before .before .args .counts .now) (records (c .before .before .before .before .before .before .before .before .before .before .before .before .args .prompts .now)) (c .before .before .before .before .before .before .before .before .before .before .before .before .args .r .now) (sym (c .before .before .before .before .before .before .before .before .kind .ensures .0) ∙ c .before .before .before .before .if4 .taken))
+    let args =
+    c .before .before .before .before .before .before .before .before .before .before .before .before .args in
+    both (c .before .before .no-contract4 .ensures ∙ ap (noContract (args .counts .now))
+    (c .before .before .before .contract4 .ensures .0))
+    (c .no-contract5 .ensures ∙ ap (noContract (args .counts .now)) (c .before .second-contract .ensures .0))
+    ∙ sym (listed-5 (args .counts .now) (records (args .prompts .now)) (args .r .now)
+    (sym (c .before .before .before .before .before .before .before .before .kind .ensures .0)
+    ∙ c .before .before .before .before .if4 .taken))
 
 returns-5 : tie.Need-returns-5
 returns-5 c =
-    sym (listed-none (c .before .before .before .before .before .before .before .before .args .counts .now) (records (c .before .before .before .before .before .before .before .before .args .prompts .now)) (c .before .before .before .before .before .before .before .before .args .r .now) (λ e. c .before .before .before .if1 .left (c .before .before .before .before .kind .ensures .0 ∙ e)) (λ e. c .before .before .if2 .left (c .before .before .before .before .kind .ensures .0 ∙ e)) (λ e. c .before .if3 .left (c .before .before .before .before .kind .ensures .0 ∙ e)) (λ e. c .if4 .left (c .before .before .before .before .kind .ensures .0 ∙ e)))
+    let args = c .before .before .before .before .before .before .before .before .args in
+    sym (listed-none (args .counts .now) (records (args .prompts .now)) (args .r .now)
+    (λ e. c .before .before .before .if1 .left (c .before .before .before .before .kind .ensures .0 ∙ e))
+    (λ e. c .before .before .if2 .left (c .before .before .before .before .kind .ensures .0 ∙ e))
+    (λ e. c .before .if3 .left (c .before .before .before .before .kind .ensures .0 ∙ e))
+    (λ e. c .if4 .left (c .before .before .before .before .kind .ensures .0 ∙ e)))
 
 pub unlisted-spec : {M : Type 1} → statement M
 unlisted-spec =

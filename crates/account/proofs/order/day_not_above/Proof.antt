@@ -18,7 +18,13 @@ day-requires-2 : tie.Need-day-requires-2
 day-requires-2 c κs = tt
 
 returns : tie.Need-returns
-returns c = rw (c .before .before .before .before .contract .ensures .0, c .before .before .before .contract2 .ensures .0, c .before .before .kind .ensures .0, c .before .day .ensures .0, c .day2 .ensures .0)
+returns c = rw (
+  c .before .before .before .before .contract .ensures .0,
+  c .before .before .before .contract2 .ensures .0,
+  c .before .before .kind .ensures .0,
+  c .before .day .ensures .0,
+  c .day2 .ensures .0,
+)
 
 pub day-not-above-spec : {M : Type 1} → statement M
 day-not-above-spec =

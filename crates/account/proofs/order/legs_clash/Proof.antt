@@ -13,7 +13,8 @@ no-leg-on-requires-2 : tie.Need-no-leg-on-requires-2
 no-leg-on-requires-2 c κs = tt
 
 returns : tie.Need-returns
-returns c = both (c .before .before .some-alike .ensures) (both (c .before .no-leg-on .ensures) (c .no-leg-on2 .ensures))
+returns c = both (c .before .before .some-alike .ensures)
+    (both (c .before .no-leg-on .ensures) (c .no-leg-on2 .ensures))
 
 pub legs-clash-spec : {M : Type 1} → statement M
 legs-clash-spec =

@@ -13,8 +13,9 @@ number-not-above-requires c κs = tt
 
 returns : tie.Need-returns
 returns c =
-    c .number-not-above .ensures
-    ∙ sym (order-1 (c .before .before .before .before .before .args .before .now) (c .before .before .before .before .before .args .r .now) (sym (c .before .before .kind .ensures .0) ∙ c .before .if1 .taken))
+    let args = c .before .before .before .before .before .args in
+    c .number-not-above .ensures ∙ sym (order-1 (args .before .now) (args .r .now)
+    (sym (c .before .before .kind .ensures .0) ∙ c .before .if1 .taken))
 
 day-not-above-requires : tie.Need-day-not-above-requires
 day-not-above-requires c κs = tt
@@ -24,16 +25,19 @@ tier-falls-requires c κs = tt
 
 returns-2 : tie.Need-returns-2
 returns-2 c =
-    both (c .before .day-not-above .ensures) (c .tier-falls .ensures)
-    ∙ sym (order-2 (c .before .before .before .before .before .before .before .args .before .now) (c .before .before .before .before .before .before .before .args .r .now) (sym (c .before .before .before .before .kind .ensures .0) ∙ c .before .before .if2 .taken))
+    let args = c .before .before .before .before .before .before .before .args in
+    both (c .before .day-not-above .ensures) (c .tier-falls .ensures) ∙ sym
+    (order-2 (args .before .now) (args .r .now) (sym (c .before .before .before .before .kind .ensures .0)
+    ∙ c .before .before .if2 .taken))
 
 contract-falls-requires : tie.Need-contract-falls-requires
 contract-falls-requires c κs = tt
 
 returns-3 : tie.Need-returns-3
 returns-3 c =
-    c .contract-falls .ensures
-    ∙ sym (order-3 (c .before .before .before .before .before .before .before .args .before .now) (c .before .before .before .before .before .before .before .args .r .now) (sym (c .before .before .before .before .kind .ensures .0) ∙ c .before .if3 .taken))
+    let args = c .before .before .before .before .before .before .before .args in
+    c .contract-falls .ensures ∙ sym (order-3 (args .before .now) (args .r .now)
+    (sym (c .before .before .before .before .kind .ensures .0) ∙ c .before .if3 .taken))
 
 contract-falls-requires-2 : tie.Need-contract-falls-requires-2
 contract-falls-requires-2 c κs = tt
@@ -43,20 +47,29 @@ legs-clash-requires c κs = tt
 
 returns-4 : tie.Need-returns-4
 returns-4 c =
-    both (c .before .contract-falls2 .ensures) (c .legs-clash .ensures)
-    ∙ sym (order-4 (c .before .before .before .before .before .before .before .before .before .args .before .now) (c .before .before .before .before .before .before .before .before .before .args .r .now) (sym (c .before .before .before .before .before .before .kind .ensures .0) ∙ c .before .before .if4 .taken))
+    let args = c .before .before .before .before .before .before .before .before .before .args in
+    both (c .before .contract-falls2 .ensures) (c .legs-clash .ensures) ∙ sym
+    (order-4 (args .before .now) (args .r .now)
+    (sym (c .before .before .before .before .before .before .kind .ensures .0) ∙ c .before .before .if4 .taken))
 
 with-itself-requires : tie.Need-with-itself-requires
 with-itself-requires c κs = tt
 
 returns-5 : tie.Need-returns-5
 returns-5 c =
-    c .with-itself .ensures
-    ∙ sym (order-5 (c .before .before .before .before .before .before .before .before .before .args .before .now) (c .before .before .before .before .before .before .before .before .before .args .r .now) (sym (c .before .before .before .before .before .before .kind .ensures .0) ∙ c .before .if5 .taken))
+    let args = c .before .before .before .before .before .before .before .before .before .args in
+    c .with-itself .ensures ∙ sym (order-5 (args .before .now) (args .r .now)
+    (sym (c .before .before .before .before .before .before .kind .ensures .0) ∙ c .before .if5 .taken))
 
 returns-6 : tie.Need-returns-6
 returns-6 c =
-    sym (order-none (c .before .before .before .before .before .before .before .before .args .before .now) (c .before .before .before .before .before .before .before .before .args .r .now) (λ e. c .before .before .before .before .if1 .left (c .before .before .before .before .before .kind .ensures .0 ∙ e)) (λ e. c .before .before .before .if2 .left (c .before .before .before .before .before .kind .ensures .0 ∙ e)) (λ e. c .before .before .if3 .left (c .before .before .before .before .before .kind .ensures .0 ∙ e)) (λ e. c .before .if4 .left (c .before .before .before .before .before .kind .ensures .0 ∙ e)) (λ e. c .if5 .left (c .before .before .before .before .before .kind .ensures .0 ∙ e)))
+    let args = c .before .before .before .before .before .before .before .before .args in
+    sym (order-none (args .before .now) (args .r .now) (λ e. c .before .before .before .before .if1 .left
+    (c .before .before .before .before .before .kind .ensures .0 ∙ e))
+    (λ e. c .before .before .before .if2 .left (c .before .before .before .before .before .kind .ensures .0 ∙ e))
+    (λ e. c .before .before .if3 .left (c .before .before .before .before .before .kind .ensures .0 ∙ e))
+    (λ e. c .before .if4 .left (c .before .before .before .before .before .kind .ensures .0 ∙ e))
+    (λ e. c .if5 .left (c .before .before .before .before .before .kind .ensures .0 ∙ e)))
 
 pub out-of-order-spec : {M : Type 1} → statement M
 out-of-order-spec =

@@ -15,7 +15,12 @@ leg-side-requires-2 : tie.Need-leg-side-requires-2
 leg-side-requires-2 c κs = tt
 
 returns : tie.Need-returns
-returns c = rw (c .before .before .before .leg-tier .ensures .0, c .before .before .leg-tier2 .ensures .0, c .before .leg-side .ensures .0, c .leg-side2 .ensures .0)
+returns c = rw (
+  c .before .before .before .leg-tier .ensures .0,
+  c .before .before .leg-tier2 .ensures .0,
+  c .before .leg-side .ensures .0,
+  c .leg-side2 .ensures .0,
+)
 
 pub same-leg-spec : {M : Type 1} → statement M
 same-leg-spec =

@@ -1,6 +1,6 @@
 -- `account::order::some_alike` meets its contract. Assumes nothing.
-use mathlib.Core.Path.{_≡_, refl, sym, ap, _∙_}
-use mathlib.Core.Bool.{Bool, true, false, not, _||_}
+use mathlib.Core.Path.{_≡_, refl, sym, _∙_}
+use mathlib.Core.Bool.{Bool, true, false, _||_}
 use borrow.Author.Tests.{eq-eqb, ne-eqb}
 use Rattle.record.specs.Layout.{twoLegs}
 use Rattle.record.proofs.Tests.{both, last}
@@ -31,13 +31,18 @@ same-leg-requires-4 c κs = tt
 
 returns : tie.Need-returns
 returns c =
-    let legs : twoLegs (c .before .before .before .before .args .r .now) ≡ true = eq-eqb _ _ (sym (c .before .before .leg-count .ensures .0) ∙ c .before .if1 .taken) in
+    let legs : twoLegs (c .before .before .before .before .args .r .now) ≡ true = eq-eqb _ _
+    (sym (c .before .before .leg-count .ensures .0) ∙ c .before .if1 .taken) in
     rw legs (last (last (c .same-leg .ensures)))
 
 returns-2 : tie.Need-returns-2
 returns-2 c =
-    let legs : twoLegs (c .before .before .before .before .before .before .args .r .now) ≡ false = ne-eqb _ _ (λ e. c .before .before .before .if1 .left (c .before .before .before .before .leg-count .ensures .0 ∙ e)) in
-    rw legs (both (c .before .before .same-leg2 .ensures) (both (c .before .same-leg3 .ensures) (c .same-leg4 .ensures)) ∙ grouped (sameLeg (c .before .before .before .before .before .before .args .r .now) 0 1) (sameLeg (c .before .before .before .before .before .before .args .r .now) 0 2) (sameLeg (c .before .before .before .before .before .before .args .r .now) 1 2))
+    let args = c .before .before .before .before .before .before .args in
+    let legs : twoLegs (args .r .now) ≡ false = ne-eqb _ _
+    (λ e. c .before .before .before .if1 .left (c .before .before .before .before .leg-count .ensures .0 ∙ e)) in
+    rw legs (both (c .before .before .same-leg2 .ensures)
+    (both (c .before .same-leg3 .ensures) (c .same-leg4 .ensures)) ∙ grouped (sameLeg (args .r .now) 0 1)
+    (sameLeg (args .r .now) 0 2) (sameLeg (args .r .now) 1 2))
 
 pub some-alike-spec : {M : Type 1} → statement M
 some-alike-spec =

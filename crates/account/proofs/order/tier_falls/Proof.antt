@@ -18,7 +18,13 @@ tier-requires-2 : tie.Need-tier-requires-2
 tier-requires-2 c κs = tt
 
 returns : tie.Need-returns
-returns c = rw (c .before .before .before .before .kind .ensures .0, c .before .before .before .contract .ensures .0, c .before .before .contract2 .ensures .0, c .before .tier .ensures .0, c .tier2 .ensures .0)
+returns c = rw (
+  c .before .before .before .before .kind .ensures .0,
+  c .before .before .before .contract .ensures .0,
+  c .before .before .contract2 .ensures .0,
+  c .before .tier .ensures .0,
+  c .tier2 .ensures .0,
+)
 
 pub tier-falls-spec : {M : Type 1} → statement M
 tier-falls-spec =

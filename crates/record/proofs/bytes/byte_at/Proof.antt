@@ -15,7 +15,9 @@ returns : tie.Need-returns
 returns c = search needs
 
 returns-2 : tie.Need-returns-2
-returns-2 c = (sym (byte-past (c .before .before .args .r .now) (c .before .before .args .o) (c .if1 .left)), search needs)
+returns-2 c =
+    let args = c .before .before .args in
+    (sym (byte-past (args .r .now) (args .o) (c .if1 .left)), search needs)
 
 pub byte-at-spec : {M : Type 1} → statement M
 byte-at-spec = tie.close (tie.spec shared-slice-read-wide wide-requires returns returns-2)

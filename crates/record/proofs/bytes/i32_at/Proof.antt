@@ -14,7 +14,8 @@ signed-requires : tie.Need-signed-requires
 signed-requires c κs = search needs
 
 returns : tie.Need-returns
-returns c = toZ-ofZ {w = w64} {z = c .signed .result} (record { sfits = c .signed .ok }) ∙ c .signed .ensures ∙ ap twosComplement (c .before .u32-at .ensures .0)
+returns c = toZ-ofZ {w = w64} {z = c .signed .result} (record { sfits = c .signed .ok }) ∙ c .signed .ensures
+    ∙ ap twosComplement (c .before .u32-at .ensures .0)
 
 pub i32-at-spec : {M : Type 1} → statement M
 i32-at-spec = tie.close (tie.spec u32-at-requires signed-requires returns)

@@ -17,7 +17,9 @@ u16-at-requires : tie.Need-u16-at-requires
 u16-at-requires c κs = tt
 
 returns : tie.Need-returns
-returns c = (sym (u16-past (c .before .before .args .r .now) (10 + 4 * c .before .before .args .leg) (omega arith)), search needs)
+returns c =
+    let args = c .before .before .args in
+    (sym (u16-past (args .r .now) (10 + 4 * args .leg) (omega arith)), search needs)
 
 returns-2 : tie.Need-returns-2
 returns-2 c = search needs

@@ -19,7 +19,9 @@ no-rate-requires : tie.Need-no-rate-requires
 no-rate-requires c κs = tt
 
 returns : tie.Need-returns
-returns c = both (c .before .before .no-contract .ensures ∙ ap (beyond contracts) (c .before .before .before .contract .ensures .0)) (last (c .no-rate .ensures ∙ ap (beyond rates) (c .before .short-option-rate .ensures .0)))
+returns c = both (c .before .before .no-contract .ensures ∙ ap (beyond contracts)
+    (c .before .before .before .contract .ensures .0))
+    (last (c .no-rate .ensures ∙ ap (beyond rates) (c .before .short-option-rate .ensures .0)))
 
 pub in-contract-spec : {M : Type 1} → statement M
 in-contract-spec =

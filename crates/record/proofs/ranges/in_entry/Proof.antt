@@ -38,7 +38,16 @@ no-ratio-requires-2 : tie.Need-no-ratio-requires-2
 no-ratio-requires-2 c κs = tt
 
 returns : tie.Need-returns
-returns c = both (c .before .before .before .before .before .before .before .before .no-contract .ensures ∙ ap (beyond contracts) (c .before .before .before .before .before .before .before .before .before .contract .ensures .0)) (both (c .before .before .before .before .before .before .no-contract2 .ensures ∙ ap (beyond contracts) (c .before .before .before .before .before .before .before .second-contract .ensures .0)) (both (c .before .before .before .before .beyond .ensures ∙ ap (beyond (plain 0 100)) (c .before .before .before .before .before .percent .ensures .0)) (both (c .before .before .no-ratio .ensures ∙ ap (beyond ratios) (c .before .before .before .first-ratio .ensures .0)) (last (c .no-ratio2 .ensures ∙ ap (beyond ratios) (c .before .second-ratio .ensures .0))))))
+returns c = both (c .before .before .before .before .before .before .before .before .no-contract .ensures ∙ ap
+    (beyond contracts)
+    (c .before .before .before .before .before .before .before .before .before .contract .ensures .0))
+    (both (c .before .before .before .before .before .before .no-contract2 .ensures ∙ ap (beyond contracts)
+    (c .before .before .before .before .before .before .before .second-contract .ensures .0))
+    (both (c .before .before .before .before .beyond .ensures ∙ ap (beyond (plain 0 100))
+    (c .before .before .before .before .before .percent .ensures .0))
+    (both (c .before .before .no-ratio .ensures ∙ ap (beyond ratios)
+    (c .before .before .before .first-ratio .ensures .0))
+    (last (c .no-ratio2 .ensures ∙ ap (beyond ratios) (c .before .second-ratio .ensures .0))))))
 
 pub in-entry-spec : {M : Type 1} → statement M
 in-entry-spec =

@@ -37,7 +37,16 @@ no-rate-requires-2 : tie.Need-no-rate-requires-2
 no-rate-requires-2 c κs = tt
 
 returns : tie.Need-returns
-returns c = both (c .before .before .before .before .before .before .before .before .no-contract .ensures ∙ ap (beyond contracts) (c .before .before .before .before .before .before .before .before .before .contract .ensures .0)) (both (c .before .before .before .before .before .before .no-tier .ensures ∙ ap (beyond tiers) (c .before .before .before .before .before .before .before .tier .ensures .0)) (both (c .before .before .before .before .no-day .ensures ∙ ap (beyond days) (c .before .before .before .before .before .day .ensures .0)) (both (c .before .before .no-rate .ensures ∙ ap (beyond rates) (c .before .before .before .spread-rate .ensures .0)) (last (c .no-rate2 .ensures ∙ ap (beyond rates) (c .before .outright-rate .ensures .0))))))
+returns c = both (c .before .before .before .before .before .before .before .before .no-contract .ensures ∙ ap
+    (beyond contracts)
+    (c .before .before .before .before .before .before .before .before .before .contract .ensures .0))
+    (both (c .before .before .before .before .before .before .no-tier .ensures ∙ ap (beyond tiers)
+    (c .before .before .before .before .before .before .before .tier .ensures .0))
+    (both (c .before .before .before .before .no-day .ensures ∙ ap (beyond days)
+    (c .before .before .before .before .before .day .ensures .0))
+    (both (c .before .before .no-rate .ensures ∙ ap (beyond rates)
+    (c .before .before .before .spread-rate .ensures .0))
+    (last (c .no-rate2 .ensures ∙ ap (beyond rates) (c .before .outright-rate .ensures .0))))))
 
 pub in-prompt-spec : {M : Type 1} → statement M
 in-prompt-spec =

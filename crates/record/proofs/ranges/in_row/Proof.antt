@@ -48,7 +48,10 @@ no-losses-requires : tie.Need-no-losses-requires
 no-losses-requires c κs = tt
 
 returns : tie.Need-returns
-returns c = both (c .before .before .before .before .before .before .before .before .before .before .before .no-contract .ensures ∙ ap (beyond contracts) (c .before .before .before .before .before .before .before .before .before .before .before .before .contract .ensures .0)) (both (c .before .before .before .before .before .before .before .before .before .beyond .ensures ∙ ap (beyond (plain 0 2)) (c .before .before .before .before .before .before .before .before .before .before .row-type .ensures .0)) (both (c .before .before .before .before .before .before .before .no-day .ensures ∙ ap (beyond days) (c .before .before .before .before .before .before .before .before .day .ensures .0)) (both (c .before .before .before .before .before .before .no-strike .ensures) (both (c .before .before .before .before .too-many .ensures ∙ ap (beyond hundredThousands) (c .before .before .before .before .before .u32-at .ensures .0)) (both (c .before .before .before .no-delta .ensures) (both (c .before .beyond2 .ensures ∙ ap (beyond values) (c .before .before .value .ensures .0)) (c .no-losses .ensures)))))))
+returns c = both
+    (c .before .before .before .before .before .before .before .before .before .before .before .no-contract .ensures
+    ∙ ap (beyond contracts)
+    (c .before .before .before .before .before .before .before .before .before .before .before .before .contract .ensures .0)) (both (c .before .before .before .before .before .before .before .before .before .beyond .ensures ∙ ap (beyond (plain 0 2)) (c .before .before .before .before .before .before .before .before .before .before .row-type .ensures .0)) (both (c .before .before .before .before .before .before .before .no-day .ensures ∙ ap (beyond days) (c .before .before .before .before .before .before .before .before .day .ensures .0)) (both (c .before .before .before .before .before .before .no-strike .ensures) (both (c .before .before .before .before .too-many .ensures ∙ ap (beyond hundredThousands) (c .before .before .before .before .before .u32-at .ensures .0)) (both (c .before .before .before .no-delta .ensures) (both (c .before .beyond2 .ensures ∙ ap (beyond values) (c .before .before .value .ensures .0)) (c .no-losses .ensures)))))))
 
 pub in-row-spec : {M : Type 1} → statement M
 in-row-spec =

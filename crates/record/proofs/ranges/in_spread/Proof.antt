@@ -44,7 +44,14 @@ no-third-leg-requires c κs = tt
 returns : tie.Need-returns
 returns c =
     let r = c .before .before .before .before .before .before .before .before .before .before .args .r .now in
-    both (c .before .before .before .before .before .before .before .no-contract .ensures ∙ ap (beyond contracts) (c .before .before .before .before .before .before .before .before .contract .ensures .0)) (both (c .before .before .before .before .before .beyond .ensures ∙ ap (beyond (plain 2 3)) (c .before .before .before .before .before .before .leg-count .ensures .0)) (both (c .before .before .before .no-rate .ensures ∙ ap (beyond rates) (c .before .before .before .before .rate-per-spread .ensures .0)) (both (c .before .before .no-leg .ensures) (both (c .before .no-leg2 .ensures) (c .no-third-leg .ensures)) ∙ sym (joined (outside r) (legFields 0) (legFields 1) (thirdLeg r)))))
+    both (c .before .before .before .before .before .before .before .no-contract .ensures ∙ ap (beyond contracts)
+    (c .before .before .before .before .before .before .before .before .contract .ensures .0))
+    (both (c .before .before .before .before .before .beyond .ensures ∙ ap (beyond (plain 2 3))
+    (c .before .before .before .before .before .before .leg-count .ensures .0))
+    (both (c .before .before .before .no-rate .ensures ∙ ap (beyond rates)
+    (c .before .before .before .before .rate-per-spread .ensures .0))
+    (both (c .before .before .no-leg .ensures) (both (c .before .no-leg2 .ensures) (c .no-third-leg .ensures))
+    ∙ sym (joined (outside r) (legFields 0) (legFields 1) (thirdLeg r)))))
 
 pub in-spread-spec : {M : Type 1} → statement M
 in-spread-spec =

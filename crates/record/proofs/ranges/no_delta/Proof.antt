@@ -27,12 +27,15 @@ signed-beyond-requires-2 c κs = search needs
 
 returns : tie.Need-returns
 returns c =
-    let picked : put (c .before .before .before .before .before .args .r .now) ≡ true = eq-eqb _ _ (sym (c .before .before .before .row-type .ensures .0) ∙ c .before .before .if1 .taken) in
-    rw picked (c .signed-beyond .ensures ∙ ap (beyond (signed (negℤ (pos 10000)) (pos 0))) (c .before .u32-at .ensures .0))
+    let picked : put (c .before .before .before .before .before .args .r .now) ≡ true = eq-eqb _ _
+    (sym (c .before .before .before .row-type .ensures .0) ∙ c .before .before .if1 .taken) in
+    rw picked (c .signed-beyond .ensures ∙ ap (beyond (signed (negℤ (pos 10000)) (pos 0)))
+    (c .before .u32-at .ensures .0))
 
 returns-2 : tie.Need-returns-2
 returns-2 c =
-    let picked : put (c .before .before .before .before .before .args .r .now) ≡ false = ne-eqb _ _ (λ e. c .before .before .if1 .left (c .before .before .before .row-type .ensures .0 ∙ e)) in
+    let picked : put (c .before .before .before .before .before .args .r .now) ≡ false = ne-eqb _ _
+    (λ e. c .before .before .if1 .left (c .before .before .before .row-type .ensures .0 ∙ e)) in
     rw picked (c .signed-beyond2 .ensures ∙ ap (beyond (signed (pos 0) (pos 10000))) (c .before .u32-at2 .ensures .0))
 
 pub no-delta-spec : {M : Type 1} → statement M

@@ -26,7 +26,11 @@ no-ratio-requires : tie.Need-no-ratio-requires
 no-ratio-requires c κs = tt
 
 returns : tie.Need-returns
-returns c = both (c .before .before .before .before .no-tier .ensures ∙ ap (beyond tiers) (c .before .before .before .before .before .leg-tier .ensures .0)) (both (c .before .before .beyond .ensures ∙ ap (beyond (plain 1 2)) (c .before .before .before .leg-side .ensures .0)) (last (c .no-ratio .ensures ∙ ap (beyond ratios) (c .before .leg-ratio .ensures .0))))
+returns c = both (c .before .before .before .before .no-tier .ensures ∙ ap (beyond tiers)
+    (c .before .before .before .before .before .leg-tier .ensures .0))
+    (both (c .before .before .beyond .ensures ∙ ap (beyond (plain 1 2))
+    (c .before .before .before .leg-side .ensures .0))
+    (last (c .no-ratio .ensures ∙ ap (beyond ratios) (c .before .leg-ratio .ensures .0))))
 
 pub no-leg-spec : {M : Type 1} → statement M
 no-leg-spec =

@@ -48,7 +48,8 @@ returns c =
     let l = c .before .before .before .before .loop in
     let r = c .before .before .before .before .before .before .args .r .now in
     sym (l .inv .1 ∙ any-here (wrong r) 17 (l .scenario) (c .before .before .before .loop-test .taken)
-    (sym (told r (l .scenario) (l .inv .0) (c .before .before .u32-at .ensures .0) (c .before .too-many .ensures)) ∙ c .if1 .taken))
+    (sym (told r (l .scenario) (l .inv .0) (c .before .before .u32-at .ensures .0) (c .before .too-many .ensures))
+    ∙ c .if1 .taken))
 
 add-scenario : tie.Need-add-scenario Inv-loop μ-loop
 add-scenario c = omega arith
@@ -62,7 +63,8 @@ loop-again c =
     let r = c .before .before .before .before .before .before .args .r .now in (
       omega arith,
       l .inv .1 ∙ any-next (wrong r) 17 (l .scenario) (c .before .before .before .loop-test .taken)
-          (sym (told r (l .scenario) (l .inv .0) (c .before .before .u32-at .ensures .0) (c .before .too-many .ensures)) ∙ c .if1 .left),
+          (sym (told r (l .scenario) (l .inv .0) (c .before .before .u32-at .ensures .0)
+          (c .before .too-many .ensures)) ∙ c .if1 .left),
     )
 
 returns-2 : tie.Need-returns-2 Inv-loop μ-loop

@@ -25,12 +25,14 @@ beyond-requires-2 c κs = tt
 
 returns : tie.Need-returns
 returns c =
-    let picked : forward (c .before .before .before .before .before .args .r .now) ≡ true = eq-eqb _ _ (sym (c .before .before .before .row-type .ensures .0) ∙ c .before .before .if1 .taken) in
+    let picked : forward (c .before .before .before .before .before .args .r .now) ≡ true = eq-eqb _ _
+    (sym (c .before .before .before .row-type .ensures .0) ∙ c .before .before .if1 .taken) in
     rw picked (c .beyond .ensures ∙ ap (beyond (plain 0 0)) (c .before .strike .ensures .0))
 
 returns-2 : tie.Need-returns-2
 returns-2 c =
-    let picked : forward (c .before .before .before .before .before .args .r .now) ≡ false = ne-eqb _ _ (λ e. c .before .before .if1 .left (c .before .before .before .row-type .ensures .0 ∙ e)) in
+    let picked : forward (c .before .before .before .before .before .args .r .now) ≡ false = ne-eqb _ _
+    (λ e. c .before .before .if1 .left (c .before .before .before .row-type .ensures .0 ∙ e)) in
     rw picked (c .beyond2 .ensures ∙ ap (beyond (plain 1 4294967295)) (c .before .strike2 .ensures .0))
 
 pub no-strike-spec : {M : Type 1} → statement M

@@ -1,5 +1,5 @@
 -- `record::ranges::no_third_leg` meets its contract. Assumes nothing.
-use mathlib.Core.Path.{_≡_, sym, ap, _∙_}
+use mathlib.Core.Path.{_≡_, sym, _∙_}
 use borrow.Author.Tests.{eq-eqb, ne-eqb}
 use mathlib.Core.Bool.{true, false}
 use Rattle.record.specs.Layout.{twoLegs}
@@ -14,7 +14,8 @@ no-leg-requires c κs = tt
 
 returns : tie.Need-returns
 returns c =
-    let two : twoLegs (c .before .before .before .args .r .now) ≡ true = eq-eqb _ _ (sym (c .before .leg-count .ensures .0) ∙ c .if1 .taken) in
+    let two : twoLegs (c .before .before .before .args .r .now) ≡ true = eq-eqb _ _
+    (sym (c .before .leg-count .ensures .0) ∙ c .if1 .taken) in
     rw two
 
 returns-2 : tie.Need-returns-2

@@ -17,7 +17,8 @@ returns : tie.Need-returns
 returns c =
     let r = c .before .before .before .before .args .r .now in
     c .in-contract .ensures
-    ∙ ap (λ (fs : List Field). outsideAmong fs r) (sym (of-contract r (sym (c .before .before .kind .ensures .0) ∙ c .before .if1 .taken)))
+    ∙ ap (λ (fs : List Field). outsideAmong fs r) (sym
+    (of-contract r (sym (c .before .before .kind .ensures .0) ∙ c .before .if1 .taken)))
 
 in-prompt-requires : tie.Need-in-prompt-requires
 in-prompt-requires c κs = tt
@@ -26,7 +27,8 @@ returns-2 : tie.Need-returns-2
 returns-2 c =
     let r = c .before .before .before .before .before .args .r .now in
     c .in-prompt .ensures
-    ∙ ap (λ (fs : List Field). outsideAmong fs r) (sym (of-prompt r (sym (c .before .before .before .kind .ensures .0) ∙ c .before .if2 .taken)))
+    ∙ ap (λ (fs : List Field). outsideAmong fs r) (sym
+    (of-prompt r (sym (c .before .before .before .kind .ensures .0) ∙ c .before .if2 .taken)))
 
 in-row-requires : tie.Need-in-row-requires
 in-row-requires c κs = tt
@@ -35,7 +37,8 @@ returns-3 : tie.Need-returns-3
 returns-3 c =
     let r = c .before .before .before .before .before .before .args .r .now in
     c .in-row .ensures
-    ∙ ap (λ (fs : List Field). outsideAmong fs r) (sym (of-row r (sym (c .before .before .before .before .kind .ensures .0) ∙ c .before .if3 .taken)))
+    ∙ ap (λ (fs : List Field). outsideAmong fs r) (sym
+    (of-row r (sym (c .before .before .before .before .kind .ensures .0) ∙ c .before .if3 .taken)))
 
 in-spread-requires : tie.Need-in-spread-requires
 in-spread-requires c κs = tt
@@ -44,7 +47,8 @@ returns-4 : tie.Need-returns-4
 returns-4 c =
     let r = c .before .before .before .before .before .before .before .args .r .now in
     c .in-spread .ensures
-    ∙ ap (λ (fs : List Field). outsideAmong fs r) (sym (of-spread r (sym (c .before .before .before .before .before .kind .ensures .0) ∙ c .before .if4 .taken)))
+    ∙ ap (λ (fs : List Field). outsideAmong fs r) (sym
+    (of-spread r (sym (c .before .before .before .before .before .kind .ensures .0) ∙ c .before .if4 .taken)))
 
 in-entry-requires : tie.Need-in-entry-requires
 in-entry-requires c κs = tt
@@ -53,12 +57,20 @@ returns-5 : tie.Need-returns-5
 returns-5 c =
     let r = c .before .before .before .before .before .before .before .before .args .r .now in
     c .in-entry .ensures
-    ∙ ap (λ (fs : List Field). outsideAmong fs r) (sym (of-entry r (sym (c .before .before .before .before .before .before .kind .ensures .0) ∙ c .before .if5 .taken)))
+    ∙ ap (λ (fs : List Field). outsideAmong fs r) (sym
+    (of-entry r (sym (c .before .before .before .before .before .before .kind .ensures .0)
+    ∙ c .before .if5 .taken)))
 
 returns-6 : tie.Need-returns-6
 returns-6 c =
     let r = c .before .before .before .before .before .before .before .args .r .now in
-    ap (λ (fs : List Field). outsideAmong fs r) (sym (of-none r (λ e. c .before .before .before .before .if1 .left (c .before .before .before .before .before .kind .ensures .0 ∙ e)) (λ e. c .before .before .before .if2 .left (c .before .before .before .before .before .kind .ensures .0 ∙ e)) (λ e. c .before .before .if3 .left (c .before .before .before .before .before .kind .ensures .0 ∙ e)) (λ e. c .before .if4 .left (c .before .before .before .before .before .kind .ensures .0 ∙ e)) (λ e. c .if5 .left (c .before .before .before .before .before .kind .ensures .0 ∙ e))))
+    ap (λ (fs : List Field). outsideAmong fs r) (sym
+    (of-none r (λ e. c .before .before .before .before .if1 .left
+    (c .before .before .before .before .before .kind .ensures .0 ∙ e))
+    (λ e. c .before .before .before .if2 .left (c .before .before .before .before .before .kind .ensures .0 ∙ e))
+    (λ e. c .before .before .if3 .left (c .before .before .before .before .before .kind .ensures .0 ∙ e))
+    (λ e. c .before .if4 .left (c .before .before .before .before .before .kind .ensures .0 ∙ e))
+    (λ e. c .if5 .left (c .before .before .before .before .before .kind .ensures .0 ∙ e))))
 
 pub field-outside-spec : {M : Type 1} → statement M
 field-outside-spec =

@@ -17,7 +17,8 @@ returns : tie.Need-returns
 returns c =
     let r = c .before .before .before .before .args .r .now in
     c .beside-contract .ensures
-    ∙ ap (λ (fs : List Field). unusedBeside fs r) (sym (of-contract r (sym (c .before .before .kind .ensures .0) ∙ c .before .if1 .taken)))
+    ∙ ap (λ (fs : List Field). unusedBeside fs r) (sym
+    (of-contract r (sym (c .before .before .kind .ensures .0) ∙ c .before .if1 .taken)))
 
 beside-prompt-requires : tie.Need-beside-prompt-requires
 beside-prompt-requires c κs = tt
@@ -26,7 +27,8 @@ returns-2 : tie.Need-returns-2
 returns-2 c =
     let r = c .before .before .before .before .before .args .r .now in
     c .beside-prompt .ensures
-    ∙ ap (λ (fs : List Field). unusedBeside fs r) (sym (of-prompt r (sym (c .before .before .before .kind .ensures .0) ∙ c .before .if2 .taken)))
+    ∙ ap (λ (fs : List Field). unusedBeside fs r) (sym
+    (of-prompt r (sym (c .before .before .before .kind .ensures .0) ∙ c .before .if2 .taken)))
 
 beside-row-requires : tie.Need-beside-row-requires
 beside-row-requires c κs = tt
@@ -35,7 +37,8 @@ returns-3 : tie.Need-returns-3
 returns-3 c =
     let r = c .before .before .before .before .before .before .args .r .now in
     c .beside-row .ensures
-    ∙ ap (λ (fs : List Field). unusedBeside fs r) (sym (of-row r (sym (c .before .before .before .before .kind .ensures .0) ∙ c .before .if3 .taken)))
+    ∙ ap (λ (fs : List Field). unusedBeside fs r) (sym
+    (of-row r (sym (c .before .before .before .before .kind .ensures .0) ∙ c .before .if3 .taken)))
 
 beside-spread-requires : tie.Need-beside-spread-requires
 beside-spread-requires c κs = tt
@@ -44,7 +47,8 @@ returns-4 : tie.Need-returns-4
 returns-4 c =
     let r = c .before .before .before .before .before .before .before .args .r .now in
     c .beside-spread .ensures
-    ∙ ap (λ (fs : List Field). unusedBeside fs r) (sym (of-spread r (sym (c .before .before .before .before .before .kind .ensures .0) ∙ c .before .if4 .taken)))
+    ∙ ap (λ (fs : List Field). unusedBeside fs r) (sym
+    (of-spread r (sym (c .before .before .before .before .before .kind .ensures .0) ∙ c .before .if4 .taken)))
 
 beside-entry-requires : tie.Need-beside-entry-requires
 beside-entry-requires c κs = tt
@@ -53,7 +57,9 @@ returns-5 : tie.Need-returns-5
 returns-5 c =
     let r = c .before .before .before .before .before .before .before .before .args .r .now in
     c .beside-entry .ensures
-    ∙ ap (λ (fs : List Field). unusedBeside fs r) (sym (of-entry r (sym (c .before .before .before .before .before .before .kind .ensures .0) ∙ c .before .if5 .taken)))
+    ∙ ap (λ (fs : List Field). unusedBeside fs r) (sym
+    (of-entry r (sym (c .before .before .before .before .before .before .kind .ensures .0)
+    ∙ c .before .if5 .taken)))
 
 beside-none-requires : tie.Need-beside-none-requires
 beside-none-requires c κs = tt
@@ -61,7 +67,15 @@ beside-none-requires c κs = tt
 returns-6 : tie.Need-returns-6
 returns-6 c =
     let r = c .before .before .before .before .before .before .before .before .args .r .now in
-    c .beside-none .ensures ∙ ap (λ (fs : List Field). unusedBeside fs r) (sym (of-none r (λ e. c .before .before .before .before .before .if1 .left (c .before .before .before .before .before .before .kind .ensures .0 ∙ e)) (λ e. c .before .before .before .before .if2 .left (c .before .before .before .before .before .before .kind .ensures .0 ∙ e)) (λ e. c .before .before .before .if3 .left (c .before .before .before .before .before .before .kind .ensures .0 ∙ e)) (λ e. c .before .before .if4 .left (c .before .before .before .before .before .before .kind .ensures .0 ∙ e)) (λ e. c .before .if5 .left (c .before .before .before .before .before .before .kind .ensures .0 ∙ e))))
+    c .beside-none .ensures ∙ ap (λ (fs : List Field). unusedBeside fs r)
+    (sym (of-none r (λ e. c .before .before .before .before .before .if1 .left
+    (c .before .before .before .before .before .before .kind .ensures .0 ∙ e))
+    (λ e. c .before .before .before .before .if2 .left
+    (c .before .before .before .before .before .before .kind .ensures .0 ∙ e))
+    (λ e. c .before .before .before .if3 .left
+    (c .before .before .before .before .before .before .kind .ensures .0 ∙ e))
+    (λ e. c .before .before .if4 .left (c .before .before .before .before .before .before .kind .ensures .0 ∙ e))
+    (λ e. c .before .if5 .left (c .before .before .before .before .before .before .kind .ensures .0 ∙ e))))
 
 pub unused-byte-spec : {M : Type 1} → statement M
 unused-byte-spec =

@@ -25,7 +25,8 @@ returns : tie.Need-returns Inv-loop μ-loop
 returns c =
     let l = c .before .before .before .loop in
     let p = notZero (c .before .before .before .before .before .args .r .now) in
-    sym (l .inv ∙ any-here p 96 (l .i) (c .before .before .loop-test .taken) (sym (c .before .is-set .ensures) ∙ c .if1 .taken))
+    sym (l .inv ∙ any-here p 96 (l .i) (c .before .before .loop-test .taken)
+    (sym (c .before .is-set .ensures) ∙ c .if1 .taken))
 
 add-i : tie.Need-add-i Inv-loop μ-loop
 add-i c = omega arith
@@ -37,7 +38,8 @@ loop-again : tie.Need-loop-again Inv-loop μ-loop
 loop-again c =
     let l = c .before .before .before .loop in
     let p = notZero (c .before .before .before .before .before .args .r .now) in
-    l .inv ∙ any-next p 96 (l .i) (c .before .before .loop-test .taken) (sym (c .before .is-set .ensures) ∙ c .if1 .left)
+    l .inv ∙ any-next p 96 (l .i) (c .before .before .loop-test .taken)
+    (sym (c .before .is-set .ensures) ∙ c .if1 .left)
 
 returns-2 : tie.Need-returns-2 Inv-loop μ-loop
 returns-2 c =

@@ -1,9 +1,9 @@
--- `account::notes::note_first` meets its contract. Assumes nothing.
+-- `account::check::note_first` meets its contract. Assumes nothing.
 use borrow.Author.Needs.{needs}
 use mathlib.Core.Path.{sym, _∙_}
 use borrow.Author.Tests.{eq-eqb, ne-eqb}
-use Rattle.account.proofs.notes.note_first.Statement.{statement}
-use Rattle.account.proofs.notes.note_first.Tie as tie
+use Rattle.account.proofs.check.note_first.Statement.{statement}
+use Rattle.account.proofs.check.note_first.Tie as tie
 
 noted-requires : tie.Need-noted-requires
 noted-requires c κs = tt

@@ -88,9 +88,8 @@ module _ (file : List ℕ) (ok : checked file ≡ Accepted) where
   account = records file
 
   -- a contract of the account, with its parts
-  pub contract-within : (own : Record) → ranges.ContractWithin own → ContractWithin own (promptsOf (contract own) account) (rowsOf (contract own) account) (spreadsOf (contract own) account)
-  contract-within own w =
-      let c = contract own in
+  pub contract-within : (own : Record) (c : ℕ) → ranges.ContractWithin own → ContractWithin own (promptsOf c account) (rowsOf c account) (spreadsOf c account)
+  contract-within own c w =
       let a = accepts file ok in
       let o = orders file ok in
       record {

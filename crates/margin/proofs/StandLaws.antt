@@ -78,7 +78,7 @@ module _ (file : List ℕ) (s : Survey) (st : Stands file s) where
       pub line-room : ContractWithin own (records prompts) (records rows) (records spreads)
       line-room =
           rw (p-are, r-are, s-are)
-          (contract-within file (st .accepted) own (subst⁻¹ (λ (r : Record). ranges.ContractWithin r) own-is (own-within file (st .accepted) i here)))
+          (contract-within file (st .accepted) own (contract own) (subst⁻¹ (λ (r : Record). ranges.ContractWithin r) own-is (own-within file (st .accepted) i here)))
 
       pub parts-are : contractFrom own (records prompts) (records rows) (records spreads) ≡ partsIn account (getD (contractsOf account) i [])
       parts-are = rw (p-are, r-are, s-are) (ap (partsIn account) own-is)

@@ -7,7 +7,7 @@ use native.Mathlib.Decide.{ℕ-discrete}
 use native.Mathlib.Omega.{arith}
 use mathlib.Core.Path.{_≡_, refl, sym, ap, ap₂, _∙_, subst, subst⁻¹}
 use mathlib.Core.Bool.{Bool, true, false, cond, not, _&&_, _||_}
-use mathlib.Core.List.{List, [], _∷_, _++_, map}
+use mathlib.Core.List.{List, [], _∷_, _++_, map, map-map}
 use lib.IntN.{ℤ, pos, natAbs}
 use lib.ListN.{length, getD, take, drop, set, length-set, length-map}
 use lib.Seq.{take-suc, take-suc-set, getD-set-same, getD-set-other}
@@ -32,7 +32,7 @@ use Rattle.margin.specs.Credit.{creditsBy}
 use Rattle.margin.specs.Deltas.{intercontract}
 use Rattle.margin.specs.Lines.{noLine}
 use Rattle.margin.specs.Within.{EntryWithin, EntriesWithin}
-use Rattle.margin.specs.Sums.{interleaved, EntriesRoom}
+use Rattle.margin.specs.Sums.{interleaved, deltasIn, EntriesRoom}
 use Rattle.margin.specs.Table.{tierOf, TiersFrom, TableRoom, earns, EarnerOf, CreditsOf}
 use Rattle.margin.specs.Tables.{TableOf}
 use Rattle.margin.specs.Promised.{BookOf}
@@ -75,9 +75,27 @@ tiered-next lines i ts ds t d is h l e =
           ∙ sym (map-take tierOf (i + 1) lines);
     }
 
+-- the net deltas of what stands open
+open-deltas : (ts : List ℕ) (ds : List Delta) → length ts ≡ length ds → map (λ p. p .unused) (given.opens ts ds) ≡ deltasIn ds
+open-deltas [] [] e = refl
+open-deltas [] (d ∷ ds) e = absurd (omega arith)
+open-deltas (t ∷ ts) [] e = absurd (omega arith)
+open-deltas (t ∷ ts) (d ∷ ds) e = ap (λ (zs : List ℤ). d .0 ∷ zs) (open-deltas ts ds (omega arith))
+
 pub tiered-all : (lines : List Line) (i count : ℕ) (p : Prompts) → Tiered lines i (p .tier) (p .net) → i ≡ count → p .count ≡ count → TiersFrom count lines p
 tiered-all lines i count p is e c =
-    record { count-is = c; opens-are = ap (λ (n : ℕ). take n (given.opens (p .tier) (p .net))) (c ∙ sym e) ∙ is .so-far ∙ ap (λ (n : ℕ). map tierOf (take n lines)) e }
+    let o = is .so-far in
+    record {
+      count-is = c;
+      opens-are = ap (λ (n : ℕ). take n (given.opens (p .tier) (p .net))) (c ∙ sym e) ∙ o ∙ ap (λ (n : ℕ). map tierOf (take n lines)) e;
+      nets-are =
+          ap (λ (n : ℕ). take n (deltasIn (p .net))) (sym e)
+          ∙ ap (take i) (sym (open-deltas (p .tier) (p .net) (is .tiers ∙ sym (is .nets))))
+          ∙ sym (map-take (λ q. q .unused) i (given.opens (p .tier) (p .net)))
+          ∙ ap (map (λ q. q .unused)) o
+          ∙ map-map (λ q. q .unused) tierOf (take i lines)
+          ∙ ap (λ (n : ℕ). map (λ l. l .net .0) (take n lines)) e;
+    }
 
 -- the first i contracts' credits stand in the array
 pub earned-next : (i : ℕ) (lines : List Line) (entries : List Record) (f g : List Spreads) (xs : List Amount) (a : Amount) → CreditsOf i lines entries f g xs → i < 16 → a .0 ≡ earns (getD lines i noLine) entries f g → a .0 ≤ 128 * mostRisk

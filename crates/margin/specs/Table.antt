@@ -17,7 +17,7 @@ use Rattle.margin.specs.declared.line.Line.{Line}
 use Rattle.margin.specs.Bounds.{mostRisk}
 use Rattle.margin.specs.Credit.{creditsBy}
 use Rattle.margin.specs.Lines.{noLine}
-use Rattle.margin.specs.Sums.{interleaved, EntriesRoom}
+use Rattle.margin.specs.Sums.{interleaved, deltasIn, EntriesRoom}
 use Rattle.margin.specs.Within.{EntriesWithin}
 
 -- "each contract a tier with one prompt"
@@ -27,6 +27,7 @@ tierOf l = record { tier = l .contract; unused = l .net .0 }
 pub record TiersFrom (count : ℕ) (lines : List Line) (p : Prompts) : Type 0 where
   pub count-is : p .count ≡ count
   pub opens-are : openOf p ≡ map tierOf (take count lines)
+  pub nets-are : take count (deltasIn (p .net)) ≡ map (λ l. l .net .0) (take count lines)
 
 pub record TableRoom (count : ℕ) (lines : List Line) (entries : List Record) : Type 0 where
   pub few : count ≤ 16

@@ -24,6 +24,7 @@ use Rattle.spread.proofs.Both.{and-both}
 use Rattle.spread.specs.Book.{entries, spreadsEntry, deltaEntry, Booked, numbersOf, usedIn, unusedIn}
 use Rattle.spread.specs.declared.Spreads.{Spreads}
 use Rattle.spread.specs.declared.Delta.{Delta}
+use Rattle.margin.specs.Books.{threes}
 use Rattle.margin.specs.Charges.{overSteps, promptCharge, promptCharges}
 use Rattle.margin.specs.Deltas.{opens, interprompt}
 use Rattle.margin.specs.Promised.{BookOf, BookRoom}
@@ -130,3 +131,34 @@ contract-book-is part spreads ds p t b tiers table room is =
     (handed-sound p t (opens (records part) (deltasIn ds)) (map interprompt (records spreads)) eo (table .spreads-are)
     (omega (arith, tiers .count-is, room .few-prompts, count-is part)) (omega (arith, table .count-is, room .few-spreads, count-is spreads)) (room .prompts-sound) (room .spreads-sound))
     is
+
+-- ---- a book's arrays, cut to its prompts and spreads
+
+pub take-deltas : (zs : List ℤ) (n m : ℕ) → length zs ≡ n → n ≤ m → take n (deltasIn (entries m (deltaEntry zs))) ≡ zs
+take-deltas [] zero m e h = refl
+take-deltas [] (suc n) m e h = absurd (omega arith)
+take-deltas (z ∷ zs) zero m e h = absurd (omega arith)
+take-deltas (z ∷ zs) (suc n) zero e h = absurd (not-suc-le-zero h)
+take-deltas (z ∷ zs) (suc n) (suc m) e h =
+    ap (λ (ds : List Delta). take (suc n) (deltasIn ds)) (deltas-next m z zs) ∙ ap (λ (xs : List ℤ). z ∷ xs) (take-deltas zs n m (omega arith) (le-of-suc-le-suc h))
+
+pub take-numbers : (numbers : List ℕ) (n m : ℕ) → length numbers ≡ 2 * n → n ≤ m → interleaved (take n (firsts m numbers)) (take n (seconds m numbers)) ≡ numbers
+take-numbers [] zero m e h = refl
+take-numbers (a ∷ numbers) zero m e h = absurd (omega arith)
+take-numbers numbers (suc n) zero e h = absurd (not-suc-le-zero h)
+take-numbers [] (suc n) (suc m) e h = absurd (omega arith)
+take-numbers (a ∷ []) (suc n) (suc m) e h = absurd (omega arith)
+take-numbers (a ∷ b ∷ numbers) (suc n) (suc m) e h =
+    ap₂ (λ (xs ys : List Spreads). interleaved (take (suc n) xs) (take (suc n) ys)) (firsts-next m a b numbers) (seconds-next m a b numbers)
+    ∙ ap (λ (xs : List ℕ). a ∷ b ∷ xs) (take-numbers numbers n m (omega arith) (le-of-suc-le-suc h))
+
+-- the numbers of a book: each prompt's three, then each spread's two
+pub book-listed : (ss : List (List Taker)) (ps : List Open) (b : Book) (nets : List ℤ) (n m : ℕ) (written : List ℤ) → BookOf ss ps b → length ps ≡ n → n ≤ 32 → length (numbers ss ps) ≡ 2 * m → m ≤ 32
+    → length (usedOf ss ps) ≡ n → length (unusedOf ss ps) ≡ n
+    → written ≡ threes nets (take n (deltasIn (b .used))) (take n (deltasIn (b .unused))) ++ map pos (interleaved (take m (b .first)) (take m (b .second)))
+    → written ≡ threes nets (usedOf ss ps) (unusedOf ss ps) ++ map pos (numbers ss ps)
+book-listed ss ps b nets n m written is e hn en hm eu el w =
+    w
+    ∙ ap₂ _++_
+    (ap₂ (threes nets) (ap (λ (ds : List Delta). take n (deltasIn ds)) (is .used-is) ∙ take-deltas (usedOf ss ps) n 32 eu hn) (ap (λ (ds : List Delta). take n (deltasIn ds)) (is .unused-is) ∙ take-deltas (unusedOf ss ps) n 32 el hn))
+    (ap (map pos) (ap₂ (λ (xs ys : List Spreads). interleaved (take m xs) (take m ys)) (is .first-is) (is .second-is) ∙ take-numbers (numbers ss ps) m 32 en hm))

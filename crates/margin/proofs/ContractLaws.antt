@@ -6,7 +6,7 @@ use native.Mathlib.Nat.{le-trans}
 use native.Mathlib.Decide.{decLt}
 use native.Mathlib.Omega.{arith}
 use mathlib.Core.Path.{_≡_, refl, sym, ap, ap₂, _∙_, subst, subst⁻¹}
-use mathlib.Core.List.{List, [], _∷_, map}
+use mathlib.Core.List.{List, [], _∷_, _++_, map}
 use lib.IntN.{ℤ, pos, natAbs}
 use lib.ListN.{length, getD, take, length-map, List·getD-eq-default}
 use Rattle.exact.specs.Lists.{sum, sumℤ}
@@ -20,6 +20,9 @@ use Rattle.spread.specs.declared.book.Book.{Book}
 use Rattle.margin.specs.declared.rows.Position.{Position}
 use Rattle.margin.specs.declared.line.Line.{Line}
 use Rattle.margin.specs.Bounds.{mostDelta, mostRisk, mostLots, mostRate}
+use Rattle.margin.specs.declared.numbers.Numbers.{Numbers}
+use Rattle.margin.specs.Books.{threes, contractBook}
+use Rattle.margin.specs.Numbers.{listed, SpreadsSigned, BookNumbers}
 use Rattle.margin.specs.Charges.{spreadCharge, interpromptCharge, promptCharges}
 use Rattle.margin.specs.Contract.{Contract, contractFrom, interpromptOf, promptOf, contractNet}
 use Rattle.margin.specs.Credit.{totalOf, twicePriceRisk}
@@ -31,7 +34,7 @@ use Rattle.margin.specs.Promised.{BookOf, BookRoom, Charged, LineOf}
 use Rattle.margin.specs.Risks.{TotalsWithin, Scanned}
 use Rattle.margin.specs.Sums.{interleaved, deltasIn, SpreadsWithin, PromptsWithin}
 use Rattle.margin.specs.Within.{ContractWithin}
-use Rattle.margin.proofs.BookLaws.{over-arrays, prompts-arrays}
+use Rattle.margin.proofs.BookLaws.{over-arrays, prompts-arrays, book-listed}
 use Rattle.margin.proofs.LineLaws.{opens-first, opens-length, opens-sizes, opens-sound, spreads-sound, numbers-length, used-length, unused-length, sum-zeros, size-zeros, first-within, delta-within}
 use Rattle.margin.proofs.NetLaws.{net-sizes-most}
 use Rattle.margin.proofs.StepBounds.{sizes, number-within, used-within, unused-within, size-at}
@@ -170,4 +173,32 @@ module _ (own : Record) (prompts rows spreads : List Record) (w : ContractWithin
               };
           price-within = sc .price-within;
           net-within = subst⁻¹ (λ (z : ℤ). natAbs z ≤ mostDelta) en (le-trans (abs-sum nets) net-sizes);
+        }
+
+    -- the numbers formed can be written signed
+    pub spreads-signed : (m : ℕ) → m ≡ length spreads → SpreadsSigned m (b .first) (b .second)
+    spreads-signed m e =
+        let few = w .few-spreads in
+        record {
+          most = omega arith;
+          first-within = λ j h. let x = spreads-room .each j (omega arith) .first-within in omega arith;
+          second-within = λ j h. let x = spreads-room .each j (omega arith) .second-within in omega arith;
+        }
+
+    -- the numbers of the contract's book
+    pub contract-book-listed : (r : Numbers) (n m np nm : ℕ) → n ≡ np → m ≡ nm → length prompts ≡ np → length spreads ≡ nm → r .count ≡ 3 * n + 2 * m
+        → listed r ≡ threes (take n nets) (take n (deltasIn (b .used))) (take n (deltasIn (b .unused))) ++ map pos (interleaved (take m (b .first)) (take m (b .second)))
+        → BookNumbers (contractBook k) np nm r
+    contract-book-listed r n m np nm en em ep es ec el =
+        let fp = w .few-prompts in
+        let fs = w .few-spreads in
+        let a : n ≡ length prompts = en ∙ sym ep in
+        let c : m ≡ length spreads = em ∙ sym es in
+        record {
+          listed-is =
+              book-listed ss ps b (take n nets) n m (listed r) bk (prompts-open ∙ sym a) (omega arith) (numbers-length interprompt spreads ps ∙ ap (λ (x : ℕ). 2 * x) (sym c)) (omega arith)
+              (used-length ss ps ∙ prompts-open ∙ sym a) (unused-length ss ps ∙ prompts-open ∙ sym a) el
+              ∙ ap₂ (λ (zs : List ℤ) (qs : List Open). threes zs (usedOf ss qs) (unusedOf ss qs) ++ map pos (numbers ss qs)) (ap (λ (x : ℕ). take x nets) a ∙ is .nets-are) nets-are;
+          count-is = omega arith;
+          few = omega arith;
         }

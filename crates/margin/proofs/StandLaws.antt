@@ -1,6 +1,6 @@
 -- The parts of an accepted file by its survey, and the lines of its contracts.
 -- Assumes nothing.
-use Prim.Native.Nat.{ℕ, zero, suc, _+_, _*_, _≤_, _<_}
+use Prim.Native.Nat.{ℕ, zero, suc, _+_, _*_, _≤_, _<_, zero-le}
 use native.Mathlib.Omega.{arith}
 use mathlib.Core.Path.{_≡_, refl, sym, ap, ap₂, _∙_, subst, subst⁻¹}
 use mathlib.Core.Bool.{cond}
@@ -14,7 +14,7 @@ use Rattle.account.specs.Answers.{numberOf}
 use Rattle.account.specs.Check.{checked}
 use Rattle.account.specs.Notes.{part, entryPart}
 use Rattle.account.specs.Parts.{ofKind, contractsOf, promptsOf, rowsOf, spreadsOf, entriesOf}
-use Rattle.account.specs.Records.{records, recordAt, stretch}
+use Rattle.account.specs.Records.{records, recordAt, recordCount, stretch}
 use Rattle.account.specs.Surveyed.{partStart, partCount}
 use Rattle.account.specs.declared.answers.Answer.{Answer}
 use Rattle.account.specs.declared.check.Survey.{Survey}
@@ -22,7 +22,11 @@ use Rattle.account.proofs.Accepted.{accepts}
 use Rattle.account.proofs.Every.{length-kept}
 use Rattle.account.proofs.Orders.{contract-at}
 use Rattle.margin.specs.declared.line.Line.{Line}
-use Rattle.margin.specs.Contract.{Contract, contractFrom, partsIn}
+use Rattle.margin.specs.declared.numbers.Numbers.{Numbers}
+use Rattle.margin.specs.Books.{contractBook}
+use Rattle.margin.specs.Contract.{Contract, contractFrom, partsIn, partsOf}
+use Rattle.margin.specs.Numbers.{BookNumbers}
+use Rattle.margin.proofs.RecordLaws.{count-is}
 use Rattle.margin.specs.Promised.{LineOf}
 use Rattle.margin.specs.Stands.{Stands}
 use Rattle.margin.specs.Within.{ContractWithin}
@@ -82,3 +86,29 @@ module _ (file : List ℕ) (s : Survey) (st : Stands file s) where
 
       pub parts-are : contractFrom own (records prompts) (records rows) (records spreads) ≡ partsIn account (getD (contractsOf account) i [])
       parts-are = rw (p-are, r-are, s-are) (ap (partsIn account) own-is)
+
+  -- a contract's parts by its number
+  module _ (c : ℕ) (h : c ≤ 15) (prompts rows spreads : List ℕ) (ep : prompts ≡ stretch file (getD (s .first) (32 + c) 0) (getD (s .counts) (32 + c) 0))
+      (er : rows ≡ stretch file (getD (s .first) (48 + c) 0) (getD (s .counts) (48 + c) 0)) (es : spreads ≡ stretch file (getD (s .first) (64 + c) 0) (getD (s .counts) (64 + c) 0)) where
+    ps-are : records prompts ≡ promptsOf c account
+    ps-are = ap records ep ∙ prompts-stand c h
+
+    rs-are : records rows ≡ rowsOf c account
+    rs-are = ap records er ∙ rows-stand c h
+
+    ss-are : records spreads ≡ spreadsOf c account
+    ss-are = ap records es ∙ spreads-stand c h
+
+    pub parts-room : ContractWithin [] (records prompts) (records rows) (records spreads)
+    parts-room = rw (ps-are, rs-are, ss-are) (contract-within file (st .accepted) [] c (record { contracts = zero-le; rates = zero-le }))
+
+    pub parts-numbers : (r : Numbers) → BookNumbers (contractBook (contractFrom [] (records prompts) (records rows) (records spreads))) (recordCount prompts) (recordCount spreads) r
+        → BookNumbers (contractBook (partsOf account c)) (length (promptsOf c account)) (length (spreadsOf c account)) r
+    parts-numbers r is =
+        let a : recordCount prompts ≡ length (promptsOf c account) = sym (count-is prompts) ∙ ap length ps-are in
+        let b : recordCount spreads ≡ length (spreadsOf c account) = sym (count-is spreads) ∙ ap length ss-are in
+        record {
+          listed-is = is .listed-is ∙ rw (ps-are, rs-are, ss-are);
+          count-is = is .count-is ∙ ap₂ (λ (x y : ℕ). 3 * x + 2 * y) a b;
+          few = is .few;
+        }

@@ -38,6 +38,10 @@ abbrev pub partsIn : List Record → Record → Contract
 partsIn account own =
     contractFrom own (promptsOf (contract own) account) (rowsOf (contract own) account) (spreadsOf (contract own) account)
 
+-- the parts of a contract number, whatever its own record
+abbrev pub partsOf : List Record → ℕ → Contract
+partsOf account c = contractFrom [] (promptsOf c account) (rowsOf c account) (spreadsOf c account)
+
 abbrev pub contracts : List Record → List Contract
 contracts account = map (partsIn account) (contractsOf account)
 

@@ -1,6 +1,7 @@
 -- Answers as lists of numbers, and the bounds within which they are made.
 -- Assumes nothing.
-use Prim.Native.Nat.{ℕ, _*_, _^_, _≤_, _<_}
+use Prim.Native.Nat.{ℕ, _+_, _*_, _^_, _≤_, _<_}
+use mathlib.Core.Path.{_≡_}
 use mathlib.Core.List.{List}
 use lib.ListN.{getD, take}
 use lib.IntN.{ℤ}
@@ -30,3 +31,9 @@ pub record SpreadsSigned (count : ℕ) (firsts seconds : List Spreads) : Type 0 
   pub most : count ≤ 32
   pub first-within : (k : ℕ) → k < count → spreadsAt firsts k < 2 ^ 63
   pub second-within : (k : ℕ) → k < count → spreadsAt seconds k < 2 ^ 63
+
+-- the numbers of a book with so many prompts and spreads
+pub record BookNumbers (book : List ℤ) (prompts spreads : ℕ) (n : Numbers) : Type 0 where
+  pub listed-is : listed n ≡ book
+  pub count-is : n .count ≡ 3 * prompts + 2 * spreads
+  pub few : n .count ≤ 160

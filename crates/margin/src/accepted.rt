@@ -1,13 +1,18 @@
 // An accepted account, by its survey: the lines of its contracts, and the numbers of its answers.
 use crate::amount::Amount;
+use crate::books::contract_book;
 use crate::intercontract::credits_of;
 use crate::intercontract::table_book;
+use crate::intercontract::tiers_of;
 use crate::line::Line;
 use crate::line::line_of;
 use crate::numbers::Numbers;
+use crate::numbers::book_numbers;
 use crate::numbers::figures_numbers;
+use crate::rows::position_of;
 use account::check::Survey;
 use account::stretches::record_at;
+use account::stretches::record_count;
 use account::stretches::stretch;
 use record::fields::contract;
 use spread::Delta;
@@ -17,12 +22,14 @@ ghost use Prim.Native.Nat.{_+_, _*_, _≤_, _<_};
 ghost use lib.IntN.{pos};
 ghost use lib.ListN.{length, getD};
 ghost use Rattle.account.specs.Notes.{part, entryPart};
-ghost use Rattle.account.specs.Parts.{contractsOf};
-ghost use Rattle.account.specs.Records.{records, stretch};
-ghost use Rattle.margin.specs.Contract.{partsIn};
+ghost use Rattle.account.specs.Parts.{contractsOf, promptsOf, spreadsOf, entriesOf};
+ghost use Rattle.account.specs.Records.{records, recordCount, stretch};
+ghost use Rattle.margin.specs.Books.{contractBook, tableBook};
+ghost use Rattle.margin.specs.Contract.{contractFrom, contracts, partsIn, partsOf};
 ghost use Rattle.margin.specs.Figures.{figures};
 ghost use Rattle.margin.specs.Lines.{noLine};
-ghost use Rattle.margin.specs.Numbers.{listed};
+ghost use Rattle.margin.specs.Numbers.{listed, BookNumbers};
+ghost use Rattle.margin.specs.Within.{ContractWithin};
 ghost use Rattle.margin.specs.Promised.{LineOf};
 ghost use Rattle.margin.specs.Stands.{Stands, LinesOf};
 
@@ -98,4 +105,65 @@ pub(crate) fn figures_over(file: &[u8], survey: Survey) -> Numbers
     let book = table_book(count, lines, entries);
     let credits = credits_of(count, lines, entries, book);
     figures_numbers(count, lines, credits)
+}
+
+// The numbers of a contract's book, from the stretches of its prompts, rows and interprompt spreads.
+fn contract_answer(prompts: &[u8], rows: &[u8], spreads: &[u8]) -> Numbers
+    requires { ⌜ ContractWithin [] (records (now prompts)) (records (now rows)) (records (now spreads)) ⌝ }
+    ensures { λ r. ⌜ BookNumbers (contractBook (contractFrom [] (records (now (prompts .entry))) (records (now (rows .entry))) (records (now (spreads .entry))))) (recordCount (now (prompts .entry))) (recordCount (now (spreads .entry))) r ⌝ }
+{
+    let p = position_of(prompts, rows);
+    let nets = p.nets;
+    let book = contract_book(prompts, nets, spreads);
+    let used = book.used;
+    let unused = book.unused;
+    let first = book.first;
+    let second = book.second;
+    book_numbers(
+        record_count(prompts),
+        nets,
+        used,
+        unused,
+        record_count(spreads),
+        first,
+        second,
+    )
+}
+
+// The numbers of the book of contract `c`.
+fn contract_numbers(file: &[u8], survey: Survey, c: usize) -> Numbers
+    requires { ⌜ Stands (now file) survey × (c ≤ 15) ⌝ }
+    ensures { λ r. ⌜ BookNumbers (contractBook (partsOf (records (now (file .entry))) c)) (length (promptsOf c (records (now (file .entry))))) (length (spreadsOf c (records (now (file .entry))))) r ⌝ }
+{
+    let prompts = part_at(file, survey, 32 + c);
+    let rows = part_at(file, survey, 48 + c);
+    let spreads = part_at(file, survey, 64 + c);
+    contract_answer(prompts, rows, spreads)
+}
+
+// The numbers of the book of the intercontract table.
+fn table_numbers(file: &[u8], survey: Survey) -> Numbers
+    requires { ⌜ Stands (now file) survey ⌝ }
+    ensures { λ r. ⌜ BookNumbers (tableBook (entriesOf (records (now (file .entry)))) (contracts (records (now (file .entry))))) (survey .contracts) (length (entriesOf (records (now (file .entry))))) r ⌝ }
+{
+    let all = lines_of(file, survey);
+    let count = all.count;
+    let lines = all.line;
+    let entries = part_at(file, survey, 80);
+    let book = table_book(count, lines, entries);
+    let tiers = tiers_of(count, lines);
+    let nets = tiers.net;
+    let used = book.used;
+    let unused = book.unused;
+    let first = book.first;
+    let second = book.second;
+    book_numbers(
+        count,
+        nets,
+        used,
+        unused,
+        record_count(entries),
+        first,
+        second,
+    )
 }

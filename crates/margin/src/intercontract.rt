@@ -22,7 +22,7 @@ ghost use Rattle.margin.specs.Promised.{BookOf};
 ghost use Rattle.margin.specs.Table.{tierOf, TiersFrom, TableRoom, EarnerOf, CreditsRoom, CreditsOf};
 
 // The contracts as the spread steps take them.
-fn tiers_of(count: usize, lines: [Line; 16]) -> Prompts
+pub(crate) fn tiers_of(count: usize, lines: [Line; 16]) -> Prompts
     requires { ⌜ count ≤ 16 ⌝ }
     ensures { λ r. ⌜ TiersFrom count lines r ⌝ }
 {

@@ -23,3 +23,4 @@ pub mod AcceptLaws
 pub mod StandLaws
 pub mod AccountLaws
 pub mod QuestionLaws
+pub mod AskedLaws

@@ -2,10 +2,11 @@
 -- (number in its first step, in its second). Question 16 is the intercontract table: three numbers per contract, then
 -- two per entry."
 -- Assumes nothing.
-use Prim.Native.Nat.{ℕ}
-use mathlib.Core.Bool.{Bool, cond, _||_}
+use Prim.Native.Nat.{ℕ, _+_}
+use mathlib.Core.Bool.{Bool, cond, not, _&&_, _||_}
 use mathlib.Core.List.{List, [], _∷_, _++_, map}
-use lib.Dec.{eqb}
+use lib.Dec.{eqb, ltb}
+use lib.ListN.{getD}
 use lib.IntN.{ℤ, pos}
 use Rattle.exact.specs.Lists.{keep, any}
 use Rattle.record.specs.Layout.{Record, contract}
@@ -42,6 +43,10 @@ asks question own = eqb (contract own) question
 
 abbrev pub answered : List Record → ℕ → Bool
 answered account question = eqb question tableQuestion || any (asks question) (contractsOf account)
+
+-- the same by how many records each contract's own part has
+abbrev pub askedBy : List ℕ → ℕ → Bool
+askedBy counts question = eqb question tableQuestion || (ltb question 16 && not (eqb (getD counts (16 + question) 0) 0))
 
 abbrev pub book : List Record → ℕ → List ℤ
 book account question =

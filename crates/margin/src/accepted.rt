@@ -17,6 +17,7 @@ use account::stretches::stretch;
 use record::fields::contract;
 use spread::Delta;
 ghost use mathlib.Core.Path.{_≡_};
+ghost use mathlib.Core.Bool.{true};
 ghost use mathlib.Core.List.{[], map};
 ghost use Prim.Native.Nat.{_+_, _*_, _≤_, _<_};
 ghost use lib.IntN.{pos};
@@ -24,7 +25,7 @@ ghost use lib.ListN.{length, getD};
 ghost use Rattle.account.specs.Notes.{part, entryPart};
 ghost use Rattle.account.specs.Parts.{contractsOf, promptsOf, spreadsOf, entriesOf};
 ghost use Rattle.account.specs.Records.{records, recordCount, stretch};
-ghost use Rattle.margin.specs.Books.{contractBook, tableBook};
+ghost use Rattle.margin.specs.Books.{contractBook, tableBook, answered, askedBy, book};
 ghost use Rattle.margin.specs.Contract.{contractFrom, contracts, partsIn, partsOf};
 ghost use Rattle.margin.specs.Figures.{figures};
 ghost use Rattle.margin.specs.Lines.{noLine};
@@ -166,4 +167,29 @@ fn table_numbers(file: &[u8], survey: Survey) -> Numbers
         first,
         second,
     )
+}
+
+// The numbers of the delta book that a question asks for.
+pub(crate) fn book_over(file: &[u8], survey: Survey, question: usize) -> Numbers
+    requires { ⌜ Stands (now file) survey × (answered (records (now file)) question ≡ true) ⌝ }
+    ensures { λ r. ⌜ (listed r ≡ book (records (now (file .entry))) question) × (length (book (records (now (file .entry))) question) ≡ r .count) × (r .count ≤ 160) ⌝ }
+{
+    if question == 16 {
+        return table_numbers(file, survey);
+    }
+    contract_numbers(file, survey, question)
+}
+
+// Whether a question is a listed contract or 16.
+pub(crate) fn is_asked(survey: Survey, question: usize) -> bool
+    ensures { λ r. ⌜ r ≡ askedBy (survey .counts) question ⌝ }
+{
+    if question == 16 {
+        return true;
+    }
+    if 16 <= question {
+        return false;
+    }
+    let counts = survey.counts;
+    counts[16 + question] != 0
 }

@@ -1,0 +1,147 @@
+-- Which questions an accepted account answers, and the book of each.
+-- Assumes nothing.
+use Prim.Native.Nat.{ℕ, zero, suc, _+_, _-_, _*_, _≤_, _<_}
+use native.Mathlib.Omega.{arith}
+use mathlib.Core.Path.{_≡_, refl, sym, ap, ap₂, _∙_, subst, subst⁻¹}
+use mathlib.Core.Bool.{Bool, true, false, cond, not, _&&_, _||_, false≢true, Bool·not-not}
+use mathlib.Core.List.{List, [], _∷_, _++_, map, append-nil}
+use borrow.Author.Tests.{eqb-true, eqb-false, eq-eqb, ne-eqb, ltb-true, ltb-false}
+use lib.Dec.{eqb, ltb}
+use lib.IntN.{ℤ, pos}
+use lib.ListN.{length, getD, length-append, length-map}
+use Rattle.exact.specs.Lists.{consIf, keep, any, count, oneIf}
+use Rattle.record.specs.Layout.{Record, kind, contract}
+use Rattle.record.specs.Within as ranges
+use Rattle.account.specs.Accepted.{every}
+use Rattle.account.specs.Answers.{numberOf}
+use Rattle.account.specs.Notes.{inPart}
+use Rattle.account.specs.Parts.{ofKind, ofContract, contractsOf, entriesOf, promptsOf, rowsOf, spreadsOf}
+use Rattle.account.specs.Records.{records}
+use Rattle.account.specs.declared.answers.Answer.{Answer}
+use Rattle.account.specs.declared.check.Survey.{Survey}
+use Rattle.account.proofs.Accepted.{accepts}
+use Rattle.account.proofs.Lists.{any-keep, none-counted}
+use Rattle.account.proofs.Noted.{part-is}
+use Rattle.spread.specs.Steps.{numbers, usedOf, unusedOf}
+use Rattle.margin.specs.Books.{threes, contractBook, booksOf, tableBook, asks, answered, askedBy, book}
+use Rattle.margin.specs.Contract.{Contract, contractFrom, contracts, partsIn, partsOf, contractNet, asTier, stepsOf, opensOf, tableSteps}
+use Rattle.margin.specs.Deltas.{interprompt, intercontract, netDeltas, opens}
+use Rattle.margin.specs.Stands.{Stands}
+use Rattle.margin.proofs.LineLaws.{numbers-length, used-length, unused-length, opens-length}
+
+-- ---- how many numbers a book has
+
+threes-length : (nets used unused : List ℤ) → length used ≡ length nets → length unused ≡ length nets → length (threes nets used unused) ≡ 3 * length nets
+threes-length [] used unused e f = refl
+threes-length (n ∷ nets) [] unused e f = absurd (omega arith)
+threes-length (n ∷ nets) (u ∷ used) [] e f = absurd (omega arith)
+threes-length (n ∷ nets) (u ∷ used) (o ∷ unused) e f = let h = threes-length nets used unused (omega arith) (omega arith) in omega arith
+
+pub contract-length : (own : Record) (prompts rows spreads : List Record) → length (contractBook (contractFrom own prompts rows spreads)) ≡ 3 * length prompts + 2 * length spreads
+contract-length own prompts rows spreads =
+    let k = contractFrom own prompts rows spreads in
+    let o : length (opensOf k) ≡ length prompts = opens-length prompts (netDeltas prompts rows) (length-map prompts _) in
+    let t = threes-length (netDeltas prompts rows) (usedOf (stepsOf k) (opensOf k)) (unusedOf (stepsOf k) (opensOf k))
+    (used-length (stepsOf k) (opensOf k) ∙ o ∙ sym (length-map prompts _)) (unused-length (stepsOf k) (opensOf k) ∙ o ∙ sym (length-map prompts _))
+    in
+    length-append (threes (netDeltas prompts rows) (usedOf (stepsOf k) (opensOf k)) (unusedOf (stepsOf k) (opensOf k))) (map pos (numbers (stepsOf k) (opensOf k)))
+    ∙ ap₂ _+_ (t ∙ ap (λ (x : ℕ). 3 * x) (length-map prompts _)) (length-map (numbers (stepsOf k) (opensOf k)) pos ∙ numbers-length interprompt spreads (opensOf k))
+
+pub table-length : (entries : List Record) (ks : List Contract) → length (tableBook entries ks) ≡ 3 * length ks + 2 * length entries
+table-length entries ks =
+    let ss = tableSteps entries in
+    let ps = map asTier ks in
+    let o : length ps ≡ length ks = length-map ks asTier in
+    let t = threes-length (map contractNet ks) (usedOf ss ps) (unusedOf ss ps) (used-length ss ps ∙ o ∙ sym (length-map ks contractNet)) (unused-length ss ps ∙ o ∙ sym (length-map ks contractNet)) in
+    length-append (threes (map contractNet ks) (usedOf ss ps) (unusedOf ss ps)) (map pos (numbers ss ps))
+    ∙ ap₂ _+_ (t ∙ ap (λ (x : ℕ). 3 * x) (length-map ks contractNet)) (length-map (numbers ss ps) pos ∙ numbers-length intercontract entries ps)
+
+-- ---- the one contract of a number
+
+count-keep : (p q : Record → Bool) (xs : List Record) → count q (keep p xs) ≡ count (λ x. p x && q x) xs
+count-keep p q [] = refl
+count-keep p q (x ∷ xs) = go (p x) (count-keep p q xs)
+  where
+    go : (t : Bool) → count q (keep p xs) ≡ count (λ y. p y && q y) xs → count q (consIf t x (keep p xs)) ≡ oneIf (t && q x) + count (λ y. p y && q y) xs
+    go true h = ap (λ (n : ℕ). oneIf (q x) + n) h
+    go false h = omega arith
+
+pub record One (p : Record → Bool) (xs : List Record) : Type 0 where
+  pub only : Record
+  pub kept : keep p xs ≡ only ∷ []
+  pub passes : p only ≡ true
+
+none-kept : (p : Record → Bool) (xs : List Record) → count p xs ≡ 0 → keep p xs ≡ []
+none-kept p [] e = refl
+none-kept p (x ∷ xs) e = go (p x) (none-kept p xs) e
+  where
+    go : (t : Bool) → (count p xs ≡ 0 → keep p xs ≡ []) → oneIf t + count p xs ≡ 0 → consIf t x (keep p xs) ≡ []
+    go true h z = absurd (omega arith)
+    go false h z = h (omega arith)
+
+one-kept : (p : Record → Bool) (xs : List Record) → any p xs ≡ true → count p xs ≤ 1 → One p xs
+one-kept p [] a h = absurd (false≢true a)
+one-kept p (x ∷ xs) a h = go (p x) refl (one-kept p xs) a h
+  where
+    go : (t : Bool) → p x ≡ t → (any p xs ≡ true → count p xs ≤ 1 → One p xs) → t || any p xs ≡ true → oneIf t + count p xs ≤ 1 → One p (x ∷ xs)
+    go true e f b m =
+        record { only = x; kept = ap (λ (t : Bool). consIf t x (keep p xs)) e ∙ ap (λ (ys : List Record). x ∷ ys) (none-kept p xs (omega arith)); passes = e }
+    go false e f b m =
+        let r = f b (omega arith) in
+        record { only = r .only; kept = ap (λ (t : Bool). consIf t x (keep p xs)) e ∙ r .kept; passes = r .passes }
+
+large : (q : ℕ) (rs : List Record) → every ranges.ContractWithin rs → 15 < q → any (asks q) rs ≡ false
+large q [] e h = refl
+large q (r ∷ rs) e h = ap₂ _||_ (ne-eqb (contract r) q (λ x. let w = e .0 .contracts in omega arith)) (large q rs (e .1) h)
+
+module _ (file : List ℕ) (s : Survey) (st : Stands file s) where
+  abbrev account : List Record
+  account = records file
+
+  -- the survey knows which questions are answered
+  pub asked-is : (q : ℕ) → askedBy (s .counts) q ≡ answered account q
+  asked-is q = go (eqb q 16) refl (ltb q 16) refl
+    where
+      own : (t : Bool) → ltb q 16 ≡ t → eqb q 16 ≡ false → t && not (eqb (getD (s .counts) (16 + q) 0) 0) ≡ any (asks q) (contractsOf account)
+      own true l n =
+          let h = ltb-true q 16 l in
+          ap (λ (x : ℕ). not (eqb x 0))
+          (st .surveyed .counts (16 + q) (omega arith)
+          ∙ ap (λ (a : Answer). cond (eqb (numberOf a) 0) (count (inPart (16 + q)) account) 0) (st .accepted)
+          ∙ ap (λ (p : Record → Bool). count p account) (part-is 1 q (omega arith) (omega arith)))
+          ∙ ap not (none-counted (ofContract 1 q) account)
+          ∙ Bool·not-not (any (ofContract 1 q) account)
+          ∙ sym (any-keep (ofKind 1) (asks q) account)
+      own false l n =
+          let h = ltb-false q 16 l in
+          let m = eqb-false q 16 n in
+          sym (large q (contractsOf account) (accepts file (st .accepted) .ranges .contracts) (omega (arith, m)))
+
+      go : (t : Bool) → eqb q 16 ≡ t → (u : Bool) → ltb q 16 ≡ u → t || (u && not (eqb (getD (s .counts) (16 + q) 0) 0)) ≡ t || any (asks q) (contractsOf account)
+      go true e u l = refl
+      go false e u l = own u l e
+
+  -- a contract that is asked for
+  pub asked-small : (q : ℕ) → answered account q ≡ true → (q ≡ 16 → ⊥) → q ≤ 15
+  asked-small q a n = go (ltb 15 q) refl
+    where
+      go : (t : Bool) → ltb 15 q ≡ t → q ≤ 15
+      go true l =
+          let h = ltb-true 15 q l in
+          absurd (false≢true (sym (ap₂ _||_ (ne-eqb q 16 n) (large q (contractsOf account) (accepts file (st .accepted) .ranges .contracts) h)) ∙ a))
+      go false l = ltb-false 15 q l
+
+  pub one-book : (q : ℕ) → answered account q ≡ true → (q ≡ 16 → ⊥) → book account q ≡ contractBook (partsOf account q)
+  one-book q a n =
+      let listed : any (asks q) (contractsOf account) ≡ true = ap (λ (t : Bool). t || any (asks q) (contractsOf account)) (sym (ne-eqb q 16 n)) ∙ a in
+      let few = accepts file (st .accepted) .named .once q in
+      let c = count-keep (ofKind 1) (asks q) account in
+      let o = one-kept (asks q) (contractsOf account) listed (omega arith) in
+      let e = eqb-true (contract (o .only)) q (o .passes) in
+      ap (λ (t : Bool). cond t (tableBook (entriesOf account) (contracts account)) (booksOf (map (partsIn account) (keep (asks q) (contractsOf account))))) (ne-eqb q 16 n)
+      ∙ ap (λ (rs : List Record). booksOf (map (partsIn account) rs)) (o .kept)
+      ∙ append-nil (contractBook (partsIn account (o .only)))
+      ∙ ap (λ (m : ℕ). contractBook (partsOf account m)) e
+
+  pub table-asked : (q : ℕ) → q ≡ 16 → book account q ≡ tableBook (entriesOf account) (contracts account)
+  table-asked q e = ap (λ (t : Bool). cond t (tableBook (entriesOf account) (contracts account)) (booksOf (map (partsIn account) (keep (asks q) (contractsOf account))))) (eq-eqb q 16 e)

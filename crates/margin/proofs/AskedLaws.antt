@@ -14,10 +14,12 @@ use Rattle.record.specs.Layout.{Record, kind, contract}
 use Rattle.record.specs.Within as ranges
 use Rattle.account.specs.Accepted.{every}
 use Rattle.account.specs.Answers.{numberOf}
+use Rattle.account.specs.Check.{checked}
 use Rattle.account.specs.Notes.{inPart}
 use Rattle.account.specs.Parts.{ofKind, ofContract, contractsOf, entriesOf, promptsOf, rowsOf, spreadsOf}
 use Rattle.account.specs.Records.{records}
 use Rattle.account.specs.declared.answers.Answer.{Answer}
+use Rattle.account.specs.declared.answers.Answer.the-variants.{Accepted}
 use Rattle.account.specs.declared.check.Survey.{Survey}
 use Rattle.account.proofs.Accepted.{accepts}
 use Rattle.account.proofs.Lists.{any-keep, none-counted}
@@ -121,27 +123,31 @@ module _ (file : List ℕ) (s : Survey) (st : Stands file s) where
       go true e u l = refl
       go false e u l = own u l e
 
+module _ (file : List ℕ) (ok : checked file ≡ Accepted) where
+  abbrev all : List Record
+  all = records file
+
   -- a contract that is asked for
-  pub asked-small : (q : ℕ) → answered account q ≡ true → (q ≡ 16 → ⊥) → q ≤ 15
+  pub asked-small : (q : ℕ) → answered all q ≡ true → (q ≡ 16 → ⊥) → q ≤ 15
   asked-small q a n = go (ltb 15 q) refl
     where
       go : (t : Bool) → ltb 15 q ≡ t → q ≤ 15
       go true l =
           let h = ltb-true 15 q l in
-          absurd (false≢true (sym (ap₂ _||_ (ne-eqb q 16 n) (large q (contractsOf account) (accepts file (st .accepted) .ranges .contracts) h)) ∙ a))
+          absurd (false≢true (sym (ap₂ _||_ (ne-eqb q 16 n) (large q (contractsOf all) (accepts file ok .ranges .contracts) h)) ∙ a))
       go false l = ltb-false 15 q l
 
-  pub one-book : (q : ℕ) → answered account q ≡ true → (q ≡ 16 → ⊥) → book account q ≡ contractBook (partsOf account q)
+  pub one-book : (q : ℕ) → answered all q ≡ true → (q ≡ 16 → ⊥) → book all q ≡ contractBook (partsOf all q)
   one-book q a n =
-      let listed : any (asks q) (contractsOf account) ≡ true = ap (λ (t : Bool). t || any (asks q) (contractsOf account)) (sym (ne-eqb q 16 n)) ∙ a in
-      let few = accepts file (st .accepted) .named .once q in
-      let c = count-keep (ofKind 1) (asks q) account in
-      let o = one-kept (asks q) (contractsOf account) listed (omega arith) in
+      let listed : any (asks q) (contractsOf all) ≡ true = ap (λ (t : Bool). t || any (asks q) (contractsOf all)) (sym (ne-eqb q 16 n)) ∙ a in
+      let few = accepts file ok .named .once q in
+      let c = count-keep (ofKind 1) (asks q) all in
+      let o = one-kept (asks q) (contractsOf all) listed (omega arith) in
       let e = eqb-true (contract (o .only)) q (o .passes) in
-      ap (λ (t : Bool). cond t (tableBook (entriesOf account) (contracts account)) (booksOf (map (partsIn account) (keep (asks q) (contractsOf account))))) (ne-eqb q 16 n)
-      ∙ ap (λ (rs : List Record). booksOf (map (partsIn account) rs)) (o .kept)
-      ∙ append-nil (contractBook (partsIn account (o .only)))
-      ∙ ap (λ (m : ℕ). contractBook (partsOf account m)) e
+      ap (λ (t : Bool). cond t (tableBook (entriesOf all) (contracts all)) (booksOf (map (partsIn all) (keep (asks q) (contractsOf all))))) (ne-eqb q 16 n)
+      ∙ ap (λ (rs : List Record). booksOf (map (partsIn all) rs)) (o .kept)
+      ∙ append-nil (contractBook (partsIn all (o .only)))
+      ∙ ap (λ (m : ℕ). contractBook (partsOf all m)) e
 
-  pub table-asked : (q : ℕ) → q ≡ 16 → book account q ≡ tableBook (entriesOf account) (contracts account)
-  table-asked q e = ap (λ (t : Bool). cond t (tableBook (entriesOf account) (contracts account)) (booksOf (map (partsIn account) (keep (asks q) (contractsOf account))))) (eq-eqb q 16 e)
+  pub table-asked : (q : ℕ) → q ≡ 16 → book all q ≡ tableBook (entriesOf all) (contracts all)
+  table-asked q e = ap (λ (t : Bool). cond t (tableBook (entriesOf all) (contracts all)) (booksOf (map (partsIn all) (keep (asks q) (contractsOf all))))) (eq-eqb q 16 e)

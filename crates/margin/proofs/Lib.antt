@@ -24,3 +24,4 @@ pub mod StandLaws
 pub mod AccountLaws
 pub mod QuestionLaws
 pub mod AskedLaws
+pub mod Demands

@@ -125,7 +125,7 @@ module _ (l : Line) (e : Earner) (entries : List Record) (f g : List Spreads) (i
       ∙ ap₂ (λ (t n : ℕ). creditsBy (l .contract) t n entries (interleaved f g)) (is .price-is) (is .net-is)
 
 -- the entries of a table are spreads that the steps accept
-entry-accepted : (e : Record) → EntryWithin e → given.soundSpread (intercontract e) ≡ true
+pub entry-accepted : (e : Record) → EntryWithin e → given.soundSpread (intercontract e) ≡ true
 entry-accepted e w =
     rw (lt-ltb (contract e) 16 (le-suc (w .first-number)), lt-ltb (secondContract e) 16 (le-suc (w .second-number)), lt-ltb 0 (firstRatio e) (w .first-ratio), lt-ltb 0 (secondRatio e) (w .second-ratio))
     (last (eqb (contract e) (secondContract e)))

@@ -21,3 +21,4 @@ pub mod Promised
 pub mod Table
 pub mod Numbers
 pub mod Stands
+pub mod Demands

@@ -112,7 +112,7 @@ module _ (second : Bool) where
 spread-sound : (second : Bool) (s : Spread) → soundSpread s ≡ true → soundStep (stepOf second s) ≡ true
 spread-sound second s e = step-sound second (legsOf s) (and-right (eqb (s .legs) 2 || eqb (s .legs) 3) (soundLegsOf (legsOf s)) e)
 
-steps-sound : (ss : List Spread) → every soundSpread ss ≡ true → soundSteps (steps ss) ≡ true
+pub steps-sound : (ss : List Spread) → every soundSpread ss ≡ true → soundSteps (steps ss) ≡ true
 steps-sound [] e = refl
 steps-sound (s ∷ ss) e =
     let here = and-left (soundSpread s) (every soundSpread ss) e in

@@ -21,7 +21,7 @@ returns : tie.Need-returns
 returns c =
     let s = c .before .before .before in
     let f = s .args .file .now in
-    let t = table-asked f (s .args .survey) (s .pre .0) (s .args .question) (c .before .if1 .taken) in
+    let t = table-asked f (s .pre .0 .accepted) (s .args .question) (c .before .if1 .taken) in
     let n = c .table-numbers .ensures in
     let l = table-length (entriesOf (records f)) (contracts (records f)) in
     let k = length-map (contractsOf (records f)) (partsIn (records f)) in
@@ -31,14 +31,14 @@ returns c =
 contract-numbers-requires : tie.Need-contract-numbers-requires
 contract-numbers-requires c κs =
     let s = c .before .before in
-    (s .pre .0, asked-small (s .args .file .now) (s .args .survey) (s .pre .0) (s .args .question) (s .pre .1) (c .if1 .left))
+    (s .pre .0, asked-small (s .args .file .now) (s .pre .0 .accepted) (s .args .question) (s .pre .1) (c .if1 .left))
 
 returns-2 : tie.Need-returns-2
 returns-2 c =
     let s = c .before .before .before in
     let f = s .args .file .now in
     let q = s .args .question in
-    let t = one-book f (s .args .survey) (s .pre .0) q (s .pre .1) (c .before .if1 .left) in
+    let t = one-book f (s .pre .0 .accepted) q (s .pre .1) (c .before .if1 .left) in
     let n = c .contract-numbers .ensures in
     (n .listed-is ∙ sym t, ap length t ∙ contract-length [] (promptsOf q (records f)) (rowsOf q (records f)) (spreadsOf q (records f)) ∙ sym (n .count-is), n .few)
 

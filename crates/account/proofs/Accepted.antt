@@ -64,8 +64,8 @@ module _ (file : List ℕ) (ok : checked file ≡ Accepted) where
       (omega (arith, length-cut n file)) (omega arith)
       ∙ sym (s .kept)
 
-  part-stands : (n c : ℕ) → n ≤ 4 → c ≤ 15 → records (partBytes file (part n c)) ≡ keep (ofContract n c)
-      (records file)
+  part-stands :
+      (n c : ℕ) → n ≤ 4 → c ≤ 15 → records (partBytes file (part n c)) ≡ keep (ofContract n c) (records file)
   part-stands n c hn hc =
       stands (part n c) (omega arith) ∙ ap (λ (p : Record → Bool). keep p (records file)) (part-is n c hn hc)
 
@@ -192,8 +192,8 @@ part-told file s t v h =
 
 -- how many records a part has, and how many contracts there are, as the check hands it out
 module _ (file : List ℕ) (s : Survey) (t : Surveyed file s) (ok : checked file ≡ Accepted) where
-  pub count-told : (n c : ℕ) → n ≤ 4 → c ≤ 15 → getD (s .counts) (part n c) 0 ≡ length
-      (keep (ofContract n c) (records file))
+  pub count-told :
+      (n c : ℕ) → n ≤ 4 → c ≤ 15 → getD (s .counts) (part n c) 0 ≡ length (keep (ofContract n c) (records file))
   count-told n c hn hc =
       t .counts (part n c) (omega arith) ∙ if-accepted (checked file) (count (inPart (part n c)) (records file)) ok
       ∙ ap (λ (p : Record → Bool). count p (records file)) (part-is n c hn hc)

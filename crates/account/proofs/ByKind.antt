@@ -34,8 +34,9 @@ latest-none p (e ∷ es) z = go (p e) refl (latest-none p es)
         let none : 0 + count p es ≡ 0 = rw i at z in
         rw i (f (omega arith))
 
-latest-first : (p : Record → Bool) (es : List Record) → p [] ≡ false → p
-    (theOneBefore es) ≡ true → latest p es ≡ theOneBefore es
+latest-first :
+    (p : Record → Bool) (es : List Record) → p [] ≡ false → p (theOneBefore es) ≡ true
+    → latest p es ≡ theOneBefore es
 latest-first p [] n t = refl
 latest-first p (e ∷ es) n t = rw t
 
@@ -47,8 +48,8 @@ first-on b e = ap (λ (x : Bool). x || b) e
 
 module _ (file : List ℕ) where
   -- no record of a kind above that of the latest
-  none-above : (k : ℕ) → Faultless file k → (n : ℕ) → kind (beforeAt file k) < n → count (ofKind n)
-      (earlier file k) ≡ 0
+  none-above :
+      (k : ℕ) → Faultless file k → (n : ℕ) → kind (beforeAt file k) < n → count (ofKind n) (earlier file k) ≡ 0
   none-above zero fine n h = refl
   none-above (suc k) fine n h =
       let p = passed-at file (suc k) fine k (omega arith) in
@@ -87,8 +88,8 @@ module _ (file : List ℕ) where
       → tierFalls (beforeAt file k) r ≡ tierFalls (latest (ofContract 2 (contract r)) (earlier file k)) r
   same-tier k fine r i hc hk rise = go (ofContract 2 (contract r) (beforeAt file k)) refl
     where
-      absent : ofContract 2 (contract r) (beforeAt file k) ≡ false → count (ofContract 2 (contract r))
-          (cut k file) ≡ 0
+      absent :
+          ofContract 2 (contract r) (beforeAt file k) ≡ false → count (ofContract 2 (contract r)) (cut k file) ≡ 0
       absent e = decide (count (ofContract 2 (contract r)) (cut k file)) refl
         where
           decide : (n : ℕ) → count (ofContract 2 (contract r)) (cut k file) ≡ n → n ≡ 0

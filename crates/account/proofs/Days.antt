@@ -55,8 +55,9 @@ module _ (c : ℕ) (xs : List Record) (before r : Record) where
       ∙ ap (λ (b : Bool). keep (ofContract 2 c) xs ++ consIf b r []) e ∙ append-nil (keep (ofContract 2 c) xs)
 
   -- a later day than every prompt so far
-  later : Days c xs before → ofContract 2 c r ≡ true → every (λ p. day p < day r) (keep (ofContract 2 c) xs) → Days c
-      (xs ++ r ∷ []) r
+  later :
+      Days c xs before → ofContract 2 c r ≡ true → every (λ p. day p < day r) (keep (ofContract 2 c) xs)
+      → Days c (xs ++ r ∷ []) r
   later old e a =
       let ks = keep (ofContract 2 c) xs in
       record {
@@ -84,8 +85,8 @@ module _ (c : ℕ) (xs : List Record) (before r : Record) where
       }
 
   -- the day rises from one prompt of a contract to the next
-  day-rises : ofContract 2 c before ≡ true → ofContract 2 c r ≡ true → outOfOrder before r ≡ false → day before < day
-      r
+  day-rises :
+      ofContract 2 c before ≡ true → ofContract 2 c r ≡ true → outOfOrder before r ≡ false → day before < day r
   day-rises b e off =
       let x = both-true (eqb (kind before) 2) (eqb (contract before) c) b in
       let y = both-true (eqb (kind r) 2) (eqb (contract r) c) e in

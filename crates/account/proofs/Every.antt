@@ -22,8 +22,8 @@ every-weaker [] f a = tt
 every-weaker (x ∷ xs) f a = (f x (a .0), every-weaker xs f (a .1))
 
 module _ (P : Record → Type 0) (p : Record → Bool) (file : List ℕ) where
-  pub every-kept : (n : ℕ) → ((k : ℕ) → k < n → p (recordAt file k) ≡ true → P (recordAt file k)) → every P
-      (keep p (cut n file))
+  pub every-kept :
+      (n : ℕ) → ((k : ℕ) → k < n → p (recordAt file k) ≡ true → P (recordAt file k)) → every P (keep p (cut n file))
   every-kept zero f = tt
   every-kept (suc n) f =
       let r = recordAt file n in
@@ -38,8 +38,9 @@ module _ (P : Record → Type 0) (p : Record → Bool) (file : List ℕ) where
       one false e = subst⁻¹ (λ (b : Bool). every P (consIf b (recordAt file n) [])) e tt
 
 module _ (p : Record → Bool) (file : List ℕ) (most : ℕ) where
-  pub few : (n : ℕ) → ((k : ℕ) → k < n → p (recordAt file k) ≡ true → count p (earlier file k) < most) → count p
-      (cut n file) ≤ most
+  pub few :
+      (n : ℕ) → ((k : ℕ) → k < n → p (recordAt file k) ≡ true → count p (earlier file k) < most)
+      → count p (cut n file) ≤ most
   few zero f = omega arith
   few (suc n) f = go (p (recordAt file n)) refl (few n (λ k h. f k (omega arith)))
     where

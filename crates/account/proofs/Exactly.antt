@@ -25,8 +25,9 @@ abbrev Rising : ℕ → List Refusal → Type 0
 Rising low [] = Unit
 Rising low (x ∷ xs) = (low < x .number) × Rising (x .number) xs
 
-off : (x : Refusal) (xs : List Refusal) (m : ℕ) → (x .number ≡ m → ⊥) → givenIn xs m ≡ false → givenIn
-    (x ∷ xs) m ≡ false
+off :
+    (x : Refusal) (xs : List Refusal) (m : ℕ) → (x .number ≡ m → ⊥) → givenIn xs m ≡ false
+    → givenIn (x ∷ xs) m ≡ false
 off x xs m d h = rw (ne-eqb (x .number) m d, h)
 
 none-below : (low : ℕ) (rows : List Refusal) → Rising low rows → (m : ℕ) → m ≤ low → givenIn rows m ≡ false
@@ -138,8 +139,9 @@ module _ (file : List ℕ) where
   look (suc k) h = ⊎-elim (λ fine. go fine (faultOf (earlier file k) (recordAt file k)) refl) inr
       (look k (omega arith))
     where
-      go : Faultless file k → (n : ℕ) → faultOf (earlier file k) (recordAt file k) ≡ n → Faultless file
-          (suc k) ⊎ Fault
+      go :
+          Faultless file k → (n : ℕ) → faultOf (earlier file k) (recordAt file k) ≡ n
+          → Faultless file (suc k) ⊎ Fault
       go fine zero e =
           inl (λ j l. below-more (λ (i : ℕ). faultOf (earlier file i) (recordAt file i) ≡ 0) k fine e j (omega arith))
       go fine (suc n) e =

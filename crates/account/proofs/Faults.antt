@@ -56,8 +56,9 @@ module _
       ∙ sym (s .kept)
       ∙ ap (λ (p : Record → Bool). keep p (cut k file)) (part-is 2 c (omega arith) hc)
 
-  none-among : (c : ℕ) → c ≤ 15 → (q : Record → Bool) → not (any q (promptsNoted file first counts c)) ≡ none
-      (λ e. ofContract 2 c e && q e) (earlier file k)
+  none-among :
+      (c : ℕ) → c ≤ 15 → (q : Record → Bool)
+      → not (any q (promptsNoted file first counts c)) ≡ none (λ e. ofContract 2 c e && q e) (earlier file k)
   none-among c hc q =
       ap (λ (rs : List Record). not (any q rs)) (prompts-are c hc) ∙ ap not (any-keep (ofContract 2 c) q (cut k file))
       ∙ ap not (sym (any-earlier (λ e. ofContract 2 c e && q e) file k))

@@ -66,8 +66,9 @@ if-refused : (a : Answer) (n : ℕ) → (numberOf a ≡ 0 → ⊥) → ifAccepte
 if-refused a n nz = ap (λ (b : Bool). cond b n 0) (ne-eqb (numberOf a) 0 nz)
 
 -- a refused file
-pub nothing : (file : List ℕ) (a : Answer) (s : Survey) → checked file ≡ a →
-    (numberOf a ≡ 0 → ⊥) → Empty a s → Surveyed file s
+pub nothing :
+    (file : List ℕ) (a : Answer) (s : Survey) → checked file ≡ a → (numberOf a ≡ 0 → ⊥) → Empty a s
+    → Surveyed file s
 nothing file a s e nz h =
     let none : (n : ℕ) → ifAccepted (checked file) n ≡ 0 =
     λ n. ap (λ (b : Answer). ifAccepted b n) e ∙ if-refused a n nz in

@@ -41,8 +41,8 @@ module _ (xs : List Record) (top : ℕ) (old : Laid xs top) (r : Record) (k : Kn
   ours = mine r k (partOf r) (part-bound r k) ∙ eq-eqb (partOf r) (partOf r) refl
 
   -- where the record's part has records, it is the latest one
-  so-far : 0 < count (inPart (partOf r)) xs → startOf (inPart (partOf r)) xs + count
-      (inPart (partOf r)) xs ≡ length xs
+  so-far :
+      0 < count (inPart (partOf r)) xs → startOf (inPart (partOf r)) xs + count (inPart (partOf r)) xs ≡ length xs
   so-far h =
       let u = old .upto (partOf r) (part-bound r k) h in
       let e : top ≡ partOf r = omega arith in

@@ -16,4 +16,5 @@ pub mod Days
 pub mod Named
 pub mod Accepted
 pub mod ByKind
+pub mod Claimed
 pub mod Orders

@@ -87,8 +87,9 @@ module _ (file : List ℕ) where
         let z = none-numbered c (cut k file) (subst (λ (n : ℕ). every (λ x. contract x < n) (cut k file)) (i .1) a) in
         omega (arith, count-earlier (ofContract 1 c) file k))
 
-    whole : (k : ℕ) → k < recordCount file → (c : ℕ) → none (listsContract c) (earlier file k) ≡ false → listed c
-        (records file) ≡ true
+    whole :
+        (k : ℕ) → k < recordCount file → (c : ℕ) → none (listsContract c) (earlier file k) ≡ false
+        → listed c (records file) ≡ true
     whole k h c u =
         stays (ofContract 1 c) file k (recordCount file) (omega arith)
         (sym (any-earlier (ofContract 1 c) file k) ∙ not-false _ u)

@@ -54,8 +54,9 @@ module _
   other-part : (v : ℕ) → v < 81 → inPart v r ≡ false → v ≡ partOf r → ⊥
   other-part v h e i = eqb-false (partOf r) v (sym (mine r k v h) ∙ e) (sym i)
 
-  counted-more : (v : ℕ) → v < 81 → (t : Bool) → inPart v r ≡ t → getD (oneMore counts (partOf r)) v 0 ≡ count
-      (inPart v) (xs ++ r ∷ [])
+  counted-more :
+      (v : ℕ) → v < 81 → (t : Bool) → inPart v r ≡ t
+      → getD (oneMore counts (partOf r)) v 0 ≡ count (inPart v) (xs ++ r ∷ [])
   counted-more v h true e =
       let s = same-part v h e in
       let l = old .sizes in
@@ -67,8 +68,9 @@ module _
       getD-set-other counts (partOf r) v (getD counts (partOf r) 0 + 1) 0 (other-part v h e) ∙ old .counted v h
       ∙ sym (counts-not (inPart v) xs r e)
 
-  first-set : eqb (getD counts (partOf r) 0) 0 ≡ true → firstAt first counts (partOf r) (length xs) ≡ set first
-      (partOf r) (length xs)
+  first-set :
+      eqb (getD counts (partOf r) 0) 0 ≡ true
+      → firstAt first counts (partOf r) (length xs) ≡ set first (partOf r) (length xs)
   first-set e = rw e
 
   first-kept : eqb (getD counts (partOf r) 0) 0 ≡ false → firstAt first counts (partOf r) (length xs) ≡ first
@@ -93,8 +95,8 @@ module _
       ap (λ (f : List ℕ). getD f v 0) (first-kept z) ∙ old .started v h
       ∙ sym (starts-same (inPart v) xs r e (omega arith))
 
-  started-other : (v : ℕ) → v < 81 → inPart v r ≡ false → (t : Bool) → eqb
-      (getD counts (partOf r) 0) 0 ≡ t → Started v
+  started-other :
+      (v : ℕ) → v < 81 → inPart v r ≡ false → (t : Bool) → eqb (getD counts (partOf r) 0) 0 ≡ t → Started v
   started-other v h e true z =
       ap (λ (f : List ℕ). getD f v 0) (first-set z)
       ∙ getD-set-other first (partOf r) v (length xs) 0 (other-part v h e) ∙ old .started v h
@@ -106,8 +108,8 @@ module _
   started-more v h true e = started-here v h e (eqb (getD counts (partOf r) 0) 0) refl
   started-more v h false e = started-other v h e (eqb (getD counts (partOf r) 0) 0) refl
 
-  firsts-more : (t : Bool) → eqb (getD counts (partOf r) 0) 0 ≡ t → length
-      (firstAt first counts (partOf r) (length xs)) ≡ 81
+  firsts-more :
+      (t : Bool) → eqb (getD counts (partOf r) 0) 0 ≡ t → length (firstAt first counts (partOf r) (length xs)) ≡ 81
   firsts-more true z = ap length (first-set z) ∙ length-set first (partOf r) (length xs) ∙ old .firsts
   firsts-more false z = ap length (first-kept z) ∙ old .firsts
 

@@ -9,11 +9,13 @@ use lib.Dec.{eqb}
 use Rattle.exact.specs.Lists.{any}
 use Rattle.record.specs.Layout.{Record, byKind, kind, contract}
 use Rattle.record.specs.Ranges.{unknownKind, fieldOutside}
+use Rattle.account.specs.Accepted.{Accepts}
 use Rattle.account.specs.Answers.{numberOf, recordOf}
 use Rattle.account.specs.Check.{Refusal, refusals, tooLong, cutRecord, checked}
 use Rattle.account.specs.Check.{theOneBefore, kindFalls, numberNotAbove, dayNotAbove, tierFalls, contractFalls, legsClash, withItself, outOfOrder, faultOf}
 use Rattle.account.specs.Parts.{ofKind, ofContract}
 use Rattle.account.specs.Records.{recordAt, recordCount, earlier}
+use Rattle.account.specs.declared.answers.Answer.the-variants.{Accepted}
 
 pub record Iff (A B : Type 0) : Type 0 where
   pub forth : A → B
@@ -80,3 +82,9 @@ ByKind file =
     → fieldOutside (recordAt file k) ≡ false
     → outOfOrder (theOneBefore (earlier file k)) (recordAt file k) ≡ outOfOrderByKind (earlier file k)
     (recordAt file k)
+
+-- all that is claimed of the check of a file
+pub record Claims (file : List ℕ) : Type 0 where
+  pub exactly : Exactly file
+  pub byKind : ByKind file
+  pub accepts : checked file ≡ Accepted → Accepts file

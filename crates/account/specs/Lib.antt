@@ -4,6 +4,6 @@ pub mod Parts
 pub mod Check
 pub mod Notes
 pub mod Surveyed
-pub mod Claims
 pub mod Accepted
+pub mod Claims
 pub mod Orders

@@ -121,8 +121,9 @@ module _ (r : Record) where
             (loss-in 1 16 s (a .1 .1 .1 .1 .1 .1 .1) (b .least) (omega arith));
       }
     where
-      delta-in : (b : Bool) → outside r (deltaField b) ≡ false → natAbs
-          (twosComplement (numberIn (deltaField b) r)) ≤ 10000
+      delta-in :
+          (b : Bool) → outside r (deltaField b) ≡ false
+          → natAbs (twosComplement (numberIn (deltaField b) r)) ≤ 10000
       delta-in true e = sized 10000 0 10000 (numberIn (deltaField true) r) (lit≤ tt) (lit≤ tt) e
       delta-in false e = sized 0 10000 10000 (numberIn (deltaField false) r) (lit≤ tt) (lit≤ tt) e
 

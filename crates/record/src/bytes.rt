@@ -27,10 +27,15 @@ pub fn u16_at(r: &[u8], o: usize) -> usize
     }
 }
 
+// Where all four bytes are there, they are read at once.
 pub fn u32_at(r: &[u8], o: usize) -> usize
     ensures { λ n. ⌜ (n ≡ u32At (now (r .entry)) o) × (n < 4294967296) ⌝ }
 {
     if o < r.len() {
+        if 3 < r.len() - o {
+            let p = o + 2;
+            return wide(r[o]) + 256 * wide(r[o + 1]) + 65536 * (wide(r[p]) + 256 * wide(r[p + 1]));
+        }
         u16_at(r, o) + 65536 * u16_at(r, o + 2)
     } else {
         0

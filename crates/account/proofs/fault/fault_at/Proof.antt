@@ -22,22 +22,22 @@ joined file first counts k {r} {b} {ps} {d} hr hd hs hb =
     ∙ ap (λ (x : Record). faultBy counts (promptsNoted file first counts (contract x)) (beforeAt file k) x) hr
 
 record-at-requires : tie.Need-record-at-requires
-record-at-requires c κs = search needs
+record-at-requires c κs = tt
 
 contract-requires : tie.Need-contract-requires
-contract-requires c κs = search needs
+contract-requires c κs = tt
 
 add-part-at : tie.Need-add-part-at
 add-part-at c = search needs
 
 part-at-requires : tie.Need-part-at-requires
-part-at-requires c κs = search needs
+part-at-requires c κs = tt
 
 before-at-requires : tie.Need-before-at-requires
-before-at-requires c κs = search needs
+before-at-requires c κs = tt
 
 fault-requires : tie.Need-fault-requires
-fault-requires c κs = search needs
+fault-requires c κs = tt
 
 returns : tie.Need-returns
 returns c =

@@ -1,5 +1,4 @@
 -- `account::parts::part_at` meets its contract. Assumes nothing.
-use borrow.Author.Needs.{needs}
 use Prim.Native.Nat.{ℕ}
 use mathlib.Core.Path.{ap, _∙_}
 use lib.ListN.{getD}
@@ -8,13 +7,13 @@ use Rattle.account.proofs.parts.part_at.Statement.{statement}
 use Rattle.account.proofs.parts.part_at.Tie as tie
 
 noted-requires : tie.Need-noted-requires
-noted-requires c κs = search needs
+noted-requires c κs = tt
 
 noted-requires-2 : tie.Need-noted-requires-2
-noted-requires-2 c κs = search needs
+noted-requires-2 c κs = tt
 
 stretch-requires : tie.Need-stretch-requires
-stretch-requires c κs = search needs
+stretch-requires c κs = tt
 
 returns : tie.Need-returns
 returns c =

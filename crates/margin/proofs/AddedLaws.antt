@@ -13,7 +13,7 @@ use lib.Seq.{getD-set-same, getD-set-other}
 use borrow.Author.Count.{below-more}
 use borrow.Author.Tests.{ltb-true, ltb-false}
 use Rattle.spread.specs.declared.Delta.{Delta}
-use Rattle.margin.specs.Position.{AtMost, Added, deltasOf}
+use Rattle.margin.specs.Position.{AtMost, Added, deltasIn}
 use Rattle.margin.proofs.SignedCalls.{abs-plus}
 
 pub start : (more : ℕ → ℤ) (xs : List ℤ) → Added 0 more xs xs
@@ -69,10 +69,10 @@ at-most-added m n b c more xs ys a d h = record { as-many = d .as-many ∙ a .as
         subst (λ (z : ℤ). natAbs z ≤ b + c) (sym (d .others k (ltb-false k n e))) (le-trans (a .size k l) (omega arith))
 
 -- deltas, read as integers
-pub deltas-set : (ds : List Delta) (i : ℕ) (d : Delta) → deltasOf (set ds i d) ≡ set (deltasOf ds) i (d .0)
+pub deltas-set : (ds : List Delta) (i : ℕ) (d : Delta) → deltasIn (set ds i d) ≡ set (deltasIn ds) i (d .0)
 deltas-set [] i d = refl
 deltas-set (x ∷ xs) zero d = refl
 deltas-set (x ∷ xs) (suc i) d = ap (λ (zs : List ℤ). x .0 ∷ zs) (deltas-set xs i d)
 
-pub delta-at : (ds : List Delta) (j : ℕ) → getD (deltasOf ds) j (pos 0) ≡ getD ds j (record { 0 = pos 0 }) .0
+pub delta-at : (ds : List Delta) (j : ℕ) → getD (deltasIn ds) j (pos 0) ≡ getD ds j (record { 0 = pos 0 }) .0
 delta-at ds j = List·getD-map (λ (d : Delta). d .0) ds j (record { 0 = pos 0 })

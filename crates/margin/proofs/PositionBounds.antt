@@ -17,7 +17,7 @@ use Rattle.margin.specs.declared.rows.Position.{Position}
 use Rattle.margin.specs.Scanning.{product, total}
 use Rattle.margin.specs.Deltas.{rowDelta, ofDay}
 use Rattle.margin.specs.Margin.{short, shortOptions, shortLots}
-use Rattle.margin.specs.Position.{RowWithin, Within, PositionOf, Bounded, deltasOf, netOn}
+use Rattle.margin.specs.Position.{RowWithin, Within, PositionOf, Bounded, deltasIn, netOn}
 use Rattle.margin.proofs.SignedCalls.{abs-times, abs-plus}
 use Rattle.margin.proofs.PositionLaws.{totals-at, net-here}
 
@@ -74,10 +74,10 @@ short-lots-most (row ∷ rows) e =
 -- ---- of a position
 
 -- the nets of the prompts and those past them
-net-place : (prompts rows : List Record) (p : Position) → Each rows → PositionOf prompts rows p → (j : ℕ) → natAbs (getD (deltasOf (p .nets)) j (pos 0)) ≤ length rows * 1000000000
+net-place : (prompts rows : List Record) (p : Position) → Each rows → PositionOf prompts rows p → (j : ℕ) → natAbs (getD (deltasIn (p .nets)) j (pos 0)) ≤ length rows * 1000000000
 net-place prompts rows p e is j = go (ltb j (length prompts)) refl
   where
-    go : (t : Bool) → ltb j (length prompts) ≡ t → natAbs (getD (deltasOf (p .nets)) j (pos 0)) ≤ length rows * 1000000000
+    go : (t : Bool) → ltb j (length prompts) ≡ t → natAbs (getD (deltasIn (p .nets)) j (pos 0)) ≤ length rows * 1000000000
     go true h =
         subst (λ (z : ℤ). natAbs z ≤ length rows * 1000000000) (sym (net-here prompts rows p is j (ltb-true j (length prompts) h)))
         (net-most rows e (day (getD prompts j [])))

@@ -19,7 +19,7 @@ use Rattle.margin.specs.declared.rows.Position.{Position}
 use Rattle.margin.specs.Scanning.{product, total, scenarios, totals}
 use Rattle.margin.specs.Deltas.{rowDelta, ofDay, netDelta, netDeltas}
 use Rattle.margin.specs.Margin.{shortOptions, shortLots}
-use Rattle.margin.specs.Position.{DaysOf, PositionOf, WithRows, netOn, deltasOf}
+use Rattle.margin.specs.Position.{DaysOf, PositionOf, WithRows, netOn, deltasIn}
 
 -- ---- rows before and rows after
 
@@ -63,17 +63,17 @@ pub nets-at : (prompts rows : List Record) (j : ℕ) → j < length prompts → 
 nets-at prompts rows j h = getD-map (netDelta rows) prompts j [] (pos 0) h
 
 -- a position's net at a place
-pub net-here : (prompts rows : List Record) (p : Position) → PositionOf prompts rows p → (j : ℕ) → j < length prompts → getD (deltasOf (p .nets)) j (pos 0) ≡ netDelta rows (getD prompts j [])
+pub net-here : (prompts rows : List Record) (p : Position) → PositionOf prompts rows p → (j : ℕ) → j < length prompts → getD (deltasIn (p .nets)) j (pos 0) ≡ netDelta rows (getD prompts j [])
 net-here prompts rows p is j h =
-    sym (getD-take (length prompts) (deltasOf (p .nets)) j (pos 0) h)
+    sym (getD-take (length prompts) (deltasIn (p .nets)) j (pos 0) h)
     ∙ ap (λ (zs : List ℤ). getD zs j (pos 0)) (is .nets-are)
     ∙ nets-at prompts rows j h
 
 -- at every place, also past the prompts
-pub net-entry : (prompts rows : List Record) (p : Position) → PositionOf prompts rows p → (j : ℕ) → getD (deltasOf (p .nets)) j (pos 0) ≡ getD (netDeltas prompts rows) j (pos 0)
+pub net-entry : (prompts rows : List Record) (p : Position) → PositionOf prompts rows p → (j : ℕ) → getD (deltasIn (p .nets)) j (pos 0) ≡ getD (netDeltas prompts rows) j (pos 0)
 net-entry prompts rows p is j = go (ltb j (length prompts)) refl
   where
-    go : (t : Bool) → ltb j (length prompts) ≡ t → getD (deltasOf (p .nets)) j (pos 0) ≡ getD (netDeltas prompts rows) j (pos 0)
+    go : (t : Bool) → ltb j (length prompts) ≡ t → getD (deltasIn (p .nets)) j (pos 0) ≡ getD (netDeltas prompts rows) j (pos 0)
     go true e =
         let h : j < length prompts = ltb-true j (length prompts) e in
         net-here prompts rows p is j h ∙ sym (nets-at prompts rows j h)
@@ -88,18 +88,18 @@ zeros zero j = refl
 zeros (suc n) zero = refl
 zeros (suc n) (suc j) = zeros n j
 
-pub nothing : (prompts : List Record) (p : Position) → length prompts ≤ 32 → p .totals .0 ≡ replicate 16 (pos 0) → deltasOf (p .nets) ≡ replicate 32 (pos 0) → p .shorts ≡ 0 → PositionOf prompts [] p
+pub nothing : (prompts : List Record) (p : Position) → length prompts ≤ 32 → p .totals .0 ≡ replicate 16 (pos 0) → deltasIn (p .nets) ≡ replicate 32 (pos 0) → p .shorts ≡ 0 → PositionOf prompts [] p
 nothing prompts p few et en es =
-    let thirty-two : length (deltasOf (p .nets)) ≡ 32 = ap length en in
-    let here : (j : ℕ) → getD (deltasOf (p .nets)) j (pos 0) ≡ pos 0 = λ j. ap (λ (zs : List ℤ). getD zs j (pos 0)) en ∙ zeros 32 j in
-    let as-many : length (take (length prompts) (deltasOf (p .nets))) ≡ length prompts = length-take-le (length prompts) (deltasOf (p .nets)) (omega arith) in
+    let thirty-two : length (deltasIn (p .nets)) ≡ 32 = ap length en in
+    let here : (j : ℕ) → getD (deltasIn (p .nets)) j (pos 0) ≡ pos 0 = λ j. ap (λ (zs : List ℤ). getD zs j (pos 0)) en ∙ zeros 32 j in
+    let as-many : length (take (length prompts) (deltasIn (p .nets))) ≡ length prompts = length-take-le (length prompts) (deltasIn (p .nets)) (omega arith) in
     record {
       totals-are = et;
       nets-are =
-          ext-getD (pos 0) (take (length prompts) (deltasOf (p .nets))) (netDeltas prompts []) (as-many ∙ sym (length-map prompts (netDelta [])))
+          ext-getD (pos 0) (take (length prompts) (deltasIn (p .nets))) (netDeltas prompts []) (as-many ∙ sym (length-map prompts (netDelta [])))
           (λ j h.
           let l : j < length prompts = omega arith in
-          getD-take (length prompts) (deltasOf (p .nets)) j (pos 0) l ∙ here j ∙ sym (nets-at prompts [] j l));
+          getD-take (length prompts) (deltasIn (p .nets)) j (pos 0) l ∙ here j ∙ sym (nets-at prompts [] j l));
       nets-beyond = λ j h. here j;
       places = thirty-two;
       shorts-are = es;
@@ -121,17 +121,17 @@ module _ (prompts earlier rows : List Record) (days : Days) (p q : Position) (kn
           ∙ sym (total-append earlier rows (k + 1))
           ∙ sym (totals-at (earlier ++ rows) k h)
 
-  same-nets : take (length prompts) (deltasOf (q .nets)) ≡ netDeltas prompts (earlier ++ rows)
+  same-nets : take (length prompts) (deltasIn (q .nets)) ≡ netDeltas prompts (earlier ++ rows)
   same-nets =
-      let thirty-two : length (deltasOf (q .nets)) ≡ 32 = w .nets-added .as-many ∙ is .places in
-      let as-many : length (take (length prompts) (deltasOf (q .nets))) ≡ length prompts = length-take-le (length prompts) (deltasOf (q .nets)) (omega (arith, known .few, known .count-is)) in
-      ext-getD (pos 0) (take (length prompts) (deltasOf (q .nets))) (netDeltas prompts (earlier ++ rows))
+      let thirty-two : length (deltasIn (q .nets)) ≡ 32 = w .nets-added .as-many ∙ is .places in
+      let as-many : length (take (length prompts) (deltasIn (q .nets))) ≡ length prompts = length-take-le (length prompts) (deltasIn (q .nets)) (omega (arith, known .few, known .count-is)) in
+      ext-getD (pos 0) (take (length prompts) (deltasIn (q .nets))) (netDeltas prompts (earlier ++ rows))
       (as-many ∙ sym (length-map prompts (netDelta (earlier ++ rows))))
       (λ j h. here j (omega arith))
     where
-      here : (j : ℕ) → j < length prompts → getD (take (length prompts) (deltasOf (q .nets))) j (pos 0) ≡ getD (netDeltas prompts (earlier ++ rows)) j (pos 0)
+      here : (j : ℕ) → j < length prompts → getD (take (length prompts) (deltasIn (q .nets))) j (pos 0) ≡ getD (netDeltas prompts (earlier ++ rows)) j (pos 0)
       here j h =
-          getD-take (length prompts) (deltasOf (q .nets)) j (pos 0) h
+          getD-take (length prompts) (deltasIn (q .nets)) j (pos 0) h
           ∙ w .nets-added .added j (omega (arith, known .count-is))
           ∙ ap₂ (λ (z : ℤ) (d : ℕ). z +ℤ netOn rows d) (net-here prompts earlier p is j h) (known .day-is j h)
           ∙ sym (net-append earlier rows (day (getD prompts j [])))

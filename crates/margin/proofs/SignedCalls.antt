@@ -1,6 +1,6 @@
 -- What calls of `times` and `plus` ask and give, said of the numbers themselves and of their sizes.
 -- Assumes nothing.
-use mathlib.Core.Path.{_≡_, sym, _∙_, ap₂, subst}
+use mathlib.Core.Path.{_≡_, sym, _∙_, subst}
 use Prim.Native.Nat.{ℕ, _+_, _*_, _^_, _≤_, _<_}
 use native.Mathlib.Nat.{mul-le-mul, lt-of-le-of-lt}
 use native.Mathlib.Omega.{arith}
@@ -9,6 +9,7 @@ use mir.Syntax.{w64}
 use mir.Val.{SFits, toZ, ofZ}
 use Rattle.exact.proofs.Integers.{back, sfits-abs, abs-mul, abs-add}
 use Rattle.margin.specs.Position.{Sized}
+use Rattle.margin.proofs.Calls.{on-handed}
 
 pub abs-times : (x y : ℤ) {m n : ℕ} → natAbs x ≤ m → natAbs y ≤ n → natAbs (x *ℤ y) ≤ m * n
 abs-times x y {m} {n} hx hy = subst (λ (k : ℕ). k ≤ m * n) (sym (abs-mul x y)) (mul-le-mul hx hy)
@@ -18,17 +19,11 @@ abs-plus x y hx hy = omega (arith, abs-add x y)
 
 -- two arguments a and b that stand for x and y, of sizes up to m and n
 module _ (a b x y : ℤ) (m n : ℕ) (fa : SFits w64 a) (fb : SFits w64 b) (ea : a ≡ x) (eb : b ≡ y) (hx : natAbs x ≤ m) (hy : natAbs y ≤ n) where
-  read-a : toZ w64 (ofZ w64 a) ≡ x
-  read-a = back a fa ∙ ea
-
-  read-b : toZ w64 (ofZ w64 b) ≡ y
-  read-b = back b fb ∙ eb
-
   product-read : toZ w64 (ofZ w64 a) *ℤ toZ w64 (ofZ w64 b) ≡ x *ℤ y
-  product-read = ap₂ (λ (u v : ℤ). u *ℤ v) read-a read-b
+  product-read = on-handed _*ℤ_ a b x y (fa .sfits) (fb .sfits) ea eb
 
   sum-read : toZ w64 (ofZ w64 a) +ℤ toZ w64 (ofZ w64 b) ≡ x +ℤ y
-  sum-read = ap₂ (λ (u v : ℤ). u +ℤ v) read-a read-b
+  sum-read = on-handed _+ℤ_ a b x y (fa .sfits) (fb .sfits) ea eb
 
   pub times-fits : m * n < 2 ^ 63 → SFits w64 (toZ w64 (ofZ w64 a) *ℤ toZ w64 (ofZ w64 b))
   times-fits h = subst (λ (z : ℤ). SFits w64 z) (sym product-read) (sfits-abs (x *ℤ y) (lt-of-le-of-lt (abs-times x y hx hy) h))

@@ -11,9 +11,9 @@ use Rattle.exact.specs.Lists.{keep, sumℤ}
 use Rattle.record.specs.Layout.{Record, lots, delta, value, loss, day}
 use Rattle.exact.specs.Lists.{count}
 use Rattle.account.specs.Parts.{onDay}
-use Rattle.spread.specs.declared.Delta.{Delta}
 use Rattle.margin.specs.declared.rows.Days.{Days}
 use Rattle.margin.specs.declared.rows.Position.{Position}
+pub use Rattle.margin.specs.Sums.{deltasIn}
 use Rattle.margin.specs.Scanning.{product, total, totals}
 use Rattle.margin.specs.Deltas.{rowDelta, ofDay, netDeltas}
 use Rattle.margin.specs.Margin.{shortLots}
@@ -34,9 +34,6 @@ pub record Within (rows : List Record) : Type 0 where
 pub record Sized (most : ℕ) (z r : ℤ) : Type 0 where
   pub is : r ≡ z
   pub size : natAbs r ≤ most
-
-abbrev pub deltasOf : List Delta → List ℤ
-deltasOf ds = map (λ d. d .0) ds
 
 -- n numbers, each of a size up to the most
 pub record AtMost (n most : ℕ) (zs : List ℤ) : Type 0 where
@@ -70,21 +67,21 @@ pub record DaysOf (prompts : List Record) (d : Days) : Type 0 where
 -- what rows come to, for a contract with these prompts; the nets past its prompts are 0
 pub record PositionOf (prompts rows : List Record) (p : Position) : Type 0 where
   pub totals-are : p .totals .0 ≡ totals rows
-  pub nets-are : take (length prompts) (deltasOf (p .nets)) ≡ netDeltas prompts rows
-  pub nets-beyond : (j : ℕ) → length prompts ≤ j → getD (deltasOf (p .nets)) j (pos 0) ≡ pos 0
-  pub places : length (deltasOf (p .nets)) ≡ 32
+  pub nets-are : take (length prompts) (deltasIn (p .nets)) ≡ netDeltas prompts rows
+  pub nets-beyond : (j : ℕ) → length prompts ≤ j → getD (deltasIn (p .nets)) j (pos 0) ≡ pos 0
+  pub places : length (deltasIn (p .nets)) ≡ 32
   pub shorts-are : p .shorts ≡ shortLots rows
 
 -- no more than what n rows within their ranges can come to
 pub record Bounded (n : ℕ) (p : Position) : Type 0 where
   pub totals-most : AtMost 16 (n * 100000000000000) (p .totals .0)
-  pub nets-most : AtMost 32 (n * 1000000000) (deltasOf (p .nets))
+  pub nets-most : AtMost 32 (n * 1000000000) (deltasIn (p .nets))
   pub shorts-most : p .shorts ≤ n * 100000
 
 -- q is the position p with more rows
 pub record WithRows (days : Days) (p : Position) (rows : List Record) (q : Position) : Type 0 where
   pub totals-added : Added 16 (λ k. total rows (k + 1)) (p .totals .0) (q .totals .0)
-  pub nets-added : Added (days .count) (λ j. netOn rows (getD (days .day) j 0)) (deltasOf (p .nets)) (deltasOf (q .nets))
+  pub nets-added : Added (days .count) (λ j. netOn rows (getD (days .day) j 0)) (deltasIn (p .nets)) (deltasIn (q .nets))
   pub shorts-added : q .shorts ≡ p .shorts + shortLots rows
 
 -- each row is of the day of one prompt at most

@@ -12,7 +12,7 @@ use Rattle.record.specs.Layout.{Record, day}
 use Rattle.account.specs.Records.{records}
 use Rattle.margin.specs.declared.rows.Position.{Position}
 use Rattle.margin.specs.Deltas.{rowDelta}
-use Rattle.margin.specs.Position.{RowWithin, Added, WithRows, Bounded, addsOn, deltasOf}
+use Rattle.margin.specs.Position.{RowWithin, Added, WithRows, Bounded, addsOn, deltasIn}
 use Rattle.margin.proofs.AddedLaws as adding
 use Rattle.margin.proofs.RecordLaws.{count-is, record-at}
 use Rattle.margin.proofs.PositionLaws.{joined}
@@ -21,19 +21,19 @@ use Rattle.margin.proofs.WalkLaws.{SoFar, Most, start, next, room, fini
 use Rattle.margin.proofs.rows.with_rows.Statement.{statement}
 use Rattle.margin.proofs.rows.with_rows.Tie as tie
 
-most : {n : ℕ} (p : Position) → Bounded n p → Most n (p .totals .0) (deltasOf (p .nets)) (p .shorts)
+most : {n : ℕ} (p : Position) → Bounded n p → Most n (p .totals .0) (deltasIn (p .nets)) (p .shorts)
 most p b = record { totals-most = b .totals-most; nets-most = b .nets-most; shorts-most = b .shorts-most }
 
 abbrev Inv-loop2 : tie.InvT-loop2
 Inv-loop2 rows days count prompts totals nets₀ shorts i at of-row more j₀ nets j =
-    (j ≤ days .count) × Added j (addsOn (days .day) of-row (more .0)) (deltasOf nets₀) (deltasOf nets)
+    (j ≤ days .count) × Added j (addsOn (days .day) of-row (more .0)) (deltasIn nets₀) (deltasIn nets)
 
 abbrev μ-loop2 : tie.MeasureT-loop2
 μ-loop2 rows days count prompts totals nets₀ shorts i at of-row more j₀ nets j = days .count - j
 
 abbrev Inv-loop : tie.InvT-loop
 Inv-loop rows days count prompts totals₀ nets₀ shorts₀ i₀ totals nets shorts i =
-    SoFar (records rows) (days .count) (days .day) (totals₀ .0) (deltasOf nets₀) shorts₀ i (totals .0) (deltasOf nets) shorts
+    SoFar (records rows) (days .count) (days .day) (totals₀ .0) (deltasIn nets₀) shorts₀ i (totals .0) (deltasIn nets) shorts
 
 abbrev μ-loop : tie.MeasureT-loop
 μ-loop rows days count prompts totals₀ nets₀ shorts₀ i₀ totals nets shorts i = length rows / 96 - i
@@ -41,7 +41,7 @@ abbrev μ-loop : tie.MeasureT-loop
 loop-holds : tie.Need-loop-holds Inv-loop2 μ-loop2 Inv-loop μ-loop
 loop-holds c =
     let s = c .before .before .before in
-    start (records (now (s .args .rows))) (s .args .t2 .count) (s .args .t2 .day) (s .args .p .totals .0) (deltasOf (s .args .p .nets)) (s .args .p .shorts)
+    start (records (now (s .args .rows))) (s .args .t2 .count) (s .args .t2 .day) (s .args .p .totals .0) (deltasIn (s .args .p .nets)) (s .args .p .shorts)
 
 -- at the head of a turn: the row is within its ranges, and there is room for it
 row-within : (c : tie.In-loop Inv-loop2 μ-loop2 Inv-loop μ-loop) → RowWithin (take (c .before .loop .i * 96 + 96 - c .before .loop .i * 96) (drop (c .before .loop .i * 96) (now (c .before .before .before .before .before .args .rows))))
@@ -51,14 +51,14 @@ row-within c =
     let more : c .before .loop .i < length file / 96 = c .loop-test .taken in
     subst (λ (row : Record). RowWithin row) (record-at file (c .before .loop .i) more) (s .pre .1 .0 .each (c .before .loop .i) (omega (arith, count-is file)))
 
-has-room : (c : tie.In-loop Inv-loop2 μ-loop2 Inv-loop μ-loop) → Most 127 (c .before .loop .totals .0) (deltasOf (c .before .loop .nets)) (c .before .loop .shorts)
+has-room : (c : tie.In-loop Inv-loop2 μ-loop2 Inv-loop μ-loop) → Most 127 (c .before .loop .totals .0) (deltasIn (c .before .loop .nets)) (c .before .loop .shorts)
 has-room c =
     let s = c .before .before .before .before .before in
     let i = c .before .loop in
     let file = now (s .args .rows) in
     let more : i .i < length file / 96 = c .loop-test .taken in
-    room (records file) (s .args .t2 .count) (s .args .t2 .day) (s .args .p .totals .0) (deltasOf (s .args .p .nets)) (s .args .p .shorts)
-    (s .pre .1 .0) (most (s .args .p) (s .pre .1 .1)) (i .i) 127 (i .totals .0) (deltasOf (i .nets)) (i .shorts) (i .inv) (omega (arith, count-is file, s .pre .1 .0 .few))
+    room (records file) (s .args .t2 .count) (s .args .t2 .day) (s .args .p .totals .0) (deltasIn (s .args .p .nets)) (s .args .p .shorts)
+    (s .pre .1 .0) (most (s .args .p) (s .pre .1 .1)) (i .i) 127 (i .totals .0) (deltasIn (i .nets)) (i .shorts) (i .inv) (omega (arith, count-is file, s .pre .1 .0 .few))
 
 mul-at : tie.Need-mul-at Inv-loop2 μ-loop2 Inv-loop μ-loop
 mul-at c = omega arith
@@ -95,7 +95,7 @@ row-delta-requires c κs = row-within (c .before .before .before .before)
 loop2-holds : tie.Need-loop2-holds Inv-loop2 μ-loop2 Inv-loop μ-loop
 loop2-holds c =
     let s = c .before .before .before .before .before .before .before .before .before .before in
-    (omega arith, adding.start (addsOn (s .args .t2 .day) (c .before .day .result) (c .row-delta .result .0)) (deltasOf (c .before .before .before .before .before .before .loop .nets)))
+    (omega arith, adding.start (addsOn (s .args .t2 .day) (c .before .day .result) (c .row-delta .result .0)) (deltasIn (c .before .before .before .before .before .before .loop .nets)))
 
 mul-net-with : tie.Need-mul-net-with Inv-loop2 μ-loop2 Inv-loop μ-loop
 mul-net-with c = omega (arith, c .before .before .before .before .before .before .before .before .before .before .before .before .pre .0)
@@ -114,7 +114,7 @@ net-with-requires c κs =
     let i = c .before .before .before .before .before .before .before .before .before .before .loop in
     let k = c .before .before .before .loop2 in
     let few : k .j < 32 = omega (arith, c .before .before .before .before .before .before .before .before .before .before .before .before .before .before .pre .0) in
-    let here : natAbs (getD (deltasOf (i .nets)) (k .j) (pos 0)) ≤ 127000000000 = has-room (c .before .before .before .before .before .before .before .before .before) .nets-most .size (k .j) few in (
+    let here : natAbs (getD (deltasIn (i .nets)) (k .j) (pos 0)) ≤ 127000000000 = has-room (c .before .before .before .before .before .before .before .before .before) .nets-most .size (k .j) few in (
       subst (λ (z : ℤ). natAbs z ≤ 127000000000) (sym (k .inv .1 .others (k .j) (omega arith)) ∙ adding.delta-at (k .nets) (k .j)) here,
       c .before .before .before .before .row-delta .ensures .size,
     )
@@ -137,12 +137,12 @@ loop2-again c =
     let i = c .before .before .before .before .before .before .before .before .before .before .before .loop in
     let k = c .before .before .before .before .loop2 in
     let more = addsOn (s .args .t2 .day) (c .before .before .before .before .before .before .day .result) (c .before .before .before .before .before .row-delta .result .0) in
-    let same : getD (k .nets) (k .j) (record { 0 = pos 0 }) .0 ≡ getD (deltasOf (i .nets)) (k .j) (pos 0) = sym (adding.delta-at (k .nets) (k .j)) ∙ k .inv .1 .others (k .j) (omega arith) in
+    let same : getD (k .nets) (k .j) (record { 0 = pos 0 }) .0 ≡ getD (deltasIn (i .nets)) (k .j) (pos 0) = sym (adding.delta-at (k .nets) (k .j)) ∙ k .inv .1 .others (k .j) (omega arith) in
     let few : k .j < 32 = omega (arith, s .pre .0) in
-    let places : length (deltasOf (i .nets)) ≡ 32 = has-room (c .before .before .before .before .before .before .before .before .before .before) .nets-most .as-many in (
+    let places : length (deltasIn (i .nets)) ≡ 32 = has-room (c .before .before .before .before .before .before .before .before .before .before) .nets-most .as-many in (
       omega arith,
-      subst (λ (zs : List ℤ). Added (k .j + 1) more (deltasOf (i .nets)) zs) (sym (adding.deltas-set (k .nets) (k .j) (c .net-with .result)))
-          (adding.next (k .j) more (deltasOf (i .nets)) (deltasOf (k .nets)) (c .net-with .result .0) (k .inv .1) (omega arith) (c .net-with .ensures ∙ ap (λ (z : ℤ). z +ℤ more (k .j)) same)),
+      subst (λ (zs : List ℤ). Added (k .j + 1) more (deltasIn (i .nets)) zs) (sym (adding.deltas-set (k .nets) (k .j) (c .net-with .result)))
+          (adding.next (k .j) more (deltasIn (i .nets)) (deltasIn (k .nets)) (c .net-with .result .0) (k .inv .1) (omega arith) (c .net-with .ensures ∙ ap (λ (z : ℤ). z +ℤ more (k .j)) same)),
     )
 
 add-i : tie.Need-add-i Inv-loop2 μ-loop2 Inv-loop μ-loop
@@ -161,13 +161,13 @@ loop-again c =
     let turn : i .i < length file / 96 = c .before .before .before .before .before .before .before .loop-test .taken in
     let row = take (i .i * 96 + 96 - i .i * 96) (drop (i .i * 96) file) in
     let all : k .j ≡ s .args .t2 .count = omega arith in
-    next (records file) (s .args .t2 .count) days (s .args .p .totals .0) (deltasOf (s .args .p .nets)) (s .args .p .shorts)
-    (i .i) (i .totals .0) (deltasOf (i .nets)) (c .before .before .before .before .before .totals-with .result .0) (deltasOf (k .nets)) (i .shorts) _ row
+    next (records file) (s .args .t2 .count) days (s .args .p .totals .0) (deltasIn (s .args .p .nets)) (s .args .p .shorts)
+    (i .i) (i .totals .0) (deltasIn (i .nets)) (c .before .before .before .before .before .totals-with .result .0) (deltasIn (k .nets)) (i .shorts) _ row
     (i .inv) (omega (arith, count-is file)) (record-at file (i .i) turn)
     (c .before .before .before .before .before .totals-with .ensures)
-    (subst (λ (n : ℕ). Added n (addsOn days (day row) (rowDelta row)) (deltasOf (i .nets)) (deltasOf (k .nets))) all
-    (subst (λ (d : ℕ). Added (k .j) (addsOn days d (rowDelta row)) (deltasOf (i .nets)) (deltasOf (k .nets))) (c .before .before .before .day .ensures .0)
-    (subst (λ (z : ℤ). Added (k .j) (addsOn days (c .before .before .before .day .result) z) (deltasOf (i .nets)) (deltasOf (k .nets))) (c .before .before .row-delta .ensures .is)
+    (subst (λ (n : ℕ). Added n (addsOn days (day row) (rowDelta row)) (deltasIn (i .nets)) (deltasIn (k .nets))) all
+    (subst (λ (d : ℕ). Added (k .j) (addsOn days d (rowDelta row)) (deltasIn (i .nets)) (deltasIn (k .nets))) (c .before .before .before .day .ensures .0)
+    (subst (λ (z : ℤ). Added (k .j) (addsOn days (c .before .before .before .day .result) z) (deltasIn (i .nets)) (deltasIn (k .nets))) (c .before .before .row-delta .ensures .is)
     (k .inv .1))))
     (ap (λ (n : ℕ). i .shorts + n) (c .before .before .before .before .short-options .ensures))
 
@@ -178,10 +178,10 @@ returns c =
     let file = now (s .args .rows) in
     let count = s .args .t2 .count in
     let days = s .args .t2 .day in
-    let all = finish (records file) count days (s .args .p .totals .0) (deltasOf (s .args .p .nets)) (s .args .p .shorts) (i .i) (i .totals .0) (deltasOf (i .nets)) (i .shorts) (omega (arith, count-is file, c .loop-test .left)) (i .inv) in
+    let all = finish (records file) count days (s .args .p .totals .0) (deltasIn (s .args .p .nets)) (s .args .p .shorts) (i .i) (i .totals .0) (deltasIn (i .nets)) (i .shorts) (omega (arith, count-is file, c .loop-test .left)) (i .inv) in
     let last =
-    room (records file) count days (s .args .p .totals .0) (deltasOf (s .args .p .nets)) (s .args .p .shorts)
-    (s .pre .1 .0) (most (s .args .p) (s .pre .1 .1)) (i .i) 128 (i .totals .0) (deltasOf (i .nets)) (i .shorts) (i .inv) (omega (arith, i .inv .passed, s .pre .1 .0 .few)) in
+    room (records file) count days (s .args .p .totals .0) (deltasIn (s .args .p .nets)) (s .args .p .shorts)
+    (s .pre .1 .0) (most (s .args .p) (s .pre .1 .1)) (i .i) 128 (i .totals .0) (deltasIn (i .nets)) (i .shorts) (i .inv) (omega (arith, i .inv .passed, s .pre .1 .0 .few)) in
     let added : WithRows (s .args .t2) (s .args .p) (records file) (record { totals = i .totals; nets = i .nets; shorts = i .shorts }) =
     record { totals-added = all .0; nets-added = all .1 .0; shorts-added = all .1 .1 } in (
       added,

@@ -1,0 +1,25 @@
+-- The answer to a delta book, told to C, and the lent numbers as the question leaves them.
+-- Assumes nothing.
+use borrow.Author.Needs.{needs}
+use mathlib.Core.Path.{subst}
+use Rattle.account.specs.declared.answers.Answer.{Answer}
+use Rattle.felgotany.specs.Outcomes.{Tells}
+use Rattle.felgotany.proofs.felgotany_book.Statement.{statement}
+use Rattle.felgotany.proofs.felgotany_book.Tie as tie
+
+book-requires : tie.Need-book-requires
+book-requires c κs = search needs
+
+tell-requires : tie.Need-tell-requires
+tell-requires c κs = search needs
+
+same-length : tie.Need-same-length
+same-length c = search needs
+
+returns : tie.Need-returns
+returns c =
+    let f = c .before .before .book .ensures in
+    (subst (λ (a : Answer). Tells a (c .tell .result)) (f .0) (c .tell .ensures), f .1)
+
+pub felgotany-book-spec : {M : Type 1} → statement M
+felgotany-book-spec = tie.close (tie.spec book-requires tell-requires same-length returns)

@@ -1,0 +1,94 @@
+// Felgotany as C sees it: the check, the figures and the delta book over any bytes. include/felgotany.h says the same in
+// C's words.
+use account::answers::Answer;
+use account::answers::number_of;
+use account::answers::record_of;
+use account::check::check;
+use account::check::take_survey;
+use margin::questions::book;
+use margin::questions::figures;
+ghost use mathlib.Core.Path.{_≡_};
+ghost use Prim.Native.Nat.{_≤_};
+ghost use lib.ListN.{length};
+ghost use Rattle.account.specs.Check.{checked};
+ghost use Rattle.margin.specs.Questions.{figuresAnswer, afterFigures, bookAnswer, afterBook};
+ghost use Rattle.felgotany.specs.Outcomes.{Tells, figuresNeeded, bookNeeded};
+
+const TABLE_QUESTION: usize = 16;
+
+// The number of a refusal, 0 where nothing is refused, and the record that it names.
+#[repr(C)]
+pub struct Outcome {
+    pub refusal: usize,
+    pub record: usize,
+}
+
+fn tell(answer: Answer) -> Outcome
+    ensures { λ r. ⌜ Tells answer r ⌝ }
+{
+    Outcome {
+        refusal: number_of(answer),
+        record: record_of(answer),
+    }
+}
+
+// Whether the file is accepted.
+#[no_mangle]
+pub extern "C" fn felgotany_check(file: &[u8]) -> Outcome
+    ensures { λ r. ⌜ Tells (checked (now (file .entry))) r ⌝ }
+{
+    tell(check(file))
+}
+
+// How many numbers the figures of an accepted file need; 0 for a refused file.
+#[no_mangle]
+pub extern "C" fn felgotany_figures_needed(file: &[u8]) -> usize
+    ensures { λ r. ⌜ (r ≡ figuresNeeded (now (file .entry))) × (r ≤ 129) ⌝ }
+{
+    let survey = take_survey(file);
+    let answer = survey.answer;
+    if number_of(answer) != 0 {
+        return 0;
+    }
+    8 * survey.contracts + 1
+}
+
+// The figures, at the front of `out`. A refusal writes nothing.
+#[no_mangle]
+pub extern "C" fn felgotany_figures(file: &[u8], out: &mut [i64]) -> Outcome
+    ensures { λ r. ⌜ Tells (figuresAnswer (now (file .entry)) (length (now (out .entry)))) r × (now (out .exit) ≡ afterFigures (now (file .entry)) (now (out .entry))) ⌝ }
+{
+    tell(figures(file, out))
+}
+
+// How many numbers the delta book of a question needs; 0 for a refused file, and where the question is not answered.
+#[no_mangle]
+pub extern "C" fn felgotany_book_needed(file: &[u8], question: usize) -> usize
+    ensures { λ r. ⌜ (r ≡ bookNeeded (now (file .entry)) question) × (r ≤ 160) ⌝ }
+{
+    let survey = take_survey(file);
+    let answer = survey.answer;
+    if number_of(answer) != 0 {
+        return 0;
+    }
+    let counts = survey.counts;
+    if question == TABLE_QUESTION {
+        return 3 * survey.contracts + 2 * counts[80];
+    }
+    if 16 <= question {
+        return 0;
+    }
+    if counts[16 + question] == 0 {
+        return 0;
+    }
+    3 * counts[32 + question] + 2 * counts[64 + question]
+}
+
+// The delta book of a question, 0 to 15 for that contract or 16 for the intercontract table, at the front of `out`. A
+// refusal writes nothing.
+#[no_mangle]
+pub extern "C" fn felgotany_book(file: &[u8], question: usize, out: &mut [i64]) -> Outcome
+    ensures { λ r. ⌜ Tells (bookAnswer (now (file .entry)) question (length (now (out .entry)))) r × (now (out .exit) ≡ afterBook (now (file .entry)) question (now (out .entry))) ⌝ }
+{
+    tell(book(file, question, out))
+}

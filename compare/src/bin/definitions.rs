@@ -30,7 +30,8 @@ fn main() {
         std::process::exit(2);
     };
     let mut module = String::from(HEADER);
-    let small = (0..).map(|index| generate::account(seed, index)).filter(|file| file.len() <= most_records as usize * RECORD_BYTES);
+    let small =
+        (0..).map(|index| generate::account(seed, index)).filter(|file| file.len() <= most_records as usize * RECORD_BYTES);
     let (mut accepted, mut refused) = (0, 0);
     for (case, file) in small.take(count as usize).enumerate() {
         match check(&file) {
@@ -54,13 +55,20 @@ fn claim(module: &mut String, case: usize, file: &[u8]) {
     }
     let mut lent = [0; MOST_NUMBERS];
     let written = figures(file, &mut lent).expect("figures of an accepted file");
-    writeln!(module, "\nfigures{case} : figures (records file{case}) ≡ {}\nfigures{case} = refl", numbers(&lent[..written])).unwrap();
+    writeln!(module, "\nfigures{case} : figures (records file{case}) ≡ {}\nfigures{case} = refl", numbers(&lent[..written]))
+        .unwrap();
     for question in 0..=TABLE_QUESTION + 1 {
         let name = format!("{case}-{question}");
         let found = book(file, question, &mut lent);
-        writeln!(module, "\nasked{name} : answered (records file{case}) {question} ≡ {}\nasked{name} = refl", found.is_ok()).unwrap();
+        writeln!(module, "\nasked{name} : answered (records file{case}) {question} ≡ {}\nasked{name} = refl", found.is_ok())
+            .unwrap();
         if let Ok(written) = found {
-            writeln!(module, "\nbook{name} : book (records file{case}) {question} ≡ {}\nbook{name} = refl", numbers(&lent[..written])).unwrap();
+            writeln!(
+                module,
+                "\nbook{name} : book (records file{case}) {question} ≡ {}\nbook{name} = refl",
+                numbers(&lent[..written])
+            )
+            .unwrap();
         }
     }
 }

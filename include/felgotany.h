@@ -1,0 +1,85 @@
+/* Felgotany: SPAN margin for metal forwards and options.
+ *
+ * An account file is records of 96 bytes. Each question below is put to the bytes of such a file, checks them first, and
+ * answers with a refusal and a record, or with refusal 0 and numbers written to memory that the caller lends. Any bytes
+ * may be handed over: there is nothing that a file has to satisfy before it is asked about.
+ *
+ * What the caller owes of the memory: `file` points to `bytes` bytes that nothing writes during the call; `out` points to
+ * `numbers` numbers of 64 bits, aligned as int64_t, that nothing else reads or writes during the call, and does not
+ * overlap the file. With a length of 0 the pointer is not followed and may be null.
+ *
+ * The library keeps nothing between calls, allocates nothing and calls nothing of the host's but memcpy and memset. Threads
+ * may call it at the same time with memory of their own. A call takes less than 64 kB of stack.
+ */
+#ifndef FELGOTANY_H
+#define FELGOTANY_H
+
+#include <stddef.h>
+#include <stdint.h>
+
+#ifdef __cplusplus
+extern "C" {
+#endif
+
+/* The most numbers that the figures of an account have: eight for each of sixteen contracts, and the total. */
+#define FELGOTANY_MOST_FIGURES 129
+
+/* The most numbers that a delta book has: three for each of 32 prompts, and two for each of 32 spreads. */
+#define FELGOTANY_MOST_BOOK 160
+
+/* The question for the book of the intercontract table. */
+#define FELGOTANY_TABLE 16
+
+/* What is refused, and the record that the refusal names, counted from 0.
+ *
+ *    0  nothing: the file is accepted, the question answered                record 0
+ *    1  the file is longer than 61,440 bytes                                record 0
+ *    2  its length is no multiple of 96                                     record 0
+ *    3  a kind that is not 1 to 5                                           that record
+ *    4  a kind below the kind before it                                     that record
+ *    5  an unused byte that is not zero                                     that record
+ *    6  a field outside its range                                           that record
+ *    7  a contract, prompt day or tier named that no earlier record lists   that record
+ *    8  order or clash                                                      that record
+ *    9  one record more than a limit                                        that record
+ *   10  fewer numbers lent than the answer needs                            how many records the file has
+ *   11  a question that is neither a listed contract nor 16                 how many records the file has
+ *
+ * The length is tested first, then the records from 0 up, each for 3 to 9 in that order; the first fault answers. Then
+ * come 11 and 10. */
+typedef struct {
+    size_t refusal;
+    size_t record;
+} felgotany_outcome;
+
+/* Whether the file is accepted. */
+felgotany_outcome felgotany_check(const uint8_t *file, size_t bytes);
+
+/* How many numbers the figures of an accepted file need, 1 to FELGOTANY_MOST_FIGURES; 0 for a refused file. */
+size_t felgotany_figures_needed(const uint8_t *file, size_t bytes);
+
+/* The figures. For each contract in file order eight numbers: contract, active scenario, scanning risk, interprompt charge,
+ * prompt charge, credit, short option minimum and margin, all but the first two in hundredths of the currency; then the
+ * total of the margins. An empty file is an accepted account with the one number 0.
+ *
+ * Where nothing is refused, the numbers stand at the front of `out` and nothing after them is changed. A refusal changes
+ * nothing. */
+felgotany_outcome felgotany_figures(const uint8_t *file, size_t bytes, int64_t *out, size_t numbers);
+
+/* How many numbers the delta book of a question needs, 0 to FELGOTANY_MOST_BOOK; 0 for a refused file and for a question
+ * that the file does not answer. */
+size_t felgotany_book_needed(const uint8_t *file, size_t bytes, size_t question);
+
+/* The delta book of a question, 0 to 15 for that contract or FELGOTANY_TABLE. Of a contract, three numbers for each prompt
+ * in file order: its net delta, what of it is used in spreads and what is unused, each with the sign of the net delta;
+ * then two for each interprompt spread in file order: how many its first step formed, and its second. Of the table, the same
+ * for each contract and each intercontract spread. All in ten-thousandths.
+ *
+ * Lent numbers are written and left alone as by felgotany_figures. */
+felgotany_outcome felgotany_book(const uint8_t *file, size_t bytes, size_t question, int64_t *out, size_t numbers);
+
+#ifdef __cplusplus
+}
+#endif
+
+#endif

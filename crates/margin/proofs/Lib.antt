@@ -25,3 +25,4 @@ pub mod AccountLaws
 pub mod QuestionLaws
 pub mod AskedLaws
 pub mod Demands
+pub mod HeldLaws

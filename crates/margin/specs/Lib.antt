@@ -22,3 +22,4 @@ pub mod Table
 pub mod Numbers
 pub mod Stands
 pub mod Demands
+pub mod Held

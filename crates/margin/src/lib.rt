@@ -3,6 +3,7 @@ pub mod accepted;
 pub mod amount;
 mod books;
 mod charges;
+pub mod held;
 mod intercontract;
 pub mod line;
 pub mod numbers;

@@ -1,0 +1,124 @@
+-- What a held file's survey says of the numbers its figures need, and that a held question answers as the plain one.
+-- Assumes nothing.
+use Prim.Native.Nat.{ℕ, zero, suc, _+_, _*_, _≤_, _<_}
+use native.Mathlib.Omega.{arith}
+use borrow.Author.Tests.{ne-eqb}
+use mathlib.Core.Path.{_≡_, refl, sym, ap, ap₂, _∙_, subst⁻¹}
+use mathlib.Core.Bool.{cond}
+use mathlib.Core.List.{List, [], _∷_}
+use lib.IntN.{ℤ}
+use lib.ListN.{length, getD}
+use denote.Ref.{RefT, now}
+use Rattle.exact.specs.Lists.{count}
+use Rattle.account.specs.Answers.{numberOf}
+use Rattle.account.specs.Check.{checked}
+use Rattle.account.specs.Parts.{ofKind}
+use Rattle.account.specs.Records.{records}
+use Rattle.account.specs.Surveyed.{Surveyed, ifAccepted}
+use Rattle.account.specs.declared.answers.Answer.{Answer}
+use Rattle.account.specs.declared.check.Survey.{Survey}
+use Rattle.account.proofs.Accepted.{accepts}
+use Rattle.margin.specs.Figures.{figures}
+use Rattle.margin.specs.Held.{FromCheck, needIn, figuresNeed}
+use Rattle.margin.specs.declared.held.Held.{Held}
+use Rattle.margin.specs.Questions.{accepted, enough, figuresAnswer, afterFigures, bookAnswer, afterBook}
+use Rattle.margin.specs.Stands.{Stands}
+use Rattle.margin.proofs.StandLaws.{contracts-are}
+use Rattle.margin.proofs.QuestionLaws.{accepted-only, if-refused, if-accepted, as-many, figures-length}
+
+some : {n : ℕ} → suc n ≡ 0 → ⊥
+some e = omega arith
+
+module _ (file : List ℕ) (s : Survey) (is : Surveyed file s) where
+  held-stands : numberOf (checked file) ≡ 0 → Stands file s
+  held-stands z = record { accepted = accepted-only (checked file) z; surveyed = is }
+
+  module _ (h : numberOf (checked file) ≡ 0 → ⊥) where
+    none : ifAccepted (checked file) (count (ofKind 1) (records file)) ≡ 0
+    none = rw (ne-eqb (numberOf (checked file)) 0 h)
+
+    nothing : (n : ℕ) → cond (accepted (checked file)) n 0 ≡ 0
+    nothing n = rw (ne-eqb (numberOf (checked file)) 0 h)
+
+  few-at : (n : ℕ) → numberOf (checked file) ≡ n → s .contracts ≤ 16
+  few-at zero e =
+      let st = held-stands e in omega (arith, contracts-are file s st, accepts file (st .accepted) .limits .contracts)
+  few-at (suc n) e = omega (arith, is .contracts ∙ none (λ z. some (sym e ∙ z)))
+
+  pub few : s .contracts ≤ 16
+  few = few-at (numberOf (checked file)) refl
+
+  need-at : (n : ℕ) → numberOf (checked file) ≡ n → needIn s ≡ figuresNeed file
+  need-at zero e =
+      let st = held-stands e in
+      let k = contracts-are file s st in
+      let l = figures-length (records file) in
+      let same : 8 * s .contracts + 1 ≡ length (figures (records file)) = omega arith in
+      ap (λ (a : Answer). cond (accepted a) (8 * s .contracts + 1) 0) (is .answer ∙ st .accepted)
+      ∙ same ∙ sym (ap (λ (a : Answer). cond (accepted a) (length (figures (records file))) 0) (st .accepted))
+  need-at (suc n) e =
+      let h : numberOf (checked file) ≡ 0 → ⊥ = λ z. some (sym e ∙ z) in
+      ap (λ (a : Answer). cond (accepted a) (8 * s .contracts + 1) 0) (is .answer)
+      ∙ nothing h (8 * s .contracts + 1) ∙ sym (nothing h (length (figures (records file))))
+
+  -- the numbers that the survey says are needed are those that the figures have
+  pub need-is : needIn s ≡ figuresNeed file
+  need-is = need-at (numberOf (checked file)) refl
+
+-- ---- the promises determine what comes back
+
+by-places : (xs ys : List ℕ) → length xs ≡ length ys → ((v : ℕ) → v < length xs → getD xs v 0 ≡ getD ys v 0) → xs ≡ ys
+by-places [] [] l h = refl
+by-places [] (y ∷ ys) l h = absurd (some (sym l))
+by-places (x ∷ xs) [] l h = absurd (some l)
+by-places (x ∷ xs) (y ∷ ys) l h = ap₂ _∷_ (h 0 (omega arith)) (by-places xs ys (omega (arith, l)) (λ v g. h (suc v) (omega (arith, g))))
+
+-- a survey's two arrays have 81 places each
+pub record Placed (s : Survey) : Type 0 where
+  pub first : length (s .first) ≡ 81
+  pub counts : length (s .counts) ≡ 81
+
+below : (n v : ℕ) → n ≡ 81 → v < n → v < 81
+below n v e h = omega (arith, e, h)
+
+one-survey : (file : List ℕ) (s t : Survey) → Placed s → Placed t → Surveyed file s → Surveyed file t → s ≡ t
+one-survey file s t ps pt is it =
+    let a : s .answer ≡ t .answer = is .answer ∙ sym (it .answer) in
+    let n : s .contracts ≡ t .contracts = is .contracts ∙ sym (it .contracts) in
+    let f : s .first ≡ t .first = by-places (s .first) (t .first) (ps .first ∙ sym (pt .first)) (λ v h. is .first v (below (length (s .first)) v (ps .first) h) ∙ sym (it .first v (below (length (s .first)) v (ps .first) h))) in
+    let c : s .counts ≡ t .counts = by-places (s .counts) (t .counts) (ps .counts ∙ sym (pt .counts)) (λ v h. is .counts v (below (length (s .counts)) v (ps .counts) h) ∙ sym (it .counts v (below (length (s .counts)) v (ps .counts) h))) in
+    λ i. record { answer = a i; contracts = n i; first = f i; counts = c i }
+
+-- the check hands out one view of a file
+pub one-view : (file : RefT (List ℕ)) (h k : Held) → Placed (h .survey) → Placed (k .survey) → (h .file ≡ file) × FromCheck h → (k .file ≡ file) × FromCheck k → h ≡ k
+one-view file h k ph pk (fh, is) (fk, it) =
+    let e : h .file ≡ k .file = fh ∙ sym fk in
+    let s : h .survey ≡ k .survey = one-survey (now (h .file)) (h .survey) (k .survey) ph pk is (subst⁻¹ (λ (f : RefT (List ℕ)). Surveyed (now f) (k .survey)) e it) in
+    λ i. record { file = e i; survey = s i }
+
+-- "each question is also offered over plain bytes, checked first, with the same answer": whatever a held file and its
+-- bytes are answered, and whatever is left in the same lent numbers, is the same
+pub held-as-plain : (h : Held) (file : List ℕ) → now (h .file) ≡ file → (lent : List ℤ) (r r′ : Answer) (after after′ : List ℤ)
+    → (r ≡ figuresAnswer (now (h .file)) (length lent)) × (after ≡ afterFigures (now (h .file)) lent)
+    → (r′ ≡ figuresAnswer file (length lent)) × (after′ ≡ afterFigures file lent)
+    → (r ≡ r′) × (after ≡ after′)
+held-as-plain h file e lent r r′ after after′ (p, s) (p′, s′) =
+    (p ∙ ap (λ (f : List ℕ). figuresAnswer f (length lent)) e ∙ sym p′, s ∙ ap (λ (f : List ℕ). afterFigures f lent) e ∙ sym s′)
+
+-- numbers lent as many as are needed are enough
+pub needed-enough : (file : List ℕ) (lent : ℕ) → figuresNeed file ≤ lent → figuresAnswer file lent ≡ checked file
+needed-enough file lent h = by-number (numberOf (checked file)) refl
+  where
+    by-number : (n : ℕ) → numberOf (checked file) ≡ n → figuresAnswer file lent ≡ checked file
+    by-number zero e =
+        let z = accepted-only (checked file) e in
+        let l : figuresNeed file ≡ length (figures (records file)) = ap (λ (a : Answer). cond (accepted a) (length (figures (records file))) 0) z in
+        if-accepted (checked file) (enough file (figures (records file)) lent) z ∙ as-many file (figures (records file)) lent (omega (arith, l, h)) ∙ sym z
+    by-number (suc n) e = if-refused (checked file) (enough file (figures (records file)) lent) (λ z. some (sym e ∙ z))
+
+pub held-book-as-plain : (h : Held) (file : List ℕ) → now (h .file) ≡ file → (question : ℕ) (lent : List ℤ) (r r′ : Answer) (after after′ : List ℤ)
+    → (r ≡ bookAnswer (now (h .file)) question (length lent)) × (after ≡ afterBook (now (h .file)) question lent)
+    → (r′ ≡ bookAnswer file question (length lent)) × (after′ ≡ afterBook file question lent)
+    → (r ≡ r′) × (after ≡ after′)
+held-book-as-plain h file e question lent r r′ after after′ (p, s) (p′, s′) =
+    (p ∙ ap (λ (f : List ℕ). bookAnswer f question (length lent)) e ∙ sym p′, s ∙ ap (λ (f : List ℕ). afterBook f question lent) e ∙ sym s′)

@@ -1,0 +1,111 @@
+// "One accepted file is held while several questions are put to it, without checking it again."
+use crate::accepted::book_over;
+use crate::accepted::figures_over;
+use crate::accepted::is_asked;
+use crate::numbers::lend;
+use account::answers::Answer;
+use account::answers::number_of;
+use account::check::Survey;
+use account::check::take_survey;
+use account::stretches::record_count;
+ghost use mathlib.Core.Path.{_≡_};
+ghost use Prim.Native.Nat.{_≤_};
+ghost use lib.ListN.{length};
+ghost use Rattle.account.specs.Surveyed.{Surveyed};
+ghost use Rattle.margin.specs.Held.{FromCheck, needIn, figuresNeed};
+ghost use Rattle.margin.specs.Questions.{figuresAnswer, afterFigures, bookAnswer, afterBook};
+
+// A view of a file's bytes with what the check handed out of them. Only `hold` makes one: its fields are of this module
+// alone.
+pub struct Held<'a> {
+    file: &'a [u8],
+    survey: Survey,
+}
+
+// "Only the check hands out such a held file." A refused file is held with its refusal.
+pub fn hold<'a>(file: &'a [u8]) -> Held<'a>
+    ensures { λ h. ⌜ (h .file ≡ file .entry) × FromCheck h ⌝ }
+{
+    let survey = take_survey(file);
+    Held { file, survey }
+}
+
+// The figures of a checked file, at the front of `out`. A refusal writes nothing.
+pub(crate) fn answer_figures(file: &[u8], survey: Survey, out: &mut [i64]) -> Answer
+    requires { ⌜ Surveyed (now file) survey ⌝ }
+    ensures { λ r. ⌜ (r ≡ figuresAnswer (now (file .entry)) (length (now (out .entry)))) × (now (out .exit) ≡ afterFigures (now (file .entry)) (now (out .entry))) ⌝ }
+{
+    let answer = survey.answer;
+    if number_of(answer) != 0 {
+        return answer;
+    }
+    if out.len() < 8 * survey.contracts + 1 {
+        return Answer::TooFewNumbers(record_count(file));
+    }
+    let numbers = figures_over(file, survey);
+    lend(out, numbers);
+    Answer::Accepted
+}
+
+// The delta book of a question, of a checked file, at the front of `out`. A refusal writes nothing.
+pub(crate) fn answer_book(file: &[u8], survey: Survey, question: usize, out: &mut [i64]) -> Answer
+    requires { ⌜ Surveyed (now file) survey ⌝ }
+    ensures { λ r. ⌜ (r ≡ bookAnswer (now (file .entry)) question (length (now (out .entry)))) × (now (out .exit) ≡ afterBook (now (file .entry)) question (now (out .entry))) ⌝ }
+{
+    let answer = survey.answer;
+    if number_of(answer) != 0 {
+        return answer;
+    }
+    if !is_asked(survey, question) {
+        return Answer::NoSuchQuestion(record_count(file));
+    }
+    let numbers = book_over(file, survey, question);
+    if out.len() < numbers.count {
+        return Answer::TooFewNumbers(record_count(file));
+    }
+    lend(out, numbers);
+    Answer::Accepted
+}
+
+// How many numbers the figures of a checked file have, 0 where it is refused.
+fn figures_need(survey: Survey) -> usize
+    requires { ⌜ survey .contracts ≤ 16 ⌝ }
+    ensures { λ r. ⌜ r ≡ needIn survey ⌝ }
+{
+    let answer = survey.answer;
+    if number_of(answer) != 0 {
+        return 0;
+    }
+    8 * survey.contracts + 1
+}
+
+// The figures of a held file.
+pub fn held_figures<'a>(h: Held<'a>, out: &mut [i64]) -> Answer
+    requires { ⌜ FromCheck h ⌝ }
+    ensures { λ r. ⌜ (r ≡ figuresAnswer (now (h .entry .file)) (length (now (out .entry)))) × (now (out .exit) ≡ afterFigures (now (h .entry .file)) (now (out .entry))) ⌝ }
+{
+    answer_figures(h.file, h.survey, out)
+}
+
+// The delta book of a question, of a held file.
+pub fn held_book<'a>(h: Held<'a>, question: usize, out: &mut [i64]) -> Answer
+    requires { ⌜ FromCheck h ⌝ }
+    ensures { λ r. ⌜ (r ≡ bookAnswer (now (h .entry .file)) question (length (now (out .entry)))) × (now (out .exit) ≡ afterBook (now (h .entry .file)) question (now (out .entry))) ⌝ }
+{
+    answer_book(h.file, h.survey, question, out)
+}
+
+// How many numbers the figures of a held file need, 0 where it is refused.
+pub fn held_need<'a>(h: Held<'a>) -> usize
+    requires { ⌜ FromCheck h ⌝ }
+    ensures { λ r. ⌜ r ≡ figuresNeed (now (h .entry .file)) ⌝ }
+{
+    figures_need(h.survey)
+}
+
+// The figures over plain bytes, of a file that is held for this one question.
+pub fn figures_once(file: &[u8], out: &mut [i64]) -> Answer
+    ensures { λ r. ⌜ (r ≡ figuresAnswer (now (file .entry)) (length (now (out .entry)))) × (now (out .exit) ≡ afterFigures (now (file .entry)) (now (out .entry))) ⌝ }
+{
+    held_figures(hold(file), out)
+}

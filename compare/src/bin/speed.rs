@@ -1,6 +1,7 @@
 //! speed [SEED]: times the proved library and the independent program side by side, on the same files in one run: the check
-//! and the figures, for accepted accounts of 1, 10, 100 and 640 records and for thousands of generated accounts. Rounds of
-//! the two alternate, and the quickest round of each counts.
+//! and the figures, for accepted accounts of 1, 10, 100 and 640 records and for thousands of generated accounts; and the
+//! delta book of a contract with 32 prompts, with 32 spreads of three legs and with none, so that the difference is the
+//! spread steps'. Rounds of the two alternate, and the quickest round of each counts.
 
 use independent::generate;
 use std::hint::black_box;
@@ -14,6 +15,8 @@ const GENERATED: u64 = 5_000;
 const ROUNDS: usize = 7;
 const ROUND: Duration = Duration::from_millis(100);
 const MOST_FIGURES: usize = 129;
+const MOST_BOOK: usize = 160;
+const TABLE: usize = 32;
 
 fn main() {
     let seed = std::env::args().nth(1).and_then(|word| word.parse().ok()).unwrap_or(1);
@@ -25,6 +28,42 @@ fn main() {
     }
     let files: Vec<Vec<u8>> = (0..GENERATED).map(|index| generate::account(seed, index)).collect();
     compare(&format!("{GENERATED} generated accounts"), &files);
+    for spreads in [0, TABLE] {
+        books(&format!("{TABLE} prompts, {spreads} spreads"), &[table(spreads)]);
+    }
+}
+
+/// One contract with a full table: 32 prompts in eight tiers, long and short by turns, and so many spreads of three legs.
+fn table(spreads: usize) -> Vec<u8> {
+    let record = |fields: &[(usize, u32)]| {
+        let mut bytes = [0; RECORD_BYTES];
+        fields.iter().for_each(|&(at, number)| bytes[at..at + 4].copy_from_slice(&number.to_le_bytes()));
+        bytes
+    };
+    let word = |a: usize, b: usize, c: usize| u32::from_le_bytes([a as u8, b as u8, c as u8, 0]);
+    let day = |prompt: usize| prompt as u32 + 1;
+    let lots = |prompt: usize| if prompt % 2 == 0 { 1000 + prompt as u32 } else { (1000 + prompt as u32).wrapping_neg() };
+    let leg = |tier: usize, side: usize, ratio: usize| u32::from_le_bytes([tier as u8, side as u8, ratio as u8, 0]);
+    let prompts = (0..TABLE).map(|i| record(&[(0, word(2, 0, i / 4 + 1)), (4, day(i)), (8, 3), (12, 1)]));
+    let rows = (0..TABLE).map(|i| record(&[(0, word(3, 0, 0)), (4, day(i)), (12, lots(i)), (16, 9800), (20, 25), (24, 100)]));
+    let legs = |i: usize| [(8, leg(i % 8 + 1, 1, i % 3 + 1)), (12, leg((i + 1) % 8 + 1, 2, 2)), (16, leg((i + 2) % 8 + 1, 2, 1))];
+    let table = (0..spreads).map(|i| record(&[&[(0, word(4, 0, 3)), (4, 100)][..], &legs(i)].concat()));
+    [record(&[(0, word(1, 0, 0))])].into_iter().chain(prompts).chain(rows).chain(table).flatten().collect()
+}
+
+fn books(name: &str, files: &[Vec<u8>]) {
+    let mut lent = [0; MOST_BOOK];
+    let mut also_lent = [0; MOST_BOOK];
+    files.iter().for_each(|file| {
+        assert_eq!(compare::book(file, 0, &mut lent).refusal, 0);
+        assert!(independent::book(file, 0, &mut also_lent).is_ok() && lent == also_lent);
+    });
+    let book = side_by_side(
+        files,
+        |file| _ = black_box(compare::book(black_box(file), 0, &mut lent)),
+        |file| _ = black_box(independent::book(black_box(file), 0, &mut also_lent)),
+    );
+    print(name, "book", book);
 }
 
 /// Accepted accounts of so many records: generated ones of just that size, or larger ones cut there, since what stands

@@ -121,7 +121,7 @@ module _ (file : List ℕ) (s : Survey) (st : Stands file s) where
         as-many =
             ap₂ (λ (x y : ℕ). 3 * x + 2 * y) prompts spreads
             ∙ sym (contract-length [] (promptsOf q account) (rowsOf q account) (spreadsOf q account))
-            ∙ ap length (sym (one-book file s st q a apart))
+            ∙ ap length (sym (one-book file (st .accepted) q a apart))
             ∙ sym (answered-needs q a);
       }
 

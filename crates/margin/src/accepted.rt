@@ -11,6 +11,11 @@ use crate::numbers::book_numbers;
 use crate::numbers::figures_numbers;
 use crate::rows::position_of;
 use account::check::Survey;
+use account::parts::ENTRIES;
+use account::parts::OWN;
+use account::parts::PROMPTS;
+use account::parts::ROWS;
+use account::parts::SPREADS;
 use account::stretches::record_at;
 use account::stretches::record_count;
 use account::stretches::stretch;
@@ -33,6 +38,9 @@ ghost use Rattle.margin.specs.Numbers.{listed, BookNumbers};
 ghost use Rattle.margin.specs.Within.{ContractWithin};
 ghost use Rattle.margin.specs.Promised.{LineOf};
 ghost use Rattle.margin.specs.Stands.{Stands, LinesOf};
+
+// The question for the intercontract table; those below it are contracts.
+const TABLE: usize = 16;
 
 // The lines of an account's contracts: the first `count`.
 pub struct Lines {
@@ -57,9 +65,9 @@ fn line_at(file: &[u8], survey: Survey, i: usize) -> Line
 {
     let own = record_at(file, i);
     let c = contract(own);
-    let prompts = part_at(file, survey, 32 + c);
-    let rows = part_at(file, survey, 48 + c);
-    let spreads = part_at(file, survey, 64 + c);
+    let prompts = part_at(file, survey, PROMPTS + c);
+    let rows = part_at(file, survey, ROWS + c);
+    let spreads = part_at(file, survey, SPREADS + c);
     line_of(own, prompts, rows, spreads)
 }
 
@@ -102,7 +110,7 @@ pub(crate) fn figures_over(file: &[u8], survey: Survey) -> Numbers
     let all = lines_of(file, survey);
     let count = all.count;
     let lines = all.line;
-    let entries = part_at(file, survey, 80);
+    let entries = part_at(file, survey, ENTRIES);
     let book = table_book(count, lines, entries);
     let credits = credits_of(count, lines, entries, book);
     figures_numbers(count, lines, credits)
@@ -136,9 +144,9 @@ fn contract_numbers(file: &[u8], survey: Survey, c: usize) -> Numbers
     requires { ⌜ Stands (now file) survey × (c ≤ 15) ⌝ }
     ensures { λ r. ⌜ BookNumbers (contractBook (partsOf (records (now (file .entry))) c)) (length (promptsOf c (records (now (file .entry))))) (length (spreadsOf c (records (now (file .entry))))) r ⌝ }
 {
-    let prompts = part_at(file, survey, 32 + c);
-    let rows = part_at(file, survey, 48 + c);
-    let spreads = part_at(file, survey, 64 + c);
+    let prompts = part_at(file, survey, PROMPTS + c);
+    let rows = part_at(file, survey, ROWS + c);
+    let spreads = part_at(file, survey, SPREADS + c);
     contract_answer(prompts, rows, spreads)
 }
 
@@ -150,7 +158,7 @@ fn table_numbers(file: &[u8], survey: Survey) -> Numbers
     let all = lines_of(file, survey);
     let count = all.count;
     let lines = all.line;
-    let entries = part_at(file, survey, 80);
+    let entries = part_at(file, survey, ENTRIES);
     let book = table_book(count, lines, entries);
     let tiers = tiers_of(count, lines);
     let nets = tiers.net;
@@ -174,7 +182,7 @@ pub(crate) fn book_over(file: &[u8], survey: Survey, question: usize) -> Numbers
     requires { ⌜ Stands (now file) survey × (answered (records (now file)) question ≡ true) ⌝ }
     ensures { λ r. ⌜ (listed r ≡ book (records (now (file .entry))) question) × (length (book (records (now (file .entry))) question) ≡ r .count) × (r .count ≤ 160) ⌝ }
 {
-    if question == 16 {
+    if question == TABLE {
         return table_numbers(file, survey);
     }
     contract_numbers(file, survey, question)
@@ -184,12 +192,12 @@ pub(crate) fn book_over(file: &[u8], survey: Survey, question: usize) -> Numbers
 pub(crate) fn is_asked(survey: Survey, question: usize) -> bool
     ensures { λ r. ⌜ r ≡ askedBy (survey .counts) question ⌝ }
 {
-    if question == 16 {
+    if question == TABLE {
         return true;
     }
-    if 16 <= question {
+    if TABLE <= question {
         return false;
     }
     let counts = survey.counts;
-    counts[16 + question] != 0
+    counts[OWN + question] != 0
 }

@@ -3,6 +3,7 @@ use crate::amount::Amount;
 use crate::amount::credit;
 use crate::amount::prompt_charge;
 use crate::amount::spread_charge;
+use record::bytes::RECORD_BYTES;
 use record::fields::contract;
 use record::fields::first_ratio;
 use record::fields::outright_rate;
@@ -38,12 +39,12 @@ pub(crate) fn interprompt_charge(
     requires { ⌜ SpreadsWithin (records (now spreads)) first second ⌝ }
     ensures { λ r. ⌜ (r .0 ≡ interpromptCharge (records (now (spreads .entry))) (interleaved first second)) × (r .0 ≤ 32 * mostCharge) ⌝ }
 {
-    let count = spreads.len() / 96;
+    let count = spreads.len() / RECORD_BYTES;
     let mut sum: u64 = 0;
     let mut i = 0;
     while i < count {
-        let at = i * 96;
-        let charge = charge_of_spread(&spreads[at..at + 96], first[i], second[i]);
+        let at = i * RECORD_BYTES;
+        let charge = charge_of_spread(&spreads[at..at + RECORD_BYTES], first[i], second[i]);
         sum += charge.0;
         i += 1;
     }
@@ -62,12 +63,12 @@ pub(crate) fn prompt_charges(prompts: &[u8], used: [Delta; 32], unused: [Delta; 
     requires { ⌜ PromptsWithin (records (now prompts)) used unused ⌝ }
     ensures { λ r. ⌜ (r .0 ≡ promptCharges (records (now (prompts .entry))) (deltasIn used) (deltasIn unused)) × (r .0 ≤ 32 * mostCharge) ⌝ }
 {
-    let count = prompts.len() / 96;
+    let count = prompts.len() / RECORD_BYTES;
     let mut sum: u64 = 0;
     let mut i = 0;
     while i < count {
-        let at = i * 96;
-        let charge = charge_of_prompt(&prompts[at..at + 96], used[i], unused[i]);
+        let at = i * RECORD_BYTES;
+        let charge = charge_of_prompt(&prompts[at..at + RECORD_BYTES], used[i], unused[i]);
         sum += charge.0;
         i += 1;
     }
@@ -114,12 +115,12 @@ pub(crate) fn credits(
     requires { ⌜ EntriesRoom (earner .contract) (earner .«twice_price») (earner .net) (records (now entries)) first second ⌝ }
     ensures { λ r. ⌜ (r .0 ≡ creditsBy (earner .contract) (earner .«twice_price») (earner .net) (records (now (entries .entry))) (interleaved first second)) × (r .0 ≤ 128 * mostRisk) ⌝ }
 {
-    let count = entries.len() / 96;
+    let count = entries.len() / RECORD_BYTES;
     let mut sum: u64 = 0;
     let mut i = 0;
     while i < count {
-        let at = i * 96;
-        let more = credit_from(&entries[at..at + 96], earner, first[i], second[i]);
+        let at = i * RECORD_BYTES;
+        let more = credit_from(&entries[at..at + RECORD_BYTES], earner, first[i], second[i]);
         sum += more.0;
         i += 1;
     }

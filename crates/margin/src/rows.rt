@@ -16,6 +16,7 @@ use exact::signed::is_negative;
 use exact::signed::magnitude;
 use exact::signed::plus;
 use exact::signed::times;
+use record::bytes::RECORD_BYTES;
 use record::fields::day;
 use record::fields::delta;
 use record::fields::loss;
@@ -111,12 +112,12 @@ pub(crate) fn days_of(prompts: &[u8]) -> Days
     requires { ⌜ recordCount (now prompts) ≤ 32 ⌝ }
     ensures { λ d. ⌜ DaysOf (records (now (prompts .entry))) d ⌝ }
 {
-    let count = prompts.len() / 96;
+    let count = prompts.len() / RECORD_BYTES;
     let mut days = [0usize; 32];
     let mut j = 0;
     while j < count {
-        let at = j * 96;
-        days[j] = day(&prompts[at..at + 96]);
+        let at = j * RECORD_BYTES;
+        days[j] = day(&prompts[at..at + RECORD_BYTES]);
         j += 1;
     }
     Days { count, day: days }
@@ -143,15 +144,15 @@ pub(crate) fn with_rows(p: Position, days: Days, rows: &[u8]) -> Position
     ensures more { λ q. ⌜ ((prompts earlier : List Record) → DaysOf prompts days → PositionOf prompts earlier p → PositionOf prompts (earlier ++ records (now (rows .entry))) q) ⌝ }
     ensures most { λ q. ⌜ Bounded 128 q ⌝ }
 {
-    let count = rows.len() / 96;
+    let count = rows.len() / RECORD_BYTES;
     let prompts = days.count;
     let mut totals = p.totals;
     let mut nets = p.nets;
     let mut shorts = p.shorts;
     let mut i = 0;
     while i < count {
-        let at = i * 96;
-        let row = &rows[at..at + 96];
+        let at = i * RECORD_BYTES;
+        let row = &rows[at..at + RECORD_BYTES];
         let sums = totals_with(totals, row);
         totals = sums;
         shorts = shorts + short_options(row);

@@ -1,4 +1,5 @@
 // A contract's prompts and interprompt spreads, and the intercontract spreads, as the spread steps take them.
+use record::bytes::RECORD_BYTES;
 use record::fields::contract;
 use record::fields::first_ratio;
 use record::fields::leg_count;
@@ -80,12 +81,12 @@ pub(crate) fn interprompt_table(spreads: &[u8]) -> Table
     requires { ⌜ recordCount (now spreads) ≤ 32 ⌝ }
     ensures { λ r. ⌜ TableOf interprompt (now (spreads .entry)) r ⌝ }
 {
-    let count = spreads.len() / 96;
+    let count = spreads.len() / RECORD_BYTES;
     let mut table = [no_spread(); 32];
     let mut i = 0;
     while i < count {
-        let at = i * 96;
-        table[i] = interprompt(&spreads[at..at + 96]);
+        let at = i * RECORD_BYTES;
+        table[i] = interprompt(&spreads[at..at + RECORD_BYTES]);
         i += 1;
     }
     Table {
@@ -99,12 +100,12 @@ pub(crate) fn intercontract_table(entries: &[u8]) -> Table
     requires { ⌜ recordCount (now entries) ≤ 32 ⌝ }
     ensures { λ r. ⌜ TableOf intercontract (now (entries .entry)) r ⌝ }
 {
-    let count = entries.len() / 96;
+    let count = entries.len() / RECORD_BYTES;
     let mut table = [no_spread(); 32];
     let mut i = 0;
     while i < count {
-        let at = i * 96;
-        table[i] = intercontract(&entries[at..at + 96]);
+        let at = i * RECORD_BYTES;
+        table[i] = intercontract(&entries[at..at + RECORD_BYTES]);
         i += 1;
     }
     Table {
@@ -118,12 +119,12 @@ pub(crate) fn prompts_with(prompts: &[u8], nets: [Delta; 32]) -> Prompts
     requires { ⌜ recordCount (now prompts) ≤ 32 ⌝ }
     ensures { λ r. ⌜ TiersOf (now (prompts .entry)) nets r ⌝ }
 {
-    let count = prompts.len() / 96;
+    let count = prompts.len() / RECORD_BYTES;
     let mut tiers = [0usize; 32];
     let mut i = 0;
     while i < count {
-        let at = i * 96;
-        tiers[i] = tier(&prompts[at..at + 96]);
+        let at = i * RECORD_BYTES;
+        tiers[i] = tier(&prompts[at..at + RECORD_BYTES]);
         i += 1;
     }
     Prompts {

@@ -1,25 +1,28 @@
 -- What a held file's survey says of the numbers its figures need, and that a held question answers as the plain one.
 -- Assumes nothing.
-use Prim.Native.Nat.{ℕ, zero, suc, _+_, _*_, _≤_, _<_}
+use Prim.Native.Nat.{ℕ, zero, suc, _+_, _-_, _*_, _≤_, _<_}
 use native.Mathlib.Omega.{arith}
-use borrow.Author.Tests.{ne-eqb}
+use borrow.Author.Tests.{ne-eqb, lt-ltb, le-ltb}
+use borrow.Rule.Slice.PartMut.{putMid, post-is}
 use mathlib.Core.Path.{_≡_, refl, sym, ap, ap₂, _∙_, subst⁻¹}
 use mathlib.Core.Bool.{cond}
-use mathlib.Core.List.{List, [], _∷_}
+use mathlib.Core.List.{List, [], _∷_, _++_}
+use lib.Dec.{ltb}
 use lib.IntN.{ℤ}
-use lib.ListN.{length, getD}
+use lib.ListN.{length, getD, take, drop}
 use denote.Ref.{RefT, now}
 use Rattle.exact.specs.Lists.{count}
 use Rattle.account.specs.Answers.{numberOf}
 use Rattle.account.specs.Check.{checked}
 use Rattle.account.specs.Parts.{ofKind}
-use Rattle.account.specs.Records.{records}
+use Rattle.account.specs.Records.{records, recordCount}
 use Rattle.account.specs.Surveyed.{Surveyed, ifAccepted}
 use Rattle.account.specs.declared.answers.Answer.{Answer}
+use Rattle.account.specs.declared.answers.Answer.the-variants.{Accepted, TooFewNumbers}
 use Rattle.account.specs.declared.check.Survey.{Survey}
 use Rattle.account.proofs.Accepted.{accepts}
 use Rattle.margin.specs.Figures.{figures}
-use Rattle.margin.specs.Held.{FromCheck, needIn, figuresNeed}
+use Rattle.margin.specs.Held.{FromCheck, needIn, figuresNeed, atPlace, afterBooks, booksAnswer, booksAfter}
 use Rattle.margin.specs.declared.held.Held.{Held}
 use Rattle.margin.specs.Questions.{accepted, enough, figuresAnswer, afterFigures, bookAnswer, afterBook}
 use Rattle.margin.specs.Stands.{Stands}
@@ -122,3 +125,35 @@ pub held-book-as-plain : (h : Held) (file : List ℕ) → now (h .file) ≡ file
     → (r ≡ r′) × (after ≡ after′)
 held-book-as-plain h file e question lent r r′ after after′ (p, s) (p′, s′) =
     (p ∙ ap (λ (f : List ℕ). bookAnswer f question (length lent)) e ∙ sym p′, s ∙ ap (λ (f : List ℕ). afterBook f question lent) e ∙ sym s′)
+
+-- ---- all seventeen books, each in its place
+
+pub put-place : (at : ℕ) (out part : List ℤ) (change : List ℤ → List ℤ) → part ≡ change (take (at + 160 - at) (drop at out)) → putMid at (at + 160 - at) out part ≡ atPlace at change out
+put-place at out part change e =
+    let k : at + 160 - at ≡ 160 = omega arith in
+    ap₂ (λ (ys zs : List ℤ). take at out ++ (ys ++ zs)) (e ∙ ap (λ (n : ℕ). change (take n (drop at out))) k) (post-is at (at + 160) out (omega arith))
+
+pub next-book : (file : List ℕ) (q : ℕ) (lent out after : List ℤ) → out ≡ afterBooks file q lent → after ≡ atPlace (160 * q) (afterBook file q) out → after ≡ afterBooks file (q + 1) lent
+next-book file q lent out after h e =
+    e ∙ ap (atPlace (160 * q) (afterBook file q)) h ∙ sym (ap (λ (n : ℕ). afterBooks file n lent) (more q))
+  where
+    more : (q : ℕ) → q + 1 ≡ suc q
+    more q = omega arith
+
+abbrev pub BooksAnswered : Answer → List ℤ → List ℕ → List ℤ → Type 0
+BooksAnswered a after file lent = (a ≡ booksAnswer file (length lent)) × (after ≡ booksAfter file lent)
+
+left-alone : (answer : Answer) (books lent : List ℤ) → (numberOf answer ≡ 0 → ⊥) → cond (accepted answer) books lent ≡ lent
+left-alone answer books lent h = rw (ne-eqb (numberOf answer) 0 h)
+
+pub books-refused : (file : List ℕ) (lent : List ℤ) (a : Answer) → booksAnswer file (length lent) ≡ a → (numberOf a ≡ 0 → ⊥) → BooksAnswered a lent file lent
+books-refused file lent a e h = (sym e, sym (ap (λ (x : Answer). cond (accepted x) (afterBooks file 17 lent) lent) e ∙ left-alone a (afterBooks file 17 lent) lent h))
+
+pub books-accepted : (file : List ℕ) (lent after : List ℤ) → checked file ≡ Accepted → 2720 ≤ length lent → after ≡ afterBooks file 17 lent → BooksAnswered Accepted after file lent
+books-accepted file lent after z h e =
+    let a : booksAnswer file (length lent) ≡ Accepted = if-accepted (checked file) (cond (ltb (length lent) 2720) (TooFewNumbers (recordCount file)) Accepted) z ∙ (rw (le-ltb (length lent) 2720 h)) in
+    (sym a, e ∙ sym (ap (λ (x : Answer). cond (accepted x) (afterBooks file 17 lent) lent) a))
+
+pub books-too-few : (file : List ℕ) (lent : List ℤ) → checked file ≡ Accepted → length lent < 2720 → booksAnswer file (length lent) ≡ TooFewNumbers (recordCount file)
+books-too-few file lent z h =
+    if-accepted (checked file) (cond (ltb (length lent) 2720) (TooFewNumbers (recordCount file)) Accepted) z ∙ (rw (lt-ltb (length lent) 2720 h))

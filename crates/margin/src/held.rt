@@ -9,10 +9,10 @@ use account::check::Survey;
 use account::check::take_survey;
 use account::stretches::record_count;
 ghost use mathlib.Core.Path.{_≡_};
-ghost use Prim.Native.Nat.{_≤_};
+ghost use Prim.Native.Nat.{_+_, _*_, _≤_};
 ghost use lib.ListN.{length};
 ghost use Rattle.account.specs.Surveyed.{Surveyed};
-ghost use Rattle.margin.specs.Held.{FromCheck, needIn, figuresNeed};
+ghost use Rattle.margin.specs.Held.{FromCheck, needIn, figuresNeed, atPlace, booksAnswer, booksAfter};
 ghost use Rattle.margin.specs.Questions.{figuresAnswer, afterFigures, bookAnswer, afterBook};
 
 // A view of a file's bytes with what the check handed out of them. Only `hold` makes one: its fields are of this module
@@ -67,6 +67,36 @@ pub(crate) fn answer_book(file: &[u8], survey: Survey, question: usize, out: &mu
     Answer::Accepted
 }
 
+// The book of a question, in the 160 numbers that are its place among the books.
+fn put_book(file: &[u8], survey: Survey, question: usize, out: &mut [i64])
+    requires { ⌜ Surveyed (now file) survey × ((question ≤ 16) × (160 * question + 160 ≤ length (now out))) ⌝ }
+    ensures { λ r. ⌜ now (out .exit) ≡ atPlace (160 * question) (afterBook (now (file .entry)) question) (now (out .entry)) ⌝ }
+{
+    let start = 160 * question;
+    let end = start + 160;
+    answer_book(file, survey, question, &mut out[start..end]);
+}
+
+// The books of questions 0 to 16 of a checked file, each in its place. A refusal writes nothing.
+pub(crate) fn answer_books(file: &[u8], survey: Survey, out: &mut [i64]) -> Answer
+    requires { ⌜ Surveyed (now file) survey ⌝ }
+    ensures { λ r. ⌜ (r ≡ booksAnswer (now (file .entry)) (length (now (out .entry)))) × (now (out .exit) ≡ booksAfter (now (file .entry)) (now (out .entry))) ⌝ }
+{
+    let answer = survey.answer;
+    if number_of(answer) != 0 {
+        return answer;
+    }
+    if out.len() < 2720 {
+        return Answer::TooFewNumbers(record_count(file));
+    }
+    let mut q = 0;
+    while q < 17 {
+        put_book(file, survey, q, out);
+        q += 1;
+    }
+    Answer::Accepted
+}
+
 // How many numbers the figures of a checked file have, 0 where it is refused.
 fn figures_need(survey: Survey) -> usize
     requires { ⌜ survey .contracts ≤ 16 ⌝ }
@@ -93,6 +123,14 @@ pub fn held_book<'a>(h: Held<'a>, question: usize, out: &mut [i64]) -> Answer
     ensures { λ r. ⌜ (r ≡ bookAnswer (now (h .entry .file)) question (length (now (out .entry)))) × (now (out .exit) ≡ afterBook (now (h .entry .file)) question (now (out .entry))) ⌝ }
 {
     answer_book(h.file, h.survey, question, out)
+}
+
+// The books of questions 0 to 16, of a held file.
+pub fn held_books<'a>(h: Held<'a>, out: &mut [i64]) -> Answer
+    requires { ⌜ FromCheck h ⌝ }
+    ensures { λ r. ⌜ (r ≡ booksAnswer (now (h .entry .file)) (length (now (out .entry)))) × (now (out .exit) ≡ booksAfter (now (h .entry .file)) (now (out .entry))) ⌝ }
+{
+    answer_books(h.file, h.survey, out)
 }
 
 // How many numbers the figures of a held file need, 0 where it is refused.

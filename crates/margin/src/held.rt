@@ -147,3 +147,22 @@ pub fn figures_once(file: &[u8], out: &mut [i64]) -> Answer
 {
     held_figures(hold(file), out)
 }
+
+// What the figures and the seventeen books of one file are answered.
+pub struct Asked {
+    pub figures: Answer,
+    pub books: Answer,
+}
+
+// The figures and the books of questions 0 to 16 over plain bytes, of a file that is checked and held once.
+pub fn ask_all(file: &[u8], figures: &mut [i64], books: &mut [i64]) -> Asked
+    ensures { λ r. ⌜ ((r .figures ≡ figuresAnswer (now (file .entry)) (length (now (figures .entry)))) × (now (figures .exit) ≡ afterFigures (now (file .entry)) (now (figures .entry)))) × ((r .books ≡ booksAnswer (now (file .entry)) (length (now (books .entry)))) × (now (books .exit) ≡ booksAfter (now (file .entry)) (now (books .entry)))) ⌝ }
+{
+    let h = hold(file);
+    let first = held_figures(h, figures);
+    let second = held_books(h, books);
+    Asked {
+        figures: first,
+        books: second,
+    }
+}

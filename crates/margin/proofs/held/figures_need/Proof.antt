@@ -1,12 +1,10 @@
 -- How many numbers the figures have, by the survey.
 -- Assumes nothing.
-use mathlib.Core.Path.{_≡_, sym, ap, _∙_}
-use mathlib.Core.Bool.{cond}
+use mathlib.Core.Path.{_≡_, sym, _∙_}
 use borrow.Author.Needs.{needs}
 use borrow.Author.Tests.{ne-eqb}
 use native.Mathlib.Omega.{arith}
 use Rattle.account.specs.Answers.{numberOf}
-use Rattle.margin.proofs.QuestionLaws.{accepted-only}
 use Rattle.margin.proofs.held.figures_need.Statement.{statement}
 use Rattle.margin.proofs.held.figures_need.Tie as tie
 

@@ -1,6 +1,6 @@
 -- The check hands out a view: a walk of `hold`'s MIR, by hand. `take_survey` is called on a copy of the file, and the view is made of the file and of what it returns.
 -- Assumes nothing.
-use mathlib.Core.Path.{_≡_, refl}
+use mathlib.Core.Path.{refl}
 use Prim.Native.Nat.{ℕ}
 use mathlib.Core.List.{List, [], _∷_}
 use lib.ListN.{length}

@@ -1,8 +1,6 @@
 -- The book of a question, in its place among the lent numbers.
 -- Assumes nothing.
 use borrow.Author.Needs.{needs}
-use lib.IntN.{ℤ}
-use mathlib.Core.List.{List}
 use Prim.Native.Nat.{_*_}
 use Rattle.margin.specs.Questions.{afterBook}
 use Rattle.margin.proofs.HeldLaws.{put-place}

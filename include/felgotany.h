@@ -66,8 +66,8 @@ size_t felgotany_figures_needed(const uint8_t *file, size_t bytes);
  * nothing. */
 felgotany_outcome felgotany_figures(const uint8_t *file, size_t bytes, int64_t *out, size_t numbers);
 
-/* How many numbers the delta book of a question needs, 0 to FELGOTANY_MOST_BOOK; 0 for a refused file and for a question
- * that the file does not answer. */
+/* How many numbers the delta book of a question needs, 0 to FELGOTANY_MOST_BOOK; 0 for a refused file, for a question that
+ * the file does not answer, and for a contract without prompts and spreads. */
 size_t felgotany_book_needed(const uint8_t *file, size_t bytes, size_t question);
 
 /* The delta book of a question, 0 to 15 for that contract or FELGOTANY_TABLE. Of a contract, three numbers for each prompt
@@ -77,6 +77,19 @@ size_t felgotany_book_needed(const uint8_t *file, size_t bytes, size_t question)
  *
  * Lent numbers are written and left alone as by felgotany_figures. */
 felgotany_outcome felgotany_book(const uint8_t *file, size_t bytes, size_t question, int64_t *out, size_t numbers);
+
+/* The outcomes of all questions at once. */
+typedef struct {
+  felgotany_outcome figures;
+  felgotany_outcome books;
+} felgotany_outcomes;
+
+/* All questions of a file that is checked once: the figures at the front of `figures`, as by felgotany_figures, and the delta
+ * book of question q at the front of the FELGOTANY_MOST_BOOK numbers that start at number FELGOTANY_MOST_BOOK * q of `books`,
+ * for q from 0 to FELGOTANY_TABLE. Fewer than 2,720 numbers lent for the books are refusal 10 of the books. The place of a
+ * question that the file does not answer is left alone. */
+felgotany_outcomes felgotany_all(const uint8_t *file, size_t bytes, int64_t *figures, size_t numbers, int64_t *books,
+                                 size_t book_numbers);
 
 #ifdef __cplusplus
 }

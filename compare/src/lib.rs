@@ -8,12 +8,28 @@ pub struct Outcome {
     pub record: usize,
 }
 
+/// The outcomes of the figures and of the books, asked of a file that is checked once.
+#[repr(C)]
+#[derive(Clone, Copy, Debug, PartialEq, Eq)]
+pub struct Outcomes {
+    pub figures: Outcome,
+    pub books: Outcome,
+}
+
 extern "C" {
     fn felgotany_check(file: *const u8, bytes: usize) -> Outcome;
     fn felgotany_figures_needed(file: *const u8, bytes: usize) -> usize;
     fn felgotany_figures(file: *const u8, bytes: usize, out: *mut i64, numbers: usize) -> Outcome;
     fn felgotany_book_needed(file: *const u8, bytes: usize, question: usize) -> usize;
     fn felgotany_book(file: *const u8, bytes: usize, question: usize, out: *mut i64, numbers: usize) -> Outcome;
+    fn felgotany_all(
+        file: *const u8,
+        bytes: usize,
+        figures: *mut i64,
+        numbers: usize,
+        books: *mut i64,
+        book_numbers: usize,
+    ) -> Outcomes;
 }
 
 pub fn check(file: &[u8]) -> Outcome {
@@ -34,4 +50,8 @@ pub fn book_needed(file: &[u8], question: usize) -> usize {
 
 pub fn book(file: &[u8], question: usize, lent: &mut [i64]) -> Outcome {
     unsafe { felgotany_book(file.as_ptr(), file.len(), question, lent.as_mut_ptr(), lent.len()) }
+}
+
+pub fn all(file: &[u8], figures: &mut [i64], books: &mut [i64]) -> Outcomes {
+    unsafe { felgotany_all(file.as_ptr(), file.len(), figures.as_mut_ptr(), figures.len(), books.as_mut_ptr(), books.len()) }
 }

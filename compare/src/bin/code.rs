@@ -11,6 +11,9 @@ use std::process::ExitCode;
 
 const REFUSALS: usize = 11;
 const MOST_NUMBERS: usize = 160;
+const MOST_FIGURES: usize = 129;
+/// The books of the sixteen contracts and of the intercontract table.
+const BOOKS: usize = 17;
 const NOT_LENT: usize = 8;
 /// The sixteen contracts, the intercontract table, and one more that no account lists.
 const QUESTIONS: std::ops::RangeInclusive<u64> = 0..=17;
@@ -120,6 +123,22 @@ fn compare_account(seed: u64, index: u64, tally: &mut Tally) -> Result<(), Strin
         let lent = needed + random.below(3) as usize;
         ask(&format!("book {question}"), lent, proved, second, &mut random, tally)?;
     }
+
+    // all questions at once, of the file held
+    let proved = |lent: &mut [i64]| {
+        let (figures, books) = lent.split_at_mut(MOST_FIGURES);
+        let outcomes = compare::all(&file, figures, books);
+        assert_eq!(outcomes.figures, outcomes.books);
+        outcomes.figures
+    };
+    let second = |lent: &mut [i64]| {
+        let (figures, books) = lent.split_at_mut(MOST_FIGURES);
+        for (question, place) in books.chunks_exact_mut(MOST_NUMBERS).enumerate() {
+            _ = independent::book(&file, question as u64, place);
+        }
+        outcome(independent::figures(&file, figures))
+    };
+    ask("all questions", MOST_FIGURES + BOOKS * MOST_NUMBERS, proved, second, &mut random, tally)?;
 
     for _ in 0..RANDOM_QUESTIONS {
         let question = generate::question(&mut random);

@@ -1,7 +1,8 @@
 //! speed [SEED]: times the proved library and the independent program side by side, on the same files in one run: the check
 //! and the figures, for accepted accounts of 1, 10, 100 and 640 records and for thousands of generated accounts; and the
 //! delta book of a contract with 32 prompts, with 32 spreads of three legs and with none, so that the difference is the
-//! spread steps'. Rounds of the two alternate, and the quickest round of each counts.
+//! spread steps'; and all questions put to a file held once, against a check for each. Rounds of the two alternate, and the
+//! quickest round of each counts.
 
 use independent::generate;
 use std::hint::black_box;
@@ -16,6 +17,7 @@ const ROUNDS: usize = 7;
 const ROUND: Duration = Duration::from_millis(100);
 const MOST_FIGURES: usize = 129;
 const MOST_BOOK: usize = 160;
+const BOOKS: usize = 17;
 const TABLE: usize = 32;
 
 fn main() {
@@ -31,6 +33,30 @@ fn main() {
     for spreads in [0, TABLE] {
         books(&format!("{TABLE} prompts, {spreads} spreads"), &[table(spreads)]);
     }
+    println!("\n{:<28} {:<8} {:>14} {:>14} {:>8}", "files", "asked", "held once", "each checked", "ratio");
+    for records in SIZES {
+        let files = accepted(seed, records);
+        held(&format!("{records} records, {} accounts", files.len()), &files);
+    }
+}
+
+/// Figures and all books, of a file held once and of a file checked for each question, by the proved library.
+fn held(name: &str, files: &[Vec<u8>]) {
+    let mut figures = [0; MOST_FIGURES];
+    let mut books = [0; BOOKS * MOST_BOOK];
+    let mut also_figures = [0; MOST_FIGURES];
+    let mut also_books = [0; BOOKS * MOST_BOOK];
+    let all = side_by_side(
+        files,
+        |file| _ = black_box(compare::all(black_box(file), &mut figures, &mut books)),
+        |file| {
+            _ = black_box(compare::figures(black_box(file), &mut also_figures));
+            for (question, place) in also_books.chunks_exact_mut(MOST_BOOK).enumerate() {
+                _ = black_box(compare::book(black_box(file), question, place));
+            }
+        },
+    );
+    print(name, "all", all);
 }
 
 /// One contract with a full table: 32 prompts in eight tiers, long and short by turns, and so many spreads of three legs.

@@ -5,6 +5,7 @@ use account::answers::number_of;
 use account::answers::record_of;
 use account::check::check;
 use account::check::take_survey;
+use margin::held::ask_all;
 use margin::questions::book;
 use margin::questions::figures;
 ghost use mathlib.Core.Path.{_≡_};
@@ -12,6 +13,7 @@ ghost use Prim.Native.Nat.{_≤_};
 ghost use lib.ListN.{length};
 ghost use Rattle.account.specs.Check.{checked};
 ghost use Rattle.margin.specs.Questions.{figuresAnswer, afterFigures, bookAnswer, afterBook};
+ghost use Rattle.margin.specs.Held.{booksAnswer, booksAfter};
 ghost use Rattle.felgotany.specs.Outcomes.{Tells, figuresNeeded, bookNeeded};
 
 const TABLE_QUESTION: usize = 16;
@@ -91,4 +93,28 @@ pub extern "C" fn felgotany_book(file: &[u8], question: usize, out: &mut [i64]) 
     ensures { λ r. ⌜ Tells (bookAnswer (now (file .entry)) question (length (now (out .entry)))) r × (now (out .exit) ≡ afterBook (now (file .entry)) question (now (out .entry))) ⌝ }
 {
     tell(book(file, question, out))
+}
+
+// The outcomes of all questions at once.
+#[repr(C)]
+pub struct Outcomes {
+    pub figures: Outcome,
+    pub books: Outcome,
+}
+
+// All questions of a file that is checked once: the figures at the front of `figures`, and the delta book of question q from
+// number 160 * q of `books` on, which holds 2,720 numbers. What is refused writes nothing.
+#[no_mangle]
+pub extern "C" fn felgotany_all(file: &[u8], figures: &mut [i64], books: &mut [i64]) -> Outcomes
+    ensures { λ r. ⌜ (Tells (figuresAnswer (now (file .entry)) (length (now (figures .entry)))) (r .figures) × (now (figures .exit) ≡ afterFigures (now (file .entry)) (now (figures .entry)))) × (Tells (booksAnswer (now (file .entry)) (length (now (books .entry)))) (r .books) × (now (books .exit) ≡ booksAfter (now (file .entry)) (now (books .entry)))) ⌝ }
+{
+    let asked = ask_all(file, figures, books);
+    let of_figures = asked.figures;
+    let of_books = asked.books;
+    let first = tell(of_figures);
+    let second = tell(of_books);
+    Outcomes {
+        figures: first,
+        books: second,
+    }
 }

@@ -1,0 +1,33 @@
+-- The answers to all questions, told to C, and the lent numbers as they leave them.
+-- Assumes nothing.
+use borrow.Author.Needs.{needs}
+use mathlib.Core.Path.{subst}
+use Rattle.account.specs.declared.answers.Answer.{Answer}
+use Rattle.felgotany.specs.Outcomes.{Tells}
+use Rattle.felgotany.proofs.felgotany_all.Statement.{statement}
+use Rattle.felgotany.proofs.felgotany_all.Tie as tie
+
+ask-all-requires : tie.Need-ask-all-requires
+ask-all-requires c κs = search needs
+
+tell-requires : tie.Need-tell-requires
+tell-requires c κs = search needs
+
+tell-requires-2 : tie.Need-tell-requires-2
+tell-requires-2 c κs = search needs
+
+same-length : tie.Need-same-length
+same-length c = search needs
+
+same-length-2 : tie.Need-same-length-2
+same-length-2 c = search needs
+
+returns : tie.Need-returns
+returns c =
+    let f = c .before .before .before .before .ask-all .ensures in
+    ((subst (λ (a : Answer). Tells a (c .before .tell .result)) (f .0 .0) (c .before .tell .ensures), f .0 .1), (subst (λ (a : Answer). Tells a (c .tell2 .result)) (f .1 .0) (c .tell2 .ensures), f .1 .1))
+
+pub felgotany-all-spec : {M : Type 1} → statement M
+felgotany-all-spec =
+    tie.close
+    (tie.spec ask-all-requires tell-requires tell-requires-2 same-length same-length-2 returns)

@@ -1,9 +1,7 @@
-//! Links the proved library, which tools/native-library writes, to the programs that call it.
+//! Links the proved library, which tools/native-library writes, to the program that calls it.
 
 fn main() {
     let library = concat!(env!("CARGO_MANIFEST_DIR"), "/../target/staticlib/libfelgotany.a");
-    for program in ["code", "speed"] {
-        println!("cargo:rustc-link-arg-bin={program}={library}");
-    }
+    println!("cargo:rustc-link-arg-bin=code={library}");
     println!("cargo:rerun-if-changed={library}");
 }

@@ -27,6 +27,9 @@ extern "C" {
 /* The most numbers that a delta book has: three for each of 32 prompts, and two for each of 32 spreads. */
 #define FELGOTANY_MOST_BOOK 160
 
+/* The most numbers that say who paid in a delta book: one for each of 32 prompts in each of 32 spreads' two steps. */
+#define FELGOTANY_MOST_USES 2048
+
 /* The question for the book of the intercontract table. */
 #define FELGOTANY_TABLE 16
 
@@ -78,10 +81,21 @@ size_t felgotany_book_needed(const uint8_t *file, size_t bytes, size_t question)
  * Lent numbers are written and left alone as by felgotany_figures. */
 felgotany_outcome felgotany_book(const uint8_t *file, size_t bytes, size_t question, int64_t *out, size_t numbers);
 
+/* How many numbers felgotany_uses writes for a question, 0 to FELGOTANY_MOST_USES; 0 as with felgotany_book_needed. */
+size_t felgotany_uses_needed(const uint8_t *file, size_t bytes, size_t question);
+
+/* Who paid for what in the delta book of a question: for each step of its table in order (the first and the second step of the
+ * first spread, then those of the next), one number for each prompt in file order, or for each contract of the intercontract
+ * table: what the step takes of its delta, with the sign of the delta, in ten-thousandths. At each prompt the numbers add
+ * up to what the book says is used.
+ *
+ * Lent numbers are written and left alone as by felgotany_figures. */
+felgotany_outcome felgotany_uses(const uint8_t *file, size_t bytes, size_t question, int64_t *out, size_t numbers);
+
 /* The outcomes of all questions at once. */
 typedef struct {
-  felgotany_outcome figures;
-  felgotany_outcome books;
+    felgotany_outcome figures;
+    felgotany_outcome books;
 } felgotany_outcomes;
 
 /* All questions of a file that is checked once: the figures at the front of `figures`, as by felgotany_figures, and the delta

@@ -22,6 +22,8 @@ extern "C" {
     fn felgotany_figures(file: *const u8, bytes: usize, out: *mut i64, numbers: usize) -> Outcome;
     fn felgotany_book_needed(file: *const u8, bytes: usize, question: usize) -> usize;
     fn felgotany_book(file: *const u8, bytes: usize, question: usize, out: *mut i64, numbers: usize) -> Outcome;
+    fn felgotany_uses_needed(file: *const u8, bytes: usize, question: usize) -> usize;
+    fn felgotany_uses(file: *const u8, bytes: usize, question: usize, out: *mut i64, numbers: usize) -> Outcome;
     fn felgotany_all(
         file: *const u8,
         bytes: usize,
@@ -50,6 +52,14 @@ pub fn book_needed(file: &[u8], question: usize) -> usize {
 
 pub fn book(file: &[u8], question: usize, lent: &mut [i64]) -> Outcome {
     unsafe { felgotany_book(file.as_ptr(), file.len(), question, lent.as_mut_ptr(), lent.len()) }
+}
+
+pub fn uses_needed(file: &[u8], question: usize) -> usize {
+    unsafe { felgotany_uses_needed(file.as_ptr(), file.len(), question) }
+}
+
+pub fn uses(file: &[u8], question: usize, lent: &mut [i64]) -> Outcome {
+    unsafe { felgotany_uses(file.as_ptr(), file.len(), question, lent.as_mut_ptr(), lent.len()) }
 }
 
 pub fn all(file: &[u8], figures: &mut [i64], books: &mut [i64]) -> Outcomes {

@@ -50,6 +50,11 @@ impl Book {
         }
         numbers
     }
+
+    /// What each prompt gave in each step, step after step.
+    pub fn uses(&self) -> Vec<i64> {
+        self.steps.iter().flatten().flat_map(|step| &step.given).map(|given| given.0).collect()
+    }
 }
 
 /// The delta book of a question: 16, or the number of a contract that the account lists.

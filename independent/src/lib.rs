@@ -35,6 +35,13 @@ pub fn book(file: &[u8], question: u64, lent: &mut [i64]) -> Result<usize, Refus
     write(&account, &book.numbers(), lent)
 }
 
+/// Who paid for what in a delta book: for each step what each prompt gave, written as the figures are.
+pub fn uses(file: &[u8], question: u64, lent: &mut [i64]) -> Result<usize, Refusal> {
+    let account = check(file)?;
+    let book = held_book(&account, question)?;
+    write(&account, &book.uses(), lent)
+}
+
 /// The delta book of a held account, with what each prompt gave in every step.
 pub fn held_book(account: &Account, question: u64) -> Result<book::Book, Refusal> {
     let unlisted = Refusal { number: UNLISTED_QUESTION, record: account.records };

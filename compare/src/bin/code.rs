@@ -1,6 +1,6 @@
 //! code SEED COUNT [FIRST]: puts COUNT generated accounts, from index FIRST on, to the proved library and to the independent
-//! program: the check, how many numbers the figures need, the figures, all the delta books and questions that no account
-//! lists, with enough numbers lent and with random numbers of them. Refusal, record and every lent number afterwards must
+//! program: the check, how many numbers each answer needs, the figures, all the delta books, who paid in each of them, and
+//! questions that no account lists, with enough numbers lent and with random numbers of them. Refusal, record and every lent number afterwards must
 //! agree, and nothing beyond the lent numbers may change.
 
 use compare::Outcome;
@@ -12,6 +12,8 @@ use std::process::ExitCode;
 const REFUSALS: usize = 11;
 const MOST_NUMBERS: usize = 160;
 const MOST_FIGURES: usize = 129;
+/// 32 spreads of two steps over 32 prompts.
+const MOST_USES: usize = 2048;
 /// The books of the sixteen contracts and of the intercontract table.
 const BOOKS: usize = 17;
 const NOT_LENT: usize = 8;
@@ -106,22 +108,16 @@ fn compare_account(seed: u64, index: u64, tally: &mut Tally) -> Result<(), Strin
         ask("figures", lent, proved, second, &mut random, tally)?;
     }
 
-    // every book, of the account as the independent program holds it
+    // every book and who paid in it, of the account as the independent program holds it
     for question in QUESTIONS {
         let book = checked.as_ref().map_err(|&refused| refused).and_then(|account| held_book(account, question).map_err(told));
-        let numbers = book.map(|book| book.numbers());
-        let proved = |lent: &mut [i64]| compare::book(&file, question as usize, lent);
-        let second = |lent: &mut [i64]| match &numbers {
-            Ok(numbers) => {
-                lent[..numbers.len()].copy_from_slice(numbers);
-                ACCEPTED
-            }
-            Err(refused) => *refused,
-        };
-        let needed = numbers.as_ref().map_or(0, Vec::len);
-        same(&format!("book {question} needed"), compare::book_needed(&file, question as usize), needed)?;
-        let lent = needed + random.below(3) as usize;
-        ask(&format!("book {question}"), lent, proved, second, &mut random, tally)?;
+        let at = question as usize;
+        let numbers = book.as_ref().map(|book| book.numbers()).map_err(|&refused| refused);
+        same(&format!("book {question} needed"), compare::book_needed(&file, at), numbers.as_ref().map_or(0, Vec::len))?;
+        ask_whole(&format!("book {question}"), &numbers, |lent| compare::book(&file, at, lent), &mut random, tally)?;
+        let uses = book.map(|book| book.uses());
+        same(&format!("uses {question} needed"), compare::uses_needed(&file, at), uses.as_ref().map_or(0, Vec::len))?;
+        ask_whole(&format!("uses {question}"), &uses, |lent| compare::uses(&file, at, lent), &mut random, tally)?;
     }
 
     // all questions at once, of the file held
@@ -146,8 +142,31 @@ fn compare_account(seed: u64, index: u64, tally: &mut Tally) -> Result<(), Strin
         let lent = generate::lent(&mut random, needed(second));
         let proved = |lent: &mut [i64]| compare::book(&file, question as usize, lent);
         ask(&format!("book {question}"), lent, proved, |lent| outcome(second(lent)), &mut random, tally)?;
+        let second = |lent: &mut [i64]| independent::uses(&file, question, lent);
+        let lent = generate::lent(&mut random, needed(second));
+        let proved = |lent: &mut [i64]| compare::uses(&file, question as usize, lent);
+        ask(&format!("uses {question}"), lent, proved, |lent| outcome(second(lent)), &mut random, tally)?;
     }
     Ok(())
+}
+
+/// Puts a question with as many numbers lent as its answer has, or a few more.
+fn ask_whole(
+    question: &str,
+    answer: &Result<Vec<i64>, Outcome>,
+    proved: impl Fn(&mut [i64]) -> Outcome,
+    random: &mut Random,
+    tally: &mut Tally,
+) -> Result<(), String> {
+    let second = |lent: &mut [i64]| match answer {
+        Ok(numbers) => {
+            lent[..numbers.len()].copy_from_slice(numbers);
+            ACCEPTED
+        }
+        Err(refused) => *refused,
+    };
+    let lent = answer.as_ref().map_or(0, Vec::len) + random.below(3) as usize;
+    ask(question, lent, proved, second, random, tally)
 }
 
 fn outcome(answer: Result<usize, Refusal>) -> Outcome {
@@ -156,7 +175,7 @@ fn outcome(answer: Result<usize, Refusal>) -> Outcome {
 
 /// How many numbers an answer has, 0 for a refusal.
 fn needed(ask: impl Fn(&mut [i64]) -> Result<usize, Refusal>) -> usize {
-    ask(&mut [0; MOST_NUMBERS]).unwrap_or(0)
+    ask(&mut [0; MOST_USES]).unwrap_or(0)
 }
 
 /// Puts a question to both with so many numbers lent, out of memory filled alike.

@@ -1,12 +1,13 @@
 //! definitions SEED COUNT RECORDS: a module of claims about the definitions, one for each of COUNT generated accounts
 //! of at most RECORDS records: that they refuse what the independent program refuses, with its number and record, and that
-//! the figures and all delta books are its. Whoever checks the module has the definitions computed.
+//! the figures, all delta books and who paid in each are its. Whoever checks the module has the definitions computed.
 
-use independent::{book, check, figures, generate};
+use independent::{book, check, figures, generate, uses};
 use std::fmt::Write;
 
 const RECORD_BYTES: usize = 96;
 const MOST_NUMBERS: usize = 160;
+const MOST_USES: usize = 2048;
 const TABLE_QUESTION: u64 = 16;
 
 const HEADER: &str = "-- What the definitions compute, held against the independent program.
@@ -21,6 +22,7 @@ use Rattle.account.specs.Check.{checked}
 use Rattle.account.specs.Records.{records}
 use Rattle.margin.specs.Books.{answered, book}
 use Rattle.margin.specs.Figures.{figures}
+use Rattle.margin.specs.Uses.{uses}
 ";
 
 fn main() {
@@ -55,22 +57,25 @@ fn claim(module: &mut String, case: usize, file: &[u8]) {
     }
     let mut lent = [0; MOST_NUMBERS];
     let written = figures(file, &mut lent).expect("figures of an accepted file");
-    writeln!(module, "\nfigures{case} : figures (records file{case}) ≡ {}\nfigures{case} = refl", numbers(&lent[..written]))
-        .unwrap();
+    claim_list(module, "figures", &case.to_string(), &format!("(records file{case})"), &lent[..written]);
     for question in 0..=TABLE_QUESTION + 1 {
         let name = format!("{case}-{question}");
         let found = book(file, question, &mut lent);
         writeln!(module, "\nasked{name} : answered (records file{case}) {question} ≡ {}\nasked{name} = refl", found.is_ok())
             .unwrap();
         if let Ok(written) = found {
-            writeln!(
-                module,
-                "\nbook{name} : book (records file{case}) {question} ≡ {}\nbook{name} = refl",
-                numbers(&lent[..written])
-            )
-            .unwrap();
+            claim_list(module, "book", &name, &format!("(records file{case}) {question}"), &lent[..written]);
+            let mut lent = [0; MOST_USES];
+            let written = uses(file, question, &mut lent).expect("uses of a book that is answered");
+            claim_list(module, "uses", &name, &format!("(records file{case}) {question}"), &lent[..written]);
         }
     }
+}
+
+/// That a definition, of what it is given, is a list of numbers.
+fn claim_list(module: &mut String, definition: &str, name: &str, given: &str, list: &[i64]) {
+    let claimed = numbers(list);
+    writeln!(module, "\n{definition}{name} : {definition} {given} ≡ {claimed}\n{definition}{name} = refl").unwrap();
 }
 
 /// A list of bytes, runs of zeros written as such.

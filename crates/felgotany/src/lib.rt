@@ -4,19 +4,21 @@ use account::answers::Answer;
 use account::answers::number_of;
 use account::answers::record_of;
 use account::check::check;
-use account::check::take_survey;
 use margin::held::ask_all;
+use margin::needs::book_needed;
+use margin::needs::figures_needed;
+use margin::needs::uses_needed;
 use margin::questions::book;
 use margin::questions::figures;
+use margin::questions::uses;
 ghost use mathlib.Core.Path.{_≡_};
 ghost use Prim.Native.Nat.{_≤_};
 ghost use lib.ListN.{length};
 ghost use Rattle.account.specs.Check.{checked};
-ghost use Rattle.margin.specs.Questions.{figuresAnswer, afterFigures, bookAnswer, afterBook};
+ghost use Rattle.margin.specs.Questions.{figuresAnswer, afterFigures, bookAnswer, afterBook, usesAnswer, afterUses};
+ghost use Rattle.margin.specs.Needs.{figuresNeed, bookNeed, usesNeed};
 ghost use Rattle.margin.specs.Held.{booksAnswer, booksAfter};
-ghost use Rattle.felgotany.specs.Outcomes.{Tells, figuresNeeded, bookNeeded};
-
-const TABLE_QUESTION: usize = 16;
+ghost use Rattle.felgotany.specs.Outcomes.{Tells};
 
 // The number of a refusal, 0 where nothing is refused, and the record that it names.
 #[repr(C)]
@@ -45,14 +47,9 @@ pub extern "C" fn felgotany_check(file: &[u8]) -> Outcome
 // How many numbers the figures of an accepted file need; 0 for a refused file.
 #[no_mangle]
 pub extern "C" fn felgotany_figures_needed(file: &[u8]) -> usize
-    ensures { λ r. ⌜ (r ≡ figuresNeeded (now (file .entry))) × (r ≤ 129) ⌝ }
+    ensures { λ r. ⌜ (r ≡ figuresNeed (now (file .entry))) × (r ≤ 129) ⌝ }
 {
-    let survey = take_survey(file);
-    let answer = survey.answer;
-    if number_of(answer) != 0 {
-        return 0;
-    }
-    8 * survey.contracts + 1
+    figures_needed(file)
 }
 
 // The figures, at the front of `out`. A refusal writes nothing.
@@ -66,24 +63,9 @@ pub extern "C" fn felgotany_figures(file: &[u8], out: &mut [i64]) -> Outcome
 // How many numbers the delta book of a question needs; 0 for a refused file, and where the question is not answered.
 #[no_mangle]
 pub extern "C" fn felgotany_book_needed(file: &[u8], question: usize) -> usize
-    ensures { λ r. ⌜ (r ≡ bookNeeded (now (file .entry)) question) × (r ≤ 160) ⌝ }
+    ensures { λ r. ⌜ (r ≡ bookNeed (now (file .entry)) question) × (r ≤ 160) ⌝ }
 {
-    let survey = take_survey(file);
-    let answer = survey.answer;
-    if number_of(answer) != 0 {
-        return 0;
-    }
-    let counts = survey.counts;
-    if question == TABLE_QUESTION {
-        return 3 * survey.contracts + 2 * counts[80];
-    }
-    if 16 <= question {
-        return 0;
-    }
-    if counts[16 + question] == 0 {
-        return 0;
-    }
-    3 * counts[32 + question] + 2 * counts[64 + question]
+    book_needed(file, question)
 }
 
 // The delta book of a question, 0 to 15 for that contract or 16 for the intercontract table, at the front of `out`. A
@@ -93,6 +75,23 @@ pub extern "C" fn felgotany_book(file: &[u8], question: usize, out: &mut [i64]) 
     ensures { λ r. ⌜ Tells (bookAnswer (now (file .entry)) question (length (now (out .entry)))) r × (now (out .exit) ≡ afterBook (now (file .entry)) question (now (out .entry))) ⌝ }
 {
     tell(book(file, question, out))
+}
+
+// How many numbers the uses of a question need; 0 for a refused file, and where the question is not answered.
+#[no_mangle]
+pub extern "C" fn felgotany_uses_needed(file: &[u8], question: usize) -> usize
+    ensures { λ r. ⌜ (r ≡ usesNeed (now (file .entry)) question) × (r ≤ 2048) ⌝ }
+{
+    uses_needed(file, question)
+}
+
+// Who paid for what in the delta book of a question: for each step of its table, what it takes of each prompt, at the front
+// of `out`. A refusal writes nothing.
+#[no_mangle]
+pub extern "C" fn felgotany_uses(file: &[u8], question: usize, out: &mut [i64]) -> Outcome
+    ensures { λ r. ⌜ Tells (usesAnswer (now (file .entry)) question (length (now (out .entry)))) r × (now (out .exit) ≡ afterUses (now (file .entry)) question (now (out .entry))) ⌝ }
+{
+    tell(uses(file, question, out))
 }
 
 // The outcomes of all questions at once.

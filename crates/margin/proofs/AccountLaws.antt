@@ -101,13 +101,13 @@ module _ (file : List ℕ) (s : Survey) (st : Stands file s) (all : Lines) (is :
   abbrev kd : Contract
   kd = partsIn (records file) []
 
-  es-are : records part ≡ entriesOf account
+  pub es-are : records part ≡ entriesOf account
   es-are = ap records ep ∙ entries-stand file s st
 
   es-within : EntriesWithin (records part)
   es-within = subst⁻¹ EntriesWithin es-are (entries-within file (st .accepted))
 
-  ks-length : length ks ≡ n
+  pub ks-length : length ks ≡ n
   ks-length = length-map (contractsOf account) (partsIn account) ∙ sym (is .count-is)
 
   ls-length : length ls ≡ n

@@ -25,7 +25,7 @@ use Rattle.account.proofs.Accepted.{accepts}
 use Rattle.account.proofs.Lists.{any-keep, none-counted}
 use Rattle.account.proofs.Noted.{part-is}
 use Rattle.spread.specs.Steps.{numbers, usedOf, unusedOf}
-use Rattle.margin.specs.Books.{threes, contractBook, booksOf, tableBook, asks, answered, askedBy, book}
+use Rattle.margin.specs.Books.{threes, contractBook, tableBook, ofEach, ofQuestion, asks, answered, askedBy, book}
 use Rattle.margin.specs.Contract.{Contract, contractFrom, contracts, partsIn, partsOf, contractNet, asTier, stepsOf, opensOf, tableSteps}
 use Rattle.margin.specs.Deltas.{interprompt, intercontract, netDeltas, opens}
 use Rattle.margin.specs.Stands.{Stands}
@@ -137,17 +137,27 @@ module _ (file : List ℕ) (ok : checked file ≡ Accepted) where
           absurd (false≢true (sym (ap₂ _||_ (ne-eqb q 16 n) (large q (contractsOf all) (accepts file ok .ranges .contracts) h)) ∙ a))
       go false l = ltb-false 15 q l
 
-  pub one-book : (q : ℕ) → answered all q ≡ true → (q ≡ 16 → ⊥) → book all q ≡ contractBook (partsOf all q)
-  one-book q a n =
-      let listed : any (asks q) (contractsOf all) ≡ true = ap (λ (t : Bool). t || any (asks q) (contractsOf all)) (sym (ne-eqb q 16 n)) ∙ a in
-      let few = accepts file ok .named .once q in
-      let c = count-keep (ofKind 1) (asks q) all in
-      let o = one-kept (asks q) (contractsOf all) listed (omega arith) in
-      let e = eqb-true (contract (o .only)) q (o .passes) in
-      ap (λ (t : Bool). cond t (tableBook (entriesOf all) (contracts all)) (booksOf (map (partsIn all) (keep (asks q) (contractsOf all))))) (ne-eqb q 16 n)
-      ∙ ap (λ (rs : List Record). booksOf (map (partsIn all) rs)) (o .kept)
-      ∙ append-nil (contractBook (partsIn all (o .only)))
-      ∙ ap (λ (m : ℕ). contractBook (partsOf all m)) e
+  -- what is answered of a contract, which does not go by its own record, and of the table
+  module _ (ofContract : Contract → List ℤ) (ofTable : List Record → List Contract → List ℤ) (parts : (own : Record) → ofContract (partsIn all own) ≡ ofContract (partsOf all (contract own))) where
+    pub contract-asked : (q : ℕ) → answered all q ≡ true → (q ≡ 16 → ⊥) → ofQuestion ofContract ofTable all q ≡ ofContract (partsOf all q)
+    contract-asked q a n =
+        let listed : any (asks q) (contractsOf all) ≡ true = ap (λ (t : Bool). t || any (asks q) (contractsOf all)) (sym (ne-eqb q 16 n)) ∙ a in
+        let few = accepts file ok .named .once q in
+        let c = count-keep (ofKind 1) (asks q) all in
+        let o = one-kept (asks q) (contractsOf all) listed (omega arith) in
+        let e = eqb-true (contract (o .only)) q (o .passes) in
+        ap (λ (t : Bool). cond t (ofTable (entriesOf all) (contracts all)) (ofEach ofContract (map (partsIn all) (keep (asks q) (contractsOf all))))) (ne-eqb q 16 n)
+        ∙ ap (λ (rs : List Record). ofEach ofContract (map (partsIn all) rs)) (o .kept)
+        ∙ append-nil (ofContract (partsIn all (o .only)))
+        ∙ parts (o .only)
+        ∙ ap (λ (m : ℕ). ofContract (partsOf all m)) e
 
-  pub table-asked : (q : ℕ) → q ≡ 16 → book all q ≡ tableBook (entriesOf all) (contracts all)
-  table-asked q e = ap (λ (t : Bool). cond t (tableBook (entriesOf all) (contracts all)) (booksOf (map (partsIn all) (keep (asks q) (contractsOf all))))) (eq-eqb q 16 e)
+    pub table-asked : (q : ℕ) → q ≡ 16 → ofQuestion ofContract ofTable all q ≡ ofTable (entriesOf all) (contracts all)
+    table-asked q e =
+        ap (λ (t : Bool). cond t (ofTable (entriesOf all) (contracts all)) (ofEach ofContract (map (partsIn all) (keep (asks q) (contractsOf all))))) (eq-eqb q 16 e)
+
+  pub one-book : (q : ℕ) → answered all q ≡ true → (q ≡ 16 → ⊥) → book all q ≡ contractBook (partsOf all q)
+  one-book q = contract-asked contractBook tableBook (λ own. refl) q
+
+  pub table-book : (q : ℕ) → q ≡ 16 → book all q ≡ tableBook (entriesOf all) (contracts all)
+  table-book q = table-asked contractBook tableBook (λ own. refl) q

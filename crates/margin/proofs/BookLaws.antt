@@ -123,14 +123,16 @@ handed-sound p t ps spreads eo es np nt hp ht =
     (and-both (leb (p .count) 32) (every soundPrompt (given.openOf p)) (le-leb (p .count) 32 np) (ap (every soundPrompt) eo ∙ hp))
     (and-both (leb (t .count) 32) (every soundSpread (given.spreadsOf t)) (le-leb (t .count) 32 nt) (ap (every soundSpread) es ∙ ht))
 
+pub contract-sound : (part spreads : List ℕ) (ds : List Delta) (p : Prompts) (t : Table) → TiersOf part ds p → TableOf interprompt spreads t → BookRoom (records part) (deltasIn ds) (records spreads) → given.sound p t ≡ true
+contract-sound part spreads ds p t tiers table room =
+    handed-sound p t (opens (records part) (deltasIn ds)) (map interprompt (records spreads)) (opens-are part ds p tiers) (table .spreads-are)
+    (omega (arith, tiers .count-is, room .few-prompts, count-is part)) (omega (arith, table .count-is, room .few-spreads, count-is spreads)) (room .prompts-sound) (room .spreads-sound)
+
 pub contract-book-is : (part spreads : List ℕ) (ds : List Delta) (p : Prompts) (t : Table) (b : Book) → TiersOf part ds p → TableOf interprompt spreads t → BookRoom (records part) (deltasIn ds) (records spreads) → Booked p t b
     → BookOf (steps (map interprompt (records spreads))) (opens (records part) (deltasIn ds)) b
 contract-book-is part spreads ds p t b tiers table room is =
-    let eo = opens-are part ds p tiers in
-    book-accepted (steps (map interprompt (records spreads))) (opens (records part) (deltasIn ds)) p t b eo (ap steps (table .spreads-are))
-    (handed-sound p t (opens (records part) (deltasIn ds)) (map interprompt (records spreads)) eo (table .spreads-are)
-    (omega (arith, tiers .count-is, room .few-prompts, count-is part)) (omega (arith, table .count-is, room .few-spreads, count-is spreads)) (room .prompts-sound) (room .spreads-sound))
-    is
+    book-accepted (steps (map interprompt (records spreads))) (opens (records part) (deltasIn ds)) p t b (opens-are part ds p tiers) (ap steps (table .spreads-are))
+    (contract-sound part spreads ds p t tiers table room) is
 
 -- ---- a book's arrays, cut to its prompts and spreads
 

@@ -75,7 +75,7 @@ module _ (own : Record) (prompts rows spreads : List Record) (w : ContractWithin
   pub totals-room : TotalsWithin (q .totals .0)
   totals-room = record { each = λ s. everywhere 16 mostRisk (q .totals .0) (most .totals-most .as-many) (most .totals-most .size) (s - 1) }
 
-  nets-are : opens prompts nets ≡ opens prompts (netDeltas prompts rows)
+  pub nets-are : opens prompts nets ≡ opens prompts (netDeltas prompts rows)
   nets-are = opens-first prompts nets ∙ ap (opens prompts) (is .nets-are)
 
   sizes-within : sizes ps ≤ mostDelta

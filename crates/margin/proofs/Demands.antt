@@ -18,7 +18,7 @@ use Rattle.margin.specs.Contract.{contracts, partsOf, asTier, stepsOf, o
 use Rattle.margin.specs.Deltas.{interprompt, intercontract}
 use Rattle.margin.specs.Demands.{Holds, Demanded}
 use Rattle.margin.proofs.AcceptLaws.{contract-within, entries-within}
-use Rattle.margin.proofs.AskedLaws.{one-book, table-asked}
+use Rattle.margin.proofs.AskedLaws.{one-book, table-book}
 use Rattle.margin.proofs.LineLaws.{spreads-sound}
 use Rattle.margin.proofs.TableLaws.{entry-accepted}
 
@@ -45,7 +45,7 @@ module _ (file : List ℕ) (ok : checked file ≡ Accepted) where
             spreads-sound intercontract (entriesOf account) (λ k h. entry-accepted (getD (entriesOf account) k []) (w .each k h))
             in
             record {
-              writes = table-asked file ok tableQuestion refl;
+              writes = table-book file ok tableQuestion refl;
               demand = demand3 (tableSteps (entriesOf account)) (map asTier (contracts account)) (steps-sound (map intercontract (entriesOf account)) sound);
             };
       }

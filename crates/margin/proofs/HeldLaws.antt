@@ -5,7 +5,7 @@ use native.Mathlib.Omega.{arith}
 use borrow.Author.Tests.{ne-eqb, lt-ltb, le-ltb}
 use borrow.Rule.Slice.PartMut.{putMid, post-is}
 use mathlib.Core.Path.{_≡_, refl, sym, ap, ap₂, _∙_, subst⁻¹}
-use mathlib.Core.Bool.{cond}
+use mathlib.Core.Bool.{Bool, true, false, cond}
 use mathlib.Core.List.{List, [], _∷_, _++_}
 use lib.Dec.{ltb}
 use lib.IntN.{ℤ}
@@ -22,8 +22,9 @@ use Rattle.account.specs.declared.answers.Answer.the-variants.{Accepted, TooFew
 use Rattle.account.specs.declared.check.Survey.{Survey}
 use Rattle.account.proofs.Accepted.{accepts}
 use Rattle.margin.specs.Figures.{figures}
-use Rattle.margin.specs.Held.{FromCheck, needIn, figuresNeed, atPlace, afterBooks, booksAnswer, booksAfter}
+use Rattle.margin.specs.Held.{FromCheck, needIn, atPlace, afterBooks, booksAnswer, booksAfter}
 use Rattle.margin.specs.declared.held.Held.{Held}
+use Rattle.margin.specs.Needs.{figuresNeed}
 use Rattle.margin.specs.Questions.{accepted, enough, figuresAnswer, afterFigures, bookAnswer, afterBook}
 use Rattle.margin.specs.Stands.{Stands}
 use Rattle.margin.proofs.StandLaws.{contracts-are}
@@ -67,6 +68,13 @@ module _ (file : List ℕ) (s : Survey) (is : Surveyed file s) where
   -- the numbers that the survey says are needed are those that the figures have
   pub need-is : needIn s ≡ figuresNeed file
   need-is = need-at (numberOf (checked file)) refl
+
+  most-at : (t : Bool) → cond t (8 * s .contracts + 1) 0 ≤ 129
+  most-at true = omega (arith, few)
+  most-at false = omega arith
+
+  pub need-most : needIn s ≤ 129
+  need-most = most-at (accepted (s .answer))
 
 -- ---- the promises determine what comes back
 

@@ -26,3 +26,5 @@ pub mod QuestionLaws
 pub mod AskedLaws
 pub mod Demands
 pub mod HeldLaws
+pub mod UsesLaws
+pub mod NeedLaws

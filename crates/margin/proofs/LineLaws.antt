@@ -22,6 +22,7 @@ use Rattle.spread.specs.declared.Spreads.{Spreads}
 use Rattle.spread.specs.declared.Delta.{Delta}
 use Rattle.spread.proofs.Both.{and-both}
 use Rattle.spread.proofs.Demand3.{one-per-step}
+use Rattle.spread.proofs.Stepping.{left-length}
 use Rattle.spread.proofs.Filling.{entries-at}
 use Rattle.margin.specs.Bounds.{mostDelta}
 use Rattle.margin.specs.Deltas.{opens, interprompt, netDeltas}
@@ -64,24 +65,12 @@ spreads-sound made (r ∷ rs) h =
 
 -- ---- how many numbers and deltas there are
 
-steps-length : (ss : List Spread) → length (steps ss) ≡ 2 * length ss
+pub steps-length : (ss : List Spread) → length (steps ss) ≡ 2 * length ss
 steps-length [] = refl
 steps-length (s ∷ ss) = let h = steps-length ss in omega arith
 
 pub numbers-length : (made : Record → Spread) (rs : List Record) (ps : List Open) → length (numbers (steps (map made rs)) ps) ≡ 2 * length rs
 numbers-length made rs ps = one-per-step (steps (map made rs)) ps ∙ steps-length (map made rs) ∙ ap (λ (n : ℕ). 2 * n) (length-map rs made)
-
-take-length : (t : Taker) (w : ℕ) (ps : List Open) → length (takeFrom t w ps) ≡ length ps
-take-length t w [] = refl
-take-length t w (p ∷ ps) = ap suc (take-length t _ ps)
-
-after-length : (ts : List Taker) (n : ℕ) (ps : List Open) → length (after ts n ps) ≡ length ps
-after-length [] n ps = refl
-after-length (t ∷ ts) n ps = after-length ts n (takeFrom t (useOf n (t .ratio)) ps) ∙ take-length t (useOf n (t .ratio)) ps
-
-left-length : (ss : List (List Taker)) (ps : List Open) → length (left ss ps) ≡ length ps
-left-length [] ps = refl
-left-length (s ∷ ss) ps = left-length ss (after s (formed s ps) ps) ∙ after-length s (formed s ps) ps
 
 minus-length : (xs ys : List ℤ) → length xs ≡ length ys → length (minus xs ys) ≡ length xs
 minus-length [] ys e = refl

@@ -21,7 +21,8 @@ use Rattle.account.specs.declared.check.Survey.{Survey}
 use Rattle.spread.specs.Steps.{Open}
 use Rattle.margin.specs.Contract.{Contract, contracts, partsIn, asTier}
 use Rattle.margin.specs.Figures.{eights, figures, figuresOver, totalMargin}
-use Rattle.margin.specs.Questions.{accepted, ifAccepted, enough, afterwards, figuresAnswer, afterFigures}
+use Rattle.margin.specs.Books.{answered}
+use Rattle.margin.specs.Questions.{accepted, ifAccepted, asked, answerTo, enough, afterwards, figuresAnswer, afterFigures}
 use Rattle.margin.specs.Stands.{Stands}
 
 some : {n : ℕ} → suc n ≡ 0 → ⊥
@@ -73,6 +74,45 @@ refused-with a answer numbers out e h =
 pub accepted-with : (answer : Answer) (numbers out after : List ℤ) (n : ℕ) → answer ≡ Accepted → length numbers ≡ n → after ≡ numbers ++ drop n out → Answers Accepted after answer numbers out
 accepted-with answer numbers out after n e l f =
     (sym e, f ∙ ap (λ (m : ℕ). numbers ++ drop m out) (sym l) ∙ sym (ap (λ (x : Answer). afterwards x numbers out) e))
+
+-- ---- a question: whether it may be asked, then whether enough numbers are lent
+
+if-then : (a b next : Answer) → ifAccepted a (ifAccepted b next) ≡ ifAccepted (ifAccepted a b) next
+if-then a b next = go (accepted a) refl
+  where
+    go : (t : Bool) → accepted a ≡ t → ifAccepted a (ifAccepted b next) ≡ ifAccepted (ifAccepted a b) next
+    go true e = ap (λ (t : Bool). cond t (ifAccepted b next) a) e ∙ sym (ap (λ (t : Bool). ifAccepted (cond t b a) next) e)
+    go false e =
+        ap (λ (t : Bool). cond t (ifAccepted b next) a) e
+        ∙ sym (ap (λ (t : Bool). ifAccepted (cond t b a) next) e ∙ ap (λ (t : Bool). cond t next a) e)
+
+module _ (file : List ℕ) (question : ℕ) (m : Answer) (is : m ≡ ifAccepted (checked file) (asked file question)) (numbers : List ℤ) (lent : ℕ) where
+  by-asking : answerTo file question numbers lent ≡ ifAccepted m (enough file numbers lent)
+  by-asking = if-then (checked file) (asked file question) (enough file numbers lent) ∙ ap (λ (a : Answer). ifAccepted a (enough file numbers lent)) (sym is)
+
+  pub not-asked : (numberOf m ≡ 0 → ⊥) → answerTo file question numbers lent ≡ m
+  not-asked h = by-asking ∙ if-refused m (enough file numbers lent) h
+
+  pub then-enough : numberOf m ≡ 0 → answerTo file question numbers lent ≡ enough file numbers lent
+  then-enough z = by-asking ∙ if-accepted m (enough file numbers lent) (accepted-only m z)
+
+module _ (file : List ℕ) (question : ℕ) (m : Answer) (is : m ≡ ifAccepted (checked file) (asked file question)) (z : numberOf m ≡ 0) where
+  pub asked-accepted : checked file ≡ Accepted
+  asked-accepted = go (numberOf (checked file)) refl
+    where
+      go : (n : ℕ) → numberOf (checked file) ≡ n → checked file ≡ Accepted
+      go zero e = accepted-only (checked file) e
+      go (suc n) e =
+          let h : numberOf (checked file) ≡ 0 → ⊥ = λ g. some (sym e ∙ g) in
+          absurd (h (ap numberOf (sym (is ∙ if-refused (checked file) (asked file question) h)) ∙ z))
+
+  pub asked-answered : answered (records file) question ≡ true
+  asked-answered = go (answered (records file) question) refl
+    where
+      go : (t : Bool) → answered (records file) question ≡ t → answered (records file) question ≡ true
+      go true e = e
+      go false e =
+          absurd (some (ap numberOf (sym (is ∙ if-accepted (checked file) (asked file question) asked-accepted ∙ ap (λ (t : Bool). cond t Accepted (NoSuchQuestion (recordCount file))) e)) ∙ z))
 
 -- ---- how many numbers the figures have
 

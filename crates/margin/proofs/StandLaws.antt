@@ -102,13 +102,16 @@ module _ (file : List ℕ) (s : Survey) (st : Stands file s) where
     pub parts-room : ContractWithin [] (records prompts) (records rows) (records spreads)
     parts-room = rw (ps-are, rs-are, ss-are) (contract-within file (st .accepted) [] c (record { contracts = zero-le; rates = zero-le }))
 
+    pub parts-by-number : contractFrom [] (records prompts) (records rows) (records spreads) ≡ partsOf account c
+    parts-by-number = rw (ps-are, rs-are, ss-are)
+
     pub parts-numbers : (r : Numbers) → BookNumbers (contractBook (contractFrom [] (records prompts) (records rows) (records spreads))) (recordCount prompts) (recordCount spreads) r
         → BookNumbers (contractBook (partsOf account c)) (length (promptsOf c account)) (length (spreadsOf c account)) r
     parts-numbers r is =
         let a : recordCount prompts ≡ length (promptsOf c account) = sym (count-is prompts) ∙ ap length ps-are in
         let b : recordCount spreads ≡ length (spreadsOf c account) = sym (count-is spreads) ∙ ap length ss-are in
         record {
-          listed-is = is .listed-is ∙ rw (ps-are, rs-are, ss-are);
+          listed-is = is .listed-is ∙ ap contractBook parts-by-number;
           count-is = is .count-is ∙ ap₂ (λ (x y : ℕ). 3 * x + 2 * y) a b;
           few = is .few;
         }

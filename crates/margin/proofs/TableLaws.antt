@@ -137,11 +137,14 @@ entry-accepted e w =
     last true = refl
     last false = refl
 
+pub table-sound : (count : ℕ) (lines : List Line) (entries : List ℕ) (p : Prompts) (t : Table) → TiersFrom count lines p → TableOf intercontract entries t → TableRoom count lines (records entries) → given.sound p t ≡ true
+table-sound count lines entries p t tiers table room =
+    handed-sound p t (map tierOf (take count lines)) (map intercontract (records entries)) (tiers .opens-are) (table .spreads-are)
+    (omega (arith, tiers .count-is, room .few)) (omega (arith, table .count-is, room .entries-within .few, count-is entries)) (room .tiers-sound)
+    (spreads-sound intercontract (records entries) (λ k h. entry-accepted (getD (records entries) k []) (room .entries-within .each k h)))
+
 pub table-book-is : (count : ℕ) (lines : List Line) (entries : List ℕ) (p : Prompts) (t : Table) (b : Book) → TiersFrom count lines p → TableOf intercontract entries t → TableRoom count lines (records entries) → Booked p t b
     → BookOf (steps (map intercontract (records entries))) (map tierOf (take count lines)) b
 table-book-is count lines entries p t b tiers table room is =
     book-accepted (steps (map intercontract (records entries))) (map tierOf (take count lines)) p t b (tiers .opens-are) (ap steps (table .spreads-are))
-    (handed-sound p t (map tierOf (take count lines)) (map intercontract (records entries)) (tiers .opens-are) (table .spreads-are)
-    (omega (arith, tiers .count-is, room .few)) (omega (arith, table .count-is, room .entries-within .few, count-is entries)) (room .tiers-sound)
-    (spreads-sound intercontract (records entries) (λ k h. entry-accepted (getD (records entries) k []) (room .entries-within .each k h))))
-    is
+    (table-sound count lines entries p t tiers table room) is

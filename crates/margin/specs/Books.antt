@@ -24,10 +24,6 @@ threes (n ∷ nets) (u ∷ used) (o ∷ unused) = n ∷ u ∷ o ∷ threes nets 
 abbrev pub contractBook : Contract → List ℤ
 contractBook k = threes (k .nets) (usedDeltas k) (unusedDeltas k) ++ map pos (numbersOf k)
 
-abbrev pub booksOf : List Contract → List ℤ
-booksOf [] = []
-booksOf (k ∷ ks) = contractBook k ++ booksOf ks
-
 abbrev pub tableBook : List Record → List Contract → List ℤ
 tableBook entries ks =
     threes (map contractNet ks) (usedOf (tableSteps entries) (map asTier ks)) (unusedOf (tableSteps entries) (map asTier ks))
@@ -48,8 +44,16 @@ answered account question = eqb question tableQuestion || any (asks question) (c
 abbrev pub askedBy : List ℕ → ℕ → Bool
 askedBy counts question = eqb question tableQuestion || (ltb question 16 && not (eqb (getD counts (16 + question) 0) 0))
 
-abbrev pub book : List Record → ℕ → List ℤ
-book account question =
+-- what a question is answered: of the table, or of the contract that has its number
+abbrev pub ofEach : (Contract → List ℤ) → List Contract → List ℤ
+ofEach answer [] = []
+ofEach answer (k ∷ ks) = answer k ++ ofEach answer ks
+
+abbrev pub ofQuestion : (Contract → List ℤ) → (List Record → List Contract → List ℤ) → List Record → ℕ → List ℤ
+ofQuestion ofContract ofTable account question =
     cond (eqb question tableQuestion)
-    (tableBook (entriesOf account) (contracts account))
-    (booksOf (map (partsIn account) (keep (asks question) (contractsOf account))))
+    (ofTable (entriesOf account) (contracts account))
+    (ofEach ofContract (map (partsIn account) (keep (asks question) (contractsOf account))))
+
+abbrev pub book : List Record → ℕ → List ℤ
+book account question = ofQuestion contractBook tableBook account question

@@ -9,28 +9,23 @@ use lib.IntN.{ℤ}
 use lib.ListN.{length, take, drop}
 use denote.Ref.{now}
 use Rattle.account.specs.Check.{checked}
-use Rattle.account.specs.Records.{records, recordCount}
+use Rattle.account.specs.Records.{recordCount}
 use Rattle.account.specs.Surveyed.{Surveyed}
 use Rattle.account.specs.declared.answers.Answer.{Answer}
 use Rattle.account.specs.declared.answers.Answer.the-variants.{Accepted, TooFewNumbers}
 use Rattle.account.specs.declared.check.Survey.{Survey}
 use Rattle.margin.specs.declared.held.Held.{Held}
-use Rattle.margin.specs.Figures.{figures}
 use Rattle.margin.specs.Questions.{accepted, ifAccepted, afterBook}
 
 -- what the view carries is what the check hands out of the bytes it views
 abbrev pub FromCheck : Held → Type 0
 FromCheck h = Surveyed (now (h .file)) (h .survey)
 
--- how many numbers the figures have, 0 for a refused file
-abbrev pub figuresNeed : List ℕ → ℕ
-figuresNeed file = cond (accepted (checked file)) (length (figures (records file))) 0
-
--- the same by the survey
+-- how many numbers the figures have, by the survey
 abbrev pub needIn : Survey → ℕ
 needIn s = cond (accepted (s .answer)) (8 * s .contracts + 1) 0
 
--- ---- all seventeen books (house): each has a place of 160 numbers, as many as the longest book has
+-- ---- all seventeen books: each has a place of 160 numbers, as many as the longest book has
 
 -- the lent numbers with the 160 from a place on changed
 abbrev pub atPlace : ℕ → (List ℤ → List ℤ) → List ℤ → List ℤ

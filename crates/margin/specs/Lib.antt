@@ -23,3 +23,5 @@ pub mod Numbers
 pub mod Stands
 pub mod Demands
 pub mod Held
+pub mod Uses
+pub mod Needs

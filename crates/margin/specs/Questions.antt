@@ -1,5 +1,5 @@
 -- "Two questions: the figures, and the delta book": what each answers over any bytes, and what stands in the lent
--- numbers afterwards.
+-- numbers afterwards. Of a delta book it can be asked too what each step takes of each prompt.
 -- Assumes nothing.
 use Prim.Native.Nat.{ℕ}
 use mathlib.Core.Bool.{Bool, cond}
@@ -14,6 +14,7 @@ use Rattle.account.specs.declared.answers.Answer.{Answer}
 use Rattle.account.specs.declared.answers.Answer.the-variants.{Accepted, TooFewNumbers, NoSuchQuestion}
 use Rattle.margin.specs.Figures.{figures}
 use Rattle.margin.specs.Books.{answered, book}
+use Rattle.margin.specs.Uses.{uses}
 
 abbrev pub accepted : Answer → Bool
 accepted a = eqb (numberOf a) 0
@@ -34,9 +35,15 @@ asked file question = cond (answered (records file) question) Accepted (NoSuchQu
 abbrev pub figuresAnswer : List ℕ → ℕ → Answer
 figuresAnswer file lent = ifAccepted (checked file) (enough file (figures (records file)) lent)
 
+abbrev pub answerTo : List ℕ → ℕ → List ℤ → ℕ → Answer
+answerTo file question numbers lent =
+    ifAccepted (checked file) (ifAccepted (asked file question) (enough file numbers lent))
+
 abbrev pub bookAnswer : List ℕ → ℕ → ℕ → Answer
-bookAnswer file question lent =
-    ifAccepted (checked file) (ifAccepted (asked file question) (enough file (book (records file) question) lent))
+bookAnswer file question lent = answerTo file question (book (records file) question) lent
+
+abbrev pub usesAnswer : List ℕ → ℕ → ℕ → Answer
+usesAnswer file question lent = answerTo file question (uses (records file) question) lent
 
 -- "A refusal writes no number. .. Success writes the answer at the front and nothing after it."
 abbrev pub afterwards : Answer → List ℤ → List ℤ → List ℤ
@@ -48,3 +55,7 @@ afterFigures file lent = afterwards (figuresAnswer file (length lent)) (figures 
 abbrev pub afterBook : List ℕ → ℕ → List ℤ → List ℤ
 afterBook file question lent =
     afterwards (bookAnswer file question (length lent)) (book (records file) question) lent
+
+abbrev pub afterUses : List ℕ → ℕ → List ℤ → List ℤ
+afterUses file question lent =
+    afterwards (usesAnswer file question (length lent)) (uses (records file) question) lent

@@ -10,6 +10,10 @@ use crate::numbers::Numbers;
 use crate::numbers::book_numbers;
 use crate::numbers::figures_numbers;
 use crate::rows::position_of;
+use crate::tables::intercontract_table;
+use crate::tables::interprompt_table;
+use crate::tables::prompts_with;
+use crate::uses::Asking;
 use account::check::Survey;
 use account::parts::ENTRIES;
 use account::parts::OWN;
@@ -38,9 +42,10 @@ ghost use Rattle.margin.specs.Numbers.{listed, BookNumbers};
 ghost use Rattle.margin.specs.Within.{ContractWithin};
 ghost use Rattle.margin.specs.Promised.{LineOf};
 ghost use Rattle.margin.specs.Stands.{Stands, LinesOf};
+ghost use Rattle.margin.specs.Uses.{contractUses, tableUses, uses, Asks};
 
 // The question for the intercontract table; those below it are contracts.
-const TABLE: usize = 16;
+pub const TABLE: usize = 16;
 
 // The lines of an account's contracts: the first `count`.
 pub struct Lines {
@@ -186,6 +191,56 @@ pub(crate) fn book_over(file: &[u8], survey: Survey, question: usize) -> Numbers
         return table_numbers(file, survey);
     }
     contract_numbers(file, survey, question)
+}
+
+// A contract's prompts with their net deltas, and its interprompt spreads.
+fn contract_asking(prompts: &[u8], rows: &[u8], spreads: &[u8]) -> Asking
+    requires { ⌜ ContractWithin [] (records (now prompts)) (records (now rows)) (records (now spreads)) ⌝ }
+    ensures { λ r. ⌜ Asks (contractUses (contractFrom [] (records (now (prompts .entry))) (records (now (rows .entry))) (records (now (spreads .entry))))) r ⌝ }
+{
+    let p = position_of(prompts, rows);
+    let nets = p.nets;
+    Asking {
+        prompts: prompts_with(prompts, nets),
+        table: interprompt_table(spreads),
+    }
+}
+
+// The same by the contract's number.
+fn asking_of(file: &[u8], survey: Survey, c: usize) -> Asking
+    requires { ⌜ Stands (now file) survey × (c ≤ 15) ⌝ }
+    ensures { λ r. ⌜ Asks (contractUses (partsOf (records (now (file .entry))) c)) r ⌝ }
+{
+    let prompts = part_at(file, survey, PROMPTS + c);
+    let rows = part_at(file, survey, ROWS + c);
+    let spreads = part_at(file, survey, SPREADS + c);
+    contract_asking(prompts, rows, spreads)
+}
+
+// The contracts as tiers, and the intercontract spreads.
+fn table_asking(file: &[u8], survey: Survey) -> Asking
+    requires { ⌜ Stands (now file) survey ⌝ }
+    ensures { λ r. ⌜ Asks (tableUses (entriesOf (records (now (file .entry)))) (contracts (records (now (file .entry))))) r ⌝ }
+{
+    let all = lines_of(file, survey);
+    let count = all.count;
+    let lines = all.line;
+    let entries = part_at(file, survey, ENTRIES);
+    Asking {
+        prompts: tiers_of(count, lines),
+        table: intercontract_table(entries),
+    }
+}
+
+// What a question asks about.
+pub(crate) fn asking_over(file: &[u8], survey: Survey, question: usize) -> Asking
+    requires { ⌜ Stands (now file) survey × (answered (records (now file)) question ≡ true) ⌝ }
+    ensures { λ r. ⌜ Asks (uses (records (now (file .entry))) question) r ⌝ }
+{
+    if question == TABLE {
+        return table_asking(file, survey);
+    }
+    asking_of(file, survey, question)
 }
 
 // Whether a question is a listed contract or 16.

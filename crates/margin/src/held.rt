@@ -1,8 +1,11 @@
 // "One accepted file is held while several questions are put to it, without checking it again."
+use crate::accepted::asking_over;
 use crate::accepted::book_over;
 use crate::accepted::figures_over;
 use crate::accepted::is_asked;
 use crate::numbers::lend;
+use crate::uses::put_uses;
+use crate::uses::uses_count;
 use account::answers::Answer;
 use account::answers::number_of;
 use account::check::Survey;
@@ -11,9 +14,11 @@ use account::stretches::record_count;
 ghost use mathlib.Core.Path.{_≡_};
 ghost use Prim.Native.Nat.{_+_, _*_, _≤_};
 ghost use lib.ListN.{length};
+ghost use Rattle.account.specs.Check.{checked};
 ghost use Rattle.account.specs.Surveyed.{Surveyed};
-ghost use Rattle.margin.specs.Held.{FromCheck, needIn, figuresNeed, atPlace, booksAnswer, booksAfter};
-ghost use Rattle.margin.specs.Questions.{figuresAnswer, afterFigures, bookAnswer, afterBook};
+ghost use Rattle.margin.specs.Held.{FromCheck, needIn, atPlace, booksAnswer, booksAfter};
+ghost use Rattle.margin.specs.Needs.{figuresNeed};
+ghost use Rattle.margin.specs.Questions.{ifAccepted, asked, figuresAnswer, afterFigures, bookAnswer, afterBook, usesAnswer, afterUses};
 
 // A view of a file's bytes with what the check handed out of them. Only `hold` makes one: its fields are of this module
 // alone.
@@ -47,10 +52,10 @@ pub(crate) fn answer_figures(file: &[u8], survey: Survey, out: &mut [i64]) -> An
     Answer::Accepted
 }
 
-// The delta book of a question, of a checked file, at the front of `out`. A refusal writes nothing.
-pub(crate) fn answer_book(file: &[u8], survey: Survey, question: usize, out: &mut [i64]) -> Answer
+// Whether a checked file is accepted and the question is one that it answers.
+pub(crate) fn may_ask(file: &[u8], survey: Survey, question: usize) -> Answer
     requires { ⌜ Surveyed (now file) survey ⌝ }
-    ensures { λ r. ⌜ (r ≡ bookAnswer (now (file .entry)) question (length (now (out .entry)))) × (now (out .exit) ≡ afterBook (now (file .entry)) question (now (out .entry))) ⌝ }
+    ensures { λ r. ⌜ r ≡ ifAccepted (checked (now (file .entry))) (asked (now (file .entry)) question) ⌝ }
 {
     let answer = survey.answer;
     if number_of(answer) != 0 {
@@ -59,11 +64,43 @@ pub(crate) fn answer_book(file: &[u8], survey: Survey, question: usize, out: &mu
     if !is_asked(survey, question) {
         return Answer::NoSuchQuestion(record_count(file));
     }
+    Answer::Accepted
+}
+
+// The delta book of a question, of a checked file, at the front of `out`. A refusal writes nothing.
+pub(crate) fn answer_book(file: &[u8], survey: Survey, question: usize, out: &mut [i64]) -> Answer
+    requires { ⌜ Surveyed (now file) survey ⌝ }
+    ensures { λ r. ⌜ (r ≡ bookAnswer (now (file .entry)) question (length (now (out .entry)))) × (now (out .exit) ≡ afterBook (now (file .entry)) question (now (out .entry))) ⌝ }
+{
+    let answer = may_ask(file, survey, question);
+    if number_of(answer) != 0 {
+        return answer;
+    }
     let numbers = book_over(file, survey, question);
     if out.len() < numbers.count {
         return Answer::TooFewNumbers(record_count(file));
     }
     lend(out, numbers);
+    Answer::Accepted
+}
+
+// What each step of a question's table takes of each prompt, of a checked file, at the front of `out`. A refusal writes
+// nothing.
+pub(crate) fn answer_uses(file: &[u8], survey: Survey, question: usize, out: &mut [i64]) -> Answer
+    requires { ⌜ Surveyed (now file) survey ⌝ }
+    ensures { λ r. ⌜ (r ≡ usesAnswer (now (file .entry)) question (length (now (out .entry)))) × (now (out .exit) ≡ afterUses (now (file .entry)) question (now (out .entry))) ⌝ }
+{
+    let answer = may_ask(file, survey, question);
+    if number_of(answer) != 0 {
+        return answer;
+    }
+    let asking = asking_over(file, survey, question);
+    let prompts = asking.prompts;
+    let table = asking.table;
+    if out.len() < uses_count(prompts, table) {
+        return Answer::TooFewNumbers(record_count(file));
+    }
+    put_uses(out, prompts, table);
     Answer::Accepted
 }
 
@@ -98,7 +135,7 @@ pub(crate) fn answer_books(file: &[u8], survey: Survey, out: &mut [i64]) -> Answ
 }
 
 // How many numbers the figures of a checked file have, 0 where it is refused.
-fn figures_need(survey: Survey) -> usize
+pub(crate) fn figures_need(survey: Survey) -> usize
     requires { ⌜ survey .contracts ≤ 16 ⌝ }
     ensures { λ r. ⌜ r ≡ needIn survey ⌝ }
 {

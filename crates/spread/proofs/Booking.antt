@@ -12,7 +12,7 @@ use borrow.Author.Tests.{ltb-true, ltb-false}
 use Rattle.spread.specs.Accepted.{openOf, spreadsOf, stepsOf, sound}
 use Rattle.spread.specs.Book.{numbersOf, usedIn, unusedIn, entries, spreadsEntry, deltaEntry, Booked, Refused, Run, Wanted, Spent}
 use Rattle.spread.specs.Cells.{cellOf, cellAt, Pooled, numbersIn, Taken}
-use Rattle.spread.specs.Demand.{totalUse, Demand3}
+use Rattle.spread.specs.Demand.{totalUse, Demand3, soundSteps}
 use Rattle.spread.specs.Spend.{spend, deltas}
 use Rattle.spread.specs.Steps.{Market, Open, Taker, pool, numbers, left, minus, usedOf, unusedOf}
 use Rattle.spread.specs.declared.Delta.{Delta}
@@ -21,11 +21,12 @@ use Rattle.spread.specs.declared.Spreads.{Spreads}
 use Rattle.spread.specs.declared.Table.{Table}
 use Rattle.spread.specs.declared.book.Book.{Book}
 use Rattle.spread.specs.declared.pools.Took.{Took}
-use Rattle.spread.proofs.Demand3.{demand3-accepted}
+use Rattle.spread.proofs.Demand3.{demand3, demand3-accepted}
 use Rattle.spread.proofs.Filling.{filled-none, filled-all}
 use Rattle.spread.proofs.Paying.{noDelta}
 use Rattle.spread.proofs.Pooling.{cell-small, no-cell, pooled-numbers, pooled-left}
 use Rattle.spread.proofs.Running.{noSpreads}
+use Rattle.spread.proofs.Soundness.{table-sound}
 use Rattle.spread.proofs.Spending.{left-spend, pool-spend, spend-same}
 
 -- two takes that the promise allows are the same, and two books
@@ -55,7 +56,7 @@ booked-demand3 p t r b e = demand3-accepted p t (sym (b .accepted) ∙ e)
 
 -- what is refused has no numbers
 
-all-none {ℓ} : {A : Type ℓ} (z : A) (f : ℕ → A) → ((k : ℕ) → f k ≡ z) → replicate 32 z ≡ entries 32 f
+pub all-none {ℓ} : {A : Type ℓ} (z : A) (f : ℕ → A) → ((k : ℕ) → f k ≡ z) → replicate 32 z ≡ entries 32 f
 all-none z f h = filled-all z f 0 (replicate 32 z) (filled-none z f) (λ k g. h k)
 
 pub booked-refused : (p : Prompts) (t : Table) (r : Book) → sound p t ≡ false → Refused r → Booked p t r
@@ -71,30 +72,32 @@ booked-refused p t r e h =
     no-spreads : (k : ℕ) → spreadsEntry (numbersOf p t) k ≡ noSpreads
     no-spreads k = ap (λ (b : Bool). spreadsEntry (cond b (numbers (stepsOf t) (openOf p)) []) k) e
 
--- what is accepted
+-- steps that can be run: pools, what is left of them and one spend of the difference leave the prompts as the steps do
 
-module _ (p : Prompts) (t : Table) (e : sound p t ≡ true) (cells l wanted : List ℕ)
-    (pools : Pooled cells (openOf p)) (leaves : Pooled l (left (stepsOf t) (openOf p))) (w : Wanted cells l wanted) where
+module _ (ss : List (List Taker)) (ps : List Open) (e : soundSteps ss ≡ true) (cells l wanted : List ℕ)
+    (pools : Pooled cells ps) (leaves : Pooled l (left ss ps)) (w : Wanted cells l wanted) where
   -- what is wanted of a pool is the list's use there
-  wants-use : (m : Market) (u : ℕ) → cellAt wanted m u ≡ totalUse m u (stepsOf t) (numbers (stepsOf t) (openOf p))
+  wants-use : (m : Market) (u : ℕ) → cellAt wanted m u ≡ totalUse m u ss (numbers ss ps)
   wants-use m u = go (ltb u 16) refl
     where
-      go : (b : Bool) → ltb u 16 ≡ b → cellAt wanted m u ≡ totalUse m u (stepsOf t) (numbers (stepsOf t) (openOf p))
+      go : (b : Bool) → ltb u 16 ≡ b → cellAt wanted m u ≡ totalUse m u ss (numbers ss ps)
       go true f =
           let a = w .each (cellOf m u) (cell-small m u (ltb-true u 16 f)) in
           let b = pools .each m u in
-          let c = leaves .each m u ∙ ap (pool m u) (left-spend (stepsOf t) (openOf p)) ∙ pool-spend (λ m u. totalUse m u (stepsOf t) (numbers (stepsOf t) (openOf p))) m u (openOf p) in
-          let d = demand3-accepted p t e .ours .within m u in
+          let c = leaves .each m u ∙ ap (pool m u) (left-spend ss ps) ∙ pool-spend (λ m u. totalUse m u ss (numbers ss ps)) m u ps in
+          let d = demand3 ss ps e .ours .within m u in
           omega arith
       go false f =
           let a = no-cell wanted m u (w .size) (ltb-false u 16 f) in
           let b = no-cell cells m u (pools .size) (ltb-false u 16 f) in
           let c = pools .each m u in
-          let d = demand3-accepted p t e .ours .within m u in
+          let d = demand3 ss ps e .ours .within m u in
           omega arith
 
-  spend-left : spend (cellAt wanted) (openOf p) ≡ left (stepsOf t) (openOf p)
-  spend-left = spend-same (openOf p) wants-use ∙ sym (left-spend (stepsOf t) (openOf p))
+  pub spend-left : spend (cellAt wanted) ps ≡ left ss ps
+  spend-left = spend-same ps wants-use ∙ sym (left-spend ss ps)
+
+-- what is accepted
 
 pub booked-accepted : (p : Prompts) (t : Table) (cells l wanted : List ℕ) (first second : List Spreads) (used unused : List Delta) → sound p t ≡ true
     → Pooled cells (openOf p) → Run cells (spreadsOf t) l first second → Wanted cells l wanted → Spent wanted (openOf p) used unused
@@ -123,4 +126,4 @@ booked-accepted p t cells l wanted first second used unused e pools run w spent 
     after-run = rw (run .leaves) (pooled-left (stepsOf t) cells (openOf p) pools)
 
     paid : spend (cellAt wanted) (openOf p) ≡ left (stepsOf t) (openOf p)
-    paid = spend-left p t e cells l wanted pools after-run w
+    paid = spend-left (stepsOf t) (openOf p) (table-sound p t e) cells l wanted pools after-run w

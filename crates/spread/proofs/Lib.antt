@@ -12,3 +12,4 @@ pub mod Pooling
 pub mod Running
 pub mod Soundness
 pub mod Spending
+pub mod Stepping

@@ -109,7 +109,7 @@ module _ (second : Bool) where
   step-sound [] e = e
   step-sound (l ∷ ls) e = legs-sound l ls e
 
-spread-sound : (second : Bool) (s : Spread) → soundSpread s ≡ true → soundStep (stepOf second s) ≡ true
+pub spread-sound : (second : Bool) (s : Spread) → soundSpread s ≡ true → soundStep (stepOf second s) ≡ true
 spread-sound second s e = step-sound second (legsOf s) (and-right (eqb (s .legs) 2 || eqb (s .legs) 3) (soundLegsOf (legsOf s)) e)
 
 pub steps-sound : (ss : List Spread) → every soundSpread ss ≡ true → soundSteps (steps ss) ≡ true

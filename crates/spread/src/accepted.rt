@@ -39,7 +39,7 @@ fn sound_three(a: Leg, b: Leg, c: Leg) -> bool
     sound_leg(a) & (!(same_leg(a, b) | same_leg(a, c)) & sound_two(b, c))
 }
 
-fn sound_spread(spread: Spread) -> bool
+pub(crate) fn sound_spread(spread: Spread) -> bool
     ensures { λ r. ⌜ r ≡ soundSpread spread ⌝ }
 {
     if spread.legs == 2 {
@@ -74,7 +74,7 @@ fn sound_prompt(tier: usize, net: Delta) -> bool
     (tier < TIERS) & (net.size() <= MOST_DELTA)
 }
 
-fn sound_prompts(prompts: Prompts) -> bool
+pub(crate) fn sound_prompts(prompts: Prompts) -> bool
     ensures { λ r. ⌜ r ≡ soundPrompts prompts ⌝ }
 {
     let n = prompts.count;

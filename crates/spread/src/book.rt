@@ -43,9 +43,9 @@ struct Parts {
 }
 
 // The two parts of each prompt's net delta.
-struct Paid {
-    used: [Delta; 32],
-    unused: [Delta; 32],
+pub(crate) struct Paid {
+    pub(crate) used: [Delta; 32],
+    pub(crate) unused: [Delta; 32],
 }
 
 // A prompt's net delta, and the pool of its tier and side.
@@ -75,7 +75,7 @@ fn grown(pools: Pools, cell: usize, size: u64) -> Pools
 }
 
 // "A tier's long pool is the sum of its positive unused deltas, its short pool that of its negative ones".
-fn pools_of(prompts: Prompts) -> Pools
+pub(crate) fn pools_of(prompts: Prompts) -> Pools
     requires { ⌜ soundPrompts prompts ≡ true ⌝ }
     ensures { λ r. ⌜ Pooled (r .cell) (openOf prompts) ⌝ }
 {
@@ -130,7 +130,7 @@ fn beyond(a: u64, b: u64) -> u64
 }
 
 // What the steps used of each pool.
-fn used_of(pools: Pools, left: Pools) -> Pools
+pub(crate) fn used_of(pools: Pools, left: Pools) -> Pools
     ensures { λ r. ⌜ Wanted (pools .cell) (left .cell) (r .cell) ⌝ }
 {
     let mut used = Pools::none();
@@ -156,7 +156,7 @@ fn parts_of(net: Delta, wanted: u64) -> Parts
 }
 
 // "from the prompts of its tier on that side, earliest day first"
-fn paid_by(prompts: Prompts, wanted: Pools) -> Paid
+pub(crate) fn paid_by(prompts: Prompts, wanted: Pools) -> Paid
     requires { ⌜ soundPrompts prompts ≡ true ⌝ }
     ensures { λ r. ⌜ Spent (wanted .cell) (openOf prompts) (r .used) (r .unused) ⌝ }
 {

@@ -5,6 +5,7 @@ pub mod accepted;
 pub mod book;
 pub mod deltas;
 pub mod pools;
+pub mod stepwise;
 
 // A delta, in ten-thousandths of a lot, long above zero and short below.
 pub struct Delta(pub i64);

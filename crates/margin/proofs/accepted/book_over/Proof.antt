@@ -9,7 +9,7 @@ use lib.ListN.{length, length-map}
 use Rattle.account.specs.Parts.{contractsOf, promptsOf, rowsOf, spreadsOf, entriesOf}
 use Rattle.account.specs.Records.{records}
 use Rattle.margin.specs.Contract.{contracts, partsIn}
-use Rattle.margin.proofs.AskedLaws.{table-asked, one-book, asked-small, contract-length, table-length}
+use Rattle.margin.proofs.AskedLaws.{table-book, one-book, asked-small, contract-length, table-length}
 use Rattle.margin.proofs.StandLaws.{contracts-are}
 use Rattle.margin.proofs.accepted.book_over.Statement.{statement}
 use Rattle.margin.proofs.accepted.book_over.Tie as tie
@@ -21,7 +21,7 @@ returns : tie.Need-returns
 returns c =
     let s = c .before .before .before in
     let f = s .args .file .now in
-    let t = table-asked f (s .pre .0 .accepted) (s .args .question) (c .before .if1 .taken) in
+    let t = table-book f (s .pre .0 .accepted) (s .args .question) (c .before .if1 .taken) in
     let n = c .table-numbers .ensures in
     let l = table-length (entriesOf (records f)) (contracts (records f)) in
     let k = length-map (contractsOf (records f)) (partsIn (records f)) in

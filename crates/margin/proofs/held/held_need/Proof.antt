@@ -42,7 +42,8 @@ use denote.Exit.{yes}
 use denote.Triple.Clauses.{ensured, lasts}
 use Rattle.account.proofs.check.Survey as S
 use Rattle.account.proofs.check.Survey.Laws as S′
-use Rattle.margin.specs.Held.{FromCheck, needIn, figuresNeed}
+use Rattle.margin.specs.Held.{FromCheck, needIn}
+use Rattle.margin.specs.Needs.{figuresNeed}
 use Rattle.margin.specs.declared.held.Held.{Held}
 use Rattle.margin.proofs.HeldLaws.{few, need-is}
 use Rattle.margin.proofs.held.Held as T

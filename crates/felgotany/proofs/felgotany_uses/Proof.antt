@@ -1,0 +1,25 @@
+-- The answer to a delta book, told to C, and the lent numbers as the question leaves them.
+-- Assumes nothing.
+use borrow.Author.Needs.{needs}
+use mathlib.Core.Path.{subst}
+use Rattle.account.specs.declared.answers.Answer.{Answer}
+use Rattle.felgotany.specs.Outcomes.{Tells}
+use Rattle.felgotany.proofs.felgotany_uses.Statement.{statement}
+use Rattle.felgotany.proofs.felgotany_uses.Tie as tie
+
+uses-requires : tie.Need-uses-requires
+uses-requires c κs = search needs
+
+tell-requires : tie.Need-tell-requires
+tell-requires c κs = search needs
+
+same-length : tie.Need-same-length
+same-length c = search needs
+
+returns : tie.Need-returns
+returns c =
+    let f = c .before .before .uses .ensures in
+    (subst (λ (a : Answer). Tells a (c .tell .result)) (f .0) (c .tell .ensures), f .1)
+
+pub felgotany-uses-spec : {M : Type 1} → statement M
+felgotany-uses-spec = tie.close (tie.spec uses-requires tell-requires same-length returns)

@@ -1,0 +1,238 @@
+-- What the steps of a table take of the prompts, written step after step; and the prompts and spreads that a question asks about.
+-- Assumes nothing.
+use Prim.Native.Nat.{ℕ, zero, suc, _+_, _-_, _*_, _≤_, _<_}
+use native.Mathlib.Nat.{add-comm, add-mul, one-mul, zero-mul, suc-mul, mul-comm, mul-assoc}
+use native.Mathlib.Numerals.{add-one}
+use native.Mathlib.Omega.{arith}
+use mathlib.Core.Path.{_≡_, refl, sym, ap, ap₂, _∙_, subst}
+use mathlib.Core.Bool.{Bool, true, false, cond, _&&_}
+use mathlib.Core.List.{List, [], _∷_, _++_, map}
+use lib.Dec.{leb}
+use lib.IntN.{ℤ, pos}
+use lib.ListN.{length, length-append, length-map, getD, take, drop, drop-of-length-le}
+use lib.Seq.{sets, length-sets, drop-cons, getD-take, length-take-le}
+use borrow.Author.Tests.{leb-true}
+use Rattle.account.specs.Parts.{entriesOf}
+use Rattle.account.specs.Records.{records, stretch}
+use Rattle.account.specs.declared.check.Survey.{Survey}
+use Rattle.spread.specs.Accepted.{every, openOf, spreadsOf, soundSpread, soundPrompts, soundTable, sound}
+use Rattle.spread.specs.Book.{entries, deltaEntry}
+use Rattle.spread.specs.Cells.{stepOf}
+use Rattle.spread.specs.Steps.{Open, Taker, steps, formed, after}
+use Rattle.spread.specs.Uses.{takenOf, usesOf, soundFor, Stepped}
+use Rattle.spread.specs.declared.Delta.{Delta}
+use Rattle.spread.specs.declared.Prompts.{Prompts}
+use Rattle.spread.specs.declared.Spread.{Spread}
+use Rattle.spread.specs.declared.Table.{Table}
+use Rattle.spread.specs.declared.stepwise.Step.{Step}
+use Rattle.spread.proofs.Both.{and-left, and-right, and-both}
+use Rattle.spread.proofs.Every.{open-length}
+use Rattle.spread.proofs.Stepping.{after-length}
+use Rattle.margin.specs.declared.accepted.Lines.{Lines}
+use Rattle.margin.specs.declared.rows.Position.{Position}
+use Rattle.margin.specs.Contract.{contractFrom, contracts, asTier}
+use Rattle.margin.specs.Deltas.{opens, interprompt, intercontract, netDeltas}
+use Rattle.margin.specs.Position.{PositionOf, Bounded}
+use Rattle.margin.specs.Stands.{Stands, LinesOf}
+use Rattle.margin.specs.Sums.{deltasIn}
+use Rattle.margin.specs.Table.{TiersFrom}
+use Rattle.margin.specs.Tables.{TiersOf, TableOf}
+use Rattle.margin.specs.Uses.{contractUses, tableUses, LeftBy, Asks}
+use Rattle.margin.specs.Within.{ContractWithin}
+use Rattle.margin.proofs.AccountLaws.{es-are, ks-length, lined, table-room}
+use Rattle.margin.proofs.BookLaws.{take-deltas, opens-are, contract-sound}
+use Rattle.margin.proofs.ContractLaws.{book-room, nets-are}
+use Rattle.margin.proofs.FigureLaws.{tiers-are}
+use Rattle.margin.proofs.LineLaws.{opens-length, steps-length, used-length}
+use Rattle.margin.proofs.NumberLaws.{sets-append}
+use Rattle.margin.proofs.RecordLaws.{count-is}
+use Rattle.margin.proofs.TableLaws.{table-sound}
+
+-- ---- one step
+
+module _ (p : Prompts) (s : Spread) (second : Bool) (r : Step) (is : Stepped p s second r) (e : soundFor p s ≡ true) where
+  pub left-by : LeftBy p s second (r .left)
+  left-by =
+      record {
+        opens = is .leaves ∙ ap (λ (b : Bool). cond b (after (stepOf second s) (formed (stepOf second s) (openOf p)) (openOf p)) (openOf p)) e;
+        sound = is .sound ∙ and-left (soundPrompts p) (soundSpread s) e;
+        count = is .count;
+      }
+
+  pub taken-is : length (p .tier) ≡ 32 → length (p .net) ≡ 32 → p .count ≤ 32 → take (p .count) (deltasIn (r .taken)) ≡ takenOf (stepOf second s) (openOf p)
+  taken-is lt ln few =
+      ap (λ (ds : List Delta). take (p .count) (deltasIn ds)) (is .taken ∙ ap (λ (b : Bool). entries 32 (deltaEntry (cond b (takenOf (stepOf second s) (openOf p)) []))) e)
+      ∙ take-deltas (takenOf (stepOf second s) (openOf p)) (p .count) 32 (used-length (stepOf second s ∷ []) (openOf p) ∙ open-length p lt ln few) few
+
+pub few-prompts : (p : Prompts) → soundPrompts p ≡ true → p .count ≤ 32
+few-prompts p e = leb-true (p .count) 32 (and-left (leb (p .count) 32) _ e)
+
+-- ---- all steps: what is written and what the steps still to come take are the whole
+
+pub record Putting (n : ℕ) (t : Table) (all : List ℤ) (i at : ℕ) (left : Prompts) (out : List ℤ) : Type 0 where
+  pub whole : sets out at (usesOf (steps (drop i (spreadsOf t))) (openOf left)) ≡ all
+  pub sound : soundPrompts left ≡ true
+  pub count : left .count ≡ n
+  pub room : at + (t .count - i) * (2 * n) ≤ length out
+  pub within : i ≤ t .count
+  pub long : length (openOf left) ≡ n
+
+every-at : {A : Type 0} (p : A → Bool) (xs : List A) (i : ℕ) (d : A) → every p xs ≡ true → i < length xs → p (getD xs i d) ≡ true
+every-at p [] i d e h = absurd (omega arith)
+every-at p (x ∷ xs) zero d e h = and-left (p x) (every p xs) e
+every-at p (x ∷ xs) (suc i) d e h = every-at p xs i d (and-right (p x) (every p xs) e) (omega arith)
+
+pub few-in-table : (t : Table) → soundTable t ≡ true → t .count ≤ 32
+few-in-table t e = leb-true (t .count) 32 (and-left (leb (t .count) 32) (every soundSpread (spreadsOf t)) e)
+
+module _ (t : Table) (len : length (t .spread) ≡ 32) (ok : soundTable t ≡ true) where
+  few-spreads : t .count ≤ 32
+  few-spreads = few-in-table t ok
+
+  spreads-there : length (spreadsOf t) ≡ t .count
+  spreads-there = length-take-le (t .count) (t .spread) (omega (arith, len, few-spreads))
+
+  pub spread-here : (i : ℕ) (d : Spread) → i < t .count → getD (spreadsOf t) i d ≡ getD (t .spread) i d
+  spread-here i d h = getD-take (t .count) (t .spread) i d h
+
+  pub spread-sound : (i : ℕ) (d : Spread) → i < t .count → soundSpread (getD (t .spread) i d) ≡ true
+  spread-sound i d h =
+      subst (λ (s : Spread). soundSpread s ≡ true) (spread-here i d h)
+      (every-at soundSpread (spreadsOf t) i d (and-right (leb (t .count) 32) (every soundSpread (spreadsOf t)) ok) (omega (arith, spreads-there)))
+
+  module _ (n : ℕ) (all : List ℤ) (i at : ℕ) (left between rest : Prompts) (out out₁ out₂ : List ℤ) (d : Spread) (is : Putting n t all i at left out) (h : i < t .count) where
+    abbrev s : Spread
+    s = getD (t .spread) i d
+
+    pub room-here : at + 2 * n + (t .count - (i + 1)) * (2 * n) ≤ length out
+    room-here =
+        let e : t .count - i ≡ 1 + (t .count - (i + 1)) = omega arith in
+        let m = ap (λ (k : ℕ). k * (2 * n)) e ∙ add-mul 1 (t .count - (i + 1)) (2 * n) ∙ ap (λ (k : ℕ). k + (t .count - (i + 1)) * (2 * n)) (one-mul (2 * n)) in
+        omega (arith, m, is .room)
+
+    pub first-room : at + n ≤ length out
+    first-room = omega (arith, room-here)
+
+    pub first-sound : soundFor left s ≡ true
+    first-sound = and-both (soundPrompts left) (soundSpread s) (is .sound) (spread-sound i d h)
+
+    module _ (a : LeftBy left s false between) (o : out₁ ≡ sets out at (takenOf (stepOf false s) (openOf left))) where
+      same-room : length out₁ ≡ length out
+      same-room = ap length o ∙ length-sets out at (takenOf (stepOf false s) (openOf left))
+
+      pub second-room : at + n + between .count ≤ length out₁
+      second-room = omega (arith, same-room, room-here, a .count, is .count)
+
+      pub second-sound : soundFor between s ≡ true
+      second-sound = and-both (soundPrompts between) (soundSpread s) (a .sound) (spread-sound i d h)
+
+      long-between : length (openOf between) ≡ n
+      long-between = ap length (a .opens) ∙ after-length (stepOf false s) (formed (stepOf false s) (openOf left)) (openOf left) ∙ is .long
+
+      module _ (b : LeftBy between s true rest) (q : out₂ ≡ sets out₁ (at + n) (takenOf (stepOf true s) (openOf between))) where
+        abbrev x : List ℤ
+        x = takenOf (stepOf false s) (openOf left)
+
+        abbrev y : List ℤ
+        y = takenOf (stepOf true s) (openOf between)
+
+        abbrev z : List ℤ
+        z = usesOf (steps (drop (i + 1) (spreadsOf t))) (openOf rest)
+
+        xs : length x ≡ n
+        xs = used-length (stepOf false s ∷ []) (openOf left) ∙ is .long
+
+        ys : length y ≡ n
+        ys = used-length (stepOf true s ∷ []) (openOf between) ∙ long-between
+
+        to-come : x ++ (y ++ z) ≡ usesOf (steps (drop i (spreadsOf t))) (openOf left)
+        to-come =
+            ap₂ (λ (l : List Open) (k : ℕ). x ++ (y ++ usesOf (steps (drop k (spreadsOf t))) l)) (b .opens) (add-one i)
+            ∙ ap (λ (l : List Open). x ++ (takenOf (stepOf true s) l ++ usesOf (steps (drop (suc i) (spreadsOf t))) (after (stepOf true s) (formed (stepOf true s) l) l))) (a .opens)
+            ∙ ap (λ (l : List Spread). usesOf (steps l) (openOf left)) (sym (drop-cons (spreadsOf t) i d (omega (arith, spreads-there)) ∙ ap (λ (u : Spread). u ∷ drop (suc i) (spreadsOf t)) (spread-here i d h)))
+
+        written : sets out₂ (at + 2 * n) z ≡ sets out at (usesOf (steps (drop i (spreadsOf t))) (openOf left))
+        written =
+            ap₂ (λ (l : List ℤ) (k : ℕ). sets l k z) q (let e = ys in omega arith)
+            ∙ sym (sets-append out₁ (at + n) y z)
+            ∙ ap₂ (λ (l : List ℤ) (k : ℕ). sets l k (y ++ z)) o (let e = xs in omega arith)
+            ∙ sym (sets-append out at x (y ++ z))
+            ∙ ap (sets out at) to-come
+
+        pub put-length : length out₂ ≡ length out
+        put-length = ap length q ∙ length-sets out₁ (at + n) (takenOf (stepOf true s) (openOf between)) ∙ same-room
+
+        pub put-next : Putting n t all (i + 1) (at + 2 * n) rest out₂
+        put-next =
+            record {
+              whole = written ∙ is .whole;
+              sound = b .sound;
+              count = b .count ∙ a .count ∙ is .count;
+              room = omega (arith, put-length, room-here);
+              within = omega arith;
+              long = ap length (b .opens) ∙ after-length (stepOf true s) (formed (stepOf true s) (openOf between)) (openOf between) ∙ long-between;
+            }
+
+  pub put-all : (n : ℕ) (all : List ℤ) (i at : ℕ) (left : Prompts) (out : List ℤ) → Putting n t all i at left out → t .count ≤ i → out ≡ all
+  put-all n all i at left out is h =
+      let past : length (spreadsOf t) ≤ i = omega (arith, spreads-there) in
+      ap (λ (l : List Spread). sets out at (usesOf (steps l) (openOf left))) (sym (drop-of-length-le (spreadsOf t) past)) ∙ is .whole
+
+-- nothing is written yet
+pub put-none : (p : Prompts) (t : Table) (out : List ℤ) → length (p .tier) ≡ 32 → length (p .net) ≡ 32 → sound p t ≡ true → t .count * (2 * p .count) ≤ length out
+    → Putting (p .count) t (sets out 0 (usesOf (steps (spreadsOf t)) (openOf p))) 0 0 p out
+put-none p t out lt ln ok h =
+    let a = and-left (soundPrompts p) (soundTable t) ok in
+    let none : t .count - 0 ≡ t .count = omega arith in
+    record { whole = refl; sound = a; count = refl; room = omega (arith, h, ap (λ (k : ℕ). k * (2 * p .count)) none); within = omega arith; long = open-length p lt ln (few-prompts p a) }
+
+-- ---- what a question asks about
+
+uses-length : (ss : List (List Taker)) (ps : List Open) → length (usesOf ss ps) ≡ length ss * length ps
+uses-length [] ps = sym (zero-mul (length ps))
+uses-length (s ∷ ss) ps =
+    length-append (takenOf s ps) (usesOf ss (after s (formed s ps) ps))
+    ∙ ap₂ _+_ (used-length (s ∷ []) ps) (uses-length ss (after s (formed s ps) ps) ∙ ap (λ (n : ℕ). length ss * n) (after-length s (formed s ps) ps))
+    ∙ add-comm (length ps) (length ss * length ps)
+    ∙ sym (suc-mul (length ss) (length ps))
+
+-- of spreads, each of two steps
+pub spread-uses : (spreads : List Spread) (ps : List Open) → length (usesOf (steps spreads) ps) ≡ length spreads * (2 * length ps)
+spread-uses spreads ps =
+    uses-length (steps spreads) ps
+    ∙ ap (λ (n : ℕ). n * length ps) (steps-length spreads ∙ mul-comm 2 (length spreads))
+    ∙ mul-assoc (length spreads) 2 (length ps)
+
+-- the steps of a table over prompts
+pub asks : (p : Prompts) (t : Table) (ps : List Open) (spreads : List Spread) → openOf p ≡ ps → spreadsOf t ≡ spreads → sound p t ≡ true → p .count ≡ length ps → t .count ≡ length spreads
+    → Asks (usesOf (steps spreads) ps) (record { prompts = p; table = t })
+asks p t ps spreads eo es ok np nt =
+    record {
+      takes = ap₂ (λ (l : List Spread) (qs : List Open). usesOf (steps l) qs) es eo;
+      accepted = ok;
+      many = spread-uses spreads ps ∙ ap₂ (λ (x y : ℕ). x * (2 * y)) (sym nt) (sym np);
+    }
+
+pub contract-asks : (prompts rows spreads : List ℕ) → ContractWithin [] (records prompts) (records rows) (records spreads) → (q : Position) → PositionOf (records prompts) (records rows) q → Bounded 128 q
+    → (p : Prompts) (t : Table) → TiersOf prompts (q .nets) p → TableOf interprompt spreads t
+    → Asks (contractUses (contractFrom [] (records prompts) (records rows) (records spreads))) (record { prompts = p; table = t })
+contract-asks prompts rows spreads w q is most p t tiers table =
+    let room = book-room [] (records prompts) (records rows) (records spreads) w q is most in
+    let same = nets-are [] (records prompts) (records rows) (records spreads) w q is most in
+    asks p t (opens (records prompts) (netDeltas (records prompts) (records rows))) (map interprompt (records spreads)) (opens-are prompts (q .nets) p tiers ∙ same) (table .spreads-are)
+    (contract-sound prompts spreads (q .nets) p t tiers table room)
+    (tiers .count-is ∙ sym (count-is prompts) ∙ sym (opens-length (records prompts) (netDeltas (records prompts) (records rows)) (length-map (records prompts) _)))
+    (table .count-is ∙ sym (count-is spreads) ∙ sym (length-map (records spreads) interprompt))
+
+pub table-asks : (file : List ℕ) (s : Survey) (st : Stands file s) (all : Lines) (is : LinesOf file all) (part : List ℕ) (ep : part ≡ stretch file (getD (s .first) 80 0) (getD (s .counts) 80 0))
+    → (p : Prompts) (t : Table) → TiersFrom (all .count) (all .line) p → TableOf intercontract part t
+    → Asks (tableUses (entriesOf (records file)) (contracts (records file))) (record { prompts = p; table = t })
+table-asks file s st all is part ep p t tiers table =
+    let room = table-room file s st all is part ep in
+    let es = es-are file s st all is part ep in
+    let ks = contracts (records file) in
+    let same = tiers-are ks (take (all .count) (all .line)) (lined file s st all is part ep) in
+    asks p t (map asTier ks) (map intercontract (entriesOf (records file))) (tiers .opens-are ∙ same) (table .spreads-are ∙ ap (map intercontract) es)
+    (table-sound (all .count) (all .line) part p t tiers table room)
+    (tiers .count-is ∙ sym (ks-length file s st all is part ep) ∙ sym (length-map ks asTier))
+    (table .count-is ∙ sym (count-is part) ∙ ap length es ∙ sym (length-map (entriesOf (records file)) intercontract))

@@ -1,0 +1,50 @@
+-- What is asked about by a contract number: its parts stand where the survey says.
+-- Assumes nothing.
+use borrow.Author.Needs.{needs}
+use mathlib.Core.Path.{subst}
+use Rattle.margin.specs.Contract.{Contract}
+use Rattle.margin.specs.Uses.{contractUses, Asks}
+use Rattle.margin.proofs.StandLaws.{parts-room, parts-by-number}
+use Rattle.margin.proofs.accepted.asking_of.Statement.{statement}
+use Rattle.margin.proofs.accepted.asking_of.Tie as tie
+
+add-part-at : tie.Need-add-part-at
+add-part-at c = search needs
+
+part-at-requires : tie.Need-part-at-requires
+part-at-requires c κs = search needs
+
+add-part-at-2 : tie.Need-add-part-at-2
+add-part-at-2 c = search needs
+
+part-at-requires-2 : tie.Need-part-at-requires-2
+part-at-requires-2 c κs = search needs
+
+add-part-at-3 : tie.Need-add-part-at-3
+add-part-at-3 c = search needs
+
+part-at-requires-3 : tie.Need-part-at-requires-3
+part-at-requires-3 c κs = search needs
+
+contract-asking-requires : tie.Need-contract-asking-requires
+contract-asking-requires c κs = parts-room (c .before .before .before .before .args .file .now) (c .before .before .before .before .args .survey) (c .before .before .before .before .pre .0) (c .before .before .before .before .args .c) (c .before .before .before .before .pre .1) (c .before .before .part-at .result .now) (c .before .part-at2 .result .now) (c .part-at3 .result .now) (c .before .before .part-at .ensures) (c .before .part-at2 .ensures) (c .part-at3 .ensures)
+
+returns : tie.Need-returns
+returns c =
+    let s = c .before .before .before .before .before in
+    subst (λ (k : Contract). Asks (contractUses k) (c .contract-asking .result))
+    (parts-by-number (s .args .file .now) (s .args .survey) (s .pre .0) (s .args .c) (s .pre .1) (c .before .before .before .part-at .result .now) (c .before .before .part-at2 .result .now) (c .before .part-at3 .result .now) (c .before .before .before .part-at .ensures) (c .before .before .part-at2 .ensures) (c .before .part-at3 .ensures))
+    (c .contract-asking .ensures)
+
+pub asking-of-spec : {M : Type 1} → statement M
+asking-of-spec =
+    tie.close
+    (tie.spec
+    add-part-at
+    part-at-requires
+    add-part-at-2
+    part-at-requires-2
+    add-part-at-3
+    part-at-requires-3
+    contract-asking-requires
+    returns)

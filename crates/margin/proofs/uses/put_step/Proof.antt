@@ -1,0 +1,43 @@
+-- What a step takes is written, and what it leaves is handed back.
+-- Assumes nothing.
+use mathlib.Core.Path.{_≡_, sym, ap, _∙_}
+use mathlib.Core.Bool.{true}
+use native.Mathlib.Omega.{arith}
+use borrow.Author.Needs.{needs}
+use lib.IntN.{ℤ}
+use mathlib.Core.List.{List}
+use lib.ListN.{length, length-map}
+use lib.Seq.{sets}
+use Rattle.spread.specs.Accepted.{soundPrompts, soundSpread}
+use Rattle.spread.proofs.Both.{and-left}
+use Rattle.margin.proofs.UsesLaws.{few-prompts, left-by, taken-is}
+use Rattle.margin.proofs.uses.put_step.Statement.{statement}
+use Rattle.margin.proofs.uses.put_step.Tie as tie
+
+step-over-requires : tie.Need-step-over-requires
+step-over-requires c κs = search needs
+
+put-deltas-requires : tie.Need-put-deltas-requires
+put-deltas-requires c κs =
+    let s = c .before .before .before in
+    let p = s .args .prompts in
+    (few-prompts p (and-left (soundPrompts p) (soundSpread (s .args .spread)) (s .pre .0)), s .pre .1)
+
+same-length : tie.Need-same-length
+same-length c = search needs
+
+returns : tie.Need-returns
+returns c =
+    let s = c .before .before .before .before .before .before in
+    let p = s .args .prompts in
+    let d = s .args .spread in
+    let step = c .before .before .before .before .before .step-over in
+    let lt : length (p .tier) ≡ 32 = sym (length-map (p .tier) _) ∙ s .good .1 .1 .0 .1 .1 .1 .0 .1 .0 .1 in
+    let ln : length (p .net) ≡ 32 = sym (length-map (p .net) _) ∙ s .good .1 .1 .0 .1 .1 .1 .1 .0 .1 .0 .1 in (
+      left-by p d (s .args .second) (step .result) (step .ensures) (s .pre .0),
+      c .before .before .put-deltas .ensures ∙ ap (sets (s .args .out .now) (s .args .at)) (taken-is p d (s .args .second) (step .result) (step .ensures) (s .pre .0) lt ln (few-prompts p (and-left (soundPrompts p) (soundSpread d) (s .pre .0)))),
+    )
+
+pub put-step-spec : {M : Type 1} → statement M
+put-step-spec =
+    tie.close (tie.spec step-over-requires put-deltas-requires same-length returns)

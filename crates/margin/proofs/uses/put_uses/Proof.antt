@@ -1,0 +1,153 @@
+-- One spread after the other, its two steps by turns: what is written and what is still to come are the whole.
+-- Assumes nothing.
+use mathlib.Core.Path.{_≡_, refl, sym, ap, _∙_}
+use mathlib.Core.Bool.{true}
+use mathlib.Core.List.{[]}
+use Prim.Native.Nat.{ℕ, _+_, _-_, _*_}
+use native.Mathlib.Omega.{arith}
+use borrow.Author.Needs.{needs}
+use lib.ListN.{length, length-map}
+use lib.Seq.{sets}
+use Rattle.spread.specs.Accepted.{openOf, stepsOf, soundPrompts, soundTable}
+use Rattle.spread.specs.Uses.{usesOf}
+use Rattle.spread.specs.declared.Spread.{Spread}
+use Rattle.spread.proofs.Both.{and-left, and-right}
+use Rattle.margin.proofs.UsesLaws.{Putting, few-prompts, few-in-table, put-none, room-here, first-room, first-sound, second-room, second-sound, put-next, put-length, put-all}
+use Rattle.margin.proofs.uses.put_uses.Statement.{statement}
+use Rattle.margin.proofs.uses.put_uses.Tie as tie
+
+abbrev noSpread : Spread
+noSpread = record { legs = 0; leg = [] }
+
+abbrev Inv-loop : tie.InvT-loop
+Inv-loop out₀ table n spreads left₀ at₀ i₀ out left at i = Putting n table (sets out₀ 0 (usesOf (stepsOf table) (openOf left₀))) i at left out × (length out ≡ length out₀)
+
+abbrev μ-loop : tie.MeasureT-loop
+μ-loop out₀ table n spreads left₀ at₀ i₀ out left at i = spreads - i
+
+loop-holds : tie.Need-loop-holds Inv-loop μ-loop
+loop-holds c =
+    let p = c .args .prompts in
+    let lt : length (p .tier) ≡ 32 = sym (length-map (p .tier) _) ∙ c .good .1 .0 .1 .1 .1 .0 .1 .0 .1 in
+    let ln : length (p .net) ≡ 32 = sym (length-map (p .net) _) ∙ c .good .1 .0 .1 .1 .1 .1 .0 .1 .0 .1 in
+    (put-none p (c .args .t3) (c .args .out .now) lt ln (c .pre .0) (c .pre .1), refl)
+
+mul-spread : tie.Need-mul-spread Inv-loop μ-loop
+mul-spread c =
+    let s = c .before .before in
+    let t = s .args .t3 in
+    let f = few-in-table t (and-right (soundPrompts (s .args .prompts)) (soundTable t) (s .pre .0)) in
+    omega arith
+
+element-copy-out-spread : tie.Need-element-copy-out-spread Inv-loop μ-loop
+element-copy-out-spread c =
+    let s = c .before .before in
+    let t = s .args .t3 in
+    let f = few-in-table t (and-right (soundPrompts (s .args .prompts)) (soundTable t) (s .pre .0)) in
+    omega arith
+
+put-step-requires : tie.Need-put-step-requires Inv-loop μ-loop
+put-step-requires c κs =
+    let b = c in
+    let s = b .before .before .before .before in
+    let l = b .before .before .before .loop in
+    let t = s .args .t3 in
+    let len : length (t .spread) ≡ 32 = sym (length-map (t .spread) _) ∙ s .good .1 .1 .0 .1 .1 .1 .0 .1 .0 .1 in
+    let ok = and-right (soundPrompts (s .args .prompts)) (soundTable t) (s .pre .0) in
+    let n = s .args .prompts .count in
+    (first-sound t len ok n _ (l .i) (l .at) (l .left) (l .left) (l .left) (l .out) (l .out) (l .out) noSpread (l .inv .0) (b .before .before .loop-test .taken), omega (arith, l .inv .0 .count, first-room t len ok n _ (l .i) (l .at) (l .left) (l .left) (l .left) (l .out) (l .out) (l .out) noSpread (l .inv .0) (b .before .before .loop-test .taken)))
+
+add-put-step : tie.Need-add-put-step Inv-loop μ-loop
+add-put-step c =
+    let b = c .before .before .before in
+    let s = b .before .before .before .before in
+    let l = b .before .before .before .loop in
+    let t = s .args .t3 in
+    let len : length (t .spread) ≡ 32 = sym (length-map (t .spread) _) ∙ s .good .1 .1 .0 .1 .1 .1 .0 .1 .0 .1 in
+    let ok = and-right (soundPrompts (s .args .prompts)) (soundTable t) (s .pre .0) in
+    let n = s .args .prompts .count in
+    omega (arith, l .inv .1, s .good .0, first-room t len ok n _ (l .i) (l .at) (l .left) (l .left) (l .left) (l .out) (l .out) (l .out) noSpread (l .inv .0) (b .before .before .loop-test .taken))
+
+put-step-requires-2 : tie.Need-put-step-requires-2 Inv-loop μ-loop
+put-step-requires-2 c κs =
+    let b = c .before .before .before in
+    let s = b .before .before .before .before in
+    let l = b .before .before .before .loop in
+    let t = s .args .t3 in
+    let len : length (t .spread) ≡ 32 = sym (length-map (t .spread) _) ∙ s .good .1 .1 .0 .1 .1 .1 .0 .1 .0 .1 in
+    let ok = and-right (soundPrompts (s .args .prompts)) (soundTable t) (s .pre .0) in
+    let n = s .args .prompts .count in
+    (second-sound t len ok n _ (l .i) (l .at) (l .left) (c .before .before .put-step .result) (l .left) (l .out) (c .before .before .put-step .last .0) (l .out) noSpread (l .inv .0) (b .before .before .loop-test .taken) (c .before .before .put-step .ensures .0) (c .before .before .put-step .ensures .1), second-room t len ok n _ (l .i) (l .at) (l .left) (c .before .before .put-step .result) (l .left) (l .out) (c .before .before .put-step .last .0) (l .out) noSpread (l .inv .0) (b .before .before .loop-test .taken) (c .before .before .put-step .ensures .0) (c .before .before .put-step .ensures .1))
+
+mul-at : tie.Need-mul-at Inv-loop μ-loop
+mul-at c =
+    let b = c .before .before .before .before .before in
+    let s = b .before .before .before .before in
+    let l = b .before .before .before .loop in
+    let t = s .args .t3 in
+    let len : length (t .spread) ≡ 32 = sym (length-map (t .spread) _) ∙ s .good .1 .1 .0 .1 .1 .1 .0 .1 .0 .1 in
+    let ok = and-right (soundPrompts (s .args .prompts)) (soundTable t) (s .pre .0) in
+    let n = s .args .prompts .count in
+    let r = room-here t len ok n _ (l .i) (l .at) (l .left) (l .left) (l .left) (l .out) (l .out) (l .out) noSpread (l .inv .0) (b .before .before .loop-test .taken) in
+    omega (arith, l .inv .1, s .good .0)
+
+add-at : tie.Need-add-at Inv-loop μ-loop
+add-at c =
+    let b = c .before .before .before .before .before in
+    let s = b .before .before .before .before in
+    let l = b .before .before .before .loop in
+    let t = s .args .t3 in
+    let len : length (t .spread) ≡ 32 = sym (length-map (t .spread) _) ∙ s .good .1 .1 .0 .1 .1 .1 .0 .1 .0 .1 in
+    let ok = and-right (soundPrompts (s .args .prompts)) (soundTable t) (s .pre .0) in
+    let n = s .args .prompts .count in
+    let r = room-here t len ok n _ (l .i) (l .at) (l .left) (l .left) (l .left) (l .out) (l .out) (l .out) noSpread (l .inv .0) (b .before .before .loop-test .taken) in
+    omega (arith, l .inv .1, s .good .0)
+
+add-i : tie.Need-add-i Inv-loop μ-loop
+add-i c = omega arith
+
+loop-less : tie.Need-loop-less Inv-loop μ-loop
+loop-less c = omega arith
+
+loop-again : tie.Need-loop-again Inv-loop μ-loop
+loop-again c =
+    let b = c .before .before .before .before .before in
+    let s = b .before .before .before .before in
+    let l = b .before .before .before .loop in
+    let t = s .args .t3 in
+    let len : length (t .spread) ≡ 32 = sym (length-map (t .spread) _) ∙ s .good .1 .1 .0 .1 .1 .1 .0 .1 .0 .1 in
+    let ok = and-right (soundPrompts (s .args .prompts)) (soundTable t) (s .pre .0) in
+    let n = s .args .prompts .count in
+    (put-next t len ok n _ (l .i) (l .at) (l .left) (c .before .before .before .before .put-step .result) (c .before .put-step2 .result) (l .out) (c .before .before .before .before .put-step .last .0) (c .before .put-step2 .last .0) noSpread (l .inv .0) (b .before .before .loop-test .taken) (c .before .before .before .before .put-step .ensures .0) (c .before .before .before .before .put-step .ensures .1) (c .before .put-step2 .ensures .0) (c .before .put-step2 .ensures .1), put-length t len ok n _ (l .i) (l .at) (l .left) (c .before .before .before .before .put-step .result) (c .before .put-step2 .result) (l .out) (c .before .before .before .before .put-step .last .0) (c .before .put-step2 .last .0) noSpread (l .inv .0) (b .before .before .loop-test .taken) (c .before .before .before .before .put-step .ensures .0) (c .before .before .before .before .put-step .ensures .1) (c .before .put-step2 .ensures .0) (c .before .put-step2 .ensures .1) ∙ l .inv .1)
+
+same-length : tie.Need-same-length Inv-loop μ-loop
+same-length c = c .before .loop .inv .1
+
+returns : tie.Need-returns Inv-loop μ-loop
+returns c =
+    let s = c .before .before in
+    let l = c .before .loop in
+    let t = s .args .t3 in
+    let len : length (t .spread) ≡ 32 = sym (length-map (t .spread) _) ∙ s .good .1 .1 .0 .1 .1 .1 .0 .1 .0 .1 in
+    let ok = and-right (soundPrompts (s .args .prompts)) (soundTable t) (s .pre .0) in
+    put-all t len ok (s .args .prompts .count) _ (l .i) (l .at) (l .left) (l .out) (l .inv .0) (omega arith)
+
+pub put-uses-spec : {M : Type 1} → statement M
+put-uses-spec =
+    tie.close
+    (tie.spec
+    Inv-loop
+    μ-loop
+    loop-holds
+    mul-spread
+    element-copy-out-spread
+    put-step-requires
+    add-put-step
+    put-step-requires-2
+    mul-at
+    add-at
+    add-i
+    loop-less
+    loop-again
+    same-length
+    returns)

@@ -1,0 +1,78 @@
+// How many numbers an answer needs.
+use crate::accepted::TABLE;
+use crate::held::figures_need;
+use crate::held::may_ask;
+use account::answers::number_of;
+use account::check::Survey;
+use account::check::take_survey;
+use account::parts::ENTRIES;
+use account::parts::PROMPTS;
+use account::parts::SPREADS;
+ghost use mathlib.Core.Path.{_≡_};
+ghost use mathlib.Core.Bool.{true};
+ghost use Prim.Native.Nat.{_≤_};
+ghost use Rattle.account.specs.Records.{records};
+ghost use Rattle.margin.specs.Books.{answered};
+ghost use Rattle.margin.specs.Needs.{SizesOf, NeedsOf, figuresNeed, bookNeed, usesNeed};
+ghost use Rattle.margin.specs.Stands.{Stands};
+
+// How many prompts and spreads a book is about; of the intercontract table, contracts and entries.
+struct Sizes {
+    prompts: usize,
+    spreads: usize,
+}
+
+fn sizes_over(file: &[u8], survey: Survey, question: usize) -> Sizes
+    requires { ⌜ Stands (now file) survey × (answered (records (now file)) question ≡ true) ⌝ }
+    ensures { λ r. ⌜ SizesOf (records (now (file .entry))) question (r .prompts) (r .spreads) ⌝ }
+{
+    let counts = survey.counts;
+    if question == TABLE {
+        return Sizes {
+            prompts: survey.contracts,
+            spreads: counts[ENTRIES],
+        };
+    }
+    Sizes {
+        prompts: counts[PROMPTS + question],
+        spreads: counts[SPREADS + question],
+    }
+}
+
+// The same of any file: none where it is refused or does not answer the question.
+fn sizes_of(file: &[u8], question: usize) -> Sizes
+    ensures { λ r. ⌜ NeedsOf (now (file .entry)) question (r .prompts) (r .spreads) ⌝ }
+{
+    let survey = take_survey(file);
+    let answer = may_ask(file, survey, question);
+    if number_of(answer) != 0 {
+        return Sizes {
+            prompts: 0,
+            spreads: 0,
+        };
+    }
+    sizes_over(file, survey, question)
+}
+
+// How many numbers the figures have, 0 where the file is refused.
+pub fn figures_needed(file: &[u8]) -> usize
+    ensures { λ r. ⌜ (r ≡ figuresNeed (now (file .entry))) × (r ≤ 129) ⌝ }
+{
+    figures_need(take_survey(file))
+}
+
+// How many numbers the delta book of a question has, 0 where the file is refused or does not answer it.
+pub fn book_needed(file: &[u8], question: usize) -> usize
+    ensures { λ r. ⌜ (r ≡ bookNeed (now (file .entry)) question) × (r ≤ 160) ⌝ }
+{
+    let sizes = sizes_of(file, question);
+    3 * sizes.prompts + 2 * sizes.spreads
+}
+
+// How many numbers say what each step of a question's table takes of each prompt, 0 as with the book.
+pub fn uses_needed(file: &[u8], question: usize) -> usize
+    ensures { λ r. ⌜ (r ≡ usesNeed (now (file .entry)) question) × (r ≤ 2048) ⌝ }
+{
+    let sizes = sizes_of(file, question);
+    sizes.spreads * (2 * sizes.prompts)
+}

@@ -1,0 +1,56 @@
+-- `step_over`: what is refused takes nothing; what is accepted has what the pools, the take and the spend give.
+-- Assumes nothing.
+use mathlib.Core.Path.{_≡_, sym, _∙_}
+use lib.ListN.{length, length-map}
+use borrow.Author.Needs.{needs}
+use borrow.Author.Tests.{not-true, not-false}
+use Rattle.spread.specs.Accepted.{soundPrompts, soundSpread}
+use Rattle.spread.proofs.Both.{and-left}
+use Rattle.spread.proofs.Stepping.{stepped-refused, stepped-accepted}
+use Rattle.spread.proofs.stepwise.step_over.Statement.{statement}
+use Rattle.spread.proofs.stepwise.step_over.Tie as tie
+
+can-step-requires : tie.Need-can-step-requires
+can-step-requires c κs = search needs
+
+not-taken-requires : tie.Need-not-taken-requires
+not-taken-requires c κs = search needs
+
+returns : tie.Need-returns
+returns c =
+    let s = c .before .before .before in
+    stepped-refused (s .args .prompts) (s .args .spread) (s .args .second) (c .not-taken .result) (sym (c .before .before .can-step .ensures) ∙ not-true _ (c .before .if1 .taken)) (c .not-taken .ensures)
+
+pools-of-requires : tie.Need-pools-of-requires
+pools-of-requires c κs =
+    let s = c .before .before in
+    and-left (soundPrompts (s .args .prompts)) (soundSpread (s .args .spread)) (sym (c .before .can-step .ensures) ∙ not-false _ (c .if1 .left))
+
+take-requires : tie.Need-take-requires
+take-requires c κs = search needs
+
+used-of-requires : tie.Need-used-of-requires
+used-of-requires c κs = search needs
+
+paid-by-requires : tie.Need-paid-by-requires
+paid-by-requires c κs =
+    let b = c .before .before .before .before in
+    let s = b .before .before in
+    and-left (soundPrompts (s .args .prompts)) (soundSpread (s .args .spread)) (sym (b .before .can-step .ensures) ∙ not-false _ (b .if1 .left))
+
+returns-2 : tie.Need-returns-2
+returns-2 c =
+    let b = c .before .before .before .before in
+    let t = b .before .before .before in
+    let p = t .before in
+    let s = p .before .before .before in
+    let q = s .args .prompts in
+    let lt : length (q .tier) ≡ 32 = sym (length-map (q .tier) _) ∙ s .good .0 .1 .1 .1 .0 .1 .0 .1 in
+    let ln : length (q .net) ≡ 32 = sym (length-map (q .net) _) ∙ s .good .0 .1 .1 .1 .1 .0 .1 .0 .1 in
+    stepped-accepted q (s .args .spread) (s .args .second) (sym (p .before .before .can-step .ensures) ∙ not-false _ (p .before .if1 .left)) lt ln _ _ _ _ _ _
+    (p .pools-of .ensures) (t .take .ensures) (b .before .used-of .ensures) (b .paid-by .ensures)
+
+pub step-over-spec : {M : Type 1} → statement M
+step-over-spec =
+    tie.close
+    (tie.spec can-step-requires not-taken-requires returns pools-of-requires take-requires used-of-requires paid-by-requires returns-2)

@@ -1,0 +1,109 @@
+//! What is wrong with the file or the record that a refusal names, in words: the length and the record
+//! by itself here, the record among the earlier ones in `among`.
+
+mod among;
+
+use crate::columns;
+use crate::wording::*;
+use independent::format::*;
+
+/// The fault for which a file is given a refusal of 1 to 9 that names this record; nothing where the
+/// file has no such fault.
+pub fn fault(number: usize, record: usize, file: &[u8]) -> Option<String> {
+    match number {
+        1 => return too_long(file),
+        2 => return not_whole(file),
+        _ => {}
+    }
+    let records = records(file);
+    let (record, earlier) = (*records.get(record)?, &records[..record]);
+    match number {
+        3 => unknown_kind(record),
+        4 => kind_below(record, earlier),
+        5 => unused_byte(record),
+        6 => outside(record),
+        7 => among::unlisted(record, earlier),
+        8 => among::order_or_clash(record, earlier),
+        9 => among::over_limit(record, earlier),
+        _ => None,
+    }
+}
+
+/// A record's kind in words.
+pub fn kind_in_words(record: Record) -> String {
+    match columns::kind(record.kind()) {
+        Some(kind) if kind.kind == ENTRY => format!("an {}", kind.name),
+        Some(kind) => format!("a {}", kind.name),
+        None => "of no kind".to_string(),
+    }
+}
+
+/// A field's column and where it stands, as in "day (bytes 4-7)".
+fn place(record: Record, field: Field) -> String {
+    let fields = columns::fields(record);
+    let column = fields.iter().find(|(_, other)| *other == field).map_or("", |(column, _)| column);
+    if field.bytes == 1 {
+        format!("{column} (byte {})", field.at)
+    } else {
+        format!("{column} (bytes {}-{})", field.at, field.at + field.bytes - 1)
+    }
+}
+
+fn too_long(file: &[u8]) -> Option<String> {
+    (file.len() > MOST_BYTES).then(|| say(TOO_LONG, &[&file.len(), &MOST_BYTES]))
+}
+
+fn not_whole(file: &[u8]) -> Option<String> {
+    let (whole, left) = (file.len() / RECORD_BYTES, file.len() % RECORD_BYTES);
+    let (bytes, whole) = (counted(file.len(), "byte"), counted(whole, "record"));
+    (left != 0).then(|| say(NOT_WHOLE, &[&bytes, &whole, &counted(left, "byte")]))
+}
+
+fn unknown_kind(record: Record) -> Option<String> {
+    columns::kind(record.kind()).is_none().then(|| say(UNKNOWN_KIND, &[&record.kind()]))
+}
+
+fn kind_below(record: Record, earlier: &[Record]) -> Option<String> {
+    let before = *earlier.last()?;
+    (record.kind() < before.kind())
+        .then(|| say(KIND_BELOW, &[&record.kind(), &kind_in_words(before), &before.kind()]))
+}
+
+/// The first unused byte that is not zero.
+fn unused_byte(record: Record) -> Option<String> {
+    let byte = columns::unused_byte(record)?;
+    let legs = record.get(LEGS);
+    let kind = match record.kind() {
+        SPREAD if legs == 2 => format!("{} of {legs} legs", kind_in_words(record)),
+        _ => kind_in_words(record),
+    };
+    Some(say(UNUSED_BYTE, &[&byte, &record.0[byte], &kind]))
+}
+
+/// The first field outside its range.
+fn outside(record: Record) -> Option<String> {
+    let (column, field) = columns::fields(record).into_iter().find(|(_, field)| {
+        let number = record.get(*field);
+        number < field.least || number > field.most
+    })?;
+    Some(say(OUTSIDE, &[&place(record, field), &record.get(field), &range(record, column, field)]))
+}
+
+/// A field's range, with the words of its numbers, or the class that it goes by.
+fn range(record: Record, column: &str, field: Field) -> String {
+    let numbers = match (field.least, field.most) {
+        (least, most) if least == most => least.to_string(),
+        (least, most) => format!("{least}..{most}"),
+    };
+    let words: Vec<&str> = columns::words(column).iter().map(|(_, word)| *word).collect();
+    if !words.is_empty() {
+        return format!("{numbers} ({})", words.join(", "));
+    }
+    let class = record.get(CLASS);
+    match columns::word("class", class) {
+        Some(word) if [strike(class), delta(class)].contains(&field) => {
+            format!("{numbers} for a {word}")
+        }
+        _ => numbers,
+    }
+}

@@ -1,0 +1,131 @@
+//! The same questions put to the proved library, to the tuned program and to the plain one.
+
+use bench::tuned::{self, BOOKS, MOST_BOOK, MOST_FIGURES};
+use independent::{held_book, margin};
+
+/// Memory lent for the figures and for all the books, each book with a place of its own.
+#[derive(PartialEq)]
+pub struct Lent {
+    figures: [i64; MOST_FIGURES],
+    books: [i64; BOOKS * MOST_BOOK],
+}
+
+impl Lent {
+    pub fn new() -> Lent {
+        Lent { figures: [-1; MOST_FIGURES], books: [-1; BOOKS * MOST_BOOK] }
+    }
+
+    /// The figures and all the books, each asked by itself.
+    fn each<A, B>(
+        &mut self,
+        figures: impl FnOnce(&mut [i64]) -> A,
+        book: impl Fn(usize, &mut [i64]) -> B,
+    ) {
+        figures(&mut self.figures);
+        for (question, place) in self.books.chunks_exact_mut(MOST_BOOK).enumerate() {
+            book(question, place);
+        }
+    }
+}
+
+/// One of the three: it checks a file, and answers questions about it to lent memory.
+pub trait Asked {
+    fn check(file: &[u8]) -> usize;
+    fn figures(file: &[u8], lent: &mut Lent);
+    fn book(file: &[u8], question: usize, lent: &mut Lent);
+    /// The figures and all the books of a file that is checked once.
+    fn all(file: &[u8], lent: &mut Lent);
+    /// The figures and all the books, the file being checked for each.
+    fn each(file: &[u8], lent: &mut Lent);
+}
+
+pub struct Proved;
+
+impl Asked for Proved {
+    fn check(file: &[u8]) -> usize {
+        compare::check(file).refusal
+    }
+
+    fn figures(file: &[u8], lent: &mut Lent) {
+        compare::figures(file, &mut lent.figures);
+    }
+
+    fn book(file: &[u8], question: usize, lent: &mut Lent) {
+        compare::book(file, question, &mut lent.books);
+    }
+
+    fn all(file: &[u8], lent: &mut Lent) {
+        compare::all(file, &mut lent.figures, &mut lent.books);
+    }
+
+    fn each(file: &[u8], lent: &mut Lent) {
+        lent.each(
+            |lent| compare::figures(file, lent),
+            |question, lent| compare::book(file, question, lent),
+        );
+    }
+}
+
+pub struct Tuned;
+
+impl Asked for Tuned {
+    fn check(file: &[u8]) -> usize {
+        tuned::check(file).map_or_else(|refusal| refusal.number.into(), |()| 0)
+    }
+
+    fn figures(file: &[u8], lent: &mut Lent) {
+        _ = tuned::figures(file, &mut lent.figures);
+    }
+
+    fn book(file: &[u8], question: usize, lent: &mut Lent) {
+        _ = tuned::book(file, question as u64, &mut lent.books);
+    }
+
+    fn all(file: &[u8], lent: &mut Lent) {
+        _ = tuned::all(file, &mut lent.figures, &mut lent.books);
+    }
+
+    fn each(file: &[u8], lent: &mut Lent) {
+        lent.each(
+            |lent| tuned::figures(file, lent),
+            |question, lent| tuned::book(file, question as u64, lent),
+        );
+    }
+}
+
+pub struct Plain;
+
+impl Asked for Plain {
+    fn check(file: &[u8]) -> usize {
+        independent::check(file).map_or_else(|refusal| refusal.number.into(), |_| 0)
+    }
+
+    fn figures(file: &[u8], lent: &mut Lent) {
+        _ = independent::figures(file, &mut lent.figures);
+    }
+
+    fn book(file: &[u8], question: usize, lent: &mut Lent) {
+        _ = independent::book(file, question as u64, &mut lent.books);
+    }
+
+    fn all(file: &[u8], lent: &mut Lent) {
+        let Ok(account) = independent::check(file) else { return };
+        let figures = margin::figures_of(&account);
+        let numbers = figures.iter().flat_map(|contract| contract.numbers());
+        let answer = numbers.chain([margin::total(&figures).0]);
+        lent.figures.iter_mut().zip(answer).for_each(|(place, number)| *place = number);
+        for (question, place) in lent.books.chunks_exact_mut(MOST_BOOK).enumerate() {
+            if let Ok(book) = held_book(&account, question as u64) {
+                let numbers = book.numbers();
+                place[..numbers.len()].copy_from_slice(&numbers);
+            }
+        }
+    }
+
+    fn each(file: &[u8], lent: &mut Lent) {
+        lent.each(
+            |lent| independent::figures(file, lent),
+            |question, lent| independent::book(file, question as u64, lent),
+        );
+    }
+}

@@ -1,0 +1,218 @@
+//! The margin job written for speed: one walk checks the records and notes where their parts stand;
+//! the answers are reckoned from these and written to lent memory as they come. Nothing is allocated.
+
+mod check;
+mod contract;
+mod record;
+mod steps;
+mod table;
+
+use check::{Notes, CONTRACTS};
+use contract::{Book, Charges, Contract};
+use independent::format::*;
+use independent::refusal::{TOO_FEW_LENT, UNLISTED_QUESTION};
+use independent::Refusal;
+use record::{get, Record};
+use table::Table;
+
+/// The question for the intercontract table.
+const TABLE: usize = CONTRACTS;
+/// The numbers of a contract's figures.
+const FIGURES: usize = 8;
+pub const MOST_FIGURES: usize = FIGURES * CONTRACTS + 1;
+pub const MOST_BOOK: usize = 3 * MOST_PROMPTS + 2 * MOST_SPREADS;
+/// The books of all contracts and of the table.
+pub const BOOKS: usize = CONTRACTS + 1;
+
+pub fn check(file: &[u8]) -> Result<(), Refusal> {
+    check::check(file, &mut Notes::default(), &mut ())?;
+    Ok(())
+}
+
+/// The figures of a file, at the front of the numbers lent; gives how many were written.
+pub fn figures(file: &[u8], lent: &mut [i64]) -> Result<usize, Refusal> {
+    let (mut notes, mut places) = (Notes::default(), [0; MOST_RECORDS]);
+    let records = check::check(file, &mut notes, &mut places)?;
+    Held { records, notes: &notes, places: &places }.figures(lent)
+}
+
+/// The delta book of a question, written as the figures are.
+pub fn book(file: &[u8], question: u64, lent: &mut [i64]) -> Result<usize, Refusal> {
+    let (mut notes, mut places) = (Notes::default(), [0; MOST_RECORDS]);
+    let records = check::check(file, &mut notes, &mut places)?;
+    Held { records, notes: &notes, places: &places }.book(question, lent)
+}
+
+/// The figures, and the books of questions 0 to 16, each in the `MOST_BOOK` numbers that are its place.
+pub fn all(file: &[u8], figures: &mut [i64], books: &mut [i64]) -> [Result<(), Refusal>; 2] {
+    let (mut notes, mut places) = (Notes::default(), [0; MOST_RECORDS]);
+    match check::check(file, &mut notes, &mut places) {
+        Ok(records) => Held { records, notes: &notes, places: &places }.all(figures, books),
+        Err(refusal) => [Err(refusal); 2],
+    }
+}
+
+/// An accepted account with what the check noted.
+struct Held<'a> {
+    records: &'a [Record],
+    notes: &'a Notes,
+    places: &'a [u8; MOST_RECORDS],
+}
+
+impl Held<'_> {
+    fn figures(&self, lent: &mut [i64]) -> Result<usize, Refusal> {
+        let needed = FIGURES * self.notes.contracts + 1;
+        let lent = self.enough(lent, needed)?;
+        let charges = |_, contract: &Contract| {
+            let mut charges = Charges::default();
+            (contract.run(&mut charges), charges)
+        };
+        self.write_figures(lent, charges, |_, _| ());
+        Ok(needed)
+    }
+
+    fn book(&self, question: u64, lent: &mut [i64]) -> Result<usize, Refusal> {
+        let question = usize::try_from(question).unwrap_or(usize::MAX);
+        if question == TABLE {
+            return self.table_book(lent);
+        }
+        if !self.notes.lists(question) {
+            return Err(self.refusal(UNLISTED_QUESTION));
+        }
+        let contract = self.contract(self.notes.place(question), question);
+        let (prompts, spreads) = (contract.prompts.len(), contract.spreads.len());
+        let needed = 3 * prompts + 2 * spreads;
+        let lent = self.enough(lent, needed)?;
+        contract.run(&mut Book::at(lent, prompts, spreads));
+        Ok(needed)
+    }
+
+    fn table_book(&self, lent: &mut [i64]) -> Result<usize, Refusal> {
+        let entries = self.entries();
+        let needed = 3 * self.notes.contracts + 2 * entries.len();
+        let lent = self.enough(lent, needed)?;
+        let book = Book::at(lent, self.notes.contracts, entries.len());
+        let mut table = Table::new();
+        for (number, contract) in self.contracts() {
+            table.add(number, contract.net());
+        }
+        for (numbers, entry) in book.spreads.iter_mut().zip(entries) {
+            *numbers = table.steps(entry);
+        }
+        self.write_left(&table, book.prompts);
+        Ok(needed)
+    }
+
+    fn all(&self, figures: &mut [i64], books: &mut [i64]) -> [Result<(), Refusal>; 2] {
+        if books.len() < BOOKS * MOST_BOOK {
+            return [self.figures(figures).map(|_| ()), Err(self.refusal(TOO_FEW_LENT))];
+        }
+        let (books, _) = books.as_chunks_mut::<MOST_BOOK>();
+        let (of_contracts, of_table) = books.split_at_mut(TABLE);
+        let entries = self.entries().len();
+        let book = Book::at(&mut of_table[0], self.notes.contracts, entries);
+        let charges = |number: usize, contract: &Contract| {
+            let (prompts, spreads) = (contract.prompts.len(), contract.spreads.len());
+            let place = Book::at(&mut of_contracts[number], prompts, spreads);
+            let mut takes = (Charges::default(), place);
+            (contract.run(&mut takes), takes.0)
+        };
+        let steps = |place: usize, numbers| book.spreads[place] = numbers;
+        let needed = FIGURES * self.notes.contracts + 1;
+        let (table, answer) = match self.enough(figures, needed) {
+            Ok(lent) => (self.write_figures(lent, charges, steps), Ok(())),
+            Err(refusal) => {
+                (self.write_figures(&mut [0; MOST_FIGURES], charges, steps), Err(refusal))
+            }
+        };
+        self.write_left(&table, book.prompts);
+        [answer, Ok(())]
+    }
+
+    /// Writes the figures to numbers that are enough. `charges` gives a contract's net delta and its
+    /// charges; `steps` is handed the numbers of each entry.
+    #[inline(always)]
+    fn write_figures(
+        &self,
+        lent: &mut [i64],
+        mut charges: impl FnMut(usize, &Contract) -> (i64, Charges),
+        mut steps: impl FnMut(usize, [i64; 2]),
+    ) -> Table {
+        let (lines, total) = lent.split_at_mut(FIGURES * self.notes.contracts);
+        let (lines, _) = lines.as_chunks_mut::<FIGURES>();
+        let mut table = Table::new();
+        for (line, (number, contract)) in lines.iter_mut().zip(self.contracts()) {
+            let risks = contract.risks();
+            let (net, charges) = charges(number, &contract);
+            table.add(number, net);
+            // twice the price risk stands in the margin's place until the credits are known
+            *line = [
+                number as i64,
+                risks.active,
+                risks.scanning,
+                charges.interprompt,
+                charges.prompt,
+                0,
+                risks.minimum,
+                risks.twice_price,
+            ];
+        }
+        for (place, entry) in self.entries().iter().enumerate() {
+            let numbers = table.steps(entry);
+            steps(place, numbers);
+            let formed = numbers[0] + numbers[1];
+            if formed > 0 {
+                for (number, ratio) in [(NUMBER, FIRST_RATIO), (SECOND_NUMBER, SECOND_RATIO)] {
+                    let contract = get(entry, number) as usize;
+                    let used = formed * get(entry, ratio);
+                    let [.., credit, _, twice_price] = &mut lines[self.notes.place(contract)];
+                    *credit += table.credit(contract, *twice_price, used, get(entry, PERCENT));
+                }
+            }
+        }
+        total[0] = 0;
+        for [_, _, scanning, interprompt, prompt, credit, minimum, margin] in lines {
+            *margin = (*scanning + *interprompt + *prompt - *credit).max(*minimum);
+            total[0] += *margin;
+        }
+        table
+    }
+
+    fn write_left(&self, table: &Table, lines: &mut [[i64; 3]]) {
+        for (line, own) in lines.iter_mut().zip(self.records) {
+            let (net, left) = table.left(usize::from(own[NUMBER.at]));
+            *line = [net, net - left, left];
+        }
+    }
+
+    fn contracts(&self) -> impl Iterator<Item = (usize, Contract<'_>)> {
+        (0..self.notes.contracts).map(|place| {
+            let number = usize::from(self.records[place][NUMBER.at]);
+            (number, self.contract(place, number))
+        })
+    }
+
+    #[inline(always)]
+    fn contract(&self, place: usize, number: usize) -> Contract<'_> {
+        let rows = self.notes.rows[number].range();
+        Contract {
+            own: &self.records[place],
+            prompts: &self.records[self.notes.prompts[number].range()],
+            rows: &self.records[rows.clone()],
+            places: &self.places[rows],
+            spreads: &self.records[self.notes.spreads[number].range()],
+        }
+    }
+
+    fn entries(&self) -> &[Record] {
+        &self.records[self.notes.entries.range()]
+    }
+
+    fn enough<'b>(&self, lent: &'b mut [i64], needed: usize) -> Result<&'b mut [i64], Refusal> {
+        lent.get_mut(..needed).ok_or(self.refusal(TOO_FEW_LENT))
+    }
+
+    fn refusal(&self, number: u8) -> Refusal {
+        Refusal { number, record: self.records.len() }
+    }
+}

@@ -1,0 +1,174 @@
+//! A contract: what its rows come to, and what its spreads and prompts take and are charged.
+
+use super::record::{get, losses, Record};
+use super::steps::{both, pay, pool_of, Pools, POOLS};
+use independent::format::*;
+use independent::margin::PAIRED_SCENARIOS;
+use independent::units::ONE;
+
+/// The records of a contract, with the place of each row's prompt.
+pub struct Contract<'a> {
+    pub own: &'a Record,
+    pub prompts: &'a [Record],
+    pub rows: &'a [Record],
+    pub places: &'a [u8],
+    pub spreads: &'a [Record],
+}
+
+/// Takes what the steps give for each spread and each prompt of a contract.
+pub trait Takes {
+    fn spread(&mut self, place: usize, spread: &Record, numbers: [i64; 2]);
+    fn prompt(&mut self, place: usize, prompt: &Record, net: i64, used: i64);
+}
+
+impl<A: Takes, B: Takes> Takes for (A, B) {
+    #[inline(always)]
+    fn spread(&mut self, place: usize, spread: &Record, numbers: [i64; 2]) {
+        self.0.spread(place, spread, numbers);
+        self.1.spread(place, spread, numbers);
+    }
+
+    #[inline(always)]
+    fn prompt(&mut self, place: usize, prompt: &Record, net: i64, used: i64) {
+        self.0.prompt(place, prompt, net, used);
+        self.1.prompt(place, prompt, net, used);
+    }
+}
+
+/// The charges of a contract's spreads and of its prompts, each rounded by itself.
+#[derive(Default)]
+pub struct Charges {
+    pub interprompt: i64,
+    pub prompt: i64,
+}
+
+impl Takes for Charges {
+    #[inline(always)]
+    fn spread(&mut self, _: usize, spread: &Record, [first, second]: [i64; 2]) {
+        self.interprompt += halves_up((first + second) * get(spread, SPREAD_RATE));
+    }
+
+    #[inline(always)]
+    fn prompt(&mut self, _: usize, prompt: &Record, net: i64, used: i64) {
+        let in_spreads = used.abs() * get(prompt, RATE_IN_SPREADS);
+        self.prompt += halves_up(in_spreads + (net - used).abs() * get(prompt, RATE_OUTRIGHT));
+    }
+}
+
+/// Ten-thousandths of an amount, rounded once.
+#[inline(always)]
+fn halves_up(parts: i64) -> i64 {
+    ((parts as u64 + ONE as u64 / 2) / ONE as u64) as i64
+}
+
+/// A delta book in lent memory: three numbers a prompt, then two a spread.
+pub struct Book<'a> {
+    pub prompts: &'a mut [[i64; 3]],
+    pub spreads: &'a mut [[i64; 2]],
+}
+
+impl<'a> Book<'a> {
+    /// The book at the front of lent memory that is large enough.
+    pub fn at(lent: &'a mut [i64], prompts: usize, spreads: usize) -> Book<'a> {
+        let (front, rest) = lent.split_at_mut(3 * prompts);
+        let (prompts, _) = front.as_chunks_mut();
+        let (spreads, _) = rest[..2 * spreads].as_chunks_mut();
+        Book { prompts, spreads }
+    }
+}
+
+impl Takes for Book<'_> {
+    #[inline(always)]
+    fn spread(&mut self, place: usize, _: &Record, numbers: [i64; 2]) {
+        self.spreads[place] = numbers;
+    }
+
+    #[inline(always)]
+    fn prompt(&mut self, place: usize, _: &Record, net: i64, used: i64) {
+        self.prompts[place] = [net, used, net - used];
+    }
+}
+
+impl Contract<'_> {
+    /// The net delta over all prompts.
+    pub fn net(&self) -> i64 {
+        self.rows.iter().map(row_delta).sum()
+    }
+
+    fn nets(&self) -> [i64; MOST_PROMPTS] {
+        let mut nets = [0; MOST_PROMPTS];
+        for (row, place) in self.rows.iter().zip(self.places) {
+            nets[usize::from(*place)] += row_delta(row);
+        }
+        nets
+    }
+
+    /// Runs the steps, and hands out what they give. Gives the net delta over all prompts.
+    #[inline(always)]
+    pub fn run(&self, takes: &mut impl Takes) -> i64 {
+        let nets = self.nets();
+        let mut full = [0; POOLS];
+        for (prompt, net) in self.prompts.iter().zip(nets) {
+            full[pool_of(get(prompt, PROMPT_TIER), net < 0)] += net.unsigned_abs();
+        }
+        let mut left = full;
+        for (place, spread) in self.spreads.iter().enumerate() {
+            takes.spread(place, spread, steps_of(&mut left, spread));
+        }
+        for (place, (prompt, net)) in self.prompts.iter().zip(nets).enumerate() {
+            let pool = pool_of(get(prompt, PROMPT_TIER), net < 0);
+            takes.prompt(place, prompt, net, pay(net, &mut full[pool], left[pool]));
+        }
+        nets.iter().sum()
+    }
+
+    pub fn risks(&self) -> Risks {
+        let mut totals = [0; SCENARIOS];
+        let mut short_lots = 0;
+        for row in self.rows {
+            let lots = get(row, LOTS);
+            let a_tick = lots * get(row, VALUE);
+            for (total, ticks) in totals.iter_mut().zip(losses(row)) {
+                *total += a_tick * i64::from(ticks);
+            }
+            short_lots += if get(row, CLASS) == FORWARD { 0 } else { -lots.min(0) };
+        }
+        let mut active = 0;
+        for scenario in 1..SCENARIOS {
+            active = if totals[scenario] > totals[active] { scenario } else { active };
+        }
+        let paired = PAIRED_SCENARIOS[active] - 1;
+        Risks {
+            active: active as i64 + 1,
+            scanning: totals[active].max(0),
+            twice_price: (totals[active] + totals[paired] - totals[0] - totals[1]).max(0),
+            minimum: short_lots * get(self.own, SHORT_OPTION_RATE),
+        }
+    }
+}
+
+/// What a contract's rows come to.
+pub struct Risks {
+    pub active: i64,
+    pub scanning: i64,
+    pub twice_price: i64,
+    pub minimum: i64,
+}
+
+#[inline(always)]
+fn row_delta(row: &Record) -> i64 {
+    get(row, LOTS) * get(row, delta(FORWARD))
+}
+
+#[inline(always)]
+fn steps_of(pools: &mut Pools, spread: &Record) -> [i64; 2] {
+    let leg = |leg| {
+        let short = get(spread, leg_side(leg)) == SIDE_B;
+        (pool_of(get(spread, leg_tier(leg)), short), get(spread, leg_ratio(leg)) as u64)
+    };
+    if get(spread, LEGS) == 2 {
+        both(pools, [leg(0), leg(1)])
+    } else {
+        both(pools, [leg(0), leg(1), leg(2)])
+    }
+}

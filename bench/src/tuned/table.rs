@@ -1,0 +1,49 @@
+//! The intercontract table: each contract a tier with one prompt, and the credits that its entries earn.
+
+use super::check::CONTRACTS;
+use super::record::{get, Record};
+use super::steps::{both, pool_of, Pools, POOLS};
+use independent::format::*;
+
+/// The pools of the contracts, with their net deltas by contract number.
+pub struct Table {
+    nets: [i64; CONTRACTS],
+    pools: Pools,
+}
+
+impl Table {
+    pub fn new() -> Table {
+        Table { nets: [0; CONTRACTS], pools: [0; POOLS] }
+    }
+
+    pub fn add(&mut self, contract: usize, net: i64) {
+        self.nets[contract] = net;
+        self.pools[pool_of(contract as i64, net < 0)] = net.unsigned_abs();
+    }
+
+    /// The two steps of an entry.
+    #[inline(always)]
+    pub fn steps(&mut self, entry: &Record) -> [i64; 2] {
+        let a = (pool_of(get(entry, NUMBER), false), get(entry, FIRST_RATIO) as u64);
+        let b = (pool_of(get(entry, SECOND_NUMBER), true), get(entry, SECOND_RATIO) as u64);
+        both(&mut self.pools, [a, b])
+    }
+
+    /// The net delta of a contract, and what of it the steps leave.
+    pub fn left(&self, contract: usize) -> (i64, i64) {
+        let net = self.nets[contract];
+        let left = self.pools[pool_of(contract as i64, net < 0)] as i64;
+        (net, if net < 0 { -left } else { left })
+    }
+
+    /// What a contract earns by an entry that uses so much of its net delta, rounded once.
+    pub fn credit(&self, contract: usize, twice_price: i64, used: i64, percent: i64) -> i64 {
+        let net = self.nets[contract].unsigned_abs();
+        let whole = 200 * u128::from(net);
+        let part = twice_price as u128 * used as u128 * percent as u128;
+        if part == 0 {
+            return 0;
+        }
+        ((part + whole / 2) / whole) as i64
+    }
+}

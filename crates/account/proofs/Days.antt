@@ -8,9 +8,9 @@ use lib.ListN.{length}
 use lib.Dec.{eqb, leb, ltb}
 use native.Mathlib.Omega.{arith}
 use native.Mathlib.Nat.{le-refl}
-use borrow.Author.Tests.{eq-eqb, ne-eqb, eqb-true, leb-false}
+use borrow.Author.Tests.{eq-eqb, ne-eqb, eqb-true, leb-false, ltb-false}
 use Rattle.exact.specs.Lists.{consIf, keep, count}
-use Rattle.record.specs.Layout.{Record, kind, contract, day}
+use Rattle.record.specs.Layout.{Record, kind, contract, tier, day}
 use Rattle.record.proofs.Within.{never, both-true, neither}
 use Rattle.account.specs.Accepted.{every}
 use Rattle.account.specs.Check.{dayNotAbove, tierFalls, outOfOrder}
@@ -85,7 +85,7 @@ module _ (c : ℕ) (xs : List Record) (before r : Record) where
       }
 
   -- the day rises from one prompt of a contract to the next
-  day-rises :
+  pub day-rises :
       ofContract 2 c before ≡ true → ofContract 2 c r ≡ true → outOfOrder before r ≡ false → day before < day r
   day-rises b e off =
       let x = both-true (eqb (kind before) 2) (eqb (contract before) c) b in
@@ -97,6 +97,15 @@ module _ (c : ℕ) (xs : List Record) (before r : Record) where
       (day before)) t .1 in
       leb-false (day r) (day before)
       (right-off (eq-eqb (contract r) (contract before) (eqb-true _ _ (y .1) ∙ sym (eqb-true _ _ (x .1)))) s)
+
+  -- and the tier does not fall
+  pub tier-stays :
+      ofContract 2 c before ≡ true → ofContract 2 c r ≡ true → outOfOrder before r ≡ false → tier before ≤ tier r
+  tier-stays b e off =
+      let y = both-true (eqb (kind r) 2) (eqb (contract r) c) e in
+      let t = neither (dayNotAbove before r) (tierFalls before r) (sym (order-2 before r (eqb-true (kind r) 2 (y .0))) ∙ off) .1 in
+      ltb-false (tier r) (tier before)
+      (right-off (ap (λ (n : ℕ). ofContract 2 n before) (eqb-true (contract r) c (y .1)) ∙ b) t)
 
 module _ (file : List ℕ) (c : ℕ) (hc : c ≤ 15) where
   -- where the contract has prompts before another of its prompts, the record before is one of them

@@ -17,7 +17,7 @@ use Rattle.account.specs.Check.{faultOf, tooLong, cutRecord, checked}
 use Rattle.account.specs.Notes.{partOf, inPart, oneMore, firstAt, faultAt}
 use Rattle.account.specs.Parts.{ofKind, startOf}
 use Rattle.account.specs.Records.{cut, recordAt, recordCount, earlier}
-use Rattle.account.specs.Surveyed.{ifAccepted, Surveyed, Empty, Alike}
+use Rattle.account.specs.Surveyed.{ifAccepted, Surveyed, Empty}
 use Rattle.account.specs.declared.answers.Answer.{Answer}
 use Rattle.account.specs.declared.answers.Answer.the-variants.{Accepted}
 use Rattle.account.specs.declared.check.Survey.{Survey}
@@ -186,15 +186,20 @@ module _ {file first counts : List ℕ} {contracts k : ℕ} (g : Going file firs
       }
 
 -- the promise leaves one survey
-pub same-survey : (file : List ℕ) (s t : Survey) → Surveyed file s → Surveyed file t → Alike s t
+pub same-survey : (file : List ℕ) (s t : Survey) → Surveyed file s → Surveyed file t → s ≡ t
 same-survey file s t a b =
+    let first =
+    ext-getD 0 (s .first) (t .first) (a .firsts ∙ sym (b .firsts))
+    (λ v h. a .first v (omega (arith, a .firsts)) ∙ sym (b .first v (omega (arith, a .firsts))))
+    in
+    let counts =
+    ext-getD 0 (s .counts) (t .counts) (a .sizes ∙ sym (b .sizes))
+    (λ v h. a .counts v (omega (arith, a .sizes)) ∙ sym (b .counts v (omega (arith, a .sizes))))
+    in
+    λ i.
     record {
-      answer = a .answer ∙ sym (b .answer);
-      contracts = a .contracts ∙ sym (b .contracts);
-      first =
-          ext-getD 0 (s .first) (t .first) (a .firsts ∙ sym (b .firsts))
-          (λ v h. a .first v (omega (arith, a .firsts)) ∙ sym (b .first v (omega (arith, a .firsts))));
-      counts =
-          ext-getD 0 (s .counts) (t .counts) (a .sizes ∙ sym (b .sizes))
-          (λ v h. a .counts v (omega (arith, a .sizes)) ∙ sym (b .counts v (omega (arith, a .sizes))));
+      answer = (a .answer ∙ sym (b .answer)) i;
+      contracts = (a .contracts ∙ sym (b .contracts)) i;
+      first = first i;
+      counts = counts i;
     }

@@ -9,21 +9,25 @@ use mathlib.Core.List.{List, [], _∷_}
 use borrow.Author.Tests.{eqb-true, eq-eqb, leb-false}
 use lib.Dec.{eqb, leb}
 use lib.ListN.{length, getD, take, drop}
-use lib.Seq.{getD-take, drop-drop}
+use lib.Seq.{getD-take, getD-drop, drop-drop}
 use Rattle.exact.specs.Lists.{keep, count}
-use Rattle.record.specs.Layout.{Record, kind, contract}
+use Rattle.record.specs.Layout.{Record, kind, contract, tier, day}
 use Rattle.record.proofs.Within.{both-true, neither}
 use Rattle.account.specs.Accepted.{every}
 use Rattle.account.specs.Answers.{numberOf, recordOf}
-use Rattle.account.specs.Check.{checked, theOneBefore, contractFalls, legsClash, withItself}
-use Rattle.account.specs.Orders.{Rising, Orders}
-use Rattle.account.specs.Parts.{ofKind, ofContract, contractsOf}
+use Rattle.account.specs.Check.{checked, theOneBefore, contractFalls, legsClash, withItself, outOfOrder}
+use Rattle.account.specs.Orders.{Rising, Later, Orders}
+use Rattle.account.specs.Notes.{part}
+use Rattle.account.specs.Parts.{startOf, ofKind, ofContract, contractsOf, promptsOf}
 use Rattle.account.specs.Records.{cut, recordAt, records, recordCount, earlier}
 use Rattle.account.specs.declared.answers.Answer.the-variants.{Accepted}
+use Rattle.account.proofs.Days.{day-rises, tier-stays}
 use Rattle.account.proofs.Dispatch.{order-1, order-4, order-5}
 use Rattle.account.proofs.Every.{every-kept, length-kept}
 use Rattle.account.proofs.Exactly.{exactly, faultless}
-use Rattle.account.proofs.Laid.{Faultless, passed-at}
+use Rattle.account.proofs.Laid.{Faultless, laid, passed-at}
+use Rattle.account.proofs.Lists.{Stretch}
+use Rattle.account.proofs.Noted.{part-is}
 use Rattle.account.proofs.Own.{own}
 use Rattle.account.proofs.Passed.{Passed, right-off}
 use Rattle.account.proofs.Walk.{length-cut}
@@ -73,10 +77,53 @@ module _ (file : List ℕ) (ok : checked file ≡ Accepted) where
       let above = leb-false (contract (recordAt file (suc k))) (contract (recordAt file k)) t in
       subst₂ (λ (x y : Record). contract x < contract y) (sym (a .0)) (sym (b .0)) above
 
+  -- the prompts of a contract follow each other
+  module _ (c : ℕ) (hc : c ≤ 15) where
+    ps : List Record
+    ps = promptsOf c (records file)
+
+    start : ℕ
+    start = startOf (ofContract 2 c) (records file)
+
+    prompt-at : (k : ℕ) → k < length ps → (getD ps k [] ≡ recordAt file (start + k)) × (start + k < recordCount file)
+    unfolding ps start
+    prompt-at k h =
+        let n = recordCount file in
+        let s = subst (λ (p : Record → Bool). Stretch p (records file)) (part-is 2 c (omega arith) hc) (laid file n fine .parts (part 2 c) (omega arith)) in
+        let l = length-kept (ofContract 2 c) (records file) in
+        let w = s .within in
+        let m = length-cut n file in
+        (ap (λ (rs : List Record). getD rs k []) (s .kept) ∙ getD-take (count (ofContract 2 c) (records file)) (drop start (records file)) k [] (omega arith) ∙ getD-drop start (records file) k [] ∙ cut-at n (start + k) file (omega arith), omega arith)
+
+    theirs : every (λ r. ofContract 2 c r ≡ true) ps
+    unfolding ps
+    theirs = every-kept (λ r. ofContract 2 c r ≡ true) (ofContract 2 c) file (recordCount file) (λ j l e. e)
+
+    -- two that follow each other in the file, the second not out of order
+    next : (P : Record → Record → Type 0) → ((b r : Record) → ofContract 2 c b ≡ true → ofContract 2 c r ≡ true → outOfOrder b r ≡ false → P b r)
+        → (k : ℕ) → suc k < length ps → P (getD ps k []) (getD ps (suc k) [])
+    next P f k h =
+        let a = prompt-at k (omega arith) in
+        let e : start + suc k ≡ suc (start + k) = omega arith in
+        let b = prompt-at (suc k) h in
+        let r : getD ps (suc k) [] ≡ recordAt file (suc (start + k)) = b .0 ∙ ap (recordAt file) e in
+        let one : ofContract 2 c (recordAt file (start + k)) ≡ true = subst (λ (x : Record). ofContract 2 c x ≡ true) (a .0) (every-at (λ x. ofContract 2 c x ≡ true) ps theirs k (omega arith)) in
+        let two : ofContract 2 c (recordAt file (suc (start + k))) ≡ true = subst (λ (x : Record). ofContract 2 c x ≡ true) r (every-at (λ x. ofContract 2 c x ≡ true) ps theirs (suc k) h) in
+        subst₂ P (sym (a .0)) (sym r) (f (recordAt file (start + k)) (recordAt file (suc (start + k))) one two (at (suc (start + k)) (omega (arith, e, b .1)) .ordered))
+
+    later : Later (promptsOf c (records file))
+    unfolding ps
+    later =
+        record {
+          days = next (λ b r. day b < day r) (λ b r. day-rises c [] b r);
+          tiers = next (λ b r. tier b ≤ tier r) (λ b r. tier-stays c [] b r);
+        }
+
   pub orders : Orders (records file)
   orders =
       record {
         contracts = rising;
+        prompts = later;
         spreads =
             λ c.
             every-kept (λ s. legsClash s ≡ false) (ofContract 4 c) file (recordCount file)

@@ -13,8 +13,9 @@ use Rattle.account.specs.Accepted.{Accepts}
 use Rattle.account.specs.Answers.{numberOf, recordOf}
 use Rattle.account.specs.Check.{Refusal, refusals, tooLong, cutRecord, checked}
 use Rattle.account.specs.Check.{theOneBefore, kindFalls, numberNotAbove, dayNotAbove, tierFalls, contractFalls, legsClash, withItself, outOfOrder, faultOf}
+use Rattle.account.specs.Orders.{Orders}
 use Rattle.account.specs.Parts.{ofKind, ofContract}
-use Rattle.account.specs.Records.{recordAt, recordCount, earlier}
+use Rattle.account.specs.Records.{records, recordAt, recordCount, earlier}
 use Rattle.account.specs.declared.answers.Answer.the-variants.{Accepted}
 
 pub record Iff (A B : Type 0) : Type 0 where
@@ -88,3 +89,4 @@ pub record Claims (file : List ℕ) : Type 0 where
   pub exactly : Exactly file
   pub byKind : ByKind file
   pub accepts : checked file ≡ Accepted → Accepts file
+  pub orders : checked file ≡ Accepted → Orders (records file)

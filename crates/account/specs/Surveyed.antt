@@ -42,10 +42,3 @@ pub record Empty (a : Answer) (s : Survey) : Type 0 where
   pub contracts : s .contracts ≡ 0
   pub first : s .first ≡ replicate 81 0
   pub counts : s .counts ≡ replicate 81 0
-
--- two that agree in everything
-pub record Alike (s t : Survey) : Type 0 where
-  pub answer : s .answer ≡ t .answer
-  pub contracts : s .contracts ≡ t .contracts
-  pub first : s .first ≡ t .first
-  pub counts : s .counts ≡ t .counts

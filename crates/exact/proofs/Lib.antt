@@ -1,4 +1,5 @@
 -- The laws that the layers above cite, and two files for one function each.
+pub mod Determined
 mod Digits
 mod Downward
 pub mod HalfUp

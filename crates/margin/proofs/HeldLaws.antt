@@ -21,8 +21,10 @@ use Rattle.account.specs.declared.answers.Answer.{Answer}
 use Rattle.account.specs.declared.answers.Answer.the-variants.{Accepted, TooFewNumbers}
 use Rattle.account.specs.declared.check.Survey.{Survey}
 use Rattle.account.proofs.Accepted.{accepts}
+use Rattle.account.proofs.Going.{same-survey}
 use Rattle.margin.specs.Figures.{figures}
 use Rattle.margin.specs.Held.{FromCheck, needIn, atPlace, afterBooks, booksAnswer, booksAfter}
+use Rattle.margin.specs.declared.held.Asked.{Asked}
 use Rattle.margin.specs.declared.held.Held.{Held}
 use Rattle.margin.specs.Needs.{figuresNeed}
 use Rattle.margin.specs.Questions.{accepted, enough, figuresAnswer, afterFigures, bookAnswer, afterBook}
@@ -78,34 +80,16 @@ module _ (file : List ℕ) (s : Survey) (is : Surveyed file s) where
 
 -- ---- the promises determine what comes back
 
-by-places : (xs ys : List ℕ) → length xs ≡ length ys → ((v : ℕ) → v < length xs → getD xs v 0 ≡ getD ys v 0) → xs ≡ ys
-by-places [] [] l h = refl
-by-places [] (y ∷ ys) l h = absurd (some (sym l))
-by-places (x ∷ xs) [] l h = absurd (some l)
-by-places (x ∷ xs) (y ∷ ys) l h = ap₂ _∷_ (h 0 (omega arith)) (by-places xs ys (omega (arith, l)) (λ v g. h (suc v) (omega (arith, g))))
-
--- a survey's two arrays have 81 places each
-pub record Placed (s : Survey) : Type 0 where
-  pub first : length (s .first) ≡ 81
-  pub counts : length (s .counts) ≡ 81
-
-below : (n v : ℕ) → n ≡ 81 → v < n → v < 81
-below n v e h = omega (arith, e, h)
-
-one-survey : (file : List ℕ) (s t : Survey) → Placed s → Placed t → Surveyed file s → Surveyed file t → s ≡ t
-one-survey file s t ps pt is it =
-    let a : s .answer ≡ t .answer = is .answer ∙ sym (it .answer) in
-    let n : s .contracts ≡ t .contracts = is .contracts ∙ sym (it .contracts) in
-    let f : s .first ≡ t .first = by-places (s .first) (t .first) (ps .first ∙ sym (pt .first)) (λ v h. is .first v (below (length (s .first)) v (ps .first) h) ∙ sym (it .first v (below (length (s .first)) v (ps .first) h))) in
-    let c : s .counts ≡ t .counts = by-places (s .counts) (t .counts) (ps .counts ∙ sym (pt .counts)) (λ v h. is .counts v (below (length (s .counts)) v (ps .counts) h) ∙ sym (it .counts v (below (length (s .counts)) v (ps .counts) h))) in
-    λ i. record { answer = a i; contracts = n i; first = f i; counts = c i }
-
 -- the check hands out one view of a file
-pub one-view : (file : RefT (List ℕ)) (h k : Held) → Placed (h .survey) → Placed (k .survey) → (h .file ≡ file) × FromCheck h → (k .file ≡ file) × FromCheck k → h ≡ k
-one-view file h k ph pk (fh, is) (fk, it) =
+pub one-view : (file : RefT (List ℕ)) (h k : Held) → (h .file ≡ file) × FromCheck h → (k .file ≡ file) × FromCheck k → h ≡ k
+one-view file h k (fh, is) (fk, it) =
     let e : h .file ≡ k .file = fh ∙ sym fk in
-    let s : h .survey ≡ k .survey = one-survey (now (h .file)) (h .survey) (k .survey) ph pk is (subst⁻¹ (λ (f : RefT (List ℕ)). Surveyed (now f) (k .survey)) e it) in
+    let s : h .survey ≡ k .survey = same-survey (now (h .file)) (h .survey) (k .survey) is (subst⁻¹ (λ (f : RefT (List ℕ)). Surveyed (now f) (k .survey)) e it) in
     λ i. record { file = e i; survey = s i }
+
+-- and all questions at once are answered in one way
+pub one-asked : (a b : Answer) (r s : Asked) → (r .figures ≡ a) × (r .books ≡ b) → (s .figures ≡ a) × (s .books ≡ b) → r ≡ s
+one-asked a b r s (x, y) (x′, y′) = λ i. record { figures = (x ∙ sym x′) i; books = (y ∙ sym y′) i }
 
 -- "each question is also offered over plain bytes, checked first, with the same answer": whatever a held file and its
 -- bytes are answered, and whatever is left in the same lent numbers, is the same

@@ -28,3 +28,4 @@ pub mod Demands
 pub mod HeldLaws
 pub mod UsesLaws
 pub mod NeedLaws
+pub mod PlaceLaws

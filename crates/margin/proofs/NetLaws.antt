@@ -1,16 +1,17 @@
 -- A contract's net deltas together: each row counts at one prompt at most.
 -- Assumes nothing.
-use mathlib.Core.Path.{_≡_, refl, sym, ap, _∙_, subst⁻¹}
+use mathlib.Core.Path.{_≡_, refl, sym, ap, ap₂, _∙_, subst⁻¹}
 use mathlib.Core.Bool.{Bool, true, false, cond}
 use mathlib.Core.List.{List, [], _∷_, map, map-map}
 use Prim.Native.Nat.{ℕ, zero, suc, _+_, _*_, _≤_, _<_, zero-le}
 use native.Mathlib.Nat.{le-trans, zero-mul, add-mul, mul-le-mul-right}
 use native.Mathlib.Omega.{arith}
 use lib.Dec.{eqb}
-use lib.IntN.{ℤ, pos, natAbs, _+ℤ_, +ℤ-idl}
+use lib.IntN.{ℤ, pos, natAbs, _+ℤ_, +ℤ-idl, +ℤ-idr, +ℤ-assoc, +ℤ-comm}
 use lib.ListN.{length, getD}
 use borrow.Author.Tests.{eqb-true, eqb-false, eq-eqb, ne-eqb}
 use Rattle.exact.specs.Lists.{consIf, keep, count, oneIf, sum, sumℤ}
+use Rattle.account.specs.Accepted.{every}
 use Rattle.account.specs.Parts.{onDay}
 use Rattle.exact.proofs.Integers.{abs-add}
 use Rattle.exact.proofs.Lists.{sum-map-le, sum-map-add, abs-sum}
@@ -84,3 +85,41 @@ net-sizes-most prompts rows r w =
 -- the net delta of the contract as a whole
 pub contract-net-most : (prompts rows : List Record) → OneDay prompts rows → Within rows → natAbs (sumℤ (netDeltas prompts rows)) ≤ 128000000000
 contract-net-most prompts rows r w = le-trans (abs-sum (netDeltas prompts rows)) (net-sizes-most prompts rows r w)
+
+-- ---- no row is left out: a row that counts at one prompt counts once in all net deltas together
+
+none-added : (row : Record) (ps : List Record) → count (onDay (day row)) ps ≡ 0 → sumℤ (map (adds row) ps) ≡ pos 0
+none-added row [] e = refl
+none-added row (p ∷ ps) e = ap (λ (t : Bool). cond t (rowDelta row) (pos 0) +ℤ sumℤ (map (adds row) ps)) (same-day (day row) (day p)) ∙ go (eqb (day p) (day row)) (none-added row ps) e
+  where
+    go : (t : Bool) → (count (onDay (day row)) ps ≡ 0 → sumℤ (map (adds row) ps) ≡ pos 0) → oneIf t + count (onDay (day row)) ps ≡ 0 → cond t (rowDelta row) (pos 0) +ℤ sumℤ (map (adds row) ps) ≡ pos 0
+    go true rest z = absurd (omega arith)
+    go false rest z = +ℤ-idl (sumℤ (map (adds row) ps)) ∙ rest (omega arith)
+
+once-added : (row : Record) (ps : List Record) → count (onDay (day row)) ps ≡ 1 → sumℤ (map (adds row) ps) ≡ rowDelta row
+once-added row [] e = absurd (omega arith)
+once-added row (p ∷ ps) e = ap (λ (t : Bool). cond t (rowDelta row) (pos 0) +ℤ sumℤ (map (adds row) ps)) (same-day (day row) (day p)) ∙ go (eqb (day p) (day row)) (once-added row ps) e
+  where
+    go : (t : Bool) → (count (onDay (day row)) ps ≡ 1 → sumℤ (map (adds row) ps) ≡ rowDelta row) → oneIf t + count (onDay (day row)) ps ≡ 1 → cond t (rowDelta row) (pos 0) +ℤ sumℤ (map (adds row) ps) ≡ rowDelta row
+    go true rest z = ap (λ (x : ℤ). rowDelta row +ℤ x) (none-added row ps (omega arith)) ∙ +ℤ-idr (rowDelta row)
+    go false rest z = +ℤ-idl (sumℤ (map (adds row) ps)) ∙ rest (omega arith)
+
+more-row : (row : Record) (rows ps : List Record) → sumℤ (netDeltas ps (row ∷ rows)) ≡ sumℤ (map (adds row) ps) +ℤ sumℤ (netDeltas ps rows)
+more-row row rows [] = refl
+more-row row rows (p ∷ ps) =
+    ap₂ _+ℤ_ (first-row row rows p) (more-row row rows ps)
+    ∙ exchange (adds row p) (netDelta rows p) (sumℤ (map (adds row) ps)) (sumℤ (netDeltas ps rows))
+  where
+    exchange : (a b c d : ℤ) → (a +ℤ b) +ℤ (c +ℤ d) ≡ (a +ℤ c) +ℤ (b +ℤ d)
+    exchange a b c d =
+        +ℤ-assoc a b (c +ℤ d)
+        ∙ ap (λ (x : ℤ). a +ℤ x) (sym (+ℤ-assoc b c d) ∙ ap (λ (x : ℤ). x +ℤ d) (+ℤ-comm b c) ∙ +ℤ-assoc c b d)
+        ∙ sym (+ℤ-assoc a c (b +ℤ d))
+
+nothing-added : (ps : List Record) → sumℤ (netDeltas ps []) ≡ pos 0
+nothing-added [] = refl
+nothing-added (p ∷ ps) = ap (λ (x : ℤ). pos 0 +ℤ x) (nothing-added ps)
+
+pub all-rows : (ps rows : List Record) → every (λ r. count (onDay (day r)) ps ≡ 1) rows → sumℤ (netDeltas ps rows) ≡ sumℤ (map rowDelta rows)
+all-rows ps [] e = nothing-added ps
+all-rows ps (row ∷ rows) e = more-row row rows ps ∙ ap₂ _+ℤ_ (once-added row ps (e .0)) (all-rows ps rows (e .1))

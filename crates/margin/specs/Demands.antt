@@ -1,25 +1,76 @@
--- Demand 3, for each accepted account and each spread table, about what `book` writes. Demand 1 is stated in the account
--- crate (Claims.antt, Accepted.antt); demand 2 is the definitions that the promises of `figures` and `book` cite.
+-- The three demands, as claims about the definitions, each under its words; proofs/Demands.antt proves them of any bytes. The code
+-- meets them where `check` (account), `figures`, `book` and `uses` (src/questions.rt) promise these definitions.
 -- Assumes nothing.
-use Prim.Native.Nat.{ℕ}
+use Prim.Native.Nat.{ℕ, _+_, _*_, _≤_, _<_}
 use mathlib.Core.Path.{_≡_}
-use mathlib.Core.Bool.{true}
-use mathlib.Core.List.{List, _++_, map}
+use mathlib.Core.Bool.{true, false}
+use mathlib.Core.List.{List, [], _∷_, _++_, map}
 use lib.IntN.{ℤ, pos}
-use Rattle.account.specs.Parts.{entriesOf}
-use Rattle.account.specs.Records.{records}
+use lib.ListN.{length}
+use Rattle.exact.specs.Lists.{sumℤ}
+use Rattle.account.specs.Answers.{numberOf, recordOf}
+use Rattle.account.specs.Check.{checked}
+use Rattle.account.specs.Claims.{Iff, Claims}
+use Rattle.account.specs.Orders.{Later}
+use Rattle.account.specs.Parts.{promptsOf, rowsOf, entriesOf}
+use Rattle.account.specs.Records.{records, recordCount}
+use Rattle.account.specs.declared.answers.Answer.{Answer}
+use Rattle.account.specs.declared.answers.Answer.the-variants.{Accepted}
 use Rattle.spread.specs.Demand.{Demand3}
 use Rattle.spread.specs.Steps.{Open, Taker, numbers, usedOf, unusedOf}
+use Rattle.spread.specs.Uses.{usesOf, WhoPaid}
 use Rattle.margin.specs.Books.{threes, answered, book, tableQuestion}
 use Rattle.margin.specs.Contract.{contracts, partsOf, contractNet, asTier, stepsOf, opensOf, tableSteps}
+use Rattle.margin.specs.Deltas.{rowDelta, netDeltas}
+use Rattle.margin.specs.Figures.{figures}
+use Rattle.margin.specs.Questions.{answerTo, figuresAnswer, afterwards}
+use Rattle.margin.specs.Reckoned.{Reckoned, Printed}
+use Rattle.margin.specs.Uses.{uses}
 
--- a book holds what the steps form, use and leave, and demand 3 holds of these
-pub record Holds (written nets : List ℤ) (ss : List (List Taker)) (ps : List Open) : Type 0 where
+-- ---- 1. "Every input gets an answer: figures, or one refusal number with the record at fault. A refusal comes exactly when its
+-- condition is the first in document 01's order to hold, and lent memory then stays untouched. .. no accepted line is skipped."
+
+-- a question with so many numbers lent for its answer: "then 11, then 10", both naming the record count
+pub record Question (file : List ℕ) (question : ℕ) (answer : List ℤ) (lent : ℕ) : Type 0 where
+  pub refused : (numberOf (checked file) ≡ 0 → ⊥) → answerTo file question answer lent ≡ checked file
+  pub eleven : Iff (numberOf (answerTo file question answer lent) ≡ 11) ((checked file ≡ Accepted) × (answered (records file) question ≡ false))
+  pub ten : Iff (numberOf (answerTo file question answer lent) ≡ 10) ((checked file ≡ Accepted) × ((answered (records file) question ≡ true) × (lent < length answer)))
+  pub named : 10 ≤ numberOf (answerTo file question answer lent) → recordOf (answerTo file question answer lent) ≡ recordCount file
+
+pub record Demand1 (file : List ℕ) : Type 0 where
+  -- 1 to 9
+  pub check : Claims file
+  -- 10 and 11
+  pub question : (question : ℕ) (answer : List ℤ) (lent : ℕ) → Question file question answer lent
+  pub figures : (lent : ℕ) → Iff (numberOf (figuresAnswer file lent) ≡ 10) ((checked file ≡ Accepted) × (lent < length (figures (records file))))
+  -- "lent memory then stays untouched"
+  pub untouched : (a : Answer) (answer lent : List ℤ) → (numberOf a ≡ 0 → ⊥) → afterwards a answer lent ≡ lent
+  -- "no accepted line is skipped": a contract's net deltas together are those of all its rows
+  pub counted : checked file ≡ Accepted → (c : ℕ) → c ≤ 15
+      → sumℤ (netDeltas (promptsOf c (records file)) (rowsOf c (records file))) ≡ sumℤ (map rowDelta (rowsOf c (records file)))
+
+-- ---- 2. "Every figure equals SPAN as published .., under 01's rounding and tie rules": what is published is said by the definitions
+-- of Scanning, Deltas, Charges, Pairs, Credit, Margin, Contract, Figures and Books; the reckoned examples fix them.
+
+pub record Demand2 : Type 0 where
+  pub reckoned : Reckoned
+  pub printed : Printed
+  -- "An empty file is an accepted account with total 0."
+  pub empty-accepted : checked [] ≡ Accepted
+  pub empty-total : figures (records []) ≡ pos 0 ∷ []
+
+-- ---- 3. "For each accepted account and each spread table"
+
+-- a book holds what the steps form, use and leave, its uses what each takes, and demand 3 holds of these
+pub record Holds (written taken nets : List ℤ) (ss : List (List Taker)) (ps : List Open) : Type 0 where
   pub writes : written ≡ threes nets (usedOf ss ps) (unusedOf ss ps) ++ map pos (numbers ss ps)
+  pub takes : taken ≡ usesOf ss ps
   pub demand : Demand3 ss ps
+  pub paid : WhoPaid ss ps
 
--- "For each accepted account and each spread table"
 pub record Demanded (file : List ℕ) : Type 0 where
   pub interprompt : (c : ℕ) → answered (records file) c ≡ true → (c ≡ tableQuestion → ⊥)
-      → Holds (book (records file) c) (partsOf (records file) c .nets) (stepsOf (partsOf (records file) c)) (opensOf (partsOf (records file) c))
-  pub intercontract : Holds (book (records file) tableQuestion) (map contractNet (contracts (records file))) (tableSteps (entriesOf (records file))) (map asTier (contracts (records file)))
+      → Holds (book (records file) c) (uses (records file) c) (partsOf (records file) c .nets) (stepsOf (partsOf (records file) c)) (opensOf (partsOf (records file) c))
+  pub intercontract : Holds (book (records file) tableQuestion) (uses (records file) tableQuestion) (map contractNet (contracts (records file))) (tableSteps (entriesOf (records file))) (map asTier (contracts (records file)))
+  -- "earlier dates": the prompts of a contract stand by their days
+  pub dates : (c : ℕ) → c ≤ 15 → Later (promptsOf c (records file))

@@ -1,7 +1,8 @@
 -- "One accepted file is held while several questions are put to it, without checking it again; only the check hands out
 -- such a held file, and that it came from there is the one thing a question may rest on."
 -- Assumes nothing.
-use Prim.Native.Nat.{ℕ, zero, suc, _+_, _*_}
+use Prim.Native.Nat.{ℕ, zero, suc, _+_, _*_, _≤_}
+use mathlib.Core.Path.{_≡_}
 use mathlib.Core.Bool.{cond}
 use mathlib.Core.List.{List, _++_}
 use lib.Dec.{ltb}
@@ -42,3 +43,13 @@ booksAnswer file lent = ifAccepted (checked file) (cond (ltb lent 2720) (TooFewN
 
 abbrev pub booksAfter : List ℕ → List ℤ → List ℤ
 booksAfter file lent = cond (accepted (booksAnswer file (length lent))) (afterBooks file 17 lent) lent
+
+-- ---- what this says of each book by itself
+
+abbrev pub place : ℕ → List ℤ → List ℤ
+place q lent = take 160 (drop (160 * q) lent)
+
+-- in the place of a question stands what the plain question writes there, and nothing after the places is changed
+pub record EachBook (file : List ℕ) (lent : List ℤ) : Type 0 where
+  pub each : (q : ℕ) → q ≤ 16 → place q (booksAfter file lent) ≡ afterBook file q (place q lent)
+  pub after : drop 2720 (booksAfter file lent) ≡ drop 2720 lent

@@ -1,5 +1,5 @@
--- The table of kinds and fields of document 01, "The account file", with its ranges. Every offset, width and range is said
--- here and nowhere else.
+-- The table of kinds and fields of document 01, "The account file", with its ranges. Every offset, width and range of the
+-- definitions is said here; Within.antt says in plain numbers what the ranges come to.
 -- Assumes nothing.
 use Prim.Native.Nat.{ℕ, _+_, _-_, _*_}
 use mathlib.Core.Bool.{Bool, cond}

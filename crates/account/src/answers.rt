@@ -59,7 +59,7 @@ pub fn record_of(a: Answer) -> usize
 }
 
 // The refusal of record `k` by its number, 3 to 9.
-pub fn refusal(number: usize, k: usize) -> Answer
+pub(crate) fn refusal(number: usize, k: usize) -> Answer
     ensures { λ a. ⌜ a ≡ refusal number k ⌝ }
 {
     if number == 3 {

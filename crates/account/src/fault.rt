@@ -44,7 +44,7 @@ fn fault(counts: &[usize], prompts: &[u8], before: &[u8], r: &[u8]) -> usize
 }
 
 // Of record `k`, from the notes of the records before it.
-pub fn fault_at(file: &[u8], first: &[usize], counts: &[usize], k: usize) -> usize
+pub(crate) fn fault_at(file: &[u8], first: &[usize], counts: &[usize], k: usize) -> usize
     ensures { λ n. ⌜ n ≡ faultAt (now (file .entry)) (now (first .entry)) (now (counts .entry)) k ⌝ }
 {
     let r = record_at(file, k);

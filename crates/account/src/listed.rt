@@ -53,7 +53,7 @@ fn some_leg_tier(prompts: &[u8], r: &[u8]) -> bool
 }
 
 // `prompts` are those of the record's contract.
-pub fn unlisted(counts: &[usize], prompts: &[u8], r: &[u8]) -> bool
+pub(crate) fn unlisted(counts: &[usize], prompts: &[u8], r: &[u8]) -> bool
     ensures { λ b. ⌜ b ≡ unlistedBy (now (counts .entry)) (records (now (prompts .entry))) (now (r .entry)) ⌝ }
 {
     let k = kind(r);

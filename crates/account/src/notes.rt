@@ -6,14 +6,14 @@ use crate::parts::ENTRIES;
 use record::fields::contract;
 use record::fields::kind;
 
-pub fn noted(notes: &[usize], v: usize) -> usize
+pub(crate) fn noted(notes: &[usize], v: usize) -> usize
     ensures { λ n. ⌜ n ≡ getD (now (notes .entry)) v 0 ⌝ }
 {
     if v < notes.len() { notes[v] } else { 0 }
 }
 
 // The number of a record's part.
-pub fn part_of(r: &[u8]) -> usize
+pub(crate) fn part_of(r: &[u8]) -> usize
     ensures { λ v. ⌜ v ≡ partOf (now (r .entry)) ⌝ }
 {
     if kind(r) == 5 {

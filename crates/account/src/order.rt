@@ -13,7 +13,7 @@ use record::fields::leg_tier;
 use record::fields::second_contract;
 use record::fields::tier;
 
-pub fn kind_falls(before: &[u8], r: &[u8]) -> bool
+pub(crate) fn kind_falls(before: &[u8], r: &[u8]) -> bool
     ensures { λ b. ⌜ b ≡ kindFalls (now (before .entry)) (now (r .entry)) ⌝ }
 {
     kind(r) < kind(before)
@@ -89,7 +89,7 @@ fn with_itself(r: &[u8]) -> bool
     contract(r) == second_contract(r)
 }
 
-pub fn out_of_order(before: &[u8], r: &[u8]) -> bool
+pub(crate) fn out_of_order(before: &[u8], r: &[u8]) -> bool
     ensures { λ b. ⌜ b ≡ outOfOrder (now (before .entry)) (now (r .entry)) ⌝ }
 {
     let k = kind(r);

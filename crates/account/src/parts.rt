@@ -16,7 +16,7 @@ pub const SPREADS: usize = 64;
 pub const ENTRIES: usize = 80;
 
 // The records of part `v` as they stand in the file, by where it begins and how many it has.
-pub fn part_at<'a>(file: &'a [u8], first: &[usize], counts: &[usize], v: usize) -> &'a [u8]
+pub(crate) fn part_at<'a>(file: &'a [u8], first: &[usize], counts: &[usize], v: usize) -> &'a [u8]
     ensures { λ r. ⌜ now r ≡ partAt (now (file .entry)) (now (first .entry)) (now (counts .entry)) v ⌝ }
 {
     stretch(file, noted(first, v), noted(counts, v))

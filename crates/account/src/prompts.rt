@@ -7,7 +7,7 @@ use crate::stretches::record_count;
 use record::fields::day;
 use record::fields::tier;
 
-pub fn place_of_day(prompts: &[u8], d: usize) -> usize
+pub(crate) fn place_of_day(prompts: &[u8], d: usize) -> usize
     ensures { λ n. ⌜ n ≡ placeOf (onDay d) (records (now (prompts .entry))) ⌝ }
 {
     let count = record_count(prompts);
@@ -21,7 +21,7 @@ pub fn place_of_day(prompts: &[u8], d: usize) -> usize
     i
 }
 
-pub fn place_of_tier(prompts: &[u8], t: usize) -> usize
+pub(crate) fn place_of_tier(prompts: &[u8], t: usize) -> usize
     ensures { λ n. ⌜ n ≡ placeOf (onTier t) (records (now (prompts .entry))) ⌝ }
 {
     let count = record_count(prompts);

@@ -1,7 +1,7 @@
 -- Tests in a row, and a test over a count of numbers, taken one number at a time.
 -- Assumes nothing.
-use Prim.Native.Nat.{ℕ, suc, _+_, _-_, _≤_, _<_}
-use mathlib.Core.Path.{_≡_, refl, sym, _∙_}
+use Prim.Native.Nat.{ℕ, zero, suc, _+_, _-_, _≤_, _<_}
+use mathlib.Core.Path.{_≡_, refl, sym, _∙_, ap}
 use mathlib.Core.Bool.{Bool, true, false, _||_}
 use mathlib.Core.List.{List, [], _∷_, _++_}
 use native.Mathlib.Omega.{arith}
@@ -26,19 +26,34 @@ pub any-append {ℓ} : {A : Type ℓ} (p : A → Bool) (xs ys : List A) → any 
 any-append p [] ys = refl
 any-append p (x ∷ xs) ys = rw (any-append p xs ys) (sym (or-assoc (p x) (any p xs) (any p ys)))
 
-pub counts-on : (e i : ℕ) → i < e → countFrom i (e - i) ≡ i ∷ countFrom (i + 1) (e - (i + 1))
+counts-on : (e i : ℕ) → i < e → countFrom i (e - i) ≡ i ∷ countFrom (i + 1) (e - (i + 1))
 counts-on e i h =
     let s : e - i ≡ suc (e - (i + 1)) = omega arith in
     rw s
 
-module _ (p : ℕ → Bool) (e i : ℕ) where
-  pub any-here : i < e → p i ≡ true → any p (countFrom i (e - i)) ≡ true
-  any-here h t = rw (counts-on e i h, t)
+-- a loop that tests one number after the other: what is known so far, or what is to come
+module _ (p : ℕ → Bool) (e i : ℕ) (b : Bool) where
+  pub any-next : i < e → b || any p (countFrom i (e - i)) ≡ (b || p i) || any p (countFrom (i + 1) (e - (i + 1)))
+  any-next h = rw (counts-on e i h) (sym (or-assoc b (p i) (any p (countFrom (i + 1) (e - (i + 1))))))
 
-  pub any-next : i < e → p i ≡ false → any p (countFrom i (e - i)) ≡ any p (countFrom (i + 1) (e - (i + 1)))
-  any-next h t = rw (counts-on e i h, t)
-
-  pub any-past : e ≤ i → any p (countFrom i (e - i)) ≡ false
+  pub any-past : e ≤ i → b || any p (countFrom i (e - i)) ≡ b
   any-past h =
       let s : e - i ≡ 0 = omega arith in
-      rw s
+      rw s (or-false b)
+
+-- numbers that do not pass may be left out at the end
+pub any-fewer : (p : ℕ → Bool) (n m i : ℕ) → n ≤ m → ((k : ℕ) → i + n ≤ k → p k ≡ false)
+    → any p (countFrom i m) ≡ any p (countFrom i n)
+any-fewer p zero zero i h none = refl
+any-fewer p zero (suc m) i h none =
+    rw (none i (omega arith)) (any-fewer p zero m (i + 1) (omega arith) (λ k g. none k (omega arith)))
+any-fewer p (suc n) zero i h none = absurd (omega arith)
+any-fewer p (suc n) (suc m) i h none =
+    ap (λ b. p i || b) (any-fewer p n m (i + 1) (omega arith) (λ k g. none k (omega arith)))
+
+-- tests that agree on the numbers
+pub any-same : (p q : ℕ → Bool) (n i : ℕ) → ((k : ℕ) → i ≤ k → k < i + n → p k ≡ q k)
+    → any p (countFrom i n) ≡ any q (countFrom i n)
+any-same p q zero i same = refl
+any-same p q (suc n) i same =
+    both (same i (omega arith) (omega arith)) (any-same p q n (i + 1) (λ k g h. same k (omega arith) (omega arith)))

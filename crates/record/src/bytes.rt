@@ -11,13 +11,13 @@ fn wide(x: u8) -> usize
     x as usize
 }
 
-pub fn byte_at(r: &[u8], o: usize) -> usize
+pub(crate) fn byte_at(r: &[u8], o: usize) -> usize
     ensures { λ n. ⌜ (n ≡ byteAt (now (r .entry)) o) × (n < 256) ⌝ }
 {
     if o < r.len() { wide(r[o]) } else { 0 }
 }
 
-pub fn u16_at(r: &[u8], o: usize) -> usize
+pub(crate) fn u16_at(r: &[u8], o: usize) -> usize
     ensures { λ n. ⌜ (n ≡ u16At (now (r .entry)) o) × (n < 65536) ⌝ }
 {
     if o < r.len() {
@@ -28,7 +28,7 @@ pub fn u16_at(r: &[u8], o: usize) -> usize
 }
 
 // Where all four bytes are there, they are read at once.
-pub fn u32_at(r: &[u8], o: usize) -> usize
+pub(crate) fn u32_at(r: &[u8], o: usize) -> usize
     ensures { λ n. ⌜ (n ≡ u32At (now (r .entry)) o) × (n < 4294967296) ⌝ }
 {
     if o < r.len() {
@@ -54,7 +54,7 @@ fn signed(x: usize) -> i64
     }
 }
 
-pub fn i32_at(r: &[u8], o: usize) -> i64
+pub(crate) fn i32_at(r: &[u8], o: usize) -> i64
     ensures { λ z. ⌜ z ≡ i32At (now (r .entry)) o ⌝ }
 {
     signed(u32_at(r, o))

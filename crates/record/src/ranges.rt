@@ -8,6 +8,7 @@ ghost use Rattle.record.specs.Layout.{contracts, days, tiers, rates, rat
 ghost use Rattle.record.specs.Layout.{contractFields, promptFields, rowFields, spreadFields, entryFields};
 ghost use Rattle.record.specs.Layout.{strikeField, deltaField, forward, put, lossField, legFields, thirdLeg};
 ghost use Rattle.record.specs.Ranges.{beyond, outside, outsideAmong};
+use crate::bytes::RECORD_BYTES;
 use crate::bytes::u32_at;
 use crate::fields::contract;
 use crate::fields::day;
@@ -80,13 +81,13 @@ fn too_many(x: usize) -> bool
     signed_beyond(x, 100000, 100000)
 }
 
-pub fn in_contract(r: &[u8]) -> bool
+pub(crate) fn in_contract(r: &[u8]) -> bool
     ensures { λ b. ⌜ b ≡ outsideAmong contractFields (now (r .entry)) ⌝ }
 {
     no_contract(contract(r)) | no_rate(short_option_rate(r))
 }
 
-pub fn in_prompt(r: &[u8]) -> bool
+pub(crate) fn in_prompt(r: &[u8]) -> bool
     ensures { λ b. ⌜ b ≡ outsideAmong promptFields (now (r .entry)) ⌝ }
 {
     no_contract(contract(r))
@@ -116,20 +117,31 @@ fn no_delta(r: &[u8]) -> bool
     }
 }
 
+// The loop has no way out, so that many losses are tested at once.
+fn losses_beyond(r: &[u8]) -> bool
+    ensures { λ b. ⌜ b ≡ outsideAmong (map lossField (countFrom 1 16)) (now (r .entry)) ⌝ }
+{
+    let mut outside = false;
+    let mut scenario = 1;
+    while scenario < 17 {
+        outside = outside | too_many(u32_at(r, 20 + 4 * scenario));
+        scenario += 1;
+    }
+    outside
+}
+
+// A whole record is read at its known length.
 fn no_losses(r: &[u8]) -> bool
     ensures { λ b. ⌜ b ≡ outsideAmong (map lossField (countFrom 1 16)) (now (r .entry)) ⌝ }
 {
-    let mut scenario = 1;
-    while scenario < 17 {
-        if too_many(u32_at(r, 20 + 4 * scenario)) {
-            return true;
-        }
-        scenario += 1;
+    if RECORD_BYTES <= r.len() {
+        losses_beyond(&r[..RECORD_BYTES])
+    } else {
+        losses_beyond(r)
     }
-    false
 }
 
-pub fn in_row(r: &[u8]) -> bool
+pub(crate) fn in_row(r: &[u8]) -> bool
     ensures { λ b. ⌜ b ≡ outsideAmong (rowFields (now (r .entry))) (now (r .entry)) ⌝ }
 {
     no_contract(contract(r))
@@ -157,7 +169,7 @@ fn no_third_leg(r: &[u8]) -> bool
     }
 }
 
-pub fn in_spread(r: &[u8]) -> bool
+pub(crate) fn in_spread(r: &[u8]) -> bool
     ensures { λ b. ⌜ b ≡ outsideAmong (spreadFields (now (r .entry))) (now (r .entry)) ⌝ }
 {
     no_contract(contract(r))
@@ -165,7 +177,7 @@ pub fn in_spread(r: &[u8]) -> bool
             | (no_rate(rate_per_spread(r)) | (no_leg(r, 0) | (no_leg(r, 1) | no_third_leg(r)))))
 }
 
-pub fn in_entry(r: &[u8]) -> bool
+pub(crate) fn in_entry(r: &[u8]) -> bool
     ensures { λ b. ⌜ b ≡ outsideAmong entryFields (now (r .entry)) ⌝ }
 {
     no_contract(contract(r))

@@ -1,7 +1,8 @@
 // The bytes that no field of a kind covers.
 ghost use mathlib.Core.Path.{_≡_};
 ghost use mathlib.Core.List.{[]};
-ghost use Prim.Native.Nat.{_-_};
+ghost use Prim.Native.Nat.{_-_, _≤_};
+ghost use lib.ListN.{length};
 ghost use Rattle.exact.specs.Lists.{any};
 ghost use Rattle.record.specs.Bytes.{countFrom};
 ghost use Rattle.record.specs.Layout.{contractFields, promptFields, rowFields, spreadFields, entryFields};
@@ -16,39 +17,51 @@ fn is_set(r: &[u8], o: usize) -> bool
     byte_at(r, o) != 0
 }
 
+// Whether any byte from `o` up to `end` is set. The loop has no way out, so that many bytes are tested at once.
+fn set_between(r: &[u8], o: usize, end: usize) -> bool
+    requires { ⌜ end ≤ length (now r) ⌝ }
+    ensures { λ b. ⌜ b ≡ any (notZero (now (r .entry))) (countFrom o (end - o)) ⌝ }
+{
+    let mut set = false;
+    let mut i = o;
+    while i < end {
+        set = set | (r[i] != 0);
+        i += 1;
+    }
+    set
+}
+
 // Whether any byte from `o` to the record's end is set.
 fn set_from(r: &[u8], o: usize) -> bool
     ensures { λ b. ⌜ b ≡ any (notZero (now (r .entry))) (countFrom o (96 - o)) ⌝ }
 {
-    let mut i = o;
-    while i < RECORD_BYTES {
-        if is_set(r, i) {
-            return true;
-        }
-        i += 1;
+    let n = r.len();
+    if RECORD_BYTES <= n {
+        set_between(r, o, RECORD_BYTES)
+    } else {
+        set_between(r, o, n)
     }
-    false
 }
 
-pub fn beside_contract(r: &[u8]) -> bool
+pub(crate) fn beside_contract(r: &[u8]) -> bool
     ensures { λ b. ⌜ b ≡ unusedBeside contractFields (now (r .entry)) ⌝ }
 {
     is_set(r, 2) | (is_set(r, 3) | set_from(r, 8))
 }
 
-pub fn beside_prompt(r: &[u8]) -> bool
+pub(crate) fn beside_prompt(r: &[u8]) -> bool
     ensures { λ b. ⌜ b ≡ unusedBeside promptFields (now (r .entry)) ⌝ }
 {
     is_set(r, 3) | set_from(r, 16)
 }
 
-pub fn beside_row(r: &[u8]) -> bool
+pub(crate) fn beside_row(r: &[u8]) -> bool
     ensures { λ b. ⌜ b ≡ unusedBeside (rowFields (now (r .entry))) (now (r .entry)) ⌝ }
 {
     is_set(r, 3) | set_from(r, 88)
 }
 
-pub fn beside_spread(r: &[u8]) -> bool
+pub(crate) fn beside_spread(r: &[u8]) -> bool
     ensures { λ b. ⌜ b ≡ unusedBeside (spreadFields (now (r .entry))) (now (r .entry)) ⌝ }
 {
     if leg_count(r) == 2 {
@@ -58,13 +71,13 @@ pub fn beside_spread(r: &[u8]) -> bool
     }
 }
 
-pub fn beside_entry(r: &[u8]) -> bool
+pub(crate) fn beside_entry(r: &[u8]) -> bool
     ensures { λ b. ⌜ b ≡ unusedBeside entryFields (now (r .entry)) ⌝ }
 {
     set_from(r, 8)
 }
 
-pub fn beside_none(r: &[u8]) -> bool
+pub(crate) fn beside_none(r: &[u8]) -> bool
     ensures { λ b. ⌜ b ≡ unusedBeside [] (now (r .entry)) ⌝ }
 {
     set_from(r, 1)

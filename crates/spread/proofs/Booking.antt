@@ -23,7 +23,7 @@ use Rattle.spread.specs.declared.book.Book.{Book}
 use Rattle.spread.specs.declared.pools.Took.{Took}
 use Rattle.spread.proofs.Demand3.{demand3, demand3-accepted}
 use Rattle.spread.proofs.Filling.{filled-none, filled-all}
-use Rattle.spread.proofs.Paying.{noDelta}
+use Rattle.spread.proofs.Gathering.{noDelta}
 use Rattle.spread.proofs.Pooling.{cell-small, no-cell, pooled-numbers, pooled-left}
 use Rattle.spread.proofs.Running.{noSpreads}
 use Rattle.spread.proofs.Soundness.{table-sound}

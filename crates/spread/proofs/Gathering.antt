@@ -13,7 +13,6 @@ use lib.Seq.{take-suc}
 use borrow.Author.Tests.{eqb-true, eqb-false, eq-eqb, ne-eqb, ltb-true, leb-true}
 use Rattle.exact.specs.Signed.{negative}
 use Rattle.spread.specs.Accepted.{openOf, every, mostDelta, soundPrompt, soundPrompts}
-use Rattle.spread.specs.Book.{nothing, Placed}
 use Rattle.spread.specs.Cells.{shortIf, cellOf, cellAt, Pooled}
 use Rattle.spread.specs.Demand.{sameMarket, draws}
 use Rattle.spread.specs.Spend.{marketOf}
@@ -23,7 +22,7 @@ use Rattle.spread.specs.declared.Prompts.{Prompts}
 use Rattle.spread.proofs.Both.{and-left, and-right}
 use Rattle.spread.proofs.Every.{open-length, open-at}
 use Rattle.spread.proofs.Filling.{getD-same}
-use Rattle.spread.proofs.Pooling.{cell-set}
+use Rattle.spread.proofs.Pooling.{cell-small, cell-set}
 use Rattle.spread.proofs.Spending.{draws-market, draws-tier}
 
 -- the side of a delta
@@ -91,25 +90,42 @@ few p e = leb-true (p .count) 32 (and-left (leb (p .count) 32) (every soundPromp
 all-sound : (p : Prompts) → soundPrompts p ≡ true → every soundPrompt (openOf p) ≡ true
 all-sound p e = and-right (leb (p .count) 32) (every soundPrompt (openOf p)) e
 
--- what the code finds of a prompt: its net delta, and the cell of its tier and side
-pub placed : (p : Prompts) (i dt : ℕ) (dd : Delta) (cell : ℕ) (b : Bool) → length (p .tier) ≡ 32 → length (p .net) ≡ 32 → soundPrompts p ≡ true → i < p .count
-    → b ≡ negative ((getD (p .net) i dd) .0)
-    → cell ≡ cellOf (shortIf b) (getD (p .tier) i dt)
-    → Placed (openOf p) i ((getD (p .net) i dd) .0) cell
-placed p i dt dd cell b lt ln e h eb ec =
-    let at = open-at p i dt dd nothing lt ln (few p e) h in
+-- a prompt as the code finds it: its net delta, and the cell of its tier and side
+
+abbrev pub nothing : Open
+nothing = record { tier = 0; unused = pos 0 }
+
+pub record Placed (ps : List Open) (k : ℕ) (z : ℤ) (cell : ℕ) : Type 0 where
+  pub place : k < length ps
+  pub net : z ≡ (getD ps k nothing) .unused
+  pub own : cell ≡ cellOf (marketOf ((getD ps k nothing) .unused)) ((getD ps k nothing) .tier)
+  pub tiered : (getD ps k nothing) .tier < 16
+  pub most : natAbs ((getD ps k nothing) .unused) ≤ mostDelta
+
+abbrev pub noDelta : Delta
+noDelta = record { 0 = pos 0 }
+
+abbrev pub netOf : Prompts → ℕ → ℤ
+netOf p i = (getD (p .net) i noDelta) .0
+
+pub placed : (p : Prompts) (i cell : ℕ) → length (p .tier) ≡ 32 → length (p .net) ≡ 32 → soundPrompts p ≡ true → i < p .count
+    → cell ≡ cellOf (marketOf (netOf p i)) (getD (p .tier) i 0)
+    → Placed (openOf p) i (netOf p i) cell
+placed p i cell lt ln e h own =
+    let at = open-at p i 0 noDelta nothing lt ln (few p e) h in
     let l = open-length p lt ln (few p e) in
     let s = every-at soundPrompt (openOf p) i nothing (all-sound p e) (omega arith) in
     record {
       place = omega arith;
       net = sym (ap (λ (q : Open). q .unused) at);
-      own =
-          ec
-          ∙ ap (λ (m : Market). cellOf m (getD (p .tier) i dt)) (ap shortIf eb ∙ side-market ((getD (p .net) i dd) .0))
-          ∙ sym (ap (λ (q : Open). cellOf (marketOf (q .unused)) (q .tier)) at);
+      own = own ∙ sym (ap (λ (q : Open). cellOf (marketOf (q .unused)) (q .tier)) at);
       tiered = tier-sound (getD (openOf p) i nothing) s;
       most = size-sound (getD (openOf p) i nothing) s;
     }
+
+pub placed-within : (ps : List Open) (i : ℕ) (z : ℤ) (cell : ℕ) → Placed ps i z cell → cell < 32
+placed-within ps i z cell g =
+    subst (λ (k : ℕ). k < 32) (sym (g .own)) (cell-small (marketOf ((getD ps i nothing) .unused)) ((getD ps i nothing) .tier) (g .tiered))
 
 -- the pools of the prompts, one prompt after the other
 

@@ -8,20 +8,17 @@ use mathlib.Core.Path.{_≡_, refl, sym, _∙_, ap, ap₂, subst}
 use lib.IntN.{ℤ, pos, natAbs, _-ℤ_}
 use lib.ListN.{length, getD, set, drop, replicate, length-set, drop-of-length-le}
 use lib.Seq.{drop-cons}
-use Rattle.spread.specs.Book.{deltaEntry, nothing, Placed, Spent}
+use Rattle.spread.specs.Book.{deltaEntry, Spent}
 use Rattle.spread.specs.Cells.{cellOf, cellAt}
 use Rattle.spread.specs.Spend.{marketOf, spend, deltas, usedBy}
 use Rattle.spread.specs.Steps.{Open, inTier, towardsZero, minus}
 use Rattle.spread.specs.declared.Delta.{Delta}
 use Rattle.spread.proofs.Filling.{Filled, filled-none, filled-next, filled-all}
-use Rattle.spread.proofs.Gathering.{own, in-own-pool}
+use Rattle.spread.proofs.Gathering.{own, in-own-pool, nothing, Placed, noDelta}
 use Rattle.spread.proofs.Pooling.{cell-less}
 use Rattle.spread.proofs.Spending.{spend-same}
 
 -- the spend: i prompts have paid, and the cells hold what is still wanted
-
-abbrev pub noDelta : Delta
-noDelta = record { 0 = pos 0 }
 
 pub record Paying (wanted : List ℕ) (ps : List Open) (i : ℕ) (now : List ℕ) (used unused : List Delta) : Type 0 where
   pub place : i ≤ length ps

@@ -29,7 +29,7 @@ use Rattle.spread.proofs.Booking.{all-none, spend-left}
 use Rattle.spread.proofs.Both.{and-left, and-right, and-both}
 use Rattle.spread.proofs.Demand3.{demand3}
 use Rattle.spread.proofs.Every.{open-length}
-use Rattle.spread.proofs.Paying.{noDelta}
+use Rattle.spread.proofs.Gathering.{noDelta}
 use Rattle.spread.proofs.Pooling.{pooled-numbers, pooled-left}
 use Rattle.spread.proofs.Soundness.{spread-sound}
 use Rattle.spread.proofs.Spending.{after-spend}

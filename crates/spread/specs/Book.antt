@@ -1,15 +1,15 @@
 -- What comes back for prompts and a table of spreads: each step's number, and used and unused at each prompt.
 -- Assumes nothing.
-use Prim.Native.Nat.{ℕ, zero, suc, _+_, _-_, _*_, _≤_, _<_}
+use Prim.Native.Nat.{ℕ, zero, suc, _+_, _-_, _*_, _<_}
 use mathlib.Core.Path.{_≡_}
 use mathlib.Core.Bool.{false, cond}
 use mathlib.Core.List.{List, [], _∷_}
 use lib.ListN.{length, getD, replicate}
-use lib.IntN.{ℤ, pos, natAbs}
+use lib.IntN.{ℤ, pos}
 use Rattle.spread.specs.Steps.{Open, steps, numbers, usedOf, unusedOf}
-use Rattle.spread.specs.Spend.{marketOf, spend, deltas, usedBy}
-use Rattle.spread.specs.Cells.{cellOf, cellAt, numbersIn, leftIn}
-use Rattle.spread.specs.Accepted.{openOf, stepsOf, mostDelta, sound}
+use Rattle.spread.specs.Spend.{spend, deltas, usedBy}
+use Rattle.spread.specs.Cells.{cellAt, numbersIn, leftIn}
+use Rattle.spread.specs.Accepted.{openOf, stepsOf, sound}
 use Rattle.spread.specs.declared.Delta.{Delta}
 use Rattle.spread.specs.declared.Spreads.{Spreads}
 use Rattle.spread.specs.declared.Spread.{Spread}
@@ -54,17 +54,6 @@ pub record Refused (r : Book) : Type 0 where
   pub second : r .second ≡ replicate 32 (record { 0 = 0 })
   pub used : r .used ≡ replicate 32 (record { 0 = pos 0 })
   pub unused : r .unused ≡ replicate 32 (record { 0 = pos 0 })
-
--- A prompt as the code finds it: its net delta, and the cell of its tier and side.
-abbrev pub nothing : Open
-nothing = record { tier = 0; unused = pos 0 }
-
-pub record Placed (ps : List Open) (k : ℕ) (z : ℤ) (cell : ℕ) : Type 0 where
-  pub place : k < length ps
-  pub net : z ≡ (getD ps k nothing) .unused
-  pub own : cell ≡ cellOf (marketOf ((getD ps k nothing) .unused)) ((getD ps k nothing) .tier)
-  pub tiered : (getD ps k nothing) .tier < 16
-  pub most : natAbs ((getD ps k nothing) .unused) ≤ mostDelta
 
 -- The run of all steps on the cells: the numbers by spread, and the cells left.
 pub record Run (cells : List ℕ) (ss : List Spread) (left : List ℕ) (first second : List Spreads) : Type 0 where

@@ -11,13 +11,13 @@ use exact::signed::minus;
 use exact::signed::towards_zero;
 ghost use mathlib.Core.Path.{_≡_};
 ghost use mathlib.Core.Bool.{true};
-ghost use Prim.Native.Nat.{_+_, _-_, _≤_, _<_, _^_};
-ghost use lib.ListN.{getD, set};
+ghost use Prim.Native.Nat.{_-_, _≤_};
 ghost use lib.IntN.{_-ℤ_};
 ghost use Rattle.spread.specs.Steps.{towardsZero};
 ghost use Rattle.spread.specs.Accepted.{openOf, spreadsOf, soundPrompts};
-ghost use Rattle.spread.specs.Cells.{Pooled};
-ghost use Rattle.spread.specs.Book.{Booked, Refused, Placed, Run, Wanted, Spent};
+ghost use Rattle.spread.specs.Spend.{marketOf};
+ghost use Rattle.spread.specs.Cells.{cellOf, Pooled};
+ghost use Rattle.spread.specs.Book.{Booked, Refused, Run, Wanted, Spent};
 
 // Spread k formed first[k] in its first step and second[k] in its second; used[k] and unused[k] are the parts of prompt k's
 // net delta. All are zero beyond the spreads and prompts given, and where these are not accepted.
@@ -48,30 +48,11 @@ pub(crate) struct Paid {
     pub(crate) unused: [Delta; 32],
 }
 
-// A prompt's net delta, and the pool of its tier and side.
-struct Due {
-    net: Delta,
-    cell: usize,
-}
-
-fn due_at(prompts: Prompts, k: usize) -> Due
-    requires { ⌜ (soundPrompts prompts ≡ true) × (k < prompts .count) ⌝ }
-    ensures { λ r. ⌜ Placed (openOf prompts) k (r .net .0) (r .cell) ⌝ }
+// The pool of a prompt: its tier's, on the side of its net delta.
+fn pool_of(tier: usize, net: Delta) -> usize
+    ensures { λ r. ⌜ r ≡ cellOf (marketOf (net .0)) tier ⌝ }
 {
-    let net = prompts.net[k];
-    let cell = cell_of(prompts.tier[k], net.is_short());
-    Due {
-        net: net,
-        cell: cell,
-    }
-}
-
-// A pool with a net delta added to it.
-fn grown(pools: Pools, cell: usize, size: u64) -> Pools
-    requires { ⌜ getD (pools .cell) cell 0 + size < 2 ^ 64 ⌝ }
-    ensures { λ r. ⌜ r .cell ≡ set (pools .cell) cell (getD (pools .cell) cell 0 + size) ⌝ }
-{
-    pools.with(cell, pools.at(cell) + size)
+    cell_of(tier, net.is_short())
 }
 
 // "A tier's long pool is the sum of its positive unused deltas, its short pool that of its negative ones".
@@ -80,17 +61,15 @@ pub(crate) fn pools_of(prompts: Prompts) -> Pools
     ensures { λ r. ⌜ Pooled (r .cell) (openOf prompts) ⌝ }
 {
     let n = prompts.count;
-    let mut pools = Pools::none();
+    let mut cells = [0; 32];
     let mut i = 0;
     while i < n {
-        let due = due_at(prompts, i);
-        let cell = due.cell;
-        let net = due.net;
-        let more = grown(pools, cell, net.size());
-        pools = more;
+        let net = prompts.net[i];
+        let cell = pool_of(prompts.tier[i], net);
+        cells[cell] = cells[cell] + net.size();
         i += 1;
     }
-    pools
+    Pools { cell: cells }
 }
 
 // "Each spread, in file order, is two steps".
@@ -133,14 +112,15 @@ fn beyond(a: u64, b: u64) -> u64
 pub(crate) fn used_of(pools: Pools, left: Pools) -> Pools
     ensures { λ r. ⌜ Wanted (pools .cell) (left .cell) (r .cell) ⌝ }
 {
-    let mut used = Pools::none();
+    let had = pools.cell;
+    let has = left.cell;
+    let mut used = [0; 32];
     let mut cell = 0;
     while cell < CELLS {
-        let next = used.with(cell, beyond(pools.at(cell), left.at(cell)));
-        used = next;
+        used[cell] = beyond(had[cell], has[cell]);
         cell += 1;
     }
-    used
+    Pools { cell: used }
 }
 
 // A net delta of which so much is wanted: no prompt goes past zero.
@@ -161,21 +141,20 @@ pub(crate) fn paid_by(prompts: Prompts, wanted: Pools) -> Paid
     ensures { λ r. ⌜ Spent (wanted .cell) (openOf prompts) (r .used) (r .unused) ⌝ }
 {
     let n = prompts.count;
-    let mut left = wanted;
+    let mut left = wanted.cell;
     let mut used = [Delta(0); 32];
     let mut unused = [Delta(0); 32];
     let mut k = 0;
     while k < n {
-        let due = due_at(prompts, k);
-        let cell = due.cell;
-        let net = due.net;
-        let parts = parts_of(net, left.at(cell));
+        let net = prompts.net[k];
+        let cell = pool_of(prompts.tier[k], net);
+        let due = left[cell];
+        let parts = parts_of(net, due);
         let taken = parts.used;
         let kept = parts.unused;
         used[k] = taken;
         unused[k] = kept;
-        let rest = left.with(cell, beyond(left.at(cell), net.size()));
-        left = rest;
+        left[cell] = beyond(due, net.size());
         k += 1;
     }
     Paid {

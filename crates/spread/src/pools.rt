@@ -6,7 +6,7 @@ ghost use mathlib.Core.Path.{_≡_};
 ghost use mathlib.Core.Bool.{cond};
 ghost use mathlib.Core.List.{[], _∷_};
 ghost use Prim.Native.Nat.{_-_, min};
-ghost use lib.ListN.{getD, set, take, replicate};
+ghost use lib.ListN.{getD, take};
 ghost use Rattle.exact.specs.Lists.{least};
 ghost use Rattle.spread.specs.Steps.{room, useOf, taker};
 ghost use Rattle.spread.specs.Cells.{cellOf, shortIf, marketIn, stepOf, roomIn, lessIn, formedIn, afterIn, Taken};
@@ -87,83 +87,67 @@ fn smallest(legs: usize, a: u64, b: u64, c: u64) -> u64
     lesser(a, lesser(b, c))
 }
 
+// A pool; 0 where there is no such cell. Here and below the cells are lent, so that a step copies them once.
+fn pool_at(cells: &[u64], cell: usize) -> u64
+    ensures { λ r. ⌜ r ≡ getD (now (cells .entry)) cell 0 ⌝ }
+{
+    if cell < cells.len() { cells[cell] } else { 0 }
+}
+
+fn room_for(cells: &[u64], leg: Leg, second: bool) -> u64
+    ensures { λ r. ⌜ r ≡ roomIn (now (cells .entry)) (taker (marketIn second) leg) ⌝ }
+{
+    room(pool_at(cells, cell_for(leg, second)), leg.ratio)
+}
+
+// "The number formed is the smallest over its legs".
+fn formed(cells: &[u64], spread: Spread, second: bool) -> u64
+    ensures { λ r. ⌜ r ≡ formedIn (stepOf second spread) (now (cells .entry)) ⌝ }
+{
+    let a = room_for(cells, spread.leg[0], second);
+    let b = room_for(cells, spread.leg[1], second);
+    let c = room_for(cells, spread.leg[2], second);
+    smallest(spread.legs, a, b, c)
+}
+
+fn less(cells: &mut [u64], leg: Leg, second: bool, number: u64)
+    ensures { λ _. ⌜ now (cells .exit) ≡ lessIn number (taker (marketIn second) leg) (now (cells .entry)) ⌝ }
+{
+    let cell = cell_for(leg, second);
+    if cell < cells.len() {
+        cells[cell] = kept(cells[cell], number, leg.ratio);
+    }
+}
+
+fn less_if(cells: &mut [u64], there: bool, leg: Leg, second: bool, number: u64)
+    ensures { λ _. ⌜ now (cells .exit) ≡ cond there (lessIn number (taker (marketIn second) leg) (now (cells .entry))) (now (cells .entry)) ⌝ }
+{
+    if there {
+        less(cells, leg, second, number);
+    }
+}
+
+// "Each leg takes number × ratio".
+fn lessen(cells: &mut [u64], spread: Spread, second: bool, number: u64)
+    ensures { λ _. ⌜ now (cells .exit) ≡ afterIn (stepOf second spread) number (now (cells .entry)) ⌝ }
+{
+    let legs = spread.legs;
+    less_if(cells, 0 < legs, spread.leg[0], second, number);
+    less_if(cells, 1 < legs, spread.leg[1], second, number);
+    less_if(cells, 2 < legs, spread.leg[2], second, number);
+}
+
 impl Pools {
-    // Nothing in any pool.
-    pub(crate) fn none() -> Pools
-        ensures { λ r. ⌜ r .cell ≡ replicate 32 0 ⌝ }
-    {
-        Pools { cell: [0; 32] }
-    }
-
-    // A pool; 0 where there is no such cell.
-    pub(crate) fn at(self, cell: usize) -> u64
-        ensures { λ r. ⌜ r ≡ getD (self .cell) cell 0 ⌝ }
-    {
-        if cell < CELLS { self.cell[cell] } else { 0 }
-    }
-
-    // The pools with one of them changed.
-    pub(crate) fn with(mut self, cell: usize, pool: u64) -> Pools
-        ensures { λ r. ⌜ r .cell ≡ set (self .cell) cell pool ⌝ }
-    {
-        if cell < CELLS {
-            self.cell[cell] = pool;
-        }
-        self
-    }
-
-    fn room_for(self, leg: Leg, second: bool) -> u64
-        ensures { λ r. ⌜ r ≡ roomIn (self .cell) (taker (marketIn second) leg) ⌝ }
-    {
-        room(self.at(cell_for(leg, second)), leg.ratio)
-    }
-
-    fn less(self, leg: Leg, second: bool, number: u64) -> Pools
-        ensures { λ r. ⌜ r .cell ≡ lessIn number (taker (marketIn second) leg) (self .cell) ⌝ }
-    {
-        let cell = cell_for(leg, second);
-        self.with(cell, kept(self.at(cell), number, leg.ratio))
-    }
-
-    fn less_if(self, there: bool, leg: Leg, second: bool, number: u64) -> Pools
-        ensures { λ r. ⌜ r .cell ≡ cond there (lessIn number (taker (marketIn second) leg) (self .cell)) (self .cell) ⌝ }
-    {
-        if there {
-            self.less(leg, second, number)
-        } else {
-            self
-        }
-    }
-
-    // "The number formed is the smallest over its legs".
-    fn formed(self, spread: Spread, second: bool) -> u64
-        ensures { λ r. ⌜ r ≡ formedIn (stepOf second spread) (self .cell) ⌝ }
-    {
-        let a = self.room_for(spread.leg[0], second);
-        let b = self.room_for(spread.leg[1], second);
-        let c = self.room_for(spread.leg[2], second);
-        smallest(spread.legs, a, b, c)
-    }
-
-    // "Each leg takes number × ratio".
-    fn after(self, spread: Spread, second: bool, number: u64) -> Pools
-        ensures { λ r. ⌜ r .cell ≡ afterIn (stepOf second spread) number (self .cell) ⌝ }
-    {
-        let legs = spread.legs;
-        let one = self.less_if(0 < legs, spread.leg[0], second, number);
-        let two = one.less_if(1 < legs, spread.leg[1], second, number);
-        two.less_if(2 < legs, spread.leg[2], second, number)
-    }
-
     // A step of a spread, "first A legs take long and B legs short, then the reverse": the number that it forms, and the
     // pools that it leaves.
     pub fn take(self, spread: Spread, second: bool) -> Took
         ensures { λ r. ⌜ Taken (stepOf second spread) (self .cell) (r .left .cell) (r .number .0) ⌝ }
     {
-        let number = self.formed(spread, second);
-        let left = self.after(spread, second, number);
+        let mut cells = self.cell;
+        let number = formed(&cells, spread, second);
+        lessen(&mut cells, spread, second, number);
         Took {
-            left: left,
+            left: Pools { cell: cells },
             number: Spreads(number),
         }
     }

@@ -1,90 +1,35 @@
--- `record::ranges::no_losses` meets its contract. Assumes nothing.
-use Prim.Native.Nat.{ℕ, _+_, _-_, _*_, _≤_}
-use mathlib.Core.Bool.{Bool}
-use mathlib.Core.Path.{_≡_, refl, sym, ap, _∙_}
+-- `record::ranges::no_losses`: the losses stand in the first 96 bytes. Assumes nothing.
+use Prim.Native.Nat.{_+_, _-_, _*_}
+use mathlib.Core.Path.{sym, ap, _∙_}
+use lib.ListN.{take}
+use lib.Seq.{length-take-le}
 use native.Mathlib.Omega.{arith}
-use borrow.Author.Needs.{needs}
-use lib.Dec.{lit≤}
-use Rattle.exact.specs.Lists.{any}
-use Rattle.record.specs.Bytes.{Record, u32At, countFrom, numberIn}
 use Rattle.record.specs.Layout.{hundredThousands, lossField}
-use Rattle.record.specs.Ranges.{beyond}
-use Rattle.record.proofs.Tests.{any-here, any-next, any-past}
+use Rattle.record.specs.Ranges.{beyond, outside}
+use Rattle.record.proofs.Reading.{u32-in}
+use Rattle.record.proofs.Tests.{any-same}
 use Rattle.record.proofs.ranges.no_losses.Statement.{statement}
 use Rattle.record.proofs.ranges.no_losses.Tie as tie
 
-abbrev wrong : Record → ℕ → Bool
-wrong r scenario = beyond hundredThousands (numberIn (lossField scenario) r)
+slice-aggregate-losses-beyond : tie.Need-slice-aggregate-losses-beyond
+slice-aggregate-losses-beyond c = sym (length-take-le 96 (c .before .before .before .args .r .now) (c .before .if1 .taken))
 
-abbrev Inv-loop : tie.InvT-loop
-Inv-loop r scenario₀ scenario =
-    (1 ≤ scenario) × (any (wrong r) (countFrom 1 16) ≡ any (wrong r) (countFrom scenario (17 - scenario)))
+losses-beyond-requires : tie.Need-losses-beyond-requires
+losses-beyond-requires c κs = tt
 
-abbrev μ-loop : tie.MeasureT-loop
-μ-loop r scenario₀ scenario = 17 - scenario
+losses-beyond-requires-2 : tie.Need-losses-beyond-requires-2
+losses-beyond-requires-2 c κs = tt
 
-told :
-    (r : Record) (s : ℕ) {x : ℕ} {b : Bool} → 1 ≤ s → x ≡ u32At r (20 + 4 * s) → b ≡ beyond hundredThousands x
-    → b ≡ wrong r s
-told r s h e t = t ∙ ap (beyond hundredThousands) (e ∙ ap (u32At r) (omega arith))
+returns : tie.Need-returns
+returns c = let r = c .before .before .before .before .args .r .now in
+    c .losses-beyond .ensures
+    ∙ any-same (λ k. outside (take 96 r) (lossField k)) (λ k. outside r (lossField k)) 16 1
+    (λ k g h. ap (beyond hundredThousands) (u32-in 96 r (24 + 4 * (k - 1)) (omega arith)))
 
-loop-holds : tie.Need-loop-holds Inv-loop μ-loop
-loop-holds c = (lit≤ tt, refl)
-
-mul-u32-at : tie.Need-mul-u32-at Inv-loop μ-loop
-mul-u32-at c = omega arith
-
-add-u32-at : tie.Need-add-u32-at Inv-loop μ-loop
-add-u32-at c = omega arith
-
-u32-at-requires : tie.Need-u32-at-requires Inv-loop μ-loop
-u32-at-requires c κs = tt
-
-too-many-requires : tie.Need-too-many-requires Inv-loop μ-loop
-too-many-requires c κs = search needs
-
-returns : tie.Need-returns Inv-loop μ-loop
-returns c =
-    let l = c .before .before .before .before .loop in
-    let r = c .before .before .before .before .before .before .args .r .now in
-    sym (l .inv .1 ∙ any-here (wrong r) 17 (l .scenario) (c .before .before .before .loop-test .taken)
-    (sym (told r (l .scenario) (l .inv .0) (c .before .before .u32-at .ensures .0) (c .before .too-many .ensures))
-    ∙ c .if1 .taken))
-
-add-scenario : tie.Need-add-scenario Inv-loop μ-loop
-add-scenario c = omega arith
-
-loop-less : tie.Need-loop-less Inv-loop μ-loop
-loop-less c = omega arith
-
-loop-again : tie.Need-loop-again Inv-loop μ-loop
-loop-again c =
-    let l = c .before .before .before .before .loop in
-    let r = c .before .before .before .before .before .before .args .r .now in (
-      omega arith,
-      l .inv .1 ∙ any-next (wrong r) 17 (l .scenario) (c .before .before .before .loop-test .taken)
-          (sym (told r (l .scenario) (l .inv .0) (c .before .before .u32-at .ensures .0)
-          (c .before .too-many .ensures)) ∙ c .if1 .left),
-    )
-
-returns-2 : tie.Need-returns-2 Inv-loop μ-loop
-returns-2 c =
-    let r = c .before .before .before .args .r .now in
-    sym (c .before .loop .inv .1 ∙ any-past (wrong r) 17 (c .before .loop .scenario) (c .loop-test .left))
+returns-2 : tie.Need-returns-2
+returns-2 c = c .losses-beyond2 .ensures
 
 pub no-losses-spec : {M : Type 1} → statement M
 no-losses-spec =
     tie.close
-    (tie.spec
-    Inv-loop
-    μ-loop
-    loop-holds
-    mul-u32-at
-    add-u32-at
-    u32-at-requires
-    too-many-requires
-    returns
-    add-scenario
-    loop-less
-    loop-again
-    returns-2)
+    (tie.spec slice-aggregate-losses-beyond losses-beyond-requires losses-beyond-requires-2 returns returns-2)

@@ -1,58 +1,78 @@
 -- `paid_by`: the prompts passed have paid, and the cells hold what is still wanted of the later ones.
 -- Assumes nothing.
-use Prim.Native.Nat.{ℕ, _-_, _≤_}
+use Prim.Native.Nat.{ℕ, _-_, _≤_, _<_}
 use native.Mathlib.Omega.{arith}
-use mathlib.Core.List.{List}
 use mathlib.Core.Path.{_≡_, sym, _∙_, ap}
-use lib.IntN.{natAbs, _-ℤ_}
 use lib.ListN.{length, length-map, getD, set}
 use borrow.Author.Needs.{needs}
 use Rattle.spread.specs.Accepted.{openOf}
-use Rattle.spread.specs.Steps.{towardsZero}
 use Rattle.spread.proofs.Every.{open-length}
-use Rattle.spread.proofs.Gathering.{few}
+use Rattle.spread.proofs.Gathering.{few, Placed, netOf, placed, placed-within}
 use Rattle.spread.proofs.Paying.{Paying, paying-none, pay-next, paying-all}
 use Rattle.spread.proofs.book.paid_by.Statement.{statement}
 use Rattle.spread.proofs.book.paid_by.Tie as tie
 
--- the pool lowered by the prompt's size
-lowered : (now more : List ℕ) (cell rest w size a : ℕ) → more ≡ set now cell rest → rest ≡ w - size → w ≡ getD now cell 0 → size ≡ a
-    → more ≡ set now cell (getD now cell 0 - a)
-lowered now more cell rest w size a e f g h = cc
-
 abbrev Inv-loop : tie.InvT-loop
-Inv-loop prompts n left₀ used₀ unused₀ k₀ left used unused k = (k ≤ n) × Paying (left₀ .cell) (openOf prompts) k (left .cell) used unused
+Inv-loop prompts n left₀ used₀ unused₀ k₀ left used unused k = (k ≤ n) × (n ≤ 32) × Paying left₀ (openOf prompts) k left used unused
 
 abbrev μ-loop : tie.MeasureT-loop
 μ-loop prompts n left₀ used₀ unused₀ k₀ left used unused k = n - k
 
+tiers : (s : tie.Start Inv-loop μ-loop) → length (s .args .t1 .tier) ≡ 32
+tiers s = sym (length-map (s .args .t1 .tier) _) ∙ s .good .0 .1 .1 .1 .0 .1 .0 .1
+
+nets : (s : tie.Start Inv-loop μ-loop) → length (s .args .t1 .net) ≡ 32
+nets s = sym (length-map (s .args .t1 .net) _) ∙ s .good .0 .1 .1 .1 .1 .0 .1 .0 .1
+
+-- the prompt of a turn
+here : (c : tie.After-pool-of Inv-loop μ-loop)
+    → let p = c .before .before .before .before .before .before .args .t1 in let k = c .before .before .before .before .loop .k in Placed (openOf p) k (netOf p k) (c .pool-of .result)
+here c = let s = c .before .before .before .before .before .before in
+    placed (s .args .t1) _ (c .pool-of .result) (tiers s) (nets s) (s .pre) (c .before .before .before .loop-test .taken) (c .pool-of .ensures)
+
+within : (c : tie.After-pool-of Inv-loop μ-loop) → c .pool-of .result < 32
+within c = placed-within _ _ _ _ (here c)
+
 loop-holds : tie.Need-loop-holds Inv-loop μ-loop
-loop-holds c = let len : length (c .args .wanted .cell) ≡ 32 = sym (length-map (c .args .wanted .cell) _) ∙ c .good .1 .0 .1 .1 .0 .1 .0 .1 in
-    (omega arith, paying-none (c .args .wanted .cell) (openOf (c .args .prompts)) len)
+loop-holds c = let s = c .before in
+    let len : length (s .args .wanted .cell) ≡ 32 = sym (length-map (s .args .wanted .cell) _) ∙ s .good .1 .0 .1 .1 .0 .1 .0 .1 in
+    (omega arith, few (s .args .t1) (s .pre), paying-none (s .args .wanted .cell) (openOf (s .args .t1)) len)
 
-due-at-requires : tie.Need-due-at-requires Inv-loop μ-loop
-due-at-requires c κs = (c .before .before .pre, c .loop-test .taken)
+mul-net : tie.Need-mul-net Inv-loop μ-loop
+mul-net c = omega arith
 
-at-requires : tie.Need-at-requires Inv-loop μ-loop
-at-requires c κs = search needs
+element-copy-out-net : tie.Need-element-copy-out-net Inv-loop μ-loop
+element-copy-out-net c = omega arith
+
+mul-pool-of : tie.Need-mul-pool-of Inv-loop μ-loop
+mul-pool-of c = omega arith
+
+element-copy-out-pool-of : tie.Need-element-copy-out-pool-of Inv-loop μ-loop
+element-copy-out-pool-of c = omega arith
+
+pool-of-requires : tie.Need-pool-of-requires Inv-loop μ-loop
+pool-of-requires c κs = search needs
+
+mul-due : tie.Need-mul-due Inv-loop μ-loop
+mul-due c = let h = within c in omega arith
+
+array-read-due : tie.Need-array-read-due Inv-loop μ-loop
+array-read-due c = within c
 
 parts-of-requires : tie.Need-parts-of-requires Inv-loop μ-loop
 parts-of-requires c κs = search needs
 
 mul-used : tie.Need-mul-used Inv-loop μ-loop
-mul-used c = let f = few (c .before .before .before .before .before .before .before .before .args .prompts) (c .before .before .before .before .before .before .before .before .pre) in omega arith
+mul-used c = omega arith
 
 array-set-from-used : tie.Need-array-set-from-used Inv-loop μ-loop
-array-set-from-used c = let f = few (c .before .before .before .before .before .before .before .before .args .prompts) (c .before .before .before .before .before .before .before .before .pre) in omega arith
+array-set-from-used c = omega arith
 
 mul-unused : tie.Need-mul-unused Inv-loop μ-loop
-mul-unused c = let f = few (c .before .before .before .before .before .before .before .before .args .prompts) (c .before .before .before .before .before .before .before .before .pre) in omega arith
+mul-unused c = omega arith
 
 array-set-from-unused : tie.Need-array-set-from-unused Inv-loop μ-loop
-array-set-from-unused c = let f = few (c .before .before .before .before .before .before .before .before .args .prompts) (c .before .before .before .before .before .before .before .before .pre) in omega arith
-
-at-requires-2 : tie.Need-at-requires-2 Inv-loop μ-loop
-at-requires-2 c κs = search needs
+array-set-from-unused c = omega arith
 
 size-requires : tie.Need-size-requires Inv-loop μ-loop
 size-requires c κs = search needs
@@ -60,39 +80,38 @@ size-requires c κs = search needs
 beyond-requires : tie.Need-beyond-requires Inv-loop μ-loop
 beyond-requires c κs = search needs
 
-with-requires : tie.Need-with-requires Inv-loop μ-loop
-with-requires c κs = search needs
+mul-left : tie.Need-mul-left Inv-loop μ-loop
+mul-left c = let h = within (c .before .before .before .before .before) in omega arith
+
+array-write-left : tie.Need-array-write-left Inv-loop μ-loop
+array-write-left c = within (c .before .before .before .before .before)
 
 add-k : tie.Need-add-k Inv-loop μ-loop
-add-k c = let f = few (c .before .before .before .before .before .before .before .before .before .before .before .before .args .prompts) (c .before .before .before .before .before .before .before .before .before .before .before .before .pre) in omega arith
+add-k c = omega arith
 
 loop-less : tie.Need-loop-less Inv-loop μ-loop
 loop-less c = omega arith
 
 loop-again : tie.Need-loop-again Inv-loop μ-loop
-loop-again c = let s = c .before .before .before .before .before .before .before .before .before .before .before .before in
-    let l = c .before .before .before .before .before .before .before .before .before .before .before .loop in
-    let parts = c .before .before .before .before .before .before .parts-of in
-    let z = c .before .before .before .before .before .before .before .before .before .due-at .result .net .0 in
-    let at = c .before .before .before .before .before .before .before .at .ensures in
-    let f = few (s .args .prompts) (s .pre) in (
+loop-again c = let p = c .before .before .before .before .before in
+    let l = p .before .before .before .before .loop in
+    let s = p .before .before .before .before .before .before in
+    let cell = p .pool-of .result in
+    let parts = c .before .before .before .before .parts-of in (
       omega arith,
-      pay-next (s .args .wanted .cell) (openOf (s .args .prompts)) (l .k) (l .left .cell) (c .with .result .cell) (l .used) (l .unused) z _ (parts .result .used) (parts .result .unused) (omega arith)
-          (c .before .before .before .before .before .before .before .before .before .due-at .ensures)
-          (parts .ensures .0 ∙ ap (λ (a : ℕ). z -ℤ towardsZero z a) at)
-          (parts .ensures .1 ∙ ap (towardsZero z) at)
-          (lowered (l .left .cell) (c .with .result .cell) _ _ _ _ (natAbs z) (c .with .ensures) (c .before .beyond .ensures) (c .before .before .before .at2 .ensures) (c .before .before .size .ensures))
-          (l .inv .1),
+      l .inv .1,
+      pay-next (s .args .wanted .cell) (openOf (s .args .t1)) (l .k) (l .left) _ (l .used) (l .unused) _ cell (parts .result .used) (parts .result .unused) (omega arith)
+          (here p) (parts .ensures .0) (parts .ensures .1)
+          (ap (set (l .left) cell) (c .beyond .ensures ∙ ap (λ (a : ℕ). getD (l .left) cell 0 - a) (c .before .size .ensures)))
+          (l .inv .2),
     )
 
 returns : tie.Need-returns Inv-loop μ-loop
-returns c = let s = c .before .before in
-    let p = s .args .prompts in
+returns c = let s = c .before .before .before in
+    let p = s .args .t1 in
     let l = c .before .loop in
-    let lt : length (p .tier) ≡ 32 = sym (length-map (p .tier) _) ∙ s .good .0 .1 .1 .1 .0 .1 .0 .1 in
-    let ln : length (p .net) ≡ 32 = sym (length-map (p .net) _) ∙ s .good .0 .1 .1 .1 .1 .0 .1 .0 .1 in
-    let n = open-length p lt ln (few p (s .pre)) in
-    paying-all (s .args .wanted .cell) (openOf p) (l .k) (l .left .cell) (l .used) (l .unused) (omega arith) (l .inv .1)
+    let n = open-length p (tiers s) (nets s) (l .inv .1) in
+    paying-all (s .args .wanted .cell) (openOf p) (l .k) (l .left) (l .used) (l .unused) (omega arith) (l .inv .2)
 
 pub paid-by-spec : {M : Type 1} → statement M
 paid-by-spec =
@@ -101,17 +120,22 @@ paid-by-spec =
     Inv-loop
     μ-loop
     loop-holds
-    due-at-requires
-    at-requires
+    mul-net
+    element-copy-out-net
+    mul-pool-of
+    element-copy-out-pool-of
+    pool-of-requires
+    mul-due
+    array-read-due
     parts-of-requires
     mul-used
     array-set-from-used
     mul-unused
     array-set-from-unused
-    at-requires-2
     size-requires
     beyond-requires
-    with-requires
+    mul-left
+    array-write-left
     add-k
     loop-less
     loop-again

@@ -1,10 +1,10 @@
 -- `used_of`: cell after cell, before less after.
 -- Assumes nothing.
-use Prim.Native.Nat.{ℕ, _+_, _-_, _≤_}
+use Prim.Native.Nat.{ℕ, _-_, _≤_}
 use native.Mathlib.Omega.{arith}
 use mathlib.Core.Bool.{Bool, cond}
 use mathlib.Core.List.{List}
-use mathlib.Core.Path.{sym, _∙_, ap, ap₂, subst}
+use mathlib.Core.Path.{_∙_, ap}
 use lib.ListN.{getD}
 use borrow.Author.Needs.{needs}
 use borrow.Author.Tests.{lt-ltb}
@@ -16,29 +16,34 @@ abbrev used-at : List ℕ → List ℕ → ℕ → ℕ
 used-at pools left k = getD pools k 0 - getD left k 0
 
 abbrev Inv-loop : tie.InvT-loop
-Inv-loop pools left used₀ cell₀ used cell = (cell ≤ 32) × Filled 0 (used-at (pools .cell) (left .cell)) cell (used .cell)
+Inv-loop had has used₀ cell₀ used cell = (cell ≤ 32) × Filled 0 (used-at had has) cell used
 
 abbrev μ-loop : tie.MeasureT-loop
-μ-loop pools left used₀ cell₀ used cell = 32 - cell
-
-none-requires : tie.Need-none-requires Inv-loop μ-loop
-none-requires c κs = search needs
+μ-loop had has used₀ cell₀ used cell = 32 - cell
 
 loop-holds : tie.Need-loop-holds Inv-loop μ-loop
-loop-holds c = let s = c .before in
-    (omega arith, subst (Filled 0 (used-at (s .args .pools .cell) (s .args .left .cell)) 0) (sym (c .none .ensures)) (filled-none 0 (used-at (s .args .pools .cell) (s .args .left .cell))))
+loop-holds c = let s = c .before .before in (omega arith, filled-none 0 (used-at (s .args .pools .cell) (s .args .left .cell)))
 
-at-requires : tie.Need-at-requires Inv-loop μ-loop
-at-requires c κs = search needs
+mul-beyond : tie.Need-mul-beyond Inv-loop μ-loop
+mul-beyond c = search needs
 
-at-requires-2 : tie.Need-at-requires-2 Inv-loop μ-loop
-at-requires-2 c κs = search needs
+array-read-beyond : tie.Need-array-read-beyond Inv-loop μ-loop
+array-read-beyond c = search needs
+
+mul-beyond-2 : tie.Need-mul-beyond-2 Inv-loop μ-loop
+mul-beyond-2 c = search needs
+
+array-read-beyond-2 : tie.Need-array-read-beyond-2 Inv-loop μ-loop
+array-read-beyond-2 c = search needs
 
 beyond-requires : tie.Need-beyond-requires Inv-loop μ-loop
 beyond-requires c κs = search needs
 
-with-requires : tie.Need-with-requires Inv-loop μ-loop
-with-requires c κs = search needs
+mul-used : tie.Need-mul-used Inv-loop μ-loop
+mul-used c = search needs
+
+array-write-used : tie.Need-array-write-used Inv-loop μ-loop
+array-write-used c = search needs
 
 add-cell : tie.Need-add-cell Inv-loop μ-loop
 add-cell c = omega arith
@@ -47,16 +52,12 @@ loop-less : tie.Need-loop-less Inv-loop μ-loop
 loop-less c = omega arith
 
 loop-again : tie.Need-loop-again Inv-loop μ-loop
-loop-again c = let s = c .before .before .before .before .before .before .before in
-    let l = c .before .before .before .before .before .loop in (
-      omega arith,
-      subst (Filled 0 (used-at (s .args .pools .cell) (s .args .left .cell)) (l .cell + 1)) (sym (c .with .ensures))
-          (filled-next 0 (used-at (s .args .pools .cell) (s .args .left .cell)) (l .cell) (l .used .cell) (c .before .beyond .result) (l .inv .1) (omega arith)
-          (c .before .beyond .ensures ∙ ap₂ _-_ (c .before .before .before .at .ensures) (c .before .before .at2 .ensures))),
-    )
+loop-again c = let s = c .before .before .before .before .before in
+    let l = c .before .before .loop in
+    (omega arith, filled-next 0 (used-at (s .args .pools .cell) (s .args .left .cell)) (l .cell) (l .used) (c .beyond .result) (l .inv .1) (omega arith) (c .beyond .ensures))
 
 returns : tie.Need-returns Inv-loop μ-loop
-returns c = let s = c .before .before .before in
+returns c = let s = c .before .before .before .before in
     let l = c .before .loop in
     let f = l .inv .1 in
     record {
@@ -70,12 +71,14 @@ used-of-spec =
     (tie.spec
     Inv-loop
     μ-loop
-    none-requires
     loop-holds
-    at-requires
-    at-requires-2
+    mul-beyond
+    array-read-beyond
+    mul-beyond-2
+    array-read-beyond-2
     beyond-requires
-    with-requires
+    mul-used
+    array-write-used
     add-cell
     loop-less
     loop-again

@@ -7,18 +7,32 @@ use Rattle.spread.specs.Cells.{stepOf, afterIn}
 use Rattle.spread.proofs.pools.Pools.take.Statement.{statement}
 use Rattle.spread.proofs.pools.Pools.take.Tie as tie
 
+slice-aggregate-formed : tie.Need-slice-aggregate-formed
+slice-aggregate-formed c = search needs
+
 formed-requires : tie.Need-formed-requires
 formed-requires c κs = search needs
 
-after-requires : tie.Need-after-requires
-after-requires c κs = search needs
+slice-aggregate-lessen : tie.Need-slice-aggregate-lessen
+slice-aggregate-lessen c = search needs
+
+lessen-requires : tie.Need-lessen-requires
+lessen-requires c κs = search needs
 
 returns : tie.Need-returns
-returns c = let s = c .before .before in
+returns c = let s = c .before .before .before .before .before .before in
+    let number = c .before .before .before .formed .ensures in
     record {
-      formed = c .before .formed .ensures;
-      leaves = c .after .ensures ∙ ap (λ (n : ℕ). afterIn (stepOf (s .args .second) (s .args .spread)) n (s .args .self .cell)) (c .before .formed .ensures);
+      formed = number;
+      leaves = c .before .lessen .ensures ∙ ap (λ (n : ℕ). afterIn (stepOf (s .args .second) (s .args .spread)) n (s .args .self .cell)) number;
     }
 
 pub take-spec : {M : Type 1} → statement M
-take-spec = tie.close (tie.spec formed-requires after-requires returns)
+take-spec =
+    tie.close
+    (tie.spec
+    slice-aggregate-formed
+    formed-requires
+    slice-aggregate-lessen
+    lessen-requires
+    returns)

@@ -4,8 +4,8 @@ use mathlib.Core.Path.{_≡_, sym, _∙_}
 use lib.ListN.{length, length-map}
 use borrow.Author.Needs.{needs}
 use Rattle.spread.proofs.Legs.{three, formed-legs}
-use Rattle.spread.proofs.pools.Pools.formed.Statement.{statement}
-use Rattle.spread.proofs.pools.Pools.formed.Tie as tie
+use Rattle.spread.proofs.pools.formed.Statement.{statement}
+use Rattle.spread.proofs.pools.formed.Tie as tie
 
 element-copy-out-room-for : tie.Need-element-copy-out-room-for
 element-copy-out-room-for c = search needs
@@ -29,9 +29,9 @@ smallest-requires : tie.Need-smallest-requires
 smallest-requires c κs = search needs
 
 returns : tie.Need-returns
-returns c = let s = c .before .before .before .before .before .before .before in
+returns c = let s = c .before .before .before .before .before .before .before .before in
     let l : length (s .args .t2 .leg) ≡ 3 = sym (length-map (s .args .t2 .leg) _) ∙ s .good .1 .0 .1 .1 .1 .0 .1 .0 .1 in
-    formed-legs (s .args .second) (s .args .t2) _ _ _ (three _ (s .args .t2 .leg) l) (s .args .self .cell) _ _ _ _ (c .before .before .before .before .before .room-for .ensures) (c .before .before .before .room-for2 .ensures) (c .before .room-for3 .ensures) (c .smallest .ensures)
+    formed-legs (s .args .second) (s .args .t2) _ _ _ (three _ (s .args .t2 .leg) l) (s .args .cells .now) _ _ _ _ (c .before .before .before .before .before .room-for .ensures) (c .before .before .before .room-for2 .ensures) (c .before .room-for3 .ensures) (c .smallest .ensures)
 
 pub formed-spec : {M : Type 1} → statement M
 formed-spec =

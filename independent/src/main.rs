@@ -1,9 +1,13 @@
 //! The independent margin program: reads an account file on standard input and prints its figures,
-//! or is asked for the check, a delta book, a generated file or a survey of generated files.
+//! or is asked for the check, a delta book, all there is to say, a generated file or a survey of
+//! generated files.
 
 mod survey;
 
-use independent::{check, figures, generate, held_book};
+use independent::account::{Account, Contract};
+use independent::book::{Book, INTERCONTRACT};
+use independent::steps::{Leg, Side};
+use independent::{check, figures, generate, held_book, margin, Refusal};
 use std::io::{self, Read, Write};
 use std::process::ExitCode;
 
@@ -11,6 +15,7 @@ const USAGE: &str =
     "usage: independent                     the figures of the file on standard input
        independent check               whether the file is accepted
        independent book QUESTION       a delta book, 0 to 15, or 16 for the intercontract table
+       independent lines [QUESTION]    figures and delta books, or one, one record a line
        independent survey SEED COUNT   what occurs in so many generated files
        independent write SEED INDEX    the bytes of one generated file";
 
@@ -25,6 +30,13 @@ fn main() -> ExitCode {
         ["check"] => standard_input().and_then(|file| print(&check_line(&file))),
         ["book", question] => match question.parse() {
             Ok(question) => standard_input().and_then(|file| print(&book_lines(&file, question))),
+            Err(_) => return usage(),
+        },
+        ["lines"] => standard_input().and_then(|file| print(&told(account_lines(&file)))),
+        ["lines", question] => match question.parse() {
+            Ok(question) => {
+                standard_input().and_then(|file| print(&told(question_lines(&file, question))))
+            }
             Err(_) => return usage(),
         },
         ["survey", seed, count] => match (seed.parse(), count.parse()) {
@@ -101,6 +113,90 @@ fn book_lines(file: &[u8], question: u64) -> String {
         }
         Err(refusal) => format!("{refusal}\n"),
     }
+}
+
+/// The lines of an answer, or only `R`, refusal and record.
+fn told(lines: Result<String, Refusal>) -> String {
+    lines.unwrap_or_else(|refusal| format!("{refusal}\n"))
+}
+
+/// For each contract `C` and its figures, then the lines of its delta book; then those of the
+/// intercontract table, if it has entries; then `T` and the total.
+fn account_lines(file: &[u8]) -> Result<String, Refusal> {
+    let account = check(file)?;
+    let figures = margin::figures_of(&account);
+    let mut lines = String::new();
+    for (contract, figures) in account.contracts.iter().zip(&figures) {
+        lines += &line("C", &figures.numbers());
+        lines += &contract_lines(contract, &held_book(&account, contract.number as u64)?);
+    }
+    if !account.entries.is_empty() {
+        lines += &table_lines(&account, &held_book(&account, INTERCONTRACT)?);
+    }
+    Ok(lines + &line("T", &[margin::total(&figures).0]))
+}
+
+fn question_lines(file: &[u8], question: u64) -> Result<String, Refusal> {
+    let account = check(file)?;
+    let book = held_book(&account, question)?;
+    Ok(match account.contracts.iter().find(|contract| contract.number as u64 == question) {
+        Some(contract) => contract_lines(contract, &book),
+        None => table_lines(&account, &book),
+    })
+}
+
+fn contract_lines(contract: &Contract, book: &Book) -> String {
+    let prompts: Vec<[i64; 2]> =
+        contract.prompts.iter().map(|prompt| [prompt.day, prompt.tier]).collect();
+    let spreads: Vec<(Vec<Leg>, i64)> =
+        contract.spreads.iter().map(|spread| (spread.legs.clone(), spread.rate.0)).collect();
+    book_records(contract.number, &prompts, &spreads, book)
+}
+
+/// A contract is a prompt without a day, its number the tier; an entry's percent stands for the rate.
+fn table_lines(account: &Account, book: &Book) -> String {
+    let contracts: Vec<[i64; 2]> =
+        account.contracts.iter().map(|contract| [0, contract.number]).collect();
+    let entries: Vec<(Vec<Leg>, i64)> = account
+        .entries
+        .iter()
+        .map(|entry| {
+            let a = Leg { tier: entry.first, side: Side::A, ratio: entry.first_ratio };
+            let b = Leg { tier: entry.second, side: Side::B, ratio: entry.second_ratio };
+            (vec![a, b], entry.percent)
+        })
+        .collect();
+    book_records(INTERCONTRACT as i64, &contracts, &entries, book)
+}
+
+/// `P question place day tier net used unused` per prompt; per spread `S question place legs`, each
+/// leg's `tier side ratio`, then `rate first second`; after it `G question spread step place amount`
+/// for whatever its steps take of a prompt.
+fn book_records(
+    question: i64,
+    prompts: &[[i64; 2]],
+    spreads: &[(Vec<Leg>, i64)],
+    book: &Book,
+) -> String {
+    let mut lines = String::new();
+    for (place, ([day, tier], delta)) in (1..).zip(prompts.iter().zip(&book.lines)) {
+        let numbers = [delta.net.0, delta.used.0, delta.unused.0];
+        lines += &line("P", &[&[question, place, *day, *tier][..], &numbers].concat());
+    }
+    for (spread, ((legs, rate), steps)) in (1..).zip(spreads.iter().zip(&book.steps)) {
+        let mut numbers = vec![question, spread, legs.len() as i64];
+        for leg in legs {
+            numbers.extend([leg.tier, if leg.side == Side::A { 1 } else { 2 }, leg.ratio]);
+        }
+        numbers.extend([*rate, steps[0].number.0, steps[1].number.0]);
+        lines += &line("S", &numbers);
+        for (number, step) in (1..).zip(steps) {
+            for (place, given) in (1..).zip(&step.given).filter(|(_, given)| given.0 != 0) {
+                lines += &line("G", &[question, spread, number, place, given.0]);
+            }
+        }
+    }
+    lines
 }
 
 fn line(letter: &str, numbers: &[i64]) -> String {

@@ -1,22 +1,21 @@
 // Reads an account file on standard input and writes `A` where it is accepted, or `R`, the refusal and the record.
-use libc::STDIN_FILENO;
+use account::answers::Answer;
+use account::check::check;
 use libc::STDOUT_FILENO;
+use reading::input::read_input;
+use reading::lines::print_refused;
 
-fn write_answer(answer: account::answers::Answer) {
-    let number = account::answers::number_of(answer);
-    if number == 0 {
+fn print_verdict(answer: Answer) {
+    if !print_refused(answer) {
         io::write_all(STDOUT_FILENO, b"A\n");
-        return;
     }
-    io::write_all(STDOUT_FILENO, b"R ");
-    io::print_decimal(STDOUT_FILENO, number as u64);
-    io::write_all(STDOUT_FILENO, b" ");
-    io::print_decimal(STDOUT_FILENO, account::answers::record_of(answer) as u64);
-    io::write_all(STDOUT_FILENO, b"\n");
 }
 
 fn main() {
     let mut file = io::large_buffer();
-    let n = io::read_full(STDIN_FILENO, &mut file);
-    write_answer(account::check::check(&file[..n]));
+    let input = read_input(&mut file);
+    if input.whole {
+        let n = input.bytes;
+        print_verdict(check(&file[..n]));
+    }
 }

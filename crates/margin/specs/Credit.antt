@@ -20,17 +20,17 @@ totalOf ts scenario = getD ts (scenario - 1) (pos 0)
 
 -- "Price risk = (active total + paired total)/2 - (total 1 + total 2)/2, halves kept, or 0 if negative."
 -- It is carried twice over, so that halves are kept.
-abbrev pub priceRiskAt : List ℤ → ℕ → ℕ
-priceRiskAt ts active =
+abbrev pub twicePriceRiskAt : List ℤ → ℕ → ℕ
+twicePriceRiskAt ts active =
     orZero ((totalOf ts active +ℤ totalOf ts (pairOf active)) -ℤ (totalOf ts 1 +ℤ totalOf ts 2))
 
 abbrev pub twicePriceRisk : List ℤ → ℕ
-twicePriceRisk ts = priceRiskAt ts (activeScenario ts)
+twicePriceRisk ts = twicePriceRiskAt ts (activeScenario ts)
 
 -- "A contract's credit from one entry = price risk × |used in that entry| × percent / (100 × |net delta|), rounded
 -- once, halves up; 0 where the net delta is 0."
 abbrev pub credit : ℕ → ℕ → ℕ → ℕ → ℕ
-credit twiceRisk used rate net = cond (eqb net 0) 0 (halfUp (twiceRisk * used * rate) (200 * net))
+credit twiceRisk used percentage net = cond (eqb net 0) 0 (halfUp (twiceRisk * used * percentage) (200 * net))
 
 -- what a contract has unused, either way: each contract is a tier with one prompt
 abbrev pub unusedBy : ℕ → List Open → ℕ

@@ -45,7 +45,7 @@ figuresFrom ls credits = eightsFrom ls credits ++ (totalFrom ls credits ∷ [])
 -- lines of an accepted account
 pub record LineWithin (l : Line) : Type 0 where
   pub contract-within : l .contract ≤ 15
-  pub active-within : l .active ≤ 17
+  pub active-within : l .active ≤ 16
   pub scanning-within : l .scanning .0 ≤ mostRisk
   pub interprompt-within : l .interprompt .0 ≤ mostRisk
   pub prompt-within : l .prompt .0 ≤ mostRisk

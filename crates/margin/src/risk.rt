@@ -9,7 +9,7 @@ ghost use mathlib.Core.Path.{_≡_};
 ghost use Prim.Native.Nat.{_≤_, _*_};
 ghost use lib.IntN.{natAbs, _+ℤ_};
 ghost use Rattle.margin.specs.Bounds.{mostRisk};
-ghost use Rattle.margin.specs.Credit.{totalOf, priceRiskAt};
+ghost use Rattle.margin.specs.Credit.{totalOf, twicePriceRiskAt};
 ghost use Rattle.margin.specs.Risks.{TotalsWithin, Scanned};
 
 // The total of a scenario 1 to 16; 0 for what is no scenario past them.
@@ -37,7 +37,7 @@ fn both(totals: [i64; 16], one: usize, other: usize) -> i64
 // Twice the price risk, the halves kept, where the active scenario is known.
 fn twice_price_risk(totals: [i64; 16], active: usize) -> u64
     requires { ⌜ TotalsWithin totals ⌝ }
-    ensures { λ r. ⌜ (r ≡ priceRiskAt totals active) × (r ≤ 4 * mostRisk) ⌝ }
+    ensures { λ r. ⌜ (r ≡ twicePriceRiskAt totals active) × (r ≤ 4 * mostRisk) ⌝ }
 {
     let paired = pair_of(active);
     or_zero(minus(both(totals, active, paired), both(totals, 1, 2)))

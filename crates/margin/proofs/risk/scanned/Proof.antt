@@ -8,7 +8,7 @@ use Rattle.exact.specs.Signed.{orZero}
 use Rattle.exact.specs.Largest.{largest}
 use Rattle.exact.proofs.Integers.{seen, or-zero-abs}
 use Rattle.margin.specs.Bounds.{mostRisk}
-use Rattle.margin.specs.Credit.{priceRiskAt}
+use Rattle.margin.specs.Credit.{twicePriceRiskAt}
 use Rattle.margin.specs.Scanning.{scanningRisk}
 use Rattle.margin.proofs.RiskLaws.{total-within}
 use Rattle.margin.proofs.risk.scanned.Statement.{statement}
@@ -33,7 +33,7 @@ returns c =
     record {
       active-is = l .ensures .number-is;
       scanning-is = r;
-      price-is = c .twice-price-risk .ensures .0 ∙ ap (priceRiskAt (s .args .totals)) (l .ensures .number-is);
+      price-is = c .twice-price-risk .ensures .0 ∙ ap (twicePriceRiskAt (s .args .totals)) (l .ensures .number-is);
       scanning-within =
           subst⁻¹ (λ (n : ℕ). n ≤ mostRisk) r
           (le-trans (or-zero-abs (largest (s .args .totals))) (total-within (s .args .totals) (s .pre)));

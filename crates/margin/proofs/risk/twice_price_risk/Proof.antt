@@ -8,7 +8,7 @@ use borrow.Author.Needs.{needs}
 use lib.IntN.{ℤ, natAbs, _+ℤ_, _-ℤ_}
 use Rattle.exact.specs.Signed.{orZero}
 use Rattle.exact.proofs.Integers.{abs-sub, or-zero-abs}
-use Rattle.margin.specs.Credit.{totalOf, priceRiskAt}
+use Rattle.margin.specs.Credit.{totalOf, twicePriceRiskAt}
 use Rattle.margin.specs.Pairs.{pairOf}
 use Rattle.margin.proofs.Calls.{op-fits, op-is, on-handed}
 use Rattle.margin.proofs.risk.twice_price_risk.Statement.{statement}

@@ -1,0 +1,59 @@
+// The records of a part of an accepted file. There kinds ascend and, but for the intercontract spreads, contracts do not fall
+// within a kind: so the records stand in the order of the parts' numbers, 16 * kind + contract, as `account::parts` has them.
+use account::parts::ENTRIES;
+use account::parts::OWN;
+use account::parts::PROMPTS;
+use account::stretches::record_at;
+use account::stretches::record_count;
+use account::stretches::stretch;
+use record::fields::contract;
+use record::fields::kind;
+ghost use mathlib.Core.Path.{_≡_};
+ghost use Rattle.reading.specs.Standing.{reached, standsAt, restFrom, partIn, contractsIn};
+
+// Whether a record is of part `v` or of a later one.
+fn is_reached(r: &[u8], v: usize) -> bool
+    ensures { λ b. ⌜ b ≡ reached v (now (r .entry)) ⌝ }
+{
+    v <= OWN * kind(r) + contract(r)
+}
+
+// How many records stand before part `v`.
+fn records_before(file: &[u8], v: usize) -> usize
+    ensures { λ n. ⌜ n ≡ standsAt (now (file .entry)) v ⌝ }
+{
+    let count = record_count(file);
+    let mut k = 0;
+    while k < count {
+        if is_reached(record_at(file, k), v) {
+            return k;
+        }
+        k += 1;
+    }
+    k
+}
+
+// The records from part `v` on.
+fn rest_from(file: &[u8], v: usize) -> &[u8]
+    ensures { λ r. ⌜ now r ≡ restFrom (now (file .entry)) v ⌝ }
+{
+    stretch(file, records_before(file, v), record_count(file))
+}
+
+// The records of part `v`.
+pub fn part(file: &[u8], v: usize) -> &[u8]
+    ensures { λ r. ⌜ now r ≡ partIn (now (file .entry)) v ⌝ }
+{
+    let rest = rest_from(file, v);
+    if ENTRIES <= v {
+        return rest;
+    }
+    stretch(rest, 0, records_before(rest, v + 1))
+}
+
+// The contracts' own records.
+pub fn contracts(file: &[u8]) -> &[u8]
+    ensures { λ r. ⌜ now r ≡ contractsIn (now (file .entry)) ⌝ }
+{
+    stretch(file, 0, records_before(file, PROMPTS))
+}

@@ -1,5 +1,6 @@
-/* margin [-b QUESTION] [-l NUMBERS] [FILE]: the figures of an account file, or the delta book of a question as one line, or
- * what is refused. Without FILE the account has no records. NUMBERS are lent for the answer, or as many as it needs. */
+/* margin [-b QUESTION | -u QUESTION] [-l NUMBERS] [FILE]: the figures of an account file, or the delta book of a question as
+ * one line, or what each step takes of each prompt there, or what is refused. Without FILE the account has no records. NUMBERS
+ * are lent for the answer, or as many as it needs. */
 #include <errno.h>
 #include <inttypes.h>
 #include <stdio.h>
@@ -46,30 +47,35 @@ static void print_figures(const int64_t *numbers, size_t count)
 int main(int argc, char **argv)
 {
     const char *name = NULL, *lend = NULL, *asked = NULL;
+    char letter = 'C';
     for (int i = 1; i < argc; ++i)
         if (strcmp(argv[i], "-l") == 0 && i + 1 < argc)
             lend = argv[++i];
-        else if (strcmp(argv[i], "-b") == 0 && i + 1 < argc)
+        else if ((strcmp(argv[i], "-b") == 0 || strcmp(argv[i], "-u") == 0) && i + 1 < argc) {
+            letter = argv[i][1] == 'b' ? 'B' : 'U';
             asked = argv[++i];
-        else
+        } else
             name = argv[i];
 
     size_t bytes = 0;
     uint8_t *file = name == NULL ? NULL : read_file(name, &bytes);
 
     size_t question = asked == NULL ? 0 : strtoul(asked, NULL, 10);
-    size_t needed = asked == NULL ? felgotany_figures_needed(file, bytes) : felgotany_book_needed(file, bytes, question);
+    size_t needed = letter == 'C'   ? felgotany_figures_needed(file, bytes)
+                    : letter == 'B' ? felgotany_book_needed(file, bytes, question)
+                                    : felgotany_uses_needed(file, bytes, question);
     size_t numbers = lend == NULL ? needed : strtoul(lend, NULL, 10);
     int64_t *out = numbers == 0 ? NULL : calloc(numbers, sizeof *out);
 
-    felgotany_outcome outcome = asked == NULL ? felgotany_figures(file, bytes, out, numbers)
-                                              : felgotany_book(file, bytes, question, out, numbers);
+    felgotany_outcome outcome = letter == 'C'   ? felgotany_figures(file, bytes, out, numbers)
+                                : letter == 'B' ? felgotany_book(file, bytes, question, out, numbers)
+                                                : felgotany_uses(file, bytes, question, out, numbers);
     if (outcome.refusal != 0)
         printf("R %zu %zu\n", outcome.refusal, outcome.record);
-    else if (asked == NULL)
+    else if (letter == 'C')
         print_figures(out, needed);
     else
-        print_line('B', out, needed);
+        print_line(letter, out, needed);
     free(out);
     free(file);
     return 0;

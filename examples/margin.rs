@@ -1,5 +1,6 @@
-//! margin [-b QUESTION] [-l NUMBERS] [FILE]: the figures of an account file, or the delta book of a question as one line, or
-//! what is refused. Without FILE the account has no records. NUMBERS are lent for the answer, or as many as it needs.
+//! margin [-b QUESTION | -u QUESTION] [-l NUMBERS] [FILE]: the figures of an account file, or the delta book of a question as
+//! one line, or what each step takes of each prompt there, or what is refused. Without FILE the account has no records.
+//! NUMBERS are lent for the answer, or as many as it needs.
 
 mod felgotany {
     //! include/felgotany.h for Rust: a slice is its pointer and its length, so every call is safe.
@@ -15,6 +16,8 @@ mod felgotany {
         fn felgotany_figures(file: *const u8, bytes: usize, out: *mut i64, numbers: usize) -> Outcome;
         fn felgotany_book_needed(file: *const u8, bytes: usize, question: usize) -> usize;
         fn felgotany_book(file: *const u8, bytes: usize, question: usize, out: *mut i64, numbers: usize) -> Outcome;
+        fn felgotany_uses_needed(file: *const u8, bytes: usize, question: usize) -> usize;
+        fn felgotany_uses(file: *const u8, bytes: usize, question: usize, out: *mut i64, numbers: usize) -> Outcome;
     }
 
     pub fn figures_needed(file: &[u8]) -> usize {
@@ -24,6 +27,7 @@ mod felgotany {
     pub fn figures(file: &[u8], out: &mut [i64]) -> Outcome {
         unsafe { felgotany_figures(file.as_ptr(), file.len(), out.as_mut_ptr(), out.len()) }
     }
+
     pub fn book_needed(file: &[u8], question: usize) -> usize {
         unsafe { felgotany_book_needed(file.as_ptr(), file.len(), question) }
     }
@@ -31,6 +35,20 @@ mod felgotany {
     pub fn book(file: &[u8], question: usize, out: &mut [i64]) -> Outcome {
         unsafe { felgotany_book(file.as_ptr(), file.len(), question, out.as_mut_ptr(), out.len()) }
     }
+
+    pub fn uses_needed(file: &[u8], question: usize) -> usize {
+        unsafe { felgotany_uses_needed(file.as_ptr(), file.len(), question) }
+    }
+
+    pub fn uses(file: &[u8], question: usize, out: &mut [i64]) -> Outcome {
+        unsafe { felgotany_uses(file.as_ptr(), file.len(), question, out.as_mut_ptr(), out.len()) }
+    }
+}
+
+enum Asked {
+    Figures,
+    Book(usize),
+    Uses(usize),
 }
 
 fn print_line(letter: char, numbers: &[i64]) {
@@ -47,27 +65,31 @@ fn print_figures(numbers: &[i64]) {
 
 fn main() -> Result<(), Box<dyn std::error::Error>> {
     let mut words = std::env::args().skip(1);
-    let (mut question, mut lent, mut file) = (None, None, vec![]);
+    let (mut asked, mut lent, mut file) = (Asked::Figures, None, vec![]);
     while let Some(word) = words.next() {
         match word.as_str() {
-            "-b" => question = Some(words.next().ok_or("-b has no question")?.parse()?),
+            "-b" => asked = Asked::Book(words.next().ok_or("-b has no question")?.parse()?),
+            "-u" => asked = Asked::Uses(words.next().ok_or("-u has no question")?.parse()?),
             "-l" => lent = Some(words.next().ok_or("-l has no number")?.parse()?),
             name => file = std::fs::read(name)?,
         }
     }
 
-    let needed = match question {
-        None => felgotany::figures_needed(&file),
-        Some(question) => felgotany::book_needed(&file, question),
+    let needed = match asked {
+        Asked::Figures => felgotany::figures_needed(&file),
+        Asked::Book(question) => felgotany::book_needed(&file, question),
+        Asked::Uses(question) => felgotany::uses_needed(&file, question),
     };
     let mut out = vec![0; lent.unwrap_or(needed)];
-    let outcome = match question {
-        None => felgotany::figures(&file, &mut out),
-        Some(question) => felgotany::book(&file, question, &mut out),
+    let outcome = match asked {
+        Asked::Figures => felgotany::figures(&file, &mut out),
+        Asked::Book(question) => felgotany::book(&file, question, &mut out),
+        Asked::Uses(question) => felgotany::uses(&file, question, &mut out),
     };
-    match (outcome.refusal, question) {
-        (0, None) => print_figures(&out[..needed]),
-        (0, Some(_)) => print_line('B', &out[..needed]),
+    match (outcome.refusal, asked) {
+        (0, Asked::Figures) => print_figures(&out[..needed]),
+        (0, Asked::Book(_)) => print_line('B', &out[..needed]),
+        (0, Asked::Uses(_)) => print_line('U', &out[..needed]),
         (refusal, _) => println!("R {refusal} {}", outcome.record),
     }
     Ok(())

@@ -2,6 +2,7 @@
 use account::answers::Answer;
 use account::check::check;
 use libc::STDOUT_FILENO;
+use reading::input::called_alone;
 use reading::input::read_input;
 use reading::lines::print_refused;
 
@@ -12,6 +13,9 @@ fn print_verdict(answer: Answer) {
 }
 
 fn main() {
+    if !called_alone(b"usage: check_program < ACCOUNT\n") {
+        return;
+    }
     let mut file = io::large_buffer();
     let input = read_input(&mut file);
     if input.whole {

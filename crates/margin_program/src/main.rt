@@ -2,6 +2,7 @@
 // or only `R`, the refusal and the record.
 use account::stretches::record_count;
 use margin::questions::figures;
+use reading::input::called_alone;
 use reading::input::read_input;
 use reading::lines::FIGURES;
 use reading::lines::MOST_FIGURES;
@@ -35,6 +36,9 @@ fn answer(file: &[u8]) {
 }
 
 fn main() {
+    if !called_alone(b"usage: margin_program < ACCOUNT\n") {
+        return;
+    }
     let mut file = io::large_buffer();
     let input = read_input(&mut file);
     if input.whole {

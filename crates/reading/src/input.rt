@@ -1,4 +1,5 @@
 // The file on standard input.
+use libc::STDERR_FILENO;
 use libc::STDIN_FILENO;
 ghost use Rattle.io.specs.Counts.{Counts};
 
@@ -6,6 +7,15 @@ ghost use Rattle.io.specs.Counts.{Counts};
 pub struct Input {
     pub whole: bool,
     pub bytes: usize,
+}
+
+// Whether the program was called with no words; if not, how it is called is said on standard error.
+pub fn called_alone(usage: &[u8]) -> bool {
+    if os::arg_count() < 2 {
+        return true;
+    }
+    io::write_all(STDERR_FILENO, usage);
+    false
 }
 
 // Whether standard input has ended: `io::read_full` stops at an error as at the end.

@@ -7,8 +7,9 @@ use mathlib.Core.Bool.{Bool, true}
 use mathlib.Core.List.{List, [], _∷_}
 use lib.ListN.{length}
 use Rattle.exact.specs.Lists.{any, count}
-use Rattle.record.specs.Layout.{Record, contract, day, secondContract}
+use Rattle.record.specs.Layout.{Record, contract, day, secondContract, mostContract}
 use Rattle.record.specs.Within.{ContractWithin, PromptWithin, RowWithin, SpreadWithin, EntryWithin}
+use Rattle.account.specs.Check.{mostRecords, mostContracts, mostPrompts, mostRows, mostSpreads, mostEntries}
 use Rattle.account.specs.Notes.{part, entryPart}
 use Rattle.account.specs.Parts.{ofContract, onDay, contractsOf, promptsOf, rowsOf, spreadsOf, entriesOf}
 use Rattle.account.specs.Records.{records, stretch}
@@ -24,9 +25,9 @@ partBytes file v = stretch file (partStart file v) (partCount file v)
 
 pub record Standing (file : List ℕ) : Type 0 where
   pub contracts : records (stretch file 0 (contractCount file)) ≡ contractsOf (records file)
-  pub prompts : (c : ℕ) → c ≤ 15 → records (partBytes file (part 2 c)) ≡ promptsOf c (records file)
-  pub rows : (c : ℕ) → c ≤ 15 → records (partBytes file (part 3 c)) ≡ rowsOf c (records file)
-  pub spreads : (c : ℕ) → c ≤ 15 → records (partBytes file (part 4 c)) ≡ spreadsOf c (records file)
+  pub prompts : (c : ℕ) → c ≤ mostContract → records (partBytes file (part 2 c)) ≡ promptsOf c (records file)
+  pub rows : (c : ℕ) → c ≤ mostContract → records (partBytes file (part 3 c)) ≡ rowsOf c (records file)
+  pub spreads : (c : ℕ) → c ≤ mostContract → records (partBytes file (part 4 c)) ≡ spreadsOf c (records file)
   pub entries : records (partBytes file entryPart) ≡ entriesOf (records file)
 
 pub record Ranges (rs : List Record) : Type 0 where
@@ -37,12 +38,12 @@ pub record Ranges (rs : List Record) : Type 0 where
   pub entries : every EntryWithin (entriesOf rs)
 
 pub record Limits (rs : List Record) : Type 0 where
-  pub all : length rs ≤ 640
-  pub contracts : length (contractsOf rs) ≤ 16
-  pub prompts : (c : ℕ) → length (promptsOf c rs) ≤ 32
-  pub rows : (c : ℕ) → length (rowsOf c rs) ≤ 128
-  pub spreads : (c : ℕ) → length (spreadsOf c rs) ≤ 32
-  pub entries : length (entriesOf rs) ≤ 32
+  pub all : length rs ≤ mostRecords
+  pub contracts : length (contractsOf rs) ≤ mostContracts
+  pub prompts : (c : ℕ) → length (promptsOf c rs) ≤ mostPrompts
+  pub rows : (c : ℕ) → length (rowsOf c rs) ≤ mostRows
+  pub spreads : (c : ℕ) → length (spreadsOf c rs) ≤ mostSpreads
+  pub entries : length (entriesOf rs) ≤ mostEntries
 
 -- no row is left out and none is taken twice
 abbrev pub OnePrompt : List Record → Type 0

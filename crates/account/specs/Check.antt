@@ -95,7 +95,11 @@ outOfOrder before r =
     (withItself r)
     false
 
--- "per contract 32 prompts, 128 rows, 32 interprompt spreads; 32 intercontract spreads"
+-- contracts are numbered 0 to 15, each once; "per contract 32 prompts, 128 rows, 32 interprompt spreads; 32 intercontract
+-- spreads"
+abbrev pub mostContracts : ℕ
+mostContracts = 16
+
 abbrev pub mostPrompts : ℕ
 mostPrompts = 32
 

@@ -10,22 +10,25 @@ use lib.Dec.{eqb, leb}
 use Rattle.exact.specs.Lists.{any}
 use Rattle.record.specs.Layout.{Record, byKind, kind, contract, day, legsOf, legTier, secondContract}
 use Rattle.record.specs.Ranges.{unknownKind, unusedByte, fieldOutside}
-use Rattle.account.specs.Check.{theOneBefore, kindFalls, outOfOrder, mostPrompts, mostRows, mostSpreads, mostEntries, _when_, firstOf}
+use Rattle.account.specs.Check.{theOneBefore, kindFalls, outOfOrder, mostContracts, mostPrompts, mostRows, mostSpreads, mostEntries, _when_, firstOf}
 use Rattle.account.specs.Parts.{ofKind, ofContract, onDay, onTier}
 use Rattle.account.specs.Records.{recordAt, stretch, records, earlier}
 
 -- the number of a part: by kind and contract, and one for all intercontract spreads
 abbrev pub part : ℕ → ℕ → ℕ
-part n c = 16 * n + c
+part n c = mostContracts * n + c
 
 abbrev pub entryPart : ℕ
-entryPart = 80
+entryPart = part 5 0
+
+abbrev pub parts : ℕ
+parts = entryPart + 1
 
 abbrev pub partOf : Record → ℕ
 partOf r = cond (eqb (kind r) 5) entryPart (part (kind r) (contract r))
 
 abbrev pub inPart : ℕ → Record → Bool
-inPart v r = cond (eqb v entryPart) (ofKind 5 r) (ofContract (v / 16) (v % 16) r)
+inPart v r = cond (eqb v entryPart) (ofKind 5 r) (ofContract (v / mostContracts) (v % mostContracts) r)
 
 -- the notes with one more record, the k-th
 abbrev pub oneMore : List ℕ → ℕ → List ℕ

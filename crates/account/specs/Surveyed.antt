@@ -10,7 +10,7 @@ use lib.Dec.{eqb}
 use Rattle.exact.specs.Lists.{count}
 use Rattle.account.specs.Answers.{numberOf}
 use Rattle.account.specs.Check.{checked}
-use Rattle.account.specs.Notes.{inPart}
+use Rattle.account.specs.Notes.{inPart, parts}
 use Rattle.account.specs.Parts.{ofKind, startOf}
 use Rattle.account.specs.Records.{records}
 use Rattle.account.specs.declared.answers.Answer.{Answer}
@@ -31,14 +31,14 @@ partCount file v = ifAccepted (checked file) (count (inPart v) (records file))
 pub record Surveyed (file : List ℕ) (s : Survey) : Type 0 where
   pub answer : s .answer ≡ checked file
   pub contracts : s .contracts ≡ contractCount file
-  pub firsts : length (s .first) ≡ 81
-  pub first : (v : ℕ) → v < 81 → getD (s .first) v 0 ≡ partStart file v
-  pub sizes : length (s .counts) ≡ 81
-  pub counts : (v : ℕ) → v < 81 → getD (s .counts) v 0 ≡ partCount file v
+  pub firsts : length (s .first) ≡ parts
+  pub first : (v : ℕ) → v < parts → getD (s .first) v 0 ≡ partStart file v
+  pub sizes : length (s .counts) ≡ parts
+  pub counts : (v : ℕ) → v < parts → getD (s .counts) v 0 ≡ partCount file v
 
 -- a verdict with no parts
 pub record Empty (a : Answer) (s : Survey) : Type 0 where
   pub answer : s .answer ≡ a
   pub contracts : s .contracts ≡ 0
-  pub first : s .first ≡ replicate 81 0
-  pub counts : s .counts ≡ replicate 81 0
+  pub first : s .first ≡ replicate parts 0
+  pub counts : s .counts ≡ replicate parts 0

@@ -12,18 +12,17 @@ use crate::answers::refusal;
 use crate::fault::fault_at;
 use crate::notes::noted;
 use crate::notes::part_of;
+use crate::parts::PARTS;
 use crate::stretches::record_at;
 use crate::stretches::record_count;
 use record::bytes::RECORD_BYTES;
 use record::fields::kind;
 
+// "At most 640 records".
 const MOST_BYTES: usize = 640 * RECORD_BYTES;
 
-const PARTS: usize = 81;
-
 // A verdict and, of an accepted file, how many contracts it lists and of each part where it begins and how many records
-// it has. The part of a contract's own record, its prompts, its rows or its interprompt spreads is number 16 * kind +
-// contract, that of the intercontract spreads number 80.
+// it has.
 pub struct Survey {
     pub answer: Answer,
     pub contracts: usize,

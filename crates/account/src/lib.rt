@@ -4,7 +4,7 @@ pub mod answers; // answers.rt: what comes back
 pub mod stretches; // stretches.rt: records as they stand in a file
 mod prompts; // prompts.rt: a prompt by its day or its tier
 pub mod parts; // parts.rt: the parts of a file
-mod notes; // notes.rt: what the check notes of the records passed
+pub mod notes; // notes.rt: what the check notes of the records passed
 mod listed; // listed.rt: refusal 7
 mod order; // order.rt: refusals 4 and 8
 mod limits; // limits.rt: refusal 9

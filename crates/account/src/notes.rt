@@ -2,6 +2,7 @@
 ghost use mathlib.Core.Path.{_≡_};
 ghost use lib.ListN.{getD};
 ghost use Rattle.account.specs.Notes.{partOf};
+use crate::parts::CONTRACTS;
 use crate::parts::ENTRIES;
 use record::fields::contract;
 use record::fields::kind;
@@ -13,12 +14,12 @@ pub(crate) fn noted(notes: &[usize], v: usize) -> usize
 }
 
 // The number of a record's part.
-pub(crate) fn part_of(r: &[u8]) -> usize
+pub fn part_of(r: &[u8]) -> usize
     ensures { λ v. ⌜ v ≡ partOf (now (r .entry)) ⌝ }
 {
     if kind(r) == 5 {
         ENTRIES
     } else {
-        16 * kind(r) + contract(r)
+        CONTRACTS * kind(r) + contract(r)
     }
 }

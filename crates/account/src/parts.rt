@@ -1,19 +1,24 @@
-// A part of a file by its number: 16 * kind + contract for a contract's own record, its prompts, its rows and its
+// A part of a file by its number: CONTRACTS * kind + contract for a contract's own record, its prompts, its rows and its
 // interprompt spreads, and one number for all intercontract spreads.
 ghost use mathlib.Core.Path.{_≡_};
 ghost use Rattle.account.specs.Notes.{partAt};
 use crate::notes::noted;
 use crate::stretches::stretch;
 
-pub const OWN: usize = 16;
+// Contracts are numbered 0 to 15.
+pub const CONTRACTS: usize = 16;
 
-pub const PROMPTS: usize = 32;
+pub const OWN: usize = CONTRACTS;
 
-pub const ROWS: usize = 48;
+pub const PROMPTS: usize = 2 * CONTRACTS;
 
-pub const SPREADS: usize = 64;
+pub const ROWS: usize = 3 * CONTRACTS;
 
-pub const ENTRIES: usize = 80;
+pub const SPREADS: usize = 4 * CONTRACTS;
+
+pub const ENTRIES: usize = 5 * CONTRACTS;
+
+pub(crate) const PARTS: usize = ENTRIES + 1;
 
 // The records of part `v` as they stand in the file, by where it begins and how many it has.
 pub(crate) fn part_at<'a>(file: &'a [u8], first: &[usize], counts: &[usize], v: usize) -> &'a [u8]

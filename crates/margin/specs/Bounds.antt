@@ -1,14 +1,11 @@
 -- The largest numbers that an accepted account can bring about.
 -- Assumes nothing.
-use Prim.Native.Nat.{ℕ, _+_, _*_}
+use Prim.Native.Nat.{ℕ}
+pub use Rattle.record.specs.Layout.{mostRate}
 
 -- a net delta, a pool, a number of spreads: 128 rows × 100,000 lots × 10,000
 abbrev pub mostDelta : ℕ
 mostDelta = 128000000000
-
--- "rates 0..10,000,000"
-abbrev pub mostRate : ℕ
-mostRate = 10000000
 
 -- a spread's or a prompt's charge: 2 × 128,000,000,000 × 10,000,000 / 10,000
 abbrev pub mostCharge : ℕ

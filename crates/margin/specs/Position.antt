@@ -8,7 +8,8 @@ use lib.Dec.{eqb}
 use lib.IntN.{ℤ, pos, natAbs, _+ℤ_}
 use lib.ListN.{length, getD, take}
 use Rattle.exact.specs.Lists.{keep, sumℤ}
-use Rattle.record.specs.Layout.{Record, lots, delta, value, loss, day}
+use Rattle.record.specs.Layout.{Record, lots, delta, value, loss, day, hundredThousand, oneLot, mostValue, scenarios}
+use Rattle.account.specs.Check.{mostRows}
 use Rattle.exact.specs.Lists.{count}
 use Rattle.account.specs.Parts.{onDay}
 use Rattle.margin.specs.declared.rows.Days.{Days}
@@ -20,14 +21,14 @@ use Rattle.margin.specs.Margin.{shortLots}
 
 -- "lots -100,000..100,000 ..; value 1..10,000; losses -100,000..100,000; delta 0..10,000 .., -10,000..0 for puts"
 pub record RowWithin (row : Record) : Type 0 where
-  pub lots-within : natAbs (lots row) ≤ 100000
-  pub delta-within : natAbs (delta row) ≤ 10000
-  pub value-within : value row ≤ 10000
-  pub loss-within : (s : ℕ) → 1 ≤ s → s ≤ 16 → natAbs (loss row s) ≤ 100000
+  pub lots-within : natAbs (lots row) ≤ hundredThousand
+  pub delta-within : natAbs (delta row) ≤ oneLot
+  pub value-within : value row ≤ mostValue
+  pub loss-within : (s : ℕ) → 1 ≤ s → s ≤ scenarios → natAbs (loss row s) ≤ hundredThousand
 
 -- "per contract .. 128 rows", each within its ranges
 pub record Within (rows : List Record) : Type 0 where
-  pub few : length rows ≤ 128
+  pub few : length rows ≤ mostRows
   pub each : (k : ℕ) → k < length rows → RowWithin (getD rows k [])
 
 -- a result, and how large it can be

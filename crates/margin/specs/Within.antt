@@ -5,9 +5,9 @@ use mathlib.Core.Path.{_≡_}
 use mathlib.Core.Bool.{true}
 use mathlib.Core.List.{List, []}
 use lib.ListN.{length, getD}
-use Rattle.record.specs.Layout.{Record, contract, shortOptionRate, tier, spreadRate, outrightRate, ratePerSpread, secondContract, percent, firstRatio, secondRatio}
+use Rattle.record.specs.Layout.{Record, contract, shortOptionRate, tier, spreadRate, outrightRate, ratePerSpread, secondContract, percent, firstRatio, secondRatio, mostContract, mostRate, mostPercent}
+use Rattle.account.specs.Check.{mostPrompts, mostSpreads, mostEntries}
 use Rattle.spread.specs.Accepted.{soundSpread}
-use Rattle.margin.specs.Bounds.{mostRate}
 use Rattle.margin.specs.Deltas.{interprompt, intercontract}
 use Rattle.margin.specs.Position.{Within, OneDay}
 
@@ -21,10 +21,10 @@ pub record SpreadWithin (s : Record) : Type 0 where
   pub sound : soundSpread (interprompt s) ≡ true
 
 pub record ContractWithin (own : Record) (prompts rows spreads : List Record) : Type 0 where
-  pub number : contract own ≤ 15
+  pub number : contract own ≤ mostContract
   pub rate : shortOptionRate own ≤ mostRate
-  pub few-prompts : length prompts ≤ 32
-  pub few-spreads : length spreads ≤ 32
+  pub few-prompts : length prompts ≤ mostPrompts
+  pub few-spreads : length spreads ≤ mostSpreads
   pub each-prompt : (k : ℕ) → k < length prompts → PromptWithin (getD prompts k [])
   pub one-day : OneDay prompts rows
   pub rows-within : Within rows
@@ -33,12 +33,12 @@ pub record ContractWithin (own : Record) (prompts rows spreads : List Record) : 
 -- an entry of the intercontract table
 pub record EntryWithin (e : Record) : Type 0 where
   pub apart : contract e ≡ secondContract e → ⊥
-  pub first-number : contract e ≤ 15
-  pub second-number : secondContract e ≤ 15
+  pub first-number : contract e ≤ mostContract
+  pub second-number : secondContract e ≤ mostContract
   pub first-ratio : 0 < firstRatio e
   pub second-ratio : 0 < secondRatio e
-  pub percent-within : percent e ≤ 100
+  pub percent-within : percent e ≤ mostPercent
 
 pub record EntriesWithin (entries : List Record) : Type 0 where
-  pub few : length entries ≤ 32
+  pub few : length entries ≤ mostEntries
   pub each : (k : ℕ) → k < length entries → EntryWithin (getD entries k [])

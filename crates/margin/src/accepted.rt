@@ -15,6 +15,7 @@ use crate::tables::interprompt_table;
 use crate::tables::prompts_with;
 use crate::uses::Asking;
 use account::check::Survey;
+use account::parts::CONTRACTS;
 use account::parts::ENTRIES;
 use account::parts::OWN;
 use account::parts::PROMPTS;
@@ -31,7 +32,7 @@ ghost use mathlib.Core.List.{[], map};
 ghost use Prim.Native.Nat.{_+_, _*_, _≤_, _<_};
 ghost use lib.IntN.{pos};
 ghost use lib.ListN.{length, getD};
-ghost use Rattle.account.specs.Notes.{part, entryPart};
+ghost use Rattle.account.specs.Notes.{part, entryPart, parts};
 ghost use Rattle.account.specs.Parts.{contractsOf, promptsOf, spreadsOf, entriesOf};
 ghost use Rattle.account.specs.Records.{records, recordCount, stretch};
 ghost use Rattle.margin.specs.Books.{contractBook, tableBook, answered, askedBy, book};
@@ -45,7 +46,7 @@ ghost use Rattle.margin.specs.Stands.{Stands, LinesOf};
 ghost use Rattle.margin.specs.Uses.{contractUses, tableUses, uses, Asks};
 
 // The question for the intercontract table; those below it are contracts.
-pub const TABLE: usize = 16;
+pub const TABLE: usize = CONTRACTS;
 
 // The lines of an account's contracts: the first `count`.
 pub struct Lines {
@@ -53,9 +54,9 @@ pub struct Lines {
     pub line: [Line; 16],
 }
 
-// A part of the file: number 16 * kind + contract, or 80 for the intercontract spreads.
+// A part of the file.
 fn part_at(file: &[u8], survey: Survey, v: usize) -> &[u8]
-    requires { ⌜ v < 81 ⌝ }
+    requires { ⌜ v < parts ⌝ }
     ensures { λ r. ⌜ now r ≡ stretch (now (file .entry)) (getD (survey .first) v 0) (getD (survey .counts) v 0) ⌝ }
 {
     let first = survey.first;

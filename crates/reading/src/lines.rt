@@ -3,6 +3,7 @@ use crate::numbers::number_at;
 use account::answers::Answer;
 use account::answers::number_of;
 use account::answers::record_of;
+use account::parts::CONTRACTS;
 use libc::STDOUT_FILENO;
 ghost use mathlib.Core.Path.{_≡_};
 ghost use mathlib.Core.Bool.{not};
@@ -12,7 +13,7 @@ ghost use Rattle.account.specs.Answers.{numberOf};
 // How many numbers the figures have of a contract, and at most: of sixteen contracts, and the total.
 pub const FIGURES: usize = 8;
 
-pub const MOST_FIGURES: usize = 16 * FIGURES + 1;
+pub const MOST_FIGURES: usize = CONTRACTS * FIGURES + 1;
 
 pub fn print_count(n: usize) {
     io::write_all(STDOUT_FILENO, b" ");

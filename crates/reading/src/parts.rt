@@ -1,13 +1,11 @@
 // The records of a part of an accepted file. There kinds ascend and, but for the intercontract spreads, contracts do not fall
-// within a kind: so the records stand in the order of the parts' numbers, 16 * kind + contract, as `account::parts` has them.
+// within a kind: so the records stand in the order of the parts' numbers.
+use account::notes::part_of;
 use account::parts::ENTRIES;
-use account::parts::OWN;
 use account::parts::PROMPTS;
 use account::stretches::record_at;
 use account::stretches::record_count;
 use account::stretches::stretch;
-use record::fields::contract;
-use record::fields::kind;
 ghost use mathlib.Core.Path.{_≡_};
 ghost use Rattle.reading.specs.Standing.{reached, standsAt, restFrom, partIn, contractsIn};
 
@@ -15,7 +13,7 @@ ghost use Rattle.reading.specs.Standing.{reached, standsAt, restFrom, pa
 fn is_reached(r: &[u8], v: usize) -> bool
     ensures { λ b. ⌜ b ≡ reached v (now (r .entry)) ⌝ }
 {
-    v <= OWN * kind(r) + contract(r)
+    v <= part_of(r)
 }
 
 // How many records stand before part `v`.

@@ -1,5 +1,5 @@
 -- The table of kinds and fields of document 01, "The account file", with its ranges. Every offset, width and range of the
--- definitions is said here; Within.antt says in plain numbers what the ranges come to.
+-- definitions is said here.
 -- Assumes nothing.
 use Prim.Native.Nat.{ℕ, _+_, _-_, _*_}
 use mathlib.Core.Bool.{Bool, cond}
@@ -10,27 +10,48 @@ pub use Rattle.record.specs.Bytes.{Record, recordBytes, byteAt, u16At, u
 use Rattle.record.specs.Bytes.{one, two, four, Range, plain, signed, Field, field, numberIn, signedIn, countFrom}
 
 -- "Contract numbers, days and tiers have the same range wherever they stand."
+abbrev pub mostContract : ℕ
+mostContract = 15
+
 abbrev pub contracts : Range
-contracts = plain 0 15
+contracts = plain 0 mostContract
+
+abbrev pub mostDay : ℕ
+mostDay = 99999999
 
 abbrev pub days : Range
-days = plain 1 99999999
+days = plain 1 mostDay
+
+abbrev pub mostTier : ℕ
+mostTier = 8
 
 abbrev pub tiers : Range
-tiers = plain 1 8
+tiers = plain 1 mostTier
 
 -- "rates 0..10,000,000; ratios 1..100; lots -100,000..100,000 ..; value 1..10,000; losses -100,000..100,000"
+abbrev pub mostRate : ℕ
+mostRate = 10000000
+
 abbrev pub rates : Range
-rates = plain 0 10000000
+rates = plain 0 mostRate
+
+abbrev pub mostRatio : ℕ
+mostRatio = 100
 
 abbrev pub ratios : Range
-ratios = plain 1 100
+ratios = plain 1 mostRatio
+
+abbrev pub hundredThousand : ℕ
+hundredThousand = 100000
 
 abbrev pub hundredThousands : Range
-hundredThousands = signed (negℤ (pos 100000)) (pos 100000)
+hundredThousands = signed (negℤ (pos hundredThousand)) (pos hundredThousand)
+
+abbrev pub mostValue : ℕ
+mostValue = 10000
 
 abbrev pub values : Range
-values = plain 1 10000
+values = plain 1 mostValue
 
 -- "Byte 0 is the kind."
 abbrev pub kind : Record → ℕ
@@ -65,8 +86,11 @@ promptFields = contractField ∷ tierField ∷ dayField ∷ spreadRateField ∷ 
 
 -- "3 row | 1: contract; 2: 0 forward, 1 call, 2 put; 4-7: day; 8-11: strike; 12-15: lots, signed; 16-19: delta, signed;
 -- 20-23: value per tick per lot; 24-87: sixteen losses, signed, scenario 1 first"
+abbrev pub mostRowType : ℕ
+mostRowType = 2
+
 abbrev pub rowTypeField : Field
-rowTypeField = field 2 one (plain 0 2)
+rowTypeField = field 2 one (plain 0 mostRowType)
 
 abbrev pub rowType : Record → ℕ
 rowType = numberIn rowTypeField
@@ -84,12 +108,18 @@ strikeField isForward = field 8 four (cond isForward (plain 0 0) (plain 1 429496
 abbrev pub lotsField : Field
 lotsField = field 12 four hundredThousands
 
--- "delta 0..10,000 for forwards and calls, -10,000..0 for puts"
+-- "delta 0..10,000 for forwards and calls, -10,000..0 for puts"; 10,000 is the delta of one lot
+abbrev pub oneLot : ℕ
+oneLot = 10000
+
 abbrev pub deltaField : Bool → Field
-deltaField isPut = field 16 four (cond isPut (signed (negℤ (pos 10000)) (pos 0)) (signed (pos 0) (pos 10000)))
+deltaField isPut = field 16 four (cond isPut (signed (negℤ (pos oneLot)) (pos 0)) (signed (pos 0) (pos oneLot)))
 
 abbrev pub valueField : Field
 valueField = field 20 four values
+
+abbrev pub scenarios : ℕ
+scenarios = 16
 
 abbrev pub lossField : ℕ → Field
 lossField scenario = field (24 + 4 * (scenario - 1)) four hundredThousands
@@ -97,7 +127,7 @@ lossField scenario = field (24 + 4 * (scenario - 1)) four hundredThousands
 abbrev pub rowFields : Record → List Field
 rowFields r =
     contractField ∷ rowTypeField ∷ dayField ∷ strikeField (forward r) ∷ lotsField ∷ deltaField (put r) ∷ valueField
-    ∷ map lossField (countFrom 1 16)
+    ∷ map lossField (countFrom 1 scenarios)
 
 -- "4 interprompt spread | 1: contract; 2: legs, 2 or 3; 4-7: rate per spread; legs at 8, 12, 16, each tier, side (1 = A, 2 =
 -- B), two-byte ratio"
@@ -141,8 +171,11 @@ spreadFields r =
 abbrev pub secondContractField : Field
 secondContractField = field 2 one contracts
 
+abbrev pub mostPercent : ℕ
+mostPercent = 100
+
 abbrev pub percentField : Field
-percentField = field 3 one (plain 0 100)
+percentField = field 3 one (plain 0 mostPercent)
 
 abbrev pub firstRatioField : Field
 firstRatioField = field 4 two ratios

@@ -9,80 +9,81 @@ use crate::bytes::byte_at;
 use crate::bytes::i32_at;
 use crate::bytes::u16_at;
 use crate::bytes::u32_at;
+use crate::layout;
 
 pub fn kind(r: &[u8]) -> usize
     ensures { λ n. ⌜ (n ≡ kind (now (r .entry))) × (n < 256) ⌝ }
 {
-    byte_at(r, 0)
+    byte_at(r, layout::KIND)
 }
 
 pub fn contract(r: &[u8]) -> usize
     ensures { λ n. ⌜ (n ≡ contract (now (r .entry))) × (n < 256) ⌝ }
 {
-    byte_at(r, 1)
+    byte_at(r, layout::CONTRACT)
 }
 
 // Of a contract.
 pub fn short_option_rate(r: &[u8]) -> usize
     ensures { λ n. ⌜ (n ≡ shortOptionRate (now (r .entry))) × (n < 4294967296) ⌝ }
 {
-    u32_at(r, 4)
+    u32_at(r, layout::SHORT_OPTION_RATE)
 }
 
 // Of a prompt; the day is also that of a row.
 pub fn tier(r: &[u8]) -> usize
     ensures { λ n. ⌜ (n ≡ tier (now (r .entry))) × (n < 256) ⌝ }
 {
-    byte_at(r, 2)
+    byte_at(r, layout::TIER)
 }
 
 pub fn day(r: &[u8]) -> usize
     ensures { λ n. ⌜ (n ≡ day (now (r .entry))) × (n < 4294967296) ⌝ }
 {
-    u32_at(r, 4)
+    u32_at(r, layout::DAY)
 }
 
 pub fn spread_rate(r: &[u8]) -> usize
     ensures { λ n. ⌜ (n ≡ spreadRate (now (r .entry))) × (n < 4294967296) ⌝ }
 {
-    u32_at(r, 8)
+    u32_at(r, layout::SPREAD_RATE)
 }
 
 pub fn outright_rate(r: &[u8]) -> usize
     ensures { λ n. ⌜ (n ≡ outrightRate (now (r .entry))) × (n < 4294967296) ⌝ }
 {
-    u32_at(r, 12)
+    u32_at(r, layout::OUTRIGHT_RATE)
 }
 
 // Of a row.
 pub fn row_type(r: &[u8]) -> usize
     ensures { λ n. ⌜ (n ≡ rowType (now (r .entry))) × (n < 256) ⌝ }
 {
-    byte_at(r, 2)
+    byte_at(r, layout::ROW_TYPE)
 }
 
 pub fn strike(r: &[u8]) -> usize
     ensures { λ n. ⌜ (n ≡ strike (now (r .entry))) × (n < 4294967296) ⌝ }
 {
-    u32_at(r, 8)
+    u32_at(r, layout::STRIKE)
 }
 
 pub fn lots(r: &[u8]) -> i64
     ensures { λ z. ⌜ z ≡ lots (now (r .entry)) ⌝ }
 {
-    i32_at(r, 12)
+    i32_at(r, layout::LOTS)
 }
 
 pub fn delta(r: &[u8]) -> i64
     ensures { λ z. ⌜ z ≡ delta (now (r .entry)) ⌝ }
 {
-    i32_at(r, 16)
+    i32_at(r, layout::DELTA)
 }
 
 pub fn value(r: &[u8]) -> usize
     ensures { λ n. ⌜ (n ≡ value (now (r .entry))) × (n < 4294967296) ⌝ }
 {
-    u32_at(r, 20)
+    u32_at(r, layout::VALUE)
 }
 
 // The loss in a scenario, 1 to 16.
@@ -90,13 +91,13 @@ pub fn loss(r: &[u8], scenario: usize) -> i64
     ensures { λ z. ⌜ z ≡ loss (now (r .entry)) scenario ⌝ }
 {
     if scenario < 1 {
-        return i32_at(r, 24);
+        return i32_at(r, layout::FIRST_LOSS);
     }
     let later = scenario - 1;
     if r.len() / 4 < later {
         0
     } else {
-        i32_at(r, 24 + 4 * later)
+        i32_at(r, layout::FIRST_LOSS + 4 * later)
     }
 }
 
@@ -104,13 +105,13 @@ pub fn loss(r: &[u8], scenario: usize) -> i64
 pub fn leg_count(r: &[u8]) -> usize
     ensures { λ n. ⌜ (n ≡ legCount (now (r .entry))) × (n < 256) ⌝ }
 {
-    byte_at(r, 2)
+    byte_at(r, layout::LEG_COUNT)
 }
 
 pub fn rate_per_spread(r: &[u8]) -> usize
     ensures { λ n. ⌜ (n ≡ ratePerSpread (now (r .entry))) × (n < 4294967296) ⌝ }
 {
-    u32_at(r, 4)
+    u32_at(r, layout::RATE_PER_SPREAD)
 }
 
 pub fn leg_tier(r: &[u8], leg: usize) -> usize
@@ -119,7 +120,7 @@ pub fn leg_tier(r: &[u8], leg: usize) -> usize
     if r.len() / 4 < leg {
         0
     } else {
-        byte_at(r, 8 + 4 * leg)
+        byte_at(r, layout::LEG_TIER + 4 * leg)
     }
 }
 
@@ -129,7 +130,7 @@ pub fn leg_side(r: &[u8], leg: usize) -> usize
     if r.len() / 4 < leg {
         0
     } else {
-        byte_at(r, 9 + 4 * leg)
+        byte_at(r, layout::LEG_SIDE + 4 * leg)
     }
 }
 
@@ -139,7 +140,7 @@ pub fn leg_ratio(r: &[u8], leg: usize) -> usize
     if r.len() / 4 < leg {
         0
     } else {
-        u16_at(r, 10 + 4 * leg)
+        u16_at(r, layout::LEG_RATIO + 4 * leg)
     }
 }
 
@@ -147,23 +148,23 @@ pub fn leg_ratio(r: &[u8], leg: usize) -> usize
 pub fn second_contract(r: &[u8]) -> usize
     ensures { λ n. ⌜ (n ≡ secondContract (now (r .entry))) × (n < 256) ⌝ }
 {
-    byte_at(r, 2)
+    byte_at(r, layout::SECOND_CONTRACT)
 }
 
 pub fn percent(r: &[u8]) -> usize
     ensures { λ n. ⌜ (n ≡ percent (now (r .entry))) × (n < 256) ⌝ }
 {
-    byte_at(r, 3)
+    byte_at(r, layout::PERCENT)
 }
 
 pub fn first_ratio(r: &[u8]) -> usize
     ensures { λ n. ⌜ (n ≡ firstRatio (now (r .entry))) × (n < 65536) ⌝ }
 {
-    u16_at(r, 4)
+    u16_at(r, layout::FIRST_RATIO)
 }
 
 pub fn second_ratio(r: &[u8]) -> usize
     ensures { λ n. ⌜ (n ≡ secondRatio (now (r .entry))) × (n < 65536) ⌝ }
 {
-    u16_at(r, 6)
+    u16_at(r, layout::SECOND_RATIO)
 }

@@ -28,6 +28,7 @@ use crate::fields::spread_rate;
 use crate::fields::strike;
 use crate::fields::tier;
 use crate::fields::value;
+use crate::layout;
 
 fn beyond(x: usize, low: usize, high: usize) -> bool
     ensures { λ b. ⌜ b ≡ beyond (plain low high) x ⌝ }
@@ -111,9 +112,9 @@ fn no_delta(r: &[u8]) -> bool
     ensures { λ b. ⌜ b ≡ outside (now (r .entry)) (deltaField (put (now (r .entry)))) ⌝ }
 {
     if row_type(r) == 2 {
-        signed_beyond(u32_at(r, 16), 10000, 0)
+        signed_beyond(u32_at(r, layout::DELTA), 10000, 0)
     } else {
-        signed_beyond(u32_at(r, 16), 0, 10000)
+        signed_beyond(u32_at(r, layout::DELTA), 0, 10000)
     }
 }
 
@@ -122,10 +123,10 @@ fn losses_beyond(r: &[u8]) -> bool
     ensures { λ b. ⌜ b ≡ outsideAmong (map lossField (countFrom 1 16)) (now (r .entry)) ⌝ }
 {
     let mut outside = false;
-    let mut scenario = 1;
-    while scenario < 17 {
-        outside = outside | too_many(u32_at(r, 20 + 4 * scenario));
-        scenario += 1;
+    let mut k = 0;
+    while k < layout::SCENARIOS {
+        outside = outside | too_many(u32_at(r, layout::FIRST_LOSS + 4 * k));
+        k += 1;
     }
     outside
 }
@@ -148,7 +149,7 @@ pub(crate) fn in_row(r: &[u8]) -> bool
         | (beyond(row_type(r), 0, 2)
             | (no_day(day(r))
                 | (no_strike(r)
-                    | (too_many(u32_at(r, 12))
+                    | (too_many(u32_at(r, layout::LOTS))
                         | (no_delta(r) | (beyond(value(r), 1, 10000) | no_losses(r)))))))
 }
 

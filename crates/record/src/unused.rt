@@ -10,6 +10,7 @@ ghost use Rattle.record.specs.Ranges.{notZero, unusedBeside};
 use crate::bytes::RECORD_BYTES;
 use crate::bytes::byte_at;
 use crate::fields::leg_count;
+use crate::layout;
 
 fn is_set(r: &[u8], o: usize) -> bool
     ensures { λ b. ⌜ b ≡ notZero (now (r .entry)) o ⌝ }
@@ -46,39 +47,39 @@ fn set_from(r: &[u8], o: usize) -> bool
 pub(crate) fn beside_contract(r: &[u8]) -> bool
     ensures { λ b. ⌜ b ≡ unusedBeside contractFields (now (r .entry)) ⌝ }
 {
-    is_set(r, 2) | (is_set(r, 3) | set_from(r, 8))
+    is_set(r, layout::CONTRACT_GAP) | (is_set(r, layout::GAP) | set_from(r, layout::CONTRACT_END))
 }
 
 pub(crate) fn beside_prompt(r: &[u8]) -> bool
     ensures { λ b. ⌜ b ≡ unusedBeside promptFields (now (r .entry)) ⌝ }
 {
-    is_set(r, 3) | set_from(r, 16)
+    is_set(r, layout::GAP) | set_from(r, layout::PROMPT_END)
 }
 
 pub(crate) fn beside_row(r: &[u8]) -> bool
     ensures { λ b. ⌜ b ≡ unusedBeside (rowFields (now (r .entry))) (now (r .entry)) ⌝ }
 {
-    is_set(r, 3) | set_from(r, 88)
+    is_set(r, layout::GAP) | set_from(r, layout::ROW_END)
 }
 
 pub(crate) fn beside_spread(r: &[u8]) -> bool
     ensures { λ b. ⌜ b ≡ unusedBeside (spreadFields (now (r .entry))) (now (r .entry)) ⌝ }
 {
     if leg_count(r) == 2 {
-        is_set(r, 3) | set_from(r, 16)
+        is_set(r, layout::GAP) | set_from(r, layout::TWO_LEGS_END)
     } else {
-        is_set(r, 3) | set_from(r, 20)
+        is_set(r, layout::GAP) | set_from(r, layout::THREE_LEGS_END)
     }
 }
 
 pub(crate) fn beside_entry(r: &[u8]) -> bool
     ensures { λ b. ⌜ b ≡ unusedBeside entryFields (now (r .entry)) ⌝ }
 {
-    set_from(r, 8)
+    set_from(r, layout::ENTRY_END)
 }
 
 pub(crate) fn beside_none(r: &[u8]) -> bool
     ensures { λ b. ⌜ b ≡ unusedBeside [] (now (r .entry)) ⌝ }
 {
-    set_from(r, 1)
+    set_from(r, layout::CONTRACT)
 }

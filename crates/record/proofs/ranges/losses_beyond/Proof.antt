@@ -1,10 +1,9 @@
 -- `record::ranges::losses_beyond`: a loss passed is outside its range, or one to come is. Assumes nothing.
-use Prim.Native.Nat.{ℕ, _+_, _-_, _*_, _≤_}
+use Prim.Native.Nat.{ℕ, _+_, _-_, _*_}
 use mathlib.Core.Bool.{Bool, _||_}
 use mathlib.Core.Path.{_≡_, refl, sym, ap, _∙_}
 use native.Mathlib.Omega.{arith}
 use borrow.Author.Needs.{needs}
-use lib.Dec.{lit≤}
 use Rattle.exact.specs.Lists.{any}
 use Rattle.record.specs.Bytes.{Record, u32At, countFrom}
 use Rattle.record.specs.Layout.{hundredThousands, lossField}
@@ -17,19 +16,20 @@ abbrev wrong : Record → ℕ → Bool
 wrong r scenario = outside r (lossField scenario)
 
 abbrev Inv-loop : tie.InvT-loop
-Inv-loop r outside₀ scenario₀ outside scenario =
-    (1 ≤ scenario) × (any (wrong r) (countFrom 1 16) ≡ outside || any (wrong r) (countFrom scenario (17 - scenario)))
+Inv-loop r outside₀ k₀ outside k =
+    any (wrong r) (countFrom 1 16) ≡ outside || any (wrong r) (countFrom (k + 1) (17 - (k + 1)))
 
 abbrev μ-loop : tie.MeasureT-loop
-μ-loop r outside₀ scenario₀ outside scenario = 17 - scenario
+μ-loop r outside₀ k₀ outside k = 16 - k
 
+-- the k-th loss is that of scenario k + 1
 told :
-    (r : Record) (s : ℕ) {x : ℕ} {b : Bool} → 1 ≤ s → x ≡ u32At r (20 + 4 * s) → b ≡ beyond hundredThousands x
-    → b ≡ wrong r s
-told r s h e t = t ∙ ap (beyond hundredThousands) (e ∙ ap (u32At r) (omega arith))
+    (r : Record) (k : ℕ) {x : ℕ} {b : Bool} → x ≡ u32At r (24 + 4 * k) → b ≡ beyond hundredThousands x
+    → b ≡ wrong r (k + 1)
+told r k e t = t ∙ ap (beyond hundredThousands) (e ∙ ap (u32At r) (omega arith))
 
 loop-holds : tie.Need-loop-holds Inv-loop μ-loop
-loop-holds c = (lit≤ tt, refl)
+loop-holds c = refl
 
 mul-u32-at : tie.Need-mul-u32-at Inv-loop μ-loop
 mul-u32-at c = omega arith
@@ -43,8 +43,8 @@ u32-at-requires c κs = tt
 too-many-requires : tie.Need-too-many-requires Inv-loop μ-loop
 too-many-requires c κs = search needs
 
-add-scenario : tie.Need-add-scenario Inv-loop μ-loop
-add-scenario c = omega arith
+add-k : tie.Need-add-k Inv-loop μ-loop
+add-k c = omega arith
 
 loop-less : tie.Need-loop-less Inv-loop μ-loop
 loop-less c = omega arith
@@ -52,17 +52,15 @@ loop-less c = omega arith
 loop-again : tie.Need-loop-again Inv-loop μ-loop
 loop-again c =
     let l = c .before .before .before .loop in
-    let r = c .before .before .before .before .before .args .r .now in (
-      omega arith,
-      l .inv .1 ∙ any-next (wrong r) 17 (l .scenario) (l .outside) (c .before .before .loop-test .taken)
-          ∙ ap (λ b. (l .outside || b) || any (wrong r) (countFrom (l .scenario + 1) (17 - (l .scenario + 1))))
-          (sym (told r (l .scenario) (l .inv .0) (c .before .u32-at .ensures .0) (c .too-many .ensures))),
-    )
+    let r = c .before .before .before .before .before .args .r .now in
+    l .inv ∙ any-next (wrong r) 17 (l .k + 1) (l .outside) (omega arith)
+    ∙ ap (λ b. (l .outside || b) || any (wrong r) (countFrom (l .k + 1 + 1) (17 - (l .k + 1 + 1))))
+    (sym (told r (l .k) (c .before .u32-at .ensures .0) (c .too-many .ensures)))
 
 returns : tie.Need-returns Inv-loop μ-loop
 returns c =
     let l = c .before .loop in
-    sym (l .inv .1 ∙ any-past (wrong (c .before .before .before .args .r .now)) 17 (l .scenario) (l .outside) (c .loop-test .left))
+    sym (l .inv ∙ any-past (wrong (c .before .before .before .args .r .now)) 17 (l .k + 1) (l .outside) (omega arith))
 
 pub losses-beyond-spec : {M : Type 1} → statement M
 losses-beyond-spec =
@@ -75,7 +73,7 @@ losses-beyond-spec =
     add-u32-at
     u32-at-requires
     too-many-requires
-    add-scenario
+    add-k
     loop-less
     loop-again
     returns)

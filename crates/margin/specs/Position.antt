@@ -8,7 +8,7 @@ use lib.Dec.{eqb}
 use lib.IntN.{ℤ, pos, natAbs, _+ℤ_}
 use lib.ListN.{length, getD, take}
 use Rattle.exact.specs.Lists.{keep, sumℤ}
-use Rattle.record.specs.Layout.{Record, lots, delta, value, loss, day, hundredThousand, oneLot, mostValue, scenarios}
+use Rattle.record.specs.Layout.{Record, lots, delta, value, loss, day, hundredThousand, oneLot, mostValue, scenarioCount}
 use Rattle.account.specs.Check.{mostRows}
 use Rattle.exact.specs.Lists.{count}
 use Rattle.account.specs.Parts.{onDay}
@@ -24,7 +24,7 @@ pub record RowWithin (row : Record) : Type 0 where
   pub lots-within : natAbs (lots row) ≤ hundredThousand
   pub delta-within : natAbs (delta row) ≤ oneLot
   pub value-within : value row ≤ mostValue
-  pub loss-within : (s : ℕ) → 1 ≤ s → s ≤ scenarios → natAbs (loss row s) ≤ hundredThousand
+  pub loss-within : (s : ℕ) → 1 ≤ s → s ≤ scenarioCount → natAbs (loss row s) ≤ hundredThousand
 
 -- "per contract .. 128 rows", each within its ranges
 pub record Within (rows : List Record) : Type 0 where

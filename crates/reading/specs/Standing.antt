@@ -10,12 +10,12 @@ use Rattle.account.specs.Parts.{placeOf}
 use Rattle.account.specs.Records.{records, recordCount, stretch}
 
 -- whether a record is of part v or of a later one
-abbrev pub reached : ℕ → Record → Bool
-reached v r = leb v (partOf r)
+abbrev pub atOrPast : ℕ → Record → Bool
+atOrPast v r = leb v (partOf r)
 
 -- how many records stand before part v
 abbrev pub standsAt : List ℕ → ℕ → ℕ
-standsAt file v = placeOf (reached v) (records file)
+standsAt file v = placeOf (atOrPast v) (records file)
 
 -- the records from part v on, and those of part v alone; the intercontract spreads are the last part
 abbrev pub restFrom : List ℕ → ℕ → List ℕ

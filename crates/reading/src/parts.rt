@@ -7,11 +7,11 @@ use account::stretches::record_at;
 use account::stretches::record_count;
 use account::stretches::stretch;
 ghost use mathlib.Core.Path.{_≡_};
-ghost use Rattle.reading.specs.Standing.{reached, standsAt, restFrom, partIn, contractsIn};
+ghost use Rattle.reading.specs.Standing.{atOrPast, standsAt, restFrom, partIn, contractsIn};
 
 // Whether a record is of part `v` or of a later one.
-fn is_reached(r: &[u8], v: usize) -> bool
-    ensures { λ b. ⌜ b ≡ reached v (now (r .entry)) ⌝ }
+fn at_or_past(r: &[u8], v: usize) -> bool
+    ensures { λ b. ⌜ b ≡ atOrPast v (now (r .entry)) ⌝ }
 {
     v <= part_of(r)
 }
@@ -23,7 +23,7 @@ fn records_before(file: &[u8], v: usize) -> usize
     let count = record_count(file);
     let mut k = 0;
     while k < count {
-        if is_reached(record_at(file, k), v) {
+        if at_or_past(record_at(file, k), v) {
             return k;
         }
         k += 1;

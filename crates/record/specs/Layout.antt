@@ -13,33 +13,33 @@ use Rattle.record.specs.Bytes.{one, two, four, Range, plain, signed, Fie
 abbrev pub mostContract : ℕ
 mostContract = 15
 
-abbrev pub contracts : Range
-contracts = plain 0 mostContract
+abbrev pub contractRange : Range
+contractRange = plain 0 mostContract
 
 abbrev pub mostDay : ℕ
 mostDay = 99999999
 
-abbrev pub days : Range
-days = plain 1 mostDay
+abbrev pub dayRange : Range
+dayRange = plain 1 mostDay
 
 abbrev pub mostTier : ℕ
 mostTier = 8
 
-abbrev pub tiers : Range
-tiers = plain 1 mostTier
+abbrev pub tierRange : Range
+tierRange = plain 1 mostTier
 
 -- "rates 0..10,000,000; ratios 1..100; lots -100,000..100,000 ..; value 1..10,000; losses -100,000..100,000"
 abbrev pub mostRate : ℕ
 mostRate = 10000000
 
-abbrev pub rates : Range
-rates = plain 0 mostRate
+abbrev pub rateRange : Range
+rateRange = plain 0 mostRate
 
 abbrev pub mostRatio : ℕ
 mostRatio = 100
 
-abbrev pub ratios : Range
-ratios = plain 1 mostRatio
+abbrev pub ratioRange : Range
+ratioRange = plain 1 mostRatio
 
 abbrev pub hundredThousand : ℕ
 hundredThousand = 100000
@@ -50,8 +50,8 @@ hundredThousands = signed (negℤ (pos hundredThousand)) (pos hundredThousand)
 abbrev pub mostValue : ℕ
 mostValue = 10000
 
-abbrev pub values : Range
-values = plain 1 mostValue
+abbrev pub valueRange : Range
+valueRange = plain 1 mostValue
 
 -- "Byte 0 is the kind."
 abbrev pub kind : Record → ℕ
@@ -59,10 +59,10 @@ kind r = byteAt r 0
 
 -- "1 contract | 1: number 0..15; 4-7: short option rate"; in every kind byte 1 names a contract
 abbrev pub contractField : Field
-contractField = field 1 one contracts
+contractField = field 1 one contractRange
 
 abbrev pub shortOptionRateField : Field
-shortOptionRateField = field 4 four rates
+shortOptionRateField = field 4 four rateRange
 
 abbrev pub contractFields : List Field
 contractFields = contractField ∷ shortOptionRateField ∷ []
@@ -70,16 +70,16 @@ contractFields = contractField ∷ shortOptionRateField ∷ []
 -- "2 prompt | 1: contract; 2: tier 1..8; 4-7: day 1..99,999,999; 8-11: rate per delta in spreads; 12-15: rate per outright
 -- delta"
 abbrev pub tierField : Field
-tierField = field 2 one tiers
+tierField = field 2 one tierRange
 
 abbrev pub dayField : Field
-dayField = field 4 four days
+dayField = field 4 four dayRange
 
 abbrev pub spreadRateField : Field
-spreadRateField = field 8 four rates
+spreadRateField = field 8 four rateRange
 
 abbrev pub outrightRateField : Field
-outrightRateField = field 12 four rates
+outrightRateField = field 12 four rateRange
 
 abbrev pub promptFields : List Field
 promptFields = contractField ∷ tierField ∷ dayField ∷ spreadRateField ∷ outrightRateField ∷ []
@@ -116,10 +116,10 @@ abbrev pub deltaField : Bool → Field
 deltaField isPut = field 16 four (cond isPut (signed (negℤ (pos oneLot)) (pos 0)) (signed (pos 0) (pos oneLot)))
 
 abbrev pub valueField : Field
-valueField = field 20 four values
+valueField = field 20 four valueRange
 
-abbrev pub scenarios : ℕ
-scenarios = 16
+abbrev pub scenarioCount : ℕ
+scenarioCount = 16
 
 abbrev pub lossField : ℕ → Field
 lossField scenario = field (24 + 4 * (scenario - 1)) four hundredThousands
@@ -127,7 +127,7 @@ lossField scenario = field (24 + 4 * (scenario - 1)) four hundredThousands
 abbrev pub rowFields : Record → List Field
 rowFields r =
     contractField ∷ rowTypeField ∷ dayField ∷ strikeField (forward r) ∷ lotsField ∷ deltaField (put r) ∷ valueField
-    ∷ map lossField (countFrom 1 scenarios)
+    ∷ map lossField (countFrom 1 scenarioCount)
 
 -- "4 interprompt spread | 1: contract; 2: legs, 2 or 3; 4-7: rate per spread; legs at 8, 12, 16, each tier, side (1 = A, 2 =
 -- B), two-byte ratio"
@@ -135,16 +135,16 @@ abbrev pub legCountField : Field
 legCountField = field 2 one (plain 2 3)
 
 abbrev pub ratePerSpreadField : Field
-ratePerSpreadField = field 4 four rates
+ratePerSpreadField = field 4 four rateRange
 
 abbrev pub legTierField : ℕ → Field
-legTierField leg = field (8 + 4 * leg) one tiers
+legTierField leg = field (8 + 4 * leg) one tierRange
 
 abbrev pub legSideField : ℕ → Field
 legSideField leg = field (9 + 4 * leg) one (plain 1 2)
 
 abbrev pub legRatioField : ℕ → Field
-legRatioField leg = field (10 + 4 * leg) two ratios
+legRatioField leg = field (10 + 4 * leg) two ratioRange
 
 abbrev pub legFields : ℕ → List Field
 legFields leg = legTierField leg ∷ legSideField leg ∷ legRatioField leg ∷ []
@@ -169,7 +169,7 @@ spreadFields r =
 
 -- "5 intercontract spread | 1, 2: contracts; 3: credit percent 0..100; 4-5, 6-7: their ratios"
 abbrev pub secondContractField : Field
-secondContractField = field 2 one contracts
+secondContractField = field 2 one contractRange
 
 abbrev pub mostPercent : ℕ
 mostPercent = 100
@@ -178,10 +178,10 @@ abbrev pub percentField : Field
 percentField = field 3 one (plain 0 mostPercent)
 
 abbrev pub firstRatioField : Field
-firstRatioField = field 4 two ratios
+firstRatioField = field 4 two ratioRange
 
 abbrev pub secondRatioField : Field
-secondRatioField = field 6 two ratios
+secondRatioField = field 6 two ratioRange
 
 abbrev pub entryFields : List Field
 entryFields = contractField ∷ secondContractField ∷ percentField ∷ firstRatioField ∷ secondRatioField ∷ []

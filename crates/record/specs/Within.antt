@@ -7,7 +7,7 @@ use Rattle.record.specs.Layout.{Record, contract, shortOptionRate, tier,
 use Rattle.record.specs.Layout.{rowType, lots, delta, value, loss}
 use Rattle.record.specs.Layout.{legCount, ratePerSpread, legTier, legSide, legRatio}
 use Rattle.record.specs.Layout.{secondContract, percent, firstRatio, secondRatio}
-use Rattle.record.specs.Layout.{mostContract, mostDay, mostTier, mostRate, mostRatio, hundredThousand, mostValue, mostRowType, oneLot, scenarios, mostPercent}
+use Rattle.record.specs.Layout.{mostContract, mostDay, mostTier, mostRate, mostRatio, hundredThousand, mostValue, mostRowType, oneLot, scenarioCount, mostPercent}
 
 pub record Between (low x high : ℕ) : Type 0 where
   pub least : low ≤ x
@@ -31,7 +31,7 @@ pub record RowWithin (r : Record) : Type 0 where
   pub lotss : natAbs (lots r) ≤ hundredThousand
   pub deltas : natAbs (delta r) ≤ oneLot
   pub values : Between 1 (value r) mostValue
-  pub losses : (scenario : ℕ) → Between 1 scenario scenarios → natAbs (loss r scenario) ≤ hundredThousand
+  pub losses : (scenario : ℕ) → Between 1 scenario scenarioCount → natAbs (loss r scenario) ≤ hundredThousand
 
 pub record LegWithin (r : Record) (leg : ℕ) : Type 0 where
   pub tiers : Between 1 (legTier r leg) mostTier

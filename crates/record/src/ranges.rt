@@ -4,7 +4,7 @@ ghost use mathlib.Core.List.{map};
 ghost use Prim.Native.Nat.{_<_, _≤_};
 ghost use lib.IntN.{pos, negℤ};
 ghost use Rattle.record.specs.Bytes.{plain, signed, countFrom};
-ghost use Rattle.record.specs.Layout.{contracts, days, tiers, rates, ratios, hundredThousands};
+ghost use Rattle.record.specs.Layout.{contractRange, dayRange, tierRange, rateRange, ratioRange, hundredThousands};
 ghost use Rattle.record.specs.Layout.{contractFields, promptFields, rowFields, spreadFields, entryFields};
 ghost use Rattle.record.specs.Layout.{strikeField, deltaField, forward, put, lossField, legFields, thirdLeg};
 ghost use Rattle.record.specs.Ranges.{beyond, outside, outsideAmong};
@@ -45,31 +45,31 @@ fn signed_beyond(x: usize, low: usize, high: usize) -> bool
 }
 
 fn no_contract(x: usize) -> bool
-    ensures { λ b. ⌜ b ≡ beyond contracts x ⌝ }
+    ensures { λ b. ⌜ b ≡ beyond contractRange x ⌝ }
 {
     beyond(x, 0, 15)
 }
 
 fn no_day(x: usize) -> bool
-    ensures { λ b. ⌜ b ≡ beyond days x ⌝ }
+    ensures { λ b. ⌜ b ≡ beyond dayRange x ⌝ }
 {
     beyond(x, 1, 99999999)
 }
 
 fn no_tier(x: usize) -> bool
-    ensures { λ b. ⌜ b ≡ beyond tiers x ⌝ }
+    ensures { λ b. ⌜ b ≡ beyond tierRange x ⌝ }
 {
     beyond(x, 1, 8)
 }
 
 fn no_rate(x: usize) -> bool
-    ensures { λ b. ⌜ b ≡ beyond rates x ⌝ }
+    ensures { λ b. ⌜ b ≡ beyond rateRange x ⌝ }
 {
     beyond(x, 0, 10000000)
 }
 
 fn no_ratio(x: usize) -> bool
-    ensures { λ b. ⌜ b ≡ beyond ratios x ⌝ }
+    ensures { λ b. ⌜ b ≡ beyond ratioRange x ⌝ }
 {
     beyond(x, 1, 100)
 }

@@ -4,12 +4,12 @@ use mathlib.Core.Path.{_≡_, sym, ap, _∙_}
 use native.Mathlib.Omega.{arith}
 use Rattle.account.specs.Records.{records, recordCount}
 use Rattle.account.proofs.Walk.{placeFrom, place-start, place-here, place-next, place-past}
-use Rattle.reading.specs.Standing.{reached, standsAt}
+use Rattle.reading.specs.Standing.{atOrPast, standsAt}
 use Rattle.reading.proofs.parts.records_before.Statement.{statement}
 use Rattle.reading.proofs.parts.records_before.Tie as tie
 
 abbrev Inv-loop : tie.InvT-loop
-Inv-loop file v count k₀ k = standsAt file v ≡ placeFrom (reached v) file (recordCount file) k
+Inv-loop file v count k₀ k = standsAt file v ≡ placeFrom (atOrPast v) file (recordCount file) k
 
 abbrev μ-loop : tie.MeasureT-loop
 μ-loop file v count k₀ k = count - k
@@ -18,22 +18,22 @@ record-count-requires : tie.Need-record-count-requires Inv-loop μ-loop
 record-count-requires c κs = tt
 
 loop-holds : tie.Need-loop-holds Inv-loop μ-loop
-loop-holds c = place-start (reached (c .before .before .args .v)) (c .before .before .args .file .now)
+loop-holds c = place-start (atOrPast (c .before .before .args .v)) (c .before .before .args .file .now)
 
 record-at-requires : tie.Need-record-at-requires Inv-loop μ-loop
 record-at-requires c κs = tt
 
-is-reached-requires : tie.Need-is-reached-requires Inv-loop μ-loop
-is-reached-requires c κs = tt
+is-atOrPast-requires : tie.Need-is-atOrPast-requires Inv-loop μ-loop
+is-atOrPast-requires c κs = tt
 
 returns : tie.Need-returns Inv-loop μ-loop
 returns c =
     let args = c .before .before .before .before .before .before .before .args in
     let loop = c .before .before .before .before .loop in
-    let p = reached (args .v) in
+    let p = atOrPast (args .v) in
     let f = args .file .now in
     let n : loop .k < recordCount f = omega arith in
-    let e = ap p (sym (c .before .before .record-at .ensures)) ∙ sym (c .before .is-reached .ensures) in
+    let e = ap p (sym (c .before .before .record-at .ensures)) ∙ sym (c .before .is-atOrPast .ensures) in
     sym (loop .inv ∙ place-here p f (recordCount f) (loop .k) n (e ∙ c .if1 .taken))
 
 add-k : tie.Need-add-k Inv-loop μ-loop
@@ -46,10 +46,10 @@ loop-again : tie.Need-loop-again Inv-loop μ-loop
 loop-again c =
     let args = c .before .before .before .before .before .before .before .args in
     let loop = c .before .before .before .before .loop in
-    let p = reached (args .v) in
+    let p = atOrPast (args .v) in
     let f = args .file .now in
     let n : loop .k < recordCount f = omega arith in
-    let e = ap p (sym (c .before .before .record-at .ensures)) ∙ sym (c .before .is-reached .ensures) in
+    let e = ap p (sym (c .before .before .record-at .ensures)) ∙ sym (c .before .is-atOrPast .ensures) in
     loop .inv ∙ place-next p f (recordCount f) (loop .k) n (e ∙ c .if1 .left)
 
 returns-2 : tie.Need-returns-2 Inv-loop μ-loop
@@ -57,7 +57,7 @@ returns-2 c =
     let args = c .before .before .before .before .args in
     let f = args .file .now in
     let n : recordCount f ≤ c .before .loop .k = omega arith in
-    sym (c .before .loop .inv ∙ place-past (reached (args .v)) f (recordCount f) (c .before .loop .k) n)
+    sym (c .before .loop .inv ∙ place-past (atOrPast (args .v)) f (recordCount f) (c .before .loop .k) n)
 
 pub records-before-spec : {M : Type 1} → statement M
 records-before-spec =
@@ -68,7 +68,7 @@ records-before-spec =
     record-count-requires
     loop-holds
     record-at-requires
-    is-reached-requires
+    is-atOrPast-requires
     returns
     add-k
     loop-less

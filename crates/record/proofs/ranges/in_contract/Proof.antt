@@ -2,7 +2,7 @@
 use mathlib.Core.Path.{ap, _∙_}
 use Rattle.record.specs.Ranges.{beyond}
 use Rattle.record.proofs.Tests.{both, last}
-use Rattle.record.specs.Layout.{contracts, rates}
+use Rattle.record.specs.Layout.{contractRange, rateRange}
 use Rattle.record.proofs.ranges.in_contract.Statement.{statement}
 use Rattle.record.proofs.ranges.in_contract.Tie as tie
 
@@ -19,9 +19,9 @@ no-rate-requires : tie.Need-no-rate-requires
 no-rate-requires c κs = tt
 
 returns : tie.Need-returns
-returns c = both (c .before .before .no-contract .ensures ∙ ap (beyond contracts)
+returns c = both (c .before .before .no-contract .ensures ∙ ap (beyond contractRange)
     (c .before .before .before .contract .ensures .0))
-    (last (c .no-rate .ensures ∙ ap (beyond rates) (c .before .short-option-rate .ensures .0)))
+    (last (c .no-rate .ensures ∙ ap (beyond rateRange) (c .before .short-option-rate .ensures .0)))
 
 pub in-contract-spec : {M : Type 1} → statement M
 in-contract-spec =

@@ -3,7 +3,7 @@ use mathlib.Core.Path.{ap, _∙_}
 use Rattle.record.specs.Ranges.{beyond}
 use Rattle.record.proofs.Tests.{both, last}
 use Rattle.record.specs.Bytes.{plain}
-use Rattle.record.specs.Layout.{contracts, ratios}
+use Rattle.record.specs.Layout.{contractRange, ratioRange}
 use Rattle.record.proofs.ranges.in_entry.Statement.{statement}
 use Rattle.record.proofs.ranges.in_entry.Tie as tie
 
@@ -39,15 +39,15 @@ no-ratio-requires-2 c κs = tt
 
 returns : tie.Need-returns
 returns c = both (c .before .before .before .before .before .before .before .before .no-contract .ensures ∙ ap
-    (beyond contracts)
+    (beyond contractRange)
     (c .before .before .before .before .before .before .before .before .before .contract .ensures .0))
-    (both (c .before .before .before .before .before .before .no-contract2 .ensures ∙ ap (beyond contracts)
+    (both (c .before .before .before .before .before .before .no-contract2 .ensures ∙ ap (beyond contractRange)
     (c .before .before .before .before .before .before .before .second-contract .ensures .0))
     (both (c .before .before .before .before .beyond .ensures ∙ ap (beyond (plain 0 100))
     (c .before .before .before .before .before .percent .ensures .0))
-    (both (c .before .before .no-ratio .ensures ∙ ap (beyond ratios)
+    (both (c .before .before .no-ratio .ensures ∙ ap (beyond ratioRange)
     (c .before .before .before .first-ratio .ensures .0))
-    (last (c .no-ratio2 .ensures ∙ ap (beyond ratios) (c .before .second-ratio .ensures .0))))))
+    (last (c .no-ratio2 .ensures ∙ ap (beyond ratioRange) (c .before .second-ratio .ensures .0))))))
 
 pub in-entry-spec : {M : Type 1} → statement M
 in-entry-spec =

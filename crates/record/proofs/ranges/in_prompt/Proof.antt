@@ -2,7 +2,7 @@
 use mathlib.Core.Path.{ap, _∙_}
 use Rattle.record.specs.Ranges.{beyond}
 use Rattle.record.proofs.Tests.{both, last}
-use Rattle.record.specs.Layout.{contracts, tiers, days, rates}
+use Rattle.record.specs.Layout.{contractRange, tierRange, dayRange, rateRange}
 use Rattle.record.proofs.ranges.in_prompt.Statement.{statement}
 use Rattle.record.proofs.ranges.in_prompt.Tie as tie
 
@@ -38,15 +38,15 @@ no-rate-requires-2 c κs = tt
 
 returns : tie.Need-returns
 returns c = both (c .before .before .before .before .before .before .before .before .no-contract .ensures ∙ ap
-    (beyond contracts)
+    (beyond contractRange)
     (c .before .before .before .before .before .before .before .before .before .contract .ensures .0))
-    (both (c .before .before .before .before .before .before .no-tier .ensures ∙ ap (beyond tiers)
+    (both (c .before .before .before .before .before .before .no-tier .ensures ∙ ap (beyond tierRange)
     (c .before .before .before .before .before .before .before .tier .ensures .0))
-    (both (c .before .before .before .before .no-day .ensures ∙ ap (beyond days)
+    (both (c .before .before .before .before .no-day .ensures ∙ ap (beyond dayRange)
     (c .before .before .before .before .before .day .ensures .0))
-    (both (c .before .before .no-rate .ensures ∙ ap (beyond rates)
+    (both (c .before .before .no-rate .ensures ∙ ap (beyond rateRange)
     (c .before .before .before .spread-rate .ensures .0))
-    (last (c .no-rate2 .ensures ∙ ap (beyond rates) (c .before .outright-rate .ensures .0))))))
+    (last (c .no-rate2 .ensures ∙ ap (beyond rateRange) (c .before .outright-rate .ensures .0))))))
 
 pub in-prompt-spec : {M : Type 1} → statement M
 in-prompt-spec =

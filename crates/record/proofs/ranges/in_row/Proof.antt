@@ -2,7 +2,7 @@
 use borrow.Author.Needs.{needs}
 use mathlib.Core.Path.{ap, _∙_}
 use Rattle.record.specs.Bytes.{plain}
-use Rattle.record.specs.Layout.{contracts, days, hundredThousands, values}
+use Rattle.record.specs.Layout.{contractRange, dayRange, hundredThousands, valueRange}
 use Rattle.record.specs.Ranges.{beyond}
 use Rattle.record.proofs.Tests.{both}
 use Rattle.record.proofs.ranges.in_row.Statement.{statement}
@@ -50,8 +50,8 @@ no-losses-requires c κs = tt
 returns : tie.Need-returns
 returns c = both
     (c .before .before .before .before .before .before .before .before .before .before .before .no-contract .ensures
-    ∙ ap (beyond contracts)
-    (c .before .before .before .before .before .before .before .before .before .before .before .before .contract .ensures .0)) (both (c .before .before .before .before .before .before .before .before .before .beyond .ensures ∙ ap (beyond (plain 0 2)) (c .before .before .before .before .before .before .before .before .before .before .row-type .ensures .0)) (both (c .before .before .before .before .before .before .before .no-day .ensures ∙ ap (beyond days) (c .before .before .before .before .before .before .before .before .day .ensures .0)) (both (c .before .before .before .before .before .before .no-strike .ensures) (both (c .before .before .before .before .too-many .ensures ∙ ap (beyond hundredThousands) (c .before .before .before .before .before .u32-at .ensures .0)) (both (c .before .before .before .no-delta .ensures) (both (c .before .beyond2 .ensures ∙ ap (beyond values) (c .before .before .value .ensures .0)) (c .no-losses .ensures)))))))
+    ∙ ap (beyond contractRange)
+    (c .before .before .before .before .before .before .before .before .before .before .before .before .contract .ensures .0)) (both (c .before .before .before .before .before .before .before .before .before .beyond .ensures ∙ ap (beyond (plain 0 2)) (c .before .before .before .before .before .before .before .before .before .before .row-type .ensures .0)) (both (c .before .before .before .before .before .before .before .no-day .ensures ∙ ap (beyond dayRange) (c .before .before .before .before .before .before .before .before .day .ensures .0)) (both (c .before .before .before .before .before .before .no-strike .ensures) (both (c .before .before .before .before .too-many .ensures ∙ ap (beyond hundredThousands) (c .before .before .before .before .before .u32-at .ensures .0)) (both (c .before .before .before .no-delta .ensures) (both (c .before .beyond2 .ensures ∙ ap (beyond valueRange) (c .before .before .value .ensures .0)) (c .no-losses .ensures)))))))
 
 pub in-row-spec : {M : Type 1} → statement M
 in-row-spec =

@@ -4,7 +4,7 @@ use mathlib.Core.Bool.{Bool, _||_}
 use mathlib.Core.List.{List, _++_}
 use Rattle.exact.specs.Lists.{any}
 use Rattle.record.specs.Bytes.{Field, plain}
-use Rattle.record.specs.Layout.{contracts, rates, legFields, thirdLeg}
+use Rattle.record.specs.Layout.{contractRange, rateRange, legFields, thirdLeg}
 use Rattle.record.specs.Ranges.{beyond, outside}
 use Rattle.record.proofs.Tests.{both, any-append}
 use Rattle.record.proofs.ranges.in_spread.Statement.{statement}
@@ -44,11 +44,11 @@ no-third-leg-requires c κs = tt
 returns : tie.Need-returns
 returns c =
     let r = c .before .before .before .before .before .before .before .before .before .before .args .r .now in
-    both (c .before .before .before .before .before .before .before .no-contract .ensures ∙ ap (beyond contracts)
+    both (c .before .before .before .before .before .before .before .no-contract .ensures ∙ ap (beyond contractRange)
     (c .before .before .before .before .before .before .before .before .contract .ensures .0))
     (both (c .before .before .before .before .before .beyond .ensures ∙ ap (beyond (plain 2 3))
     (c .before .before .before .before .before .before .leg-count .ensures .0))
-    (both (c .before .before .before .no-rate .ensures ∙ ap (beyond rates)
+    (both (c .before .before .before .no-rate .ensures ∙ ap (beyond rateRange)
     (c .before .before .before .before .rate-per-spread .ensures .0))
     (both (c .before .before .no-leg .ensures) (both (c .before .no-leg2 .ensures) (c .no-third-leg .ensures))
     ∙ sym (joined (outside r) (legFields 0) (legFields 1) (thirdLeg r)))))

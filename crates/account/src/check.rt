@@ -13,8 +13,8 @@ use crate::fault::fault_at;
 use crate::notes::noted;
 use crate::notes::part_of;
 use crate::parts::PARTS;
-use crate::stretches::record_at;
 use crate::stretches::record_count;
+use crate::stretches::whole_at;
 use record::bytes::RECORD_BYTES;
 use record::fields::kind;
 
@@ -83,7 +83,7 @@ pub fn take_survey(file: &[u8]) -> Survey
         if number != 0 {
             return refused(refusal(number, k));
         }
-        let r = record_at(file, k);
+        let r = whole_at(file, k);
         let v = part_of(r);
         note_first(&mut first, &counts, v, k);
         note_one(&mut counts, v);

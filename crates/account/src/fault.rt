@@ -1,15 +1,16 @@
 // The first refusal of a record, 3 to 9 in that order, or 0.
 ghost use mathlib.Core.Path.{_≡_};
+ghost use Prim.Native.Nat.{_<_};
 ghost use Rattle.account.specs.Notes.{faultBy, faultAt};
-ghost use Rattle.account.specs.Records.{records};
+ghost use Rattle.account.specs.Records.{records, recordCount};
 use crate::limits::over_limit;
 use crate::listed::unlisted;
 use crate::order::kind_falls;
 use crate::order::out_of_order;
 use crate::parts::PROMPTS;
 use crate::parts::part_at;
-use crate::stretches::before_at;
-use crate::stretches::record_at;
+use crate::stretches::whole_at;
+use crate::stretches::whole_before;
 use record::fields::contract;
 use record::refusals::field_outside;
 use record::refusals::unknown_kind;
@@ -45,9 +46,10 @@ fn fault(counts: &[usize], prompts: &[u8], before: &[u8], r: &[u8]) -> usize
 
 // Of record `k`, from the notes of the records before it.
 pub(crate) fn fault_at(file: &[u8], first: &[usize], counts: &[usize], k: usize) -> usize
+    requires { ⌜ k < recordCount (now file) ⌝ }
     ensures { λ n. ⌜ n ≡ faultAt (now (file .entry)) (now (first .entry)) (now (counts .entry)) k ⌝ }
 {
-    let r = record_at(file, k);
+    let r = whole_at(file, k);
     let prompts = part_at(file, first, counts, PROMPTS + contract(r));
-    fault(counts, prompts, before_at(file, k), r)
+    fault(counts, prompts, whole_before(file, k), r)
 }

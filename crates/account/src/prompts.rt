@@ -2,8 +2,8 @@
 ghost use mathlib.Core.Path.{_≡_};
 ghost use Rattle.account.specs.Parts.{placeOf, onDay, onTier};
 ghost use Rattle.account.specs.Records.{records};
-use crate::stretches::record_at;
 use crate::stretches::record_count;
+use crate::stretches::whole_at;
 use record::fields::day;
 use record::fields::tier;
 
@@ -13,7 +13,7 @@ pub(crate) fn place_of_day(prompts: &[u8], d: usize) -> usize
     let count = record_count(prompts);
     let mut i = 0;
     while i < count {
-        if day(record_at(prompts, i)) == d {
+        if day(whole_at(prompts, i)) == d {
             return i;
         }
         i += 1;
@@ -27,7 +27,7 @@ pub(crate) fn place_of_tier(prompts: &[u8], t: usize) -> usize
     let count = record_count(prompts);
     let mut i = 0;
     while i < count {
-        if tier(record_at(prompts, i)) == t {
+        if tier(whole_at(prompts, i)) == t {
             return i;
         }
         i += 1;

@@ -1,5 +1,6 @@
 // Records as they stand in a file.
 ghost use mathlib.Core.Path.{_≡_};
+ghost use Prim.Native.Nat.{_<_};
 ghost use Rattle.account.specs.Records.{stretch, recordAt, recordCount};
 ghost use Rattle.account.specs.Notes.{beforeAt};
 use record::bytes::RECORD_BYTES;
@@ -41,4 +42,24 @@ pub fn before_at(file: &[u8], k: usize) -> &[u8]
         return &file[..0];
     }
     record_at(file, k - 1)
+}
+
+// Record `k` where the file has it, read at its known length.
+pub(crate) fn whole_at(file: &[u8], k: usize) -> &[u8]
+    requires { ⌜ k < recordCount (now file) ⌝ }
+    ensures { λ r. ⌜ now r ≡ recordAt (now (file .entry)) k ⌝ }
+{
+    let start = k * RECORD_BYTES;
+    &file[start..start + RECORD_BYTES]
+}
+
+// The record before it.
+pub(crate) fn whole_before(file: &[u8], k: usize) -> &[u8]
+    requires { ⌜ k < recordCount (now file) ⌝ }
+    ensures { λ r. ⌜ now r ≡ beforeAt (now (file .entry)) k ⌝ }
+{
+    if k == 0 {
+        return &file[..0];
+    }
+    whole_at(file, k - 1)
 }

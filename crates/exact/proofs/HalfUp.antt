@@ -30,13 +30,6 @@ half-above n d h k = half-split n d ∙ ap (λ (x : ℕ). n / d + x) (half-one (
 pub half-below : (n d : ℕ) → 2 * (n % d) < d → halfUp n d ≡ n / d
 half-below n d h = half-split n d ∙ omega (arith, half-down (n % d) d h)
 
--- a whole number of d stays
-pub half-whole : (k d : ℕ) → 0 < d → halfUp (k * d) d ≡ k
-half-whole k d h =
-    let e : 2 * (k * d) + d ≡ k * (2 * d) + d = omega arith in
-    let z : d / (2 * d) ≡ 0 = div-eq-of-lt (omega arith) in
-    ap (λ (x : ℕ). x / (2 * d)) e ∙ mul-add-div-right (omega arith) k d ∙ omega (arith, z)
-
 -- at most k where the number is at most k times d
 pub half-within : (k n d : ℕ) → n ≤ k * d → halfUp n d ≤ k
 half-within k n zero h = omega (arith, half-zero n)

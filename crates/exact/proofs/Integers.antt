@@ -73,9 +73,6 @@ abs-sub a b = subst (λ (n : ℕ). natAbs (a -ℤ b) ≤ natAbs a + n) (abs-neg 
 pub plus-fits : (a b : ℤ) → SFits w64 a → SFits w64 b → natAbs a + natAbs b < 2 ^ 63 → SFits w64 (toZ w64 (ofZ w64 a) +ℤ toZ w64 (ofZ w64 b))
 plus-fits a b ha hb h = rw (back a ha, back b hb) (sfits-abs (a +ℤ b) (omega (arith, abs-add a b)))
 
-pub minus-fits : (a b : ℤ) → SFits w64 a → SFits w64 b → natAbs a + natAbs b < 2 ^ 63 → SFits w64 (toZ w64 (ofZ w64 a) -ℤ toZ w64 (ofZ w64 b))
-minus-fits a b ha hb h = rw (back a ha, back b hb) (sfits-abs (a -ℤ b) (omega (arith, abs-sub a b)))
-
 pub times-fits : (a b : ℤ) → SFits w64 a → SFits w64 b → natAbs a * natAbs b < 2 ^ 63 → SFits w64 (toZ w64 (ofZ w64 a) *ℤ toZ w64 (ofZ w64 b))
 times-fits a b ha hb h = rw (back a ha, back b hb) (sfits-abs (a *ℤ b) (rw (abs-mul a b) h))
 
@@ -170,12 +167,6 @@ at-most-trans (negsuc a) (pos b) (negsuc c) h k = absurd (false≢true k)
 at-most-trans (negsuc a) (negsuc b) (pos c) h k = refl
 at-most-trans (negsuc a) (negsuc b) (negsuc c) h k = le-leb c a (omega (arith, leb-true b a h, leb-true c b k))
 
-pub at-most-antisym : (a b : ℤ) → leZ a b ≡ true → leZ b a ≡ true → a ≡ b
-at-most-antisym (pos a) (pos b) h k = ap pos (omega (arith, leb-true a b h, leb-true b a k))
-at-most-antisym (pos a) (negsuc b) h k = absurd (false≢true h)
-at-most-antisym (negsuc a) (pos b) h k = absurd (false≢true k)
-at-most-antisym (negsuc a) (negsuc b) h k = ap negsuc (omega (arith, leb-true b a h, leb-true a b k))
-
 pub below-at-most : (a b : ℤ) → ltZ a b ≡ true → leZ a b ≡ true
 below-at-most (pos a) (pos b) h = le-leb a b (omega (arith, ltb-true a b h))
 below-at-most (pos a) (negsuc b) h = h
@@ -208,22 +199,11 @@ larger-second a b = go (ltZ a b) refl
     go true e = at-most-refl b
     go false e = not-below-at-most a b e
 
-pub larger-within : (a b c : ℤ) → leZ a c ≡ true → leZ b c ≡ true → leZ (larger a b) c ≡ true
-larger-within a b c h k = go (ltZ a b)
-  where
-    go : (t : Bool) → leZ (cond t b a) c ≡ true
-    go true = k
-    go false = h
-
 -- ---- sign
 
 pub negative-below : (z : ℤ) → ltZ z (pos 0) ≡ negative z
 negative-below (pos n) = le-ltb n 0 (omega arith)
 negative-below (negsuc n) = refl
-
-pub or-zero-larger : (z : ℤ) → pos (orZero z) ≡ larger z (pos 0)
-or-zero-larger (pos n) = sym (ap (λ (t : Bool). cond t (pos 0) (pos n)) (negative-below (pos n)))
-or-zero-larger (negsuc n) = refl
 
 pub or-zero-negative : (z : ℤ) → negative z ≡ true → orZero z ≡ 0
 or-zero-negative (pos n) h = absurd (false≢true h)

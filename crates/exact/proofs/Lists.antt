@@ -43,14 +43,7 @@ pub sumℤ-append : (xs ys : List ℤ) → sumℤ (xs ++ ys) ≡ sumℤ xs +ℤ 
 sumℤ-append [] ys = sym (+ℤ-idl (sumℤ ys))
 sumℤ-append (x ∷ xs) ys = ap (λ (z : ℤ). x +ℤ z) (sumℤ-append xs ys) ∙ sym (+ℤ-assoc x (sumℤ xs) (sumℤ ys))
 
--- a sum does not care for order
-pub sumℤ-swap : (xs ys : List ℤ) → sumℤ (xs ++ ys) ≡ sumℤ (ys ++ xs)
-sumℤ-swap xs ys = sumℤ-append xs ys ∙ +ℤ-comm (sumℤ xs) (sumℤ ys) ∙ sym (sumℤ-append ys xs)
-
 -- ---- one element more, for a loop that goes up
-
-pub sum-take-suc : (xs : List ℕ) (k : ℕ) → k < length xs → sum (take (suc k) xs) ≡ sum (take k xs) + getD xs k 0
-sum-take-suc xs k h = ap sum (take-suc xs k 0 h) ∙ sum-append (take k xs) (getD xs k 0 ∷ []) ∙ omega arith
 
 pub sumℤ-take-suc : (xs : List ℤ) (k : ℕ) → k < length xs → sumℤ (take (suc k) xs) ≡ sumℤ (take k xs) +ℤ getD xs k (pos 0)
 sumℤ-take-suc xs k h =
@@ -163,13 +156,6 @@ module _ {ℓ} {A : Type ℓ} where
       go : (t : Bool) → p x ≡ t → (any p xs ≡ true → Passes p xs d) → (t || any p xs) ≡ true → Passes p (x ∷ xs) d
       go true h rest e = record { place = 0; within = omega arith; passes = h }
       go false h rest e = later (rest e)
-
-  pub any-false : (p : A → Bool) (xs : List A) (d : A) → any p xs ≡ false → (k : ℕ) → k < length xs → p (getD xs k d) ≡ false
-  any-false p xs d e k h = go (p (getD xs k d)) refl
-    where
-      go : (t : Bool) → p (getD xs k d) ≡ t → p (getD xs k d) ≡ false
-      go true q = absurd (true≢false (sym (any-at p xs k d h q) ∙ e))
-      go false q = q
 
 -- ---- least: at most each, the greatest such, and one of them
 

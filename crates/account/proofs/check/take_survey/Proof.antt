@@ -54,7 +54,7 @@ slice-aggregate-fault-at-2 : tie.Need-slice-aggregate-fault-at-2 Inv-loop μ-loo
 slice-aggregate-fault-at-2 c = sym (c .before .before .before .loop .inv .notes .sizes)
 
 fault-at-requires : tie.Need-fault-at-requires Inv-loop μ-loop
-fault-at-requires c κs = tt
+fault-at-requires c κs = omega arith
 
 refusal-requires : tie.Need-refusal-requires Inv-loop μ-loop
 refusal-requires c κs = tt
@@ -76,8 +76,8 @@ returns-3 c =
     (c .before .before .before .before .before .before .before .before .before .if2 .left))) (c .refused3 .result)
     (subst (λ (a : Answer). Empty a (c .refused3 .result)) (c .before .refusal .ensures) (c .refused3 .ensures))
 
-record-at-requires : tie.Need-record-at-requires Inv-loop μ-loop
-record-at-requires c κs = tt
+whole-at-requires : tie.Need-whole-at-requires Inv-loop μ-loop
+whole-at-requires c κs = omega arith
 
 part-of-requires : tie.Need-part-of-requires Inv-loop μ-loop
 part-of-requires c κs = tt
@@ -102,7 +102,7 @@ note-first-requires c κs =
     (c .before .before .before .before .before .fault-at .ensures)
     ∙ c .before .before .before .before .if3 .left in
     let v : c .before .before .part-of .result ≡ partOf (recordAt file k) = c .before .before .part-of .ensures
-    ∙ ap partOf (c .before .before .before .record-at .ensures) in
+    ∙ ap partOf (c .before .before .before .whole-at .ensures) in
     omega (arith, part-in g more none, g .notes .firsts)
 
 slice-aggregate-note-one : tie.Need-slice-aggregate-note-one Inv-loop μ-loop
@@ -126,7 +126,7 @@ note-one-requires c κs =
     ∙ c .before .before .before .before .before .before .before .if3 .left in
     let v : c .before .before .before .before .before .part-of .result ≡ partOf (recordAt file k) =
     c .before .before .before .before .before .part-of .ensures ∙ ap partOf
-    (c .before .before .before .before .before .before .record-at .ensures) in
+    (c .before .before .before .before .before .before .whole-at .ensures) in
     let n = ap (λ (u : ℕ). getD
     (c .before .before .before .before .before .before .before .before .before .before .before .before .loop .counts)
     u 0) v in
@@ -156,7 +156,7 @@ add-contracts c =
       arith,
       owned-small g more,
       one-at-most (ofKind 1
-          (c .before .before .before .before .before .before .before .before .before .record-at .result .now)),
+          (c .before .before .before .before .before .before .before .before .before .whole-at .result .now)),
       c .one-if-contract .ensures,
     )
 
@@ -180,9 +180,9 @@ loop-again c =
     going-on g more none (c .before .before .before .before .before .note-first .ensures)
     (c .before .before .note-one .ensures)
     (c .before .before .before .before .before .before .before .before .part-of .ensures ∙ ap partOf
-    (c .before .before .before .before .before .before .before .before .before .record-at .ensures))
+    (c .before .before .before .before .before .before .before .before .before .whole-at .ensures))
     (c .one-if-contract .ensures)
-    (c .before .before .before .before .before .before .before .before .before .record-at .ensures)
+    (c .before .before .before .before .before .before .before .before .before .whole-at .ensures)
 
 returns-4 : tie.Need-returns-4 Inv-loop μ-loop
 returns-4 c =
@@ -210,7 +210,7 @@ take-survey-spec =
     refusal-requires
     refused-requires-3
     returns-3
-    record-at-requires
+    whole-at-requires
     part-of-requires
     slice-aggregate-note-first
     slice-aggregate-note-first-2

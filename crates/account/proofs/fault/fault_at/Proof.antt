@@ -21,8 +21,8 @@ joined file first counts k {r} {b} {ps} {d} hr hd hs hb =
     ∙ ap (λ (x : Record). faultBy counts (promptsNoted file first counts (contract r)) x r) hb
     ∙ ap (λ (x : Record). faultBy counts (promptsNoted file first counts (contract x)) (beforeAt file k) x) hr
 
-record-at-requires : tie.Need-record-at-requires
-record-at-requires c κs = tt
+whole-at-requires : tie.Need-whole-at-requires
+whole-at-requires c κs = search needs
 
 contract-requires : tie.Need-contract-requires
 contract-requires c κs = tt
@@ -33,8 +33,8 @@ add-part-at c = search needs
 part-at-requires : tie.Need-part-at-requires
 part-at-requires c κs = tt
 
-before-at-requires : tie.Need-before-at-requires
-before-at-requires c κs = tt
+whole-before-requires : tie.Need-whole-before-requires
+whole-before-requires c κs = search needs
 
 fault-requires : tie.Need-fault-requires
 fault-requires c κs = tt
@@ -43,17 +43,17 @@ returns : tie.Need-returns
 returns c =
     let args = c .before .before .before .before .before .before .before .before .args in
     c .fault .ensures ∙ joined (args .file .now) (args .first .now) (args .counts .now) (args .k)
-    (c .before .before .before .before .record-at .ensures) (c .before .before .before .contract .ensures .0)
-    (c .before .before .part-at .ensures) (c .before .before-at .ensures)
+    (c .before .before .before .before .whole-at .ensures) (c .before .before .before .contract .ensures .0)
+    (c .before .before .part-at .ensures) (c .before .whole-before .ensures)
 
 pub fault-at-spec : {M : Type 1} → statement M
 fault-at-spec =
     tie.close
     (tie.spec
-    record-at-requires
+    whole-at-requires
     contract-requires
     add-part-at
     part-at-requires
-    before-at-requires
+    whole-before-requires
     fault-requires
     returns)

@@ -25,8 +25,8 @@ loop-holds c =
     let args = c .before .before .args in
     place-start (onDay (args .d)) (args .prompts .now)
 
-record-at-requires : tie.Need-record-at-requires Inv-loop μ-loop
-record-at-requires c κs = tt
+whole-at-requires : tie.Need-whole-at-requires Inv-loop μ-loop
+whole-at-requires c κs = omega arith
 
 day-requires : tie.Need-day-requires Inv-loop μ-loop
 day-requires c κs = tt
@@ -39,7 +39,7 @@ returns c =
     let ps = args .prompts .now in
     let n : loop .i < recordCount ps = omega arith in
     sym (loop .inv ∙ place-here p ps (recordCount ps) (loop .i) n
-    (eq-eqb _ _ (ap day (sym (c .before .before .record-at .ensures)) ∙ sym (c .before .day .ensures .0)
+    (eq-eqb _ _ (ap day (sym (c .before .before .whole-at .ensures)) ∙ sym (c .before .day .ensures .0)
     ∙ c .if1 .taken)))
 
 add-i : tie.Need-add-i Inv-loop μ-loop
@@ -56,7 +56,7 @@ loop-again c =
     let ps = args .prompts .now in
     let n : loop .i < recordCount ps = omega arith in
     loop .inv ∙ place-next p ps (recordCount ps) (loop .i) n
-    (ne-eqb _ _ (λ e. c .if1 .left (sym (ap day (sym (c .before .before .record-at .ensures)) ∙ sym
+    (ne-eqb _ _ (λ e. c .if1 .left (sym (ap day (sym (c .before .before .whole-at .ensures)) ∙ sym
     (c .before .day .ensures .0)) ∙ e)))
 
 returns-2 : tie.Need-returns-2 Inv-loop μ-loop
@@ -75,7 +75,7 @@ place-of-day-spec =
     μ-loop
     record-count-requires
     loop-holds
-    record-at-requires
+    whole-at-requires
     day-requires
     returns
     add-i

@@ -33,6 +33,10 @@ extern "C" {
 /* The question for the book of the intercontract table. */
 #define FELGOTANY_TABLE 16
 
+/* The numbers that felgotany_all is lent for all books, and for all uses: a place for each question, the longest fits. */
+#define FELGOTANY_ALL_BOOKS (FELGOTANY_MOST_BOOK * (FELGOTANY_TABLE + 1))
+#define FELGOTANY_ALL_USES (FELGOTANY_MOST_USES * (FELGOTANY_TABLE + 1))
+
 /* What is refused, and the record that the refusal names, counted from 0.
  *
  *    0  nothing: the file is accepted, the question answered                record 0
@@ -96,14 +100,17 @@ felgotany_outcome felgotany_uses(const uint8_t *file, size_t bytes, size_t quest
 typedef struct {
     felgotany_outcome figures;
     felgotany_outcome books;
+    felgotany_outcome uses;
 } felgotany_outcomes;
 
-/* All questions of a file that is checked once: the figures at the front of `figures`, as by felgotany_figures, and the delta
- * book of question q at the front of the FELGOTANY_MOST_BOOK numbers that start at number FELGOTANY_MOST_BOOK * q of `books`,
- * for q from 0 to FELGOTANY_TABLE. Fewer than 2,720 numbers lent for the books are refusal 10 of the books. The place of a
+/* All questions of a file that is checked once: the figures at the front of `figures`, as by felgotany_figures; the delta book
+ * of question q at the front of the FELGOTANY_MOST_BOOK numbers that start at number FELGOTANY_MOST_BOOK * q of `books`, for q
+ * from 0 to FELGOTANY_TABLE; and who paid in it at the front of the FELGOTANY_MOST_USES numbers that start at number
+ * FELGOTANY_MOST_USES * q of `uses`. The three do not overlap each other. Fewer than FELGOTANY_ALL_BOOKS numbers lent for the
+ * books are refusal 10 of the books, whatever they need, and fewer than FELGOTANY_ALL_USES of the uses. The place of a
  * question that the file does not answer is left alone. */
 felgotany_outcomes felgotany_all(const uint8_t *file, size_t bytes, int64_t *figures, size_t numbers, int64_t *books,
-                                 size_t book_numbers);
+                                 size_t book_numbers, int64_t *uses, size_t use_numbers);
 
 #ifdef __cplusplus
 }

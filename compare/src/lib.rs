@@ -8,12 +8,13 @@ pub struct Outcome {
     pub record: usize,
 }
 
-/// The outcomes of the figures and of the books, asked of a file that is checked once.
+/// The outcomes of the figures, of the books and of the uses, asked of a file that is checked once.
 #[repr(C)]
 #[derive(Clone, Copy, Debug, PartialEq, Eq)]
 pub struct Outcomes {
     pub figures: Outcome,
     pub books: Outcome,
+    pub uses: Outcome,
 }
 
 extern "C" {
@@ -31,6 +32,8 @@ extern "C" {
         numbers: usize,
         books: *mut i64,
         book_numbers: usize,
+        uses: *mut i64,
+        use_numbers: usize,
     ) -> Outcomes;
 }
 
@@ -62,6 +65,17 @@ pub fn uses(file: &[u8], question: usize, lent: &mut [i64]) -> Outcome {
     unsafe { felgotany_uses(file.as_ptr(), file.len(), question, lent.as_mut_ptr(), lent.len()) }
 }
 
-pub fn all(file: &[u8], figures: &mut [i64], books: &mut [i64]) -> Outcomes {
-    unsafe { felgotany_all(file.as_ptr(), file.len(), figures.as_mut_ptr(), figures.len(), books.as_mut_ptr(), books.len()) }
+pub fn all(file: &[u8], figures: &mut [i64], books: &mut [i64], uses: &mut [i64]) -> Outcomes {
+    unsafe {
+        felgotany_all(
+            file.as_ptr(),
+            file.len(),
+            figures.as_mut_ptr(),
+            figures.len(),
+            books.as_mut_ptr(),
+            books.len(),
+            uses.as_mut_ptr(),
+            uses.len(),
+        )
+    }
 }

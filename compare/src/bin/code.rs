@@ -1,17 +1,18 @@
 //! code SEED COUNT [FIRST]: puts COUNT generated accounts, from index FIRST on, to the proved library and to the independent
-//! program: the check, how many numbers each answer needs, the figures, all the delta books, who paid in each of them, and
-//! questions that no account lists, with enough numbers lent and with random numbers of them. Refusal, record and every lent number afterwards must
-//! agree, and nothing beyond the lent numbers may change.
+//! program: the check, how many numbers each answer needs, the figures, all the delta books, who paid in each of them,
+//! questions that no account lists, and all questions at once, with enough numbers lent and with random numbers of them.
+//! Refusal, record and every lent number afterwards must agree, and nothing beyond the lent numbers may change.
 
 use compare::Outcome;
+use independent::book::Book;
 use independent::generate::{self, Random};
-use independent::{held_book, Refusal};
+use independent::refusal::TOO_FEW_LENT;
+use independent::{held_book, Account, Refusal};
 use std::panic::{catch_unwind, AssertUnwindSafe};
 use std::process::ExitCode;
 
 const REFUSALS: usize = 11;
 const MOST_NUMBERS: usize = 160;
-const MOST_FIGURES: usize = 129;
 /// 32 spreads of two steps over 32 prompts.
 const MOST_USES: usize = 2048;
 /// The books of the sixteen contracts and of the intercontract table.
@@ -121,20 +122,23 @@ fn compare_account(seed: u64, index: u64, tally: &mut Tally) -> Result<(), Strin
     }
 
     // all questions at once, of the file held
-    let proved = |lent: &mut [i64]| {
-        let (figures, books) = lent.split_at_mut(MOST_FIGURES);
-        let outcomes = compare::all(&file, figures, books);
-        assert_eq!(outcomes.figures, outcomes.books);
-        outcomes.figures
-    };
-    let second = |lent: &mut [i64]| {
-        let (figures, books) = lent.split_at_mut(MOST_FIGURES);
-        for (question, place) in books.chunks_exact_mut(MOST_NUMBERS).enumerate() {
-            _ = independent::book(&file, question as u64, place);
-        }
-        outcome(independent::figures(&file, figures))
-    };
-    ask("all questions", MOST_FIGURES + BOOKS * MOST_NUMBERS, proved, second, &mut random, tally)?;
+    let all = [figures, BOOKS * MOST_NUMBERS, BOOKS * MOST_USES];
+    for lent in [all, all.map(|needed| generate::lent(&mut random, needed))] {
+        let proved = |lent_for: [&mut [i64]; 3]| {
+            let [figures, books, uses] = lent_for;
+            let outcomes = compare::all(&file, figures, books, uses);
+            [outcomes.figures, outcomes.books, outcomes.uses]
+        };
+        let second = |lent_for: [&mut [i64]; 3]| {
+            let [figures, books, uses] = lent_for;
+            [
+                outcome(independent::figures(&file, figures)),
+                in_places(&checked, MOST_NUMBERS, Book::numbers, books),
+                in_places(&checked, MOST_USES, Book::uses, uses),
+            ]
+        };
+        ask_each("all questions", lent, proved, second, &mut random, tally)?;
+    }
 
     for _ in 0..RANDOM_QUESTIONS {
         let question = generate::question(&mut random);
@@ -169,6 +173,24 @@ fn ask_whole(
     ask(question, lent, proved, second, random, tally)
 }
 
+/// What an account answers to all questions at once, each in a place of `width` numbers.
+fn in_places(checked: &Result<Account, Outcome>, width: usize, numbers: impl Fn(&Book) -> Vec<i64>, lent: &mut [i64]) -> Outcome {
+    let account = match checked {
+        Ok(account) => account,
+        Err(refused) => return *refused,
+    };
+    if lent.len() < BOOKS * width {
+        return told(Refusal { number: TOO_FEW_LENT, record: account.records });
+    }
+    for (question, place) in lent.chunks_exact_mut(width).take(BOOKS).enumerate() {
+        if let Ok(book) = held_book(account, question as u64) {
+            let numbers = numbers(&book);
+            place[..numbers.len()].copy_from_slice(&numbers);
+        }
+    }
+    ACCEPTED
+}
+
 fn outcome(answer: Result<usize, Refusal>) -> Outcome {
     answer.map_or_else(told, |_| ACCEPTED)
 }
@@ -187,16 +209,35 @@ fn ask(
     random: &mut Random,
     tally: &mut Tally,
 ) -> Result<(), String> {
-    let before: Vec<i64> = (0..lent + NOT_LENT).map(|_| random.word() as i64).collect();
-    let mut by_proved = before.clone();
-    let mut by_second = before;
-    let given = proved(&mut by_proved[..lent]);
-    let wanted = second(&mut by_second[..lent]);
-    same(&format!("{question}, {lent} numbers lent"), given, wanted)?;
-    same(&format!("{question}, {lent} numbers lent: memory afterwards"), by_proved, by_second)?;
-    tally.answers[wanted.refusal] += 1;
-    tally.numbers += lent as u64;
+    ask_each(question, [lent], |[lent]| [proved(lent)], |[lent]| [second(lent)], random, tally)
+}
+
+/// The same with numbers lent for several answers.
+fn ask_each<const ANSWERS: usize>(
+    question: &str,
+    lent: [usize; ANSWERS],
+    proved: impl Fn([&mut [i64]; ANSWERS]) -> [Outcome; ANSWERS],
+    second: impl Fn([&mut [i64]; ANSWERS]) -> [Outcome; ANSWERS],
+    random: &mut Random,
+    tally: &mut Tally,
+) -> Result<(), String> {
+    let before = lent.map(|lent| (0..lent + NOT_LENT).map(|_| random.word() as i64).collect::<Vec<i64>>());
+    let (mut by_proved, mut by_second) = (before.clone(), before);
+    let given = proved(fronts(&mut by_proved));
+    let wanted = second(fronts(&mut by_second));
+    same(&format!("{question}, {lent:?} numbers lent"), given, wanted)?;
+    same(&format!("{question}, {lent:?} numbers lent: memory afterwards"), by_proved, by_second)?;
+    wanted.iter().for_each(|wanted| tally.answers[wanted.refusal] += 1);
+    tally.numbers += lent.iter().sum::<usize>() as u64;
     Ok(())
+}
+
+/// The numbers that are lent of each.
+fn fronts<const ANSWERS: usize>(memory: &mut [Vec<i64>; ANSWERS]) -> [&mut [i64]; ANSWERS] {
+    memory.each_mut().map(|numbers| {
+        let lent = numbers.len() - NOT_LENT;
+        &mut numbers[..lent]
+    })
 }
 
 fn same<T: PartialEq + std::fmt::Debug>(what: &str, proved: T, independent: T) -> Result<(), String> {

@@ -1,4 +1,4 @@
-// What is asked of the file: the figures and all delta books with one check, or the delta book of a question.
+// What is asked of the file: the figures and all delta books with their uses in one check, or the delta book of a question.
 use crate::form::Form;
 use crate::form::Shown;
 use crate::page;
@@ -7,7 +7,12 @@ use account::parts::ENTRIES;
 use account::stretches::record_at;
 use account::stretches::record_count;
 use margin::accepted::TABLE;
+use margin::held::ALL_BOOKS;
+use margin::held::ALL_USES;
+use margin::held::QUESTIONS;
 use margin::held::ask_all;
+use margin::numbers::LONGEST_BOOK;
+use margin::numbers::LONGEST_USES;
 use margin::questions::book;
 use margin::questions::uses;
 use reading::lines;
@@ -19,29 +24,13 @@ use reading::numbers::number_at;
 use reading::parts::contracts;
 use reading::parts::part;
 use record::fields::contract;
-use spread::accepted::MOST_PROMPTS;
-use spread::accepted::MOST_SPREADS;
 
-// The most numbers of a book, and of its uses.
-const MOST_BOOK: usize = 3 * MOST_PROMPTS + 2 * MOST_SPREADS;
-
-const MOST_USES: usize = 2 * MOST_SPREADS * MOST_PROMPTS;
-
-// The place of every book, the intercontract table's among them.
-const MOST_BOOKS: usize = MOST_BOOK * (TABLE + 1);
-
-// A book with its uses, which are answered where the book is.
-fn print_with_uses(file: &[u8], shown: Shown, numbers: &[i64]) {
-    let mut taken = [0i64; MOST_USES];
-    uses(file, shown.question, &mut taken);
-    print_book(file, shown, numbers, &taken);
-}
-
-// The same from the place of the question's book among all.
-fn print_among(file: &[u8], form: Form, question: usize, books: &[i64]) {
-    if question <= TABLE {
-        let numbers = after(books, MOST_BOOK * question);
-        print_with_uses(file, Shown { form, question }, numbers);
+// The book of a question, from its place and that of its uses among all.
+fn print_among(file: &[u8], form: Form, question: usize, books: &[i64], uses: &[i64]) {
+    if question < QUESTIONS {
+        let numbers = after(books, LONGEST_BOOK * question);
+        let taken = after(uses, LONGEST_USES * question);
+        print_book(file, Shown { form, question }, numbers, taken);
     }
 }
 
@@ -61,13 +50,19 @@ fn print_total(form: Form, total: i64) {
 }
 
 // Each contract's figures and book; hands back the numbers after the figures of the last.
-fn print_contracts<'a>(file: &[u8], form: Form, figures: &'a [i64], books: &[i64]) -> &'a [i64] {
+fn print_contracts<'a>(
+    file: &[u8],
+    form: Form,
+    figures: &'a [i64],
+    books: &[i64],
+    uses: &[i64],
+) -> &'a [i64] {
     let count = record_count(contracts(file));
     let mut rest = figures;
     let mut k = 0;
     while k < count {
         print_figures(form, rest);
-        print_among(file, form, contract(record_at(file, k)), books);
+        print_among(file, form, contract(record_at(file, k)), books, uses);
         let later = after(rest, FIGURES);
         rest = later;
         k += 1;
@@ -76,34 +71,41 @@ fn print_contracts<'a>(file: &[u8], form: Form, figures: &'a [i64], books: &[i64
 }
 
 // An accepted account: the contracts, the intercontract table where it has entries, and the total.
-fn print_accepted(file: &[u8], form: Form, figures: &[i64], books: &[i64]) {
-    let rest = print_contracts(file, form, figures, books);
+fn print_accepted(file: &[u8], form: Form, figures: &[i64], books: &[i64], uses: &[i64]) {
+    let rest = print_contracts(file, form, figures, books, uses);
     if 0 < record_count(part(file, ENTRIES)) {
-        print_among(file, form, TABLE, books);
+        print_among(file, form, TABLE, books, uses);
     }
     print_total(form, number_at(rest, 0));
 }
 
 pub fn print_account(file: &[u8], form: Form) {
     let mut figures = [0i64; MOST_FIGURES];
-    let mut books = [0i64; MOST_BOOKS];
-    let asked = ask_all(file, &mut figures, &mut books);
+    let mut books = [0i64; ALL_BOOKS];
+    let mut uses = [0i64; ALL_USES];
+    let asked = ask_all(file, &mut figures, &mut books, &mut uses);
     let of_figures = asked.figures;
     let of_books = asked.books;
+    let of_uses = asked.uses;
     if print_refused(of_figures) {
         return;
     }
     if print_refused(of_books) {
         return;
     }
-    print_accepted(file, form, &figures, &books);
+    if print_refused(of_uses) {
+        return;
+    }
+    print_accepted(file, form, &figures, &books, &uses);
 }
 
 pub fn print_question(file: &[u8], form: Form, question: usize) {
-    let mut numbers = [0i64; MOST_BOOK];
+    let mut numbers = [0i64; LONGEST_BOOK];
+    let mut taken = [0i64; LONGEST_USES];
     let answer = book(file, question, &mut numbers);
     if print_refused(answer) {
         return;
     }
-    print_with_uses(file, Shown { form, question }, &numbers);
+    uses(file, question, &mut taken);
+    print_book(file, Shown { form, question }, &numbers, &taken);
 }

@@ -17,7 +17,8 @@ ghost use lib.ListN.{length};
 ghost use Rattle.account.specs.Check.{checked};
 ghost use Rattle.margin.specs.Questions.{figuresAnswer, afterFigures, bookAnswer, afterBook, usesAnswer, afterUses};
 ghost use Rattle.margin.specs.Needs.{figuresNeed, bookNeed, usesNeed};
-ghost use Rattle.margin.specs.Held.{booksAnswer, booksAfter};
+ghost use Rattle.margin.specs.Bounds.{longestBook, longestUses};
+ghost use Rattle.margin.specs.Held.{booksAnswer, booksAfter, allUsesAnswer, allUsesAfter};
 ghost use Rattle.felgotany.specs.Outcomes.{Tells};
 
 // The number of a refusal, 0 where nothing is refused, and the record that it names.
@@ -63,7 +64,7 @@ pub extern "C" fn felgotany_figures(file: &[u8], out: &mut [i64]) -> Outcome
 // How many numbers the delta book of a question needs; 0 for a refused file, and where the question is not answered.
 #[no_mangle]
 pub extern "C" fn felgotany_book_needed(file: &[u8], question: usize) -> usize
-    ensures { λ r. ⌜ (r ≡ bookNeed (now (file .entry)) question) × (r ≤ 160) ⌝ }
+    ensures { λ r. ⌜ (r ≡ bookNeed (now (file .entry)) question) × (r ≤ longestBook) ⌝ }
 {
     book_needed(file, question)
 }
@@ -80,7 +81,7 @@ pub extern "C" fn felgotany_book(file: &[u8], question: usize, out: &mut [i64]) 
 // How many numbers the uses of a question need; 0 for a refused file, and where the question is not answered.
 #[no_mangle]
 pub extern "C" fn felgotany_uses_needed(file: &[u8], question: usize) -> usize
-    ensures { λ r. ⌜ (r ≡ usesNeed (now (file .entry)) question) × (r ≤ 2048) ⌝ }
+    ensures { λ r. ⌜ (r ≡ usesNeed (now (file .entry)) question) × (r ≤ longestUses) ⌝ }
 {
     uses_needed(file, question)
 }
@@ -99,21 +100,30 @@ pub extern "C" fn felgotany_uses(file: &[u8], question: usize, out: &mut [i64]) 
 pub struct Outcomes {
     pub figures: Outcome,
     pub books: Outcome,
+    pub uses: Outcome,
 }
 
-// All questions of a file that is checked once: the figures at the front of `figures`, and the delta book of question q from
-// number 160 * q of `books` on, which holds 2,720 numbers. What is refused writes nothing.
+// All questions of a file that is checked once: the figures at the front of `figures`, and of each question the delta book in
+// its place of `books` and the uses in theirs of `uses`. What is refused writes nothing.
 #[no_mangle]
-pub extern "C" fn felgotany_all(file: &[u8], figures: &mut [i64], books: &mut [i64]) -> Outcomes
-    ensures { λ r. ⌜ (Tells (figuresAnswer (now (file .entry)) (length (now (figures .entry)))) (r .figures) × (now (figures .exit) ≡ afterFigures (now (file .entry)) (now (figures .entry)))) × (Tells (booksAnswer (now (file .entry)) (length (now (books .entry)))) (r .books) × (now (books .exit) ≡ booksAfter (now (file .entry)) (now (books .entry)))) ⌝ }
+pub extern "C" fn felgotany_all(
+    file: &[u8],
+    figures: &mut [i64],
+    books: &mut [i64],
+    uses: &mut [i64],
+) -> Outcomes
+    ensures { λ r. ⌜ (Tells (figuresAnswer (now (file .entry)) (length (now (figures .entry)))) (r .figures) × (now (figures .exit) ≡ afterFigures (now (file .entry)) (now (figures .entry)))) × ((Tells (booksAnswer (now (file .entry)) (length (now (books .entry)))) (r .books) × (now (books .exit) ≡ booksAfter (now (file .entry)) (now (books .entry)))) × (Tells (allUsesAnswer (now (file .entry)) (length (now (uses .entry)))) (r .uses) × (now (uses .exit) ≡ allUsesAfter (now (file .entry)) (now (uses .entry))))) ⌝ }
 {
-    let asked = ask_all(file, figures, books);
+    let asked = ask_all(file, figures, books, uses);
     let of_figures = asked.figures;
     let of_books = asked.books;
+    let of_uses = asked.uses;
     let first = tell(of_figures);
     let second = tell(of_books);
+    let third = tell(of_uses);
     Outcomes {
         figures: first,
         books: second,
+        uses: third,
     }
 }

@@ -6,10 +6,10 @@ use borrow.Author.Tests.{ne-eqb, lt-ltb, le-ltb}
 use borrow.Rule.Slice.PartMut.{putMid, post-is}
 use mathlib.Core.Path.{_≡_, refl, sym, ap, ap₂, _∙_, subst⁻¹}
 use mathlib.Core.Bool.{Bool, true, false, cond}
-use mathlib.Core.List.{List, [], _∷_, _++_}
+use mathlib.Core.List.{List, _++_}
 use lib.Dec.{ltb}
 use lib.IntN.{ℤ}
-use lib.ListN.{length, getD, take, drop}
+use lib.ListN.{length, take, drop}
 use denote.Ref.{RefT, now}
 use Rattle.exact.specs.Lists.{count}
 use Rattle.account.specs.Answers.{numberOf}
@@ -23,7 +23,7 @@ use Rattle.account.specs.declared.check.Survey.{Survey}
 use Rattle.account.proofs.Accepted.{accepts}
 use Rattle.account.proofs.Going.{same-survey}
 use Rattle.margin.specs.Figures.{figures}
-use Rattle.margin.specs.Held.{FromCheck, needIn, atPlace, afterBooks, booksAnswer, booksAfter}
+use Rattle.margin.specs.Held.{FromCheck, needIn, questions, atPlace, afterEach, eachAnswer, eachAfter}
 use Rattle.margin.specs.declared.held.Asked.{Asked}
 use Rattle.margin.specs.declared.held.Held.{Held}
 use Rattle.margin.specs.Needs.{figuresNeed}
@@ -88,8 +88,8 @@ one-view file h k (fh, is) (fk, it) =
     λ i. record { file = e i; survey = s i }
 
 -- and all questions at once are answered in one way
-pub one-asked : (a b : Answer) (r s : Asked) → (r .figures ≡ a) × (r .books ≡ b) → (s .figures ≡ a) × (s .books ≡ b) → r ≡ s
-one-asked a b r s (x, y) (x′, y′) = λ i. record { figures = (x ∙ sym x′) i; books = (y ∙ sym y′) i }
+pub one-asked : (a b c : Answer) (r s : Asked) → (r .figures ≡ a) × ((r .books ≡ b) × (r .uses ≡ c)) → (s .figures ≡ a) × ((s .books ≡ b) × (s .uses ≡ c)) → r ≡ s
+one-asked a b c r s (x, (y, z)) (x′, (y′, z′)) = λ i. record { figures = (x ∙ sym x′) i; books = (y ∙ sym y′) i; uses = (z ∙ sym z′) i }
 
 -- "each question is also offered over plain bytes, checked first, with the same answer": whatever a held file and its
 -- bytes are answered, and whatever is left in the same lent numbers, is the same
@@ -118,34 +118,43 @@ pub held-book-as-plain : (h : Held) (file : List ℕ) → now (h .file) ≡ file
 held-book-as-plain h file e question lent r r′ after after′ (p, s) (p′, s′) =
     (p ∙ ap (λ (f : List ℕ). bookAnswer f question (length lent)) e ∙ sym p′, s ∙ ap (λ (f : List ℕ). afterBook f question lent) e ∙ sym s′)
 
--- ---- all seventeen books, each in its place
+-- ---- all questions at once, each in its place
 
-pub put-place : (at : ℕ) (out part : List ℤ) (change : List ℤ → List ℤ) → part ≡ change (take (at + 160 - at) (drop at out)) → putMid at (at + 160 - at) out part ≡ atPlace at change out
-put-place at out part change e =
-    let k : at + 160 - at ≡ 160 = omega arith in
-    ap₂ (λ (ys zs : List ℤ). take at out ++ (ys ++ zs)) (e ∙ ap (λ (n : ℕ). change (take n (drop at out))) k) (post-is at (at + 160) out (omega arith))
+pub put-place : (width at : ℕ) (out part : List ℤ) (change : List ℤ → List ℤ) → part ≡ change (take (at + width - at) (drop at out)) → putMid at (at + width - at) out part ≡ atPlace width at change out
+put-place width at out part change e =
+    let k : at + width - at ≡ width = omega arith in
+    ap₂ (λ (ys zs : List ℤ). take at out ++ (ys ++ zs)) (e ∙ ap (λ (n : ℕ). change (take n (drop at out))) k) (post-is at (at + width) out (omega arith))
 
-pub next-book : (file : List ℕ) (q : ℕ) (lent out after : List ℤ) → out ≡ afterBooks file q lent → after ≡ atPlace (160 * q) (afterBook file q) out → after ≡ afterBooks file (q + 1) lent
-next-book file q lent out after h e =
-    e ∙ ap (atPlace (160 * q) (afterBook file q)) h ∙ sym (ap (λ (n : ℕ). afterBooks file n lent) (more q))
-  where
-    more : (q : ℕ) → q + 1 ≡ suc q
-    more q = omega arith
+module _ (width : ℕ) (after : ℕ → List ℤ → List ℤ) where
+  pub next-each : (q : ℕ) (lent out left : List ℤ) → out ≡ afterEach width after q lent → left ≡ atPlace width (width * q) (after q) out → left ≡ afterEach width after (q + 1) lent
+  next-each q lent out left h e =
+      e ∙ ap (atPlace width (width * q) (after q)) h ∙ sym (ap (λ (n : ℕ). afterEach width after n lent) (more q))
+    where
+      more : (q : ℕ) → q + 1 ≡ suc q
+      more q = omega arith
 
-abbrev pub BooksAnswered : Answer → List ℤ → List ℕ → List ℤ → Type 0
-BooksAnswered a after file lent = (a ≡ booksAnswer file (length lent)) × (after ≡ booksAfter file lent)
+  abbrev pub EachAnswered : Answer → List ℤ → List ℕ → List ℤ → Type 0
+  EachAnswered a left file lent = (a ≡ eachAnswer width file (length lent)) × (left ≡ eachAfter width after file lent)
 
-left-alone : (answer : Answer) (books lent : List ℤ) → (numberOf answer ≡ 0 → ⊥) → cond (accepted answer) books lent ≡ lent
-left-alone answer books lent h = rw (ne-eqb (numberOf answer) 0 h)
+  abbrev places : List ℕ → List ℤ → Answer
+  places file lent = cond (ltb (length lent) (width * questions)) (TooFewNumbers (recordCount file)) Accepted
 
-pub books-refused : (file : List ℕ) (lent : List ℤ) (a : Answer) → booksAnswer file (length lent) ≡ a → (numberOf a ≡ 0 → ⊥) → BooksAnswered a lent file lent
-books-refused file lent a e h = (sym e, sym (ap (λ (x : Answer). cond (accepted x) (afterBooks file 17 lent) lent) e ∙ left-alone a (afterBooks file 17 lent) lent h))
+  left-alone : (answer : Answer) (all lent : List ℤ) → (numberOf answer ≡ 0 → ⊥) → cond (accepted answer) all lent ≡ lent
+  left-alone answer all lent h = rw (ne-eqb (numberOf answer) 0 h)
 
-pub books-accepted : (file : List ℕ) (lent after : List ℤ) → checked file ≡ Accepted → 2720 ≤ length lent → after ≡ afterBooks file 17 lent → BooksAnswered Accepted after file lent
-books-accepted file lent after z h e =
-    let a : booksAnswer file (length lent) ≡ Accepted = if-accepted (checked file) (cond (ltb (length lent) 2720) (TooFewNumbers (recordCount file)) Accepted) z ∙ (rw (le-ltb (length lent) 2720 h)) in
-    (sym a, e ∙ sym (ap (λ (x : Answer). cond (accepted x) (afterBooks file 17 lent) lent) a))
+  refused-each : (file : List ℕ) (lent : List ℤ) (a : Answer) → eachAnswer width file (length lent) ≡ a → (numberOf a ≡ 0 → ⊥) → EachAnswered a lent file lent
+  refused-each file lent a e h =
+      let all = afterEach width after questions lent in
+      (sym e, sym (ap (λ (x : Answer). cond (accepted x) all lent) e ∙ left-alone a all lent h))
 
-pub books-too-few : (file : List ℕ) (lent : List ℤ) → checked file ≡ Accepted → length lent < 2720 → booksAnswer file (length lent) ≡ TooFewNumbers (recordCount file)
-books-too-few file lent z h =
-    if-accepted (checked file) (cond (ltb (length lent) 2720) (TooFewNumbers (recordCount file)) Accepted) z ∙ (rw (lt-ltb (length lent) 2720 h))
+  pub each-refused : (file : List ℕ) (lent : List ℤ) (a : Answer) → a ≡ checked file → (numberOf a ≡ 0 → ⊥) → EachAnswered a lent file lent
+  each-refused file lent a e h = refused-each file lent a (if-refused (checked file) (places file lent) (λ z. h (ap numberOf e ∙ z)) ∙ sym e) h
+
+  pub each-too-few : (file : List ℕ) (lent : List ℤ) (k : ℕ) → checked file ≡ Accepted → length lent < width * questions → k ≡ recordCount file → EachAnswered (TooFewNumbers k) lent file lent
+  each-too-few file lent k z h e =
+      refused-each file lent (TooFewNumbers k) (if-accepted (checked file) (places file lent) z ∙ (rw (lt-ltb (length lent) (width * questions) h)) ∙ ap TooFewNumbers (sym e)) (λ f. omega arith)
+
+  pub each-accepted : (file : List ℕ) (lent left : List ℤ) → checked file ≡ Accepted → width * questions ≤ length lent → left ≡ afterEach width after questions lent → EachAnswered Accepted left file lent
+  each-accepted file lent left z h e =
+      let a : eachAnswer width file (length lent) ≡ Accepted = if-accepted (checked file) (places file lent) z ∙ (rw (le-ltb (length lent) (width * questions) h)) in
+      (sym a, e ∙ sym (ap (λ (x : Answer). cond (accepted x) (afterEach width after questions lent) lent) a))

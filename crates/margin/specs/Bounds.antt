@@ -18,3 +18,11 @@ mostRisk = 12800000000000000
 -- short lots: 128 rows × 100,000
 abbrev pub mostLots : ℕ
 mostLots = 12800000
+
+-- the numbers of a book: three for each of 32 prompts, two for each of 32 spreads
+abbrev pub longestBook : ℕ
+longestBook = 160
+
+-- the numbers that say who paid in it: one for each of 32 prompts in each of 32 spreads' two steps
+abbrev pub longestUses : ℕ
+longestUses = 2048

@@ -9,7 +9,7 @@ use Rattle.spread.specs.declared.Spreads.{Spreads}
 use Rattle.margin.specs.declared.amount.Amount.{Amount}
 use Rattle.margin.specs.declared.line.Line.{Line}
 use Rattle.margin.specs.declared.numbers.Numbers.{Numbers}
-use Rattle.margin.specs.Bounds.{mostRisk}
+use Rattle.margin.specs.Bounds.{mostRisk, longestBook}
 use Rattle.margin.specs.Lines.{LineWithin, noLine}
 use Rattle.margin.specs.Sums.{spreadsAt}
 
@@ -36,4 +36,4 @@ pub record SpreadsSigned (count : ℕ) (firsts seconds : List Spreads) : Type 0 
 pub record BookNumbers (book : List ℤ) (prompts spreads : ℕ) (n : Numbers) : Type 0 where
   pub listed-is : listed n ≡ book
   pub count-is : n .count ≡ 3 * prompts + 2 * spreads
-  pub few : n .count ≤ 160
+  pub few : n .count ≤ longestBook

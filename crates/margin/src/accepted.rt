@@ -36,6 +36,7 @@ ghost use Rattle.account.specs.Notes.{part, entryPart, parts};
 ghost use Rattle.account.specs.Parts.{contractsOf, promptsOf, spreadsOf, entriesOf};
 ghost use Rattle.account.specs.Records.{records, recordCount, stretch};
 ghost use Rattle.margin.specs.Books.{contractBook, tableBook, answered, askedBy, book};
+ghost use Rattle.margin.specs.Bounds.{longestBook};
 ghost use Rattle.margin.specs.Contract.{contractFrom, contracts, partsIn, partsOf};
 ghost use Rattle.margin.specs.Figures.{figures};
 ghost use Rattle.margin.specs.Lines.{noLine};
@@ -111,7 +112,7 @@ fn lines_of(file: &[u8], survey: Survey) -> Lines
 // The numbers of the figures.
 pub(crate) fn figures_over(file: &[u8], survey: Survey) -> Numbers
     requires { ⌜ Stands (now file) survey ⌝ }
-    ensures { λ r. ⌜ (listed r ≡ figures (records (now (file .entry)))) × (r .count ≡ 8 * survey .contracts + 1) × (r .count ≤ 160) ⌝ }
+    ensures { λ r. ⌜ (listed r ≡ figures (records (now (file .entry)))) × (r .count ≡ 8 * survey .contracts + 1) × (r .count ≤ longestBook) ⌝ }
 {
     let all = lines_of(file, survey);
     let count = all.count;
@@ -186,7 +187,7 @@ fn table_numbers(file: &[u8], survey: Survey) -> Numbers
 // The numbers of the delta book that a question asks for.
 pub(crate) fn book_over(file: &[u8], survey: Survey, question: usize) -> Numbers
     requires { ⌜ Stands (now file) survey × (answered (records (now file)) question ≡ true) ⌝ }
-    ensures { λ r. ⌜ (listed r ≡ book (records (now (file .entry))) question) × (length (book (records (now (file .entry))) question) ≡ r .count) × (r .count ≤ 160) ⌝ }
+    ensures { λ r. ⌜ (listed r ≡ book (records (now (file .entry))) question) × (length (book (records (now (file .entry))) question) ≡ r .count) × (r .count ≤ longestBook) ⌝ }
 {
     if question == TABLE {
         return table_numbers(file, survey);

@@ -1,8 +1,11 @@
 // "One accepted file is held while several questions are put to it, without checking it again."
+use crate::accepted::TABLE;
 use crate::accepted::asking_over;
 use crate::accepted::book_over;
 use crate::accepted::figures_over;
 use crate::accepted::is_asked;
+use crate::numbers::LONGEST_BOOK;
+use crate::numbers::LONGEST_USES;
 use crate::numbers::lend;
 use crate::uses::put_uses;
 use crate::uses::uses_count;
@@ -12,13 +15,22 @@ use account::check::Survey;
 use account::check::take_survey;
 use account::stretches::record_count;
 ghost use mathlib.Core.Path.{_≡_};
-ghost use Prim.Native.Nat.{_+_, _*_, _≤_};
+ghost use Prim.Native.Nat.{_+_, _*_, _≤_, _<_};
 ghost use lib.ListN.{length};
 ghost use Rattle.account.specs.Check.{checked};
 ghost use Rattle.account.specs.Surveyed.{Surveyed};
-ghost use Rattle.margin.specs.Held.{FromCheck, needIn, atPlace, booksAnswer, booksAfter};
+ghost use Rattle.margin.specs.Bounds.{longestBook, longestUses};
+ghost use Rattle.margin.specs.Held.{FromCheck, needIn, questions, atPlace, booksAnswer, booksAfter, allUsesAnswer, allUsesAfter};
 ghost use Rattle.margin.specs.Needs.{figuresNeed};
 ghost use Rattle.margin.specs.Questions.{ifAccepted, asked, figuresAnswer, afterFigures, bookAnswer, afterBook, usesAnswer, afterUses};
+
+// How many questions a file can be asked: each contract, and the intercontract table.
+pub const QUESTIONS: usize = TABLE + 1;
+
+// The places of all books, and of all uses.
+pub const ALL_BOOKS: usize = LONGEST_BOOK * QUESTIONS;
+
+pub const ALL_USES: usize = LONGEST_USES * QUESTIONS;
 
 // A view of a file's bytes with what the check handed out of them. Only `hold` makes one: its fields are of this module
 // alone.
@@ -104,17 +116,27 @@ pub(crate) fn answer_uses(file: &[u8], survey: Survey, question: usize, out: &mu
     Answer::Accepted
 }
 
-// The book of a question, in the 160 numbers that are its place among the books.
-fn put_book(file: &[u8], survey: Survey, question: usize, out: &mut [i64])
-    requires { ⌜ Surveyed (now file) survey × ((question ≤ 16) × (160 * question + 160 ≤ length (now out))) ⌝ }
-    ensures { λ r. ⌜ now (out .exit) ≡ atPlace (160 * question) (afterBook (now (file .entry)) question) (now (out .entry)) ⌝ }
+// The book of a question, in its place among the books.
+fn place_book(file: &[u8], survey: Survey, question: usize, out: &mut [i64])
+    requires { ⌜ Surveyed (now file) survey × ((question < questions) × (longestBook * question + longestBook ≤ length (now out))) ⌝ }
+    ensures { λ r. ⌜ now (out .exit) ≡ atPlace longestBook (longestBook * question) (afterBook (now (file .entry)) question) (now (out .entry)) ⌝ }
 {
-    let start = 160 * question;
-    let end = start + 160;
+    let start = LONGEST_BOOK * question;
+    let end = start + LONGEST_BOOK;
     answer_book(file, survey, question, &mut out[start..end]);
 }
 
-// The books of questions 0 to 16 of a checked file, each in its place. A refusal writes nothing.
+// The uses of a question, in their place among all.
+fn place_uses(file: &[u8], survey: Survey, question: usize, out: &mut [i64])
+    requires { ⌜ Surveyed (now file) survey × ((question < questions) × (longestUses * question + longestUses ≤ length (now out))) ⌝ }
+    ensures { λ r. ⌜ now (out .exit) ≡ atPlace longestUses (longestUses * question) (afterUses (now (file .entry)) question) (now (out .entry)) ⌝ }
+{
+    let start = LONGEST_USES * question;
+    let end = start + LONGEST_USES;
+    answer_uses(file, survey, question, &mut out[start..end]);
+}
+
+// The books of all questions of a checked file, each in its place. A refusal writes nothing.
 pub(crate) fn answer_books(file: &[u8], survey: Survey, out: &mut [i64]) -> Answer
     requires { ⌜ Surveyed (now file) survey ⌝ }
     ensures { λ r. ⌜ (r ≡ booksAnswer (now (file .entry)) (length (now (out .entry)))) × (now (out .exit) ≡ booksAfter (now (file .entry)) (now (out .entry))) ⌝ }
@@ -123,15 +145,60 @@ pub(crate) fn answer_books(file: &[u8], survey: Survey, out: &mut [i64]) -> Answ
     if number_of(answer) != 0 {
         return answer;
     }
-    if out.len() < 2720 {
+    if out.len() < ALL_BOOKS {
         return Answer::TooFewNumbers(record_count(file));
     }
     let mut q = 0;
-    while q < 17 {
-        put_book(file, survey, q, out);
+    while q < QUESTIONS {
+        place_book(file, survey, q, out);
         q += 1;
     }
     Answer::Accepted
+}
+
+// The uses of all questions of a checked file, each in its place. A refusal writes nothing.
+pub(crate) fn answer_all_uses(file: &[u8], survey: Survey, out: &mut [i64]) -> Answer
+    requires { ⌜ Surveyed (now file) survey ⌝ }
+    ensures { λ r. ⌜ (r ≡ allUsesAnswer (now (file .entry)) (length (now (out .entry)))) × (now (out .exit) ≡ allUsesAfter (now (file .entry)) (now (out .entry))) ⌝ }
+{
+    let answer = survey.answer;
+    if number_of(answer) != 0 {
+        return answer;
+    }
+    if out.len() < ALL_USES {
+        return Answer::TooFewNumbers(record_count(file));
+    }
+    let mut q = 0;
+    while q < QUESTIONS {
+        place_uses(file, survey, q, out);
+        q += 1;
+    }
+    Answer::Accepted
+}
+
+// What a file is answered that is asked for everything: its figures, the books of all questions, and their uses.
+pub struct Asked {
+    pub figures: Answer,
+    pub books: Answer,
+    pub uses: Answer,
+}
+
+// Everything that a checked file is asked for.
+pub(crate) fn answer_all(
+    file: &[u8],
+    survey: Survey,
+    figures: &mut [i64],
+    books: &mut [i64],
+    uses: &mut [i64],
+) -> Asked
+    requires { ⌜ Surveyed (now file) survey ⌝ }
+    ensures { λ r. ⌜ ((r .figures ≡ figuresAnswer (now (file .entry)) (length (now (figures .entry)))) × (now (figures .exit) ≡ afterFigures (now (file .entry)) (now (figures .entry)))) × (((r .books ≡ booksAnswer (now (file .entry)) (length (now (books .entry)))) × (now (books .exit) ≡ booksAfter (now (file .entry)) (now (books .entry)))) × ((r .uses ≡ allUsesAnswer (now (file .entry)) (length (now (uses .entry)))) × (now (uses .exit) ≡ allUsesAfter (now (file .entry)) (now (uses .entry))))) ⌝ }
+{
+    Asked {
+        figures: answer_figures(file, survey, figures),
+        books: answer_books(file, survey, books),
+        uses: answer_all_uses(file, survey, uses),
+    }
 }
 
 // How many numbers the figures of a checked file have, 0 where it is refused.
@@ -162,14 +229,6 @@ pub fn held_book<'a>(h: Held<'a>, question: usize, out: &mut [i64]) -> Answer
     answer_book(h.file, h.survey, question, out)
 }
 
-// The books of questions 0 to 16, of a held file.
-pub fn held_books<'a>(h: Held<'a>, out: &mut [i64]) -> Answer
-    requires { ⌜ FromCheck h ⌝ }
-    ensures { λ r. ⌜ (r ≡ booksAnswer (now (h .entry .file)) (length (now (out .entry)))) × (now (out .exit) ≡ booksAfter (now (h .entry .file)) (now (out .entry))) ⌝ }
-{
-    answer_books(h.file, h.survey, out)
-}
-
 // How many numbers the figures of a held file need, 0 where it is refused.
 pub fn held_need<'a>(h: Held<'a>) -> usize
     requires { ⌜ FromCheck h ⌝ }
@@ -178,28 +237,17 @@ pub fn held_need<'a>(h: Held<'a>) -> usize
     figures_need(h.survey)
 }
 
-// The figures over plain bytes, of a file that is held for this one question.
-pub fn figures_once(file: &[u8], out: &mut [i64]) -> Answer
-    ensures { λ r. ⌜ (r ≡ figuresAnswer (now (file .entry)) (length (now (out .entry)))) × (now (out .exit) ≡ afterFigures (now (file .entry)) (now (out .entry))) ⌝ }
+// Everything that a held file is asked for.
+pub fn held_all<'a>(h: Held<'a>, figures: &mut [i64], books: &mut [i64], uses: &mut [i64]) -> Asked
+    requires { ⌜ FromCheck h ⌝ }
+    ensures { λ r. ⌜ ((r .figures ≡ figuresAnswer (now (h .entry .file)) (length (now (figures .entry)))) × (now (figures .exit) ≡ afterFigures (now (h .entry .file)) (now (figures .entry)))) × (((r .books ≡ booksAnswer (now (h .entry .file)) (length (now (books .entry)))) × (now (books .exit) ≡ booksAfter (now (h .entry .file)) (now (books .entry)))) × ((r .uses ≡ allUsesAnswer (now (h .entry .file)) (length (now (uses .entry)))) × (now (uses .exit) ≡ allUsesAfter (now (h .entry .file)) (now (uses .entry))))) ⌝ }
 {
-    held_figures(hold(file), out)
+    answer_all(h.file, h.survey, figures, books, uses)
 }
 
-// What the figures and the seventeen books of one file are answered.
-pub struct Asked {
-    pub figures: Answer,
-    pub books: Answer,
-}
-
-// The figures and the books of questions 0 to 16 over plain bytes, of a file that is checked and held once.
-pub fn ask_all(file: &[u8], figures: &mut [i64], books: &mut [i64]) -> Asked
-    ensures { λ r. ⌜ ((r .figures ≡ figuresAnswer (now (file .entry)) (length (now (figures .entry)))) × (now (figures .exit) ≡ afterFigures (now (file .entry)) (now (figures .entry)))) × ((r .books ≡ booksAnswer (now (file .entry)) (length (now (books .entry)))) × (now (books .exit) ≡ booksAfter (now (file .entry)) (now (books .entry)))) ⌝ }
+// The figures, and the books and uses of all questions, over plain bytes, of a file that is checked and held once.
+pub fn ask_all(file: &[u8], figures: &mut [i64], books: &mut [i64], uses: &mut [i64]) -> Asked
+    ensures { λ r. ⌜ ((r .figures ≡ figuresAnswer (now (file .entry)) (length (now (figures .entry)))) × (now (figures .exit) ≡ afterFigures (now (file .entry)) (now (figures .entry)))) × (((r .books ≡ booksAnswer (now (file .entry)) (length (now (books .entry)))) × (now (books .exit) ≡ booksAfter (now (file .entry)) (now (books .entry)))) × ((r .uses ≡ allUsesAnswer (now (file .entry)) (length (now (uses .entry)))) × (now (uses .exit) ≡ allUsesAfter (now (file .entry)) (now (uses .entry))))) ⌝ }
 {
-    let h = hold(file);
-    let first = held_figures(h, figures);
-    let second = held_books(h, books);
-    Asked {
-        figures: first,
-        books: second,
-    }
+    held_all(hold(file), figures, books, uses)
 }

@@ -13,6 +13,7 @@ ghost use mathlib.Core.Bool.{true};
 ghost use Prim.Native.Nat.{_≤_};
 ghost use Rattle.account.specs.Records.{records};
 ghost use Rattle.margin.specs.Books.{answered};
+ghost use Rattle.margin.specs.Bounds.{longestBook, longestUses};
 ghost use Rattle.margin.specs.Needs.{SizesOf, NeedsOf, figuresNeed, bookNeed, usesNeed};
 ghost use Rattle.margin.specs.Stands.{Stands};
 
@@ -63,7 +64,7 @@ pub fn figures_needed(file: &[u8]) -> usize
 
 // How many numbers the delta book of a question has, 0 where the file is refused or does not answer it.
 pub fn book_needed(file: &[u8], question: usize) -> usize
-    ensures { λ r. ⌜ (r ≡ bookNeed (now (file .entry)) question) × (r ≤ 160) ⌝ }
+    ensures { λ r. ⌜ (r ≡ bookNeed (now (file .entry)) question) × (r ≤ longestBook) ⌝ }
 {
     let sizes = sizes_of(file, question);
     3 * sizes.prompts + 2 * sizes.spreads
@@ -71,7 +72,7 @@ pub fn book_needed(file: &[u8], question: usize) -> usize
 
 // How many numbers say what each step of a question's table takes of each prompt, 0 as with the book.
 pub fn uses_needed(file: &[u8], question: usize) -> usize
-    ensures { λ r. ⌜ (r ≡ usesNeed (now (file .entry)) question) × (r ≤ 2048) ⌝ }
+    ensures { λ r. ⌜ (r ≡ usesNeed (now (file .entry)) question) × (r ≤ longestUses) ⌝ }
 {
     let sizes = sizes_of(file, question);
     sizes.spreads * (2 * sizes.prompts)

@@ -6,28 +6,35 @@ use crate::line::Line;
 use exact::signed::as_signed;
 use spread::Delta;
 use spread::Spreads;
+use spread::accepted::MOST_PROMPTS;
+use spread::accepted::MOST_SPREADS;
 ghost use mathlib.Core.Path.{_≡_};
 ghost use mathlib.Core.List.{[], _∷_, _++_, map};
 ghost use Prim.Native.Nat.{_+_, _*_, _^_, _≤_, _<_};
 ghost use lib.IntN.{pos};
 ghost use lib.ListN.{length, take, drop, set};
 ghost use lib.Seq.{sets};
-ghost use Rattle.margin.specs.Bounds.{mostRisk};
+ghost use Rattle.margin.specs.Bounds.{mostRisk, longestBook};
 ghost use Rattle.margin.specs.Lines.{LineWithin, marginWith, eightOf, figuresFrom};
 ghost use Rattle.margin.specs.Numbers.{listed, LinesWithin, SpreadsSigned};
 ghost use Rattle.margin.specs.Books.{threes};
 ghost use Rattle.margin.specs.Sums.{interleaved, deltasIn};
 
-// An answer: its first `count` numbers. A contract's book has the most, 3 for each of 32 prompts and 2 for each of 32
-// spreads.
+// The most numbers that a book has: three for each prompt and two for each spread.
+pub const LONGEST_BOOK: usize = 3 * MOST_PROMPTS + 2 * MOST_SPREADS;
+
+// The most that say who paid in it: one for each prompt in each spread's two steps.
+pub const LONGEST_USES: usize = 2 * MOST_SPREADS * MOST_PROMPTS;
+
+// An answer: its first `count` numbers. A contract's book can have the most.
 pub struct Numbers {
     pub count: usize,
-    pub number: [i64; 160],
+    pub number: [i64; LONGEST_BOOK],
 }
 
 // A number that is not negative, at a place.
-fn put(out: &mut [i64; 160], at: usize, x: u64)
-    requires { ⌜ (at < 160) × (x < 2 ^ 63) ⌝ }
+fn put(out: &mut [i64; LONGEST_BOOK], at: usize, x: u64)
+    requires { ⌜ (at < longestBook) × (x < 2 ^ 63) ⌝ }
     ensures { λ r. ⌜ now (out .exit) ≡ set (now (out .entry)) at (pos x) ⌝ }
 {
     out[at] = as_signed(x);
@@ -42,8 +49,8 @@ fn margin_of(l: Line, credit: Amount) -> Amount
 }
 
 // A contract's eight numbers, from a place on.
-fn put_eight(out: &mut [i64; 160], at: usize, l: Line, credit: Amount, margin: Amount)
-    requires { ⌜ (at + 8 ≤ 160) × (LineWithin l × ((credit .0 ≤ 128 * mostRisk) × ((margin .0 ≡ marginWith l (credit .0)) × (margin .0 ≤ 3 * mostRisk)))) ⌝ }
+fn put_eight(out: &mut [i64; LONGEST_BOOK], at: usize, l: Line, credit: Amount, margin: Amount)
+    requires { ⌜ (at + 8 ≤ longestBook) × (LineWithin l × ((credit .0 ≤ 128 * mostRisk) × ((margin .0 ≡ marginWith l (credit .0)) × (margin .0 ≤ 3 * mostRisk)))) ⌝ }
     ensures { λ r. ⌜ now (out .exit) ≡ sets (now (out .entry)) at (map pos (eightOf l (credit .0))) ⌝ }
 {
     put(out, at, l.contract as u64);
@@ -57,8 +64,8 @@ fn put_eight(out: &mut [i64; 160], at: usize, l: Line, credit: Amount, margin: A
 }
 
 // A delta, at a place.
-fn put_delta(out: &mut [i64; 160], at: usize, d: Delta)
-    requires { ⌜ at < 160 ⌝ }
+fn put_delta(out: &mut [i64; LONGEST_BOOK], at: usize, d: Delta)
+    requires { ⌜ at < longestBook ⌝ }
     ensures { λ r. ⌜ now (out .exit) ≡ set (now (out .entry)) at (d .0) ⌝ }
 {
     let z = d.0;
@@ -66,8 +73,8 @@ fn put_delta(out: &mut [i64; 160], at: usize, d: Delta)
 }
 
 // The net delta of a prompt, and what of it is used and unused, from a place on.
-fn put_three(out: &mut [i64; 160], at: usize, net: Delta, used: Delta, unused: Delta)
-    requires { ⌜ at + 3 ≤ 160 ⌝ }
+fn put_three(out: &mut [i64; LONGEST_BOOK], at: usize, net: Delta, used: Delta, unused: Delta)
+    requires { ⌜ at + 3 ≤ longestBook ⌝ }
     ensures { λ r. ⌜ now (out .exit) ≡ sets (now (out .entry)) at (net .0 ∷ used .0 ∷ unused .0 ∷ []) ⌝ }
 {
     put_delta(out, at, net);
@@ -76,8 +83,8 @@ fn put_three(out: &mut [i64; 160], at: usize, net: Delta, used: Delta, unused: D
 }
 
 // The numbers of a spread's two steps, from a place on.
-fn put_two(out: &mut [i64; 160], at: usize, first: Spreads, second: Spreads)
-    requires { ⌜ (at + 2 ≤ 160) × ((first .0 < 2 ^ 63) × (second .0 < 2 ^ 63)) ⌝ }
+fn put_two(out: &mut [i64; LONGEST_BOOK], at: usize, first: Spreads, second: Spreads)
+    requires { ⌜ (at + 2 ≤ longestBook) × ((first .0 < 2 ^ 63) × (second .0 < 2 ^ 63)) ⌝ }
     ensures { λ r. ⌜ now (out .exit) ≡ sets (now (out .entry)) at (pos (first .0) ∷ pos (second .0) ∷ []) ⌝ }
 {
     put(out, at, first.0);
@@ -89,7 +96,7 @@ pub(crate) fn figures_numbers(count: usize, lines: [Line; 16], credits: [Amount;
     requires { ⌜ LinesWithin count lines credits ⌝ }
     ensures { λ r. ⌜ (r .count ≡ 8 * count + 1) × (listed r ≡ map pos (figuresFrom (take count lines) (take count credits))) ⌝ }
 {
-    let mut number = [0i64; 160];
+    let mut number = [0i64; LONGEST_BOOK];
     let mut total: u64 = 0;
     let mut i = 0;
     while i < count {
@@ -109,7 +116,7 @@ pub(crate) fn figures_numbers(count: usize, lines: [Line; 16], credits: [Amount;
 
 // Three numbers for each prompt, from the front.
 fn put_prompts(
-    out: &mut [i64; 160],
+    out: &mut [i64; LONGEST_BOOK],
     prompts: usize,
     nets: [Delta; 32],
     used: [Delta; 32],
@@ -127,7 +134,7 @@ fn put_prompts(
 
 // Two numbers for each spread, from a place on.
 fn put_spreads(
-    out: &mut [i64; 160],
+    out: &mut [i64; LONGEST_BOOK],
     at: usize,
     spreads: usize,
     first: [Spreads; 32],
@@ -156,7 +163,7 @@ pub(crate) fn book_numbers(
     requires { ⌜ (prompts ≤ 32) × SpreadsSigned spreads first second ⌝ }
     ensures { λ r. ⌜ (r .count ≡ 3 * prompts + 2 * spreads) × (listed r ≡ threes (take prompts (deltasIn nets)) (take prompts (deltasIn used)) (take prompts (deltasIn unused)) ++ map pos (interleaved (take spreads first) (take spreads second))) ⌝ }
 {
-    let mut number = [0i64; 160];
+    let mut number = [0i64; LONGEST_BOOK];
     put_prompts(&mut number, prompts, nets, used, unused);
     put_spreads(&mut number, prompts * 3, spreads, first, second);
     Numbers {
@@ -167,7 +174,7 @@ pub(crate) fn book_numbers(
 
 // Success writes the answer at the front and nothing after it.
 pub(crate) fn lend(out: &mut [i64], numbers: Numbers)
-    requires { ⌜ (numbers .count ≤ 160) × (numbers .count ≤ length (now out)) ⌝ }
+    requires { ⌜ (numbers .count ≤ longestBook) × (numbers .count ≤ length (now out)) ⌝ }
     ensures { λ r. ⌜ now (out .exit) ≡ listed numbers ++ drop (numbers .count) (now (out .entry)) ⌝ }
 {
     let end = numbers.count;

@@ -16,18 +16,29 @@ tell-requires c κs = search needs
 tell-requires-2 : tie.Need-tell-requires-2
 tell-requires-2 c κs = search needs
 
+tell-requires-3 : tie.Need-tell-requires-3
+tell-requires-3 c κs = search needs
+
 same-length : tie.Need-same-length
 same-length c = search needs
 
 same-length-2 : tie.Need-same-length-2
 same-length-2 c = search needs
 
+same-length-3 : tie.Need-same-length-3
+same-length-3 c = search needs
+
 returns : tie.Need-returns
 returns c =
-    let f = c .before .before .before .before .ask-all .ensures in
-    ((subst (λ (a : Answer). Tells a (c .before .tell .result)) (f .0 .0) (c .before .tell .ensures), f .0 .1), (subst (λ (a : Answer). Tells a (c .tell2 .result)) (f .1 .0) (c .tell2 .ensures), f .1 .1))
+    let f = c .before .before .before .before .before .before .ask-all .ensures in (
+      (subst (λ (a : Answer). Tells a (c .before .before .tell .result)) (f .0 .0) (c .before .before .tell .ensures), f .0 .1),
+      (
+        (subst (λ (a : Answer). Tells a (c .before .tell2 .result)) (f .1 .0 .0) (c .before .tell2 .ensures), f .1 .0 .1),
+        (subst (λ (a : Answer). Tells a (c .tell3 .result)) (f .1 .1 .0) (c .tell3 .ensures), f .1 .1 .1),
+      ),
+    )
 
 pub felgotany-all-spec : {M : Type 1} → statement M
 felgotany-all-spec =
     tie.close
-    (tie.spec ask-all-requires tell-requires tell-requires-2 same-length same-length-2 returns)
+    (tie.spec ask-all-requires tell-requires tell-requires-2 tell-requires-3 same-length same-length-2 same-length-3 returns)

@@ -5,10 +5,10 @@ use Rattle.book_program.proofs.answers.print_contracts.Statement.{state
 use Rattle.book_program.proofs.answers.print_contracts.Tie as tie
 
 abbrev Inv-loop : tie.InvT-loop
-Inv-loop file form figures books count rest₀ k₀ rest k = k ≤ count
+Inv-loop file form figures books uses count rest₀ k₀ rest k = k ≤ count
 
 abbrev μ-loop : tie.MeasureT-loop
-μ-loop file form figures books count rest₀ k₀ rest k = count - k
+μ-loop file form figures books uses count rest₀ k₀ rest k = count - k
 
 pub print-contracts-spec : {M : Type 1} → statement M
 print-contracts-spec =

@@ -2,10 +2,11 @@
 -- Assumes nothing.
 use borrow.Author.Needs.{needs}
 use Prim.Native.Nat.{_*_}
+use Rattle.margin.specs.Bounds.{longestBook}
 use Rattle.margin.specs.Questions.{afterBook}
 use Rattle.margin.proofs.HeldLaws.{put-place}
-use Rattle.margin.proofs.held.put_book.Statement.{statement}
-use Rattle.margin.proofs.held.put_book.Tie as tie
+use Rattle.margin.proofs.held.place_book.Statement.{statement}
+use Rattle.margin.proofs.held.place_book.Tie as tie
 
 mul-start : tie.Need-mul-start
 mul-start c = search needs
@@ -34,10 +35,10 @@ same-length c = search needs
 returns : tie.Need-returns
 returns c =
     let s = c .before .before .before .before in
-    put-place (160 * s .args .question) (s .args .out .now) (c .before .answer-book .last .1 .1 .1 .0) (afterBook (s .args .file .now) (s .args .question)) (c .before .answer-book .ensures .1)
+    put-place longestBook (longestBook * s .args .question) (s .args .out .now) (c .before .answer-book .last .1 .1 .1 .0) (afterBook (s .args .file .now) (s .args .question)) (c .before .answer-book .ensures .1)
 
-pub put-book-spec : {M : Type 1} → statement M
-put-book-spec =
+pub place-book-spec : {M : Type 1} → statement M
+place-book-spec =
     tie.close
     (tie.spec
     mul-start

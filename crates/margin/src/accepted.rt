@@ -60,9 +60,7 @@ fn part_at(file: &[u8], survey: Survey, v: usize) -> &[u8]
     requires { ⌜ v < parts ⌝ }
     ensures { λ r. ⌜ now r ≡ stretch (now (file .entry)) (getD (survey .first) v 0) (getD (survey .counts) v 0) ⌝ }
 {
-    let first = survey.first;
-    let counts = survey.counts;
-    stretch(file, first[v], counts[v])
+    stretch(file, survey.first[v], survey.counts[v])
 }
 
 // The line of the i-th contract.
@@ -255,6 +253,5 @@ pub(crate) fn is_asked(survey: Survey, question: usize) -> bool
     if TABLE <= question {
         return false;
     }
-    let counts = survey.counts;
-    counts[OWN + question] != 0
+    survey.counts[OWN + question] != 0
 }

@@ -27,16 +27,15 @@ fn sizes_over(file: &[u8], survey: Survey, question: usize) -> Sizes
     requires { ⌜ Stands (now file) survey × (answered (records (now file)) question ≡ true) ⌝ }
     ensures { λ r. ⌜ SizesOf (records (now (file .entry))) question (r .prompts) (r .spreads) ⌝ }
 {
-    let counts = survey.counts;
     if question == TABLE {
         return Sizes {
             prompts: survey.contracts,
-            spreads: counts[ENTRIES],
+            spreads: survey.counts[ENTRIES],
         };
     }
     Sizes {
-        prompts: counts[PROMPTS + question],
-        spreads: counts[SPREADS + question],
+        prompts: survey.counts[PROMPTS + question],
+        spreads: survey.counts[SPREADS + question],
     }
 }
 

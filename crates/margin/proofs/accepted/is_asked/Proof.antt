@@ -22,12 +22,12 @@ add-result c = search needs
 mul-result : tie.Need-mul-result
 mul-result c = search needs
 
-array-read-result : tie.Need-array-read-result
-array-read-result c = search needs
+element-copy-out-result : tie.Need-element-copy-out-result
+element-copy-out-result c = search needs
 
 returns-3 : tie.Need-returns-3
 returns-3 c = sym (rw (ne-eqb (c .before .before .before .args .question) 16 (c .before .before .if1 .left), lt-ltb (c .before .before .before .args .question) 16 (omega (arith, c .before .if2 .left))))
 
 pub is-asked-spec : {M : Type 1} → statement M
 is-asked-spec =
-    tie.close (tie.spec returns returns-2 add-result mul-result array-read-result returns-3)
+    tie.close (tie.spec returns returns-2 add-result mul-result element-copy-out-result returns-3)

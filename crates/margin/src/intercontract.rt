@@ -26,7 +26,7 @@ pub(crate) fn tiers_of(count: usize, lines: [Line; 16]) -> Prompts
     requires { ⌜ count ≤ 16 ⌝ }
     ensures { λ r. ⌜ TiersFrom count lines r ⌝ }
 {
-    let mut tiers = [0usize; 32];
+    let mut tiers = [0u8; 32];
     let mut nets = [Delta(0); 32];
     let mut i = 0;
     while i < count {
@@ -56,7 +56,7 @@ fn earner_of(line: Line) -> Earner
 {
     let net = line.net;
     Earner {
-        contract: line.contract,
+        contract: line.contract as usize,
         twice_price: line.twice_price,
         net: magnitude(net.0),
     }

@@ -25,7 +25,7 @@ ghost use Rattle.margin.specs.Within.{ContractWithin};
 
 // What the figures say of a contract, but for its credit and its margin; and what its credit is reckoned from.
 pub struct Line {
-    pub contract: usize,
+    pub contract: u8,
     pub active: usize,
     pub scanning: Amount,
     pub interprompt: Amount,
@@ -97,7 +97,7 @@ pub(crate) fn line_of(own: &[u8], prompts: &[u8], rows: &[u8], spreads: &[u8]) -
     let interprompt = charges.interprompt;
     let prompt = charges.prompt;
     Line {
-        contract: contract(own),
+        contract: contract(own) as u8,
         active: risks.active,
         scanning: scanning,
         interprompt: interprompt,

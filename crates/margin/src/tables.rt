@@ -24,9 +24,9 @@ fn leg_of(s: &[u8], i: usize) -> Leg
     ensures { λ r. ⌜ r ≡ legOf (now (s .entry)) i ⌝ }
 {
     Leg {
-        tier: leg_tier(s, i),
-        side: leg_side(s, i),
-        ratio: leg_ratio(s, i) as u64,
+        tier: leg_tier(s, i) as u8,
+        side: leg_side(s, i) as u8,
+        ratio: leg_ratio(s, i) as u16,
     }
 }
 
@@ -34,7 +34,7 @@ fn interprompt(s: &[u8]) -> Spread
     ensures { λ r. ⌜ r ≡ interprompt (now (s .entry)) ⌝ }
 {
     Spread {
-        legs: leg_count(s),
+        legs: leg_count(s) as u8,
         leg: [leg_of(s, 0), leg_of(s, 1), leg_of(s, 2)],
     }
 }
@@ -44,14 +44,14 @@ fn intercontract(e: &[u8]) -> Spread
     ensures { λ r. ⌜ r ≡ intercontract (now (e .entry)) ⌝ }
 {
     let a = Leg {
-        tier: contract(e),
+        tier: contract(e) as u8,
         side: 1,
-        ratio: first_ratio(e) as u64,
+        ratio: first_ratio(e) as u16,
     };
     let b = Leg {
-        tier: second_contract(e),
+        tier: second_contract(e) as u8,
         side: 2,
-        ratio: second_ratio(e) as u64,
+        ratio: second_ratio(e) as u16,
     };
     let none = Leg {
         tier: 0,
@@ -120,11 +120,11 @@ pub(crate) fn prompts_with(prompts: &[u8], nets: [Delta; 32]) -> Prompts
     ensures { λ r. ⌜ TiersOf (now (prompts .entry)) nets r ⌝ }
 {
     let count = prompts.len() / RECORD_BYTES;
-    let mut tiers = [0usize; 32];
+    let mut tiers = [0u8; 32];
     let mut i = 0;
     while i < count {
         let at = i * RECORD_BYTES;
-        tiers[i] = tier(&prompts[at..at + RECORD_BYTES]);
+        tiers[i] = tier(&prompts[at..at + RECORD_BYTES]) as u8;
         i += 1;
     }
     Prompts {

@@ -18,7 +18,7 @@ pub const MOST_DELTA: u64 = 128_000_000_000;
 fn sound_leg(leg: Leg) -> bool
     ensures { λ r. ⌜ r ≡ soundLeg leg ⌝ }
 {
-    (leg.tier < TIERS) & (((leg.side == 1) | (leg.side == 2)) & (0 < leg.ratio))
+    ((leg.tier as usize) < TIERS) & (((leg.side == 1) | (leg.side == 2)) & (0 < leg.ratio))
 }
 
 fn same_leg(a: Leg, b: Leg) -> bool
@@ -68,10 +68,10 @@ fn sound_table(table: Table) -> bool
     sound
 }
 
-fn sound_prompt(tier: usize, net: Delta) -> bool
+fn sound_prompt(tier: u8, net: Delta) -> bool
     ensures { λ r. ⌜ r ≡ soundPrompt (record { tier = tier; unused = net .0 }) ⌝ }
 {
-    (tier < TIERS) & (net.size() <= MOST_DELTA)
+    ((tier as usize) < TIERS) & (net.size() <= MOST_DELTA)
 }
 
 pub(crate) fn sound_prompts(prompts: Prompts) -> bool

@@ -15,14 +15,14 @@ pub struct Spreads(pub u64);
 
 // A leg: the tier that it draws on, its side (1 = A, 2 = B) and its ratio.
 pub struct Leg {
-    pub tier: usize,
-    pub side: usize,
-    pub ratio: u64,
+    pub tier: u8,
+    pub side: u8,
+    pub ratio: u16,
 }
 
 // A spread: its first `legs` legs, 2 or 3.
 pub struct Spread {
-    pub legs: usize,
+    pub legs: u8,
     pub leg: [Leg; 3],
 }
 
@@ -35,6 +35,6 @@ pub struct Table {
 // Prompts, the earliest day of a tier first: the first `count` tiers and net deltas.
 pub struct Prompts {
     pub count: usize,
-    pub tier: [usize; 32],
+    pub tier: [u8; 32],
     pub net: [Delta; 32],
 }

@@ -27,13 +27,14 @@ pub struct Took {
 }
 
 // The pool of a tier on a side; no cell for a tier out of range.
-pub(crate) fn cell_of(tier: usize, short: bool) -> usize
+pub(crate) fn cell_of(tier: u8, short: bool) -> usize
     ensures { λ r. ⌜ r ≡ cellOf (shortIf short) tier ⌝ }
 {
-    if tier >= TIERS {
+    let t = tier as usize;
+    if t >= TIERS {
         return CELLS;
     }
-    if short { 2 * tier + 1 } else { 2 * tier }
+    if short { 2 * t + 1 } else { 2 * t }
 }
 
 // The pool that a leg takes from, in its spread's first step or in the second.
@@ -72,7 +73,7 @@ fn lesser(a: u64, b: u64) -> u64
 }
 
 // The smallest of the first legs' rooms.
-fn smallest(legs: usize, a: u64, b: u64, c: u64) -> u64
+fn smallest(legs: u8, a: u64, b: u64, c: u64) -> u64
     ensures { λ r. ⌜ r ≡ least (take legs (a ∷ b ∷ c ∷ [])) ⌝ }
 {
     if legs == 0 {
@@ -97,7 +98,7 @@ fn pool_at(cells: &[u64], cell: usize) -> u64
 fn room_for(cells: &[u64], leg: Leg, second: bool) -> u64
     ensures { λ r. ⌜ r ≡ roomIn (now (cells .entry)) (taker (marketIn second) leg) ⌝ }
 {
-    room(pool_at(cells, cell_for(leg, second)), leg.ratio)
+    room(pool_at(cells, cell_for(leg, second)), leg.ratio as u64)
 }
 
 // "The number formed is the smallest over its legs".
@@ -115,7 +116,7 @@ fn less(cells: &mut [u64], leg: Leg, second: bool, number: u64)
 {
     let cell = cell_for(leg, second);
     if cell < cells.len() {
-        cells[cell] = kept(cells[cell], number, leg.ratio);
+        cells[cell] = kept(cells[cell], number, leg.ratio as u64);
     }
 }
 

@@ -20,7 +20,7 @@ fn no_prompts() -> Prompts {
 }
 
 // One prompt more, the later of its tier; none beyond the most.
-fn prompt(mut prompts: Prompts, tier: usize, net: i64) -> Prompts {
+fn prompt(mut prompts: Prompts, tier: u8, net: i64) -> Prompts {
     let k = prompts.count;
     let delta = Delta(net);
     if k < MOST_PROMPTS {
@@ -48,7 +48,7 @@ fn no_spreads() -> Table {
 }
 
 // One spread more of leg A against leg B; none beyond the most.
-fn spread(mut table: Table, a: usize, a_ratio: u64, b: usize, b_ratio: u64) -> Table {
+fn spread(mut table: Table, a: u8, a_ratio: u16, b: u8, b_ratio: u16) -> Table {
     let k = table.count;
     let long = Leg {
         tier: a,

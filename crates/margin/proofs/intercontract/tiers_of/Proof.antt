@@ -24,9 +24,6 @@ mul-line c = omega arith
 array-copy-out-line : tie.Need-array-copy-out-line Inv-loop μ-loop
 array-copy-out-line c = omega arith
 
-mul-tiers : tie.Need-mul-tiers Inv-loop μ-loop
-mul-tiers c = omega arith
-
 array-write-tiers : tie.Need-array-write-tiers Inv-loop μ-loop
 array-write-tiers c = omega arith
 
@@ -64,7 +61,6 @@ tiers-of-spec =
     loop-holds
     mul-line
     array-copy-out-line
-    mul-tiers
     array-write-tiers
     mul-nets
     array-set-from-nets

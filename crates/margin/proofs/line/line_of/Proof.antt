@@ -39,6 +39,9 @@ contract-net-requires c κs = net-sizes (c .before .before .before .before .befo
 contract-requires : tie.Need-contract-requires
 contract-requires c κs = search needs
 
+cast-t19 : tie.Need-cast-t19
+cast-t19 c = search needs
+
 returns : tie.Need-returns
 returns c =
     line-is (c .before .before .before .before .before .before .before .before .before .before .before .before .before .before .before .before .before .before .args .own .now) (records (c .before .before .before .before .before .before .before .before .before .before .before .before .before .before .before .before .before .before .args .prompts .now)) (records (c .before .before .before .before .before .before .before .before .before .before .before .before .before .before .before .before .before .before .args .rows .now)) (records (c .before .before .before .before .before .before .before .before .before .before .before .before .before .before .before .before .before .before .args .spreads .now)) (c .before .before .before .before .before .before .before .before .before .before .before .before .before .before .before .before .before .before .pre) (c .before .before .before .before .before .before .before .before .before .before .before .before .before .position-of .result) (c .before .before .before .before .before .before .before .before .before .before .before .before .before .position-of .ensures .0) (c .before .before .before .before .before .before .before .before .before .before .before .before .before .position-of .ensures .1) (c .before .before .before .before .before .before .before .before .contract-book .result) (c .before .before .before .before .before .before .before .before .contract-book .ensures) _ (c .before .before .before .before .before .before .short-option-rate .result)
@@ -57,4 +60,5 @@ line-of-spec =
     short-option-minimum-requires
     contract-net-requires
     contract-requires
+    cast-t19
     returns)

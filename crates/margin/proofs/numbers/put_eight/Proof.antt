@@ -8,6 +8,9 @@ use borrow.Author.Needs.{needs}
 use Rattle.margin.proofs.numbers.put_eight.Statement.{statement}
 use Rattle.margin.proofs.numbers.put_eight.Tie as tie
 
+cast-put : tie.Need-cast-put
+cast-put c = search needs
+
 put-requires : tie.Need-put-requires
 put-requires c κs = search needs
 
@@ -62,7 +65,7 @@ returns c =
     let c3 = c4 .before .before in
     let c2 = c3 .before .before in
     let c1 = c2 .before .before in
-    let s = c1 .before .before in
+    let s = c1 .before .before .before in
     rw (c .put8 .ensures, c7 .put7 .ensures, c6 .put6 .ensures, c5 .put5 .ensures, c4 .put4 .ensures, c3 .put3 .ensures, c2 .put2 .ensures, c1 .put .ensures, s .pre .1 .1 .1 .0)
     (stores-sets (s .args .out .now) (s .args .at) (map pos (eightOf (s .args .l) (s .args .credit .0))))
 
@@ -70,6 +73,7 @@ pub put-eight-spec : {M : Type 1} → statement M
 put-eight-spec =
     tie.close
     (tie.spec
+    cast-put
     put-requires
     add-put
     put-requires-2

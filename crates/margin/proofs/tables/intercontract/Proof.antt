@@ -8,14 +8,26 @@ use Rattle.margin.proofs.tables.intercontract.Tie as tie
 contract-requires : tie.Need-contract-requires
 contract-requires c κs = search needs
 
+cast-t6 : tie.Need-cast-t6
+cast-t6 c = search needs
+
 first-ratio-requires : tie.Need-first-ratio-requires
 first-ratio-requires c κs = search needs
+
+cast-t8 : tie.Need-cast-t8
+cast-t8 c = search needs
 
 second-contract-requires : tie.Need-second-contract-requires
 second-contract-requires c κs = search needs
 
+cast-t6-2 : tie.Need-cast-t6-2
+cast-t6-2 c = search needs
+
 second-ratio-requires : tie.Need-second-ratio-requires
 second-ratio-requires c κs = search needs
+
+cast-t8-2 : tie.Need-cast-t8-2
+cast-t8-2 c = search needs
 
 returns : tie.Need-returns
 returns c =
@@ -34,7 +46,11 @@ intercontract-spec =
     tie.close
     (tie.spec
     contract-requires
+    cast-t6
     first-ratio-requires
+    cast-t8
     second-contract-requires
+    cast-t6-2
     second-ratio-requires
+    cast-t8-2
     returns)

@@ -8,6 +8,9 @@ use Rattle.margin.proofs.tables.interprompt.Tie as tie
 leg-count-requires : tie.Need-leg-count-requires
 leg-count-requires c κs = search needs
 
+cast-t3 : tie.Need-cast-t3
+cast-t3 c = search needs
+
 leg-of-requires : tie.Need-leg-of-requires
 leg-of-requires c κs = search needs
 
@@ -23,4 +26,4 @@ returns c = λ i. record { legs = c .before .before .before .leg-count .ensures 
 pub interprompt-spec : {M : Type 1} → statement M
 interprompt-spec =
     tie.close
-    (tie.spec leg-count-requires leg-of-requires leg-of-requires-2 leg-of-requires-3 returns)
+    (tie.spec leg-count-requires cast-t3 leg-of-requires leg-of-requires-2 leg-of-requires-3 returns)

@@ -37,8 +37,8 @@ part-tier-end c = omega arith
 tier-requires : tie.Need-tier-requires Inv-loop μ-loop
 tier-requires c κs = search needs
 
-mul-tiers : tie.Need-mul-tiers Inv-loop μ-loop
-mul-tiers c = omega arith
+cast-tiers : tie.Need-cast-tiers Inv-loop μ-loop
+cast-tiers c = search needs
 
 array-write-tiers : tie.Need-array-write-tiers Inv-loop μ-loop
 array-write-tiers c = omega arith
@@ -81,7 +81,7 @@ prompts-with-spec =
     part-tier-start
     part-tier-end
     tier-requires
-    mul-tiers
+    cast-tiers
     array-write-tiers
     add-i
     loop-less

@@ -25,14 +25,11 @@ returns c = rw (lt-leb (c .before .args .t1 .count) 32 (c .if1 .taken))
 loop-holds : tie.Need-loop-holds Inv-loop μ-loop
 loop-holds c = (omega arith, refl)
 
-mul-sound-prompt : tie.Need-mul-sound-prompt Inv-loop μ-loop
-mul-sound-prompt c = omega arith
-
 element-copy-out-sound-prompt : tie.Need-element-copy-out-sound-prompt Inv-loop μ-loop
 element-copy-out-sound-prompt c = omega arith
 
-mul-sound-prompt-2 : tie.Need-mul-sound-prompt-2 Inv-loop μ-loop
-mul-sound-prompt-2 c = omega arith
+mul-sound-prompt : tie.Need-mul-sound-prompt Inv-loop μ-loop
+mul-sound-prompt c = omega arith
 
 element-copy-out-sound-prompt-2 : tie.Need-element-copy-out-sound-prompt-2 Inv-loop μ-loop
 element-copy-out-sound-prompt-2 c = omega arith
@@ -75,9 +72,8 @@ sound-prompts-spec =
     μ-loop
     returns
     loop-holds
-    mul-sound-prompt
     element-copy-out-sound-prompt
-    mul-sound-prompt-2
+    mul-sound-prompt
     element-copy-out-sound-prompt-2
     sound-prompt-requires
     add-i

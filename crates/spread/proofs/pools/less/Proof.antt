@@ -24,6 +24,9 @@ mul-kept c = search needs
 slice-read-kept : tie.Need-slice-read-kept
 slice-read-kept c = search needs
 
+cast-kept : tie.Need-cast-kept
+cast-kept c = search needs
+
 kept-requires : tie.Need-kept-requires
 kept-requires c κs = search needs
 
@@ -37,7 +40,7 @@ same-length : tie.Need-same-length
 same-length c = search needs
 
 returns : tie.Need-returns
-returns c = put (c .before .before .before .before .before .args .cells .now) _ _ _ _ (c .kept .ensures) (c .before .before .before .cell-for .ensures)
+returns c = put (c .before .before .before .before .before .before .args .cells .now) _ _ _ _ (c .kept .ensures) (c .before .before .before .before .cell-for .ensures)
 
 returns-2 : tie.Need-returns-2
 returns-2 c = none (c .before .before .before .args .cells .now) _ _ _ (c .if1 .left) (c .before .cell-for .ensures)
@@ -49,6 +52,7 @@ less-spec =
     cell-for-requires
     mul-kept
     slice-read-kept
+    cast-kept
     kept-requires
     mul-cells
     slice-write-cells

@@ -14,12 +14,15 @@ cell-for-requires c κs = search needs
 pool-at-requires : tie.Need-pool-at-requires
 pool-at-requires c κs = search needs
 
+cast-room : tie.Need-cast-room
+cast-room c = search needs
+
 room-requires : tie.Need-room-requires
 room-requires c κs = search needs
 
 returns : tie.Need-returns
-returns c = let s = c .before .before .before .before in
-    c .room .ensures ∙ ap (λ (p : ℕ). room p (s .args .leg .ratio)) (c .before .pool-at .ensures ∙ ap (λ (k : ℕ). getD (s .args .cells .now) k 0) (c .before .before .cell-for .ensures))
+returns c = let s = c .before .before .before .before .before in
+    c .room .ensures ∙ ap (λ (p : ℕ). room p (s .args .leg .ratio)) (c .before .before .pool-at .ensures ∙ ap (λ (k : ℕ). getD (s .args .cells .now) k 0) (c .before .before .before .cell-for .ensures))
 
 pub room-for-spec : {M : Type 1} → statement M
-room-for-spec = tie.close (tie.spec cell-for-requires pool-at-requires room-requires returns)
+room-for-spec = tie.close (tie.spec cell-for-requires pool-at-requires cast-room room-requires returns)

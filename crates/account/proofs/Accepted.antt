@@ -4,7 +4,7 @@ use Prim.Native.Nat.{ℕ, _≤_, _<_}
 use mathlib.Core.Path.{_≡_, sym, ap, subst, _∙_}
 use mathlib.Core.Bool.{Bool, true, not}
 use mathlib.Core.List.{List}
-use lib.ListN.{length, getD, take, drop}
+use lib.ListN.{length, take, drop}
 use lib.Dec.{leb}
 use native.Mathlib.Omega.{arith}
 use borrow.Author.Tests.{eqb-true, eqb-false, leb-false, ltb-false, not-false}
@@ -15,12 +15,11 @@ use Rattle.record.proofs.Within.{neither, contract-within, prompt-within, row-w
 use Rattle.account.specs.Accepted.{partBytes, Ranges, Limits, OnePrompt, Accepts}
 use Rattle.account.specs.Answers.{numberOf, recordOf}
 use Rattle.account.specs.Check.{checked, none, listsContract, listsDay, overLimit}
-use Rattle.account.specs.Notes.{part, partAt, inPart}
+use Rattle.account.specs.Notes.{part, inPart}
 use Rattle.account.specs.Parts.{ofKind, ofContract, onDay, startOf, promptsOf}
 use Rattle.account.specs.Records.{recordAt, records, recordCount, stretch, earlier}
-use Rattle.account.specs.Surveyed.{contractCount, partStart, partCount, Surveyed}
+use Rattle.account.specs.Surveyed.{contractCount, partCount}
 use Rattle.account.specs.declared.answers.Answer.the-variants.{Accepted}
-use Rattle.account.specs.declared.check.Survey.{Survey}
 use Rattle.account.proofs.Days.{days}
 use Rattle.account.proofs.Dispatch.{unlisted-3, over-2, over-3, over-4, over-5}
 use Rattle.account.proofs.Earlier.{any-earlier, stretch-cut}
@@ -181,25 +180,3 @@ module _ (file : List ℕ) (ok : checked file ≡ Accepted) where
         onePrompt = one-prompt;
         named = named file fine;
       }
-
--- the part that is read from what the check hands out
-pub part-told :
-    (file : List ℕ) (s : Survey) → Surveyed file s → (v : ℕ) → v < 81 → partAt file (s .first)
-    (s .counts) v ≡ partBytes file v
-part-told file s t v h =
-    ap (λ (k : ℕ). stretch file k (getD (s .counts) v 0)) (t .first v h) ∙ ap (stretch file (partStart file v))
-    (t .counts v h)
-
--- how many records a part has, and how many contracts there are, as the check hands it out
-module _ (file : List ℕ) (s : Survey) (t : Surveyed file s) (ok : checked file ≡ Accepted) where
-  pub count-told :
-      (n c : ℕ) → n ≤ 4 → c ≤ 15 → getD (s .counts) (part n c) 0 ≡ length (keep (ofContract n c) (records file))
-  count-told n c hn hc =
-      t .counts (part n c) (omega arith) ∙ if-accepted (checked file) (count (inPart (part n c)) (records file)) ok
-      ∙ ap (λ (p : Record → Bool). count p (records file)) (part-is n c hn hc)
-      ∙ sym (length-kept (ofContract n c) (records file))
-
-  pub contracts-told : s .contracts ≡ length (keep (ofKind 1) (records file))
-  contracts-told =
-      t .contracts ∙ if-accepted (checked file) (count (ofKind 1) (records file)) ok
-      ∙ sym (length-kept (ofKind 1) (records file))

@@ -12,7 +12,7 @@ use borrow.Author.Tests.{eq-eqb, ne-eqb, eqb-true, leb-false, ltb-false}
 use Rattle.exact.specs.Lists.{consIf, keep, count}
 use Rattle.record.specs.Layout.{Record, kind, contract, tier, day}
 use Rattle.record.proofs.Within.{never, both-true, neither}
-use Rattle.account.specs.Accepted.{every}
+use Rattle.account.specs.Accepted.{Each}
 use Rattle.account.specs.Check.{dayNotAbove, tierFalls, outOfOrder}
 use Rattle.account.specs.Notes.{part, partOf, inPart, beforeAt}
 use Rattle.account.specs.Parts.{ofContract, onDay}
@@ -25,7 +25,7 @@ use Rattle.account.proofs.Lists.{keep-append, counts-one, counts-not}
 use Rattle.account.proofs.Noted.{part-is}
 use Rattle.account.proofs.Passed.{known-of, mine, right-off, part-rises}
 
-none-on : (d : ℕ) (xs : List Record) → every (λ r. day r < d) xs → count (onDay d) xs ≡ 0
+none-on : (d : ℕ) (xs : List Record) → Each (λ r. day r < d) xs → count (onDay d) xs ≡ 0
 none-on d [] a = refl
 none-on d (x ∷ xs) a =
     let l = a .0 in
@@ -34,7 +34,7 @@ none-on d (x ∷ xs) a =
 -- so far, `before` the latest record
 pub record Days (c : ℕ) (xs : List Record) (before : Record) : Type 0 where
   pub once : (d : ℕ) → count (onDay d) (keep (ofContract 2 c) xs) ≤ 1
-  pub bound : ofContract 2 c before ≡ true → every (λ r. day r ≤ day before) (keep (ofContract 2 c) xs)
+  pub bound : ofContract 2 c before ≡ true → Each (λ r. day r ≤ day before) (keep (ofContract 2 c) xs)
 
 none-kept : (p : Record → Bool) (xs : List Record) → count p xs ≡ 0 → keep p xs ≡ []
 none-kept p xs z = nil (keep p xs) (length-kept p xs ∙ z)
@@ -56,7 +56,7 @@ module _ (c : ℕ) (xs : List Record) (before r : Record) where
 
   -- a later day than every prompt so far
   later :
-      Days c xs before → ofContract 2 c r ≡ true → every (λ p. day p < day r) (keep (ofContract 2 c) xs)
+      Days c xs before → ofContract 2 c r ≡ true → Each (λ p. day p < day r) (keep (ofContract 2 c) xs)
       → Days c (xs ++ r ∷ []) r
   later old e a =
       let ks = keep (ofContract 2 c) xs in
@@ -64,7 +64,7 @@ module _ (c : ℕ) (xs : List Record) (before r : Record) where
         once = λ d. subst⁻¹ (λ (rs : List Record). count (onDay d) rs ≤ 1) (grown e) (here d (eqb (day r) d) refl);
         bound =
             λ h.
-            subst⁻¹ (every (λ p. day p ≤ day r)) (grown e)
+            subst⁻¹ (Each (λ p. day p ≤ day r)) (grown e)
             (every-append (λ p. day p ≤ day r) ks (r ∷ []) (every-weaker ks (λ p l. omega arith) a)
             (le-refl (day r), tt));
       }
@@ -73,7 +73,7 @@ module _ (c : ℕ) (xs : List Record) (before r : Record) where
       here d true i =
           let same-day = eqb-true (day r) d i in
           let z = none-on d (keep (ofContract 2 c) xs)
-          (subst (λ (n : ℕ). every (λ p. day p < n) (keep (ofContract 2 c) xs)) same-day a) in
+          (subst (λ (n : ℕ). Each (λ p. day p < n) (keep (ofContract 2 c) xs)) same-day a) in
           omega (arith, z, counts-one (onDay d) (keep (ofContract 2 c) xs) r i)
       here d false i = omega (arith, old .once d, counts-not (onDay d) (keep (ofContract 2 c) xs) r i)
 
@@ -146,7 +146,7 @@ module _ (file : List ℕ) (c : ℕ) (hc : c ≤ 15) where
       go old false e n z = apart c (cut k file) (beforeAt file k) (recordAt file k) old e
       go old true e zero z =
           later c (cut k file) (beforeAt file k) (recordAt file k) old e
-          (subst⁻¹ (every (λ p. day p < day (recordAt file k))) (none-kept (ofContract 2 c) (cut k file) z) tt)
+          (subst⁻¹ (Each (λ p. day p < day (recordAt file k))) (none-kept (ofContract 2 c) (cut k file) z) tt)
       go old true e (suc n) z =
           let b = adjacent k fine e (omega arith) in
           let p = passed-at file (suc k) fine k (omega arith) in

@@ -88,9 +88,6 @@ module _ (counts : List ℕ) (r : Record) where
 
 -- ---- the definitions themselves
 module _ (earlier : List Record) (r : Record) where
-  pub unlisted-1 : kind r ≡ 1 → unlisted earlier r ≡ false
-  unlisted-1 e = rw e
-
   pub unlisted-2 : kind r ≡ 2 → unlisted earlier r ≡ none (listsContract (contract r)) earlier
   unlisted-2 e = rw e
 
@@ -111,9 +108,6 @@ module _ (earlier : List Record) (r : Record) where
       → unlisted earlier r
       ≡ none (listsContract (contract r)) earlier || none (listsContract (secondContract r)) earlier
   unlisted-5 e = rw e
-
-  pub over-1 : kind r ≡ 1 → overLimit earlier r ≡ false
-  over-1 e = rw e
 
   pub over-2 : kind r ≡ 2 → overLimit earlier r ≡ reached mostPrompts (ofContract 2 (contract r)) earlier
   over-2 e = rw e

@@ -8,34 +8,34 @@ use lib.ListN.{length}
 use native.Mathlib.Omega.{arith}
 use Rattle.exact.specs.Lists.{consIf, keep, count}
 use Rattle.record.specs.Layout.{Record}
-use Rattle.account.specs.Accepted.{every}
+use Rattle.account.specs.Accepted.{Each}
 use Rattle.account.specs.Records.{cut, recordAt, earlier}
 use Rattle.account.proofs.Earlier.{cut-more, count-earlier}
 use Rattle.account.proofs.Lists.{keep-append, counts-one, counts-not}
 
-pub every-append : (P : Record → Type 0) (xs ys : List Record) → every P xs → every P ys → every P (xs ++ ys)
+pub every-append : (P : Record → Type 0) (xs ys : List Record) → Each P xs → Each P ys → Each P (xs ++ ys)
 every-append P [] ys a b = b
 every-append P (x ∷ xs) ys a b = (a .0, every-append P xs ys (a .1) b)
 
-pub every-weaker : {P Q : Record → Type 0} (xs : List Record) → ((r : Record) → P r → Q r) → every P xs → every Q xs
+pub every-weaker : {P Q : Record → Type 0} (xs : List Record) → ((r : Record) → P r → Q r) → Each P xs → Each Q xs
 every-weaker [] f a = tt
 every-weaker (x ∷ xs) f a = (f x (a .0), every-weaker xs f (a .1))
 
 module _ (P : Record → Type 0) (p : Record → Bool) (file : List ℕ) where
   pub every-kept :
-      (n : ℕ) → ((k : ℕ) → k < n → p (recordAt file k) ≡ true → P (recordAt file k)) → every P (keep p (cut n file))
+      (n : ℕ) → ((k : ℕ) → k < n → p (recordAt file k) ≡ true → P (recordAt file k)) → Each P (keep p (cut n file))
   every-kept zero f = tt
   every-kept (suc n) f =
       let r = recordAt file n in
-      subst⁻¹ (λ (rs : List Record). every P (keep p rs)) (cut-more n file)
-      (subst⁻¹ (every P) (keep-append p (cut n file) (r ∷ []))
+      subst⁻¹ (λ (rs : List Record). Each P (keep p rs)) (cut-more n file)
+      (subst⁻¹ (Each P) (keep-append p (cut n file) (r ∷ []))
       (every-append P (keep p (cut n file)) (keep p (r ∷ [])) (every-kept n (λ k h. f k (omega arith)))
       (one (p r) refl)))
     where
-      one : (t : Bool) → p (recordAt file n) ≡ t → every P (keep p (recordAt file n ∷ []))
+      one : (t : Bool) → p (recordAt file n) ≡ t → Each P (keep p (recordAt file n ∷ []))
       one true e =
-          subst⁻¹ (λ (b : Bool). every P (consIf b (recordAt file n) [])) e (f n (omega arith) e, tt)
-      one false e = subst⁻¹ (λ (b : Bool). every P (consIf b (recordAt file n) [])) e tt
+          subst⁻¹ (λ (b : Bool). Each P (consIf b (recordAt file n) [])) e (f n (omega arith) e, tt)
+      one false e = subst⁻¹ (λ (b : Bool). Each P (consIf b (recordAt file n) [])) e tt
 
 module _ (p : Record → Bool) (file : List ℕ) (most : ℕ) where
   pub few :

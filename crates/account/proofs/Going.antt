@@ -14,10 +14,10 @@ use Rattle.exact.specs.Lists.{oneIf, count}
 use Rattle.record.specs.Layout.{Record}
 use Rattle.account.specs.Answers.{numberOf, refusal}
 use Rattle.account.specs.Check.{faultOf, tooLong, cutRecord, checked}
-use Rattle.account.specs.Notes.{partOf, inPart, oneMore, firstAt, faultAt}
+use Rattle.account.specs.Notes.{partOf, inPart, oneMore, startNoted, faultAt}
 use Rattle.account.specs.Parts.{ofKind, startOf}
 use Rattle.account.specs.Records.{cut, recordAt, recordCount, earlier}
-use Rattle.account.specs.Surveyed.{ifAccepted, Surveyed, Empty}
+use Rattle.account.specs.Surveyed.{ofAccepted, Surveyed, Empty}
 use Rattle.account.specs.declared.answers.Answer.{Answer}
 use Rattle.account.specs.declared.answers.Answer.the-variants.{Accepted}
 use Rattle.account.specs.declared.check.Survey.{Survey}
@@ -59,10 +59,10 @@ going-start file = record {
 }
 
 -- ---- what is handed out with a verdict
-pub if-accepted : (a : Answer) (n : ℕ) → a ≡ Accepted → ifAccepted a n ≡ n
-if-accepted a n e = ap (λ (b : Answer). ifAccepted b n) e
+pub if-accepted : (a : Answer) (n : ℕ) → a ≡ Accepted → ofAccepted a n ≡ n
+if-accepted a n e = ap (λ (b : Answer). ofAccepted b n) e
 
-if-refused : (a : Answer) (n : ℕ) → (numberOf a ≡ 0 → ⊥) → ifAccepted a n ≡ 0
+if-refused : (a : Answer) (n : ℕ) → (numberOf a ≡ 0 → ⊥) → ofAccepted a n ≡ 0
 if-refused a n nz = ap (λ (b : Bool). cond b n 0) (ne-eqb (numberOf a) 0 nz)
 
 -- a refused file
@@ -70,8 +70,8 @@ pub nothing :
     (file : List ℕ) (a : Answer) (s : Survey) → checked file ≡ a → (numberOf a ≡ 0 → ⊥) → Empty a s
     → Surveyed file s
 nothing file a s e nz h =
-    let none : (n : ℕ) → ifAccepted (checked file) n ≡ 0 =
-    λ n. ap (λ (b : Answer). ifAccepted b n) e ∙ if-refused a n nz in
+    let none : (n : ℕ) → ofAccepted (checked file) n ≡ 0 =
+    λ n. ap (λ (b : Answer). ofAccepted b n) e ∙ if-refused a n nz in
     record {
       answer = h .answer ∙ sym e;
       contracts = h .contracts ∙ sym (none _);
@@ -120,16 +120,16 @@ module _ {file first counts : List ℕ} {contracts k : ℕ} (g : Going file firs
     grown = ap (λ (n : ℕ). cut n file) (add-one k) ∙ cut-more k file
 
     pub going-next :
-        Going file (firstAt first counts (partOf (recordAt file k)) k) (oneMore counts (partOf (recordAt file k)))
+        Going file (startNoted first counts (partOf (recordAt file k)) k) (oneMore counts (partOf (recordAt file k)))
         (contracts + oneIf (ofKind 1 (recordAt file k))) (k + 1)
     going-next =
         record {
           inside = omega arith;
           fine = below-more (λ (j : ℕ). faultOf (earlier file j) (recordAt file j) ≡ 0) k (g .fine) no-fault;
           notes =
-              subst (λ (rs : List Record). Noted (firstAt first counts (partOf (recordAt file k)) k)
+              subst (λ (rs : List Record). Noted (startNoted first counts (partOf (recordAt file k)) k)
               (oneMore counts (partOf (recordAt file k))) rs) (sym grown)
-              (subst (λ (n : ℕ). Noted (firstAt first counts (partOf (recordAt file k)) n)
+              (subst (λ (n : ℕ). Noted (startNoted first counts (partOf (recordAt file k)) n)
               (oneMore counts (partOf (recordAt file k))) (cut k file ++ recordAt file k ∷ []))
               (length-cut k file) (noted-more first counts (cut k file) (g .notes) (recordAt file k) known));
           owned =
@@ -140,16 +140,16 @@ module _ {file first counts : List ℕ} {contracts k : ℕ} (g : Going file firs
         }
 
     pub going-on :
-        {first′ counts′ r : List ℕ} {v one : ℕ} → first′ ≡ firstAt first counts v k → counts′ ≡ oneMore counts v
+        {first′ counts′ r : List ℕ} {v one : ℕ} → first′ ≡ startNoted first counts v k → counts′ ≡ oneMore counts v
         → v ≡ partOf (recordAt file k) → one ≡ oneIf (ofKind 1 r) → r ≡ recordAt file k
         → Going file first′ counts′ (contracts + one) (k + 1)
     going-on {first′} {counts′} {r} {v} {one} hf hc hv ho hr =
         let v₀ = partOf (recordAt file k) in
         subst⁻¹ (λ (f : List ℕ). Going file f counts′ (contracts + one) (k + 1))
-        (hf ∙ ap (λ (u : ℕ). firstAt first counts u k) hv)
-        (subst⁻¹ (λ (c : List ℕ). Going file (firstAt first counts v₀ k) c (contracts + one) (k + 1))
+        (hf ∙ ap (λ (u : ℕ). startNoted first counts u k) hv)
+        (subst⁻¹ (λ (c : List ℕ). Going file (startNoted first counts v₀ k) c (contracts + one) (k + 1))
         (hc ∙ ap (oneMore counts) hv)
-        (subst⁻¹ (λ (n : ℕ). Going file (firstAt first counts v₀ k) (oneMore counts v₀) (contracts + n) (k + 1))
+        (subst⁻¹ (λ (n : ℕ). Going file (startNoted first counts v₀ k) (oneMore counts v₀) (contracts + n) (k + 1))
         (ho ∙ ap (λ (x : Record). oneIf (ofKind 1 x)) hr) going-next))
 
 -- ---- the end

@@ -11,7 +11,7 @@ use Rattle.exact.specs.Lists.{any, count}
 use Rattle.record.specs.Layout.{Record, kind, contract, secondContract}
 use Rattle.record.proofs.Tests.{any-append}
 use Rattle.record.proofs.Within.{both-true, neither}
-use Rattle.account.specs.Accepted.{every, listed, EntryNamed, Named}
+use Rattle.account.specs.Accepted.{Each, listed, EntryNamed, Named}
 use Rattle.account.specs.Check.{none, listsContract, unlisted}
 use Rattle.account.specs.Notes.{beforeAt}
 use Rattle.account.specs.Parts.{ofKind, ofContract}
@@ -42,7 +42,7 @@ kind-of n c r e =
     let t = both-true (eqb (kind r) n) (eqb (contract r) c) e in
     (eqb-true _ _ (t .0), eqb-true _ _ (t .1))
 
-none-numbered : (c : ℕ) (xs : List Record) → every (λ e. contract e < c) xs → count (ofContract 1 c) xs ≡ 0
+none-numbered : (c : ℕ) (xs : List Record) → Each (λ e. contract e < c) xs → count (ofContract 1 c) xs ≡ 0
 none-numbered c [] a = refl
 none-numbered c (x ∷ xs) a = go (ofContract 1 c x) refl (none-numbered c xs (a .1))
   where
@@ -57,7 +57,7 @@ module _ (file : List ℕ) where
   -- a contract's number is above every one before it
   rising :
       (k : ℕ) → Faultless file (suc k) → kind (recordAt file k) ≡ 1
-      → every (λ e. contract e < contract (recordAt file k)) (cut k file)
+      → Each (λ e. contract e < contract (recordAt file k)) (cut k file)
   rising zero fine e = tt
   rising (suc k) fine e =
       let r = recordAt file (suc k) in
@@ -70,7 +70,7 @@ module _ (file : List ℕ) where
       let above =
       leb-false (contract r) (contract b) (right-off (eq-eqb (kind b) 1 one) (sym (order-1 b r e) ∙ p .ordered)) in
       let old = rising k (λ j h. fine j (omega arith)) one in
-      subst⁻¹ (every (λ x. contract x < contract r)) (cut-more k file)
+      subst⁻¹ (Each (λ x. contract x < contract r)) (cut-more k file)
       (every-append (λ x. contract x < contract r) (cut k file) (b ∷ [])
       (every-weaker (cut k file) (λ x l. omega arith) old) (above, tt))
 
@@ -84,7 +84,7 @@ module _ (file : List ℕ) where
         (λ k h e.
         let i = kind-of 1 c (recordAt file k) e in
         let a = rising k (λ j l. fine j (omega arith)) (i .0) in
-        let z = none-numbered c (cut k file) (subst (λ (n : ℕ). every (λ x. contract x < n) (cut k file)) (i .1) a) in
+        let z = none-numbered c (cut k file) (subst (λ (n : ℕ). Each (λ x. contract x < n) (cut k file)) (i .1) a) in
         omega (arith, count-earlier (ofContract 1 c) file k))
 
     whole :

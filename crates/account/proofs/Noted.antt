@@ -11,7 +11,7 @@ use native.Mathlib.Omega.{arith}
 use borrow.Author.Tests.{ne-eqb, eqb-true, eqb-false}
 use Rattle.exact.specs.Lists.{count}
 use Rattle.record.specs.Layout.{Record}
-use Rattle.account.specs.Notes.{part, partOf, inPart, oneMore, firstAt}
+use Rattle.account.specs.Notes.{part, partOf, inPart, oneMore, startNoted}
 use Rattle.account.specs.Parts.{ofKind, ofContract, startOf}
 use Rattle.account.proofs.Lists.{counts-not, counts-one, starts-same-not, starts-same, starts-here}
 use Rattle.account.proofs.Passed.{Known, part-bound, mine}
@@ -70,14 +70,14 @@ module _
 
   first-set :
       eqb (getD counts (partOf r) 0) 0 ≡ true
-      → firstAt first counts (partOf r) (length xs) ≡ set first (partOf r) (length xs)
+      → startNoted first counts (partOf r) (length xs) ≡ set first (partOf r) (length xs)
   first-set e = rw e
 
-  first-kept : eqb (getD counts (partOf r) 0) 0 ≡ false → firstAt first counts (partOf r) (length xs) ≡ first
+  first-kept : eqb (getD counts (partOf r) 0) 0 ≡ false → startNoted first counts (partOf r) (length xs) ≡ first
   first-kept e = rw e
 
   abbrev Started : ℕ → Type 0
-  Started v = getD (firstAt first counts (partOf r) (length xs)) v 0 ≡ startOf (inPart v) (xs ++ r ∷ [])
+  Started v = getD (startNoted first counts (partOf r) (length xs)) v 0 ≡ startOf (inPart v) (xs ++ r ∷ [])
 
   started-here : (v : ℕ) → v < 81 → inPart v r ≡ true → (t : Bool) → eqb (getD counts (partOf r) 0) 0 ≡ t → Started v
   started-here v h e true z =
@@ -109,11 +109,11 @@ module _
   started-more v h false e = started-other v h e (eqb (getD counts (partOf r) 0) 0) refl
 
   firsts-more :
-      (t : Bool) → eqb (getD counts (partOf r) 0) 0 ≡ t → length (firstAt first counts (partOf r) (length xs)) ≡ 81
+      (t : Bool) → eqb (getD counts (partOf r) 0) 0 ≡ t → length (startNoted first counts (partOf r) (length xs)) ≡ 81
   firsts-more true z = ap length (first-set z) ∙ length-set first (partOf r) (length xs) ∙ old .firsts
   firsts-more false z = ap length (first-kept z) ∙ old .firsts
 
-  pub noted-more : Noted (firstAt first counts (partOf r) (length xs)) (oneMore counts (partOf r)) (xs ++ r ∷ [])
+  pub noted-more : Noted (startNoted first counts (partOf r) (length xs)) (oneMore counts (partOf r)) (xs ++ r ∷ [])
   noted-more =
       record {
         firsts = firsts-more (eqb (getD counts (partOf r) 0) 0) refl;

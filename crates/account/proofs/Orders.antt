@@ -7,13 +7,13 @@ use mathlib.Core.Path.{_≡_, refl, sym, ap, subst, subst₂, _∙_}
 use mathlib.Core.Bool.{Bool, true, false}
 use mathlib.Core.List.{List, [], _∷_}
 use borrow.Author.Tests.{eqb-true, eq-eqb, leb-false}
-use lib.Dec.{eqb, leb}
+use lib.Dec.{eqb}
 use lib.ListN.{length, getD, take, drop}
 use lib.Seq.{getD-take, getD-drop, drop-drop}
-use Rattle.exact.specs.Lists.{keep, count}
+use Rattle.exact.specs.Lists.{count}
 use Rattle.record.specs.Layout.{Record, kind, contract, tier, day}
 use Rattle.record.proofs.Within.{both-true, neither}
-use Rattle.account.specs.Accepted.{every}
+use Rattle.account.specs.Accepted.{Each}
 use Rattle.account.specs.Answers.{numberOf, recordOf}
 use Rattle.account.specs.Check.{checked, theOneBefore, contractFalls, legsClash, withItself, outOfOrder}
 use Rattle.account.specs.Orders.{Rising, Later, Orders}
@@ -32,7 +32,7 @@ use Rattle.account.proofs.Own.{own}
 use Rattle.account.proofs.Passed.{Passed, right-off}
 use Rattle.account.proofs.Walk.{length-cut}
 
-pub every-at : (P : Record → Type 0) (rs : List Record) → every P rs → (k : ℕ) → k < length rs → P (getD rs k [])
+pub every-at : (P : Record → Type 0) (rs : List Record) → Each P rs → (k : ℕ) → k < length rs → P (getD rs k [])
 every-at P [] e k h = absurd (not-suc-le-zero h)
 every-at P (r ∷ rs) e zero h = e .0
 every-at P (r ∷ rs) e (suc k) h = every-at P rs (e .1) k (le-of-suc-le-suc h)
@@ -95,7 +95,7 @@ module _ (file : List ℕ) (ok : checked file ≡ Accepted) where
         let m = length-cut n file in
         (ap (λ (rs : List Record). getD rs k []) (s .kept) ∙ getD-take (count (ofContract 2 c) (records file)) (drop start (records file)) k [] (omega arith) ∙ getD-drop start (records file) k [] ∙ cut-at n (start + k) file (omega arith), omega arith)
 
-    theirs : every (λ r. ofContract 2 c r ≡ true) ps
+    theirs : Each (λ r. ofContract 2 c r ≡ true) ps
     unfolding ps
     theirs = every-kept (λ r. ofContract 2 c r ≡ true) (ofContract 2 c) file (recordCount file) (λ j l e. e)
 

@@ -10,7 +10,6 @@ use lib.Dec.{leb, leb·suc-zero, leb·suc-suc}
 use native.Mathlib.Nat.{zero-add}
 use native.Mathlib.Omega.{arith}
 use native.Mathlib.Numerals.{add-one}
-use borrow.Author.Tests.{leb-false}
 use Rattle.exact.specs.Lists.{any}
 use Rattle.record.specs.Layout.{Record}
 use Rattle.account.specs.Notes.{beforeAt}
@@ -91,7 +90,3 @@ none-place p (r ∷ rs) = go (p r) refl (none-place p rs)
         → leb (length (r ∷ rs)) (placeOf p (r ∷ rs)) ≡ not (any p (r ∷ rs))
     go true e h = rw e (leb·suc-zero (length rs))
     go false e h = rw (e, add-one, leb·suc-suc) h
-
--- one that passes has its place in the list
-pub place-within : (p : Record → Bool) (rs : List Record) → any p rs ≡ true → placeOf p rs < length rs
-place-within p rs t = leb-false (length rs) (placeOf p rs) (none-place p rs ∙ ap not t)

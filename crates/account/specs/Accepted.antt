@@ -15,9 +15,9 @@ use Rattle.account.specs.Parts.{ofContract, onDay, contractsOf, promptsO
 use Rattle.account.specs.Records.{records, stretch}
 use Rattle.account.specs.Surveyed.{contractCount, partStart, partCount}
 
-abbrev pub every : (Record → Type 0) → List Record → Type 0
-every P [] = Unit
-every P (r ∷ rs) = P r × every P rs
+abbrev pub Each : (Record → Type 0) → List Record → Type 0
+Each P [] = Unit
+Each P (r ∷ rs) = P r × Each P rs
 
 -- the bytes of a part, from what the check hands out
 abbrev pub partBytes : List ℕ → ℕ → List ℕ
@@ -31,11 +31,11 @@ pub record Standing (file : List ℕ) : Type 0 where
   pub entries : records (partBytes file entryPart) ≡ entriesOf (records file)
 
 pub record Ranges (rs : List Record) : Type 0 where
-  pub contracts : every ContractWithin (contractsOf rs)
-  pub prompts : (c : ℕ) → every PromptWithin (promptsOf c rs)
-  pub rows : (c : ℕ) → every RowWithin (rowsOf c rs)
-  pub spreads : (c : ℕ) → every SpreadWithin (spreadsOf c rs)
-  pub entries : every EntryWithin (entriesOf rs)
+  pub contracts : Each ContractWithin (contractsOf rs)
+  pub prompts : (c : ℕ) → Each PromptWithin (promptsOf c rs)
+  pub rows : (c : ℕ) → Each RowWithin (rowsOf c rs)
+  pub spreads : (c : ℕ) → Each SpreadWithin (spreadsOf c rs)
+  pub entries : Each EntryWithin (entriesOf rs)
 
 pub record Limits (rs : List Record) : Type 0 where
   pub all : length rs ≤ mostRecords
@@ -47,7 +47,7 @@ pub record Limits (rs : List Record) : Type 0 where
 
 -- no row is left out and none is taken twice
 abbrev pub OnePrompt : List Record → Type 0
-OnePrompt rs = (c : ℕ) → every (λ r. count (onDay (day r)) (promptsOf c rs) ≡ 1) (rowsOf c rs)
+OnePrompt rs = (c : ℕ) → Each (λ r. count (onDay (day r)) (promptsOf c rs) ≡ 1) (rowsOf c rs)
 
 -- what a record names is listed, each contract once
 abbrev pub listed : ℕ → List Record → Bool
@@ -60,10 +60,10 @@ pub record EntryNamed (rs : List Record) (e : Record) : Type 0 where
 
 pub record Named (rs : List Record) : Type 0 where
   pub once : (c : ℕ) → count (ofContract 1 c) rs ≤ 1
-  pub prompts : (c : ℕ) → every (λ r. listed c rs ≡ true) (promptsOf c rs)
-  pub rows : (c : ℕ) → every (λ r. listed c rs ≡ true) (rowsOf c rs)
-  pub spreads : (c : ℕ) → every (λ r. listed c rs ≡ true) (spreadsOf c rs)
-  pub entries : every (EntryNamed rs) (entriesOf rs)
+  pub prompts : (c : ℕ) → Each (λ r. listed c rs ≡ true) (promptsOf c rs)
+  pub rows : (c : ℕ) → Each (λ r. listed c rs ≡ true) (rowsOf c rs)
+  pub spreads : (c : ℕ) → Each (λ r. listed c rs ≡ true) (spreadsOf c rs)
+  pub entries : Each (EntryNamed rs) (entriesOf rs)
 
 pub record Accepts (file : List ℕ) : Type 0 where
   pub standing : Standing file

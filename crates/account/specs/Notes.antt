@@ -34,8 +34,8 @@ inPart v r = cond (eqb v entryPart) (ofKind 5 r) (ofContract (v / mostContracts)
 abbrev pub oneMore : List ℕ → ℕ → List ℕ
 oneMore counts v = set counts v (getD counts v 0 + 1)
 
-abbrev pub firstAt : List ℕ → List ℕ → ℕ → ℕ → List ℕ
-firstAt first counts v k = cond (eqb (getD counts v 0) 0) (set first v k) first
+abbrev pub startNoted : List ℕ → List ℕ → ℕ → ℕ → List ℕ
+startNoted first counts v k = cond (eqb (getD counts v 0) 0) (set first v k) first
 
 -- refusals 7 and 9 from the notes, and from the prompts of the record's contract
 abbrev pub noContract : List ℕ → ℕ → Bool

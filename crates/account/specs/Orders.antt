@@ -7,7 +7,7 @@ use mathlib.Core.Bool.{false}
 use mathlib.Core.List.{List, []}
 use lib.ListN.{length, getD}
 use Rattle.record.specs.Layout.{Record, contract, tier, day}
-use Rattle.account.specs.Accepted.{every}
+use Rattle.account.specs.Accepted.{Each}
 use Rattle.account.specs.Check.{legsClash, withItself}
 use Rattle.account.specs.Parts.{contractsOf, promptsOf, spreadsOf, entriesOf}
 
@@ -23,5 +23,5 @@ pub record Later (rs : List Record) : Type 0 where
 pub record Orders (rs : List Record) : Type 0 where
   pub contracts : Rising (contractsOf rs)
   pub prompts : (c : ℕ) → c ≤ 15 → Later (promptsOf c rs)
-  pub spreads : (c : ℕ) → every (λ s. legsClash s ≡ false) (spreadsOf c rs)
-  pub entries : every (λ e. withItself e ≡ false) (entriesOf rs)
+  pub spreads : (c : ℕ) → Each (λ s. legsClash s ≡ false) (spreadsOf c rs)
+  pub entries : Each (λ e. withItself e ≡ false) (entriesOf rs)

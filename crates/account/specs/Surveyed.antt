@@ -16,17 +16,17 @@ use Rattle.account.specs.Records.{records}
 use Rattle.account.specs.declared.answers.Answer.{Answer}
 use Rattle.account.specs.declared.check.Survey.{Survey}
 
-abbrev pub ifAccepted : Answer → ℕ → ℕ
-ifAccepted a n = cond (eqb (numberOf a) 0) n 0
+abbrev pub ofAccepted : Answer → ℕ → ℕ
+ofAccepted a n = cond (eqb (numberOf a) 0) n 0
 
 abbrev pub contractCount : List ℕ → ℕ
-contractCount file = ifAccepted (checked file) (count (ofKind 1) (records file))
+contractCount file = ofAccepted (checked file) (count (ofKind 1) (records file))
 
 abbrev pub partStart : List ℕ → ℕ → ℕ
-partStart file v = ifAccepted (checked file) (startOf (inPart v) (records file))
+partStart file v = ofAccepted (checked file) (startOf (inPart v) (records file))
 
 abbrev pub partCount : List ℕ → ℕ → ℕ
-partCount file v = ifAccepted (checked file) (count (inPart v) (records file))
+partCount file v = ofAccepted (checked file) (count (inPart v) (records file))
 
 pub record Surveyed (file : List ℕ) (s : Survey) : Type 0 where
   pub answer : s .answer ≡ checked file

@@ -4,7 +4,7 @@ ghost use Prim.Native.Nat.{_<_};
 ghost use lib.ListN.{length, getD};
 ghost use Rattle.exact.specs.Lists.{oneIf};
 ghost use Rattle.account.specs.Check.{checked};
-ghost use Rattle.account.specs.Notes.{oneMore, firstAt};
+ghost use Rattle.account.specs.Notes.{oneMore, startNoted};
 ghost use Rattle.account.specs.Parts.{ofKind};
 ghost use Rattle.account.specs.Surveyed.{Surveyed, Empty};
 use crate::answers::Answer;
@@ -43,7 +43,7 @@ fn refused(answer: Answer) -> Survey
 
 fn note_first(first: &mut [usize], counts: &[usize], v: usize, k: usize)
     requires { ⌜ v < length (now first) ⌝ }
-    ensures { λ _. ⌜ now (first .exit) ≡ firstAt (now (first .entry)) (now (counts .entry)) v k ⌝ }
+    ensures { λ _. ⌜ now (first .exit) ≡ startNoted (now (first .entry)) (now (counts .entry)) v k ⌝ }
 {
     if noted(counts, v) == 0 {
         first[v] = k;

@@ -3,12 +3,12 @@
 -- `getD-drop` of lib.Seq, `append-assoc`, `map-append`, `map-map` of mathlib.Core.List.
 -- Assumes nothing.
 use mathlib.Core.Path.{_≡_, refl, sym, _∙_, ap, ap₂}
-use mathlib.Core.Bool.{Bool, true, false, _||_, or-assoc, or-true, false≢true, true≢false}
+use mathlib.Core.Bool.{Bool, true, false, _||_, or-assoc, or-true, false≢true}
 use mathlib.Core.List.{List, [], _∷_, _++_, map}
 use Prim.Native.Nat.{ℕ, zero, suc, _+_, _*_, _≤_, _<_, zero-le}
 use native.Mathlib.Nat.{le-refl, mul-zero, le-of-suc-le-suc, not-suc-le-zero}
 use native.Mathlib.Omega.{arith}
-use lib.IntN.{ℤ, pos, natAbs, _+ℤ_, _*ℤ_, +ℤ-idl, +ℤ-idr, +ℤ-assoc, +ℤ-comm, *ℤ-zero}
+use lib.IntN.{ℤ, pos, natAbs, _+ℤ_, _*ℤ_, +ℤ-idl, +ℤ-idr, +ℤ-assoc, *ℤ-zero}
 use lib.ListN.{length, getD, take, drop}
 use lib.Seq.{take-suc}
 use lib.Dec.{leb}

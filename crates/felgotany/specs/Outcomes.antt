@@ -1,6 +1,5 @@
 -- What C is handed for an answer.
 -- Assumes nothing.
-use Prim.Native.Nat.{ℕ}
 use mathlib.Core.Path.{_≡_}
 use Rattle.account.specs.Answers.{numberOf, recordOf}
 use Rattle.account.specs.declared.answers.Answer.{Answer}

@@ -1,19 +1,17 @@
 -- An accepted file's contracts and entries are within the ranges that the figures rest on.
 -- Assumes nothing.
-use Prim.Native.Nat.{ℕ, zero, suc, _+_, _*_, _≤_, _<_, suc-le-suc}
+use Prim.Native.Nat.{ℕ, zero, suc, _≤_, _<_}
 use native.Mathlib.Nat.{not-suc-le-zero}
 use native.Mathlib.Omega.{arith}
-use mathlib.Core.Path.{_≡_, refl, sym, ap, ap₂, _∙_, subst, subst⁻¹}
-use mathlib.Core.Bool.{Bool, true, false, cond, not, _&&_, _||_, false≢true}
-use mathlib.Core.List.{List, [], _∷_, map}
-use mathlib.Core.Logic.{⊎-elim}
-use borrow.Author.Tests.{lt-ltb, le-leb, eq-eqb, ne-eqb, eqb-true, eqb-false}
-use lib.Dec.{eqb, ltb}
+use mathlib.Core.Path.{_≡_, refl, sym, subst, subst⁻¹}
+use mathlib.Core.Bool.{Bool, true, false, not, _&&_, _||_, false≢true}
+use mathlib.Core.List.{List, []}
+use borrow.Author.Tests.{lt-ltb, eqb-true, eqb-false}
+use lib.Dec.{eqb}
 use lib.ListN.{length, getD}
 use Rattle.record.specs.Layout.{Record, contract, secondContract, day, legCount, legsOf, legTier, legSide, legRatio}
 use Rattle.record.specs.Within as ranges
 use Rattle.record.proofs.Within.{neither}
-use Rattle.account.specs.Accepted.{every}
 use Rattle.exact.specs.Lists.{count}
 use Rattle.account.specs.Check.{checked, alikeAmong, noLegOn, legsClash, withItself, sameLeg}
 use Rattle.account.specs.Parts.{onDay, contractsOf, promptsOf, rowsOf, spreadsOf, entriesOf}
@@ -21,11 +19,10 @@ use Rattle.account.specs.Records.{records}
 use Rattle.account.specs.declared.answers.Answer.the-variants.{Accepted}
 use Rattle.account.proofs.Accepted.{accepts}
 use Rattle.account.proofs.Orders.{every-at, orders}
-use Rattle.spread.specs.Accepted.{soundLeg, soundLegsOf, soundSpread}
-use Rattle.spread.specs.declared.Leg.{Leg}
+use Rattle.spread.specs.Accepted.{soundLeg, soundSpread}
 use Rattle.margin.specs.Deltas.{legOf, interprompt}
-use Rattle.margin.specs.Position.{RowWithin, Within, OneDay}
-use Rattle.margin.specs.Within.{PromptWithin, SpreadWithin, ContractWithin, EntryWithin, EntriesWithin}
+use Rattle.margin.specs.Position.{RowFit}
+use Rattle.margin.specs.Within.{SpreadFit, ContractFit, EntriesFit}
 
 -- a leg within its ranges is one that the spread steps accept
 side-sound : (s : ℕ) → 1 ≤ s → s ≤ 2 → eqb s 1 || eqb s 2 ≡ true
@@ -62,7 +59,7 @@ legs-three : (s : Record) → legCount s ≡ 3 → alikeAmong s (legsOf s) ≡ f
 legs-three s e a w0 w1 w2 =
     rw e (three-legs (soundLeg (legOf s 0)) (soundLeg (legOf s 1)) (soundLeg (legOf s 2)) (sameLeg s 0 1) (sameLeg s 0 2) (sameLeg s 1 2) (leg-sound s 0 w0) (leg-sound s 1 w1) (leg-sound s 2 w2) (rw e at a))
 
-spread-within : (s : Record) → ranges.SpreadWithin s → legsClash s ≡ false → SpreadWithin s
+spread-within : (s : Record) → ranges.SpreadWithin s → legsClash s ≡ false → SpreadFit s
 spread-within s w h =
     let apart = neither (alikeAmong s (legsOf s)) (noLegOn 1 s || noLegOn 2 s) h .0 in
     record { rate = w .rates; sound = go (eqb (legCount s) 2) refl apart }
@@ -74,7 +71,7 @@ spread-within s w h =
         let three : legCount s ≡ 3 = omega (arith, n, w .legCounts .least, w .legCounts .most) in
         legs-three s three apart (w .firstLeg) (w .secondLeg) (w .thirdLeg three)
 
-row-within : (r : Record) → ranges.RowWithin r → RowWithin r
+row-within : (r : Record) → ranges.RowWithin r → RowFit r
 row-within r w =
     record {
       lots-within = w .lotss;
@@ -88,7 +85,7 @@ module _ (file : List ℕ) (ok : checked file ≡ Accepted) where
   account = records file
 
   -- a contract of the account, with its parts
-  pub contract-within : (own : Record) (c : ℕ) → ranges.ContractWithin own → ContractWithin own (promptsOf c account) (rowsOf c account) (spreadsOf c account)
+  pub contract-within : (own : Record) (c : ℕ) → ranges.ContractWithin own → ContractFit own (promptsOf c account) (rowsOf c account) (spreadsOf c account)
   contract-within own c w =
       let a = accepts file ok in
       let o = orders file ok in
@@ -113,7 +110,7 @@ module _ (file : List ℕ) (ok : checked file ≡ Accepted) where
   pub own-within : (k : ℕ) → k < length (contractsOf account) → ranges.ContractWithin (getD (contractsOf account) k [])
   own-within k h = every-at ranges.ContractWithin (contractsOf account) (accepts file ok .ranges .contracts) k h
 
-  pub entries-within : EntriesWithin (entriesOf account)
+  pub entries-within : EntriesFit (entriesOf account)
   entries-within =
       let a = accepts file ok in
       let o = orders file ok in

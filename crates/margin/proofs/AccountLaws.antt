@@ -1,20 +1,20 @@
 -- The lines of an accepted account's contracts, the intercontract table over them, credits and figures.
 -- Assumes nothing.
-use Prim.Native.Nat.{ℕ, zero, suc, _+_, _-_, _*_, _≤_, _<_, zero-le, suc-le-suc}
+use Prim.Native.Nat.{ℕ, suc, _+_, _-_, _*_, _≤_, _<_, zero-le, suc-le-suc}
 use native.Mathlib.Nat.{le-trans, le-of-suc-le-suc, not-suc-le-zero, mul-le-mul-right}
 use native.Mathlib.Decide.{ℕ-discrete}
 use native.Mathlib.Omega.{arith}
 use mathlib.Core.Path.{_≡_, refl, sym, ap, ap₂, _∙_, subst, subst⁻¹}
 use mathlib.Core.List.{List, [], _∷_, _++_, map}
 use lib.IntN.{ℤ, pos, natAbs}
-use lib.ListN.{length, getD, take, drop, set, length-set, length-map, length-take}
+use lib.ListN.{length, getD, take, set, length-set, length-map}
 use lib.Seq.{getD-set-same, getD-set-other, getD-take, length-take-le}
 use Rattle.exact.proofs.Lists.{getD-map}
 use Rattle.record.specs.Layout.{Record, contract, percent}
 use Rattle.account.specs.Parts.{contractsOf, entriesOf}
 use Rattle.account.specs.Records.{records, stretch}
 use Rattle.account.specs.declared.check.Survey.{Survey}
-use Rattle.spread.specs.Book.{entries, spreadsEntry}
+use Rattle.spread.specs.Book.{spreadsEntry}
 use Rattle.spread.specs.Steps.{Open, steps, numbers, usedOf, unusedOf}
 use Rattle.spread.specs.declared.Prompts.{Prompts}
 use Rattle.spread.specs.declared.Spreads.{Spreads}
@@ -23,19 +23,19 @@ use Rattle.spread.proofs.Filling.{entries-at}
 use Rattle.margin.specs.declared.accepted.Lines.{Lines}
 use Rattle.margin.specs.declared.amount.Amount.{Amount}
 use Rattle.margin.specs.declared.line.Line.{Line}
-use Rattle.margin.specs.Bounds.{mostDelta, mostRisk}
+use Rattle.margin.specs.Bounds.{mostDelta}
 use Rattle.margin.specs.Contract.{Contract, contracts, partsIn, asTier, contractNet, creditOf}
 use Rattle.margin.specs.Credit.{credit, creditsBy, entryUse, unusedBy, twicePriceRisk}
-use Rattle.margin.specs.Within.{EntriesWithin}
+use Rattle.margin.specs.Within.{EntriesFit}
 use Rattle.margin.specs.Deltas.{intercontract}
 use Rattle.margin.specs.Figures.{figures, figuresOver}
 use Rattle.margin.specs.Lines.{noLine, figuresFrom}
 use Rattle.margin.specs.declared.numbers.Numbers.{Numbers}
 use Rattle.margin.specs.Books.{threes, tableBook}
-use Rattle.margin.specs.Numbers.{listed, LinesWithin, SpreadsSigned, BookNumbers}
+use Rattle.margin.specs.Numbers.{written, LinesWithin, SpreadsSigned, BookNumbers}
 use Rattle.margin.specs.Promised.{BookOf, LineOf}
 use Rattle.margin.specs.Stands.{Stands, LinesOf}
-use Rattle.margin.specs.Sums.{interleaved, deltasIn, spreadsAt, EntriesRoom}
+use Rattle.margin.specs.Sums.{interleaved, deltasIn, spreadsAt}
 use Rattle.margin.specs.Table.{tierOf, TiersFrom, TableRoom, CreditsRoom, CreditsOf, earns}
 use Rattle.margin.proofs.AcceptLaws.{entries-within, numbers-rise}
 use Rattle.margin.proofs.BookLaws.{over-arrays, book-listed}
@@ -43,7 +43,7 @@ use Rattle.margin.proofs.CreditLaws.{credits-by}
 use Rattle.margin.proofs.FigureLaws.{Lined, Apart, Credited, tiers-are, tiers-sound, tier-sizes, unused-is, entry-use-within, figures-are}
 use Rattle.margin.proofs.LineLaws.{numbers-length, used-length, unused-length}
 use Rattle.margin.proofs.StandLaws.{contracts-are, entries-stand}
-use Rattle.margin.proofs.StepBounds.{sizes, number-within}
+use Rattle.margin.proofs.StepBounds.{number-within}
 
 -- ---- lines, filled place by place
 
@@ -104,8 +104,8 @@ module _ (file : List ℕ) (s : Survey) (st : Stands file s) (all : Lines) (is :
   pub es-are : records part ≡ entriesOf account
   es-are = ap records ep ∙ entries-stand file s st
 
-  es-within : EntriesWithin (records part)
-  es-within = subst⁻¹ EntriesWithin es-are (entries-within file (st .accepted))
+  es-within : EntriesFit (records part)
+  es-within = subst⁻¹ EntriesFit es-are (entries-within file (st .accepted))
 
   pub ks-length : length ks ≡ n
   ks-length = length-map (contractsOf account) (partsIn account) ∙ sym (is .count-is)
@@ -208,7 +208,7 @@ module _ (file : List ℕ) (s : Survey) (st : Stands file s) (all : Lines) (is :
 
     -- the numbers of the table's book
     pub table-listed : (r : Numbers) (p : Prompts) (m : ℕ) → TiersFrom n (all .line) p → m ≡ length (records part) → r .count ≡ 3 * n + 2 * m
-        → listed r ≡ threes (take n (deltasIn (p .net))) (take n (deltasIn (b .used))) (take n (deltasIn (b .unused))) ++ map pos (interleaved (take m (b .first)) (take m (b .second)))
+        → written r ≡ threes (take n (deltasIn (p .net))) (take n (deltasIn (b .used))) (take n (deltasIn (b .unused))) ++ map pos (interleaved (take m (b .first)) (take m (b .second)))
         → BookNumbers (tableBook (entriesOf account) ks) (s .contracts) (length (entriesOf account)) r
     table-listed r p m tiers em ec el =
         let ss = steps (map intercontract (records part)) in
@@ -221,7 +221,7 @@ module _ (file : List ℕ) (s : Survey) (st : Stands file s) (all : Lines) (is :
         let e = is .count-is in
         record {
           listed-is =
-              book-listed ss ps b (take n (deltasIn (p .net))) n m (listed r) bk stand (omega arith) (numbers-length intercontract (records part) ps ∙ ap (λ (x : ℕ). 2 * x) (sym em)) (omega arith)
+              book-listed ss ps b (take n (deltasIn (p .net))) n m (written r) bk stand (omega arith) (numbers-length intercontract (records part) ps ∙ ap (λ (x : ℕ). 2 * x) (sym em)) (omega arith)
               (used-length ss ps ∙ stand) (unused-length ss ps ∙ stand) el
               ∙ ap₂ (λ (zs : List ℤ) (qs : List Open). threes zs (usedOf ss qs) (unusedOf ss qs) ++ map pos (numbers ss qs)) (tiers .nets-are ∙ nets-lined ks ls lined) (tiers-are ks ls lined)
               ∙ ap (λ (x : List Record). tableBook x ks) es-are;

@@ -1,19 +1,16 @@
 -- Products of the formulas stay within 64 bits, and charges within their bounds.
 -- Assumes nothing.
-use mathlib.Core.Path.{_≡_, refl, sym, ap, _∙_, subst}
-use mathlib.Core.Bool.{true, false, cond}
-use Prim.Native.Nat.{ℕ, zero, suc, _+_, _*_, _≤_, _<_, _^_}
-use native.Mathlib.Nat.{mul-le-mul, mul-assoc, mul-comm, zero-mul, mul-zero}
+use mathlib.Core.Path.{_≡_, sym, ap, _∙_}
+use Prim.Native.Nat.{ℕ, _+_, _*_, _≤_}
+use native.Mathlib.Nat.{mul-le-mul, mul-assoc, mul-comm}
 use native.Mathlib.Omega.{arith}
 use borrow.Author.Tests.{ne-eqb}
-use lib.Dec.{eqb}
-use lib.IntN.{ℤ, natAbs}
 use Rattle.exact.specs.Rounding.{halfUp}
-use Rattle.exact.specs.Wide.{Scaled, scaledHalfUp}
+use Rattle.exact.specs.Wide.{Scaled}
 use Rattle.exact.proofs.HalfUp.{half-within}
 use Rattle.exact.proofs.Scaling.{scaled-in-reach}
-use Rattle.margin.specs.Bounds.{mostDelta, mostRate, mostCharge, mostLots}
-use Rattle.margin.specs.Charges.{charged, spreadCharge, promptCharge}
+use Rattle.margin.specs.Bounds.{mostDelta, mostRate, mostCharge}
+use Rattle.margin.specs.Charges.{charged}
 use Rattle.margin.specs.Credit.{credit}
 
 -- deltas times a rate

@@ -1,22 +1,22 @@
 -- Which questions an accepted account answers, and the book of each.
 -- Assumes nothing.
-use Prim.Native.Nat.{ℕ, zero, suc, _+_, _-_, _*_, _≤_, _<_}
+use Prim.Native.Nat.{ℕ, _+_, _-_, _*_, _≤_, _<_}
 use native.Mathlib.Omega.{arith}
-use mathlib.Core.Path.{_≡_, refl, sym, ap, ap₂, _∙_, subst, subst⁻¹}
+use mathlib.Core.Path.{_≡_, refl, sym, ap, ap₂, _∙_}
 use mathlib.Core.Bool.{Bool, true, false, cond, not, _&&_, _||_, false≢true, Bool·not-not}
-use mathlib.Core.List.{List, [], _∷_, _++_, map, append-nil}
+use mathlib.Core.List.{List, [], _∷_, map, append-nil}
 use borrow.Author.Tests.{eqb-true, eqb-false, eq-eqb, ne-eqb, ltb-true, ltb-false}
 use lib.Dec.{eqb, ltb}
 use lib.IntN.{ℤ, pos}
 use lib.ListN.{length, getD, length-append, length-map}
 use Rattle.exact.specs.Lists.{consIf, keep, any, count, oneIf}
-use Rattle.record.specs.Layout.{Record, kind, contract}
+use Rattle.record.specs.Layout.{Record, contract}
 use Rattle.record.specs.Within as ranges
-use Rattle.account.specs.Accepted.{every}
+use Rattle.account.specs.Accepted.{Each}
 use Rattle.account.specs.Answers.{numberOf}
 use Rattle.account.specs.Check.{checked}
 use Rattle.account.specs.Notes.{inPart}
-use Rattle.account.specs.Parts.{ofKind, ofContract, contractsOf, entriesOf, promptsOf, rowsOf, spreadsOf}
+use Rattle.account.specs.Parts.{ofKind, ofContract, contractsOf, entriesOf}
 use Rattle.account.specs.Records.{records}
 use Rattle.account.specs.declared.answers.Answer.{Answer}
 use Rattle.account.specs.declared.answers.Answer.the-variants.{Accepted}
@@ -27,7 +27,7 @@ use Rattle.account.proofs.Noted.{part-is}
 use Rattle.spread.specs.Steps.{numbers, usedOf, unusedOf}
 use Rattle.margin.specs.Books.{threes, contractBook, tableBook, ofEach, ofQuestion, asks, answered, askedBy, book}
 use Rattle.margin.specs.Contract.{Contract, contractFrom, contracts, partsIn, partsOf, contractNet, asTier, stepsOf, opensOf, tableSteps}
-use Rattle.margin.specs.Deltas.{interprompt, intercontract, netDeltas, opens}
+use Rattle.margin.specs.Deltas.{interprompt, intercontract, netDeltas}
 use Rattle.margin.specs.Stands.{Stands}
 use Rattle.margin.proofs.LineLaws.{numbers-length, used-length, unused-length, opens-length}
 
@@ -92,7 +92,7 @@ one-kept p (x ∷ xs) a h = go (p x) refl (one-kept p xs) a h
         let r = f b (omega arith) in
         record { only = r .only; kept = ap (λ (t : Bool). consIf t x (keep p xs)) e ∙ r .kept; passes = r .passes }
 
-large : (q : ℕ) (rs : List Record) → every ranges.ContractWithin rs → 15 < q → any (asks q) rs ≡ false
+large : (q : ℕ) (rs : List Record) → Each ranges.ContractWithin rs → 15 < q → any (asks q) rs ≡ false
 large q [] e h = refl
 large q (r ∷ rs) e h = ap₂ _||_ (ne-eqb (contract r) q (λ x. let w = e .0 .contracts in omega arith)) (large q rs (e .1) h)
 

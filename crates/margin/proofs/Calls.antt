@@ -1,10 +1,9 @@
 -- Sums and differences of signed results: a call of `plus` or `minus` on what two calls gave, in the integers.
 -- Assumes nothing.
-use mathlib.Core.Path.{_≡_, sym, ap, ap₂, _∙_, subst, subst⁻¹}
-use Prim.Native.Nat.{ℕ, _+_, _≤_, _<_, _^_}
-use native.Mathlib.Omega.{arith}
+use mathlib.Core.Path.{_≡_, ap₂, _∙_, subst, subst⁻¹}
+use Prim.Native.Nat.{_<_, _^_}
 use lib.Signed.{mag}
-use lib.IntN.{ℤ, natAbs, _+ℤ_, _-ℤ_}
+use lib.IntN.{ℤ, natAbs}
 use mir.Syntax.{w64}
 use mir.Val.{SFits, toZ, ofZ}
 use Rattle.exact.proofs.Integers.{back, sfits-abs}

@@ -1,12 +1,12 @@
 -- A contract within its ranges: what its rows come to and its book are within theirs, and the charges over the book's arrays
 -- are the contract's charges.
 -- Assumes nothing.
-use Prim.Native.Nat.{ℕ, zero, suc, _+_, _-_, _*_, _≤_, _<_, zero-le}
+use Prim.Native.Nat.{ℕ, _+_, _-_, _*_, _≤_, _<_, zero-le}
 use native.Mathlib.Nat.{le-trans}
 use native.Mathlib.Decide.{decLt}
 use native.Mathlib.Omega.{arith}
 use mathlib.Core.Path.{_≡_, refl, sym, ap, ap₂, _∙_, subst, subst⁻¹}
-use mathlib.Core.List.{List, [], _∷_, _++_, map}
+use mathlib.Core.List.{List, _++_, map}
 use lib.IntN.{ℤ, pos, natAbs}
 use lib.ListN.{length, getD, take, length-map, List·getD-eq-default}
 use Rattle.exact.specs.Lists.{sum, sumℤ}
@@ -22,10 +22,10 @@ use Rattle.margin.specs.declared.line.Line.{Line}
 use Rattle.margin.specs.Bounds.{mostDelta, mostRisk, mostLots, mostRate}
 use Rattle.margin.specs.declared.numbers.Numbers.{Numbers}
 use Rattle.margin.specs.Books.{threes, contractBook}
-use Rattle.margin.specs.Numbers.{listed, SpreadsSigned, BookNumbers}
+use Rattle.margin.specs.Numbers.{written, SpreadsSigned, BookNumbers}
 use Rattle.margin.specs.Charges.{spreadCharge, interpromptCharge, promptCharges}
 use Rattle.margin.specs.Contract.{Contract, contractFrom, interpromptOf, promptOf, contractNet}
-use Rattle.margin.specs.Credit.{totalOf, twicePriceRisk}
+use Rattle.margin.specs.Credit.{twicePriceRisk}
 use Rattle.margin.specs.Margin.{shortOptionMinimum}
 use Rattle.margin.specs.Scanning.{totals, scanningRisk, activeScenario}
 use Rattle.margin.specs.Deltas.{opens, interprompt, netDeltas}
@@ -33,7 +33,7 @@ use Rattle.margin.specs.Position.{PositionOf, Bounded}
 use Rattle.margin.specs.Promised.{BookOf, BookRoom, Charged, LineOf}
 use Rattle.margin.specs.Risks.{TotalsWithin, Scanned}
 use Rattle.margin.specs.Sums.{interleaved, deltasIn, SpreadsWithin, PromptsWithin}
-use Rattle.margin.specs.Within.{ContractWithin}
+use Rattle.margin.specs.Within.{ContractFit}
 use Rattle.margin.proofs.BookLaws.{over-arrays, prompts-arrays, book-listed}
 use Rattle.margin.proofs.LineLaws.{opens-first, opens-length, opens-sizes, opens-sound, spreads-sound, numbers-length, used-length, unused-length, sum-zeros, size-zeros, first-within, delta-within}
 use Rattle.margin.proofs.NetLaws.{net-sizes-most}
@@ -47,7 +47,7 @@ everywhere n most zs e h k = go (decLt k n)
     go (yes l) = h k l
     go (no l) = subst⁻¹ (λ (z : ℤ). natAbs z ≤ most) (List·getD-eq-default zs (pos 0) (omega (arith, l))) zero-le
 
-module _ (own : Record) (prompts rows spreads : List Record) (w : ContractWithin own prompts rows spreads) (q : Position) (is : PositionOf prompts rows q) (most : Bounded 128 q) where
+module _ (own : Record) (prompts rows spreads : List Record) (w : ContractFit own prompts rows spreads) (q : Position) (is : PositionOf prompts rows q) (most : Bounded 128 q) where
   abbrev nets : List ℤ
   nets = deltasIn (q .nets)
 
@@ -187,7 +187,7 @@ module _ (own : Record) (prompts rows spreads : List Record) (w : ContractWithin
 
     -- the numbers of the contract's book
     pub contract-book-listed : (r : Numbers) (n m np nm : ℕ) → n ≡ np → m ≡ nm → length prompts ≡ np → length spreads ≡ nm → r .count ≡ 3 * n + 2 * m
-        → listed r ≡ threes (take n nets) (take n (deltasIn (b .used))) (take n (deltasIn (b .unused))) ++ map pos (interleaved (take m (b .first)) (take m (b .second)))
+        → written r ≡ threes (take n nets) (take n (deltasIn (b .used))) (take n (deltasIn (b .unused))) ++ map pos (interleaved (take m (b .first)) (take m (b .second)))
         → BookNumbers (contractBook k) np nm r
     contract-book-listed r n m np nm en em ep es ec el =
         let fp = w .few-prompts in
@@ -196,7 +196,7 @@ module _ (own : Record) (prompts rows spreads : List Record) (w : ContractWithin
         let c : m ≡ length spreads = em ∙ sym es in
         record {
           listed-is =
-              book-listed ss ps b (take n nets) n m (listed r) bk (prompts-open ∙ sym a) (omega arith) (numbers-length interprompt spreads ps ∙ ap (λ (x : ℕ). 2 * x) (sym c)) (omega arith)
+              book-listed ss ps b (take n nets) n m (written r) bk (prompts-open ∙ sym a) (omega arith) (numbers-length interprompt spreads ps ∙ ap (λ (x : ℕ). 2 * x) (sym c)) (omega arith)
               (used-length ss ps ∙ prompts-open ∙ sym a) (unused-length ss ps ∙ prompts-open ∙ sym a) el
               ∙ ap₂ (λ (zs : List ℤ) (qs : List Open). threes zs (usedOf ss qs) (unusedOf ss qs) ++ map pos (numbers ss qs)) (ap (λ (x : ℕ). take x nets) a ∙ is .nets-are) nets-are;
           count-is = omega arith;

@@ -1,27 +1,26 @@
 -- What an entry uses of a contract, from the numbers of its two steps; and a contract's credits, from all numbers.
 -- Assumes nothing.
-use Prim.Native.Nat.{ℕ, zero, suc, _+_, _-_, _*_, _≤_, _<_, zero-le, suc-le-suc}
-use native.Mathlib.Nat.{add-mul, le-trans}
+use Prim.Native.Nat.{ℕ, suc, _+_, _-_, _*_, _≤_, zero-le, suc-le-suc}
+use native.Mathlib.Nat.{add-mul}
 use native.Mathlib.Omega.{arith}
-use mathlib.Core.Path.{_≡_, refl, sym, ap, ap₂, _∙_, subst}
-use mathlib.Core.Bool.{Bool, true, false, cond, not, _&&_}
+use mathlib.Core.Path.{_≡_, refl, sym, ap, ap₂, _∙_}
+use mathlib.Core.Bool.{Bool, true, false, cond}
 use mathlib.Core.List.{List, [], _∷_, map}
-use borrow.Author.Tests.{lt-ltb, ne-eqb, eqb-true}
+use borrow.Author.Tests.{lt-ltb, eqb-true}
 use lib.Dec.{eqb}
-use lib.ListN.{length, getD}
 use Rattle.record.specs.Layout.{Record, contract, secondContract, percent, firstRatio, secondRatio}
-use Rattle.spread.specs.Steps.{Market, long, short, Open, Taker, taker, firstMarket, secondMarket, legsOf, pool, formed, after, steps, numbers, left}
+use Rattle.spread.specs.Steps.{Market, long, short, Open, Taker, taker, firstMarket, secondMarket, legsOf, pool, formed, after, steps, numbers}
 use Rattle.spread.specs.Demand.{totalUse, soundSteps}
 use Rattle.spread.proofs.Demand3.{demand3}
 use Rattle.spread.proofs.Spending.{left-spend, pool-spend}
 use Rattle.margin.specs.Deltas.{intercontract}
-use Rattle.margin.specs.Within.{EntryWithin, EntriesWithin}
-use Rattle.margin.specs.Credit.{credit, credits, creditsBy, unusedBy, usedIn, afterEntry, entryUse}
+use Rattle.margin.specs.Within.{EntryFit, EntriesFit}
+use Rattle.margin.specs.Credit.{credit, credits, creditsBy, unusedBy, usedByEntry, afterEntry, entryUse}
 
 abbrev entrySteps : Record → List (List Taker)
 entrySteps e = steps (intercontract e ∷ [])
 
-entry-sound : (e : Record) → EntryWithin e → soundSteps (entrySteps e) ≡ true
+entry-sound : (e : Record) → EntryFit e → soundSteps (entrySteps e) ≡ true
 entry-sound e w = rw (lt-ltb 0 (firstRatio e) (w .first-ratio), lt-ltb 0 (secondRatio e) (w .second-ratio))
 
 -- the numbers of the entry's two steps
@@ -46,7 +45,7 @@ pool-left m c e ps =
     ap (pool m c) (left-spend (entrySteps e) ps)
     ∙ pool-spend (λ n t. totalUse n t (entrySteps e) (numbers (entrySteps e) ps)) m c ps
 
-used-taken : (c : ℕ) (e : Record) (ps : List Open) → EntryWithin e → usedIn e c ps ≡ taken long c e ps + taken short c e ps
+used-taken : (c : ℕ) (e : Record) (ps : List Open) → EntryFit e → usedByEntry e c ps ≡ taken long c e ps + taken short c e ps
 used-taken c e ps w =
     let ours = demand3 (entrySteps e) ps (entry-sound e w) .ours in
     let l = ours .within long c in
@@ -63,27 +62,27 @@ split true false n m r q h = omega (arith, add-mul n m r)
 split false true n m r q h = omega (arith, add-mul n m q)
 split false false n m r q h = refl
 
-pub used-in : (c : ℕ) (e : Record) (ps : List Open) → EntryWithin e
-    → usedIn e c ps ≡ entryUse c e (firstNumber e ps) (secondNumber e ps)
+pub used-in : (c : ℕ) (e : Record) (ps : List Open) → EntryFit e
+    → usedByEntry e c ps ≡ entryUse c e (firstNumber e ps) (secondNumber e ps)
 used-in c e ps w =
     used-taken c e ps w
     ∙ split (eqb c (contract e)) (eqb c (secondContract e)) (firstNumber e ps) (secondNumber e ps) (firstRatio e) (secondRatio e)
     (λ a b. w .apart (sym (eqb-true c (contract e) a) ∙ eqb-true c (secondContract e) b))
 
 -- of a contract's entry no more is used than the contract has
-pub used-within : (c : ℕ) (e : Record) (ps : List Open) → usedIn e c ps ≤ unusedBy c ps
+pub used-within : (c : ℕ) (e : Record) (ps : List Open) → usedByEntry e c ps ≤ unusedBy c ps
 used-within c e ps = omega arith
 
-pub left-within : (c : ℕ) (e : Record) (ps : List Open) → EntryWithin e → unusedBy c (afterEntry e ps) ≤ unusedBy c ps
+pub left-within : (c : ℕ) (e : Record) (ps : List Open) → EntryFit e → unusedBy c (afterEntry e ps) ≤ unusedBy c ps
 left-within c e ps w =
     let pl = pool-left long c e ps in
     let ps′ = pool-left short c e ps in
     omega arith
 
-pub rest-within : (e : Record) (es : List Record) → EntriesWithin (e ∷ es) → EntriesWithin es
+pub rest-within : (e : Record) (es : List Record) → EntriesFit (e ∷ es) → EntriesFit es
 rest-within e es w = record { few = omega (arith, w .few); each = λ k h. w .each (suc k) (suc-le-suc h) }
 
-pub credits-by : (c twice net : ℕ) (es : List Record) (ps : List Open) → EntriesWithin es
+pub credits-by : (c twice net : ℕ) (es : List Record) (ps : List Open) → EntriesFit es
     → credits c twice net es ps ≡ creditsBy c twice net es (numbers (steps (map intercontract es)) ps)
 credits-by c twice net [] ps w = refl
 credits-by c twice net (e ∷ es) ps w =

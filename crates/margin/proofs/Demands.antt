@@ -28,7 +28,7 @@ use Rattle.spread.proofs.Stepping.{who-paid}
 use Rattle.margin.specs.Books.{answered, tableQuestion}
 use Rattle.margin.specs.Contract.{contracts, partsOf, asTier, stepsOf, opensOf, tableSteps}
 use Rattle.margin.specs.Deltas.{interprompt, intercontract}
-use Rattle.margin.specs.Demands.{Question, Demand1, Demand2, Holds, Demanded}
+use Rattle.margin.specs.Demands.{Question, Demand1, Demand2, Demanded}
 use Rattle.margin.specs.Figures.{figures}
 use Rattle.margin.specs.Questions.{ifAccepted, asked, enough, answerTo, figuresAnswer}
 use Rattle.margin.specs.Uses.{contractUses, tableUses}

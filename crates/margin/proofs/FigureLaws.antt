@@ -1,7 +1,7 @@
 -- Lines of the figures against the contracts of an account: the table of their tiers, what entries use, credits and figures.
 -- Assumes nothing.
 use Prim.Native.Nat.{ℕ, zero, suc, _+_, _-_, _*_, _≤_, _<_, zero-le, suc-le-suc}
-use native.Mathlib.Nat.{le-refl, le-trans, le-of-suc-le-suc, not-suc-le-zero}
+use native.Mathlib.Nat.{le-trans, le-of-suc-le-suc, not-suc-le-zero}
 use native.Mathlib.Omega.{arith}
 use mathlib.Core.Path.{_≡_, refl, sym, ap, ap₂, _∙_, subst, subst⁻¹}
 use mathlib.Core.Bool.{Bool, true, false, cond, _&&_}
@@ -10,24 +10,23 @@ use borrow.Author.Tests.{lt-ltb, le-leb, eq-eqb, ne-eqb}
 use lib.Dec.{eqb, leb, ltb}
 use lib.IntN.{ℤ, pos, negsuc, natAbs}
 use lib.ListN.{length, getD}
-use Rattle.exact.specs.Lists.{sum}
-use Rattle.record.specs.Layout.{Record, contract, percent}
+use Rattle.record.specs.Layout.{Record, contract}
 use Rattle.spread.specs.Accepted.{every, soundPrompt}
-use Rattle.spread.specs.Steps.{Market, long, short, Open, onSide, inTier, pool, steps, numbers}
+use Rattle.spread.specs.Steps.{Market, long, short, Open, onSide, pool, steps, numbers}
 use Rattle.spread.proofs.Both.{and-both}
 use Rattle.margin.specs.declared.amount.Amount.{Amount}
 use Rattle.margin.specs.declared.line.Line.{Line}
 use Rattle.margin.specs.Bounds.{mostDelta}
-use Rattle.margin.specs.Contract.{Contract, asTier, contractNet, creditOf, marginOf}
-use Rattle.margin.specs.Credit.{credit, credits, creditsBy, unusedBy, usedIn, afterEntry, entryUse}
+use Rattle.margin.specs.Contract.{Contract, asTier, creditOf, marginOf}
+use Rattle.margin.specs.Credit.{unusedBy, afterEntry, entryUse}
 use Rattle.margin.specs.Deltas.{intercontract}
 use Rattle.margin.specs.Figures.{eight, eights, totalMargin, figuresOver}
 use Rattle.margin.specs.Lines.{marginWith, eightOf, eightsFrom, totalFrom, figuresFrom}
 use Rattle.margin.specs.Margin.{risk, margin}
 use Rattle.margin.specs.Promised.{LineOf}
 use Rattle.margin.specs.Table.{tierOf}
-use Rattle.margin.specs.Within.{EntryWithin, EntriesWithin}
-use Rattle.margin.proofs.CreditLaws.{firstNumber, secondNumber, used-in, used-within, left-within, rest-within, credits-by}
+use Rattle.margin.specs.Within.{EntriesFit}
+use Rattle.margin.proofs.CreditLaws.{used-in, used-within, left-within, rest-within}
 use Rattle.margin.proofs.StepBounds.{sizes}
 
 -- each contract has its line
@@ -104,7 +103,7 @@ unused-is (l ∷ ls) d a (suc i) h =
 
 -- ---- what an entry uses of a contract is within what the contract has
 
-pub entry-use-within : (c : ℕ) (es : List Record) (ps : List Open) → EntriesWithin es → (k : ℕ) → k < length es
+pub entry-use-within : (c : ℕ) (es : List Record) (ps : List Open) → EntriesFit es → (k : ℕ) → k < length es
     → entryUse c (getD es k []) (getD (numbers (steps (map intercontract es)) ps) (2 * k) 0) (getD (numbers (steps (map intercontract es)) ps) (2 * k + 1) 0) ≤ unusedBy c ps
 entry-use-within c [] ps w k h = absurd (not-suc-le-zero h)
 entry-use-within c (e ∷ es) ps w zero h =

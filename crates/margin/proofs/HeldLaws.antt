@@ -16,7 +16,7 @@ use Rattle.account.specs.Answers.{numberOf}
 use Rattle.account.specs.Check.{checked}
 use Rattle.account.specs.Parts.{ofKind}
 use Rattle.account.specs.Records.{records, recordCount}
-use Rattle.account.specs.Surveyed.{Surveyed, ifAccepted}
+use Rattle.account.specs.Surveyed.{Surveyed, ofAccepted}
 use Rattle.account.specs.declared.answers.Answer.{Answer}
 use Rattle.account.specs.declared.answers.Answer.the-variants.{Accepted, TooFewNumbers}
 use Rattle.account.specs.declared.check.Survey.{Survey}
@@ -40,7 +40,7 @@ module _ (file : List ℕ) (s : Survey) (is : Surveyed file s) where
   held-stands z = record { accepted = accepted-only (checked file) z; surveyed = is }
 
   module _ (h : numberOf (checked file) ≡ 0 → ⊥) where
-    none : ifAccepted (checked file) (count (ofKind 1) (records file)) ≡ 0
+    none : ofAccepted (checked file) (count (ofKind 1) (records file)) ≡ 0
     none = rw (ne-eqb (numberOf (checked file)) 0 h)
 
     nothing : (n : ℕ) → cond (accepted (checked file)) n 0 ≡ 0

@@ -1,22 +1,21 @@
 -- A contract's line, from what its rows come to, its book, and its charges.
 -- Assumes nothing.
 use Prim.Native.Nat.{ℕ, zero, suc, _+_, _-_, _*_, _≤_, _<_, zero-le, suc-le-suc}
-use native.Mathlib.Nat.{le-refl, le-trans, le-of-suc-le-suc, not-suc-le-zero, zero-add, add-zero}
 use native.Mathlib.Numerals.{add-one}
 use native.Mathlib.Omega.{arith}
 use mathlib.Core.Path.{_≡_, refl, sym, ap, ap₂, _∙_, subst, subst⁻¹}
-use mathlib.Core.Bool.{Bool, true, false, cond, _&&_}
-use mathlib.Core.List.{List, [], _∷_, _++_, map}
+use mathlib.Core.Bool.{true, _&&_}
+use mathlib.Core.List.{List, [], _∷_, map}
 use borrow.Author.Tests.{lt-ltb, le-leb}
 use lib.Dec.{leb, ltb}
-use lib.IntN.{ℤ, pos, natAbs, _+ℤ_, +ℤ-idl, +ℤ-idr}
-use lib.ListN.{length, getD, take, length-map, List·getD-eq-default}
+use lib.IntN.{ℤ, pos, natAbs, _+ℤ_, +ℤ-idl}
+use lib.ListN.{length, getD, take, length-map}
 use Rattle.exact.specs.Lists.{sum, sumℤ}
 use Rattle.exact.proofs.Lists.{abs-sum, map-take, sum-take, sum-at, getD-map, sumℤ-take-suc}
 use Rattle.record.specs.Layout.{Record, tier}
 use Rattle.spread.specs.Accepted.{every, soundPrompt, soundSpread}
 use Rattle.spread.specs.Book.{entries, spreadsEntry, deltaEntry}
-use Rattle.spread.specs.Steps.{Open, Taker, after, formed, takeFrom, useOf, steps, numbers, left, minus, usedOf, unusedOf}
+use Rattle.spread.specs.Steps.{Open, Taker, steps, numbers, left, minus, usedOf, unusedOf}
 use Rattle.spread.specs.declared.Spread.{Spread}
 use Rattle.spread.specs.declared.Spreads.{Spreads}
 use Rattle.spread.specs.declared.Delta.{Delta}
@@ -25,12 +24,9 @@ use Rattle.spread.proofs.Demand3.{one-per-step}
 use Rattle.spread.proofs.Stepping.{left-length}
 use Rattle.spread.proofs.Filling.{entries-at}
 use Rattle.margin.specs.Bounds.{mostDelta}
-use Rattle.margin.specs.Deltas.{opens, interprompt, netDeltas}
-use Rattle.margin.specs.Position.{Within, OneDay}
-use Rattle.margin.specs.Sums.{deltasIn, spreadsAt, deltaAt, SpreadsWithin, PromptsWithin}
-use Rattle.margin.specs.Within.{PromptWithin, SpreadWithin, ContractWithin}
-use Rattle.margin.proofs.NetLaws.{net-sizes-most}
-use Rattle.margin.proofs.StepBounds.{sizes, number-within, used-within, unused-within, size-at}
+use Rattle.margin.specs.Deltas.{opens}
+use Rattle.margin.specs.Sums.{spreadsAt, deltaAt}
+use Rattle.margin.proofs.StepBounds.{sizes}
 
 -- ---- prompts, open
 

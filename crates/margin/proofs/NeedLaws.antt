@@ -1,7 +1,6 @@
 -- How many numbers a book and its uses have, from the survey of the file.
 -- Assumes nothing.
 use Prim.Native.Nat.{ℕ, _+_, _*_, _≤_, _<_}
-use native.Mathlib.Nat.{mul-assoc, mul-comm}
 use native.Mathlib.Omega.{arith}
 use mathlib.Core.Path.{_≡_, refl, sym, ap, ap₂, _∙_}
 use mathlib.Core.Bool.{Bool, true, cond}
@@ -21,17 +20,15 @@ use Rattle.account.specs.declared.check.Survey.{Survey}
 use Rattle.account.proofs.Accepted.{accepts}
 use Rattle.account.proofs.Every.{length-kept}
 use Rattle.account.proofs.Noted.{part-is}
-use Rattle.spread.specs.Steps.{Open, Taker}
-use Rattle.spread.specs.Uses.{usesOf}
 use Rattle.margin.specs.Books.{answered, book}
-use Rattle.margin.specs.Contract.{contracts, partsIn, asTier, opensOf, stepsOf, contractFrom, tableSteps}
+use Rattle.margin.specs.Contract.{contracts, partsIn, asTier, opensOf, contractFrom}
 use Rattle.margin.specs.Deltas.{interprompt, intercontract, netDeltas}
 use Rattle.margin.specs.Needs.{SizesOf, NeedsOf}
 use Rattle.margin.specs.Questions.{accepted, ifAccepted, asked}
 use Rattle.margin.specs.Stands.{Stands}
 use Rattle.margin.specs.Uses.{contractUses, tableUses, uses}
 use Rattle.margin.proofs.AskedLaws.{one-book, table-book, contract-asked, table-asked, asked-small, contract-length, table-length}
-use Rattle.margin.proofs.LineLaws.{opens-length, steps-length}
+use Rattle.margin.proofs.LineLaws.{opens-length}
 use Rattle.margin.proofs.QuestionLaws.{accepted-only}
 use Rattle.margin.proofs.StandLaws.{contracts-are}
 use Rattle.margin.proofs.UsesLaws.{spread-uses}

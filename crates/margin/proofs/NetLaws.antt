@@ -3,7 +3,7 @@
 use mathlib.Core.Path.{_≡_, refl, sym, ap, ap₂, _∙_, subst⁻¹}
 use mathlib.Core.Bool.{Bool, true, false, cond}
 use mathlib.Core.List.{List, [], _∷_, map, map-map}
-use Prim.Native.Nat.{ℕ, zero, suc, _+_, _*_, _≤_, _<_, zero-le}
+use Prim.Native.Nat.{ℕ, suc, _+_, _*_, _≤_, _<_}
 use native.Mathlib.Nat.{le-trans, zero-mul, add-mul, mul-le-mul-right}
 use native.Mathlib.Omega.{arith}
 use lib.Dec.{eqb}
@@ -11,13 +11,13 @@ use lib.IntN.{ℤ, pos, natAbs, _+ℤ_, +ℤ-idl, +ℤ-idr, +ℤ-assoc, +ℤ-com
 use lib.ListN.{length, getD}
 use borrow.Author.Tests.{eqb-true, eqb-false, eq-eqb, ne-eqb}
 use Rattle.exact.specs.Lists.{consIf, keep, count, oneIf, sum, sumℤ}
-use Rattle.account.specs.Accepted.{every}
+use Rattle.account.specs.Accepted.{Each}
 use Rattle.account.specs.Parts.{onDay}
 use Rattle.exact.proofs.Integers.{abs-add}
-use Rattle.exact.proofs.Lists.{sum-map-le, sum-map-add, abs-sum}
+use Rattle.exact.proofs.Lists.{sum-map-le, sum-map-add}
 use Rattle.record.specs.Layout.{Record, day}
 use Rattle.margin.specs.Deltas.{rowDelta, ofDay, netDelta, netDeltas}
-use Rattle.margin.specs.Position.{RowWithin, Within, OneDay}
+use Rattle.margin.specs.Position.{RowFit, RowsFit, OneDay}
 use Rattle.margin.proofs.PositionBounds.{delta-most}
 
 -- what a row adds to a prompt
@@ -67,7 +67,7 @@ no-rows (p ∷ ps) = let h = no-rows ps in omega arith
 size-first-row : (row : Record) (rows : List Record) (p : Record) → netSize (row ∷ rows) p ≤ addedSize row p + netSize rows p
 size-first-row row rows p = subst⁻¹ (λ (z : ℤ). natAbs z ≤ addedSize row p + netSize rows p) (first-row row rows p) (abs-add (adds row p) (netDelta rows p))
 
-sizes-sum : (prompts rows : List Record) → OneDay prompts rows → ((k : ℕ) → k < length rows → RowWithin (getD rows k [])) → sum (map (netSize rows) prompts) ≤ length rows * 1000000000
+sizes-sum : (prompts rows : List Record) → OneDay prompts rows → ((k : ℕ) → k < length rows → RowFit (getD rows k [])) → sum (map (netSize rows) prompts) ≤ length rows * 1000000000
 sizes-sum prompts [] r e = omega (arith, no-rows prompts)
 sizes-sum prompts (row ∷ rows) r e =
     let one : sum (map (addedSize row) prompts) ≤ 1000000000 = le-trans (one-day row prompts (r 0 (omega arith))) (delta-most row (e 0 (omega arith))) in
@@ -76,15 +76,11 @@ sizes-sum prompts (row ∷ rows) r e =
     let both = sum-map-add (addedSize row) (netSize rows) prompts in
     omega arith
 
-pub net-sizes-most : (prompts rows : List Record) → OneDay prompts rows → Within rows → sum (map natAbs (netDeltas prompts rows)) ≤ 128000000000
+pub net-sizes-most : (prompts rows : List Record) → OneDay prompts rows → RowsFit rows → sum (map natAbs (netDeltas prompts rows)) ≤ 128000000000
 net-sizes-most prompts rows r w =
     let e : map natAbs (netDeltas prompts rows) ≡ map (netSize rows) prompts = map-map natAbs (netDelta rows) prompts in
     let s = sizes-sum prompts rows r (w .each) in
     omega (arith, ap sum e, w .few)
-
--- the net delta of the contract as a whole
-pub contract-net-most : (prompts rows : List Record) → OneDay prompts rows → Within rows → natAbs (sumℤ (netDeltas prompts rows)) ≤ 128000000000
-contract-net-most prompts rows r w = le-trans (abs-sum (netDeltas prompts rows)) (net-sizes-most prompts rows r w)
 
 -- ---- no row is left out: a row that counts at one prompt counts once in all net deltas together
 
@@ -120,6 +116,6 @@ nothing-added : (ps : List Record) → sumℤ (netDeltas ps []) ≡ pos 0
 nothing-added [] = refl
 nothing-added (p ∷ ps) = ap (λ (x : ℤ). pos 0 +ℤ x) (nothing-added ps)
 
-pub all-rows : (ps rows : List Record) → every (λ r. count (onDay (day r)) ps ≡ 1) rows → sumℤ (netDeltas ps rows) ≡ sumℤ (map rowDelta rows)
+pub all-rows : (ps rows : List Record) → Each (λ r. count (onDay (day r)) ps ≡ 1) rows → sumℤ (netDeltas ps rows) ≡ sumℤ (map rowDelta rows)
 all-rows ps [] e = nothing-added ps
 all-rows ps (row ∷ rows) e = more-row row rows ps ∙ ap₂ _+ℤ_ (once-added row ps (e .0)) (all-rows ps rows (e .1))

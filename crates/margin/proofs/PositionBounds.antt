@@ -17,24 +17,24 @@ use Rattle.margin.specs.declared.rows.Position.{Position}
 use Rattle.margin.specs.Scanning.{product, total}
 use Rattle.margin.specs.Deltas.{rowDelta, ofDay}
 use Rattle.margin.specs.Margin.{short, shortOptions, shortLots}
-use Rattle.margin.specs.Position.{RowWithin, Within, PositionOf, Bounded, deltasIn, netOn}
+use Rattle.margin.specs.Position.{RowFit, RowsFit, PositionOf, Bounded, deltasIn, netOn}
 use Rattle.margin.proofs.SignedCalls.{abs-times, abs-plus}
 use Rattle.margin.proofs.PositionLaws.{totals-at, net-here}
 
 -- ---- of one row
 
-pub product-most : (row : Record) → RowWithin row → (s : ℕ) → 1 ≤ s → s ≤ 16 → natAbs (product s row) ≤ 100000000000000
+pub product-most : (row : Record) → RowFit row → (s : ℕ) → 1 ≤ s → s ≤ 16 → natAbs (product s row) ≤ 100000000000000
 product-most row w s l h =
     abs-times (lots row *ℤ pos (value row)) (loss row s) (abs-times (lots row) (pos (value row)) (w .lots-within) (w .value-within)) (w .loss-within s l h)
 
-pub delta-most : (row : Record) → RowWithin row → natAbs (rowDelta row) ≤ 1000000000
+pub delta-most : (row : Record) → RowFit row → natAbs (rowDelta row) ≤ 1000000000
 delta-most row w = abs-times (lots row) (delta row) (w .lots-within) (w .delta-within)
 
 short-le : (z : ℤ) → short z ≤ natAbs z
 short-le (pos n) = zero-le
 short-le (negsuc n) = le-refl (suc n)
 
-pub shorts-most : (row : Record) → RowWithin row → shortOptions row ≤ 100000
+pub shorts-most : (row : Record) → RowFit row → shortOptions row ≤ 100000
 shorts-most row w = go (eqb (rowType row) 0)
   where
     go : (t : Bool) → cond t 0 (short (lots row)) ≤ 100000
@@ -44,7 +44,7 @@ shorts-most row w = go (eqb (rowType row) 0)
 -- ---- of several
 
 abbrev pub Each : List Record → Type 0
-Each rows = (k : ℕ) → k < length rows → RowWithin (getD rows k [])
+Each rows = (k : ℕ) → k < length rows → RowFit (getD rows k [])
 
 pub total-most : (rows : List Record) → Each rows → (s : ℕ) → 1 ≤ s → s ≤ 16 → natAbs (total rows s) ≤ length rows * 100000000000000
 total-most [] e s l h = zero-le
@@ -84,7 +84,7 @@ net-place prompts rows p e is j = go (ltb j (length prompts)) refl
     go false h =
         subst (λ (z : ℤ). natAbs z ≤ length rows * 1000000000) (sym (is .nets-beyond j (ltb-false j (length prompts) h))) zero-le
 
-pub bounded : (prompts rows : List Record) (p : Position) → Within rows → PositionOf prompts rows p → Bounded (length rows) p
+pub bounded : (prompts rows : List Record) (p : Position) → RowsFit rows → PositionOf prompts rows p → Bounded (length rows) p
 bounded prompts rows p w is =
     record {
       totals-most =
@@ -112,4 +112,4 @@ pub each-take : (rows : List Record) (n : ℕ) → Each rows → Each (take n ro
 each-take rows n e k h =
     let n-above : k < n = omega (arith, length-take n rows) in
     let rows-above : k < length rows = omega (arith, length-take n rows) in
-    subst (λ (row : Record). RowWithin row) (sym (getD-take n rows k [] n-above)) (e k rows-above)
+    subst (λ (row : Record). RowFit row) (sym (getD-take n rows k [] n-above)) (e k rows-above)

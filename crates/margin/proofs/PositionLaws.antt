@@ -5,11 +5,10 @@ use mathlib.Core.Bool.{Bool, true, false, cond}
 use mathlib.Core.List.{List, [], _∷_, _++_, map, map-append}
 use Prim.Native.Nat.{ℕ, zero, suc, _+_, _≤_, _<_}
 use native.Mathlib.Omega.{arith}
-use lib.Dec.{eqb, ltb, eqb→eq}
+use lib.Dec.{eqb, eqb→eq}
 use lib.IntN.{ℤ, pos, _+ℤ_, +ℤ-idr}
-use lib.ListN.{length, getD, take, replicate, length-map, List·getD-eq-default}
+use lib.ListN.{length, getD, take, replicate, length-map}
 use lib.Seq.{ext-getD, getD-take, length-take-le}
-use borrow.Author.Tests.{ltb-true, ltb-false}
 use Rattle.exact.specs.Lists.{consIf, keep, sum, sumℤ}
 use Rattle.exact.proofs.Table.{at}
 use Rattle.exact.proofs.Lists.{keep-append, sum-append, sumℤ-append, getD-map}
@@ -68,18 +67,6 @@ net-here prompts rows p is j h =
     sym (getD-take (length prompts) (deltasIn (p .nets)) j (pos 0) h)
     ∙ ap (λ (zs : List ℤ). getD zs j (pos 0)) (is .nets-are)
     ∙ nets-at prompts rows j h
-
--- at every place, also past the prompts
-pub net-entry : (prompts rows : List Record) (p : Position) → PositionOf prompts rows p → (j : ℕ) → getD (deltasIn (p .nets)) j (pos 0) ≡ getD (netDeltas prompts rows) j (pos 0)
-net-entry prompts rows p is j = go (ltb j (length prompts)) refl
-  where
-    go : (t : Bool) → ltb j (length prompts) ≡ t → getD (deltasIn (p .nets)) j (pos 0) ≡ getD (netDeltas prompts rows) j (pos 0)
-    go true e =
-        let h : j < length prompts = ltb-true j (length prompts) e in
-        net-here prompts rows p is j h ∙ sym (nets-at prompts rows j h)
-    go false e =
-        let h : length prompts ≤ j = ltb-false j (length prompts) e in
-        is .nets-beyond j h ∙ sym (List·getD-eq-default (netDeltas prompts rows) (pos 0) (omega (arith, length-map prompts (netDelta rows))))
 
 -- ---- no rows
 

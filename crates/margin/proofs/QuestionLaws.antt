@@ -2,11 +2,10 @@
 -- Assumes nothing.
 use Prim.Native.Nat.{ℕ, zero, suc, _+_, _*_, _≤_, _<_}
 use native.Mathlib.Omega.{arith}
-use mathlib.Core.Path.{_≡_, refl, sym, ap, ap₂, _∙_, subst, subst⁻¹}
+use mathlib.Core.Path.{_≡_, refl, sym, ap, _∙_}
 use mathlib.Core.Bool.{Bool, true, false, cond}
 use mathlib.Core.List.{List, [], _∷_, _++_, map}
 use borrow.Author.Tests.{lt-ltb, le-ltb, ne-eqb}
-use lib.Dec.{eqb, ltb}
 use lib.IntN.{ℤ, pos}
 use lib.ListN.{length, drop, length-append, length-map}
 use Rattle.record.specs.Layout.{Record}
@@ -22,7 +21,7 @@ use Rattle.spread.specs.Steps.{Open}
 use Rattle.margin.specs.Contract.{Contract, contracts, partsIn, asTier}
 use Rattle.margin.specs.Figures.{eights, figures, figuresOver, totalMargin}
 use Rattle.margin.specs.Books.{answered}
-use Rattle.margin.specs.Questions.{accepted, ifAccepted, asked, answerTo, enough, afterwards, figuresAnswer, afterFigures}
+use Rattle.margin.specs.Questions.{accepted, ifAccepted, asked, answerTo, enough, afterwards}
 use Rattle.margin.specs.Stands.{Stands}
 
 some : {n : ℕ} → suc n ≡ 0 → ⊥

@@ -2,7 +2,7 @@
 -- Assumes nothing.
 use mathlib.Core.Path.{_≡_, refl, sym, ap, ap₂, _∙_, subst, subst⁻¹}
 use mathlib.Core.List.{List, [], _∷_, _++_, map}
-use Prim.Native.Nat.{ℕ, zero, suc, _+_, _-_, _*_, _/_, _≤_, _<_, zero-le}
+use Prim.Native.Nat.{ℕ, zero, suc, _+_, _-_, _*_, _≤_, _<_, zero-le}
 use native.Mathlib.Nat.{suc-mul, add-comm, le-refl, le-of-suc-le-suc, not-suc-le-zero}
 use native.Mathlib.Numerals.{add-one}
 use native.Mathlib.Omega.{arith}
@@ -33,10 +33,6 @@ record-here f k h = cut-at (recordCount f) k f h
 -- the part that the code lends
 pub lent-record : (f : List ℕ) (k : ℕ) → take (k * 96 + 96 - k * 96) (drop (k * 96) f) ≡ recordAt f k
 lent-record f k = let e : k * 96 + 96 - k * 96 ≡ 96 = omega arith in ap (λ (n : ℕ). take n (drop (k * 96) f)) e
-
--- within the part's length
-pub record-ends : (f : List ℕ) (k : ℕ) → k < recordCount f → k * 96 + 96 ≤ length f
-record-ends f k h = omega arith
 
 -- a table that is made of the records of a part, place by place
 module _ {A : Type 0} (g : Record → A) (f : List ℕ) where

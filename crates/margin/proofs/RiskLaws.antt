@@ -1,14 +1,13 @@
 -- The largest of totals within a bound is within it.
 -- Assumes nothing.
-use mathlib.Core.Path.{_≡_, refl, subst}
+use mathlib.Core.Path.{_≡_, subst}
 use mathlib.Core.Bool.{Bool, true, false, cond}
 use mathlib.Core.List.{List, [], _∷_}
-use Prim.Native.Nat.{ℕ, zero, suc, _-_, _≤_, _<_, zero-le, suc-le-suc}
+use Prim.Native.Nat.{ℕ, suc, _-_, _≤_, zero-le}
 use native.Mathlib.Omega.{arith}
 use lib.IntN.{ℤ, pos, natAbs}
-use lib.ListN.{length, getD}
+use lib.ListN.{getD}
 use lib.Signed.{ltZ}
-use Rattle.exact.specs.Signed.{larger}
 use Rattle.exact.specs.Largest.{largest}
 use Rattle.margin.specs.Bounds.{mostRisk}
 use Rattle.margin.specs.Risks.{TotalsWithin}

@@ -1,18 +1,16 @@
 -- The parts of an accepted file by its survey, and the lines of its contracts.
 -- Assumes nothing.
-use Prim.Native.Nat.{ℕ, zero, suc, _+_, _*_, _≤_, _<_, zero-le}
+use Prim.Native.Nat.{ℕ, _+_, _*_, _≤_, _<_, zero-le}
 use native.Mathlib.Omega.{arith}
-use mathlib.Core.Path.{_≡_, refl, sym, ap, ap₂, _∙_, subst, subst⁻¹}
+use mathlib.Core.Path.{_≡_, sym, ap, ap₂, _∙_, subst, subst⁻¹}
 use mathlib.Core.Bool.{cond}
-use mathlib.Core.List.{List, [], _∷_}
+use mathlib.Core.List.{List, []}
 use lib.Dec.{eqb}
 use lib.ListN.{length, getD}
 use Rattle.exact.specs.Lists.{count}
 use Rattle.record.specs.Layout.{Record, contract}
 use Rattle.record.specs.Within as ranges
 use Rattle.account.specs.Answers.{numberOf}
-use Rattle.account.specs.Check.{checked}
-use Rattle.account.specs.Notes.{part, entryPart}
 use Rattle.account.specs.Parts.{ofKind, contractsOf, promptsOf, rowsOf, spreadsOf, entriesOf}
 use Rattle.account.specs.Records.{records, recordAt, recordCount, stretch}
 use Rattle.account.specs.Surveyed.{partStart, partCount}
@@ -21,15 +19,13 @@ use Rattle.account.specs.declared.check.Survey.{Survey}
 use Rattle.account.proofs.Accepted.{accepts}
 use Rattle.account.proofs.Every.{length-kept}
 use Rattle.account.proofs.Orders.{contract-at}
-use Rattle.margin.specs.declared.line.Line.{Line}
 use Rattle.margin.specs.declared.numbers.Numbers.{Numbers}
 use Rattle.margin.specs.Books.{contractBook}
-use Rattle.margin.specs.Contract.{Contract, contractFrom, partsIn, partsOf}
+use Rattle.margin.specs.Contract.{contractFrom, partsIn, partsOf}
 use Rattle.margin.specs.Numbers.{BookNumbers}
 use Rattle.margin.proofs.RecordLaws.{count-is}
-use Rattle.margin.specs.Promised.{LineOf}
 use Rattle.margin.specs.Stands.{Stands}
-use Rattle.margin.specs.Within.{ContractWithin}
+use Rattle.margin.specs.Within.{ContractFit}
 use Rattle.margin.proofs.AcceptLaws.{contract-within, own-within}
 
 module _ (file : List ℕ) (s : Survey) (st : Stands file s) where
@@ -79,7 +75,7 @@ module _ (file : List ℕ) (s : Survey) (st : Stands file s) where
       s-are : records spreads ≡ spreadsOf (contract own) account
       s-are = ap records es ∙ spreads-stand c (own-number c e) ∙ ap (λ (n : ℕ). spreadsOf n account) e
 
-      pub line-room : ContractWithin own (records prompts) (records rows) (records spreads)
+      pub line-room : ContractFit own (records prompts) (records rows) (records spreads)
       line-room =
           rw (p-are, r-are, s-are)
           (contract-within file (st .accepted) own (contract own) (subst⁻¹ (λ (r : Record). ranges.ContractWithin r) own-is (own-within file (st .accepted) i here)))
@@ -99,7 +95,7 @@ module _ (file : List ℕ) (s : Survey) (st : Stands file s) where
     ss-are : records spreads ≡ spreadsOf c account
     ss-are = ap records es ∙ spreads-stand c h
 
-    pub parts-room : ContractWithin [] (records prompts) (records rows) (records spreads)
+    pub parts-room : ContractFit [] (records prompts) (records rows) (records spreads)
     parts-room = rw (ps-are, rs-are, ss-are) (contract-within file (st .accepted) [] c (record { contracts = zero-le; rates = zero-le }))
 
     pub parts-by-number : contractFrom [] (records prompts) (records rows) (records spreads) ≡ partsOf account c

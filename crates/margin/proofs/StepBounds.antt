@@ -1,18 +1,17 @@
 -- No step forms, uses or leaves more than the prompts have.
 -- Assumes nothing.
-use Prim.Native.Nat.{ℕ, zero, suc, _+_, _-_, _*_, _/_, _≤_, _<_, min, zero-le}
-use native.Mathlib.Nat.{le-refl, le-trans, div-le-self, min-le-right, add-le-add}
+use Prim.Native.Nat.{ℕ, zero, suc, _-_, _≤_, min, zero-le}
+use native.Mathlib.Nat.{le-refl, le-trans, div-le-self, add-le-add}
 use native.Mathlib.Omega.{arith}
-use mathlib.Core.Path.{_≡_, refl, sym, ap, _∙_, subst, subst⁻¹}
+use mathlib.Core.Path.{ap, _∙_, subst, subst⁻¹}
 use mathlib.Core.Bool.{Bool, true, false, cond}
 use mathlib.Core.List.{List, [], _∷_, map}
 use lib.Dec.{eqb}
-use lib.IntN.{ℤ, pos, negsuc, natAbs, _-ℤ_}
-use lib.ListN.{length, getD}
+use lib.IntN.{ℤ, pos, negsuc, natAbs}
+use lib.ListN.{getD}
 use Rattle.exact.specs.Lists.{sum, least}
-use Rattle.exact.specs.Signed.{towardsZero}
 use Rattle.exact.proofs.Integers.{abs-towards-zero, taken-sign, abs-sign}
-use Rattle.spread.specs.Steps.{Market, long, short, Open, Taker, onSide, inTier, pool, room, roomFor, formed, after, numbers, left, less, minus, usedOf, unusedOf}
+use Rattle.spread.specs.Steps.{Market, long, short, Open, Taker, onSide, inTier, pool, roomFor, formed, after, numbers, minus, usedOf, unusedOf}
 use Rattle.spread.specs.Spend.{marketOf, spend}
 use Rattle.spread.specs.Demand.{stepUse, totalUse}
 use Rattle.spread.proofs.Spending.{after-spend, left-spend}

@@ -1,19 +1,19 @@
 -- Charges and credits, added up place by place: what is done and what is still to do are the whole.
 -- Assumes nothing.
-use Prim.Native.Nat.{ℕ, zero, suc, _+_, _-_, _*_, _≤_, _<_, zero-le}
+use Prim.Native.Nat.{ℕ, _+_, _-_, _*_, _≤_, _<_, zero-le}
 use native.Mathlib.Nat.{zero-add, add-mul, le-trans, mul-le-mul}
 use native.Mathlib.Numerals.{add-one}
 use native.Mathlib.Omega.{arith}
-use mathlib.Core.Path.{_≡_, refl, sym, ap, _∙_}
-use mathlib.Core.List.{List, [], _∷_, map}
-use lib.IntN.{ℤ, pos}
+use mathlib.Core.Path.{_≡_, sym, ap, _∙_}
+use mathlib.Core.List.{List, []}
+use lib.IntN.{pos}
 use lib.ListN.{length, getD, drop, drop-of-length-le}
 use lib.Seq.{drop-cons}
 use Rattle.record.specs.Layout.{Record, contract, secondContract, firstRatio, secondRatio, ratePerSpread, spreadRate, outrightRate, percent}
 use borrow.Author.Tests.{eq-eqb, ne-eqb}
 use Rattle.spread.specs.declared.Delta.{Delta}
 use Rattle.spread.specs.declared.Spreads.{Spreads}
-use Rattle.margin.specs.Bounds.{mostCharge, mostRisk}
+use Rattle.margin.specs.Bounds.{mostRisk}
 use Rattle.margin.specs.Charges.{spreadCharge, interpromptCharge, promptCharge, promptCharges}
 use Rattle.margin.specs.Credit.{credit, entryUse, creditsBy}
 use Rattle.margin.specs.Sums.{interleaved, deltasIn, spreadsAt, deltaAt}

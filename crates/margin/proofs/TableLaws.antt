@@ -1,15 +1,14 @@
 -- The intercontract table: contracts as tiers, filled place by place; what entries use is within what contracts have.
 -- Assumes nothing.
-use Prim.Native.Nat.{ℕ, zero, suc, _+_, _-_, _*_, _≤_, _<_, zero-le, suc-le-suc}
-use native.Mathlib.Nat.{le-refl, le-trans, le-of-suc-le-suc, not-suc-le-zero}
+use Prim.Native.Nat.{ℕ, zero, suc, _+_, _-_, _*_, _≤_, _<_, suc-le-suc}
 use native.Mathlib.Numerals.{add-one}
 use native.Mathlib.Decide.{ℕ-discrete}
 use native.Mathlib.Omega.{arith}
 use mathlib.Core.Path.{_≡_, refl, sym, ap, ap₂, _∙_, subst, subst⁻¹}
-use mathlib.Core.Bool.{Bool, true, false, cond, not, _&&_, _||_}
+use mathlib.Core.Bool.{Bool, true, false, not, _&&_, _||_}
 use mathlib.Core.List.{List, [], _∷_, _++_, map, map-map}
-use lib.IntN.{ℤ, pos, natAbs}
-use lib.ListN.{length, getD, take, drop, set, length-set, length-map}
+use lib.IntN.{ℤ, natAbs}
+use lib.ListN.{length, getD, take, set, length-set, length-map}
 use lib.Seq.{take-suc, take-suc-set, getD-set-same, getD-set-other}
 use Rattle.exact.proofs.Lists.{map-take, getD-map}
 use borrow.Author.Tests.{lt-ltb}
@@ -31,7 +30,7 @@ use Rattle.margin.specs.Bounds.{mostRisk}
 use Rattle.margin.specs.Credit.{creditsBy}
 use Rattle.margin.specs.Deltas.{intercontract}
 use Rattle.margin.specs.Lines.{noLine}
-use Rattle.margin.specs.Within.{EntryWithin, EntriesWithin}
+use Rattle.margin.specs.Within.{EntryFit}
 use Rattle.margin.specs.Sums.{interleaved, deltasIn, EntriesRoom}
 use Rattle.margin.specs.Table.{tierOf, TiersFrom, TableRoom, earns, EarnerOf, CreditsOf}
 use Rattle.margin.specs.Tables.{TableOf}
@@ -125,7 +124,7 @@ module _ (l : Line) (e : Earner) (entries : List Record) (f g : List Spreads) (i
       ∙ ap₂ (λ (t n : ℕ). creditsBy (l .contract) t n entries (interleaved f g)) (is .price-is) (is .net-is)
 
 -- the entries of a table are spreads that the steps accept
-pub entry-accepted : (e : Record) → EntryWithin e → given.soundSpread (intercontract e) ≡ true
+pub entry-accepted : (e : Record) → EntryFit e → given.soundSpread (intercontract e) ≡ true
 entry-accepted e w =
     rw (lt-ltb (contract e) 16 (le-suc (w .first-number)), lt-ltb (secondContract e) 16 (le-suc (w .second-number)), lt-ltb 0 (firstRatio e) (w .first-ratio), lt-ltb 0 (secondRatio e) (w .second-ratio))
     (last (eqb (contract e) (secondContract e)))

@@ -5,10 +5,10 @@ use native.Mathlib.Nat.{add-comm, add-mul, one-mul, zero-mul, suc-mul, mul-comm,
 use native.Mathlib.Numerals.{add-one}
 use native.Mathlib.Omega.{arith}
 use mathlib.Core.Path.{_≡_, refl, sym, ap, ap₂, _∙_, subst}
-use mathlib.Core.Bool.{Bool, true, false, cond, _&&_}
+use mathlib.Core.Bool.{Bool, true, false, cond}
 use mathlib.Core.List.{List, [], _∷_, _++_, map}
 use lib.Dec.{leb}
-use lib.IntN.{ℤ, pos}
+use lib.IntN.{ℤ}
 use lib.ListN.{length, length-append, length-map, getD, take, drop, drop-of-length-le}
 use lib.Seq.{sets, length-sets, drop-cons, getD-take, length-take-le}
 use borrow.Author.Tests.{leb-true}
@@ -38,7 +38,7 @@ use Rattle.margin.specs.Sums.{deltasIn}
 use Rattle.margin.specs.Table.{TiersFrom}
 use Rattle.margin.specs.Tables.{TiersOf, TableOf}
 use Rattle.margin.specs.Uses.{contractUses, tableUses, LeftBy, Asks}
-use Rattle.margin.specs.Within.{ContractWithin}
+use Rattle.margin.specs.Within.{ContractFit}
 use Rattle.margin.proofs.AccountLaws.{es-are, ks-length, lined, table-room}
 use Rattle.margin.proofs.BookLaws.{take-deltas, opens-are, contract-sound}
 use Rattle.margin.proofs.ContractLaws.{book-room, nets-are}
@@ -213,7 +213,7 @@ asks p t ps spreads eo es ok np nt =
       many = spread-uses spreads ps ∙ ap₂ (λ (x y : ℕ). x * (2 * y)) (sym nt) (sym np);
     }
 
-pub contract-asks : (prompts rows spreads : List ℕ) → ContractWithin [] (records prompts) (records rows) (records spreads) → (q : Position) → PositionOf (records prompts) (records rows) q → Bounded 128 q
+pub contract-asks : (prompts rows spreads : List ℕ) → ContractFit [] (records prompts) (records rows) (records spreads) → (q : Position) → PositionOf (records prompts) (records rows) q → Bounded 128 q
     → (p : Prompts) (t : Table) → TiersOf prompts (q .nets) p → TableOf interprompt spreads t
     → Asks (contractUses (contractFrom [] (records prompts) (records rows) (records spreads))) (record { prompts = p; table = t })
 contract-asks prompts rows spreads w q is most p t tiers table =

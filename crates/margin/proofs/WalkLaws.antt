@@ -2,18 +2,17 @@
 -- Assumes nothing.
 use mathlib.Core.Path.{_≡_, refl, sym, _∙_, ap, subst}
 use mathlib.Core.List.{List, [], _∷_, _++_}
-use Prim.Native.Nat.{ℕ, _+_, _-_, _*_, _/_, _≤_, _<_}
+use Prim.Native.Nat.{ℕ, _+_, _-_, _*_, _≤_, _<_}
 use native.Mathlib.Numerals.{add-one}
 use native.Mathlib.Omega.{arith}
 use lib.IntN.{ℤ, _+ℤ_}
 use lib.ListN.{length, getD, take, length-take}
 use lib.Seq.{take-suc, take-all}
 use Rattle.record.specs.Layout.{Record, day}
-use Rattle.account.specs.Records.{cut, records}
 use Rattle.margin.specs.Scanning.{total}
 use Rattle.margin.specs.Deltas.{rowDelta}
 use Rattle.margin.specs.Margin.{shortOptions, shortLots}
-use Rattle.margin.specs.Position.{Within, AtMost, Added, products, addsOn, netOn}
+use Rattle.margin.specs.Position.{RowsFit, AtMost, Added, products, addsOn, netOn}
 use Rattle.margin.proofs.AddedLaws.{nothing-added, twice, at-most-added, at-most-wider}
 use Rattle.margin.proofs.PositionLaws.{total-append, total-one, net-append, net-one, shorts-append}
 use Rattle.margin.proofs.PositionBounds.{total-most, net-most, short-lots-most, each-take}
@@ -67,7 +66,7 @@ pub record Most (n : ℕ) (us ms : List ℤ) (v : ℕ) : Type 0 where
   pub nets-most : AtMost 32 (n * 1000000000) ms
   pub shorts-most : v ≤ n * 100000
 
-module _ (rows : List Record) (count : ℕ) (days : List ℕ) (ts ns : List ℤ) (u : ℕ) (w : Within rows) (m : Most (128 - length rows) ts ns u) where
+module _ (rows : List Record) (count : ℕ) (days : List ℕ) (ts ns : List ℤ) (u : ℕ) (w : RowsFit rows) (m : Most (128 - length rows) ts ns u) where
   -- room for what n rows in all can come to
   pub room : (i n : ℕ) (us ms : List ℤ) (v : ℕ) → SoFar rows count days ts ns u i us ms v → 128 - length rows + i ≤ n → Most n us ms v
   room i n us ms v s h =
@@ -90,9 +89,3 @@ pub finish : (rows : List Record) (count : ℕ) (days : List ℕ) (ts ns : List 
 finish rows count days ts ns u i us ms v h s =
     subst (λ (rs : List Record). (Added 16 (λ k. total rs (k + 1)) ts us) × ((Added count (λ j. netOn rs (getD days j 0)) ns ms) × (v ≡ u + shortLots rs)))
     (take-all i rows h) (s .totals-so-far, (s .nets-so-far, s .shorts-so-far))
-
--- a stretch of one record, as a ticket is
-pub one-record : (row : List ℕ) → length row ≡ 96 → records row ≡ row ∷ []
-one-record row h =
-    let one : length row / 96 ≡ 1 = omega arith in
-    ap (λ (n : ℕ). cut n row) one ∙ ap (λ (r : Record). r ∷ []) (take-all 96 row (omega arith))

@@ -11,7 +11,7 @@ use lib.IntN.{ℤ, pos}
 use Rattle.exact.specs.Lists.{keep, any}
 use Rattle.record.specs.Layout.{Record, contract}
 use Rattle.account.specs.Parts.{contractsOf, entriesOf}
-use Rattle.spread.specs.Steps.{Open, numbers, usedOf, unusedOf}
+use Rattle.spread.specs.Steps.{numbers, usedOf, unusedOf}
 use Rattle.margin.specs.Contract.{Contract, contracts, partsIn, contractNet, asTier, numbersOf, usedDeltas, unusedDeltas, tableSteps}
 
 -- net, used and unused of each

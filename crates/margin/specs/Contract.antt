@@ -1,11 +1,11 @@
 -- A contract of an account: its records, and what its rows come to.
 -- Assumes nothing.
-use Prim.Native.Nat.{ℕ, _+_}
-use mathlib.Core.List.{List, [], _∷_, map}
-use lib.IntN.{ℤ, pos, natAbs}
+use Prim.Native.Nat.{ℕ}
+use mathlib.Core.List.{List, [], map}
+use lib.IntN.{ℤ, natAbs}
 use Rattle.exact.specs.Lists.{sumℤ}
 use Rattle.record.specs.Layout.{Record, contract, shortOptionRate}
-use Rattle.account.specs.Parts.{contractsOf, promptsOf, rowsOf, spreadsOf, entriesOf}
+use Rattle.account.specs.Parts.{contractsOf, promptsOf, rowsOf, spreadsOf}
 use Rattle.spread.specs.Steps.{Open, Taker, steps, numbers, usedOf, unusedOf}
 use Rattle.margin.specs.Scanning.{totals, scanningRisk, activeScenario}
 use Rattle.margin.specs.Deltas.{netDeltas, opens, interprompt, intercontract}

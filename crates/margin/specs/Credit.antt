@@ -8,7 +8,7 @@ use lib.Dec.{eqb}
 use lib.IntN.{ℤ, pos, _+ℤ_, _-ℤ_}
 use Rattle.exact.specs.Rounding.{halfUp}
 use Rattle.record.specs.Layout.{Record, contract, secondContract, percent, firstRatio, secondRatio}
-use Rattle.spread.specs.Steps.{Open, Market, long, short, pool, steps, left}
+use Rattle.spread.specs.Steps.{Open, long, short, pool, steps, left}
 use Rattle.exact.specs.Signed.{orZero}
 use Rattle.margin.specs.Charges.{overSteps}
 use Rattle.margin.specs.Scanning.{activeScenario}
@@ -40,14 +40,14 @@ unusedBy c contracts = pool long c contracts + pool short c contracts
 abbrev pub afterEntry : Record → List Open → List Open
 afterEntry e contracts = left (steps (intercontract e ∷ [])) contracts
 
-abbrev pub usedIn : Record → ℕ → List Open → ℕ
-usedIn e c contracts = unusedBy c contracts - unusedBy c (afterEntry e contracts)
+abbrev pub usedByEntry : Record → ℕ → List Open → ℕ
+usedByEntry e c contracts = unusedBy c contracts - unusedBy c (afterEntry e contracts)
 
 -- a contract's credits over the table, entry by entry, what one leaves handed to the next
 abbrev pub credits : ℕ → ℕ → ℕ → List Record → List Open → ℕ
 credits c twiceRisk net [] contracts = 0
 credits c twiceRisk net (e ∷ es) contracts =
-    credit twiceRisk (usedIn e c contracts) (percent e) net + credits c twiceRisk net es (afterEntry e contracts)
+    credit twiceRisk (usedByEntry e c contracts) (percent e) net + credits c twiceRisk net es (afterEntry e contracts)
 
 -- the same from the numbers that the entries' steps form: what an entry uses of a contract that it names
 abbrev pub entryUse : ℕ → Record → ℕ → ℕ → ℕ

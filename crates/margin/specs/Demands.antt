@@ -1,7 +1,7 @@
 -- The three demands, as claims about the definitions, each under its words; proofs/Demands.antt proves them of any bytes. The code
 -- meets them where `check` (account), `figures`, `book` and `uses` (src/questions.rt) promise these definitions.
 -- Assumes nothing.
-use Prim.Native.Nat.{ℕ, _+_, _*_, _≤_, _<_}
+use Prim.Native.Nat.{ℕ, _+_, _≤_, _<_}
 use mathlib.Core.Path.{_≡_}
 use mathlib.Core.Bool.{true, false}
 use mathlib.Core.List.{List, [], _∷_, _++_, map}

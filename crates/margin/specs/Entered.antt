@@ -1,6 +1,6 @@
 -- Records as a person enters them, for the reckoned examples: the table of fields of document 01, written out.
 -- Assumes nothing.
-use Prim.Native.Nat.{ℕ, suc, _-_, _/_, _%_}
+use Prim.Native.Nat.{ℕ, _-_, _/_, _%_}
 use mathlib.Core.List.{List, [], _∷_, _++_}
 use lib.ListN.{take, replicate}
 use lib.IntN.{ℤ, pos, negsuc}

@@ -1,11 +1,8 @@
 -- The lines of the figures, as the code holds them: a contract's numbers with its credit beside them.
 -- Assumes nothing.
-use Prim.Native.Nat.{ℕ, _+_, _*_, _≤_, _<_}
-use mathlib.Core.Path.{_≡_}
-use mathlib.Core.List.{List, [], _∷_, _++_, map}
-use lib.ListN.{length, getD, take}
-use lib.IntN.{ℤ, pos}
-use Rattle.exact.specs.Lists.{sum}
+use Prim.Native.Nat.{ℕ, _+_, _*_, _≤_}
+use mathlib.Core.List.{List, [], _∷_, _++_}
+use lib.IntN.{pos}
 use Rattle.margin.specs.declared.amount.Amount.{Amount}
 use Rattle.margin.specs.declared.line.Line.{Line}
 use Rattle.margin.specs.Bounds.{mostRisk, mostLots, mostRate}

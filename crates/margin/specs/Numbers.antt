@@ -14,8 +14,8 @@ use Rattle.margin.specs.Lines.{LineWithin, noLine}
 use Rattle.margin.specs.Sums.{spreadsAt}
 
 -- the numbers of an answer
-abbrev pub listed : Numbers → List ℤ
-listed n = take (n .count) (n .number)
+abbrev pub written : Numbers → List ℤ
+written n = take (n .count) (n .number)
 
 abbrev pub amountAt : List Amount → ℕ → ℕ
 amountAt amounts k = getD amounts k (record { 0 = 0 }) .0
@@ -34,6 +34,6 @@ pub record SpreadsSigned (count : ℕ) (firsts seconds : List Spreads) : Type 0 
 
 -- the numbers of a book with so many prompts and spreads
 pub record BookNumbers (book : List ℤ) (prompts spreads : ℕ) (n : Numbers) : Type 0 where
-  pub listed-is : listed n ≡ book
+  pub listed-is : written n ≡ book
   pub count-is : n .count ≡ 3 * prompts + 2 * spreads
   pub few : n .count ≤ longestBook

@@ -3,7 +3,7 @@
 use mathlib.Core.Path.{_≡_}
 use mathlib.Core.Bool.{cond}
 use mathlib.Core.List.{List, [], map}
-use Prim.Native.Nat.{ℕ, suc, _+_, _*_, _≤_, _<_}
+use Prim.Native.Nat.{ℕ, _+_, _*_, _≤_, _<_}
 use lib.Dec.{eqb}
 use lib.IntN.{ℤ, pos, natAbs, _+ℤ_}
 use lib.ListN.{length, getD, take}
@@ -20,16 +20,16 @@ use Rattle.margin.specs.Deltas.{rowDelta, ofDay, netDeltas}
 use Rattle.margin.specs.Margin.{shortLots}
 
 -- "lots -100,000..100,000 ..; value 1..10,000; losses -100,000..100,000; delta 0..10,000 .., -10,000..0 for puts"
-pub record RowWithin (row : Record) : Type 0 where
+pub record RowFit (row : Record) : Type 0 where
   pub lots-within : natAbs (lots row) ≤ hundredThousand
   pub delta-within : natAbs (delta row) ≤ oneLot
   pub value-within : value row ≤ mostValue
   pub loss-within : (s : ℕ) → 1 ≤ s → s ≤ scenarioCount → natAbs (loss row s) ≤ hundredThousand
 
 -- "per contract .. 128 rows", each within its ranges
-pub record Within (rows : List Record) : Type 0 where
+pub record RowsFit (rows : List Record) : Type 0 where
   pub few : length rows ≤ mostRows
-  pub each : (k : ℕ) → k < length rows → RowWithin (getD rows k [])
+  pub each : (k : ℕ) → k < length rows → RowFit (getD rows k [])
 
 -- a result, and how large it can be
 pub record Sized (most : ℕ) (z r : ℤ) : Type 0 where

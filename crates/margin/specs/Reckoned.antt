@@ -38,8 +38,8 @@ holding prompts nets spreads =
     }
 
 -- a prompt of a tier, with no rates
-abbrev pub inTier : ℕ → ℕ → Record
-inTier tier day = promptRecord 0 tier day 0 0
+abbrev pub promptIn : ℕ → ℕ → Record
+promptIn tier day = promptRecord 0 tier day 0 0
 
 -- a spread between two tiers, one to one
 abbrev pub oneToOne : ℕ → ℕ → ℕ → Record
@@ -51,11 +51,11 @@ abbrev pub caseThree : Contract
 caseThree =
     holding
     (promptRecord 0 1 1 300 100
-    ∷ inTier 2 2
-    ∷ inTier 2 3
+    ∷ promptIn 2 2
+    ∷ promptIn 2 3
     ∷ promptRecord 0 3 4 200 100
-    ∷ inTier 3 5
-    ∷ inTier 3 6
+    ∷ promptIn 3 5
+    ∷ promptIn 3 6
     ∷ [])
     (lotsShort 30 ∷ lotsLong 20 ∷ lotsShort 5 ∷ lotsLong 100 ∷ lotsShort 10 ∷ lotsShort 10 ∷ [])
     (oneToOne 10000 1 1
@@ -69,18 +69,18 @@ caseThree =
 -- "P2, 000: tier 1: 18, -6; tier 2: -4; tier 3: 3.8101; spreads 1-1, 1-2, 1-3"
 abbrev pub threeTiers : Contract
 threeTiers =
-    holding (inTier 1 1 ∷ inTier 1 2 ∷ inTier 2 3 ∷ inTier 3 4 ∷ [])
+    holding (promptIn 1 1 ∷ promptIn 1 2 ∷ promptIn 2 3 ∷ promptIn 3 4 ∷ [])
     (lotsLong 18 ∷ lotsShort 6 ∷ lotsShort 4 ∷ pos 38101 ∷ [])
     (oneToOne 0 1 1 ∷ oneToOne 0 1 2 ∷ oneToOne 0 1 3 ∷ [])
 
 -- "P3: one tier, long 3.0001, short 5, A ratio 2, B ratio 1"
 abbrev pub oneTier : Contract
-oneTier = holding (inTier 1 1 ∷ inTier 1 2 ∷ []) (pos 30001 ∷ lotsShort 5 ∷ []) (spreadRecord 0 0 1 2 1 1 ∷ [])
+oneTier = holding (promptIn 1 1 ∷ promptIn 1 2 ∷ []) (pos 30001 ∷ lotsShort 5 ∷ []) (spreadRecord 0 0 1 2 1 1 ∷ [])
 
 -- "P4: tier 1 long 10, tiers 2 and 3 short 10 each; 1-2 at 5.00, then 1-3 at 1.00"
 abbrev pub byPriority : Contract
 byPriority =
-    holding (inTier 1 1 ∷ inTier 2 2 ∷ inTier 3 3 ∷ []) (lotsLong 10 ∷ lotsShort 10 ∷ lotsShort 10 ∷ [])
+    holding (promptIn 1 1 ∷ promptIn 2 2 ∷ promptIn 3 3 ∷ []) (lotsLong 10 ∷ lotsShort 10 ∷ lotsShort 10 ∷ [])
     (oneToOne 500 1 2 ∷ oneToOne 100 1 3 ∷ [])
 
 -- "P7: all totals -4"
@@ -90,7 +90,7 @@ gains = replicate 16 (negsuc 3)
 -- "P10: one short call, rate 500, nothing else above 0"
 abbrev pub shortCall : Contract
 shortCall =
-    contractFrom (contractRecord 0 500) (inTier 1 1 ∷ [])
+    contractFrom (contractRecord 0 500) (promptIn 1 1 ∷ [])
     (rowRecord 0 1 1 1850 (negsuc 0) (pos 5200) 1 (replicate 16 (pos 0)) ∷ []) []
 
 -- "Given contract 3 with short option rate 500; one prompt, tier 1, day 20260318, rates 0 and 1000; two rows at value 25,

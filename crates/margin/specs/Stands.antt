@@ -3,7 +3,7 @@
 use Prim.Native.Nat.{ℕ, _≤_, _<_}
 use mathlib.Core.Path.{_≡_}
 use mathlib.Core.List.{List, []}
-use lib.ListN.{length, getD, take}
+use lib.ListN.{length, getD}
 use Rattle.account.specs.Check.{checked}
 use Rattle.account.specs.Parts.{contractsOf}
 use Rattle.account.specs.Records.{records}

@@ -3,8 +3,8 @@
 use Prim.Native.Nat.{ℕ, _*_, _≤_, _<_}
 use mathlib.Core.Path.{_≡_}
 use mathlib.Core.Bool.{true}
-use mathlib.Core.List.{List, [], _∷_, map}
-use lib.IntN.{ℤ, natAbs}
+use mathlib.Core.List.{List, map}
+use lib.IntN.{natAbs}
 use lib.ListN.{length, getD, take}
 use Rattle.record.specs.Layout.{Record}
 use Rattle.spread.specs.Accepted.{every, soundPrompt, openOf}
@@ -18,7 +18,7 @@ use Rattle.margin.specs.Bounds.{mostRisk}
 use Rattle.margin.specs.Credit.{creditsBy}
 use Rattle.margin.specs.Lines.{noLine}
 use Rattle.margin.specs.Sums.{interleaved, deltasIn, EntriesRoom}
-use Rattle.margin.specs.Within.{EntriesWithin}
+use Rattle.margin.specs.Within.{EntriesFit}
 
 -- "each contract a tier with one prompt"
 abbrev pub tierOf : Line → Open
@@ -32,7 +32,7 @@ pub record TiersFrom (count : ℕ) (lines : List Line) (p : Prompts) : Type 0 wh
 pub record TableRoom (count : ℕ) (lines : List Line) (entries : List Record) : Type 0 where
   pub few : count ≤ 16
   pub tiers-sound : every soundPrompt (map tierOf (take count lines)) ≡ true
-  pub entries-within : EntriesWithin entries
+  pub entries-within : EntriesFit entries
 
 pub record EarnerOf (l : Line) (e : Earner) : Type 0 where
   pub contract-is : e .contract ≡ l .contract

@@ -8,30 +8,30 @@ use lib.ListN.{length, getD}
 use Rattle.record.specs.Layout.{Record, contract, shortOptionRate, tier, spreadRate, outrightRate, ratePerSpread, secondContract, percent, firstRatio, secondRatio, mostContract, mostRate, mostPercent}
 use Rattle.account.specs.Check.{mostPrompts, mostSpreads, mostEntries}
 use Rattle.spread.specs.Accepted.{soundSpread}
-use Rattle.margin.specs.Deltas.{interprompt, intercontract}
-use Rattle.margin.specs.Position.{Within, OneDay}
+use Rattle.margin.specs.Deltas.{interprompt}
+use Rattle.margin.specs.Position.{RowsFit, OneDay}
 
-pub record PromptWithin (p : Record) : Type 0 where
+pub record PromptFit (p : Record) : Type 0 where
   pub tier-within : tier p < 16
   pub spread-rate : spreadRate p ≤ mostRate
   pub outright-rate : outrightRate p ≤ mostRate
 
-pub record SpreadWithin (s : Record) : Type 0 where
+pub record SpreadFit (s : Record) : Type 0 where
   pub rate : ratePerSpread s ≤ mostRate
   pub sound : soundSpread (interprompt s) ≡ true
 
-pub record ContractWithin (own : Record) (prompts rows spreads : List Record) : Type 0 where
+pub record ContractFit (own : Record) (prompts rows spreads : List Record) : Type 0 where
   pub number : contract own ≤ mostContract
   pub rate : shortOptionRate own ≤ mostRate
   pub few-prompts : length prompts ≤ mostPrompts
   pub few-spreads : length spreads ≤ mostSpreads
-  pub each-prompt : (k : ℕ) → k < length prompts → PromptWithin (getD prompts k [])
+  pub each-prompt : (k : ℕ) → k < length prompts → PromptFit (getD prompts k [])
   pub one-day : OneDay prompts rows
-  pub rows-within : Within rows
-  pub each-spread : (k : ℕ) → k < length spreads → SpreadWithin (getD spreads k [])
+  pub rows-within : RowsFit rows
+  pub each-spread : (k : ℕ) → k < length spreads → SpreadFit (getD spreads k [])
 
 -- an entry of the intercontract table
-pub record EntryWithin (e : Record) : Type 0 where
+pub record EntryFit (e : Record) : Type 0 where
   pub apart : contract e ≡ secondContract e → ⊥
   pub first-number : contract e ≤ mostContract
   pub second-number : secondContract e ≤ mostContract
@@ -39,6 +39,6 @@ pub record EntryWithin (e : Record) : Type 0 where
   pub second-ratio : 0 < secondRatio e
   pub percent-within : percent e ≤ mostPercent
 
-pub record EntriesWithin (entries : List Record) : Type 0 where
+pub record EntriesFit (entries : List Record) : Type 0 where
   pub few : length entries ≤ mostEntries
-  pub each : (k : ℕ) → k < length entries → EntryWithin (getD entries k [])
+  pub each : (k : ℕ) → k < length entries → EntryFit (getD entries k [])

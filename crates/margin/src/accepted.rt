@@ -28,20 +28,18 @@ use record::fields::contract;
 use spread::Delta;
 ghost use mathlib.Core.Path.{_≡_};
 ghost use mathlib.Core.Bool.{true};
-ghost use mathlib.Core.List.{[], map};
+ghost use mathlib.Core.List.{[]};
 ghost use Prim.Native.Nat.{_+_, _*_, _≤_, _<_};
-ghost use lib.IntN.{pos};
 ghost use lib.ListN.{length, getD};
-ghost use Rattle.account.specs.Notes.{part, entryPart, parts};
+ghost use Rattle.account.specs.Notes.{part, parts};
 ghost use Rattle.account.specs.Parts.{contractsOf, promptsOf, spreadsOf, entriesOf};
 ghost use Rattle.account.specs.Records.{records, recordCount, stretch};
 ghost use Rattle.margin.specs.Books.{contractBook, tableBook, answered, askedBy, book};
 ghost use Rattle.margin.specs.Bounds.{longestBook};
 ghost use Rattle.margin.specs.Contract.{contractFrom, contracts, partsIn, partsOf};
 ghost use Rattle.margin.specs.Figures.{figures};
-ghost use Rattle.margin.specs.Lines.{noLine};
-ghost use Rattle.margin.specs.Numbers.{listed, BookNumbers};
-ghost use Rattle.margin.specs.Within.{ContractWithin};
+ghost use Rattle.margin.specs.Numbers.{written, BookNumbers};
+ghost use Rattle.margin.specs.Within.{ContractFit};
 ghost use Rattle.margin.specs.Promised.{LineOf};
 ghost use Rattle.margin.specs.Stands.{Stands, LinesOf};
 ghost use Rattle.margin.specs.Uses.{contractUses, tableUses, uses, Asks};
@@ -110,7 +108,7 @@ fn lines_of(file: &[u8], survey: Survey) -> Lines
 // The numbers of the figures.
 pub(crate) fn figures_over(file: &[u8], survey: Survey) -> Numbers
     requires { ⌜ Stands (now file) survey ⌝ }
-    ensures { λ r. ⌜ (listed r ≡ figures (records (now (file .entry)))) × (r .count ≡ 8 * survey .contracts + 1) × (r .count ≤ longestBook) ⌝ }
+    ensures { λ r. ⌜ (written r ≡ figures (records (now (file .entry)))) × (r .count ≡ 8 * survey .contracts + 1) × (r .count ≤ longestBook) ⌝ }
 {
     let all = lines_of(file, survey);
     let count = all.count;
@@ -123,7 +121,7 @@ pub(crate) fn figures_over(file: &[u8], survey: Survey) -> Numbers
 
 // The numbers of a contract's book, from the stretches of its prompts, rows and interprompt spreads.
 fn contract_answer(prompts: &[u8], rows: &[u8], spreads: &[u8]) -> Numbers
-    requires { ⌜ ContractWithin [] (records (now prompts)) (records (now rows)) (records (now spreads)) ⌝ }
+    requires { ⌜ ContractFit [] (records (now prompts)) (records (now rows)) (records (now spreads)) ⌝ }
     ensures { λ r. ⌜ BookNumbers (contractBook (contractFrom [] (records (now (prompts .entry))) (records (now (rows .entry))) (records (now (spreads .entry))))) (recordCount (now (prompts .entry))) (recordCount (now (spreads .entry))) r ⌝ }
 {
     let p = position_of(prompts, rows);
@@ -185,7 +183,7 @@ fn table_numbers(file: &[u8], survey: Survey) -> Numbers
 // The numbers of the delta book that a question asks for.
 pub(crate) fn book_over(file: &[u8], survey: Survey, question: usize) -> Numbers
     requires { ⌜ Stands (now file) survey × (answered (records (now file)) question ≡ true) ⌝ }
-    ensures { λ r. ⌜ (listed r ≡ book (records (now (file .entry))) question) × (length (book (records (now (file .entry))) question) ≡ r .count) × (r .count ≤ longestBook) ⌝ }
+    ensures { λ r. ⌜ (written r ≡ book (records (now (file .entry))) question) × (length (book (records (now (file .entry))) question) ≡ r .count) × (r .count ≤ longestBook) ⌝ }
 {
     if question == TABLE {
         return table_numbers(file, survey);
@@ -195,7 +193,7 @@ pub(crate) fn book_over(file: &[u8], survey: Survey, question: usize) -> Numbers
 
 // A contract's prompts with their net deltas, and its interprompt spreads.
 fn contract_asking(prompts: &[u8], rows: &[u8], spreads: &[u8]) -> Asking
-    requires { ⌜ ContractWithin [] (records (now prompts)) (records (now rows)) (records (now spreads)) ⌝ }
+    requires { ⌜ ContractFit [] (records (now prompts)) (records (now rows)) (records (now spreads)) ⌝ }
     ensures { λ r. ⌜ Asks (contractUses (contractFrom [] (records (now (prompts .entry))) (records (now (rows .entry))) (records (now (spreads .entry))))) r ⌝ }
 {
     let p = position_of(prompts, rows);

@@ -21,7 +21,7 @@ ghost use Rattle.margin.specs.Bounds.{mostDelta};
 ghost use Rattle.margin.specs.Contract.{contractFrom};
 ghost use Rattle.margin.specs.Promised.{Charged, LineOf};
 ghost use Rattle.margin.specs.Sums.{deltasIn, SpreadsWithin, PromptsWithin};
-ghost use Rattle.margin.specs.Within.{ContractWithin};
+ghost use Rattle.margin.specs.Within.{ContractFit};
 
 // What the figures say of a contract, but for its credit and its margin; and what its credit is reckoned from.
 pub struct Line {
@@ -82,7 +82,7 @@ fn charges_of(prompts: &[u8], spreads: &[u8], book: Book) -> Charges
 
 // The line of a contract, from its own record and the stretches of its prompts, rows and interprompt spreads.
 pub(crate) fn line_of(own: &[u8], prompts: &[u8], rows: &[u8], spreads: &[u8]) -> Line
-    requires { ⌜ ContractWithin (now own) (records (now prompts)) (records (now rows)) (records (now spreads)) ⌝ }
+    requires { ⌜ ContractFit (now own) (records (now prompts)) (records (now rows)) (records (now spreads)) ⌝ }
     ensures { λ r. ⌜ LineOf (contractFrom (now (own .entry)) (records (now (prompts .entry))) (records (now (rows .entry))) (records (now (spreads .entry)))) r ⌝ }
 {
     let p = position_of(prompts, rows);

@@ -16,7 +16,7 @@ ghost use lib.ListN.{length, take, drop, set};
 ghost use lib.Seq.{sets};
 ghost use Rattle.margin.specs.Bounds.{mostRisk, longestBook};
 ghost use Rattle.margin.specs.Lines.{LineWithin, marginWith, eightOf, figuresFrom};
-ghost use Rattle.margin.specs.Numbers.{listed, LinesWithin, SpreadsSigned};
+ghost use Rattle.margin.specs.Numbers.{written, LinesWithin, SpreadsSigned};
 ghost use Rattle.margin.specs.Books.{threes};
 ghost use Rattle.margin.specs.Sums.{interleaved, deltasIn};
 
@@ -94,7 +94,7 @@ fn put_two(out: &mut [i64; LONGEST_BOOK], at: usize, first: Spreads, second: Spr
 // The figures: eight numbers for each of the first `count` lines, then the total of the margins.
 pub(crate) fn figures_numbers(count: usize, lines: [Line; 16], credits: [Amount; 16]) -> Numbers
     requires { ⌜ LinesWithin count lines credits ⌝ }
-    ensures { λ r. ⌜ (r .count ≡ 8 * count + 1) × (listed r ≡ map pos (figuresFrom (take count lines) (take count credits))) ⌝ }
+    ensures { λ r. ⌜ (r .count ≡ 8 * count + 1) × (written r ≡ map pos (figuresFrom (take count lines) (take count credits))) ⌝ }
 {
     let mut number = [0i64; LONGEST_BOOK];
     let mut total: u64 = 0;
@@ -161,7 +161,7 @@ pub(crate) fn book_numbers(
     second: [Spreads; 32],
 ) -> Numbers
     requires { ⌜ (prompts ≤ 32) × SpreadsSigned spreads first second ⌝ }
-    ensures { λ r. ⌜ (r .count ≡ 3 * prompts + 2 * spreads) × (listed r ≡ threes (take prompts (deltasIn nets)) (take prompts (deltasIn used)) (take prompts (deltasIn unused)) ++ map pos (interleaved (take spreads first) (take spreads second))) ⌝ }
+    ensures { λ r. ⌜ (r .count ≡ 3 * prompts + 2 * spreads) × (written r ≡ threes (take prompts (deltasIn nets)) (take prompts (deltasIn used)) (take prompts (deltasIn unused)) ++ map pos (interleaved (take spreads first) (take spreads second))) ⌝ }
 {
     let mut number = [0i64; LONGEST_BOOK];
     put_prompts(&mut number, prompts, nets, used, unused);
@@ -175,7 +175,7 @@ pub(crate) fn book_numbers(
 // Success writes the answer at the front and nothing after it.
 pub(crate) fn lend(out: &mut [i64], numbers: Numbers)
     requires { ⌜ (numbers .count ≤ longestBook) × (numbers .count ≤ length (now out)) ⌝ }
-    ensures { λ r. ⌜ now (out .exit) ≡ listed numbers ++ drop (numbers .count) (now (out .entry)) ⌝ }
+    ensures { λ r. ⌜ now (out .exit) ≡ written numbers ++ drop (numbers .count) (now (out .entry)) ⌝ }
 {
     let end = numbers.count;
     let number = numbers.number;

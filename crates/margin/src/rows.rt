@@ -9,7 +9,7 @@ ghost use Rattle.record.specs.Layout.{Record, lots, value};
 ghost use Rattle.account.specs.Records.{records, recordCount};
 ghost use Rattle.margin.specs.Deltas.{rowDelta};
 ghost use Rattle.margin.specs.Margin.{short, shortOptions};
-ghost use Rattle.margin.specs.Position.{RowWithin, Within, Sized, AtMost, Added, products, DaysOf};
+ghost use Rattle.margin.specs.Position.{RowFit, RowsFit, Sized, AtMost, Added, products, DaysOf};
 ghost use Rattle.margin.specs.Position.{PositionOf, Bounded, WithRows};
 use exact::signed::as_signed;
 use exact::signed::is_negative;
@@ -43,7 +43,7 @@ pub struct Days {
 
 // Lots × value: what a row loses for each tick.
 fn per_tick(row: &[u8]) -> i64
-    requires { ⌜ RowWithin (now row) ⌝ }
+    requires { ⌜ RowFit (now row) ⌝ }
     ensures { λ r. ⌜ Sized 1000000000 (lots (now (row .entry)) *ℤ pos (value (now (row .entry)))) r ⌝ }
 {
     times(lots(row), as_signed(value(row) as u64))
@@ -51,7 +51,7 @@ fn per_tick(row: &[u8]) -> i64
 
 // Lots × delta.
 fn row_delta(row: &[u8]) -> Delta
-    requires { ⌜ RowWithin (now row) ⌝ }
+    requires { ⌜ RowFit (now row) ⌝ }
     ensures { λ r. ⌜ Sized 1000000000 (rowDelta (now (row .entry))) (r .0) ⌝ }
 {
     Delta(times(lots(row), delta(row)))
@@ -93,7 +93,7 @@ fn net_with(net: Delta, same: bool, more: Delta) -> Delta
 
 // Each total with one row more.
 fn totals_with(t: Totals, row: &[u8]) -> Totals
-    requires { ⌜ RowWithin (now row) × AtMost 16 12700000000000000 (t .0) ⌝ }
+    requires { ⌜ RowFit (now row) × AtMost 16 12700000000000000 (t .0) ⌝ }
     ensures { λ r. ⌜ Added 16 (products (now (row .entry))) (t .0) (r .0) ⌝ }
 {
     let each = per_tick(row);
@@ -139,7 +139,7 @@ pub(crate) fn flat() -> Position
 
 // What rows come to with more rows, in one walk over these. A ticket is one row more.
 pub(crate) fn with_rows(p: Position, days: Days, rows: &[u8]) -> Position
-    requires { ⌜ (days .count ≤ 32) × (Within (records (now rows)) × Bounded (128 - length (records (now rows))) p) ⌝ }
+    requires { ⌜ (days .count ≤ 32) × (RowsFit (records (now rows)) × Bounded (128 - length (records (now rows))) p) ⌝ }
     ensures added { λ q. ⌜ WithRows days p (records (now (rows .entry))) q ⌝ }
     ensures more { λ q. ⌜ ((prompts earlier : List Record) → DaysOf prompts days → PositionOf prompts earlier p → PositionOf prompts (earlier ++ records (now (rows .entry))) q) ⌝ }
     ensures most { λ q. ⌜ Bounded 128 q ⌝ }
@@ -175,7 +175,7 @@ pub(crate) fn with_rows(p: Position, days: Days, rows: &[u8]) -> Position
 
 // What a contract's rows come to, by its prompts' days.
 pub(crate) fn position_of(prompts: &[u8], rows: &[u8]) -> Position
-    requires { ⌜ (recordCount (now prompts) ≤ 32) × Within (records (now rows)) ⌝ }
+    requires { ⌜ (recordCount (now prompts) ≤ 32) × RowsFit (records (now rows)) ⌝ }
     ensures is { λ p. ⌜ PositionOf (records (now (prompts .entry))) (records (now (rows .entry))) p ⌝ }
     ensures most { λ p. ⌜ Bounded 128 p ⌝ }
 {

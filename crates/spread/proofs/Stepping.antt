@@ -3,19 +3,19 @@
 -- Assumes nothing.
 use Prim.Native.Nat.{ℕ, zero, suc, _+_, _-_, _≤_, _<_}
 use native.Mathlib.Omega.{arith}
-use mathlib.Core.Bool.{Bool, true, false, cond, _&&_}
+use mathlib.Core.Bool.{Bool, true, false, cond}
 use mathlib.Core.List.{List, [], _∷_, map}
 use mathlib.Core.Path.{_≡_, refl, sym, _∙_, ap, ap₂}
 use lib.Dec.{eqb, leb, ltb}
-use lib.IntN.{ℤ, pos, negℤ, natAbs, _+ℤ_, _-ℤ_, +ℤ-assoc, +ℤ-invr, -ℤ-+ℤ-cancel}
-use lib.ListN.{length, length-map, getD, take, drop, replicate}
+use lib.IntN.{ℤ, negℤ, natAbs, _+ℤ_, _-ℤ_, +ℤ-assoc, +ℤ-invr, -ℤ-+ℤ-cancel}
+use lib.ListN.{length, length-map, getD, take, drop}
 use borrow.Author.Tests.{leb-true, le-leb}
 use native.Mathlib.Nat.{add-zero}
 use Rattle.exact.specs.Lists.{sumℤ}
 use Rattle.exact.proofs.Integers.{abs-towards-zero}
 use Rattle.spread.specs.Accepted.{mostDelta, every, opens, openOf, soundPrompt, soundPrompts, soundSpread}
 use Rattle.spread.specs.Book.{entries, deltaEntry, Wanted, Spent}
-use Rattle.spread.specs.Cells.{cellAt, stepOf, Pooled, numbersIn, leftIn, Taken}
+use Rattle.spread.specs.Cells.{cellAt, stepOf, Pooled, Taken}
 use Rattle.spread.specs.Demand.{deltaAt, addedUp, stepUse, soundStep, soundSteps}
 use Rattle.spread.specs.Spend.{marketOf, spend, deltas}
 use Rattle.spread.specs.Steps.{Market, Open, Taker, onSide, inTier, towardsZero, less, formed, after, numbers, left, minus, usedOf, unusedOf}

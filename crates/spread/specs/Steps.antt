@@ -1,8 +1,8 @@
 -- "Spread steps (002)" of document 01, read literally: the steps go over the prompts themselves.
 -- Deltas, pools and numbers of spreads are in ten-thousandths.
 -- Assumes nothing.
-use Prim.Native.Nat.{ℕ, suc, _+_, _-_, _*_, _/_, min}
-use mathlib.Core.Bool.{Bool, true, false, cond}
+use Prim.Native.Nat.{ℕ, suc, _-_, _*_, _/_, min}
+use mathlib.Core.Bool.{cond}
 use mathlib.Core.List.{List, [], _∷_, map}
 use lib.ListN.{take}
 use lib.Dec.{eqb}

@@ -12,7 +12,6 @@ use Rattle.spread.specs.Book.{entries, deltaEntry}
 use Rattle.spread.specs.Cells.{stepOf}
 use Rattle.spread.specs.Demand.{deltaAt, addedUp, stepUse}
 use Rattle.spread.specs.Steps.{Market, Open, Taker, formed, after, numbers, usedOf, unusedOf}
-use Rattle.spread.specs.declared.Delta.{Delta}
 use Rattle.spread.specs.declared.Prompts.{Prompts}
 use Rattle.spread.specs.declared.Spread.{Spread}
 use Rattle.spread.specs.declared.stepwise.Step.{Step}

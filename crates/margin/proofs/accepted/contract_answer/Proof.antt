@@ -1,10 +1,8 @@
 -- The numbers of a contract's book: its net deltas, and what its spreads use and form.
 -- Assumes nothing.
-use mathlib.Core.Path.{_≡_, sym, ap, ap₂, subst, _∙_}
-use mathlib.Core.List.{List, [], map}
+use mathlib.Core.List.{[]}
 use native.Mathlib.Omega.{arith}
 use borrow.Author.Needs.{needs}
-use lib.ListN.{length}
 use Rattle.account.specs.Records.{records, recordCount}
 use Rattle.margin.proofs.RecordLaws.{count-is}
 use Rattle.margin.proofs.ContractLaws.{book-room, spreads-signed, contract-book-listed}

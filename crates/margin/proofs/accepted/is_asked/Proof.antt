@@ -1,12 +1,9 @@
 -- Whether a question is 16, or a contract with a record of its own.
 -- Assumes nothing.
-use mathlib.Core.Path.{_≡_, refl, sym, ap, ap₂, _∙_}
-use mathlib.Core.Bool.{Bool, true, false, not, _&&_, _||_}
+use mathlib.Core.Path.{sym}
 use native.Mathlib.Omega.{arith}
 use borrow.Author.Needs.{needs}
 use borrow.Author.Tests.{eq-eqb, ne-eqb, lt-ltb, le-ltb}
-use lib.Dec.{eqb}
-use lib.ListN.{getD}
 use Rattle.margin.proofs.accepted.is_asked.Statement.{statement}
 use Rattle.margin.proofs.accepted.is_asked.Tie as tie
 

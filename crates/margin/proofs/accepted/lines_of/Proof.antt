@@ -1,15 +1,11 @@
 -- The lines are put in place one after the other.
 -- Assumes nothing.
-use mathlib.Core.Path.{_≡_, refl, sym, _∙_}
-use Prim.Native.Nat.{ℕ, _-_, _≤_, _<_}
+use mathlib.Core.Path.{refl}
+use Prim.Native.Nat.{_-_, _≤_}
 use native.Mathlib.Nat.{not-suc-le-zero}
 use native.Mathlib.Omega.{arith}
 use borrow.Author.Needs.{needs}
-use lib.ListN.{length}
-use Rattle.account.specs.Parts.{contractsOf}
-use Rattle.account.specs.Records.{records}
 use Rattle.account.proofs.Accepted.{accepts}
-use Rattle.margin.specs.Stands.{Stands}
 use Rattle.margin.proofs.StandLaws.{contracts-are}
 use Rattle.margin.proofs.AccountLaws.{LinedTo, lined-next}
 use Rattle.margin.proofs.accepted.lines_of.Statement.{statement}

@@ -1,6 +1,6 @@
 -- The credit, rounded once from a product beyond 64 bits; none where the net delta is 0.
 -- Assumes nothing.
-use mathlib.Core.Path.{_≡_, refl, sym, subst⁻¹}
+use mathlib.Core.Path.{_≡_, refl, subst⁻¹}
 use Prim.Native.Nat.{ℕ, zero-le}
 use native.Mathlib.Omega.{arith}
 use borrow.Author.Needs.{needs}

@@ -6,7 +6,7 @@ use native.Mathlib.Omega.{arith}
 use borrow.Author.Needs.{needs}
 use lib.IntN.{natAbs}
 use Rattle.exact.proofs.Integers.{seen, sfits-abs}
-use Rattle.margin.specs.Bounds.{mostDelta, mostCharge}
+use Rattle.margin.specs.Bounds.{mostCharge}
 use Rattle.margin.specs.Charges.{charged}
 use Rattle.margin.proofs.AmountLaws.{delta-rate, charged-within}
 use Rattle.margin.proofs.amount.prompt_charge.Statement.{statement}

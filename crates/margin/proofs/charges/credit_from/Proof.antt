@@ -1,6 +1,6 @@
 -- The credit from an entry, from what the entry uses and its percent.
 -- Assumes nothing.
-use mathlib.Core.Path.{_≡_, _∙_, sym, ap, ap₂, subst, subst⁻¹}
+use mathlib.Core.Path.{_∙_, ap₂}
 use Prim.Native.Nat.{ℕ}
 use Rattle.margin.specs.Credit.{credit}
 use borrow.Author.Needs.{needs}

@@ -1,7 +1,7 @@
 -- What an entry uses of its first contract, of its second, and of any other.
 -- Assumes nothing.
-use mathlib.Core.Path.{_≡_, _∙_, sym, ap, ap₂, subst, subst⁻¹}
-use Prim.Native.Nat.{ℕ, _+_, _*_, _≤_}
+use mathlib.Core.Path.{_≡_}
+use Prim.Native.Nat.{_+_, _*_}
 use native.Mathlib.Omega.{arith}
 use Rattle.margin.specs.Credit.{entryUse}
 use Rattle.margin.proofs.SumLaws.{use-first, use-second, use-none}

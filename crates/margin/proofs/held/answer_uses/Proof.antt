@@ -1,11 +1,9 @@
 -- Who paid in a book of a checked file: not to be asked, too few numbers lent, or written at the front.
 -- Assumes nothing.
 use mathlib.Core.Path.{_≡_, refl, sym, ap, _∙_}
-use mathlib.Core.List.{List}
 use Prim.Native.Nat.{_≤_}
 use native.Mathlib.Omega.{arith}
 use borrow.Author.Needs.{needs}
-use lib.IntN.{ℤ}
 use lib.ListN.{length}
 use lib.Seq.{sets}
 use Rattle.account.specs.Answers.{numberOf}

@@ -1,17 +1,14 @@
 -- The contracts' credits are put in place one after the other.
 -- Assumes nothing.
-use mathlib.Core.Path.{_≡_, refl, ap, _∙_, subst⁻¹}
-use Prim.Native.Nat.{ℕ, _-_, _≤_, _<_}
+use mathlib.Core.Path.{_≡_, refl, subst⁻¹}
+use Prim.Native.Nat.{ℕ, _-_, _≤_}
 use native.Mathlib.Nat.{not-suc-le-zero}
 use native.Mathlib.Omega.{arith}
 use borrow.Author.Needs.{needs}
-use lib.ListN.{length, getD}
-use lib.IntN.{natAbs}
+use lib.ListN.{getD}
 use Rattle.account.specs.Records.{records}
-use Rattle.margin.specs.Credit.{creditsBy}
 use Rattle.margin.specs.Lines.{noLine}
-use Rattle.margin.specs.Sums.{interleaved, EntriesRoom}
-use Rattle.margin.specs.Table.{CreditsOf, EarnerOf}
+use Rattle.margin.specs.Table.{CreditsOf}
 use Rattle.margin.proofs.TableLaws.{earner-room, earner-earns, earned-next}
 use Rattle.margin.proofs.intercontract.credits_of.Statement.{statement}
 use Rattle.margin.proofs.intercontract.credits_of.Tie as tie

@@ -1,10 +1,9 @@
 -- Two deltas together: the sum fits.
 -- Assumes nothing.
-use mathlib.Core.Path.{_≡_, refl}
+use mathlib.Core.Path.{refl}
 use lib.IntN.{_+ℤ_}
-use Rattle.exact.proofs.Integers.{plus-fits, abs-add}
+use Rattle.exact.proofs.Integers.{plus-fits}
 use Rattle.margin.proofs.Calls.{op-is}
-use native.Mathlib.Omega.{arith}
 use Rattle.margin.proofs.line.joined.Statement.{statement}
 use Rattle.margin.proofs.line.joined.Tie as tie
 

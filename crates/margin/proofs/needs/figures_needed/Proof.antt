@@ -1,7 +1,7 @@
 -- As many as the survey says: eight for each of at most sixteen contracts, and one.
 -- Assumes nothing.
 use Prim.Native.Nat.{ℕ, _≤_}
-use mathlib.Core.Path.{_≡_, _∙_, subst⁻¹}
+use mathlib.Core.Path.{_∙_, subst⁻¹}
 use borrow.Author.Needs.{needs}
 use Rattle.margin.proofs.HeldLaws.{few, need-is, need-most}
 use Rattle.margin.proofs.needs.figures_needed.Statement.{statement}

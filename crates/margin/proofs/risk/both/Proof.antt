@@ -1,7 +1,7 @@
 -- Two totals added: each is within its bound, so the sum fits.
 -- Assumes nothing.
-use mathlib.Core.Path.{_≡_, subst⁻¹}
-use Prim.Native.Nat.{ℕ, _≤_, _<_, _^_}
+use mathlib.Core.Path.{subst⁻¹}
+use Prim.Native.Nat.{_≤_}
 use native.Mathlib.Omega.{arith}
 use borrow.Author.Needs.{needs}
 use lib.IntN.{ℤ, natAbs, _+ℤ_}

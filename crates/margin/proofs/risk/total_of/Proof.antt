@@ -3,7 +3,7 @@
 use mathlib.Core.Path.{_≡_, sym, subst⁻¹}
 use Prim.Native.Nat.{ℕ}
 use native.Mathlib.Omega.{arith}
-use lib.IntN.{ℤ, pos}
+use lib.IntN.{pos}
 use lib.ListN.{getD, List·getD-eq-default}
 use mir.Syntax.{w64}
 use mir.Val.{toZ, ofZ}

@@ -1,16 +1,16 @@
 -- The price risk, twice over: the difference of two sums of totals, or 0 if negative.
 -- Assumes nothing.
 use mathlib.Core.Path.{_≡_, _∙_, ap, subst, subst⁻¹}
-use Prim.Native.Nat.{ℕ, _≤_, _<_, _^_}
+use Prim.Native.Nat.{ℕ, _≤_}
 use native.Mathlib.Nat.{le-trans}
 use native.Mathlib.Omega.{arith}
 use borrow.Author.Needs.{needs}
 use lib.IntN.{ℤ, natAbs, _+ℤ_, _-ℤ_}
 use Rattle.exact.specs.Signed.{orZero}
 use Rattle.exact.proofs.Integers.{abs-sub, or-zero-abs}
-use Rattle.margin.specs.Credit.{totalOf, twicePriceRiskAt}
+use Rattle.margin.specs.Credit.{totalOf}
 use Rattle.margin.specs.Pairs.{pairOf}
-use Rattle.margin.proofs.Calls.{op-fits, op-is, on-handed}
+use Rattle.margin.proofs.Calls.{op-fits, op-is}
 use Rattle.margin.proofs.risk.twice_price_risk.Statement.{statement}
 use Rattle.margin.proofs.risk.twice_price_risk.Tie as tie
 

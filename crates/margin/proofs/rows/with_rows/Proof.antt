@@ -12,7 +12,7 @@ use Rattle.record.specs.Layout.{Record, day}
 use Rattle.account.specs.Records.{records}
 use Rattle.margin.specs.declared.rows.Position.{Position}
 use Rattle.margin.specs.Deltas.{rowDelta}
-use Rattle.margin.specs.Position.{RowWithin, Added, WithRows, Bounded, addsOn, deltasIn}
+use Rattle.margin.specs.Position.{RowFit, Added, WithRows, Bounded, addsOn, deltasIn}
 use Rattle.margin.proofs.AddedLaws as adding
 use Rattle.margin.proofs.RecordLaws.{count-is, record-at}
 use Rattle.margin.proofs.PositionLaws.{joined}
@@ -44,12 +44,12 @@ loop-holds c =
     start (records (now (s .args .rows))) (s .args .t2 .count) (s .args .t2 .day) (s .args .p .totals .0) (deltasIn (s .args .p .nets)) (s .args .p .shorts)
 
 -- at the head of a turn: the row is within its ranges, and there is room for it
-row-within : (c : tie.In-loop Inv-loop2 μ-loop2 Inv-loop μ-loop) → RowWithin (take (c .before .loop .i * 96 + 96 - c .before .loop .i * 96) (drop (c .before .loop .i * 96) (now (c .before .before .before .before .before .args .rows))))
+row-within : (c : tie.In-loop Inv-loop2 μ-loop2 Inv-loop μ-loop) → RowFit (take (c .before .loop .i * 96 + 96 - c .before .loop .i * 96) (drop (c .before .loop .i * 96) (now (c .before .before .before .before .before .args .rows))))
 row-within c =
     let s = c .before .before .before .before .before in
     let file = now (s .args .rows) in
     let more : c .before .loop .i < length file / 96 = c .loop-test .taken in
-    subst (λ (row : Record). RowWithin row) (record-at file (c .before .loop .i) more) (s .pre .1 .0 .each (c .before .loop .i) (omega (arith, count-is file)))
+    subst (λ (row : Record). RowFit row) (record-at file (c .before .loop .i) more) (s .pre .1 .0 .each (c .before .loop .i) (omega (arith, count-is file)))
 
 has-room : (c : tie.In-loop Inv-loop2 μ-loop2 Inv-loop μ-loop) → Most 127 (c .before .loop .totals .0) (deltasIn (c .before .loop .nets)) (c .before .loop .shorts)
 has-room c =

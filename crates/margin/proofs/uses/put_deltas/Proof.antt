@@ -1,14 +1,14 @@
 -- Deltas are written one after the other.
 -- Assumes nothing.
 use mathlib.Core.Path.{_≡_, refl, _∙_, sym, ap, ap₂}
-use mathlib.Core.List.{List, [], _∷_}
+use mathlib.Core.List.{[], _∷_}
 use Prim.Native.Nat.{ℕ, _+_, _-_}
 use native.Mathlib.Nat.{add-zero}
 use native.Mathlib.Omega.{arith}
 use native.Mathlib.Numerals.{add-one}
 use borrow.Author.Needs.{needs}
 use lib.IntN.{ℤ, pos}
-use lib.ListN.{length, length-map, getD, take, set, length-set}
+use lib.ListN.{length, length-map, take, set, length-set}
 use lib.Seq.{sets, slice, slice-cons, slice-empty}
 use Rattle.exact.proofs.Integers.{back}
 use Rattle.margin.specs.Sums.{deltaAt, deltasIn}

@@ -1,11 +1,7 @@
 -- What a step takes is written, and what it leaves is handed back.
 -- Assumes nothing.
 use mathlib.Core.Path.{_≡_, sym, ap, _∙_}
-use mathlib.Core.Bool.{true}
-use native.Mathlib.Omega.{arith}
 use borrow.Author.Needs.{needs}
-use lib.IntN.{ℤ}
-use mathlib.Core.List.{List}
 use lib.ListN.{length, length-map}
 use lib.Seq.{sets}
 use Rattle.spread.specs.Accepted.{soundPrompts, soundSpread}

@@ -1,18 +1,16 @@
 -- One spread after the other, its two steps by turns: what is written and what is still to come are the whole.
 -- Assumes nothing.
-use mathlib.Core.Path.{_≡_, refl, sym, ap, _∙_}
-use mathlib.Core.Bool.{true}
+use mathlib.Core.Path.{_≡_, refl, sym, _∙_}
 use mathlib.Core.List.{[]}
-use Prim.Native.Nat.{ℕ, _+_, _-_, _*_}
+use Prim.Native.Nat.{_-_}
 use native.Mathlib.Omega.{arith}
-use borrow.Author.Needs.{needs}
 use lib.ListN.{length, length-map}
 use lib.Seq.{sets}
 use Rattle.spread.specs.Accepted.{openOf, stepsOf, soundPrompts, soundTable}
 use Rattle.spread.specs.Uses.{usesOf}
 use Rattle.spread.specs.declared.Spread.{Spread}
-use Rattle.spread.proofs.Both.{and-left, and-right}
-use Rattle.margin.proofs.UsesLaws.{Putting, few-prompts, few-in-table, put-none, room-here, first-room, first-sound, second-room, second-sound, put-next, put-length, put-all}
+use Rattle.spread.proofs.Both.{and-right}
+use Rattle.margin.proofs.UsesLaws.{Putting, few-in-table, put-none, room-here, first-room, first-sound, second-room, second-sound, put-next, put-length, put-all}
 use Rattle.margin.proofs.uses.put_uses.Statement.{statement}
 use Rattle.margin.proofs.uses.put_uses.Tie as tie
 

@@ -2,7 +2,7 @@
 use Prim.Native.Nat.{_-_, _≤_, _<_}
 use mathlib.Core.Path.{_≡_, sym, ap, _∙_}
 use native.Mathlib.Omega.{arith}
-use Rattle.account.specs.Records.{records, recordCount}
+use Rattle.account.specs.Records.{recordCount}
 use Rattle.account.proofs.Walk.{placeFrom, place-start, place-here, place-next, place-past}
 use Rattle.reading.specs.Standing.{atOrPast, standsAt}
 use Rattle.reading.proofs.parts.records_before.Statement.{statement}

@@ -1,6 +1,7 @@
 -- One spread after the other, its two steps by turns: what is written and what is still to come are the whole.
 -- Assumes nothing.
 use mathlib.Core.Path.{_≡_, refl, sym, _∙_}
+use mathlib.Core.Bool.{true}
 use mathlib.Core.List.{[]}
 use Prim.Native.Nat.{_-_}
 use native.Mathlib.Omega.{arith}
@@ -23,6 +24,13 @@ Inv-loop out₀ table n spreads left₀ at₀ i₀ out left at i = Putting n tab
 abbrev μ-loop : tie.MeasureT-loop
 μ-loop out₀ table n spreads left₀ at₀ i₀ out left at i = spreads - i
 
+-- the table has its places, and is sound
+spreads-32 : (s : tie.Start Inv-loop μ-loop) → length (s .args .t3 .spread) ≡ 32
+spreads-32 s = sym (length-map (s .args .t3 .spread) _) ∙ s .good .1 .1 .0 .1 .1 .1 .0 .1 .0 .1
+
+sound-table : (s : tie.Start Inv-loop μ-loop) → soundTable (s .args .t3) ≡ true
+sound-table s = and-right (soundPrompts (s .args .prompts)) (soundTable (s .args .t3)) (s .pre .0)
+
 loop-holds : tie.Need-loop-holds Inv-loop μ-loop
 loop-holds c =
     let p = c .args .prompts in
@@ -33,15 +41,13 @@ loop-holds c =
 mul-spread : tie.Need-mul-spread Inv-loop μ-loop
 mul-spread c =
     let s = c .before .before in
-    let t = s .args .t3 in
-    let f = few-in-table t (and-right (soundPrompts (s .args .prompts)) (soundTable t) (s .pre .0)) in
+    let f = few-in-table (s .args .t3) (sound-table s) in
     omega arith
 
 element-copy-out-spread : tie.Need-element-copy-out-spread Inv-loop μ-loop
 element-copy-out-spread c =
     let s = c .before .before in
-    let t = s .args .t3 in
-    let f = few-in-table t (and-right (soundPrompts (s .args .prompts)) (soundTable t) (s .pre .0)) in
+    let f = few-in-table (s .args .t3) (sound-table s) in
     omega arith
 
 put-step-requires : tie.Need-put-step-requires Inv-loop μ-loop
@@ -49,44 +55,28 @@ put-step-requires c κs =
     let b = c in
     let s = b .before .before .before .before in
     let l = b .before .before .before .loop in
-    let t = s .args .t3 in
-    let len : length (t .spread) ≡ 32 = sym (length-map (t .spread) _) ∙ s .good .1 .1 .0 .1 .1 .1 .0 .1 .0 .1 in
-    let ok = and-right (soundPrompts (s .args .prompts)) (soundTable t) (s .pre .0) in
-    let n = s .args .prompts .count in
-    (first-sound t len ok n _ (l .i) (l .at) (l .left) (l .left) (l .left) (l .out) (l .out) (l .out) noSpread (l .inv .0) (b .before .before .loop-test .taken), omega (arith, l .inv .0 .count, first-room t len ok n _ (l .i) (l .at) (l .left) (l .left) (l .left) (l .out) (l .out) (l .out) noSpread (l .inv .0) (b .before .before .loop-test .taken)))
+    (first-sound (s .args .t3) (spreads-32 s) (sound-table s) (s .args .prompts .count) _ (l .i) (l .at) (l .left) (l .left) (l .left) (l .out) (l .out) (l .out) noSpread (l .inv .0) (b .before .before .loop-test .taken), omega (arith, l .inv .0 .count, first-room (s .args .t3) (spreads-32 s) (sound-table s) (s .args .prompts .count) _ (l .i) (l .at) (l .left) (l .left) (l .left) (l .out) (l .out) (l .out) noSpread (l .inv .0) (b .before .before .loop-test .taken)))
 
 add-put-step : tie.Need-add-put-step Inv-loop μ-loop
 add-put-step c =
     let b = c .before .before .before in
     let s = b .before .before .before .before in
     let l = b .before .before .before .loop in
-    let t = s .args .t3 in
-    let len : length (t .spread) ≡ 32 = sym (length-map (t .spread) _) ∙ s .good .1 .1 .0 .1 .1 .1 .0 .1 .0 .1 in
-    let ok = and-right (soundPrompts (s .args .prompts)) (soundTable t) (s .pre .0) in
-    let n = s .args .prompts .count in
-    omega (arith, l .inv .1, s .good .0, first-room t len ok n _ (l .i) (l .at) (l .left) (l .left) (l .left) (l .out) (l .out) (l .out) noSpread (l .inv .0) (b .before .before .loop-test .taken))
+    omega (arith, l .inv .1, s .good .0, first-room (s .args .t3) (spreads-32 s) (sound-table s) (s .args .prompts .count) _ (l .i) (l .at) (l .left) (l .left) (l .left) (l .out) (l .out) (l .out) noSpread (l .inv .0) (b .before .before .loop-test .taken))
 
 put-step-requires-2 : tie.Need-put-step-requires-2 Inv-loop μ-loop
 put-step-requires-2 c κs =
     let b = c .before .before .before in
     let s = b .before .before .before .before in
     let l = b .before .before .before .loop in
-    let t = s .args .t3 in
-    let len : length (t .spread) ≡ 32 = sym (length-map (t .spread) _) ∙ s .good .1 .1 .0 .1 .1 .1 .0 .1 .0 .1 in
-    let ok = and-right (soundPrompts (s .args .prompts)) (soundTable t) (s .pre .0) in
-    let n = s .args .prompts .count in
-    (second-sound t len ok n _ (l .i) (l .at) (l .left) (c .before .before .put-step .result) (l .left) (l .out) (c .before .before .put-step .last .0) (l .out) noSpread (l .inv .0) (b .before .before .loop-test .taken) (c .before .before .put-step .ensures .0) (c .before .before .put-step .ensures .1), second-room t len ok n _ (l .i) (l .at) (l .left) (c .before .before .put-step .result) (l .left) (l .out) (c .before .before .put-step .last .0) (l .out) noSpread (l .inv .0) (b .before .before .loop-test .taken) (c .before .before .put-step .ensures .0) (c .before .before .put-step .ensures .1))
+    (second-sound (s .args .t3) (spreads-32 s) (sound-table s) (s .args .prompts .count) _ (l .i) (l .at) (l .left) (c .before .before .put-step .result) (l .left) (l .out) (c .before .before .put-step .last .0) (l .out) noSpread (l .inv .0) (b .before .before .loop-test .taken) (c .before .before .put-step .ensures .0) (c .before .before .put-step .ensures .1), second-room (s .args .t3) (spreads-32 s) (sound-table s) (s .args .prompts .count) _ (l .i) (l .at) (l .left) (c .before .before .put-step .result) (l .left) (l .out) (c .before .before .put-step .last .0) (l .out) noSpread (l .inv .0) (b .before .before .loop-test .taken) (c .before .before .put-step .ensures .0) (c .before .before .put-step .ensures .1))
 
 mul-at : tie.Need-mul-at Inv-loop μ-loop
 mul-at c =
     let b = c .before .before .before .before .before in
     let s = b .before .before .before .before in
     let l = b .before .before .before .loop in
-    let t = s .args .t3 in
-    let len : length (t .spread) ≡ 32 = sym (length-map (t .spread) _) ∙ s .good .1 .1 .0 .1 .1 .1 .0 .1 .0 .1 in
-    let ok = and-right (soundPrompts (s .args .prompts)) (soundTable t) (s .pre .0) in
-    let n = s .args .prompts .count in
-    let r = room-here t len ok n _ (l .i) (l .at) (l .left) (l .left) (l .left) (l .out) (l .out) (l .out) noSpread (l .inv .0) (b .before .before .loop-test .taken) in
+    let r = room-here (s .args .t3) (spreads-32 s) (sound-table s) (s .args .prompts .count) _ (l .i) (l .at) (l .left) (l .left) (l .left) (l .out) (l .out) (l .out) noSpread (l .inv .0) (b .before .before .loop-test .taken) in
     omega (arith, l .inv .1, s .good .0)
 
 add-at : tie.Need-add-at Inv-loop μ-loop
@@ -94,11 +84,7 @@ add-at c =
     let b = c .before .before .before .before .before in
     let s = b .before .before .before .before in
     let l = b .before .before .before .loop in
-    let t = s .args .t3 in
-    let len : length (t .spread) ≡ 32 = sym (length-map (t .spread) _) ∙ s .good .1 .1 .0 .1 .1 .1 .0 .1 .0 .1 in
-    let ok = and-right (soundPrompts (s .args .prompts)) (soundTable t) (s .pre .0) in
-    let n = s .args .prompts .count in
-    let r = room-here t len ok n _ (l .i) (l .at) (l .left) (l .left) (l .left) (l .out) (l .out) (l .out) noSpread (l .inv .0) (b .before .before .loop-test .taken) in
+    let r = room-here (s .args .t3) (spreads-32 s) (sound-table s) (s .args .prompts .count) _ (l .i) (l .at) (l .left) (l .left) (l .left) (l .out) (l .out) (l .out) noSpread (l .inv .0) (b .before .before .loop-test .taken) in
     omega (arith, l .inv .1, s .good .0)
 
 add-i : tie.Need-add-i Inv-loop μ-loop
@@ -112,11 +98,7 @@ loop-again c =
     let b = c .before .before .before .before .before in
     let s = b .before .before .before .before in
     let l = b .before .before .before .loop in
-    let t = s .args .t3 in
-    let len : length (t .spread) ≡ 32 = sym (length-map (t .spread) _) ∙ s .good .1 .1 .0 .1 .1 .1 .0 .1 .0 .1 in
-    let ok = and-right (soundPrompts (s .args .prompts)) (soundTable t) (s .pre .0) in
-    let n = s .args .prompts .count in
-    (put-next t len ok n _ (l .i) (l .at) (l .left) (c .before .before .before .before .put-step .result) (c .before .put-step2 .result) (l .out) (c .before .before .before .before .put-step .last .0) (c .before .put-step2 .last .0) noSpread (l .inv .0) (b .before .before .loop-test .taken) (c .before .before .before .before .put-step .ensures .0) (c .before .before .before .before .put-step .ensures .1) (c .before .put-step2 .ensures .0) (c .before .put-step2 .ensures .1), put-length t len ok n _ (l .i) (l .at) (l .left) (c .before .before .before .before .put-step .result) (c .before .put-step2 .result) (l .out) (c .before .before .before .before .put-step .last .0) (c .before .put-step2 .last .0) noSpread (l .inv .0) (b .before .before .loop-test .taken) (c .before .before .before .before .put-step .ensures .0) (c .before .before .before .before .put-step .ensures .1) (c .before .put-step2 .ensures .0) (c .before .put-step2 .ensures .1) ∙ l .inv .1)
+    (put-next (s .args .t3) (spreads-32 s) (sound-table s) (s .args .prompts .count) _ (l .i) (l .at) (l .left) (c .before .before .before .before .put-step .result) (c .before .put-step2 .result) (l .out) (c .before .before .before .before .put-step .last .0) (c .before .put-step2 .last .0) noSpread (l .inv .0) (b .before .before .loop-test .taken) (c .before .before .before .before .put-step .ensures .0) (c .before .before .before .before .put-step .ensures .1) (c .before .put-step2 .ensures .0) (c .before .put-step2 .ensures .1), put-length (s .args .t3) (spreads-32 s) (sound-table s) (s .args .prompts .count) _ (l .i) (l .at) (l .left) (c .before .before .before .before .put-step .result) (c .before .put-step2 .result) (l .out) (c .before .before .before .before .put-step .last .0) (c .before .put-step2 .last .0) noSpread (l .inv .0) (b .before .before .loop-test .taken) (c .before .before .before .before .put-step .ensures .0) (c .before .before .before .before .put-step .ensures .1) (c .before .put-step2 .ensures .0) (c .before .put-step2 .ensures .1) ∙ l .inv .1)
 
 same-length : tie.Need-same-length Inv-loop μ-loop
 same-length c = c .before .loop .inv .1
@@ -125,10 +107,7 @@ returns : tie.Need-returns Inv-loop μ-loop
 returns c =
     let s = c .before .before in
     let l = c .before .loop in
-    let t = s .args .t3 in
-    let len : length (t .spread) ≡ 32 = sym (length-map (t .spread) _) ∙ s .good .1 .1 .0 .1 .1 .1 .0 .1 .0 .1 in
-    let ok = and-right (soundPrompts (s .args .prompts)) (soundTable t) (s .pre .0) in
-    put-all t len ok (s .args .prompts .count) _ (l .i) (l .at) (l .left) (l .out) (l .inv .0) (omega arith)
+    put-all (s .args .t3) (spreads-32 s) (sound-table s) (s .args .prompts .count) _ (l .i) (l .at) (l .left) (l .out) (l .inv .0) (omega arith)
 
 pub put-uses-spec : {M : Type 1} → statement M
 put-uses-spec =

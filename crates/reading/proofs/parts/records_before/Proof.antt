@@ -23,8 +23,8 @@ loop-holds c = place-start (atOrPast (c .before .before .args .v)) (c .before .b
 record-at-requires : tie.Need-record-at-requires Inv-loop μ-loop
 record-at-requires c κs = tt
 
-is-atOrPast-requires : tie.Need-is-atOrPast-requires Inv-loop μ-loop
-is-atOrPast-requires c κs = tt
+at-or-past-requires : tie.Need-at-or-past-requires Inv-loop μ-loop
+at-or-past-requires c κs = tt
 
 returns : tie.Need-returns Inv-loop μ-loop
 returns c =
@@ -33,7 +33,7 @@ returns c =
     let p = atOrPast (args .v) in
     let f = args .file .now in
     let n : loop .k < recordCount f = omega arith in
-    let e = ap p (sym (c .before .before .record-at .ensures)) ∙ sym (c .before .is-atOrPast .ensures) in
+    let e = ap p (sym (c .before .before .record-at .ensures)) ∙ sym (c .before .at-or-past .ensures) in
     sym (loop .inv ∙ place-here p f (recordCount f) (loop .k) n (e ∙ c .if1 .taken))
 
 add-k : tie.Need-add-k Inv-loop μ-loop
@@ -49,7 +49,7 @@ loop-again c =
     let p = atOrPast (args .v) in
     let f = args .file .now in
     let n : loop .k < recordCount f = omega arith in
-    let e = ap p (sym (c .before .before .record-at .ensures)) ∙ sym (c .before .is-atOrPast .ensures) in
+    let e = ap p (sym (c .before .before .record-at .ensures)) ∙ sym (c .before .at-or-past .ensures) in
     loop .inv ∙ place-next p f (recordCount f) (loop .k) n (e ∙ c .if1 .left)
 
 returns-2 : tie.Need-returns-2 Inv-loop μ-loop
@@ -68,7 +68,7 @@ records-before-spec =
     record-count-requires
     loop-holds
     record-at-requires
-    is-atOrPast-requires
+    at-or-past-requires
     returns
     add-k
     loop-less

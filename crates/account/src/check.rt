@@ -26,8 +26,8 @@ const MOST_BYTES: usize = 640 * RECORD_BYTES;
 pub struct Survey {
     pub answer: Answer,
     pub contracts: usize,
-    pub first: [usize; PARTS],
-    pub counts: [usize; PARTS],
+    pub first: [u16; PARTS],
+    pub counts: [u16; PARTS],
 }
 
 fn refused(answer: Answer) -> Survey
@@ -41,17 +41,17 @@ fn refused(answer: Answer) -> Survey
     }
 }
 
-fn note_first(first: &mut [usize], counts: &[usize], v: usize, k: usize)
-    requires { ⌜ v < length (now first) ⌝ }
+fn note_first(first: &mut [u16], counts: &[u16], v: usize, k: usize)
+    requires { ⌜ (v < length (now first)) × (k < 640) ⌝ }
     ensures { λ _. ⌜ now (first .exit) ≡ startNoted (now (first .entry)) (now (counts .entry)) v k ⌝ }
 {
     if noted(counts, v) == 0 {
-        first[v] = k;
+        first[v] = k as u16;
     }
 }
 
-fn note_one(counts: &mut [usize], v: usize)
-    requires { ⌜ (v < length (now counts)) × (getD (now counts) v 0 < 65536) ⌝ }
+fn note_one(counts: &mut [u16], v: usize)
+    requires { ⌜ (v < length (now counts)) × (getD (now counts) v 0 < 640) ⌝ }
     ensures { λ _. ⌜ now (counts .exit) ≡ oneMore (now (counts .entry)) v ⌝ }
 {
     counts[v] = counts[v] + 1;
@@ -75,8 +75,8 @@ pub fn take_survey(file: &[u8]) -> Survey
     }
     let count = record_count(file);
     let mut contracts = 0;
-    let mut first = [0usize; PARTS];
-    let mut counts = [0usize; PARTS];
+    let mut first = [0u16; PARTS];
+    let mut counts = [0u16; PARTS];
     let mut k = 0;
     while k < count {
         let number = fault_at(file, &first, &counts, k);

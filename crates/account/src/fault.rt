@@ -17,7 +17,7 @@ use record::refusals::unknown_kind;
 use record::refusals::unused_byte;
 
 // `prompts` are those of the record's contract, `before` is the record before.
-fn fault(counts: &[usize], prompts: &[u8], before: &[u8], r: &[u8]) -> usize
+fn fault(counts: &[u16], prompts: &[u8], before: &[u8], r: &[u8]) -> usize
     ensures { λ n. ⌜ n ≡ faultBy (now (counts .entry)) (records (now (prompts .entry))) (now (before .entry)) (now (r .entry)) ⌝ }
 {
     if unknown_kind(r) {
@@ -45,7 +45,7 @@ fn fault(counts: &[usize], prompts: &[u8], before: &[u8], r: &[u8]) -> usize
 }
 
 // Of record `k`, from the notes of the records before it.
-pub(crate) fn fault_at(file: &[u8], first: &[usize], counts: &[usize], k: usize) -> usize
+pub(crate) fn fault_at(file: &[u8], first: &[u16], counts: &[u16], k: usize) -> usize
     requires { ⌜ k < recordCount (now file) ⌝ }
     ensures { λ n. ⌜ n ≡ faultAt (now (file .entry)) (now (first .entry)) (now (counts .entry)) k ⌝ }
 {

@@ -13,7 +13,7 @@ const MOST_SPREADS: usize = 32;
 
 const MOST_ENTRIES: usize = 32;
 
-pub(crate) fn over_limit(counts: &[usize], r: &[u8]) -> bool
+pub(crate) fn over_limit(counts: &[u16], r: &[u8]) -> bool
     ensures { λ b. ⌜ b ≡ overLimitBy (now (counts .entry)) (now (r .entry)) ⌝ }
 {
     let k = kind(r);

@@ -17,7 +17,7 @@ use record::fields::leg_count;
 use record::fields::leg_tier;
 use record::fields::second_contract;
 
-fn no_contract(counts: &[usize], c: usize) -> bool
+fn no_contract(counts: &[u16], c: usize) -> bool
     requires { ⌜ c < 256 ⌝ }
     ensures { λ b. ⌜ b ≡ noContract (now (counts .entry)) c ⌝ }
 {
@@ -53,7 +53,7 @@ fn some_leg_tier(prompts: &[u8], r: &[u8]) -> bool
 }
 
 // `prompts` are those of the record's contract.
-pub(crate) fn unlisted(counts: &[usize], prompts: &[u8], r: &[u8]) -> bool
+pub(crate) fn unlisted(counts: &[u16], prompts: &[u8], r: &[u8]) -> bool
     ensures { λ b. ⌜ b ≡ unlistedBy (now (counts .entry)) (records (now (prompts .entry))) (now (r .entry)) ⌝ }
 {
     let k = kind(r);

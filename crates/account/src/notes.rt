@@ -7,10 +7,16 @@ use crate::parts::ENTRIES;
 use record::fields::contract;
 use record::fields::kind;
 
-pub(crate) fn noted(notes: &[usize], v: usize) -> usize
+fn wide(x: u16) -> usize
+    ensures { λ n. ⌜ n ≡ x ⌝ }
+{
+    x as usize
+}
+
+pub(crate) fn noted(notes: &[u16], v: usize) -> usize
     ensures { λ n. ⌜ n ≡ getD (now (notes .entry)) v 0 ⌝ }
 {
-    if v < notes.len() { notes[v] } else { 0 }
+    if v < notes.len() { wide(notes[v]) } else { 0 }
 }
 
 // The number of a record's part.

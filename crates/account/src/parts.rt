@@ -21,7 +21,7 @@ pub const ENTRIES: usize = 5 * CONTRACTS;
 pub(crate) const PARTS: usize = ENTRIES + 1;
 
 // The records of part `v` as they stand in the file, by where it begins and how many it has.
-pub(crate) fn part_at<'a>(file: &'a [u8], first: &[usize], counts: &[usize], v: usize) -> &'a [u8]
+pub(crate) fn part_at<'a>(file: &'a [u8], first: &[u16], counts: &[u16], v: usize) -> &'a [u8]
     ensures { λ r. ⌜ now r ≡ partAt (now (file .entry)) (now (first .entry)) (now (counts .entry)) v ⌝ }
 {
     stretch(file, noted(first, v), noted(counts, v))

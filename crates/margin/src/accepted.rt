@@ -53,12 +53,11 @@ pub struct Lines {
     pub line: [Line; 16],
 }
 
-// A part of the file.
-fn part_at(file: &[u8], survey: Survey, v: usize) -> &[u8]
-    requires { ⌜ v < parts ⌝ }
-    ensures { λ r. ⌜ now r ≡ stretch (now (file .entry)) (getD (survey .first) v 0) (getD (survey .counts) v 0) ⌝ }
+// A part of the file, by where it begins and how many records it has.
+fn part_at(file: &[u8], first: u16, count: u16) -> &[u8]
+    ensures { λ r. ⌜ now r ≡ stretch (now (file .entry)) first count ⌝ }
 {
-    stretch(file, survey.first[v], survey.counts[v])
+    stretch(file, first as usize, count as usize)
 }
 
 // The line of the i-th contract.
@@ -68,9 +67,9 @@ fn line_at(file: &[u8], survey: Survey, i: usize) -> Line
 {
     let own = record_at(file, i);
     let c = contract(own);
-    let prompts = part_at(file, survey, PROMPTS + c);
-    let rows = part_at(file, survey, ROWS + c);
-    let spreads = part_at(file, survey, SPREADS + c);
+    let prompts = part_at(file, survey.first[PROMPTS + c], survey.counts[PROMPTS + c]);
+    let rows = part_at(file, survey.first[ROWS + c], survey.counts[ROWS + c]);
+    let spreads = part_at(file, survey.first[SPREADS + c], survey.counts[SPREADS + c]);
     line_of(own, prompts, rows, spreads)
 }
 
@@ -113,7 +112,7 @@ pub(crate) fn figures_over(file: &[u8], survey: Survey) -> Numbers
     let all = lines_of(file, survey);
     let count = all.count;
     let lines = all.line;
-    let entries = part_at(file, survey, ENTRIES);
+    let entries = part_at(file, survey.first[ENTRIES], survey.counts[ENTRIES]);
     let book = table_book(count, lines, entries);
     let credits = credits_of(count, lines, entries, book);
     figures_numbers(count, lines, credits)
@@ -147,9 +146,9 @@ fn contract_numbers(file: &[u8], survey: Survey, c: usize) -> Numbers
     requires { ⌜ Stands (now file) survey × (c ≤ 15) ⌝ }
     ensures { λ r. ⌜ BookNumbers (contractBook (partsOf (records (now (file .entry))) c)) (length (promptsOf c (records (now (file .entry))))) (length (spreadsOf c (records (now (file .entry))))) r ⌝ }
 {
-    let prompts = part_at(file, survey, PROMPTS + c);
-    let rows = part_at(file, survey, ROWS + c);
-    let spreads = part_at(file, survey, SPREADS + c);
+    let prompts = part_at(file, survey.first[PROMPTS + c], survey.counts[PROMPTS + c]);
+    let rows = part_at(file, survey.first[ROWS + c], survey.counts[ROWS + c]);
+    let spreads = part_at(file, survey.first[SPREADS + c], survey.counts[SPREADS + c]);
     contract_answer(prompts, rows, spreads)
 }
 
@@ -161,7 +160,7 @@ fn table_numbers(file: &[u8], survey: Survey) -> Numbers
     let all = lines_of(file, survey);
     let count = all.count;
     let lines = all.line;
-    let entries = part_at(file, survey, ENTRIES);
+    let entries = part_at(file, survey.first[ENTRIES], survey.counts[ENTRIES]);
     let book = table_book(count, lines, entries);
     let tiers = tiers_of(count, lines);
     let nets = tiers.net;
@@ -209,9 +208,9 @@ fn asking_of(file: &[u8], survey: Survey, c: usize) -> Asking
     requires { ⌜ Stands (now file) survey × (c ≤ 15) ⌝ }
     ensures { λ r. ⌜ Asks (contractUses (partsOf (records (now (file .entry))) c)) r ⌝ }
 {
-    let prompts = part_at(file, survey, PROMPTS + c);
-    let rows = part_at(file, survey, ROWS + c);
-    let spreads = part_at(file, survey, SPREADS + c);
+    let prompts = part_at(file, survey.first[PROMPTS + c], survey.counts[PROMPTS + c]);
+    let rows = part_at(file, survey.first[ROWS + c], survey.counts[ROWS + c]);
+    let spreads = part_at(file, survey.first[SPREADS + c], survey.counts[SPREADS + c]);
     contract_asking(prompts, rows, spreads)
 }
 
@@ -223,7 +222,7 @@ fn table_asking(file: &[u8], survey: Survey) -> Asking
     let all = lines_of(file, survey);
     let count = all.count;
     let lines = all.line;
-    let entries = part_at(file, survey, ENTRIES);
+    let entries = part_at(file, survey.first[ENTRIES], survey.counts[ENTRIES]);
     Asking {
         prompts: tiers_of(count, lines),
         table: intercontract_table(entries),

@@ -30,12 +30,12 @@ fn sizes_over(file: &[u8], survey: Survey, question: usize) -> Sizes
     if question == TABLE {
         return Sizes {
             prompts: survey.contracts,
-            spreads: survey.counts[ENTRIES],
+            spreads: survey.counts[ENTRIES] as usize,
         };
     }
     Sizes {
-        prompts: survey.counts[PROMPTS + question],
-        spreads: survey.counts[SPREADS + question],
+        prompts: survey.counts[PROMPTS + question] as usize,
+        spreads: survey.counts[SPREADS + question] as usize,
     }
 }
 

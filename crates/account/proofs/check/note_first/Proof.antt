@@ -8,6 +8,9 @@ use Rattle.account.proofs.check.note_first.Tie as tie
 noted-requires : tie.Need-noted-requires
 noted-requires c κs = tt
 
+cast-first : tie.Need-cast-first
+cast-first c = search needs
+
 mul-first : tie.Need-mul-first
 mul-first c = search needs
 
@@ -25,4 +28,4 @@ returns-2 c = rw (ne-eqb _ _ (λ e. c .if1 .left (c .before .noted .ensures ∙ 
 
 pub note-first-spec : {M : Type 1} → statement M
 note-first-spec =
-    tie.close (tie.spec noted-requires mul-first slice-write-first same-length returns returns-2)
+    tie.close (tie.spec noted-requires cast-first mul-first slice-write-first same-length returns returns-2)

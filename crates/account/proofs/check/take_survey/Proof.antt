@@ -103,7 +103,11 @@ note-first-requires c κs =
     ∙ c .before .before .before .before .if3 .left in
     let v : c .before .before .part-of .result ≡ partOf (recordAt file k) = c .before .before .part-of .ensures
     ∙ ap partOf (c .before .before .before .whole-at .ensures) in
-    omega (arith, part-in g more none, g .notes .firsts)
+    let l =
+    c .before .before .before .before .before .before .before .before .before .before .before .before .if1 .left in (
+      omega (arith, part-in g more none, g .notes .firsts),
+      omega (arith, c .before .before .before .before .before .before .before .before .before .before .record-count .ensures),
+    )
 
 slice-aggregate-note-one : tie.Need-slice-aggregate-note-one Inv-loop μ-loop
 slice-aggregate-note-one c = sym

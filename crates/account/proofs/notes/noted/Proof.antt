@@ -5,17 +5,21 @@ use lib.ListN.{List·getD-eq-default}
 use Rattle.account.proofs.notes.noted.Statement.{statement}
 use Rattle.account.proofs.notes.noted.Tie as tie
 
-mul-result : tie.Need-mul-result
-mul-result c = search needs
+mul-wide : tie.Need-mul-wide
+mul-wide c = search needs
 
-shared-slice-read-result : tie.Need-shared-slice-read-result
-shared-slice-read-result c = search needs
+shared-slice-read-wide : tie.Need-shared-slice-read-wide
+shared-slice-read-wide c = search needs
+
+wide-requires : tie.Need-wide-requires
+wide-requires c κs = tt
 
 returns : tie.Need-returns
-returns c = search needs
+returns c = c .wide .ensures
 
 returns-2 : tie.Need-returns-2
-returns-2 c = sym (List·getD-eq-default (c .before .args .notes .now) 0 {n = c .before .args .v} (c .if1 .left))
+returns-2 c = sym
+    (List·getD-eq-default (c .before .before .args .notes .now) 0 {n = c .before .before .args .v} (c .if1 .left))
 
 pub noted-spec : {M : Type 1} → statement M
-noted-spec = tie.close (tie.spec mul-result shared-slice-read-result returns returns-2)
+noted-spec = tie.close (tie.spec mul-wide shared-slice-read-wide wide-requires returns returns-2)

@@ -5,6 +5,7 @@ use native.Mathlib.Nat.{le-trans, le-of-suc-le-suc, not-suc-le-zero, mul-le-mul-
 use native.Mathlib.Decide.{ℕ-discrete}
 use native.Mathlib.Omega.{arith}
 use mathlib.Core.Path.{_≡_, refl, sym, ap, ap₂, _∙_, subst, subst⁻¹}
+use mathlib.Core.Bool.{true}
 use mathlib.Core.List.{List, [], _∷_, _++_, map}
 use lib.IntN.{ℤ, pos, natAbs}
 use lib.ListN.{length, getD, take, set, length-set, length-map}
@@ -14,7 +15,7 @@ use Rattle.record.specs.Layout.{Record, contract, percent}
 use Rattle.account.specs.Parts.{contractsOf, entriesOf}
 use Rattle.account.specs.Records.{records, stretch}
 use Rattle.account.specs.declared.check.Survey.{Survey}
-use Rattle.spread.specs.Book.{spreadsEntry}
+use Rattle.spread.specs.Book.{entries, spreadsEntry, deltaEntry}
 use Rattle.spread.specs.Steps.{Open, steps, numbers, usedOf, unusedOf}
 use Rattle.spread.specs.declared.Prompts.{Prompts}
 use Rattle.spread.specs.declared.Spreads.{Spreads}
@@ -35,8 +36,8 @@ use Rattle.margin.specs.Books.{threes, tableBook}
 use Rattle.margin.specs.Numbers.{written, LinesWithin, SpreadsSigned, BookNumbers}
 use Rattle.margin.specs.Promised.{BookOf, LineOf}
 use Rattle.margin.specs.Stands.{Stands, LinesOf}
-use Rattle.margin.specs.Sums.{interleaved, deltasIn, spreadsAt}
-use Rattle.margin.specs.Table.{tierOf, TiersFrom, TableRoom, CreditsRoom, CreditsOf, earns}
+use Rattle.margin.specs.Sums.{interleaved, deltasIn, spreadsAt, EntriesRoom}
+use Rattle.margin.specs.Table.{tierOf, TiersFrom, TableRoom, CreditsRoom, CreditsOf, earns, tableFirsts, tableSeconds}
 use Rattle.margin.proofs.AcceptLaws.{entries-within, numbers-rise}
 use Rattle.margin.proofs.BookLaws.{over-arrays, book-listed}
 use Rattle.margin.proofs.CreditLaws.{credits-by}
@@ -143,6 +144,20 @@ module _ (file : List ℕ) (s : Survey) (st : Stands file s) (all : Lines) (is :
 
   pub table-room : TableRoom n (all .line) (records part)
   table-room = record { few = is .few; tiers-sound = tiers-sound ks ls lined; entries-within = es-within }
+
+  -- the book of the table, run or not
+  abbrev pub its : Book
+  its =
+      record {
+        accepted = true;
+        first = tableFirsts n (all .line) (records part);
+        second = tableSeconds n (all .line) (records part);
+        used = entries 32 (deltaEntry (usedOf (steps (map intercontract (records part))) (map tierOf ls)));
+        unused = entries 32 (deltaEntry (unusedOf (steps (map intercontract (records part))) (map tierOf ls)));
+      }
+
+  pub its-book : BookOf (steps (map intercontract (records part))) (map tierOf ls) its
+  its-book = record { first-is = refl; second-is = refl; used-is = refl; unused-is = refl }
 
   module _ (b : Book) (bk : BookOf (steps (map intercontract (records part))) (map tierOf ls) b) where
     abbrev ns : List ℕ

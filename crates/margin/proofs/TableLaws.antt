@@ -1,14 +1,15 @@
 -- The intercontract table: contracts as tiers, filled place by place; what entries use is within what contracts have.
 -- Assumes nothing.
-use Prim.Native.Nat.{ℕ, zero, suc, _+_, _-_, _*_, _≤_, _<_, suc-le-suc}
+use Prim.Native.Nat.{ℕ, zero, suc, _+_, _-_, _*_, _/_, _≤_, _<_, zero-le, suc-le-suc}
+use native.Mathlib.Nat.{le-refl, le-trans, le-of-suc-le-suc, not-suc-le-zero}
 use native.Mathlib.Numerals.{add-one}
 use native.Mathlib.Decide.{ℕ-discrete}
 use native.Mathlib.Omega.{arith}
 use mathlib.Core.Path.{_≡_, refl, sym, ap, ap₂, _∙_, subst, subst⁻¹}
 use mathlib.Core.Bool.{Bool, true, false, not, _&&_, _||_}
 use mathlib.Core.List.{List, [], _∷_, _++_, map, map-map}
-use lib.IntN.{ℤ, natAbs}
-use lib.ListN.{length, getD, take, set, length-set, length-map}
+use lib.IntN.{ℤ, pos, natAbs}
+use lib.ListN.{length, getD, take, drop, set, replicate, length-set, length-map}
 use lib.Seq.{take-suc, take-suc-set, getD-set-same, getD-set-other}
 use Rattle.exact.proofs.Lists.{map-take, getD-map}
 use borrow.Author.Tests.{lt-ltb}
@@ -18,8 +19,9 @@ use Rattle.spread.specs.Accepted as given
 use Rattle.spread.specs.Steps.{Open, steps}
 use Rattle.spread.specs.declared.Delta.{Delta}
 use Rattle.spread.specs.declared.Prompts.{Prompts}
-use Rattle.account.specs.Records.{records}
+use Rattle.account.specs.Records.{cut, records}
 use Rattle.spread.specs.Book.{Booked}
+use Rattle.spread.proofs.Filling.{getD-same}
 use Rattle.spread.specs.declared.Spreads.{Spreads}
 use Rattle.spread.specs.declared.Table.{Table}
 use Rattle.spread.specs.declared.book.Book.{Book}
@@ -122,6 +124,17 @@ module _ (l : Line) (e : Earner) (entries : List Record) (f g : List Spreads) (i
       h
       ∙ ap (λ (c : ℕ). creditsBy c (e .«twice_price») (e .net) entries (interleaved f g)) (is .contract-is)
       ∙ ap₂ (λ (t n : ℕ). creditsBy (l .contract) t n entries (interleaved f g)) (is .price-is) (is .net-is)
+
+-- without entries there is nothing to earn
+pub none-earned : (count : ℕ) (lines : List Line) (part : List ℕ) (f g : List Spreads) → length part < 96 → CreditsOf count lines (records part) f g (replicate 16 (record { 0 = 0 }))
+none-earned count lines part f g h =
+    let e : length part / 96 ≡ 0 = omega arith in
+    subst⁻¹ (λ (es : List Record). CreditsOf count lines es f g (replicate 16 (record { 0 = 0 }))) (ap (λ (n : ℕ). cut n part) e)
+    (record {
+      places = refl;
+      each = λ i l. ap (λ (a : Amount). a .0) (getD-same 16 (record { 0 = 0 }) i);
+      most = λ i l. subst⁻¹ (λ (a : Amount). a .0 ≤ 128 * mostRisk) (getD-same 16 (record { 0 = 0 }) i) zero-le;
+    })
 
 -- the entries of a table are spreads that the steps accept
 pub entry-accepted : (e : Record) → EntryFit e → given.soundSpread (intercontract e) ≡ true

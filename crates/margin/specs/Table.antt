@@ -1,6 +1,6 @@
 -- The intercontract table over the lines of the figures.
 -- Assumes nothing.
-use Prim.Native.Nat.{ℕ, _*_, _≤_, _<_}
+use Prim.Native.Nat.{ℕ, _+_, _*_, _≤_, _<_}
 use mathlib.Core.Path.{_≡_}
 use mathlib.Core.Bool.{true}
 use mathlib.Core.List.{List, map}
@@ -8,7 +8,8 @@ use lib.IntN.{natAbs}
 use lib.ListN.{length, getD, take}
 use Rattle.record.specs.Layout.{Record}
 use Rattle.spread.specs.Accepted.{every, soundPrompt, openOf}
-use Rattle.spread.specs.Steps.{Open}
+use Rattle.spread.specs.Book.{spreadsEntry, entries as places}
+use Rattle.spread.specs.Steps.{Open, steps, numbers}
 use Rattle.spread.specs.declared.Prompts.{Prompts}
 use Rattle.spread.specs.declared.Spreads.{Spreads}
 use Rattle.margin.specs.declared.amount.Amount.{Amount}
@@ -16,6 +17,7 @@ use Rattle.margin.specs.declared.charges.Earner.{Earner}
 use Rattle.margin.specs.declared.line.Line.{Line}
 use Rattle.margin.specs.Bounds.{mostRisk}
 use Rattle.margin.specs.Credit.{creditsBy}
+use Rattle.margin.specs.Deltas.{intercontract}
 use Rattle.margin.specs.Lines.{noLine}
 use Rattle.margin.specs.Sums.{interleaved, deltasIn, EntriesRoom}
 use Rattle.margin.specs.Within.{EntriesFit}
@@ -33,6 +35,13 @@ pub record TableRoom (count : ℕ) (lines : List Line) (entries : List Record) :
   pub few : count ≤ 16
   pub tiers-sound : every soundPrompt (map tierOf (take count lines)) ≡ true
   pub entries-within : EntriesFit entries
+
+-- the numbers that the entries form over the contracts, entry by entry
+abbrev pub tableFirsts : ℕ → List Line → List Record → List Spreads
+tableFirsts count lines es = places 32 (λ k. spreadsEntry (numbers (steps (map intercontract es)) (map tierOf (take count lines))) (2 * k))
+
+abbrev pub tableSeconds : ℕ → List Line → List Record → List Spreads
+tableSeconds count lines es = places 32 (λ k. spreadsEntry (numbers (steps (map intercontract es)) (map tierOf (take count lines))) (2 * k + 1))
 
 pub record EarnerOf (l : Line) (e : Earner) : Type 0 where
   pub contract-is : e .contract ≡ l .contract

@@ -1,8 +1,8 @@
 // An accepted account, by its survey: the lines of its contracts, and the numbers of its answers.
 use crate::amount::Amount;
 use crate::books::contract_book;
-use crate::intercontract::credits_of;
 use crate::intercontract::table_book;
+use crate::intercontract::table_credits;
 use crate::intercontract::tiers_of;
 use crate::line::Line;
 use crate::line::line_of;
@@ -113,8 +113,7 @@ pub(crate) fn figures_over(file: &[u8], survey: Survey) -> Numbers
     let count = all.count;
     let lines = all.line;
     let entries = part_at(file, survey.first[ENTRIES], survey.counts[ENTRIES]);
-    let book = table_book(count, lines, entries);
-    let credits = credits_of(count, lines, entries, book);
+    let credits = table_credits(count, lines, entries);
     figures_numbers(count, lines, credits)
 }
 

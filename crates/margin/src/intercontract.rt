@@ -5,6 +5,7 @@ use crate::charges::credits;
 use crate::line::Line;
 use crate::tables::intercontract_table;
 use exact::signed::magnitude;
+use record::bytes::RECORD_BYTES;
 use spread::Delta;
 use spread::Prompts;
 use spread::book::Book;
@@ -16,7 +17,7 @@ ghost use Rattle.account.specs.Records.{records};
 ghost use Rattle.spread.specs.Steps.{steps};
 ghost use Rattle.margin.specs.Deltas.{intercontract};
 ghost use Rattle.margin.specs.Promised.{BookOf};
-ghost use Rattle.margin.specs.Table.{tierOf, TiersFrom, TableRoom, EarnerOf, CreditsRoom, CreditsOf};
+ghost use Rattle.margin.specs.Table.{tierOf, TiersFrom, TableRoom, EarnerOf, CreditsRoom, CreditsOf, tableFirsts, tableSeconds};
 
 // The contracts as the spread steps take them.
 pub(crate) fn tiers_of(count: usize, lines: [Line; 16]) -> Prompts
@@ -60,12 +61,7 @@ fn earner_of(line: Line) -> Earner
 }
 
 // Each contract's credits from the entries of the table.
-pub(crate) fn credits_of(
-    count: usize,
-    lines: [Line; 16],
-    entries: &[u8],
-    book: Book,
-) -> [Amount; 16]
+fn credits_of(count: usize, lines: [Line; 16], entries: &[u8], book: Book) -> [Amount; 16]
     requires { ⌜ CreditsRoom count lines (records (now entries)) (book .first) (book .second) ⌝ }
     ensures { λ r. ⌜ CreditsOf count lines (records (now (entries .entry))) (book .first) (book .second) r ⌝ }
 {
@@ -78,4 +74,16 @@ pub(crate) fn credits_of(
         i += 1;
     }
     earned
+}
+
+// The same from the entries alone. Without entries there are no credits, and no book is run.
+pub(crate) fn table_credits(count: usize, lines: [Line; 16], entries: &[u8]) -> [Amount; 16]
+    requires { ⌜ TableRoom count lines (records (now entries)) × CreditsRoom count lines (records (now entries)) (tableFirsts count lines (records (now entries))) (tableSeconds count lines (records (now entries))) ⌝ }
+    ensures { λ r. ⌜ CreditsOf count lines (records (now (entries .entry))) (tableFirsts count lines (records (now (entries .entry)))) (tableSeconds count lines (records (now (entries .entry)))) r ⌝ }
+{
+    if entries.len() < RECORD_BYTES {
+        return [Amount(0); 16];
+    }
+    let book = table_book(count, lines, entries);
+    credits_of(count, lines, entries, book)
 }

@@ -68,6 +68,7 @@ module _ (own : Record) (prompts rows spreads : List Record) (w : ContractFit ow
       record {
         few-prompts = w .few-prompts;
         few-spreads = w .few-spreads;
+        nets-beyond = is .nets-beyond;
         prompts-sound = opens-sound prompts nets (λ j h. w .each-prompt j h .tier-within) net-most;
         spreads-sound = spreads-sound interprompt spreads (λ j h. w .each-spread j h .sound);
       }

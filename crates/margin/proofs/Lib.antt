@@ -26,6 +26,7 @@ pub mod QuestionLaws
 pub mod AskedLaws
 pub mod Demands
 pub mod HeldLaws
+pub mod UnspreadLaws
 pub mod UsesLaws
 pub mod NeedLaws
 pub mod PlaceLaws

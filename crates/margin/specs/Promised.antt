@@ -3,9 +3,9 @@
 use Prim.Native.Nat.{ℕ, _+_, _*_, _≤_}
 use mathlib.Core.Path.{_≡_}
 use mathlib.Core.Bool.{true}
-use mathlib.Core.List.{List, map}
-use lib.IntN.{ℤ, natAbs}
-use lib.ListN.{length}
+use mathlib.Core.List.{List, [], _∷_, map}
+use lib.IntN.{ℤ, pos, natAbs}
+use lib.ListN.{length, getD}
 use Rattle.record.specs.Layout.{Record, contract}
 use Rattle.spread.specs.Steps.{Open, Taker, numbers, usedOf, unusedOf}
 use Rattle.spread.specs.Accepted.{every, soundPrompt, soundSpread}
@@ -27,10 +27,11 @@ pub record BookOf (ss : List (List Taker)) (ps : List Open) (b : Book) : Type 0 
   pub used-is : b .used ≡ entries 32 (deltaEntry (usedOf ss ps))
   pub unused-is : b .unused ≡ entries 32 (deltaEntry (unusedOf ss ps))
 
--- prompts and spreads that the spread steps accept
+-- prompts and spreads that the spread steps accept; the net deltas past the prompts are 0
 pub record BookRoom (prompts : List Record) (nets : List ℤ) (spreads : List Record) : Type 0 where
   pub few-prompts : length prompts ≤ 32
   pub few-spreads : length spreads ≤ 32
+  pub nets-beyond : (j : ℕ) → length prompts ≤ j → getD nets j (pos 0) ≡ pos 0
   pub prompts-sound : every soundPrompt (opens prompts nets) ≡ true
   pub spreads-sound : every soundSpread (map interprompt spreads) ≡ true
 

@@ -1,7 +1,9 @@
 // The delta book of a contract, and of the intercontract table, by the spread steps.
 use crate::tables::interprompt_table;
 use crate::tables::prompts_with;
+use record::bytes::RECORD_BYTES;
 use spread::Delta;
+use spread::Spreads;
 use spread::book::Book;
 use spread::book::delta_book;
 ghost use mathlib.Core.List.{map};
@@ -11,10 +13,19 @@ ghost use Rattle.margin.specs.Deltas.{opens, interprompt};
 ghost use Rattle.margin.specs.Sums.{deltasIn};
 ghost use Rattle.margin.specs.Promised.{BookOf, BookRoom};
 
-// The book of a contract's interprompt spreads, over its prompts and their net deltas.
+// The book of a contract's interprompt spreads, over its prompts and their net deltas. Without spreads nothing is used.
 pub(crate) fn contract_book(prompts: &[u8], nets: [Delta; 32], spreads: &[u8]) -> Book
     requires { ⌜ BookRoom (records (now prompts)) (deltasIn nets) (records (now spreads)) ⌝ }
     ensures { λ r. ⌜ BookOf (steps (map interprompt (records (now (spreads .entry))))) (opens (records (now (prompts .entry))) (deltasIn nets)) r ⌝ }
 {
+    if spreads.len() < RECORD_BYTES {
+        return Book {
+            accepted: true,
+            first: [Spreads(0); 32],
+            second: [Spreads(0); 32],
+            used: [Delta(0); 32],
+            unused: nets,
+        };
+    }
     delta_book(prompts_with(prompts, nets), interprompt_table(spreads))
 }

@@ -1,28 +1,38 @@
 -- The spread steps accept a contract's prompts and spreads, and their book is the contract's.
 -- Assumes nothing.
+use mathlib.Core.Path.{_≡_, refl}
 use native.Mathlib.Omega.{arith}
 use borrow.Author.Needs.{needs}
+use lib.ListN.{length}
+use Rattle.account.specs.Records.{records}
 use Rattle.margin.proofs.BookLaws.{contract-book-is}
 use Rattle.margin.proofs.RecordLaws.{count-is}
+use Rattle.margin.proofs.UnspreadLaws.{unspread}
 use Rattle.margin.proofs.books.contract_book.Statement.{statement}
 use Rattle.margin.proofs.books.contract_book.Tie as tie
 
+returns : tie.Need-returns
+returns c =
+    let s = c .before .before .before in
+    let n : length (s .args .nets) ≡ 32 = search needs in
+    unspread (records (s .args .prompts .now)) (s .args .spreads .now) (s .args .nets) _ (c .if1 .taken) n (s .pre .nets-beyond) refl refl refl refl
+
 prompts-with-requires : tie.Need-prompts-with-requires
-prompts-with-requires c κs = let s = c .before .before in omega (arith, s .pre .few-prompts, count-is (s .args .prompts .now))
+prompts-with-requires c κs = let s = c .before .before .before in omega (arith, s .pre .few-prompts, count-is (s .args .prompts .now))
 
 interprompt-table-requires : tie.Need-interprompt-table-requires
-interprompt-table-requires c κs = let s = c .before .before .before in omega (arith, s .pre .few-spreads, count-is (s .args .spreads .now))
+interprompt-table-requires c κs = let s = c .before .before .before .before in omega (arith, s .pre .few-spreads, count-is (s .args .spreads .now))
 
 delta-book-requires : tie.Need-delta-book-requires
 delta-book-requires c κs = search needs
 
-returns : tie.Need-returns
-returns c =
-    let s = c .before .before .before .before .before in
+returns-2 : tie.Need-returns-2
+returns-2 c =
+    let s = c .before .before .before .before .before .before in
     contract-book-is (s .args .prompts .now) (s .args .spreads .now) (s .args .nets) (c .before .before .prompts-with .result) (c .before .interprompt-table .result) (c .delta-book .result)
     (c .before .before .prompts-with .ensures) (c .before .interprompt-table .ensures) (s .pre) (c .delta-book .ensures)
 
 pub contract-book-spec : {M : Type 1} → statement M
 contract-book-spec =
     tie.close
-    (tie.spec prompts-with-requires interprompt-table-requires delta-book-requires returns)
+    (tie.spec returns prompts-with-requires interprompt-table-requires delta-book-requires returns-2)

@@ -36,7 +36,7 @@ use Rattle.margin.specs.Books.{threes, tableBook}
 use Rattle.margin.specs.Numbers.{written, LinesWithin, SpreadsSigned, BookNumbers}
 use Rattle.margin.specs.Promised.{BookOf, LineOf}
 use Rattle.margin.specs.Stands.{Stands, LinesOf}
-use Rattle.margin.specs.Sums.{interleaved, deltasIn, spreadsAt, EntriesRoom}
+use Rattle.margin.specs.Sums.{interleaved, deltasIn, spreadsAt}
 use Rattle.margin.specs.Table.{tierOf, TiersFrom, TableRoom, CreditsRoom, CreditsOf, earns, tableFirsts, tableSeconds}
 use Rattle.margin.proofs.AcceptLaws.{entries-within, numbers-rise}
 use Rattle.margin.proofs.BookLaws.{over-arrays, book-listed}

@@ -1,15 +1,14 @@
 -- The intercontract table: contracts as tiers, filled place by place; what entries use is within what contracts have.
 -- Assumes nothing.
 use Prim.Native.Nat.{ℕ, zero, suc, _+_, _-_, _*_, _/_, _≤_, _<_, zero-le, suc-le-suc}
-use native.Mathlib.Nat.{le-refl, le-trans, le-of-suc-le-suc, not-suc-le-zero}
 use native.Mathlib.Numerals.{add-one}
 use native.Mathlib.Decide.{ℕ-discrete}
 use native.Mathlib.Omega.{arith}
 use mathlib.Core.Path.{_≡_, refl, sym, ap, ap₂, _∙_, subst, subst⁻¹}
 use mathlib.Core.Bool.{Bool, true, false, not, _&&_, _||_}
 use mathlib.Core.List.{List, [], _∷_, _++_, map, map-map}
-use lib.IntN.{ℤ, pos, natAbs}
-use lib.ListN.{length, getD, take, drop, set, replicate, length-set, length-map}
+use lib.IntN.{ℤ, natAbs}
+use lib.ListN.{length, getD, take, set, replicate, length-set, length-map}
 use lib.Seq.{take-suc, take-suc-set, getD-set-same, getD-set-other}
 use Rattle.exact.proofs.Lists.{map-take, getD-map}
 use borrow.Author.Tests.{lt-ltb}

@@ -2,14 +2,14 @@
 -- Assumes nothing.
 use Prim.Native.Nat.{ℕ, zero, suc, _*_, _+_, _/_, _≤_, _<_, zero-le, suc-le-suc}
 use native.Mathlib.Omega.{arith}
-use mathlib.Core.Path.{_≡_, refl, sym, ap, ap₂, _∙_, subst⁻¹}
+use mathlib.Core.Path.{_≡_, refl, ap, ap₂, _∙_, subst⁻¹}
 use mathlib.Core.List.{List, [], _∷_, map}
 use lib.IntN.{ℤ, pos, +ℤ-invr}
 use lib.ListN.{length, getD, replicate}
 use Rattle.record.specs.Layout.{Record}
 use Rattle.account.specs.Records.{cut, records}
 use Rattle.spread.specs.Book.{entries, spreadsEntry, deltaEntry}
-use Rattle.spread.specs.Steps.{Open, minus, steps, usedOf, unusedOf}
+use Rattle.spread.specs.Steps.{minus, steps, usedOf}
 use Rattle.spread.specs.declared.Delta.{Delta}
 use Rattle.spread.specs.declared.book.Book.{Book}
 use Rattle.spread.proofs.Filling.{filled-none, filled-all}

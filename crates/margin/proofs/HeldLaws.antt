@@ -5,11 +5,12 @@ use native.Mathlib.Omega.{arith}
 use borrow.Author.Tests.{ne-eqb, lt-ltb, le-ltb}
 use borrow.Rule.Slice.PartMut.{putMid, post-is}
 use mathlib.Core.Path.{_≡_, refl, sym, ap, ap₂, _∙_, subst⁻¹}
-use mathlib.Core.Bool.{Bool, true, false, cond}
+use mathlib.Core.Bool.{Bool, true, false, cond, true≢false}
 use mathlib.Core.List.{List, _++_}
 use lib.Dec.{ltb}
 use lib.IntN.{ℤ}
-use lib.ListN.{length, take, drop}
+use lib.ListN.{length, take, drop, take-append-drop}
+use lib.Seq.{drop-drop}
 use denote.Ref.{RefT, now}
 use Rattle.exact.specs.Lists.{count}
 use Rattle.account.specs.Answers.{numberOf}
@@ -22,15 +23,17 @@ use Rattle.account.specs.declared.answers.Answer.the-variants.{Accepted, TooFew
 use Rattle.account.specs.declared.check.Survey.{Survey}
 use Rattle.account.proofs.Accepted.{accepts}
 use Rattle.account.proofs.Going.{same-survey}
+use Rattle.margin.specs.Books.{askedBy}
 use Rattle.margin.specs.Figures.{figures}
 use Rattle.margin.specs.Held.{FromCheck, needIn, questions, atPlace, afterEach, eachAnswer, eachAfter}
 use Rattle.margin.specs.declared.held.Asked.{Asked}
 use Rattle.margin.specs.declared.held.Held.{Held}
 use Rattle.margin.specs.Needs.{figuresNeed}
-use Rattle.margin.specs.Questions.{accepted, enough, figuresAnswer, afterFigures, bookAnswer, afterBook}
+use Rattle.margin.specs.Questions.{accepted, ifAccepted, asked, answerTo, enough, afterwards, figuresAnswer, afterFigures, bookAnswer, afterBook}
 use Rattle.margin.specs.Stands.{Stands}
+use Rattle.margin.proofs.AskedLaws.{asked-is}
 use Rattle.margin.proofs.StandLaws.{contracts-are}
-use Rattle.margin.proofs.QuestionLaws.{accepted-only, if-refused, if-accepted, as-many, figures-length}
+use Rattle.margin.proofs.QuestionLaws.{accepted-only, if-refused, if-accepted, after-refused, not-asked, asked-accepted, asked-answered, as-many, figures-length}
 
 some : {n : ℕ} → suc n ≡ 0 → ⊥
 some e = omega arith
@@ -77,6 +80,18 @@ module _ (file : List ℕ) (s : Survey) (is : Surveyed file s) where
 
   pub need-most : needIn s ≤ 129
   need-most = most-at (accepted (s .answer))
+
+-- a question that the survey does not list leaves the lent numbers as they are
+module _ (file : List ℕ) (s : Survey) (is : Surveyed file s) (q : ℕ) (no : askedBy (s .counts) q ≡ false) where
+  unasked : numberOf (ifAccepted (checked file) (asked file q)) ≡ 0 → ⊥
+  unasked z =
+      let st : Stands file s = record { accepted = asked-accepted file q _ refl z; surveyed = is } in
+      true≢false (sym (asked-answered file q _ refl z) ∙ sym (asked-is file s st q) ∙ no)
+
+  pub left-alone-by : (numbers lent : List ℤ) → afterwards (answerTo file q numbers (length lent)) numbers lent ≡ lent
+  left-alone-by numbers lent =
+      ap (λ (a : Answer). afterwards a numbers lent) (not-asked file q _ refl numbers (length lent) unasked)
+      ∙ after-refused (ifAccepted (checked file) (asked file q)) numbers lent unasked
 
 -- ---- the promises determine what comes back
 
@@ -158,3 +173,12 @@ module _ (width : ℕ) (after : ℕ → List ℤ → List ℤ) where
   each-accepted file lent left z h e =
       let a : eachAnswer width file (length lent) ≡ Accepted = if-accepted (checked file) (places file lent) z ∙ (rw (le-ltb (length lent) (width * questions) h)) in
       (sym a, e ∙ sym (ap (λ (x : Answer). cond (accepted x) (afterEach width after questions lent) lent) a))
+
+-- a place where nothing changes
+pub place-alone : (width at : ℕ) (change : List ℤ → List ℤ) → ((xs : List ℤ) → change xs ≡ xs) → (lent : List ℤ) → lent ≡ atPlace width at change lent
+place-alone width at change same lent =
+    sym
+    (ap (λ (xs : List ℤ). take at lent ++ (xs ++ drop (at + width) lent)) (same (take width (drop at lent)))
+    ∙ ap (λ (xs : List ℤ). take at lent ++ (take width (drop at lent) ++ xs)) (sym (drop-drop width at lent))
+    ∙ ap (λ (xs : List ℤ). take at lent ++ xs) (take-append-drop width (drop at lent))
+    ∙ take-append-drop at lent)

@@ -121,6 +121,9 @@ fn place_book(file: &[u8], survey: Survey, question: usize, out: &mut [i64])
     requires { ⌜ Surveyed (now file) survey × ((question < questions) × (longestBook * question + longestBook ≤ length (now out))) ⌝ }
     ensures { λ r. ⌜ now (out .exit) ≡ atPlace longestBook (longestBook * question) (afterBook (now (file .entry)) question) (now (out .entry)) ⌝ }
 {
+    if !is_asked(survey, question) {
+        return;
+    }
     let start = LONGEST_BOOK * question;
     let end = start + LONGEST_BOOK;
     answer_book(file, survey, question, &mut out[start..end]);
@@ -131,6 +134,9 @@ fn place_uses(file: &[u8], survey: Survey, question: usize, out: &mut [i64])
     requires { ⌜ Surveyed (now file) survey × ((question < questions) × (longestUses * question + longestUses ≤ length (now out))) ⌝ }
     ensures { λ r. ⌜ now (out .exit) ≡ atPlace longestUses (longestUses * question) (afterUses (now (file .entry)) question) (now (out .entry)) ⌝ }
 {
+    if !is_asked(survey, question) {
+        return;
+    }
     let start = LONGEST_USES * question;
     let end = start + LONGEST_USES;
     answer_uses(file, survey, question, &mut out[start..end]);

@@ -10,6 +10,8 @@ use lib.ListN.{getD}
 use lib.IntN.{ℤ, pos}
 use Rattle.exact.specs.Lists.{keep, any}
 use Rattle.record.specs.Layout.{Record, contract}
+use Rattle.account.specs.Check.{mostContracts}
+use Rattle.account.specs.Notes.{part}
 use Rattle.account.specs.Parts.{contractsOf, entriesOf}
 use Rattle.spread.specs.Steps.{numbers, usedOf, unusedOf}
 use Rattle.margin.specs.Contract.{Contract, contracts, partsIn, contractNet, asTier, numbersOf, usedDeltas, unusedDeltas, tableSteps}
@@ -31,7 +33,7 @@ tableBook entries ks =
 
 -- the table of intercontract spreads is question 16
 abbrev pub tableQuestion : ℕ
-tableQuestion = 16
+tableQuestion = mostContracts
 
 -- "question neither a listed contract nor 16" is refused
 abbrev pub asks : ℕ → Record → Bool
@@ -42,7 +44,8 @@ answered account question = eqb question tableQuestion || any (asks question) (c
 
 -- the same by how many records each contract's own part has
 abbrev pub askedBy : List ℕ → ℕ → Bool
-askedBy counts question = eqb question tableQuestion || (ltb question 16 && not (eqb (getD counts (16 + question) 0) 0))
+askedBy counts question =
+    eqb question tableQuestion || (ltb question tableQuestion && not (eqb (getD counts (part 1 question) 0) 0))
 
 -- what a question is answered: of the table, or of the contract that has its number
 abbrev pub ofEach : (Contract → List ℤ) → List Contract → List ℤ

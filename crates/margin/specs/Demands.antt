@@ -9,6 +9,7 @@ use lib.IntN.{ℤ, pos}
 use lib.ListN.{length}
 use Rattle.exact.specs.Lists.{sumℤ}
 use Rattle.account.specs.Answers.{numberOf, recordOf}
+use Rattle.record.specs.Layout.{mostContract}
 use Rattle.account.specs.Check.{checked}
 use Rattle.account.specs.Claims.{Iff, Claims}
 use Rattle.account.specs.Orders.{Later}
@@ -46,7 +47,7 @@ pub record Demand1 (file : List ℕ) : Type 0 where
   -- "lent memory then stays untouched"
   pub untouched : (a : Answer) (answer lent : List ℤ) → (numberOf a ≡ 0 → ⊥) → afterwards a answer lent ≡ lent
   -- "no accepted line is skipped": a contract's net deltas together are those of all its rows
-  pub counted : checked file ≡ Accepted → (c : ℕ) → c ≤ 15
+  pub counted : checked file ≡ Accepted → (c : ℕ) → c ≤ mostContract
       → sumℤ (netDeltas (promptsOf c (records file)) (rowsOf c (records file))) ≡ sumℤ (map rowDelta (rowsOf c (records file)))
 
 -- ---- 2. "Every figure equals SPAN as published .., under 01's rounding and tie rules": what is published is said by the definitions
@@ -73,4 +74,4 @@ pub record Demanded (file : List ℕ) : Type 0 where
       → Holds (book (records file) c) (uses (records file) c) (partsOf (records file) c .nets) (stepsOf (partsOf (records file) c)) (opensOf (partsOf (records file) c))
   pub intercontract : Holds (book (records file) tableQuestion) (uses (records file) tableQuestion) (map contractNet (contracts (records file))) (tableSteps (entriesOf (records file))) (map asTier (contracts (records file)))
   -- "earlier dates": the prompts of a contract stand by their days
-  pub dates : (c : ℕ) → c ≤ 15 → Later (promptsOf c (records file))
+  pub dates : (c : ℕ) → c ≤ mostContract → Later (promptsOf c (records file))

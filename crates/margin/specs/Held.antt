@@ -16,6 +16,7 @@ use Rattle.account.specs.declared.answers.Answer.{Answer}
 use Rattle.account.specs.declared.answers.Answer.the-variants.{Accepted, TooFewNumbers}
 use Rattle.account.specs.declared.check.Survey.{Survey}
 use Rattle.margin.specs.declared.held.Held.{Held}
+use Rattle.margin.specs.Books.{tableQuestion}
 use Rattle.margin.specs.Bounds.{longestBook, longestUses}
 use Rattle.margin.specs.Questions.{accepted, ifAccepted, afterBook, afterUses}
 
@@ -29,9 +30,9 @@ needIn s = cond (accepted (s .answer)) (8 * s .contracts + 1) 0
 
 -- ---- all questions at once: each has a place of its own in the lent numbers, as wide as the longest answer
 
--- 0 to 15 for a contract, and the intercontract table
+-- one for each contract number, and one for the intercontract table
 abbrev pub questions : ℕ
-questions = 17
+questions = tableQuestion + 1
 
 -- the lent numbers with the `width` from a place on changed
 abbrev pub atPlace : ℕ → ℕ → (List ℤ → List ℤ) → List ℤ → List ℤ

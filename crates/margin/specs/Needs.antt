@@ -5,7 +5,7 @@ use mathlib.Core.Path.{_≡_}
 use mathlib.Core.Bool.{Bool, cond}
 use mathlib.Core.List.{List}
 use lib.ListN.{length}
-use Rattle.account.specs.Check.{checked}
+use Rattle.account.specs.Check.{checked, mostPrompts, mostSpreads}
 use Rattle.account.specs.Records.{records}
 use Rattle.record.specs.Layout.{Record}
 use Rattle.margin.specs.Books.{book}
@@ -31,11 +31,11 @@ usesNeed file question = cond (answers file question) (length (uses (records fil
 pub record SizesOf (account : List Record) (question prompts spreads : ℕ) : Type 0 where
   pub book-has : length (book account question) ≡ 3 * prompts + 2 * spreads
   pub uses-have : length (uses account question) ≡ spreads * (2 * prompts)
-  pub prompts-few : prompts ≤ 32
-  pub spreads-few : spreads ≤ 32
+  pub prompts-few : prompts ≤ mostPrompts
+  pub spreads-few : spreads ≤ mostSpreads
 
 pub record NeedsOf (file : List ℕ) (question prompts spreads : ℕ) : Type 0 where
   pub book-needs : bookNeed file question ≡ 3 * prompts + 2 * spreads
   pub uses-need : usesNeed file question ≡ spreads * (2 * prompts)
-  pub prompts-few : prompts ≤ 32
-  pub spreads-few : spreads ≤ 32
+  pub prompts-few : prompts ≤ mostPrompts
+  pub spreads-few : spreads ≤ mostSpreads

@@ -5,6 +5,7 @@ use mathlib.Core.Path.{_≡_}
 use mathlib.Core.List.{List}
 use lib.ListN.{getD, take}
 use lib.IntN.{ℤ}
+use Rattle.account.specs.Check.{mostContracts, mostSpreads}
 use Rattle.spread.specs.declared.Spreads.{Spreads}
 use Rattle.margin.specs.declared.amount.Amount.{Amount}
 use Rattle.margin.specs.declared.line.Line.{Line}
@@ -22,13 +23,13 @@ amountAt amounts k = getD amounts k (record { 0 = 0 }) .0
 
 -- the lines of an accepted account's contracts with their credits
 pub record LinesWithin (count : ℕ) (lines : List Line) (credits : List Amount) : Type 0 where
-  pub most : count ≤ 16
+  pub most : count ≤ mostContracts
   pub line-within : (k : ℕ) → k < count → LineWithin (getD lines k noLine)
   pub credit-within : (k : ℕ) → k < count → amountAt credits k ≤ 128 * mostRisk
 
 -- numbers of spreads that can be written signed
 pub record SpreadsSigned (count : ℕ) (firsts seconds : List Spreads) : Type 0 where
-  pub most : count ≤ 32
+  pub most : count ≤ mostSpreads
   pub first-within : (k : ℕ) → k < count → spreadsAt firsts k < 2 ^ 63
   pub second-within : (k : ℕ) → k < count → spreadsAt seconds k < 2 ^ 63
 

@@ -7,6 +7,7 @@ use mathlib.Core.List.{List, map}
 use lib.IntN.{ℤ, pos, natAbs}
 use lib.ListN.{length, getD}
 use Rattle.record.specs.Layout.{Record, contract}
+use Rattle.account.specs.Check.{mostPrompts, mostSpreads}
 use Rattle.spread.specs.Steps.{Open, Taker, numbers, usedOf, unusedOf}
 use Rattle.spread.specs.Accepted.{every, soundPrompt, soundSpread}
 use Rattle.spread.specs.Book.{entries, spreadsEntry, deltaEntry}
@@ -29,8 +30,8 @@ pub record BookOf (ss : List (List Taker)) (ps : List Open) (b : Book) : Type 0 
 
 -- prompts and spreads that the spread steps accept; the net deltas past the prompts are 0
 pub record BookRoom (prompts : List Record) (nets : List ℤ) (spreads : List Record) : Type 0 where
-  pub few-prompts : length prompts ≤ 32
-  pub few-spreads : length spreads ≤ 32
+  pub few-prompts : length prompts ≤ mostPrompts
+  pub few-spreads : length spreads ≤ mostSpreads
   pub nets-beyond : (j : ℕ) → length prompts ≤ j → getD nets j (pos 0) ≡ pos 0
   pub prompts-sound : every soundPrompt (opens prompts nets) ≡ true
   pub spreads-sound : every soundSpread (map interprompt spreads) ≡ true
@@ -39,8 +40,8 @@ pub record BookRoom (prompts : List Record) (nets : List ℤ) (spreads : List Re
 pub record Charged (prompts spreads : List Record) (b : Book) (interprompt prompt : ℕ) : Type 0 where
   pub interprompt-is : interprompt ≡ interpromptCharge spreads (interleaved (b .first) (b .second))
   pub prompt-is : prompt ≡ promptCharges prompts (deltasIn (b .used)) (deltasIn (b .unused))
-  pub interprompt-within : interprompt ≤ 32 * mostCharge
-  pub prompt-within : prompt ≤ 32 * mostCharge
+  pub interprompt-within : interprompt ≤ mostSpreads * mostCharge
+  pub prompt-within : prompt ≤ mostPrompts * mostCharge
 
 -- a contract's line
 pub record LineOf (k : Contract) (l : Line) : Type 0 where

@@ -5,6 +5,7 @@ use mathlib.Core.List.{List, [], _∷_, map}
 use lib.ListN.{length, getD}
 use lib.IntN.{ℤ, pos, natAbs}
 use Rattle.record.specs.Layout.{Record, ratePerSpread, spreadRate, outrightRate, percent}
+use Rattle.account.specs.Check.{mostPrompts, mostSpreads, mostEntries}
 use Rattle.spread.specs.declared.Delta.{Delta}
 use Rattle.spread.specs.declared.Spreads.{Spreads}
 use Rattle.margin.specs.Bounds.{mostDelta, mostRate, mostRisk}
@@ -31,7 +32,7 @@ pub record SpreadFit (s : Record) (first second : ℕ) : Type 0 where
   pub second-within : second ≤ mostDelta
 
 pub record SpreadsWithin (spreads : List Record) (firsts seconds : List Spreads) : Type 0 where
-  pub most : length spreads ≤ 32
+  pub most : length spreads ≤ mostSpreads
   pub each : (k : ℕ) → k < length spreads → SpreadFit (getD spreads k []) (spreadsAt firsts k) (spreadsAt seconds k)
 
 pub record PromptFit (prompt : Record) (used unused : ℤ) : Type 0 where
@@ -41,7 +42,7 @@ pub record PromptFit (prompt : Record) (used unused : ℤ) : Type 0 where
   pub unused-within : natAbs unused ≤ mostDelta
 
 pub record PromptsWithin (prompts : List Record) (used unused : List Delta) : Type 0 where
-  pub most : length prompts ≤ 32
+  pub most : length prompts ≤ mostPrompts
   pub each : (k : ℕ) → k < length prompts → PromptFit (getD prompts k []) (deltaAt used k) (deltaAt unused k)
 
 -- an entry that uses no more of a contract than a delta can be
@@ -59,6 +60,6 @@ pub record CreditRoom (c net : ℕ) (e : Record) (first second : ℕ) : Type 0 w
   pub use-within : entryUse c e first second ≤ net
 
 pub record EntriesRoom (c twice net : ℕ) (entries : List Record) (firsts seconds : List Spreads) : Type 0 where
-  pub most : length entries ≤ 32
+  pub most : length entries ≤ mostEntries
   pub price-within : twice ≤ 4 * mostRisk
   pub each : (k : ℕ) → k < length entries → CreditRoom c net (getD entries k []) (spreadsAt firsts k) (spreadsAt seconds k)

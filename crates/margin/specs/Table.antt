@@ -7,6 +7,7 @@ use mathlib.Core.List.{List, map}
 use lib.IntN.{natAbs}
 use lib.ListN.{length, getD, take}
 use Rattle.record.specs.Layout.{Record}
+use Rattle.account.specs.Check.{mostContracts}
 use Rattle.spread.specs.Accepted.{every, soundPrompt, openOf}
 use Rattle.spread.specs.Book.{spreadsEntry, entries as places}
 use Rattle.spread.specs.Steps.{Open, steps, numbers}
@@ -32,7 +33,7 @@ pub record TiersFrom (count : ℕ) (lines : List Line) (p : Prompts) : Type 0 wh
   pub nets-are : take count (deltasIn (p .net)) ≡ map (λ l. l .net .0) (take count lines)
 
 pub record TableRoom (count : ℕ) (lines : List Line) (entries : List Record) : Type 0 where
-  pub few : count ≤ 16
+  pub few : count ≤ mostContracts
   pub tiers-sound : every soundPrompt (map tierOf (take count lines)) ≡ true
   pub entries-within : EntriesFit entries
 
@@ -53,7 +54,7 @@ abbrev pub earns : Line → List Record → List Spreads → List Spreads → �
 earns l entries firsts seconds = creditsBy (l .contract) (l .«twice_price») (natAbs (l .net .0)) entries (interleaved firsts seconds)
 
 pub record CreditsRoom (count : ℕ) (lines : List Line) (entries : List Record) (firsts seconds : List Spreads) : Type 0 where
-  pub few : count ≤ 16
+  pub few : count ≤ mostContracts
   pub each : (i : ℕ) → i < count → EntriesRoom (getD lines i noLine .contract) (getD lines i noLine .«twice_price») (natAbs (getD lines i noLine .net .0)) entries firsts seconds
 
 pub record CreditsOf (count : ℕ) (lines : List Line) (entries : List Record) (firsts seconds : List Spreads) (earned : List Amount) : Type 0 where

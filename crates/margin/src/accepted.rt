@@ -50,7 +50,7 @@ pub const TABLE: usize = CONTRACTS;
 // The lines of an account's contracts: the first `count`.
 pub struct Lines {
     pub count: usize,
-    pub line: [Line; 16],
+    pub line: [Line; CONTRACTS],
 }
 
 // A part of the file, by where it begins and how many records it has.
@@ -92,7 +92,7 @@ fn lines_of(file: &[u8], survey: Survey) -> Lines
     ensures { λ r. ⌜ LinesOf (now (file .entry)) r ⌝ }
 {
     let count = survey.contracts;
-    let mut lines = [no_line(); 16];
+    let mut lines = [no_line(); CONTRACTS];
     let mut i = 0;
     while i < count {
         lines[i] = line_at(file, survey, i);

@@ -3,6 +3,8 @@ use crate::tables::interprompt_table;
 use crate::tables::prompts_with;
 use record::bytes::RECORD_BYTES;
 use spread::Delta;
+use spread::MOST_PROMPTS;
+use spread::MOST_SPREADS;
 use spread::Spreads;
 use spread::book::Book;
 use spread::book::delta_book;
@@ -14,16 +16,16 @@ ghost use Rattle.margin.specs.Sums.{deltasIn};
 ghost use Rattle.margin.specs.Promised.{BookOf, BookRoom};
 
 // The book of a contract's interprompt spreads, over its prompts and their net deltas. Without spreads nothing is used.
-pub(crate) fn contract_book(prompts: &[u8], nets: [Delta; 32], spreads: &[u8]) -> Book
+pub(crate) fn contract_book(prompts: &[u8], nets: [Delta; MOST_PROMPTS], spreads: &[u8]) -> Book
     requires { ⌜ BookRoom (records (now prompts)) (deltasIn nets) (records (now spreads)) ⌝ }
     ensures { λ r. ⌜ BookOf (steps (map interprompt (records (now (spreads .entry))))) (opens (records (now (prompts .entry))) (deltasIn nets)) r ⌝ }
 {
     if spreads.len() < RECORD_BYTES {
         return Book {
             accepted: true,
-            first: [Spreads(0); 32],
-            second: [Spreads(0); 32],
-            used: [Delta(0); 32],
+            first: [Spreads(0); MOST_SPREADS],
+            second: [Spreads(0); MOST_SPREADS],
+            used: [Delta(0); MOST_PROMPTS],
             unused: nets,
         };
     }

@@ -13,6 +13,8 @@ use record::fields::second_contract;
 use record::fields::second_ratio;
 use record::fields::spread_rate;
 use spread::Delta;
+use spread::MOST_PROMPTS;
+use spread::MOST_SPREADS;
 use spread::Spreads;
 ghost use mathlib.Core.Path.{_≡_};
 ghost use Prim.Native.Nat.{_*_, _≤_};
@@ -33,8 +35,8 @@ fn charge_of_spread(s: &[u8], first: Spreads, second: Spreads) -> Amount
 // The interprompt charge: each spread's charge for the numbers of its two steps.
 pub(crate) fn interprompt_charge(
     spreads: &[u8],
-    first: [Spreads; 32],
-    second: [Spreads; 32],
+    first: [Spreads; MOST_SPREADS],
+    second: [Spreads; MOST_SPREADS],
 ) -> Amount
     requires { ⌜ SpreadsWithin (records (now spreads)) first second ⌝ }
     ensures { λ r. ⌜ (r .0 ≡ interpromptCharge (records (now (spreads .entry))) (interleaved first second)) × (r .0 ≤ 32 * mostCharge) ⌝ }
@@ -59,7 +61,11 @@ fn charge_of_prompt(p: &[u8], used: Delta, unused: Delta) -> Amount
 }
 
 // The prompt date charges: each prompt's charge for what of it is used and what is not.
-pub(crate) fn prompt_charges(prompts: &[u8], used: [Delta; 32], unused: [Delta; 32]) -> Amount
+pub(crate) fn prompt_charges(
+    prompts: &[u8],
+    used: [Delta; MOST_PROMPTS],
+    unused: [Delta; MOST_PROMPTS],
+) -> Amount
     requires { ⌜ PromptsWithin (records (now prompts)) used unused ⌝ }
     ensures { λ r. ⌜ (r .0 ≡ promptCharges (records (now (prompts .entry))) (deltasIn used) (deltasIn unused)) × (r .0 ≤ 32 * mostCharge) ⌝ }
 {
@@ -109,8 +115,8 @@ fn credit_from(e: &[u8], earner: Earner, first: Spreads, second: Spreads) -> Amo
 pub(crate) fn credits(
     entries: &[u8],
     earner: Earner,
-    first: [Spreads; 32],
-    second: [Spreads; 32],
+    first: [Spreads; MOST_SPREADS],
+    second: [Spreads; MOST_SPREADS],
 ) -> Amount
     requires { ⌜ EntriesRoom (earner .contract) (earner .«twice_price») (earner .net) (records (now entries)) first second ⌝ }
     ensures { λ r. ⌜ (r .0 ≡ creditsBy (earner .contract) (earner .«twice_price») (earner .net) (records (now (entries .entry))) (interleaved first second)) × (r .0 ≤ 128 * mostRisk) ⌝ }

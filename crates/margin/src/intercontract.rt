@@ -4,9 +4,11 @@ use crate::charges::Earner;
 use crate::charges::credits;
 use crate::line::Line;
 use crate::tables::intercontract_table;
+use account::parts::CONTRACTS;
 use exact::signed::magnitude;
 use record::bytes::RECORD_BYTES;
 use spread::Delta;
+use spread::MOST_PROMPTS;
 use spread::Prompts;
 use spread::book::Book;
 use spread::book::delta_book;
@@ -20,12 +22,12 @@ ghost use Rattle.margin.specs.Promised.{BookOf};
 ghost use Rattle.margin.specs.Table.{tierOf, TiersFrom, TableRoom, EarnerOf, CreditsRoom, CreditsOf, tableFirsts, tableSeconds};
 
 // The contracts as the spread steps take them.
-pub(crate) fn tiers_of(count: usize, lines: [Line; 16]) -> Prompts
+pub(crate) fn tiers_of(count: usize, lines: [Line; CONTRACTS]) -> Prompts
     requires { ⌜ count ≤ 16 ⌝ }
     ensures { λ r. ⌜ TiersFrom count lines r ⌝ }
 {
-    let mut tiers = [0u8; 32];
-    let mut nets = [Delta(0); 32];
+    let mut tiers = [0u8; MOST_PROMPTS];
+    let mut nets = [Delta(0); MOST_PROMPTS];
     let mut i = 0;
     while i < count {
         let line = lines[i];
@@ -42,7 +44,7 @@ pub(crate) fn tiers_of(count: usize, lines: [Line; 16]) -> Prompts
 }
 
 // The book of the intercontract spreads, over the contracts.
-pub(crate) fn table_book(count: usize, lines: [Line; 16], entries: &[u8]) -> Book
+pub(crate) fn table_book(count: usize, lines: [Line; CONTRACTS], entries: &[u8]) -> Book
     requires { ⌜ TableRoom count lines (records (now entries)) ⌝ }
     ensures { λ r. ⌜ BookOf (steps (map intercontract (records (now (entries .entry))))) (map tierOf (take count lines)) r ⌝ }
 {
@@ -61,13 +63,18 @@ fn earner_of(line: Line) -> Earner
 }
 
 // Each contract's credits from the entries of the table.
-fn credits_of(count: usize, lines: [Line; 16], entries: &[u8], book: Book) -> [Amount; 16]
+fn credits_of(
+    count: usize,
+    lines: [Line; CONTRACTS],
+    entries: &[u8],
+    book: Book,
+) -> [Amount; CONTRACTS]
     requires { ⌜ CreditsRoom count lines (records (now entries)) (book .first) (book .second) ⌝ }
     ensures { λ r. ⌜ CreditsOf count lines (records (now (entries .entry))) (book .first) (book .second) r ⌝ }
 {
     let first = book.first;
     let second = book.second;
-    let mut earned = [Amount(0); 16];
+    let mut earned = [Amount(0); CONTRACTS];
     let mut i = 0;
     while i < count {
         earned[i] = credits(entries, earner_of(lines[i]), first, second);
@@ -77,12 +84,16 @@ fn credits_of(count: usize, lines: [Line; 16], entries: &[u8], book: Book) -> [A
 }
 
 // The same from the entries alone. Without entries there are no credits, and no book is run.
-pub(crate) fn table_credits(count: usize, lines: [Line; 16], entries: &[u8]) -> [Amount; 16]
+pub(crate) fn table_credits(
+    count: usize,
+    lines: [Line; CONTRACTS],
+    entries: &[u8],
+) -> [Amount; CONTRACTS]
     requires { ⌜ TableRoom count lines (records (now entries)) × CreditsRoom count lines (records (now entries)) (tableFirsts count lines (records (now entries))) (tableSeconds count lines (records (now entries))) ⌝ }
     ensures { λ r. ⌜ CreditsOf count lines (records (now (entries .entry))) (tableFirsts count lines (records (now (entries .entry)))) (tableSeconds count lines (records (now (entries .entry)))) r ⌝ }
 {
     if entries.len() < RECORD_BYTES {
-        return [Amount(0); 16];
+        return [Amount(0); CONTRACTS];
     }
     let book = table_book(count, lines, entries);
     credits_of(count, lines, entries, book)

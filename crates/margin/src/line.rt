@@ -10,6 +10,7 @@ use exact::signed::plus;
 use record::fields::contract;
 use record::fields::short_option_rate;
 use spread::Delta;
+use spread::MOST_PROMPTS;
 use spread::book::Book;
 ghost use mathlib.Core.Path.{_≡_};
 ghost use mathlib.Core.List.{map};
@@ -44,13 +45,13 @@ fn joined(a: Delta, b: Delta) -> Delta
 }
 
 // The net delta of a contract: the sum over its prompts.
-fn contract_net(nets: [Delta; 32]) -> Delta
+fn contract_net(nets: [Delta; MOST_PROMPTS]) -> Delta
     requires { ⌜ sum (map natAbs (deltasIn nets)) ≤ mostDelta ⌝ }
     ensures { λ r. ⌜ r .0 ≡ sumℤ (deltasIn nets) ⌝ }
 {
     let mut net = Delta(0);
     let mut i = 0;
-    while i < 32 {
+    while i < MOST_PROMPTS {
         let more = joined(net, nets[i]);
         net = more;
         i += 1;

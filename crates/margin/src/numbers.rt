@@ -3,11 +3,12 @@ use crate::amount::Amount;
 use crate::amount::margin;
 use crate::amount::risk;
 use crate::line::Line;
+use account::parts::CONTRACTS;
 use exact::signed::as_signed;
 use spread::Delta;
+use spread::MOST_PROMPTS;
+use spread::MOST_SPREADS;
 use spread::Spreads;
-use spread::accepted::MOST_PROMPTS;
-use spread::accepted::MOST_SPREADS;
 ghost use mathlib.Core.Path.{_≡_};
 ghost use mathlib.Core.List.{[], _∷_, _++_, map};
 ghost use Prim.Native.Nat.{_+_, _*_, _^_, _≤_, _<_};
@@ -92,7 +93,11 @@ fn put_two(out: &mut [i64; LONGEST_BOOK], at: usize, first: Spreads, second: Spr
 }
 
 // The figures: eight numbers for each of the first `count` lines, then the total of the margins.
-pub(crate) fn figures_numbers(count: usize, lines: [Line; 16], credits: [Amount; 16]) -> Numbers
+pub(crate) fn figures_numbers(
+    count: usize,
+    lines: [Line; CONTRACTS],
+    credits: [Amount; CONTRACTS],
+) -> Numbers
     requires { ⌜ LinesWithin count lines credits ⌝ }
     ensures { λ r. ⌜ (r .count ≡ 8 * count + 1) × (written r ≡ map pos (figuresFrom (take count lines) (take count credits))) ⌝ }
 {
@@ -118,9 +123,9 @@ pub(crate) fn figures_numbers(count: usize, lines: [Line; 16], credits: [Amount;
 fn put_prompts(
     out: &mut [i64; LONGEST_BOOK],
     prompts: usize,
-    nets: [Delta; 32],
-    used: [Delta; 32],
-    unused: [Delta; 32],
+    nets: [Delta; MOST_PROMPTS],
+    used: [Delta; MOST_PROMPTS],
+    unused: [Delta; MOST_PROMPTS],
 )
     requires { ⌜ prompts ≤ 32 ⌝ }
     ensures { λ r. ⌜ now (out .exit) ≡ sets (now (out .entry)) 0 (threes (take prompts (deltasIn nets)) (take prompts (deltasIn used)) (take prompts (deltasIn unused))) ⌝ }
@@ -137,8 +142,8 @@ fn put_spreads(
     out: &mut [i64; LONGEST_BOOK],
     at: usize,
     spreads: usize,
-    first: [Spreads; 32],
-    second: [Spreads; 32],
+    first: [Spreads; MOST_SPREADS],
+    second: [Spreads; MOST_SPREADS],
 )
     requires { ⌜ (at ≤ 96) × SpreadsSigned spreads first second ⌝ }
     ensures { λ r. ⌜ now (out .exit) ≡ sets (now (out .entry)) at (map pos (interleaved (take spreads first) (take spreads second))) ⌝ }
@@ -153,12 +158,12 @@ fn put_spreads(
 // A delta book: three numbers for each prompt, then two for each spread.
 pub(crate) fn book_numbers(
     prompts: usize,
-    nets: [Delta; 32],
-    used: [Delta; 32],
-    unused: [Delta; 32],
+    nets: [Delta; MOST_PROMPTS],
+    used: [Delta; MOST_PROMPTS],
+    unused: [Delta; MOST_PROMPTS],
     spreads: usize,
-    first: [Spreads; 32],
-    second: [Spreads; 32],
+    first: [Spreads; MOST_SPREADS],
+    second: [Spreads; MOST_SPREADS],
 ) -> Numbers
     requires { ⌜ (prompts ≤ 32) × SpreadsSigned spreads first second ⌝ }
     ensures { λ r. ⌜ (r .count ≡ 3 * prompts + 2 * spreads) × (written r ≡ threes (take prompts (deltasIn nets)) (take prompts (deltasIn used)) (take prompts (deltasIn unused)) ++ map pos (interleaved (take spreads first) (take spreads second))) ⌝ }

@@ -1,8 +1,9 @@
 // The paired scenarios (000): the same price move, the opposite move of volatility.
+use record::fields::SCENARIOS;
 ghost use mathlib.Core.Path.{_≡_};
 ghost use Rattle.margin.specs.Pairs.{pairOf};
 
-const PAIRS: [usize; 16] = [2, 1, 4, 3, 6, 5, 8, 7, 10, 9, 12, 11, 14, 13, 15, 16];
+const PAIRS: [usize; SCENARIOS] = [2, 1, 4, 3, 6, 5, 8, 7, 10, 9, 12, 11, 14, 13, 15, 16];
 
 // The scenario paired with a scenario 1 to 16; 0 for what is no scenario.
 pub fn pair_of(scenario: usize) -> usize
@@ -12,7 +13,7 @@ pub fn pair_of(scenario: usize) -> usize
         return 0;
     }
     let at = scenario - 1;
-    if 16 <= at {
+    if SCENARIOS <= at {
         return 0;
     }
     PAIRS[at]

@@ -5,6 +5,7 @@ use exact::largest::largest;
 use exact::signed::minus;
 use exact::signed::or_zero;
 use exact::signed::plus;
+use record::fields::SCENARIOS;
 ghost use mathlib.Core.Path.{_≡_};
 ghost use Prim.Native.Nat.{_≤_, _*_};
 ghost use lib.IntN.{natAbs, _+ℤ_};
@@ -13,21 +14,21 @@ ghost use Rattle.margin.specs.Credit.{totalOf, twicePriceRiskAt};
 ghost use Rattle.margin.specs.Risks.{TotalsWithin, Scanned};
 
 // The total of a scenario 1 to 16; 0 for what is no scenario past them.
-fn total_of(totals: [i64; 16], scenario: usize) -> i64
+fn total_of(totals: [i64; SCENARIOS], scenario: usize) -> i64
     ensures { λ r. ⌜ r ≡ totalOf totals scenario ⌝ }
 {
     if scenario == 0 {
         return totals[0];
     }
     let at = scenario - 1;
-    if 16 <= at {
+    if SCENARIOS <= at {
         return 0;
     }
     totals[at]
 }
 
 // The totals of two scenarios together.
-fn both(totals: [i64; 16], one: usize, other: usize) -> i64
+fn both(totals: [i64; SCENARIOS], one: usize, other: usize) -> i64
     requires { ⌜ TotalsWithin totals ⌝ }
     ensures { λ r. ⌜ (r ≡ totalOf totals one +ℤ totalOf totals other) × (natAbs r ≤ 2 * mostRisk) ⌝ }
 {
@@ -35,7 +36,7 @@ fn both(totals: [i64; 16], one: usize, other: usize) -> i64
 }
 
 // Twice the price risk, the halves kept, where the active scenario is known.
-fn twice_price_risk(totals: [i64; 16], active: usize) -> u64
+fn twice_price_risk(totals: [i64; SCENARIOS], active: usize) -> u64
     requires { ⌜ TotalsWithin totals ⌝ }
     ensures { λ r. ⌜ (r ≡ twicePriceRiskAt totals active) × (r ≤ 4 * mostRisk) ⌝ }
 {
@@ -50,7 +51,7 @@ pub struct Risks {
     pub twice_price: u64,
 }
 
-pub(crate) fn scanned(totals: [i64; 16]) -> Risks
+pub(crate) fn scanned(totals: [i64; SCENARIOS]) -> Risks
     requires { ⌜ TotalsWithin totals ⌝ }
     ensures { λ r. ⌜ Scanned totals (r .active) (r .scanning .0) (r .«twice_price») ⌝ }
 {

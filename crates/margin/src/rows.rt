@@ -17,6 +17,7 @@ use exact::signed::magnitude;
 use exact::signed::plus;
 use exact::signed::times;
 use record::bytes::RECORD_BYTES;
+use record::fields::SCENARIOS;
 use record::fields::day;
 use record::fields::delta;
 use record::fields::loss;
@@ -24,21 +25,22 @@ use record::fields::lots;
 use record::fields::row_type;
 use record::fields::value;
 use spread::Delta;
+use spread::MOST_PROMPTS;
 
 // The sixteen totals, in hundredths of the currency, scenario 1 first.
-pub struct Totals(pub [i64; 16]);
+pub struct Totals(pub [i64; SCENARIOS]);
 
 // What a contract's rows come to. The net deltas are those of its prompts in file order, and 0 beyond them.
 pub struct Position {
     pub totals: Totals,
-    pub nets: [Delta; 32],
+    pub nets: [Delta; MOST_PROMPTS],
     pub shorts: u64,
 }
 
 // The days of a contract's prompts, the first `count`.
 pub struct Days {
     pub count: usize,
-    pub day: [usize; 32],
+    pub day: [usize; MOST_PROMPTS],
 }
 
 // Lots × value: what a row loses for each tick.
@@ -99,7 +101,7 @@ fn totals_with(t: Totals, row: &[u8]) -> Totals
     let each = per_tick(row);
     let mut totals = t.0;
     let mut s = 0;
-    while s < 16 {
+    while s < SCENARIOS {
         let product = times(each, loss(row, s + 1));
         totals[s] = plus(totals[s], product);
         s += 1;
@@ -113,7 +115,7 @@ pub(crate) fn days_of(prompts: &[u8]) -> Days
     ensures { λ d. ⌜ DaysOf (records (now (prompts .entry))) d ⌝ }
 {
     let count = prompts.len() / RECORD_BYTES;
-    let mut days = [0usize; 32];
+    let mut days = [0usize; MOST_PROMPTS];
     let mut j = 0;
     while j < count {
         let at = j * RECORD_BYTES;
@@ -127,9 +129,9 @@ pub(crate) fn days_of(prompts: &[u8]) -> Days
 pub(crate) fn flat() -> Position
     ensures { λ p. ⌜ ((prompts : List Record) → length prompts ≤ 32 → PositionOf prompts [] p) ⌝ }
 {
-    let totals = [0i64; 16];
+    let totals = [0i64; SCENARIOS];
     let none = Delta(0);
-    let nets = [none; 32];
+    let nets = [none; MOST_PROMPTS];
     Position {
         totals: Totals(totals),
         nets,

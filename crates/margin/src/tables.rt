@@ -11,6 +11,8 @@ use record::fields::second_ratio;
 use record::fields::tier;
 use spread::Delta;
 use spread::Leg;
+use spread::MOST_PROMPTS;
+use spread::MOST_SPREADS;
 use spread::Prompts;
 use spread::Spread;
 use spread::Table;
@@ -82,7 +84,7 @@ pub(crate) fn interprompt_table(spreads: &[u8]) -> Table
     ensures { λ r. ⌜ TableOf interprompt (now (spreads .entry)) r ⌝ }
 {
     let count = spreads.len() / RECORD_BYTES;
-    let mut table = [no_spread(); 32];
+    let mut table = [no_spread(); MOST_SPREADS];
     let mut i = 0;
     while i < count {
         let at = i * RECORD_BYTES;
@@ -101,7 +103,7 @@ pub(crate) fn intercontract_table(entries: &[u8]) -> Table
     ensures { λ r. ⌜ TableOf intercontract (now (entries .entry)) r ⌝ }
 {
     let count = entries.len() / RECORD_BYTES;
-    let mut table = [no_spread(); 32];
+    let mut table = [no_spread(); MOST_SPREADS];
     let mut i = 0;
     while i < count {
         let at = i * RECORD_BYTES;
@@ -115,12 +117,12 @@ pub(crate) fn intercontract_table(entries: &[u8]) -> Table
 }
 
 // A contract's prompts with their tiers and net deltas.
-pub(crate) fn prompts_with(prompts: &[u8], nets: [Delta; 32]) -> Prompts
+pub(crate) fn prompts_with(prompts: &[u8], nets: [Delta; MOST_PROMPTS]) -> Prompts
     requires { ⌜ recordCount (now prompts) ≤ 32 ⌝ }
     ensures { λ r. ⌜ TiersOf (now (prompts .entry)) nets r ⌝ }
 {
     let count = prompts.len() / RECORD_BYTES;
-    let mut tiers = [0u8; 32];
+    let mut tiers = [0u8; MOST_PROMPTS];
     let mut i = 0;
     while i < count {
         let at = i * RECORD_BYTES;

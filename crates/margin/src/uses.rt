@@ -1,5 +1,6 @@
 // Who paid for what: for each step of a table of spreads, what it takes of each prompt.
 use spread::Delta;
+use spread::MOST_PROMPTS;
 use spread::Prompts;
 use spread::Spread;
 use spread::Table;
@@ -22,7 +23,7 @@ pub struct Asking {
 }
 
 // Deltas, one after the other from a place on.
-fn put_deltas(out: &mut [i64], at: usize, count: usize, deltas: [Delta; 32])
+fn put_deltas(out: &mut [i64], at: usize, count: usize, deltas: [Delta; MOST_PROMPTS])
     requires { ⌜ (count ≤ 32) × (at + count ≤ length (now out)) ⌝ }
     ensures { λ r. ⌜ now (out .exit) ≡ sets (now (out .entry)) at (take count (deltasIn deltas)) ⌝ }
 {

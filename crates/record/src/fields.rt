@@ -11,6 +11,9 @@ use crate::bytes::u16_at;
 use crate::bytes::u32_at;
 use crate::layout;
 
+// A row has a loss for each.
+pub const SCENARIOS: usize = 16;
+
 pub fn kind(r: &[u8]) -> usize
     ensures { λ n. ⌜ (n ≡ kind (now (r .entry))) × (n < 256) ⌝ }
 {

@@ -1,3 +1,5 @@
+use crate::fields::SCENARIOS;
+
 // Document 01's table of kinds: the byte at which each field starts. "Byte 0 is the kind", and byte 1 names a contract in
 // every kind.
 pub(crate) const KIND: usize = 0;
@@ -28,8 +30,6 @@ pub(crate) const DELTA: usize = 16;
 pub(crate) const VALUE: usize = 20;
 
 pub(crate) const FIRST_LOSS: usize = 24;
-
-pub(crate) const SCENARIOS: usize = 16;
 
 // Of an interprompt spread: the first leg's, each later one 4 bytes on.
 pub(crate) const LEG_COUNT: usize = 2;

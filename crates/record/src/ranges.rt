@@ -10,6 +10,7 @@ ghost use Rattle.record.specs.Layout.{strikeField, deltaField, forward, 
 ghost use Rattle.record.specs.Ranges.{beyond, outside, outsideAmong};
 use crate::bytes::RECORD_BYTES;
 use crate::bytes::u32_at;
+use crate::fields::SCENARIOS;
 use crate::fields::contract;
 use crate::fields::day;
 use crate::fields::first_ratio;
@@ -124,7 +125,7 @@ fn losses_beyond(r: &[u8]) -> bool
 {
     let mut outside = false;
     let mut k = 0;
-    while k < layout::SCENARIOS {
+    while k < SCENARIOS {
         outside = outside | too_many(u32_at(r, layout::FIRST_LOSS + 4 * k));
         k += 1;
     }

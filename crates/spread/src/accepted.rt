@@ -1,6 +1,8 @@
 // Which prompts and which spreads are accepted.
 use crate::Delta;
 use crate::Leg;
+use crate::MOST_PROMPTS;
+use crate::MOST_SPREADS;
 use crate::Prompts;
 use crate::Spread;
 use crate::Table;
@@ -9,9 +11,6 @@ ghost use mathlib.Core.Path.{_≡_};
 ghost use mathlib.Core.List.{[], _∷_};
 ghost use Rattle.spread.specs.Accepted.{soundLeg, sameLeg, soundLegsOf, soundSpread, soundTable, soundPrompt, soundPrompts, sound};
 
-pub const MOST_PROMPTS: usize = 32;
-
-pub const MOST_SPREADS: usize = 32;
 // 128 rows of 100,000 lots at a delta of 1.0000.
 pub const MOST_DELTA: u64 = 128_000_000_000;
 

@@ -1,5 +1,7 @@
 // The delta book of a table of spreads: each step's number, and used and unused at each prompt.
 use crate::Delta;
+use crate::MOST_PROMPTS;
+use crate::MOST_SPREADS;
 use crate::Prompts;
 use crate::Spreads;
 use crate::Table;
@@ -23,17 +25,17 @@ ghost use Rattle.spread.specs.Book.{Booked, Refused, Run, Wanted, Spent}
 // net delta. All are zero beyond the spreads and prompts given, and where these are not accepted.
 pub struct Book {
     pub accepted: bool,
-    pub first: [Spreads; 32],
-    pub second: [Spreads; 32],
-    pub used: [Delta; 32],
-    pub unused: [Delta; 32],
+    pub first: [Spreads; MOST_SPREADS],
+    pub second: [Spreads; MOST_SPREADS],
+    pub used: [Delta; MOST_PROMPTS],
+    pub unused: [Delta; MOST_PROMPTS],
 }
 
 // All steps run: the pools left, and the numbers formed.
 struct Ran {
     left: Pools,
-    first: [Spreads; 32],
-    second: [Spreads; 32],
+    first: [Spreads; MOST_SPREADS],
+    second: [Spreads; MOST_SPREADS],
 }
 
 // The two parts of a net delta.
@@ -44,8 +46,8 @@ struct Parts {
 
 // The two parts of each prompt's net delta.
 pub(crate) struct Paid {
-    pub(crate) used: [Delta; 32],
-    pub(crate) unused: [Delta; 32],
+    pub(crate) used: [Delta; MOST_PROMPTS],
+    pub(crate) unused: [Delta; MOST_PROMPTS],
 }
 
 // The pool of a prompt: its tier's, on the side of its net delta.
@@ -61,7 +63,7 @@ pub(crate) fn pools_of(prompts: Prompts) -> Pools
     ensures { λ r. ⌜ Pooled (r .cell) (openOf prompts) ⌝ }
 {
     let n = prompts.count;
-    let mut cells = [0; 32];
+    let mut cells = [0; CELLS];
     let mut i = 0;
     while i < n {
         let net = prompts.net[i];
@@ -79,8 +81,8 @@ fn run(pools: Pools, table: Table) -> Ran
 {
     let n = table.count;
     let mut left = pools;
-    let mut first = [Spreads(0); 32];
-    let mut second = [Spreads(0); 32];
+    let mut first = [Spreads(0); MOST_SPREADS];
+    let mut second = [Spreads(0); MOST_SPREADS];
     let mut i = 0;
     while i < n {
         let spread = table.spread[i];
@@ -114,7 +116,7 @@ pub(crate) fn used_of(pools: Pools, left: Pools) -> Pools
 {
     let had = pools.cell;
     let has = left.cell;
-    let mut used = [0; 32];
+    let mut used = [0; CELLS];
     let mut cell = 0;
     while cell < CELLS {
         used[cell] = beyond(had[cell], has[cell]);
@@ -142,8 +144,8 @@ pub(crate) fn paid_by(prompts: Prompts, wanted: Pools) -> Paid
 {
     let n = prompts.count;
     let mut left = wanted.cell;
-    let mut used = [Delta(0); 32];
-    let mut unused = [Delta(0); 32];
+    let mut used = [Delta(0); MOST_PROMPTS];
+    let mut unused = [Delta(0); MOST_PROMPTS];
     let mut k = 0;
     while k < n {
         let net = prompts.net[k];
@@ -169,10 +171,10 @@ fn refused() -> Book
 {
     Book {
         accepted: false,
-        first: [Spreads(0); 32],
-        second: [Spreads(0); 32],
-        used: [Delta(0); 32],
-        unused: [Delta(0); 32],
+        first: [Spreads(0); MOST_SPREADS],
+        second: [Spreads(0); MOST_SPREADS],
+        used: [Delta(0); MOST_PROMPTS],
+        unused: [Delta(0); MOST_PROMPTS],
     }
 }
 

@@ -7,6 +7,11 @@ pub mod deltas;
 pub mod pools;
 pub mod stepwise;
 
+// The most that a table and its prompts hold.
+pub const MOST_PROMPTS: usize = 32;
+
+pub const MOST_SPREADS: usize = 32;
+
 // A delta, in ten-thousandths of a lot, long above zero and short below.
 pub struct Delta(pub i64);
 
@@ -29,12 +34,12 @@ pub struct Spread {
 // A table of spreads in order of priority: its first `count` spreads.
 pub struct Table {
     pub count: usize,
-    pub spread: [Spread; 32],
+    pub spread: [Spread; MOST_SPREADS],
 }
 
 // Prompts, the earliest day of a tier first: the first `count` tiers and net deltas.
 pub struct Prompts {
     pub count: usize,
-    pub tier: [u8; 32],
-    pub net: [Delta; 32],
+    pub tier: [u8; MOST_PROMPTS],
+    pub net: [Delta; MOST_PROMPTS],
 }

@@ -13,11 +13,11 @@ ghost use Rattle.spread.specs.Cells.{cellOf, shortIf, marketIn, stepOf, 
 
 pub const TIERS: usize = 16;
 
-pub(crate) const CELLS: usize = 32;
+pub(crate) const CELLS: usize = 2 * TIERS;
 
 // Cell 2t is the long pool of tier t, cell 2t + 1 the short one, both without their sign.
 pub struct Pools {
-    pub cell: [u64; 32],
+    pub cell: [u64; CELLS],
 }
 
 // A step taken: the pools that it leaves, and the number of spreads that it formed.

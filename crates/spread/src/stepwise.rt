@@ -1,5 +1,6 @@
 // One step of a spread over the prompts themselves: who pays for it.
 use crate::Delta;
+use crate::MOST_PROMPTS;
 use crate::Prompts;
 use crate::Spread;
 use crate::Spreads;
@@ -16,7 +17,7 @@ ghost use Rattle.spread.specs.Uses.{soundFor, Stepped, NotTaken};
 pub struct Step {
     pub accepted: bool,
     pub number: Spreads,
-    pub taken: [Delta; 32],
+    pub taken: [Delta; MOST_PROMPTS],
     pub left: Prompts,
 }
 
@@ -33,7 +34,7 @@ fn not_taken(prompts: Prompts) -> Step
     Step {
         accepted: false,
         number: Spreads(0),
-        taken: [Delta(0); 32],
+        taken: [Delta(0); MOST_PROMPTS],
         left: prompts,
     }
 }

@@ -3,11 +3,11 @@
 use libc::STDOUT_FILENO;
 use spread::Delta;
 use spread::Leg;
+use spread::MOST_PROMPTS;
+use spread::MOST_SPREADS;
 use spread::Prompts;
 use spread::Spread;
 use spread::Table;
-use spread::accepted::MOST_PROMPTS;
-use spread::accepted::MOST_SPREADS;
 use spread::book::Book;
 use spread::book::delta_book;
 

@@ -1,12 +1,12 @@
 -- The lines of an accepted account's contracts, the intercontract table over them, credits and figures.
 -- Assumes nothing.
-use Prim.Native.Nat.{ℕ, suc, _+_, _-_, _*_, _≤_, _<_, zero-le, suc-le-suc}
+use Prim.Native.Nat.{ℕ, suc, _+_, _*_, _≤_, _<_, zero-le, suc-le-suc}
 use native.Mathlib.Nat.{le-trans, le-of-suc-le-suc, not-suc-le-zero, mul-le-mul-right}
 use native.Mathlib.Decide.{ℕ-discrete}
 use native.Mathlib.Omega.{arith}
 use mathlib.Core.Path.{_≡_, refl, sym, ap, ap₂, _∙_, subst, subst⁻¹}
 use mathlib.Core.Bool.{true}
-use mathlib.Core.List.{List, [], _∷_, _++_, map}
+use mathlib.Core.List.{List, [], _∷_, map}
 use lib.IntN.{ℤ, pos, natAbs}
 use lib.ListN.{length, getD, take, set, length-set, length-map}
 use lib.Seq.{getD-set-same, getD-set-other, getD-take, length-take-le}
@@ -17,7 +17,6 @@ use Rattle.account.specs.Records.{records, stretch}
 use Rattle.account.specs.declared.check.Survey.{Survey}
 use Rattle.spread.specs.Book.{entries, spreadsEntry, deltaEntry}
 use Rattle.spread.specs.Steps.{Open, steps, numbers, usedOf, unusedOf}
-use Rattle.spread.specs.declared.Prompts.{Prompts}
 use Rattle.spread.specs.declared.Spreads.{Spreads}
 use Rattle.spread.specs.declared.book.Book.{Book}
 use Rattle.spread.proofs.Filling.{entries-at}
@@ -31,19 +30,17 @@ use Rattle.margin.specs.Within.{EntriesFit}
 use Rattle.margin.specs.Deltas.{intercontract}
 use Rattle.margin.specs.Figures.{figures, figuresOver}
 use Rattle.margin.specs.Lines.{noLine, figuresFrom}
-use Rattle.margin.specs.declared.numbers.Numbers.{Numbers}
-use Rattle.margin.specs.Books.{threes, tableBook}
-use Rattle.margin.specs.Numbers.{written, LinesWithin, SpreadsSigned, BookNumbers}
+use Rattle.margin.specs.Numbers.{LinesWithin}
 use Rattle.margin.specs.Promised.{BookOf, LineOf}
 use Rattle.margin.specs.Stands.{Stands, LinesOf}
-use Rattle.margin.specs.Sums.{interleaved, deltasIn, spreadsAt}
-use Rattle.margin.specs.Table.{tierOf, TiersFrom, TableRoom, CreditsRoom, CreditsOf, earns, tableFirsts, tableSeconds}
+use Rattle.margin.specs.Sums.{interleaved, spreadsAt}
+use Rattle.margin.specs.Table.{tierOf, TableRoom, CreditsRoom, CreditsOf, earns, tableFirsts, tableSeconds}
 use Rattle.margin.proofs.AcceptLaws.{entries-within, numbers-rise}
-use Rattle.margin.proofs.BookLaws.{over-arrays, book-listed}
+use Rattle.margin.proofs.BookLaws.{over-arrays}
 use Rattle.margin.proofs.CreditLaws.{credits-by}
 use Rattle.margin.proofs.FigureLaws.{Lined, Apart, Credited, tiers-are, tiers-sound, tier-sizes, unused-is, entry-use-within, figures-are}
-use Rattle.margin.proofs.LineLaws.{numbers-length, used-length, unused-length}
-use Rattle.margin.proofs.StandLaws.{contracts-are, entries-stand}
+use Rattle.margin.proofs.LineLaws.{numbers-length}
+use Rattle.margin.proofs.StandLaws.{entries-stand}
 use Rattle.margin.proofs.StepBounds.{number-within}
 
 -- ---- lines, filled place by place
@@ -79,12 +76,6 @@ credited-from : (es : List Record) (table : List Open) (ks : List Contract) (d :
 credited-from es table [] d cs h e = tt
 credited-from es table (k ∷ ks) d [] h e = absurd (not-suc-le-zero h)
 credited-from es table (k ∷ ks) d (c ∷ cs) h e = (e 0 (suc-le-suc zero-le), credited-from es table ks d cs (le-of-suc-le-suc h) (λ i m. e (suc i) (suc-le-suc m)))
-
-nets-lined : (ks : List Contract) (ls : List Line) → Lined ks ls → map (λ l. l .net .0) ls ≡ map contractNet ks
-nets-lined [] [] h = refl
-nets-lined [] (l ∷ ls) h = absurd h
-nets-lined (k ∷ ks) [] h = absurd h
-nets-lined (k ∷ ks) (l ∷ ls) h = ap₂ _∷_ (h .0 .net-is) (nets-lined ks ls (h .1))
 
 module _ (file : List ℕ) (s : Survey) (st : Stands file s) (all : Lines) (is : LinesOf file all) (part : List ℕ) (ep : part ≡ stretch file (getD (s .first) 80 0) (getD (s .counts) 80 0)) where
   abbrev account : List Record
@@ -209,39 +200,6 @@ module _ (file : List ℕ) (s : Survey) (st : Stands file s) (all : Lines) (is :
                       use-within = use-most i h k m;
                     };
               };
-        }
-
-    -- the numbers formed can be written signed
-    pub table-signed : (m : ℕ) → m ≡ length (records part) → SpreadsSigned m (b .first) (b .second)
-    table-signed m e =
-        let f = es-within .few in
-        record {
-          most = omega arith;
-          first-within = λ k h. let x = first-at k (omega arith) in let y = formed-most (2 * k) in omega arith;
-          second-within = λ k h. let x = second-at k (omega arith) in let y = formed-most (2 * k + 1) in omega arith;
-        }
-
-    -- the numbers of the table's book
-    pub table-listed : (r : Numbers) (p : Prompts) (m : ℕ) → TiersFrom n (all .line) p → m ≡ length (records part) → r .count ≡ 3 * n + 2 * m
-        → written r ≡ threes (take n (deltasIn (p .net))) (take n (deltasIn (b .used))) (take n (deltasIn (b .unused))) ++ map pos (interleaved (take m (b .first)) (take m (b .second)))
-        → BookNumbers (tableBook (entriesOf account) ks) (s .contracts) (length (entriesOf account)) r
-    table-listed r p m tiers em ec el =
-        let ss = steps (map intercontract (records part)) in
-        let ps = map tierOf ls in
-        let few = is .few in
-        let fe = es-within .few in
-        let stand : length ps ≡ n = length-map ls tierOf ∙ ls-length in
-        let c = contracts-are file s st in
-        let d = ap length es-are in
-        let e = is .count-is in
-        record {
-          listed-is =
-              book-listed ss ps b (take n (deltasIn (p .net))) n m (written r) bk stand (omega arith) (numbers-length intercontract (records part) ps ∙ ap (λ (x : ℕ). 2 * x) (sym em)) (omega arith)
-              (used-length ss ps ∙ stand) (unused-length ss ps ∙ stand) el
-              ∙ ap₂ (λ (zs : List ℤ) (qs : List Open). threes zs (usedOf ss qs) (unusedOf ss qs) ++ map pos (numbers ss qs)) (tiers .nets-are ∙ nets-lined ks ls lined) (tiers-are ks ls lined)
-              ∙ ap (λ (x : List Record). tableBook x ks) es-are;
-          count-is = omega arith;
-          few = omega arith;
         }
 
     module _ (cs : List Amount) (earned : CreditsOf n (all .line) (records part) (b .first) (b .second) cs) where

@@ -27,6 +27,7 @@ pub mod AskedLaws
 pub mod Demands
 pub mod HeldLaws
 pub mod UnspreadLaws
+pub mod TierLaws
 pub mod UsesLaws
 pub mod NeedLaws
 pub mod PlaceLaws

@@ -28,25 +28,21 @@ use Rattle.spread.specs.declared.stepwise.Step.{Step}
 use Rattle.spread.proofs.Both.{and-left, and-right, and-both}
 use Rattle.spread.proofs.Every.{open-length}
 use Rattle.spread.proofs.Stepping.{after-length}
-use Rattle.margin.specs.declared.accepted.Lines.{Lines}
 use Rattle.margin.specs.declared.rows.Position.{Position}
 use Rattle.margin.specs.Contract.{contractFrom, contracts, asTier}
 use Rattle.margin.specs.Deltas.{opens, interprompt, intercontract, netDeltas}
 use Rattle.margin.specs.Position.{PositionOf, Bounded}
-use Rattle.margin.specs.Stands.{Stands, LinesOf}
+use Rattle.margin.specs.Stands.{Stands, TiersIn}
 use Rattle.margin.specs.Sums.{deltasIn}
-use Rattle.margin.specs.Table.{TiersFrom}
 use Rattle.margin.specs.Tables.{TiersOf, TableOf}
 use Rattle.margin.specs.Uses.{contractUses, tableUses, LeftBy, Asks}
-use Rattle.margin.specs.Within.{ContractFit}
-use Rattle.margin.proofs.AccountLaws.{es-are, ks-length, lined, table-room}
+use Rattle.margin.specs.Within.{ContractWithin}
 use Rattle.margin.proofs.BookLaws.{take-deltas, opens-are, contract-sound}
 use Rattle.margin.proofs.ContractLaws.{book-room, nets-are}
-use Rattle.margin.proofs.FigureLaws.{tiers-are}
 use Rattle.margin.proofs.LineLaws.{opens-length, steps-length, used-length}
 use Rattle.margin.proofs.NumberLaws.{sets-append}
 use Rattle.margin.proofs.RecordLaws.{count-is}
-use Rattle.margin.proofs.TableLaws.{table-sound}
+use Rattle.margin.proofs.TierLaws.{es-are, ps-length, tiers-accepted}
 
 -- ---- one step
 
@@ -224,15 +220,11 @@ contract-asks prompts rows spreads w q is most p t tiers table =
     (tiers .count-is ∙ sym (count-is prompts) ∙ sym (opens-length (records prompts) (netDeltas (records prompts) (records rows)) (length-map (records prompts) _)))
     (table .count-is ∙ sym (count-is spreads) ∙ sym (length-map (records spreads) interprompt))
 
-pub table-asks : (file : List ℕ) (s : Survey) (st : Stands file s) (all : Lines) (is : LinesOf file all) (part : List ℕ) (ep : part ≡ stretch file (getD (s .first) 80 0) (getD (s .counts) 80 0))
-    → (p : Prompts) (t : Table) → TiersFrom (all .count) (all .line) p → TableOf intercontract part t
-    → Asks (tableUses (entriesOf (records file)) (contracts (records file))) (record { prompts = p; table = t })
-table-asks file s st all is part ep p t tiers table =
-    let room = table-room file s st all is part ep in
-    let es = es-are file s st all is part ep in
-    let ks = contracts (records file) in
-    let same = tiers-are ks (take (all .count) (all .line)) (lined file s st all is part ep) in
-    asks p t (map asTier ks) (map intercontract (entriesOf (records file))) (tiers .opens-are ∙ same) (table .spreads-are ∙ ap (map intercontract) es)
-    (table-sound (all .count) (all .line) part p t tiers table room)
-    (tiers .count-is ∙ sym (ks-length file s st all is part ep) ∙ sym (length-map ks asTier))
+pub table-asks : (file : List ℕ) (s : Survey) (st : Stands file s) (p : Prompts) (is : TiersIn file p) (part : List ℕ) (ep : part ≡ stretch file (getD (s .first) 80 0) (getD (s .counts) 80 0))
+    → (t : Table) → TableOf intercontract part t → Asks (tableUses (entriesOf (records file)) (contracts (records file))) (record { prompts = p; table = t })
+table-asks file s st p is part ep t table =
+    let es = es-are file s st p is part ep in
+    asks p t (map asTier (contracts (records file))) (map intercontract (entriesOf (records file))) (is .opens-are) (table .spreads-are ∙ ap (map intercontract) es)
+    (tiers-accepted file s st p is part ep t table)
+    (sym (ps-length file s st p is part ep))
     (table .count-is ∙ sym (count-is part) ∙ ap length es ∙ sym (length-map (entriesOf (records file)) intercontract))

@@ -2,8 +2,10 @@
 -- Assumes nothing.
 use Prim.Native.Nat.{ℕ, _≤_, _<_}
 use mathlib.Core.Path.{_≡_}
-use mathlib.Core.List.{List, []}
-use lib.ListN.{length, getD}
+use mathlib.Core.Bool.{true}
+use mathlib.Core.List.{List, [], map}
+use lib.IntN.{ℤ, natAbs}
+use lib.ListN.{length, getD, take}
 use Rattle.account.specs.Check.{checked}
 use Rattle.account.specs.Parts.{contractsOf}
 use Rattle.account.specs.Records.{records}
@@ -11,9 +13,14 @@ use Rattle.account.specs.Surveyed.{Surveyed}
 use Rattle.account.specs.declared.answers.Answer.the-variants.{Accepted}
 use Rattle.account.specs.declared.check.Survey.{Survey}
 use Rattle.margin.specs.declared.accepted.Lines.{Lines}
-use Rattle.margin.specs.Contract.{partsIn}
+use Rattle.record.specs.Layout.{contract}
+use Rattle.spread.specs.Accepted.{every, soundPrompt, openOf}
+use Rattle.spread.specs.declared.Prompts.{Prompts}
+use Rattle.margin.specs.Bounds.{mostDelta}
+use Rattle.margin.specs.Contract.{Contract, contracts, partsIn, asTier, contractNet}
 use Rattle.margin.specs.Lines.{noLine}
 use Rattle.margin.specs.Promised.{LineOf}
+use Rattle.margin.specs.Sums.{deltasIn}
 
 pub record Stands (file : List ℕ) (s : Survey) : Type 0 where
   pub accepted : checked file ≡ Accepted
@@ -25,3 +32,18 @@ pub record LinesOf (file : List ℕ) (ls : Lines) : Type 0 where
   pub few : ls .count ≤ 16
   pub places : length (ls .line) ≡ 16
   pub each : (i : ℕ) → i < ls .count → LineOf (partsIn (records file) (getD (contractsOf (records file)) i [])) (getD (ls .line) i noLine)
+
+-- a contract's number and its net delta
+pub record TierIs (k : Contract) (number : ℕ) (net : ℤ) : Type 0 where
+  pub number-is : number ≡ contract (k .own)
+  pub net-is : net ≡ contractNet k
+  pub number-within : number ≤ 15
+  pub net-within : natAbs net ≤ mostDelta
+
+-- the account's contracts as tiers, in file order
+pub record TiersIn (file : List ℕ) (p : Prompts) : Type 0 where
+  pub count-is : p .count ≡ length (contractsOf (records file))
+  pub few : p .count ≤ 16
+  pub opens-are : openOf p ≡ map asTier (contracts (records file))
+  pub nets-are : take (p .count) (deltasIn (p .net)) ≡ map contractNet (contracts (records file))
+  pub tiers-sound : every soundPrompt (map asTier (contracts (records file))) ≡ true

@@ -1,10 +1,9 @@
 // An accepted account, by its survey: the lines of its contracts, and the numbers of its answers.
 use crate::amount::Amount;
 use crate::books::contract_book;
-use crate::intercontract::table_book;
 use crate::intercontract::table_credits;
-use crate::intercontract::tiers_of;
 use crate::line::Line;
+use crate::line::contract_net;
 use crate::line::line_of;
 use crate::numbers::Numbers;
 use crate::numbers::book_numbers;
@@ -26,6 +25,8 @@ use account::stretches::record_count;
 use account::stretches::stretch;
 use record::fields::contract;
 use spread::Delta;
+use spread::Prompts;
+use spread::book::delta_book;
 ghost use mathlib.Core.Path.{_≡_};
 ghost use mathlib.Core.Bool.{true};
 ghost use mathlib.Core.List.{[]};
@@ -41,7 +42,7 @@ ghost use Rattle.margin.specs.Figures.{figures};
 ghost use Rattle.margin.specs.Numbers.{written, BookNumbers};
 ghost use Rattle.margin.specs.Within.{ContractFit};
 ghost use Rattle.margin.specs.Promised.{LineOf};
-ghost use Rattle.margin.specs.Stands.{Stands, LinesOf};
+ghost use Rattle.margin.specs.Stands.{Stands, LinesOf, TierIs, TiersIn};
 ghost use Rattle.margin.specs.Uses.{contractUses, tableUses, uses, Asks};
 
 // The question for the intercontract table; those below it are contracts.
@@ -151,18 +152,63 @@ fn contract_numbers(file: &[u8], survey: Survey, c: usize) -> Numbers
     contract_answer(prompts, rows, spreads)
 }
 
+// A contract as a tier of the intercontract table.
+struct Tier {
+    contract: u8,
+    net: Delta,
+}
+
+// The i-th contract as a tier: its net delta, without its book and its charges.
+fn tier_at(file: &[u8], survey: Survey, i: usize) -> Tier
+    requires { ⌜ Stands (now file) survey × (i < survey .contracts) ⌝ }
+    ensures { λ r. ⌜ TierIs (partsIn (records (now (file .entry))) (getD (contractsOf (records (now (file .entry)))) i [])) (r .contract) (r .net .0) ⌝ }
+{
+    let own = record_at(file, i);
+    let c = contract(own);
+    let prompts = part_at(file, survey.first[PROMPTS + c], survey.counts[PROMPTS + c]);
+    let rows = part_at(file, survey.first[ROWS + c], survey.counts[ROWS + c]);
+    let p = position_of(prompts, rows);
+    let nets = p.nets;
+    let net = contract_net(nets);
+    Tier {
+        contract: c as u8,
+        net: net,
+    }
+}
+
+// The contracts as tiers, in file order.
+fn tiers_over(file: &[u8], survey: Survey) -> Prompts
+    requires { ⌜ Stands (now file) survey ⌝ }
+    ensures { λ r. ⌜ TiersIn (now (file .entry)) r ⌝ }
+{
+    let count = survey.contracts;
+    let mut tiers = [0u8; 32];
+    let mut nets = [Delta(0); 32];
+    let mut i = 0;
+    while i < count {
+        let one = tier_at(file, survey, i);
+        tiers[i] = one.contract;
+        let net = one.net;
+        nets[i] = net;
+        i += 1;
+    }
+    Prompts {
+        count: count,
+        tier: tiers,
+        net: nets,
+    }
+}
+
 // The numbers of the book of the intercontract table.
 fn table_numbers(file: &[u8], survey: Survey) -> Numbers
     requires { ⌜ Stands (now file) survey ⌝ }
     ensures { λ r. ⌜ BookNumbers (tableBook (entriesOf (records (now (file .entry)))) (contracts (records (now (file .entry))))) (survey .contracts) (length (entriesOf (records (now (file .entry))))) r ⌝ }
 {
-    let all = lines_of(file, survey);
-    let count = all.count;
-    let lines = all.line;
-    let entries = part_at(file, survey.first[ENTRIES], survey.counts[ENTRIES]);
-    let book = table_book(count, lines, entries);
-    let tiers = tiers_of(count, lines);
+    let tiers = tiers_over(file, survey);
+    let count = tiers.count;
     let nets = tiers.net;
+    let entries = part_at(file, survey.first[ENTRIES], survey.counts[ENTRIES]);
+    let book = delta_book(tiers, intercontract_table(entries));
     let used = book.used;
     let unused = book.unused;
     let first = book.first;
@@ -218,12 +264,9 @@ fn table_asking(file: &[u8], survey: Survey) -> Asking
     requires { ⌜ Stands (now file) survey ⌝ }
     ensures { λ r. ⌜ Asks (tableUses (entriesOf (records (now (file .entry)))) (contracts (records (now (file .entry))))) r ⌝ }
 {
-    let all = lines_of(file, survey);
-    let count = all.count;
-    let lines = all.line;
     let entries = part_at(file, survey.first[ENTRIES], survey.counts[ENTRIES]);
     Asking {
-        prompts: tiers_of(count, lines),
+        prompts: tiers_over(file, survey),
         table: intercontract_table(entries),
     }
 }

@@ -1,0 +1,225 @@
+-- The contracts of an accepted account as tiers, and the book of the intercontract table over them.
+-- Assumes nothing.
+use Prim.Native.Nat.{ℕ, zero, suc, _+_, _*_, _≤_, _<_, zero-le, suc-le-suc}
+use native.Mathlib.Nat.{le-trans, le-of-suc-le-suc, not-suc-le-zero, mul-le-mul-right}
+use native.Mathlib.Decide.{ℕ-discrete}
+use native.Mathlib.Omega.{arith}
+use mathlib.Core.Path.{_≡_, refl, sym, ap, ap₂, _∙_, subst, subst⁻¹}
+use mathlib.Core.Bool.{Bool, true, _&&_}
+use mathlib.Core.List.{List, [], _∷_, _++_, map}
+use borrow.Author.Tests.{lt-ltb, le-leb, leb-true}
+use lib.Dec.{leb, ltb}
+use lib.IntN.{ℤ, pos, natAbs}
+use lib.ListN.{length, getD, take, set, length-map}
+use lib.Seq.{take-all}
+use Rattle.exact.specs.Lists.{sumℤ}
+use Rattle.exact.proofs.Lists.{getD-map, abs-sum}
+use Rattle.record.specs.Layout.{Record, contract}
+use Rattle.account.specs.Parts.{contractsOf, entriesOf}
+use Rattle.account.specs.Records.{records, recordCount, stretch}
+use Rattle.account.specs.declared.check.Survey.{Survey}
+use Rattle.spread.specs.Accepted as given
+use Rattle.spread.specs.Accepted.{every, soundPrompt}
+use Rattle.spread.specs.Book.{Booked, entries, spreadsEntry}
+use Rattle.spread.specs.Steps.{Open, steps, numbers, usedOf, unusedOf}
+use Rattle.spread.specs.declared.Delta.{Delta}
+use Rattle.spread.specs.declared.Prompts.{Prompts}
+use Rattle.spread.specs.declared.Spreads.{Spreads}
+use Rattle.spread.specs.declared.Table.{Table}
+use Rattle.spread.specs.declared.book.Book.{Book}
+use Rattle.spread.proofs.Both.{and-left, and-right, and-both}
+use Rattle.spread.proofs.Filling.{entries-at}
+use Rattle.margin.specs.declared.line.Line.{Line}
+use Rattle.margin.specs.declared.numbers.Numbers.{Numbers}
+use Rattle.margin.specs.declared.rows.Position.{Position}
+use Rattle.margin.specs.Books.{threes, tableBook}
+use Rattle.margin.specs.Bounds.{mostDelta}
+use Rattle.margin.specs.Contract.{Contract, contracts, contractFrom, partsIn, asTier, contractNet}
+use Rattle.margin.specs.Deltas.{intercontract}
+use Rattle.margin.specs.Lines.{noLine}
+use Rattle.margin.specs.Numbers.{listed, SpreadsSigned, BookNumbers}
+use Rattle.margin.specs.Position.{PositionOf, Bounded}
+use Rattle.margin.specs.Promised.{BookOf}
+use Rattle.margin.specs.Stands.{Stands, TierIs, TiersIn}
+use Rattle.margin.specs.Sums.{interleaved, deltasIn, spreadsAt}
+use Rattle.margin.specs.Table.{tierOf}
+use Rattle.margin.specs.Tables.{TableOf}
+use Rattle.margin.specs.Within.{ContractWithin, EntriesWithin}
+use Rattle.margin.proofs.AcceptLaws.{entries-within}
+use Rattle.margin.proofs.BookLaws.{book-accepted, handed-sound, book-listed}
+use Rattle.margin.proofs.ContractLaws.{net-is, net-sizes}
+use Rattle.margin.proofs.LineLaws.{spreads-sound, numbers-length, used-length, unused-length}
+use Rattle.margin.proofs.RecordLaws.{count-is}
+use Rattle.margin.proofs.StandLaws.{contracts-are, entries-stand}
+use Rattle.margin.proofs.StepBounds.{sizes, number-within}
+use Rattle.margin.proofs.TableLaws.{Tiered, tiered-next, tiered-all, entry-accepted}
+
+-- a contract's number and net delta, by what its rows come to
+pub tier-is : (own : Record) (prompts rows spreads : List Record) (w : ContractWithin own prompts rows spreads) (q : Position) (is : PositionOf prompts rows q) (most : Bounded 128 q) (c : ℕ) (z : ℤ)
+    → c ≡ contract own → z ≡ sumℤ (deltasIn (q .nets)) → TierIs (contractFrom own prompts rows spreads) c z
+tier-is own prompts rows spreads w q is most c z ec ez =
+    record {
+      number-is = ec;
+      net-is = ez ∙ net-is own prompts rows spreads w q is most;
+      number-within = omega (arith, w .number);
+      net-within = subst⁻¹ (λ (x : ℤ). natAbs x ≤ mostDelta) ez (le-trans (abs-sum (deltasIn (q .nets))) (net-sizes own prompts rows spreads w q is most));
+    }
+
+-- a line with a contract's number and net delta alone
+abbrev pub lean : Contract → Line
+lean k = record { contract = contract (k .own); active = 0; scanning = record { 0 = 0 }; interprompt = record { 0 = 0 }; prompt = record { 0 = 0 }; minimum = record { 0 = 0 }; «twice_price» = 0; net = record { 0 = contractNet k } }
+
+lean-tiers : (ks : List Contract) → map tierOf (map lean ks) ≡ map asTier ks
+lean-tiers [] = refl
+lean-tiers (k ∷ ks) = ap (λ (ps : List Open). asTier k ∷ ps) (lean-tiers ks)
+
+lean-nets : (ks : List Contract) → map (λ l. l .net .0) (map lean ks) ≡ map contractNet ks
+lean-nets [] = refl
+lean-nets (k ∷ ks) = ap (λ (zs : List ℤ). contractNet k ∷ zs) (lean-nets ks)
+
+lean-tier : (k : Contract) (t : ℕ) (d : Delta) → TierIs k t (d .0) → record { tier = t; unused = d .0 } ≡ tierOf (lean k)
+lean-tier k t d is = λ i. record { tier = is .number-is i; unused = is .net-is i }
+
+tier-sound : (k : Contract) (t : ℕ) (z : ℤ) → TierIs k t z → soundPrompt (asTier k) ≡ true
+tier-sound k t z is =
+    let h : contract (k .own) < 16 = omega (arith, is .number-is, is .number-within) in
+    and-both (ltb (contract (k .own)) 16) (leb (natAbs (contractNet k)) mostDelta) (lt-ltb (contract (k .own)) 16 h)
+    (le-leb (natAbs (contractNet k)) mostDelta (subst (λ (x : ℤ). natAbs x ≤ mostDelta) (is .net-is) (is .net-within)))
+
+all-sound : (ks : List Contract) (d : Contract) → ((i : ℕ) → i < length ks → soundPrompt (asTier (getD ks i d)) ≡ true) → every soundPrompt (map asTier ks) ≡ true
+all-sound [] d h = refl
+all-sound (k ∷ ks) d h =
+    and-both (soundPrompt (asTier k)) (every soundPrompt (map asTier ks)) (h 0 (suc-le-suc zero-le)) (all-sound ks d (λ i l. h (suc i) (suc-le-suc l)))
+
+sound-sizes : (ps : List Open) → every soundPrompt ps ≡ true → sizes ps ≤ length ps * mostDelta
+sound-sizes [] e = zero-le
+sound-sizes (p ∷ ps) e =
+    let a = leb-true (natAbs (p .unused)) mostDelta (and-right (ltb (p .tier) 16) (leb (natAbs (p .unused)) mostDelta) (and-left (soundPrompt p) (every soundPrompt ps) e)) in
+    let r = sound-sizes ps (and-right (soundPrompt p) (every soundPrompt ps) e) in
+    omega arith
+
+-- ---- tiers, filled place by place
+
+pub record TieredTo (file : List ℕ) (i : ℕ) (ts : List ℕ) (ds : List Delta) : Type 0 where
+  pub tiered : Tiered (map lean (contracts (records file))) i ts ds
+  pub sound : (j : ℕ) → j < i → soundPrompt (asTier (getD (contracts (records file)) j (partsIn (records file) []))) ≡ true
+
+module _ (file : List ℕ) where
+  abbrev ks : List Contract
+  ks = contracts (records file)
+
+  abbrev kd : Contract
+  kd = partsIn (records file) []
+
+  ks-length : length ks ≡ length (contractsOf (records file))
+  ks-length = length-map (contractsOf (records file)) (partsIn (records file))
+
+  pub tiers-none : (ts : List ℕ) (ds : List Delta) → length ts ≡ 32 → length ds ≡ 32 → TieredTo file 0 ts ds
+  tiers-none ts ds lt ln = record { tiered = record { tiers = lt; nets = ln; so-far = refl }; sound = λ j h. absurd (not-suc-le-zero h) }
+
+  pub tiers-next : (i : ℕ) (ts : List ℕ) (ds : List Delta) (t : ℕ) (d : Delta) → TieredTo file i ts ds → i < 16 → i < length (contractsOf (records file))
+      → TierIs (partsIn (records file) (getD (contractsOf (records file)) i [])) t (d .0) → TieredTo file (i + 1) (set ts i t) (set ds i d)
+  tiers-next i ts ds t d is few h tier =
+      let here : TierIs (getD ks i kd) t (d .0) = subst⁻¹ (λ (k : Contract). TierIs k t (d .0)) (getD-map (partsIn (records file)) (contractsOf (records file)) i [] kd h) tier in
+      let l : i < length ks = omega (arith, ks-length) in
+      record {
+        tiered =
+            tiered-next (map lean ks) i ts ds t d (is .tiered) (omega arith) (rw length-map l)
+            (lean-tier (getD ks i kd) t d here ∙ sym (ap tierOf (getD-map lean ks i kd noLine l)));
+        sound = λ j m. go j m here (ℕ-discrete j i);
+      }
+    where
+      go : (j : ℕ) → j < i + 1 → TierIs (getD ks i kd) t (d .0) → Dec (j ≡ i) → soundPrompt (asTier (getD ks j kd)) ≡ true
+      go j m here (yes q) = subst⁻¹ (λ (n : ℕ). soundPrompt (asTier (getD ks n kd)) ≡ true) q (tier-sound (getD ks i kd) t (d .0) here)
+      go j m here (no q) = is .sound j (omega (arith, q))
+
+  pub tiers-all : (i : ℕ) (p : Prompts) → TieredTo file i (p .tier) (p .net) → p .count ≡ i → i ≡ length (contractsOf (records file)) → i ≤ 16 → TiersIn file p
+  tiers-all i p is c e few =
+      let from = tiered-all (map lean ks) i i p (is .tiered) refl c in
+      let n : length (map lean ks) ≤ i = rw length-map (omega (arith, ks-length)) in
+      record {
+        count-is = c ∙ e;
+        few = omega arith;
+        opens-are = from .opens-are ∙ ap (map tierOf) (take-all i (map lean ks) n) ∙ lean-tiers ks;
+        nets-are = ap (λ (m : ℕ). take m (deltasIn (p .net))) c ∙ from .nets-are ∙ ap (map (λ l. l .net .0)) (take-all i (map lean ks) n) ∙ lean-nets ks;
+        tiers-sound = all-sound ks kd (λ j h. is .sound j (omega (arith, ks-length)));
+      }
+
+-- ---- the book of the table
+
+module _ (file : List ℕ) (s : Survey) (st : Stands file s) (p : Prompts) (is : TiersIn file p) (part : List ℕ) (ep : part ≡ stretch file (getD (s .first) 80 0) (getD (s .counts) 80 0)) where
+  abbrev account : List Record
+  account = records file
+
+  pub es-are : records part ≡ entriesOf account
+  es-are = ap records ep ∙ entries-stand file s st
+
+  es-within : EntriesWithin (records part)
+  es-within = subst⁻¹ EntriesWithin es-are (entries-within file (st .accepted))
+
+  pub entries-few : recordCount part ≤ 32
+  entries-few = omega (arith, es-within .few, count-is part)
+
+  pub ps-length : length (map asTier (contracts account)) ≡ p .count
+  ps-length = length-map (contracts account) asTier ∙ length-map (contractsOf account) (partsIn account) ∙ sym (is .count-is)
+
+  -- the steps accept the contracts and the entries
+  pub tiers-accepted : (t : Table) → TableOf intercontract part t → given.sound p t ≡ true
+  tiers-accepted t table =
+      handed-sound p t (map asTier (contracts account)) (map intercontract (records part)) (is .opens-are) (table .spreads-are)
+      (omega (arith, is .few)) (omega (arith, table .count-is, entries-few)) (is .tiers-sound)
+      (spreads-sound intercontract (records part) (λ k h. entry-accepted (getD (records part) k []) (es-within .each k h)))
+
+  module _ (t : Table) (table : TableOf intercontract part t) (b : Book) (booked : Booked p t b) where
+    book-is : BookOf (steps (map intercontract (records part))) (map asTier (contracts account)) b
+    book-is =
+        book-accepted (steps (map intercontract (records part))) (map asTier (contracts account)) p t b (is .opens-are) (ap steps (table .spreads-are))
+        (tiers-accepted t table) booked
+
+    abbrev ns : List ℕ
+    ns = numbers (steps (map intercontract (records part))) (map asTier (contracts account))
+
+    formed-most : (j : ℕ) → getD ns j 0 ≤ 16 * mostDelta
+    formed-most j =
+        let z = sound-sizes (map asTier (contracts account)) (is .tiers-sound) in
+        let m = mul-le-mul-right mostDelta (is .few) in
+        le-trans (number-within (steps (map intercontract (records part))) (map asTier (contracts account)) j) (omega (arith, ap (λ (x : ℕ). x * mostDelta) ps-length))
+
+    first-at : (k : ℕ) → k < 32 → spreadsAt (b .first) k ≡ getD ns (2 * k) 0
+    first-at k h = ap (λ (xs : List Spreads). spreadsAt xs k) (book-is .first-is) ∙ ap (λ (x : Spreads). x .0) (entries-at 32 (λ i. spreadsEntry ns (2 * i)) k (record { 0 = 0 }) h)
+
+    second-at : (k : ℕ) → k < 32 → spreadsAt (b .second) k ≡ getD ns (2 * k + 1) 0
+    second-at k h = ap (λ (xs : List Spreads). spreadsAt xs k) (book-is .second-is) ∙ ap (λ (x : Spreads). x .0) (entries-at 32 (λ i. spreadsEntry ns (2 * i + 1)) k (record { 0 = 0 }) h)
+
+    -- the numbers formed can be written signed
+    pub tiers-signed : (m : ℕ) → m ≡ recordCount part → SpreadsSigned m (b .first) (b .second)
+    tiers-signed m e =
+        let f = entries-few in
+        record {
+          most = omega arith;
+          first-within = λ k h. let x = first-at k (omega arith) in let y = formed-most (2 * k) in omega arith;
+          second-within = λ k h. let x = second-at k (omega arith) in let y = formed-most (2 * k + 1) in omega arith;
+        }
+
+    -- the numbers of the table's book
+    pub tiers-listed : (r : Numbers) (m : ℕ) → m ≡ recordCount part → r .count ≡ 3 * p .count + 2 * m
+        → listed r ≡ threes (take (p .count) (deltasIn (p .net))) (take (p .count) (deltasIn (b .used))) (take (p .count) (deltasIn (b .unused))) ++ map pos (interleaved (take m (b .first)) (take m (b .second)))
+        → BookNumbers (tableBook (entriesOf account) (contracts account)) (s .contracts) (length (entriesOf account)) r
+    tiers-listed r m em ec el =
+        let ss = steps (map intercontract (records part)) in
+        let ps = map asTier (contracts account) in
+        let few = is .few in
+        let fe = entries-few in
+        let c = contracts-are file s st in
+        let d = ap length es-are in
+        let e = is .count-is in
+        let g = count-is part in
+        record {
+          listed-is =
+              book-listed ss ps b (take (p .count) (deltasIn (p .net))) (p .count) m (listed r) book-is ps-length (omega arith) (numbers-length intercontract (records part) ps ∙ ap (λ (x : ℕ). 2 * x) (g ∙ sym em)) (omega arith)
+              (used-length ss ps ∙ ps-length) (unused-length ss ps ∙ ps-length) el
+              ∙ ap (λ (zs : List ℤ). threes zs (usedOf ss ps) (unusedOf ss ps) ++ map pos (numbers ss ps)) (is .nets-are)
+              ∙ ap (λ (x : List Record). tableBook x (contracts account)) es-are;
+          count-is = omega arith;
+          few = omega arith;
+        }

@@ -1,11 +1,11 @@
 -- The contracts of an accepted account as tiers, and the book of the intercontract table over them.
 -- Assumes nothing.
-use Prim.Native.Nat.{ℕ, zero, suc, _+_, _*_, _≤_, _<_, zero-le, suc-le-suc}
-use native.Mathlib.Nat.{le-trans, le-of-suc-le-suc, not-suc-le-zero, mul-le-mul-right}
+use Prim.Native.Nat.{ℕ, suc, _+_, _*_, _≤_, _<_, zero-le, suc-le-suc}
+use native.Mathlib.Nat.{le-trans, not-suc-le-zero, mul-le-mul-right}
 use native.Mathlib.Decide.{ℕ-discrete}
 use native.Mathlib.Omega.{arith}
-use mathlib.Core.Path.{_≡_, refl, sym, ap, ap₂, _∙_, subst, subst⁻¹}
-use mathlib.Core.Bool.{Bool, true, _&&_}
+use mathlib.Core.Path.{_≡_, refl, sym, ap, _∙_, subst, subst⁻¹}
+use mathlib.Core.Bool.{true}
 use mathlib.Core.List.{List, [], _∷_, _++_, map}
 use borrow.Author.Tests.{lt-ltb, le-leb, leb-true}
 use lib.Dec.{leb, ltb}
@@ -20,7 +20,7 @@ use Rattle.account.specs.Records.{records, recordCount, stretch}
 use Rattle.account.specs.declared.check.Survey.{Survey}
 use Rattle.spread.specs.Accepted as given
 use Rattle.spread.specs.Accepted.{every, soundPrompt}
-use Rattle.spread.specs.Book.{Booked, entries, spreadsEntry}
+use Rattle.spread.specs.Book.{Booked, spreadsEntry}
 use Rattle.spread.specs.Steps.{Open, steps, numbers, usedOf, unusedOf}
 use Rattle.spread.specs.declared.Delta.{Delta}
 use Rattle.spread.specs.declared.Prompts.{Prompts}
@@ -37,14 +37,14 @@ use Rattle.margin.specs.Bounds.{mostDelta}
 use Rattle.margin.specs.Contract.{Contract, contracts, contractFrom, partsIn, asTier, contractNet}
 use Rattle.margin.specs.Deltas.{intercontract}
 use Rattle.margin.specs.Lines.{noLine}
-use Rattle.margin.specs.Numbers.{listed, SpreadsSigned, BookNumbers}
+use Rattle.margin.specs.Numbers.{written, SpreadsSigned, BookNumbers}
 use Rattle.margin.specs.Position.{PositionOf, Bounded}
 use Rattle.margin.specs.Promised.{BookOf}
 use Rattle.margin.specs.Stands.{Stands, TierIs, TiersIn}
 use Rattle.margin.specs.Sums.{interleaved, deltasIn, spreadsAt}
 use Rattle.margin.specs.Table.{tierOf}
 use Rattle.margin.specs.Tables.{TableOf}
-use Rattle.margin.specs.Within.{ContractWithin, EntriesWithin}
+use Rattle.margin.specs.Within.{ContractFit, EntriesFit}
 use Rattle.margin.proofs.AcceptLaws.{entries-within}
 use Rattle.margin.proofs.BookLaws.{book-accepted, handed-sound, book-listed}
 use Rattle.margin.proofs.ContractLaws.{net-is, net-sizes}
@@ -55,7 +55,7 @@ use Rattle.margin.proofs.StepBounds.{sizes, number-within}
 use Rattle.margin.proofs.TableLaws.{Tiered, tiered-next, tiered-all, entry-accepted}
 
 -- a contract's number and net delta, by what its rows come to
-pub tier-is : (own : Record) (prompts rows spreads : List Record) (w : ContractWithin own prompts rows spreads) (q : Position) (is : PositionOf prompts rows q) (most : Bounded 128 q) (c : ℕ) (z : ℤ)
+pub tier-is : (own : Record) (prompts rows spreads : List Record) (w : ContractFit own prompts rows spreads) (q : Position) (is : PositionOf prompts rows q) (most : Bounded 128 q) (c : ℕ) (z : ℤ)
     → c ≡ contract own → z ≡ sumℤ (deltasIn (q .nets)) → TierIs (contractFrom own prompts rows spreads) c z
 tier-is own prompts rows spreads w q is most c z ec ez =
     record {
@@ -154,8 +154,8 @@ module _ (file : List ℕ) (s : Survey) (st : Stands file s) (p : Prompts) (is :
   pub es-are : records part ≡ entriesOf account
   es-are = ap records ep ∙ entries-stand file s st
 
-  es-within : EntriesWithin (records part)
-  es-within = subst⁻¹ EntriesWithin es-are (entries-within file (st .accepted))
+  es-within : EntriesFit (records part)
+  es-within = subst⁻¹ EntriesFit es-are (entries-within file (st .accepted))
 
   pub entries-few : recordCount part ≤ 32
   entries-few = omega (arith, es-within .few, count-is part)
@@ -203,7 +203,7 @@ module _ (file : List ℕ) (s : Survey) (st : Stands file s) (p : Prompts) (is :
 
     -- the numbers of the table's book
     pub tiers-listed : (r : Numbers) (m : ℕ) → m ≡ recordCount part → r .count ≡ 3 * p .count + 2 * m
-        → listed r ≡ threes (take (p .count) (deltasIn (p .net))) (take (p .count) (deltasIn (b .used))) (take (p .count) (deltasIn (b .unused))) ++ map pos (interleaved (take m (b .first)) (take m (b .second)))
+        → written r ≡ threes (take (p .count) (deltasIn (p .net))) (take (p .count) (deltasIn (b .used))) (take (p .count) (deltasIn (b .unused))) ++ map pos (interleaved (take m (b .first)) (take m (b .second)))
         → BookNumbers (tableBook (entriesOf account) (contracts account)) (s .contracts) (length (entriesOf account)) r
     tiers-listed r m em ec el =
         let ss = steps (map intercontract (records part)) in
@@ -216,7 +216,7 @@ module _ (file : List ℕ) (s : Survey) (st : Stands file s) (p : Prompts) (is :
         let g = count-is part in
         record {
           listed-is =
-              book-listed ss ps b (take (p .count) (deltasIn (p .net))) (p .count) m (listed r) book-is ps-length (omega arith) (numbers-length intercontract (records part) ps ∙ ap (λ (x : ℕ). 2 * x) (g ∙ sym em)) (omega arith)
+              book-listed ss ps b (take (p .count) (deltasIn (p .net))) (p .count) m (written r) book-is ps-length (omega arith) (numbers-length intercontract (records part) ps ∙ ap (λ (x : ℕ). 2 * x) (g ∙ sym em)) (omega arith)
               (used-length ss ps ∙ ps-length) (unused-length ss ps ∙ ps-length) el
               ∙ ap (λ (zs : List ℤ). threes zs (usedOf ss ps) (unusedOf ss ps) ++ map pos (numbers ss ps)) (is .nets-are)
               ∙ ap (λ (x : List Record). tableBook x (contracts account)) es-are;

@@ -36,7 +36,7 @@ use Rattle.margin.specs.Stands.{Stands, TiersIn}
 use Rattle.margin.specs.Sums.{deltasIn}
 use Rattle.margin.specs.Tables.{TiersOf, TableOf}
 use Rattle.margin.specs.Uses.{contractUses, tableUses, LeftBy, Asks}
-use Rattle.margin.specs.Within.{ContractWithin}
+use Rattle.margin.specs.Within.{ContractFit}
 use Rattle.margin.proofs.BookLaws.{take-deltas, opens-are, contract-sound}
 use Rattle.margin.proofs.ContractLaws.{book-room, nets-are}
 use Rattle.margin.proofs.LineLaws.{opens-length, steps-length, used-length}

@@ -25,6 +25,7 @@ use account::stretches::record_count;
 use account::stretches::stretch;
 use record::fields::contract;
 use spread::Delta;
+use spread::MOST_PROMPTS;
 use spread::Prompts;
 use spread::book::delta_book;
 ghost use mathlib.Core.Path.{_≡_};
@@ -182,8 +183,8 @@ fn tiers_over(file: &[u8], survey: Survey) -> Prompts
     ensures { λ r. ⌜ TiersIn (now (file .entry)) r ⌝ }
 {
     let count = survey.contracts;
-    let mut tiers = [0u8; 32];
-    let mut nets = [Delta(0); 32];
+    let mut tiers = [0u8; MOST_PROMPTS];
+    let mut nets = [Delta(0); MOST_PROMPTS];
     let mut i = 0;
     while i < count {
         let one = tier_at(file, survey, i);

@@ -22,7 +22,7 @@ ghost use Rattle.margin.specs.Promised.{BookOf};
 ghost use Rattle.margin.specs.Table.{tierOf, TiersFrom, TableRoom, EarnerOf, CreditsRoom, CreditsOf, tableFirsts, tableSeconds};
 
 // The contracts as the spread steps take them.
-fn tiers_of(count: usize, lines: [Line; 16]) -> Prompts
+fn tiers_of(count: usize, lines: [Line; CONTRACTS]) -> Prompts
     requires { ⌜ count ≤ 16 ⌝ }
     ensures { λ r. ⌜ TiersFrom count lines r ⌝ }
 {
@@ -44,7 +44,7 @@ fn tiers_of(count: usize, lines: [Line; 16]) -> Prompts
 }
 
 // The book of the intercontract spreads, over the contracts.
-fn table_book(count: usize, lines: [Line; 16], entries: &[u8]) -> Book
+fn table_book(count: usize, lines: [Line; CONTRACTS], entries: &[u8]) -> Book
     requires { ⌜ TableRoom count lines (records (now entries)) ⌝ }
     ensures { λ r. ⌜ BookOf (steps (map intercontract (records (now (entries .entry))))) (map tierOf (take count lines)) r ⌝ }
 {

@@ -45,7 +45,7 @@ fn joined(a: Delta, b: Delta) -> Delta
 }
 
 // The net delta of a contract: the sum over its prompts.
-pub(crate) fn contract_net(nets: [Delta; 32]) -> Delta
+pub(crate) fn contract_net(nets: [Delta; MOST_PROMPTS]) -> Delta
     requires { ⌜ sum (map natAbs (deltasIn nets)) ≤ mostDelta ⌝ }
     ensures { λ r. ⌜ r .0 ≡ sumℤ (deltasIn nets) ⌝ }
 {

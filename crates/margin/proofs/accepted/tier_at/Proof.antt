@@ -8,7 +8,7 @@ use lib.ListN.{getD}
 use Rattle.account.specs.Records.{records, stretch}
 use Rattle.margin.specs.Contract.{Contract}
 use Rattle.margin.specs.Stands.{TierIs}
-use Rattle.margin.specs.Within.{ContractWithin}
+use Rattle.margin.specs.Within.{ContractFit}
 use Rattle.margin.proofs.ContractLaws.{net-sizes}
 use Rattle.margin.proofs.RecordLaws.{count-is}
 use Rattle.margin.proofs.StandLaws.{own-number, line-room, parts-are}
@@ -26,7 +26,7 @@ small c =
 room : (c : tie.After-part-at2)
     → let n = c .before .before .before .before .before .before in
     let s = n .before .before .before in
-    ContractWithin (n .before .record-at .result .now) (records (c .before .before .before .part-at .result .now)) (records (c .part-at2 .result .now)) (records (stretch (s .args .file .now) (getD (s .args .t2 .first) (64 + n .contract .result) 0) (getD (s .args .t2 .counts) (64 + n .contract .result) 0)))
+    ContractFit (n .before .record-at .result .now) (records (c .before .before .before .part-at .result .now)) (records (c .part-at2 .result .now)) (records (stretch (s .args .file .now) (getD (s .args .t2 .first) (64 + n .contract .result) 0) (getD (s .args .t2 .counts) (64 + n .contract .result) 0)))
 room c =
     let n = c .before .before .before .before .before .before in
     let s = n .before .before .before in

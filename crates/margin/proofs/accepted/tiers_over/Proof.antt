@@ -1,12 +1,8 @@
 -- The contracts are put in place one after the other.
 -- Assumes nothing.
-use mathlib.Core.Path.{_≡_, refl, sym, _∙_}
-use Prim.Native.Nat.{ℕ, _-_, _≤_, _<_}
+use mathlib.Core.Path.{refl}
+use Prim.Native.Nat.{_-_, _≤_}
 use native.Mathlib.Omega.{arith}
-use borrow.Author.Needs.{needs}
-use lib.ListN.{length}
-use Rattle.account.specs.Parts.{contractsOf}
-use Rattle.account.specs.Records.{records}
 use Rattle.account.proofs.Accepted.{accepts}
 use Rattle.margin.proofs.StandLaws.{contracts-are}
 use Rattle.margin.proofs.TierLaws.{TieredTo, tiers-none, tiers-next, tiers-all}

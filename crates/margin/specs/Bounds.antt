@@ -2,10 +2,8 @@
 -- Assumes nothing.
 use Prim.Native.Nat.{ℕ}
 pub use Rattle.record.specs.Layout.{mostRate}
-
--- a net delta, a pool, a number of spreads: 128 rows × 100,000 lots × 10,000
-abbrev pub mostDelta : ℕ
-mostDelta = 128000000000
+-- of a net delta, a pool, a number of spreads
+pub use Rattle.spread.specs.Accepted.{mostDelta}
 
 -- a spread's or a prompt's charge: 2 × 128,000,000,000 × 10,000,000 / 10,000
 abbrev pub mostCharge : ℕ

@@ -26,16 +26,16 @@ spreadsAt xs k = getD xs k (record { 0 = 0 }) .0
 abbrev pub deltaAt : List Delta → ℕ → ℤ
 deltaAt ds k = getD ds k (record { 0 = pos 0 }) .0
 
-pub record SpreadFit (s : Record) (first second : ℕ) : Type 0 where
+pub record SpreadRoom (s : Record) (first second : ℕ) : Type 0 where
   pub rate : ratePerSpread s ≤ mostRate
   pub first-within : first ≤ mostDelta
   pub second-within : second ≤ mostDelta
 
 pub record SpreadsWithin (spreads : List Record) (firsts seconds : List Spreads) : Type 0 where
   pub most : length spreads ≤ mostSpreads
-  pub each : (k : ℕ) → k < length spreads → SpreadFit (getD spreads k []) (spreadsAt firsts k) (spreadsAt seconds k)
+  pub each : (k : ℕ) → k < length spreads → SpreadRoom (getD spreads k []) (spreadsAt firsts k) (spreadsAt seconds k)
 
-pub record PromptFit (prompt : Record) (used unused : ℤ) : Type 0 where
+pub record PromptRoom (prompt : Record) (used unused : ℤ) : Type 0 where
   pub spread-rate : spreadRate prompt ≤ mostRate
   pub outright-rate : outrightRate prompt ≤ mostRate
   pub used-within : natAbs used ≤ mostDelta
@@ -43,10 +43,10 @@ pub record PromptFit (prompt : Record) (used unused : ℤ) : Type 0 where
 
 pub record PromptsWithin (prompts : List Record) (used unused : List Delta) : Type 0 where
   pub most : length prompts ≤ mostPrompts
-  pub each : (k : ℕ) → k < length prompts → PromptFit (getD prompts k []) (deltaAt used k) (deltaAt unused k)
+  pub each : (k : ℕ) → k < length prompts → PromptRoom (getD prompts k []) (deltaAt used k) (deltaAt unused k)
 
 -- an entry that uses no more of a contract than a delta can be
-pub record EntryFit (c : ℕ) (e : Record) (first second : ℕ) : Type 0 where
+pub record EntryRoom (c : ℕ) (e : Record) (first second : ℕ) : Type 0 where
   pub first-within : first ≤ 16 * mostDelta
   pub second-within : second ≤ 16 * mostDelta
   pub use-within : entryUse c e first second ≤ mostDelta

@@ -22,11 +22,11 @@ ghost use Rattle.account.specs.Records.{records};
 ghost use Rattle.margin.specs.Bounds.{mostCharge, mostRisk};
 ghost use Rattle.margin.specs.Charges.{spreadCharge, interpromptCharge, promptCharge, promptCharges};
 ghost use Rattle.margin.specs.Credit.{credit, entryUse, creditsBy};
-ghost use Rattle.margin.specs.Sums.{interleaved, deltasIn, SpreadFit, SpreadsWithin, PromptFit, PromptsWithin, EntryFit, CreditRoom, EntriesRoom};
+ghost use Rattle.margin.specs.Sums.{interleaved, deltasIn, SpreadRoom, SpreadsWithin, PromptRoom, PromptsWithin, EntryRoom, CreditRoom, EntriesRoom};
 ghost use Rattle.record.specs.Layout.{ratePerSpread, spreadRate, outrightRate, percent};
 
 fn charge_of_spread(s: &[u8], first: Spreads, second: Spreads) -> Amount
-    requires { ⌜ SpreadFit (now s) (first .0) (second .0) ⌝ }
+    requires { ⌜ SpreadRoom (now s) (first .0) (second .0) ⌝ }
     ensures { λ r. ⌜ (r .0 ≡ spreadCharge (ratePerSpread (now (s .entry))) (first .0) (second .0)) × (r .0 ≤ mostCharge) ⌝ }
 {
     spread_charge(first, second, rate_per_spread(s) as u64)
@@ -54,7 +54,7 @@ pub(crate) fn interprompt_charge(
 }
 
 fn charge_of_prompt(p: &[u8], used: Delta, unused: Delta) -> Amount
-    requires { ⌜ PromptFit (now p) (used .0) (unused .0) ⌝ }
+    requires { ⌜ PromptRoom (now p) (used .0) (unused .0) ⌝ }
     ensures { λ r. ⌜ (r .0 ≡ promptCharge (spreadRate (now (p .entry))) (outrightRate (now (p .entry))) (used .0) (unused .0)) × (r .0 ≤ mostCharge) ⌝ }
 {
     prompt_charge(used, unused, spread_rate(p) as u64, outright_rate(p) as u64)
@@ -83,7 +83,7 @@ pub(crate) fn prompt_charges(
 
 // What an entry uses of a contract.
 fn entry_use(c: usize, e: &[u8], first: Spreads, second: Spreads) -> u64
-    requires { ⌜ EntryFit c (now e) (first .0) (second .0) ⌝ }
+    requires { ⌜ EntryRoom c (now e) (first .0) (second .0) ⌝ }
     ensures { λ r. ⌜ r ≡ entryUse c (now (e .entry)) (first .0) (second .0) ⌝ }
 {
     let number = first.0 + second.0;

@@ -10,7 +10,7 @@ use Rattle.account.specs.Records.{records, recordCount}
 use Rattle.record.specs.Layout.{ratePerSpread}
 use Rattle.margin.specs.Bounds.{mostCharge}
 use Rattle.margin.specs.Charges.{spreadCharge}
-use Rattle.margin.specs.Sums.{SpreadFit}
+use Rattle.margin.specs.Sums.{SpreadRoom}
 use Rattle.margin.proofs.RecordLaws.{lent-at, below-records, length-cut}
 use Rattle.margin.proofs.SumLaws.{ToGo, start, next, finish, chargeFrom, charge-step, charge-none}
 use Rattle.margin.proofs.charges.interprompt_charge.Statement.{statement}
@@ -56,7 +56,7 @@ charge-of-spread-requires : tie.Need-charge-of-spread-requires Inv-loop μ-loop
 charge-of-spread-requires c κs =
     let s = c .before .before .before .before .before .before in
     let l = c .before .before .before .before .loop in
-    subst⁻¹ (λ (r : Record). SpreadFit r (getD (s .args .t2) (l .i) (record { 0 = 0 }) .0) (getD (s .args .t3) (l .i) (record { 0 = 0 }) .0)) (lent-at (s .args .spreads .now) (l .i) (omega arith)) (s .pre .each (l .i) (below-records (s .args .spreads .now) (l .i) (omega arith)))
+    subst⁻¹ (λ (r : Record). SpreadRoom r (getD (s .args .t2) (l .i) (record { 0 = 0 }) .0) (getD (s .args .t3) (l .i) (record { 0 = 0 }) .0)) (lent-at (s .args .spreads .now) (l .i) (omega arith)) (s .pre .each (l .i) (below-records (s .args .spreads .now) (l .i) (omega arith)))
 
 add-sum : tie.Need-add-sum Inv-loop μ-loop
 add-sum c =

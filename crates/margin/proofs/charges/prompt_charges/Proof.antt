@@ -11,7 +11,7 @@ use lib.IntN.{pos}
 use Rattle.record.specs.Layout.{spreadRate, outrightRate}
 use Rattle.margin.specs.Bounds.{mostCharge}
 use Rattle.margin.specs.Charges.{promptCharge}
-use Rattle.margin.specs.Sums.{PromptFit}
+use Rattle.margin.specs.Sums.{PromptRoom}
 use Rattle.margin.proofs.RecordLaws.{lent-at, below-records, length-cut}
 use Rattle.margin.proofs.SumLaws.{ToGo, start, next, finish, promptFrom, prompt-step, prompt-none}
 use Rattle.margin.proofs.charges.prompt_charges.Statement.{statement}
@@ -57,7 +57,7 @@ charge-of-prompt-requires : tie.Need-charge-of-prompt-requires Inv-loop μ-loop
 charge-of-prompt-requires c κs =
     let s = c .before .before .before .before .before .before in
     let l = c .before .before .before .before .loop in
-    subst⁻¹ (λ (r : Record). PromptFit r (getD (s .args .t2) (l .i) (record { 0 = pos 0 }) .0) (getD (s .args .t3) (l .i) (record { 0 = pos 0 }) .0)) (lent-at (s .args .prompts .now) (l .i) (omega arith)) (s .pre .each (l .i) (below-records (s .args .prompts .now) (l .i) (omega arith)))
+    subst⁻¹ (λ (r : Record). PromptRoom r (getD (s .args .t2) (l .i) (record { 0 = pos 0 }) .0) (getD (s .args .t3) (l .i) (record { 0 = pos 0 }) .0)) (lent-at (s .args .prompts .now) (l .i) (omega arith)) (s .pre .each (l .i) (below-records (s .args .prompts .now) (l .i) (omega arith)))
 
 add-sum : tie.Need-add-sum Inv-loop μ-loop
 add-sum c =

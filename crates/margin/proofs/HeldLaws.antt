@@ -5,11 +5,11 @@ use native.Mathlib.Omega.{arith}
 use borrow.Author.Tests.{ne-eqb, lt-ltb, le-ltb}
 use borrow.Rule.Slice.PartMut.{putMid, post-is}
 use mathlib.Core.Path.{_≡_, refl, sym, ap, ap₂, _∙_, subst⁻¹}
-use mathlib.Core.Bool.{Bool, true, false, cond, true≢false}
+use mathlib.Core.Bool.{Bool, true, false, not, _&&_, _||_, cond, true≢false}
 use mathlib.Core.List.{List, _++_}
-use lib.Dec.{ltb}
+use lib.Dec.{eqb, ltb}
 use lib.IntN.{ℤ}
-use lib.ListN.{length, take, drop, take-append-drop}
+use lib.ListN.{length, getD, take, drop, take-append-drop}
 use lib.Seq.{drop-drop}
 use denote.Ref.{RefT, now}
 use Rattle.exact.specs.Lists.{count}
@@ -182,3 +182,12 @@ place-alone width at change same lent =
     ∙ ap (λ (xs : List ℤ). take at lent ++ (take width (drop at lent) ++ xs)) (sym (drop-drop width at lent))
     ∙ ap (λ (xs : List ℤ). take at lent ++ xs) (take-append-drop width (drop at lent))
     ∙ take-append-drop at lent)
+
+-- a question that is not the table's, of a contract that has no record of its own
+pub not-listed : (counts : List ℕ) (q : ℕ) → eqb q 16 || not (eqb (getD counts (16 + q) 0) 0) ≡ false → askedBy counts q ≡ false
+not-listed counts q = go (eqb q 16) (ltb q 16) (not (eqb (getD counts (16 + q) 0) 0))
+  where
+    go : (x y z : Bool) → x || z ≡ false → x || (y && z) ≡ false
+    go true y z e = e
+    go false true z e = e
+    go false false z e = refl

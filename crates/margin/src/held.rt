@@ -13,6 +13,7 @@ use account::answers::Answer;
 use account::answers::number_of;
 use account::check::Survey;
 use account::check::take_survey;
+use account::parts::OWN;
 use account::stretches::record_count;
 ghost use mathlib.Core.Path.{_≡_};
 ghost use Prim.Native.Nat.{_+_, _*_, _≤_, _<_};
@@ -121,9 +122,6 @@ fn place_book(file: &[u8], survey: Survey, question: usize, out: &mut [i64])
     requires { ⌜ Surveyed (now file) survey × ((question < questions) × (longestBook * question + longestBook ≤ length (now out))) ⌝ }
     ensures { λ r. ⌜ now (out .exit) ≡ atPlace longestBook (longestBook * question) (afterBook (now (file .entry)) question) (now (out .entry)) ⌝ }
 {
-    if !is_asked(survey, question) {
-        return;
-    }
     let start = LONGEST_BOOK * question;
     let end = start + LONGEST_BOOK;
     answer_book(file, survey, question, &mut out[start..end]);
@@ -134,9 +132,6 @@ fn place_uses(file: &[u8], survey: Survey, question: usize, out: &mut [i64])
     requires { ⌜ Surveyed (now file) survey × ((question < questions) × (longestUses * question + longestUses ≤ length (now out))) ⌝ }
     ensures { λ r. ⌜ now (out .exit) ≡ atPlace longestUses (longestUses * question) (afterUses (now (file .entry)) question) (now (out .entry)) ⌝ }
 {
-    if !is_asked(survey, question) {
-        return;
-    }
     let start = LONGEST_USES * question;
     let end = start + LONGEST_USES;
     answer_uses(file, survey, question, &mut out[start..end]);
@@ -156,7 +151,9 @@ pub(crate) fn answer_books(file: &[u8], survey: Survey, out: &mut [i64]) -> Answ
     }
     let mut q = 0;
     while q < QUESTIONS {
-        place_book(file, survey, q, out);
+        if (q == TABLE) | (survey.counts[OWN + q] != 0) {
+            place_book(file, survey, q, out);
+        }
         q += 1;
     }
     Answer::Accepted
@@ -176,7 +173,9 @@ pub(crate) fn answer_all_uses(file: &[u8], survey: Survey, out: &mut [i64]) -> A
     }
     let mut q = 0;
     while q < QUESTIONS {
-        place_uses(file, survey, q, out);
+        if (q == TABLE) | (survey.counts[OWN + q] != 0) {
+            place_uses(file, survey, q, out);
+        }
         q += 1;
     }
     Answer::Accepted

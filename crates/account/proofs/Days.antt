@@ -36,7 +36,7 @@ pub record Days (c : ℕ) (xs : List Record) (before : Record) : Type 0 where
   pub once : (d : ℕ) → count (onDay d) (keep (ofContract 2 c) xs) ≤ 1
   pub bound : ofContract 2 c before ≡ true → Each (λ r. day r ≤ day before) (keep (ofContract 2 c) xs)
 
-none-kept : (p : Record → Bool) (xs : List Record) → count p xs ≡ 0 → keep p xs ≡ []
+pub none-kept : (p : Record → Bool) (xs : List Record) → count p xs ≡ 0 → keep p xs ≡ []
 none-kept p xs z = nil (keep p xs) (length-kept p xs ∙ z)
   where
     nil : (l : List Record) → length l ≡ 0 → l ≡ []

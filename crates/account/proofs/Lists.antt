@@ -140,9 +140,6 @@ part-end n s xs r h =
     )
 
 module _ (p : Record → Bool) (xs : List Record) (r : Record) (old : Stretch p xs) where
-  longer : length (xs ++ r ∷ []) ≡ length xs + 1
-  longer = length-append xs (r ∷ [])
-
   -- a record of another part
   pub stretch-skip : p r ≡ false → Stretch p (xs ++ r ∷ [])
   stretch-skip t =
@@ -150,7 +147,7 @@ module _ (p : Record → Bool) (xs : List Record) (r : Record) (old : Stretch p 
       let s = starts-same-not p xs r t in
       let w = old .within in
       record {
-        within = omega (arith, longer);
+        within = omega (arith, length-append xs (r ∷ []));
         kept =
             keep-append p xs (r ∷ []) ∙ rw t (append-nil (keep p xs)) ∙ old .kept
             ∙ sym (part-before (count p xs) (startOf p xs) xs (r ∷ []) (old .within))
@@ -166,10 +163,10 @@ module _ (p : Record → Bool) (xs : List Record) (r : Record) (old : Stretch p 
       go :
           (n : ℕ) → count p xs ≡ n
           → startOf p (xs ++ r ∷ []) + count p (xs ++ r ∷ []) ≡ length (xs ++ r ∷ [])
-      go zero e = omega (arith, starts-here p xs r t e, counts-one p xs r t, longer)
+      go zero e = omega (arith, starts-here p xs r t e, counts-one p xs r t, length-append xs (r ∷ []))
       go (suc n) e =
           let some : 0 < count p xs = omega arith in
-          omega (arith, starts-same p xs r t some, counts-one p xs r t, longer, latest some)
+          omega (arith, starts-same p xs r t some, counts-one p xs r t, length-append xs (r ∷ []), latest some)
 
   pub stretch-grow : p r ≡ true → (0 < count p xs → startOf p xs + count p xs ≡ length xs) → Stretch p (xs ++ r ∷ [])
   stretch-grow t latest =

@@ -41,9 +41,6 @@ own-none =
     }
 
 module _ (xs : List Record) (before r : Record) (old : Own xs before) (k : Known r) (up : kind before ≤ kind r) where
-  longer : length (xs ++ r ∷ []) ≡ length xs + 1
-  longer = length-append xs (r ∷ [])
-
   module _ (e : kind r ≡ 1) (rise : kind before ≡ 1 → contract before < contract r) where
     is : ofKind 1 r ≡ true
     is = eq-eqb (kind r) 1 e
@@ -70,7 +67,7 @@ module _ (xs : List Record) (before r : Record) (old : Own xs before) (k : Known
         record {
           one = stretch-grow (ofKind 1) xs r (old .one) is (λ h. omega (arith, full));
           begins = start (count (ofKind 1) xs) refl;
-          all = λ h. omega (arith, full, longer);
+          all = λ h. omega (arith, full, length-append xs (r ∷ []));
           none = λ h. absurd (omega arith);
           few = λ h. omega (arith, room);
           most = omega (arith, room);

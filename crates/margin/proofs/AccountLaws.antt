@@ -12,21 +12,19 @@ use lib.ListN.{length, getD, take, set, length-set, length-map}
 use lib.Seq.{getD-set-same, getD-set-other, getD-take, length-take-le}
 use Rattle.exact.proofs.Lists.{getD-map}
 use Rattle.record.specs.Layout.{Record, contract, percent}
-use Rattle.account.specs.Parts.{contractsOf, entriesOf}
+use Rattle.account.specs.Parts.{contractsOf}
 use Rattle.account.specs.Records.{records, stretch}
 use Rattle.account.specs.declared.check.Survey.{Survey}
-use Rattle.spread.specs.Book.{entries, spreadsEntry, deltaEntry}
+use Rattle.spread.specs.Book.{entries, deltaEntry}
 use Rattle.spread.specs.Steps.{Open, steps, numbers, usedOf, unusedOf}
 use Rattle.spread.specs.declared.Spreads.{Spreads}
 use Rattle.spread.specs.declared.book.Book.{Book}
-use Rattle.spread.proofs.Filling.{entries-at}
 use Rattle.margin.specs.declared.accepted.Lines.{Lines}
 use Rattle.margin.specs.declared.amount.Amount.{Amount}
 use Rattle.margin.specs.declared.line.Line.{Line}
 use Rattle.margin.specs.Bounds.{mostDelta}
 use Rattle.margin.specs.Contract.{Contract, contracts, partsIn, asTier, contractNet, creditOf}
 use Rattle.margin.specs.Credit.{credit, creditsBy, entryUse, unusedBy, twicePriceRisk}
-use Rattle.margin.specs.Within.{EntriesFit}
 use Rattle.margin.specs.Deltas.{intercontract}
 use Rattle.margin.specs.Figures.{figures, figuresOver}
 use Rattle.margin.specs.Lines.{noLine, figuresFrom}
@@ -36,11 +34,11 @@ use Rattle.margin.specs.Stands.{Stands, LinesOf}
 use Rattle.margin.specs.Sums.{interleaved, spreadsAt}
 use Rattle.margin.specs.Table.{tierOf, TableRoom, CreditsRoom, CreditsOf, earns, tableFirsts, tableSeconds}
 use Rattle.margin.proofs.AcceptLaws.{entries-within, numbers-rise}
-use Rattle.margin.proofs.BookLaws.{over-arrays}
+use Rattle.margin.proofs.BookLaws.{first-at, second-at, over-arrays}
 use Rattle.margin.proofs.CreditLaws.{credits-by}
 use Rattle.margin.proofs.FigureLaws.{Lined, Apart, Credited, tiers-are, tiers-sound, tier-sizes, unused-is, entry-use-within, figures-are}
 use Rattle.margin.proofs.LineLaws.{numbers-length}
-use Rattle.margin.proofs.StandLaws.{entries-stand}
+use Rattle.margin.proofs.StandLaws.{entries-part, entries-fit}
 use Rattle.margin.proofs.StepBounds.{number-within}
 
 -- ---- lines, filled place by place
@@ -93,12 +91,6 @@ module _ (file : List ℕ) (s : Survey) (st : Stands file s) (all : Lines) (is :
   abbrev kd : Contract
   kd = partsIn (records file) []
 
-  pub es-are : records part ≡ entriesOf account
-  es-are = ap records ep ∙ entries-stand file s st
-
-  es-within : EntriesFit (records part)
-  es-within = subst⁻¹ EntriesFit es-are (entries-within file (st .accepted))
-
   pub ks-length : length ks ≡ n
   ks-length = length-map (contractsOf account) (partsIn account) ∙ sym (is .count-is)
 
@@ -134,7 +126,7 @@ module _ (file : List ℕ) (s : Survey) (st : Stands file s) (all : Lines) (is :
       omega arith)
 
   pub table-room : TableRoom n (all .line) (records part)
-  table-room = record { few = is .few; tiers-sound = tiers-sound ks ls lined; entries-within = es-within }
+  table-room = record { few = is .few; tiers-sound = tiers-sound ks ls lined; entries-within = (entries-fit file s st part ep) }
 
   -- the book of the table, run or not
   abbrev pub its : Book
@@ -160,24 +152,18 @@ module _ (file : List ℕ) (s : Survey) (st : Stands file s) (all : Lines) (is :
         let m = mul-le-mul-right mostDelta (is .few) in
         le-trans (number-within (steps (map intercontract (records part))) (map tierOf ls) j) (omega (arith, ap (λ (x : ℕ). x * mostDelta) ls-length))
 
-    first-at : (k : ℕ) → k < 32 → spreadsAt (b .first) k ≡ getD ns (2 * k) 0
-    first-at k h = ap (λ (xs : List Spreads). spreadsAt xs k) (bk .first-is) ∙ ap (λ (x : Spreads). x .0) (entries-at 32 (λ i. spreadsEntry ns (2 * i)) k (record { 0 = 0 }) h)
-
-    second-at : (k : ℕ) → k < 32 → spreadsAt (b .second) k ≡ getD ns (2 * k + 1) 0
-    second-at k h = ap (λ (xs : List Spreads). spreadsAt xs k) (bk .second-is) ∙ ap (λ (x : Spreads). x .0) (entries-at 32 (λ i. spreadsEntry ns (2 * i + 1)) k (record { 0 = 0 }) h)
-
     line-here : (i : ℕ) → i < n → getD ls i noLine ≡ getD (all .line) i noLine
     line-here i h = getD-take n (all .line) i noLine h
 
     use-most : (i : ℕ) → i < n → (k : ℕ) → k < length (records part) → entryUse (getD (all .line) i noLine .contract) (getD (records part) k []) (spreadsAt (b .first) k) (spreadsAt (b .second) k) ≤ natAbs (getD (all .line) i noLine .net .0)
     use-most i h k m =
-        let l : k < 32 = omega (arith, es-within .few) in
+        let l : k < 32 = omega (arith, (entries-fit file s st part ep) .few) in
         let c = getD (all .line) i noLine .contract in
-        let u = entry-use-within c (records part) (map tierOf ls) es-within k m in
+        let u = entry-use-within c (records part) (map tierOf ls) (entries-fit file s st part ep) k m in
         let v : unusedBy c (map tierOf ls) ≡ natAbs (getD (all .line) i noLine .net .0) =
         subst (λ (x : Line). unusedBy (x .contract) (map tierOf ls) ≡ natAbs (x .net .0)) (line-here i h) (unused-is ls noLine apart i (omega (arith, ls-length)))
         in
-        let w = ap₂ (λ (x y : ℕ). entryUse c (getD (records part) k []) x y) (first-at k l) (second-at k l) in
+        let w = ap₂ (λ (x y : ℕ). entryUse c (getD (records part) k []) x y) (first-at bk k l) (second-at bk k l) in
         omega arith
 
     pub credits-room : CreditsRoom n (all .line) (records part) (b .first) (b .second)
@@ -187,16 +173,16 @@ module _ (file : List ℕ) (s : Survey) (st : Stands file s) (all : Lines) (is :
           each =
               λ i h.
               record {
-                most = es-within .few;
+                most = (entries-fit file s st part ep) .few;
                 price-within = line-at i h .price-within;
                 each =
                     λ k m.
-                    let l : k < 32 = omega (arith, es-within .few) in
+                    let l : k < 32 = omega (arith, (entries-fit file s st part ep) .few) in
                     record {
                       net-within = line-at i h .net-within;
-                      percent-within = es-within .each k m .percent-within;
-                      first-within = subst⁻¹ (λ (x : ℕ). x ≤ 16 * mostDelta) (first-at k l) (formed-most (2 * k));
-                      second-within = subst⁻¹ (λ (x : ℕ). x ≤ 16 * mostDelta) (second-at k l) (formed-most (2 * k + 1));
+                      percent-within = (entries-fit file s st part ep) .each k m .percent-within;
+                      first-within = subst⁻¹ (λ (x : ℕ). x ≤ 16 * mostDelta) (first-at bk k l) (formed-most (2 * k));
+                      second-within = subst⁻¹ (λ (x : ℕ). x ≤ 16 * mostDelta) (second-at bk k l) (formed-most (2 * k + 1));
                       use-within = use-most i h k m;
                     };
               };
@@ -215,9 +201,9 @@ module _ (file : List ℕ) (s : Survey) (st : Stands file s) (all : Lines) (is :
           ap (λ (c : ℕ). creditsBy c (l .«twice_price») (natAbs (l .net .0)) (records part) (interleaved (b .first) (b .second))) (li .contract-is)
           ∙ ap₂ (λ (t : ℕ) (z : ℤ). creditsBy (contract (k .own)) t (natAbs z) (records part) (interleaved (b .first) (b .second))) (li .price-is) (li .net-is)
           ∙ ap₂ (λ (x y : List Spreads). creditsBy (contract (k .own)) (twicePriceRisk (k .totals)) (natAbs (contractNet k)) (records part) (interleaved x y)) (bk .first-is) (bk .second-is)
-          ∙ over-arrays (λ e x y. credit (twicePriceRisk (k .totals)) (entryUse (contract (k .own)) e x y) (percent e) (natAbs (contractNet k))) (records part) ns 32 (numbers-length intercontract (records part) (map tierOf ls)) (es-within .few)
+          ∙ over-arrays (λ e x y. credit (twicePriceRisk (k .totals)) (entryUse (contract (k .own)) e x y) (percent e) (natAbs (contractNet k))) (records part) ns 32 (numbers-length intercontract (records part) (map tierOf ls)) ((entries-fit file s st part ep) .few)
           ∙ ap (λ (ps : List Open). creditsBy (contract (k .own)) (twicePriceRisk (k .totals)) (natAbs (contractNet k)) (records part) (numbers (steps (map intercontract (records part))) ps)) (tiers-are ks ls lined)
-          ∙ sym (credits-by (contract (k .own)) (twicePriceRisk (k .totals)) (natAbs (contractNet k)) (records part) (map asTier ks) es-within)
+          ∙ sym (credits-by (contract (k .own)) (twicePriceRisk (k .totals)) (natAbs (contractNet k)) (records part) (map asTier ks) (entries-fit file s st part ep))
 
       credited : Credited (records part) (map asTier ks) ks (take n cs)
       credited =
@@ -228,4 +214,4 @@ module _ (file : List ℕ) (s : Survey) (st : Stands file s) (all : Lines) (is :
       pub answer-is : map pos (figuresFrom ls (take n cs)) ≡ figures account
       answer-is =
           ap (map pos) (figures-are (records part) ks ls (take n cs) lined credited)
-          ∙ ap (λ (x : List Record). map pos (figuresOver x ks)) es-are
+          ∙ ap (λ (x : List Record). map pos (figuresOver x ks)) (entries-part file s st part ep)

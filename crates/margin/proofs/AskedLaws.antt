@@ -21,6 +21,7 @@ use Rattle.account.specs.Records.{records}
 use Rattle.account.specs.declared.answers.Answer.{Answer}
 use Rattle.account.specs.declared.answers.Answer.the-variants.{Accepted}
 use Rattle.account.specs.declared.check.Survey.{Survey}
+use Rattle.account.proofs.Days.{none-kept}
 use Rattle.account.proofs.Accepted.{accepts}
 use Rattle.account.proofs.Lists.{any-keep, none-counted}
 use Rattle.account.proofs.Noted.{part-is}
@@ -72,14 +73,6 @@ pub record One (p : Record → Bool) (xs : List Record) : Type 0 where
   pub only : Record
   pub kept : keep p xs ≡ only ∷ []
   pub passes : p only ≡ true
-
-none-kept : (p : Record → Bool) (xs : List Record) → count p xs ≡ 0 → keep p xs ≡ []
-none-kept p [] e = refl
-none-kept p (x ∷ xs) e = go (p x) (none-kept p xs) e
-  where
-    go : (t : Bool) → (count p xs ≡ 0 → keep p xs ≡ []) → oneIf t + count p xs ≡ 0 → consIf t x (keep p xs) ≡ []
-    go true h z = absurd (omega arith)
-    go false h z = h (omega arith)
 
 one-kept : (p : Record → Bool) (xs : List Record) → any p xs ≡ true → count p xs ≤ 1 → One p xs
 one-kept p [] a h = absurd (false≢true a)

@@ -1,13 +1,13 @@
 -- The delta book that the spread steps hand out, read as the definitions of the charges read it.
 -- Assumes nothing.
-use Prim.Native.Nat.{ℕ, zero, suc, _+_, _-_, _*_, _≤_}
+use Prim.Native.Nat.{ℕ, zero, suc, _+_, _-_, _*_, _≤_, _<_}
 use native.Mathlib.Nat.{le-of-suc-le-suc, not-suc-le-zero}
 use native.Mathlib.Omega.{arith}
 use mathlib.Core.Path.{_≡_, refl, ap, ap₂, _∙_}
 use mathlib.Core.Bool.{Bool, true, cond, _&&_}
 use mathlib.Core.List.{List, [], _∷_, _++_, map}
 use lib.IntN.{ℤ, pos}
-use lib.ListN.{length, take}
+use lib.ListN.{length, getD, take}
 use borrow.Author.Tests.{le-leb}
 use lib.Dec.{leb}
 use Rattle.record.specs.Layout.{Record, tier, spreadRate, outrightRate}
@@ -20,6 +20,7 @@ use Rattle.spread.specs.declared.Table.{Table}
 use Rattle.spread.specs.declared.Prompts.{Prompts}
 use Rattle.spread.specs.declared.book.Book.{Book}
 use Rattle.spread.proofs.Both.{and-both}
+use Rattle.spread.proofs.Filling.{entries-at}
 use Rattle.spread.specs.Book.{entries, spreadsEntry, deltaEntry, Booked, numbersOf, usedIn, unusedIn}
 use Rattle.spread.specs.declared.Spreads.{Spreads}
 use Rattle.spread.specs.declared.Delta.{Delta}
@@ -27,7 +28,7 @@ use Rattle.margin.specs.Books.{threes}
 use Rattle.margin.specs.Charges.{overSteps, promptCharge, promptCharges}
 use Rattle.margin.specs.Deltas.{opens, interprompt}
 use Rattle.margin.specs.Promised.{BookOf, BookRoom}
-use Rattle.margin.specs.Sums.{interleaved, deltasIn}
+use Rattle.margin.specs.Sums.{interleaved, deltasIn, spreadsAt}
 use Rattle.margin.specs.Tables.{TiersOf, TableOf}
 use Rattle.margin.proofs.RecordLaws.{count-is}
 
@@ -163,3 +164,12 @@ book-listed ss ps b nets n m written is e hn en hm eu el w =
     ∙ ap₂ _++_
     (ap₂ (threes nets) (ap (λ (ds : List Delta). take n (deltasIn ds)) (is .used-is) ∙ take-deltas (usedOf ss ps) n 32 eu hn) (ap (λ (ds : List Delta). take n (deltasIn ds)) (is .unused-is) ∙ take-deltas (unusedOf ss ps) n 32 el hn))
     (ap (map pos) (ap₂ (λ (xs ys : List Spreads). interleaved (take m xs) (take m ys)) (is .first-is) (is .second-is) ∙ take-numbers (numbers ss ps) m 32 en hm))
+
+-- ---- the numbers that a book's spreads formed, place by place
+
+module _ {ss : List (List Taker)} {ps : List Open} {b : Book} (is : BookOf ss ps b) (k : ℕ) (h : k < 32) where
+  pub first-at : spreadsAt (b .first) k ≡ getD (numbers ss ps) (2 * k) 0
+  first-at = ap (λ (xs : List Spreads). spreadsAt xs k) (is .first-is) ∙ ap (λ (x : Spreads). x .0) (entries-at 32 (λ i. spreadsEntry (numbers ss ps) (2 * i)) k (record { 0 = 0 }) h)
+
+  pub second-at : spreadsAt (b .second) k ≡ getD (numbers ss ps) (2 * k + 1) 0
+  second-at = ap (λ (xs : List Spreads). spreadsAt xs k) (is .second-is) ∙ ap (λ (x : Spreads). x .0) (entries-at 32 (λ i. spreadsEntry (numbers ss ps) (2 * i + 1)) k (record { 0 = 0 }) h)

@@ -33,10 +33,7 @@ use Rattle.margin.specs.Questions.{accepted, ifAccepted, asked, answerTo
 use Rattle.margin.specs.Stands.{Stands}
 use Rattle.margin.proofs.AskedLaws.{asked-is}
 use Rattle.margin.proofs.StandLaws.{contracts-are}
-use Rattle.margin.proofs.QuestionLaws.{accepted-only, if-refused, if-accepted, after-refused, not-asked, asked-accepted, asked-answered, as-many, figures-length}
-
-some : {n : ℕ} → suc n ≡ 0 → ⊥
-some e = omega arith
+use Rattle.margin.proofs.QuestionLaws.{some, accepted-only, if-refused, if-accepted, after-refused, not-asked, asked-accepted, asked-answered, as-many, figures-length}
 
 module _ (file : List ℕ) (s : Survey) (is : Surveyed file s) where
   held-stands : numberOf (checked file) ≡ 0 → Stands file s

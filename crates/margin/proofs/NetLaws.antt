@@ -9,13 +9,13 @@ use native.Mathlib.Omega.{arith}
 use lib.Dec.{eqb}
 use lib.IntN.{ℤ, pos, natAbs, _+ℤ_, +ℤ-idl, +ℤ-idr, +ℤ-assoc, +ℤ-comm}
 use lib.ListN.{length, getD}
-use borrow.Author.Tests.{eqb-true, eqb-false, eq-eqb, ne-eqb}
 use Rattle.exact.specs.Lists.{consIf, keep, count, oneIf, sum, sumℤ}
 use Rattle.account.specs.Accepted.{Each}
 use Rattle.account.specs.Parts.{onDay}
 use Rattle.exact.proofs.Integers.{abs-add}
 use Rattle.exact.proofs.Lists.{sum-map-le, sum-map-add}
 use Rattle.record.specs.Layout.{Record, day}
+use Rattle.spread.proofs.Gathering.{eqb-turned}
 use Rattle.margin.specs.Deltas.{rowDelta, ofDay, netDelta, netDeltas}
 use Rattle.margin.specs.Position.{RowFit, RowsFit, OneDay}
 use Rattle.margin.proofs.PositionBounds.{delta-most}
@@ -35,18 +35,11 @@ first-row row rows prompt = go (ofDay (day prompt) row)
 abbrev addedSize : Record → Record → ℕ
 addedSize row p = natAbs (adds row p)
 
-same-day : (a b : ℕ) → eqb a b ≡ eqb b a
-same-day a b = go (eqb a b) refl
-  where
-    go : (t : Bool) → eqb a b ≡ t → t ≡ eqb b a
-    go true e = sym (eq-eqb b a (sym (eqb-true a b e)))
-    go false e = sym (ne-eqb b a (λ q. eqb-false a b e (sym q)))
-
 -- a row counts once for each prompt of its day
 once : (row : Record) (ps : List Record) → sum (map (addedSize row) ps) ≡ count (onDay (day row)) ps * natAbs (rowDelta row)
 once row [] = sym (zero-mul (natAbs (rowDelta row)))
 once row (p ∷ ps) =
-    ap (λ (t : Bool). natAbs (cond t (rowDelta row) (pos 0)) + sum (map (addedSize row) ps)) (same-day (day row) (day p)) ∙ go (eqb (day p) (day row)) (once row ps)
+    ap (λ (t : Bool). natAbs (cond t (rowDelta row) (pos 0)) + sum (map (addedSize row) ps)) (eqb-turned (day row) (day p)) ∙ go (eqb (day p) (day row)) (once row ps)
   where
     go : (t : Bool) → sum (map (addedSize row) ps) ≡ count (onDay (day row)) ps * natAbs (rowDelta row)
         → natAbs (cond t (rowDelta row) (pos 0)) + sum (map (addedSize row) ps) ≡ (oneIf t + count (onDay (day row)) ps) * natAbs (rowDelta row)
@@ -86,7 +79,7 @@ net-sizes-most prompts rows r w =
 
 none-added : (row : Record) (ps : List Record) → count (onDay (day row)) ps ≡ 0 → sumℤ (map (adds row) ps) ≡ pos 0
 none-added row [] e = refl
-none-added row (p ∷ ps) e = ap (λ (t : Bool). cond t (rowDelta row) (pos 0) +ℤ sumℤ (map (adds row) ps)) (same-day (day row) (day p)) ∙ go (eqb (day p) (day row)) (none-added row ps) e
+none-added row (p ∷ ps) e = ap (λ (t : Bool). cond t (rowDelta row) (pos 0) +ℤ sumℤ (map (adds row) ps)) (eqb-turned (day row) (day p)) ∙ go (eqb (day p) (day row)) (none-added row ps) e
   where
     go : (t : Bool) → (count (onDay (day row)) ps ≡ 0 → sumℤ (map (adds row) ps) ≡ pos 0) → oneIf t + count (onDay (day row)) ps ≡ 0 → cond t (rowDelta row) (pos 0) +ℤ sumℤ (map (adds row) ps) ≡ pos 0
     go true rest z = absurd (omega arith)
@@ -94,7 +87,7 @@ none-added row (p ∷ ps) e = ap (λ (t : Bool). cond t (rowDelta row) (pos 0) +
 
 once-added : (row : Record) (ps : List Record) → count (onDay (day row)) ps ≡ 1 → sumℤ (map (adds row) ps) ≡ rowDelta row
 once-added row [] e = absurd (omega arith)
-once-added row (p ∷ ps) e = ap (λ (t : Bool). cond t (rowDelta row) (pos 0) +ℤ sumℤ (map (adds row) ps)) (same-day (day row) (day p)) ∙ go (eqb (day p) (day row)) (once-added row ps) e
+once-added row (p ∷ ps) e = ap (λ (t : Bool). cond t (rowDelta row) (pos 0) +ℤ sumℤ (map (adds row) ps)) (eqb-turned (day row) (day p)) ∙ go (eqb (day p) (day row)) (once-added row ps) e
   where
     go : (t : Bool) → (count (onDay (day row)) ps ≡ 1 → sumℤ (map (adds row) ps) ≡ rowDelta row) → oneIf t + count (onDay (day row)) ps ≡ 1 → cond t (rowDelta row) (pos 0) +ℤ sumℤ (map (adds row) ps) ≡ rowDelta row
     go true rest z = ap (λ (x : ℤ). rowDelta row +ℤ x) (none-added row ps (omega arith)) ∙ +ℤ-idr (rowDelta row)

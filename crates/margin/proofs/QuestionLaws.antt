@@ -24,7 +24,7 @@ use Rattle.margin.specs.Books.{answered}
 use Rattle.margin.specs.Questions.{accepted, ifAccepted, asked, answerTo, enough, afterwards}
 use Rattle.margin.specs.Stands.{Stands}
 
-some : {n : ℕ} → suc n ≡ 0 → ⊥
+pub some : {n : ℕ} → suc n ≡ 0 → ⊥
 some e = omega arith
 
 -- number 0 is given to an accepted file alone

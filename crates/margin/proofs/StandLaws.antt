@@ -25,8 +25,8 @@ use Rattle.margin.specs.Contract.{contractFrom, partsIn, partsOf}
 use Rattle.margin.specs.Numbers.{BookNumbers}
 use Rattle.margin.proofs.RecordLaws.{count-is}
 use Rattle.margin.specs.Stands.{Stands}
-use Rattle.margin.specs.Within.{ContractFit}
-use Rattle.margin.proofs.AcceptLaws.{contract-within, own-within}
+use Rattle.margin.specs.Within.{ContractFit, EntriesFit}
+use Rattle.margin.proofs.AcceptLaws.{contract-within, own-within, entries-within}
 
 module _ (file : List ℕ) (s : Survey) (st : Stands file s) where
   abbrev account : List Record
@@ -52,6 +52,14 @@ module _ (file : List ℕ) (s : Survey) (st : Stands file s) where
 
   pub entries-stand : records (stretch file (getD (s .first) 80 0) (getD (s .counts) 80 0)) ≡ entriesOf account
   entries-stand = ap records (part-is 80 (omega arith)) ∙ accepts file (st .accepted) .standing .entries
+
+  -- the part that the code takes for them
+  module _ (part : List ℕ) (ep : part ≡ stretch file (getD (s .first) 80 0) (getD (s .counts) 80 0)) where
+    pub entries-part : records part ≡ entriesOf account
+    entries-part = ap records ep ∙ entries-stand
+
+    pub entries-fit : EntriesFit (records part)
+    entries-fit = subst⁻¹ EntriesFit entries-part (entries-within file (st .accepted))
 
   -- the i-th contract's own record
   module _ (i : ℕ) (h : i < s .contracts) (own : Record) (is : own ≡ recordAt file i) where

@@ -20,15 +20,13 @@ use Rattle.account.specs.Records.{records, recordCount, stretch}
 use Rattle.account.specs.declared.check.Survey.{Survey}
 use Rattle.spread.specs.Accepted as given
 use Rattle.spread.specs.Accepted.{every, soundPrompt}
-use Rattle.spread.specs.Book.{Booked, spreadsEntry}
+use Rattle.spread.specs.Book.{Booked}
 use Rattle.spread.specs.Steps.{Open, steps, numbers, usedOf, unusedOf}
 use Rattle.spread.specs.declared.Delta.{Delta}
 use Rattle.spread.specs.declared.Prompts.{Prompts}
-use Rattle.spread.specs.declared.Spreads.{Spreads}
 use Rattle.spread.specs.declared.Table.{Table}
 use Rattle.spread.specs.declared.book.Book.{Book}
 use Rattle.spread.proofs.Both.{and-left, and-right, and-both}
-use Rattle.spread.proofs.Filling.{entries-at}
 use Rattle.margin.specs.declared.line.Line.{Line}
 use Rattle.margin.specs.declared.numbers.Numbers.{Numbers}
 use Rattle.margin.specs.declared.rows.Position.{Position}
@@ -41,16 +39,15 @@ use Rattle.margin.specs.Numbers.{written, SpreadsSigned, BookNumbers}
 use Rattle.margin.specs.Position.{PositionOf, Bounded}
 use Rattle.margin.specs.Promised.{BookOf}
 use Rattle.margin.specs.Stands.{Stands, TierIs, TiersIn}
-use Rattle.margin.specs.Sums.{interleaved, deltasIn, spreadsAt}
+use Rattle.margin.specs.Sums.{interleaved, deltasIn}
 use Rattle.margin.specs.Table.{tierOf}
 use Rattle.margin.specs.Tables.{TableOf}
-use Rattle.margin.specs.Within.{ContractFit, EntriesFit}
-use Rattle.margin.proofs.AcceptLaws.{entries-within}
-use Rattle.margin.proofs.BookLaws.{book-accepted, handed-sound, book-listed}
+use Rattle.margin.specs.Within.{ContractFit}
+use Rattle.margin.proofs.BookLaws.{first-at, second-at, book-accepted, handed-sound, book-listed}
 use Rattle.margin.proofs.ContractLaws.{net-is, net-sizes}
 use Rattle.margin.proofs.LineLaws.{spreads-sound, numbers-length, used-length, unused-length}
 use Rattle.margin.proofs.RecordLaws.{count-is}
-use Rattle.margin.proofs.StandLaws.{contracts-are, entries-stand}
+use Rattle.margin.proofs.StandLaws.{contracts-are, entries-part, entries-fit}
 use Rattle.margin.proofs.StepBounds.{sizes, number-within}
 use Rattle.margin.proofs.TableLaws.{Tiered, tiered-next, tiered-all, entry-accepted}
 
@@ -151,14 +148,8 @@ module _ (file : List ℕ) (s : Survey) (st : Stands file s) (p : Prompts) (is :
   abbrev account : List Record
   account = records file
 
-  pub es-are : records part ≡ entriesOf account
-  es-are = ap records ep ∙ entries-stand file s st
-
-  es-within : EntriesFit (records part)
-  es-within = subst⁻¹ EntriesFit es-are (entries-within file (st .accepted))
-
   pub entries-few : recordCount part ≤ 32
-  entries-few = omega (arith, es-within .few, count-is part)
+  entries-few = omega (arith, (entries-fit file s st part ep) .few, count-is part)
 
   pub ps-length : length (map asTier (contracts account)) ≡ p .count
   ps-length = length-map (contracts account) asTier ∙ length-map (contractsOf account) (partsIn account) ∙ sym (is .count-is)
@@ -168,7 +159,7 @@ module _ (file : List ℕ) (s : Survey) (st : Stands file s) (p : Prompts) (is :
   tiers-accepted t table =
       handed-sound p t (map asTier (contracts account)) (map intercontract (records part)) (is .opens-are) (table .spreads-are)
       (omega (arith, is .few)) (omega (arith, table .count-is, entries-few)) (is .tiers-sound)
-      (spreads-sound intercontract (records part) (λ k h. entry-accepted (getD (records part) k []) (es-within .each k h)))
+      (spreads-sound intercontract (records part) (λ k h. entry-accepted (getD (records part) k []) ((entries-fit file s st part ep) .each k h)))
 
   module _ (t : Table) (table : TableOf intercontract part t) (b : Book) (booked : Booked p t b) where
     book-is : BookOf (steps (map intercontract (records part))) (map asTier (contracts account)) b
@@ -185,20 +176,14 @@ module _ (file : List ℕ) (s : Survey) (st : Stands file s) (p : Prompts) (is :
         let m = mul-le-mul-right mostDelta (is .few) in
         le-trans (number-within (steps (map intercontract (records part))) (map asTier (contracts account)) j) (omega (arith, ap (λ (x : ℕ). x * mostDelta) ps-length))
 
-    first-at : (k : ℕ) → k < 32 → spreadsAt (b .first) k ≡ getD ns (2 * k) 0
-    first-at k h = ap (λ (xs : List Spreads). spreadsAt xs k) (book-is .first-is) ∙ ap (λ (x : Spreads). x .0) (entries-at 32 (λ i. spreadsEntry ns (2 * i)) k (record { 0 = 0 }) h)
-
-    second-at : (k : ℕ) → k < 32 → spreadsAt (b .second) k ≡ getD ns (2 * k + 1) 0
-    second-at k h = ap (λ (xs : List Spreads). spreadsAt xs k) (book-is .second-is) ∙ ap (λ (x : Spreads). x .0) (entries-at 32 (λ i. spreadsEntry ns (2 * i + 1)) k (record { 0 = 0 }) h)
-
     -- the numbers formed can be written signed
     pub tiers-signed : (m : ℕ) → m ≡ recordCount part → SpreadsSigned m (b .first) (b .second)
     tiers-signed m e =
         let f = entries-few in
         record {
           most = omega arith;
-          first-within = λ k h. let x = first-at k (omega arith) in let y = formed-most (2 * k) in omega arith;
-          second-within = λ k h. let x = second-at k (omega arith) in let y = formed-most (2 * k + 1) in omega arith;
+          first-within = λ k h. let x = first-at book-is k (omega arith) in let y = formed-most (2 * k) in omega arith;
+          second-within = λ k h. let x = second-at book-is k (omega arith) in let y = formed-most (2 * k + 1) in omega arith;
         }
 
     -- the numbers of the table's book
@@ -211,7 +196,7 @@ module _ (file : List ℕ) (s : Survey) (st : Stands file s) (p : Prompts) (is :
         let few = is .few in
         let fe = entries-few in
         let c = contracts-are file s st in
-        let d = ap length es-are in
+        let d = ap length (entries-part file s st part ep) in
         let e = is .count-is in
         let g = count-is part in
         record {
@@ -219,7 +204,7 @@ module _ (file : List ℕ) (s : Survey) (st : Stands file s) (p : Prompts) (is :
               book-listed ss ps b (take (p .count) (deltasIn (p .net))) (p .count) m (written r) book-is ps-length (omega arith) (numbers-length intercontract (records part) ps ∙ ap (λ (x : ℕ). 2 * x) (g ∙ sym em)) (omega arith)
               (used-length ss ps ∙ ps-length) (unused-length ss ps ∙ ps-length) el
               ∙ ap (λ (zs : List ℤ). threes zs (usedOf ss ps) (unusedOf ss ps) ++ map pos (numbers ss ps)) (is .nets-are)
-              ∙ ap (λ (x : List Record). tableBook x (contracts account)) es-are;
+              ∙ ap (λ (x : List Record). tableBook x (contracts account)) (entries-part file s st part ep);
           count-is = omega arith;
           few = omega arith;
         }

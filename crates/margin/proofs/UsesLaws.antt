@@ -25,6 +25,7 @@ use Rattle.spread.specs.declared.Prompts.{Prompts}
 use Rattle.spread.specs.declared.Spread.{Spread}
 use Rattle.spread.specs.declared.Table.{Table}
 use Rattle.spread.specs.declared.stepwise.Step.{Step}
+use Rattle.spread.proofs.Gathering.{few}
 use Rattle.spread.proofs.Both.{and-left, and-right, and-both}
 use Rattle.spread.proofs.Every.{open-length}
 use Rattle.spread.proofs.Stepping.{after-length}
@@ -42,7 +43,8 @@ use Rattle.margin.proofs.ContractLaws.{book-room, nets-are}
 use Rattle.margin.proofs.LineLaws.{opens-length, steps-length, used-length}
 use Rattle.margin.proofs.NumberLaws.{sets-append}
 use Rattle.margin.proofs.RecordLaws.{count-is}
-use Rattle.margin.proofs.TierLaws.{es-are, ps-length, tiers-accepted}
+use Rattle.margin.proofs.StandLaws.{entries-part}
+use Rattle.margin.proofs.TierLaws.{ps-length, tiers-accepted}
 
 -- ---- one step
 
@@ -59,9 +61,6 @@ module _ (p : Prompts) (s : Spread) (second : Bool) (r : Step) (is : Stepped p s
   taken-is lt ln few =
       ap (λ (ds : List Delta). take (p .count) (deltasIn ds)) (is .taken ∙ ap (λ (b : Bool). entries 32 (deltaEntry (cond b (takenOf (stepOf second s) (openOf p)) []))) e)
       ∙ take-deltas (takenOf (stepOf second s) (openOf p)) (p .count) 32 (used-length (stepOf second s ∷ []) (openOf p) ∙ open-length p lt ln few) few
-
-pub few-prompts : (p : Prompts) → soundPrompts p ≡ true → p .count ≤ 32
-few-prompts p e = leb-true (p .count) 32 (and-left (leb (p .count) 32) _ e)
 
 -- ---- all steps: what is written and what the steps still to come take are the whole
 
@@ -180,7 +179,7 @@ pub put-none : (p : Prompts) (t : Table) (out : List ℤ) → length (p .tier) �
 put-none p t out lt ln ok h =
     let a = and-left (soundPrompts p) (soundTable t) ok in
     let none : t .count - 0 ≡ t .count = omega arith in
-    record { whole = refl; sound = a; count = refl; room = omega (arith, h, ap (λ (k : ℕ). k * (2 * p .count)) none); within = omega arith; long = open-length p lt ln (few-prompts p a) }
+    record { whole = refl; sound = a; count = refl; room = omega (arith, h, ap (λ (k : ℕ). k * (2 * p .count)) none); within = omega arith; long = open-length p lt ln (few p a) }
 
 -- ---- what a question asks about
 
@@ -223,7 +222,7 @@ contract-asks prompts rows spreads w q is most p t tiers table =
 pub table-asks : (file : List ℕ) (s : Survey) (st : Stands file s) (p : Prompts) (is : TiersIn file p) (part : List ℕ) (ep : part ≡ stretch file (getD (s .first) 80 0) (getD (s .counts) 80 0))
     → (t : Table) → TableOf intercontract part t → Asks (tableUses (entriesOf (records file)) (contracts (records file))) (record { prompts = p; table = t })
 table-asks file s st p is part ep t table =
-    let es = es-are file s st p is part ep in
+    let es = entries-part file s st part ep in
     asks p t (map asTier (contracts (records file))) (map intercontract (entriesOf (records file))) (is .opens-are) (table .spreads-are ∙ ap (map intercontract) es)
     (tiers-accepted file s st p is part ep t table)
     (sym (ps-length file s st p is part ep))

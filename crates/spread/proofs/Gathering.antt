@@ -35,7 +35,7 @@ side-market (negsuc n) = refl
 abbrev pub own : Open → Taker
 own p = record { market = marketOf (p .unused); tier = p .tier; ratio = 1 }
 
-eqb-turned : (a b : ℕ) → eqb a b ≡ eqb b a
+pub eqb-turned : (a b : ℕ) → eqb a b ≡ eqb b a
 eqb-turned a b = go (eqb b a) refl
   where
     go : (t : Bool) → eqb b a ≡ t → eqb a b ≡ t

@@ -6,7 +6,8 @@ use lib.ListN.{length, length-map}
 use lib.Seq.{sets}
 use Rattle.spread.specs.Accepted.{soundPrompts, soundSpread}
 use Rattle.spread.proofs.Both.{and-left}
-use Rattle.margin.proofs.UsesLaws.{few-prompts, left-by, taken-is}
+use Rattle.spread.proofs.Gathering.{few}
+use Rattle.margin.proofs.UsesLaws.{left-by, taken-is}
 use Rattle.margin.proofs.uses.put_step.Statement.{statement}
 use Rattle.margin.proofs.uses.put_step.Tie as tie
 
@@ -17,7 +18,7 @@ put-deltas-requires : tie.Need-put-deltas-requires
 put-deltas-requires c κs =
     let s = c .before .before .before in
     let p = s .args .prompts in
-    (few-prompts p (and-left (soundPrompts p) (soundSpread (s .args .spread)) (s .pre .0)), s .pre .1)
+    (few p (and-left (soundPrompts p) (soundSpread (s .args .spread)) (s .pre .0)), s .pre .1)
 
 same-length : tie.Need-same-length
 same-length c = search needs
@@ -31,7 +32,7 @@ returns c =
     let lt : length (p .tier) ≡ 32 = sym (length-map (p .tier) _) ∙ s .good .1 .1 .0 .1 .1 .1 .0 .1 .0 .1 in
     let ln : length (p .net) ≡ 32 = sym (length-map (p .net) _) ∙ s .good .1 .1 .0 .1 .1 .1 .1 .0 .1 .0 .1 in (
       left-by p d (s .args .second) (step .result) (step .ensures) (s .pre .0),
-      c .before .before .put-deltas .ensures ∙ ap (sets (s .args .out .now) (s .args .at)) (taken-is p d (s .args .second) (step .result) (step .ensures) (s .pre .0) lt ln (few-prompts p (and-left (soundPrompts p) (soundSpread d) (s .pre .0)))),
+      c .before .before .put-deltas .ensures ∙ ap (sets (s .args .out .now) (s .args .at)) (taken-is p d (s .args .second) (step .result) (step .ensures) (s .pre .0) lt ln (few p (and-left (soundPrompts p) (soundSpread d) (s .pre .0)))),
     )
 
 pub put-step-spec : {M : Type 1} → statement M

@@ -5,17 +5,18 @@ use native.Mathlib.Omega.{arith}
 use borrow.Author.Needs.{needs}
 use Rattle.spread.specs.Accepted.{soundPrompts, soundTable}
 use Rattle.spread.proofs.Both.{and-left, and-right}
-use Rattle.margin.proofs.UsesLaws.{few-prompts, few-in-table}
+use Rattle.spread.proofs.Gathering.{few}
+use Rattle.margin.proofs.UsesLaws.{few-in-table}
 use Rattle.margin.proofs.uses.uses_count.Statement.{statement}
 use Rattle.margin.proofs.uses.uses_count.Tie as tie
 
 mul-result : tie.Need-mul-result
-mul-result c = let s = c .before in let p = few-prompts (s .args .prompts) (and-left (soundPrompts (s .args .prompts)) (soundTable (s .args .table)) (s .pre)) in omega arith
+mul-result c = let s = c .before in let p = few (s .args .prompts) (and-left (soundPrompts (s .args .prompts)) (soundTable (s .args .table)) (s .pre)) in omega arith
 
 mul-result-2 : tie.Need-mul-result-2
 mul-result-2 c =
     let s = c .before .before in
-    let p = few-prompts (s .args .prompts) (and-left (soundPrompts (s .args .prompts)) (soundTable (s .args .table)) (s .pre)) in
+    let p = few (s .args .prompts) (and-left (soundPrompts (s .args .prompts)) (soundTable (s .args .table)) (s .pre)) in
     let t = few-in-table (s .args .table) (and-right (soundPrompts (s .args .prompts)) (soundTable (s .args .table)) (s .pre)) in
     let m = mul-le-mul t p in
     omega arith

@@ -3,7 +3,7 @@ ghost use mathlib.Core.Path.{_≡_};
 ghost use Prim.Native.Nat.{_<_};
 ghost use lib.ListN.{length, getD};
 ghost use Rattle.exact.specs.Lists.{oneIf};
-ghost use Rattle.account.specs.Check.{checked};
+ghost use Rattle.account.specs.Check.{checked, mostRecords};
 ghost use Rattle.account.specs.Notes.{oneMore, startNoted};
 ghost use Rattle.account.specs.Parts.{ofKind};
 ghost use Rattle.account.specs.Surveyed.{Surveyed, Empty};
@@ -19,7 +19,9 @@ use record::bytes::RECORD_BYTES;
 use record::fields::kind;
 
 // "At most 640 records".
-const MOST_BYTES: usize = 640 * RECORD_BYTES;
+const MOST_RECORDS: usize = 640;
+
+const MOST_BYTES: usize = MOST_RECORDS * RECORD_BYTES;
 
 // A verdict and, of an accepted file, how many contracts it lists and of each part where it begins and how many records
 // it has.
@@ -42,7 +44,7 @@ fn refused(answer: Answer) -> Survey
 }
 
 fn note_first(first: &mut [u16], counts: &[u16], v: usize, k: usize)
-    requires { ⌜ (v < length (now first)) × (k < 640) ⌝ }
+    requires { ⌜ (v < length (now first)) × (k < mostRecords) ⌝ }
     ensures { λ _. ⌜ now (first .exit) ≡ startNoted (now (first .entry)) (now (counts .entry)) v k ⌝ }
 {
     if noted(counts, v) == 0 {
@@ -51,7 +53,7 @@ fn note_first(first: &mut [u16], counts: &[u16], v: usize, k: usize)
 }
 
 fn note_one(counts: &mut [u16], v: usize)
-    requires { ⌜ (v < length (now counts)) × (getD (now counts) v 0 < 640) ⌝ }
+    requires { ⌜ (v < length (now counts)) × (getD (now counts) v 0 < mostRecords) ⌝ }
     ensures { λ _. ⌜ now (counts .exit) ≡ oneMore (now (counts .entry)) v ⌝ }
 {
     counts[v] = counts[v] + 1;

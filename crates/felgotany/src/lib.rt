@@ -17,7 +17,7 @@ ghost use lib.ListN.{length};
 ghost use Rattle.account.specs.Check.{checked};
 ghost use Rattle.margin.specs.Questions.{figuresAnswer, afterFigures, bookAnswer, afterBook, usesAnswer, afterUses};
 ghost use Rattle.margin.specs.Needs.{figuresNeed, bookNeed, usesNeed};
-ghost use Rattle.margin.specs.Bounds.{longestBook, longestUses};
+ghost use Rattle.margin.specs.Bounds.{longestFigures, longestBook, longestUses};
 ghost use Rattle.margin.specs.Held.{booksAnswer, booksAfter, allUsesAnswer, allUsesAfter};
 ghost use Rattle.felgotany.specs.Outcomes.{Tells};
 
@@ -48,7 +48,7 @@ pub extern "C" fn felgotany_check(file: &[u8]) -> Outcome
 // How many numbers the figures of an accepted file need; 0 for a refused file.
 #[no_mangle]
 pub extern "C" fn felgotany_figures_needed(file: &[u8]) -> usize
-    ensures { λ r. ⌜ (r ≡ figuresNeed (now (file .entry))) × (r ≤ 129) ⌝ }
+    ensures { λ r. ⌜ (r ≡ figuresNeed (now (file .entry))) × (r ≤ longestFigures) ⌝ }
 {
     figures_needed(file)
 }

@@ -29,7 +29,7 @@ use Rattle.margin.specs.Held.{FromCheck, needIn, questions, atPlace, aft
 use Rattle.margin.specs.declared.held.Asked.{Asked}
 use Rattle.margin.specs.declared.held.Held.{Held}
 use Rattle.margin.specs.Needs.{figuresNeed}
-use Rattle.margin.specs.Questions.{accepted, ifAccepted, asked, answerTo, enough, afterwards, figuresAnswer, afterFigures, bookAnswer, afterBook}
+use Rattle.margin.specs.Questions.{accepted, ifAccepted, asked, answerTo, enough, afterwards, figuresAnswer, afterFigures, bookAnswer, afterBook, usesAnswer, afterUses}
 use Rattle.margin.specs.Stands.{Stands}
 use Rattle.margin.proofs.AskedLaws.{asked-is}
 use Rattle.margin.proofs.StandLaws.{contracts-are}
@@ -105,30 +105,35 @@ one-asked a b c r s (x, (y, z)) (x′, (y′, z′)) = λ i. record { figures = 
 
 -- "each question is also offered over plain bytes, checked first, with the same answer": whatever a held file and its
 -- bytes are answered, and whatever is left in the same lent numbers, is the same
-pub held-as-plain : (h : Held) (file : List ℕ) → now (h .file) ≡ file → (lent : List ℤ) (r r′ : Answer) (after after′ : List ℤ)
-    → (r ≡ figuresAnswer (now (h .file)) (length lent)) × (after ≡ afterFigures (now (h .file)) lent)
-    → (r′ ≡ figuresAnswer file (length lent)) × (after′ ≡ afterFigures file lent)
-    → (r ≡ r′) × (after ≡ after′)
-held-as-plain h file e lent r r′ after after′ (p, s) (p′, s′) =
-    (p ∙ ap (λ (f : List ℕ). figuresAnswer f (length lent)) e ∙ sym p′, s ∙ ap (λ (f : List ℕ). afterFigures f lent) e ∙ sym s′)
+module _ (h : Held) (file : List ℕ) (e : now (h .file) ≡ file) where
+  as-plain : (answer : List ℕ → ℕ → Answer) (after : List ℕ → List ℤ → List ℤ) (lent : List ℤ) (r r′ : Answer) (left left′ : List ℤ)
+      → (r ≡ answer (now (h .file)) (length lent)) × (left ≡ after (now (h .file)) lent)
+      → (r′ ≡ answer file (length lent)) × (left′ ≡ after file lent)
+      → (r ≡ r′) × (left ≡ left′)
+  as-plain answer after lent r r′ left left′ (p, s) (p′, s′) =
+      (p ∙ ap (λ (f : List ℕ). answer f (length lent)) e ∙ sym p′, s ∙ ap (λ (f : List ℕ). after f lent) e ∙ sym s′)
 
--- numbers lent as many as are needed are enough
-pub needed-enough : (file : List ℕ) (lent : ℕ) → figuresNeed file ≤ lent → figuresAnswer file lent ≡ checked file
-needed-enough file lent h = by-number (numberOf (checked file)) refl
-  where
-    by-number : (n : ℕ) → numberOf (checked file) ≡ n → figuresAnswer file lent ≡ checked file
-    by-number zero e =
-        let z = accepted-only (checked file) e in
-        let l : figuresNeed file ≡ length (figures (records file)) = ap (λ (a : Answer). cond (accepted a) (length (figures (records file))) 0) z in
-        if-accepted (checked file) (enough file (figures (records file)) lent) z ∙ as-many file (figures (records file)) lent (omega (arith, l, h)) ∙ sym z
-    by-number (suc n) e = if-refused (checked file) (enough file (figures (records file)) lent) (λ z. some (sym e ∙ z))
+  pub held-as-plain : (lent : List ℤ) (r r′ : Answer) (left left′ : List ℤ)
+      → (r ≡ figuresAnswer (now (h .file)) (length lent)) × (left ≡ afterFigures (now (h .file)) lent)
+      → (r′ ≡ figuresAnswer file (length lent)) × (left′ ≡ afterFigures file lent)
+      → (r ≡ r′) × (left ≡ left′)
+  held-as-plain = as-plain figuresAnswer afterFigures
 
-pub held-book-as-plain : (h : Held) (file : List ℕ) → now (h .file) ≡ file → (question : ℕ) (lent : List ℤ) (r r′ : Answer) (after after′ : List ℤ)
-    → (r ≡ bookAnswer (now (h .file)) question (length lent)) × (after ≡ afterBook (now (h .file)) question lent)
-    → (r′ ≡ bookAnswer file question (length lent)) × (after′ ≡ afterBook file question lent)
-    → (r ≡ r′) × (after ≡ after′)
-held-book-as-plain h file e question lent r r′ after after′ (p, s) (p′, s′) =
-    (p ∙ ap (λ (f : List ℕ). bookAnswer f question (length lent)) e ∙ sym p′, s ∙ ap (λ (f : List ℕ). afterBook f question lent) e ∙ sym s′)
+  pub held-book-as-plain : (question : ℕ) (lent : List ℤ) (r r′ : Answer) (left left′ : List ℤ)
+      → (r ≡ bookAnswer (now (h .file)) question (length lent)) × (left ≡ afterBook (now (h .file)) question lent)
+      → (r′ ≡ bookAnswer file question (length lent)) × (left′ ≡ afterBook file question lent)
+      → (r ≡ r′) × (left ≡ left′)
+  held-book-as-plain question = as-plain (λ f. bookAnswer f question) (λ f. afterBook f question)
+
+  pub held-uses-as-plain : (question : ℕ) (lent : List ℤ) (r r′ : Answer) (left left′ : List ℤ)
+      → (r ≡ usesAnswer (now (h .file)) question (length lent)) × (left ≡ afterUses (now (h .file)) question lent)
+      → (r′ ≡ usesAnswer file question (length lent)) × (left′ ≡ afterUses file question lent)
+      → (r ≡ r′) × (left ≡ left′)
+  held-uses-as-plain question = as-plain (λ f. usesAnswer f question) (λ f. afterUses f question)
+
+  -- `need` is that of the figures, of a question's book, or of its uses
+  pub held-needs-as-plain : (need : List ℕ → ℕ) (n n′ : ℕ) → n ≡ need (now (h .file)) → n′ ≡ need file → n ≡ n′
+  held-needs-as-plain need n n′ p p′ = p ∙ ap need e ∙ sym p′
 
 -- ---- all questions at once, each in its place
 

@@ -1,12 +1,13 @@
 -- How many numbers a book and its uses have, from the survey of the file.
 -- Assumes nothing.
-use Prim.Native.Nat.{ℕ, _+_, _*_, _≤_, _<_}
+use Prim.Native.Nat.{ℕ, zero, suc, _+_, _*_, _≤_, _<_}
 use native.Mathlib.Omega.{arith}
 use mathlib.Core.Path.{_≡_, refl, sym, ap, ap₂, _∙_}
 use mathlib.Core.Bool.{Bool, true, cond}
 use mathlib.Core.List.{List, [], map}
 use borrow.Author.Tests.{ne-eqb}
 use lib.Dec.{eqb}
+use lib.IntN.{ℤ}
 use lib.ListN.{length, getD, length-map}
 use Rattle.exact.specs.Lists.{keep, count}
 use Rattle.record.specs.Layout.{Record}
@@ -23,13 +24,14 @@ use Rattle.account.proofs.Noted.{part-is}
 use Rattle.margin.specs.Books.{answered, book}
 use Rattle.margin.specs.Contract.{contracts, partsIn, asTier, opensOf, contractFrom}
 use Rattle.margin.specs.Deltas.{interprompt, intercontract, netDeltas}
-use Rattle.margin.specs.Needs.{SizesOf, NeedsOf}
-use Rattle.margin.specs.Questions.{accepted, ifAccepted, asked}
+use Rattle.margin.specs.Figures.{figures}
+use Rattle.margin.specs.Needs.{SizesOf, NeedsOf, Needed, figuresNeed, bookNeed, usesNeed}
+use Rattle.margin.specs.Questions.{accepted, ifAccepted, asked, answerTo, enough, figuresAnswer, bookAnswer, usesAnswer}
 use Rattle.margin.specs.Stands.{Stands}
 use Rattle.margin.specs.Uses.{contractUses, tableUses, uses}
 use Rattle.margin.proofs.AskedLaws.{one-book, table-book, contract-asked, table-asked, asked-small, contract-length, table-length}
 use Rattle.margin.proofs.LineLaws.{opens-length}
-use Rattle.margin.proofs.QuestionLaws.{accepted-only}
+use Rattle.margin.proofs.QuestionLaws.{some, accepted-only, if-refused, if-accepted, if-then, as-many, too-few}
 use Rattle.margin.proofs.StandLaws.{contracts-are}
 use Rattle.margin.proofs.UsesLaws.{spread-uses}
 
@@ -113,3 +115,42 @@ module _ (file : List ℕ) (question : ℕ) (m : Answer) (is : m ≡ ifAccepted 
         prompts-few = has .prompts-few;
         spreads-few = has .spreads-few;
       }
+
+-- ---- as many as are needed are enough, and fewer are refused
+
+module _ (file : List ℕ) (otherwise : Answer) (numbers : List ℤ) where
+  needed : Needed file otherwise (λ lent. ifAccepted otherwise (enough file numbers lent)) (cond (accepted otherwise) (length numbers) 0)
+  needed = by-number (numberOf otherwise) refl
+    where
+      by-number : (n : ℕ) → numberOf otherwise ≡ n → Needed file otherwise (λ lent. ifAccepted otherwise (enough file numbers lent)) (cond (accepted otherwise) (length numbers) 0)
+      by-number zero e =
+          let z = accepted-only otherwise e in
+          let l : cond (accepted otherwise) (length numbers) 0 ≡ length numbers = ap (λ (a : Answer). cond (accepted a) (length numbers) 0) z in
+          record {
+            enough = λ lent h. if-accepted otherwise (enough file numbers lent) z ∙ as-many file numbers lent (omega (arith, l, h)) ∙ sym z;
+            fewer = λ lent h. if-accepted otherwise (enough file numbers lent) z ∙ too-few file numbers lent (omega (arith, l, h));
+          }
+      by-number (suc n) e =
+          let r : numberOf otherwise ≡ 0 → ⊥ = λ z. some (sym e ∙ z) in
+          let l : cond (accepted otherwise) (length numbers) 0 ≡ 0 = ap (λ (b : Bool). cond b (length numbers) 0) (ne-eqb (numberOf otherwise) 0 r) in
+          record {
+            enough = λ lent h. if-refused otherwise (enough file numbers lent) r;
+            fewer = λ lent h. absurd (omega (arith, l, h));
+          }
+
+  -- of a question that may not be one that the file answers
+  asking-needed : (question : ℕ) → otherwise ≡ ifAccepted (checked file) (asked file question) → Needed file otherwise (answerTo file question numbers) (cond (accepted otherwise) (length numbers) 0)
+  asking-needed question e =
+      let same : (lent : ℕ) → answerTo file question numbers lent ≡ ifAccepted otherwise (enough file numbers lent) =
+      λ lent. if-then (checked file) (asked file question) (enough file numbers lent) ∙ ap (λ (a : Answer). ifAccepted a (enough file numbers lent)) (sym e) in
+      record { enough = λ lent h. same lent ∙ needed .enough lent h; fewer = λ lent h. same lent ∙ needed .fewer lent h }
+
+pub figures-needed : (file : List ℕ) → Needed file (checked file) (figuresAnswer file) (figuresNeed file)
+figures-needed file = needed file (checked file) (figures (records file))
+
+module _ (file : List ℕ) (question : ℕ) where
+  pub book-needed : Needed file (ifAccepted (checked file) (asked file question)) (bookAnswer file question) (bookNeed file question)
+  book-needed = asking-needed file (ifAccepted (checked file) (asked file question)) (book (records file) question) question refl
+
+  pub uses-needed : Needed file (ifAccepted (checked file) (asked file question)) (usesAnswer file question) (usesNeed file question)
+  uses-needed = asking-needed file (ifAccepted (checked file) (asked file question)) (uses (records file) question) question refl

@@ -76,7 +76,7 @@ accepted-with answer numbers out after n e l f =
 
 -- ---- a question: whether it may be asked, then whether enough numbers are lent
 
-if-then : (a b next : Answer) → ifAccepted a (ifAccepted b next) ≡ ifAccepted (ifAccepted a b) next
+pub if-then : (a b next : Answer) → ifAccepted a (ifAccepted b next) ≡ ifAccepted (ifAccepted a b) next
 if-then a b next = go (accepted a) refl
   where
     go : (t : Bool) → accepted a ≡ t → ifAccepted a (ifAccepted b next) ≡ ifAccepted (ifAccepted a b) next

@@ -17,6 +17,10 @@ mostRisk = 12800000000000000
 abbrev pub mostLots : ℕ
 mostLots = 12800000
 
+-- the numbers of the figures: eight for each of 16 contracts, and the margin
+abbrev pub longestFigures : ℕ
+longestFigures = 129
+
 -- the numbers of a book: three for each of 32 prompts, two for each of 32 spreads
 abbrev pub longestBook : ℕ
 longestBook = 160

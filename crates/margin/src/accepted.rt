@@ -13,6 +13,8 @@ use crate::tables::intercontract_table;
 use crate::tables::interprompt_table;
 use crate::tables::prompts_with;
 use crate::uses::Asking;
+use account::answers::Answer;
+use account::answers::number_of;
 use account::check::Survey;
 use account::parts::CONTRACTS;
 use account::parts::ENTRIES;
@@ -29,13 +31,17 @@ use spread::MOST_PROMPTS;
 use spread::Prompts;
 use spread::book::delta_book;
 ghost use mathlib.Core.Path.{_≡_};
-ghost use mathlib.Core.Bool.{true};
+ghost use mathlib.Core.Bool.{true, not, _||_};
 ghost use mathlib.Core.List.{[]};
 ghost use Prim.Native.Nat.{_+_, _*_, _≤_, _<_};
+ghost use lib.Dec.{eqb};
 ghost use lib.ListN.{length, getD};
+ghost use Rattle.account.specs.Check.{checked};
 ghost use Rattle.account.specs.Parts.{contractsOf, promptsOf, spreadsOf, entriesOf};
 ghost use Rattle.account.specs.Records.{records, recordCount, stretch};
-ghost use Rattle.margin.specs.Books.{contractBook, tableBook, answered, askedBy, book};
+ghost use Rattle.account.specs.Surveyed.{Surveyed};
+ghost use Rattle.record.specs.Layout.{mostContract};
+ghost use Rattle.margin.specs.Books.{contractBook, tableBook, tableQuestion, answered, askedBy, book};
 ghost use Rattle.margin.specs.Bounds.{longestBook};
 ghost use Rattle.margin.specs.Contract.{contractFrom, contracts, partsIn, partsOf};
 ghost use Rattle.margin.specs.Figures.{figures};
@@ -43,6 +49,7 @@ ghost use Rattle.margin.specs.Numbers.{written, BookNumbers};
 ghost use Rattle.margin.specs.Within.{ContractFit};
 ghost use Rattle.margin.specs.Promised.{LineOf};
 ghost use Rattle.margin.specs.Stands.{Stands, LinesOf, TierIs, TiersIn};
+ghost use Rattle.margin.specs.Questions.{ifAccepted, asked};
 ghost use Rattle.margin.specs.Uses.{contractUses, tableUses, uses, Asks};
 
 // The question for the intercontract table; those below it are contracts.
@@ -143,7 +150,7 @@ fn contract_answer(prompts: &[u8], rows: &[u8], spreads: &[u8]) -> Numbers
 
 // The numbers of the book of contract `c`.
 fn contract_numbers(file: &[u8], survey: Survey, c: usize) -> Numbers
-    requires { ⌜ Stands (now file) survey × (c ≤ 15) ⌝ }
+    requires { ⌜ Stands (now file) survey × (c ≤ mostContract) ⌝ }
     ensures { λ r. ⌜ BookNumbers (contractBook (partsOf (records (now (file .entry))) c)) (length (promptsOf c (records (now (file .entry))))) (length (spreadsOf c (records (now (file .entry))))) r ⌝ }
 {
     let prompts = part_at(file, survey.first[PROMPTS + c], survey.counts[PROMPTS + c]);
@@ -250,7 +257,7 @@ fn contract_asking(prompts: &[u8], rows: &[u8], spreads: &[u8]) -> Asking
 
 // The same by the contract's number.
 fn asking_of(file: &[u8], survey: Survey, c: usize) -> Asking
-    requires { ⌜ Stands (now file) survey × (c ≤ 15) ⌝ }
+    requires { ⌜ Stands (now file) survey × (c ≤ mostContract) ⌝ }
     ensures { λ r. ⌜ Asks (contractUses (partsOf (records (now (file .entry))) c)) r ⌝ }
 {
     let prompts = part_at(file, survey.first[PROMPTS + c], survey.counts[PROMPTS + c]);
@@ -282,15 +289,34 @@ pub(crate) fn asking_over(file: &[u8], survey: Survey, question: usize) -> Askin
     asking_of(file, survey, question)
 }
 
+// Whether a question is 16, or a contract of which there is a record of its own.
+pub(crate) fn is_listed(own: u16, question: usize) -> bool
+    ensures { λ r. ⌜ r ≡ eqb question tableQuestion || not (eqb own 0) ⌝ }
+{
+    (question == TABLE) | (own != 0)
+}
+
 // Whether a question is a listed contract or 16.
-pub(crate) fn is_asked(survey: Survey, question: usize) -> bool
+fn is_asked(survey: Survey, question: usize) -> bool
     ensures { λ r. ⌜ r ≡ askedBy (survey .counts) question ⌝ }
 {
-    if question == TABLE {
-        return true;
-    }
-    if TABLE <= question {
+    if TABLE < question {
         return false;
     }
-    survey.counts[OWN + question] != 0
+    is_listed(survey.counts[OWN + question], question)
+}
+
+// Whether a checked file is accepted and the question is one that it answers.
+pub(crate) fn may_ask(file: &[u8], survey: Survey, question: usize) -> Answer
+    requires { ⌜ Surveyed (now file) survey ⌝ }
+    ensures { λ r. ⌜ r ≡ ifAccepted (checked (now (file .entry))) (asked (now (file .entry)) question) ⌝ }
+{
+    let answer = survey.answer;
+    if number_of(answer) != 0 {
+        return answer;
+    }
+    if !is_asked(survey, question) {
+        return Answer::NoSuchQuestion(record_count(file));
+    }
+    Answer::Accepted
 }

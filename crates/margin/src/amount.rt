@@ -7,6 +7,7 @@ use spread::Spreads;
 ghost use mathlib.Core.Path.{_≡_};
 ghost use Prim.Native.Nat.{_+_, _*_, _≤_};
 ghost use lib.IntN.{natAbs};
+ghost use Rattle.record.specs.Layout.{mostPercent};
 ghost use Rattle.margin.specs.Bounds.{mostDelta, mostRate, mostCharge, mostRisk, mostLots};
 ghost use Rattle.margin.specs.Charges.{spreadCharge, promptCharge};
 ghost use Rattle.margin.specs.Credit.{credit};
@@ -41,7 +42,7 @@ pub(crate) fn prompt_charge(
 
 // A contract's credit from one entry, from twice its price risk and the sizes of what the entry used and of its net delta.
 pub(crate) fn credit(twice_risk: u64, used: u64, percent: u64, net: u64) -> Amount
-    requires { ⌜ (used ≤ net) × (net ≤ mostDelta) × (percent ≤ 100) ⌝ }
+    requires { ⌜ (used ≤ net) × (net ≤ mostDelta) × (percent ≤ mostPercent) ⌝ }
     ensures { λ r. ⌜ (r .0 ≡ credit «twice_risk» used percent net) × (r .0 ≤ «twice_risk») ⌝ }
 {
     if net == 0 {

@@ -23,6 +23,7 @@ ghost use Rattle.margin.specs.Bounds.{mostCharge, mostRisk};
 ghost use Rattle.margin.specs.Charges.{spreadCharge, interpromptCharge, promptCharge, promptCharges};
 ghost use Rattle.margin.specs.Credit.{credit, entryUse, creditsBy};
 ghost use Rattle.margin.specs.Sums.{interleaved, deltasIn, SpreadRoom, SpreadsWithin, PromptRoom, PromptsWithin, EntryRoom, CreditRoom, EntriesRoom};
+ghost use Rattle.account.specs.Check.{mostPrompts, mostSpreads};
 ghost use Rattle.record.specs.Layout.{ratePerSpread, spreadRate, outrightRate, percent};
 
 fn charge_of_spread(s: &[u8], first: Spreads, second: Spreads) -> Amount
@@ -39,7 +40,7 @@ pub(crate) fn interprompt_charge(
     second: [Spreads; MOST_SPREADS],
 ) -> Amount
     requires { ⌜ SpreadsWithin (records (now spreads)) first second ⌝ }
-    ensures { λ r. ⌜ (r .0 ≡ interpromptCharge (records (now (spreads .entry))) (interleaved first second)) × (r .0 ≤ 32 * mostCharge) ⌝ }
+    ensures { λ r. ⌜ (r .0 ≡ interpromptCharge (records (now (spreads .entry))) (interleaved first second)) × (r .0 ≤ mostSpreads * mostCharge) ⌝ }
 {
     let count = spreads.len() / RECORD_BYTES;
     let mut sum: u64 = 0;
@@ -67,7 +68,7 @@ pub(crate) fn prompt_charges(
     unused: [Delta; MOST_PROMPTS],
 ) -> Amount
     requires { ⌜ PromptsWithin (records (now prompts)) used unused ⌝ }
-    ensures { λ r. ⌜ (r .0 ≡ promptCharges (records (now (prompts .entry))) (deltasIn used) (deltasIn unused)) × (r .0 ≤ 32 * mostCharge) ⌝ }
+    ensures { λ r. ⌜ (r .0 ≡ promptCharges (records (now (prompts .entry))) (deltasIn used) (deltasIn unused)) × (r .0 ≤ mostPrompts * mostCharge) ⌝ }
 {
     let count = prompts.len() / RECORD_BYTES;
     let mut sum: u64 = 0;

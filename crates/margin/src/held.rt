@@ -3,7 +3,11 @@ use crate::accepted::TABLE;
 use crate::accepted::asking_over;
 use crate::accepted::book_over;
 use crate::accepted::figures_over;
-use crate::accepted::is_asked;
+use crate::accepted::is_listed;
+use crate::accepted::may_ask;
+use crate::needs::book_need;
+use crate::needs::figures_need;
+use crate::needs::uses_need;
 use crate::numbers::LONGEST_BOOK;
 use crate::numbers::LONGEST_USES;
 use crate::numbers::lend;
@@ -18,12 +22,11 @@ use account::stretches::record_count;
 ghost use mathlib.Core.Path.{_≡_};
 ghost use Prim.Native.Nat.{_+_, _*_, _≤_, _<_};
 ghost use lib.ListN.{length};
-ghost use Rattle.account.specs.Check.{checked};
 ghost use Rattle.account.specs.Surveyed.{Surveyed};
 ghost use Rattle.margin.specs.Bounds.{longestBook, longestUses};
-ghost use Rattle.margin.specs.Held.{FromCheck, needIn, questions, atPlace, booksAnswer, booksAfter, allUsesAnswer, allUsesAfter};
-ghost use Rattle.margin.specs.Needs.{figuresNeed};
-ghost use Rattle.margin.specs.Questions.{ifAccepted, asked, figuresAnswer, afterFigures, bookAnswer, afterBook, usesAnswer, afterUses};
+ghost use Rattle.margin.specs.Held.{FromCheck, questions, atPlace, booksAnswer, booksAfter, allUsesAnswer, allUsesAfter};
+ghost use Rattle.margin.specs.Needs.{figuresNeed, bookNeed, usesNeed};
+ghost use Rattle.margin.specs.Questions.{figuresAnswer, afterFigures, bookAnswer, afterBook, usesAnswer, afterUses};
 
 // How many questions a file can be asked: each contract, and the intercontract table.
 pub const QUESTIONS: usize = TABLE + 1;
@@ -62,21 +65,6 @@ pub(crate) fn answer_figures(file: &[u8], survey: Survey, out: &mut [i64]) -> An
     }
     let numbers = figures_over(file, survey);
     lend(out, numbers);
-    Answer::Accepted
-}
-
-// Whether a checked file is accepted and the question is one that it answers.
-pub(crate) fn may_ask(file: &[u8], survey: Survey, question: usize) -> Answer
-    requires { ⌜ Surveyed (now file) survey ⌝ }
-    ensures { λ r. ⌜ r ≡ ifAccepted (checked (now (file .entry))) (asked (now (file .entry)) question) ⌝ }
-{
-    let answer = survey.answer;
-    if number_of(answer) != 0 {
-        return answer;
-    }
-    if !is_asked(survey, question) {
-        return Answer::NoSuchQuestion(record_count(file));
-    }
     Answer::Accepted
 }
 
@@ -151,7 +139,7 @@ pub(crate) fn answer_books(file: &[u8], survey: Survey, out: &mut [i64]) -> Answ
     }
     let mut q = 0;
     while q < QUESTIONS {
-        if (q == TABLE) | (survey.counts[OWN + q] != 0) {
+        if is_listed(survey.counts[OWN + q], q) {
             place_book(file, survey, q, out);
         }
         q += 1;
@@ -173,7 +161,7 @@ pub(crate) fn answer_all_uses(file: &[u8], survey: Survey, out: &mut [i64]) -> A
     }
     let mut q = 0;
     while q < QUESTIONS {
-        if (q == TABLE) | (survey.counts[OWN + q] != 0) {
+        if is_listed(survey.counts[OWN + q], q) {
             place_uses(file, survey, q, out);
         }
         q += 1;
@@ -206,18 +194,6 @@ pub(crate) fn answer_all(
     }
 }
 
-// How many numbers the figures of a checked file have, 0 where it is refused.
-pub(crate) fn figures_need(survey: Survey) -> usize
-    requires { ⌜ survey .contracts ≤ 16 ⌝ }
-    ensures { λ r. ⌜ r ≡ needIn survey ⌝ }
-{
-    let answer = survey.answer;
-    if number_of(answer) != 0 {
-        return 0;
-    }
-    8 * survey.contracts + 1
-}
-
 // The figures of a held file.
 pub fn held_figures<'a>(h: Held<'a>, out: &mut [i64]) -> Answer
     requires { ⌜ FromCheck h ⌝ }
@@ -234,12 +210,36 @@ pub fn held_book<'a>(h: Held<'a>, question: usize, out: &mut [i64]) -> Answer
     answer_book(h.file, h.survey, question, out)
 }
 
-// How many numbers the figures of a held file need, 0 where it is refused.
-pub fn held_need<'a>(h: Held<'a>) -> usize
+// Who paid for what in the delta book of a question, of a held file.
+pub fn held_uses<'a>(h: Held<'a>, question: usize, out: &mut [i64]) -> Answer
+    requires { ⌜ FromCheck h ⌝ }
+    ensures { λ r. ⌜ (r ≡ usesAnswer (now (h .entry .file)) question (length (now (out .entry)))) × (now (out .exit) ≡ afterUses (now (h .entry .file)) question (now (out .entry))) ⌝ }
+{
+    answer_uses(h.file, h.survey, question, out)
+}
+
+// How many numbers the figures of a held file have, 0 where it is refused.
+pub fn held_figures_needed<'a>(h: Held<'a>) -> usize
     requires { ⌜ FromCheck h ⌝ }
     ensures { λ r. ⌜ r ≡ figuresNeed (now (h .entry .file)) ⌝ }
 {
     figures_need(h.survey)
+}
+
+// How many numbers the delta book of a question has, 0 where the held file is refused or does not answer it.
+pub fn held_book_needed<'a>(h: Held<'a>, question: usize) -> usize
+    requires { ⌜ FromCheck h ⌝ }
+    ensures { λ r. ⌜ (r ≡ bookNeed (now (h .entry .file)) question) × (r ≤ longestBook) ⌝ }
+{
+    book_need(h.file, h.survey, question)
+}
+
+// How many numbers say who paid for what in the delta book of a question, 0 as with the book.
+pub fn held_uses_needed<'a>(h: Held<'a>, question: usize) -> usize
+    requires { ⌜ FromCheck h ⌝ }
+    ensures { λ r. ⌜ (r ≡ usesNeed (now (h .entry .file)) question) × (r ≤ longestUses) ⌝ }
+{
+    uses_need(h.file, h.survey, question)
 }
 
 // Everything that a held file is asked for.

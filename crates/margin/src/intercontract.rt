@@ -15,6 +15,7 @@ use spread::book::delta_book;
 ghost use mathlib.Core.List.{map};
 ghost use Prim.Native.Nat.{_≤_};
 ghost use lib.ListN.{take};
+ghost use Rattle.account.specs.Check.{mostContracts};
 ghost use Rattle.account.specs.Records.{records};
 ghost use Rattle.spread.specs.Steps.{steps};
 ghost use Rattle.margin.specs.Deltas.{intercontract};
@@ -23,7 +24,7 @@ ghost use Rattle.margin.specs.Table.{tierOf, TiersFrom, TableRoom, Earne
 
 // The contracts as the spread steps take them.
 fn tiers_of(count: usize, lines: [Line; CONTRACTS]) -> Prompts
-    requires { ⌜ count ≤ 16 ⌝ }
+    requires { ⌜ count ≤ mostContracts ⌝ }
     ensures { λ r. ⌜ TiersFrom count lines r ⌝ }
 {
     let mut tiers = [0u8; MOST_PROMPTS];

@@ -15,6 +15,7 @@ ghost use Prim.Native.Nat.{_+_, _*_, _^_, _≤_, _<_};
 ghost use lib.IntN.{pos};
 ghost use lib.ListN.{length, take, drop, set};
 ghost use lib.Seq.{sets};
+ghost use Rattle.account.specs.Check.{mostPrompts};
 ghost use Rattle.margin.specs.Bounds.{mostRisk, longestBook};
 ghost use Rattle.margin.specs.Lines.{LineWithin, marginWith, eightOf, figuresFrom};
 ghost use Rattle.margin.specs.Numbers.{written, LinesWithin, SpreadsSigned};
@@ -127,7 +128,7 @@ fn put_prompts(
     used: [Delta; MOST_PROMPTS],
     unused: [Delta; MOST_PROMPTS],
 )
-    requires { ⌜ prompts ≤ 32 ⌝ }
+    requires { ⌜ prompts ≤ mostPrompts ⌝ }
     ensures { λ r. ⌜ now (out .exit) ≡ sets (now (out .entry)) 0 (threes (take prompts (deltasIn nets)) (take prompts (deltasIn used)) (take prompts (deltasIn unused))) ⌝ }
 {
     let mut i = 0;
@@ -145,7 +146,7 @@ fn put_spreads(
     first: [Spreads; MOST_SPREADS],
     second: [Spreads; MOST_SPREADS],
 )
-    requires { ⌜ (at ≤ 96) × SpreadsSigned spreads first second ⌝ }
+    requires { ⌜ (at ≤ 3 * mostPrompts) × SpreadsSigned spreads first second ⌝ }
     ensures { λ r. ⌜ now (out .exit) ≡ sets (now (out .entry)) at (map pos (interleaved (take spreads first) (take spreads second))) ⌝ }
 {
     let mut i = 0;
@@ -165,7 +166,7 @@ pub(crate) fn book_numbers(
     first: [Spreads; MOST_SPREADS],
     second: [Spreads; MOST_SPREADS],
 ) -> Numbers
-    requires { ⌜ (prompts ≤ 32) × SpreadsSigned spreads first second ⌝ }
+    requires { ⌜ (prompts ≤ mostPrompts) × SpreadsSigned spreads first second ⌝ }
     ensures { λ r. ⌜ (r .count ≡ 3 * prompts + 2 * spreads) × (written r ≡ threes (take prompts (deltasIn nets)) (take prompts (deltasIn used)) (take prompts (deltasIn unused)) ++ map pos (interleaved (take spreads first) (take spreads second))) ⌝ }
 {
     let mut number = [0i64; LONGEST_BOOK];

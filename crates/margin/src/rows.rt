@@ -6,6 +6,7 @@ ghost use Prim.Native.Nat.{_≤_, _-_};
 ghost use lib.IntN.{pos, natAbs, _+ℤ_, _*ℤ_};
 ghost use lib.ListN.{length};
 ghost use Rattle.record.specs.Layout.{Record, lots, value};
+ghost use Rattle.account.specs.Check.{mostPrompts, mostRows};
 ghost use Rattle.account.specs.Records.{records, recordCount};
 ghost use Rattle.margin.specs.Deltas.{rowDelta};
 ghost use Rattle.margin.specs.Margin.{short, shortOptions};
@@ -111,7 +112,7 @@ fn totals_with(t: Totals, row: &[u8]) -> Totals
 
 // The days of a contract's prompts.
 pub(crate) fn days_of(prompts: &[u8]) -> Days
-    requires { ⌜ recordCount (now prompts) ≤ 32 ⌝ }
+    requires { ⌜ recordCount (now prompts) ≤ mostPrompts ⌝ }
     ensures { λ d. ⌜ DaysOf (records (now (prompts .entry))) d ⌝ }
 {
     let count = prompts.len() / RECORD_BYTES;
@@ -127,7 +128,7 @@ pub(crate) fn days_of(prompts: &[u8]) -> Days
 
 // What no rows come to.
 pub(crate) fn flat() -> Position
-    ensures { λ p. ⌜ ((prompts : List Record) → length prompts ≤ 32 → PositionOf prompts [] p) ⌝ }
+    ensures { λ p. ⌜ ((prompts : List Record) → length prompts ≤ mostPrompts → PositionOf prompts [] p) ⌝ }
 {
     let totals = [0i64; SCENARIOS];
     let none = Delta(0);
@@ -141,10 +142,10 @@ pub(crate) fn flat() -> Position
 
 // What rows come to with more rows, in one walk over these. A ticket is one row more.
 pub(crate) fn with_rows(p: Position, days: Days, rows: &[u8]) -> Position
-    requires { ⌜ (days .count ≤ 32) × (RowsFit (records (now rows)) × Bounded (128 - length (records (now rows))) p) ⌝ }
+    requires { ⌜ (days .count ≤ mostPrompts) × (RowsFit (records (now rows)) × Bounded (mostRows - length (records (now rows))) p) ⌝ }
     ensures added { λ q. ⌜ WithRows days p (records (now (rows .entry))) q ⌝ }
     ensures more { λ q. ⌜ ((prompts earlier : List Record) → DaysOf prompts days → PositionOf prompts earlier p → PositionOf prompts (earlier ++ records (now (rows .entry))) q) ⌝ }
-    ensures most { λ q. ⌜ Bounded 128 q ⌝ }
+    ensures most { λ q. ⌜ Bounded mostRows q ⌝ }
 {
     let count = rows.len() / RECORD_BYTES;
     let prompts = days.count;
@@ -177,9 +178,9 @@ pub(crate) fn with_rows(p: Position, days: Days, rows: &[u8]) -> Position
 
 // What a contract's rows come to, by its prompts' days.
 pub(crate) fn position_of(prompts: &[u8], rows: &[u8]) -> Position
-    requires { ⌜ (recordCount (now prompts) ≤ 32) × RowsFit (records (now rows)) ⌝ }
+    requires { ⌜ (recordCount (now prompts) ≤ mostPrompts) × RowsFit (records (now rows)) ⌝ }
     ensures is { λ p. ⌜ PositionOf (records (now (prompts .entry))) (records (now (rows .entry))) p ⌝ }
-    ensures most { λ p. ⌜ Bounded 128 p ⌝ }
+    ensures most { λ p. ⌜ Bounded mostRows p ⌝ }
 {
     with_rows(flat(), days_of(prompts), rows)
 }

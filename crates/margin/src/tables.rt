@@ -18,6 +18,7 @@ use spread::Spread;
 use spread::Table;
 ghost use mathlib.Core.Path.{_≡_};
 ghost use Prim.Native.Nat.{_≤_};
+ghost use Rattle.account.specs.Check.{mostPrompts, mostSpreads, mostEntries};
 ghost use Rattle.account.specs.Records.{recordCount};
 ghost use Rattle.margin.specs.Deltas.{legOf, interprompt, intercontract};
 ghost use Rattle.margin.specs.Tables.{TiersOf, TableOf};
@@ -80,7 +81,7 @@ fn no_spread() -> Spread {
 
 // The table of a contract's interprompt spreads, in file order.
 pub(crate) fn interprompt_table(spreads: &[u8]) -> Table
-    requires { ⌜ recordCount (now spreads) ≤ 32 ⌝ }
+    requires { ⌜ recordCount (now spreads) ≤ mostSpreads ⌝ }
     ensures { λ r. ⌜ TableOf interprompt (now (spreads .entry)) r ⌝ }
 {
     let count = spreads.len() / RECORD_BYTES;
@@ -99,7 +100,7 @@ pub(crate) fn interprompt_table(spreads: &[u8]) -> Table
 
 // The table of intercontract spreads, in file order.
 pub(crate) fn intercontract_table(entries: &[u8]) -> Table
-    requires { ⌜ recordCount (now entries) ≤ 32 ⌝ }
+    requires { ⌜ recordCount (now entries) ≤ mostEntries ⌝ }
     ensures { λ r. ⌜ TableOf intercontract (now (entries .entry)) r ⌝ }
 {
     let count = entries.len() / RECORD_BYTES;
@@ -118,7 +119,7 @@ pub(crate) fn intercontract_table(entries: &[u8]) -> Table
 
 // A contract's prompts with their tiers and net deltas.
 pub(crate) fn prompts_with(prompts: &[u8], nets: [Delta; MOST_PROMPTS]) -> Prompts
-    requires { ⌜ recordCount (now prompts) ≤ 32 ⌝ }
+    requires { ⌜ recordCount (now prompts) ≤ mostPrompts ⌝ }
     ensures { λ r. ⌜ TiersOf (now (prompts .entry)) nets r ⌝ }
 {
     let count = prompts.len() / RECORD_BYTES;

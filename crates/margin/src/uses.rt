@@ -10,6 +10,7 @@ ghost use mathlib.Core.Bool.{true};
 ghost use Prim.Native.Nat.{_+_, _*_, _≤_};
 ghost use lib.ListN.{length, take};
 ghost use lib.Seq.{sets};
+ghost use Rattle.account.specs.Check.{mostPrompts};
 ghost use Rattle.spread.specs.Accepted.{openOf, stepsOf, sound};
 ghost use Rattle.spread.specs.Cells.{stepOf};
 ghost use Rattle.spread.specs.Uses.{takenOf, usesOf, soundFor};
@@ -24,7 +25,7 @@ pub struct Asking {
 
 // Deltas, one after the other from a place on.
 fn put_deltas(out: &mut [i64], at: usize, count: usize, deltas: [Delta; MOST_PROMPTS])
-    requires { ⌜ (count ≤ 32) × (at + count ≤ length (now out)) ⌝ }
+    requires { ⌜ (count ≤ mostPrompts) × (at + count ≤ length (now out)) ⌝ }
     ensures { λ r. ⌜ now (out .exit) ≡ sets (now (out .entry)) at (take count (deltasIn deltas)) ⌝ }
 {
     let mut i = 0;

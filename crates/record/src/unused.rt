@@ -5,7 +5,7 @@ ghost use Prim.Native.Nat.{_-_, _≤_};
 ghost use lib.ListN.{length};
 ghost use Rattle.exact.specs.Lists.{any};
 ghost use Rattle.record.specs.Bytes.{countFrom};
-ghost use Rattle.record.specs.Layout.{contractFields, promptFields, rowFields, spreadFields, entryFields};
+ghost use Rattle.record.specs.Layout.{recordBytes, contractFields, promptFields, rowFields, spreadFields, entryFields};
 ghost use Rattle.record.specs.Ranges.{notZero, unusedBeside};
 use crate::bytes::RECORD_BYTES;
 use crate::bytes::byte_at;
@@ -34,7 +34,7 @@ fn set_between(r: &[u8], o: usize, end: usize) -> bool
 
 // Whether any byte from `o` to the record's end is set.
 fn set_from(r: &[u8], o: usize) -> bool
-    ensures { λ b. ⌜ b ≡ any (notZero (now (r .entry))) (countFrom o (96 - o)) ⌝ }
+    ensures { λ b. ⌜ b ≡ any (notZero (now (r .entry))) (countFrom o (recordBytes - o)) ⌝ }
 {
     let n = r.len();
     if RECORD_BYTES <= n {

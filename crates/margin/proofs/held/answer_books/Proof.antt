@@ -3,7 +3,7 @@
 use mathlib.Core.Logic.{⊎-elim}
 use mathlib.Core.Bool.{false, not, _||_}
 use mathlib.Core.List.{List}
-use mathlib.Core.Path.{_≡_, refl, ap, _∙_, subst⁻¹}
+use mathlib.Core.Path.{_≡_, refl, sym, ap, _∙_, subst⁻¹}
 use Prim.Native.Nat.{ℕ, _+_, _-_, _*_, _≤_}
 use native.Mathlib.Omega.{arith}
 use borrow.Author.Needs.{needs}
@@ -53,44 +53,47 @@ returns-2 c =
 loop-holds : tie.Need-loop-holds Inv-loop μ-loop
 loop-holds c = (refl, (omega arith, refl))
 
-add-if3 : tie.Need-add-if3 Inv-loop μ-loop
-add-if3 c = omega (arith, c .loop-test .taken)
+add-is-listed : tie.Need-add-is-listed Inv-loop μ-loop
+add-is-listed c = omega (arith, c .loop-test .taken)
 
-mul-if3 : tie.Need-mul-if3 Inv-loop μ-loop
-mul-if3 c = omega (arith, c .loop-test .taken)
+mul-is-listed : tie.Need-mul-is-listed Inv-loop μ-loop
+mul-is-listed c = omega (arith, c .loop-test .taken)
 
-element-copy-out-if3 : tie.Need-element-copy-out-if3 Inv-loop μ-loop
-element-copy-out-if3 c = omega (arith, c .loop-test .taken)
+element-copy-out-is-listed : tie.Need-element-copy-out-is-listed Inv-loop μ-loop
+element-copy-out-is-listed c = omega (arith, c .loop-test .taken)
+
+is-listed-requires : tie.Need-is-listed-requires Inv-loop μ-loop
+is-listed-requires c κs = search needs
 
 place-book-requires : tie.Need-place-book-requires Inv-loop μ-loop
 place-book-requires c κs =
-    let l = c .before .before .before .before .loop in
-    let t = c .before .before .before .loop-test .taken in (
-      c .before .before .before .before .before .before .before .before .before .pre,
-      (omega (arith, t), omega (arith, t, l .inv .1 .1, c .before .before .before .before .before .if2 .left)),
+    let l = c .before .before .before .before .before .loop in
+    let t = c .before .before .before .before .loop-test .taken in (
+      c .before .before .before .before .before .before .before .before .before .before .pre,
+      (omega (arith, t), omega (arith, t, l .inv .1 .1, c .before .before .before .before .before .before .if2 .left)),
     )
 
 -- a question's book is written in its place, or the question is passed over
 abbrev Placed : tie.Joined3 Inv-loop μ-loop → List ℤ → Type 0
 Placed c out =
     out
-    ≡ atPlace longestBook (longestBook * c .before .before .before .loop .q)
-    (afterBook (c .before .before .before .before .before .before .before .before .args .file .now) (c .before .before .before .loop .q))
-    (c .before .before .before .loop .out)
+    ≡ atPlace longestBook (longestBook * c .before .before .before .before .loop .q)
+    (afterBook (c .before .before .before .before .before .before .before .before .before .args .file .now) (c .before .before .before .before .loop .q))
+    (c .before .before .before .before .loop .out)
 
 passed : (c : tie.Joined3 Inv-loop μ-loop)
-    → eqb (c .before .before .before .loop .q) 16 || not (eqb (getD (c .before .before .before .before .before .before .before .before .args .t2 .counts) (16 + c .before .before .before .loop .q) 0) 0) ≡ false
-    → Placed c (c .before .before .before .loop .out)
+    → eqb (c .before .before .before .before .loop .q) 16 || not (eqb (getD (c .before .before .before .before .before .before .before .before .before .args .t2 .counts) (16 + c .before .before .before .before .loop .q) 0) 0) ≡ false
+    → Placed c (c .before .before .before .before .loop .out)
 passed c unlisted =
-    let s = c .before .before .before .before .before .before .before .before in
+    let s = c .before .before .before .before .before .before .before .before .before in
     let f = s .args .file .now in
-    let l = c .before .before .before .loop in
+    let l = c .before .before .before .before .loop in
     place-alone longestBook (longestBook * l .q) (afterBook f (l .q)) (left-alone-by f (s .args .t2) (s .pre) (l .q) (not-listed (s .args .t2 .counts) (l .q) unlisted) (book (records f) (l .q))) (l .out)
 
 placed : (c : tie.Joined3 Inv-loop μ-loop) → Placed c (c .if3 .out)
-placed c = ⊎-elim {C = Placed c (c .if3 .out)} (λ w. subst⁻¹ (Placed c) (w .4) (w .2 .ensures)) (λ w. subst⁻¹ (Placed c) (w .1) (passed c (w .0 .left))) (c .if3 .came)
+placed c = ⊎-elim {C = Placed c (c .if3 .out)} (λ w. subst⁻¹ (Placed c) (w .4) (w .2 .ensures)) (λ w. subst⁻¹ (Placed c) (w .1) (passed c (sym (c .before .is-listed .ensures) ∙ w .0 .left))) (c .if3 .came)
 
-as-long : (c : tie.Joined3 Inv-loop μ-loop) → length (c .if3 .out) ≡ length (c .before .before .before .loop .out)
+as-long : (c : tie.Joined3 Inv-loop μ-loop) → length (c .if3 .out) ≡ length (c .before .before .before .before .loop .out)
 as-long c = ⊎-elim (λ w. ap length (w .4) ∙ w .3 .given) (λ w. ap length (w .1)) (c .if3 .came)
 
 add-q : tie.Need-add-q Inv-loop μ-loop
@@ -101,10 +104,10 @@ loop-less c = search needs
 
 loop-again : tie.Need-loop-again Inv-loop μ-loop
 loop-again c =
-    let s = c .before .before .before .before .before .before .before .before in
-    let l = c .before .before .before .loop in (
+    let s = c .before .before .before .before .before .before .before .before .before in
+    let l = c .before .before .before .before .loop in (
       next-each longestBook (afterBook (s .args .file .now)) (l .q) (s .args .out .now) (l .out) (c .if3 .out) (l .inv .0) (placed c),
-      (omega (arith, c .before .before .loop-test .taken), as-long c ∙ l .inv .1 .1),
+      (omega (arith, c .before .before .before .loop-test .taken), as-long c ∙ l .inv .1 .1),
     )
 
 same-length : tie.Need-same-length Inv-loop μ-loop
@@ -130,9 +133,10 @@ answer-books-spec =
     record-count-requires
     returns-2
     loop-holds
-    add-if3
-    mul-if3
-    element-copy-out-if3
+    add-is-listed
+    mul-is-listed
+    element-copy-out-is-listed
+    is-listed-requires
     place-book-requires
     add-q
     loop-less

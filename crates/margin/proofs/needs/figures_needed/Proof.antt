@@ -3,6 +3,7 @@
 use Prim.Native.Nat.{ℕ, _≤_}
 use mathlib.Core.Path.{_∙_, subst⁻¹}
 use borrow.Author.Needs.{needs}
+use Rattle.margin.specs.Bounds.{longestFigures}
 use Rattle.margin.proofs.HeldLaws.{few, need-is, need-most}
 use Rattle.margin.proofs.needs.figures_needed.Statement.{statement}
 use Rattle.margin.proofs.needs.figures_needed.Tie as tie
@@ -18,7 +19,7 @@ returns c =
     let s = c .before .before .before in
     let y = c .before .take-survey in (
       c .figures-need .ensures ∙ need-is (s .args .file .now) (y .result) (y .ensures),
-      subst⁻¹ (λ (n : ℕ). n ≤ 129) (c .figures-need .ensures) (need-most (s .args .file .now) (y .result) (y .ensures)),
+      subst⁻¹ (λ (n : ℕ). n ≤ longestFigures) (c .figures-need .ensures) (need-most (s .args .file .now) (y .result) (y .ensures)),
     )
 
 pub figures-needed-spec : {M : Type 1} → statement M

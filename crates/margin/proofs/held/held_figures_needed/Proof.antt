@@ -1,4 +1,4 @@
--- How many numbers the figures of a held file need: a walk of `held_need`'s MIR, by hand. The survey is taken out of the view, and `figures_need` is called on it.
+-- How many numbers the figures of a held file need: a walk of `held_figures_needed`'s MIR, by hand. The survey is taken out of the view, and `figures_need` is called on it.
 -- The view is Copy: what it owns is had twice, one copy is kept whole for the exit, and of the other what the survey owns goes to the callee, which has no lifetime and asks for no token.
 -- Assumes nothing.
 use mathlib.Core.Path.{_≡_, refl, _∙_}
@@ -48,14 +48,14 @@ use Rattle.margin.specs.declared.held.Held.{Held}
 use Rattle.margin.proofs.HeldLaws.{few, need-is}
 use Rattle.margin.proofs.held.Held as T
 use Rattle.margin.proofs.held.Held.Laws as T′
-use Rattle.margin.proofs.held.figures_need as need
-use Rattle.margin.proofs.held.figures_need.Symbol as need-def
-use Rattle.margin.proofs.held.figures_need.Symbol.{name as #margin·held·figures-need}
-use Rattle.margin.proofs.held.figures_need.Met as need-thm
-use Rattle.margin.proofs.held.held_need.Key.{name as #margin·held·held-need}
-use Rattle.margin.proofs.held.held_need as held
-use Rattle.margin.proofs.held.held_need.Statement as stated
-use Rattle.margin.proofs.held.held_need.Code as code
+use Rattle.margin.proofs.needs.figures_need as need
+use Rattle.margin.proofs.needs.figures_need.Symbol as need-def
+use Rattle.margin.proofs.needs.figures_need.Symbol.{name as #margin·needs·figures-need}
+use Rattle.margin.proofs.needs.figures_need.Met as need-thm
+use Rattle.margin.proofs.held.held_figures_needed.Key.{name as #margin·held·held-figures-needed}
+use Rattle.margin.proofs.held.held_figures_needed as held
+use Rattle.margin.proofs.held.held_figures_needed.Statement as stated
+use Rattle.margin.proofs.held.held_figures_needed.Code as code
 
 -- the view's type and laws, over the signature's lifetimes
 abbrev B : Lfts 1 → RattleType
@@ -120,7 +120,7 @@ module _ {M : Type 1} (𝓤 : URA M) (H : Heap 𝓤) (A : Atoms 𝓤) (W : Given
       suffices ! _ (ends-at 𝓤 H A held.ended stayed (held.clauses 𝓤 H A mem run) W ((κs, (q, tt), tt, (d, tt), (mach ∷ [], tt)), tt) w n (tt, tt) (tt, tt)) $ says ! e $
       move ! (2 ∷ []) $ frame ! $ nothing ! $ move ! (2 ∷ 0 ∷ []) $ fjoin ! $ frame ! $ done !
 
-  module _ (C : Calls 𝓤 H) (Λ : Loops 𝓤 H) (fm : FmC 𝓤 H (W .laws) C) (known : Triple 𝓤 (C #margin·held·figures-need) (FiguresNeed 𝓤 H A mem run)) where
+  module _ (C : Calls 𝓤 H) (Λ : Loops 𝓤 H) (fm : FmC 𝓤 H (W .laws) C) (known : Triple 𝓤 (C #margin·needs·figures-need) (FiguresNeed 𝓤 H A mem run)) where
     walk : Holds (hasTy (T′.mir (named 0)) mach) × WT mach → Is S.the-row (d .survey) (u ∷ []) → FromCheck d → ent 𝓤 (onEntry 𝓤 H A held.signature κs (q, tt) (d, tt) (mach ∷ [], tt)) (WpFn 𝓤 H C Λ code.function (mach ∷ []) Post)
     walk wt is-survey checked =
         qed W (raw (onEntry 𝓤 H A held.signature κs (q, tt) (d, tt) (mach ∷ [], tt)) ∷ []) ∵ enter ! C Λ code.function (mach ∷ []) _ $
@@ -138,23 +138,23 @@ module _ {M : Type 1} (𝓤 : URA M) (H : Heap 𝓤) (A : Atoms 𝓤) (W : Given
         move ! (7 ∷ 8 ∷ []) $ free1 ! $ move ! (5 ∷ 6 ∷ []) $ free1 ! $ move ! (3 ∷ 4 ∷ []) $ free1 ! $ free0 ! $ by ! (exits n w (e ∙ need-is (now (d .file)) (d .survey) checked)))))))))
 
 module _ {M : Type 1} (𝓤 : URA M) (H : Heap 𝓤) (A : Atoms 𝓤) (W : Given 𝓤 H A) (mem : Memory → SProp 𝓤) (run : Routine → Fun 𝓤) where
-  held-walks : (C : Calls 𝓤 H) (Λ : Loops 𝓤 H) → FmC 𝓤 H (W .laws) C → Triple 𝓤 (C #margin·held·figures-need) (FiguresNeed 𝓤 H A mem run)
+  held-walks : (C : Calls 𝓤 H) (Λ : Loops 𝓤 H) → FmC 𝓤 H (W .laws) C → Triple 𝓤 (C #margin·needs·figures-need) (FiguresNeed 𝓤 H A mem run)
       → Walks 𝓤 H A held.ended stayed (WpFn 𝓤 H C Λ code.function) (held.clauses 𝓤 H A mem run)
   held-walks C Λ fm known = walked 𝓤 H A held.ended stayed (held.clauses 𝓤 H A mem run) (WpFn 𝓤 H C Λ code.function) (λ κs. (LL.vals (D κs) (L κs), tt)) (λ κs. (LL.tells (D κs) (L κs), tt))
       (λ κs qs bounds a g are. needs 𝓤 (FromCheck (a .0)) _ (λ checked.
       walk 𝓤 H A W mem run (κs .0) (qs .0) (a .0) C Λ fm known (LL.lawful (D κs) (L κs) 𝓤 H A W .typed (a .0) _ (are .0) .0) (LL.owed (D κs) (L κs) (a .0) _ (are .0) .1 .0) checked))
 
 held-meets : {M : Type 1} (𝓤 : URA M) (H : Heap 𝓤) (A : Atoms 𝓤) (W : Given 𝓤 H A) (mem : Memory → SProp 𝓤) (run : Routine → Fun 𝓤) (𝓣 : Tables 𝓤 H)
-    → Triple 𝓤 (𝓣 .C #margin·held·figures-need) (FiguresNeed 𝓤 H A mem run)
+    → Triple 𝓤 (𝓣 .C #margin·needs·figures-need) (FiguresNeed 𝓤 H A mem run)
     → Meets 𝓤 H A held.signature (WpFn 𝓤 H (𝓣 .C) (𝓣 .Λ) code.function) (held.spec 𝓤 H A mem run)
 held-meets 𝓤 H A W mem run 𝓣 known =
     walk-meets 𝓤 H A held.ended stayed W (goes-none 𝓤 H A W 1 B yes (λ κs x f. refl), tt) (held.clauses 𝓤 H A mem run)
     (WpFn 𝓤 H (𝓣 .C) (𝓣 .Λ) code.function) (WpFn-mono 𝓤 H (W .laws) 𝓣 code.function) (held-walks 𝓤 H A W mem run (𝓣 .C) (𝓣 .Λ) (fmOf 𝓤 H (W .laws) 𝓣) known)
 
-pub held-need-spec : {M : Type 1} → stated.statement M
+pub held-figures-needed-spec : {M : Type 1} → stated.statement M
 unfolding code.routine tablesOf
-held-need-spec 𝓤 H 𝓜 𝓖 𝓡 =
+held-figures-needed-spec 𝓤 H 𝓜 𝓖 𝓡 =
     entered 𝓤 H (tripleOf 𝓤 H (𝓖 .A) held.signature (held.spec 𝓤 H (𝓖 .A) (𝓜 .mem) (𝓡 .run)))
-    (tables 𝓤 H 𝓜 𝓡 code.env .C) (tables 𝓤 H 𝓜 𝓡 code.env .Λ) #margin·held·held-need code.function (code.unfolded 𝓤 H 𝓜 𝓡)
+    (tables 𝓤 H 𝓜 𝓡 code.env .C) (tables 𝓤 H 𝓜 𝓡 code.env .Λ) #margin·held·held-figures-needed code.function (code.unfolded 𝓤 H 𝓜 𝓡)
     (held-meets 𝓤 H (𝓖 .A) (givenOf 𝓤 H 𝓜 𝓖) (𝓜 .mem) (𝓡 .run) (tablesOf 𝓤 H 𝓜 (tables 𝓤 H 𝓜 𝓡 code.env))
-    (cited 𝓤 H (FiguresNeed 𝓤 H (𝓖 .A) (𝓜 .mem) (𝓡 .run)) 𝓜 𝓡 code.env #margin·held·figures-need need-def.routine code.calls-margin·held·figures-need (need-thm.met 𝓤 H 𝓜 𝓖 𝓡)))
+    (cited 𝓤 H (FiguresNeed 𝓤 H (𝓖 .A) (𝓜 .mem) (𝓡 .run)) 𝓜 𝓡 code.env #margin·needs·figures-need need-def.routine code.calls-margin·needs·figures-need (need-thm.met 𝓤 H 𝓜 𝓖 𝓡)))

@@ -14,8 +14,8 @@ use Rattle.margin.specs.Questions.{asked, ifAccepted}
 use Rattle.margin.specs.Stands.{Stands}
 use Rattle.margin.proofs.AskedLaws.{asked-is}
 use Rattle.margin.proofs.QuestionLaws.{stands-from, if-refused, if-accepted}
-use Rattle.margin.proofs.held.may_ask.Statement.{statement}
-use Rattle.margin.proofs.held.may_ask.Tie as tie
+use Rattle.margin.proofs.accepted.may_ask.Statement.{statement}
+use Rattle.margin.proofs.accepted.may_ask.Tie as tie
 
 number-of-requires : tie.Need-number-of-requires
 number-of-requires c κs = search needs

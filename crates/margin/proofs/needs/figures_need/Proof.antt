@@ -5,8 +5,8 @@ use borrow.Author.Needs.{needs}
 use borrow.Author.Tests.{ne-eqb}
 use native.Mathlib.Omega.{arith}
 use Rattle.account.specs.Answers.{numberOf}
-use Rattle.margin.proofs.held.figures_need.Statement.{statement}
-use Rattle.margin.proofs.held.figures_need.Tie as tie
+use Rattle.margin.proofs.needs.figures_need.Statement.{statement}
+use Rattle.margin.proofs.needs.figures_need.Tie as tie
 
 number-of-requires : tie.Need-number-of-requires
 number-of-requires c κs = search needs

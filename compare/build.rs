@@ -1,7 +1,9 @@
-//! Links the proved library, which tools/native-library writes, to the program that calls it.
+//! Links the proved library, which tools/native-library writes, to the programs that call it.
 
 fn main() {
     let library = concat!(env!("CARGO_MANIFEST_DIR"), "/../target/staticlib/libfelgotany.a");
-    println!("cargo:rustc-link-arg-bin=code={library}");
+    for program in ["code", "pairs"] {
+        println!("cargo:rustc-link-arg-bin={program}={library}");
+    }
     println!("cargo:rerun-if-changed={library}");
 }

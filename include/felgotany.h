@@ -6,7 +6,8 @@
  *
  * What the caller owes of the memory: `file` points to `bytes` bytes that nothing writes during the call; `out` points to
  * `numbers` numbers of 64 bits, aligned as int64_t, that nothing else reads or writes during the call, and does not
- * overlap the file. With a length of 0 the pointer is not followed and may be null.
+ * overlap the file. With a length of 0 the pointer is not followed and may be null. The same holds of `morning` and `noon`,
+ * each with its length, where a question is put to two files.
  *
  * The library keeps nothing between calls, allocates nothing and calls nothing of the host's but memcpy and memset. Threads
  * may call it at the same time with memory of their own. A call takes less than 64 kB of stack.
@@ -53,7 +54,13 @@ extern "C" {
  *   11  a question that is neither a listed contract nor 16                 how many records the file has
  *
  * The length is tested first, then the records from 0 up, each for 3 to 9 in that order; the first fault answers. Then
- * come 11 and 10. */
+ * come 11 and 10.
+ *
+ * A morning's file and a noon file can be refused for three things more; felgotany_pair_outcome has the order.
+ *
+ *   12  the noon file has a record of kind 5                                its first such record
+ *   13  more than 640 records joined                                        how many records the joined account has
+ *   21  an amount outside 0 to 1,000,000,000,000,000                        how many records the joined account has */
 typedef struct {
     size_t refusal;
     size_t record;
@@ -111,6 +118,59 @@ typedef struct {
  * question that the file does not answer is left alone. */
 felgotany_outcomes felgotany_all(const uint8_t *file, size_t bytes, int64_t *figures, size_t numbers, int64_t *books,
                                  size_t book_numbers, int64_t *uses, size_t use_numbers);
+
+/* A noon file joined to the morning's. A contract's records of kinds 1 to 4 come from the noon file if that file lists the
+ * contract, else from the morning's; kind 5 always from the morning. These records, in the order of an account file, are the
+ * joined account. With an empty noon file it is the morning's account.
+ *
+ * What is refused, the record that the refusal names, and the file that it is about: 0 the joined account, 1 the morning's
+ * file, 2 the noon's. The order: the morning's file for 1 to 9, the noon's for 1 to 9, 12 of the noon's; then of the joined
+ * account 13, 21, 11 and 10, each naming how many records are joined. Where nothing is refused, all three are 0. */
+typedef struct {
+    size_t file;
+    size_t refusal;
+    size_t record;
+} felgotany_pair_outcome;
+
+/* The figures of the joined account, as felgotany_figures gives them for one file: eight numbers for each contract that one
+ * of the two files lists, and the total; at most FELGOTANY_MOST_FIGURES. Lent numbers are written and left alone as there. */
+felgotany_pair_outcome felgotany_joined_figures(const uint8_t *morning, size_t morning_bytes, const uint8_t *noon,
+                                                size_t noon_bytes, int64_t *out, size_t numbers);
+
+/* The delta book of a question put to the joined account, as felgotany_book gives it for one file: at most
+ * FELGOTANY_MOST_BOOK numbers. */
+felgotany_pair_outcome felgotany_joined_book(const uint8_t *morning, size_t morning_bytes, const uint8_t *noon,
+                                             size_t noon_bytes, size_t question, int64_t *out, size_t numbers);
+
+/* Who paid for what in that delta book, as felgotany_uses gives it for one file: at most FELGOTANY_MOST_USES numbers. */
+felgotany_pair_outcome felgotany_joined_uses(const uint8_t *morning, size_t morning_bytes, const uint8_t *noon,
+                                             size_t noon_bytes, size_t question, int64_t *out, size_t numbers);
+
+/* Where the prompt records of a contract stand: the file that supplies them, 1 the morning's or 2 the noon's; the first of
+ * them, counted from 0 in that file; and how many there are. They are 96 * records bytes, from byte 96 * first of the file. */
+typedef struct {
+    size_t file;
+    size_t first;
+    size_t records;
+} felgotany_prompt_place;
+
+/* The prompt records of a contract, as they stand in whichever file supplies them. Of a contract that is listed without
+ * prompts, the file with first 0 and records 0. All three are 0 where neither file lists the contract, and where the two files
+ * are refused by 1 to 9, 12 or 13. */
+felgotany_prompt_place felgotany_joined_prompts(const uint8_t *morning, size_t morning_bytes, const uint8_t *noon,
+                                                size_t noon_bytes, size_t contract);
+
+/* The outcome of a call, and the call in hundredths of the currency: 0 where it is refused, and where there is none. */
+typedef struct {
+    felgotany_pair_outcome outcome;
+    uint64_t call;
+} felgotany_call_outcome;
+
+/* The call on the joined account, whose total margin is the requirement. None unless the requirement exceeds the last cover
+ * call plus the threshold and also the revalued collateral; otherwise requirement minus collateral. The three amounts are in
+ * hundredths of the currency, 0 to 1,000,000,000,000,000. */
+felgotany_call_outcome felgotany_call(const uint8_t *morning, size_t morning_bytes, const uint8_t *noon, size_t noon_bytes,
+                                      int64_t last, int64_t threshold, int64_t collateral);
 
 #ifdef __cplusplus
 }

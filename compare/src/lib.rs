@@ -1,5 +1,7 @@
 //! The proved library, as include/felgotany.h declares it, with slices for pointers and lengths.
 
+pub mod asking;
+
 /// A refusal's number, 0 where nothing is refused, and the record that it names.
 #[repr(C)]
 #[derive(Clone, Copy, Debug, PartialEq, Eq)]
@@ -15,6 +17,39 @@ pub struct Outcomes {
     pub figures: Outcome,
     pub books: Outcome,
     pub uses: Outcome,
+}
+
+/// The outcome for a morning and a noon file, and the file that it is about: 0 joined, 1 the morning's, 2 noon's.
+#[repr(C)]
+#[derive(Clone, Copy, Debug, PartialEq, Eq)]
+pub struct PairOutcome {
+    pub file: usize,
+    pub refusal: usize,
+    pub record: usize,
+}
+
+/// The call on a morning and a noon file, 0 where they are refused.
+#[repr(C)]
+#[derive(Clone, Copy, Debug, PartialEq, Eq)]
+pub struct CallOutcome {
+    pub outcome: PairOutcome,
+    pub call: u64,
+}
+
+/// Where the prompts of a contract stand in the morning or in the noon file; file 0 where in neither.
+#[repr(C)]
+#[derive(Clone, Copy, Debug, PartialEq, Eq)]
+pub struct PromptPlace {
+    pub file: usize,
+    pub first: usize,
+    pub records: usize,
+}
+
+/// A morning and a noon file.
+#[derive(Clone, Copy)]
+pub struct Pair<'a> {
+    pub morning: &'a [u8],
+    pub noon: &'a [u8],
 }
 
 extern "C" {
@@ -35,6 +70,48 @@ extern "C" {
         uses: *mut i64,
         use_numbers: usize,
     ) -> Outcomes;
+    fn felgotany_joined_figures(
+        morning: *const u8,
+        morning_bytes: usize,
+        noon: *const u8,
+        noon_bytes: usize,
+        out: *mut i64,
+        numbers: usize,
+    ) -> PairOutcome;
+    fn felgotany_joined_book(
+        morning: *const u8,
+        morning_bytes: usize,
+        noon: *const u8,
+        noon_bytes: usize,
+        question: usize,
+        out: *mut i64,
+        numbers: usize,
+    ) -> PairOutcome;
+    fn felgotany_joined_uses(
+        morning: *const u8,
+        morning_bytes: usize,
+        noon: *const u8,
+        noon_bytes: usize,
+        question: usize,
+        out: *mut i64,
+        numbers: usize,
+    ) -> PairOutcome;
+    fn felgotany_joined_prompts(
+        morning: *const u8,
+        morning_bytes: usize,
+        noon: *const u8,
+        noon_bytes: usize,
+        contract: usize,
+    ) -> PromptPlace;
+    fn felgotany_call(
+        morning: *const u8,
+        morning_bytes: usize,
+        noon: *const u8,
+        noon_bytes: usize,
+        last: i64,
+        threshold: i64,
+        collateral: i64,
+    ) -> CallOutcome;
 }
 
 pub fn check(file: &[u8]) -> Outcome {
@@ -77,5 +154,54 @@ pub fn all(file: &[u8], figures: &mut [i64], books: &mut [i64], uses: &mut [i64]
             uses.as_mut_ptr(),
             uses.len(),
         )
+    }
+}
+
+impl Pair<'_> {
+    pub fn figures(self, lent: &mut [i64]) -> PairOutcome {
+        let Pair { morning, noon } = self;
+        unsafe {
+            felgotany_joined_figures(morning.as_ptr(), morning.len(), noon.as_ptr(), noon.len(), lent.as_mut_ptr(), lent.len())
+        }
+    }
+
+    pub fn book(self, question: usize, lent: &mut [i64]) -> PairOutcome {
+        let Pair { morning, noon } = self;
+        unsafe {
+            felgotany_joined_book(
+                morning.as_ptr(),
+                morning.len(),
+                noon.as_ptr(),
+                noon.len(),
+                question,
+                lent.as_mut_ptr(),
+                lent.len(),
+            )
+        }
+    }
+
+    pub fn uses(self, question: usize, lent: &mut [i64]) -> PairOutcome {
+        let Pair { morning, noon } = self;
+        unsafe {
+            felgotany_joined_uses(
+                morning.as_ptr(),
+                morning.len(),
+                noon.as_ptr(),
+                noon.len(),
+                question,
+                lent.as_mut_ptr(),
+                lent.len(),
+            )
+        }
+    }
+
+    pub fn prompts(self, contract: usize) -> PromptPlace {
+        let Pair { morning, noon } = self;
+        unsafe { felgotany_joined_prompts(morning.as_ptr(), morning.len(), noon.as_ptr(), noon.len(), contract) }
+    }
+
+    pub fn call(self, last: i64, threshold: i64, collateral: i64) -> CallOutcome {
+        let Pair { morning, noon } = self;
+        unsafe { felgotany_call(morning.as_ptr(), morning.len(), noon.as_ptr(), noon.len(), last, threshold, collateral) }
     }
 }

@@ -1,7 +1,9 @@
 //! Generated account files: from a seed and an index always the same bytes. About half are accepted
 //! accounts of every size; the others are such accounts damaged in one place or several, and noise.
+//! Pairs of a morning and a noon file are made of them.
 
 mod damage;
+mod pair;
 mod random;
 mod sound;
 mod values;
@@ -10,25 +12,39 @@ mod write;
 pub use random::Random;
 
 use crate::format::{MOST_BYTES, RECORD_BYTES};
+use crate::joined::{Cover, MOST_AMOUNT};
+use crate::units::Amount;
 use write::Bytes;
 
 /// The file with this seed and index.
 pub fn account(seed: u64, index: u64) -> Vec<u8> {
-    let mut random = Random::new(seed, index);
+    any(&mut Random::new(seed, index))
+}
+
+/// The morning and the noon file with this seed and index.
+pub fn pair(seed: u64, index: u64) -> (Vec<u8>, Vec<u8>) {
+    pair::files(&mut Random::new(seed, index))
+}
+
+fn any(random: &mut Random) -> Vec<u8> {
     match random.below(100) {
-        0..=44 => sound::account(&mut random).concat(),
+        0..=44 => sound::account(random).concat(),
         45..=94 => {
-            let mut records = sound::account(&mut random);
-            damage::records(&mut random, &mut records);
-            let mut file = records.concat();
-            if random.one_in(8) {
-                damage::length(&mut random, &mut file);
-            }
-            file
+            let records = sound::account(random);
+            damaged(random, records)
         }
-        95..=97 => loose_records(&mut random).concat(),
-        _ => noise(&mut random),
+        95..=97 => loose_records(random).concat(),
+        _ => noise(random),
     }
+}
+
+fn damaged(random: &mut Random, mut records: Vec<Bytes>) -> Vec<u8> {
+    damage::records(random, &mut records);
+    let mut file = records.concat();
+    if random.one_in(8) {
+        damage::length(random, &mut file);
+    }
+    file
 }
 
 /// A question to put to a file: mostly 0 to 16, now and then one that can never be listed.
@@ -50,6 +66,26 @@ pub fn lent(random: &mut Random, needed: usize) -> usize {
         4 => needed + random.below(64) as usize,
         _ => needed,
     }
+}
+
+/// Amounts for the call on an account with this requirement: where the two comparisons turn, at the
+/// ends of their range and now and then outside it.
+pub fn cover(random: &mut Random, requirement: Amount) -> Cover {
+    let most = MOST_AMOUNT.0;
+    let mut near = |most: i64| match random.below(8) {
+        0 => random.pick(&[0, 1, most - 1, most]),
+        1 => random.between(0, most),
+        2 => random.between(0, requirement.0.min(most)),
+        _ => (requirement.0 + random.between(-1, 1)).clamp(0, most),
+    };
+    let (reached, collateral) = (near(2 * most), near(most));
+    let last_call = random.between((reached - most).max(0), reached.min(most));
+    let mut amounts = [last_call, reached - last_call, collateral];
+    if random.one_in(6) {
+        amounts[random.place(3)] = random.pick(&[-1, most + 1, i64::MIN, i64::MAX]);
+    }
+    let [last_call, threshold, collateral] = amounts.map(Amount);
+    Cover { last_call, threshold, collateral }
 }
 
 /// Records whose kinds rise and whose bytes are mostly small, without regard for anything else.

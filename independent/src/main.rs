@@ -1,13 +1,17 @@
 //! The independent margin program: reads an account file on standard input and prints its figures,
-//! or is asked for the check, a delta book, all there is to say, a generated file or a survey of
-//! generated files.
+//! or is asked for the check, a delta book, all there is to say, the figures of a morning and a noon
+//! file or the call on them, generated files or a survey of them.
 
 mod survey;
+mod survey_pairs;
 
 use independent::account::{Account, Contract};
 use independent::book::{Book, INTERCONTRACT};
+use independent::joined::{self, Cover};
 use independent::steps::{Leg, Side};
+use independent::units::Amount;
 use independent::{check, figures, generate, held_book, margin, Refusal};
+use std::fs;
 use std::io::{self, Read, Write};
 use std::process::ExitCode;
 
@@ -17,7 +21,14 @@ const USAGE: &str =
        independent book QUESTION       a delta book, 0 to 15, or 16 for the intercontract table
        independent lines [QUESTION]    figures and delta books, or one, one record a line
        independent survey SEED COUNT   what occurs in so many generated files
-       independent write SEED INDEX    the bytes of one generated file";
+       independent write SEED INDEX    the bytes of one generated file
+       independent pair MORNING NOON   the figures of two files joined
+       independent call MORNING NOON LAST THRESHOLD COLLATERAL
+                                       the call on two files joined
+       independent survey-pairs SEED COUNT
+                                       what occurs in so many generated pairs
+       independent write-pair SEED INDEX MORNING NOON
+                                       writes the two files of one generated pair";
 
 /// Sixteen contracts with eight numbers each, and the total.
 const MOST_FIGURES: usize = 16 * 8 + 1;
@@ -50,6 +61,33 @@ fn main() -> ExitCode {
             (Ok(seed), Ok(index)) => io::stdout().write_all(&generate::account(seed, index)),
             _ => return usage(),
         },
+        ["pair", morning, noon] => read_pair(morning, noon)
+            .and_then(|(morning, noon)| print(&joined_lines(&morning, &noon))),
+        ["call", morning, noon, last, threshold, collateral] => {
+            let amounts = (last.parse(), threshold.parse(), collateral.parse());
+            let (Ok(last), Ok(threshold), Ok(collateral)) = amounts else { return usage() };
+            let cover = Cover {
+                last_call: Amount(last),
+                threshold: Amount(threshold),
+                collateral: Amount(collateral),
+            };
+            read_pair(morning, noon)
+                .and_then(|(morning, noon)| print(&call_line(&morning, &noon, cover)))
+        }
+        ["survey-pairs", seed, count] => match (seed.parse(), count.parse()) {
+            (Ok(seed), Ok(count)) => {
+                let survey = survey_pairs::PairSurvey::of(seed, count);
+                print(&survey.to_string()).and_then(|()| survey.nothing_missing())
+            }
+            _ => return usage(),
+        },
+        ["write-pair", seed, index, morning, noon] => match (seed.parse(), index.parse()) {
+            (Ok(seed), Ok(index)) => {
+                let files = generate::pair(seed, index);
+                fs::write(morning, files.0).and_then(|()| fs::write(noon, files.1))
+            }
+            _ => return usage(),
+        },
         _ => return usage(),
     };
     match done {
@@ -72,6 +110,10 @@ fn standard_input() -> io::Result<Vec<u8>> {
     Ok(file)
 }
 
+fn read_pair(morning: &str, noon: &str) -> io::Result<(Vec<u8>, Vec<u8>)> {
+    Ok((fs::read(morning)?, fs::read(noon)?))
+}
+
 fn print(lines: &str) -> io::Result<()> {
     io::stdout().write_all(lines.as_bytes())
 }
@@ -87,6 +129,22 @@ fn figure_lines(file: &[u8]) -> String {
             lines += &line("T", &[*total]);
             lines
         }
+        Err(refusal) => format!("{refusal}\n"),
+    }
+}
+
+/// What is printed for the joined account, or only `R`, file, refusal and record.
+fn joined_lines(morning: &[u8], noon: &[u8]) -> String {
+    match joined::join(morning, noon) {
+        Ok(file) => figure_lines(&file),
+        Err(refusal) => format!("{refusal}\n"),
+    }
+}
+
+/// `L` and the call, or only `R`, file, refusal and record.
+fn call_line(morning: &[u8], noon: &[u8], cover: Cover) -> String {
+    match joined::call(morning, noon, cover) {
+        Ok(call) => line("L", &[call.0]),
         Err(refusal) => format!("{refusal}\n"),
     }
 }

@@ -1,4 +1,4 @@
-//! The refusals of document 01 and their numbers.
+//! The refusals of document 01 and their numbers, and those of document 02 for two files.
 
 use std::fmt;
 
@@ -24,6 +24,17 @@ pub const OVER_LIMIT: u8 = 9;
 pub const TOO_FEW_LENT: u8 = 10;
 /// Question neither a listed contract nor 16.
 pub const UNLISTED_QUESTION: u8 = 11;
+/// The noon file has kind 5.
+pub const NOON_ENTRY: u8 = 12;
+/// More than 640 records joined.
+pub const TOO_MANY_JOINED: u8 = 13;
+/// An amount outside its range.
+pub const AMOUNT_OUT_OF_RANGE: u8 = 21;
+
+/// What the refusal of a pair names by its file: the joined account, the morning file, the noon file.
+pub const JOINED: u8 = 0;
+pub const MORNING: u8 = 1;
+pub const NOON: u8 = 2;
 
 /// A refusal: its number and the record it names.
 #[derive(Clone, Copy, Debug, PartialEq, Eq)]
@@ -32,9 +43,43 @@ pub struct Refusal {
     pub record: usize,
 }
 
+impl Refusal {
+    /// The same refusal, "saying which" file it is about.
+    pub fn of(self, file: u8) -> PairRefusal {
+        PairRefusal { file, number: self.number, record: self.record }
+    }
+}
+
 impl fmt::Display for Refusal {
     /// "Only `R`, refusal and record."
     fn fmt(&self, out: &mut fmt::Formatter<'_>) -> fmt::Result {
         write!(out, "R {} {}", self.number, self.record)
     }
+}
+
+/// A refusal of a morning and a noon file: the file, the refusal's number and the record it names.
+#[derive(Clone, Copy, Debug, PartialEq, Eq)]
+pub struct PairRefusal {
+    pub file: u8,
+    pub number: u8,
+    pub record: usize,
+}
+
+impl fmt::Display for PairRefusal {
+    /// Only `R`, file, refusal and record.
+    fn fmt(&self, out: &mut fmt::Formatter<'_>) -> fmt::Result {
+        write!(out, "R {} {} {}", self.file, self.number, self.record)
+    }
+}
+
+/// The file and the number of every refusal of a pair: "each file by 01's 1 to 9, morning first,
+/// saying which; then 12 [..]; then [..] 13 [..]; 21 [..]; 11 and 10 as in 01".
+pub fn every_pair_refusal() -> Vec<(u8, u8)> {
+    let of_file = |file| (TOO_LONG..=OVER_LIMIT).map(move |number| (file, number));
+    let of_joined = [TOO_MANY_JOINED, AMOUNT_OUT_OF_RANGE, UNLISTED_QUESTION, TOO_FEW_LENT];
+    of_file(MORNING)
+        .chain(of_file(NOON))
+        .chain([(NOON, NOON_ENTRY)])
+        .chain(of_joined.map(|number| (JOINED, number)))
+        .collect()
 }

@@ -14,8 +14,8 @@ use std::collections::BTreeMap;
 use std::fmt;
 use std::io;
 
-/// From this many files on, every refusal must have occurred.
-const TELLING: u64 = 2_000;
+/// From this many files or pairs on, every refusal must have occurred.
+pub const TELLING: u64 = 2_000;
 
 /// The size classes of the histogram: the most records of each.
 const SIZES: [usize; 9] = [0, 5, 10, 20, 40, 80, 160, 320, MOST_RECORDS];

@@ -3,12 +3,12 @@
 //! questions that no account lists, and all questions at once, with enough numbers lent and with random numbers of them.
 //! Refusal, record and every lent number afterwards must agree, and nothing beyond the lent numbers may change.
 
+use compare::asking::{self, same, Run};
 use compare::Outcome;
 use independent::book::Book;
 use independent::generate::{self, Random};
 use independent::refusal::TOO_FEW_LENT;
 use independent::{held_book, Account, Refusal};
-use std::panic::{catch_unwind, AssertUnwindSafe};
 use std::process::ExitCode;
 
 const REFUSALS: usize = 11;
@@ -17,38 +17,22 @@ const MOST_NUMBERS: usize = 160;
 const MOST_USES: usize = 2048;
 /// The books of the sixteen contracts and of the intercontract table.
 const BOOKS: usize = 17;
-const NOT_LENT: usize = 8;
 /// The sixteen contracts, the intercontract table, and one more that no account lists.
 const QUESTIONS: std::ops::RangeInclusive<u64> = 0..=17;
 /// How many further questions are put to an account with random numbers lent.
 const RANDOM_QUESTIONS: usize = 3;
-const DIFFERENCES_SHOWN: usize = 10;
 /// From so many accounts on, each refusal is expected to occur.
 const ALL_OCCUR: u64 = 2_000;
 
 fn main() -> ExitCode {
-    let words: Vec<u64> = std::env::args().skip(1).filter_map(|word| word.parse().ok()).collect();
-    let (seed, count, first) = match words[..] {
-        [seed, count] => (seed, count, 0),
-        [seed, count, first] => (seed, count, first),
-        _ => {
-            eprintln!("usage: code SEED COUNT [FIRST]");
-            return ExitCode::from(2);
-        }
+    let Some(run) = Run::of_arguments() else {
+        eprintln!("usage: code SEED COUNT [FIRST]");
+        return ExitCode::from(2);
     };
     let mut tally = Tally::default();
-    for index in first..first + count {
-        let held = catch_unwind(AssertUnwindSafe(|| compare_account(seed, index, &mut tally)));
-        if let Err(fault) = held.unwrap_or_else(|_| Err("one of the two did not end its answer".to_string())) {
-            println!("seed {seed} index {index}: {fault}");
-            tally.differences += 1;
-            if tally.differences == DIFFERENCES_SHOWN {
-                break;
-            }
-        }
-    }
-    tally.print(seed, count, first);
-    if tally.differences == 0 && (count < ALL_OCCUR || tally.nothing_missing()) {
+    let differences = run.differences(|index| compare_account(run.seed, index, &mut tally));
+    tally.print(run, differences);
+    if differences == 0 && (run.count < ALL_OCCUR || tally.nothing_missing()) {
         ExitCode::SUCCESS
     } else {
         ExitCode::FAILURE
@@ -60,15 +44,14 @@ struct Tally {
     files: [u64; REFUSALS + 1],
     answers: [u64; REFUSALS + 1],
     numbers: u64,
-    differences: usize,
 }
 
 impl Tally {
-    fn print(&self, seed: u64, count: u64, first: u64) {
+    fn print(&self, Run { seed, count, first }: Run, differences: usize) {
         println!("seed {seed}, {count} accounts from index {first}");
         println!("accounts: {}", line(&self.files));
         println!("answers: {}", line(&self.answers));
-        println!("{} lent numbers compared, {} differences", self.numbers, self.differences);
+        println!("{} lent numbers compared, {differences} differences", self.numbers);
     }
 
     fn nothing_missing(&self) -> bool {
@@ -200,7 +183,7 @@ fn needed(ask: impl Fn(&mut [i64]) -> Result<usize, Refusal>) -> usize {
     ask(&mut [0; MOST_USES]).unwrap_or(0)
 }
 
-/// Puts a question to both with so many numbers lent, out of memory filled alike.
+/// Puts a question to both with so many numbers lent.
 fn ask(
     question: &str,
     lent: usize,
@@ -221,29 +204,8 @@ fn ask_each<const ANSWERS: usize>(
     random: &mut Random,
     tally: &mut Tally,
 ) -> Result<(), String> {
-    let before = lent.map(|lent| (0..lent + NOT_LENT).map(|_| random.word() as i64).collect::<Vec<i64>>());
-    let (mut by_proved, mut by_second) = (before.clone(), before);
-    let given = proved(fronts(&mut by_proved));
-    let wanted = second(fronts(&mut by_second));
-    same(&format!("{question}, {lent:?} numbers lent"), given, wanted)?;
-    same(&format!("{question}, {lent:?} numbers lent: memory afterwards"), by_proved, by_second)?;
-    wanted.iter().for_each(|wanted| tally.answers[wanted.refusal] += 1);
+    let outcomes = asking::ask_each(question, lent, proved, second, random)?;
+    outcomes.iter().for_each(|outcome| tally.answers[outcome.refusal] += 1);
     tally.numbers += lent.iter().sum::<usize>() as u64;
     Ok(())
-}
-
-/// The numbers that are lent of each.
-fn fronts<const ANSWERS: usize>(memory: &mut [Vec<i64>; ANSWERS]) -> [&mut [i64]; ANSWERS] {
-    memory.each_mut().map(|numbers| {
-        let lent = numbers.len() - NOT_LENT;
-        &mut numbers[..lent]
-    })
-}
-
-fn same<T: PartialEq + std::fmt::Debug>(what: &str, proved: T, independent: T) -> Result<(), String> {
-    if proved == independent {
-        Ok(())
-    } else {
-        Err(format!("{what}: proved {proved:?}, independent {independent:?}"))
-    }
 }

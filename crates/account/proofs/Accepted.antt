@@ -63,7 +63,7 @@ module _ (file : List ℕ) (ok : checked file ≡ Accepted) where
       (omega (arith, length-cut n file)) (omega arith)
       ∙ sym (s .kept)
 
-  part-stands :
+  pub part-stands :
       (n c : ℕ) → n ≤ 4 → c ≤ 15 → records (partBytes file (part n c)) ≡ keep (ofContract n c) (records file)
   part-stands n c hn hc =
       stands (part n c) (omega arith) ∙ ap (λ (p : Record → Bool). keep p (records file)) (part-is n c hn hc)

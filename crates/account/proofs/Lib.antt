@@ -18,3 +18,9 @@ pub mod Accepted
 pub mod ByKind
 pub mod Claimed
 pub mod Orders
+pub mod Supplied
+pub mod Lawful
+pub mod JoinedLaws
+pub mod Places
+pub mod Alone
+pub mod NoonLaws

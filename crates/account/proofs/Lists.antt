@@ -2,7 +2,7 @@
 -- Assumes nothing.
 use Prim.Native.Nat.{ℕ, zero, suc, _+_, _-_, _≤_, _<_}
 use mathlib.Core.Path.{_≡_, refl, sym, ap, _∙_}
-use mathlib.Core.Bool.{Bool, true, false, not, _&&_}
+use mathlib.Core.Bool.{Bool, true, false, not, _&&_, _||_}
 use mathlib.Core.List.{List, [], _∷_, _++_, append-nil}
 use lib.ListN.{length, take, drop, length-append, length-drop}
 use lib.Seq.{take-all, take-append-le, drop-append-le, drop-append-seam}
@@ -12,6 +12,8 @@ use native.Mathlib.Numerals.{add-one}
 use borrow.Author.Tests.{eq-eqb, ne-eqb}
 use Rattle.exact.specs.Lists.{consIf, keep, any, oneIf, count}
 use Rattle.record.specs.Layout.{Record}
+use Rattle.record.proofs.Within.{never}
+use Rattle.account.specs.Accepted.{Each}
 use Rattle.account.specs.Parts.{placeOf, startOf}
 
 module _ (p : Record → Bool) where
@@ -48,6 +50,14 @@ module _ (p : Record → Bool) where
           → any q (keep p (x ∷ xs)) ≡ any (λ y. p y && q y) (x ∷ xs)
       go true e h = rw (e, h)
       go false e h = rw (e, h)
+
+  pub any-kept : (xs : List Record) → any p xs ≡ any (λ x. true) (keep p xs)
+  any-kept [] = refl
+  any-kept (x ∷ xs) = go (p x) (any-kept xs)
+    where
+      go : (t : Bool) → any p xs ≡ any (λ y. true) (keep p xs) → t || any p xs ≡ any (λ y. true) (consIf t x (keep p xs))
+      go true h = refl
+      go false h = h
 
   -- ---- the place of the first
   pub place-kept : (xs ys : List Record) → 0 < count p xs → placeOf p (xs ++ ys) ≡ placeOf p xs
@@ -96,6 +106,13 @@ module _ (p : Record → Bool) where
     counts-one t =
         let e : oneIf (p r) ≡ 1 = rw t in
         omega (arith, count-append xs (r ∷ []))
+
+    pub keeps-not : p r ≡ false → keep p (xs ++ r ∷ []) ≡ keep p xs
+    keeps-not t =
+        keep-append xs (r ∷ []) ∙ ap (λ (b : Bool). keep p xs ++ consIf b r []) t ∙ append-nil (keep p xs)
+
+    pub keeps-one : p r ≡ true → keep p (xs ++ r ∷ []) ≡ keep p xs ++ r ∷ []
+    keeps-one t = keep-append xs (r ∷ []) ∙ ap (λ (b : Bool). keep p xs ++ consIf b r []) t
 
     pub starts-same-not : p r ≡ false → startOf p (xs ++ r ∷ []) ≡ startOf p xs
     starts-same-not t = go (count p xs) refl
@@ -189,3 +206,40 @@ module _ (p : Record → Bool) (xs : List Record) (r : Record) (old : Stretch p 
           one-more ∙ ap (λ (l : List Record). l ++ r ∷ []) (old .kept)
           ∙ sym (part-end (count p xs) (startOf p xs) xs r (latest some))
           ∙ sym (part-same (xs ++ r ∷ []) (counts-one p xs r t) (starts-same p xs r t some))
+
+-- ---- every record of what is kept
+pub every-both : (P Q : Record → Type 0) (xs : List Record) → Each P xs → Each Q xs → Each (λ r. P r × Q r) xs
+every-both P Q [] a b = tt
+every-both P Q (x ∷ xs) a b = ((a .0, b .0), every-both P Q xs (a .1) (b .1))
+
+module _ (p : Record → Bool) where
+  pub kept-pass : (xs : List Record) → Each (λ r. p r ≡ true) (keep p xs)
+  kept-pass [] = tt
+  kept-pass (x ∷ xs) = go (p x) refl (kept-pass xs)
+    where
+      go : (t : Bool) → p x ≡ t → Each (λ r. p r ≡ true) (keep p xs) → Each (λ r. p r ≡ true) (consIf t x (keep p xs))
+      go true e h = (e, h)
+      go false e h = h
+
+  pub keep-all : (xs : List Record) → Each (λ r. p r ≡ true) xs → keep p xs ≡ xs
+  keep-all [] h = refl
+  keep-all (x ∷ xs) h = rw (h .0, keep-all xs (h .1))
+
+  pub keep-none : (xs : List Record) → Each (λ r. p r ≡ false) xs → keep p xs ≡ []
+  keep-none [] h = refl
+  keep-none (x ∷ xs) h = rw (h .0) (keep-none xs (h .1))
+
+  -- a stricter test keeps some of them
+  pub every-stricter :
+      (P : Record → Type 0) (q : Record → Bool) → ((r : Record) → q r ≡ true → p r ≡ true) → (xs : List Record)
+      → Each P (keep p xs) → Each P (keep q xs)
+  every-stricter P q f [] h = tt
+  every-stricter P q f (x ∷ xs) h = go (p x) refl (q x) refl h (every-stricter P q f xs)
+    where
+      go :
+          (s : Bool) → p x ≡ s → (t : Bool) → q x ≡ t → Each P (consIf s x (keep p xs))
+          → (Each P (keep p xs) → Each P (keep q xs)) → Each P (consIf t x (keep q xs))
+      go true d true e h rest = (h .0, rest (h .1))
+      go true d false e h rest = rest (h .1)
+      go false d true e h rest = absurd (never (sym d ∙ f x e))
+      go false d false e h rest = rest h

@@ -45,7 +45,7 @@ cut-at (suc n) (suc k) file h =
     cut-at n k (drop 96 file) (le-of-suc-le-suc h) ∙ ap (take 96) (drop-drop (k * 96) 96 file ∙ ap (λ (m : ℕ). drop m file) e)
 
 module _ (file : List ℕ) (ok : checked file ≡ Accepted) where
-  fine : Faultless file (recordCount file)
+  pub fine : Faultless file (recordCount file)
   fine =
       let g = exactly file .accepted .forth (record { number = ap numberOf ok; place = ap recordOf ok }) in
       faultless file (recordCount file) (g .none)

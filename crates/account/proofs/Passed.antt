@@ -79,7 +79,7 @@ both-hold : {a b : Bool} → a ≡ true → b ≡ true → a && b ≡ true
 both-hold p q = rw (p, q)
 
 module _ (r : Record) (k : Known r) where
-  part-cases :
+  pub part-cases :
       (P : Type 0) → (kind r ≡ 5 → partOf r ≡ 80 → P) → (kind r < 5 → partOf r ≡ 16 * kind r + contract r → P) → P
   part-cases P f g = go (eqb (kind r) 5) refl
     where

@@ -1,10 +1,11 @@
--- The table of refusals of document 01, "What comes back": the number of each and the record that it names.
+-- The table of refusals of document 01, "What comes back", and of request 2026-01: the number of each and the record that it
+-- names.
 -- Assumes nothing.
 use Prim.Native.Nat.{ℕ}
 use mathlib.Core.Bool.{cond}
 use lib.Dec.{eqb}
 use Rattle.account.specs.declared.answers.Answer.{Answer}
-use Rattle.account.specs.declared.answers.Answer.the-variants.{Accepted, TooLong, CutRecord, UnknownKind, KindFalls, UnusedByte, FieldOutside, Unlisted, OutOfOrder, OverLimit, TooFewNumbers, NoSuchQuestion}
+use Rattle.account.specs.declared.answers.Answer.the-variants.{Accepted, TooLong, CutRecord, UnknownKind, KindFalls, UnusedByte, FieldOutside, Unlisted, OutOfOrder, OverLimit, TooFewNumbers, NoSuchQuestion, NoonSpread, TooManyJoined, AmountOutside}
 
 -- "No."; 0 where nothing is refused
 abbrev pub numberOf : Answer → ℕ
@@ -20,6 +21,9 @@ numberOf (OutOfOrder k) = 8
 numberOf (OverLimit k) = 9
 numberOf (TooFewNumbers n) = 10
 numberOf (NoSuchQuestion n) = 11
+numberOf (NoonSpread k) = 12
+numberOf (TooManyJoined n) = 13
+numberOf (AmountOutside n) = 21
 
 -- "Record named"; 0 where none is
 abbrev pub recordOf : Answer → ℕ
@@ -35,6 +39,9 @@ recordOf (OutOfOrder k) = k
 recordOf (OverLimit k) = k
 recordOf (TooFewNumbers n) = n
 recordOf (NoSuchQuestion n) = n
+recordOf (NoonSpread k) = k
+recordOf (TooManyJoined n) = n
+recordOf (AmountOutside n) = n
 
 -- the refusal of a record, by its number
 abbrev pub refusal : ℕ → ℕ → Answer

@@ -7,3 +7,7 @@ pub mod Surveyed
 pub mod Accepted
 pub mod Claims
 pub mod Orders
+pub mod Lawful
+pub mod Joined
+pub mod Supplied
+pub mod Noon

@@ -16,6 +16,9 @@ pub enum Answer {
     OverLimit(usize),
     TooFewNumbers(usize),
     NoSuchQuestion(usize),
+    NoonSpread(usize),
+    TooManyJoined(usize),
+    AmountOutside(usize),
 }
 
 // The paper's number of an answer, 0 where nothing is refused.
@@ -35,6 +38,9 @@ pub fn number_of(a: Answer) -> usize
         Answer::OverLimit(_) => 9,
         Answer::TooFewNumbers(_) => 10,
         Answer::NoSuchQuestion(_) => 11,
+        Answer::NoonSpread(_) => 12,
+        Answer::TooManyJoined(_) => 13,
+        Answer::AmountOutside(_) => 21,
     }
 }
 
@@ -55,6 +61,9 @@ pub fn record_of(a: Answer) -> usize
         Answer::OverLimit(k) => k,
         Answer::TooFewNumbers(n) => n,
         Answer::NoSuchQuestion(n) => n,
+        Answer::NoonSpread(k) => k,
+        Answer::TooManyJoined(n) => n,
+        Answer::AmountOutside(n) => n,
     }
 }
 

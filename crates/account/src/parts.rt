@@ -18,7 +18,7 @@ pub const SPREADS: usize = 4 * CONTRACTS;
 
 pub const ENTRIES: usize = 5 * CONTRACTS;
 
-pub(crate) const PARTS: usize = ENTRIES + 1;
+pub const PARTS: usize = ENTRIES + 1;
 
 // The records of part `v` as they stand in the file, by where it begins and how many it has.
 pub(crate) fn part_at<'a>(file: &'a [u8], first: &[u16], counts: &[u16], v: usize) -> &'a [u8]

@@ -1,13 +1,16 @@
-// Felgotany as C sees it: the check, the figures and the delta book over any bytes. include/felgotany.h says the same in
-// C's words.
+// Felgotany as C sees it: the check, the figures and the delta book over any bytes, and the same of a morning's file with a noon
+// file. include/felgotany.h says the same in C's words.
 use account::answers::Answer;
 use account::answers::number_of;
 use account::answers::record_of;
 use account::check::check;
+use account::noon::Verdict;
+use account::noon::prompt_place;
 use margin::held::ask_all;
 use margin::needs::book_needed;
 use margin::needs::figures_needed;
 use margin::needs::uses_needed;
+use margin::noon::cover_call;
 use margin::questions::book;
 use margin::questions::figures;
 use margin::questions::uses;
@@ -19,7 +22,9 @@ ghost use Rattle.margin.specs.Questions.{figuresAnswer, afterFigures, bookAnswe
 ghost use Rattle.margin.specs.Needs.{figuresNeed, bookNeed, usesNeed};
 ghost use Rattle.margin.specs.Bounds.{longestFigures, longestBook, longestUses};
 ghost use Rattle.margin.specs.Held.{booksAnswer, booksAfter, allUsesAnswer, allUsesAfter};
-ghost use Rattle.felgotany.specs.Outcomes.{Tells};
+ghost use Rattle.account.specs.Noon.{promptPlace};
+ghost use Rattle.margin.specs.Noon.{joinedFigures, afterJoinedFigures, joinedBook, afterJoinedBook, joinedUses, afterJoinedUses, joinedCall};
+ghost use Rattle.felgotany.specs.Outcomes.{Tells, TellsOf, TellsCall, TellsPlace};
 
 // The number of a refusal, 0 where nothing is refused, and the record that it names.
 #[repr(C)]
@@ -125,5 +130,113 @@ pub extern "C" fn felgotany_all(
         figures: first,
         books: second,
         uses: third,
+    }
+}
+
+// An outcome of a pair of files: of the joined account (0), the morning's file (1) or the noon's (2).
+#[repr(C)]
+pub struct PairOutcome {
+    pub file: usize,
+    pub refusal: usize,
+    pub record: usize,
+}
+
+fn tell_of(verdict: Verdict) -> PairOutcome
+    ensures { λ r. ⌜ TellsOf verdict r ⌝ }
+{
+    let answer = verdict.answer;
+    let told = tell(answer);
+    PairOutcome {
+        file: verdict.file,
+        refusal: told.refusal,
+        record: told.record,
+    }
+}
+
+// The figures of the joined account, at the front of `out`. A refusal writes nothing.
+#[no_mangle]
+pub extern "C" fn felgotany_joined_figures<'a>(
+    morning: &'a [u8],
+    noon: &'a [u8],
+    out: &mut [i64],
+) -> PairOutcome
+    ensures { λ r. ⌜ TellsOf (joinedFigures (now (morning .entry)) (now (noon .entry)) (length (now (out .entry)))) r × (now (out .exit) ≡ afterJoinedFigures (now (morning .entry)) (now (noon .entry)) (now (out .entry))) ⌝ }
+{
+    tell_of(margin::noon::figures(morning, noon, out))
+}
+
+// The delta book of a question, of the joined account.
+#[no_mangle]
+pub extern "C" fn felgotany_joined_book<'a>(
+    morning: &'a [u8],
+    noon: &'a [u8],
+    question: usize,
+    out: &mut [i64],
+) -> PairOutcome
+    ensures { λ r. ⌜ TellsOf (joinedBook (now (morning .entry)) (now (noon .entry)) question (length (now (out .entry)))) r × (now (out .exit) ≡ afterJoinedBook (now (morning .entry)) (now (noon .entry)) question (now (out .entry))) ⌝ }
+{
+    tell_of(margin::noon::book(morning, noon, question, out))
+}
+
+// Who paid for what in it.
+#[no_mangle]
+pub extern "C" fn felgotany_joined_uses<'a>(
+    morning: &'a [u8],
+    noon: &'a [u8],
+    question: usize,
+    out: &mut [i64],
+) -> PairOutcome
+    ensures { λ r. ⌜ TellsOf (joinedUses (now (morning .entry)) (now (noon .entry)) question (length (now (out .entry)))) r × (now (out .exit) ≡ afterJoinedUses (now (morning .entry)) (now (noon .entry)) question (now (out .entry))) ⌝ }
+{
+    tell_of(margin::noon::uses(morning, noon, question, out))
+}
+
+// Where a contract's prompts stand: in which file, from which record on, and how many.
+#[repr(C)]
+pub struct PromptPlace {
+    pub file: usize,
+    pub first: usize,
+    pub records: usize,
+}
+
+#[no_mangle]
+pub extern "C" fn felgotany_joined_prompts(
+    morning: &[u8],
+    noon: &[u8],
+    contract: usize,
+) -> PromptPlace
+    ensures { λ r. ⌜ TellsPlace (promptPlace (now (morning .entry)) (now (noon .entry)) contract) r ⌝ }
+{
+    let place = prompt_place(morning, noon, contract);
+    PromptPlace {
+        file: place.file,
+        first: place.first,
+        records: place.records,
+    }
+}
+
+// The call, in hundredths; 0 where there is none.
+#[repr(C)]
+pub struct CallOutcome {
+    pub outcome: PairOutcome,
+    pub call: u64,
+}
+
+#[no_mangle]
+pub extern "C" fn felgotany_call<'a>(
+    morning: &'a [u8],
+    noon: &'a [u8],
+    last: i64,
+    threshold: i64,
+    collateral: i64,
+) -> CallOutcome
+    ensures { λ r. ⌜ TellsCall (joinedCall (now (morning .entry)) (now (noon .entry)) last threshold collateral) r ⌝ }
+{
+    let made = cover_call(morning, noon, last, threshold, collateral);
+    let verdict = made.verdict;
+    let amount = made.amount;
+    CallOutcome {
+        outcome: tell_of(verdict),
+        call: amount.0,
     }
 }

@@ -1,9 +1,9 @@
--- An accepted file's contracts and entries are within the ranges that the figures rest on.
+-- A lawful account's contracts and entries are within the ranges that the figures rest on.
 -- Assumes nothing.
 use Prim.Native.Nat.{ℕ, zero, suc, _≤_, _<_}
 use native.Mathlib.Nat.{not-suc-le-zero}
 use native.Mathlib.Omega.{arith}
-use mathlib.Core.Path.{_≡_, refl, sym, subst, subst⁻¹}
+use mathlib.Core.Path.{_≡_, refl, sym, subst⁻¹}
 use mathlib.Core.Bool.{Bool, true, false, not, _&&_, _||_, false≢true}
 use mathlib.Core.List.{List, []}
 use borrow.Author.Tests.{lt-ltb, eqb-true, eqb-false}
@@ -13,12 +13,10 @@ use Rattle.record.specs.Layout.{Record, contract, secondContract, day, legCount
 use Rattle.record.specs.Within as ranges
 use Rattle.record.proofs.Within.{neither}
 use Rattle.exact.specs.Lists.{count}
-use Rattle.account.specs.Check.{checked, alikeAmong, noLegOn, legsClash, withItself, sameLeg}
+use Rattle.account.specs.Check.{alikeAmong, noLegOn, legsClash, withItself, sameLeg}
+use Rattle.account.specs.Lawful.{Lawful}
 use Rattle.account.specs.Parts.{onDay, contractsOf, promptsOf, rowsOf, spreadsOf, entriesOf}
-use Rattle.account.specs.Records.{records}
-use Rattle.account.specs.declared.answers.Answer.the-variants.{Accepted}
-use Rattle.account.proofs.Accepted.{accepts}
-use Rattle.account.proofs.Orders.{every-at, orders}
+use Rattle.account.proofs.Orders.{every-at}
 use Rattle.spread.specs.Accepted.{soundLeg, soundSpread}
 use Rattle.margin.specs.Deltas.{legOf, interprompt}
 use Rattle.margin.specs.Position.{RowFit}
@@ -80,46 +78,39 @@ row-within r w =
       loss-within = λ s l h. w .losses s (record { least = l; most = h });
     }
 
-module _ (file : List ℕ) (ok : checked file ≡ Accepted) where
-  abbrev account : List Record
-  account = records file
-
+module _ (account : List Record) (ok : Lawful account) where
   -- a contract of the account, with its parts
   pub contract-within : (own : Record) (c : ℕ) → ranges.ContractWithin own → ContractFit own (promptsOf c account) (rowsOf c account) (spreadsOf c account)
   contract-within own c w =
-      let a = accepts file ok in
-      let o = orders file ok in
       record {
         number = w .contracts;
         rate = w .rates;
-        few-prompts = a .limits .prompts c;
-        few-spreads = a .limits .spreads c;
+        few-prompts = ok .limits .prompts c;
+        few-spreads = ok .limits .spreads c;
         each-prompt =
             λ k h.
-            let p = every-at ranges.PromptWithin (promptsOf c account) (a .ranges .prompts c) k h in
+            let p = every-at ranges.PromptWithin (promptsOf c account) (ok .ranges .prompts c) k h in
             record { tier-within = omega (arith, p .tiers .most); spread-rate = p .spreadRates; outright-rate = p .outrightRates };
-        one-day = λ k h. let e = every-at (λ r. count (onDay (day r)) (promptsOf c account) ≡ 1) (rowsOf c account) (a .onePrompt c) k h in omega arith;
+        one-day = λ k h. let e = every-at (λ r. count (onDay (day r)) (promptsOf c account) ≡ 1) (rowsOf c account) (ok .onePrompt c) k h in omega arith;
         rows-within =
-            record { few = a .limits .rows c; each = λ k h. row-within (getD (rowsOf c account) k []) (every-at ranges.RowWithin (rowsOf c account) (a .ranges .rows c) k h) };
+            record { few = ok .limits .rows c; each = λ k h. row-within (getD (rowsOf c account) k []) (every-at ranges.RowWithin (rowsOf c account) (ok .ranges .rows c) k h) };
         each-spread =
             λ k h.
-            spread-within (getD (spreadsOf c account) k []) (every-at ranges.SpreadWithin (spreadsOf c account) (a .ranges .spreads c) k h)
-            (every-at (λ s. legsClash s ≡ false) (spreadsOf c account) (o .spreads c) k h);
+            spread-within (getD (spreadsOf c account) k []) (every-at ranges.SpreadWithin (spreadsOf c account) (ok .ranges .spreads c) k h)
+            (every-at (λ s. legsClash s ≡ false) (spreadsOf c account) (ok .orders .spreads c) k h);
       }
 
   pub own-within : (k : ℕ) → k < length (contractsOf account) → ranges.ContractWithin (getD (contractsOf account) k [])
-  own-within k h = every-at ranges.ContractWithin (contractsOf account) (accepts file ok .ranges .contracts) k h
+  own-within k h = every-at ranges.ContractWithin (contractsOf account) (ok .ranges .contracts) k h
 
   pub entries-within : EntriesFit (entriesOf account)
   entries-within =
-      let a = accepts file ok in
-      let o = orders file ok in
       record {
-        few = a .limits .entries;
+        few = ok .limits .entries;
         each =
             λ k h.
-            let w = every-at ranges.EntryWithin (entriesOf account) (a .ranges .entries) k h in
-            let n = every-at (λ e. withItself e ≡ false) (entriesOf account) (o .entries) k h in
+            let w = every-at ranges.EntryWithin (entriesOf account) (ok .ranges .entries) k h in
+            let n = every-at (λ e. withItself e ≡ false) (entriesOf account) (ok .orders .entries) k h in
             record {
               apart = eqb-false (contract (getD (entriesOf account) k [])) (secondContract (getD (entriesOf account) k [])) n;
               first-number = w .contracts;
@@ -136,9 +127,9 @@ module _ (file : List ℕ) (ok : checked file ≡ Accepted) where
   numbers-rise i (suc j) l h = go (eqb i j) refl (λ m. numbers-rise i j m (omega arith))
     where
       go : (t : Bool) → eqb i j ≡ t → (i < j → contract (getD (contractsOf account) i []) < contract (getD (contractsOf account) j [])) → contract (getD (contractsOf account) i []) < contract (getD (contractsOf account) (suc j) [])
-      go true e before = subst⁻¹ (λ (n : ℕ). contract (getD (contractsOf account) n []) < contract (getD (contractsOf account) (suc j) [])) (eqb-true i j e) (orders file ok .contracts j h)
+      go true e before = subst⁻¹ (λ (n : ℕ). contract (getD (contractsOf account) n []) < contract (getD (contractsOf account) (suc j) [])) (eqb-true i j e) (ok .orders .contracts j h)
       go false e before =
           let n = eqb-false i j e in
           let a = before (omega (arith, n)) in
-          let b = orders file ok .contracts j h in
+          let b = ok .orders .contracts j h in
           omega arith

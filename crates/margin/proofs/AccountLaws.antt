@@ -1,4 +1,4 @@
--- The lines of an accepted account's contracts, the intercontract table over them, credits and figures.
+-- The lines of an account's contracts, the intercontract table over them, credits and figures.
 -- Assumes nothing.
 use Prim.Native.Nat.{ℕ, suc, _+_, _*_, _≤_, _<_, zero-le, suc-le-suc}
 use native.Mathlib.Nat.{le-trans, le-of-suc-le-suc, not-suc-le-zero, mul-le-mul-right}
@@ -13,8 +13,9 @@ use lib.Seq.{getD-set-same, getD-set-other, getD-take, length-take-le}
 use Rattle.exact.proofs.Lists.{getD-map}
 use Rattle.record.specs.Layout.{Record, contract, percent}
 use Rattle.account.specs.Parts.{contractsOf}
-use Rattle.account.specs.Records.{records, stretch}
-use Rattle.account.specs.declared.check.Survey.{Survey}
+use Rattle.account.specs.Records.{records}
+use Rattle.account.specs.Supplied.{Supplied, accountOf}
+use Rattle.account.specs.declared.joined.Joined.{Joined}
 use Rattle.spread.specs.Book.{entries, deltaEntry}
 use Rattle.spread.specs.Steps.{Open, steps, numbers, usedOf, unusedOf}
 use Rattle.spread.specs.declared.Spreads.{Spreads}
@@ -30,7 +31,7 @@ use Rattle.margin.specs.Figures.{figures, figuresOver}
 use Rattle.margin.specs.Lines.{noLine, figuresFrom}
 use Rattle.margin.specs.Numbers.{LinesWithin}
 use Rattle.margin.specs.Promised.{BookOf, LineOf}
-use Rattle.margin.specs.Stands.{Stands, LinesOf}
+use Rattle.margin.specs.Stands.{LinesOf}
 use Rattle.margin.specs.Sums.{interleaved, spreadsAt}
 use Rattle.margin.specs.Table.{tierOf, TableRoom, CreditsRoom, CreditsOf, earns, tableFirsts, tableSeconds}
 use Rattle.margin.proofs.AcceptLaws.{entries-within, numbers-rise}
@@ -38,25 +39,25 @@ use Rattle.margin.proofs.BookLaws.{first-at, second-at, over-arrays}
 use Rattle.margin.proofs.CreditLaws.{credits-by}
 use Rattle.margin.proofs.FigureLaws.{Lined, Apart, Credited, tiers-are, tiers-sound, tier-sizes, unused-is, entry-use-within, figures-are}
 use Rattle.margin.proofs.LineLaws.{numbers-length}
-use Rattle.margin.proofs.StandLaws.{entries-part, entries-fit}
+use Rattle.margin.proofs.StandLaws.{entryPartIn, entries-part, entries-fit}
 use Rattle.margin.proofs.StepBounds.{number-within}
 
 -- ---- lines, filled place by place
 
-pub record LinedTo (file : List ℕ) (i : ℕ) (ls : List Line) : Type 0 where
+pub record LinedTo (account : List Record) (i : ℕ) (ls : List Line) : Type 0 where
   pub places : length ls ≡ 16
-  pub each : (j : ℕ) → j < i → LineOf (partsIn (records file) (getD (contractsOf (records file)) j [])) (getD ls j noLine)
+  pub each : (j : ℕ) → j < i → LineOf (partsIn account (getD (contractsOf account) j [])) (getD ls j noLine)
 
-pub lined-next : (file : List ℕ) (i : ℕ) (ls : List Line) (l : Line) → LinedTo file i ls → i < 16 → LineOf (partsIn (records file) (getD (contractsOf (records file)) i [])) l → LinedTo file (i + 1) (set ls i l)
-lined-next file i ls l is h e =
+pub lined-next : (account : List Record) (i : ℕ) (ls : List Line) (l : Line) → LinedTo account i ls → i < 16 → LineOf (partsIn account (getD (contractsOf account) i [])) l → LinedTo account (i + 1) (set ls i l)
+lined-next account i ls l is h e =
     record { places = rw length-set (is .places); each = λ j k. go j k (ℕ-discrete j i) }
   where
-    go : (j : ℕ) → j < i + 1 → Dec (j ≡ i) → LineOf (partsIn (records file) (getD (contractsOf (records file)) j [])) (getD (set ls i l) j noLine)
+    go : (j : ℕ) → j < i + 1 → Dec (j ≡ i) → LineOf (partsIn account (getD (contractsOf account) j [])) (getD (set ls i l) j noLine)
     go j k (yes q) =
-        subst⁻¹ (λ (n : ℕ). LineOf (partsIn (records file) (getD (contractsOf (records file)) n [])) (getD (set ls i l) n noLine)) q
-        (subst⁻¹ (LineOf (partsIn (records file) (getD (contractsOf (records file)) i []))) (getD-set-same ls i l noLine (omega (arith, is .places))) e)
+        subst⁻¹ (λ (n : ℕ). LineOf (partsIn account (getD (contractsOf account) n [])) (getD (set ls i l) n noLine)) q
+        (subst⁻¹ (LineOf (partsIn account (getD (contractsOf account) i []))) (getD-set-same ls i l noLine (omega (arith, is .places))) e)
     go j k (no q) =
-        subst⁻¹ (LineOf (partsIn (records file) (getD (contractsOf (records file)) j []))) (getD-set-other ls i j l noLine q) (is .each j (omega (arith, q)))
+        subst⁻¹ (LineOf (partsIn account (getD (contractsOf account) j []))) (getD-set-other ls i j l noLine q) (is .each j (omega (arith, q)))
 
 -- ---- from places to lists
 
@@ -75,9 +76,9 @@ credited-from es table [] d cs h e = tt
 credited-from es table (k ∷ ks) d [] h e = absurd (not-suc-le-zero h)
 credited-from es table (k ∷ ks) d (c ∷ cs) h e = (e 0 (suc-le-suc zero-le), credited-from es table ks d cs (le-of-suc-le-suc h) (λ i m. e (suc i) (suc-le-suc m)))
 
-module _ (file : List ℕ) (s : Survey) (st : Stands file s) (all : Lines) (is : LinesOf file all) (part : List ℕ) (ep : part ≡ stretch file (getD (s .first) 80 0) (getD (s .counts) 80 0)) where
+module _ (morning noon : List ℕ) (j : Joined) (st : Supplied morning noon j) (all : Lines) (is : LinesOf (accountOf morning noon) all) (part : List ℕ) (ep : part ≡ entryPartIn morning noon j st) where
   abbrev account : List Record
-  account = records file
+  account = accountOf morning noon
 
   abbrev n : ℕ
   n = all .count
@@ -86,10 +87,10 @@ module _ (file : List ℕ) (s : Survey) (st : Stands file s) (all : Lines) (is :
   ls = take (all .count) (all .line)
 
   abbrev ks : List Contract
-  ks = contracts (records file)
+  ks = contracts account
 
   abbrev kd : Contract
-  kd = partsIn (records file) []
+  kd = partsIn account []
 
   pub ks-length : length ks ≡ n
   ks-length = length-map (contractsOf account) (partsIn account) ∙ sym (is .count-is)
@@ -120,13 +121,13 @@ module _ (file : List ℕ) (s : Survey) (st : Stands file s) (all : Lines) (is :
       (λ i j k m.
       let a : j < n = omega (arith, ls-length) in
       let b : i < n = omega arith in
-      let c = numbers-rise file (st .accepted) i j k (omega (arith, is .count-is)) in
+      let c = numbers-rise account (st .lawful) i j k (omega (arith, is .count-is)) in
       let e = number-at i b in
       let f = number-at j a in
       omega arith)
 
   pub table-room : TableRoom n (all .line) (records part)
-  table-room = record { few = is .few; tiers-sound = tiers-sound ks ls lined; entries-within = (entries-fit file s st part ep) }
+  table-room = record { few = is .few; tiers-sound = tiers-sound ks ls lined; entries-within = (entries-fit morning noon j st part ep) }
 
   -- the book of the table, run or not
   abbrev pub its : Book
@@ -157,9 +158,9 @@ module _ (file : List ℕ) (s : Survey) (st : Stands file s) (all : Lines) (is :
 
     use-most : (i : ℕ) → i < n → (k : ℕ) → k < length (records part) → entryUse (getD (all .line) i noLine .contract) (getD (records part) k []) (spreadsAt (b .first) k) (spreadsAt (b .second) k) ≤ natAbs (getD (all .line) i noLine .net .0)
     use-most i h k m =
-        let l : k < 32 = omega (arith, (entries-fit file s st part ep) .few) in
+        let l : k < 32 = omega (arith, (entries-fit morning noon j st part ep) .few) in
         let c = getD (all .line) i noLine .contract in
-        let u = entry-use-within c (records part) (map tierOf ls) (entries-fit file s st part ep) k m in
+        let u = entry-use-within c (records part) (map tierOf ls) (entries-fit morning noon j st part ep) k m in
         let v : unusedBy c (map tierOf ls) ≡ natAbs (getD (all .line) i noLine .net .0) =
         subst (λ (x : Line). unusedBy (x .contract) (map tierOf ls) ≡ natAbs (x .net .0)) (line-here i h) (unused-is ls noLine apart i (omega (arith, ls-length)))
         in
@@ -173,14 +174,14 @@ module _ (file : List ℕ) (s : Survey) (st : Stands file s) (all : Lines) (is :
           each =
               λ i h.
               record {
-                most = (entries-fit file s st part ep) .few;
+                most = (entries-fit morning noon j st part ep) .few;
                 price-within = line-at i h .price-within;
                 each =
                     λ k m.
-                    let l : k < 32 = omega (arith, (entries-fit file s st part ep) .few) in
+                    let l : k < 32 = omega (arith, (entries-fit morning noon j st part ep) .few) in
                     record {
                       net-within = line-at i h .net-within;
-                      percent-within = (entries-fit file s st part ep) .each k m .percent-within;
+                      percent-within = (entries-fit morning noon j st part ep) .each k m .percent-within;
                       first-within = subst⁻¹ (λ (x : ℕ). x ≤ 16 * mostDelta) (first-at bk k l) (formed-most (2 * k));
                       second-within = subst⁻¹ (λ (x : ℕ). x ≤ 16 * mostDelta) (second-at bk k l) (formed-most (2 * k + 1));
                       use-within = use-most i h k m;
@@ -201,9 +202,9 @@ module _ (file : List ℕ) (s : Survey) (st : Stands file s) (all : Lines) (is :
           ap (λ (c : ℕ). creditsBy c (l .«twice_price») (natAbs (l .net .0)) (records part) (interleaved (b .first) (b .second))) (li .contract-is)
           ∙ ap₂ (λ (t : ℕ) (z : ℤ). creditsBy (contract (k .own)) t (natAbs z) (records part) (interleaved (b .first) (b .second))) (li .price-is) (li .net-is)
           ∙ ap₂ (λ (x y : List Spreads). creditsBy (contract (k .own)) (twicePriceRisk (k .totals)) (natAbs (contractNet k)) (records part) (interleaved x y)) (bk .first-is) (bk .second-is)
-          ∙ over-arrays (λ e x y. credit (twicePriceRisk (k .totals)) (entryUse (contract (k .own)) e x y) (percent e) (natAbs (contractNet k))) (records part) ns 32 (numbers-length intercontract (records part) (map tierOf ls)) ((entries-fit file s st part ep) .few)
+          ∙ over-arrays (λ e x y. credit (twicePriceRisk (k .totals)) (entryUse (contract (k .own)) e x y) (percent e) (natAbs (contractNet k))) (records part) ns 32 (numbers-length intercontract (records part) (map tierOf ls)) ((entries-fit morning noon j st part ep) .few)
           ∙ ap (λ (ps : List Open). creditsBy (contract (k .own)) (twicePriceRisk (k .totals)) (natAbs (contractNet k)) (records part) (numbers (steps (map intercontract (records part))) ps)) (tiers-are ks ls lined)
-          ∙ sym (credits-by (contract (k .own)) (twicePriceRisk (k .totals)) (natAbs (contractNet k)) (records part) (map asTier ks) (entries-fit file s st part ep))
+          ∙ sym (credits-by (contract (k .own)) (twicePriceRisk (k .totals)) (natAbs (contractNet k)) (records part) (map asTier ks) (entries-fit morning noon j st part ep))
 
       credited : Credited (records part) (map asTier ks) ks (take n cs)
       credited =
@@ -214,4 +215,4 @@ module _ (file : List ℕ) (s : Survey) (st : Stands file s) (all : Lines) (is :
       pub answer-is : map pos (figuresFrom ls (take n cs)) ≡ figures account
       answer-is =
           ap (map pos) (figures-are (records part) ks ls (take n cs) lined credited)
-          ∙ ap (λ (x : List Record). map pos (figuresOver x ks)) (entries-part file s st part ep)
+          ∙ ap (λ (x : List Record). map pos (figuresOver x ks)) (entries-part morning noon j st part ep)

@@ -1,4 +1,4 @@
--- Which questions an accepted account answers, and the book of each.
+-- Which questions a lawful account answers, and the book of each.
 -- Assumes nothing.
 use Prim.Native.Nat.{ℕ, _+_, _-_, _*_, _≤_, _<_}
 use native.Mathlib.Omega.{arith}
@@ -13,23 +13,16 @@ use Rattle.exact.specs.Lists.{consIf, keep, any, count, oneIf}
 use Rattle.record.specs.Layout.{Record, contract}
 use Rattle.record.specs.Within as ranges
 use Rattle.account.specs.Accepted.{Each}
-use Rattle.account.specs.Answers.{numberOf}
-use Rattle.account.specs.Check.{checked}
+use Rattle.account.specs.Lawful.{Lawful}
 use Rattle.account.specs.Notes.{inPart}
 use Rattle.account.specs.Parts.{ofKind, ofContract, contractsOf, entriesOf}
-use Rattle.account.specs.Records.{records}
-use Rattle.account.specs.declared.answers.Answer.{Answer}
-use Rattle.account.specs.declared.answers.Answer.the-variants.{Accepted}
-use Rattle.account.specs.declared.check.Survey.{Survey}
 use Rattle.account.proofs.Days.{none-kept}
-use Rattle.account.proofs.Accepted.{accepts}
 use Rattle.account.proofs.Lists.{any-keep, none-counted}
 use Rattle.account.proofs.Noted.{part-is}
 use Rattle.spread.specs.Steps.{numbers, usedOf, unusedOf}
 use Rattle.margin.specs.Books.{threes, contractBook, tableBook, ofEach, ofQuestion, asks, answered, askedBy, book}
 use Rattle.margin.specs.Contract.{Contract, contractFrom, contracts, partsIn, partsOf, contractNet, asTier, stepsOf, opensOf, tableSteps}
 use Rattle.margin.specs.Deltas.{interprompt, intercontract, netDeltas}
-use Rattle.margin.specs.Stands.{Stands}
 use Rattle.margin.proofs.LineLaws.{numbers-length, used-length, unused-length, opens-length}
 
 -- ---- how many numbers a book has
@@ -61,7 +54,7 @@ table-length entries ks =
 
 -- ---- the one contract of a number
 
-count-keep : (p q : Record → Bool) (xs : List Record) → count q (keep p xs) ≡ count (λ x. p x && q x) xs
+pub count-keep : (p q : Record → Bool) (xs : List Record) → count q (keep p xs) ≡ count (λ x. p x && q x) xs
 count-keep p q [] = refl
 count-keep p q (x ∷ xs) = go (p x) (count-keep p q xs)
   where
@@ -89,20 +82,16 @@ large : (q : ℕ) (rs : List Record) → Each ranges.ContractWithin rs → 15 < 
 large q [] e h = refl
 large q (r ∷ rs) e h = ap₂ _||_ (ne-eqb (contract r) q (λ x. let w = e .0 .contracts in omega arith)) (large q rs (e .1) h)
 
-module _ (file : List ℕ) (s : Survey) (st : Stands file s) where
-  abbrev account : List Record
-  account = records file
-
-  -- the survey knows which questions are answered
-  pub asked-is : (q : ℕ) → askedBy (s .counts) q ≡ answered account q
+-- by how many records each part has it is known which questions are answered
+module _ (account : List Record) (ok : Lawful account) (counts : List ℕ) (are : (v : ℕ) → v < 81 → getD counts v 0 ≡ count (inPart v) account) where
+  pub asked-is : (q : ℕ) → askedBy counts q ≡ answered account q
   asked-is q = go (eqb q 16) refl (ltb q 16) refl
     where
-      own : (t : Bool) → ltb q 16 ≡ t → eqb q 16 ≡ false → t && not (eqb (getD (s .counts) (16 + q) 0) 0) ≡ any (asks q) (contractsOf account)
+      own : (t : Bool) → ltb q 16 ≡ t → eqb q 16 ≡ false → t && not (eqb (getD counts (16 + q) 0) 0) ≡ any (asks q) (contractsOf account)
       own true l n =
           let h = ltb-true q 16 l in
           ap (λ (x : ℕ). not (eqb x 0))
-          (st .surveyed .counts (16 + q) (omega arith)
-          ∙ ap (λ (a : Answer). cond (eqb (numberOf a) 0) (count (inPart (16 + q)) account) 0) (st .accepted)
+          (are (16 + q) (omega arith)
           ∙ ap (λ (p : Record → Bool). count p account) (part-is 1 q (omega arith) (omega arith)))
           ∙ ap not (none-counted (ofContract 1 q) account)
           ∙ Bool·not-not (any (ofContract 1 q) account)
@@ -110,16 +99,13 @@ module _ (file : List ℕ) (s : Survey) (st : Stands file s) where
       own false l n =
           let h = ltb-false q 16 l in
           let m = eqb-false q 16 n in
-          sym (large q (contractsOf account) (accepts file (st .accepted) .ranges .contracts) (omega (arith, m)))
+          sym (large q (contractsOf account) (ok .ranges .contracts) (omega (arith, m)))
 
-      go : (t : Bool) → eqb q 16 ≡ t → (u : Bool) → ltb q 16 ≡ u → t || (u && not (eqb (getD (s .counts) (16 + q) 0) 0)) ≡ t || any (asks q) (contractsOf account)
+      go : (t : Bool) → eqb q 16 ≡ t → (u : Bool) → ltb q 16 ≡ u → t || (u && not (eqb (getD counts (16 + q) 0) 0)) ≡ t || any (asks q) (contractsOf account)
       go true e u l = refl
       go false e u l = own u l e
 
-module _ (file : List ℕ) (ok : checked file ≡ Accepted) where
-  abbrev all : List Record
-  all = records file
-
+module _ (all : List Record) (ok : Lawful all) where
   -- a contract that is asked for
   pub asked-small : (q : ℕ) → answered all q ≡ true → (q ≡ 16 → ⊥) → q ≤ 15
   asked-small q a n = go (ltb 15 q) refl
@@ -127,7 +113,7 @@ module _ (file : List ℕ) (ok : checked file ≡ Accepted) where
       go : (t : Bool) → ltb 15 q ≡ t → q ≤ 15
       go true l =
           let h = ltb-true 15 q l in
-          absurd (false≢true (sym (ap₂ _||_ (ne-eqb q 16 n) (large q (contractsOf all) (accepts file ok .ranges .contracts) h)) ∙ a))
+          absurd (false≢true (sym (ap₂ _||_ (ne-eqb q 16 n) (large q (contractsOf all) (ok .ranges .contracts) h)) ∙ a))
       go false l = ltb-false 15 q l
 
   -- what is answered of a contract, which does not go by its own record, and of the table
@@ -135,7 +121,7 @@ module _ (file : List ℕ) (ok : checked file ≡ Accepted) where
     pub contract-asked : (q : ℕ) → answered all q ≡ true → (q ≡ 16 → ⊥) → ofQuestion ofContract ofTable all q ≡ ofContract (partsOf all q)
     contract-asked q a n =
         let listed : any (asks q) (contractsOf all) ≡ true = ap (λ (t : Bool). t || any (asks q) (contractsOf all)) (sym (ne-eqb q 16 n)) ∙ a in
-        let few = accepts file ok .named .once q in
+        let few = ok .named .once q in
         let c = count-keep (ofKind 1) (asks q) all in
         let o = one-kept (asks q) (contractsOf all) listed (omega arith) in
         let e = eqb-true (contract (o .only)) q (o .passes) in

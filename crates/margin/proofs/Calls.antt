@@ -1,6 +1,6 @@
 -- Sums and differences of signed results: a call of `plus` or `minus` on what two calls gave, in the integers.
 -- Assumes nothing.
-use mathlib.Core.Path.{_≡_, ap₂, _∙_, subst, subst⁻¹}
+use mathlib.Core.Path.{_≡_, ap₂, _∙_, subst⁻¹}
 use Prim.Native.Nat.{_<_, _^_}
 use lib.Signed.{mag}
 use lib.IntN.{ℤ, natAbs}

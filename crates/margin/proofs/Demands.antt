@@ -13,6 +13,9 @@ use borrow.Author.Tests.{ltb-true}
 use Rattle.record.specs.Layout.{Record}
 use Rattle.account.specs.Answers.{numberOf, recordOf}
 use Rattle.account.specs.Check.{checked}
+use Rattle.account.specs.Lawful.{Lawful}
+use Rattle.account.specs.Noon.{clear, joinedVerdict}
+use Rattle.account.specs.Supplied.{accountOf}
 use Rattle.account.specs.Claims.{Iff}
 use Rattle.account.specs.Parts.{promptsOf, rowsOf, entriesOf, spreadsOf}
 use Rattle.account.specs.Records.{records, recordCount}
@@ -20,7 +23,8 @@ use Rattle.account.specs.declared.answers.Answer.{Answer}
 use Rattle.account.specs.declared.answers.Answer.the-variants.{Accepted, TooFewNumbers, NoSuchQuestion}
 use Rattle.account.proofs.Accepted.{accepts}
 use Rattle.account.proofs.Claimed.{claimed}
-use Rattle.account.proofs.Orders.{orders}
+use Rattle.account.proofs.Lawful.{lawful}
+use Rattle.account.proofs.NoonLaws.{pair-lawful}
 use Rattle.spread.specs.Accepted.{every, soundSpread}
 use Rattle.spread.proofs.Demand3.{demand3}
 use Rattle.spread.proofs.Soundness.{steps-sound}
@@ -160,35 +164,39 @@ demand2 = record { reckoned = reckoned; printed = printed; empty-accepted = refl
 
 -- ---- 3
 
-module _ (file : List ℕ) (ok : checked file ≡ Accepted) where
-  abbrev account : List Record
-  account = records file
-
-  pub demanded : Demanded file
+module _ (account : List Record) (law : Lawful account) where
+  pub demanded : Demanded account
   demanded =
       record {
         interprompt =
             λ c a n.
-            let w = contract-within file ok [] c (record { contracts = zero-le; rates = zero-le }) in
+            let w = contract-within account law [] c (record { contracts = zero-le; rates = zero-le }) in
             let sound : every soundSpread (map interprompt (spreadsOf c account)) ≡ true =
             spreads-sound interprompt (spreadsOf c account) (λ k h. w .each-spread k h .sound)
             in
             record {
-              writes = one-book file ok c a n;
-              takes = contract-asked file ok contractUses tableUses (λ own. refl) c a n;
+              writes = one-book account law c a n;
+              takes = contract-asked account law contractUses tableUses (λ own. refl) c a n;
               demand = demand3 (stepsOf (partsOf account c)) (opensOf (partsOf account c)) (steps-sound (map interprompt (spreadsOf c account)) sound);
               paid = who-paid (stepsOf (partsOf account c)) (opensOf (partsOf account c)) (steps-sound (map interprompt (spreadsOf c account)) sound);
             };
         intercontract =
-            let w = entries-within file ok in
+            let w = entries-within account law in
             let sound : every soundSpread (map intercontract (entriesOf account)) ≡ true =
             spreads-sound intercontract (entriesOf account) (λ k h. entry-accepted (getD (entriesOf account) k []) (w .each k h))
             in
             record {
-              writes = table-book file ok tableQuestion refl;
-              takes = table-asked file ok contractUses tableUses (λ own. refl) tableQuestion refl;
+              writes = table-book account law tableQuestion refl;
+              takes = table-asked account law contractUses tableUses (λ own. refl) tableQuestion refl;
               demand = demand3 (tableSteps (entriesOf account)) (map asTier (contracts account)) (steps-sound (map intercontract (entriesOf account)) sound);
               paid = who-paid (tableSteps (entriesOf account)) (map asTier (contracts account)) (steps-sound (map intercontract (entriesOf account)) sound);
             };
-        dates = orders file ok .prompts;
+        dates = law .orders .prompts;
       }
+
+-- of an accepted file, and of a pair of files that is not refused
+pub demanded-file : (file : List ℕ) → checked file ≡ Accepted → Demanded (records file)
+demanded-file file ok = demanded (records file) (lawful file ok)
+
+pub demanded-joined : (morning noon : List ℕ) → clear (joinedVerdict morning noon) ≡ true → Demanded (accountOf morning noon)
+demanded-joined morning noon c = demanded (accountOf morning noon) (pair-lawful morning noon c)

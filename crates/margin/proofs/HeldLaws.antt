@@ -29,11 +29,10 @@ use Rattle.margin.specs.Held.{FromCheck, needIn, questions, atPlace, aft
 use Rattle.margin.specs.declared.held.Asked.{Asked}
 use Rattle.margin.specs.declared.held.Held.{Held}
 use Rattle.margin.specs.Needs.{figuresNeed}
-use Rattle.margin.specs.Questions.{accepted, ifAccepted, asked, answerTo, enough, afterwards, figuresAnswer, afterFigures, bookAnswer, afterBook, usesAnswer, afterUses}
+use Rattle.margin.specs.Questions.{accepted, ifAccepted, asked, answerTo, afterwards, figuresAnswer, afterFigures, bookAnswer, afterBook, usesAnswer, afterUses}
 use Rattle.margin.specs.Stands.{Stands}
-use Rattle.margin.proofs.AskedLaws.{asked-is}
-use Rattle.margin.proofs.StandLaws.{contracts-are}
-use Rattle.margin.proofs.QuestionLaws.{some, accepted-only, if-refused, if-accepted, after-refused, not-asked, asked-accepted, asked-answered, as-many, figures-length}
+use Rattle.margin.proofs.StandLaws.{contracts-are, asked-here}
+use Rattle.margin.proofs.QuestionLaws.{some, accepted-only, if-refused, if-accepted, after-refused, not-asked, asked-accepted, asked-answered, figures-length}
 
 module _ (file : List ℕ) (s : Survey) (is : Surveyed file s) where
   held-stands : numberOf (checked file) ≡ 0 → Stands file s
@@ -83,7 +82,7 @@ module _ (file : List ℕ) (s : Survey) (is : Surveyed file s) (q : ℕ) (no : a
   unasked : numberOf (ifAccepted (checked file) (asked file q)) ≡ 0 → ⊥
   unasked z =
       let st : Stands file s = record { accepted = asked-accepted file q _ refl z; surveyed = is } in
-      true≢false (sym (asked-answered file q _ refl z) ∙ sym (asked-is file s st q) ∙ no)
+      true≢false (sym (asked-answered file q _ refl z) ∙ sym (asked-here file s st q) ∙ no)
 
   pub left-alone-by : (numbers lent : List ℤ) → afterwards (answerTo file q numbers (length lent)) numbers lent ≡ lent
   left-alone-by numbers lent =

@@ -31,3 +31,4 @@ pub mod TierLaws
 pub mod UsesLaws
 pub mod NeedLaws
 pub mod PlaceLaws
+pub mod NoonLaws

@@ -1,25 +1,23 @@
 -- How many numbers a book and its uses have, from the survey of the file.
 -- Assumes nothing.
-use Prim.Native.Nat.{ℕ, zero, suc, _+_, _*_, _≤_, _<_}
+use Prim.Native.Nat.{ℕ, zero, suc, _+_, _*_, _≤_}
 use native.Mathlib.Omega.{arith}
 use mathlib.Core.Path.{_≡_, refl, sym, ap, ap₂, _∙_}
 use mathlib.Core.Bool.{Bool, true, cond}
 use mathlib.Core.List.{List, [], map}
 use borrow.Author.Tests.{ne-eqb}
-use lib.Dec.{eqb}
 use lib.IntN.{ℤ}
 use lib.ListN.{length, getD, length-map}
 use Rattle.exact.specs.Lists.{keep, count}
 use Rattle.record.specs.Layout.{Record}
 use Rattle.account.specs.Answers.{numberOf}
 use Rattle.account.specs.Check.{checked}
-use Rattle.account.specs.Notes.{inPart}
 use Rattle.account.specs.Parts.{ofKind, ofContract, contractsOf, promptsOf, rowsOf, spreadsOf, entriesOf}
 use Rattle.account.specs.Records.{records}
 use Rattle.account.specs.declared.answers.Answer.{Answer}
 use Rattle.account.specs.declared.check.Survey.{Survey}
-use Rattle.account.proofs.Accepted.{accepts}
 use Rattle.account.proofs.Every.{length-kept}
+use Rattle.account.proofs.Lawful.{lawful}
 use Rattle.account.proofs.Noted.{part-is}
 use Rattle.margin.specs.Books.{answered, book}
 use Rattle.margin.specs.Contract.{contracts, partsIn, asTier, opensOf, contractFrom}
@@ -32,39 +30,34 @@ use Rattle.margin.specs.Uses.{contractUses, tableUses, uses}
 use Rattle.margin.proofs.AskedLaws.{one-book, table-book, contract-asked, table-asked, asked-small, contract-length, table-length}
 use Rattle.margin.proofs.LineLaws.{opens-length}
 use Rattle.margin.proofs.QuestionLaws.{some, accepted-only, if-refused, if-accepted, if-then, as-many, too-few}
-use Rattle.margin.proofs.StandLaws.{contracts-are}
+use Rattle.margin.proofs.StandLaws.{contracts-are, counted}
 use Rattle.margin.proofs.UsesLaws.{spread-uses}
 
 module _ (file : List ℕ) (s : Survey) (st : Stands file s) where
   abbrev account : List Record
   account = records file
 
-  counted : (v : ℕ) → v < 81 → getD (s .counts) v 0 ≡ count (inPart v) account
-  counted v h =
-      st .surveyed .counts v h
-      ∙ ap (λ (a : Answer). cond (eqb (numberOf a) 0) (count (inPart v) account) 0) (st .accepted)
-
   of-contract : (n c : ℕ) → n ≤ 4 → c ≤ 15 → getD (s .counts) (16 * n + c) 0 ≡ length (keep (ofContract n c) account)
   of-contract n c hn hc =
-      counted (16 * n + c) (omega arith)
+      counted file s st (16 * n + c) (omega arith)
       ∙ ap (λ (p : Record → Bool). count p account) (part-is n c hn hc)
       ∙ sym (length-kept (ofContract n c) account)
 
   of-table : getD (s .counts) 80 0 ≡ length (entriesOf account)
-  of-table = counted 80 (omega arith) ∙ sym (length-kept (ofKind 5) account)
+  of-table = counted file s st 80 (omega arith) ∙ sym (length-kept (ofKind 5) account)
 
   pub table-sizes : (q : ℕ) → q ≡ 16 → SizesOf account q (s .contracts) (getD (s .counts) 80 0)
   table-sizes q e =
-      let limits = accepts file (st .accepted) .limits in
+      let limits = lawful file (st .accepted) .limits in
       let are = contracts-are file s st in
       let ks : length (contracts account) ≡ s .contracts = length-map (contractsOf account) (partsIn account) ∙ sym are in
       record {
         book-has =
-            ap length (table-book file (st .accepted) q e)
+            ap length (table-book account (lawful file (st .accepted)) q e)
             ∙ table-length (entriesOf account) (contracts account)
             ∙ ap₂ (λ (x y : ℕ). 3 * x + 2 * y) ks (sym of-table);
         uses-have =
-            ap length (table-asked file (st .accepted) contractUses tableUses (λ own. refl) q e)
+            ap length (table-asked account (lawful file (st .accepted)) contractUses tableUses (λ own. refl) q e)
             ∙ spread-uses (map intercontract (entriesOf account)) (map asTier (contracts account))
             ∙ ap₂ (λ (x y : ℕ). x * (2 * y)) (length-map (entriesOf account) intercontract ∙ sym of-table) (length-map (contracts account) asTier ∙ ks);
         prompts-few = omega (arith, are, limits .contracts);
@@ -73,8 +66,8 @@ module _ (file : List ℕ) (s : Survey) (st : Stands file s) where
 
   pub contract-sizes : (q : ℕ) → answered account q ≡ true → (q ≡ 16 → ⊥) → SizesOf account q (getD (s .counts) (32 + q) 0) (getD (s .counts) (64 + q) 0)
   contract-sizes q a apart =
-      let limits = accepts file (st .accepted) .limits in
-      let h = asked-small file (st .accepted) q a apart in
+      let limits = lawful file (st .accepted) .limits in
+      let h = asked-small account (lawful file (st .accepted)) q a apart in
       let prompts = of-contract 2 q (omega arith) h in
       let spreads = of-contract 4 q (omega arith) h in
       let ps = promptsOf q account in
@@ -82,11 +75,11 @@ module _ (file : List ℕ) (s : Survey) (st : Stands file s) where
       let ss = spreadsOf q account in
       record {
         book-has =
-            ap length (one-book file (st .accepted) q a apart)
+            ap length (one-book account (lawful file (st .accepted)) q a apart)
             ∙ contract-length [] ps rs ss
             ∙ ap₂ (λ (x y : ℕ). 3 * x + 2 * y) (sym prompts) (sym spreads);
         uses-have =
-            ap length (contract-asked file (st .accepted) contractUses tableUses (λ own. refl) q a apart)
+            ap length (contract-asked account (lawful file (st .accepted)) contractUses tableUses (λ own. refl) q a apart)
             ∙ spread-uses (map interprompt ss) (opensOf (contractFrom [] ps rs ss))
             ∙ ap₂ (λ (x y : ℕ). x * (2 * y)) (length-map ss interprompt ∙ sym spreads) (opens-length ps (netDeltas ps rs) (length-map ps _) ∙ sym prompts);
         prompts-few = omega (arith, prompts, limits .prompts q);

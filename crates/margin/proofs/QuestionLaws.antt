@@ -15,8 +15,9 @@ use Rattle.account.specs.Parts.{contractsOf, entriesOf}
 use Rattle.account.specs.Records.{records, recordCount}
 use Rattle.account.specs.Surveyed.{Surveyed}
 use Rattle.account.specs.declared.answers.Answer.{Answer}
-use Rattle.account.specs.declared.answers.Answer.the-variants.{Accepted, TooLong, CutRecord, UnknownKind, KindFalls, UnusedByte, FieldOutside, Unlisted, OutOfOrder, OverLimit, TooFewNumbers, NoSuchQuestion}
+use Rattle.account.specs.declared.answers.Answer.the-variants.{Accepted, TooFewNumbers, NoSuchQuestion}
 use Rattle.account.specs.declared.check.Survey.{Survey}
+pub use Rattle.account.proofs.NoonLaws.{accepted-only}
 use Rattle.spread.specs.Steps.{Open}
 use Rattle.margin.specs.Contract.{Contract, contracts, partsIn, asTier}
 use Rattle.margin.specs.Figures.{eights, figures, figuresOver, totalMargin}
@@ -26,21 +27,6 @@ use Rattle.margin.specs.Stands.{Stands}
 
 pub some : {n : ℕ} → suc n ≡ 0 → ⊥
 some e = omega arith
-
--- number 0 is given to an accepted file alone
-pub accepted-only : (a : Answer) → numberOf a ≡ 0 → a ≡ Accepted
-accepted-only Accepted e = refl
-accepted-only TooLong e = absurd (some e)
-accepted-only CutRecord e = absurd (some e)
-accepted-only (UnknownKind k) e = absurd (some e)
-accepted-only (KindFalls k) e = absurd (some e)
-accepted-only (UnusedByte k) e = absurd (some e)
-accepted-only (FieldOutside k) e = absurd (some e)
-accepted-only (Unlisted k) e = absurd (some e)
-accepted-only (OutOfOrder k) e = absurd (some e)
-accepted-only (OverLimit k) e = absurd (some e)
-accepted-only (TooFewNumbers k) e = absurd (some e)
-accepted-only (NoSuchQuestion k) e = absurd (some e)
 
 pub stands-from : (file : List ℕ) (s : Survey) → Surveyed file s → (n : ℕ) → n ≡ numberOf (s .answer) → n ≡ 0 → Stands file s
 stands-from file s is n e z = record { accepted = accepted-only (checked file) (ap numberOf (sym (is .answer)) ∙ sym e ∙ z); surveyed = is }

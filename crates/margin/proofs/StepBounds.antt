@@ -3,7 +3,7 @@
 use Prim.Native.Nat.{ℕ, zero, suc, _-_, _≤_, min, zero-le}
 use native.Mathlib.Nat.{le-refl, le-trans, div-le-self, add-le-add}
 use native.Mathlib.Omega.{arith}
-use mathlib.Core.Path.{ap, _∙_, subst, subst⁻¹}
+use mathlib.Core.Path.{ap, _∙_, subst⁻¹}
 use mathlib.Core.Bool.{Bool, true, false, cond}
 use mathlib.Core.List.{List, [], _∷_, map}
 use lib.Dec.{eqb}

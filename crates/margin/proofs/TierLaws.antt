@@ -1,4 +1,4 @@
--- The contracts of an accepted account as tiers, and the book of the intercontract table over them.
+-- The contracts of an account as tiers, and the book of the intercontract table over them.
 -- Assumes nothing.
 use Prim.Native.Nat.{ℕ, suc, _+_, _*_, _≤_, _<_, zero-le, suc-le-suc}
 use native.Mathlib.Nat.{le-trans, not-suc-le-zero, mul-le-mul-right}
@@ -16,8 +16,9 @@ use Rattle.exact.specs.Lists.{sumℤ}
 use Rattle.exact.proofs.Lists.{getD-map, abs-sum}
 use Rattle.record.specs.Layout.{Record, contract}
 use Rattle.account.specs.Parts.{contractsOf, entriesOf}
-use Rattle.account.specs.Records.{records, recordCount, stretch}
-use Rattle.account.specs.declared.check.Survey.{Survey}
+use Rattle.account.specs.Records.{records, recordCount}
+use Rattle.account.specs.Supplied.{Supplied, accountOf}
+use Rattle.account.specs.declared.joined.Joined.{Joined}
 use Rattle.spread.specs.Accepted as given
 use Rattle.spread.specs.Accepted.{every, soundPrompt}
 use Rattle.spread.specs.Book.{Booked}
@@ -38,7 +39,7 @@ use Rattle.margin.specs.Lines.{noLine}
 use Rattle.margin.specs.Numbers.{written, SpreadsSigned, BookNumbers}
 use Rattle.margin.specs.Position.{PositionOf, Bounded}
 use Rattle.margin.specs.Promised.{BookOf}
-use Rattle.margin.specs.Stands.{Stands, TierIs, TiersIn}
+use Rattle.margin.specs.Stands.{TierIs, TiersIn}
 use Rattle.margin.specs.Sums.{interleaved, deltasIn}
 use Rattle.margin.specs.Table.{tierOf}
 use Rattle.margin.specs.Tables.{TableOf}
@@ -47,7 +48,7 @@ use Rattle.margin.proofs.BookLaws.{first-at, second-at, book-accepted, 
 use Rattle.margin.proofs.ContractLaws.{net-is, net-sizes}
 use Rattle.margin.proofs.LineLaws.{spreads-sound, numbers-length, used-length, unused-length}
 use Rattle.margin.proofs.RecordLaws.{count-is}
-use Rattle.margin.proofs.StandLaws.{contracts-are, entries-part, entries-fit}
+use Rattle.margin.proofs.StandLaws.{entryPartIn, entries-part, entries-fit}
 use Rattle.margin.proofs.StepBounds.{sizes, number-within}
 use Rattle.margin.proofs.TableLaws.{Tiered, tiered-next, tiered-all, entry-accepted}
 
@@ -97,27 +98,27 @@ sound-sizes (p ∷ ps) e =
 
 -- ---- tiers, filled place by place
 
-pub record TieredTo (file : List ℕ) (i : ℕ) (ts : List ℕ) (ds : List Delta) : Type 0 where
-  pub tiered : Tiered (map lean (contracts (records file))) i ts ds
-  pub sound : (j : ℕ) → j < i → soundPrompt (asTier (getD (contracts (records file)) j (partsIn (records file) []))) ≡ true
+pub record TieredTo (account : List Record) (i : ℕ) (ts : List ℕ) (ds : List Delta) : Type 0 where
+  pub tiered : Tiered (map lean (contracts account)) i ts ds
+  pub sound : (j : ℕ) → j < i → soundPrompt (asTier (getD (contracts account) j (partsIn account []))) ≡ true
 
-module _ (file : List ℕ) where
+module _ (account : List Record) where
   abbrev ks : List Contract
-  ks = contracts (records file)
+  ks = contracts account
 
   abbrev kd : Contract
-  kd = partsIn (records file) []
+  kd = partsIn account []
 
-  ks-length : length ks ≡ length (contractsOf (records file))
-  ks-length = length-map (contractsOf (records file)) (partsIn (records file))
+  ks-length : length ks ≡ length (contractsOf account)
+  ks-length = length-map (contractsOf account) (partsIn account)
 
-  pub tiers-none : (ts : List ℕ) (ds : List Delta) → length ts ≡ 32 → length ds ≡ 32 → TieredTo file 0 ts ds
+  pub tiers-none : (ts : List ℕ) (ds : List Delta) → length ts ≡ 32 → length ds ≡ 32 → TieredTo account 0 ts ds
   tiers-none ts ds lt ln = record { tiered = record { tiers = lt; nets = ln; so-far = refl }; sound = λ j h. absurd (not-suc-le-zero h) }
 
-  pub tiers-next : (i : ℕ) (ts : List ℕ) (ds : List Delta) (t : ℕ) (d : Delta) → TieredTo file i ts ds → i < 16 → i < length (contractsOf (records file))
-      → TierIs (partsIn (records file) (getD (contractsOf (records file)) i [])) t (d .0) → TieredTo file (i + 1) (set ts i t) (set ds i d)
+  pub tiers-next : (i : ℕ) (ts : List ℕ) (ds : List Delta) (t : ℕ) (d : Delta) → TieredTo account i ts ds → i < 16 → i < length (contractsOf account)
+      → TierIs (partsIn account (getD (contractsOf account) i [])) t (d .0) → TieredTo account (i + 1) (set ts i t) (set ds i d)
   tiers-next i ts ds t d is few h tier =
-      let here : TierIs (getD ks i kd) t (d .0) = subst⁻¹ (λ (k : Contract). TierIs k t (d .0)) (getD-map (partsIn (records file)) (contractsOf (records file)) i [] kd h) tier in
+      let here : TierIs (getD ks i kd) t (d .0) = subst⁻¹ (λ (k : Contract). TierIs k t (d .0)) (getD-map (partsIn account) (contractsOf account) i [] kd h) tier in
       let l : i < length ks = omega (arith, ks-length) in
       record {
         tiered =
@@ -130,7 +131,7 @@ module _ (file : List ℕ) where
       go j m here (yes q) = subst⁻¹ (λ (n : ℕ). soundPrompt (asTier (getD ks n kd)) ≡ true) q (tier-sound (getD ks i kd) t (d .0) here)
       go j m here (no q) = is .sound j (omega (arith, q))
 
-  pub tiers-all : (i : ℕ) (p : Prompts) → TieredTo file i (p .tier) (p .net) → p .count ≡ i → i ≡ length (contractsOf (records file)) → i ≤ 16 → TiersIn file p
+  pub tiers-all : (i : ℕ) (p : Prompts) → TieredTo account i (p .tier) (p .net) → p .count ≡ i → i ≡ length (contractsOf account) → i ≤ 16 → TiersIn account p
   tiers-all i p is c e few =
       let from = tiered-all (map lean ks) i i p (is .tiered) refl c in
       let n : length (map lean ks) ≤ i = rw length-map (omega (arith, ks-length)) in
@@ -144,12 +145,12 @@ module _ (file : List ℕ) where
 
 -- ---- the book of the table
 
-module _ (file : List ℕ) (s : Survey) (st : Stands file s) (p : Prompts) (is : TiersIn file p) (part : List ℕ) (ep : part ≡ stretch file (getD (s .first) 80 0) (getD (s .counts) 80 0)) where
+module _ (morning noon : List ℕ) (j : Joined) (st : Supplied morning noon j) (p : Prompts) (is : TiersIn (accountOf morning noon) p) (part : List ℕ) (ep : part ≡ entryPartIn morning noon j st) where
   abbrev account : List Record
-  account = records file
+  account = accountOf morning noon
 
   pub entries-few : recordCount part ≤ 32
-  entries-few = omega (arith, (entries-fit file s st part ep) .few, count-is part)
+  entries-few = omega (arith, (entries-fit morning noon j st part ep) .few, count-is part)
 
   pub ps-length : length (map asTier (contracts account)) ≡ p .count
   ps-length = length-map (contracts account) asTier ∙ length-map (contractsOf account) (partsIn account) ∙ sym (is .count-is)
@@ -159,7 +160,7 @@ module _ (file : List ℕ) (s : Survey) (st : Stands file s) (p : Prompts) (is :
   tiers-accepted t table =
       handed-sound p t (map asTier (contracts account)) (map intercontract (records part)) (is .opens-are) (table .spreads-are)
       (omega (arith, is .few)) (omega (arith, table .count-is, entries-few)) (is .tiers-sound)
-      (spreads-sound intercontract (records part) (λ k h. entry-accepted (getD (records part) k []) ((entries-fit file s st part ep) .each k h)))
+      (spreads-sound intercontract (records part) (λ k h. entry-accepted (getD (records part) k []) ((entries-fit morning noon j st part ep) .each k h)))
 
   module _ (t : Table) (table : TableOf intercontract part t) (b : Book) (booked : Booked p t b) where
     book-is : BookOf (steps (map intercontract (records part))) (map asTier (contracts account)) b
@@ -189,14 +190,14 @@ module _ (file : List ℕ) (s : Survey) (st : Stands file s) (p : Prompts) (is :
     -- the numbers of the table's book
     pub tiers-listed : (r : Numbers) (m : ℕ) → m ≡ recordCount part → r .count ≡ 3 * p .count + 2 * m
         → written r ≡ threes (take (p .count) (deltasIn (p .net))) (take (p .count) (deltasIn (b .used))) (take (p .count) (deltasIn (b .unused))) ++ map pos (interleaved (take m (b .first)) (take m (b .second)))
-        → BookNumbers (tableBook (entriesOf account) (contracts account)) (s .contracts) (length (entriesOf account)) r
+        → BookNumbers (tableBook (entriesOf account) (contracts account)) (j .contracts) (length (entriesOf account)) r
     tiers-listed r m em ec el =
         let ss = steps (map intercontract (records part)) in
         let ps = map asTier (contracts account) in
         let few = is .few in
         let fe = entries-few in
-        let c = contracts-are file s st in
-        let d = ap length (entries-part file s st part ep) in
+        let c = st .places .contracts in
+        let d = ap length (entries-part morning noon j st part ep) in
         let e = is .count-is in
         let g = count-is part in
         record {
@@ -204,7 +205,7 @@ module _ (file : List ℕ) (s : Survey) (st : Stands file s) (p : Prompts) (is :
               book-listed ss ps b (take (p .count) (deltasIn (p .net))) (p .count) m (written r) book-is ps-length (omega arith) (numbers-length intercontract (records part) ps ∙ ap (λ (x : ℕ). 2 * x) (g ∙ sym em)) (omega arith)
               (used-length ss ps ∙ ps-length) (unused-length ss ps ∙ ps-length) el
               ∙ ap (λ (zs : List ℤ). threes zs (usedOf ss ps) (unusedOf ss ps) ++ map pos (numbers ss ps)) (is .nets-are)
-              ∙ ap (λ (x : List Record). tableBook x (contracts account)) (entries-part file s st part ep);
+              ∙ ap (λ (x : List Record). tableBook x (contracts account)) (entries-part morning noon j st part ep);
           count-is = omega arith;
           few = omega arith;
         }

@@ -13,8 +13,9 @@ use lib.ListN.{length, length-append, length-map, getD, take, drop, drop-of-leng
 use lib.Seq.{sets, length-sets, drop-cons, getD-take, length-take-le}
 use borrow.Author.Tests.{leb-true}
 use Rattle.account.specs.Parts.{entriesOf}
-use Rattle.account.specs.Records.{records, stretch}
-use Rattle.account.specs.declared.check.Survey.{Survey}
+use Rattle.account.specs.Records.{records}
+use Rattle.account.specs.Supplied.{Supplied, accountOf}
+use Rattle.account.specs.declared.joined.Joined.{Joined}
 use Rattle.spread.specs.Accepted.{every, openOf, spreadsOf, soundSpread, soundPrompts, soundTable, sound}
 use Rattle.spread.specs.Book.{entries, deltaEntry}
 use Rattle.spread.specs.Cells.{stepOf}
@@ -33,7 +34,7 @@ use Rattle.margin.specs.declared.rows.Position.{Position}
 use Rattle.margin.specs.Contract.{contractFrom, contracts, asTier}
 use Rattle.margin.specs.Deltas.{opens, interprompt, intercontract, netDeltas}
 use Rattle.margin.specs.Position.{PositionOf, Bounded}
-use Rattle.margin.specs.Stands.{Stands, TiersIn}
+use Rattle.margin.specs.Stands.{TiersIn}
 use Rattle.margin.specs.Sums.{deltasIn}
 use Rattle.margin.specs.Tables.{TiersOf, TableOf}
 use Rattle.margin.specs.Uses.{contractUses, tableUses, LeftBy, Asks}
@@ -43,7 +44,7 @@ use Rattle.margin.proofs.ContractLaws.{book-room, nets-are}
 use Rattle.margin.proofs.LineLaws.{opens-length, steps-length, used-length}
 use Rattle.margin.proofs.NumberLaws.{sets-append}
 use Rattle.margin.proofs.RecordLaws.{count-is}
-use Rattle.margin.proofs.StandLaws.{entries-part}
+use Rattle.margin.proofs.StandLaws.{entryPartIn, entries-part}
 use Rattle.margin.proofs.TierLaws.{ps-length, tiers-accepted}
 
 -- ---- one step
@@ -219,11 +220,11 @@ contract-asks prompts rows spreads w q is most p t tiers table =
     (tiers .count-is ∙ sym (count-is prompts) ∙ sym (opens-length (records prompts) (netDeltas (records prompts) (records rows)) (length-map (records prompts) _)))
     (table .count-is ∙ sym (count-is spreads) ∙ sym (length-map (records spreads) interprompt))
 
-pub table-asks : (file : List ℕ) (s : Survey) (st : Stands file s) (p : Prompts) (is : TiersIn file p) (part : List ℕ) (ep : part ≡ stretch file (getD (s .first) 80 0) (getD (s .counts) 80 0))
-    → (t : Table) → TableOf intercontract part t → Asks (tableUses (entriesOf (records file)) (contracts (records file))) (record { prompts = p; table = t })
-table-asks file s st p is part ep t table =
-    let es = entries-part file s st part ep in
-    asks p t (map asTier (contracts (records file))) (map intercontract (entriesOf (records file))) (is .opens-are) (table .spreads-are ∙ ap (map intercontract) es)
-    (tiers-accepted file s st p is part ep t table)
-    (sym (ps-length file s st p is part ep))
-    (table .count-is ∙ sym (count-is part) ∙ ap length es ∙ sym (length-map (entriesOf (records file)) intercontract))
+pub table-asks : (morning noon : List ℕ) (j : Joined) (st : Supplied morning noon j) (p : Prompts) (is : TiersIn (accountOf morning noon) p) (part : List ℕ) (ep : part ≡ entryPartIn morning noon j st)
+    → (t : Table) → TableOf intercontract part t → Asks (tableUses (entriesOf (accountOf morning noon)) (contracts (accountOf morning noon))) (record { prompts = p; table = t })
+table-asks morning noon j st p is part ep t table =
+    let es = entries-part morning noon j st part ep in
+    asks p t (map asTier (contracts (accountOf morning noon))) (map intercontract (entriesOf (accountOf morning noon))) (is .opens-are) (table .spreads-are ∙ ap (map intercontract) es)
+    (tiers-accepted morning noon j st p is part ep t table)
+    (sym (ps-length morning noon j st p is part ep))
+    (table .count-is ∙ sym (count-is part) ∙ ap length es ∙ sym (length-map (entriesOf (accountOf morning noon)) intercontract))

@@ -9,7 +9,7 @@ use lib.IntN.{ℤ, pos}
 use lib.ListN.{length}
 use Rattle.exact.specs.Lists.{sumℤ}
 use Rattle.account.specs.Answers.{numberOf, recordOf}
-use Rattle.record.specs.Layout.{mostContract}
+use Rattle.record.specs.Layout.{Record, mostContract}
 use Rattle.account.specs.Check.{checked}
 use Rattle.account.specs.Claims.{Iff, Claims}
 use Rattle.account.specs.Orders.{Later}
@@ -69,9 +69,9 @@ pub record Holds (written taken nets : List ℤ) (ss : List (List Taker)) (ps : 
   pub demand : Demand3 ss ps
   pub paid : WhoPaid ss ps
 
-pub record Demanded (file : List ℕ) : Type 0 where
-  pub interprompt : (c : ℕ) → answered (records file) c ≡ true → (c ≡ tableQuestion → ⊥)
-      → Holds (book (records file) c) (uses (records file) c) (partsOf (records file) c .nets) (stepsOf (partsOf (records file) c)) (opensOf (partsOf (records file) c))
-  pub intercontract : Holds (book (records file) tableQuestion) (uses (records file) tableQuestion) (map contractNet (contracts (records file))) (tableSteps (entriesOf (records file))) (map asTier (contracts (records file)))
+pub record Demanded (account : List Record) : Type 0 where
+  pub interprompt : (c : ℕ) → answered account c ≡ true → (c ≡ tableQuestion → ⊥)
+      → Holds (book account c) (uses account c) (partsOf account c .nets) (stepsOf (partsOf account c)) (opensOf (partsOf account c))
+  pub intercontract : Holds (book account tableQuestion) (uses account tableQuestion) (map contractNet (contracts account)) (tableSteps (entriesOf account)) (map asTier (contracts account))
   -- "earlier dates": the prompts of a contract stand by their days
-  pub dates : (c : ℕ) → c ≤ mostContract → Later (promptsOf c (records file))
+  pub dates : (c : ℕ) → c ≤ mostContract → Later (promptsOf c account)

@@ -25,3 +25,4 @@ pub mod Demands
 pub mod Held
 pub mod Uses
 pub mod Needs
+pub mod Noon

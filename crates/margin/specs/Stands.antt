@@ -8,12 +8,11 @@ use lib.IntN.{ℤ, natAbs}
 use lib.ListN.{length, getD, take}
 use Rattle.account.specs.Check.{checked, mostContracts}
 use Rattle.account.specs.Parts.{contractsOf}
-use Rattle.account.specs.Records.{records}
 use Rattle.account.specs.Surveyed.{Surveyed}
 use Rattle.account.specs.declared.answers.Answer.the-variants.{Accepted}
 use Rattle.account.specs.declared.check.Survey.{Survey}
 use Rattle.margin.specs.declared.accepted.Lines.{Lines}
-use Rattle.record.specs.Layout.{contract, mostContract}
+use Rattle.record.specs.Layout.{Record, contract, mostContract}
 use Rattle.spread.specs.Accepted.{every, soundPrompt, openOf}
 use Rattle.spread.specs.declared.Prompts.{Prompts}
 use Rattle.margin.specs.Bounds.{mostDelta}
@@ -27,11 +26,11 @@ pub record Stands (file : List ℕ) (s : Survey) : Type 0 where
   pub surveyed : Surveyed file s
 
 -- the lines of the account's contracts, in file order
-pub record LinesOf (file : List ℕ) (ls : Lines) : Type 0 where
-  pub count-is : ls .count ≡ length (contractsOf (records file))
+pub record LinesOf (account : List Record) (ls : Lines) : Type 0 where
+  pub count-is : ls .count ≡ length (contractsOf account)
   pub few : ls .count ≤ mostContracts
   pub places : length (ls .line) ≡ mostContracts
-  pub each : (i : ℕ) → i < ls .count → LineOf (partsIn (records file) (getD (contractsOf (records file)) i [])) (getD (ls .line) i noLine)
+  pub each : (i : ℕ) → i < ls .count → LineOf (partsIn account (getD (contractsOf account) i [])) (getD (ls .line) i noLine)
 
 -- a contract's number and its net delta
 pub record TierIs (k : Contract) (number : ℕ) (net : ℤ) : Type 0 where
@@ -41,9 +40,9 @@ pub record TierIs (k : Contract) (number : ℕ) (net : ℤ) : Type 0 where
   pub net-within : natAbs net ≤ mostDelta
 
 -- the account's contracts as tiers, in file order
-pub record TiersIn (file : List ℕ) (p : Prompts) : Type 0 where
-  pub count-is : p .count ≡ length (contractsOf (records file))
+pub record TiersIn (account : List Record) (p : Prompts) : Type 0 where
+  pub count-is : p .count ≡ length (contractsOf account)
   pub few : p .count ≤ mostContracts
-  pub opens-are : openOf p ≡ map asTier (contracts (records file))
-  pub nets-are : take (p .count) (deltasIn (p .net)) ≡ map contractNet (contracts (records file))
-  pub tiers-sound : every soundPrompt (map asTier (contracts (records file))) ≡ true
+  pub opens-are : openOf p ≡ map asTier (contracts account)
+  pub nets-are : take (p .count) (deltasIn (p .net)) ≡ map contractNet (contracts account)
+  pub tiers-sound : every soundPrompt (map asTier (contracts account)) ≡ true

@@ -1,4 +1,4 @@
-// An accepted account, by its survey: the lines of its contracts, and the numbers of its answers.
+// An accepted account, by where its parts stand: the lines of its contracts, and the numbers of its answers.
 use crate::amount::Amount;
 use crate::books::contract_book;
 use crate::intercontract::table_credits;
@@ -16,29 +16,33 @@ use crate::uses::Asking;
 use account::answers::Answer;
 use account::answers::number_of;
 use account::check::Survey;
+use account::joined::Joined;
+use account::joined::in_one_file;
+use account::joined::supplier;
 use account::parts::CONTRACTS;
 use account::parts::ENTRIES;
 use account::parts::OWN;
+use account::parts::PARTS;
 use account::parts::PROMPTS;
 use account::parts::ROWS;
 use account::parts::SPREADS;
 use account::stretches::record_at;
 use account::stretches::record_count;
 use account::stretches::stretch;
-use record::fields::contract;
 use spread::Delta;
 use spread::MOST_PROMPTS;
 use spread::Prompts;
 use spread::book::delta_book;
 ghost use mathlib.Core.Path.{_≡_};
 ghost use mathlib.Core.Bool.{true, not, _||_};
-ghost use mathlib.Core.List.{[]};
-ghost use Prim.Native.Nat.{_+_, _*_, _≤_, _<_};
+ghost use mathlib.Core.List.{List, []};
+ghost use Prim.Native.Nat.{ℕ, _+_, _*_, _≤_, _<_};
 ghost use lib.Dec.{eqb};
 ghost use lib.ListN.{length, getD};
 ghost use Rattle.account.specs.Check.{checked};
 ghost use Rattle.account.specs.Parts.{contractsOf, promptsOf, spreadsOf, entriesOf};
 ghost use Rattle.account.specs.Records.{records, recordCount, stretch};
+ghost use Rattle.account.specs.Supplied.{Supplied, accountOf};
 ghost use Rattle.account.specs.Surveyed.{Surveyed};
 ghost use Rattle.record.specs.Layout.{mostContract};
 ghost use Rattle.margin.specs.Books.{contractBook, tableBook, tableQuestion, answered, askedBy, book};
@@ -61,6 +65,21 @@ pub struct Lines {
     pub line: [Line; CONTRACTS],
 }
 
+// No records: the noon file of an account that stands in one file.
+pub(crate) fn nothing_of(file: &[u8]) -> &[u8]
+    ensures { λ r. ⌜ now r ≡ [] ⌝ }
+{
+    &file[0..0]
+}
+
+// An account that stands in one file.
+pub(crate) fn alone(file: &[u8], survey: Survey) -> Joined
+    requires { ⌜ Stands (now file) survey ⌝ }
+    ensures { λ r. ⌜ ((none : List ℕ) → none ≡ [] → Supplied (now (file .entry)) none r) ⌝ }
+{
+    in_one_file(survey, record_count(file))
+}
+
 // A part of the file, by where it begins and how many records it has.
 fn part_at(file: &[u8], first: u16, count: u16) -> &[u8]
     ensures { λ r. ⌜ now r ≡ stretch (now (file .entry)) first count ⌝ }
@@ -69,15 +88,16 @@ fn part_at(file: &[u8], first: u16, count: u16) -> &[u8]
 }
 
 // The line of the i-th contract.
-fn line_at(file: &[u8], survey: Survey, i: usize) -> Line
-    requires { ⌜ Stands (now file) survey × (i < survey .contracts) ⌝ }
-    ensures { λ r. ⌜ LineOf (partsIn (records (now (file .entry))) (getD (contractsOf (records (now (file .entry)))) i [])) r ⌝ }
+fn line_at<'a>(morning: &'a [u8], noon: &'a [u8], joined: Joined, i: usize) -> Line
+    requires { ⌜ Supplied (now morning) (now noon) joined × (i < joined .contracts) ⌝ }
+    ensures { λ r. ⌜ LineOf (partsIn (accountOf (now (morning .entry)) (now (noon .entry))) (getD (contractsOf (accountOf (now (morning .entry)) (now (noon .entry)))) i [])) r ⌝ }
 {
-    let own = record_at(file, i);
-    let c = contract(own);
-    let prompts = part_at(file, survey.first[PROMPTS + c], survey.counts[PROMPTS + c]);
-    let rows = part_at(file, survey.first[ROWS + c], survey.counts[ROWS + c]);
-    let spreads = part_at(file, survey.first[SPREADS + c], survey.counts[SPREADS + c]);
+    let c = joined.numbers[i] as usize;
+    let file = supplier(morning, noon, joined.noon[c]);
+    let own = record_at(file, joined.first[OWN + c] as usize);
+    let prompts = part_at(file, joined.first[PROMPTS + c], joined.counts[PROMPTS + c]);
+    let rows = part_at(file, joined.first[ROWS + c], joined.counts[ROWS + c]);
+    let spreads = part_at(file, joined.first[SPREADS + c], joined.counts[SPREADS + c]);
     line_of(own, prompts, rows, spreads)
 }
 
@@ -95,15 +115,15 @@ fn no_line() -> Line {
 }
 
 // The lines of all contracts, in file order.
-fn lines_of(file: &[u8], survey: Survey) -> Lines
-    requires { ⌜ Stands (now file) survey ⌝ }
-    ensures { λ r. ⌜ LinesOf (now (file .entry)) r ⌝ }
+fn lines_of<'a>(morning: &'a [u8], noon: &'a [u8], joined: Joined) -> Lines
+    requires { ⌜ Supplied (now morning) (now noon) joined ⌝ }
+    ensures { λ r. ⌜ LinesOf (accountOf (now (morning .entry)) (now (noon .entry))) r ⌝ }
 {
-    let count = survey.contracts;
+    let count = joined.contracts;
     let mut lines = [no_line(); CONTRACTS];
     let mut i = 0;
     while i < count {
-        lines[i] = line_at(file, survey, i);
+        lines[i] = line_at(morning, noon, joined, i);
         i += 1;
     }
     Lines {
@@ -113,14 +133,14 @@ fn lines_of(file: &[u8], survey: Survey) -> Lines
 }
 
 // The numbers of the figures.
-pub(crate) fn figures_over(file: &[u8], survey: Survey) -> Numbers
-    requires { ⌜ Stands (now file) survey ⌝ }
-    ensures { λ r. ⌜ (written r ≡ figures (records (now (file .entry)))) × (r .count ≡ 8 * survey .contracts + 1) × (r .count ≤ longestBook) ⌝ }
+pub(crate) fn figures_over<'a>(morning: &'a [u8], noon: &'a [u8], joined: Joined) -> Numbers
+    requires { ⌜ Supplied (now morning) (now noon) joined ⌝ }
+    ensures { λ r. ⌜ (written r ≡ figures (accountOf (now (morning .entry)) (now (noon .entry)))) × (r .count ≡ 8 * joined .contracts + 1) × (r .count ≤ longestBook) ⌝ }
 {
-    let all = lines_of(file, survey);
+    let all = lines_of(morning, noon, joined);
     let count = all.count;
     let lines = all.line;
-    let entries = part_at(file, survey.first[ENTRIES], survey.counts[ENTRIES]);
+    let entries = part_at(morning, joined.first[ENTRIES], joined.counts[ENTRIES]);
     let credits = table_credits(count, lines, entries);
     figures_numbers(count, lines, credits)
 }
@@ -149,13 +169,14 @@ fn contract_answer(prompts: &[u8], rows: &[u8], spreads: &[u8]) -> Numbers
 }
 
 // The numbers of the book of contract `c`.
-fn contract_numbers(file: &[u8], survey: Survey, c: usize) -> Numbers
-    requires { ⌜ Stands (now file) survey × (c ≤ mostContract) ⌝ }
-    ensures { λ r. ⌜ BookNumbers (contractBook (partsOf (records (now (file .entry))) c)) (length (promptsOf c (records (now (file .entry))))) (length (spreadsOf c (records (now (file .entry))))) r ⌝ }
+fn contract_numbers<'a>(morning: &'a [u8], noon: &'a [u8], joined: Joined, c: usize) -> Numbers
+    requires { ⌜ Supplied (now morning) (now noon) joined × (c ≤ mostContract) ⌝ }
+    ensures { λ r. ⌜ BookNumbers (contractBook (partsOf (accountOf (now (morning .entry)) (now (noon .entry))) c)) (length (promptsOf c (accountOf (now (morning .entry)) (now (noon .entry))))) (length (spreadsOf c (accountOf (now (morning .entry)) (now (noon .entry))))) r ⌝ }
 {
-    let prompts = part_at(file, survey.first[PROMPTS + c], survey.counts[PROMPTS + c]);
-    let rows = part_at(file, survey.first[ROWS + c], survey.counts[ROWS + c]);
-    let spreads = part_at(file, survey.first[SPREADS + c], survey.counts[SPREADS + c]);
+    let file = supplier(morning, noon, joined.noon[c]);
+    let prompts = part_at(file, joined.first[PROMPTS + c], joined.counts[PROMPTS + c]);
+    let rows = part_at(file, joined.first[ROWS + c], joined.counts[ROWS + c]);
+    let spreads = part_at(file, joined.first[SPREADS + c], joined.counts[SPREADS + c]);
     contract_answer(prompts, rows, spreads)
 }
 
@@ -166,14 +187,14 @@ struct Tier {
 }
 
 // The i-th contract as a tier: its net delta, without its book and its charges.
-fn tier_at(file: &[u8], survey: Survey, i: usize) -> Tier
-    requires { ⌜ Stands (now file) survey × (i < survey .contracts) ⌝ }
-    ensures { λ r. ⌜ TierIs (partsIn (records (now (file .entry))) (getD (contractsOf (records (now (file .entry)))) i [])) (r .contract) (r .net .0) ⌝ }
+fn tier_at<'a>(morning: &'a [u8], noon: &'a [u8], joined: Joined, i: usize) -> Tier
+    requires { ⌜ Supplied (now morning) (now noon) joined × (i < joined .contracts) ⌝ }
+    ensures { λ r. ⌜ TierIs (partsIn (accountOf (now (morning .entry)) (now (noon .entry))) (getD (contractsOf (accountOf (now (morning .entry)) (now (noon .entry)))) i [])) (r .contract) (r .net .0) ⌝ }
 {
-    let own = record_at(file, i);
-    let c = contract(own);
-    let prompts = part_at(file, survey.first[PROMPTS + c], survey.counts[PROMPTS + c]);
-    let rows = part_at(file, survey.first[ROWS + c], survey.counts[ROWS + c]);
+    let c = joined.numbers[i] as usize;
+    let file = supplier(morning, noon, joined.noon[c]);
+    let prompts = part_at(file, joined.first[PROMPTS + c], joined.counts[PROMPTS + c]);
+    let rows = part_at(file, joined.first[ROWS + c], joined.counts[ROWS + c]);
     let p = position_of(prompts, rows);
     let nets = p.nets;
     let net = contract_net(nets);
@@ -184,16 +205,16 @@ fn tier_at(file: &[u8], survey: Survey, i: usize) -> Tier
 }
 
 // The contracts as tiers, in file order.
-fn tiers_over(file: &[u8], survey: Survey) -> Prompts
-    requires { ⌜ Stands (now file) survey ⌝ }
-    ensures { λ r. ⌜ TiersIn (now (file .entry)) r ⌝ }
+fn tiers_over<'a>(morning: &'a [u8], noon: &'a [u8], joined: Joined) -> Prompts
+    requires { ⌜ Supplied (now morning) (now noon) joined ⌝ }
+    ensures { λ r. ⌜ TiersIn (accountOf (now (morning .entry)) (now (noon .entry))) r ⌝ }
 {
-    let count = survey.contracts;
+    let count = joined.contracts;
     let mut tiers = [0u8; MOST_PROMPTS];
     let mut nets = [Delta(0); MOST_PROMPTS];
     let mut i = 0;
     while i < count {
-        let one = tier_at(file, survey, i);
+        let one = tier_at(morning, noon, joined, i);
         tiers[i] = one.contract;
         let net = one.net;
         nets[i] = net;
@@ -207,14 +228,14 @@ fn tiers_over(file: &[u8], survey: Survey) -> Prompts
 }
 
 // The numbers of the book of the intercontract table.
-fn table_numbers(file: &[u8], survey: Survey) -> Numbers
-    requires { ⌜ Stands (now file) survey ⌝ }
-    ensures { λ r. ⌜ BookNumbers (tableBook (entriesOf (records (now (file .entry)))) (contracts (records (now (file .entry))))) (survey .contracts) (length (entriesOf (records (now (file .entry))))) r ⌝ }
+fn table_numbers<'a>(morning: &'a [u8], noon: &'a [u8], joined: Joined) -> Numbers
+    requires { ⌜ Supplied (now morning) (now noon) joined ⌝ }
+    ensures { λ r. ⌜ BookNumbers (tableBook (entriesOf (accountOf (now (morning .entry)) (now (noon .entry)))) (contracts (accountOf (now (morning .entry)) (now (noon .entry))))) (joined .contracts) (length (entriesOf (accountOf (now (morning .entry)) (now (noon .entry))))) r ⌝ }
 {
-    let tiers = tiers_over(file, survey);
+    let tiers = tiers_over(morning, noon, joined);
     let count = tiers.count;
     let nets = tiers.net;
-    let entries = part_at(file, survey.first[ENTRIES], survey.counts[ENTRIES]);
+    let entries = part_at(morning, joined.first[ENTRIES], joined.counts[ENTRIES]);
     let book = delta_book(tiers, intercontract_table(entries));
     let used = book.used;
     let unused = book.unused;
@@ -232,14 +253,19 @@ fn table_numbers(file: &[u8], survey: Survey) -> Numbers
 }
 
 // The numbers of the delta book that a question asks for.
-pub(crate) fn book_over(file: &[u8], survey: Survey, question: usize) -> Numbers
-    requires { ⌜ Stands (now file) survey × (answered (records (now file)) question ≡ true) ⌝ }
-    ensures { λ r. ⌜ (written r ≡ book (records (now (file .entry))) question) × (length (book (records (now (file .entry))) question) ≡ r .count) × (r .count ≤ longestBook) ⌝ }
+pub(crate) fn book_over<'a>(
+    morning: &'a [u8],
+    noon: &'a [u8],
+    joined: Joined,
+    question: usize,
+) -> Numbers
+    requires { ⌜ Supplied (now morning) (now noon) joined × (answered (accountOf (now morning) (now noon)) question ≡ true) ⌝ }
+    ensures { λ r. ⌜ (written r ≡ book (accountOf (now (morning .entry)) (now (noon .entry))) question) × (length (book (accountOf (now (morning .entry)) (now (noon .entry))) question) ≡ r .count) × (r .count ≤ longestBook) ⌝ }
 {
     if question == TABLE {
-        return table_numbers(file, survey);
+        return table_numbers(morning, noon, joined);
     }
-    contract_numbers(file, survey, question)
+    contract_numbers(morning, noon, joined, question)
 }
 
 // A contract's prompts with their net deltas, and its interprompt spreads.
@@ -256,37 +282,43 @@ fn contract_asking(prompts: &[u8], rows: &[u8], spreads: &[u8]) -> Asking
 }
 
 // The same by the contract's number.
-fn asking_of(file: &[u8], survey: Survey, c: usize) -> Asking
-    requires { ⌜ Stands (now file) survey × (c ≤ mostContract) ⌝ }
-    ensures { λ r. ⌜ Asks (contractUses (partsOf (records (now (file .entry))) c)) r ⌝ }
+fn asking_of<'a>(morning: &'a [u8], noon: &'a [u8], joined: Joined, c: usize) -> Asking
+    requires { ⌜ Supplied (now morning) (now noon) joined × (c ≤ mostContract) ⌝ }
+    ensures { λ r. ⌜ Asks (contractUses (partsOf (accountOf (now (morning .entry)) (now (noon .entry))) c)) r ⌝ }
 {
-    let prompts = part_at(file, survey.first[PROMPTS + c], survey.counts[PROMPTS + c]);
-    let rows = part_at(file, survey.first[ROWS + c], survey.counts[ROWS + c]);
-    let spreads = part_at(file, survey.first[SPREADS + c], survey.counts[SPREADS + c]);
+    let file = supplier(morning, noon, joined.noon[c]);
+    let prompts = part_at(file, joined.first[PROMPTS + c], joined.counts[PROMPTS + c]);
+    let rows = part_at(file, joined.first[ROWS + c], joined.counts[ROWS + c]);
+    let spreads = part_at(file, joined.first[SPREADS + c], joined.counts[SPREADS + c]);
     contract_asking(prompts, rows, spreads)
 }
 
 // The contracts as tiers, and the intercontract spreads.
-fn table_asking(file: &[u8], survey: Survey) -> Asking
-    requires { ⌜ Stands (now file) survey ⌝ }
-    ensures { λ r. ⌜ Asks (tableUses (entriesOf (records (now (file .entry)))) (contracts (records (now (file .entry))))) r ⌝ }
+fn table_asking<'a>(morning: &'a [u8], noon: &'a [u8], joined: Joined) -> Asking
+    requires { ⌜ Supplied (now morning) (now noon) joined ⌝ }
+    ensures { λ r. ⌜ Asks (tableUses (entriesOf (accountOf (now (morning .entry)) (now (noon .entry)))) (contracts (accountOf (now (morning .entry)) (now (noon .entry))))) r ⌝ }
 {
-    let entries = part_at(file, survey.first[ENTRIES], survey.counts[ENTRIES]);
+    let entries = part_at(morning, joined.first[ENTRIES], joined.counts[ENTRIES]);
     Asking {
-        prompts: tiers_over(file, survey),
+        prompts: tiers_over(morning, noon, joined),
         table: intercontract_table(entries),
     }
 }
 
 // What a question asks about.
-pub(crate) fn asking_over(file: &[u8], survey: Survey, question: usize) -> Asking
-    requires { ⌜ Stands (now file) survey × (answered (records (now file)) question ≡ true) ⌝ }
-    ensures { λ r. ⌜ Asks (uses (records (now (file .entry))) question) r ⌝ }
+pub(crate) fn asking_over<'a>(
+    morning: &'a [u8],
+    noon: &'a [u8],
+    joined: Joined,
+    question: usize,
+) -> Asking
+    requires { ⌜ Supplied (now morning) (now noon) joined × (answered (accountOf (now morning) (now noon)) question ≡ true) ⌝ }
+    ensures { λ r. ⌜ Asks (uses (accountOf (now (morning .entry)) (now (noon .entry))) question) r ⌝ }
 {
     if question == TABLE {
-        return table_asking(file, survey);
+        return table_asking(morning, noon, joined);
     }
-    asking_of(file, survey, question)
+    asking_of(morning, noon, joined, question)
 }
 
 // Whether a question is 16, or a contract of which there is a record of its own.
@@ -297,13 +329,13 @@ pub(crate) fn is_listed(own: u16, question: usize) -> bool
 }
 
 // Whether a question is a listed contract or 16.
-fn is_asked(survey: Survey, question: usize) -> bool
-    ensures { λ r. ⌜ r ≡ askedBy (survey .counts) question ⌝ }
+pub(crate) fn is_asked(counts: [u16; PARTS], question: usize) -> bool
+    ensures { λ r. ⌜ r ≡ askedBy counts question ⌝ }
 {
     if TABLE < question {
         return false;
     }
-    is_listed(survey.counts[OWN + question], question)
+    is_listed(counts[OWN + question], question)
 }
 
 // Whether a checked file is accepted and the question is one that it answers.
@@ -315,7 +347,8 @@ pub(crate) fn may_ask(file: &[u8], survey: Survey, question: usize) -> Answer
     if number_of(answer) != 0 {
         return answer;
     }
-    if !is_asked(survey, question) {
+    let counts = survey.counts;
+    if !is_asked(counts, question) {
         return Answer::NoSuchQuestion(record_count(file));
     }
     Answer::Accepted

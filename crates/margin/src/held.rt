@@ -1,10 +1,12 @@
 // "One accepted file is held while several questions are put to it, without checking it again."
 use crate::accepted::TABLE;
+use crate::accepted::alone;
 use crate::accepted::asking_over;
 use crate::accepted::book_over;
 use crate::accepted::figures_over;
 use crate::accepted::is_listed;
 use crate::accepted::may_ask;
+use crate::accepted::nothing_of;
 use crate::needs::book_need;
 use crate::needs::figures_need;
 use crate::needs::uses_need;
@@ -63,7 +65,7 @@ pub(crate) fn answer_figures(file: &[u8], survey: Survey, out: &mut [i64]) -> An
     if out.len() < 8 * survey.contracts + 1 {
         return Answer::TooFewNumbers(record_count(file));
     }
-    let numbers = figures_over(file, survey);
+    let numbers = figures_over(file, nothing_of(file), alone(file, survey));
     lend(out, numbers);
     Answer::Accepted
 }
@@ -77,7 +79,7 @@ pub(crate) fn answer_book(file: &[u8], survey: Survey, question: usize, out: &mu
     if number_of(answer) != 0 {
         return answer;
     }
-    let numbers = book_over(file, survey, question);
+    let numbers = book_over(file, nothing_of(file), alone(file, survey), question);
     if out.len() < numbers.count {
         return Answer::TooFewNumbers(record_count(file));
     }
@@ -95,7 +97,7 @@ pub(crate) fn answer_uses(file: &[u8], survey: Survey, question: usize, out: &mu
     if number_of(answer) != 0 {
         return answer;
     }
-    let asking = asking_over(file, survey, question);
+    let asking = asking_over(file, nothing_of(file), alone(file, survey), question);
     let prompts = asking.prompts;
     let table = asking.table;
     if out.len() < uses_count(prompts, table) {

@@ -7,6 +7,7 @@ pub mod held;
 mod intercontract;
 pub mod line;
 pub mod needs;
+pub mod noon;
 pub mod numbers;
 pub mod pairs;
 pub mod questions;

@@ -19,9 +19,12 @@ struct Share {
     spreads: usize,
 }
 
-/// The most records that an account with so many contracts can have.
-fn room(contracts: usize) -> usize {
-    let entries = if contracts < 2 { 0 } else { MOST_ENTRIES };
+/// Every contract number.
+const NUMBERS: [i64; 16] = [0, 1, 2, 3, 4, 5, 6, 7, 8, 9, 10, 11, 12, 13, 14, 15];
+
+/// The most records that an account with so many contracts can have, with entries or without.
+fn room(contracts: usize, entries: bool) -> usize {
+    let entries = if entries && contracts > 1 { MOST_ENTRIES } else { 0 };
     contracts * (1 + MOST_PROMPTS + MOST_ROWS + MOST_SPREADS) + entries
 }
 
@@ -35,10 +38,18 @@ pub fn account(random: &mut Random) -> Vec<Bytes> {
         1 => no_prompts(random),
         _ => {
             let size = size(random);
-            plan(random, size)
+            plan(random, size, NUMBERS.len(), true)
         }
     };
-    fill(random, &plan)
+    fill(random, &plan, &NUMBERS)
+}
+
+/// An account of so many records, or as many as it can have, whose contracts have some of these
+/// numbers; with entries or without.
+pub fn of_size(random: &mut Random, size: usize, numbers: &[i64], entries: bool) -> Vec<Bytes> {
+    let size = size.min(room(numbers.len(), entries));
+    let plan = plan(random, size, numbers.len(), entries);
+    fill(random, &plan, numbers)
 }
 
 fn size(random: &mut Random) -> usize {
@@ -59,7 +70,7 @@ fn extreme(random: &mut Random) -> Vec<Bytes> {
     } else {
         Plan { contracts: vec![spread; 4], entries: MOST_ENTRIES }
     };
-    let mut records = fill(random, &plan);
+    let mut records = fill(random, &plan, &NUMBERS);
     let one_sided = random.one_in(2);
     let gain_at_rest = random.one_in(2);
     for record in &mut records {
@@ -106,18 +117,21 @@ fn no_prompts(random: &mut Random) -> Plan {
     Plan { contracts: vec![Share::default(); contracts], entries: random.place(MOST_ENTRIES + 1) }
 }
 
-/// A plan with exactly so many records.
-fn plan(random: &mut Random, size: usize) -> Plan {
-    let least = (0..).find(|contracts| room(*contracts) >= size).unwrap_or(0);
+/// A plan with exactly so many records in so many contracts at most; with entries or without.
+fn plan(random: &mut Random, size: usize, most: usize, entries: bool) -> Plan {
+    let least = (0..).find(|contracts| room(*contracts, entries) >= size).unwrap_or(0);
     let least = least.max(usize::from(size > 0));
-    let most = size.min(16).max(least);
+    let most = size.min(most).max(least);
     let contracts = match random.below(8) {
         0 => random.between(least as i64, most as i64) as usize,
         _ => random.between(least as i64, most.min(least + 3) as i64) as usize,
     };
     let mut plan = Plan { contracts: vec![Share::default(); contracts], entries: 0 };
-    let leaning =
+    let mut leaning =
         random.pick(&[(3, 8, 3, 2), (6, 8, 6, 1), (1, 12, 1, 1), (4, 6, 8, 4), (3, 6, 1, 6)]);
+    if !entries {
+        leaning.3 = 0;
+    }
     let mut left = size - contracts;
     while left > 0 {
         if grow(random, &mut plan, leaning) {
@@ -160,8 +174,8 @@ struct Draft {
     share: Share,
 }
 
-fn fill(random: &mut Random, plan: &Plan) -> Vec<Bytes> {
-    let drafts = drafts(random, plan);
+fn fill(random: &mut Random, plan: &Plan, numbers: &[i64]) -> Vec<Bytes> {
+    let drafts = drafts(random, plan, numbers);
     let mut records = vec![];
     for draft in &drafts {
         let rate = rate(random, draft.taste, SHORT_OPTION_RATE);
@@ -180,8 +194,8 @@ fn fill(random: &mut Random, plan: &Plan) -> Vec<Bytes> {
     records
 }
 
-fn drafts(random: &mut Random, plan: &Plan) -> Vec<Draft> {
-    let numbers = numbers(random, plan.contracts.len());
+fn drafts(random: &mut Random, plan: &Plan, numbers: &[i64]) -> Vec<Draft> {
+    let numbers = some(random, numbers, plan.contracts.len());
     let shared_days = days(random, MOST_PROMPTS);
     let of_account = taste(random);
     let one_taste = random.one_in(2);
@@ -198,9 +212,9 @@ fn drafts(random: &mut Random, plan: &Plan) -> Vec<Draft> {
     numbers.into_iter().zip(&plan.contracts).map(draft).collect()
 }
 
-/// Rising contract numbers.
-fn numbers(random: &mut Random, count: usize) -> Vec<i64> {
-    let mut numbers: Vec<i64> = (0..16).collect();
+/// So many of these numbers, in their order.
+fn some(random: &mut Random, numbers: &[i64], count: usize) -> Vec<i64> {
+    let mut numbers = numbers.to_vec();
     while numbers.len() > count {
         let dropped = random.place(numbers.len());
         numbers.remove(dropped);

@@ -1,11 +1,14 @@
-//! What generated files are worth: reproducible, of every sort, and with books that add up.
+//! What generated files and pairs are worth: reproducible, of every sort, with books that add up, and
+//! joined accounts that have of each file what is said to come from it.
 
-use crate::builder::{refused, Record};
+use crate::builder::{book_of, refused, Record};
 use independent::book::{intercontract, interprompt, Book};
 use independent::check::fault;
 use independent::format::records;
-use independent::generate::{account, lent, question, Random};
+use independent::generate::{account, cover, lent, pair, question, Random};
+use independent::joined::{self, cover_call, join, prompts};
 use independent::margin::{figures_of, total};
+use independent::refusal::every_pair_refusal;
 use independent::steps::{Leg, Side};
 use independent::units::{Amount, Delta};
 use independent::{check, Account};
@@ -206,4 +209,109 @@ fn damage_to_the_order_of_two_records_is_seen() {
             "{number} {named}"
         );
     }
+}
+
+/// The pairs that are not refused, with the file of the joined account.
+fn joinable(count: u64) -> impl Iterator<Item = ([Vec<u8>; 2], Vec<u8>)> {
+    (0..count).filter_map(|index| {
+        let (morning, noon) = pair(SEED, index);
+        let joined = join(&morning, &noon).ok()?;
+        Some(([morning, noon], joined))
+    })
+}
+
+#[test]
+fn a_seed_and_an_index_always_give_the_same_pair() {
+    let pairs = |seed| (0..100).map(|index| pair(seed, index)).collect::<Vec<_>>();
+    assert_eq!(pairs(SEED), pairs(SEED));
+    assert_ne!(pairs(SEED), pairs(SEED + 1));
+}
+
+#[test]
+fn about_half_of_the_pairs_are_joined_and_every_refusal_of_a_pair_occurs() {
+    let answers: Vec<_> = (0..2_000).map(|index| pair(SEED, index)).collect();
+    let answers: Vec<_> = answers.iter().map(|(morning, noon)| join(morning, noon)).collect();
+    let taken = answers.iter().filter(|answer| answer.is_ok()).count();
+    assert!((900..1_300).contains(&taken), "{taken} of 2,000 joined");
+    let refusals: Vec<_> = answers.iter().filter_map(|answer| answer.as_ref().err()).collect();
+    for (file, number) in every_pair_refusal() {
+        let times = refusals.iter().filter(|of| (of.file, of.number) == (file, number)).count();
+        let asked = [21, 11, 10].contains(&number);
+        assert!(asked || times >= 5, "refusal {number} of file {file}: {times} times");
+    }
+    let crowded = |records| refusals.iter().any(|of| (of.number, of.record) == (13, records));
+    assert!(crowded(641) && crowded(1_280));
+    assert!(answers.iter().flatten().any(|file| file.len() == 61_440));
+    assert!(answers.iter().flatten().any(|file| file.is_empty()));
+}
+
+#[test]
+fn a_joined_account_has_of_each_contract_what_its_file_has() {
+    for (files, joined) in joinable(1_500) {
+        let [morning, noon] = [&files[0], &files[1]].map(|file| check(file).ok().unwrap());
+        let account = check(&joined).expect("01 accepts a joined file");
+        let figures = figures_of(&account);
+        let numbers: Vec<i64> = account.contracts.iter().map(|contract| contract.number).collect();
+        let listed =
+            |number: &i64| morning.contract(*number).is_some() || noon.contract(*number).is_some();
+        assert_eq!(numbers, (0..16).filter(listed).collect::<Vec<i64>>());
+        for (place, number) in numbers.into_iter().enumerate() {
+            let (file, supplier) =
+                if noon.contract(number).is_some() { (1, &noon) } else { (0, &morning) };
+            let question = number as u64;
+            assert_eq!(book_of(&joined, question), book_of(&files[file], question));
+            let mut alone =
+                *figures_of(supplier).iter().find(|figures| figures.contract == number).unwrap();
+            // Credit, and with it the margin, also goes by the other contracts.
+            alone.credit = figures[place].credit;
+            alone.margin = figures[place].margin;
+            assert_eq!(figures[place], alone);
+        }
+        let entries = |file: &[u8]| {
+            let records = file.chunks(96).filter(|record| record[0] == 5);
+            records.map(<[u8]>::to_vec).collect::<Vec<_>>()
+        };
+        assert_eq!(entries(&joined), entries(&files[0]));
+    }
+}
+
+#[test]
+fn the_prompts_handed_back_are_those_of_the_joined_account() {
+    for (files, joined) in joinable(400) {
+        for number in 0..18 {
+            let part = prompts(&files[0], &files[1], u64::from(number));
+            let its_prompts = |record: &&[u8]| record[..2] == [2, number];
+            let wanted: Vec<u8> =
+                joined.chunks(96).filter(its_prompts).flatten().copied().collect();
+            let listed = joined.chunks(96).any(|record| record[..2] == [1, number]);
+            assert_eq!(part.file != 0, listed);
+            if listed {
+                let file = &files[usize::from(part.file) - 1];
+                assert_eq!(file[96 * part.first..96 * (part.first + part.records)], wanted);
+            }
+            assert!(part.records > 0 || part.first == 0);
+        }
+    }
+}
+
+#[test]
+fn amounts_lie_on_both_sides_of_the_requirement_and_of_their_range() {
+    let mut random = Random::new(SEED, 0);
+    let requirement = Amount(1_000);
+    let drawn: Vec<_> = (0..4_000).map(|_| cover(&mut random, requirement)).collect();
+    let all = [-1, 0, 1_000_000_000_000_000, 1_000_000_000_000_001, i64::MIN, i64::MAX];
+    for amount in all.map(Amount) {
+        assert!(drawn.iter().any(|of| of.last_call == amount), "{amount:?}");
+        assert!(drawn.iter().any(|of| of.threshold == amount), "{amount:?}");
+        assert!(drawn.iter().any(|of| of.collateral == amount), "{amount:?}");
+    }
+    let inside: Vec<_> =
+        drawn.into_iter().filter(|of| joined::call(&[], &[], *of).is_ok()).collect();
+    for apart in [-1, 0, 1] {
+        let near = Amount(1_000 + apart);
+        assert!(inside.iter().any(|of| of.last_call + of.threshold == near));
+        assert!(inside.iter().any(|of| of.collateral == near));
+    }
+    let calls = inside.iter().filter(|of| cover_call(requirement, **of) > Amount(0)).count();
+    assert!((300..3_000).contains(&calls), "{calls} calls");
 }

@@ -3,6 +3,7 @@
 mod answers;
 mod builder;
 mod generated;
+mod joined;
 mod lme;
 mod method;
 mod order;

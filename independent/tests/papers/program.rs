@@ -3,6 +3,8 @@
 use crate::builder::*;
 use crate::reckoned::printed;
 use independent::generate;
+use independent::refusal::every_pair_refusal;
+use std::fs;
 use std::io::Write;
 use std::process::{Command, Output, Stdio};
 
@@ -89,6 +91,91 @@ fn a_survey_counts_every_refusal() {
     assert!(survey.contains("\nrefusal 11 while 10 holds elsewhere: "));
 }
 
+/// The path of a file that a test writes, with these bytes.
+fn written(name: &str, bytes: &[u8]) -> String {
+    let path = format!("{}/{name}", env!("CARGO_TARGET_TMPDIR"));
+    fs::write(&path, bytes).expect("the file is written");
+    path
+}
+
+#[test]
+fn a_pair_is_printed_as_its_joined_account() {
+    let morning = written("pair-morning", &printed());
+    let noon = written("pair-noon", &file(&[&[contract(5, 0)]]));
+    assert_eq!(
+        lines(&["pair", &morning, &noon], &[]),
+        "C 3 13 383250 0 400 0 1500 383650\nC 5 1 0 0 0 0 0 0\nT 383650\n"
+    );
+    let closed = written("pair-closed", &file(&[&[contract(3, 0)]]));
+    assert_eq!(lines(&["pair", &morning, &closed], &[]), "C 3 1 0 0 0 0 0 0\nT 0\n");
+}
+
+#[test]
+fn a_refused_pair_says_which_file() {
+    let sound = written("refused-sound", &printed());
+    let short = written("refused-short", &[0; 95]);
+    let entries = [contract(1, 0), contract(2, 0), entry(1, (1, 1), (2, 1))];
+    let with_entry = written("refused-entry", &file(&[&entries]));
+    for (morning, noon, line) in [
+        (&short, &sound, "R 1 2 0\n"),
+        (&sound, &short, "R 2 2 0\n"),
+        (&sound, &with_entry, "R 2 12 2\n"),
+    ] {
+        assert_eq!(lines(&["pair", morning, noon], &[]), line);
+        assert_eq!(lines(&["call", morning, noon, "-1", "0", "0"], &[]), line);
+    }
+    assert_eq!(lines(&["call", &sound, &sound, "0", "-1", "0"], &[]), "R 0 21 4\n");
+}
+
+#[test]
+fn a_call_is_printed_with_its_amount() {
+    let morning = written("call-morning", &printed());
+    let noon = written("call-noon", &[]);
+    let called = |amounts: [&str; 3]| {
+        let [last, threshold, collateral] = amounts;
+        lines(&["call", &morning, &noon, last, threshold, collateral], &[])
+    };
+    assert_eq!(called(["300000", "83649", "383600"]), "L 50\n");
+    assert_eq!(called(["300000", "83650", "383600"]), "L 0\n");
+    assert_eq!(called(["0", "0", "1000000000000000"]), "L 0\n");
+    assert_eq!(called(["0", "0", "1000000000000001"]), "R 0 21 4\n");
+}
+
+#[test]
+fn write_pair_writes_the_generated_files() {
+    for index in 0..20 {
+        let [morning, noon] =
+            ["morning", "noon"].map(|name| written(&format!("write-{name}"), b"before"));
+        let output = run(&["write-pair", "9", &index.to_string(), &morning, &noon], &[]);
+        assert!(output.status.success() && output.stdout.is_empty());
+        let files = [morning, noon].map(|path| fs::read(path).expect("the file is there"));
+        assert_eq!(files, <[Vec<u8>; 2]>::from(generate::pair(9, index)));
+    }
+}
+
+#[test]
+fn a_survey_of_pairs_counts_every_refusal() {
+    let survey = lines(&["survey-pairs", "5", "2000"], &[]);
+    assert!(survey.starts_with("pairs 2000\njoined "));
+    for (file, number) in every_pair_refusal() {
+        let counted = format!("\nrefusal {number} of file {file}: ");
+        assert!(survey.contains(&counted), "refusal {number} of file {file} is not counted");
+    }
+    assert!(!survey.contains(": 0\n"), "{survey}");
+}
+
+#[test]
+fn a_file_that_is_not_there_is_told() {
+    let there = written("there", &[]);
+    let missing = format!("{there}/missing");
+    for arguments in [&["pair", &there, &missing][..], &["call", &missing, &there, "0", "0", "0"]] {
+        let output = run(arguments, &[]);
+        assert_eq!(output.status.code(), Some(1));
+        assert!(output.stdout.is_empty());
+        assert!(String::from_utf8(output.stderr).unwrap().starts_with("independent: "));
+    }
+}
+
 #[test]
 fn wrong_usage_is_told() {
     for arguments in [
@@ -98,6 +185,11 @@ fn wrong_usage_is_told() {
         &["book", "-1"],
         &["survey", "1"],
         &["write", "1", "x"],
+        &["pair", "morning"],
+        &["call", "morning", "noon", "0", "0"],
+        &["call", "morning", "noon", "0", "0", "0.5"],
+        &["survey-pairs", "1"],
+        &["write-pair", "1", "x", "morning", "noon"],
     ] {
         let output = run(arguments, &[]);
         assert_eq!(output.status.code(), Some(2), "{arguments:?}");

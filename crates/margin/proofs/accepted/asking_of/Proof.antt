@@ -1,12 +1,18 @@
--- What is asked about by a contract number: its parts stand where the survey says.
+-- What is asked about by a contract number: its parts stand where the joined account says.
 -- Assumes nothing.
-use borrow.Author.Needs.{needs}
 use mathlib.Core.Path.{subst}
 use Rattle.margin.specs.Contract.{Contract}
 use Rattle.margin.specs.Uses.{contractUses, Asks}
 use Rattle.margin.proofs.StandLaws.{parts-room, parts-by-number}
 use Rattle.margin.proofs.accepted.asking_of.Statement.{statement}
 use Rattle.margin.proofs.accepted.asking_of.Tie as tie
+use borrow.Author.Needs.{needs}
+
+element-copy-out-supplier : tie.Need-element-copy-out-supplier
+element-copy-out-supplier c = search needs
+
+supplier-requires : tie.Need-supplier-requires
+supplier-requires c κs = search needs
 
 add-part-at : tie.Need-add-part-at
 add-part-at c = search needs
@@ -27,7 +33,7 @@ element-copy-out-part-at-2 : tie.Need-element-copy-out-part-at-2
 element-copy-out-part-at-2 c = search needs
 
 part-at-requires : tie.Need-part-at-requires
-part-at-requires c κs = tt
+part-at-requires c κs = search needs
 
 add-part-at-3 : tie.Need-add-part-at-3
 add-part-at-3 c = search needs
@@ -48,7 +54,7 @@ element-copy-out-part-at-4 : tie.Need-element-copy-out-part-at-4
 element-copy-out-part-at-4 c = search needs
 
 part-at-requires-2 : tie.Need-part-at-requires-2
-part-at-requires-2 c κs = tt
+part-at-requires-2 c κs = search needs
 
 add-part-at-5 : tie.Need-add-part-at-5
 add-part-at-5 c = search needs
@@ -69,22 +75,26 @@ element-copy-out-part-at-6 : tie.Need-element-copy-out-part-at-6
 element-copy-out-part-at-6 c = search needs
 
 part-at-requires-3 : tie.Need-part-at-requires-3
-part-at-requires-3 c κs = tt
+part-at-requires-3 c κs = search needs
 
 contract-asking-requires : tie.Need-contract-asking-requires
-contract-asking-requires c κs = parts-room (c .before .before .before .before .before .before .before .before .before .before .args .file .now) (c .before .before .before .before .before .before .before .before .before .before .args .t2) (c .before .before .before .before .before .before .before .before .before .before .pre .0) (c .before .before .before .before .before .before .before .before .before .before .args .c) (c .before .before .before .before .before .before .before .before .before .before .pre .1) (c .before .before .before .before .before .before .part-at .result .now) (c .before .before .before .part-at2 .result .now) (c .part-at3 .result .now) (c .before .before .before .before .before .before .part-at .ensures) (c .before .before .before .part-at2 .ensures) (c .part-at3 .ensures)
+contract-asking-requires c κs =
+    parts-room (c .before .before .before .before .before .before .before .before .before .before .before .before .before .args .morning .now) (c .before .before .before .before .before .before .before .before .before .before .before .before .before .args .noon .now) (c .before .before .before .before .before .before .before .before .before .before .before .before .before .args .t3) (c .before .before .before .before .before .before .before .before .before .before .before .before .before .pre .0) (c .before .before .before .before .before .before .before .before .before .before .before .before .before .args .c) (c .before .before .before .before .before .before .before .before .before .before .before .before .before .pre .1) (c .before .before .before .before .before .before .before .before .before .supplier .result .now) (c .before .before .before .before .before .before .before .before .before .supplier .ensures)
+    (c .before .before .before .before .before .before .part-at .result .now) (c .before .before .before .part-at2 .result .now) (c .part-at3 .result .now) (c .before .before .before .before .before .before .part-at .ensures) (c .before .before .before .part-at2 .ensures) (c .part-at3 .ensures)
 
 returns : tie.Need-returns
 returns c =
-    let s = c .before .before .before .before .before .before .before .before .before .before .before in
     subst (λ (k : Contract). Asks (contractUses k) (c .contract-asking .result))
-    (parts-by-number (s .args .file .now) (s .args .t2) (s .pre .0) (s .args .c) (s .pre .1) (c .before .before .before .before .before .before .before .part-at .result .now) (c .before .before .before .before .part-at2 .result .now) (c .before .part-at3 .result .now) (c .before .before .before .before .before .before .before .part-at .ensures) (c .before .before .before .before .part-at2 .ensures) (c .before .part-at3 .ensures))
+    (parts-by-number (c .before .before .before .before .before .before .before .before .before .before .before .before .before .before .args .morning .now) (c .before .before .before .before .before .before .before .before .before .before .before .before .before .before .args .noon .now) (c .before .before .before .before .before .before .before .before .before .before .before .before .before .before .args .t3) (c .before .before .before .before .before .before .before .before .before .before .before .before .before .before .pre .0) (c .before .before .before .before .before .before .before .before .before .before .before .before .before .before .args .c) (c .before .before .before .before .before .before .before .before .before .before .before .before .before .before .pre .1) (c .before .before .before .before .before .before .before .before .before .before .supplier .result .now) (c .before .before .before .before .before .before .before .before .before .before .supplier .ensures)
+    (c .before .before .before .before .before .before .before .part-at .result .now) (c .before .before .before .before .part-at2 .result .now) (c .before .part-at3 .result .now) (c .before .before .before .before .before .before .before .part-at .ensures) (c .before .before .before .before .part-at2 .ensures) (c .before .part-at3 .ensures))
     (c .contract-asking .ensures)
 
 pub asking-of-spec : {M : Type 1} → statement M
 asking-of-spec =
     tie.close
     (tie.spec
+    element-copy-out-supplier
+    supplier-requires
     add-part-at
     mul-part-at
     element-copy-out-part-at

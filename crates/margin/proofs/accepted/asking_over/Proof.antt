@@ -4,6 +4,7 @@ use mathlib.Core.Path.{refl, sym, subst}
 use mathlib.Core.List.{List}
 use lib.IntN.{ℤ}
 use borrow.Author.Needs.{needs}
+use Rattle.account.specs.Supplied.{accountOf}
 use Rattle.margin.specs.Uses.{contractUses, tableUses, Asks}
 use Rattle.margin.proofs.AskedLaws.{contract-asked, table-asked, asked-small}
 use Rattle.margin.proofs.accepted.asking_over.Statement.{statement}
@@ -14,21 +15,21 @@ table-asking-requires c κs = search needs
 
 returns : tie.Need-returns
 returns c =
-    let s = c .before .before .before in
+    let s = c .before .before .before .before in
     subst (λ (wanted : List ℤ). Asks wanted (c .table-asking .result))
-    (sym (table-asked (s .args .file .now) (s .pre .0 .accepted) contractUses tableUses (λ own. refl) (s .args .question) (c .before .if1 .taken)))
+    (sym (table-asked (accountOf (s .args .morning .now) (s .args .noon .now)) (s .pre .0 .lawful) contractUses tableUses (λ own. refl) (s .args .question) (c .before .if1 .taken)))
     (c .table-asking .ensures)
 
 asking-of-requires : tie.Need-asking-of-requires
 asking-of-requires c κs =
-    let s = c .before .before in
-    (s .pre .0, asked-small (s .args .file .now) (s .pre .0 .accepted) (s .args .question) (s .pre .1) (c .if1 .left))
+    let s = c .before .before .before in
+    (s .pre .0, asked-small (accountOf (s .args .morning .now) (s .args .noon .now)) (s .pre .0 .lawful) (s .args .question) (s .pre .1) (c .if1 .left))
 
 returns-2 : tie.Need-returns-2
 returns-2 c =
-    let s = c .before .before .before in
+    let s = c .before .before .before .before in
     subst (λ (wanted : List ℤ). Asks wanted (c .asking-of .result))
-    (sym (contract-asked (s .args .file .now) (s .pre .0 .accepted) contractUses tableUses (λ own. refl) (s .args .question) (s .pre .1) (c .before .if1 .left)))
+    (sym (contract-asked (accountOf (s .args .morning .now) (s .args .noon .now)) (s .pre .0 .lawful) contractUses tableUses (λ own. refl) (s .args .question) (s .pre .1) (c .before .if1 .left)))
     (c .asking-of .ensures)
 
 pub asking-over-spec : {M : Type 1} → statement M

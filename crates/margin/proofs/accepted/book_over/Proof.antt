@@ -6,10 +6,9 @@ use Prim.Native.Nat.{ℕ, _+_, _*_}
 use borrow.Author.Needs.{needs}
 use lib.ListN.{length, length-map}
 use Rattle.account.specs.Parts.{contractsOf, promptsOf, rowsOf, spreadsOf, entriesOf}
-use Rattle.account.specs.Records.{records}
+use Rattle.account.specs.Supplied.{accountOf}
 use Rattle.margin.specs.Contract.{contracts, partsIn}
 use Rattle.margin.proofs.AskedLaws.{table-book, one-book, asked-small, contract-length, table-length}
-use Rattle.margin.proofs.StandLaws.{contracts-are}
 use Rattle.margin.proofs.accepted.book_over.Statement.{statement}
 use Rattle.margin.proofs.accepted.book_over.Tie as tie
 
@@ -18,28 +17,28 @@ table-numbers-requires c κs = search needs
 
 returns : tie.Need-returns
 returns c =
-    let s = c .before .before .before in
-    let f = s .args .file .now in
-    let t = table-book f (s .pre .0 .accepted) (s .args .question) (c .before .if1 .taken) in
+    let s = c .before .before .before .before in
+    let a = accountOf (s .args .morning .now) (s .args .noon .now) in
+    let t = table-book a (s .pre .0 .lawful) (s .args .question) (c .before .if1 .taken) in
     let n = c .table-numbers .ensures in
-    let l = table-length (entriesOf (records f)) (contracts (records f)) in
-    let k = length-map (contractsOf (records f)) (partsIn (records f)) in
-    let e = contracts-are f (s .args .survey) (s .pre .0) in
-    (n .listed-is ∙ sym t, ap length t ∙ l ∙ sym (n .count-is ∙ ap (λ (x : ℕ). 3 * x + 2 * length (entriesOf (records f))) (e ∙ sym k)), n .few)
+    let l = table-length (entriesOf a) (contracts a) in
+    let k = length-map (contractsOf a) (partsIn a) in
+    let e = s .pre .0 .places .contracts in
+    (n .listed-is ∙ sym t, ap length t ∙ l ∙ sym (n .count-is ∙ ap (λ (x : ℕ). 3 * x + 2 * length (entriesOf a)) (e ∙ sym k)), n .few)
 
 contract-numbers-requires : tie.Need-contract-numbers-requires
 contract-numbers-requires c κs =
-    let s = c .before .before in
-    (s .pre .0, asked-small (s .args .file .now) (s .pre .0 .accepted) (s .args .question) (s .pre .1) (c .if1 .left))
+    let s = c .before .before .before in
+    (s .pre .0, asked-small (accountOf (s .args .morning .now) (s .args .noon .now)) (s .pre .0 .lawful) (s .args .question) (s .pre .1) (c .if1 .left))
 
 returns-2 : tie.Need-returns-2
 returns-2 c =
-    let s = c .before .before .before in
-    let f = s .args .file .now in
+    let s = c .before .before .before .before in
+    let a = accountOf (s .args .morning .now) (s .args .noon .now) in
     let q = s .args .question in
-    let t = one-book f (s .pre .0 .accepted) q (s .pre .1) (c .before .if1 .left) in
+    let t = one-book a (s .pre .0 .lawful) q (s .pre .1) (c .before .if1 .left) in
     let n = c .contract-numbers .ensures in
-    (n .listed-is ∙ sym t, ap length t ∙ contract-length [] (promptsOf q (records f)) (rowsOf q (records f)) (spreadsOf q (records f)) ∙ sym (n .count-is), n .few)
+    (n .listed-is ∙ sym t, ap length t ∙ contract-length [] (promptsOf q a) (rowsOf q a) (spreadsOf q a) ∙ sym (n .count-is), n .few)
 
 pub book-over-spec : {M : Type 1} → statement M
 book-over-spec =

@@ -3,7 +3,6 @@
 use mathlib.Core.Path.{_∙_}
 use native.Mathlib.Omega.{arith}
 use borrow.Author.Needs.{needs}
-use Rattle.margin.proofs.StandLaws.{contracts-are}
 use Rattle.margin.proofs.AccountLaws.{table-room, its, its-book, credits-room, lines-within, answer-is}
 use Rattle.margin.proofs.accepted.figures_over.Statement.{statement}
 use Rattle.margin.proofs.accepted.figures_over.Tie as tie
@@ -22,30 +21,30 @@ part-at-requires c κs = tt
 
 table-credits-requires : tie.Need-table-credits-requires
 table-credits-requires c κs =
-    let s = c .before .before .before .before .before .before in
+    let s = c .before .before .before .before .before .before .before in
     let l = c .before .before .before .before .lines-of in
     let p = c .part-at in (
-      table-room (s .args .file .now) (s .args .t2) (s .pre) (l .result) (l .ensures) (p .result .now) (p .ensures),
-      credits-room (s .args .file .now) (s .args .t2) (s .pre) (l .result) (l .ensures) (p .result .now) (p .ensures)
-          (its (s .args .file .now) (s .args .t2) (s .pre) (l .result) (l .ensures) (p .result .now) (p .ensures)) (its-book (s .args .file .now) (s .args .t2) (s .pre) (l .result) (l .ensures) (p .result .now) (p .ensures)),
+      table-room (s .args .morning .now) (s .args .noon .now) (s .args .t3) (s .pre) (l .result) (l .ensures) (p .result .now) (p .ensures),
+      credits-room (s .args .morning .now) (s .args .noon .now) (s .args .t3) (s .pre) (l .result) (l .ensures) (p .result .now) (p .ensures)
+          (its (s .args .morning .now) (s .args .noon .now) (s .args .t3) (s .pre) (l .result) (l .ensures) (p .result .now) (p .ensures)) (its-book (s .args .morning .now) (s .args .noon .now) (s .args .t3) (s .pre) (l .result) (l .ensures) (p .result .now) (p .ensures)),
     )
 
 figures-numbers-requires : tie.Need-figures-numbers-requires
 figures-numbers-requires c κs =
-    let s = c .before .before .before .before .before .before .before in
+    let s = c .before .before .before .before .before .before .before .before in
     let l = c .before .before .before .before .before .lines-of in
     let p = c .before .part-at in
-    lines-within (s .args .file .now) (s .args .t2) (s .pre) (l .result) (l .ensures) (p .result .now) (p .ensures)
-    (its (s .args .file .now) (s .args .t2) (s .pre) (l .result) (l .ensures) (p .result .now) (p .ensures)) (its-book (s .args .file .now) (s .args .t2) (s .pre) (l .result) (l .ensures) (p .result .now) (p .ensures))
+    lines-within (s .args .morning .now) (s .args .noon .now) (s .args .t3) (s .pre) (l .result) (l .ensures) (p .result .now) (p .ensures)
+    (its (s .args .morning .now) (s .args .noon .now) (s .args .t3) (s .pre) (l .result) (l .ensures) (p .result .now) (p .ensures)) (its-book (s .args .morning .now) (s .args .noon .now) (s .args .t3) (s .pre) (l .result) (l .ensures) (p .result .now) (p .ensures))
     (c .table-credits .result) (c .table-credits .ensures)
 
 returns : tie.Need-returns
 returns c =
-    let s = c .before .before .before .before .before .before .before .before in
+    let s = c .before .before .before .before .before .before .before .before .before in
     let l = c .before .before .before .before .before .before .lines-of in
     let p = c .before .before .part-at in
-    let e = contracts-are (s .args .file .now) (s .args .t2) (s .pre) in (
-      c .figures-numbers .ensures .1 ∙ answer-is (s .args .file .now) (s .args .t2) (s .pre) (l .result) (l .ensures) (p .result .now) (p .ensures) (its (s .args .file .now) (s .args .t2) (s .pre) (l .result) (l .ensures) (p .result .now) (p .ensures)) (its-book (s .args .file .now) (s .args .t2) (s .pre) (l .result) (l .ensures) (p .result .now) (p .ensures)) (c .before .table-credits .result) (c .before .table-credits .ensures),
+    let e = s .pre .places .contracts in (
+      c .figures-numbers .ensures .1 ∙ answer-is (s .args .morning .now) (s .args .noon .now) (s .args .t3) (s .pre) (l .result) (l .ensures) (p .result .now) (p .ensures) (its (s .args .morning .now) (s .args .noon .now) (s .args .t3) (s .pre) (l .result) (l .ensures) (p .result .now) (p .ensures)) (its-book (s .args .morning .now) (s .args .noon .now) (s .args .t3) (s .pre) (l .result) (l .ensures) (p .result .now) (p .ensures)) (c .before .table-credits .result) (c .before .table-credits .ensures),
       omega (arith, c .figures-numbers .ensures .0, l .ensures .count-is),
       omega (arith, c .figures-numbers .ensures .0, l .ensures .few),
     )

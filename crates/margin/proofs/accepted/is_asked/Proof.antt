@@ -28,16 +28,16 @@ add-is-listed c = search needs
 mul-is-listed : tie.Need-mul-is-listed
 mul-is-listed c = search needs
 
-element-copy-out-is-listed : tie.Need-element-copy-out-is-listed
-element-copy-out-is-listed c = search needs
+array-read-is-listed : tie.Need-array-read-is-listed
+array-read-is-listed c = search needs
 
 is-listed-requires : tie.Need-is-listed-requires
 is-listed-requires c κs = search needs
 
 returns-2 : tie.Need-returns-2
-returns-2 c = c .is-listed .ensures ∙ below (c .before .before .before .args .question) _ (omega (arith, c .before .before .if1 .left))
+returns-2 c = c .is-listed .ensures ∙ below (c .before .before .args .question) _ (omega (arith, c .before .if1 .left))
 
 pub is-asked-spec : {M : Type 1} → statement M
 is-asked-spec =
     tie.close
-    (tie.spec returns add-is-listed mul-is-listed element-copy-out-is-listed is-listed-requires returns-2)
+    (tie.spec returns add-is-listed mul-is-listed array-read-is-listed is-listed-requires returns-2)

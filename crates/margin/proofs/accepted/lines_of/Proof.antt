@@ -5,24 +5,21 @@ use Prim.Native.Nat.{_-_, _≤_}
 use native.Mathlib.Nat.{not-suc-le-zero}
 use native.Mathlib.Omega.{arith}
 use borrow.Author.Needs.{needs}
-use Rattle.account.proofs.Accepted.{accepts}
-use Rattle.margin.proofs.StandLaws.{contracts-are}
+use Rattle.account.specs.Supplied.{accountOf}
+use Rattle.margin.proofs.StandLaws.{few-contracts}
 use Rattle.margin.proofs.AccountLaws.{LinedTo, lined-next}
 use Rattle.margin.proofs.accepted.lines_of.Statement.{statement}
 use Rattle.margin.proofs.accepted.lines_of.Tie as tie
 
 abbrev Inv-loop : tie.InvT-loop
-Inv-loop file survey count lines₀ i₀ lines i = LinedTo file i lines × (i ≤ count)
+Inv-loop morning noon joined count lines₀ i₀ lines i = LinedTo (accountOf morning noon) i lines × (i ≤ count)
 
 abbrev μ-loop : tie.MeasureT-loop
-μ-loop file survey count lines₀ i₀ lines i = count - i
+μ-loop morning noon joined count lines₀ i₀ lines i = count - i
 
--- an accepted file has at most sixteen contracts
-few : (c : tie.Start Inv-loop μ-loop) → c .args .survey .contracts ≤ 16
-few c =
-    let e = contracts-are (c .args .file .now) (c .args .survey) (c .pre) in
-    let a = accepts (c .args .file .now) (c .pre .accepted) .limits .contracts in
-    omega arith
+-- an account has at most sixteen contracts
+few : (c : tie.Start Inv-loop μ-loop) → c .args .joined .contracts ≤ 16
+few c = few-contracts (c .args .morning .now) (c .args .noon .now) (c .args .joined) (c .pre)
 
 no-line-requires : tie.Need-no-line-requires Inv-loop μ-loop
 no-line-requires c κs = search needs
@@ -31,34 +28,34 @@ loop-holds : tie.Need-loop-holds Inv-loop μ-loop
 loop-holds c = (record { places = refl; each = λ j h. absurd (not-suc-le-zero h) }, omega arith)
 
 line-at-requires : tie.Need-line-at-requires Inv-loop μ-loop
-line-at-requires c κs = let s = c .before .before .before .before in (s .pre, c .loop-test .taken)
+line-at-requires c κs = let s = c .before .before .before .before .before in (s .pre, c .loop-test .taken)
 
 mul-lines : tie.Need-mul-lines Inv-loop μ-loop
-mul-lines c = let h = few (c .before .before .before .before .before) in omega arith
+mul-lines c = let h = few (c .before .before .before .before .before .before) in omega arith
 
 array-set-from-lines : tie.Need-array-set-from-lines Inv-loop μ-loop
-array-set-from-lines c = let h = few (c .before .before .before .before .before) in omega arith
+array-set-from-lines c = let h = few (c .before .before .before .before .before .before) in omega arith
 
 add-i : tie.Need-add-i Inv-loop μ-loop
-add-i c = let h = few (c .before .before .before .before .before) in omega arith
+add-i c = let h = few (c .before .before .before .before .before .before) in omega arith
 
 loop-less : tie.Need-loop-less Inv-loop μ-loop
 loop-less c = omega arith
 
 loop-again : tie.Need-loop-again Inv-loop μ-loop
 loop-again c =
-    let s = c .before .before .before .before .before in
+    let s = c .before .before .before .before .before .before in
     let l = c .before .before .loop in
     let h = few s in
-    (lined-next (s .args .file .now) (l .i) (l .lines) (c .line-at .result) (l .inv .0) (omega arith) (c .line-at .ensures), omega arith)
+    (lined-next (accountOf (s .args .morning .now) (s .args .noon .now)) (l .i) (l .lines) (c .line-at .result) (l .inv .0) (omega arith) (c .line-at .ensures), omega arith)
 
 returns : tie.Need-returns Inv-loop μ-loop
 returns c =
-    let s = c .before .before .before .before in
+    let s = c .before .before .before .before .before in
     let l = c .before .loop in
     let h = few s in
     record {
-      count-is = contracts-are (s .args .file .now) (s .args .survey) (s .pre);
+      count-is = s .pre .places .contracts;
       few = h;
       places = l .inv .0 .places;
       each = λ i m. l .inv .0 .each i (omega arith);

@@ -12,7 +12,7 @@ use Rattle.account.specs.declared.answers.Answer.the-variants.{Accepted, NoSuch
 use Rattle.margin.specs.Books.{answered}
 use Rattle.margin.specs.Questions.{asked, ifAccepted}
 use Rattle.margin.specs.Stands.{Stands}
-use Rattle.margin.proofs.AskedLaws.{asked-is}
+use Rattle.margin.proofs.StandLaws.{asked-here}
 use Rattle.margin.proofs.QuestionLaws.{stands-from, if-refused, if-accepted}
 use Rattle.margin.proofs.accepted.may_ask.Statement.{statement}
 use Rattle.margin.proofs.accepted.may_ask.Tie as tie
@@ -49,18 +49,18 @@ record-count-requires c κs = search needs
 
 returns-2 : tie.Need-returns-2
 returns-2 c =
-    let b = c .before .before .before in
+    let b = c .before .before .before .before in
     let s = b .before .before .before in
     let no : answered (records (s .args .file .now)) (s .args .question) ≡ false =
-    sym (asked-is (s .args .file .now) (s .args .survey) (stands b) (s .args .question)) ∙ sym (c .before .before .is-asked .ensures) ∙ not-true (c .before .before .is-asked .result) (c .before .if2 .taken)
+    sym (asked-here (s .args .file .now) (s .args .survey) (stands b) (s .args .question)) ∙ sym (c .before .before .is-asked .ensures) ∙ not-true (c .before .before .is-asked .result) (c .before .if2 .taken)
     in
     ap NoSuchQuestion (c .record-count .ensures) ∙ sym (then-asked b false no)
 
 returns-3 : tie.Need-returns-3
 returns-3 c =
-    let b = c .before .before in
+    let b = c .before .before .before in
     let s = b .before .before .before in
-    sym (then-asked b true (sym (asked-is (s .args .file .now) (s .args .survey) (stands b) (s .args .question)) ∙ sym (c .before .is-asked .ensures) ∙ not-false (c .before .is-asked .result) (c .if2 .left)))
+    sym (then-asked b true (sym (asked-here (s .args .file .now) (s .args .survey) (stands b) (s .args .question)) ∙ sym (c .before .is-asked .ensures) ∙ not-false (c .before .is-asked .result) (c .if2 .left)))
 
 pub may-ask-spec : {M : Type 1} → statement M
 may-ask-spec =

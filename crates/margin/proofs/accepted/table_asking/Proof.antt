@@ -21,15 +21,15 @@ tiers-over-requires c κs = search needs
 intercontract-table-requires : tie.Need-intercontract-table-requires
 intercontract-table-requires c κs =
     let e = c .before in
-    let s = e .before .before .before .before in
-    entries-few (s .args .file .now) (s .args .t2) (s .pre) (c .tiers-over .result) (c .tiers-over .ensures) (e .part-at .result .now) (e .part-at .ensures)
+    let s = e .before .before .before .before .before in
+    entries-few (s .args .morning .now) (s .args .noon .now) (s .args .t3) (s .pre) (c .tiers-over .result) (c .tiers-over .ensures) (e .part-at .result .now) (e .part-at .ensures)
 
 returns : tie.Need-returns
 returns c =
     let p = c .before .tiers-over in
     let e = c .before .before in
-    let s = e .before .before .before .before in
-    table-asks (s .args .file .now) (s .args .t2) (s .pre) (p .result) (p .ensures) (e .part-at .result .now) (e .part-at .ensures) (c .intercontract-table .result) (c .intercontract-table .ensures)
+    let s = e .before .before .before .before .before in
+    table-asks (s .args .morning .now) (s .args .noon .now) (s .args .t3) (s .pre) (p .result) (p .ensures) (e .part-at .result .now) (e .part-at .ensures) (c .intercontract-table .result) (c .intercontract-table .ensures)
 
 pub table-asking-spec : {M : Type 1} → statement M
 table-asking-spec =

@@ -20,9 +20,9 @@ part-at-requires c κs = tt
 
 intercontract-table-requires : tie.Need-intercontract-table-requires
 intercontract-table-requires c κs =
-    let s = c .before .before .before .before .before .before in
+    let s = c .before .before .before .before .before .before .before in
     let p = c .before .before .before .before .tiers-over in
-    entries-few (s .args .file .now) (s .args .t2) (s .pre) (p .result) (p .ensures) (c .part-at .result .now) (c .part-at .ensures)
+    entries-few (s .args .morning .now) (s .args .noon .now) (s .args .t3) (s .pre) (p .result) (p .ensures) (c .part-at .result .now) (c .part-at .ensures)
 
 delta-book-requires : tie.Need-delta-book-requires
 delta-book-requires c κs = search needs
@@ -35,9 +35,9 @@ book-numbers-requires c κs =
     let b = c .before .before .before .before .before in
     let e = b .before .before in
     let p = e .before .before .before .before .tiers-over in
-    let s = e .before .before .before .before .before .before in (
+    let s = e .before .before .before .before .before .before .before in (
       omega (arith, p .ensures .few),
-      tiers-signed (s .args .file .now) (s .args .t2) (s .pre) (p .result) (p .ensures) (e .part-at .result .now) (e .part-at .ensures) (b .before .intercontract-table .result) (b .before .intercontract-table .ensures) (b .delta-book .result) (b .delta-book .ensures) (c .record-count .result) (c .record-count .ensures),
+      tiers-signed (s .args .morning .now) (s .args .noon .now) (s .args .t3) (s .pre) (p .result) (p .ensures) (e .part-at .result .now) (e .part-at .ensures) (b .before .intercontract-table .result) (b .before .intercontract-table .ensures) (b .delta-book .result) (b .delta-book .ensures) (c .record-count .result) (c .record-count .ensures),
     )
 
 returns : tie.Need-returns
@@ -45,8 +45,8 @@ returns c =
     let b = c .before .before .before .before .before .before in
     let e = b .before .before in
     let p = e .before .before .before .before .tiers-over in
-    let s = e .before .before .before .before .before .before in
-    tiers-listed (s .args .file .now) (s .args .t2) (s .pre) (p .result) (p .ensures) (e .part-at .result .now) (e .part-at .ensures) (b .before .intercontract-table .result) (b .before .intercontract-table .ensures) (b .delta-book .result) (b .delta-book .ensures)
+    let s = e .before .before .before .before .before .before .before in
+    tiers-listed (s .args .morning .now) (s .args .noon .now) (s .args .t3) (s .pre) (p .result) (p .ensures) (e .part-at .result .now) (e .part-at .ensures) (b .before .intercontract-table .result) (b .before .intercontract-table .ensures) (b .delta-book .result) (b .delta-book .ensures)
     (c .book-numbers .result) (c .before .record-count .result) (c .before .record-count .ensures) (c .book-numbers .ensures .0) (c .book-numbers .ensures .1)
 
 pub table-numbers-spec : {M : Type 1} → statement M

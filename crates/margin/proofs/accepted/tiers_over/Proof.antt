@@ -3,62 +3,59 @@
 use mathlib.Core.Path.{refl}
 use Prim.Native.Nat.{_-_, _≤_}
 use native.Mathlib.Omega.{arith}
-use Rattle.account.proofs.Accepted.{accepts}
-use Rattle.margin.proofs.StandLaws.{contracts-are}
+use Rattle.account.specs.Supplied.{accountOf}
+use Rattle.margin.proofs.StandLaws.{few-contracts}
 use Rattle.margin.proofs.TierLaws.{TieredTo, tiers-none, tiers-next, tiers-all}
 use Rattle.margin.proofs.accepted.tiers_over.Statement.{statement}
 use Rattle.margin.proofs.accepted.tiers_over.Tie as tie
 
 abbrev Inv-loop : tie.InvT-loop
-Inv-loop file survey count tiers₀ nets₀ i₀ tiers nets i = TieredTo file i tiers nets × (i ≤ count)
+Inv-loop morning noon joined count tiers₀ nets₀ i₀ tiers nets i = TieredTo (accountOf morning noon) i tiers nets × (i ≤ count)
 
 abbrev μ-loop : tie.MeasureT-loop
-μ-loop file survey count tiers₀ nets₀ i₀ tiers nets i = count - i
+μ-loop morning noon joined count tiers₀ nets₀ i₀ tiers nets i = count - i
 
--- an accepted file has at most sixteen contracts
-few : (c : tie.Start Inv-loop μ-loop) → c .args .survey .contracts ≤ 16
-few c =
-    let e = contracts-are (c .args .file .now) (c .args .survey) (c .pre) in
-    let a = accepts (c .args .file .now) (c .pre .accepted) .limits .contracts in
-    omega arith
+-- an account has at most sixteen contracts
+few : (c : tie.Start Inv-loop μ-loop) → c .args .joined .contracts ≤ 16
+few c = few-contracts (c .args .morning .now) (c .args .noon .now) (c .args .joined) (c .pre)
 
 loop-holds : tie.Need-loop-holds Inv-loop μ-loop
-loop-holds c = (tiers-none (c .before .args .file .now) _ _ refl refl, omega arith)
+loop-holds c = (tiers-none (accountOf (c .before .before .args .morning .now) (c .before .before .args .noon .now)) _ _ refl refl, omega arith)
 
 tier-at-requires : tie.Need-tier-at-requires Inv-loop μ-loop
-tier-at-requires c κs = (c .before .before .before .pre, c .loop-test .taken)
+tier-at-requires c κs = (c .before .before .before .before .pre, c .loop-test .taken)
 
 array-write-tiers : tie.Need-array-write-tiers Inv-loop μ-loop
-array-write-tiers c = let h = few (c .before .before .before .before) in omega arith
+array-write-tiers c = let h = few (c .before .before .before .before .before) in omega arith
 
 mul-nets : tie.Need-mul-nets Inv-loop μ-loop
-mul-nets c = let h = few (c .before .before .before .before .before) in omega arith
+mul-nets c = let h = few (c .before .before .before .before .before .before) in omega arith
 
 array-set-from-nets : tie.Need-array-set-from-nets Inv-loop μ-loop
-array-set-from-nets c = let h = few (c .before .before .before .before .before) in omega arith
+array-set-from-nets c = let h = few (c .before .before .before .before .before .before) in omega arith
 
 add-i : tie.Need-add-i Inv-loop μ-loop
-add-i c = let h = few (c .before .before .before .before .before) in omega arith
+add-i c = let h = few (c .before .before .before .before .before .before) in omega arith
 
 loop-less : tie.Need-loop-less Inv-loop μ-loop
 loop-less c = omega arith
 
 loop-again : tie.Need-loop-again Inv-loop μ-loop
 loop-again c =
-    let s = c .before .before .before .before .before in
+    let s = c .before .before .before .before .before .before in
     let l = c .before .before .before .loop in
     let t = c .before .tier-at in
     let h = few s in
-    let e = contracts-are (s .args .file .now) (s .args .survey) (s .pre) in
-    (tiers-next (s .args .file .now) (l .i) (l .tiers) (l .nets) (t .result .contract) (t .result .net) (l .inv .0) (omega arith) (omega arith) (t .ensures), omega arith)
+    let e = s .pre .places .contracts in
+    (tiers-next (accountOf (s .args .morning .now) (s .args .noon .now)) (l .i) (l .tiers) (l .nets) (t .result .contract) (t .result .net) (l .inv .0) (omega arith) (omega arith) (t .ensures), omega arith)
 
 returns : tie.Need-returns Inv-loop μ-loop
 returns c =
-    let s = c .before .before .before in
+    let s = c .before .before .before .before in
     let l = c .before .loop in
     let h = few s in
-    let e = contracts-are (s .args .file .now) (s .args .survey) (s .pre) in
-    tiers-all (s .args .file .now) (l .i) _ (l .inv .0) (omega arith) (omega arith) (omega arith)
+    let e = s .pre .places .contracts in
+    tiers-all (accountOf (s .args .morning .now) (s .args .noon .now)) (l .i) _ (l .inv .0) (omega arith) (omega arith) (omega arith)
 
 pub tiers-over-spec : {M : Type 1} → statement M
 tiers-over-spec =

@@ -9,7 +9,10 @@ use lib.IntN.{ℤ}
 use lib.ListN.{length, drop}
 use Rattle.account.specs.Answers.{numberOf}
 use Rattle.account.specs.Check.{checked}
+use Rattle.account.specs.Parts.{contractsOf}
 use Rattle.account.specs.Records.{records}
+use Rattle.account.proofs.Places.{alone as in-one-file}
+use Rattle.record.specs.Layout.{Record}
 use Rattle.account.specs.declared.answers.Answer.the-variants.{TooFewNumbers}
 use Rattle.margin.specs.Figures.{figures}
 use Rattle.margin.specs.Questions.{enough}
@@ -59,27 +62,40 @@ returns-2 c =
     (if-accepted (checked f) (enough f (figures (records f)) (length (s .args .out .now))) (st .accepted)
     ∙ too-few f (figures (records f)) (length (s .args .out .now)) (omega arith) ∙ ap TooFewNumbers (sym (c .record-count .ensures))) (λ e. omega arith)
 
+nothing-of-requires : tie.Need-nothing-of-requires
+nothing-of-requires c κs = search needs
+
+alone-requires : tie.Need-alone-requires
+alone-requires c κs = stands (c .before .before .before)
+
 figures-over-requires : tie.Need-figures-over-requires
-figures-over-requires c κs = stands (c .before .before)
+figures-over-requires c κs = c .alone .ensures (c .before .nothing-of .result .now) (c .before .nothing-of .ensures)
 
 lend-requires : tie.Need-lend-requires
 lend-requires c κs =
-    (omega (arith, c .before .figures-over .ensures .2), omega (arith, c .before .figures-over .ensures .1))
+    let st = stands (c .before .before .before .before .before .before) in
+    let n = c .before .before .before .nothing-of in
+    let f = c .before .before .before .before .before .before .before .before .before .args .file .now in
+    let e = c .before .before .alone .ensures (n .result .now) (n .ensures) .places .contracts ∙ ap (λ (a : List Record). length (contractsOf a)) (in-one-file f (n .result .now) (n .ensures) (st .accepted)) ∙ sym (contracts-are f (c .before .before .before .before .before .before .before .before .before .args .survey) st) in
+    (omega (arith, c .before .figures-over .ensures .2), omega (arith, c .before .figures-over .ensures .1, e))
 
 same-length : tie.Need-same-length
 same-length c = search needs
 
 returns-3 : tie.Need-returns-3
 returns-3 c =
-    let s = c .before .before .before .before .before .before .before .before .before in
+    let s = c .before .before .before .before .before .before .before .before .before .before .before in
     let f = s .args .file .now in
-    let st = stands (c .before .before .before .before .before .before) in
+    let st = stands (c .before .before .before .before .before .before .before .before) in
+    let n = c .before .before .before .before .before .nothing-of in
+    let same = in-one-file f (n .result .now) (n .ensures) (st .accepted) in
+    let k = c .before .before .before .before .alone .ensures (n .result .now) (n .ensures) .places .contracts ∙ ap (λ (a : List Record). length (contractsOf a)) same in
     let l = figures-length (records f) in
     let e = contracts-are f (s .args .survey) st in
     let o = c .before .before .before .figures-over .ensures in
     accepted-with _ (figures (records f)) (s .args .out .now) (c .before .lend .last .0) (c .before .before .before .figures-over .result .count)
     (if-accepted (checked f) (enough f (figures (records f)) (length (s .args .out .now))) (st .accepted) ∙ as-many f (figures (records f)) (length (s .args .out .now)) (omega arith))
-    (omega arith) (c .before .lend .ensures ∙ ap (λ (xs : List ℤ). xs ++ drop (c .before .before .before .figures-over .result .count) (s .args .out .now)) (o .0))
+    (omega arith) (c .before .lend .ensures ∙ ap (λ (xs : List ℤ). xs ++ drop (c .before .before .before .figures-over .result .count) (s .args .out .now)) (o .0 ∙ ap figures same))
 
 pub answer-figures-spec : {M : Type 1} → statement M
 answer-figures-spec =
@@ -91,6 +107,8 @@ answer-figures-spec =
     add-if2
     record-count-requires
     returns-2
+    nothing-of-requires
+    alone-requires
     figures-over-requires
     lend-requires
     same-length

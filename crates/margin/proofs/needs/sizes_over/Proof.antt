@@ -2,6 +2,8 @@
 -- Assumes nothing.
 use native.Mathlib.Omega.{arith}
 use borrow.Author.Needs.{needs}
+use Rattle.account.specs.Records.{records}
+use Rattle.account.proofs.Lawful.{lawful}
 use Rattle.margin.proofs.AskedLaws.{asked-small}
 use Rattle.margin.proofs.NeedLaws.{table-sizes, contract-sizes}
 use Rattle.margin.proofs.needs.sizes_over.Statement.{statement}
@@ -21,19 +23,19 @@ returns c =
 add-t11 : tie.Need-add-t11
 add-t11 c =
     let s = c .before in
-    let h = asked-small (s .args .file .now) (s .pre .0 .accepted) (s .args .question) (s .pre .1) (c .if1 .left) in
+    let h = asked-small (records (s .args .file .now)) (lawful (s .args .file .now) (s .pre .0 .accepted)) (s .args .question) (s .pre .1) (c .if1 .left) in
     omega arith
 
 mul-t12 : tie.Need-mul-t12
 mul-t12 c =
     let s = c .before in
-    let h = asked-small (s .args .file .now) (s .pre .0 .accepted) (s .args .question) (s .pre .1) (c .if1 .left) in
+    let h = asked-small (records (s .args .file .now)) (lawful (s .args .file .now) (s .pre .0 .accepted)) (s .args .question) (s .pre .1) (c .if1 .left) in
     omega arith
 
 element-copy-out-t15 : tie.Need-element-copy-out-t15
 element-copy-out-t15 c =
     let s = c .before in
-    let h = asked-small (s .args .file .now) (s .pre .0 .accepted) (s .args .question) (s .pre .1) (c .if1 .left) in
+    let h = asked-small (records (s .args .file .now)) (lawful (s .args .file .now) (s .pre .0 .accepted)) (s .args .question) (s .pre .1) (c .if1 .left) in
     omega arith
 
 cast-t16 : tie.Need-cast-t16
@@ -42,19 +44,19 @@ cast-t16 c = search needs
 add-t17 : tie.Need-add-t17
 add-t17 c =
     let s = c .before .before in
-    let h = asked-small (s .args .file .now) (s .pre .0 .accepted) (s .args .question) (s .pre .1) (c .before .if1 .left) in
+    let h = asked-small (records (s .args .file .now)) (lawful (s .args .file .now) (s .pre .0 .accepted)) (s .args .question) (s .pre .1) (c .before .if1 .left) in
     omega arith
 
 mul-t18 : tie.Need-mul-t18
 mul-t18 c =
     let s = c .before .before in
-    let h = asked-small (s .args .file .now) (s .pre .0 .accepted) (s .args .question) (s .pre .1) (c .before .if1 .left) in
+    let h = asked-small (records (s .args .file .now)) (lawful (s .args .file .now) (s .pre .0 .accepted)) (s .args .question) (s .pre .1) (c .before .if1 .left) in
     omega arith
 
 element-copy-out-t21 : tie.Need-element-copy-out-t21
 element-copy-out-t21 c =
     let s = c .before .before in
-    let h = asked-small (s .args .file .now) (s .pre .0 .accepted) (s .args .question) (s .pre .1) (c .before .if1 .left) in
+    let h = asked-small (records (s .args .file .now)) (lawful (s .args .file .now) (s .pre .0 .accepted)) (s .args .question) (s .pre .1) (c .before .if1 .left) in
     omega arith
 
 cast-t22 : tie.Need-cast-t22

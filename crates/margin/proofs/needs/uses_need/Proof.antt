@@ -3,7 +3,6 @@
 use mathlib.Core.Path.{sym}
 use native.Mathlib.Nat.{mul-le-mul}
 use native.Mathlib.Omega.{arith}
-use borrow.Author.Needs.{needs}
 use Rattle.margin.proofs.needs.uses_need.Statement.{statement}
 use Rattle.margin.proofs.needs.uses_need.Tie as tie
 

@@ -1,0 +1,90 @@
+-- An account that stands in one file, joined with an empty noon file, of which the check hands out nothing.
+-- Assumes nothing.
+use Prim.Native.Nat.{ℕ, _+_, _%_, _<_}
+use native.Mathlib.Omega.{arith}
+use mathlib.Core.Path.{_≡_, refl, sym, ap, _∙_, subst⁻¹}
+use mathlib.Core.Bool.{Bool, true, false, not, _&&_, cond}
+use mathlib.Core.List.{List, []}
+use lib.Dec.{eqb, ltb}
+use lib.ListN.{length, getD, replicate, length-replicate, getD-replicate}
+use Rattle.exact.specs.Lists.{sum}
+use Rattle.account.specs.Check.{checked, mostContracts}
+use Rattle.account.specs.Notes.{parts}
+use Rattle.account.specs.Records.{records, recordCount}
+use Rattle.account.specs.Supplied.{lists, fromNoon, eitherNote, Filled, Flagged, JoinedBy, AloneBy, Supplied}
+use Rattle.account.specs.Surveyed.{Surveyed}
+use Rattle.account.specs.declared.answers.Answer.the-variants.{Accepted}
+use Rattle.account.specs.declared.check.Survey.{Survey}
+use Rattle.account.specs.declared.joined.Joined.{Joined}
+use Rattle.account.proofs.Places.{alone, alone-lawful, records-are, places}
+use Rattle.account.proofs.Walk.{length-cut}
+
+abbrev zeros : List ℕ
+zeros = replicate parts 0
+
+nothing : Survey
+nothing = record { answer = Accepted; contracts = 0; first = zeros; counts = zeros }
+
+nothing-surveyed : Surveyed [] nothing
+unfolding nothing
+nothing-surveyed =
+    record {
+      answer = refl;
+      contracts = refl;
+      firsts = length-replicate {A = ℕ} parts 0;
+      first = λ v h. getD-replicate {A = ℕ} parts v 0 0 h;
+      sizes = length-replicate {A = ℕ} parts 0;
+      counts = λ v h. getD-replicate {A = ℕ} parts v 0 0 h;
+    }
+
+-- an empty file lists nothing and supplies nothing
+none-listed : (c : ℕ) → c < mostContracts → lists zeros c ≡ false
+none-listed c h = ap (λ (n : ℕ). not (eqb n 0)) (getD-replicate {A = ℕ} parts (16 + c) 0 0 (omega arith))
+
+none-supplied : (v : ℕ) → fromNoon zeros v ≡ false
+none-supplied v = ap (λ (t : Bool). ltb v 80 && t) (none-listed (v % 16) (omega arith)) ∙ go (ltb v 80)
+  where
+    go : (t : Bool) → t && false ≡ false
+    go true = refl
+    go false = refl
+
+noted : (xs : List ℕ) → length xs ≡ parts → Filled parts (eitherNote xs zeros zeros) xs
+noted xs l = record { long = l; each = λ v h. sym (ap (λ (t : Bool). cond t (getD zeros v 0) (getD xs v 0)) (none-supplied v)) }
+
+module _ (file : List ℕ) (s : Survey) (k : ℕ) (j : Joined) (sv : Surveyed file s) (by : AloneBy s k j) where
+  -- the same with the records added up from the parts
+  added : Joined
+  added = record { records = sum (j .counts); contracts = j .contracts; numbers = j .numbers; noon = j .noon; first = j .first; counts = j .counts }
+
+  added-by : JoinedBy s nothing added
+  unfolding nothing added
+  added-by =
+      record {
+        first = subst⁻¹ (λ (xs : List ℕ). Filled parts (eitherNote (s .first) zeros zeros) xs) (by .first) (noted (s .first) (sv .firsts));
+        counts = subst⁻¹ (λ (xs : List ℕ). Filled parts (eitherNote (s .counts) zeros zeros) xs) (by .counts) (noted (s .counts) (sv .sizes));
+        noon =
+            subst⁻¹ (λ (xs : List Bool). Flagged zeros xs) (by .noon)
+            (record { long = length-replicate mostContracts false; each = λ c h. getD-replicate mostContracts c false false h ∙ sym (none-listed c h) });
+        numbers = by .numbers;
+        records = refl;
+      }
+
+  module _ (ok : checked file ≡ Accepted) (e : k ≡ recordCount file) where
+    all-added : j .records ≡ sum (j .counts)
+    unfolding added
+    all-added =
+        by .records-are
+        ∙ e
+        ∙ sym (length-cut (recordCount file) file)
+        ∙ ap length (sym (alone file [] refl ok))
+        ∙ sym (records-are file [] s nothing added sv nothing-surveyed ok refl added-by)
+
+    joined-by : JoinedBy s nothing j
+    unfolding nothing added
+    joined-by = record { first = added-by .first; counts = added-by .counts; noon = added-by .noon; numbers = by .numbers; records = all-added }
+
+    pub alone-supplied : (none : List ℕ) → none ≡ [] → Supplied file none j
+    alone-supplied none z =
+        subst⁻¹ (λ (x : List ℕ). Supplied file x j) z
+        (let law = alone-lawful file [] refl ok in
+        record { lawful = law; places = places file [] s nothing j sv nothing-surveyed ok refl joined-by law })

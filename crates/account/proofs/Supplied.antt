@@ -1,0 +1,84 @@
+-- Arrays filled place by place: the notes of a joined account.
+-- Assumes nothing.
+use Prim.Native.Nat.{ℕ, zero, suc, _+_, _-_, _<_}
+use native.Mathlib.Nat.{le-of-suc-le-suc, not-suc-le-zero}
+use native.Mathlib.Decide.{ℕ-discrete}
+use native.Mathlib.Omega.{arith}
+use mathlib.Core.Path.{_≡_, refl, sym, ap, ap₂, _∙_}
+use mathlib.Core.Bool.{Bool, true, false, cond}
+use mathlib.Core.List.{List, [], _∷_, _++_, append-nil}
+use lib.ListN.{length, getD, take, drop, set, replicate}
+use lib.Seq.{getD-set-same, getD-set-other}
+use Rattle.exact.specs.Lists.{consIf, keep, oneIf, sum}
+use Rattle.record.specs.Bytes.{countFrom}
+
+module _ {A : Type 0} (d : A) (f : ℕ → A) (xs : List A) (v : ℕ) (x : A) (h : v < length xs) (e : x ≡ f v) (old : (i : ℕ) → i < v → getD xs i d ≡ f i) where
+  pub filled-next : (i : ℕ) → i < v + 1 → getD (set xs v x) i d ≡ f i
+  filled-next i l = go (ℕ-discrete i v)
+    where
+      go : Dec (i ≡ v) → getD (set xs v x) i d ≡ f i
+      go (yes q) = ap (λ (k : ℕ). getD (set xs v x) k d) q ∙ getD-set-same xs v x d h ∙ e ∙ ap f (sym q)
+      go (no q) = getD-set-other xs v i x d q ∙ old i (omega (arith, q))
+
+take-next : (xs : List ℕ) (n x : ℕ) → n < length xs → take (suc n) (set xs n x) ≡ take n xs ++ x ∷ []
+take-next [] n x h = absurd (not-suc-le-zero h)
+take-next (y ∷ xs) zero x h = refl
+take-next (y ∷ xs) (suc n) x h = ap (λ (ys : List ℕ). y ∷ ys) (take-next xs n x (le-of-suc-le-suc h))
+
+keep-next : (p : ℕ → Bool) (from n : ℕ) → keep p (countFrom from (suc n)) ≡ keep p (countFrom from n) ++ consIf (p (from + n)) (from + n) []
+keep-next p from zero = let e : from ≡ from + 0 = omega arith in ap (λ (k : ℕ). consIf (p k) k []) e
+keep-next p from (suc n) =
+    let e : from + 1 + n ≡ from + suc n = omega arith in
+    ap (consIf (p from) from) (keep-next p (from + 1) n ∙ ap (λ (k : ℕ). keep p (countFrom (from + 1) n) ++ consIf (p k) k []) e)
+    ∙ first (p from) from (keep p (countFrom (from + 1) n)) (consIf (p (from + suc n)) (from + suc n) [])
+  where
+    first : (t : Bool) (x : ℕ) (xs ys : List ℕ) → consIf t x (xs ++ ys) ≡ consIf t x xs ++ ys
+    first true x xs ys = refl
+    first false x xs ys = refl
+
+drop-set : (xs : List ℕ) (n x : ℕ) → drop (suc n) (set xs n x) ≡ drop (suc n) xs
+drop-set [] zero x = refl
+drop-set [] (suc n) x = refl
+drop-set (y ∷ xs) zero x = refl
+drop-set (y ∷ xs) (suc n) x = drop-set xs n x
+
+-- one less is left
+left-next : (xs : List ℕ) (n k : ℕ) → drop n xs ≡ replicate (suc k) 0 → drop (suc n) xs ≡ replicate k 0
+left-next [] zero k e = absurd (omega (arith, ap length e))
+left-next [] (suc n) k e = absurd (omega (arith, ap length e))
+left-next (y ∷ xs) zero k e = ap (drop 1) e
+left-next (y ∷ xs) (suc n) k e = left-next xs n k e
+
+-- one number more that is listed, or not
+module _ (p : ℕ → Bool) (c n : ℕ) (xs ys : List ℕ) (t : Bool) (e : t ≡ p c) (h : n < length xs) (put : ys ≡ cond t (set xs n c) xs) where
+  pub numbers-next : take n xs ≡ keep p (countFrom 0 c) → take (n + oneIf t) ys ≡ keep p (countFrom 0 (c + 1))
+  numbers-next old =
+      let more : c + 1 ≡ suc c = omega arith in
+      let same : 0 + c ≡ c = omega arith in
+      go t (sym e) put
+      ∙ sym (ap (λ (m : ℕ). keep p (countFrom 0 m)) more ∙ keep-next p 0 c ∙ ap (λ (k : ℕ). keep p (countFrom 0 c) ++ consIf (p k) k []) same)
+    where
+      go : (t : Bool) → p c ≡ t → ys ≡ cond t (set xs n c) xs → take (n + oneIf t) ys ≡ keep p (countFrom 0 c) ++ consIf (p c) c []
+      go true i q =
+          let m : n + 1 ≡ suc n = omega arith in
+          ap₂ take m q ∙ take-next xs n c h ∙ ap₂ _++_ old (sym (ap (λ (b : Bool). consIf b c []) i))
+      go false i q =
+          let m : n + 0 ≡ n = omega arith in
+          ap₂ take m q ∙ old ∙ sym (append-nil (keep p (countFrom 0 c))) ∙ ap (λ (b : Bool). keep p (countFrom 0 c) ++ consIf b c []) (sym i)
+
+  pub left-after : (m : ℕ) → length xs ≡ m → drop n xs ≡ replicate (m - n) 0 → drop (n + oneIf t) ys ≡ replicate (m - (n + oneIf t)) 0
+  left-after m l old = go t put
+    where
+      go : (t : Bool) → ys ≡ cond t (set xs n c) xs → drop (n + oneIf t) ys ≡ replicate (m - (n + oneIf t)) 0
+      go true q =
+          let a : n + 1 ≡ suc n = omega arith in
+          let b : m - n ≡ suc (m - (n + 1)) = omega (arith, l, h) in
+          ap₂ drop a q ∙ drop-set xs n c ∙ left-next xs n (m - (n + 1)) (old ∙ ap (λ (k : ℕ). replicate k 0) b)
+      go false q =
+          let a : n + 0 ≡ n = omega arith in
+          ap₂ drop a q ∙ old ∙ ap (λ (k : ℕ). replicate (m - k) 0) (sym a)
+
+pub sum-next : (xs : List ℕ) (v : ℕ) → v < length xs → sum (take (suc v) xs) ≡ sum (take v xs) + getD xs v 0
+sum-next [] v h = absurd (not-suc-le-zero h)
+sum-next (x ∷ xs) zero h = omega arith
+sum-next (x ∷ xs) (suc v) h = let r = sum-next xs v (le-of-suc-le-suc h) in omega arith

@@ -1,0 +1,102 @@
+-- The place by what the check hands out of both files.
+-- Assumes nothing.
+use mathlib.Core.Path.{sym, _∙_}
+use native.Mathlib.Omega.{arith}
+use borrow.Author.Needs.{needs}
+use Rattle.account.proofs.NoonLaws.{place-refused, place-beyond, place-noon, place-morning, place-nowhere}
+use Rattle.account.proofs.noon.prompt_place.Statement.{statement}
+use Rattle.account.proofs.noon.prompt_place.Tie as tie
+
+take-survey-requires : tie.Need-take-survey-requires
+take-survey-requires c κs = search needs
+
+take-survey-requires-2 : tie.Need-take-survey-requires-2
+take-survey-requires-2 c κs = search needs
+
+join-requires : tie.Need-join-requires
+join-requires c κs = search needs
+
+verdict-of-requires : tie.Need-verdict-of-requires
+verdict-of-requires c κs = search needs
+
+number-of-requires : tie.Need-number-of-requires
+number-of-requires c κs = search needs
+
+nowhere-requires : tie.Need-nowhere-requires
+nowhere-requires c κs = search needs
+
+returns : tie.Need-returns
+returns c =
+    c .nowhere .ensures ∙ sym (place-refused (c .before .before .before .before .before .before .before .before .before .args .morning .now) (c .before .before .before .before .before .before .before .before .before .args .noon .now) (c .before .before .before .before .before .before .take-survey .result) (c .before .before .before .before .before .take-survey2 .result) (c .before .before .before .before .join .result) (c .before .before .before .before .before .before .take-survey .ensures) (c .before .before .before .before .before .take-survey2 .ensures) (c .before .before .before .before .join .ensures) (c .before .before .before .verdict-of .result) (c .before .before .before .verdict-of .ensures) (c .before .before .before .before .before .before .before .before .before .args .contract) (λ z. c .before .if1 .taken (c .before .before .number-of .ensures ∙ z)))
+
+nowhere-requires-2 : tie.Need-nowhere-requires-2
+nowhere-requires-2 c κs = search needs
+
+returns-2 : tie.Need-returns-2
+returns-2 c =
+    c .nowhere2 .ensures ∙ sym (place-beyond (c .before .before .before .before .before .before .before .before .before .before .args .morning .now) (c .before .before .before .before .before .before .before .before .before .before .args .noon .now) (c .before .before .before .before .before .before .before .take-survey .result) (c .before .before .before .before .before .before .take-survey2 .result) (c .before .before .before .before .before .join .result) (c .before .before .before .before .before .before .before .take-survey .ensures) (c .before .before .before .before .before .before .take-survey2 .ensures) (c .before .before .before .before .before .join .ensures) (c .before .before .before .before .verdict-of .result) (c .before .before .before .before .verdict-of .ensures) (c .before .before .before .before .before .before .before .before .before .before .args .contract) (c .before .if2 .taken))
+
+add-if3 : tie.Need-add-if3
+add-if3 c = search needs
+
+mul-if3 : tie.Need-mul-if3
+mul-if3 c = search needs
+
+element-copy-out-if3 : tie.Need-element-copy-out-if3
+element-copy-out-if3 c = search needs
+
+place-in-requires : tie.Need-place-in-requires
+place-in-requires c κs = search needs
+
+returns-3 : tie.Need-returns-3
+returns-3 c =
+    c .place-in .ensures ∙ place-noon (c .before .before .before .before .before .before .before .before .before .before .before .before .args .morning .now) (c .before .before .before .before .before .before .before .before .before .before .before .before .args .noon .now) (c .before .before .before .before .before .before .before .before .before .take-survey .result) (c .before .before .before .before .before .before .before .before .take-survey2 .result) (c .before .before .before .before .before .before .before .join .result) (c .before .before .before .before .before .before .before .before .before .take-survey .ensures) (c .before .before .before .before .before .before .before .before .take-survey2 .ensures) (c .before .before .before .before .before .before .before .join .ensures) (c .before .before .before .before .before .before .verdict-of .result) (c .before .before .before .before .before .before .verdict-of .ensures) (c .before .before .before .before .before .before .before .before .before .before .before .before .args .contract) (sym (c .before .before .before .before .before .number-of .ensures) ∙ omega (arith, c .before .before .before .before .if1 .left)) (omega (arith, c .before .before .before .if2 .left)) (c .before .if3 .taken)
+
+add-if4 : tie.Need-add-if4
+add-if4 c = search needs
+
+mul-if4 : tie.Need-mul-if4
+mul-if4 c = search needs
+
+element-copy-out-if4 : tie.Need-element-copy-out-if4
+element-copy-out-if4 c = search needs
+
+place-in-requires-2 : tie.Need-place-in-requires-2
+place-in-requires-2 c κs = search needs
+
+returns-4 : tie.Need-returns-4
+returns-4 c =
+    c .place-in2 .ensures ∙ place-morning (c .before .before .before .before .before .before .before .before .before .before .before .before .before .before .args .morning .now) (c .before .before .before .before .before .before .before .before .before .before .before .before .before .before .args .noon .now) (c .before .before .before .before .before .before .before .before .before .before .before .take-survey .result) (c .before .before .before .before .before .before .before .before .before .before .take-survey2 .result) (c .before .before .before .before .before .before .before .before .before .join .result) (c .before .before .before .before .before .before .before .before .before .before .before .take-survey .ensures) (c .before .before .before .before .before .before .before .before .before .before .take-survey2 .ensures) (c .before .before .before .before .before .before .before .before .before .join .ensures) (c .before .before .before .before .before .before .before .before .verdict-of .result) (c .before .before .before .before .before .before .before .before .verdict-of .ensures) (c .before .before .before .before .before .before .before .before .before .before .before .before .before .before .args .contract) (sym (c .before .before .before .before .before .before .before .number-of .ensures) ∙ omega (arith, c .before .before .before .before .before .before .if1 .left)) (omega (arith, c .before .before .before .before .before .if2 .left)) (omega (arith, c .before .before .before .if3 .left)) (c .before .if4 .taken)
+
+nowhere-requires-3 : tie.Need-nowhere-requires-3
+nowhere-requires-3 c κs = search needs
+
+returns-5 : tie.Need-returns-5
+returns-5 c =
+    c .nowhere3 .ensures ∙ sym (place-nowhere (c .before .before .before .before .before .before .before .before .before .before .before .before .before .before .args .morning .now) (c .before .before .before .before .before .before .before .before .before .before .before .before .before .before .args .noon .now) (c .before .before .before .before .before .before .before .before .before .before .before .take-survey .result) (c .before .before .before .before .before .before .before .before .before .before .take-survey2 .result) (c .before .before .before .before .before .before .before .before .before .join .result) (c .before .before .before .before .before .before .before .before .before .before .before .take-survey .ensures) (c .before .before .before .before .before .before .before .before .before .before .take-survey2 .ensures) (c .before .before .before .before .before .before .before .before .before .join .ensures) (c .before .before .before .before .before .before .before .before .verdict-of .result) (c .before .before .before .before .before .before .before .before .verdict-of .ensures) (c .before .before .before .before .before .before .before .before .before .before .before .before .before .before .args .contract) (sym (c .before .before .before .before .before .before .before .number-of .ensures) ∙ omega (arith, c .before .before .before .before .before .before .if1 .left)) (omega (arith, c .before .before .before .before .before .if2 .left)) (omega (arith, c .before .before .before .if3 .left)) (omega (arith, c .before .if4 .left)))
+
+pub prompt-place-spec : {M : Type 1} → statement M
+prompt-place-spec =
+    tie.close
+    (tie.spec
+    take-survey-requires
+    take-survey-requires-2
+    join-requires
+    verdict-of-requires
+    number-of-requires
+    nowhere-requires
+    returns
+    nowhere-requires-2
+    returns-2
+    add-if3
+    mul-if3
+    element-copy-out-if3
+    place-in-requires
+    returns-3
+    add-if4
+    mul-if4
+    element-copy-out-if4
+    place-in-requires-2
+    returns-4
+    nowhere-requires-3
+    returns-5)

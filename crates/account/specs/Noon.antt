@@ -1,0 +1,87 @@
+-- Request 2026-01: what a morning's file and a noon file are refused for before a question is put to the joined account.
+-- Assumes nothing.
+use Prim.Native.Nat.{ℕ}
+use mathlib.Core.Path.{_≡_}
+use mathlib.Core.Bool.{Bool, true, _&&_, cond}
+use mathlib.Core.List.{List}
+use lib.Dec.{eqb, ltb}
+use lib.ListN.{length, getD}
+use Rattle.exact.specs.Lists.{any}
+use Rattle.account.specs.Accepted.{listed}
+use Rattle.account.specs.Answers.{numberOf}
+use Rattle.account.specs.Check.{checked, mostRecords, mostContracts}
+use Rattle.account.specs.Notes.{part, entryPart}
+use Rattle.account.specs.Parts.{ofKind, placeOf}
+use Rattle.account.specs.Records.{records, stretch}
+use Rattle.account.specs.Supplied.{accountOf, JoinedBy, Supplied}
+use Rattle.account.specs.Surveyed.{Surveyed, partStart, partCount}
+use Rattle.account.specs.declared.answers.Answer.{Answer}
+use Rattle.account.specs.declared.answers.Answer.the-variants.{Accepted, NoonSpread, TooManyJoined}
+use Rattle.account.specs.declared.check.Survey.{Survey}
+use Rattle.account.specs.declared.noon.Checked.{Checked}
+use Rattle.account.specs.declared.noon.Place.{Place}
+use Rattle.account.specs.declared.noon.Verdict.{Verdict}
+
+-- which file an answer is about: the joined account, the morning's or the noon's
+abbrev pub ofJoined : Answer → Verdict
+ofJoined a = record { file = 0; answer = a }
+
+abbrev pub ofMorning : Answer → Verdict
+ofMorning a = record { file = 1; answer = a }
+
+abbrev pub ofNoon : Answer → Verdict
+ofNoon a = record { file = 2; answer = a }
+
+abbrev pub clear : Verdict → Bool
+clear v = eqb (numberOf (v .answer)) 0
+
+infixr 30 _then_
+abbrev pub _then_ : Verdict → Verdict → Verdict
+v then next = cond (clear v) next v
+
+-- 12: "the noon file has kind 5, at its first such record"
+abbrev pub noSpread : List ℕ → Answer
+noSpread noon = cond (any (ofKind 5) (records noon)) (NoonSpread (placeOf (ofKind 5) (records noon))) Accepted
+
+-- 13: "more than 640 records joined", "naming the joined record count"
+abbrev pub fewJoined : ℕ → Answer
+fewJoined n = cond (ltb mostRecords n) (TooManyJoined n) Accepted
+
+-- "Refusals: each file by 01's 1 to 9, morning first, saying which; then 12 ..; then .. 13"
+abbrev pub joinedVerdict : List ℕ → List ℕ → Verdict
+joinedVerdict morning noon =
+    ofMorning (checked morning) then ofNoon (checked noon) then ofNoon (noSpread noon)
+    then ofJoined (fewJoined (length (accountOf morning noon)))
+
+-- the same by what the check handed out of both files
+abbrev pub verdictBy : Survey → Survey → ℕ → Verdict
+verdictBy m n records =
+    ofMorning (m .answer) then ofNoon (n .answer)
+    then ofNoon (cond (eqb (getD (n .counts) entryPart 0) 0) Accepted (NoonSpread (getD (n .first) entryPart 0)))
+    then ofJoined (fewJoined records)
+
+pub record CheckedBy (morning noon : List ℕ) (r : Checked) : Type 0 where
+  pub verdict-is : r .verdict ≡ joinedVerdict morning noon
+  pub joined-by : (m n : Survey) → Surveyed morning m → Surveyed noon n → JoinedBy m n (r .joined)
+  pub supplied : clear (joinedVerdict morning noon) ≡ true → Supplied morning noon (r .joined)
+
+-- "hand back its prompt records as they stand in whichever file supplies them, an empty part if neither lists it or the
+-- pair's records are refused": in which file they stand, from which record on, and how many
+abbrev pub nowhere : Place
+nowhere = record { file = 0; first = 0; records = 0 }
+
+abbrev pub placeIn : ℕ → List ℕ → ℕ → Place
+placeIn n file c = record { file = n; first = partStart file (part 2 c); records = partCount file (part 2 c) }
+
+abbrev pub placeBy : ℕ → Survey → ℕ → Place
+placeBy n survey c = record { file = n; first = getD (survey .first) (part 2 c) 0; records = getD (survey .counts) (part 2 c) 0 }
+
+abbrev pub promptPlace : List ℕ → List ℕ → ℕ → Place
+promptPlace morning noon c =
+    cond (clear (joinedVerdict morning noon) && ltb c mostContracts)
+    (cond (listed c (records noon)) (placeIn 2 noon c) (cond (listed c (records morning)) (placeIn 1 morning c) nowhere))
+    nowhere
+
+abbrev pub joinedPrompts : List ℕ → List ℕ → ℕ → List ℕ
+joinedPrompts morning noon c =
+    let p = promptPlace morning noon c in stretch (cond (eqb (p .file) 2) noon morning) (p .first) (p .records)

@@ -1,0 +1,146 @@
+// "Noon against the morning": the verdict on a pair of files, the joined account, and a contract's prompts.
+use crate::answers::Answer;
+use crate::answers::number_of;
+use crate::check::MOST_RECORDS;
+use crate::check::Survey;
+use crate::check::take_survey;
+use crate::joined::Joined;
+use crate::joined::join;
+use crate::joined::supplier;
+use crate::parts::CONTRACTS;
+use crate::parts::ENTRIES;
+use crate::parts::OWN;
+use crate::parts::PROMPTS;
+use crate::stretches::stretch;
+ghost use mathlib.Core.Path.{_≡_};
+ghost use Prim.Native.Nat.{_<_};
+ghost use Rattle.account.specs.Check.{mostContracts};
+ghost use Rattle.account.specs.Noon.{verdictBy, CheckedBy, placeBy, promptPlace, joinedPrompts};
+
+// Which file an answer is about.
+pub const JOINED: usize = 0;
+
+pub const MORNING: usize = 1;
+
+pub const NOON: usize = 2;
+
+pub struct Verdict {
+    pub file: usize,
+    pub answer: Answer,
+}
+
+// "Each file by 01's 1 to 9, morning first, saying which; then 12 ..; then, naming the joined record count, 13".
+fn verdict_of(morning: Survey, noon: Survey, records: usize) -> Verdict
+    ensures { λ v. ⌜ v ≡ verdictBy morning noon records ⌝ }
+{
+    let first = morning.answer;
+    if number_of(first) != 0 {
+        return Verdict {
+            file: MORNING,
+            answer: first,
+        };
+    }
+    let second = noon.answer;
+    if number_of(second) != 0 {
+        return Verdict {
+            file: NOON,
+            answer: second,
+        };
+    }
+    if noon.counts[ENTRIES] != 0 {
+        return Verdict {
+            file: NOON,
+            answer: Answer::NoonSpread(noon.first[ENTRIES] as usize),
+        };
+    }
+    if MOST_RECORDS < records {
+        return Verdict {
+            file: JOINED,
+            answer: Answer::TooManyJoined(records),
+        };
+    }
+    Verdict {
+        file: JOINED,
+        answer: Answer::Accepted,
+    }
+}
+
+// The verdict on a pair of files, and the joined account.
+pub struct Checked {
+    pub verdict: Verdict,
+    pub joined: Joined,
+}
+
+pub fn take_joined(morning: &[u8], noon: &[u8]) -> Checked
+    ensures { λ r. ⌜ CheckedBy (now (morning .entry)) (now (noon .entry)) r ⌝ }
+{
+    let first = take_survey(morning);
+    let second = take_survey(noon);
+    let joined = join(first, second);
+    let records = joined.records;
+    Checked {
+        verdict: verdict_of(first, second, records),
+        joined,
+    }
+}
+
+// Where a contract's prompts stand: in which file, from which record on, and how many.
+pub struct Place {
+    pub file: usize,
+    pub first: usize,
+    pub records: usize,
+}
+
+fn place_in(file: usize, survey: Survey, c: usize) -> Place
+    requires { ⌜ c < mostContracts ⌝ }
+    ensures { λ p. ⌜ p ≡ placeBy file survey c ⌝ }
+{
+    Place {
+        file,
+        first: survey.first[PROMPTS + c] as usize,
+        records: survey.counts[PROMPTS + c] as usize,
+    }
+}
+
+fn nowhere() -> Place
+    ensures { λ p. ⌜ p ≡ record { file = 0; first = 0; records = 0 } ⌝ }
+{
+    Place {
+        file: JOINED,
+        first: 0,
+        records: 0,
+    }
+}
+
+// The place of a contract's prompts in whichever file supplies them; nowhere if neither lists it or the pair is refused.
+pub fn prompt_place(morning: &[u8], noon: &[u8], contract: usize) -> Place
+    ensures { λ p. ⌜ p ≡ promptPlace (now (morning .entry)) (now (noon .entry)) contract ⌝ }
+{
+    let first = take_survey(morning);
+    let second = take_survey(noon);
+    let joined = join(first, second);
+    let verdict = verdict_of(first, second, joined.records);
+    let answer = verdict.answer;
+    if number_of(answer) != 0 {
+        return nowhere();
+    }
+    if CONTRACTS <= contract {
+        return nowhere();
+    }
+    if second.counts[OWN + contract] != 0 {
+        return place_in(NOON, second, contract);
+    }
+    if first.counts[OWN + contract] != 0 {
+        return place_in(MORNING, first, contract);
+    }
+    nowhere()
+}
+
+// "Hand back its prompt records as they stand in whichever file supplies them."
+pub fn prompts<'a>(morning: &'a [u8], noon: &'a [u8], contract: usize) -> &'a [u8]
+    ensures { λ r. ⌜ now r ≡ joinedPrompts (now (morning .entry)) (now (noon .entry)) contract ⌝ }
+{
+    let place = prompt_place(morning, noon, contract);
+    let file = supplier(morning, noon, place.file == NOON);
+    stretch(file, place.first, place.records)
+}

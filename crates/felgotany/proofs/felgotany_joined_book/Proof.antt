@@ -1,0 +1,26 @@
+-- The verdict on the delta book of a joined account, told to C, and the lent numbers as the question leaves them.
+-- Assumes nothing.
+use borrow.Author.Needs.{needs}
+use mathlib.Core.Path.{subst}
+use Rattle.account.specs.declared.noon.Verdict.{Verdict}
+use Rattle.felgotany.specs.Outcomes.{TellsOf}
+use Rattle.felgotany.proofs.felgotany_joined_book.Statement.{statement}
+use Rattle.felgotany.proofs.felgotany_joined_book.Tie as tie
+
+book-requires : tie.Need-book-requires
+book-requires c κs = search needs
+
+tell-of-requires : tie.Need-tell-of-requires
+tell-of-requires c κs = search needs
+
+same-length : tie.Need-same-length
+same-length c = search needs
+
+returns : tie.Need-returns
+returns c =
+    let f = c .before .before .book .ensures in
+    (subst (λ (v : Verdict). TellsOf v (c .tell-of .result)) (f .0) (c .tell-of .ensures), f .1)
+
+pub felgotany-joined-book-spec : {M : Type 1} → statement M
+felgotany-joined-book-spec =
+    tie.close (tie.spec book-requires tell-of-requires same-length returns)

@@ -36,14 +36,17 @@ impl Table {
         (net, if net < 0 { -left } else { left })
     }
 
-    /// What a contract earns by an entry that uses so much of its net delta, rounded once.
+    /// What a contract earns by an entry that uses so much of its net delta, rounded once; before it the unit price risk,
+    /// in ten-thousandths of the currency per lot `UNIT * whole + part`, is rounded.
     pub fn credit(&self, contract: usize, twice_price: i64, used: i64, percent: i64) -> i64 {
+        const UNIT: u64 = 500_000;
         let net = self.nets[contract].unsigned_abs();
-        let whole = 200 * u128::from(net);
-        let part = twice_price as u128 * used as u128 * percent as u128;
-        if part == 0 {
+        let (twice_price, share) = (twice_price as u64, used as u64 * percent as u64);
+        if twice_price == 0 || share == 0 {
             return 0;
         }
-        ((part + whole / 2) / whole) as i64
+        let (whole, part) = (twice_price / net, (twice_price % net * UNIT + net / 2) / net);
+        let halves = whole * share;
+        (halves / 200 + (halves % 200 * UNIT + part * share + 50_000_000) / 100_000_000) as i64
     }
 }

@@ -1,11 +1,9 @@
 -- A promise that is an equation leaves no choice: two outcomes that meet it are the same.
 -- Assumes nothing.
-use Prim.Native.Nat.{ℕ}
 use mathlib.Core.Path.{_≡_, sym, _∙_}
 use mathlib.Core.List.{List}
 use lib.IntN.{ℤ}
 use Rattle.exact.specs.Largest.{IsLargest}
-use Rattle.exact.specs.Wide.{Scaled}
 use Rattle.exact.specs.declared.largest.Place.{Place}
 
 -- a result, and a result with the lent numbers afterwards
@@ -19,6 +17,3 @@ one-outcome x r s y after after′ (e, f) (g, h) = (one-result x r s e g, one-re
 pub one-largest : (totals : List ℤ) (r s : Place) → IsLargest totals (r .value) (r .number) → IsLargest totals (s .value) (s .number) → r ≡ s
 one-largest totals r s a b =
     λ i. record { value = (a .value-is ∙ sym (b .value-is)) i; number = (a .number-is ∙ sym (b .number-is)) i }
-
-pub one-scaled : (a b d r s : ℕ) → Scaled a b d r → Scaled a b d s → r ≡ s
-one-scaled a b d r s x y = x .is ∙ sym (y .is)

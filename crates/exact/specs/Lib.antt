@@ -2,4 +2,3 @@ pub mod Largest
 pub mod Lists
 pub mod Rounding
 pub mod Signed
-pub mod Wide

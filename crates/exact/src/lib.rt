@@ -2,4 +2,3 @@
 pub mod largest;
 pub mod rounding;
 pub mod signed;
-pub mod wide;

@@ -19,6 +19,11 @@ reckoned =
       p7-risk = refl;
       p7-active = refl;
       p8 = refl;
+      four-places = refl;
+      half-a-place = refl;
+      half-a-place-earns = refl;
+      largest-unit = refl;
+      largest-unit-earns = refl;
       p9 = refl;
       p10 = refl;
     }

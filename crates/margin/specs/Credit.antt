@@ -27,10 +27,27 @@ twicePriceRiskAt ts active =
 abbrev pub twicePriceRisk : List ℤ → ℕ
 twicePriceRisk ts = twicePriceRiskAt ts (activeScenario ts)
 
--- "A contract's credit from one entry = price risk × |used in that entry| × percent / (100 × |net delta|), rounded
--- once, halves up; 0 where the net delta is 0."
+-- half hundredths of the currency over ten-thousandths of a lot, in ten-thousandths of the currency per lot
+abbrev pub toUnit : ℕ
+toUnit = 500000
+
+-- ten-thousandths of the currency per lot, times ten-thousandths of a lot, times a percent, that make one hundredth of the currency
+abbrev pub fromUnit : ℕ
+fromUnit = 100000000
+
+-- 2026-04: "The unit price risk, price risk over |net delta|, is rounded to four decimals, halves up, before it meets used delta
+-- and percent."
+abbrev pub unitPriceRisk : ℕ → ℕ → ℕ
+unitPriceRisk twiceRisk net = halfUp (twiceRisk * toUnit) net
+
+-- the unit price risk "× |used in that entry| × percent / 100, rounded once, halves up"
+abbrev pub creditAtUnit : ℕ → ℕ → ℕ → ℕ
+creditAtUnit unit used percentage = halfUp (unit * used * percentage) fromUnit
+
+-- "A contract's credit from one entry = price risk × |used in that entry| × percent / (100 × |net delta|) ..; 0 where the
+-- net delta is 0."
 abbrev pub credit : ℕ → ℕ → ℕ → ℕ → ℕ
-credit twiceRisk used percentage net = cond (eqb net 0) 0 (halfUp (twiceRisk * used * percentage) (200 * net))
+credit twiceRisk used percentage net = cond (eqb net 0) 0 (creditAtUnit (unitPriceRisk twiceRisk net) used percentage)
 
 -- what a contract has unused, either way: each contract is a tier with one prompt
 abbrev pub unusedBy : ℕ → List Open → ℕ

@@ -14,7 +14,7 @@ use Rattle.margin.specs.Entered.{contractRecord, promptRecord, rowRecord
 use Rattle.margin.specs.Scanning.{scanningRisk, activeScenario}
 use Rattle.margin.specs.Charges.{spreadCharge}
 use Rattle.margin.specs.Pairs.{pairOf}
-use Rattle.margin.specs.Credit.{credit}
+use Rattle.margin.specs.Credit.{unitPriceRisk, credit}
 use Rattle.margin.specs.Contract.{Contract, contractFrom, numbersOf, unusedDeltas, interpromptOf, promptOf, marginOf, asTier}
 use Rattle.margin.specs.Figures.{figures}
 
@@ -164,6 +164,14 @@ pub record Reckoned : Type 0 where
   pub p7-active : activeScenario gains ≡ 1
   -- "P8, 000 AEX: price risk 5,100.42, used and net 1.0012, 85 percent: credit 4,335.36"
   pub p8 : credit (2 * 510042) 10012 85 10012 ≡ 433536
+  -- 2026-04: "A price risk of 100.00 on a fully used net delta of 30,000 at 100 percent now earns 99.00 and not 100.00."
+  pub four-places : credit (2 * 10000) 300000000 100 300000000 ≡ 9900
+  -- half a ten-thousandth, from the half of a hundredth in a price risk of 100.005: on 666,700 lots 0.00015, which counts as 0.0002
+  pub half-a-place : unitPriceRisk 20001 6667000000 ≡ 2
+  pub half-a-place-earns : credit 20001 6667000000 100 6667000000 ≡ 13334
+  -- the largest price risk on the smallest net delta, 0.0001: a unit beyond 64 bits
+  pub largest-unit : unitPriceRisk (2 * 25600000000000000) 1 ≡ 25600000000000000000000
+  pub largest-unit-earns : credit (2 * 25600000000000000) 1 100 1 ≡ 25600000000000000
   -- "P9: active 15 pairs with 15"
   pub p9 : pairOf 15 ≡ 15
   -- "margin 500"

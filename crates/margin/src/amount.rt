@@ -1,7 +1,6 @@
 // Amounts: the formulas of document 01 in which deltas and numbers of spreads become amounts. Nothing else crosses.
 use exact::rounding::half_up;
 use exact::signed::magnitude;
-use exact::wide::scaled_half_up;
 use spread::Delta;
 use spread::Spreads;
 ghost use mathlib.Core.Path.{_≡_};
@@ -10,7 +9,7 @@ ghost use lib.IntN.{natAbs};
 ghost use Rattle.record.specs.Layout.{mostPercent};
 ghost use Rattle.margin.specs.Bounds.{mostDelta, mostRate, mostCharge, mostRisk, mostLots};
 ghost use Rattle.margin.specs.Charges.{spreadCharge, promptCharge};
-ghost use Rattle.margin.specs.Credit.{credit};
+ghost use Rattle.margin.specs.Credit.{toUnit, unitPriceRisk, credit};
 ghost use Rattle.margin.specs.Margin.{shortOptionMinimum, risk, margin};
 
 // An amount, in hundredths of the currency. None is negative.
@@ -40,15 +39,43 @@ pub(crate) fn prompt_charge(
     ))
 }
 
+// Half hundredths of the currency over ten-thousandths of a lot, in ten-thousandths of the currency per lot.
+const TO_UNIT: u64 = 500_000;
+
+// Ten-thousandths of the currency per lot, times ten-thousandths of a lot, times a percent, that make a hundredth of the currency.
+const FROM_UNIT: u64 = 100_000_000;
+
+// A unit price risk, which outgrows 64 bits: TO_UNIT for each of its wholes, and a part.
+struct UnitPriceRisk {
+    whole: u64,
+    part: u64,
+}
+
+// The unit price risk, from twice the price risk and the size of the net delta.
+fn unit_price_risk(twice_risk: u64, net: u64) -> UnitPriceRisk
+    requires { ⌜ net ≤ mostDelta ⌝ }
+    ensures { λ r. ⌜ (r .whole * toUnit + r .part ≡ unitPriceRisk «twice_risk» net) × (r .whole * net ≤ «twice_risk») × (r .part ≤ toUnit) ⌝ }
+{
+    if net == 0 {
+        return UnitPriceRisk { whole: 0, part: 0 };
+    }
+    let rest = twice_risk % net;
+    UnitPriceRisk {
+        whole: twice_risk / net,
+        part: half_up(rest * TO_UNIT, net),
+    }
+}
+
 // A contract's credit from one entry, from twice its price risk and the sizes of what the entry used and of its net delta.
+// The wholes come to half hundredths, of which 200 times a percent are as many hundredths.
 pub(crate) fn credit(twice_risk: u64, used: u64, percent: u64, net: u64) -> Amount
     requires { ⌜ (used ≤ net) × (net ≤ mostDelta) × (percent ≤ mostPercent) ⌝ }
     ensures { λ r. ⌜ (r .0 ≡ credit «twice_risk» used percent net) × (r .0 ≤ «twice_risk») ⌝ }
 {
-    if net == 0 {
-        return Amount(0);
-    }
-    Amount(scaled_half_up(twice_risk, used * percent, 200 * net))
+    let unit = unit_price_risk(twice_risk, net);
+    let halves = unit.whole * used;
+    let parts = halves % 200 * percent * TO_UNIT + unit.part * (used * percent);
+    Amount(halves / 200 * percent + half_up(parts, FROM_UNIT))
 }
 
 // The short option minimum.

@@ -21,6 +21,11 @@ reckoned =
       p8 = refl;
       p9 = refl;
       p10 = refl;
+      fef-formed = refl;
+      fef-keeps = refl;
+      unrounded-beyond = refl;
+      use-of-nothing = refl;
+      use-of-half = refl;
     }
 
 pub printed : Printed

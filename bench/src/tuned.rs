@@ -13,7 +13,7 @@ use independent::format::*;
 use independent::refusal::{TOO_FEW_LENT, UNLISTED_QUESTION};
 use independent::Refusal;
 use record::{get, Record};
-use table::Table;
+use table::{used, Table};
 
 /// The question for the intercontract table.
 const TABLE: usize = CONTRACTS;
@@ -160,11 +160,10 @@ impl Held<'_> {
         for (place, entry) in self.entries().iter().enumerate() {
             let numbers = table.steps(entry);
             steps(place, numbers);
-            let formed = numbers[0] + numbers[1];
-            if formed > 0 {
+            if numbers != [0, 0] {
                 for (number, ratio) in [(NUMBER, FIRST_RATIO), (SECOND_NUMBER, SECOND_RATIO)] {
                     let contract = get(entry, number) as usize;
-                    let used = formed * get(entry, ratio);
+                    let used = used(entry, numbers, ratio);
                     let [.., credit, _, twice_price] = &mut lines[self.notes.place(contract)];
                     *credit += table.credit(contract, *twice_price, used, get(entry, PERCENT));
                 }

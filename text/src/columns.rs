@@ -62,12 +62,14 @@ pub const KINDS: [Kind; 5] = [
             "credit percent",
             "first ratio",
             "second ratio",
+            "ratios",
         ],
     },
 ];
 
 const CLASSES: &[(i64, &str)] = &[(FORWARD, "forward"), (CALL, "call"), (PUT, "put")];
 const SIDES: &[(i64, &str)] = &[(SIDE_A, "A"), (SIDE_B, "B")];
+const RATIOS: &[(i64, &str)] = &[(TENTHS.least, "whole"), (TENTHS.most, "tenths")];
 
 pub fn kind(number: u8) -> Option<&'static Kind> {
     KINDS.iter().find(|kind| kind.kind == number)
@@ -78,6 +80,7 @@ pub fn words(column: &str) -> &'static [(i64, &'static str)] {
     match column {
         "class" => CLASSES,
         "leg 1 side" | "leg 2 side" | "leg 3 side" => SIDES,
+        "ratios" => RATIOS,
         _ => &[],
     }
 }

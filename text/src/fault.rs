@@ -89,7 +89,7 @@ fn outside(record: Record) -> Option<String> {
     Some(say(OUTSIDE, &[&place(record, field), &record.get(field), &range(record, column, field)]))
 }
 
-/// A field's range, with the words of its numbers, or the class that it goes by.
+/// A field's range, with the words of its numbers, or the class or the tenths that it goes by.
 fn range(record: Record, column: &str, field: Field) -> String {
     let numbers = match (field.least, field.most) {
         (least, most) if least == most => least.to_string(),
@@ -98,6 +98,10 @@ fn range(record: Record, column: &str, field: Field) -> String {
     let words: Vec<&str> = columns::words(column).iter().map(|(_, word)| *word).collect();
     if !words.is_empty() {
         return format!("{numbers} ({})", words.join(", "));
+    }
+    let tenths = record.get(TENTHS);
+    if tenths == TENTHS.most && entry_ratios(tenths).contains(&field) {
+        return format!("{numbers} in tenths");
     }
     let class = record.get(CLASS);
     match columns::word("class", class) {

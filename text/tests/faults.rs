@@ -33,7 +33,7 @@ fn an_unknown_kind() {
 #[test]
 fn a_kind_below() {
     assert_eq!(
-        after_account(4, "entry,3,5,1,1,1\ncontract,6,0"),
+        after_account(4, "entry,3,5,1,1,1,whole\ncontract,6,0"),
         "kind (byte 0) is 1; the record before is an entry, kind 5"
     );
 }
@@ -78,6 +78,18 @@ fn the_first_field_outside_its_range() {
             after_account(6, "spread,3,4,0,0,0,0,0,0,0,0,0,0"),
             "legs (byte 2) is 4; its range is 2..3",
         ),
+        (
+            after_account(6, "entry,3,5,0,101,1,whole"),
+            "first ratio (bytes 4-5) is 101; its range is 1..100",
+        ),
+        (
+            after_account(6, "entry,3,5,0,1000,1001,tenths"),
+            "second ratio (bytes 6-7) is 1001; its range is 1..1000 in tenths",
+        ),
+        (
+            after_account(6, "entry,3,5,0,1,1,2"),
+            "ratios (byte 8) is 2; its range is 0..1 (whole, tenths)",
+        ),
     ];
     for (said, expected) in cases {
         assert_eq!(said, expected);
@@ -91,7 +103,7 @@ fn what_no_earlier_record_lists() {
         "contract (byte 1) is 4; no earlier record lists that contract"
     );
     assert_eq!(
-        after_account(7, "entry,3,4,0,1,1"),
+        after_account(7, "entry,3,4,0,1,1,whole"),
         "second contract (byte 2) is 4; no earlier record lists that contract"
     );
     assert_eq!(
@@ -139,7 +151,7 @@ fn what_clashes() {
     assert_eq!(spread("2,0,1,B,1,2,B,1"), "every leg has side B, and none has side A");
     assert_eq!(spread("3,0,1,A,1,2,A,1,3,A,1"), "every leg has side A, and none has side B");
     assert_eq!(
-        after_account(8, "entry,3,3,0,1,1"),
+        after_account(8, "entry,3,3,0,1,1,whole"),
         "first contract (byte 1) and second contract (byte 2) are both 3"
     );
 }
@@ -156,7 +168,7 @@ fn what_is_over_a_limit() {
         "contract (byte 1) is 5; that contract has 32 spreads before this one, which is the most"
     );
     assert_eq!(
-        after_account(9, &many("entry,3,5,0,1,1".to_string(), 33)),
+        after_account(9, &many("entry,3,5,0,1,1,whole".to_string(), 33)),
         "32 entries come before this one, which is the most"
     );
 }

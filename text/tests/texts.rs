@@ -25,7 +25,8 @@ fn every_kind_is_read_as_it_was_written() {
         FORWARD_ROW,
         "spread,3,2,700,1,A,1,2,B,3",
         "spread,3,3,700,1,A,1,2,B,2,3,A,1",
-        "entry,3,4,85,48,5",
+        "entry,3,4,85,48,5,whole",
+        "entry,3,4,85,96,10,tenths",
     ];
     assert_eq!(lines(&text.join("\n")), text);
 }

@@ -237,12 +237,14 @@ impl Walk<'_, '_> {
     }
 
     fn entry(&mut self, entry: &Record, place: usize) -> Passed {
-        refuse(set_from::<8>(entry), UNUSED_BYTE)?;
+        refuse(set_from::<9>(entry), UNUSED_BYTE)?;
+        let [first, second] = entry_ratios(get(entry, TENTHS));
         let outside = outside(entry, NUMBER)
             | outside(entry, SECOND_NUMBER)
             | outside(entry, PERCENT)
-            | outside(entry, FIRST_RATIO)
-            | outside(entry, SECOND_RATIO);
+            | outside(entry, first)
+            | outside(entry, second)
+            | outside(entry, TENTHS);
         refuse(outside, OUT_OF_RANGE)?;
         let (first, second) = (get(entry, NUMBER), get(entry, SECOND_NUMBER));
         let lists = |contract: i64| self.notes.lists(contract as usize);

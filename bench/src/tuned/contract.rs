@@ -1,7 +1,7 @@
 //! A contract: what its rows come to, and what its spreads and prompts take and are charged.
 
 use super::record::{get, losses, Record};
-use super::steps::{both, pay, pool_of, Pools, POOLS};
+use super::steps::{both, pay, pool_of, Pools, POOLS, WHOLE};
 use independent::format::*;
 use independent::margin::PAIRED_SCENARIOS;
 use independent::units::ONE;
@@ -167,8 +167,8 @@ fn steps_of(pools: &mut Pools, spread: &Record) -> [i64; 2] {
         (pool_of(get(spread, leg_tier(leg)), short), get(spread, leg_ratio(leg)) as u64)
     };
     if get(spread, LEGS) == 2 {
-        both(pools, [leg(0), leg(1)])
+        both::<WHOLE, 2>(pools, [leg(0), leg(1)])
     } else {
-        both(pools, [leg(0), leg(1), leg(2)])
+        both::<WHOLE, 3>(pools, [leg(0), leg(1), leg(2)])
     }
 }

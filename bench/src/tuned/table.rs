@@ -2,7 +2,8 @@
 
 use super::check::CONTRACTS;
 use super::record::{get, Record};
-use super::steps::{both, pool_of, Pools, POOLS};
+use super::steps::{both, pool_of, takes, Pools, POOLS, WHOLE};
+use super::steps::TENTHS as IN_TENTHS;
 use independent::format::*;
 
 /// The pools of the contracts, with their net deltas by contract number.
@@ -26,7 +27,11 @@ impl Table {
     pub fn steps(&mut self, entry: &Record) -> [i64; 2] {
         let a = (pool_of(get(entry, NUMBER), false), get(entry, FIRST_RATIO) as u64);
         let b = (pool_of(get(entry, SECOND_NUMBER), true), get(entry, SECOND_RATIO) as u64);
-        both(&mut self.pools, [a, b])
+        if in_tenths(entry) {
+            both::<IN_TENTHS, 2>(&mut self.pools, [a, b])
+        } else {
+            both::<WHOLE, 2>(&mut self.pools, [a, b])
+        }
     }
 
     /// The net delta of a contract, and what of it the steps leave.
@@ -49,4 +54,20 @@ impl Table {
         let halves = whole * share;
         (halves / 200 + (halves % 200 * UNIT + part * share + 50_000_000) / 100_000_000) as i64
     }
+}
+
+#[inline(always)]
+fn in_tenths(entry: &Record) -> bool {
+    get(entry, TENTHS) == TENTHS.most
+}
+
+/// What the two steps of an entry take at a ratio, each rounded by itself.
+#[inline(always)]
+pub fn used(entry: &Record, numbers: [i64; 2], ratio: Field) -> i64 {
+    let ratio = get(entry, ratio) as u64;
+    let taken = numbers.map(|number| match in_tenths(entry) {
+        true => takes::<IN_TENTHS>(number as u64, ratio),
+        false => takes::<WHOLE>(number as u64, ratio),
+    });
+    (taken[0] + taken[1]) as i64
 }

@@ -83,3 +83,10 @@ pub fn print_rate(rate: usize) {
     print_count(rate / 100, 0);
     print_hundredths(rate as u64);
 }
+
+// Tenths, with one place.
+pub fn print_tenths(n: usize) {
+    print_count(n / 10, 0);
+    print_text(b".");
+    print_digit(n as u64);
+}

@@ -18,6 +18,7 @@ use record::fields::percent;
 use record::fields::rate_per_spread;
 use record::fields::second_contract;
 use record::fields::second_ratio;
+use record::fields::tenths;
 use record::fields::tier;
 
 // Sides of a leg.
@@ -32,10 +33,12 @@ pub struct Prompt {
     pub tier: usize,
 }
 
+// A leg; its ratio is in tenths or whole.
 pub struct Leg {
     pub tier: usize,
     pub side: usize,
     pub ratio: usize,
+    pub tenths: bool,
 }
 
 // A spread by its place from 1. Of its legs the first two or all three count.
@@ -90,6 +93,7 @@ fn leg_at(r: &[u8], leg: usize) -> Leg {
         tier: leg_tier(r, leg),
         side: leg_side(r, leg),
         ratio: leg_ratio(r, leg),
+        tenths: false,
     }
 }
 
@@ -98,11 +102,13 @@ fn entry_at(r: &[u8], place: usize) -> Spread {
         tier: contract(r),
         side: A,
         ratio: first_ratio(r),
+        tenths: tenths(r),
     };
     let b = Leg {
         tier: second_contract(r),
         side: B,
         ratio: second_ratio(r),
+        tenths: tenths(r),
     };
     Spread {
         place,

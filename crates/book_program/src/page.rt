@@ -4,6 +4,7 @@ use crate::columns::print_count;
 use crate::columns::print_integer;
 use crate::columns::print_lots;
 use crate::columns::print_rate;
+use crate::columns::print_tenths;
 use crate::columns::print_text;
 use crate::labels::A;
 use crate::labels::Leg;
@@ -79,7 +80,11 @@ fn print_leg(question: usize, leg: Leg) {
     }
     print_count(leg.tier, 0);
     print_text(b" x ");
-    print_count(leg.ratio, 0);
+    if leg.tenths {
+        print_tenths(leg.ratio);
+    } else {
+        print_count(leg.ratio, 0);
+    }
 }
 
 // The rate of a spread, or the percent of an entry.
@@ -148,8 +153,9 @@ pub fn print_end(spreads: usize) {
     print_text(
         b"\n  No list of spread amounts, one for each step in this order, none negative, in\n",
     );
+    print_text(b"  whole ten-thousandths, each step's use before rounding within what the steps\n");
     print_text(
-        b"  whole ten-thousandths, within the net deltas of each tier and side, is larger\n",
+        b"  before it leave of the net deltas of each tier and side, is larger at the first\n",
     );
-    print_text(b"  at the first step where it differs from this one.\n\n");
+    print_text(b"  step where it differs from this one.\n\n");
 }

@@ -23,7 +23,7 @@ use Rattle.spread.specs.declared.book.Book.{Book}
 use Rattle.margin.specs.declared.accepted.Lines.{Lines}
 use Rattle.margin.specs.declared.amount.Amount.{Amount}
 use Rattle.margin.specs.declared.line.Line.{Line}
-use Rattle.margin.specs.Bounds.{mostDelta}
+use Rattle.margin.specs.Bounds.{mostDelta, mostFormed}
 use Rattle.margin.specs.Contract.{Contract, contracts, partsIn, asTier, contractNet, creditOf}
 use Rattle.margin.specs.Credit.{credit, creditsBy, entryUse, unusedBy, twicePriceRisk}
 use Rattle.margin.specs.Deltas.{intercontract}
@@ -147,7 +147,7 @@ module _ (morning noon : List ℕ) (j : Joined) (st : Supplied morning noon j) (
     abbrev ns : List ℕ
     ns = numbers (steps (map intercontract (records part))) (map tierOf ls)
 
-    formed-most : (j : ℕ) → getD ns j 0 ≤ 16 * mostDelta
+    formed-most : (j : ℕ) → getD ns j 0 ≤ mostFormed
     formed-most j =
         let t = tier-sizes ks ls lined in
         let m = mul-le-mul-right mostDelta (is .few) in
@@ -182,8 +182,8 @@ module _ (morning noon : List ℕ) (j : Joined) (st : Supplied morning noon j) (
                     record {
                       net-within = line-at i h .net-within;
                       percent-within = (entries-fit morning noon j st part ep) .each k m .percent-within;
-                      first-within = subst⁻¹ (λ (x : ℕ). x ≤ 16 * mostDelta) (first-at bk k l) (formed-most (2 * k));
-                      second-within = subst⁻¹ (λ (x : ℕ). x ≤ 16 * mostDelta) (second-at bk k l) (formed-most (2 * k + 1));
+                      first-within = subst⁻¹ (λ (x : ℕ). x ≤ mostFormed) (first-at bk k l) (formed-most (2 * k));
+                      second-within = subst⁻¹ (λ (x : ℕ). x ≤ mostFormed) (second-at bk k l) (formed-most (2 * k + 1));
                       use-within = use-most i h k m;
                     };
               };

@@ -35,9 +35,9 @@ use Rattle.margin.specs.Risks.{TotalsWithin, Scanned}
 use Rattle.margin.specs.Sums.{interleaved, deltasIn, SpreadsWithin, PromptsWithin}
 use Rattle.margin.specs.Within.{ContractFit}
 use Rattle.margin.proofs.BookLaws.{over-arrays, prompts-arrays, book-listed}
-use Rattle.margin.proofs.LineLaws.{opens-first, opens-length, opens-sizes, opens-sound, spreads-sound, numbers-length, used-length, unused-length, sum-zeros, size-zeros, first-within, delta-within}
+use Rattle.margin.proofs.LineLaws.{opens-first, opens-length, opens-sizes, opens-sound, spreads-sound, interprompt-whole, numbers-length, used-length, unused-length, sum-zeros, size-zeros, first-within, delta-within}
 use Rattle.margin.proofs.NetLaws.{net-sizes-most}
-use Rattle.margin.proofs.StepBounds.{sizes, number-within, used-within, unused-within, size-at}
+use Rattle.margin.proofs.StepBounds.{sizes, whole-number-within, used-within, unused-within, size-at}
 
 -- a bound on the places of a list holds past its end too
 everywhere : (n most : ℕ) (zs : List ℤ) → length zs ≡ n → ((k : ℕ) → k < n → natAbs (getD zs k (pos 0)) ≤ most) → (k : ℕ) → natAbs (getD zs k (pos 0)) ≤ most
@@ -94,7 +94,7 @@ module _ (own : Record) (prompts rows spreads : List Record) (w : ContractFit ow
       (net-sizes-most prompts rows (w .one-day) (w .rows-within))
 
   number-most : (j : ℕ) → getD (numbers ss ps) j 0 ≤ mostDelta
-  number-most j = le-trans (number-within ss ps j) sizes-within
+  number-most j = le-trans (whole-number-within ss ps j (interprompt-whole spreads)) sizes-within
 
   used-most : (j : ℕ) → natAbs (getD (usedOf ss ps) j (pos 0)) ≤ mostDelta
   used-most j = le-trans (used-within ss ps j) (le-trans (size-at ps j) sizes-within)

@@ -1,15 +1,14 @@
 -- What an entry uses of a contract, from the numbers of its two steps; and a contract's credits, from all numbers.
 -- Assumes nothing.
-use Prim.Native.Nat.{ℕ, suc, _+_, _-_, _*_, _≤_, zero-le, suc-le-suc}
-use native.Mathlib.Nat.{add-mul}
+use Prim.Native.Nat.{ℕ, suc, _+_, _-_, _≤_, zero-le, suc-le-suc}
 use native.Mathlib.Omega.{arith}
 use mathlib.Core.Path.{_≡_, refl, sym, ap, ap₂, _∙_}
 use mathlib.Core.Bool.{Bool, true, false, cond}
 use mathlib.Core.List.{List, [], _∷_, map}
 use borrow.Author.Tests.{lt-ltb, eqb-true}
 use lib.Dec.{eqb}
-use Rattle.record.specs.Layout.{Record, contract, secondContract, percent, firstRatio, secondRatio}
-use Rattle.spread.specs.Steps.{Market, long, short, Open, Taker, taker, firstMarket, secondMarket, legsOf, pool, formed, after, steps, numbers}
+use Rattle.record.specs.Layout.{Record, contract, secondContract, percent, firstRatio, secondRatio, tenths}
+use Rattle.spread.specs.Steps.{Market, long, short, Open, Taker, taker, firstMarket, secondMarket, legsOf, pool, useOf, formed, after, steps, numbers}
 use Rattle.spread.specs.Demand.{totalUse, soundSteps}
 use Rattle.spread.proofs.Demand3.{demand3}
 use Rattle.spread.proofs.Spending.{left-spend, pool-spend}
@@ -25,10 +24,10 @@ entry-sound e w = rw (lt-ltb 0 (firstRatio e) (w .first-ratio), lt-ltb 0 (second
 
 -- the numbers of the entry's two steps
 abbrev firstStep : Record → List Taker
-firstStep e = map (taker firstMarket) (legsOf (intercontract e))
+firstStep e = map (taker (tenths e) firstMarket) (legsOf (intercontract e))
 
 abbrev secondStep : Record → List Taker
-secondStep e = map (taker secondMarket) (legsOf (intercontract e))
+secondStep e = map (taker (tenths e) secondMarket) (legsOf (intercontract e))
 
 abbrev pub firstNumber : Record → List Open → ℕ
 firstNumber e ps = formed (firstStep e) ps
@@ -47,26 +46,28 @@ pool-left m c e ps =
 
 used-taken : (c : ℕ) (e : Record) (ps : List Open) → EntryFit e → usedByEntry e c ps ≡ taken long c e ps + taken short c e ps
 used-taken c e ps w =
-    let ours = demand3 (entrySteps e) ps (entry-sound e w) .ours in
-    let l = ours .within long c in
-    let s = ours .within short c in
+    let d = demand3 (entrySteps e) ps (entry-sound e w) in
+    let l = d .enough (numbers (entrySteps e) ps) (d .first .isOne) long c in
+    let s = d .enough (numbers (entrySteps e) ps) (d .first .isOne) short c in
     let pl = pool-left long c e ps in
     let ps′ = pool-left short c e ps in
     omega arith
 
-split : (a b : Bool) (n m r q : ℕ) → (a ≡ true → b ≡ true → ⊥)
-    → (cond a (n * r) 0 + (0 + 0) + (0 + (cond b (m * q) 0 + 0) + 0)) + (0 + (cond b (n * q) 0 + 0) + (cond a (m * r) 0 + (0 + 0) + 0))
-    ≡ cond a ((n + m) * r) (cond b ((n + m) * q) 0)
-split true true n m r q h = absurd (h refl refl)
-split true false n m r q h = omega (arith, add-mul n m r)
-split false true n m r q h = omega (arith, add-mul n m q)
-split false false n m r q h = refl
+-- what the first and the second step take of the first contract, nr and mr, and of the second, nq and mq
+split : (a b : Bool) (nr mr nq mq : ℕ) → (a ≡ true → b ≡ true → ⊥)
+    → (cond a nr 0 + (0 + 0) + (0 + (cond b mq 0 + 0) + 0)) + (0 + (cond b nq 0 + 0) + (cond a mr 0 + (0 + 0) + 0))
+    ≡ cond a (nr + mr) (cond b (nq + mq) 0)
+split true true nr mr nq mq h = absurd (h refl refl)
+split true false nr mr nq mq h = omega arith
+split false true nr mr nq mq h = omega arith
+split false false nr mr nq mq h = refl
 
 pub used-in : (c : ℕ) (e : Record) (ps : List Open) → EntryFit e
     → usedByEntry e c ps ≡ entryUse c e (firstNumber e ps) (secondNumber e ps)
 used-in c e ps w =
     used-taken c e ps w
-    ∙ split (eqb c (contract e)) (eqb c (secondContract e)) (firstNumber e ps) (secondNumber e ps) (firstRatio e) (secondRatio e)
+    ∙ split (eqb c (contract e)) (eqb c (secondContract e)) (useOf (tenths e) (firstNumber e ps) (firstRatio e)) (useOf (tenths e) (secondNumber e ps) (firstRatio e))
+    (useOf (tenths e) (firstNumber e ps) (secondRatio e)) (useOf (tenths e) (secondNumber e ps) (secondRatio e))
     (λ a b. w .apart (sym (eqb-true c (contract e) a) ∙ eqb-true c (secondContract e) b))
 
 -- of a contract's entry no more is used than the contract has

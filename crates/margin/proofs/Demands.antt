@@ -26,6 +26,7 @@ use Rattle.account.proofs.Claimed.{claimed}
 use Rattle.account.proofs.Lawful.{lawful}
 use Rattle.account.proofs.NoonLaws.{pair-lawful}
 use Rattle.spread.specs.Accepted.{every, soundSpread}
+use Rattle.spread.specs.Demand.{soundSteps}
 use Rattle.spread.proofs.Demand3.{demand3}
 use Rattle.spread.proofs.Soundness.{steps-sound}
 use Rattle.spread.proofs.Stepping.{who-paid}
@@ -38,7 +39,7 @@ use Rattle.margin.specs.Questions.{ifAccepted, asked, enough, answerTo, 
 use Rattle.margin.specs.Uses.{contractUses, tableUses}
 use Rattle.margin.proofs.AcceptLaws.{contract-within, entries-within}
 use Rattle.margin.proofs.AskedLaws.{one-book, table-book, contract-asked, table-asked}
-use Rattle.margin.proofs.LineLaws.{spreads-sound}
+use Rattle.margin.proofs.LineLaws.{spreads-sound, interprompt-whole}
 use Rattle.margin.proofs.NetLaws.{all-rows}
 use Rattle.margin.proofs.QuestionLaws.{accepted-only, if-refused, if-accepted, after-refused, too-few}
 use Rattle.margin.proofs.Reckoned.{reckoned, printed}
@@ -165,21 +166,26 @@ demand2 = record { reckoned = reckoned; printed = printed; empty-accepted = refl
 -- ---- 3
 
 module _ (account : List Record) (law : Lawful account) where
+  interprompt-steps : (c : ℕ) → soundSteps (stepsOf (partsOf account c)) ≡ true
+  interprompt-steps c =
+      let w = contract-within account law [] c (record { contracts = zero-le; rates = zero-le }) in
+      steps-sound (map interprompt (spreadsOf c account)) (spreads-sound interprompt (spreadsOf c account) (λ k h. w .each-spread k h .sound))
+
   pub demanded : Demanded account
   demanded =
       record {
         interprompt =
             λ c a n.
-            let w = contract-within account law [] c (record { contracts = zero-le; rates = zero-le }) in
-            let sound : every soundSpread (map interprompt (spreadsOf c account)) ≡ true =
-            spreads-sound interprompt (spreadsOf c account) (λ k h. w .each-spread k h .sound)
-            in
             record {
               writes = one-book account law c a n;
               takes = contract-asked account law contractUses tableUses (λ own. refl) c a n;
-              demand = demand3 (stepsOf (partsOf account c)) (opensOf (partsOf account c)) (steps-sound (map interprompt (spreadsOf c account)) sound);
-              paid = who-paid (stepsOf (partsOf account c)) (opensOf (partsOf account c)) (steps-sound (map interprompt (spreadsOf c account)) sound);
+              demand = demand3 (stepsOf (partsOf account c)) (opensOf (partsOf account c)) (interprompt-steps c);
+              paid = who-paid (stepsOf (partsOf account c)) (opensOf (partsOf account c)) (interprompt-steps c);
             };
+        firstWords =
+            λ c.
+            demand3 (stepsOf (partsOf account c)) (opensOf (partsOf account c)) (interprompt-steps c) .firstWords
+            (interprompt-whole (spreadsOf c account));
         intercontract =
             let w = entries-within account law in
             let sound : every soundSpread (map intercontract (entriesOf account)) ≡ true =

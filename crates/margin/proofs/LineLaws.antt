@@ -13,18 +13,20 @@ use lib.ListN.{length, getD, take, length-map}
 use Rattle.exact.specs.Lists.{sum, sumℤ}
 use Rattle.exact.proofs.Lists.{abs-sum, map-take, sum-take, sum-at, getD-map, sumℤ-take-suc}
 use Rattle.record.specs.Layout.{Record, tier}
-use Rattle.spread.specs.Accepted.{every, soundPrompt, soundSpread}
+use Rattle.spread.specs.Accepted.{every, whole, soundPrompt, soundSpread}
 use Rattle.spread.specs.Book.{entries, spreadsEntry, deltaEntry}
+use Rattle.spread.specs.Demand.{wholeSteps}
 use Rattle.spread.specs.Steps.{Open, Taker, steps, numbers, left, minus, usedOf, unusedOf}
 use Rattle.spread.specs.declared.Spread.{Spread}
 use Rattle.spread.specs.declared.Spreads.{Spreads}
 use Rattle.spread.specs.declared.Delta.{Delta}
 use Rattle.spread.proofs.Both.{and-both}
 use Rattle.spread.proofs.Demand3.{one-per-step}
+use Rattle.spread.proofs.Soundness.{whole-steps}
 use Rattle.spread.proofs.Stepping.{left-length}
 use Rattle.spread.proofs.Filling.{entries-at}
 use Rattle.margin.specs.Bounds.{mostDelta}
-use Rattle.margin.specs.Deltas.{opens}
+use Rattle.margin.specs.Deltas.{opens, interprompt}
 use Rattle.margin.specs.Sums.{spreadsAt, deltaAt}
 use Rattle.margin.proofs.StepBounds.{sizes}
 
@@ -58,6 +60,14 @@ pub spreads-sound : (made : Record → Spread) (rs : List Record) → ((k : ℕ)
 spreads-sound made [] h = refl
 spreads-sound made (r ∷ rs) h =
     and-both (soundSpread (made r)) (every soundSpread (map made rs)) (h 0 (suc-le-suc zero-le)) (spreads-sound made rs (λ k l. h (suc k) (suc-le-suc l)))
+
+-- interprompt spreads have whole ratios
+pub interprompt-whole : (rs : List Record) → wholeSteps (steps (map interprompt rs)) ≡ true
+interprompt-whole rs = whole-steps (map interprompt rs) (each rs)
+  where
+    each : (rs : List Record) → every whole (map interprompt rs) ≡ true
+    each [] = refl
+    each (r ∷ rs) = each rs
 
 -- ---- how many numbers and deltas there are
 

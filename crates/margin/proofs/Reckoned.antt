@@ -26,6 +26,11 @@ reckoned =
       largest-unit-earns = refl;
       p9 = refl;
       p10 = refl;
+      fef-formed = refl;
+      fef-keeps = refl;
+      unrounded-beyond = refl;
+      use-of-nothing = refl;
+      use-of-half = refl;
     }
 
 pub printed : Printed

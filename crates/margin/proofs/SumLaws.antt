@@ -4,18 +4,20 @@ use Prim.Native.Nat.{ℕ, _+_, _-_, _*_, _≤_, _<_, zero-le}
 use native.Mathlib.Nat.{zero-add, add-mul, le-trans, mul-le-mul}
 use native.Mathlib.Numerals.{add-one}
 use native.Mathlib.Omega.{arith}
-use mathlib.Core.Path.{_≡_, sym, ap, _∙_}
+use mathlib.Core.Path.{_≡_, sym, ap₂, _∙_}
+use mathlib.Core.Bool.{Bool}
 use mathlib.Core.List.{List, []}
 use lib.IntN.{pos}
 use lib.ListN.{length, getD, drop, drop-of-length-le}
 use lib.Seq.{drop-cons}
-use Rattle.record.specs.Layout.{Record, contract, secondContract, firstRatio, secondRatio, ratePerSpread, spreadRate, outrightRate, percent}
+use Rattle.exact.specs.Rounding.{halfUp}
+use Rattle.record.specs.Layout.{Record, contract, secondContract, firstRatio, secondRatio, tenths, ratePerSpread, spreadRate, outrightRate, percent}
 use borrow.Author.Tests.{eq-eqb, ne-eqb}
 use Rattle.spread.specs.declared.Delta.{Delta}
 use Rattle.spread.specs.declared.Spreads.{Spreads}
-use Rattle.margin.specs.Bounds.{mostRisk}
+use Rattle.margin.specs.Bounds.{mostFormed, mostRisk}
 use Rattle.margin.specs.Charges.{spreadCharge, interpromptCharge, promptCharge, promptCharges}
-use Rattle.margin.specs.Credit.{credit, entryUse, creditsBy}
+use Rattle.margin.specs.Credit.{credit, bothTake, entryUse, creditsBy}
 use Rattle.margin.specs.Sums.{interleaved, deltasIn, spreadsAt, deltaAt}
 
 -- a sum over n places: `rest i` is what the places from i on come to, each at most `most`
@@ -89,16 +91,27 @@ module _ (c twice net : ℕ) (rs : List Record) (firsts seconds : List Spreads) 
 
 -- what an entry uses, by the contract that it is asked for
 module _ (c : ℕ) (e : Record) (f s k : ℕ) (ek : k ≡ contract e) where
-  pub use-first : (r : ℕ) → c ≡ k → r ≡ firstRatio e → (f + s) * r ≡ entryUse c e f s
-  use-first r h er = rw (eq-eqb c (contract e) (h ∙ ek)) (ap (λ (x : ℕ). (f + s) * x) er)
+  pub use-first : (t : Bool) (r : ℕ) → c ≡ k → t ≡ tenths e → r ≡ firstRatio e → bothTake t r f s ≡ entryUse c e f s
+  use-first t r h et er = rw (eq-eqb c (contract e) (h ∙ ek)) (ap₂ (λ (b : Bool) (x : ℕ). bothTake b x f s) et er)
 
-  pub use-second : (l r : ℕ) → l ≡ secondContract e → (c ≡ k → ⊥) → c ≡ l → r ≡ secondRatio e → (f + s) * r ≡ entryUse c e f s
-  use-second l r el h g er =
-      rw (ne-eqb c (contract e) (λ x. h (x ∙ sym ek)), eq-eqb c (secondContract e) (g ∙ el)) (ap (λ (x : ℕ). (f + s) * x) er)
+  pub use-second : (l : ℕ) (t : Bool) (r : ℕ) → l ≡ secondContract e → (c ≡ k → ⊥) → c ≡ l → t ≡ tenths e → r ≡ secondRatio e
+      → bothTake t r f s ≡ entryUse c e f s
+  use-second l t r el h g et er =
+      rw (ne-eqb c (contract e) (λ x. h (x ∙ sym ek)), eq-eqb c (secondContract e) (g ∙ el)) (ap₂ (λ (b : Bool) (x : ℕ). bothTake b x f s) et er)
 
   pub use-none : (l : ℕ) → l ≡ secondContract e → (c ≡ k → ⊥) → (c ≡ l → ⊥) → _≡_ {A = ℕ} 0 (entryUse c e f s)
   use-none l el h g =
       rw (ne-eqb c (contract e) (λ x. h (x ∙ sym ek)), ne-eqb c (secondContract e) (λ x. g (x ∙ sym el)))
+
+-- what a step takes of a contract fits
+pub step-product : (number ratio : ℕ) → number ≤ mostFormed → ratio < 65536 → number * ratio ≤ 65536 * mostFormed
+step-product number ratio h g =
+    let k : ratio ≤ 65536 = omega arith in
+    let p : number * ratio ≤ mostFormed * 65536 = mul-le-mul h k in
+    omega arith
+
+pub rounded-small : (n r most : ℕ) → n ≤ most → r ≡ halfUp n 10 → r ≤ most
+rounded-small n r most h e = omega arith
 
 -- at most 32 credits of at most twice the price risk each
 pub credits-small : (sum i twice : ℕ) → sum ≤ i * twice → i ≤ 32 → twice ≤ 4 * mostRisk → sum ≤ 128 * mostRisk

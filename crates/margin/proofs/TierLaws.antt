@@ -32,7 +32,7 @@ use Rattle.margin.specs.declared.line.Line.{Line}
 use Rattle.margin.specs.declared.numbers.Numbers.{Numbers}
 use Rattle.margin.specs.declared.rows.Position.{Position}
 use Rattle.margin.specs.Books.{threes, tableBook}
-use Rattle.margin.specs.Bounds.{mostDelta}
+use Rattle.margin.specs.Bounds.{mostDelta, mostFormed}
 use Rattle.margin.specs.Contract.{Contract, contracts, contractFrom, partsIn, asTier, contractNet}
 use Rattle.margin.specs.Deltas.{intercontract}
 use Rattle.margin.specs.Lines.{noLine}
@@ -171,7 +171,7 @@ module _ (morning noon : List ℕ) (j : Joined) (st : Supplied morning noon j) (
     abbrev ns : List ℕ
     ns = numbers (steps (map intercontract (records part))) (map asTier (contracts account))
 
-    formed-most : (j : ℕ) → getD ns j 0 ≤ 16 * mostDelta
+    formed-most : (j : ℕ) → getD ns j 0 ≤ mostFormed
     formed-most j =
         let z = sound-sizes (map asTier (contracts account)) (is .tiers-sound) in
         let m = mul-le-mul-right mostDelta (is .few) in

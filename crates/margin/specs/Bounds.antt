@@ -2,8 +2,12 @@
 -- Assumes nothing.
 use Prim.Native.Nat.{ℕ}
 pub use Rattle.record.specs.Layout.{mostRate}
--- of a net delta, a pool, a number of spreads
+-- of a net delta, a pool, a number of interprompt spreads
 pub use Rattle.spread.specs.Accepted.{mostDelta}
+
+-- of a number of intercontract spreads, whose ratios go down to a tenth: 10 × 16 contracts × 128,000,000,000
+abbrev pub mostFormed : ℕ
+mostFormed = 20480000000000
 
 -- a spread's or a prompt's charge: 2 × 128,000,000,000 × 10,000,000 / 10,000
 abbrev pub mostCharge : ℕ

@@ -1,14 +1,14 @@
 -- The intercontract credit (000): where used deltas and price risk become an amount.
 -- Assumes nothing.
 use Prim.Native.Nat.{ℕ, _+_, _-_, _*_}
-use mathlib.Core.Bool.{cond}
+use mathlib.Core.Bool.{Bool, cond}
 use mathlib.Core.List.{List, [], _∷_}
 use lib.ListN.{getD}
 use lib.Dec.{eqb}
 use lib.IntN.{ℤ, pos, _+ℤ_, _-ℤ_}
 use Rattle.exact.specs.Rounding.{halfUp}
-use Rattle.record.specs.Layout.{Record, contract, secondContract, percent, firstRatio, secondRatio}
-use Rattle.spread.specs.Steps.{Open, long, short, pool, steps, left}
+use Rattle.record.specs.Layout.{Record, contract, secondContract, percent, firstRatio, secondRatio, tenths}
+use Rattle.spread.specs.Steps.{Open, long, short, pool, useOf, steps, left}
 use Rattle.exact.specs.Signed.{orZero}
 use Rattle.margin.specs.Charges.{overSteps}
 use Rattle.margin.specs.Scanning.{activeScenario}
@@ -66,11 +66,15 @@ credits c twiceRisk net [] contracts = 0
 credits c twiceRisk net (e ∷ es) contracts =
     credit twiceRisk (usedByEntry e c contracts) (percent e) net + credits c twiceRisk net es (afterEntry e contracts)
 
--- the same from the numbers that the entries' steps form: what an entry uses of a contract that it names
+-- the same from the numbers that the entries' steps form: what an entry uses of a contract that it names is what its two steps
+-- take, each rounded by itself
+abbrev pub bothTake : Bool → ℕ → ℕ → ℕ → ℕ
+bothTake inTenths ratio first second = useOf inTenths first ratio + useOf inTenths second ratio
+
 abbrev pub entryUse : ℕ → Record → ℕ → ℕ → ℕ
 entryUse c e first second =
-    cond (eqb c (contract e)) ((first + second) * firstRatio e)
-    (cond (eqb c (secondContract e)) ((first + second) * secondRatio e) 0)
+    cond (eqb c (contract e)) (bothTake (tenths e) (firstRatio e) first second)
+    (cond (eqb c (secondContract e)) (bothTake (tenths e) (secondRatio e) first second) 0)
 
 abbrev pub creditsBy : ℕ → ℕ → ℕ → List Record → List ℕ → ℕ
 creditsBy c twiceRisk net =

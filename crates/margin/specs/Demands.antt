@@ -17,7 +17,7 @@ use Rattle.account.specs.Parts.{promptsOf, rowsOf, entriesOf}
 use Rattle.account.specs.Records.{records, recordCount}
 use Rattle.account.specs.declared.answers.Answer.{Answer}
 use Rattle.account.specs.declared.answers.Answer.the-variants.{Accepted}
-use Rattle.spread.specs.Demand.{Demand3}
+use Rattle.spread.specs.Demand.{Demand3, FirstWords}
 use Rattle.spread.specs.Steps.{Open, Taker, numbers, usedOf, unusedOf}
 use Rattle.spread.specs.Uses.{usesOf, WhoPaid}
 use Rattle.margin.specs.Books.{threes, answered, book, tableQuestion}
@@ -72,6 +72,8 @@ pub record Holds (written taken nets : List ℤ) (ss : List (List Taker)) (ps : 
 pub record Demanded (account : List Record) : Type 0 where
   pub interprompt : (c : ℕ) → answered account c ≡ true → (c ≡ tableQuestion → ⊥)
       → Holds (book account c) (uses account c) (partsOf account c .nets) (stepsOf (partsOf account c)) (opensOf (partsOf account c))
+  -- interprompt ratios are whole: there the demand also holds in its first words
+  pub firstWords : (c : ℕ) → FirstWords (stepsOf (partsOf account c)) (opensOf (partsOf account c))
   pub intercontract : Holds (book account tableQuestion) (uses account tableQuestion) (map contractNet (contracts account)) (tableSteps (entriesOf account)) (map asTier (contracts account))
   -- "earlier dates": the prompts of a contract stand by their days
   pub dates : (c : ℕ) → c ≤ mostContract → Later (promptsOf c account)

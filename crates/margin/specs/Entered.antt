@@ -1,4 +1,5 @@
--- Records as a person enters them, for the reckoned examples: the table of fields of document 01, written out.
+-- Records as a person enters them, for the reckoned examples: the table of fields of document 01 and of request 2026-03, written
+-- out.
 -- Assumes nothing.
 use Prim.Native.Nat.{ℕ, _-_, _/_, _%_}
 use mathlib.Core.List.{List, [], _∷_, _++_}
@@ -39,3 +40,8 @@ rowRecord number rowType day strike lots delta value losses =
 abbrev pub spreadRecord : ℕ → ℕ → ℕ → ℕ → ℕ → ℕ → Record
 spreadRecord number rate tierA ratioA tierB ratioB =
     filled (4 ∷ number ∷ 2 ∷ 0 ∷ four rate ++ (tierA ∷ 1 ∷ two ratioA) ++ (tierB ∷ 2 ∷ two ratioB))
+
+-- 1 says that the ratios are tenths
+abbrev pub entryRecord : ℕ → ℕ → ℕ → ℕ → ℕ → ℕ → Record
+entryRecord first second percent firstRatio secondRatio tenths =
+    filled (5 ∷ first ∷ second ∷ percent ∷ two firstRatio ++ two secondRatio ++ (tenths ∷ []))

@@ -1,5 +1,5 @@
--- "Reckoned examples" of document 01: P1 to P10, one claim. Deltas and numbers of spreads stand in ten-thousandths,
--- amounts in hundredths.
+-- "Reckoned examples" of document 01, P1 to P10, and that of request 2026-03 with its corners, one claim. Deltas and numbers of
+-- spreads stand in ten-thousandths, amounts in hundredths.
 -- Assumes nothing.
 use Prim.Native.Nat.{ℕ, _*_}
 use mathlib.Core.Path.{_≡_}
@@ -10,12 +10,13 @@ use Rattle.record.specs.Layout.{Record}
 use Rattle.account.specs.Records.{records}
 use Rattle.account.specs.Check.{checked}
 use Rattle.account.specs.declared.answers.Answer.the-variants.{Accepted}
-use Rattle.margin.specs.Entered.{contractRecord, promptRecord, rowRecord, spreadRecord}
+use Rattle.margin.specs.Entered.{contractRecord, promptRecord, rowRecord, spreadRecord, entryRecord}
 use Rattle.margin.specs.Scanning.{scanningRisk, activeScenario}
 use Rattle.margin.specs.Charges.{spreadCharge}
 use Rattle.margin.specs.Pairs.{pairOf}
 use Rattle.margin.specs.Credit.{unitPriceRisk, credit}
-use Rattle.margin.specs.Contract.{Contract, contractFrom, numbersOf, unusedDeltas, interpromptOf, promptOf, marginOf, asTier}
+use Rattle.spread.specs.Steps.{Open, Taker, numbers, unusedOf}
+use Rattle.margin.specs.Contract.{Contract, contractFrom, numbersOf, unusedDeltas, interpromptOf, promptOf, marginOf, asTier, tableSteps}
 use Rattle.margin.specs.Figures.{figures}
 
 -- whole lots, long and short
@@ -142,6 +143,17 @@ printed =
     ++ rowRecord 3 0 20260318 0 (pos 2) (pos 9800) 25 forwardLosses
     ++ rowRecord 3 1 20260318 1850 (negsuc 2) (pos 5200) 25 callLosses
 
+-- an entry of contract 1 against contract 2 with its ratios in tenths, and the two contracts with their net deltas
+abbrev pub inTenths : ℕ → ℕ → List (List Taker)
+inTenths first second = tableSteps (entryRecord 1 2 85 first second 1 ∷ [])
+
+abbrev pub against : ℤ → ℤ → List Open
+against first second = record { tier = 1; unused = first } ∷ record { tier = 2; unused = second } ∷ []
+
+-- 2026-03: FEF to AEX at "9.6 to 1", "120.0000 against -1.0012"
+abbrev pub fefAgainstAex : List Open
+fefAgainstAex = against (lotsLong 120) (negℤ (pos 10012))
+
 -- The numbers of a spread's first and second step stand side by side.
 pub record Reckoned : Type 0 where
   -- "Formed 0, 5, 20, 15, 0, 15; charge 17,000; .. prompt charge 225."
@@ -176,6 +188,14 @@ pub record Reckoned : Type 0 where
   pub p9 : pairOf 15 ≡ 15
   -- "margin 500"
   pub p10 : marginOf [] (asTier shortCall ∷ []) shortCall ≡ 500
+  -- "FEF keeps 110.3885": 1.0012 are formed, and 9.6 × 1.0012 is 9.61152
+  pub fef-formed : numbers (inTenths 96 10) fefAgainstAex ≡ 10012 ∷ 0 ∷ []
+  pub fef-keeps : unusedOf (inTenths 96 10) fefAgainstAex ≡ pos 1103885 ∷ pos 0 ∷ []
+  -- a pool of 0.0001 at 1.4 forms nothing, although the use of 0.0001, rounded, would fit it
+  pub unrounded-beyond : numbers (inTenths 14 10) (against (pos 1) (lotsShort 1)) ≡ 0 ∷ 0 ∷ []
+  -- 0.0004 at 0.1 use 0.00004 of a pool, which rounds to nothing; 0.0005 use half a ten-thousandth, which goes up
+  pub use-of-nothing : unusedOf (inTenths 1 10) (against (lotsLong 1) (negℤ (pos 4))) ≡ lotsLong 1 ∷ pos 0 ∷ []
+  pub use-of-half : unusedOf (inTenths 1 10) (against (lotsLong 1) (negℤ (pos 5))) ≡ pos 9999 ∷ pos 0 ∷ []
 
 -- "it prints C 3 13 383250 0 400 0 1500 383650, T 383650"
 pub record Printed : Type 0 where

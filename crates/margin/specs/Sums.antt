@@ -8,7 +8,7 @@ use Rattle.record.specs.Layout.{Record, ratePerSpread, spreadRate, outrightRate
 use Rattle.account.specs.Check.{mostPrompts, mostSpreads, mostEntries}
 use Rattle.spread.specs.declared.Delta.{Delta}
 use Rattle.spread.specs.declared.Spreads.{Spreads}
-use Rattle.margin.specs.Bounds.{mostDelta, mostRate, mostRisk}
+use Rattle.margin.specs.Bounds.{mostDelta, mostFormed, mostRate, mostRisk}
 use Rattle.margin.specs.Credit.{entryUse}
 
 -- the numbers of both steps, spread by spread
@@ -45,18 +45,12 @@ pub record PromptsWithin (prompts : List Record) (used unused : List Delta) : Ty
   pub most : length prompts ≤ mostPrompts
   pub each : (k : ℕ) → k < length prompts → PromptRoom (getD prompts k []) (deltaAt used k) (deltaAt unused k)
 
--- an entry that uses no more of a contract than a delta can be
-pub record EntryRoom (c : ℕ) (e : Record) (first second : ℕ) : Type 0 where
-  pub first-within : first ≤ 16 * mostDelta
-  pub second-within : second ≤ 16 * mostDelta
-  pub use-within : entryUse c e first second ≤ mostDelta
-
--- .. and no more than the contract's net delta
+-- an entry that uses no more of a contract than its net delta
 pub record CreditRoom (c net : ℕ) (e : Record) (first second : ℕ) : Type 0 where
   pub net-within : net ≤ mostDelta
   pub percent-within : percent e ≤ 100
-  pub first-within : first ≤ 16 * mostDelta
-  pub second-within : second ≤ 16 * mostDelta
+  pub first-within : first ≤ mostFormed
+  pub second-within : second ≤ mostFormed
   pub use-within : entryUse c e first second ≤ net
 
 pub record EntriesRoom (c twice net : ℕ) (entries : List Record) (firsts seconds : List Spreads) : Type 0 where

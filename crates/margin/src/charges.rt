@@ -3,6 +3,7 @@ use crate::amount::Amount;
 use crate::amount::credit;
 use crate::amount::prompt_charge;
 use crate::amount::spread_charge;
+use exact::rounding::half_up;
 use record::bytes::RECORD_BYTES;
 use record::fields::contract;
 use record::fields::first_ratio;
@@ -12,19 +13,21 @@ use record::fields::rate_per_spread;
 use record::fields::second_contract;
 use record::fields::second_ratio;
 use record::fields::spread_rate;
+use record::fields::tenths;
 use spread::Delta;
 use spread::MOST_PROMPTS;
 use spread::MOST_SPREADS;
 use spread::Spreads;
 ghost use mathlib.Core.Path.{_≡_};
-ghost use Prim.Native.Nat.{_*_, _≤_};
+ghost use Prim.Native.Nat.{_*_, _≤_, _<_};
 ghost use Rattle.account.specs.Records.{records};
-ghost use Rattle.margin.specs.Bounds.{mostCharge, mostRisk};
+ghost use Rattle.margin.specs.Bounds.{mostFormed, mostCharge, mostRisk};
 ghost use Rattle.margin.specs.Charges.{spreadCharge, interpromptCharge, promptCharge, promptCharges};
-ghost use Rattle.margin.specs.Credit.{credit, entryUse, creditsBy};
-ghost use Rattle.margin.specs.Sums.{interleaved, deltasIn, SpreadRoom, SpreadsWithin, PromptRoom, PromptsWithin, EntryRoom, CreditRoom, EntriesRoom};
+ghost use Rattle.margin.specs.Credit.{credit, bothTake, entryUse, creditsBy};
+ghost use Rattle.margin.specs.Sums.{interleaved, deltasIn, SpreadRoom, SpreadsWithin, PromptRoom, PromptsWithin, CreditRoom, EntriesRoom};
 ghost use Rattle.account.specs.Check.{mostPrompts, mostSpreads};
 ghost use Rattle.record.specs.Layout.{ratePerSpread, spreadRate, outrightRate, percent};
+ghost use Rattle.spread.specs.Steps.{useOf};
 
 fn charge_of_spread(s: &[u8], first: Spreads, second: Spreads) -> Amount
     requires { ⌜ SpreadRoom (now s) (first .0) (second .0) ⌝ }
@@ -82,17 +85,36 @@ pub(crate) fn prompt_charges(
     Amount(sum)
 }
 
+// What a step takes of a contract.
+fn step_use(in_tenths: bool, ratio: usize, number: Spreads) -> u64
+    requires { ⌜ (ratio < 65536) × (number .0 ≤ mostFormed) ⌝ }
+    ensures { λ r. ⌜ (r ≡ useOf in_tenths (number .0) ratio) × (r ≤ 65536 * mostFormed) ⌝ }
+{
+    let product = number.0 * (ratio as u64);
+    if in_tenths {
+        half_up(product, 10)
+    } else {
+        product
+    }
+}
+
+fn both_take(in_tenths: bool, ratio: usize, first: Spreads, second: Spreads) -> u64
+    requires { ⌜ (ratio < 65536) × ((first .0 ≤ mostFormed) × (second .0 ≤ mostFormed)) ⌝ }
+    ensures { λ r. ⌜ r ≡ bothTake in_tenths ratio (first .0) (second .0) ⌝ }
+{
+    step_use(in_tenths, ratio, first) + step_use(in_tenths, ratio, second)
+}
+
 // What an entry uses of a contract.
 fn entry_use(c: usize, e: &[u8], first: Spreads, second: Spreads) -> u64
-    requires { ⌜ EntryRoom c (now e) (first .0) (second .0) ⌝ }
+    requires { ⌜ (first .0 ≤ mostFormed) × (second .0 ≤ mostFormed) ⌝ }
     ensures { λ r. ⌜ r ≡ entryUse c (now (e .entry)) (first .0) (second .0) ⌝ }
 {
-    let number = first.0 + second.0;
     if c == contract(e) {
-        return number * (first_ratio(e) as u64);
+        return both_take(tenths(e), first_ratio(e), first, second);
     }
     if c == second_contract(e) {
-        return number * (second_ratio(e) as u64);
+        return both_take(tenths(e), second_ratio(e), first, second);
     }
     0
 }

@@ -8,6 +8,7 @@ use record::fields::leg_side;
 use record::fields::leg_tier;
 use record::fields::second_contract;
 use record::fields::second_ratio;
+use record::fields::tenths;
 use record::fields::tier;
 use spread::Delta;
 use spread::Leg;
@@ -39,6 +40,7 @@ fn interprompt(s: &[u8]) -> Spread
     Spread {
         legs: leg_count(s) as u8,
         leg: [leg_of(s, 0), leg_of(s, 1), leg_of(s, 2)],
+        tenths: false,
     }
 }
 
@@ -64,6 +66,7 @@ fn intercontract(e: &[u8]) -> Spread
     Spread {
         legs: 2,
         leg: [a, b, none],
+        tenths: tenths(e),
     }
 }
 
@@ -76,6 +79,7 @@ fn no_spread() -> Spread {
     Spread {
         legs: 0,
         leg: [none, none, none],
+        tenths: false,
     }
 }
 

@@ -19,7 +19,7 @@ module _ (r : Record) where
   pub of-spread : kind r ≡ 4 → fieldsOf r ≡ spreadFields r
   of-spread e = rw e
 
-  pub of-entry : kind r ≡ 5 → fieldsOf r ≡ entryFields
+  pub of-entry : kind r ≡ 5 → fieldsOf r ≡ entryFields r
   of-entry e = rw e
 
   pub of-none :

@@ -12,7 +12,7 @@ use borrow.Author.Tests.{leb-true, not-false, eqb-true, eqb-false}
 use mathlib.Core.Logic.{_⊎_, inl, inr, ⊎-elim}
 use Rattle.record.specs.Bytes.{Record, Field, countFrom, numberIn, plain, signed, twosComplement}
 use Rattle.record.specs.Layout.{kind, contract, shortOptionRate, tier, day, spreadRate, outrightRate, rowType, value, put}
-use Rattle.record.specs.Layout.{legCount, ratePerSpread, legTier, legSide, legRatio, secondContract, percent, firstRatio, secondRatio}
+use Rattle.record.specs.Layout.{legCount, ratePerSpread, legTier, legSide, legRatio, secondContract, percent, firstRatio, secondRatio, tenths, mostEntryRatio}
 use Rattle.record.specs.Layout.{fieldsOf, contractFields, promptFields, rowFields, spreadFields, entryFields, legFields, thirdLeg}
 use Rattle.record.specs.Layout.{lotsField, deltaField, lossField, hundredThousands}
 use Rattle.record.specs.Ranges.{unknownKind, fieldOutside, beyond, outside, outsideAmong}
@@ -154,13 +154,13 @@ module _ (r : Record) where
 
   pub entry-within : kind r ≡ 5 → fieldOutside r ≡ false → EntryWithin r
   entry-within k h =
-      let a = by entryFields (of-entry r k) h in
+      let a = by (entryFields r) (of-entry r k) h in
       record {
         contracts = most 0 15 (contract r) (a .0);
         seconds = most 0 15 (secondContract r) (a .1 .0);
         percents = most 0 100 (percent r) (a .1 .1 .0);
-        firstRatios = between 1 100 (firstRatio r) (a .1 .1 .1 .0);
-        secondRatios = between 1 100 (secondRatio r) (a .1 .1 .1 .1 .0);
+        firstRatios = between 1 (mostEntryRatio (tenths r)) (firstRatio r) (a .1 .1 .1 .0);
+        secondRatios = between 1 (mostEntryRatio (tenths r)) (secondRatio r) (a .1 .1 .1 .1 .0);
       }
 
 -- ---- the kinds

@@ -1,5 +1,5 @@
--- The table of kinds and fields of document 01, "The account file", with its ranges. Every offset, width and range of the
--- definitions is said here.
+-- The table of kinds and fields of document 01, "The account file", and of request 2026-03 of document 02, with its ranges.
+-- Every offset, width and range of the definitions is said here.
 -- Assumes nothing.
 use Prim.Native.Nat.{ℕ, _+_, _-_, _*_}
 use mathlib.Core.Bool.{Bool, cond}
@@ -167,7 +167,8 @@ abbrev pub spreadFields : Record → List Field
 spreadFields r =
     contractField ∷ legCountField ∷ ratePerSpreadField ∷ legFields 0 ++ legFields 1 ++ thirdLeg r
 
--- "5 intercontract spread | 1, 2: contracts; 3: credit percent 0..100; 4-5, 6-7: their ratios"
+-- "5 intercontract spread | 1, 2: contracts; 3: credit percent 0..100; 4-5, 6-7: their ratios"; and (2026-03) "Byte 8 of kind 5
+-- set to 1 says that its ratios are tenths, 1..1000; 0 keeps whole ratios."
 abbrev pub secondContractField : Field
 secondContractField = field 2 one contractRange
 
@@ -177,14 +178,31 @@ mostPercent = 100
 abbrev pub percentField : Field
 percentField = field 3 one (plain 0 mostPercent)
 
-abbrev pub firstRatioField : Field
-firstRatioField = field 4 two ratioRange
+abbrev pub tenthsField : Field
+tenthsField = field 8 one (plain 0 1)
 
-abbrev pub secondRatioField : Field
-secondRatioField = field 6 two ratioRange
+abbrev pub tenths : Record → Bool
+tenths r = eqb (numberIn tenthsField r) 1
 
-abbrev pub entryFields : List Field
-entryFields = contractField ∷ secondContractField ∷ percentField ∷ firstRatioField ∷ secondRatioField ∷ []
+abbrev pub mostTenths : ℕ
+mostTenths = 1000
+
+abbrev pub mostEntryRatio : Bool → ℕ
+mostEntryRatio inTenths = cond inTenths mostTenths mostRatio
+
+abbrev pub entryRatioRange : Bool → Range
+entryRatioRange inTenths = plain 1 (mostEntryRatio inTenths)
+
+abbrev pub firstRatioField : Bool → Field
+firstRatioField inTenths = field 4 two (entryRatioRange inTenths)
+
+abbrev pub secondRatioField : Bool → Field
+secondRatioField inTenths = field 6 two (entryRatioRange inTenths)
+
+abbrev pub entryFields : Record → List Field
+entryFields r =
+    contractField ∷ secondContractField ∷ percentField ∷ firstRatioField (tenths r) ∷ secondRatioField (tenths r)
+    ∷ tenthsField ∷ []
 
 -- What goes with each kind of record, and with any other kind.
 abbrev pub byKind : {A : Type 0} → ℕ → A → A → A → A → A → A → A
@@ -193,7 +211,7 @@ byKind k contract prompt row spread entry other =
     (cond (eqb k 2) prompt (cond (eqb k 3) row (cond (eqb k 4) spread (cond (eqb k 5) entry other))))
 
 abbrev pub fieldsOf : Record → List Field
-fieldsOf r = byKind (kind r) contractFields promptFields (rowFields r) (spreadFields r) entryFields []
+fieldsOf r = byKind (kind r) contractFields promptFields (rowFields r) (spreadFields r) (entryFields r) []
 
 -- What stands in the fields.
 abbrev pub contract : Record → ℕ
@@ -250,7 +268,7 @@ abbrev pub percent : Record → ℕ
 percent = numberIn percentField
 
 abbrev pub firstRatio : Record → ℕ
-firstRatio = numberIn firstRatioField
+firstRatio r = numberIn (firstRatioField (tenths r)) r
 
 abbrev pub secondRatio : Record → ℕ
-secondRatio = numberIn secondRatioField
+secondRatio r = numberIn (secondRatioField (tenths r)) r

@@ -6,7 +6,7 @@ use lib.IntN.{natAbs}
 use Rattle.record.specs.Layout.{Record, contract, shortOptionRate, tier, day, spreadRate, outrightRate}
 use Rattle.record.specs.Layout.{rowType, lots, delta, value, loss}
 use Rattle.record.specs.Layout.{legCount, ratePerSpread, legTier, legSide, legRatio}
-use Rattle.record.specs.Layout.{secondContract, percent, firstRatio, secondRatio}
+use Rattle.record.specs.Layout.{secondContract, percent, firstRatio, secondRatio, tenths, mostEntryRatio}
 use Rattle.record.specs.Layout.{mostContract, mostDay, mostTier, mostRate, mostRatio, hundredThousand, mostValue, mostRowType, oneLot, scenarioCount, mostPercent}
 
 pub record Between (low x high : ℕ) : Type 0 where
@@ -50,5 +50,5 @@ pub record EntryWithin (r : Record) : Type 0 where
   pub contracts : contract r ≤ mostContract
   pub seconds : secondContract r ≤ mostContract
   pub percents : percent r ≤ mostPercent
-  pub firstRatios : Between 1 (firstRatio r) mostRatio
-  pub secondRatios : Between 1 (secondRatio r) mostRatio
+  pub firstRatios : Between 1 (firstRatio r) (mostEntryRatio (tenths r))
+  pub secondRatios : Between 1 (secondRatio r) (mostEntryRatio (tenths r))

@@ -4,7 +4,8 @@ ghost use Prim.Native.Nat.{_<_};
 ghost use Rattle.record.specs.Layout.{kind, contract, shortOptionRate, tier, day, spreadRate, outrightRate};
 ghost use Rattle.record.specs.Layout.{rowType, strike, lots, delta, value, loss};
 ghost use Rattle.record.specs.Layout.{legCount, ratePerSpread, legTier, legSide, legRatio};
-ghost use Rattle.record.specs.Layout.{secondContract, percent, firstRatio, secondRatio};
+ghost use Rattle.record.specs.Layout.{secondContract, percent, firstRatio, secondRatio, tenthsField, tenths};
+ghost use Rattle.record.specs.Bytes.{numberIn};
 use crate::bytes::byte_at;
 use crate::bytes::i32_at;
 use crate::bytes::u16_at;
@@ -170,4 +171,17 @@ pub fn second_ratio(r: &[u8]) -> usize
     ensures { λ n. ⌜ (n ≡ secondRatio (now (r .entry))) × (n < 65536) ⌝ }
 {
     u16_at(r, layout::SECOND_RATIO)
+}
+
+// 1 where the ratios of an intercontract spread are tenths.
+pub(crate) fn tenths_byte(r: &[u8]) -> usize
+    ensures { λ n. ⌜ (n ≡ numberIn tenthsField (now (r .entry))) × (n < 256) ⌝ }
+{
+    byte_at(r, layout::TENTHS)
+}
+
+pub fn tenths(r: &[u8]) -> bool
+    ensures { λ b. ⌜ b ≡ tenths (now (r .entry)) ⌝ }
+{
+    tenths_byte(r) == 1
 }

@@ -51,6 +51,8 @@ pub(crate) const FIRST_RATIO: usize = 4;
 
 pub(crate) const SECOND_RATIO: usize = 6;
 
+pub(crate) const TENTHS: usize = 8;
+
 // Bytes that no field covers: before the first field of four bytes, byte 2 in a contract, and byte 3 in every kind that has
 // no percent.
 pub(crate) const CONTRACT_GAP: usize = 2;
@@ -68,4 +70,4 @@ pub(crate) const TWO_LEGS_END: usize = LEG_TIER + 4 * 2;
 
 pub(crate) const THREE_LEGS_END: usize = LEG_TIER + 4 * 3;
 
-pub(crate) const ENTRY_END: usize = SECOND_RATIO + 2;
+pub(crate) const ENTRY_END: usize = TENTHS + 1;

@@ -4,7 +4,7 @@ ghost use mathlib.Core.List.{map};
 ghost use Prim.Native.Nat.{_<_, _≤_};
 ghost use lib.IntN.{pos, negℤ};
 ghost use Rattle.record.specs.Bytes.{plain, signed, countFrom};
-ghost use Rattle.record.specs.Layout.{contractRange, dayRange, tierRange, rateRange, ratioRange, hundredThousands};
+ghost use Rattle.record.specs.Layout.{contractRange, dayRange, tierRange, rateRange, ratioRange, entryRatioRange, hundredThousands};
 ghost use Rattle.record.specs.Layout.{contractFields, promptFields, rowFields, spreadFields, entryFields};
 ghost use Rattle.record.specs.Layout.{strikeField, deltaField, forward, put, lossField, legFields, thirdLeg};
 ghost use Rattle.record.specs.Ranges.{beyond, outside, outsideAmong};
@@ -27,6 +27,8 @@ use crate::fields::second_ratio;
 use crate::fields::short_option_rate;
 use crate::fields::spread_rate;
 use crate::fields::strike;
+use crate::fields::tenths;
+use crate::fields::tenths_byte;
 use crate::fields::tier;
 use crate::fields::value;
 use crate::layout;
@@ -179,10 +181,24 @@ pub(crate) fn in_spread(r: &[u8]) -> bool
             | (no_rate(rate_per_spread(r)) | (no_leg(r, 0) | (no_leg(r, 1) | no_third_leg(r)))))
 }
 
-pub(crate) fn in_entry(r: &[u8]) -> bool
-    ensures { λ b. ⌜ b ≡ outsideAmong entryFields (now (r .entry)) ⌝ }
+// A ratio of an intercontract spread.
+fn no_entry_ratio(x: usize, in_tenths: bool) -> bool
+    ensures { λ b. ⌜ b ≡ beyond (entryRatioRange in_tenths) x ⌝ }
 {
+    if in_tenths {
+        beyond(x, 1, 1000)
+    } else {
+        no_ratio(x)
+    }
+}
+
+pub(crate) fn in_entry(r: &[u8]) -> bool
+    ensures { λ b. ⌜ b ≡ outsideAmong (entryFields (now (r .entry))) (now (r .entry)) ⌝ }
+{
+    let in_tenths = tenths(r);
     no_contract(contract(r))
         | (no_contract(second_contract(r))
-            | (beyond(percent(r), 0, 100) | (no_ratio(first_ratio(r)) | no_ratio(second_ratio(r)))))
+            | (beyond(percent(r), 0, 100)
+                | (no_entry_ratio(first_ratio(r), in_tenths)
+                    | (no_entry_ratio(second_ratio(r), in_tenths) | beyond(tenths_byte(r), 0, 1)))))
 }

@@ -73,7 +73,7 @@ pub(crate) fn beside_spread(r: &[u8]) -> bool
 }
 
 pub(crate) fn beside_entry(r: &[u8]) -> bool
-    ensures { λ b. ⌜ b ≡ unusedBeside entryFields (now (r .entry)) ⌝ }
+    ensures { λ b. ⌜ b ≡ unusedBeside (entryFields (now (r .entry))) (now (r .entry)) ⌝ }
 {
     set_from(r, layout::ENTRY_END)
 }

@@ -1,5 +1,5 @@
--- Pools, a run on them and one spend give the steps' numbers and the prompts' used and unused deltas; and the promises of a
--- take and of a book leave no choice.
+-- Pools, a run on them and one spend give the steps' numbers and the prompts' used and unused deltas; and the promise
+-- of a book leaves no choice.
 -- Assumes nothing.
 use Prim.Native.Nat.{ℕ, _+_, _*_}
 use native.Mathlib.Omega.{arith}
@@ -20,7 +20,6 @@ use Rattle.spread.specs.declared.Prompts.{Prompts}
 use Rattle.spread.specs.declared.Spreads.{Spreads}
 use Rattle.spread.specs.declared.Table.{Table}
 use Rattle.spread.specs.declared.book.Book.{Book}
-use Rattle.spread.specs.declared.pools.Took.{Took}
 use Rattle.spread.proofs.Demand3.{demand3, demand3-accepted}
 use Rattle.spread.proofs.Filling.{filled-none, filled-all}
 use Rattle.spread.proofs.Gathering.{noDelta}
@@ -29,16 +28,7 @@ use Rattle.spread.proofs.Running.{noSpreads}
 use Rattle.spread.proofs.Soundness.{table-sound}
 use Rattle.spread.proofs.Spending.{left-spend, pool-spend, spend-same}
 
--- two takes that the promise allows are the same, and two books
-pub took-one : (ks : List Taker) (cells : List ℕ) (r s : Took) → Taken ks cells (r .left .cell) (r .number .0) → Taken ks cells (s .left .cell) (s .number .0)
-    → r ≡ s
-took-one ks cells r s a b =
-    λ i.
-    record {
-      left = record { cell = (a .leaves ∙ sym (b .leaves)) i };
-      number = record { 0 = (a .formed ∙ sym (b .formed)) i };
-    }
-
+-- two books that the promise allows are the same
 pub booked-one : (p : Prompts) (t : Table) (r s : Book) → Booked p t r → Booked p t s → r ≡ s
 booked-one p t r s a b =
     λ i.
@@ -85,13 +75,13 @@ module _ (ss : List (List Taker)) (ps : List Open) (e : soundSteps ss ≡ true) 
           let a = w .each (cellOf m u) (cell-small m u (ltb-true u 16 f)) in
           let b = pools .each m u in
           let c = leaves .each m u ∙ ap (pool m u) (left-spend ss ps) ∙ pool-spend (λ m u. totalUse m u ss (numbers ss ps)) m u ps in
-          let d = demand3 ss ps e .ours .within m u in
+          let d = demand3 ss ps e .enough (numbers ss ps) (demand3 ss ps e .first .isOne) m u in
           omega arith
       go false f =
           let a = no-cell wanted m u (w .size) (ltb-false u 16 f) in
           let b = no-cell cells m u (pools .size) (ltb-false u 16 f) in
           let c = pools .each m u in
-          let d = demand3 ss ps e .ours .within m u in
+          let d = demand3 ss ps e .enough (numbers ss ps) (demand3 ss ps e .first .isOne) m u in
           omega arith
 
   pub spend-left : spend (cellAt wanted) ps ≡ left ss ps

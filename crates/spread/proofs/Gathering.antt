@@ -33,7 +33,7 @@ side-market (negsuc n) = refl
 
 -- a prompt as a leg on its own pool
 abbrev pub own : Open → Taker
-own p = record { market = marketOf (p .unused); tier = p .tier; ratio = 1 }
+own p = record { market = marketOf (p .unused); tier = p .tier; ratio = 1; tenths = false }
 
 pub eqb-turned : (a b : ℕ) → eqb a b ≡ eqb b a
 eqb-turned a b = go (eqb b a) refl
@@ -87,7 +87,7 @@ pool-most m t (suc i) (p ∷ ps) e =
 pub few : (p : Prompts) → soundPrompts p ≡ true → p .count ≤ 32
 few p e = leb-true (p .count) 32 (and-left (leb (p .count) 32) (every soundPrompt (openOf p)) e)
 
-all-sound : (p : Prompts) → soundPrompts p ≡ true → every soundPrompt (openOf p) ≡ true
+pub all-sound : (p : Prompts) → soundPrompts p ≡ true → every soundPrompt (openOf p) ≡ true
 all-sound p e = and-right (leb (p .count) 32) (every soundPrompt (openOf p)) e
 
 -- a prompt as the code finds it: its net delta, and the cell of its tier and side

@@ -31,17 +31,17 @@ least-three (suc (suc zero)) a b c h = absurd (omega arith)
 least-three (suc (suc (suc n))) a b c h = ap (λ l. least (a ∷ b ∷ c ∷ l)) (take-nil n)
 
 pub formed-legs : (second : Bool) (s : Spread) (x y z : Leg) → s .leg ≡ x ∷ y ∷ z ∷ [] → (cells : List ℕ) (a b c number : ℕ)
-    → a ≡ roomIn cells (taker (marketIn second) x)
-    → b ≡ roomIn cells (taker (marketIn second) y)
-    → c ≡ roomIn cells (taker (marketIn second) z)
+    → a ≡ roomIn cells (taker (s .tenths) (marketIn second) x)
+    → b ≡ roomIn cells (taker (s .tenths) (marketIn second) y)
+    → c ≡ roomIn cells (taker (s .tenths) (marketIn second) z)
     → number ≡ least (take (s .legs) (a ∷ b ∷ c ∷ []))
     → number ≡ formedIn (stepOf second s) cells
 formed-legs second s x y z legs cells a b c number ea eb ec e =
     e
     ∙ (λ i. least (take (s .legs) (ea i ∷ eb i ∷ ec i ∷ [])))
-    ∙ sym (ap least (map-take (roomIn cells) (s .legs) (map (taker (marketIn second)) (x ∷ y ∷ z ∷ []))))
-    ∙ sym (ap (λ l. least (map (roomIn cells) l)) (map-take (taker (marketIn second)) (s .legs) (x ∷ y ∷ z ∷ [])))
-    ∙ sym (ap (λ l. least (map (roomIn cells) (map (taker (marketIn second)) (take (s .legs) l)))) legs)
+    ∙ sym (ap least (map-take (roomIn cells) (s .legs) (map (taker (s .tenths) (marketIn second)) (x ∷ y ∷ z ∷ []))))
+    ∙ sym (ap (λ l. least (map (roomIn cells) l)) (map-take (taker (s .tenths) (marketIn second)) (s .legs) (x ∷ y ∷ z ∷ [])))
+    ∙ sym (ap (λ l. least (map (roomIn cells) (map (taker (s .tenths) (marketIn second)) (take (s .legs) l)))) legs)
 
 after-three : (f : Leg → Taker) (number : ℕ) (x y z : Leg) (legs : ℕ) (c₀ c₁ c₂ c₃ : List ℕ)
     → c₁ ≡ cond (ltb 0 legs) (lessIn number (f x) c₀) c₀
@@ -59,10 +59,10 @@ after-three f number x y z (suc (suc (suc n))) c₀ c₁ c₂ c₃ e₁ e₂ e�
     ∙ sym (ap (λ l. afterIn (map f (x ∷ y ∷ z ∷ l)) number c₀) (take-nil n))
 
 pub after-legs : (second : Bool) (s : Spread) (x y z : Leg) → s .leg ≡ x ∷ y ∷ z ∷ [] → (number : ℕ) (c₀ c₁ c₂ c₃ : List ℕ)
-    → c₁ ≡ cond (ltb 0 (s .legs)) (lessIn number (taker (marketIn second) x) c₀) c₀
-    → c₂ ≡ cond (ltb 1 (s .legs)) (lessIn number (taker (marketIn second) y) c₁) c₁
-    → c₃ ≡ cond (ltb 2 (s .legs)) (lessIn number (taker (marketIn second) z) c₂) c₂
+    → c₁ ≡ cond (ltb 0 (s .legs)) (lessIn number (taker (s .tenths) (marketIn second) x) c₀) c₀
+    → c₂ ≡ cond (ltb 1 (s .legs)) (lessIn number (taker (s .tenths) (marketIn second) y) c₁) c₁
+    → c₃ ≡ cond (ltb 2 (s .legs)) (lessIn number (taker (s .tenths) (marketIn second) z) c₂) c₂
     → c₃ ≡ afterIn (stepOf second s) number c₀
 after-legs second s x y z legs number c₀ c₁ c₂ c₃ e₁ e₂ e₃ =
-    after-three (taker (marketIn second)) number x y z (s .legs) c₀ c₁ c₂ c₃ e₁ e₂ e₃
-    ∙ sym (ap (λ l. afterIn (map (taker (marketIn second)) (take (s .legs) l)) number c₀) legs)
+    after-three (taker (s .tenths) (marketIn second)) number x y z (s .legs) c₀ c₁ c₂ c₃ e₁ e₂ e₃
+    ∙ sym (ap (λ l. afterIn (map (taker (s .tenths) (marketIn second)) (take (s .legs) l)) number c₀) legs)

@@ -1,6 +1,7 @@
 pub mod Best
 pub mod Booking
 pub mod Both
+pub mod Bounds
 pub mod Demand3
 pub mod Every
 pub mod Filling

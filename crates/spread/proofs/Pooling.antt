@@ -13,7 +13,7 @@ use borrow.Author.Tests.{eqb-true, eqb-false, eq-eqb, ne-eqb, ltb-true, ltb-fals
 use Rattle.exact.specs.Lists.{least}
 use Rattle.spread.specs.Cells.{parity, cellOf, cellAt, Pooled, formedIn, lessIn, afterIn, numbersIn, leftIn}
 use Rattle.spread.specs.Demand.{sameMarket, draws}
-use Rattle.spread.specs.Steps.{Market, long, short, Open, Taker, pool, room, useOf, takeFrom, formed, after, numbers, left}
+use Rattle.spread.specs.Steps.{Market, long, short, Open, Taker, pool, room, legTakes, takeFrom, formed, after, numbers, left}
 use Rattle.spread.proofs.Spending.{draws-market, draws-tier, take-spend, pool-spend}
 
 -- a test is as another that holds exactly when it does
@@ -97,24 +97,24 @@ cell-less cells k a m t l = go (ltb (k .tier) 16) refl
 
 -- the steps, on cells that hold the pools of the prompts
 
-pooled-less : (cells : List ℕ) (ps : List Open) (number : ℕ) (k : Taker) → Pooled cells ps → Pooled (lessIn number k cells) (takeFrom k (useOf number (k .ratio)) ps)
+pooled-less : (cells : List ℕ) (ps : List Open) (number : ℕ) (k : Taker) → Pooled cells ps → Pooled (lessIn number k cells) (takeFrom k (legTakes number k) ps)
 pooled-less cells ps number k h =
     record {
-      size = length-set cells (cellOf (k .market) (k .tier)) (cellAt cells (k .market) (k .tier) - useOf number (k .ratio)) ∙ h .size;
+      size = length-set cells (cellOf (k .market) (k .tier)) (cellAt cells (k .market) (k .tier) - legTakes number k) ∙ h .size;
       each = λ m t.
-          cell-less cells k (useOf number (k .ratio)) m t (h .size)
-          ∙ ap (λ (x : ℕ). x - cond (draws m t k) (useOf number (k .ratio)) 0) (h .each m t)
-          ∙ sym (ap (pool m t) (take-spend k (useOf number (k .ratio)) ps) ∙ pool-spend (λ m t. cond (draws m t k) (useOf number (k .ratio)) 0) m t ps);
+          cell-less cells k (legTakes number k) m t (h .size)
+          ∙ ap (λ (x : ℕ). x - cond (draws m t k) (legTakes number k) 0) (h .each m t)
+          ∙ sym (ap (pool m t) (take-spend k (legTakes number k) ps) ∙ pool-spend (λ m t. cond (draws m t k) (legTakes number k) 0) m t ps);
     }
 
 pooled-after : (ks : List Taker) (number : ℕ) (cells : List ℕ) (ps : List Open) → Pooled cells ps → Pooled (afterIn ks number cells) (after ks number ps)
 pooled-after [] number cells ps h = h
 pooled-after (k ∷ ks) number cells ps h =
-    pooled-after ks number (lessIn number k cells) (takeFrom k (useOf number (k .ratio)) ps) (pooled-less cells ps number k h)
+    pooled-after ks number (lessIn number k cells) (takeFrom k (legTakes number k) ps) (pooled-less cells ps number k h)
 
 pooled-formed : (ks : List Taker) (cells : List ℕ) (ps : List Open) → Pooled cells ps → formedIn ks cells ≡ formed ks ps
 pooled-formed ks cells ps h =
-    ap (λ (f : Taker → ℕ). least (map f ks)) (fun-ext (λ (k : Taker). ap (λ (p : ℕ). room p (k .ratio)) (h .each (k .market) (k .tier))))
+    ap (λ (f : Taker → ℕ). least (map f ks)) (fun-ext (λ (k : Taker). ap (λ (p : ℕ). room (k .tenths) p (k .ratio)) (h .each (k .market) (k .tier))))
 
 pooled-step : (ks : List Taker) (cells : List ℕ) (ps : List Open) → Pooled cells ps → Pooled (afterIn ks (formedIn ks cells) cells) (after ks (formed ks ps) ps)
 pooled-step ks cells ps h =

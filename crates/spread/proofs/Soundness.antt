@@ -4,14 +4,14 @@ use Prim.Native.Nat.{ℕ}
 use mathlib.Core.Bool.{Bool, true, false, not, _&&_, _||_, true≢false}
 use mathlib.Core.List.{List, [], _∷_, map}
 use mathlib.Core.Logic.{_⊎_, inl, inr}
-use mathlib.Core.Path.{_≡_, refl}
+use mathlib.Core.Path.{_≡_, refl, _∙_, ap}
 use lib.Dec.{eqb, leb, ltb}
 use borrow.Author.Tests.{eqb-true, not-true}
 use Rattle.exact.specs.Lists.{any}
-use Rattle.spread.specs.Accepted.{spreadsOf, stepsOf, every, soundLeg, sameLeg, soundLegsOf, soundSpread, soundPrompts, soundTable, sound}
+use Rattle.spread.specs.Accepted.{spreadsOf, stepsOf, every, whole, soundLeg, sameLeg, soundLegsOf, soundSpread, soundPrompts, soundTable, sound}
 use Rattle.spread.specs.Cells.{marketIn, stepOf}
-use Rattle.spread.specs.Demand.{sameMarket, draws, soundLegs, soundStep, soundSteps}
-use Rattle.spread.specs.Steps.{taker, legsOf, steps}
+use Rattle.spread.specs.Demand.{sameMarket, draws, wholeStep, wholeSteps, soundLegs, soundStep, soundSteps}
+use Rattle.spread.specs.Steps.{Market, taker, firstMarket, secondMarket, legsOf, steps}
 use Rattle.spread.specs.declared.Leg.{Leg}
 use Rattle.spread.specs.declared.Prompts.{Prompts}
 use Rattle.spread.specs.declared.Spread.{Spread}
@@ -75,8 +75,8 @@ neither : (a b : Bool) → a ≡ false → b ≡ false → a || b ≡ false
 neither true b e f = absurd (true≢false e)
 neither false b e f = f
 
-module _ (second : Bool) where
-  leg-apart : (l k : Leg) → soundLeg l ≡ true → soundLeg k ≡ true → sameLeg l k ≡ false → draws (marketIn second (l .side)) (l .tier) (taker (marketIn second) k) ≡ false
+module _ (tenths second : Bool) where
+  leg-apart : (l k : Leg) → soundLeg l ≡ true → soundLeg k ≡ true → sameLeg l k ≡ false → draws (marketIn second (l .side)) (l .tier) (taker tenths (marketIn second) k) ≡ false
   leg-apart l k sl sk h = go (eqb (l .tier) (k .tier)) h
     where
       none : (b : Bool) → b && false ≡ false
@@ -88,16 +88,16 @@ module _ (second : Bool) where
       go false f = none (sameMarket (marketIn second (k .side)) (marketIn second (l .side)))
 
   none-drawn : (l : Leg) (ls : List Leg) → soundLeg l ≡ true → soundLegsOf ls ≡ true → any (sameLeg l) ls ≡ false
-      → any (draws (marketIn second (l .side)) (l .tier)) (map (taker (marketIn second)) ls) ≡ false
+      → any (draws (marketIn second (l .side)) (l .tier)) (map (taker tenths (marketIn second)) ls) ≡ false
   none-drawn l [] sl ss h = refl
   none-drawn l (k ∷ []) sl ss h = neither _ false (leg-apart l k sl ss (or-left (sameLeg l k) false h)) refl
   none-drawn l (k ∷ j ∷ ls) sl ss h =
-      neither (draws (marketIn second (l .side)) (l .tier) (taker (marketIn second) k))
-      (any (draws (marketIn second (l .side)) (l .tier)) (map (taker (marketIn second)) (j ∷ ls)))
+      neither (draws (marketIn second (l .side)) (l .tier) (taker tenths (marketIn second) k))
+      (any (draws (marketIn second (l .side)) (l .tier)) (map (taker tenths (marketIn second)) (j ∷ ls)))
       (leg-apart l k sl (first-sound k (j ∷ ls) ss) (or-left (sameLeg l k) (any (sameLeg l) (j ∷ ls)) h))
       (none-drawn l (j ∷ ls) sl (others-sound k j ls ss) (or-right (sameLeg l k) (any (sameLeg l) (j ∷ ls)) h))
 
-  legs-sound : (l : Leg) (ls : List Leg) → soundLegsOf (l ∷ ls) ≡ true → soundLegs (map (taker (marketIn second)) (l ∷ ls)) ≡ true
+  legs-sound : (l : Leg) (ls : List Leg) → soundLegsOf (l ∷ ls) ≡ true → soundLegs (map (taker tenths (marketIn second)) (l ∷ ls)) ≡ true
   legs-sound l [] e = rw (ratio-of l e)
   legs-sound l (k ∷ ls) e =
       rw (
@@ -105,12 +105,12 @@ module _ (second : Bool) where
         none-drawn l (k ∷ ls) (first-sound l (k ∷ ls) e) (others-sound l k ls e) (others-apart l k ls e),
       ) (legs-sound k ls (others-sound l k ls e))
 
-  step-sound : (ls : List Leg) → soundLegsOf ls ≡ true → soundStep (map (taker (marketIn second)) ls) ≡ true
+  step-sound : (ls : List Leg) → soundLegsOf ls ≡ true → soundStep (map (taker tenths (marketIn second)) ls) ≡ true
   step-sound [] e = e
   step-sound (l ∷ ls) e = legs-sound l ls e
 
 pub spread-sound : (second : Bool) (s : Spread) → soundSpread s ≡ true → soundStep (stepOf second s) ≡ true
-spread-sound second s e = step-sound second (legsOf s) (and-right (eqb (s .legs) 2 || eqb (s .legs) 3) (soundLegsOf (legsOf s)) e)
+spread-sound second s e = step-sound (s .tenths) second (legsOf s) (and-right (eqb (s .legs) 2 || eqb (s .legs) 3) (soundLegsOf (legsOf s)) e)
 
 pub steps-sound : (ss : List Spread) → every soundSpread ss ≡ true → soundSteps (steps ss) ≡ true
 steps-sound [] e = refl
@@ -124,3 +124,19 @@ pub table-sound : (p : Prompts) (t : Table) → sound p t ≡ true → soundStep
 table-sound p t e =
     steps-sound (spreadsOf t)
     (and-right (leb (t .count) 32) (every soundSpread (spreadsOf t)) (and-right (soundPrompts p) (soundTable t) e))
+
+-- of a table without tenths no step has any
+
+whole-legs : (market : ℕ → Market) (ls : List Leg) → wholeStep (map (taker false market) ls) ≡ true
+whole-legs market [] = refl
+whole-legs market (l ∷ ls) = whole-legs market ls
+
+pub whole-steps : (ss : List Spread) → every whole ss ≡ true → wholeSteps (steps ss) ≡ true
+whole-steps [] e = refl
+whole-steps (s ∷ ss) e =
+    let here = not-true (s .tenths) (and-left (whole s) (every whole ss) e) in
+    let each : (market : ℕ → Market) → wholeStep (map (taker (s .tenths) market) (legsOf s)) ≡ true =
+    λ market. ap (λ (b : Bool). wholeStep (map (taker b market) (legsOf s))) here ∙ whole-legs market (legsOf s)
+    in
+    and-both (wholeStep (stepOf false s)) (wholeStep (stepOf true s) && wholeSteps (steps ss)) (each firstMarket)
+    (and-both (wholeStep (stepOf true s)) (wholeSteps (steps ss)) (each secondMarket) (whole-steps ss (and-right (whole s) (every whole ss) e)))

@@ -12,7 +12,7 @@ use borrow.Author.Tests.{eqb-true}
 use Rattle.exact.proofs.Integers.{towards-zero-none}
 use Rattle.spread.specs.Demand.{sameMarket, draws, legUse, stepUse, totalUse}
 use Rattle.spread.specs.Spend.{marketOf, spend}
-use Rattle.spread.specs.Steps.{Market, long, short, Open, Taker, onSide, inTier, pool, useOf, towardsZero, less, gives, takeFrom, formed, after, numbers, left}
+use Rattle.spread.specs.Steps.{Market, long, short, Open, Taker, onSide, inTier, pool, legTakes, towardsZero, less, gives, takeFrom, formed, after, numbers, left}
 use Rattle.spread.proofs.Both.{and-left, and-right}
 
 -- a delta moved towards zero
@@ -139,8 +139,8 @@ take-spend k w (p ∷ ps) =
 pub after-spend : (ks : List Taker) (n : ℕ) (ps : List Open) → after ks n ps ≡ spend (λ m t. stepUse m t ks n) ps
 after-spend [] n ps = sym (spend-none (λ m t. 0) (λ m t. refl) ps)
 after-spend (k ∷ ks) n ps =
-    after-spend ks n (takeFrom k (useOf n (k .ratio)) ps)
-    ∙ ap (spend (λ m t. stepUse m t ks n)) (take-spend k (useOf n (k .ratio)) ps)
+    after-spend ks n (takeFrom k (legTakes n k) ps)
+    ∙ ap (spend (λ m t. stepUse m t ks n)) (take-spend k (legTakes n k) ps)
     ∙ spend-spend (λ m t. legUse m t n k) (λ m t. stepUse m t ks n) ps
 
 pub left-spend : (ss : List (List Taker)) (ps : List Open) → left ss ps ≡ spend (λ m t. totalUse m t ss (numbers ss ps)) ps

@@ -60,6 +60,10 @@ soundLegsOf (l ∷ k ∷ ls) = soundLeg l && (not (any (sameLeg l) (k ∷ ls)) &
 abbrev pub soundSpread : Spread → Bool
 soundSpread s = (eqb (s .legs) 2 || eqb (s .legs) 3) && soundLegsOf (legsOf s)
 
+-- no ratio of the spread is in tenths
+abbrev pub whole : Spread → Bool
+whole s = not (s .tenths)
+
 abbrev pub soundTable : Table → Bool
 soundTable t = leb (t .count) 32 && every soundSpread (spreadsOf t)
 

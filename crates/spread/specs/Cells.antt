@@ -1,13 +1,13 @@
 -- The pools as cells of one list: cell 2t is the long pool of tier t, cell 2t + 1 the short one. A tier above 15 has no cell.
 -- Assumes nothing.
-use Prim.Native.Nat.{ℕ, _+_, _-_, _*_}
+use Prim.Native.Nat.{ℕ, _+_, _-_, _*_, _≤_}
 use mathlib.Core.Path.{_≡_}
 use mathlib.Core.Bool.{Bool, true, false, cond}
 use mathlib.Core.List.{List, [], _∷_, map}
 use lib.ListN.{length, getD, set}
 use lib.Dec.{ltb}
 use Rattle.exact.specs.Lists.{least}
-use Rattle.spread.specs.Steps.{Market, long, short, Open, Taker, pool, taker, firstMarket, secondMarket, legsOf, room, useOf}
+use Rattle.spread.specs.Steps.{Market, long, short, Open, Taker, pool, taker, firstMarket, secondMarket, legsOf, room, legTakes}
 use Rattle.spread.specs.declared.Spread.{Spread}
 
 abbrev pub parity : Market → ℕ
@@ -27,7 +27,7 @@ marketIn false = firstMarket
 marketIn true = secondMarket
 
 abbrev pub stepOf : Bool → Spread → List Taker
-stepOf second s = map (taker (marketIn second)) (legsOf s)
+stepOf second s = map (taker (s .tenths) (marketIn second)) (legsOf s)
 
 -- the pool of a tier and side among the cells
 abbrev pub cellAt : List ℕ → Market → ℕ → ℕ
@@ -38,18 +38,28 @@ pub record Pooled (cells : List ℕ) (ps : List Open) : Type 0 where
   pub size : length cells ≡ 32
   pub each : (m : Market) (t : ℕ) → cellAt cells m t ≡ pool m t ps
 
+-- The most that a pool of accepted prompts has, 32 net deltas of 128,000,000,000, and the most that a step can form of it.
+abbrev pub mostPool : ℕ
+mostPool = 4096000000000
+
+abbrev pub mostNumber : ℕ
+mostNumber = 40960000000000
+
+abbrev pub Small : List ℕ → Type 0
+Small cells = (m : Market) (t : ℕ) → cellAt cells m t ≤ mostPool
+
 -- the steps of Steps.antt, on the cells
 abbrev pub poolIn : List ℕ → Taker → ℕ
 poolIn cells k = cellAt cells (k .market) (k .tier)
 
 abbrev pub roomIn : List ℕ → Taker → ℕ
-roomIn cells k = room (poolIn cells k) (k .ratio)
+roomIn cells k = room (k .tenths) (poolIn cells k) (k .ratio)
 
 abbrev pub formedIn : List Taker → List ℕ → ℕ
 formedIn ks cells = least (map (roomIn cells) ks)
 
 abbrev pub lessIn : ℕ → Taker → List ℕ → List ℕ
-lessIn number k cells = set cells (cellOf (k .market) (k .tier)) (poolIn cells k - useOf number (k .ratio))
+lessIn number k cells = set cells (cellOf (k .market) (k .tier)) (poolIn cells k - legTakes number k)
 
 abbrev pub afterIn : List Taker → ℕ → List ℕ → List ℕ
 afterIn [] number cells = cells

@@ -1,13 +1,15 @@
--- "Spread steps (002)" of document 01, read literally: the steps go over the prompts themselves.
+-- "Spread steps (002)" of document 01 and request 2026-03 of document 02, read literally: the steps go over the prompts
+-- themselves.
 -- Deltas, pools and numbers of spreads are in ten-thousandths.
 -- Assumes nothing.
 use Prim.Native.Nat.{ℕ, suc, _-_, _*_, _/_, min}
-use mathlib.Core.Bool.{cond}
+use mathlib.Core.Bool.{Bool, true, false, cond}
 use mathlib.Core.List.{List, [], _∷_, map}
 use lib.ListN.{take}
 use lib.Dec.{eqb}
 use lib.IntN.{ℤ, pos, negsuc, _-ℤ_}
 use Rattle.exact.specs.Lists.{sum, least}
+use Rattle.exact.specs.Rounding.{halfUp}
 pub use Rattle.exact.specs.Signed.{towardsZero}
 use Rattle.spread.specs.declared.Leg.{Leg}
 use Rattle.spread.specs.declared.Spread.{Spread}
@@ -21,11 +23,12 @@ pub record Open : Type 0 where
   pub tier : ℕ
   pub unused : ℤ
 
--- A leg in a step: the pool that it takes from, and its ratio.
+-- A leg in a step: the pool that it takes from, its ratio, and whether that is in tenths.
 pub record Taker : Type 0 where
   pub market : Market
   pub tier : ℕ
   pub ratio : ℕ
+  pub tenths : Bool
 
 -- "A tier's long pool is the sum of its positive unused deltas, its short pool that of its negative ones, sign dropped."
 abbrev pub onSide : Market → ℤ → ℕ
@@ -47,29 +50,37 @@ firstMarket side = cond (eqb side 1) long short
 abbrev pub secondMarket : ℕ → Market
 secondMarket side = cond (eqb side 1) short long
 
-abbrev pub taker : (ℕ → Market) → Leg → Taker
-taker market l = record { market = market (l .side); tier = l .tier; ratio = l .ratio }
+abbrev pub taker : Bool → (ℕ → Market) → Leg → Taker
+taker inTenths market l = record { market = market (l .side); tier = l .tier; ratio = l .ratio; tenths = inTenths }
 
 abbrev pub legsOf : Spread → List Leg
 legsOf s = take (s .legs) (s .leg)
 
 abbrev pub steps : List Spread → List (List Taker)
 steps [] = []
-steps (s ∷ ss) = map (taker firstMarket) (legsOf s) ∷ map (taker secondMarket) (legsOf s) ∷ steps ss
+steps (s ∷ ss) =
+    map (taker (s .tenths) firstMarket) (legsOf s) ∷ map (taker (s .tenths) secondMarket) (legsOf s) ∷ steps ss
 
--- "The number formed is the smallest over its legs of pool divided by ratio, whole ten-thousandths, rounded down."
-abbrev pub room : ℕ → ℕ → ℕ
-room p ratio = p / ratio
+-- "The number formed is the smallest over its legs of pool divided by ratio, whole ten-thousandths, rounded down." Where
+-- ratios are tenths, "The number is the smallest of 10 × pool / ratio, rounded down".
+abbrev pub room : Bool → ℕ → ℕ → ℕ
+room false p ratio = p / ratio
+room true p ratio = 10 * p / ratio
 
 abbrev pub roomFor : List Open → Taker → ℕ
-roomFor ps t = room (pool (t .market) (t .tier) ps) (t .ratio)
+roomFor ps t = room (t .tenths) (pool (t .market) (t .tier) ps) (t .ratio)
 
 abbrev pub formed : List Taker → List Open → ℕ
 formed ts ps = least (map (roomFor ps) ts)
 
--- "Each leg takes number × ratio from the prompts of its tier on that side, earliest day first."
-abbrev pub useOf : ℕ → ℕ → ℕ
-useOf number ratio = number * ratio
+-- "Each leg takes number × ratio from the prompts of its tier on that side, earliest day first." Where ratios are tenths,
+-- "each leg takes number × ratio / 10, rounded to a ten-thousandth, halves up".
+abbrev pub useOf : Bool → ℕ → ℕ → ℕ
+useOf false number ratio = number * ratio
+useOf true number ratio = halfUp (number * ratio) 10
+
+abbrev pub legTakes : ℕ → Taker → ℕ
+legTakes number t = useOf (t .tenths) number (t .ratio)
 
 -- no prompt goes past zero
 abbrev pub less : Open → ℕ → Open
@@ -85,7 +96,7 @@ takeFrom t wanted (p ∷ ps) = less p (gives t wanted p) ∷ takeFrom t (wanted 
 
 abbrev pub after : List Taker → ℕ → List Open → List Open
 after [] number ps = ps
-after (t ∷ ts) number ps = after ts number (takeFrom t (useOf number (t .ratio)) ps)
+after (t ∷ ts) number ps = after ts number (takeFrom t (legTakes number t) ps)
 
 -- "What one step leaves is handed to the next."
 abbrev pub numbers : List (List Taker) → List Open → List ℕ

@@ -34,7 +34,7 @@ abbrev pub usesOf : List (List Taker) → List Open → List ℤ
 usesOf ss ps = joined (takings ss ps)
 
 -- What the takings are, beside the delta book: at each prompt they add up to what is used, and on each tier and market side
--- those of a step add up to what its legs take, number × ratio.
+-- those of a step add up to what its legs take.
 pub record WhoPaid (ss : List (List Taker)) (ps : List Open) : Type 0 where
   pub adds : (k : ℕ) → sumℤ (map (λ zs. deltaAt zs k) (takings ss ps)) ≡ deltaAt (usedOf ss ps) k
   pub sums : (m : Market) (t j : ℕ) → j < length ss

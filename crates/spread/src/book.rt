@@ -8,6 +8,7 @@ use crate::Table;
 use crate::accepted::accepted;
 use crate::pools::CELLS;
 use crate::pools::Pools;
+use crate::pools::beyond;
 use crate::pools::cell_of;
 use exact::signed::minus;
 use exact::signed::towards_zero;
@@ -18,7 +19,7 @@ ghost use lib.IntN.{_-ℤ_};
 ghost use Rattle.spread.specs.Steps.{towardsZero};
 ghost use Rattle.spread.specs.Accepted.{openOf, spreadsOf, soundPrompts};
 ghost use Rattle.spread.specs.Spend.{marketOf};
-ghost use Rattle.spread.specs.Cells.{cellOf, Pooled};
+ghost use Rattle.spread.specs.Cells.{cellOf, Pooled, Small};
 ghost use Rattle.spread.specs.Book.{Booked, Refused, Run, Wanted, Spent};
 
 // Spread k formed first[k] in its first step and second[k] in its second; used[k] and unused[k] are the parts of prompt k's
@@ -76,7 +77,7 @@ pub(crate) fn pools_of(prompts: Prompts) -> Pools
 
 // "Each spread, in file order, is two steps".
 fn run(pools: Pools, table: Table) -> Ran
-    requires { ⌜ table .count ≤ 32 ⌝ }
+    requires { ⌜ (table .count ≤ 32) × Small (pools .cell) ⌝ }
     ensures { λ r. ⌜ Run (pools .cell) (spreadsOf table) (r .left .cell) (r .first) (r .second) ⌝ }
 {
     let n = table.count;
@@ -101,13 +102,6 @@ fn run(pools: Pools, table: Table) -> Ran
         first: first,
         second: second,
     }
-}
-
-// What of a is beyond b.
-fn beyond(a: u64, b: u64) -> u64
-    ensures { λ r. ⌜ r ≡ a - b ⌝ }
-{
-    if b < a { a - b } else { 0 }
 }
 
 // What the steps used of each pool.

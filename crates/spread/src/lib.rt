@@ -25,10 +25,11 @@ pub struct Leg {
     pub ratio: u16,
 }
 
-// A spread: its first `legs` legs, 2 or 3.
+// A spread: its first `legs` legs, 2 or 3, and whether their ratios are tenths.
 pub struct Spread {
     pub legs: u8,
     pub leg: [Leg; 3],
+    pub tenths: bool,
 }
 
 // A table of spreads in order of priority: its first `count` spreads.

@@ -2,28 +2,33 @@
 use crate::Leg;
 use crate::Spread;
 use crate::Spreads;
+use exact::rounding::half_up;
 ghost use mathlib.Core.Path.{_≡_};
 ghost use mathlib.Core.Bool.{cond};
 ghost use mathlib.Core.List.{[], _∷_};
-ghost use Prim.Native.Nat.{_-_, min};
+ghost use Prim.Native.Nat.{_-_, _≤_, min};
 ghost use lib.ListN.{getD, take};
 ghost use Rattle.exact.specs.Lists.{least};
 ghost use Rattle.spread.specs.Steps.{room, useOf, taker};
 ghost use Rattle.spread.specs.Cells.{cellOf, shortIf, marketIn, stepOf, roomIn, lessIn, formedIn, afterIn, Taken};
+ghost use Rattle.spread.specs.Cells.{mostPool, mostNumber, Small};
 
 pub const TIERS: usize = 16;
 
 pub(crate) const CELLS: usize = 2 * TIERS;
 
+// A ratio of 1, in tenths.
+const TENTHS: u64 = 10;
+
 // Cell 2t is the long pool of tier t, cell 2t + 1 the short one, both without their sign.
-pub struct Pools {
-    pub cell: [u64; CELLS],
+pub(crate) struct Pools {
+    pub(crate) cell: [u64; CELLS],
 }
 
 // A step taken: the pools that it leaves, and the number of spreads that it formed.
-pub struct Took {
-    pub left: Pools,
-    pub number: Spreads,
+pub(crate) struct Took {
+    pub(crate) left: Pools,
+    pub(crate) number: Spreads,
 }
 
 // The pool of a tier on a side; no cell for a tier out of range.
@@ -45,25 +50,39 @@ fn cell_for(leg: Leg, second: bool) -> usize
     cell_of(leg.tier, a == second)
 }
 
-// "pool divided by ratio, whole ten-thousandths, rounded down"
-fn room(pool: u64, ratio: u64) -> u64
-    ensures { λ r. ⌜ r ≡ room pool ratio ⌝ }
-{
-    if ratio == 0 { 0 } else { pool / ratio }
-}
-
-// What a pool keeps when a leg takes number × ratio from it.
-fn kept(pool: u64, number: u64, ratio: u64) -> u64
-    ensures { λ r. ⌜ r ≡ pool - useOf number ratio ⌝ }
+// "pool divided by ratio, whole ten-thousandths, rounded down"; of tenths "10 × pool / ratio, rounded down".
+fn room(pool: u64, ratio: u64, tenths: bool) -> u64
+    requires { ⌜ pool ≤ mostPool ⌝ }
+    ensures { λ r. ⌜ r ≡ room tenths pool ratio ⌝ }
 {
     if ratio == 0 {
-        return pool;
+        return 0;
     }
-    if number <= pool / ratio {
-        pool - number * ratio
+    if tenths {
+        TENTHS * pool / ratio
     } else {
-        0
+        pool / ratio
     }
+}
+
+// "number × ratio"; of tenths "number × ratio / 10, rounded to a ten-thousandth, halves up".
+fn use_of(number: u64, ratio: u16, tenths: bool) -> u64
+    requires { ⌜ number ≤ mostNumber ⌝ }
+    ensures { λ r. ⌜ r ≡ useOf tenths number ratio ⌝ }
+{
+    let product = number * (ratio as u64);
+    if tenths {
+        half_up(product, TENTHS)
+    } else {
+        product
+    }
+}
+
+// What of a is beyond b.
+pub(crate) fn beyond(a: u64, b: u64) -> u64
+    ensures { λ r. ⌜ r ≡ a - b ⌝ }
+{
+    if b < a { a - b } else { 0 }
 }
 
 fn lesser(a: u64, b: u64) -> u64
@@ -95,53 +114,66 @@ fn pool_at(cells: &[u64], cell: usize) -> u64
     if cell < cells.len() { cells[cell] } else { 0 }
 }
 
-fn room_for(cells: &[u64], leg: Leg, second: bool) -> u64
-    ensures { λ r. ⌜ r ≡ roomIn (now (cells .entry)) (taker (marketIn second) leg) ⌝ }
+fn room_for(cells: &[u64], leg: Leg, tenths: bool, second: bool) -> u64
+    requires { ⌜ Small (now cells) ⌝ }
+    ensures { λ r. ⌜ r ≡ roomIn (now (cells .entry)) (taker tenths (marketIn second) leg) ⌝ }
 {
-    room(pool_at(cells, cell_for(leg, second)), leg.ratio as u64)
+    room(
+        pool_at(cells, cell_for(leg, second)),
+        leg.ratio as u64,
+        tenths,
+    )
 }
 
 // "The number formed is the smallest over its legs".
 fn formed(cells: &[u64], spread: Spread, second: bool) -> u64
+    requires { ⌜ Small (now cells) ⌝ }
     ensures { λ r. ⌜ r ≡ formedIn (stepOf second spread) (now (cells .entry)) ⌝ }
 {
-    let a = room_for(cells, spread.leg[0], second);
-    let b = room_for(cells, spread.leg[1], second);
-    let c = room_for(cells, spread.leg[2], second);
+    let tenths = spread.tenths;
+    let a = room_for(cells, spread.leg[0], tenths, second);
+    let b = room_for(cells, spread.leg[1], tenths, second);
+    let c = room_for(cells, spread.leg[2], tenths, second);
     smallest(spread.legs, a, b, c)
 }
 
-fn less(cells: &mut [u64], leg: Leg, second: bool, number: u64)
-    ensures { λ _. ⌜ now (cells .exit) ≡ lessIn number (taker (marketIn second) leg) (now (cells .entry)) ⌝ }
+fn less(cells: &mut [u64], leg: Leg, tenths: bool, second: bool, number: u64)
+    requires { ⌜ number ≤ mostNumber ⌝ }
+    ensures { λ _. ⌜ now (cells .exit) ≡ lessIn number (taker tenths (marketIn second) leg) (now (cells .entry)) ⌝ }
 {
     let cell = cell_for(leg, second);
     if cell < cells.len() {
-        cells[cell] = kept(cells[cell], number, leg.ratio as u64);
+        let taken = use_of(number, leg.ratio, tenths);
+        cells[cell] = beyond(cells[cell], taken);
     }
 }
 
-fn less_if(cells: &mut [u64], there: bool, leg: Leg, second: bool, number: u64)
-    ensures { λ _. ⌜ now (cells .exit) ≡ cond there (lessIn number (taker (marketIn second) leg) (now (cells .entry))) (now (cells .entry)) ⌝ }
+fn less_if(cells: &mut [u64], there: bool, leg: Leg, tenths: bool, second: bool, number: u64)
+    requires { ⌜ number ≤ mostNumber ⌝ }
+    ensures { λ _. ⌜ now (cells .exit) ≡ cond there (lessIn number (taker tenths (marketIn second) leg) (now (cells .entry))) (now (cells .entry)) ⌝ }
 {
     if there {
-        less(cells, leg, second, number);
+        less(cells, leg, tenths, second, number);
     }
 }
 
-// "Each leg takes number × ratio".
+// "Each leg takes" its use of the number.
 fn lessen(cells: &mut [u64], spread: Spread, second: bool, number: u64)
+    requires { ⌜ number ≤ mostNumber ⌝ }
     ensures { λ _. ⌜ now (cells .exit) ≡ afterIn (stepOf second spread) number (now (cells .entry)) ⌝ }
 {
     let legs = spread.legs;
-    less_if(cells, 0 < legs, spread.leg[0], second, number);
-    less_if(cells, 1 < legs, spread.leg[1], second, number);
-    less_if(cells, 2 < legs, spread.leg[2], second, number);
+    let tenths = spread.tenths;
+    less_if(cells, 0 < legs, spread.leg[0], tenths, second, number);
+    less_if(cells, 1 < legs, spread.leg[1], tenths, second, number);
+    less_if(cells, 2 < legs, spread.leg[2], tenths, second, number);
 }
 
 impl Pools {
     // A step of a spread, "first A legs take long and B legs short, then the reverse": the number that it forms, and the
     // pools that it leaves.
-    pub fn take(self, spread: Spread, second: bool) -> Took
+    pub(crate) fn take(self, spread: Spread, second: bool) -> Took
+        requires { ⌜ Small (self .cell) ⌝ }
         ensures { λ r. ⌜ Taken (stepOf second spread) (self .cell) (r .left .cell) (r .number .0) ⌝ }
     {
         let mut cells = self.cell;

@@ -1,5 +1,5 @@
-// The reckoned examples P1 to P4 of document 01: what each spread forms in its two steps, and net, used and unused of each
-// prompt, all in ten-thousandths.
+// The reckoned examples P1 to P4 of document 01 and that of request 2026-03 of document 02: what each spread forms in its two
+// steps, and net, used and unused of each prompt, all in ten-thousandths.
 use libc::STDOUT_FILENO;
 use spread::Delta;
 use spread::Leg;
@@ -40,6 +40,7 @@ fn no_spreads() -> Table {
     let unused = Spread {
         legs: 0,
         leg: [none; 3],
+        tenths: false,
     };
     Table {
         count: 0,
@@ -48,7 +49,7 @@ fn no_spreads() -> Table {
 }
 
 // One spread more of leg A against leg B; none beyond the most.
-fn spread(mut table: Table, a: u8, a_ratio: u16, b: u8, b_ratio: u16) -> Table {
+fn pair(mut table: Table, a: u8, a_ratio: u16, b: u8, b_ratio: u16, in_tenths: bool) -> Table {
     let k = table.count;
     let long = Leg {
         tier: a,
@@ -63,12 +64,17 @@ fn spread(mut table: Table, a: u8, a_ratio: u16, b: u8, b_ratio: u16) -> Table {
     let one = Spread {
         legs: 2,
         leg: [long, short, short],
+        tenths: in_tenths,
     };
     if k < MOST_SPREADS {
         table.spread[k] = one;
         table.count = k + 1;
     }
     table
+}
+
+fn spread(table: Table, a: u8, a_ratio: u16, b: u8, b_ratio: u16) -> Table {
+    pair(table, a, a_ratio, b, b_ratio, false)
 }
 
 fn print_delta(delta: Delta) {
@@ -183,9 +189,19 @@ fn p4() {
     print_case(p, t);
 }
 
+fn tenths() {
+    io::write_all(STDOUT_FILENO, b"2026-03\n");
+    let mut p = no_prompts();
+    p = prompt(p, 1, 1200000);
+    p = prompt(p, 2, -10012);
+    let t = pair(no_spreads(), 1, 96, 2, 10, true);
+    print_case(p, t);
+}
+
 fn main() {
     p1();
     p2();
     p3();
     p4();
+    tenths();
 }

@@ -1,4 +1,4 @@
--- An intercontract spread: the first contract is A, the second B.
+-- An intercontract spread: the first contract is A, the second B, and byte 8 says whether its ratios are tenths.
 -- Assumes nothing.
 use mathlib.Core.List.{[], _∷_}
 use borrow.Author.Needs.{needs}
@@ -29,16 +29,20 @@ second-ratio-requires c κs = search needs
 cast-t8-2 : tie.Need-cast-t8-2
 cast-t8-2 c = search needs
 
+tenths-requires : tie.Need-tenths-requires
+tenths-requires c κs = search needs
+
 returns : tie.Need-returns
 returns c =
     λ i.
     record {
       legs = 2;
       leg =
-          record { tier = c .before .before .before .contract .ensures .0 i; side = 1; ratio = c .before .before .first-ratio .ensures .0 i }
-          ∷ record { tier = c .before .second-contract .ensures .0 i; side = 2; ratio = c .second-ratio .ensures .0 i }
+          record { tier = c .before .before .before .before .contract .ensures .0 i; side = 1; ratio = c .before .before .before .first-ratio .ensures .0 i }
+          ∷ record { tier = c .before .before .second-contract .ensures .0 i; side = 2; ratio = c .before .second-ratio .ensures .0 i }
           ∷ record { tier = 0; side = 0; ratio = 0 }
           ∷ [];
+      tenths = c .tenths .ensures i;
     }
 
 pub intercontract-spec : {M : Type 1} → statement M
@@ -53,4 +57,5 @@ intercontract-spec =
     cast-t6-2
     second-ratio-requires
     cast-t8-2
+    tenths-requires
     returns)

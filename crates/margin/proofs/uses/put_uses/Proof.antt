@@ -1,7 +1,7 @@
 -- One spread after the other, its two steps by turns: what is written and what is still to come are the whole.
 -- Assumes nothing.
 use mathlib.Core.Path.{_≡_, refl, sym, _∙_}
-use mathlib.Core.Bool.{true}
+use mathlib.Core.Bool.{true, false}
 use mathlib.Core.List.{[]}
 use Prim.Native.Nat.{_-_}
 use native.Mathlib.Omega.{arith}
@@ -16,7 +16,7 @@ use Rattle.margin.proofs.uses.put_uses.Statement.{statement}
 use Rattle.margin.proofs.uses.put_uses.Tie as tie
 
 abbrev noSpread : Spread
-noSpread = record { legs = 0; leg = [] }
+noSpread = record { legs = 0; leg = []; tenths = false }
 
 abbrev Inv-loop : tie.InvT-loop
 Inv-loop out₀ table n spreads left₀ at₀ i₀ out left at i = Putting n table (sets out₀ 0 (usesOf (stepsOf table) (openOf left₀))) i at left out × (length out ≡ length out₀)

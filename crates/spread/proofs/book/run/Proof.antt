@@ -6,18 +6,20 @@ use mathlib.Core.Path.{_≡_, sym, _∙_}
 use lib.ListN.{length, length-map, take}
 use borrow.Author.Needs.{needs}
 use Rattle.spread.specs.Accepted.{spreadsOf}
+use Rattle.spread.specs.Cells.{Small}
+use Rattle.spread.proofs.Bounds.{small-taken}
 use Rattle.spread.proofs.Running.{table-length, table-next, Running, running-none, running-all}
 use Rattle.spread.proofs.book.run.Statement.{statement}
 use Rattle.spread.proofs.book.run.Tie as tie
 
 abbrev Inv-loop : tie.InvT-loop
-Inv-loop table n left₀ first₀ second₀ i₀ left first second i = (i ≤ n) × Running (left₀ .cell) (spreadsOf table) i (left .cell) first second
+Inv-loop table n left₀ first₀ second₀ i₀ left first second i = (i ≤ n) × Small (left .cell) × Running (left₀ .cell) (spreadsOf table) i (left .cell) first second
 
 abbrev μ-loop : tie.MeasureT-loop
 μ-loop table n left₀ first₀ second₀ i₀ left first second i = n - i
 
 loop-holds : tie.Need-loop-holds Inv-loop μ-loop
-loop-holds c = (omega arith, running-none (c .args .pools .cell) (spreadsOf (c .args .t2)))
+loop-holds c = (omega arith, c .pre .1, running-none (c .args .pools .cell) (spreadsOf (c .args .t2)))
 
 mul-spread : tie.Need-mul-spread Inv-loop μ-loop
 mul-spread c = omega arith
@@ -26,10 +28,11 @@ element-copy-out-spread : tie.Need-element-copy-out-spread Inv-loop μ-loop
 element-copy-out-spread c = omega arith
 
 take-requires : tie.Need-take-requires Inv-loop μ-loop
-take-requires c κs = search needs
+take-requires c κs = c .before .before .loop .inv .1
 
 take-requires-2 : tie.Need-take-requires-2 Inv-loop μ-loop
-take-requires-2 c κs = search needs
+take-requires-2 c κs =
+    let l = c .before .before .before .before .loop in small-taken _ (l .left .cell) _ _ (c .before .take .ensures) (l .inv .1)
 
 mul-first : tie.Need-mul-first Inv-loop μ-loop
 mul-first c = omega arith
@@ -53,10 +56,13 @@ loop-again : tie.Need-loop-again Inv-loop μ-loop
 loop-again c = let s = c .before .before .before .before .before .before .before .before .before in
     let t = s .args .t2 in
     let l = c .before .before .before .before .before .before .before .before .loop in
+    let one = c .before .before .before .before .before .take in
+    let two = c .before .before .before .take2 in
     let len : length (t .spread) ≡ 32 = sym (length-map (t .spread) _) ∙ s .good .1 .0 .1 .1 .1 .0 .1 .0 .1 in (
       omega arith,
-      table-next t (s .args .pools .cell) (l .i) (l .left .cell) _ _ (l .first) (l .second) _ _ _ len (s .pre) (c .before .before .before .before .before .before .before .loop-test .taken)
-          (c .before .before .before .before .before .take .ensures) (c .before .before .before .take2 .ensures) (l .inv .1),
+      small-taken _ _ _ _ (two .ensures) (small-taken _ (l .left .cell) _ _ (one .ensures) (l .inv .1)),
+      table-next t (s .args .pools .cell) (l .i) (l .left .cell) _ _ (l .first) (l .second) _ _ _ len (s .pre .0) (c .before .before .before .before .before .before .before .loop-test .taken)
+          (one .ensures) (two .ensures) (l .inv .2),
     )
 
 returns : tie.Need-returns Inv-loop μ-loop
@@ -64,8 +70,8 @@ returns c = let s = c .before .before in
     let t = s .args .t2 in
     let l = c .before .loop in
     let len : length (t .spread) ≡ 32 = sym (length-map (t .spread) _) ∙ s .good .1 .0 .1 .1 .1 .0 .1 .0 .1 in
-    let n = table-length t len (s .pre) in
-    running-all (s .args .pools .cell) (spreadsOf t) (l .i) (l .left .cell) (l .first) (l .second) (omega arith) (l .inv .1)
+    let n = table-length t len (s .pre .0) in
+    running-all (s .args .pools .cell) (spreadsOf t) (l .i) (l .left .cell) (l .first) (l .second) (omega arith) (l .inv .2)
 
 pub run-spec : {M : Type 1} → statement M
 run-spec =

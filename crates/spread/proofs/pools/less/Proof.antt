@@ -9,8 +9,8 @@ use borrow.Author.Needs.{needs}
 use Rattle.spread.proofs.pools.less.Statement.{statement}
 use Rattle.spread.proofs.pools.less.Tie as tie
 
-put : (l : List ℕ) (k k' p u : ℕ) → p ≡ getD l k 0 - u → k ≡ k' → set l k p ≡ set l k' (getD l k' 0 - u)
-put l k k' p u e h = cc
+put : (l : List ℕ) (k k' p u u' : ℕ) → p ≡ getD l k 0 - u → u ≡ u' → k ≡ k' → set l k p ≡ set l k' (getD l k' 0 - u')
+put l k k' p u u' e f h = cc
 
 none : (l : List ℕ) (k k' u : ℕ) → length l ≤ k → k ≡ k' → l ≡ set l k' (getD l k' 0 - u)
 none l k k' u h e = sym (set-out l k (getD l k 0 - u) h) ∙ ap (λ (j : ℕ). set l j (getD l j 0 - u)) e
@@ -18,17 +18,17 @@ none l k k' u h e = sym (set-out l k (getD l k 0 - u) h) ∙ ap (λ (j : ℕ). s
 cell-for-requires : tie.Need-cell-for-requires
 cell-for-requires c κs = search needs
 
-mul-kept : tie.Need-mul-kept
-mul-kept c = search needs
+use-of-requires : tie.Need-use-of-requires
+use-of-requires c κs = search needs
 
-slice-read-kept : tie.Need-slice-read-kept
-slice-read-kept c = search needs
+mul-beyond : tie.Need-mul-beyond
+mul-beyond c = search needs
 
-cast-kept : tie.Need-cast-kept
-cast-kept c = search needs
+slice-read-beyond : tie.Need-slice-read-beyond
+slice-read-beyond c = search needs
 
-kept-requires : tie.Need-kept-requires
-kept-requires c κs = search needs
+beyond-requires : tie.Need-beyond-requires
+beyond-requires c κs = search needs
 
 mul-cells : tie.Need-mul-cells
 mul-cells c = search needs
@@ -40,7 +40,9 @@ same-length : tie.Need-same-length
 same-length c = search needs
 
 returns : tie.Need-returns
-returns c = put (c .before .before .before .before .before .before .args .cells .now) _ _ _ _ (c .kept .ensures) (c .before .before .before .before .cell-for .ensures)
+returns c =
+    let s = c .before .before .before .before .before .before in
+    put (s .args .cells .now) _ _ _ _ _ (c .beyond .ensures) (c .before .before .use-of .ensures) (c .before .before .before .before .cell-for .ensures)
 
 returns-2 : tie.Need-returns-2
 returns-2 c = none (c .before .before .before .args .cells .now) _ _ _ (c .if1 .left) (c .before .cell-for .ensures)
@@ -50,10 +52,10 @@ less-spec =
     tie.close
     (tie.spec
     cell-for-requires
-    mul-kept
-    slice-read-kept
-    cast-kept
-    kept-requires
+    use-of-requires
+    mul-beyond
+    slice-read-beyond
+    beyond-requires
     mul-cells
     slice-write-cells
     same-length

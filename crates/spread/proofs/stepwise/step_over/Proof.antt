@@ -6,6 +6,7 @@ use borrow.Author.Needs.{needs}
 use borrow.Author.Tests.{not-true, not-false}
 use Rattle.spread.specs.Accepted.{soundPrompts, soundSpread}
 use Rattle.spread.proofs.Both.{and-left}
+use Rattle.spread.proofs.Bounds.{pooled-small}
 use Rattle.spread.proofs.Stepping.{stepped-refused, stepped-accepted}
 use Rattle.spread.proofs.stepwise.step_over.Statement.{statement}
 use Rattle.spread.proofs.stepwise.step_over.Tie as tie
@@ -27,7 +28,13 @@ pools-of-requires c κs =
     and-left (soundPrompts (s .args .prompts)) (soundSpread (s .args .spread)) (sym (c .before .can-step .ensures) ∙ not-false _ (c .if1 .left))
 
 take-requires : tie.Need-take-requires
-take-requires c κs = search needs
+take-requires c κs =
+    let s = c .before .before .before in
+    let q = s .args .prompts in
+    let lt : length (q .tier) ≡ 32 = sym (length-map (q .tier) _) ∙ s .good .0 .1 .1 .1 .0 .1 .0 .1 in
+    let ln : length (q .net) ≡ 32 = sym (length-map (q .net) _) ∙ s .good .0 .1 .1 .1 .1 .0 .1 .0 .1 in
+    pooled-small q _ lt ln (and-left (soundPrompts q) (soundSpread (s .args .spread)) (sym (c .before .before .can-step .ensures) ∙ not-false _ (c .before .if1 .left)))
+    (c .pools-of .ensures)
 
 used-of-requires : tie.Need-used-of-requires
 used-of-requires c κs = search needs

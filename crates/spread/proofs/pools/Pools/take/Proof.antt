@@ -1,9 +1,11 @@
 -- `take`: the number formed, and the pools after it.
 -- Assumes nothing.
 use Prim.Native.Nat.{ℕ}
+use native.Mathlib.Omega.{arith}
 use mathlib.Core.Path.{_∙_, ap}
 use borrow.Author.Needs.{needs}
 use Rattle.spread.specs.Cells.{stepOf, afterIn}
+use Rattle.spread.proofs.Bounds.{formed-most}
 use Rattle.spread.proofs.pools.Pools.take.Statement.{statement}
 use Rattle.spread.proofs.pools.Pools.take.Tie as tie
 
@@ -17,7 +19,9 @@ slice-aggregate-lessen : tie.Need-slice-aggregate-lessen
 slice-aggregate-lessen c = search needs
 
 lessen-requires : tie.Need-lessen-requires
-lessen-requires c κs = search needs
+lessen-requires c κs =
+    let s = c .before .before .before .before in
+    omega (arith, c .before .formed .ensures, formed-most (stepOf (s .args .second) (s .args .spread)) (s .args .self .cell) (s .pre))
 
 returns : tie.Need-returns
 returns c = let s = c .before .before .before .before .before .before in

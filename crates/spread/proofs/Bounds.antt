@@ -1,0 +1,64 @@
+-- No pool of accepted prompts, and no number that a step forms of it, outgrows 64 bits.
+-- Assumes nothing.
+use Prim.Native.Nat.{ℕ, zero, suc, _-_, _*_, _≤_, _<_, _^_}
+use native.Mathlib.Nat.{div-le-self, mul-le-mul}
+use native.Mathlib.Omega.{arith}
+use mathlib.Core.Bool.{Bool, true, false}
+use mathlib.Core.List.{List, [], _∷_, map}
+use mathlib.Core.Path.{_≡_, ap, subst⁻¹}
+use lib.ListN.{length, getD, set, take}
+use lib.Seq.{take-all}
+use Rattle.exact.specs.Lists.{least}
+use Rattle.spread.specs.Accepted.{openOf, soundPrompts}
+use Rattle.spread.specs.Cells.{cellOf, mostPool, mostNumber, Small, Pooled, poolIn, roomIn, formedIn, lessIn, afterIn, Taken}
+use Rattle.spread.specs.Steps.{Open, Taker, pool, room, legTakes}
+use Rattle.spread.specs.declared.Prompts.{Prompts}
+use Rattle.spread.proofs.Every.{open-length}
+use Rattle.spread.proofs.Gathering.{few, all-sound, pool-most}
+
+pub pooled-small : (p : Prompts) (cells : List ℕ) → length (p .tier) ≡ 32 → length (p .net) ≡ 32 → soundPrompts p ≡ true → Pooled cells (openOf p)
+    → Small cells
+pooled-small p cells lt ln e h m t =
+    let n = open-length p lt ln (few p e) in
+    let a = ap (pool m t) (take-all 32 (openOf p) (omega (arith, n, few p e))) in
+    omega (arith, a, h .each m t, pool-most m t 32 (openOf p) (all-sound p e))
+
+set-most : (l : List ℕ) (i k v most : ℕ) → getD l k 0 ≤ most → v ≤ most → getD (set l i v) k 0 ≤ most
+set-most [] i k v most h g = h
+set-most (x ∷ l) zero zero v most h g = g
+set-most (x ∷ l) zero (suc k) v most h g = h
+set-most (x ∷ l) (suc i) zero v most h g = h
+set-most (x ∷ l) (suc i) (suc k) v most h g = set-most l i k v most h g
+
+small-less : (number : ℕ) (k : Taker) (cells : List ℕ) → Small cells → Small (lessIn number k cells)
+small-less number k cells h m t =
+    set-most cells (cellOf (k .market) (k .tier)) (cellOf m t) (poolIn cells k - legTakes number k) mostPool (h m t)
+    (let own = h (k .market) (k .tier) in omega arith)
+
+small-after : (ks : List Taker) (number : ℕ) (cells : List ℕ) → Small cells → Small (afterIn ks number cells)
+small-after [] number cells h = h
+small-after (k ∷ ks) number cells h = small-after ks number (lessIn number k cells) (small-less number k cells h)
+
+pub small-taken : (ks : List Taker) (cells left : List ℕ) (number : ℕ) → Taken ks cells left number → Small cells → Small left
+small-taken ks cells left number taken h = subst⁻¹ Small (taken .leaves) (small-after ks (formedIn ks cells) cells h)
+
+room-most : (tenths : Bool) (p ratio : ℕ) → p ≤ mostPool → room tenths p ratio ≤ mostNumber
+room-most false p ratio h = let d = div-le-self p ratio in omega arith
+room-most true p ratio h = let d = div-le-self (10 * p) ratio in omega arith
+
+least-first : (x : ℕ) (xs : List ℕ) → least (x ∷ xs) ≤ x
+least-first x [] = omega arith
+least-first x (y ∷ ys) = omega arith
+
+pub formed-most : (ks : List Taker) (cells : List ℕ) → Small cells → formedIn ks cells ≤ mostNumber
+formed-most [] cells h = omega arith
+formed-most (k ∷ ks) cells h =
+    let a = least-first (roomIn cells k) (map (roomIn cells) ks) in
+    let b = room-most (k .tenths) (poolIn cells k) (k .ratio) (h (k .market) (k .tier)) in
+    omega arith
+
+pub product-fits : (number ratio : ℕ) → number ≤ mostNumber → ratio < 65536 → number * ratio < 2 ^ 64
+product-fits number ratio h g = let p : number * ratio ≤ mostNumber * 65535 = mul-le-mul h (below ratio g) in omega arith
+  where
+    below : (r : ℕ) → r < 65536 → r ≤ 65535
+    below r h = omega arith

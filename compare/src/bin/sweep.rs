@@ -3,7 +3,7 @@
 //! at the ends of the range the file is accepted; legs that clash are refusal 8. The bytes and the ranges below are written out
 //! from the paper's tables of the account file, by hand, and taken from nothing that is tested.
 //!
-//! sweep write FOLDER: the files of the ends and of the clashes as FOLDER/NUMBER.account.
+//! sweep write FOLDER: the records with these faults, and with none, each as FOLDER/sweep-NUMBER.record; an unused byte once.
 
 use compare::{Outcome, Pair, PairOutcome};
 use std::process::ExitCode;
@@ -332,10 +332,10 @@ fn main() -> ExitCode {
     let past_ends = ranges.len() - at_ends;
     ranges.extend(clashes());
     let words: Vec<String> = std::env::args().skip(1).collect();
-    if let [write, folder] = &words[..] {
-        return write_files(write, folder, &ranges);
-    }
     let cases = || unused.iter().chain(&ranges);
+    if let [write, folder] = &words[..] {
+        return write_records(write, folder, unused.iter().step_by(2).chain(&ranges).collect());
+    }
     let different: Vec<String> = cases().flat_map(differences).collect();
     different.iter().take(20).for_each(|line| println!("{line}"));
     println!(
@@ -352,8 +352,10 @@ fn main() -> ExitCode {
     }
 }
 
-fn write_files(word: &str, folder: &str, cases: &[Case]) -> ExitCode {
-    let write = |(number, case): (usize, &Case)| std::fs::write(format!("{folder}/{number:03}.account"), &case.file);
+fn write_records(word: &str, folder: &str, cases: Vec<&Case>) -> ExitCode {
+    let write = |(number, case): (usize, &&Case)| {
+        std::fs::write(format!("{folder}/sweep-{number}.record"), &case.file[case.file.len() - 96..])
+    };
     match cases.iter().enumerate().try_for_each(write) {
         Ok(()) if word == "write" => ExitCode::SUCCESS,
         _ => ExitCode::FAILURE,

@@ -24,3 +24,4 @@ pub mod JoinedLaws
 pub mod Places
 pub mod Alone
 pub mod NoonLaws
+pub mod PairClaimed

@@ -11,3 +11,4 @@ pub mod Lawful
 pub mod Joined
 pub mod Supplied
 pub mod Noon
+pub mod PairClaims

@@ -25,3 +25,5 @@ pub mod Places
 pub mod Alone
 pub mod NoonLaws
 pub mod PairClaimed
+pub mod Whole
+pub mod OneJoined

@@ -12,3 +12,5 @@ pub mod Joined
 pub mod Supplied
 pub mod Noon
 pub mod PairClaims
+pub mod Whole
+pub mod Determined

@@ -2,7 +2,7 @@
 
 fn main() {
     let library = concat!(env!("CARGO_MANIFEST_DIR"), "/../target/staticlib/libfelgotany.a");
-    for program in ["code", "pairs"] {
+    for program in ["code", "every", "pairs", "sweep"] {
         println!("cargo:rustc-link-arg-bin={program}={library}");
     }
     println!("cargo:rerun-if-changed={library}");

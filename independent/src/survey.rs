@@ -8,7 +8,7 @@ mod tenths;
 
 use independent::book::INTERCONTRACT;
 use independent::check::{fault, not_whole_records, too_long};
-use independent::format::{records, Record, CONTRACT, MOST_RECORDS, NUMBER, RECORD_BYTES};
+use independent::format::*;
 use independent::generate::{self, Random};
 use independent::margin::figures_of;
 use independent::refusal::*;
@@ -36,6 +36,8 @@ pub struct Survey {
     lengths: Vec<bool>,
     sights: BTreeMap<&'static str, u64>,
     refused: BTreeMap<&'static str, u64>,
+    /// How often a file was refused for what is rare among the faults of a spread.
+    legs: BTreeMap<&'static str, u64>,
     active: BTreeMap<usize, u64>,
     /// The first fault of a file and another condition that holds for the same record.
     in_one_record: BTreeMap<(u8, u8), u64>,
@@ -53,6 +55,7 @@ impl Survey {
             lengths: vec![false; MOST_RECORDS + 1],
             sights: BTreeMap::new(),
             refused: BTreeMap::new(),
+            legs: FAULTS_OF_LEGS.map(|what| (what, 0)).into(),
             active: BTreeMap::new(),
             in_one_record: BTreeMap::new(),
             in_one_file: BTreeMap::new(),
@@ -78,6 +81,9 @@ impl Survey {
                 *self.refusals.entry(refusal.number).or_default() += 1;
                 count(&mut self.refused, refused(file, refusal));
                 self.competitors(file, refusal);
+                if let Some(fault) = fault_of_legs(file, refusal) {
+                    *self.legs.entry(fault).or_default() += 1;
+                }
             }
         }
         self.ask(file, random);
@@ -172,6 +178,7 @@ impl Survey {
             ("refusals that never occurred", refusals),
             ("never accepted", never(&self.sights)),
             ("never refused", never(&self.refused)),
+            ("legs never refused for", never(&self.legs)),
         ];
         match faults.into_iter().find(|(_, missing)| !missing.is_empty()) {
             Some((what, missing)) => {
@@ -193,6 +200,32 @@ fn never(counts: &BTreeMap<&'static str, u64>) -> Vec<String> {
     counts.iter().filter(|(_, count)| **count == 0).map(|(what, _)| what.to_string()).collect()
 }
 
+const FAULTS_OF_LEGS: [&str; 4] = [
+    "a number of legs",
+    "legs 2 and 3 alike",
+    "a third leg below its range",
+    "a third leg above its range",
+];
+
+/// Which of these faults a file is refused for.
+fn fault_of_legs(file: &[u8], refusal: Refusal) -> Option<&'static str> {
+    let record = *records(file).get(refusal.record).filter(|record| record.kind() == SPREAD)?;
+    let legs = record.get(LEGS);
+    let leg = |leg| (record.get(leg_tier(leg)), record.get(leg_side(leg)));
+    let third = [leg_tier(2), leg_side(2), leg_ratio(2)];
+    match refusal.number {
+        OUT_OF_RANGE if !(LEGS.least..=LEGS.most).contains(&legs) => Some(FAULTS_OF_LEGS[0]),
+        ORDER_OR_CLASH if legs == 3 && leg(1) == leg(2) => Some(FAULTS_OF_LEGS[1]),
+        OUT_OF_RANGE if third.iter().any(|field| record.get(*field) < field.least) => {
+            Some(FAULTS_OF_LEGS[2])
+        }
+        OUT_OF_RANGE if third.iter().any(|field| record.get(*field) > field.most) => {
+            Some(FAULTS_OF_LEGS[3])
+        }
+        _ => None,
+    }
+}
+
 impl fmt::Display for Survey {
     fn fmt(&self, out: &mut fmt::Formatter<'_>) -> fmt::Result {
         writeln!(out, "files {}", self.count)?;
@@ -211,6 +244,9 @@ impl fmt::Display for Survey {
         }
         for (what, count) in &self.refused {
             writeln!(out, "refused with {what}: {count}")?;
+        }
+        for (what, count) in &self.legs {
+            writeln!(out, "refused for {what}: {count}")?;
         }
         for (scenario, count) in &self.active {
             writeln!(out, "active scenario {scenario}: {count} contracts")?;
@@ -243,6 +279,7 @@ mod tests {
         let of_nothing = |count| Survey { count, ..Survey::of(1, 0) }.nothing_missing();
         assert!(of_nothing(1_999).is_ok());
         let told = of_nothing(2_000).expect_err("nothing occurred").to_string();
-        assert_eq!(told, "refusals that never occurred: 1, 2, 3, 4, 5, 6, 7, 8, 9, 10, 11");
+        let numbers = "refusals that never occurred: 1, 2, 3, 4, 5, 6, 7, 8, 9, 10, 11";
+        assert!(told.starts_with(numbers) && told.contains("legs 2 and 3 alike"), "{told}");
     }
 }

@@ -68,7 +68,10 @@ impl Tally {
         if !missing.is_empty() {
             println!("never occurred, by file and refusal: {missing:?}");
         }
-        missing.is_empty()
+        if self.calls == 0 {
+            println!("no call above 0 occurred");
+        }
+        missing.is_empty() && self.calls > 0
     }
 }
 

@@ -24,3 +24,6 @@ pub mod JoinedLaws
 pub mod Places
 pub mod Alone
 pub mod NoonLaws
+pub mod PairClaimed
+pub mod Whole
+pub mod OneJoined

@@ -11,3 +11,6 @@ pub mod Lawful
 pub mod Joined
 pub mod Supplied
 pub mod Noon
+pub mod PairClaims
+pub mod Whole
+pub mod Determined

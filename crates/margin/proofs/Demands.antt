@@ -16,12 +16,10 @@ use Rattle.account.specs.Check.{checked}
 use Rattle.account.specs.Lawful.{Lawful}
 use Rattle.account.specs.Noon.{clear, joinedVerdict}
 use Rattle.account.specs.Supplied.{accountOf}
-use Rattle.account.specs.Claims.{Iff}
-use Rattle.account.specs.Parts.{promptsOf, rowsOf, entriesOf, spreadsOf}
+use Rattle.account.specs.Parts.{entriesOf, spreadsOf}
 use Rattle.account.specs.Records.{records, recordCount}
 use Rattle.account.specs.declared.answers.Answer.{Answer}
 use Rattle.account.specs.declared.answers.Answer.the-variants.{Accepted, TooFewNumbers, NoSuchQuestion}
-use Rattle.account.proofs.Accepted.{accepts}
 use Rattle.account.proofs.Claimed.{claimed}
 use Rattle.account.proofs.Lawful.{lawful}
 use Rattle.account.proofs.NoonLaws.{pair-lawful}
@@ -33,16 +31,16 @@ use Rattle.spread.proofs.Stepping.{who-paid}
 use Rattle.margin.specs.Books.{answered, tableQuestion}
 use Rattle.margin.specs.Contract.{contracts, partsOf, asTier, stepsOf, opensOf, tableSteps}
 use Rattle.margin.specs.Deltas.{interprompt, intercontract}
-use Rattle.margin.specs.Demands.{Question, Demand1, Demand2, Demanded}
+use Rattle.margin.specs.Demands.{Question, FiguresAsked, Demand1, Demand2, Demanded}
 use Rattle.margin.specs.Figures.{figures}
 use Rattle.margin.specs.Questions.{ifAccepted, asked, enough, answerTo, figuresAnswer}
 use Rattle.margin.specs.Uses.{contractUses, tableUses}
 use Rattle.margin.proofs.AcceptLaws.{contract-within, entries-within}
 use Rattle.margin.proofs.AskedLaws.{one-book, table-book, contract-asked, table-asked}
 use Rattle.margin.proofs.LineLaws.{spreads-sound, interprompt-whole}
-use Rattle.margin.proofs.NetLaws.{all-rows}
 use Rattle.margin.proofs.QuestionLaws.{accepted-only, if-refused, if-accepted, after-refused, too-few}
 use Rattle.margin.proofs.Reckoned.{reckoned, printed}
+use Rattle.margin.proofs.Skipped.{file-skips-none}
 use Rattle.margin.proofs.TableLaws.{entry-accepted}
 
 -- ---- 1
@@ -129,17 +127,25 @@ module _ (file : List ℕ) (question : ℕ) (answer : List ℤ) (lent : ℕ) whe
           let n = ap numberOf (then-lent ok e ∙ ap (λ (t : Bool). cond t (TooFewNumbers (recordCount file)) Accepted) f) in
           absurd (omega arith)
 
-figures-exactly : (file : List ℕ) (lent : ℕ) → Iff (numberOf (figuresAnswer file lent) ≡ 10) ((checked file ≡ Accepted) × (lent < length (figures (records file))))
+figures-exactly : (file : List ℕ) (lent : ℕ) → FiguresAsked file lent
 figures-exactly file lent =
     record {
-      forth = λ h. go (numberOf (checked file)) refl (ltb lent (length (figures (records file)))) refl h;
-      back = λ (ok, l). ap numberOf (if-accepted (checked file) rest ok ∙ too-few file (figures (records file)) lent l);
+      refused = if-refused (checked file) rest;
+      ten =
+          record {
+            forth = λ h. go (numberOf (checked file)) refl (ltb lent (length (figures (records file)))) refl (omega (arith, h));
+            back = λ (ok, l). ap numberOf (if-accepted (checked file) rest ok ∙ too-few file (figures (records file)) lent l);
+          };
+      named =
+          λ h.
+          let (ok, l) = go (numberOf (checked file)) refl (ltb lent (length (figures (records file)))) refl h in
+          ap recordOf (if-accepted (checked file) rest ok ∙ too-few file (figures (records file)) lent l);
     }
   where
     rest : Answer
     rest = enough file (figures (records file)) lent
 
-    go : (n : ℕ) → numberOf (checked file) ≡ n → (t : Bool) → ltb lent (length (figures (records file))) ≡ t → numberOf (figuresAnswer file lent) ≡ 10 → (checked file ≡ Accepted) × (lent < length (figures (records file)))
+    go : (n : ℕ) → numberOf (checked file) ≡ n → (t : Bool) → ltb lent (length (figures (records file))) ≡ t → 10 ≤ numberOf (figuresAnswer file lent) → (checked file ≡ Accepted) × (lent < length (figures (records file)))
     go zero e true f h = (accepted-only (checked file) e, ltb-true lent (length (figures (records file))) f)
     go zero e false f h =
         let n = ap numberOf (if-accepted (checked file) rest (accepted-only (checked file) e) ∙ ap (λ (t : Bool). cond t (TooFewNumbers (recordCount file)) Accepted) f) in
@@ -155,7 +161,7 @@ demand1 file =
       question = question-exactly file;
       figures = figures-exactly file;
       untouched = after-refused;
-      counted = λ ok c h. all-rows (promptsOf c (records file)) (rowsOf c (records file)) (accepts file ok .onePrompt c);
+      skipped = file-skips-none file;
     }
 
 -- ---- 2

@@ -32,3 +32,6 @@ pub mod UsesLaws
 pub mod NeedLaws
 pub mod PlaceLaws
 pub mod NoonLaws
+pub mod PairDemands
+pub mod Skipped
+pub mod Unpaired

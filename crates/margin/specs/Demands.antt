@@ -1,19 +1,18 @@
 -- The three demands, as claims about the definitions, each under its words; proofs/Demands.antt proves them of any bytes. The code
 -- meets them where `check` (account), `figures`, `book` and `uses` (src/questions.rt) promise these definitions.
 -- Assumes nothing.
-use Prim.Native.Nat.{ℕ, _+_, _≤_, _<_}
+use Prim.Native.Nat.{ℕ, _≤_, _<_}
 use mathlib.Core.Path.{_≡_}
 use mathlib.Core.Bool.{true, false}
 use mathlib.Core.List.{List, [], _∷_, _++_, map}
 use lib.IntN.{ℤ, pos}
 use lib.ListN.{length}
-use Rattle.exact.specs.Lists.{sumℤ}
 use Rattle.account.specs.Answers.{numberOf, recordOf}
 use Rattle.record.specs.Layout.{Record, mostContract}
 use Rattle.account.specs.Check.{checked}
 use Rattle.account.specs.Claims.{Iff, Claims}
 use Rattle.account.specs.Orders.{Later}
-use Rattle.account.specs.Parts.{promptsOf, rowsOf, entriesOf}
+use Rattle.account.specs.Parts.{promptsOf, entriesOf}
 use Rattle.account.specs.Records.{records, recordCount}
 use Rattle.account.specs.declared.answers.Answer.{Answer}
 use Rattle.account.specs.declared.answers.Answer.the-variants.{Accepted}
@@ -22,10 +21,10 @@ use Rattle.spread.specs.Steps.{Open, Taker, numbers, usedOf, unusedOf}
 use Rattle.spread.specs.Uses.{usesOf, WhoPaid}
 use Rattle.margin.specs.Books.{threes, answered, book, tableQuestion}
 use Rattle.margin.specs.Contract.{contracts, partsOf, contractNet, asTier, stepsOf, opensOf, tableSteps}
-use Rattle.margin.specs.Deltas.{rowDelta, netDeltas}
 use Rattle.margin.specs.Figures.{figures}
 use Rattle.margin.specs.Questions.{answerTo, figuresAnswer, afterwards}
 use Rattle.margin.specs.Reckoned.{Reckoned, Printed}
+use Rattle.margin.specs.Skipped.{NoneSkipped}
 use Rattle.margin.specs.Uses.{uses}
 
 -- ---- 1. "Every input gets an answer: figures, or one refusal number with the record at fault. A refusal comes exactly when its
@@ -38,17 +37,22 @@ pub record Question (file : List ℕ) (question : ℕ) (answer : List ℤ) (lent
   pub ten : Iff (numberOf (answerTo file question answer lent) ≡ 10) ((checked file ≡ Accepted) × ((answered (records file) question ≡ true) × (lent < length answer)))
   pub named : 10 ≤ numberOf (answerTo file question answer lent) → recordOf (answerTo file question answer lent) ≡ recordCount file
 
+-- the figures, which ask no question that could be another
+pub record FiguresAsked (file : List ℕ) (lent : ℕ) : Type 0 where
+  pub refused : (numberOf (checked file) ≡ 0 → ⊥) → figuresAnswer file lent ≡ checked file
+  pub ten : Iff (numberOf (figuresAnswer file lent) ≡ 10) ((checked file ≡ Accepted) × (lent < length (figures (records file))))
+  pub named : 10 ≤ numberOf (figuresAnswer file lent) → recordOf (figuresAnswer file lent) ≡ recordCount file
+
 pub record Demand1 (file : List ℕ) : Type 0 where
   -- 1 to 9
   pub check : Claims file
   -- 10 and 11
   pub question : (question : ℕ) (answer : List ℤ) (lent : ℕ) → Question file question answer lent
-  pub figures : (lent : ℕ) → Iff (numberOf (figuresAnswer file lent) ≡ 10) ((checked file ≡ Accepted) × (lent < length (figures (records file))))
+  pub figures : (lent : ℕ) → FiguresAsked file lent
   -- "lent memory then stays untouched"
   pub untouched : (a : Answer) (answer lent : List ℤ) → (numberOf a ≡ 0 → ⊥) → afterwards a answer lent ≡ lent
-  -- "no accepted line is skipped": a contract's net deltas together are those of all its rows
-  pub counted : checked file ≡ Accepted → (c : ℕ) → c ≤ mostContract
-      → sumℤ (netDeltas (promptsOf c (records file)) (rowsOf c (records file))) ≡ sumℤ (map rowDelta (rowsOf c (records file)))
+  -- "no accepted line is skipped"
+  pub skipped : checked file ≡ Accepted → NoneSkipped (records file)
 
 -- ---- 2. "Every figure equals SPAN as published .., under 01's rounding and tie rules": what is published is said by the definitions
 -- of Scanning, Deltas, Charges, Pairs, Credit, Margin, Contract, Figures and Books; the reckoned examples fix them.

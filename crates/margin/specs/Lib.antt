@@ -26,3 +26,6 @@ pub mod Held
 pub mod Uses
 pub mod Needs
 pub mod Noon
+pub mod PairDemands
+pub mod Skipped
+pub mod Unpaired

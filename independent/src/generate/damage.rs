@@ -74,6 +74,7 @@ fn at(random: &mut Random, records: &mut Vec<Bytes>, place: usize) -> usize {
         14 => return double(random, records, place),
         15 => return drop(records, place),
         16 => return shift(random, records, place),
+        17 => return legs(random, records, place),
         _ => return overfill(random, records, place),
     }
     place
@@ -175,6 +176,33 @@ fn other_parts(random: &mut Random, entry: &mut Bytes) {
         let ratio = random.pick(&[0, 100, 101, 1_000, 1_000, 1_001, 257, 65_535]);
         put(entry, random.pick(&[FIRST_RATIO, SECOND_RATIO]), ratio);
     }
+}
+
+/// Damages the legs of a spread, if there is one: their number, or a third leg that is like one of the
+/// others or has a field at an end of its range or one past it.
+fn legs(random: &mut Random, records: &mut [Bytes], place: usize) -> usize {
+    let spreads: Vec<usize> = (0..records.len()).filter(|at| records[*at][0] == SPREAD).collect();
+    if spreads.is_empty() {
+        return place;
+    }
+    let place = random.pick(&spreads);
+    let record = &mut records[place];
+    if random.one_in(3) {
+        put(record, LEGS, random.pick(&[0, 1, 1, 4]));
+        return place;
+    }
+    let like = random.place(2);
+    put(record, LEGS, 3);
+    for field in [leg_tier, leg_side, leg_ratio] {
+        let number = Record(record).get(field(like));
+        put(record, field(2), number);
+    }
+    if random.one_in(2) {
+        let field = random.pick(&[leg_tier(2), leg_side(2), leg_ratio(2)]);
+        let ends = [field.least - 1, field.least, field.most, field.most + 1];
+        put(record, field, random.pick(&ends));
+    }
+    place
 }
 
 fn flip(random: &mut Random, record: &mut Bytes) {

@@ -1,0 +1,149 @@
+/* every FILE NOON: calls every function of the library, lends memory by the constants of the header, and prints what comes back,
+ * for a comparison with what the independent program says. Each file and each lent memory ends where memory ends that may be
+ * read or written, so that a step beyond it faults. */
+#define _DEFAULT_SOURCE
+#include <inttypes.h>
+#include <stdio.h>
+#include <stdlib.h>
+#include <string.h>
+#include <sys/mman.h>
+#include <unistd.h>
+
+#include "felgotany.h"
+
+/* So many bytes that end before a page that nobody may touch. */
+static void *before_the_end(size_t bytes)
+{
+    size_t page = (size_t)sysconf(_SC_PAGESIZE), pages = (bytes + page - 1) / page;
+    char *memory = mmap(NULL, (pages + 1) * page, PROT_READ | PROT_WRITE, MAP_PRIVATE | MAP_ANONYMOUS, -1, 0);
+    if (memory == MAP_FAILED || mprotect(memory + pages * page, page, PROT_NONE) != 0) {
+        perror("every");
+        exit(2);
+    }
+    return memory + pages * page - bytes;
+}
+
+static const uint8_t *read_file(const char *name, size_t *bytes)
+{
+    FILE *from = fopen(name, "rb");
+    if (from == NULL || fseek(from, 0, SEEK_END) != 0) {
+        perror(name);
+        exit(2);
+    }
+    *bytes = (size_t)ftell(from);
+    rewind(from);
+    uint8_t *file = before_the_end(*bytes);
+    if (fread(file, 1, *bytes, from) != *bytes) {
+        perror(name);
+        exit(2);
+    }
+    fclose(from);
+    mprotect(file - (uintptr_t)file % (uintptr_t)sysconf(_SC_PAGESIZE), *bytes, PROT_READ);
+    return file;
+}
+
+/* Lent numbers that are none of an answer's. */
+static int64_t *lent(size_t numbers)
+{
+    int64_t *memory = before_the_end(numbers * sizeof *memory);
+    for (size_t i = 0; i < numbers; ++i)
+        memory[i] = 7;
+    return memory;
+}
+
+static void print_numbers(const char *word, size_t question, const int64_t *numbers, size_t count)
+{
+    printf("%s %zu", word, question);
+    for (size_t i = 0; i < count; ++i)
+        printf(" %" PRId64, numbers[i]);
+    putchar('\n');
+}
+
+static void print_outcome(const char *word, size_t question, felgotany_outcome outcome)
+{
+    printf("%s %zu refusal %zu record %zu\n", word, question, outcome.refusal, outcome.record);
+}
+
+static void print_pair(const char *word, size_t question, felgotany_pair_outcome outcome)
+{
+    printf("%s %zu file %zu refusal %zu record %zu\n", word, question, outcome.file, outcome.refusal, outcome.record);
+}
+
+/* Each question by itself. */
+static void ask(const uint8_t *file, size_t bytes)
+{
+    int64_t *figures = lent(FELGOTANY_MOST_FIGURES), *book = lent(FELGOTANY_MOST_BOOK), *uses = lent(FELGOTANY_MOST_USES);
+    print_outcome("check", 0, felgotany_check(file, bytes));
+    print_outcome("figures", 0, felgotany_figures(file, bytes, figures, FELGOTANY_MOST_FIGURES));
+    print_numbers("figures", 0, figures, felgotany_figures_needed(file, bytes));
+    for (size_t question = 0; question <= FELGOTANY_TABLE + 1; ++question) {
+        print_outcome("book", question, felgotany_book(file, bytes, question, book, FELGOTANY_MOST_BOOK));
+        print_numbers("book", question, book, felgotany_book_needed(file, bytes, question));
+        print_outcome("uses", question, felgotany_uses(file, bytes, question, uses, FELGOTANY_MOST_USES));
+        print_numbers("uses", question, uses, felgotany_uses_needed(file, bytes, question));
+    }
+}
+
+/* All at once, with so many numbers fewer lent for the figures, the books and the uses. */
+static void ask_all(const uint8_t *file, size_t bytes, const size_t fewer[3])
+{
+    size_t needed = felgotany_figures_needed(file, bytes);
+    size_t numbers = needed > fewer[0] ? needed - fewer[0] : 0;
+    int64_t *figures = lent(numbers), *books = lent(FELGOTANY_ALL_BOOKS - fewer[1]), *uses = lent(FELGOTANY_ALL_USES - fewer[2]);
+    felgotany_outcomes outcomes =
+        felgotany_all(file, bytes, figures, numbers, books, FELGOTANY_ALL_BOOKS - fewer[1], uses, FELGOTANY_ALL_USES - fewer[2]);
+    print_outcome("all figures", 0, outcomes.figures);
+    print_outcome("all books", 0, outcomes.books);
+    print_outcome("all uses", 0, outcomes.uses);
+    print_numbers("all figures", 0, figures, numbers);
+    for (size_t question = 0; question <= FELGOTANY_TABLE; ++question) {
+        if (outcomes.books.refusal == 0)
+            print_numbers("all book", question, books + FELGOTANY_MOST_BOOK * question, felgotany_book_needed(file, bytes, question));
+        if (outcomes.uses.refusal == 0)
+            print_numbers("all uses", question, uses + FELGOTANY_MOST_USES * question, felgotany_uses_needed(file, bytes, question));
+    }
+}
+
+static void ask_joined(const uint8_t *morning, size_t morning_bytes, const uint8_t *noon, size_t noon_bytes)
+{
+    int64_t *figures = lent(FELGOTANY_MOST_FIGURES), *book = lent(FELGOTANY_MOST_BOOK), *uses = lent(FELGOTANY_MOST_USES);
+    print_pair("joined figures", 0,
+               felgotany_joined_figures(morning, morning_bytes, noon, noon_bytes, figures, FELGOTANY_MOST_FIGURES));
+    print_numbers("joined figures", 0, figures, FELGOTANY_MOST_FIGURES);
+    for (size_t question = 0; question <= FELGOTANY_TABLE + 1; ++question) {
+        felgotany_prompt_place place = felgotany_joined_prompts(morning, morning_bytes, noon, noon_bytes, question);
+        printf("joined prompts %zu file %zu first %zu records %zu\n", question, place.file, place.first, place.records);
+        print_pair("joined book", question,
+                   felgotany_joined_book(morning, morning_bytes, noon, noon_bytes, question, book, FELGOTANY_MOST_BOOK));
+        print_numbers("joined book", question, book, FELGOTANY_MOST_BOOK);
+        print_pair("joined uses", question,
+                   felgotany_joined_uses(morning, morning_bytes, noon, noon_bytes, question, uses, FELGOTANY_MOST_USES));
+        print_numbers("joined uses", question, uses, FELGOTANY_MOST_USES);
+    }
+    const int64_t amounts[][3] = {{0, 0, 0}, {0, 5, 0}, {5, 0, 0}, {0, 0, 5}, {1, 1000000000000000, 2}, {-1, 0, 0}, {0, 0, -1}};
+    for (size_t i = 0; i < sizeof amounts / sizeof amounts[0]; ++i) {
+        felgotany_call_outcome called =
+            felgotany_call(morning, morning_bytes, noon, noon_bytes, amounts[i][0], amounts[i][1], amounts[i][2]);
+        print_pair("call", i, called.outcome);
+        printf("call %zu %" PRIu64 "\n", i, called.call);
+    }
+}
+
+int main(int argc, char **argv)
+{
+    size_t bytes, noon_bytes;
+    if (argc != 3) {
+        fprintf(stderr, "usage: every FILE NOON\n");
+        return 2;
+    }
+    const uint8_t *file = read_file(argv[1], &bytes), *noon = read_file(argv[2], &noon_bytes);
+    printf("constants %d %d %d %d %d %d\n", FELGOTANY_MOST_FIGURES, FELGOTANY_MOST_BOOK, FELGOTANY_MOST_USES, FELGOTANY_TABLE,
+           FELGOTANY_ALL_BOOKS, FELGOTANY_ALL_USES);
+    ask(file, bytes);
+    ask_all(file, bytes, (const size_t[3]){0, 0, 0});
+    ask_all(file, bytes, (const size_t[3]){1, 0, 0});
+    ask_all(file, bytes, (const size_t[3]){0, 1, 0});
+    ask_all(file, bytes, (const size_t[3]){0, 0, 1});
+    ask_joined(file, bytes, noon, noon_bytes);
+    return 0;
+}

@@ -1,0 +1,147 @@
+//! every FILE NOON: what compare/every.c prints, as the independent program has it. The constants are the library's own: the
+//! longest answers of accounts at their limits, the last question that is answered, and the fewest numbers that all questions
+//! at once are not refused for.
+
+use compare::Outcome;
+use independent::joined::{self, Cover};
+use independent::units::Amount;
+use independent::{held_book, held_figures, Account, PairRefusal, Refusal};
+use std::fmt::Write;
+
+/// The number that stands in lent memory before.
+const BEFORE: i64 = 7;
+/// One question past the last that an account may answer.
+const QUESTIONS: std::ops::RangeInclusive<u64> = 0..=17;
+const BOOKS: std::ops::RangeInclusive<u64> = 0..=16;
+
+fn main() -> Result<(), Box<dyn std::error::Error>> {
+    let words: Vec<String> = std::env::args().skip(1).collect();
+    let [file, noon] = &words[..] else { return Err("usage: every FILE NOON".into()) };
+    let (file, noon) = (std::fs::read(file)?, std::fs::read(noon)?);
+    let [figures, book, uses, table, books, all_uses] = constants();
+    let mut out = format!("constants {figures} {book} {uses} {table} {books} {all_uses}\n");
+    let checked = independent::check(&file);
+    ask(&mut out, &checked);
+    for fewer in [[0, 0, 0], [1, 0, 0], [0, 1, 0], [0, 0, 1]] {
+        ask_all(&mut out, &checked, fewer);
+    }
+    ask_joined(&mut out, &file, &noon, [figures, book, uses]);
+    print!("{out}");
+    Ok(())
+}
+
+/// An account with sixteen contracts, and one with a contract of 32 prompts and 32 spreads.
+fn at_the_limits() -> [Vec<u8>; 2] {
+    let record = |bytes: &[u8]| [bytes, &vec![0; 96 - bytes.len()]].concat();
+    let contracts = (0..16).flat_map(|number| record(&[1, number])).collect();
+    let prompts = (1..=32).flat_map(|day| record(&[2, 0, 1, 0, day]));
+    let spreads = (0..32).flat_map(|_| record(&[4, 0, 2, 0, 0, 0, 0, 0, 1, 1, 1, 0, 1, 2, 1, 0]));
+    [contracts, record(&[1, 0]).into_iter().chain(prompts).chain(spreads).collect()]
+}
+
+fn constants() -> [usize; 6] {
+    let [contracts, full] = at_the_limits();
+    let table = (0..100).rev().find(|&question| compare::book(&[], question, &mut []).refusal == 0).unwrap_or(0);
+    let all = |books: usize, uses: usize| compare::all(&full, &mut [0; 9], &mut vec![0; books], &mut vec![0; uses]);
+    let least = |refused: &dyn Fn(usize) -> bool, most: usize| {
+        let (mut low, mut high) = (0, most);
+        while low < high {
+            let middle = (low + high) / 2;
+            (low, high) = if refused(middle) { (middle + 1, high) } else { (low, middle) };
+        }
+        low
+    };
+    [
+        compare::figures_needed(&contracts),
+        compare::book_needed(&full, 0),
+        compare::uses_needed(&full, 0),
+        table,
+        least(&|numbers| all(numbers, 0).books.refusal != 0, 100_000),
+        least(&|numbers| all(0, numbers).uses.refusal != 0, 100_000),
+    ]
+}
+
+fn told(refusal: &Refusal) -> Outcome {
+    Outcome { refusal: refusal.number.into(), record: refusal.record }
+}
+
+const ACCEPTED: Outcome = Outcome { refusal: 0, record: 0 };
+
+fn say(out: &mut String, word: &str, question: u64, Outcome { refusal, record }: Outcome) {
+    writeln!(out, "{word} {question} refusal {refusal} record {record}").unwrap();
+}
+
+fn say_pair<T>(out: &mut String, word: &str, question: u64, answer: &Result<T, PairRefusal>) {
+    let (file, number, record) = answer.as_ref().map_or_else(|told| (told.file, told.number, told.record), |_| (0, 0, 0));
+    writeln!(out, "{word} {question} file {file} refusal {number} record {record}").unwrap();
+}
+
+fn list(out: &mut String, word: &str, question: u64, numbers: &[i64]) {
+    let listed: String = numbers.iter().map(|number| format!(" {number}")).collect();
+    writeln!(out, "{word} {question}{listed}").unwrap();
+}
+
+/// Each question by itself: its outcome and its numbers, none where it is refused.
+fn ask(out: &mut String, checked: &Result<Account, Refusal>) {
+    let account = checked.as_ref().map_err(told);
+    say(out, "check", 0, account.as_ref().err().copied().unwrap_or(ACCEPTED));
+    answer(out, "figures", 0, account.map(held_figures));
+    for question in QUESTIONS {
+        let book = || account.and_then(|account| held_book(account, question).map_err(|refusal| told(&refusal)));
+        answer(out, "book", question, book().map(|book| book.numbers()));
+        answer(out, "uses", question, book().map(|book| book.uses()));
+    }
+}
+
+fn answer(out: &mut String, word: &str, question: u64, answer: Result<Vec<i64>, Outcome>) {
+    say(out, word, question, answer.as_ref().err().copied().unwrap_or(ACCEPTED));
+    list(out, word, question, &answer.unwrap_or_default());
+}
+
+/// All at once, with so many numbers fewer lent for the figures, the books and the uses.
+fn ask_all(out: &mut String, checked: &Result<Account, Refusal>, fewer: [usize; 3]) {
+    let outcome = |fewer: usize| match checked {
+        Err(refusal) => told(refusal),
+        Ok(account) if fewer > 0 => Outcome { refusal: 10, record: account.records },
+        Ok(_) => ACCEPTED,
+    };
+    let [figures, books, uses] = fewer.map(outcome);
+    say(out, "all figures", 0, figures);
+    say(out, "all books", 0, books);
+    say(out, "all uses", 0, uses);
+    let numbers = checked.as_ref().map_or(vec![], held_figures);
+    let lent = numbers.len().saturating_sub(fewer[0]);
+    list(out, "all figures", 0, if fewer[0] == 0 { &numbers } else { &[BEFORE; 129][..lent] });
+    for question in BOOKS {
+        let book = || checked.as_ref().ok().and_then(|account| held_book(account, question).ok());
+        if books.refusal == 0 {
+            list(out, "all book", question, &book().map_or(vec![], |book| book.numbers()));
+        }
+        if uses.refusal == 0 {
+            list(out, "all uses", question, &book().map_or(vec![], |book| book.uses()));
+        }
+    }
+}
+
+/// The questions to a pair, with every lent number afterwards; what one answer leaves is lent for the next of its sort.
+fn ask_joined(out: &mut String, morning: &[u8], noon: &[u8], [figures, book, uses]: [usize; 3]) {
+    let [mut figures, mut books, mut all_uses] = [figures, book, uses].map(|numbers| vec![BEFORE; numbers]);
+    say_pair(out, "joined figures", 0, &joined::figures(morning, noon, &mut figures));
+    list(out, "joined figures", 0, &figures);
+    for question in QUESTIONS {
+        let part = joined::prompts(morning, noon, question);
+        let joined::Part { file, first, records } = part;
+        writeln!(out, "joined prompts {question} file {file} first {first} records {records}").unwrap();
+        say_pair(out, "joined book", question, &joined::book(morning, noon, question, &mut books));
+        list(out, "joined book", question, &books);
+        say_pair(out, "joined uses", question, &joined::uses(morning, noon, question, &mut all_uses));
+        list(out, "joined uses", question, &all_uses);
+    }
+    let calls = [[0, 0, 0], [0, 5, 0], [5, 0, 0], [0, 0, 5], [1, 1_000_000_000_000_000, 2], [-1, 0, 0], [0, 0, -1]];
+    for (place, amounts) in (0..).zip(calls) {
+        let [last_call, threshold, collateral] = amounts.map(Amount);
+        let called = joined::call(morning, noon, Cover { last_call, threshold, collateral });
+        say_pair(out, "call", place, &called);
+        list(out, "call", place, &[called.map_or(0, |call| call.0)]);
+    }
+}

@@ -1,0 +1,92 @@
+-- Demand 1 over a pair of files, after request 2026-01, as claims about the definitions of Noon.antt; proofs/PairDemands.antt proves them
+-- of any bytes. Demands 2 and 3 over the joined account are those of Demands.antt, which speak of any account.
+-- Assumes nothing.
+use Prim.Native.Nat.{ℕ, _≤_, _<_}
+use mathlib.Core.Path.{_≡_}
+use mathlib.Core.Bool.{true, false, _||_}
+use mathlib.Core.List.{List, _++_}
+use lib.IntN.{ℤ, pos, natAbs}
+use lib.ListN.{length, drop}
+use Rattle.account.specs.Answers.{numberOf, recordOf}
+use Rattle.account.specs.Claims.{Iff}
+use Rattle.account.specs.Noon.{clear, joinedVerdict}
+use Rattle.account.specs.PairClaims.{PairClaims}
+use Rattle.account.specs.Supplied.{accountOf}
+use Rattle.account.specs.declared.noon.Verdict.{Verdict}
+use Rattle.margin.specs.Books.{answered, book}
+use Rattle.margin.specs.Figures.{figures}
+use Rattle.margin.specs.Noon.{joinedFigures, joinedAnswer, joinedBook, joinedUses, afterJoinedFigures, afterJoinedBook, afterJoinedUses}
+use Rattle.margin.specs.Noon.{requirement, coverCall, mostAmount, beyondAmount, callVerdict, joinedCall}
+use Rattle.margin.specs.Uses.{uses}
+
+-- a refusal of the joined account, "naming the joined record count"
+pub record NamesAll (morning noon : List ℕ) (v : Verdict) : Type 0 where
+  pub of : v .file ≡ 0
+  pub place : recordOf (v .answer) ≡ length (accountOf morning noon)
+
+-- "11 and 10 as in 01": a question with so many numbers lent for its answer
+pub record PairQuestion (morning noon : List ℕ) (question : ℕ) (answer : List ℤ) (lent : ℕ) : Type 0 where
+  pub refused : clear (joinedVerdict morning noon) ≡ false → joinedAnswer morning noon question answer lent ≡ joinedVerdict morning noon
+  pub eleven : Iff (numberOf (joinedAnswer morning noon question answer lent .answer) ≡ 11)
+      ((clear (joinedVerdict morning noon) ≡ true) × (answered (accountOf morning noon) question ≡ false))
+  pub ten : Iff (numberOf (joinedAnswer morning noon question answer lent .answer) ≡ 10)
+      ((clear (joinedVerdict morning noon) ≡ true) × ((answered (accountOf morning noon) question ≡ true) × (lent < length answer)))
+  pub accepted : Iff (numberOf (joinedAnswer morning noon question answer lent .answer) ≡ 0)
+      ((clear (joinedVerdict morning noon) ≡ true) × ((answered (accountOf morning noon) question ≡ true) × (length answer ≤ lent)))
+  pub named : clear (joinedVerdict morning noon) ≡ true → 1 ≤ numberOf (joinedAnswer morning noon question answer lent .answer)
+      → NamesAll morning noon (joinedAnswer morning noon question answer lent)
+
+-- the figures ask no question that could be another
+pub record PairFigures (morning noon : List ℕ) (lent : ℕ) : Type 0 where
+  pub refused : clear (joinedVerdict morning noon) ≡ false → joinedFigures morning noon lent ≡ joinedVerdict morning noon
+  pub ten : Iff (numberOf (joinedFigures morning noon lent .answer) ≡ 10)
+      ((clear (joinedVerdict morning noon) ≡ true) × (lent < length (figures (accountOf morning noon))))
+  pub accepted : Iff (numberOf (joinedFigures morning noon lent .answer) ≡ 0)
+      ((clear (joinedVerdict morning noon) ≡ true) × (length (figures (accountOf morning noon)) ≤ lent))
+  pub named : clear (joinedVerdict morning noon) ≡ true → 1 ≤ numberOf (joinedFigures morning noon lent .answer)
+      → NamesAll morning noon (joinedFigures morning noon lent)
+
+-- "The three amounts, in hundredths, are 0..1,000,000,000,000,000."
+pub record InRange (z : ℤ) : Type 0 where
+  pub size : ℕ
+  pub is : z ≡ pos size
+  pub most : size ≤ mostAmount
+
+-- "21, an amount outside its range"
+pub record PairCall (morning noon : List ℕ) (last threshold collateral : ℤ) : Type 0 where
+  pub refused : clear (joinedVerdict morning noon) ≡ false → callVerdict morning noon last threshold collateral ≡ joinedVerdict morning noon
+  pub twentyOne : Iff (numberOf (callVerdict morning noon last threshold collateral .answer) ≡ 21)
+      ((clear (joinedVerdict morning noon) ≡ true) × ((beyondAmount last || beyondAmount threshold) || beyondAmount collateral ≡ true))
+  pub accepted : Iff (numberOf (callVerdict morning noon last threshold collateral .answer) ≡ 0)
+      ((clear (joinedVerdict morning noon) ≡ true) × ((beyondAmount last || beyondAmount threshold) || beyondAmount collateral ≡ false))
+  pub named : clear (joinedVerdict morning noon) ≡ true → 1 ≤ numberOf (callVerdict morning noon last threshold collateral .answer)
+      → NamesAll morning noon (callVerdict morning noon last threshold collateral)
+  -- a refusal calls for nothing
+  pub nothing : (numberOf (callVerdict morning noon last threshold collateral .answer) ≡ 0 → ⊥)
+      → joinedCall morning noon last threshold collateral .amount .0 ≡ 0
+  pub called : numberOf (callVerdict morning noon last threshold collateral .answer) ≡ 0
+      → joinedCall morning noon last threshold collateral .amount .0
+      ≡ coverCall (requirement (accountOf morning noon)) (natAbs last) (natAbs threshold) (natAbs collateral)
+
+-- "lent memory then stays untouched"; "Success writes the answer at the front and nothing after it."
+pub record PairLent (v : Verdict) (answer lent after : List ℤ) : Type 0 where
+  pub untouched : (numberOf (v .answer) ≡ 0 → ⊥) → after ≡ lent
+  pub written : numberOf (v .answer) ≡ 0 → after ≡ answer ++ drop (length answer) lent
+
+pub record PairDemand1 (morning noon : List ℕ) : Type 0 where
+  -- 1 to 9 of each file, 12 and 13
+  pub check : PairClaims morning noon
+  -- 21
+  pub call : (last threshold collateral : ℤ) → PairCall morning noon last threshold collateral
+  pub amounts : (z : ℤ) → Iff (beyondAmount z ≡ false) (InRange z)
+  -- 11 and 10
+  pub question : (question : ℕ) (answer : List ℤ) (lent : ℕ) → PairQuestion morning noon question answer lent
+  -- lent memory
+  pub afterFigures : (lent : List ℤ)
+      → PairLent (joinedFigures morning noon (length lent)) (figures (accountOf morning noon)) lent (afterJoinedFigures morning noon lent)
+  pub afterBook : (question : ℕ) (lent : List ℤ)
+      → PairLent (joinedBook morning noon question (length lent)) (book (accountOf morning noon) question) lent (afterJoinedBook morning noon question lent)
+  pub afterUses : (question : ℕ) (lent : List ℤ)
+      → PairLent (joinedUses morning noon question (length lent)) (uses (accountOf morning noon) question) lent (afterJoinedUses morning noon question lent)
+  -- 10 of the figures
+  pub figures : (lent : ℕ) → PairFigures morning noon lent

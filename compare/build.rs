@@ -2,7 +2,7 @@
 
 fn main() {
     let library = concat!(env!("CARGO_MANIFEST_DIR"), "/../target/staticlib/libfelgotany.a");
-    for program in ["code", "pairs"] {
+    for program in ["code", "pairs", "runs"] {
         println!("cargo:rustc-link-arg-bin={program}={library}");
     }
     println!("cargo:rerun-if-changed={library}");

@@ -10,5 +10,6 @@ mod order;
 mod program;
 mod reckoned;
 mod refusals;
+mod runs;
 mod unit_price_risk;
 mod wrong;

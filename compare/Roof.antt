@@ -9,9 +9,8 @@ use lib.IntN.{ℤ, pos, negℤ, _+ℤ_}
 use lib.ListN.{length, getD}
 use Rattle.exact.specs.Lists.{sumℤ}
 use Rattle.exact.specs.Largest.{IsLargest}
-use Rattle.exact.specs.Wide.{Scaled}
 use Rattle.exact.specs.declared.largest.Place.{Place}
-use Rattle.exact.proofs.Determined.{one-outcome, one-largest, one-scaled}
+use Rattle.exact.proofs.Determined.{one-outcome, one-largest}
 use Rattle.record.specs.Layout.{Record, mostContract}
 use Rattle.account.specs.Accepted.{Accepts}
 use Rattle.account.specs.Answers.{numberOf, recordOf}
@@ -25,23 +24,34 @@ use Rattle.account.specs.Supplied.{accountOf}
 use Rattle.account.specs.declared.answers.Answer.{Answer}
 use Rattle.account.specs.declared.answers.Answer.the-variants.{Accepted}
 use Rattle.account.proofs.Claimed.{claimed}
-use Rattle.spread.specs.Demand.{Feasible, FirstDifference, addedUp, deltaAt, netAt, opposite, soundSteps, tierAt, totalUse}
-use Rattle.spread.specs.Steps.{Market, Open, Taker, numbers, onSide, unusedOf, usedOf}
+use Rattle.spread.specs.Demand.{Feasible, FirstDifference, FirstWords, wholeSteps, addedUp, deltaAt, netAt, opposite, soundSteps, tierAt, totalUse}
+use Rattle.spread.specs.Steps.{Market, Open, Taker, numbers, onSide, pool, unusedOf, usedOf}
 use Rattle.spread.specs.Uses.{WhoPaid}
 use Rattle.spread.proofs.Demand3.{demand3}
 use Rattle.spread.proofs.Stepping.{who-paid}
 use Rattle.margin.specs.Books.{answered, book, tableQuestion}
 use Rattle.margin.specs.Charges.{spreadCharge}
 use Rattle.margin.specs.Contract.{asTier, contractNet, contracts, interpromptOf, marginOf, numbersOf, opensOf, partsOf, promptOf, stepsOf, tableSteps, unusedDeltas}
-use Rattle.margin.specs.Credit.{credit}
+use Rattle.margin.specs.Credit.{credit, unitPriceRisk}
 use Rattle.margin.specs.Deltas.{netDeltas, rowDelta}
 use Rattle.margin.specs.Demands.{Demanded, Holds}
 use Rattle.margin.specs.Figures.{figures}
 use Rattle.margin.specs.Pairs.{pairOf}
 use Rattle.margin.specs.Questions.{afterwards, answerTo, figuresAnswer}
-use Rattle.margin.specs.Reckoned.{byPriority, caseThree, gains, oneTier, printed, shortCall, threeTiers}
+use Rattle.margin.specs.Reckoned.{against, byPriority, caseThree, fefAgainstAex, gains, inTenths, lotsLong, lotsShort, oneTier, printed, shortCall, threeTiers}
 use Rattle.margin.specs.Scanning.{activeScenario, scanningRisk}
 use Rattle.margin.specs.Uses.{uses}
+use Rattle.account.specs.PairClaims.{PairClaims}
+use Rattle.account.proofs.PairClaimed.{pair-claimed}
+use Rattle.spread.specs.Again.{NothingToPair}
+use Rattle.spread.proofs.Again.{nothing-to-pair}
+use Rattle.margin.specs.PairDemands.{PairDemand1}
+use Rattle.margin.specs.Skipped.{NoneSkipped}
+use Rattle.margin.specs.Unpaired.{NothingOpen}
+use Rattle.margin.proofs.PairDemands.{pair-demand1}
+use Rattle.margin.proofs.Unpaired.{file-unpaired}
+use Rattle.felgotany.specs.Roof.{Roof}
+use Rattle.felgotany.proofs.Roof.{roof}
 use Rattle.margin.proofs.Demands.{demand1, demand2, demanded-file, demanded-joined}
 use Rattle.margin.proofs.PairLaws.{fixes-15, fixes-16, own-inverse}
 
@@ -73,14 +83,26 @@ module _ (file : List ℕ) where
   orders = demand1 file .check .orders
 
   ten-of-figures : (lent : ℕ) → Iff (numberOf (figuresAnswer file lent) ≡ 10) ((checked file ≡ Accepted) × (lent < length (figures (records file))))
-  ten-of-figures = demand1 file .figures
+  ten-of-figures lent = demand1 file .figures lent .ten
+
+  named-of-figures : (lent : ℕ) → 10 ≤ numberOf (figuresAnswer file lent) → recordOf (figuresAnswer file lent) ≡ recordCount file
+  named-of-figures lent = demand1 file .figures lent .named
+
+  refused-figures : (lent : ℕ) → (numberOf (checked file) ≡ 0 → ⊥) → figuresAnswer file lent ≡ checked file
+  refused-figures lent = demand1 file .figures lent .refused
+
+  none-skipped : checked file ≡ Accepted → NoneSkipped (records file)
+  none-skipped = demand1 file .skipped
+
+  none-open : checked file ≡ Accepted → NothingOpen (records file)
+  none-open = file-unpaired file
 
   untouched : (a : Answer) (answer lent : List ℤ) → (numberOf a ≡ 0 → ⊥) → afterwards a answer lent ≡ lent
   untouched = demand1 file .untouched
 
   counted : checked file ≡ Accepted → (c : ℕ) → c ≤ mostContract
       → sumℤ (netDeltas (promptsOf c (records file)) (rowsOf c (records file))) ≡ sumℤ (map rowDelta (rowsOf c (records file)))
-  counted = demand1 file .counted
+  counted ok = demand1 file .skipped ok .rows .prompts
 
   module _ (question : ℕ) (answer : List ℤ) (lent : ℕ) where
     refused-first : (numberOf (checked file) ≡ 0 → ⊥) → answerTo file question answer lent ≡ checked file
@@ -143,6 +165,36 @@ p9 = demand2 .reckoned .p9
 p10 : marginOf [] (asTier shortCall ∷ []) shortCall ≡ 500
 p10 = demand2 .reckoned .p10
 
+four-places : credit (2 * 10000) 300000000 100 300000000 ≡ 9900
+four-places = demand2 .reckoned .four-places
+
+half-a-place : unitPriceRisk 20001 6667000000 ≡ 2
+half-a-place = demand2 .reckoned .half-a-place
+
+half-a-place-earns : credit 20001 6667000000 100 6667000000 ≡ 13334
+half-a-place-earns = demand2 .reckoned .half-a-place-earns
+
+largest-unit : unitPriceRisk (2 * 25600000000000000) 1 ≡ 25600000000000000000000
+largest-unit = demand2 .reckoned .largest-unit
+
+largest-unit-earns : credit (2 * 25600000000000000) 1 100 1 ≡ 25600000000000000
+largest-unit-earns = demand2 .reckoned .largest-unit-earns
+
+fef-formed : numbers (inTenths 96 10) fefAgainstAex ≡ 10012 ∷ 0 ∷ []
+fef-formed = demand2 .reckoned .fef-formed
+
+fef-keeps : unusedOf (inTenths 96 10) fefAgainstAex ≡ pos 1103885 ∷ pos 0 ∷ []
+fef-keeps = demand2 .reckoned .fef-keeps
+
+unrounded-beyond : numbers (inTenths 14 10) (against (pos 1) (lotsShort 1)) ≡ 0 ∷ 0 ∷ []
+unrounded-beyond = demand2 .reckoned .unrounded-beyond
+
+use-of-nothing : unusedOf (inTenths 1 10) (against (lotsLong 1) (negℤ (pos 4))) ≡ lotsLong 1 ∷ pos 0 ∷ []
+use-of-nothing = demand2 .reckoned .use-of-nothing
+
+use-of-half : unusedOf (inTenths 1 10) (against (lotsLong 1) (negℤ (pos 5))) ≡ pos 9999 ∷ pos 0 ∷ []
+use-of-half = demand2 .reckoned .use-of-half
+
 printed-accepted : checked printed ≡ Accepted
 printed-accepted = demand2 .printed .accepted
 
@@ -159,14 +211,23 @@ empty-total = demand2 .empty-total
 
 module _ (ss : List (List Taker)) (ps : List Open) (sound : soundSteps ss ≡ true) where
   ours : Feasible ss ps (numbers ss ps)
-  ours = demand3 ss ps sound .ours
+  ours = demand3 ss ps sound .first .isOne
 
   larger : (ys : List ℕ) (k : ℕ) → Feasible ss ps ys → FirstDifference (numbers ss ps) ys k → getD ys k 0 < getD (numbers ss ps) k 0
-  larger = demand3 ss ps sound .larger
+  larger = demand3 ss ps sound .first .larger
 
   only : (xs : List ℕ) → Feasible ss ps xs
       → ((ys : List ℕ) (k : ℕ) → Feasible ss ps ys → FirstDifference xs ys k → getD ys k 0 < getD xs k 0) → xs ≡ numbers ss ps
-  only = demand3 ss ps sound .only
+  only = demand3 ss ps sound .first .only
+
+  first-words : wholeSteps ss ≡ true → FirstWords ss ps
+  first-words = demand3 ss ps sound .firstWords
+
+  enough : (xs : List ℕ) → Feasible ss ps xs → (m : Market) (t : ℕ) → totalUse m t ss xs ≤ pool m t ps
+  enough = demand3 ss ps sound .enough
+
+  nothing-left : wholeSteps ss ≡ true → NothingToPair ss ps
+  nothing-left = nothing-to-pair ss ps sound
 
   adds : (k : ℕ) → deltaAt (usedOf ss ps) k +ℤ deltaAt (unusedOf ss ps) k ≡ netAt ps k
   adds = demand3 ss ps sound .adds
@@ -203,6 +264,17 @@ dates file ok = demanded-file file ok .dates
 joined : (morning noon : List ℕ) → clear (joinedVerdict morning noon) ≡ true → Demanded (accountOf morning noon)
 joined = demanded-joined
 
+joined-exact : (morning noon : List ℕ) → PairClaims morning noon
+joined-exact = pair-claimed
+
+joined-asked : (morning noon : List ℕ) → PairDemand1 morning noon
+joined-asked = pair-demand1
+
+-- ---- everything, in one record
+
+all-promised : Roof
+all-promised = roof
+
 -- ---- determinacy: two outcomes that meet a promise are the same
 
 outcome : (x r s : Answer) (y after after′ : List ℤ) → (r ≡ x) × (after ≡ y) → (s ≡ x) × (after′ ≡ y) → (r ≡ s) × (after ≡ after′)
@@ -210,9 +282,6 @@ outcome = one-outcome
 
 largest : (totals : List ℤ) (r s : Place) → IsLargest totals (r .value) (r .number) → IsLargest totals (s .value) (s .number) → r ≡ s
 largest = one-largest
-
-scaled : (a b d r s : ℕ) → Scaled a b d r → Scaled a b d s → r ≡ s
-scaled = one-scaled
 
 -- ---- the table of pairs
 

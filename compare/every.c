@@ -129,6 +129,26 @@ static void ask_joined(const uint8_t *morning, size_t morning_bytes, const uint8
     }
 }
 
+/* A run of the file and the noon file, once as it is and once with a number too few lent. */
+static void ask_run(const uint8_t *file, size_t bytes, const uint8_t *noon, size_t noon_bytes)
+{
+    uint8_t *accounts = before_the_end(bytes + noon_bytes);
+    size_t *lengths = before_the_end(2 * sizeof *lengths), *outcomes = before_the_end(4 * sizeof *outcomes);
+    memcpy(accounts, file, bytes);
+    memcpy(accounts + bytes, noon, noon_bytes);
+    lengths[0] = bytes;
+    lengths[1] = noon_bytes;
+    for (size_t fewer = 0; fewer < 2; ++fewer) {
+        size_t numbers = 2 * FELGOTANY_MOST_FIGURES - fewer;
+        int64_t *figures = lent(numbers);
+        for (size_t i = 0; i < 4; ++i)
+            outcomes[i] = 7;
+        print_outcome("run", fewer, felgotany_run(accounts, bytes + noon_bytes, lengths, 2, figures, numbers, outcomes, 4));
+        printf("run %zu outcomes %zu %zu %zu %zu\n", fewer, outcomes[0], outcomes[1], outcomes[2], outcomes[3]);
+        print_numbers("run", fewer, figures, numbers);
+    }
+}
+
 int main(int argc, char **argv)
 {
     size_t bytes, noon_bytes;
@@ -145,5 +165,6 @@ int main(int argc, char **argv)
     ask_all(file, bytes, (const size_t[3]){0, 1, 0});
     ask_all(file, bytes, (const size_t[3]){0, 0, 1});
     ask_joined(file, bytes, noon, noon_bytes);
+    ask_run(file, bytes, noon, noon_bytes);
     return 0;
 }

@@ -60,7 +60,11 @@ extern "C" {
  *
  *   12  the noon file has a record of kind 5                                its first such record
  *   13  more than 640 records joined                                        how many records the joined account has
- *   21  an amount outside 0 to 1,000,000,000,000,000                        how many records the joined account has */
+ *   21  an amount outside 0 to 1,000,000,000,000,000                        how many records the joined account has
+ *
+ * A run of accounts is refused as a whole for one thing more, before any account is read; then for 10.
+ *
+ *   17  the lengths do not add up to the bytes that are lent                record 0 */
 typedef struct {
     size_t refusal;
     size_t record;
@@ -171,6 +175,21 @@ typedef struct {
  * hundredths of the currency, 0 to 1,000,000,000,000,000. */
 felgotany_call_outcome felgotany_call(const uint8_t *morning, size_t morning_bytes, const uint8_t *noon, size_t noon_bytes,
                                       int64_t last, int64_t threshold, int64_t collateral);
+
+/* A run of accounts in one call: the figures of each, as felgotany_figures gives them with FELGOTANY_MOST_FIGURES numbers lent.
+ *
+ * The accounts stand one after the other in `accounts`; `lengths` has the bytes of each, for `count` accounts. The figures of
+ * account i stand at the front of the FELGOTANY_MOST_FIGURES numbers that start at number FELGOTANY_MOST_FIGURES * i of
+ * `figures`, and nothing after them is changed; of a refused account nothing is written there. Its refusal and record, both 0
+ * if it is accepted, are the numbers 2 * i and 2 * i + 1 of `outcomes`: an array of felgotany_outcome can be lent for it, with
+ * two numbers for each.
+ *
+ * The whole run is refused, with record 0, where the lengths do not add up to `bytes`, whatever they are (17); then where fewer
+ * than FELGOTANY_MOST_FIGURES * count numbers are lent for the figures or fewer than 2 * count for the outcomes (10). Then no
+ * account is read and nothing is written. A run of no accounts is answered. `lengths` and `outcomes` are owed what is owed of
+ * `file` and `out`, each aligned as size_t; no two of the four overlap. */
+felgotany_outcome felgotany_run(const uint8_t *accounts, size_t bytes, const size_t *lengths, size_t count, int64_t *figures,
+                                size_t numbers, size_t *outcomes, size_t outcome_numbers);
 
 #ifdef __cplusplus
 }

@@ -112,6 +112,16 @@ extern "C" {
         threshold: i64,
         collateral: i64,
     ) -> CallOutcome;
+    fn felgotany_run(
+        accounts: *const u8,
+        bytes: usize,
+        lengths: *const usize,
+        count: usize,
+        figures: *mut i64,
+        numbers: usize,
+        outcomes: *mut usize,
+        outcome_numbers: usize,
+    ) -> Outcome;
 }
 
 pub fn check(file: &[u8]) -> Outcome {
@@ -153,6 +163,22 @@ pub fn all(file: &[u8], figures: &mut [i64], books: &mut [i64], uses: &mut [i64]
             books.len(),
             uses.as_mut_ptr(),
             uses.len(),
+        )
+    }
+}
+
+/// A run of accounts: its outcome; the figures of each account stand in its place, and so do its refusal and record.
+pub fn run(accounts: &[u8], lengths: &[usize], figures: &mut [i64], outcomes: &mut [usize]) -> Outcome {
+    unsafe {
+        felgotany_run(
+            accounts.as_ptr(),
+            accounts.len(),
+            lengths.as_ptr(),
+            lengths.len(),
+            figures.as_mut_ptr(),
+            figures.len(),
+            outcomes.as_mut_ptr(),
+            outcomes.len(),
         )
     }
 }

@@ -26,6 +26,7 @@ fn main() -> Result<(), Box<dyn std::error::Error>> {
         ask_all(&mut out, &checked, fewer);
     }
     ask_joined(&mut out, &file, &noon, [figures, book, uses]);
+    ask_run(&mut out, &file, &noon, figures);
     print!("{out}");
     Ok(())
 }
@@ -144,4 +145,26 @@ fn ask_joined(out: &mut String, morning: &[u8], noon: &[u8], [figures, book, use
         say_pair(out, "call", place, &called);
         list(out, "call", place, &[called.map_or(0, |call| call.0)]);
     }
+}
+
+/// A run of both files, with every lent number afterwards; with a number too few lent nothing is written.
+fn ask_run(out: &mut String, file: &[u8], noon: &[u8], places: usize) {
+    let answers = [file, noon].map(|file| independent::check(file).map(|account| held_figures(&account)));
+    let outcomes: Vec<String> = answers
+        .iter()
+        .map(|answer| answer.as_ref().map_or_else(told, |_| ACCEPTED))
+        .map(|Outcome { refusal, record }| format!(" {refusal} {record}"))
+        .collect();
+    let mut lent = vec![BEFORE; 2 * places];
+    for (place, answer) in answers.iter().enumerate() {
+        for (number, figure) in lent[places * place..].iter_mut().zip(answer.as_ref().unwrap_or(&vec![])) {
+            *number = *figure;
+        }
+    }
+    say(out, "run", 0, ACCEPTED);
+    writeln!(out, "run 0 outcomes{}", outcomes.concat()).unwrap();
+    list(out, "run", 0, &lent);
+    say(out, "run", 1, Outcome { refusal: 10, record: 0 });
+    writeln!(out, "run 1 outcomes 7 7 7 7").unwrap();
+    list(out, "run", 1, &vec![BEFORE; 2 * places - 1]);
 }

@@ -18,6 +18,7 @@ pub enum Answer {
     NoSuchQuestion(usize),
     NoonSpread(usize),
     TooManyJoined(usize),
+    LengthsDiffer,
     AmountOutside(usize),
 }
 
@@ -40,6 +41,7 @@ pub fn number_of(a: Answer) -> usize
         Answer::NoSuchQuestion(_) => 11,
         Answer::NoonSpread(_) => 12,
         Answer::TooManyJoined(_) => 13,
+        Answer::LengthsDiffer => 17,
         Answer::AmountOutside(_) => 21,
     }
 }
@@ -63,6 +65,7 @@ pub fn record_of(a: Answer) -> usize
         Answer::NoSuchQuestion(n) => n,
         Answer::NoonSpread(k) => k,
         Answer::TooManyJoined(n) => n,
+        Answer::LengthsDiffer => 0,
         Answer::AmountOutside(n) => n,
     }
 }

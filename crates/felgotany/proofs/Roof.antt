@@ -2,8 +2,8 @@
 -- Assumes nothing.
 use Prim.Native.Nat.{ℕ}
 use mathlib.Core.List.{List}
-use Rattle.exact.proofs.Determined.{one-result, one-outcome, one-largest, one-scaled}
-use Rattle.spread.proofs.Booking.{took-one, booked-one}
+use Rattle.exact.proofs.Determined.{one-result, one-outcome, one-largest}
+use Rattle.spread.proofs.Booking.{booked-one}
 use Rattle.spread.proofs.Stepping.{stepped-one}
 use Rattle.account.proofs.Claimed.{claimed}
 use Rattle.account.proofs.OneJoined.{determined}
@@ -42,8 +42,6 @@ one-outcomes : OneOutcome
 one-outcomes =
     record {
       largest = one-largest;
-      scaled = one-scaled;
-      took = took-one;
       booked = booked-one;
       stepped = stepped-one;
       check = determined;

@@ -9,17 +9,13 @@ use mathlib.Core.Bool.{Bool, true}
 use mathlib.Core.List.{List}
 use lib.IntN.{ℤ}
 use Rattle.exact.specs.Largest.{IsLargest}
-use Rattle.exact.specs.Wide.{Scaled}
 use Rattle.exact.specs.declared.largest.Place.{Place as Largest}
 use Rattle.spread.specs.Book.{Booked}
-use Rattle.spread.specs.Cells.{Taken}
-use Rattle.spread.specs.Steps.{Taker}
 use Rattle.spread.specs.Uses.{Stepped}
 use Rattle.spread.specs.declared.Prompts.{Prompts}
 use Rattle.spread.specs.declared.Spread.{Spread}
 use Rattle.spread.specs.declared.Table.{Table}
 use Rattle.spread.specs.declared.book.Book.{Book}
-use Rattle.spread.specs.declared.pools.Took.{Took}
 use Rattle.spread.specs.declared.stepwise.Step.{Step}
 use Rattle.account.specs.Check.{checked}
 use Rattle.account.specs.Claims.{Claims}
@@ -82,10 +78,7 @@ pub record Equations : Type 1 where
 pub record OneOutcome : Type 0 where
   -- numbers
   pub largest : (totals : List ℤ) (r s : Largest) → IsLargest totals (r .value) (r .number) → IsLargest totals (s .value) (s .number) → r ≡ s
-  pub scaled : (a b d r s : ℕ) → Scaled a b d r → Scaled a b d s → r ≡ s
   -- the spread steps
-  pub took : (ks : List Taker) (cells : List ℕ) (r s : Took) → Taken ks cells (r .left .cell) (r .number .0)
-      → Taken ks cells (s .left .cell) (s .number .0) → r ≡ s
   pub booked : (p : Prompts) (t : Table) (r s : Book) → Booked p t r → Booked p t s → r ≡ s
   pub stepped : (p : Prompts) (s : Spread) (second : Bool) (r q : Step) → Stepped p s second r → Stepped p s second q → r ≡ q
   -- the check, of one file and of two

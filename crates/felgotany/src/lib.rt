@@ -1,5 +1,5 @@
-// Felgotany as C sees it: the check, the figures and the delta book over any bytes, and the same of a morning's file with a noon
-// file. include/felgotany.h says the same in C's words.
+// Felgotany as C sees it: the check, the figures and the delta book over any bytes, the same of a morning's file with a noon file,
+// and the figures of a run of accounts. include/felgotany.h says the same in C's words.
 use account::answers::Answer;
 use account::answers::number_of;
 use account::answers::record_of;
@@ -14,6 +14,7 @@ use margin::noon::cover_call;
 use margin::questions::book;
 use margin::questions::figures;
 use margin::questions::uses;
+use runs::answer_run;
 ghost use mathlib.Core.Path.{_≡_};
 ghost use Prim.Native.Nat.{_≤_};
 ghost use lib.ListN.{length};
@@ -24,6 +25,7 @@ ghost use Rattle.margin.specs.Bounds.{longestFigures, longestBook, longestUses}
 ghost use Rattle.margin.specs.Held.{booksAnswer, booksAfter, allUsesAnswer, allUsesAfter};
 ghost use Rattle.account.specs.Noon.{promptPlace};
 ghost use Rattle.margin.specs.Noon.{joinedFigures, afterJoinedFigures, joinedBook, afterJoinedBook, joinedUses, afterJoinedUses, joinedCall};
+ghost use Rattle.runs.specs.Runs.{runAnswer, runFigures, runOutcomes};
 ghost use Rattle.felgotany.specs.Outcomes.{Tells, TellsOf, TellsCall, TellsPlace};
 
 // The number of a refusal, 0 where nothing is refused, and the record that it names.
@@ -239,4 +241,20 @@ pub extern "C" fn felgotany_call<'a>(
         outcome: tell_of(verdict),
         call: amount.0,
     }
+}
+
+// The figures of a run of accounts, each in its place of `figures`, with its refusal and record in its place of `outcomes`. What
+// is refused as a whole writes nothing.
+#[no_mangle]
+pub extern "C" fn felgotany_run(
+    accounts: &[u8],
+    lengths: &[usize],
+    figures: &mut [i64],
+    outcomes: &mut [usize],
+) -> Outcome
+    ensures { λ r. ⌜ Tells (runAnswer (now (accounts .entry)) (now (lengths .entry)) (length (now (figures .entry))) (length (now (outcomes .entry)))) r ⌝ }
+    ensures { λ r. ⌜ now (figures .exit) ≡ runFigures (now (accounts .entry)) (now (lengths .entry)) (length (now (outcomes .entry))) (now (figures .entry)) ⌝ }
+    ensures { λ r. ⌜ now (outcomes .exit) ≡ runOutcomes (now (accounts .entry)) (now (lengths .entry)) (length (now (figures .entry))) (now (outcomes .entry)) ⌝ }
+{
+    tell(answer_run(accounts, lengths, figures, outcomes))
 }

@@ -14,7 +14,7 @@ use lib.Dec.{ltb}
 use lib.ListN.{length, getD, take}
 use borrow.Author.Tests.{eq-eqb, ltb-true, not-true}
 use Rattle.exact.specs.Lists.{any}
-use Rattle.spread.specs.Demand.{sameMarket, draws, legUse, stepUse, totalUse, unrounded, legUnrounded, stepUnrounded}
+use Rattle.spread.specs.Demand.{sameMarket, draws, stepUse, totalUse, unrounded, legUnrounded, stepUnrounded}
 use Rattle.spread.specs.Demand.{FirstDifference, wholeStep, wholeSteps, soundLegs, soundStep, soundSteps}
 use Rattle.spread.specs.Steps.{Market, long, short, Open, Taker, pool, room, roomFor, useOf, legTakes, formed, after, numbers}
 use Rattle.spread.proofs.Both.{and-left, and-right}

@@ -11,7 +11,7 @@ use lib.ListN.{replicate}
 use borrow.Author.Tests.{ltb-true, ltb-false}
 use Rattle.spread.specs.Accepted.{openOf, spreadsOf, stepsOf, sound}
 use Rattle.spread.specs.Book.{numbersOf, usedIn, unusedIn, entries, spreadsEntry, deltaEntry, Booked, Refused, Run, Wanted, Spent}
-use Rattle.spread.specs.Cells.{cellOf, cellAt, Pooled, numbersIn, Taken}
+use Rattle.spread.specs.Cells.{cellOf, cellAt, Pooled, numbersIn}
 use Rattle.spread.specs.Demand.{totalUse, Demand3, soundSteps}
 use Rattle.spread.specs.Spend.{spend, deltas}
 use Rattle.spread.specs.Steps.{Market, Open, Taker, pool, numbers, left, minus, usedOf, unusedOf}

@@ -6,12 +6,12 @@ use native.Mathlib.Omega.{arith}
 use mathlib.Core.Bool.{Bool, true, false}
 use mathlib.Core.List.{List, [], _∷_, map}
 use mathlib.Core.Path.{_≡_, ap, subst⁻¹}
-use lib.ListN.{length, getD, set, take}
+use lib.ListN.{length, getD, set}
 use lib.Seq.{take-all}
 use Rattle.exact.specs.Lists.{least}
 use Rattle.spread.specs.Accepted.{openOf, soundPrompts}
 use Rattle.spread.specs.Cells.{cellOf, mostPool, mostNumber, Small, Pooled, poolIn, roomIn, formedIn, lessIn, afterIn, Taken}
-use Rattle.spread.specs.Steps.{Open, Taker, pool, room, legTakes}
+use Rattle.spread.specs.Steps.{Taker, pool, room, legTakes}
 use Rattle.spread.specs.declared.Prompts.{Prompts}
 use Rattle.spread.proofs.Every.{open-length}
 use Rattle.spread.proofs.Gathering.{few, all-sound, pool-most}

@@ -102,10 +102,11 @@ pub fn hold_file() -> Result<(), String> {
         let missing = |what: &str| format!("docs/FILE.md has not:{heading}{what}");
         let section = document.split(&heading).nth(1).ok_or_else(|| missing(""))?;
         let section = section.split("\n## ").next().unwrap_or("");
-        // byte 2 is the class of a row and the number of legs of a spread
-        for byte_2 in 0..=3 {
+        // byte 2 is the class of a row and the number of legs of a spread, byte 8 the tenths of an entry
+        for (byte_2, byte_8) in (0..=3).flat_map(|byte_2| [(byte_2, 0), (byte_2, 1)]) {
             let mut record = [0; RECORD_BYTES];
             record[..3].copy_from_slice(&[kind.kind, 0, byte_2]);
+            record[8] = byte_8;
             for (column, field) in columns::fields(Record(&record)) {
                 let (begins, range) = line_of(column, field);
                 let holds = |line: &str| line.starts_with(&begins) && line.contains(&range);

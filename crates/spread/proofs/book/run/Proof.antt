@@ -4,7 +4,6 @@ use Prim.Native.Nat.{_-_, _≤_}
 use native.Mathlib.Omega.{arith}
 use mathlib.Core.Path.{_≡_, sym, _∙_}
 use lib.ListN.{length, length-map, take}
-use borrow.Author.Needs.{needs}
 use Rattle.spread.specs.Accepted.{spreadsOf}
 use Rattle.spread.specs.Cells.{Small}
 use Rattle.spread.proofs.Bounds.{small-taken}

@@ -1,0 +1,3 @@
+mod PlaceLaws
+mod RunLaws
+pub mod Claims

@@ -32,3 +32,4 @@ pub mod UsesLaws
 pub mod NeedLaws
 pub mod PlaceLaws
 pub mod NoonLaws
+pub mod Turns

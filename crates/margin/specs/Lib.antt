@@ -26,3 +26,4 @@ pub mod Held
 pub mod Uses
 pub mod Needs
 pub mod Noon
+pub mod Turns

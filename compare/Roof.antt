@@ -32,7 +32,8 @@ use Rattle.spread.proofs.Demand3.{demand3}
 use Rattle.spread.proofs.Stepping.{who-paid}
 use Rattle.margin.specs.Books.{answered, book, tableQuestion}
 use Rattle.margin.specs.Charges.{spreadCharge}
-use Rattle.margin.specs.Contract.{asTier, contractNet, contracts, interpromptOf, marginOf, minimumOf, numbersOf, opensOf, partsOf, promptOf, stepsOf, tableSteps, unusedDeltas}
+use Rattle.margin.specs.Contract.{asTier, contractNet, contracts, interpromptOf, marginOf, minimumOf, numbersOf, opensOf}
+use Rattle.margin.specs.Contract.{partsOf, promptOf, stepsOf, tableSteps, unusedDeltas}
 use Rattle.margin.specs.Credit.{credit}
 use Rattle.margin.specs.Deltas.{netDeltas, rowDelta}
 use Rattle.margin.specs.Demands.{Demanded, Holds}
@@ -213,11 +214,13 @@ module _ (ss : List (List Taker)) (ps : List Open) (sound : soundSteps ss ≡ tr
 -- and of every accepted account and each of its tables, in one file and in two
 
 interprompt : (file : List ℕ) → checked file ≡ Accepted → (c : ℕ) → answered (records file) c ≡ true → (c ≡ tableQuestion → ⊥)
-    → Holds (book (records file) c) (uses (records file) c) (partsOf (records file) c .nets) (stepsOf (partsOf (records file) c)) (opensOf (partsOf (records file) c))
+    → Holds (book (records file) c) (uses (records file) c) (partsOf (records file) c .nets) (stepsOf (partsOf (records file) c))
+    (opensOf (partsOf (records file) c))
 interprompt file ok = demanded-file file ok .interprompt
 
 intercontract : (file : List ℕ) → checked file ≡ Accepted
-    → Holds (book (records file) tableQuestion) (uses (records file) tableQuestion) (map contractNet (contracts (records file))) (tableSteps (entriesOf (records file))) (map asTier (contracts (records file)))
+    → Holds (book (records file) tableQuestion) (uses (records file) tableQuestion) (map contractNet (contracts (records file)))
+    (tableSteps (entriesOf (records file))) (map asTier (contracts (records file)))
 intercontract file ok = demanded-file file ok .intercontract
 
 dates : (file : List ℕ) → checked file ≡ Accepted → (c : ℕ) → c ≤ mostContract → Later (promptsOf c (records file))

@@ -31,15 +31,18 @@ use Rattle.spread.proofs.Demand3.{demand3}
 use Rattle.spread.proofs.Stepping.{who-paid}
 use Rattle.margin.specs.Books.{answered, book, tableQuestion}
 use Rattle.margin.specs.Charges.{spreadCharge}
-use Rattle.margin.specs.Contract.{asTier, contractNet, contracts, interpromptOf, marginOf, numbersOf, opensOf, partsOf, promptOf, stepsOf, tableSteps, unusedDeltas}
+use Rattle.margin.specs.Contract.{asTier, contractNet, contracts, interpromptOf, marginOf, minimumOf, numbersOf, opensOf}
+use Rattle.margin.specs.Contract.{partsOf, promptOf, stepsOf, tableSteps, unusedDeltas}
 use Rattle.margin.specs.Credit.{credit, unitPriceRisk}
 use Rattle.margin.specs.Deltas.{netDeltas, rowDelta}
 use Rattle.margin.specs.Demands.{Demanded, Holds}
 use Rattle.margin.specs.Figures.{figures}
+use Rattle.margin.specs.Noon.{coverCall}
 use Rattle.margin.specs.Pairs.{pairOf}
 use Rattle.margin.specs.Questions.{afterwards, answerTo, figuresAnswer}
 use Rattle.margin.specs.Reckoned.{against, byPriority, caseThree, fefAgainstAex, gains, inTenths, lotsLong, lotsShort, oneTier, printed, shortCall, threeTiers}
 use Rattle.margin.specs.Scanning.{activeScenario, scanningRisk}
+use Rattle.margin.specs.Turns.{mixed}
 use Rattle.margin.specs.Uses.{uses}
 use Rattle.account.specs.PairClaims.{PairClaims}
 use Rattle.account.proofs.PairClaimed.{pair-claimed}
@@ -54,6 +57,7 @@ use Rattle.felgotany.specs.Roof.{Roof}
 use Rattle.felgotany.proofs.Roof.{roof}
 use Rattle.margin.proofs.Demands.{demand1, demand2, demanded-file, demanded-joined}
 use Rattle.margin.proofs.PairLaws.{fixes-15, fixes-16, own-inverse}
+use Rattle.margin.proofs.Turns.{turns}
 
 -- ---- demand 1, exactness: each refusal exactly when the paper's table says
 
@@ -207,6 +211,26 @@ empty-accepted = demand2 .empty-accepted
 empty-total : figures (records []) ≡ pos 0 ∷ []
 empty-total = demand2 .empty-total
 
+-- and where the paper's words turn
+
+short-lots : minimumOf mixed ≡ 2000
+short-lots = turns .short-lots
+
+half-credit : credit 17 1000 100 1000 ≡ 9
+half-credit = turns .half-credit
+
+at-the-threshold : coverCall 100 60 40 0 ≡ 0
+at-the-threshold = turns .at-the-threshold
+
+above-the-threshold : coverCall 101 60 40 0 ≡ 101
+above-the-threshold = turns .above-the-threshold
+
+covered : coverCall 101 60 40 101 ≡ 0
+covered = turns .covered
+
+uncovered : coverCall 101 60 40 100 ≡ 1
+uncovered = turns .uncovered
+
 -- ---- demand 3, of any steps that can be run
 
 module _ (ss : List (List Taker)) (ps : List Open) (sound : soundSteps ss ≡ true) where
@@ -251,11 +275,13 @@ module _ (ss : List (List Taker)) (ps : List Open) (sound : soundSteps ss ≡ tr
 -- and of every accepted account and each of its tables, in one file and in two
 
 interprompt : (file : List ℕ) → checked file ≡ Accepted → (c : ℕ) → answered (records file) c ≡ true → (c ≡ tableQuestion → ⊥)
-    → Holds (book (records file) c) (uses (records file) c) (partsOf (records file) c .nets) (stepsOf (partsOf (records file) c)) (opensOf (partsOf (records file) c))
+    → Holds (book (records file) c) (uses (records file) c) (partsOf (records file) c .nets) (stepsOf (partsOf (records file) c))
+    (opensOf (partsOf (records file) c))
 interprompt file ok = demanded-file file ok .interprompt
 
 intercontract : (file : List ℕ) → checked file ≡ Accepted
-    → Holds (book (records file) tableQuestion) (uses (records file) tableQuestion) (map contractNet (contracts (records file))) (tableSteps (entriesOf (records file))) (map asTier (contracts (records file)))
+    → Holds (book (records file) tableQuestion) (uses (records file) tableQuestion) (map contractNet (contracts (records file)))
+    (tableSteps (entriesOf (records file))) (map asTier (contracts (records file)))
 intercontract file ok = demanded-file file ok .intercontract
 
 dates : (file : List ℕ) → checked file ≡ Accepted → (c : ℕ) → c ≤ mostContract → Later (promptsOf c (records file))

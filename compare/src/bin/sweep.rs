@@ -116,23 +116,26 @@ fn spreads(name: &'static str, legs: u8) -> Sort {
     Sort { name, fields, unused, file: sides([1, 2, 1]), turned: sides([2, 1, 2]) }
 }
 
-/// "1, 2: contracts; 3: credit percent 0..100; 4-5, 6-7: their ratios"
-fn entries() -> Sort {
+/// "1, 2: contracts; 3: credit percent 0..100; 4-5, 6-7: their ratios"; 2026-03: "Byte 8 of kind 5 set to 1 says that its ratios
+/// are tenths, 1..1000; 0 keeps whole ratios."
+fn entries(name: &'static str, tenths: u8) -> Sort {
+    let most = if tenths == 1 { 1_000 } else { 100 };
     let entry = |first, second| {
         let mut entry = [0; 96];
-        entry[..8].copy_from_slice(&[5, first, second, 50, 1, 0, 1, 0]);
+        entry[..9].copy_from_slice(&[5, first, second, 50, 1, 0, 1, 0, tenths]);
         [listed(), vec![entry]].concat()
     };
     Sort {
-        name: "intercontract spread",
+        name,
         fields: vec![
             field("first contract", (1, 1), (0, 15)),
             field("second contract", (2, 2), (0, 15)),
             field("credit percent", (3, 3), (0, 100)),
-            field("first ratio", (4, 5), (1, 100)),
-            field("second ratio", (6, 7), (1, 100)),
+            field("first ratio", (4, 5), (1, most)),
+            field("second ratio", (6, 7), (1, most)),
+            field("ratios in tenths", (8, 8), (0, 1)),
         ],
-        unused: &[(8, 95)],
+        unused: &[(9, 95)],
         file: entry(7, 3),
         turned: entry(3, 7),
     }
@@ -227,8 +230,8 @@ fn ends(sort: &Sort) -> Vec<Case> {
 /// Whether a side or a contract at the end of its range asks the other legs or the other contract to be turned.
 fn accepted_turned(sort: &Sort, bytes: (usize, usize), number: i64) -> bool {
     let there = sort.file[sort.file.len() - 1][bytes.0];
-    match sort.name {
-        "intercontract spread" => bytes.0 == 2,
+    match sort.file[sort.file.len() - 1][0] {
+        5 => bytes.0 == 2,
         _ => [9, 13, 17].contains(&bytes.0) && bytes.0 == bytes.1 && i64::from(there) != number,
     }
 }
@@ -261,7 +264,7 @@ fn clashes() -> Vec<Case> {
         }
         cases.push(Case { what: what.to_string(), file: file.concat(), refusal, record: if refusal == 0 { 0 } else { record } });
     }
-    let itself = entries();
+    let itself = entries("", 0);
     cases.push(case("a contract with itself".to_string(), &itself.file, (2, 2), 7, 8));
     cases
 }
@@ -316,15 +319,19 @@ fn main() -> ExitCode {
         rows("put row", 2),
         spreads("interprompt spread of 2 legs", 2),
         spreads("interprompt spread of 3 legs", 3),
-        entries(),
+        entries("intercontract spread", 0),
+        entries("intercontract spread in tenths", 1),
     ];
     if let Some(sort) = sorts.iter().find(|sort| !written_once(sort)) {
         println!("{}: a byte is in no field and not unused, or in two", sort.name);
         return ExitCode::FAILURE;
     }
-    // the unused bytes of a row are the same for the three
-    let unused: Vec<Case> =
-        sorts.iter().filter(|sort| !["call row", "put row"].contains(&sort.name)).flat_map(unused_bytes).collect();
+    // the unused bytes of a row are the same for the three, those of an intercontract spread for the two
+    let unused: Vec<Case> = sorts
+        .iter()
+        .filter(|sort| !["call row", "put row", "intercontract spread in tenths"].contains(&sort.name))
+        .flat_map(unused_bytes)
+        .collect();
     let mut ranges: Vec<Case> = sorts.iter().flat_map(ends).collect();
     ranges.extend(sorts.iter().filter(|sort| sort.name.ends_with("legs")).flat_map(legs));
     ranges.extend(sorts.iter().filter(|sort| sort.name.ends_with("row")).flat_map(classes));

@@ -35,3 +35,4 @@ pub mod NoonLaws
 pub mod PairDemands
 pub mod Skipped
 pub mod Unpaired
+pub mod Turns

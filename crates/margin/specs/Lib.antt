@@ -29,3 +29,4 @@ pub mod Noon
 pub mod PairDemands
 pub mod Skipped
 pub mod Unpaired
+pub mod Turns

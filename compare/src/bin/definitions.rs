@@ -10,7 +10,7 @@ const MOST_NUMBERS: usize = 160;
 const MOST_USES: usize = 2048;
 const TABLE_QUESTION: u64 = 16;
 
-const HEADER: &str = "-- What the definitions compute, held against the independent program.
+const HEADER: &str = "-- What the definitions compute, checked against the independent program.
 use Prim.Native.Nat.{ℕ}
 use mathlib.Core.Path.{_≡_, refl}
 use mathlib.Core.Bool.{true, false}

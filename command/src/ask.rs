@@ -8,8 +8,8 @@ use crate::{lines, noon, output, page, sheet, table};
 use account_text::explain::{accepted, explain};
 use account_text::{read, wording};
 use felgotany::refusals::{rule, TOO_LONG};
-use felgotany::Outcome;
-use independent::format::RECORD_BYTES;
+use felgotany::{Outcome, TABLE};
+use independent::format::{records, CONTRACT, NUMBER, RECORD_BYTES};
 use indicatif::ProgressBar;
 use std::path::{Path, PathBuf};
 
@@ -163,7 +163,13 @@ fn book(input: &Input, question: Option<usize>, form: Form) -> Result<String, Fa
 /// A question that an accepted account does not answer.
 fn unlisted(input: &Input, question: usize, Outcome { refusal, record }: Outcome) -> Failure {
     let rule = rule(refusal).unwrap_or_default();
-    let told = format!("{}: refusal {refusal}, record {record}: {rule}\n  the question is {question}", input.name);
+    let records = records(&input.file);
+    let listed = records.iter().filter(|record| record.kind() == CONTRACT);
+    let listed: String = listed.map(|record| format!("{}, ", record.get(NUMBER))).collect();
+    let told = format!(
+        "{}: refusal {refusal}, record {record}: {rule}\n  the question is {question}; this account answers {listed}{TABLE}",
+        input.name
+    );
     Failure::refused(told, format!("R {refusal} {record}"))
 }
 

@@ -42,7 +42,7 @@ impl Input {
             false => Input::of_file(name, bytes)?,
         };
         if input.file.is_empty() && !empty {
-            let told = format!("{}: no records: an empty account is taken with --empty", input.name);
+            let told = format!("{}: no records; --empty says that an empty account is meant", input.name);
             return Err(Failure::not_read(told));
         }
         Ok(input)
@@ -86,11 +86,10 @@ impl Input {
     pub fn refusal_in_words(&self, verdict: Outcome) -> String {
         let Outcome { refusal, record } = verdict;
         let refused = refused(&self.file, verdict).unwrap_or_default();
-        let place = match refusal {
-            TOO_LONG | NOT_WHOLE_RECORDS => format!("record {record}"),
-            _ => self.place(record),
-        };
-        let mut told = format!("refusal {refusal}, {place}{refused}");
+        if matches!(refusal, TOO_LONG | NOT_WHOLE_RECORDS) {
+            return format!("refusal {refusal}, record {record}{refused}");
+        }
+        let mut told = format!("refusal {refusal}, {}{refused}", self.place(record));
         let others = others(&self.file, verdict);
         for (record, fault) in others.iter().take(MOST_OTHERS) {
             told += &format!("\n  also {}: {fault}", self.place(*record));

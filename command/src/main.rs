@@ -46,10 +46,12 @@ fn ended(result: Result<(), Failure>) -> Status {
     result.map_or_else(tell_failure, |()| Status::Answered)
 }
 
-/// Tells a failure, unless the answer itself has said it.
+/// Tells a failure; lines that begin with spaces go on with the one before.
 fn tell_failure(failure: Failure) -> Status {
-    if !failure.told.is_empty() {
-        output::tell(&format!("felgotany: {}\n", failure.told));
-    }
+    let told = failure.told.lines().map(|line| match line.starts_with(' ') {
+        true => format!("{line}\n"),
+        false => format!("felgotany: {line}\n"),
+    });
+    output::tell(&told.collect::<String>());
     failure.status
 }

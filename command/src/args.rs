@@ -21,6 +21,7 @@ pub struct Call {
 pub enum Asked {
     /// Say whether accounts are accepted, or what is refused
     Check {
+        /// Account files or their text form; - is standard input
         #[arg(value_name = "ACCOUNT", default_value = "-")]
         accounts: Vec<PathBuf>,
         #[command(flatten)]
@@ -30,6 +31,7 @@ pub enum Asked {
     },
     /// The margin of accounts: each contract's figures and the total
     Margin {
+        /// Account files or their text form; - is standard input
         #[arg(value_name = "ACCOUNT", default_value = "-")]
         accounts: Vec<PathBuf>,
         #[command(flatten)]
@@ -39,6 +41,7 @@ pub enum Asked {
     },
     /// The figures and the delta books, with who paid for which spread
     Book {
+        /// An account file or its text form; - is standard input
         #[arg(default_value = "-")]
         account: PathBuf,
         /// Only this delta book: 0 to 15 for that contract, 16 for the intercontract spreads
@@ -50,10 +53,12 @@ pub enum Asked {
     },
     /// The morning's account with a noon file joined to it, and the call on it
     Noon {
+        /// The morning's account file or its text form
         morning: PathBuf,
+        /// The noon file or its text form: the contracts that traded, without intercontract spreads
         noon: PathBuf,
         /// The last cover call, the threshold and the revalued collateral, in whole hundredths of the currency
-        #[arg(long, num_args = 3, value_names = ["LAST", "THRESHOLD", "COLLATERAL"], allow_negative_numbers = true)]
+        #[arg(long, num_args = 3, value_names = ["LAST", "THRESHOLD", "COLLATERAL"], allow_negative_numbers = true, conflicts_with = "csv")]
         call: Option<Vec<i64>>,
         #[command(flatten)]
         form: Form,
@@ -62,6 +67,7 @@ pub enum Asked {
     },
     /// Say in words why an account is refused, and show the record
     Explain {
+        /// An account file or its text form; - is standard input
         #[arg(default_value = "-")]
         account: PathBuf,
         /// Print every refusal in words in place of explaining an account
@@ -72,6 +78,7 @@ pub enum Asked {
     },
     /// Print an account as text that can be edited and written again
     Read {
+        /// An account file or its text form; - is standard input
         #[arg(default_value = "-")]
         account: PathBuf,
         /// Where the text goes, in place of standard output

@@ -3,7 +3,7 @@
 use crate::failure::Failure;
 use account_text::explain::{others, refused};
 use account_text::write::{write, Misread, Written};
-use felgotany::refusals::{NOT_WHOLE_RECORDS, TOO_LONG};
+use felgotany::refusals::{rule, NOT_WHOLE_RECORDS, TOO_LONG};
 use felgotany::Outcome;
 use independent::format::MOST_BYTES;
 use std::fs::File;
@@ -85,7 +85,8 @@ impl Input {
     /// A refusal of the check in words: what is refused, the fault, and other records with a fault of their own.
     pub fn refusal_in_words(&self, verdict: Outcome) -> String {
         let Outcome { refusal, record } = verdict;
-        let refused = refused(&self.file, verdict).unwrap_or_default();
+        let refused = refused(&self.file, verdict)
+            .unwrap_or_else(|| format!(": {}\n  the command finds no such fault", rule(refusal).unwrap_or("no such refusal")));
         if matches!(refusal, TOO_LONG | NOT_WHOLE_RECORDS) {
             return format!("refusal {refusal}, record {record}{refused}");
         }

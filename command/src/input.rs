@@ -2,6 +2,7 @@
 
 use crate::failure::Failure;
 use account_text::explain::{others, refused};
+use account_text::wording::counted;
 use account_text::write::{write, Misread, Written};
 use felgotany::refusals::{rule, NOT_WHOLE_RECORDS, TOO_LONG};
 use felgotany::Outcome;
@@ -13,8 +14,9 @@ use std::path::Path;
 /// Longer texts are not read: 640 records take a tenth of this.
 const LONGEST_TEXT: usize = 4 << 20;
 
-/// How many further faults of a refused account are told.
+/// How many further faults of a refused account are told, and how many lines of a text.
 const MOST_OTHERS: usize = 20;
+const MOST_LINES: usize = 100;
 
 /// The bytes of an account, and the text that they were written from.
 pub struct Input {
@@ -110,10 +112,12 @@ impl Input {
     }
 }
 
-/// Every line of a text that cannot be written.
+/// Every line of a text that cannot be written, as far as a person would read on.
 fn misread_lines(name: &str, misread: &[Misread]) -> String {
-    let lines: Vec<String> = misread.iter().map(|misread| format!("{name}: {misread}")).collect();
-    lines.join("\n")
+    let told = misread.iter().take(MOST_LINES).map(|misread| format!("{name}: {misread}"));
+    let more = misread.len().saturating_sub(MOST_LINES);
+    let more = (more > 0).then(|| format!("{name}: and {}", counted(more, "more line")));
+    told.chain(more).collect::<Vec<_>>().join("\n")
 }
 
 fn read_up_to(from: &mut impl Read, most: usize) -> io::Result<Vec<u8>> {

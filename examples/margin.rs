@@ -1,131 +1,23 @@
 //! margin [-b QUESTION | -u QUESTION] [-l NUMBERS] [FILE]: the figures of an account file, or the delta book of a question as
 //! one line, or what each step takes of each prompt there, or what is refused. Without FILE the account has no records.
-//! NUMBERS are lent for the answer, or as many as it needs.
+//! Memory for NUMBERS numbers is provided for the answer, or for as many as it needs.
 //!
 //! margin -n NOON [-l NUMBERS] [FILE]: the figures of FILE, the morning's, joined with a noon file.
 //! margin -n NOON -c LAST THRESHOLD COLLATERAL [FILE]: the call on them. A refusal of two files says which first.
+//!
+//! What is refused is also said in words on standard error. Exit status: 0 answered, 1 refused, 2 called wrongly, 3 something
+//! could not be read or written.
 
-mod felgotany {
-    //! include/felgotany.h for Rust: a slice is its pointer and its length, so every call is safe.
+use felgotany::refusals::rule;
+use felgotany::{Outcome, Pair, PairOutcome, TABLE};
+use std::io::Write;
+use std::process::ExitCode;
 
-    #[repr(C)]
-    pub struct Outcome {
-        pub refusal: usize,
-        pub record: usize,
-    }
+/// The exit status and what is told where there is no answer.
+type Fault = (u8, String);
 
-    /// File 0 is the joined account, 1 the morning's file, 2 the noon's.
-    #[repr(C)]
-    pub struct PairOutcome {
-        pub file: usize,
-        pub refusal: usize,
-        pub record: usize,
-    }
-
-    #[repr(C)]
-    pub struct CallOutcome {
-        pub outcome: PairOutcome,
-        pub call: u64,
-    }
-
-    #[repr(C)]
-    pub struct PromptPlace {
-        pub file: usize,
-        pub first: usize,
-        pub records: usize,
-    }
-
-    /// A morning's file and a noon file.
-    pub struct Pair<'a> {
-        pub morning: &'a [u8],
-        pub noon: &'a [u8],
-    }
-
-    extern "C" {
-        fn felgotany_figures_needed(file: *const u8, bytes: usize) -> usize;
-        fn felgotany_figures(file: *const u8, bytes: usize, out: *mut i64, numbers: usize) -> Outcome;
-        fn felgotany_book_needed(file: *const u8, bytes: usize, question: usize) -> usize;
-        fn felgotany_book(file: *const u8, bytes: usize, question: usize, out: *mut i64, numbers: usize) -> Outcome;
-        fn felgotany_uses_needed(file: *const u8, bytes: usize, question: usize) -> usize;
-        fn felgotany_uses(file: *const u8, bytes: usize, question: usize, out: *mut i64, numbers: usize) -> Outcome;
-        fn felgotany_joined_figures(
-            morning: *const u8,
-            morning_bytes: usize,
-            noon: *const u8,
-            noon_bytes: usize,
-            out: *mut i64,
-            numbers: usize,
-        ) -> PairOutcome;
-        fn felgotany_joined_prompts(
-            morning: *const u8,
-            morning_bytes: usize,
-            noon: *const u8,
-            noon_bytes: usize,
-            contract: usize,
-        ) -> PromptPlace;
-        fn felgotany_call(
-            morning: *const u8,
-            morning_bytes: usize,
-            noon: *const u8,
-            noon_bytes: usize,
-            last: i64,
-            threshold: i64,
-            collateral: i64,
-        ) -> CallOutcome;
-    }
-
-    pub fn figures_needed(file: &[u8]) -> usize {
-        unsafe { felgotany_figures_needed(file.as_ptr(), file.len()) }
-    }
-
-    pub fn figures(file: &[u8], out: &mut [i64]) -> Outcome {
-        unsafe { felgotany_figures(file.as_ptr(), file.len(), out.as_mut_ptr(), out.len()) }
-    }
-
-    pub fn book_needed(file: &[u8], question: usize) -> usize {
-        unsafe { felgotany_book_needed(file.as_ptr(), file.len(), question) }
-    }
-
-    pub fn book(file: &[u8], question: usize, out: &mut [i64]) -> Outcome {
-        unsafe { felgotany_book(file.as_ptr(), file.len(), question, out.as_mut_ptr(), out.len()) }
-    }
-
-    pub fn uses_needed(file: &[u8], question: usize) -> usize {
-        unsafe { felgotany_uses_needed(file.as_ptr(), file.len(), question) }
-    }
-
-    pub fn uses(file: &[u8], question: usize, out: &mut [i64]) -> Outcome {
-        unsafe { felgotany_uses(file.as_ptr(), file.len(), question, out.as_mut_ptr(), out.len()) }
-    }
-
-    impl Pair<'_> {
-        pub fn figures(&self, out: &mut [i64]) -> PairOutcome {
-            let Pair { morning, noon } = self;
-            unsafe {
-                felgotany_joined_figures(
-                    morning.as_ptr(),
-                    morning.len(),
-                    noon.as_ptr(),
-                    noon.len(),
-                    out.as_mut_ptr(),
-                    out.len(),
-                )
-            }
-        }
-
-        pub fn prompts(&self, contract: usize) -> PromptPlace {
-            let Pair { morning, noon } = self;
-            unsafe { felgotany_joined_prompts(morning.as_ptr(), morning.len(), noon.as_ptr(), noon.len(), contract) }
-        }
-
-        pub fn call(&self, [last, threshold, collateral]: [i64; 3]) -> CallOutcome {
-            let Pair { morning, noon } = self;
-            unsafe {
-                felgotany_call(morning.as_ptr(), morning.len(), noon.as_ptr(), noon.len(), last, threshold, collateral)
-            }
-        }
-    }
-}
+/// What is printed, and the refusal that it is, or 0.
+type Answer = Result<(String, usize), Fault>;
 
 enum Asked {
     Figures,
@@ -133,87 +25,149 @@ enum Asked {
     Uses(usize),
 }
 
-fn print_line(letter: char, numbers: &[i64]) {
-    let numbers: String = numbers.iter().map(|number| format!(" {number}")).collect();
-    println!("{letter}{numbers}");
+/// What the words of the call ask for.
+#[derive(Default)]
+struct Words {
+    asked: Option<Asked>,
+    lent: Option<usize>,
+    name: Option<String>,
+    noon: Option<String>,
+    amounts: Option<[i64; 3]>,
 }
 
-fn print_figures(numbers: &[i64]) {
-    if let Some((&total, contracts)) = numbers.split_last() {
-        contracts.chunks(8).for_each(|contract| print_line('C', contract));
-        print_line('T', &[total]);
-    }
+fn line(letter: char, numbers: &[i64]) -> String {
+    let numbers: String = numbers.iter().map(|number| format!(" {number}")).collect();
+    format!("{letter}{numbers}\n")
+}
+
+fn figures(numbers: &[i64]) -> String {
+    let (contracts, total) = numbers.split_at(numbers.len() - numbers.len() % 8);
+    contracts.chunks(8).map(|contract| line('C', contract)).chain([line('T', total)]).collect()
+}
+
+fn pair_refused(PairOutcome { file, refusal, record }: PairOutcome) -> Answer {
+    Ok((format!("R {file} {refusal} {record}\n"), refusal))
 }
 
 /// How many numbers the figures of the joined account need: a file supplies each contract that is listed.
-fn joined_needed(pair: &felgotany::Pair) -> usize {
-    1 + 8 * (0..16).filter(|&contract| pair.prompts(contract).file != 0).count()
+fn joined_needed(pair: Pair) -> usize {
+    1 + 8 * (0..TABLE).filter(|&contract| pair.prompts(contract).file != 0).count()
 }
 
-fn print_refusal(outcome: &felgotany::PairOutcome) {
-    println!("R {} {} {}", outcome.file, outcome.refusal, outcome.record);
-}
-
-fn print_joined(pair: &felgotany::Pair, lent: Option<usize>) {
+fn joined(pair: Pair, lent: Option<usize>) -> Answer {
     let needed = joined_needed(pair);
     let mut out = vec![0; lent.unwrap_or(needed)];
     match pair.figures(&mut out) {
-        felgotany::PairOutcome { refusal: 0, .. } => print_figures(&out[..needed]),
-        refused => print_refusal(&refused),
+        PairOutcome { refusal: 0, .. } => Ok((figures(&out[..needed]), 0)),
+        outcome => pair_refused(outcome),
     }
 }
 
-fn print_call(pair: &felgotany::Pair, amounts: [i64; 3]) {
-    let called = pair.call(amounts);
+fn call(pair: Pair, [last, threshold, collateral]: [i64; 3]) -> Answer {
+    let called = pair.call(last, threshold, collateral);
     match called.outcome.refusal {
-        0 => print_line('L', &[called.call as i64]),
-        _ => print_refusal(&called.outcome),
+        0 => Ok((format!("L {}\n", called.call), 0)),
+        _ => pair_refused(called.outcome),
     }
 }
 
-fn main() -> Result<(), Box<dyn std::error::Error>> {
-    let mut words = std::env::args().skip(1);
-    let (mut asked, mut lent, mut file) = (Asked::Figures, None, vec![]);
-    let (mut later, mut amounts) = (None, None);
-    while let Some(word) = words.next() {
-        match word.as_str() {
-            "-b" => asked = Asked::Book(words.next().ok_or("-b has no question")?.parse()?),
-            "-u" => asked = Asked::Uses(words.next().ok_or("-u has no question")?.parse()?),
-            "-l" => lent = Some(words.next().ok_or("-l has no number")?.parse()?),
-            "-n" => later = Some(std::fs::read(words.next().ok_or("-n has no file")?)?),
-            "-c" => {
-                let mut amount = || words.next().ok_or("-c has not three amounts");
-                amounts = Some([amount()?.parse()?, amount()?.parse()?, amount()?.parse()?]);
-            }
-            name => file = std::fs::read(name)?,
-        }
-    }
-
-    if let Some(noon) = later {
-        let pair = felgotany::Pair { morning: &file, noon: &noon };
-        match amounts {
-            Some(amounts) => print_call(&pair, amounts),
-            None => print_joined(&pair, lent),
-        }
-        return Ok(());
-    }
-
+/// The answer of one file: its figures, or the book or the uses of a question.
+fn answer(file: &[u8], asked: Asked, lent: Option<usize>) -> Answer {
     let needed = match asked {
-        Asked::Figures => felgotany::figures_needed(&file),
-        Asked::Book(question) => felgotany::book_needed(&file, question),
-        Asked::Uses(question) => felgotany::uses_needed(&file, question),
+        Asked::Figures => felgotany::figures_needed(file),
+        Asked::Book(question) => felgotany::book_needed(file, question),
+        Asked::Uses(question) => felgotany::uses_needed(file, question),
     };
     let mut out = vec![0; lent.unwrap_or(needed)];
     let outcome = match asked {
-        Asked::Figures => felgotany::figures(&file, &mut out),
-        Asked::Book(question) => felgotany::book(&file, question, &mut out),
-        Asked::Uses(question) => felgotany::uses(&file, question, &mut out),
+        Asked::Figures => felgotany::figures(file, &mut out),
+        Asked::Book(question) => felgotany::book(file, question, &mut out),
+        Asked::Uses(question) => felgotany::uses(file, question, &mut out),
     };
-    match (outcome.refusal, asked) {
-        (0, Asked::Figures) => print_figures(&out[..needed]),
-        (0, Asked::Book(_)) => print_line('B', &out[..needed]),
-        (0, Asked::Uses(_)) => print_line('U', &out[..needed]),
-        (refusal, _) => println!("R {refusal} {}", outcome.record),
+    match (outcome, asked) {
+        (Outcome { refusal: 0, .. }, Asked::Figures) => Ok((figures(&out[..needed]), 0)),
+        (Outcome { refusal: 0, .. }, Asked::Book(_)) => Ok((line('B', &out[..needed]), 0)),
+        (Outcome { refusal: 0, .. }, Asked::Uses(_)) => Ok((line('U', &out[..needed]), 0)),
+        (Outcome { refusal, record }, _) => Ok((format!("R {refusal} {record}\n"), refusal)),
     }
-    Ok(())
+}
+
+fn wrongly(what: &str, why: &str) -> Fault {
+    (2, format!("{what}: {why}"))
+}
+
+fn number<Number: std::str::FromStr>(word: Option<String>) -> Result<Number, Fault> {
+    let word = word.unwrap_or_default();
+    word.parse().map_err(|_| wrongly(&word, "not a whole number"))
+}
+
+/// A word may be said once.
+fn once<Word>(place: &mut Option<Word>, word: Word, option: &str) -> Result<(), Fault> {
+    match place.replace(word) {
+        None => Ok(()),
+        Some(_) => Err(wrongly(option, "said twice")),
+    }
+}
+
+fn words() -> Result<Words, Fault> {
+    let mut words = std::env::args().skip(1);
+    let mut said = Words::default();
+    while let Some(word) = words.next() {
+        match word.as_str() {
+            "-b" => once(&mut said.asked, Asked::Book(number(words.next())?), &word)?,
+            "-u" => once(&mut said.asked, Asked::Uses(number(words.next())?), &word)?,
+            "-l" => once(&mut said.lent, number(words.next())?, &word)?,
+            "-n" => once(&mut said.noon, words.next().ok_or(wrongly(&word, "no file follows"))?, &word)?,
+            "-c" => {
+                let amounts = [number(words.next())?, number(words.next())?, number(words.next())?];
+                once(&mut said.amounts, amounts, &word)?;
+            }
+            option if option.starts_with('-') => return Err(wrongly(option, "not an option")),
+            _ => once(&mut said.name, word.clone(), &word)?,
+        }
+    }
+    if said.amounts.is_some() && (said.noon.is_none() || said.lent.is_some()) {
+        return Err(wrongly("-c", "needs -n, and provides its own memory"));
+    }
+    if said.asked.is_some() && said.noon.is_some() {
+        return Err(wrongly("-n", "answers no question of a book here"));
+    }
+    Ok(said)
+}
+
+fn load(name: &str) -> Result<Vec<u8>, Fault> {
+    std::fs::read(name).map_err(|fault| (3, format!("{name}: {fault}")))
+}
+
+fn asked() -> Answer {
+    let Words { asked, lent, name, noon, amounts } = words()?;
+    let file = name.map_or(Ok(vec![]), |name| load(&name))?;
+    let Some(noon) = noon else {
+        return answer(&file, asked.unwrap_or(Asked::Figures), lent);
+    };
+    let noon = load(&noon)?;
+    let pair = Pair { morning: &file, noon: &noon };
+    match amounts {
+        Some(amounts) => call(pair, amounts),
+        None => joined(pair, lent),
+    }
+}
+
+/// Prints the answer, and says in words what is refused.
+fn run() -> Result<(), Fault> {
+    let (lines, refusal) = asked()?;
+    let mut out = std::io::stdout();
+    let written = out.write_all(lines.as_bytes()).and_then(|()| out.flush());
+    written.map_err(|fault| (3, format!("standard output: {fault}")))?;
+    rule(refusal).map_or(Ok(()), |rule| Err((1, rule.to_string())))
+}
+
+fn main() -> ExitCode {
+    match run() {
+        Ok(()) => ExitCode::SUCCESS,
+        Err((status, told)) => {
+            eprintln!("margin: {told}");
+            ExitCode::from(status)
+        }
+    }
 }

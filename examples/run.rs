@@ -2,53 +2,6 @@
 //! place, counted from 0, then its figures or what is refused, as margin prints them; or what the whole run is refused for.
 //! NUMBERS are lent for the figures, or as many as all places have. BYTES are said of the last file in place of its length.
 
-mod felgotany {
-    //! include/felgotany.h for Rust: a slice is its pointer and its length, so every call is safe.
-
-    pub const MOST_FIGURES: usize = 129;
-
-    #[repr(C)]
-    #[derive(Clone, Copy)]
-    pub struct Outcome {
-        pub refusal: usize,
-        pub record: usize,
-    }
-
-    extern "C" {
-        fn felgotany_figures_needed(file: *const u8, bytes: usize) -> usize;
-        fn felgotany_run(
-            accounts: *const u8,
-            bytes: usize,
-            lengths: *const usize,
-            count: usize,
-            figures: *mut i64,
-            numbers: usize,
-            outcomes: *mut usize,
-            outcome_numbers: usize,
-        ) -> Outcome;
-    }
-
-    pub fn figures_needed(file: &[u8]) -> usize {
-        unsafe { felgotany_figures_needed(file.as_ptr(), file.len()) }
-    }
-
-    /// An outcome is two numbers.
-    pub fn run(accounts: &[u8], lengths: &[usize], figures: &mut [i64], outcomes: &mut [Outcome]) -> Outcome {
-        unsafe {
-            felgotany_run(
-                accounts.as_ptr(),
-                accounts.len(),
-                lengths.as_ptr(),
-                lengths.len(),
-                figures.as_mut_ptr(),
-                figures.len(),
-                outcomes.as_mut_ptr().cast(),
-                2 * outcomes.len(),
-            )
-        }
-    }
-}
-
 use felgotany::{Outcome, MOST_FIGURES};
 
 fn print_line(letter: char, numbers: &[i64]) {
@@ -68,9 +21,10 @@ fn print_figures(account: &[u8], place: &[i64]) {
     }
 }
 
-fn print_run(accounts: &[u8], lengths: &[usize], figures: &[i64], outcomes: &[Outcome]) {
+fn print_run(accounts: &[u8], lengths: &[usize], figures: &[i64], outcomes: &[usize]) {
     let mut left = accounts;
-    for (place, (&length, &outcome)) in lengths.iter().zip(outcomes).enumerate() {
+    let outcomes = outcomes.chunks(2).map(|outcome| Outcome { refusal: outcome[0], record: outcome[1] });
+    for (place, (&length, outcome)) in lengths.iter().zip(outcomes).enumerate() {
         let (account, after) = left.split_at(length);
         println!("A {place}");
         match outcome.refusal {
@@ -101,7 +55,7 @@ fn main() -> Result<(), Box<dyn std::error::Error>> {
     }
     let numbers = lent.map_or(Ok(MOST_FIGURES * lengths.len()), |lent| lent.parse())?;
     let mut figures = vec![0; numbers];
-    let mut outcomes = vec![Outcome { refusal: 0, record: 0 }; lengths.len()];
+    let mut outcomes = vec![0; 2 * lengths.len()];
     let outcome = felgotany::run(&accounts, &lengths, &mut figures, &mut outcomes);
     match outcome.refusal {
         0 => print_run(&accounts, &lengths, &figures, &outcomes),

@@ -43,26 +43,26 @@ pub struct Proved;
 
 impl Asked for Proved {
     fn check(file: &[u8]) -> usize {
-        compare::check(file).refusal
+        felgotany::check(file).refusal
     }
 
     fn figures(file: &[u8], lent: &mut Lent) {
-        compare::figures(file, &mut lent.figures);
+        felgotany::figures(file, &mut lent.figures);
     }
 
     fn book(file: &[u8], question: usize, lent: &mut Lent) {
-        compare::book(file, question, &mut lent.books);
+        felgotany::book(file, question, &mut lent.books);
     }
 
     fn all(file: &[u8], lent: &mut Lent) {
         // no memory for who paid
-        compare::all(file, &mut lent.figures, &mut lent.books, &mut []);
+        felgotany::all(file, &mut lent.figures, &mut lent.books, &mut []);
     }
 
     fn each(file: &[u8], lent: &mut Lent) {
         lent.each(
-            |lent| compare::figures(file, lent),
-            |question, lent| compare::book(file, question, lent),
+            |lent| felgotany::figures(file, lent),
+            |question, lent| felgotany::book(file, question, lent),
         );
     }
 }

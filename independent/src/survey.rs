@@ -277,7 +277,15 @@ mod tests {
         let of_nothing = |count| Survey { count, ..Survey::of(1, 0) }.nothing_missing();
         assert!(of_nothing(1_999).is_ok());
         let told = of_nothing(2_000).expect_err("nothing occurred").to_string();
-        let numbers = "refusals that never occurred: 1, 2, 3, 4, 5, 6, 7, 8, 9, 10, 11";
-        assert!(told.starts_with(numbers) && told.contains("legs 2 and 3 alike"), "{told}");
+        assert_eq!(told, "refusals that never occurred: 1, 2, 3, 4, 5, 6, 7, 8, 9, 10, 11");
+    }
+
+    #[test]
+    fn a_fault_of_legs_that_never_occurred_is_told() {
+        let refusals = (1..=11).map(|number| (number, 1)).collect();
+        let survey = Survey { count: 2_000, refusals, ..Survey::of(1, 0) };
+        let told = survey.nothing_missing().expect_err("no fault of legs occurred").to_string();
+        assert!(told.starts_with("legs never refused for: "), "{told}");
+        assert!(told.contains("legs 2 and 3 alike"), "{told}");
     }
 }

@@ -37,7 +37,7 @@ pub const KINDS: [Kind; 5] = [
     },
     Kind {
         kind: SPREAD,
-        name: "spread",
+        name: "interprompt spread",
         columns: &[
             "contract",
             "legs",
@@ -55,7 +55,7 @@ pub const KINDS: [Kind; 5] = [
     },
     Kind {
         kind: ENTRY,
-        name: "entry",
+        name: "intercontract spread",
         columns: &[
             "first contract",
             "second contract",
@@ -83,6 +83,35 @@ pub fn words(column: &str) -> &'static [(i64, &'static str)] {
         "ratios" => RATIOS,
         _ => &[],
     }
+}
+
+/// What the whole numbers of a column count: a name, and how many decimal places the thing counted has.
+pub struct Unit {
+    pub name: &'static str,
+    pub places: usize,
+}
+
+/// The unit of a column; none for a column that counts nothing.
+pub fn unit(column: &str) -> Option<Unit> {
+    let (name, places) = match column {
+        "short option rate"
+        | "rate per delta in spreads"
+        | "rate per outright delta"
+        | "value"
+        | "rate per spread" => ("hundredths", 2),
+        "delta" => ("ten-thousandths", 4),
+        "lots" => ("lots", 0),
+        "credit percent" => ("percent", 0),
+        _ if column.starts_with("loss") => ("ticks", 0),
+        _ => return None,
+    };
+    Some(Unit { name, places })
+}
+
+/// A thing with its article, as in "a row".
+pub fn with_article(name: &str) -> String {
+    let article = if name.starts_with(['a', 'e', 'i', 'o', 'u']) { "an" } else { "a" };
+    format!("{article} {name}")
 }
 
 /// The word that stands for a number in a column.

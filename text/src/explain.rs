@@ -1,31 +1,50 @@
 //! A verdict in words: the refusal with its rule, the fault, and the record that it names as text.
 
-use crate::fault::{fault, kind_in_words};
+use crate::fault::{fault, kind_in_words, of_its_own};
 use crate::read::read;
 use crate::wording::*;
+use felgotany::refusals::rule;
+use felgotany::Outcome;
 use independent::format::{Record, RECORD_BYTES};
 
-/// What the check says of a file: a refusal's number, 0 where nothing is refused, and the record named.
-#[repr(C)]
-#[derive(Clone, Copy, Debug, PartialEq, Eq)]
-pub struct Verdict {
-    pub refusal: usize,
-    pub record: usize,
+/// The verdict on a file in words; nothing where the file has no fault that the verdict could mean.
+pub fn explain(file: &[u8], verdict: Outcome) -> Option<String> {
+    let Outcome { refusal: number, record } = verdict;
+    if number == 0 {
+        return Some(accepted(file.len() / RECORD_BYTES) + "\n");
+    }
+    let refused = refused(file, verdict)?;
+    let text = named(file, verdict).map_or(String::new(), read);
+    Some(format!("refusal {number}, record {record}{refused}\n{text}"))
 }
 
-/// The verdict on a file in words; nothing where the file has no fault that the verdict could mean.
-pub fn explain(file: &[u8], verdict: Verdict) -> Option<String> {
-    let Verdict { refusal: number, record } = verdict;
-    if number == 0 {
-        return Some(say(ACCEPTED, &[&counted(file.len() / RECORD_BYTES, "record")]) + "\n");
+/// That an account with so many records is accepted. One without records is said to be empty.
+pub fn accepted(records: usize) -> String {
+    match records {
+        0 => say(ACCEPTED_EMPTY, &[]),
+        _ => say(ACCEPTED, &[&counted(records, "record")]),
     }
-    let rule = REFUSALS.iter().find(|refusal| refusal.number == number)?.rule;
-    let fault = fault(number, record, file)?;
-    if number <= 2 {
-        return Some(format!("{}\n{fault}\n", say(REFUSED, &[&number, &record, &rule])));
+}
+
+/// What follows the number and the record of a refusal: the kind, the rule, and the fault on a line of
+/// its own after two spaces.
+pub fn refused(file: &[u8], verdict: Outcome) -> Option<String> {
+    let rule = rule(verdict.refusal)?;
+    let fault = fault(verdict.refusal, verdict.record, file)?;
+    let kind = named(file, verdict).map(|bytes| format!(", {}", kind_in_words(Record(bytes))));
+    Some(format!("{}: {rule}\n  {fault}", kind.unwrap_or_default()))
+}
+
+/// The record that a refusal names; none for the refusals of the whole file.
+fn named(file: &[u8], verdict: Outcome) -> Option<&[u8]> {
+    match verdict.refusal {
+        1 | 2 => None,
+        _ => file.chunks_exact(RECORD_BYTES).nth(verdict.record),
     }
-    let bytes = file.chunks_exact(RECORD_BYTES).nth(record)?;
-    let kind = kind_in_words(Record(bytes));
-    let refused = say(REFUSED_KIND, &[&number, &record, &kind, &rule]);
-    Some(format!("{refused}\n{fault}\n{}", read(bytes)))
+}
+
+/// The records after the one that a refusal names which have a fault of their own, each with its fault.
+pub fn others(file: &[u8], verdict: Outcome) -> Vec<(usize, String)> {
+    let records = file.chunks_exact(RECORD_BYTES).enumerate().skip(verdict.record + 1);
+    records.filter_map(|(place, bytes)| Some((place, of_its_own(Record(bytes))?))).collect()
 }

@@ -32,8 +32,7 @@ pub fn fault(number: usize, record: usize, file: &[u8]) -> Option<String> {
 /// A record's kind in words.
 pub fn kind_in_words(record: Record) -> String {
     match columns::kind(record.kind()) {
-        Some(kind) if kind.kind == ENTRY => format!("an {}", kind.name),
-        Some(kind) => format!("a {}", kind.name),
+        Some(kind) => columns::with_article(kind.name),
         None => "of no kind".to_string(),
     }
 }
@@ -50,7 +49,7 @@ fn place(record: Record, field: Field) -> String {
 }
 
 fn too_long(file: &[u8]) -> Option<String> {
-    (file.len() > MOST_BYTES).then(|| say(TOO_LONG, &[&file.len(), &MOST_BYTES]))
+    (file.len() > MOST_BYTES).then(|| say(LONGER, &[&MOST_BYTES, &MOST_RECORDS]))
 }
 
 fn not_whole(file: &[u8]) -> Option<String> {
@@ -60,13 +59,13 @@ fn not_whole(file: &[u8]) -> Option<String> {
 }
 
 fn unknown_kind(record: Record) -> Option<String> {
-    columns::kind(record.kind()).is_none().then(|| say(UNKNOWN_KIND, &[&record.kind()]))
+    columns::kind(record.kind()).is_none().then(|| say(NO_SUCH_KIND, &[&record.kind()]))
 }
 
 fn kind_below(record: Record, earlier: &[Record]) -> Option<String> {
     let before = *earlier.last()?;
     (record.kind() < before.kind())
-        .then(|| say(KIND_BELOW, &[&record.kind(), &kind_in_words(before), &before.kind()]))
+        .then(|| say(KIND_FALLS, &[&record.kind(), &kind_in_words(before), &before.kind()]))
 }
 
 /// The first unused byte that is not zero.
@@ -77,7 +76,12 @@ fn unused_byte(record: Record) -> Option<String> {
         SPREAD if legs == 2 => format!("{} of {legs} legs", kind_in_words(record)),
         _ => kind_in_words(record),
     };
-    Some(say(UNUSED_BYTE, &[&byte, &record.0[byte], &kind]))
+    Some(say(UNUSED, &[&byte, &record.0[byte], &kind]))
+}
+
+/// The faults of a record by itself: its kind, an unused byte, a field outside its range.
+pub fn of_its_own(record: Record) -> Option<String> {
+    unknown_kind(record).or_else(|| unused_byte(record)).or_else(|| outside(record))
 }
 
 /// The first field outside its range.
@@ -89,8 +93,8 @@ fn outside(record: Record) -> Option<String> {
     Some(say(OUTSIDE, &[&place(record, field), &record.get(field), &range(record, column, field)]))
 }
 
-/// A field's range, with the words of its numbers, or the class or the tenths that it goes by.
-fn range(record: Record, column: &str, field: Field) -> String {
+/// A field's range, with the words of its numbers, or the class or the tenths that it goes by, and its unit.
+pub fn range(record: Record, column: &str, field: Field) -> String {
     let numbers = match (field.least, field.most) {
         (least, most) if least == most => least.to_string(),
         (least, most) => format!("{least}..{most}"),
@@ -104,10 +108,9 @@ fn range(record: Record, column: &str, field: Field) -> String {
         return format!("{numbers} in tenths");
     }
     let class = record.get(CLASS);
-    match columns::word("class", class) {
-        Some(word) if [strike(class), delta(class)].contains(&field) => {
-            format!("{numbers} for a {word}")
-        }
-        _ => numbers,
-    }
+    let by_class = [strike(class), delta(class)].contains(&field);
+    let class = columns::word("class", class).filter(|_| by_class);
+    let class = class.map_or(String::new(), |word| format!(" for a {word}"));
+    let unit = columns::unit(column).map_or(String::new(), |unit| format!(", in {}", unit.name));
+    format!("{numbers}{class}{unit}")
 }

@@ -3,7 +3,7 @@
 pub mod columns;
 pub mod explain;
 pub mod fault;
-pub mod program;
+mod meant;
 pub mod read;
 pub mod wording;
 pub mod write;

@@ -1,20 +1,22 @@
 //! Writing an account file from its text form, or saying where the text cannot be written.
 
 use crate::columns::{self, Kind, BYTES, HEX, KINDS};
+use crate::{fault, meant};
 use independent::format::{Field, Record, RECORD_BYTES};
 use std::fmt;
 
 /// How much of a cell is shown.
 const SHOWN: usize = 40;
 
-/// Where a text cannot be written: the line, counted from 1, the column, what stands there and what
-/// can stand there.
+/// Where a text cannot be written: the line, counted from 1, the column, what stands there, what can
+/// stand there, and what was probably meant.
 #[derive(Debug, PartialEq, Eq)]
 pub struct Misread {
     pub line: usize,
     pub column: String,
     pub found: String,
     pub expected: String,
+    pub meant: Option<String>,
 }
 
 impl fmt::Display for Misread {
@@ -25,59 +27,91 @@ impl fmt::Display for Misread {
             1..=SHOWN => format!("'{shown}'"),
             _ => format!("'{shown}..'"),
         };
-        write!(
-            out,
-            "line {}, {}: found {found}, expected {}",
-            self.line, self.column, self.expected
-        )
-    }
-}
-
-/// The bytes of an account file. Lines that are empty or begin with # say nothing.
-pub fn write(text: &[u8]) -> Result<Vec<u8>, Misread> {
-    let text = String::from_utf8_lossy(text);
-    let mut file = vec![];
-    for (place, line) in text.trim_start_matches('\u{feff}').lines().enumerate() {
-        let comment = line.trim_start().trim_start_matches('"').starts_with('#');
-        let line = Line { number: place + 1, cells: cells(line) };
-        if !comment && !line.cells.is_empty() {
-            file.extend(line.bytes()?);
+        let Misread { line, column, expected, .. } = self;
+        write!(out, "line {line}, {column}: found {found}, expected {expected}")?;
+        match &self.meant {
+            Some(meant) => write!(out, "; {meant}"),
+            None => Ok(()),
         }
     }
-    Ok(file)
 }
 
-/// The cells of a line. Quotation marks around a cell and empty cells at the end come from spreadsheets.
-fn cells(line: &str) -> Vec<&str> {
-    let mut cells: Vec<&str> = line.split(',').map(|cell| unquoted(cell.trim())).collect();
-    while cells.last() == Some(&"") {
-        cells.pop();
+/// An account file that was written from a text, and which line each of its parts comes from.
+#[derive(Debug, PartialEq, Eq)]
+pub struct Written {
+    pub file: Vec<u8>,
+    /// For each line that gives bytes, its number and where its bytes begin.
+    lines: Vec<(usize, usize)>,
+}
+
+impl Written {
+    /// The line that a record begins on.
+    pub fn line_of(&self, record: usize) -> Option<usize> {
+        let from = record * RECORD_BYTES;
+        let lines = self.lines.iter().take_while(|(_, begins)| *begins <= from);
+        lines.last().map(|(line, _)| *line)
     }
-    cells
 }
 
-fn unquoted(cell: &str) -> &str {
-    cell.strip_prefix('"').and_then(|cell| cell.strip_suffix('"')).unwrap_or(cell)
+/// The account file of a text, or every line that cannot be written. Lines that are empty or begin with
+/// # say nothing; a line ends with CR, LF or both.
+pub fn write(text: &[u8]) -> Result<Written, Vec<Misread>> {
+    let text = String::from_utf8_lossy(text).replace("\r\n", "\n").replace('\r', "\n");
+    let mut written = Written { file: vec![], lines: vec![] };
+    let mut misread = vec![];
+    for (place, line) in text.trim_start_matches('\u{feff}').lines().enumerate() {
+        let line = Line { number: place + 1, cells: cells(line) };
+        match line.bytes() {
+            Ok(bytes) if bytes.is_empty() => {}
+            Ok(bytes) => {
+                written.lines.push((line.number, written.file.len()));
+                written.file.extend(bytes);
+            }
+            Err(fault) => misread.push(fault),
+        }
+    }
+    if misread.is_empty() {
+        Ok(written)
+    } else {
+        Err(misread)
+    }
 }
 
-struct Line<'a> {
+/// The cells of a line. A line is read by itself, so that a quotation mark that is not closed takes no
+/// other line with it. Empty cells at the end come from spreadsheets.
+fn cells(line: &str) -> csv::StringRecord {
+    let mut reader = csv::ReaderBuilder::new();
+    let reader = reader.has_headers(false).flexible(true).trim(csv::Trim::All);
+    let mut record = csv::StringRecord::new();
+    // text in UTF-8 in memory is always read
+    _ = reader.from_reader(line.as_bytes()).read_record(&mut record);
+    let empty = record.iter().rev().take_while(|cell| cell.is_empty()).count();
+    record.truncate(record.len() - empty);
+    record
+}
+
+struct Line {
     number: usize,
-    cells: Vec<&'a str>,
+    cells: csv::StringRecord,
 }
 
-impl Line<'_> {
+impl Line {
     /// The cell at a place, the name of the line being at place 0; empty where the line has ended.
     fn cell(&self, place: usize) -> &str {
-        self.cells.get(place).copied().unwrap_or("")
+        self.cells.get(place).unwrap_or("")
     }
 
     fn misread(&self, column: &str, found: &str, expected: String) -> Misread {
         let (column, found) = (column.to_string(), found.to_string());
-        Misread { line: self.number, column, found, expected }
+        Misread { line: self.number, column, found, expected, meant: None }
     }
 
+    /// The bytes that the line gives; none for one that says nothing.
     fn bytes(&self) -> Result<Vec<u8>, Misread> {
         let name = self.cell(0);
+        if self.cells.is_empty() || name.starts_with('#') {
+            return Ok(vec![]);
+        }
         if name == BYTES {
             self.ends_at(2)?;
             return hex_bytes(self.cell(1)).ok_or_else(|| {
@@ -89,7 +123,10 @@ impl Line<'_> {
             Some(kind) => self.record(kind),
             None => {
                 let names: Vec<&str> = KINDS.iter().map(|kind| kind.name).collect();
-                Err(self.misread("kind", name, format!("{} or {BYTES}", names.join(", "))))
+                let mut fault =
+                    self.misread("kind", name, format!("{} or {BYTES}", names.join(", ")));
+                fault.meant = meant::kind(name);
+                Err(fault)
             }
         }
     }
@@ -101,13 +138,29 @@ impl Line<'_> {
         let mut place = 0;
         while let Some(&(column, field)) = columns::fields(Record(&record)).get(place) {
             place += 1;
-            let number = number(column, field, self.cell(place))
-                .map_err(|expected| self.misread(column, self.cell(place), expected))?;
-            record[field.at..field.at + field.bytes]
-                .copy_from_slice(&number.to_le_bytes()[..field.bytes]);
+            let cell = self.cell(place);
+            match number(column, field, cell) {
+                Some(number) => put(&mut record, field, number),
+                None => return Err(self.misread_cell(record, place)),
+            }
         }
         self.ends_at(place + 1)?;
         Ok(record)
+    }
+
+    /// A cell that cannot be read. What can stand there may go by a cell after it, as the range of a ratio
+    /// goes by whether the ratios are tenths.
+    fn misread_cell(&self, mut record: Vec<u8>, place: usize) -> Misread {
+        for (at, (column, field)) in columns::fields(Record(&record)).into_iter().enumerate() {
+            if let Some(number) = number(column, field, self.cell(at + 1)) {
+                put(&mut record, field, number);
+            }
+        }
+        let (column, field) = columns::fields(Record(&record))[place - 1];
+        let cell = self.cell(place);
+        let mut fault = self.misread(column, cell, expected(&record, column, field));
+        fault.meant = meant::cell(column, cell);
+        fault
     }
 
     fn ends_at(&self, columns: usize) -> Result<(), Misread> {
@@ -115,28 +168,34 @@ impl Line<'_> {
             return Ok(());
         }
         let expected = format!("the line to end after {columns} columns");
-        Err(self.misread(&format!("column {}", columns + 1), self.cell(columns), expected))
+        let mut fault =
+            self.misread(&format!("column {}", columns + 1), self.cell(columns), expected);
+        fault.meant = meant::one_more(self.cell(columns));
+        Err(fault)
     }
 }
 
-/// The number of a cell, by its word or as far as the field's bytes hold it; or what can stand there.
-fn number(column: &str, field: Field, cell: &str) -> Result<i64, String> {
-    let words = columns::words(column);
-    if let Some((number, _)) = words.iter().find(|(_, word)| *word == cell) {
-        return Ok(*number);
+fn put(record: &mut [u8], field: Field, number: i64) {
+    record[field.at..field.at + field.bytes].copy_from_slice(&number.to_le_bytes()[..field.bytes]);
+}
+
+/// The number of a cell, by its word or as far as the field's bytes hold it.
+fn number(column: &str, field: Field, cell: &str) -> Option<i64> {
+    if let Some((number, _)) = columns::words(column).iter().find(|(_, word)| *word == cell) {
+        return Some(*number);
     }
     let (least, most) = held(field);
-    match cell.parse() {
-        Ok(number)
-            if (least..=most).contains(&number) && columns::word(column, number).is_none() =>
-        {
-            Ok(number)
-        }
-        _ if words.is_empty() => Err(format!("a number {least}..{most}")),
-        _ => {
+    let number = cell.parse().ok()?;
+    ((least..=most).contains(&number) && columns::word(column, number).is_none()).then_some(number)
+}
+
+/// What can stand in a cell: a word of its column, or a number of its range.
+fn expected(record: &[u8], column: &str, field: Field) -> String {
+    match columns::words(column) {
+        [] => format!("a whole number {}", fault::range(Record(record), column, field)),
+        [words @ .., (_, last)] => {
             let words: Vec<&str> = words.iter().map(|(_, word)| *word).collect();
-            let words = words.join(", ");
-            Err(format!("{words}, or a number {least}..{most} that has no word"))
+            format!("{} or {last}", words.join(", "))
         }
     }
 }

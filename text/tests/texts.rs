@@ -7,14 +7,29 @@ const FORWARD_ROW: &str =
     "row,3,forward,20260318,0,2,9800,25,0,0,-4900,-4900,4900,4900,-9800,-9800,9800,9800,\
      -14700,-14700,14700,14700,-10300,10300";
 
+/// What is said of the only line that cannot be written.
 fn message(text: &str) -> String {
-    write(text.as_bytes()).expect_err("a text that cannot be written").to_string()
+    let [misread] = &messages(text)[..] else { panic!("not one line") };
+    misread.clone()
+}
+
+fn messages(text: &str) -> Vec<String> {
+    let misread = write(text.as_bytes()).expect_err("a text that cannot be written");
+    misread.iter().map(ToString::to_string).collect()
+}
+
+/// The bytes that a text writes.
+fn bytes(text: &[u8]) -> Vec<u8> {
+    write(text).unwrap_or_else(|misread| panic!("{misread:?}")).file
 }
 
 /// The text form of what a text writes, without the lines of columns.
 fn lines(text: &str) -> Vec<String> {
-    let file = write(text.as_bytes()).unwrap_or_else(|misread| panic!("{misread}"));
-    read(&file).lines().filter(|line| !line.starts_with('#')).map(str::to_string).collect()
+    read(&bytes(text.as_bytes()))
+        .lines()
+        .filter(|line| !line.starts_with('#'))
+        .map(str::to_string)
+        .collect()
 }
 
 #[test]
@@ -23,23 +38,50 @@ fn every_kind_is_read_as_it_was_written() {
         "contract,3,500",
         "prompt,3,1,20260318,0,1000",
         FORWARD_ROW,
-        "spread,3,2,700,1,A,1,2,B,3",
-        "spread,3,3,700,1,A,1,2,B,2,3,A,1",
-        "entry,3,4,85,48,5,whole",
-        "entry,3,4,85,96,10,tenths",
+        "interprompt spread,3,2,700,1,A,1,2,B,3",
+        "interprompt spread,3,3,700,1,A,1,2,B,2,3,A,1",
+        "intercontract spread,3,4,85,48,5,whole",
+        "intercontract spread,3,4,85,96,10,tenths",
     ];
     assert_eq!(lines(&text.join("\n")), text);
 }
 
 #[test]
 fn comments_and_empty_lines_say_nothing() {
-    assert_eq!(write(b"# all,of,this\n\n  # and this\n,,,\n\"# quoted\",\n"), Ok(vec![]));
+    assert_eq!(bytes(b"# all,of,\"this\n\n  # and this\n,,,\n\"# quoted\",\n"), []);
+}
+
+#[test]
+fn a_line_ends_with_cr_lf_or_both() {
+    let lines = ["# columns", "contract,3,500", "", "prompt,3,1,20260318,0,1000"];
+    for end in ["\r", "\n", "\r\n"] {
+        let written = write(lines.join(end).as_bytes()).expect("a text");
+        assert_eq!(written.file, bytes(b"contract,3,500\nprompt,3,1,20260318,0,1000"));
+        assert_eq!([written.line_of(0), written.line_of(1)], [Some(2), Some(4)]);
+    }
 }
 
 #[test]
 fn what_a_spreadsheet_saves_is_the_same() {
     let saved = "\u{feff}\"# contract\",number,,\r\n\"contract\", 3 ,500,,,\r\n";
-    assert_eq!(write(saved.as_bytes()), write(b"contract,3,500"));
+    assert_eq!(bytes(saved.as_bytes()), bytes(b"contract,3,500"));
+}
+
+#[test]
+fn a_quotation_mark_that_is_not_closed_hides_no_other_line() {
+    assert_eq!(bytes(b"\"# note\ncontract,3,500\n"), bytes(b"contract,3,500"));
+    assert_eq!(
+        message("contract,\"3,500\nprompt,3,1,20260318,0,1000\n"),
+        "line 1, number: found '3,500', expected a whole number 0..15; '3500' was probably meant, \
+         with no mark between the digits"
+    );
+}
+
+#[test]
+fn every_line_with_a_fault_is_told() {
+    let told = messages("contract,x,0\nprompt,3,1,20260318,0,0\nRow,3\n");
+    assert_eq!(told.len(), 2);
+    assert!(told[0].starts_with("line 1, number: ") && told[1].starts_with("line 3, kind: "));
 }
 
 #[test]
@@ -48,69 +90,113 @@ fn numbers_outside_their_range_are_written_as_far_as_the_bytes_hold_them() {
     assert_eq!(lines(&text.join("\n")), text);
     let row = FORWARD_ROW.replace("9800,25", "-2147483648,0").replace("forward", "7");
     assert_eq!(lines(&row), [row]);
-    let spread = "spread,3,4,700,1,A,1,2,3,65535,0,0,0";
+    let spread = "interprompt spread,3,4,700,1,A,1,2,3,65535,0,0,0";
     assert_eq!(lines(spread), [spread]);
 }
 
 #[test]
 fn numbers_that_the_bytes_do_not_hold_are_not_written() {
-    assert_eq!(message("contract,256,0"), "line 1, number: found '256', expected a number 0..255");
+    let cases = [
+        ("contract,256,0", "line 1, number: found '256', expected a whole number 0..15"),
+        (
+            "# contract\n\ncontract,1,4294967296",
+            "line 3, short option rate: found '4294967296', expected a whole number 0..10000000, in \
+             hundredths",
+        ),
+        (
+            "intercontract spread,1,2,85,65536,1",
+            "line 1, first ratio: found '65536', expected a whole number 1..100",
+        ),
+        (
+            "intercontract spread,1,2,85,10,65536,tenths",
+            "line 1, second ratio: found '65536', expected a whole number 1..1000 in tenths",
+        ),
+        ("contract,-1,0", "line 1, number: found '-1', expected a whole number 0..15"),
+        (
+            "contract,99999999999999999999,0",
+            "line 1, number: found '99999999999999999999', expected a whole number 0..15",
+        ),
+    ];
+    for (text, told) in cases {
+        assert_eq!(message(text), told);
+    }
     assert_eq!(
-        message("# contract\n\ncontract,1,4294967296"),
-        "line 3, short option rate: found '4294967296', expected a number 0..4294967295"
-    );
-    let row = FORWARD_ROW.replace("10300", "2147483648");
-    assert_eq!(
-        message(&row),
-        "line 1, loss 16: found '2147483648', expected a number -2147483648..2147483647"
-    );
-    assert_eq!(
-        message("entry,1,2,85,65536,1"),
-        "line 1, first ratio: found '65536', expected a number 0..65535"
-    );
-    assert_eq!(message("contract,-1,0"), "line 1, number: found '-1', expected a number 0..255");
-    assert_eq!(
-        message("contract,99999999999999999999,0"),
-        "line 1, number: found '99999999999999999999', expected a number 0..255"
+        message(&FORWARD_ROW.replace("10300", "2147483648")),
+        "line 1, loss 16: found '2147483648', expected a whole number -100000..100000, in ticks"
     );
 }
 
 #[test]
 fn what_is_no_number_is_not_written() {
-    for cell in ["4.29E+09", "1.5", "1_000", "x", "0x10", "1 0", "--1"] {
+    for cell in ["x", "0x10", "--1", "1.505", "1.2.3"] {
         assert_eq!(
             message(&format!("contract,1,{cell}")),
-            format!("line 1, short option rate: found '{cell}', expected a number 0..4294967295")
+            format!(
+                "line 1, short option rate: found '{cell}', expected a whole number 0..10000000, in \
+                 hundredths"
+            )
         );
+    }
+}
+
+/// The end of what is said of a text, after what is expected.
+fn meant(text: &str) -> String {
+    let told = message(text);
+    told.split_once("; ").map_or("", |(_, meant)| meant).to_string()
+}
+
+#[test]
+fn what_was_probably_meant_is_told() {
+    let row = |old: &str, new: &str| meant(&FORWARD_ROW.replace(old, new));
+    let cases = [
+        (row("forward", "Forward"), "'forward' was probably meant"),
+        (row("forward", "F"), "'forward' was probably meant"),
+        (row("forward", "0"), "'forward' was probably meant"),
+        (row("20260318", "2026-03-18"), "'20260318' was probably meant"),
+        (row("20260318", "2026/3/8"), "'20260308' was probably meant"),
+        (row("9800,25", "0.98,25"), "0.98 is 9800 in ten-thousandths"),
+        (row(",2,", ",2.0,"), "'2' was probably meant"),
+        (meant("contract,1,250.00"), "250.00 is 25000 in hundredths"),
+        (meant("contract,1,-2.5"), "-2.5 is -250 in hundredths"),
+        (
+            meant("contract,1,\"25,000\""),
+            "'25000' was probably meant, with no mark between the digits",
+        ),
+        (meant("contract,1,25,000"), "numbers are written without commas"),
+        (meant("contract,1,4.29E+09"), "a spreadsheet has shortened this number"),
+        (meant("contract;1;0"), "columns are separated by commas, and this line has semicolons"),
+        (meant("contract\t1\t0"), "columns are separated by commas, and this line has tabs"),
+        (meant("Contract,1,0"), "'contract' was probably meant"),
+        (meant("rows,1"), "'row' was probably meant"),
+        (meant("entry,1,2,50,1,1"), "'intercontract spread' was probably meant"),
+        (meant("spread,3,2,700,1,A,1,2,B,3"), "'interprompt spread' was probably meant"),
+        (
+            meant("contract,number,short option rate"),
+            "a line with the names of the columns begins with #",
+        ),
+        (meant("interprompt spread,3,2,700,1,a,1,2,B,3"), "'A' was probably meant"),
+        (meant("intercontract spread,2,1,85,9.6,1,tenths"), "9.6 is 96 in tenths"),
+        (meant("intercontract spread,2,1,85,1.0,1,whole"), "'1' was probably meant"),
+        (meant("intercontract spread,2,1,85,96,10,Tenths"), "'tenths' was probably meant"),
+        (meant("interprompt spread,3,2,700,1,A,1,2,2,3"), "'B' was probably meant"),
+    ];
+    for (told, expected) in cases {
+        assert_eq!(told, expected);
     }
 }
 
 #[test]
 fn an_unknown_word_is_not_written() {
-    let kinds = "contract, prompt, row, spread, entry or bytes";
-    assert_eq!(message("Row,3"), format!("line 1, kind: found 'Row', expected {kinds}"));
+    let kinds = "contract, prompt, row, interprompt spread, intercontract spread or bytes";
+    assert_eq!(message("rate,3"), format!("line 1, kind: found 'rate', expected {kinds}"));
     assert_eq!(message(",3"), format!("line 1, kind: found nothing, expected {kinds}"));
     assert_eq!(
         message(&FORWARD_ROW.replace("forward", "future")),
-        "line 1, class: found 'future', expected forward, call, put, or a number 0..255 that \
-         has no word"
+        "line 1, class: found 'future', expected forward, call or put"
     );
     assert_eq!(
-        message("spread,3,2,700,1,a,1,2,B,3"),
-        "line 1, leg 1 side: found 'a', expected A, B, or a number 0..255 that has no word"
-    );
-}
-
-#[test]
-fn a_number_that_has_a_word_is_said_by_it() {
-    assert_eq!(
-        message(&FORWARD_ROW.replace("forward", "0")),
-        "line 1, class: found '0', expected forward, call, put, or a number 0..255 that has \
-         no word"
-    );
-    assert_eq!(
-        message("spread,3,2,700,1,A,1,2,2,3"),
-        "line 1, leg 2 side: found '2', expected A, B, or a number 0..255 that has no word"
+        message("interprompt spread,3,2,700,1,C,1,2,B,3"),
+        "line 1, leg 1 side: found 'C', expected A or B"
     );
 }
 
@@ -118,15 +204,15 @@ fn a_number_that_has_a_word_is_said_by_it() {
 fn a_line_with_too_few_columns_is_not_written() {
     assert_eq!(
         message("contract,3"),
-        "line 1, short option rate: found nothing, expected a number 0..4294967295"
+        "line 1, short option rate: found nothing, expected a whole number 0..10000000, in hundredths"
     );
     assert_eq!(
         message("prompt,3,,20260318,0,0"),
-        "line 1, tier: found nothing, expected a number 0..255"
+        "line 1, tier: found nothing, expected a whole number 1..8"
     );
     assert_eq!(
-        message("spread,3,3,700,1,A,1,2,B,3"),
-        "line 1, leg 3 tier: found nothing, expected a number 0..255"
+        message("interprompt spread,3,3,700,1,A,1,2,B,3"),
+        "line 1, leg 3 tier: found nothing, expected a whole number 1..8"
     );
 }
 
@@ -137,7 +223,7 @@ fn a_line_with_too_many_columns_is_not_written() {
         "line 1, column 4: found '7', expected the line to end after 3 columns"
     );
     assert_eq!(
-        message("spread,3,2,700,1,A,1,2,B,3,3,A,1"),
+        message("interprompt spread,3,2,700,1,A,1,2,B,3,3,A,1"),
         "line 1, column 11: found '3', expected the line to end after 10 columns"
     );
     assert_eq!(
@@ -148,7 +234,7 @@ fn a_line_with_too_many_columns_is_not_written() {
 
 #[test]
 fn bytes_are_written_as_they_stand() {
-    assert_eq!(write(b"bytes,0x00fF7\x61\nbytes,0x01"), Ok(vec![0, 255, 0x7a, 1]));
+    assert_eq!(bytes(b"bytes,0x00fF7\x61\nbytes,0x01"), [0, 255, 0x7a, 1]);
     for cell in ["", "0x", "00", "0x0", "0x0g", "0x+1", "0X00"] {
         let found = if cell.is_empty() { "nothing".to_string() } else { format!("'{cell}'") };
         assert_eq!(
@@ -167,7 +253,7 @@ fn a_long_or_unprintable_cell_is_shown_in_part() {
     let shown = "7".repeat(40);
     assert_eq!(
         message(&format!("contract,{cell},0")),
-        format!("line 1, number: found '{shown}..', expected a number 0..255")
+        format!("line 1, number: found '{shown}..', expected a whole number 0..15")
     );
     assert!(message("contract,\u{1b}[2J,0").contains("'\\u{1b}[2J'"));
     assert!(write(b"contract,\xff,0").is_err());

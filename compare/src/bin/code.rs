@@ -4,7 +4,7 @@
 //! Refusal, record and every lent number afterwards must agree, and nothing beyond the lent numbers may change.
 
 use compare::asking::{self, same, Run};
-use compare::Outcome;
+use felgotany::Outcome;
 use independent::book::Book;
 use independent::generate::{self, Random};
 use independent::refusal::TOO_FEW_LENT;
@@ -80,14 +80,14 @@ fn compare_account(seed: u64, index: u64, tally: &mut Tally) -> Result<(), Strin
     let mut random = Random::new(!seed, index);
     let checked = independent::check(&file).map_err(told);
     let verdict = checked.as_ref().err().copied().unwrap_or(ACCEPTED);
-    same("check", compare::check(&file), verdict)?;
+    same("check", felgotany::check(&file), verdict)?;
     tally.files[verdict.refusal] += 1;
     tally.answers[verdict.refusal] += 1;
 
     let figures = needed(|lent| independent::figures(&file, lent));
-    same("figures needed", compare::figures_needed(&file), figures)?;
+    same("figures needed", felgotany::figures_needed(&file), figures)?;
     for lent in [figures + random.below(3) as usize, generate::lent(&mut random, figures)] {
-        let proved = |lent: &mut [i64]| compare::figures(&file, lent);
+        let proved = |lent: &mut [i64]| felgotany::figures(&file, lent);
         let second = |lent: &mut [i64]| outcome(independent::figures(&file, lent));
         ask("figures", lent, proved, second, &mut random, tally)?;
     }
@@ -97,11 +97,11 @@ fn compare_account(seed: u64, index: u64, tally: &mut Tally) -> Result<(), Strin
         let book = checked.as_ref().map_err(|&refused| refused).and_then(|account| held_book(account, question).map_err(told));
         let at = question as usize;
         let numbers = book.as_ref().map(|book| book.numbers()).map_err(|&refused| refused);
-        same(&format!("book {question} needed"), compare::book_needed(&file, at), numbers.as_ref().map_or(0, Vec::len))?;
-        ask_whole(&format!("book {question}"), &numbers, |lent| compare::book(&file, at, lent), &mut random, tally)?;
+        same(&format!("book {question} needed"), felgotany::book_needed(&file, at), numbers.as_ref().map_or(0, Vec::len))?;
+        ask_whole(&format!("book {question}"), &numbers, |lent| felgotany::book(&file, at, lent), &mut random, tally)?;
         let uses = book.map(|book| book.uses());
-        same(&format!("uses {question} needed"), compare::uses_needed(&file, at), uses.as_ref().map_or(0, Vec::len))?;
-        ask_whole(&format!("uses {question}"), &uses, |lent| compare::uses(&file, at, lent), &mut random, tally)?;
+        same(&format!("uses {question} needed"), felgotany::uses_needed(&file, at), uses.as_ref().map_or(0, Vec::len))?;
+        ask_whole(&format!("uses {question}"), &uses, |lent| felgotany::uses(&file, at, lent), &mut random, tally)?;
     }
 
     // all questions at once, of the file held
@@ -109,7 +109,7 @@ fn compare_account(seed: u64, index: u64, tally: &mut Tally) -> Result<(), Strin
     for lent in [all, all.map(|needed| generate::lent(&mut random, needed))] {
         let proved = |lent_for: [&mut [i64]; 3]| {
             let [figures, books, uses] = lent_for;
-            let outcomes = compare::all(&file, figures, books, uses);
+            let outcomes = felgotany::all(&file, figures, books, uses);
             [outcomes.figures, outcomes.books, outcomes.uses]
         };
         let second = |lent_for: [&mut [i64]; 3]| {
@@ -127,11 +127,11 @@ fn compare_account(seed: u64, index: u64, tally: &mut Tally) -> Result<(), Strin
         let question = generate::question(&mut random);
         let second = |lent: &mut [i64]| independent::book(&file, question, lent);
         let lent = generate::lent(&mut random, needed(second));
-        let proved = |lent: &mut [i64]| compare::book(&file, question as usize, lent);
+        let proved = |lent: &mut [i64]| felgotany::book(&file, question as usize, lent);
         ask(&format!("book {question}"), lent, proved, |lent| outcome(second(lent)), &mut random, tally)?;
         let second = |lent: &mut [i64]| independent::uses(&file, question, lent);
         let lent = generate::lent(&mut random, needed(second));
-        let proved = |lent: &mut [i64]| compare::uses(&file, question as usize, lent);
+        let proved = |lent: &mut [i64]| felgotany::uses(&file, question as usize, lent);
         ask(&format!("uses {question}"), lent, proved, |lent| outcome(second(lent)), &mut random, tally)?;
     }
     Ok(())

@@ -23,7 +23,7 @@ const TABLE_QUESTION: u64 = 16;
 /// The contracts of the chosen pairs.
 const CONTRACTS: [u64; 3] = [0, 3, 5];
 
-const HEADER: &str = "-- What the definitions compute, held against the independent program.
+const HEADER: &str = "-- What the definitions compute, checked against the independent program.
 use Prim.Native.Nat.{ℕ}
 use mathlib.Core.Path.{_≡_, refl}
 use mathlib.Core.Bool.{true, false}

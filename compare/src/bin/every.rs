@@ -2,7 +2,7 @@
 //! longest answers of accounts at their limits, the last question that is answered, and the fewest numbers that all questions
 //! at once are not refused for.
 
-use compare::Outcome;
+use felgotany::Outcome;
 use independent::joined::{self, Cover};
 use independent::units::Amount;
 use independent::{held_book, held_figures, Account, PairRefusal, Refusal};
@@ -42,8 +42,8 @@ fn at_the_limits() -> [Vec<u8>; 2] {
 
 fn constants() -> [usize; 6] {
     let [contracts, full] = at_the_limits();
-    let table = (0..100).rev().find(|&question| compare::book(&[], question, &mut []).refusal == 0).unwrap_or(0);
-    let all = |books: usize, uses: usize| compare::all(&full, &mut [0; 9], &mut vec![0; books], &mut vec![0; uses]);
+    let table = (0..100).rev().find(|&question| felgotany::book(&[], question, &mut []).refusal == 0).unwrap_or(0);
+    let all = |books: usize, uses: usize| felgotany::all(&full, &mut [0; 9], &mut vec![0; books], &mut vec![0; uses]);
     let least = |refused: &dyn Fn(usize) -> bool, most: usize| {
         let (mut low, mut high) = (0, most);
         while low < high {
@@ -53,9 +53,9 @@ fn constants() -> [usize; 6] {
         low
     };
     [
-        compare::figures_needed(&contracts),
-        compare::book_needed(&full, 0),
-        compare::uses_needed(&full, 0),
+        felgotany::figures_needed(&contracts),
+        felgotany::book_needed(&full, 0),
+        felgotany::uses_needed(&full, 0),
         table,
         least(&|numbers| all(numbers, 0).books.refusal != 0, 100_000),
         least(&|numbers| all(0, numbers).uses.refusal != 0, 100_000),

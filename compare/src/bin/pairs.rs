@@ -5,7 +5,7 @@
 //! change.
 
 use compare::asking::{ask_each, same, Run};
-use compare::{CallOutcome, Pair, PairOutcome, PromptPlace};
+use felgotany::{CallOutcome, Pair, PairOutcome, PromptPlace};
 use independent::generate::{self, Random};
 use independent::joined::{self, Cover};
 use independent::margin::{figures_of, total};

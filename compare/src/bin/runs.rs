@@ -3,7 +3,7 @@
 //! afterwards and those behind them must agree; and each account's places must be what the plain question leaves of it.
 
 use compare::asking::{same, Run};
-use compare::Outcome;
+use felgotany::Outcome;
 use independent::generate::{self, Random};
 use independent::refusal::{Refusal, LENGTHS_DIFFER, TOO_FEW_LENT};
 use independent::run::{accounts, answer, FIGURES_PLACE};
@@ -118,7 +118,7 @@ fn ask(bytes: &[u8], lengths: &[usize], before: Memory, tally: &mut Tally) -> Re
     let (figures, outcomes) = by_proved.lend();
     let (lent, lent_outcomes) = (figures.len(), outcomes.len());
     let what = format!("{} accounts, {lent} and {lent_outcomes} numbers lent", lengths.len());
-    let given = compare::run(bytes, lengths, figures, outcomes);
+    let given = felgotany::run(bytes, lengths, figures, outcomes);
 
     let wanted = second(bytes, lengths, &mut by_second, tally);
     same(&what, given, wanted)?;
@@ -161,7 +161,7 @@ fn plain(bytes: &[u8], lengths: &[usize], memory: &mut Memory) {
     let mut left = bytes;
     for (place, &length) in lengths.iter().enumerate() {
         let (file, after) = left.split_at(length);
-        let told = compare::figures(file, &mut figures[FIGURES_PLACE * place..][..FIGURES_PLACE]);
+        let told = felgotany::figures(file, &mut figures[FIGURES_PLACE * place..][..FIGURES_PLACE]);
         outcomes[OUTCOME_PLACE * place..][..OUTCOME_PLACE].copy_from_slice(&[told.refusal, told.record]);
         left = after;
     }

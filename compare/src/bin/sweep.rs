@@ -5,7 +5,7 @@
 //!
 //! sweep write FOLDER: the records with these faults, and with none, each as FOLDER/sweep-NUMBER.record; an unused byte once.
 
-use compare::{Outcome, Pair, PairOutcome};
+use felgotany::{Outcome, Pair, PairOutcome};
 use std::process::ExitCode;
 
 type Record = [u8; 96];
@@ -119,21 +119,21 @@ fn spreads(name: &'static str, legs: u8) -> Sort {
 /// "1, 2: contracts; 3: credit percent 0..100; 4-5, 6-7: their ratios"; 2026-03: "Byte 8 of kind 5 set to 1 says that its ratios
 /// are tenths, 1..1000; 0 keeps whole ratios."
 fn entries(name: &'static str, tenths: u8) -> Sort {
-    let most = if tenths == 1 { 1_000 } else { 100 };
     let entry = |first, second| {
         let mut entry = [0; 96];
         entry[..9].copy_from_slice(&[5, first, second, 50, 1, 0, 1, 0, tenths]);
         [listed(), vec![entry]].concat()
     };
+    let ratios = if tenths == 1 { (1, 1_000) } else { (1, 100) };
     Sort {
         name,
         fields: vec![
             field("first contract", (1, 1), (0, 15)),
             field("second contract", (2, 2), (0, 15)),
             field("credit percent", (3, 3), (0, 100)),
-            field("first ratio", (4, 5), (1, most)),
-            field("second ratio", (6, 7), (1, most)),
-            field("ratios in tenths", (8, 8), (0, 1)),
+            field("first ratio", (4, 5), ratios),
+            field("second ratio", (6, 7), ratios),
+            field("tenths", (8, 8), (0, 1)),
         ],
         unused: &[(9, 95)],
         file: entry(7, 3),
@@ -301,8 +301,8 @@ fn differences(case: &Case) -> Vec<String> {
     let mut lent = [0; 129];
     let second = independent::check(file).map_or_else(|told| (usize::from(told.number), told.record), |_| (0, 0));
     let said = [
-        ("check", compare::check(file) == outcome),
-        ("figures", compare::figures(file, &mut lent) == outcome),
+        ("check", felgotany::check(file) == outcome),
+        ("figures", felgotany::figures(file, &mut lent) == outcome),
         ("morning", Pair { morning: file, noon: &[] }.figures(&mut lent) == in_pair(1)),
         ("noon", Pair { morning: &[], noon: file }.figures(&mut lent) == in_pair(2)),
         ("independent program", second == (*refusal, *record)),
@@ -327,11 +327,8 @@ fn main() -> ExitCode {
         return ExitCode::FAILURE;
     }
     // the unused bytes of a row are the same for the three, those of an intercontract spread for the two
-    let unused: Vec<Case> = sorts
-        .iter()
-        .filter(|sort| !["call row", "put row", "intercontract spread in tenths"].contains(&sort.name))
-        .flat_map(unused_bytes)
-        .collect();
+    let again = ["call row", "put row", "intercontract spread in tenths"];
+    let unused: Vec<Case> = sorts.iter().filter(|sort| !again.contains(&sort.name)).flat_map(unused_bytes).collect();
     let mut ranges: Vec<Case> = sorts.iter().flat_map(ends).collect();
     ranges.extend(sorts.iter().filter(|sort| sort.name.ends_with("legs")).flat_map(legs));
     ranges.extend(sorts.iter().filter(|sort| sort.name.ends_with("row")).flat_map(classes));

@@ -34,16 +34,6 @@ pub fn record_at(file: &[u8], k: usize) -> &[u8]
     stretch(file, k, 1)
 }
 
-// The record before record `k`, of no bytes where there is none.
-pub fn before_at(file: &[u8], k: usize) -> &[u8]
-    ensures { λ r. ⌜ now r ≡ beforeAt (now (file .entry)) k ⌝ }
-{
-    if k == 0 {
-        return &file[..0];
-    }
-    record_at(file, k - 1)
-}
-
 // Record `k` where the file has it, read at its known length.
 pub(crate) fn whole_at(file: &[u8], k: usize) -> &[u8]
     requires { ⌜ k < recordCount (now file) ⌝ }

@@ -2,4 +2,4 @@
 pub mod input; // input.rt: the file on standard input
 pub mod lines; // lines.rt: lines of numbers on standard output
 pub mod numbers; // numbers.rt: numbers of an answer
-pub mod parts; // parts.rt: the records of a contract
+pub mod parts; // parts.rt: the contracts' own records

@@ -15,12 +15,12 @@ pub const FIGURES: usize = 8;
 
 pub const MOST_FIGURES: usize = CONTRACTS * FIGURES + 1;
 
-pub fn print_count(n: usize) {
+fn print_count(n: usize) {
     io::write_all(STDOUT_FILENO, b" ");
     io::print_decimal(STDOUT_FILENO, n as u64);
 }
 
-pub fn print_number(z: i64) {
+fn print_number(z: i64) {
     io::write_all(STDOUT_FILENO, b" ");
     if exact::signed::is_negative(z) {
         io::write_all(STDOUT_FILENO, b"-");
@@ -28,7 +28,7 @@ pub fn print_number(z: i64) {
     io::print_decimal(STDOUT_FILENO, exact::signed::magnitude(z));
 }
 
-pub fn end_line() {
+fn end_line() {
     io::write_all(STDOUT_FILENO, b"\n");
 }
 

@@ -1,13 +1,12 @@
-// The records of a part of an accepted file. There kinds ascend and, but for the intercontract spreads, contracts do not fall
-// within a kind: so the records stand in the order of the parts' numbers.
+// The contracts' own records of an accepted file. There kinds ascend and, but for the intercontract spreads, contracts do not
+// fall within a kind: so the records stand in the order of the parts' numbers.
 use account::notes::part_of;
-use account::parts::ENTRIES;
 use account::parts::PROMPTS;
 use account::stretches::record_at;
 use account::stretches::record_count;
 use account::stretches::stretch;
 ghost use mathlib.Core.Path.{_≡_};
-ghost use Rattle.reading.specs.Standing.{atOrPast, standsAt, restFrom, partIn, contractsIn};
+ghost use Rattle.reading.specs.Standing.{atOrPast, standsAt, contractsIn};
 
 // Whether a record is of part `v` or of a later one.
 fn at_or_past(r: &[u8], v: usize) -> bool
@@ -29,24 +28,6 @@ fn records_before(file: &[u8], v: usize) -> usize
         k += 1;
     }
     k
-}
-
-// The records from part `v` on.
-fn rest_from(file: &[u8], v: usize) -> &[u8]
-    ensures { λ r. ⌜ now r ≡ restFrom (now (file .entry)) v ⌝ }
-{
-    stretch(file, records_before(file, v), record_count(file))
-}
-
-// The records of part `v`.
-pub fn part(file: &[u8], v: usize) -> &[u8]
-    ensures { λ r. ⌜ now r ≡ partIn (now (file .entry)) v ⌝ }
-{
-    let rest = rest_from(file, v);
-    if ENTRIES <= v {
-        return rest;
-    }
-    stretch(rest, 0, records_before(rest, v + 1))
 }
 
 // The contracts' own records.

@@ -114,7 +114,8 @@ pub fn over_limit(record: Record, earlier: &[Record]) -> Option<String> {
         ROW => MOST_ROWS,
         SPREAD => MOST_SPREADS,
         ENTRY => {
-            return (of_kind.count() >= MOST_ENTRIES).then(|| say(OVER_LIMIT, &[&MOST_ENTRIES]))
+            return (of_kind.count() >= MOST_ENTRIES)
+                .then(|| say(OVER_TABLE_LIMIT, &[&MOST_ENTRIES]))
         }
         _ => return None,
     };

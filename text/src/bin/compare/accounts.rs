@@ -1,10 +1,11 @@
 //! One account: its text writes its bytes, and its explanation says what the independent check says.
 
-use crate::proved;
-use account_text::explain::{explain, Verdict};
+use account_text::explain::explain;
 use account_text::read::read;
-use account_text::wording::REFUSALS;
+use account_text::wording::faults;
 use account_text::write::write;
+use felgotany::refusals::{rule, REFUSALS};
+use felgotany::Outcome;
 use independent::format::RECORD_BYTES;
 use independent::generate::{self, Random};
 use std::collections::BTreeSet;
@@ -40,7 +41,7 @@ impl fmt::Display for Tally {
 impl Tally {
     /// Every verdict and every wording of the table has occurred.
     pub fn nothing_missing(&self) -> Result<(), String> {
-        let wordings = REFUSALS.iter().flat_map(|refusal| refusal.faults);
+        let wordings = REFUSALS.iter().flat_map(|refusal| faults(refusal.number));
         let unsaid: Vec<&&str> =
             wordings.filter(|wording| !self.wordings.contains(*wording)).collect();
         let missing: Vec<usize> =
@@ -60,14 +61,16 @@ pub fn hold_generated(seed: u64, index: u64, tally: &mut Tally) -> Result<(), St
     let place = random.place(text.len());
     text[place] = random.pick(b",\n#-0123456789ABxfr\"\xff");
     match write(&text) {
-        Ok(file) => {
-            same_bytes(&file)?;
+        Ok(written) => {
+            same_bytes(&written.file)?;
             tally.damaged_written += 1;
         }
         Err(misread)
-            if misread.line == 0 || misread.column.is_empty() || misread.expected.is_empty() =>
+            if misread.iter().any(|misread| {
+                misread.line == 0 || misread.column.is_empty() || misread.expected.is_empty()
+            }) =>
         {
-            return Err(format!("of a damaged text only this is said: {misread}"));
+            return Err(format!("of a damaged text only this is said: {misread:?}"));
         }
         Err(_) => tally.damaged_misread += 1,
     }
@@ -76,10 +79,10 @@ pub fn hold_generated(seed: u64, index: u64, tally: &mut Tally) -> Result<(), St
 
 pub fn hold(file: &[u8], tally: &mut Tally) -> Result<(), String> {
     same_bytes(file)?;
-    let verdict = proved::check(file);
+    let verdict = felgotany::check(file);
     let second = independent::check(file).map_or_else(
-        |refusal| Verdict { refusal: refusal.number.into(), record: refusal.record },
-        |_| Verdict { refusal: 0, record: 0 },
+        |refusal| Outcome { refusal: refusal.number.into(), record: refusal.record },
+        |_| Outcome { refusal: 0, record: 0 },
     );
     if verdict != second {
         return Err(format!("the proved check gives {verdict:?}, the independent one {second:?}"));
@@ -93,7 +96,8 @@ pub fn hold(file: &[u8], tally: &mut Tally) -> Result<(), String> {
 /// Reading, writing and reading again gives the same bytes and the same text.
 fn same_bytes(file: &[u8]) -> Result<(), String> {
     let text = read(file);
-    let written = write(text.as_bytes()).map_err(|misread| format!("its text: {misread}"))?;
+    let written = write(text.as_bytes()).map_err(|misread| format!("its text: {misread:?}"))?;
+    let written = written.file;
     if written != file {
         return Err("its text writes other bytes".to_string());
     }
@@ -105,16 +109,15 @@ fn same_bytes(file: &[u8]) -> Result<(), String> {
 
 /// The first line says the verdict, the second is one wording of that refusal, with a number that stands
 /// where it says, and the record's text stands under it.
-fn explained(file: &[u8], verdict: Verdict, said: &str, tally: &mut Tally) -> Option<()> {
-    let Verdict { refusal: number, record } = verdict;
+fn explained(file: &[u8], verdict: Outcome, said: &str, tally: &mut Tally) -> Option<()> {
+    let Outcome { refusal: number, record } = verdict;
     if number == 0 {
         let records = file.len() / RECORD_BYTES;
         return said.starts_with(&format!("accepted, {records} record")).then_some(());
     }
     let (first, rest) = said.split_once('\n')?;
-    let (second, text) = rest.split_once('\n')?;
-    let refusal = REFUSALS.iter().find(|refusal| refusal.number == number)?;
-    let wording = refusal.faults.iter().find(|wording| says(wording, second))?;
+    let (second, text) = rest.strip_prefix("  ")?.split_once('\n')?;
+    let wording = faults(number).iter().find(|wording| says(wording, second))?;
     tally.wordings.insert(wording);
     let bytes = match number {
         1 | 2 => &[],
@@ -124,7 +127,7 @@ fn explained(file: &[u8], verdict: Verdict, said: &str, tally: &mut Tally) -> Op
     let begins = first.starts_with(&format!("refusal {number}, record {record}"));
     let places = second.contains(") is ") || second.starts_with("byte ");
     let stands = !places || stands(second, bytes)?;
-    (begins && first.ends_with(refusal.rule) && text == named && stands).then_some(())
+    (begins && first.ends_with(rule(number)?) && text == named && stands).then_some(())
 }
 
 /// Whether a number stands where a line says, as in "day (bytes 4-7) is 20260319; ..".

@@ -1,6 +1,5 @@
 //! The examples and the documents: what they print is what the programs print.
 
-use crate::proved;
 use account_text::columns::{self, KINDS};
 use account_text::explain::explain;
 use account_text::wording;
@@ -38,8 +37,8 @@ impl Example {
     /// has them exactly if it is accepted.
     pub fn hold(&self) -> Result<(), String> {
         let written =
-            write(self.text.as_bytes()).map_err(|misread| format!("{}: {misread}", self.name))?;
-        if written != self.file {
+            write(self.text.as_bytes()).map_err(|misread| format!("{}: {misread:?}", self.name))?;
+        if written.file != self.file {
             return Err(format!("{}: its text writes other bytes", self.name));
         }
         let comments = self.text.lines().filter_map(|line| line.strip_prefix("# "));
@@ -84,7 +83,7 @@ pub fn hold_refusals(examples: &[Example]) -> Result<(), String> {
     let too_long = one.repeat(MOST_RECORDS + 1);
     let files = examples.iter().map(|example| (example.name.as_str(), &example.file));
     for (name, file) in files.chain([("too many records", &too_long)]) {
-        let verdict = proved::check(file);
+        let verdict = felgotany::check(file);
         if verdict.refusal != 0 {
             let said = explain(file, verdict).ok_or(format!("{name}: no fault is found"))?;
             has(&said, name)?;

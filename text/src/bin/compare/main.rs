@@ -1,10 +1,8 @@
-//! compare SEED COUNT: holds the text form and the explanations of COUNT generated accounts and of the
+//! compare SEED COUNT: checks the text form and the explanations of COUNT generated accounts and of the
 //! examples against the files themselves and the independent program, and the documents against both.
 
 mod accounts;
 mod documents;
-#[path = "../../proved.rs"]
-mod proved;
 
 use accounts::Tally;
 use std::process::ExitCode;

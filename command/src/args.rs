@@ -1,0 +1,119 @@
+//! How the command is called.
+
+use clap::{Args, Parser, Subcommand};
+use std::path::PathBuf;
+
+const NOTES: &str = "\
+An account is an account file or its text form, a CSV file with one record a line, as `felgotany read` prints it. A name
+of - is standard input, which is also read where no account is named.
+
+Exit status: 0 answered, 1 the account is refused, 2 called wrongly, 3 something could not be read or written.";
+
+/// SPAN margin for metal forwards and options
+#[derive(Parser)]
+#[command(name = "felgotany", version, after_help = NOTES, max_term_width = 120)]
+pub struct Call {
+    #[command(subcommand)]
+    pub asked: Asked,
+}
+
+#[derive(Subcommand)]
+pub enum Asked {
+    /// Say whether accounts are accepted, or what is refused
+    Check {
+        /// Account files or their text form; - is standard input
+        #[arg(value_name = "ACCOUNT", default_value = "-")]
+        accounts: Vec<PathBuf>,
+        #[command(flatten)]
+        form: Form,
+        #[command(flatten)]
+        empty: Empty,
+    },
+    /// The margin of accounts: each contract's figures and the total
+    Margin {
+        /// Account files or their text form; - is standard input
+        #[arg(value_name = "ACCOUNT", default_value = "-")]
+        accounts: Vec<PathBuf>,
+        #[command(flatten)]
+        form: Form,
+        #[command(flatten)]
+        empty: Empty,
+    },
+    /// The figures and the delta books, with who paid for which spread
+    Book {
+        /// An account file or its text form; - is standard input
+        #[arg(default_value = "-")]
+        account: PathBuf,
+        /// Only this delta book: 0 to 15 for that contract, 16 for the intercontract spreads
+        question: Option<usize>,
+        #[command(flatten)]
+        form: Form,
+        #[command(flatten)]
+        empty: Empty,
+    },
+    /// The morning's account with a noon file joined to it, and the call on it
+    Noon {
+        /// The morning's account file or its text form
+        morning: PathBuf,
+        /// The noon file or its text form: the contracts that traded, without intercontract spreads
+        noon: PathBuf,
+        /// The last cover call, the threshold and the revalued collateral, in whole hundredths of the currency
+        #[arg(long, num_args = 3, value_names = ["LAST", "THRESHOLD", "COLLATERAL"], allow_negative_numbers = true, conflicts_with = "csv")]
+        call: Option<Vec<i64>>,
+        #[command(flatten)]
+        form: Form,
+        #[command(flatten)]
+        empty: Empty,
+    },
+    /// Say in words why an account is refused, and show the record
+    Explain {
+        /// An account file or its text form; - is standard input
+        #[arg(default_value = "-")]
+        account: PathBuf,
+        /// Print every refusal in words in place of explaining an account
+        #[arg(long, conflicts_with_all = ["account", "empty"])]
+        refusals: bool,
+        #[command(flatten)]
+        empty: Empty,
+    },
+    /// Print an account as text that can be edited and written again
+    Read {
+        /// An account file or its text form; - is standard input
+        #[arg(default_value = "-")]
+        account: PathBuf,
+        /// Where the text goes, in place of standard output
+        output: Option<PathBuf>,
+        #[command(flatten)]
+        empty: Empty,
+    },
+    /// Write an account file from its text form
+    Write {
+        /// The text, or - for standard input
+        text: PathBuf,
+        /// The name of the account file, which is written whole or not at all
+        output: PathBuf,
+        /// Write an account that is refused, too
+        #[arg(long)]
+        refused: bool,
+        #[command(flatten)]
+        empty: Empty,
+    },
+}
+
+/// For whom is printed: people, other programs, or a spreadsheet.
+#[derive(Args, Clone, Copy)]
+pub struct Form {
+    /// Print lines for other programs, in whole hundredths and ten-thousandths; what is refused is an R line
+    #[arg(long, conflicts_with = "csv")]
+    pub lines: bool,
+    /// Print CSV for a spreadsheet, with a header line
+    #[arg(long)]
+    pub csv: bool,
+}
+
+#[derive(Args, Clone, Copy)]
+pub struct Empty {
+    /// Take an account without records, which is accepted and has a total of 0
+    #[arg(long)]
+    pub empty: bool,
+}

@@ -1,0 +1,130 @@
+//! A noon file joined to the morning's: which file supplied each contract, the joined account, and the call.
+
+use crate::account::Account;
+use crate::args::Form;
+use crate::failure::Failure;
+use crate::input::Input;
+use crate::numbers::amount;
+use crate::table::table;
+use crate::{lines, page, sheet};
+use felgotany::refusals::{rule, AMOUNT_OUTSIDE_RANGE, NOON_INTERCONTRACT};
+use felgotany::{Outcome, Pair, PairOutcome, PromptPlace, MORNING, NOON};
+use independent::format::{Record, DAY, RECORD_BYTES};
+
+pub fn ask(morning: &Input, noon: &Input, amounts: Option<&[i64]>, form: Form) -> Result<String, Failure> {
+    let pair = Pair { morning: &morning.file, noon: &noon.file };
+    let refused = |outcome| refusal(morning, noon, amounts, outcome);
+    let account = Account::of_pair(pair).map_err(refused)?;
+    let call = match amounts {
+        Some(&[last, threshold, collateral]) => Some(Call::of(pair, &account, [last, threshold, collateral]).map_err(refused)?),
+        _ => None,
+    };
+    Ok(match form {
+        Form { lines: true, .. } => as_lines(pair, &account, call),
+        Form { csv: true, .. } => sheet::joined(&account, &|contract| supplier(pair, contract).to_string()),
+        _ => as_page(pair, &account, call),
+    })
+}
+
+/// The call, and what it goes by.
+struct Call {
+    requirement: i64,
+    amounts: [i64; 3],
+    call: u64,
+}
+
+impl Call {
+    fn of(pair: Pair, account: &Account, amounts: [i64; 3]) -> Result<Call, PairOutcome> {
+        let [last, threshold, collateral] = amounts;
+        let called = pair.call(last, threshold, collateral);
+        match called.outcome.refusal {
+            0 => Ok(Call { requirement: account.total, amounts, call: called.call }),
+            _ => Err(called.outcome),
+        }
+    }
+
+    fn page(&self) -> String {
+        let Call { requirement, amounts: [last, threshold, collateral], call } = *self;
+        let line = |label: &str, figure: String| format!("  {label:<20}{figure:>21}\n");
+        let mut page = String::from("\nCall\n\n");
+        page += &line("requirement", amount(requirement));
+        page += &line("last cover call", amount(last));
+        page += &line("threshold", amount(threshold));
+        page += &line("revalued collateral", amount(collateral));
+        if call > 0 {
+            return page + &line("call", amount(call as i64));
+        }
+        page += &line("call", "none".to_string());
+        let why = if requirement <= last + threshold {
+            "the requirement is not above the last cover call plus the threshold"
+        } else {
+            "the requirement is not above the revalued collateral"
+        };
+        page + &format!("  ({why})\n")
+    }
+}
+
+/// The name of the file that supplies a contract.
+fn supplier(pair: Pair, contract: i64) -> &'static str {
+    match usize::try_from(contract).map_or(0, |contract| pair.prompts(contract).file) {
+        MORNING => "morning",
+        NOON => "noon",
+        _ => "",
+    }
+}
+
+fn as_lines(pair: Pair, account: &Account, call: Option<Call>) -> String {
+    let contracts = account.contracts.iter().map(|contract| contract.figures[0]);
+    let supplied = contracts.map(|contract| lines::supplied(contract, pair.prompts(contract as usize)));
+    let call = call.map_or(String::new(), |call| lines::call(call.call));
+    supplied.chain([lines::account(account), call]).collect()
+}
+
+fn as_page(pair: Pair, account: &Account, call: Option<Call>) -> String {
+    let header = ["contract", "supplied by", "prompts"].map(str::to_string).to_vec();
+    let contracts = account.contracts.iter().map(|contract| {
+        let number = contract.figures[0];
+        vec![number.to_string(), supplier(pair, number).to_string(), prompts(pair, number as usize)]
+    });
+    let rows: Vec<Vec<String>> = [header].into_iter().chain(contracts).collect();
+    let call = call.map_or(String::new(), |call| call.page());
+    let records = account_text::wording::counted(account.records, "record");
+    format!("Joined account, {records}\n\n{}\n{}{call}", table(&rows), page::account(account))
+}
+
+/// The days of a contract's prompts, from the file that supplies them.
+fn prompts(pair: Pair, contract: usize) -> String {
+    let PromptPlace { file, first, records } = pair.prompts(contract);
+    let from = if file == NOON { pair.noon } else { pair.morning };
+    let part = &from[first * RECORD_BYTES..][..records * RECORD_BYTES];
+    let days = part.chunks_exact(RECORD_BYTES).map(|record| Record(record).get(DAY).to_string());
+    match records {
+        0 => "none".to_string(),
+        _ => days.collect::<Vec<_>>().join(" "),
+    }
+}
+
+/// A refusal of two files in words, and as a line.
+fn refusal(morning: &Input, noon: &Input, amounts: Option<&[i64]>, outcome: PairOutcome) -> Failure {
+    let PairOutcome { file, refusal, record } = outcome;
+    let line = format!("R {file} {refusal} {record}");
+    let of_file = |input: &Input| {
+        let told = input.refusal_in_words(Outcome { refusal, record });
+        format!("{}: {told}", input.name)
+    };
+    let rule = rule(refusal).unwrap_or_default();
+    let told = match (file, refusal) {
+        (NOON, NOON_INTERCONTRACT) => {
+            let advice = "intercontract spreads always come from the morning: leave them out of the noon file";
+            format!("{}: refusal {refusal}, {}: {rule}\n  {advice}", noon.name, noon.place(record))
+        }
+        (MORNING, _) => of_file(morning),
+        (NOON, _) => of_file(noon),
+        (_, AMOUNT_OUTSIDE_RANGE) => {
+            let amounts: Vec<String> = amounts.unwrap_or_default().iter().map(i64::to_string).collect();
+            format!("joined account: refusal {refusal}, record {record}: {rule}\n  the amounts are {}", amounts.join(", "))
+        }
+        _ => format!("joined account: refusal {refusal}, record {record}: {rule}\n  {record} records are joined"),
+    };
+    Failure::refused(told, line)
+}

@@ -115,13 +115,13 @@ other-contract k c d r h e =
 
 -- ---- the parts of the joined account
 module _ (m n : List Record) where
-  joined-kind : (k : ℕ) → Each (λ r. kind r ≡ k) (joinedOf m n k)
+  pub joined-kind : (k : ℕ) → Each (λ r. kind r ≡ k) (joinedOf m n k)
   joined-kind k =
       every-turn (λ c. keep (ofContract k c) (supplier m n c)) (λ r. kind r ≡ k) 0 16
       (λ c l h. every-weaker (keep (ofContract k c) (supplier m n c)) (λ r e. kind-of k c r e .0)
       (kept-pass (ofContract k c) (supplier m n c)))
 
-  entries-kind : Each (λ r. kind r ≡ 5) (entriesOf m)
+  pub entries-kind : Each (λ r. kind r ≡ 5) (entriesOf m)
   entries-kind = every-weaker (entriesOf m) (λ r e. eqb-true (kind r) 5 e) (kept-pass (ofKind 5) m)
 
   -- a test that records of one kind alone pass

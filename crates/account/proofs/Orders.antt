@@ -37,7 +37,7 @@ every-at P [] e k h = absurd (not-suc-le-zero h)
 every-at P (r ∷ rs) e zero h = e .0
 every-at P (r ∷ rs) e (suc k) h = every-at P rs (e .1) k (le-of-suc-le-suc h)
 
-cut-at : (n k : ℕ) (file : List ℕ) → k < n → getD (cut n file) k [] ≡ recordAt file k
+pub cut-at : (n k : ℕ) (file : List ℕ) → k < n → getD (cut n file) k [] ≡ recordAt file k
 cut-at zero k file h = absurd (not-suc-le-zero h)
 cut-at (suc n) zero file h = refl
 cut-at (suc n) (suc k) file h =

@@ -9,5 +9,8 @@ pub mod Claims
 pub mod Orders
 pub mod Lawful
 pub mod Joined
-pub mod Supplied
+pub mod Standing
 pub mod Noon
+pub mod PairClaims
+pub mod Whole
+pub mod Determined

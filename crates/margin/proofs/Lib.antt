@@ -22,13 +22,12 @@ pub mod FigureLaws
 pub mod AcceptLaws
 pub mod StandLaws
 pub mod AccountLaws
-pub mod QuestionLaws
 pub mod AskedLaws
-pub mod Demands
-pub mod HeldLaws
+pub mod QuestionLaws
+pub mod PlaceLaws
 pub mod UnspreadLaws
 pub mod TierLaws
 pub mod UsesLaws
 pub mod NeedLaws
-pub mod PlaceLaws
-pub mod NoonLaws
+pub mod Skipped
+pub mod Unpaired

@@ -13,3 +13,4 @@ pub mod Running
 pub mod Soundness
 pub mod Spending
 pub mod Stepping
+pub mod Again

@@ -1,0 +1,88 @@
+-- What request 2026-01 demands of a pair of files, as claims about the definitions `joinedVerdict` and `joinedPrompts`: each refusal
+-- is given exactly when the request says, the first in its order, and a contract's prompts are those of the joined account.
+-- Assumes nothing.
+use Prim.Native.Nat.{ℕ, _≤_, _<_}
+use mathlib.Core.Path.{_≡_}
+use mathlib.Core.Bool.{true, false}
+use mathlib.Core.List.{List, []}
+use mathlib.Core.Logic.{_⊎_}
+use lib.ListN.{length}
+use Rattle.record.specs.Layout.{mostContract}
+use Rattle.account.specs.Accepted.{listed, partBytes}
+use Rattle.account.specs.Answers.{numberOf, recordOf}
+use Rattle.account.specs.Check.{checked, mostRecords}
+use Rattle.account.specs.Claims.{Iff, Gives}
+use Rattle.account.specs.Noon.{clear, joinedVerdict, joinedPrompts}
+use Rattle.account.specs.Notes.{part}
+use Rattle.account.specs.Parts.{ofKind, promptsOf}
+use Rattle.account.specs.Records.{records, recordAt, recordCount}
+use Rattle.account.specs.Standing.{accountOf}
+use Rattle.account.specs.declared.answers.Answer.the-variants.{Accepted}
+use Rattle.account.specs.declared.noon.Verdict.{Verdict}
+
+-- a verdict says refusal n and record k of a file: of the morning's, 1, the noon's, 2, or the joined account, 0
+pub record Says (v : Verdict) (file n k : ℕ) : Type 0 where
+  pub of : v .file ≡ file
+  pub number : numberOf (v .answer) ≡ n
+  pub place : recordOf (v .answer) ≡ k
+
+-- neither file is refused by 01
+pub record BothPass (morning noon : List ℕ) : Type 0 where
+  pub first : checked morning ≡ Accepted
+  pub second : checked noon ≡ Accepted
+
+-- "the noon file has kind 5, at its first such record"
+pub record FirstSpread (noon : List ℕ) (k : ℕ) : Type 0 where
+  pub there : k < recordCount noon
+  pub here : ofKind 5 (recordAt noon k) ≡ true
+  pub before : (j : ℕ) → j < k → ofKind 5 (recordAt noon j) ≡ false
+
+pub record NoSpread (noon : List ℕ) : Type 0 where
+  pub none : (j : ℕ) → j < recordCount noon → ofKind 5 (recordAt noon j) ≡ false
+
+-- "Refusals: each file by 01's 1 to 9, morning first, saying which; then 12 ..; then, naming the joined record count, 13, more than
+-- 640 records joined"
+pub record PairExactly (morning noon : List ℕ) : Type 0 where
+  pub ofMorning : (n k : ℕ) → 1 ≤ n → n ≤ 9 → Iff (Says (joinedVerdict morning noon) 1 n k) (Gives morning n k)
+  pub ofNoon : (n k : ℕ) → 1 ≤ n → n ≤ 9 → Iff (Says (joinedVerdict morning noon) 2 n k) ((checked morning ≡ Accepted) × Gives noon n k)
+  pub twelve : (k : ℕ) → Iff (Says (joinedVerdict morning noon) 2 12 k) (BothPass morning noon × FirstSpread noon k)
+  pub thirteen : (k : ℕ) → Iff (Says (joinedVerdict morning noon) 0 13 k)
+      (BothPass morning noon × (NoSpread noon × ((mostRecords < length (accountOf morning noon)) × (length (accountOf morning noon) ≡ k))))
+  pub accepted : Iff (Says (joinedVerdict morning noon) 0 0 0)
+      (BothPass morning noon × (NoSpread noon × (length (accountOf morning noon) ≤ mostRecords)))
+
+-- "saying which": a refusal of the morning's file is one of 1 to 9, of the noon file one of these or 12, of the joined account 13
+pub record OfMorning (v : Verdict) : Type 0 where
+  pub of : v .file ≡ 1
+  pub least : 1 ≤ numberOf (v .answer)
+  pub most : numberOf (v .answer) ≤ 9
+
+pub record OfNoon (v : Verdict) : Type 0 where
+  pub of : v .file ≡ 2
+  pub number : ((1 ≤ numberOf (v .answer)) × (numberOf (v .answer) ≤ 9)) ⊎ (numberOf (v .answer) ≡ 12)
+
+pub record OfJoined (v : Verdict) : Type 0 where
+  pub of : v .file ≡ 0
+  pub number : (numberOf (v .answer) ≡ 0) ⊎ (numberOf (v .answer) ≡ 13)
+
+-- "hand back its prompt records as they stand in whichever file supplies them, an empty part if neither lists it or the pair's
+-- records are refused"
+pub record PromptsHanded (morning noon : List ℕ) (c : ℕ) : Type 0 where
+  -- they are the prompts of that contract in the joined account
+  pub joined : clear (joinedVerdict morning noon) ≡ true → c ≤ mostContract
+      → records (joinedPrompts morning noon c) ≡ promptsOf c (accountOf morning noon)
+  -- as they stand in the noon file if it lists the contract, else in the morning's
+  pub fromNoon : clear (joinedVerdict morning noon) ≡ true → c ≤ mostContract → listed c (records noon) ≡ true
+      → joinedPrompts morning noon c ≡ partBytes noon (part 2 c)
+  pub fromMorning : clear (joinedVerdict morning noon) ≡ true → c ≤ mostContract → listed c (records noon) ≡ false
+      → listed c (records morning) ≡ true → joinedPrompts morning noon c ≡ partBytes morning (part 2 c)
+  -- an empty part
+  pub unlisted : listed c (records noon) ≡ false → listed c (records morning) ≡ false → joinedPrompts morning noon c ≡ []
+  pub refused : clear (joinedVerdict morning noon) ≡ false → joinedPrompts morning noon c ≡ []
+  pub beyond : mostContract < c → joinedPrompts morning noon c ≡ []
+
+-- all that is claimed of the check of a pair
+pub record PairClaims (morning noon : List ℕ) : Type 0 where
+  pub exactly : PairExactly morning noon
+  pub saying : OfMorning (joinedVerdict morning noon) ⊎ (OfNoon (joinedVerdict morning noon) ⊎ OfJoined (joinedVerdict morning noon))
+  pub prompts : (c : ℕ) → PromptsHanded morning noon c

@@ -1,0 +1,70 @@
+-- All that is promised holds, of any bytes.
+-- Assumes nothing.
+use Prim.Native.Nat.{ℕ}
+use mathlib.Core.List.{List}
+use Rattle.exact.proofs.Determined.{one-result, one-outcome, one-largest, one-scaled}
+use Rattle.spread.proofs.Booking.{took-one, booked-one}
+use Rattle.spread.proofs.Stepping.{stepped-one}
+use Rattle.account.proofs.Claimed.{claimed}
+use Rattle.account.proofs.OneJoined.{determined}
+use Rattle.account.proofs.PairClaimed.{pair-claimed}
+use Rattle.questions.proofs.Demands.{demand1, demand2, demanded-file, demanded-joined}
+use Rattle.questions.proofs.HeldLaws.{one-view, one-asked}
+use Rattle.questions.proofs.PairDemands.{pair-demand1}
+use Rattle.margin.proofs.PairLaws.{pair-table}
+use Rattle.margin.proofs.Reckoned.{reckoned, printed}
+use Rattle.margin.proofs.Skipped.{file-skips-none, pair-skips-none}
+use Rattle.margin.proofs.Unpaired.{file-unpaired, pair-unpaired}
+use Rattle.felgotany.specs.Roof.{OneFile, TwoFiles, Equations, OneOutcome, Roof}
+use Rattle.felgotany.proofs.Told.{one-told, all-told, one-told-of, one-call, one-place}
+
+one-file : (file : List ℕ) → OneFile file
+one-file file =
+    record {
+      demand1 = demand1 file;
+      exact = claimed file;
+      demand3 = demanded-file file;
+      skipped = file-skips-none file;
+      unpaired = file-unpaired file;
+    }
+
+two-files : (morning noon : List ℕ) → TwoFiles morning noon
+two-files morning noon =
+    record {
+      demand1 = pair-demand1 morning noon;
+      exact = pair-claimed morning noon;
+      demand3 = demanded-joined morning noon;
+      skipped = pair-skips-none morning noon;
+      unpaired = pair-unpaired morning noon;
+    }
+
+one-outcomes : OneOutcome
+one-outcomes =
+    record {
+      largest = one-largest;
+      scaled = one-scaled;
+      took = took-one;
+      booked = booked-one;
+      stepped = stepped-one;
+      check = determined;
+      view = one-view;
+      asked = one-asked;
+      told = one-told;
+      allTold = all-told;
+      toldOf = one-told-of;
+      called = one-call;
+      placed = one-place;
+    }
+
+pub roof : Roof
+roof =
+    record {
+      oneFile = one-file;
+      twoFiles = two-files;
+      demand2 = demand2;
+      reckoned = reckoned;
+      printed = printed;
+      pairTable = pair-table;
+      equations = record { result = λ x r s. one-result x r s; outcome = λ x r s y after after′. one-outcome x r s y after after′ };
+      oneOutcome = one-outcomes;
+    }

@@ -1,0 +1,116 @@
+-- All that is promised, under one roof: the three demands over one file and over a pair of files, the table of reckoned examples, the
+-- exactness of the check, that no accepted line is skipped, that nothing still open could have been paired, the table of paired
+-- scenarios, and that no promise leaves a choice. proofs/Roof.antt proves it of any bytes.
+-- Assumes nothing.
+use Prim.Native.Nat.{ℕ}
+use denote.Ref.{RefT}
+use mathlib.Core.Path.{_≡_}
+use mathlib.Core.Bool.{Bool, true}
+use mathlib.Core.List.{List}
+use lib.IntN.{ℤ}
+use Rattle.exact.specs.Largest.{IsLargest}
+use Rattle.exact.specs.Wide.{Scaled}
+use Rattle.exact.specs.declared.largest.Place.{Place as Largest}
+use Rattle.spread.specs.Book.{Booked}
+use Rattle.spread.specs.Cells.{Taken}
+use Rattle.spread.specs.Steps.{Taker}
+use Rattle.spread.specs.Uses.{Stepped}
+use Rattle.spread.specs.declared.Prompts.{Prompts}
+use Rattle.spread.specs.declared.Spread.{Spread}
+use Rattle.spread.specs.declared.Table.{Table}
+use Rattle.spread.specs.declared.book.Book.{Book}
+use Rattle.spread.specs.declared.pools.Took.{Took}
+use Rattle.spread.specs.declared.stepwise.Step.{Step}
+use Rattle.account.specs.Check.{checked}
+use Rattle.account.specs.Claims.{Claims}
+use Rattle.account.specs.Determined.{Determined}
+use Rattle.account.specs.Noon.{clear, joinedVerdict}
+use Rattle.account.specs.PairClaims.{PairClaims}
+use Rattle.account.specs.Records.{records}
+use Rattle.account.specs.Standing.{accountOf}
+use Rattle.account.specs.declared.answers.Answer.{Answer}
+use Rattle.account.specs.declared.answers.Answer.the-variants.{Accepted}
+use Rattle.account.specs.declared.noon.Place.{Place}
+use Rattle.account.specs.declared.noon.Verdict.{Verdict}
+use Rattle.questions.specs.Demands.{Demand1, Demand2, Demanded}
+use Rattle.questions.specs.Held.{FromCheck}
+use Rattle.questions.specs.PairDemands.{PairDemand1}
+use Rattle.margin.specs.Pairs.{PairTable}
+use Rattle.margin.specs.Reckoned.{Reckoned, Printed}
+use Rattle.margin.specs.Skipped.{NoneSkipped}
+use Rattle.margin.specs.Unpaired.{NothingOpen}
+use Rattle.questions.specs.declared.held.Asked.{Asked}
+use Rattle.questions.specs.declared.held.Held.{Held}
+use Rattle.questions.specs.declared.noon.Call.{Call}
+use Rattle.felgotany.specs.Outcomes.{Tells, TellsOf, TellsCall, TellsPlace}
+use Rattle.felgotany.specs.declared.CallOutcome.{CallOutcome}
+use Rattle.felgotany.specs.declared.Outcome.{Outcome}
+use Rattle.felgotany.specs.declared.Outcomes.{Outcomes}
+use Rattle.felgotany.specs.declared.PairOutcome.{PairOutcome}
+use Rattle.felgotany.specs.declared.PromptPlace.{PromptPlace}
+
+-- ---- one file
+
+pub record OneFile (file : List ℕ) : Type 0 where
+  -- "Every input gets an answer ..", with the exactness of the check, and lent memory
+  pub demand1 : Demand1 file
+  -- "each refusal is given exactly when": the table of document 01
+  pub exact : Claims file
+  -- "For each accepted account and each spread table"
+  pub demand3 : checked file ≡ Accepted → Demanded (records file)
+  pub skipped : checked file ≡ Accepted → NoneSkipped (records file)
+  pub unpaired : checked file ≡ Accepted → NothingOpen (records file)
+
+-- ---- a pair of files, request 2026-01
+
+pub record TwoFiles (morning noon : List ℕ) : Type 0 where
+  pub demand1 : PairDemand1 morning noon
+  pub exact : PairClaims morning noon
+  -- "Demands 2 and 3 read over the joined account"
+  pub demand3 : clear (joinedVerdict morning noon) ≡ true → Demanded (accountOf morning noon)
+  pub skipped : clear (joinedVerdict morning noon) ≡ true → NoneSkipped (accountOf morning noon)
+  pub unpaired : clear (joinedVerdict morning noon) ≡ true → NothingOpen (accountOf morning noon)
+
+-- ---- "Two outcomes satisfying it are shown identical"
+
+-- a promise that is an equation for the result, with one for the lent numbers where some are lent
+pub record Equations : Type 1 where
+  pub result : {A : Type 0} (x r s : A) → r ≡ x → s ≡ x → r ≡ s
+  pub outcome : {A B : Type 0} (x r s : A) (y after after′ : B) → (r ≡ x) × (after ≡ y) → (s ≡ x) × (after′ ≡ y) → (r ≡ s) × (after ≡ after′)
+
+-- promises that are records of equations
+pub record OneOutcome : Type 0 where
+  -- numbers
+  pub largest : (totals : List ℤ) (r s : Largest) → IsLargest totals (r .value) (r .number) → IsLargest totals (s .value) (s .number) → r ≡ s
+  pub scaled : (a b d r s : ℕ) → Scaled a b d r → Scaled a b d s → r ≡ s
+  -- the spread steps
+  pub took : (ks : List Taker) (cells : List ℕ) (r s : Took) → Taken ks cells (r .left .cell) (r .number .0)
+      → Taken ks cells (s .left .cell) (s .number .0) → r ≡ s
+  pub booked : (p : Prompts) (t : Table) (r s : Book) → Booked p t r → Booked p t s → r ≡ s
+  pub stepped : (p : Prompts) (s : Spread) (second : Bool) (r q : Step) → Stepped p s second r → Stepped p s second q → r ≡ q
+  -- the check, of one file and of two
+  pub check : Determined
+  -- the held file
+  pub view : (file : RefT (List ℕ)) (h k : Held) → (h .file ≡ file) × FromCheck h → (k .file ≡ file) × FromCheck k → h ≡ k
+  pub asked : (a b c : Answer) (r s : Asked) → (r .figures ≡ a) × ((r .books ≡ b) × (r .uses ≡ c))
+      → (s .figures ≡ a) × ((s .books ≡ b) × (s .uses ≡ c)) → r ≡ s
+  -- what C is told
+  pub told : (a : Answer) (r s : Outcome) → Tells a r → Tells a s → r ≡ s
+  pub allTold : (a b c : Answer) (r s : Outcomes) → Tells a (r .figures) × (Tells b (r .books) × Tells c (r .uses))
+      → Tells a (s .figures) × (Tells b (s .books) × Tells c (s .uses)) → r ≡ s
+  pub toldOf : (v : Verdict) (r s : PairOutcome) → TellsOf v r → TellsOf v s → r ≡ s
+  pub called : (c : Call) (r s : CallOutcome) → TellsCall c r → TellsCall c s → r ≡ s
+  pub placed : (p : Place) (r s : PromptPlace) → TellsPlace p r → TellsPlace p s → r ≡ s
+
+-- ---- all of it
+
+pub record Roof : Type 1 where
+  pub oneFile : (file : List ℕ) → OneFile file
+  pub twoFiles : (morning noon : List ℕ) → TwoFiles morning noon
+  -- "Every figure equals SPAN as published", and P1 to P10 "as a single table under one claim"
+  pub demand2 : Demand2
+  pub reckoned : Reckoned
+  pub printed : Printed
+  pub pairTable : PairTable
+  pub equations : Equations
+  pub oneOutcome : OneOutcome

@@ -1,0 +1,5 @@
+pub mod CheckedLaws
+pub mod NoonLaws
+pub mod AskingLaws
+pub mod Demands
+pub mod PairDemands

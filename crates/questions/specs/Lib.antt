@@ -1,0 +1,5 @@
+pub mod Questions
+pub mod Held
+pub mod Noon
+pub mod Demands
+pub mod PairDemands

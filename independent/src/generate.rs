@@ -4,6 +4,7 @@
 
 mod damage;
 mod pair;
+mod priced;
 mod random;
 mod sound;
 mod values;

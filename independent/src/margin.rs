@@ -4,7 +4,7 @@
 use crate::account::{Account, Contract, Prompt};
 use crate::book::{intercontract, interprompt, Book, Line};
 use crate::format::SCENARIOS;
-use crate::units::{halves_up, Amount, Delta, Spreads, ONE};
+use crate::units::{halves_up, Amount, Delta, Quotient, Spreads, ONE};
 
 /// "Paired scenarios (000), for 1 to 16."
 pub const PAIRED_SCENARIOS: [usize; SCENARIOS] =
@@ -154,14 +154,38 @@ fn credits(account: &Account, table: &Book, place: usize, twice_price_risk: Amou
         .sum()
 }
 
+/// How many ten-thousandths make one unit of the currency in a unit price risk.
+const FOUR_PLACES: i128 = 10_000;
+
+/// The unit price risk before rounding, in ten-thousandths of the currency for one whole delta. 2026-04
+/// of document 02: "The unit price risk, price risk over |net delta|, is rounded to four decimals,
+/// halves up". The price risk is half of the first number, in hundredths; the net delta, which is not
+/// 0, is in ten-thousandths.
+pub fn unit_price_risk(twice_price_risk: Amount, net: Delta) -> Quotient {
+    Quotient {
+        dividend: i128::from(twice_price_risk.0) * i128::from(ONE) * FOUR_PLACES,
+        divisor: 2 * 100 * i128::from(net.size().0),
+    }
+}
+
+/// The credit before rounding, in hundredths: the rounded unit price risk × used delta × percent.
+pub fn credit_of(unit_price_risk: i128, used: Delta, percent: i64) -> Quotient {
+    Quotient {
+        dividend: unit_price_risk * 100 * i128::from(used.size().0) * i128::from(percent),
+        divisor: FOUR_PLACES * i128::from(ONE) * 100,
+    }
+}
+
 /// "A contract's credit from one entry = price risk × |used in that entry| × percent / (100 × |net
-/// delta|), rounded once, halves up; 0 where the net delta is 0." The net delta is all of it.
+/// delta|), rounded once, halves up; 0 where the net delta is 0." The net delta is all of it. By
+/// 2026-04 the unit price risk is rounded "before it meets used delta and percent".
 pub fn credit(twice_price_risk: Amount, used: Delta, net: Delta, percent: i64) -> Amount {
     if net == Delta(0) {
         return Amount(0);
     }
-    let product = i128::from(twice_price_risk.0) * i128::from(used.size().0) * i128::from(percent);
-    Amount(halves_up(product, 2 * 100 * i128::from(net.size().0)))
+    let unit = unit_price_risk(twice_price_risk, net).halves_up();
+    let credit = credit_of(unit, used, percent).halves_up();
+    Amount(i64::try_from(credit).expect("a credit fits in 64 bits"))
 }
 
 /// "Short option minimum: short lots of calls and puts × rate."

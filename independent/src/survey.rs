@@ -1,15 +1,17 @@
 //! A survey of generated files: how often each answer occurs, how large the files are, what their
 //! figures show, and which refusals compete in one file.
 
-use independent::book::{intercontract, interprompt, INTERCONTRACT};
+mod roundings;
+mod sights;
+
+use independent::book::INTERCONTRACT;
 use independent::check::{fault, not_whole_records, too_long};
 use independent::format::{records, Record, CONTRACT, MOST_RECORDS, NUMBER, RECORD_BYTES};
 use independent::generate::{self, Random};
-use independent::margin::{figures_of, totals, twice_price_risk, Figures};
+use independent::margin::figures_of;
 use independent::refusal::*;
-use independent::steps::Step;
-use independent::units::{Amount, Delta, Spreads};
 use independent::{book, check, figures, Account, Refusal};
+use roundings::roundings;
 use std::collections::BTreeMap;
 use std::fmt;
 use std::io;
@@ -136,94 +138,36 @@ impl Survey {
         }
     }
 
-    fn sight(&mut self, what: &'static str, seen: bool) {
-        *self.sights.entry(what).or_default() += u64::from(seen);
-    }
-
     fn sights_of(&mut self, account: &Account) {
         let all = figures_of(account);
         for contract in &all {
             *self.active.entry(contract.active_scenario).or_default() += 1;
         }
-        let any = |seen: fn(&Figures) -> bool| all.iter().any(seen);
-        self.sight("an interprompt charge", any(|of| of.interprompt_charge > Amount(0)));
-        self.sight("a prompt charge", any(|of| of.prompt_charge > Amount(0)));
-        self.sight("a credit", any(|of| of.credit > Amount(0)));
-        self.sight(
-            "a credit above the risk",
-            any(|of| of.credit > of.scanning_risk + of.interprompt_charge + of.prompt_charge),
-        );
-        self.sight(
-            "a short option minimum above the risk",
-            any(|of| {
-                let risk = of.scanning_risk + of.interprompt_charge + of.prompt_charge - of.credit;
-                of.short_option_minimum > risk
-            }),
-        );
-        self.sight(
-            "a contract without prompts",
-            account.contracts.iter().any(|of| of.prompts.is_empty()),
-        );
-        self.sight("sixteen contracts", account.contracts.len() == 16);
-        self.totals_of(account);
-        self.steps_of(account);
+        let seen = [sights::figures(account, &all), sights::totals_of(account)];
+        let more = [sights::steps(account), roundings(account)];
+        for (what, seen) in seen.into_iter().chain(more).flatten() {
+            *self.sights.entry(what).or_default() += u64::from(seen);
+        }
     }
 
-    fn totals_of(&mut self, account: &Account) {
-        let all: Vec<_> = account.contracts.iter().map(totals).collect();
-        let largest = |of: &[Amount; 16]| of.iter().max().copied().unwrap_or_default();
-        self.sight("an active total below 0", all.iter().any(|of| largest(of) < Amount(0)));
-        let ties = |of: &[Amount; 16]| of.iter().filter(|total| **total == largest(of)).count() > 1;
-        let moved = |of: &[Amount; 16]| of.iter().any(|total| *total != of[0]);
-        self.sight("scenarios that tie", all.iter().any(|of| ties(of) && moved(of)));
-        let table = intercontract(account);
-        let used = |place: usize| table.lines[place].used != Delta(0);
-        let without = |place: usize| twice_price_risk(&all[place]) == Amount(0);
-        self.sight(
-            "used between contracts without price risk",
-            (0..all.len()).any(|place| used(place) && without(place)),
-        );
-    }
-
-    fn steps_of(&mut self, account: &Account) {
-        let books: Vec<_> = account.contracts.iter().map(interprompt).collect();
-        let forms = |step: &Step| step.number > Spreads(0);
-        let spreads = || books.iter().flat_map(|book| &book.steps);
-        self.sight("an interprompt spread formed", spreads().flatten().any(forms));
-        self.sight("both steps of a spread formed", spreads().any(|of| of.iter().all(forms)));
-        let three = account.contracts.iter().zip(&books).any(|(contract, book)| {
-            let formed = |place: usize| book.steps[place].iter().any(forms);
-            (0..contract.spreads.len())
-                .any(|place| contract.spreads[place].legs.len() == 3 && formed(place))
-        });
-        self.sight("a spread of three legs formed", three);
-        let sharing = books.iter().any(|book| {
-            book.lines.iter().any(|line| line.used != Delta(0) && line.unused != Delta(0))
-        });
-        self.sight("a prompt used in part", sharing);
-        let table = intercontract(account);
-        self.sight("an intercontract spread formed", table.steps.iter().flatten().any(forms));
-        self.sight(
-            "an intercontract second step formed",
-            table.steps.iter().any(|of| forms(&of[1])),
-        );
-        let flat = (0..account.contracts.len()).any(|place| {
-            table.lines[place].net == Delta(0)
-                && books[place].lines.iter().any(|line| line.net != Delta(0))
-        });
-        self.sight("a contract flat over prompts that are not", flat);
-    }
-
-    /// A fault if a refusal never occurred in a count that should show every one.
+    /// A fault if a refusal, or a sort of accepted account, never occurred in a count that should show
+    /// every one.
     pub fn nothing_missing(&self) -> io::Result<()> {
-        let missing: Vec<String> = (TOO_LONG..=UNLISTED_QUESTION)
+        if self.count < TELLING {
+            return Ok(());
+        }
+        let refusals: Vec<String> = (TOO_LONG..=UNLISTED_QUESTION)
             .filter(|number| !self.refusals.contains_key(number))
             .map(|number| number.to_string())
             .collect();
-        if self.count < TELLING || missing.is_empty() {
-            Ok(())
+        let sights: Vec<&str> =
+            self.sights.iter().filter(|(_, count)| **count == 0).map(|(what, _)| *what).collect();
+        if !refusals.is_empty() {
+            Err(io::Error::other(format!("refusals that never occurred: {}", refusals.join(", "))))
+        } else if !sights.is_empty() {
+            Err(io::Error::other(format!("never accepted: {}", sights.join(", "))))
         } else {
-            Err(io::Error::other(format!("refusals that never occurred: {}", missing.join(", "))))
+            Ok(())
         }
     }
 }
@@ -260,6 +204,15 @@ impl fmt::Display for Survey {
 #[cfg(test)]
 mod tests {
     use super::Survey;
+
+    #[test]
+    fn a_sort_of_account_that_never_occurred_is_told() {
+        let refusals = (1..=11).map(|number| (number, 1)).collect();
+        let sights = [("a tie", 0), ("a half", 3)].into_iter().collect();
+        let survey = Survey { count: 2_000, refusals, sights, ..Survey::of(1, 0) };
+        let told = survey.nothing_missing().expect_err("no tie occurred").to_string();
+        assert_eq!(told, "never accepted: a tie");
+    }
 
     #[test]
     fn a_refusal_that_never_occurred_is_told_from_2_000_files_on() {

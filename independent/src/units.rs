@@ -98,8 +98,29 @@ impl Sum for Amount {
     }
 }
 
+/// A division that is rounded once to a whole number.
+#[derive(Clone, Copy, Debug, PartialEq, Eq)]
+pub struct Quotient {
+    pub dividend: i128,
+    /// Above 0.
+    pub divisor: i128,
+}
+
+impl Quotient {
+    /// Rounded to the nearest whole number, halves up; for a dividend not below 0.
+    pub fn halves_up(self) -> i128 {
+        (2 * self.dividend + self.divisor) / (2 * self.divisor)
+    }
+
+    /// Whether it lies halfway between two whole numbers.
+    pub fn is_half(self) -> bool {
+        let twice = 2 * self.dividend;
+        twice % self.divisor == 0 && twice / self.divisor % 2 != 0
+    }
+}
+
 /// A quotient rounded once to a whole number, halves up; for a dividend not below 0.
 pub fn halves_up(dividend: i128, divisor: i128) -> i64 {
-    let rounded = (2 * dividend + divisor) / (2 * divisor);
-    i64::try_from(rounded).expect("an answer of an accepted account fits in 64 bits")
+    i64::try_from(Quotient { dividend, divisor }.halves_up())
+        .expect("an answer of an accepted account fits in 64 bits")
 }

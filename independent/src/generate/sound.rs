@@ -1,5 +1,6 @@
 //! Accepted accounts.
 
+use super::priced;
 use super::random::Random;
 use super::values::*;
 use super::write::{put, record, Bytes};
@@ -30,12 +31,15 @@ fn room(contracts: usize, entries: bool) -> usize {
 
 /// The records of an account that the paper accepts.
 pub fn account(random: &mut Random) -> Vec<Bytes> {
-    if random.one_in(200) {
-        return extreme(random);
+    match random.below(200) {
+        0 => return extreme(random),
+        1..=12 => return priced::account(random),
+        _ => {}
     }
     let plan = match random.below(200) {
         0 => full(random),
         1 => no_prompts(random),
+        2 => sixteen_contracts(random),
         _ => {
             let size = size(random);
             plan(random, size, NUMBERS.len(), true)
@@ -73,6 +77,7 @@ fn extreme(random: &mut Random) -> Vec<Bytes> {
     let mut records = fill(random, &plan, &NUMBERS);
     let one_sided = random.one_in(2);
     let gain_at_rest = random.one_in(2);
+    let thin = random.one_in(3);
     for record in &mut records {
         match record[0] {
             CONTRACT => put(record, SHORT_OPTION_RATE, SHORT_OPTION_RATE.most),
@@ -85,7 +90,25 @@ fn extreme(random: &mut Random) -> Vec<Bytes> {
             _ => put(record, PERCENT, PERCENT.most),
         }
     }
+    if thin {
+        make_thin(&mut records);
+    }
     records
+}
+
+/// Leaves each contract a net delta of 0.0001 or -0.0001, against losses as they are: the largest price
+/// risk for one delta.
+fn make_thin(records: &mut [Bytes]) {
+    let mut last = None;
+    for record in records.iter_mut().filter(|record| record[0] == ROW) {
+        let first = last != Some(record[NUMBER.at]);
+        last = Some(record[NUMBER.at]);
+        let class = Record(record).get(CLASS);
+        put(record, delta(class), i64::from(first));
+        if first {
+            put(record, LOTS, Record(record).get(LOTS).signum());
+        }
+    }
 }
 
 /// Moves a row to its limits; one-sided rows of a contract are all long or all short.
@@ -115,6 +138,17 @@ fn full(random: &mut Random) -> Plan {
 fn no_prompts(random: &mut Random) -> Plan {
     let contracts = random.between(2, 16) as usize;
     Plan { contracts: vec![Share::default(); contracts], entries: random.place(MOST_ENTRIES + 1) }
+}
+
+/// All sixteen contracts, with a few records each.
+fn sixteen_contracts(random: &mut Random) -> Plan {
+    let mut share = || {
+        let prompts = random.place(4);
+        let rows = if prompts > 0 { random.place(8) } else { 0 };
+        Share { prompts, rows, spreads: prompts.min(2) }
+    };
+    let contracts = NUMBERS.iter().map(|_| share()).collect();
+    Plan { contracts, entries: random.place(MOST_ENTRIES + 1) }
 }
 
 /// A plan with exactly so many records in so many contracts at most; with entries or without.
@@ -252,6 +286,7 @@ fn rows(random: &mut Random, draft: &Draft) -> Vec<Bytes> {
     let pattern = pattern(random);
     let flat = random.one_in(8);
     let lean = random.below(4);
+    let alike = random.one_in(6).then(|| alike(random));
     let mut rows: Vec<Bytes> = vec![];
     for place in 0..draft.share.rows {
         match rows.last() {
@@ -263,8 +298,22 @@ fn rows(random: &mut Random, draft: &Draft) -> Vec<Bytes> {
             }
             _ => rows.push(row(random, draft, pattern, lean)),
         }
+        if let (Some(alike), Some(row)) = (alike, rows.last_mut()) {
+            make_alike(row, alike);
+        }
     }
     rows
+}
+
+/// Makes a row a forward with this delta, value and range of losses, whatever its lots.
+fn make_alike(row: &mut Bytes, alike: Alike) {
+    put(row, CLASS, FORWARD);
+    put(row, strike(FORWARD), 0);
+    put(row, delta(FORWARD), alike.delta);
+    put(row, VALUE, alike.value);
+    for (scenario, ticks) in by_price(alike.range).into_iter().enumerate() {
+        put(row, loss(scenario), ticks);
+    }
 }
 
 fn row(random: &mut Random, draft: &Draft, pattern: Pattern, lean: u64) -> Bytes {

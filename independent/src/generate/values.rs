@@ -134,6 +134,31 @@ pub fn percent(random: &mut Random) -> i64 {
     }
 }
 
+/// A forward's array: losses by price alone, in thirds of its largest.
+pub fn by_price(third: i64) -> [i64; SCENARIOS] {
+    [0, 0, -1, -1, 1, 1, -2, -2, 2, 2, -3, -3, 3, 3, -2, 2].map(|moves: i64| moves * third)
+}
+
+/// What all rows of a contract share so that its price risk for one delta is the same whatever it holds.
+#[derive(Clone, Copy)]
+pub struct Alike {
+    pub delta: i64,
+    pub value: i64,
+    /// A third of the largest loss.
+    pub range: i64,
+}
+
+/// The price risk for one delta is 3 × value × range over the delta: with a delta of 0.0128, 0.0640 or
+/// 0.3200 it ends in half of a fourth decimal, and in whole hundredths with the others, so that the
+/// credit may end in a half.
+pub fn alike(random: &mut Random) -> Alike {
+    Alike {
+        delta: random.pick(&[128, 640, 3_200, 2_500, 5_000, 10_000]),
+        value: random.pick(&[1, 3, 5]),
+        range: random.pick(&[1, -1, 3, -3, 7, 101]),
+    }
+}
+
 /// The sixteen losses of a row that holds these lots.
 pub fn losses(random: &mut Random, taste: Taste, pattern: Pattern, lots: i64) -> [i64; SCENARIOS] {
     let field = loss(0);
@@ -144,11 +169,10 @@ pub fn losses(random: &mut Random, taste: Taste, pattern: Pattern, lots: i64) ->
         Pattern::Level => losses = [draw(random); SCENARIOS],
         Pattern::ByPrice | Pattern::ByBoth => {
             let range = draw(random) / 3;
-            let moves = [0, 0, -1, -1, 1, 1, -2, -2, 2, 2, -3, -3, 3, 3, -2, 2];
+            losses = by_price(range);
             let turn = if matches!(pattern, Pattern::ByBoth) { range / 4 + 1 } else { 0 };
             for (scenario, ticks) in losses.iter_mut().enumerate() {
-                let volatility = if scenario % 2 == 0 { -turn } else { turn };
-                *ticks = moves[scenario] * range + volatility;
+                *ticks += if scenario % 2 == 0 { -turn } else { turn };
             }
         }
         Pattern::Tying => {

@@ -10,4 +10,5 @@ mod order;
 mod program;
 mod reckoned;
 mod refusals;
+mod unit_price_risk;
 mod wrong;

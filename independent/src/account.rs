@@ -51,6 +51,19 @@ pub struct Entry {
     pub percent: i64,
     pub first_ratio: i64,
     pub second_ratio: i64,
+    /// Whether the ratios are tenths.
+    pub tenths: bool,
+}
+
+impl Entry {
+    /// "Each contract a tier"; "the first contract is A".
+    pub fn legs(&self) -> Vec<Leg> {
+        let parts = if self.tenths { 10 } else { 1 };
+        vec![
+            Leg { tier: self.first, side: Side::A, ratio: self.first_ratio, parts },
+            Leg { tier: self.second, side: Side::B, ratio: self.second_ratio, parts },
+        ]
+    }
 }
 
 impl Account {
@@ -124,6 +137,7 @@ fn spread(record: &Record) -> Spread {
             tier: record.get(leg_tier(leg)),
             side: if record.get(leg_side(leg)) == SIDE_A { Side::A } else { Side::B },
             ratio: record.get(leg_ratio(leg)),
+            parts: 1,
         })
         .collect();
     Spread { rate: Amount(record.get(SPREAD_RATE)), legs }
@@ -136,5 +150,6 @@ fn entry(record: &Record) -> Entry {
         percent: record.get(PERCENT),
         first_ratio: record.get(FIRST_RATIO),
         second_ratio: record.get(SECOND_RATIO),
+        tenths: record.get(TENTHS) == TENTHS.most,
     }
 }

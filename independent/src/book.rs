@@ -1,7 +1,7 @@
 //! The delta book: who paid for what, in the steps of one contract or of the intercontract table.
 
-use crate::account::{Account, Contract, Prompt};
-use crate::steps::{steps, used, Leg, Net, Side, Step};
+use crate::account::{Account, Contract, Entry, Prompt};
+use crate::steps::{steps, used, Leg, Net, Step};
 use crate::units::{Delta, Spreads};
 
 /// The question that asks for the intercontract table.
@@ -99,15 +99,6 @@ pub fn intercontract(account: &Account) -> Book {
             delta: contract.prompts.iter().map(|prompt| net_delta(contract, prompt)).sum(),
         })
         .collect();
-    let entries: Vec<Vec<Leg>> = account
-        .entries
-        .iter()
-        .map(|entry| {
-            vec![
-                Leg { tier: entry.first, side: Side::A, ratio: entry.first_ratio },
-                Leg { tier: entry.second, side: Side::B, ratio: entry.second_ratio },
-            ]
-        })
-        .collect();
+    let entries: Vec<Vec<Leg>> = account.entries.iter().map(Entry::legs).collect();
     Book::of(&contracts, &entries)
 }

@@ -30,6 +30,7 @@ pub const SIDE_B: i64 = 2;
 pub const SCENARIOS: usize = 16;
 const MOST_RATE: i64 = 10_000_000;
 const MOST_RATIO: i64 = 100;
+const MOST_TENTHS: i64 = 1_000;
 const MOST_LOTS: i64 = 100_000;
 const MOST_LOSS: i64 = 100_000;
 const MOST_DELTA: i64 = 10_000;
@@ -79,6 +80,8 @@ pub const SECOND_NUMBER: Field = unsigned(2, 1, 0, 15);
 pub const PERCENT: Field = unsigned(3, 1, 0, 100);
 pub const FIRST_RATIO: Field = unsigned(4, 2, 1, MOST_RATIO);
 pub const SECOND_RATIO: Field = unsigned(6, 2, 1, MOST_RATIO);
+/// 2026-03: "Byte 8 of kind 5 set to 1 says that its ratios are tenths, 1..1000; 0 keeps whole ratios."
+pub const TENTHS: Field = unsigned(8, 1, 0, 1);
 
 /// "Strike 0 for a forward, 1..4,294,967,295 otherwise."
 pub fn strike(class: i64) -> Field {
@@ -95,6 +98,15 @@ pub fn delta(class: i64) -> Field {
         PUT_DELTA
     } else {
         DELTA
+    }
+}
+
+/// The ratios of an entry whose byte 8 holds this.
+pub fn entry_ratios(tenths: i64) -> [Field; 2] {
+    if tenths == TENTHS.most {
+        [FIRST_RATIO, SECOND_RATIO].map(|ratio| Field { most: MOST_TENTHS, ..ratio })
+    } else {
+        [FIRST_RATIO, SECOND_RATIO]
     }
 }
 
@@ -163,7 +175,10 @@ impl Record<'_> {
                 }
                 fields
             }
-            ENTRY => vec![NUMBER, SECOND_NUMBER, PERCENT, FIRST_RATIO, SECOND_RATIO],
+            ENTRY => {
+                let [first, second] = entry_ratios(self.get(TENTHS));
+                vec![NUMBER, SECOND_NUMBER, PERCENT, first, second, TENTHS]
+            }
             _ => vec![],
         }
     }

@@ -215,15 +215,8 @@ fn contract_lines(contract: &Contract, book: &Book) -> String {
 fn table_lines(account: &Account, book: &Book) -> String {
     let contracts: Vec<[i64; 2]> =
         account.contracts.iter().map(|contract| [0, contract.number]).collect();
-    let entries: Vec<(Vec<Leg>, i64)> = account
-        .entries
-        .iter()
-        .map(|entry| {
-            let a = Leg { tier: entry.first, side: Side::A, ratio: entry.first_ratio };
-            let b = Leg { tier: entry.second, side: Side::B, ratio: entry.second_ratio };
-            (vec![a, b], entry.percent)
-        })
-        .collect();
+    let entries: Vec<(Vec<Leg>, i64)> =
+        account.entries.iter().map(|entry| (entry.legs(), entry.percent)).collect();
     book_records(INTERCONTRACT as i64, &contracts, &entries, book)
 }
 

@@ -1,7 +1,7 @@
 //! The spread steps, done at the prompts themselves. They serve the interprompt spreads of a
 //! contract and the intercontract table alike.
 
-use crate::units::{Delta, Spreads};
+use crate::units::{Delta, Quotient, Spreads};
 
 #[derive(Clone, Copy, Debug, PartialEq, Eq)]
 pub enum Side {
@@ -14,6 +14,29 @@ pub struct Leg {
     pub tier: i64,
     pub side: Side,
     pub ratio: i64,
+    /// How many parts of the ratio make a whole: 1, or 10 where the ratio is in tenths.
+    pub parts: i64,
+}
+
+impl Leg {
+    /// "Pool divided by ratio, whole ten-thousandths, rounded down"; for tenths "10 × pool / ratio,
+    /// rounded down" (2026-03).
+    fn number_from(&self, pool: Delta) -> i64 {
+        self.parts * pool.0 / self.ratio
+    }
+
+    /// "Number × ratio"; for tenths "number × ratio / 10, rounded to a ten-thousandth, halves up"
+    /// (2026-03).
+    pub fn takes(&self, number: Spreads) -> Delta {
+        let whole = self.unrounded(number).halves_up();
+        Delta(i64::try_from(whole).expect("a use is no more than its pool"))
+    }
+
+    /// What the leg takes for a number of spreads, before rounding.
+    pub fn unrounded(&self, number: Spreads) -> Quotient {
+        let dividend = i128::from(number.0) * i128::from(self.ratio);
+        Quotient { dividend, divisor: i128::from(self.parts) }
+    }
 }
 
 /// A prompt as the steps see it: its tier and its net delta. Prompts stand earliest day first.
@@ -52,18 +75,17 @@ pub fn used(prompts: &[Net], done: &[[Step; 2]]) -> Vec<Delta> {
 
 /// One step, in which the legs of side `long` take long deltas and the others short ones.
 fn step(prompts: &[Net], unused: &mut [Delta], legs: &[Leg], long: Side) -> Step {
-    // "The number formed is the smallest over its legs of pool divided by ratio, whole
-    // ten-thousandths, rounded down."
+    // "The number formed is the smallest over its legs"
     let number = legs
         .iter()
-        .map(|leg| pool(prompts, unused, leg, long).0 / leg.ratio)
+        .map(|leg| leg.number_from(pool(prompts, unused, leg, long)))
         .min()
+        .map(Spreads)
         .expect("a spread has legs");
     let mut given = vec![Delta(0); prompts.len()];
     for leg in legs {
-        // "Each leg takes number × ratio from the prompts of its tier on that side, earliest day
-        // first."
-        let mut wanted = Delta(number * leg.ratio);
+        // "Each leg takes [..] from the prompts of its tier on that side, earliest day first."
+        let mut wanted = leg.takes(number);
         for prompt in on_its_side(prompts, unused, leg, long) {
             let taken = wanted.min(unused[prompt].size());
             wanted -= taken;
@@ -72,7 +94,7 @@ fn step(prompts: &[Net], unused: &mut [Delta], legs: &[Leg], long: Side) -> Step
             unused[prompt] -= taken;
         }
     }
-    Step { number: Spreads(number), given }
+    Step { number, given }
 }
 
 /// "A tier's long pool is the sum of its positive unused deltas, its short pool that of its negative

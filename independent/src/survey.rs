@@ -1,8 +1,10 @@
 //! A survey of generated files: how often each answer occurs, how large the files are, what their
 //! figures show, and which refusals compete in one file.
 
+mod refused;
 mod roundings;
 mod sights;
+mod tenths;
 
 use independent::book::INTERCONTRACT;
 use independent::check::{fault, not_whole_records, too_long};
@@ -11,10 +13,13 @@ use independent::generate::{self, Random};
 use independent::margin::figures_of;
 use independent::refusal::*;
 use independent::{book, check, figures, Account, Refusal};
+use refused::refused;
 use roundings::roundings;
+use sights::Sight;
 use std::collections::BTreeMap;
 use std::fmt;
 use std::io;
+use tenths::tenths;
 
 /// From this many files or pairs on, every refusal must have occurred.
 pub const TELLING: u64 = 2_000;
@@ -30,6 +35,7 @@ pub struct Survey {
     /// By number of records, whether an accepted file had so many.
     lengths: Vec<bool>,
     sights: BTreeMap<&'static str, u64>,
+    refused: BTreeMap<&'static str, u64>,
     active: BTreeMap<usize, u64>,
     /// The first fault of a file and another condition that holds for the same record.
     in_one_record: BTreeMap<(u8, u8), u64>,
@@ -46,6 +52,7 @@ impl Survey {
             sizes: BTreeMap::new(),
             lengths: vec![false; MOST_RECORDS + 1],
             sights: BTreeMap::new(),
+            refused: BTreeMap::new(),
             active: BTreeMap::new(),
             in_one_record: BTreeMap::new(),
             in_one_file: BTreeMap::new(),
@@ -69,6 +76,7 @@ impl Survey {
             }
             Err(refusal) => {
                 *self.refusals.entry(refusal.number).or_default() += 1;
+                count(&mut self.refused, refused(file, refusal));
                 self.competitors(file, refusal);
             }
         }
@@ -143,11 +151,11 @@ impl Survey {
         for contract in &all {
             *self.active.entry(contract.active_scenario).or_default() += 1;
         }
-        let seen = [sights::figures(account, &all), sights::totals_of(account)];
-        let more = [sights::steps(account), roundings(account)];
-        for (what, seen) in seen.into_iter().chain(more).flatten() {
-            *self.sights.entry(what).or_default() += u64::from(seen);
-        }
+        count(&mut self.sights, sights::figures(account, &all));
+        count(&mut self.sights, sights::totals_of(account));
+        count(&mut self.sights, sights::steps(account));
+        count(&mut self.sights, roundings(account));
+        count(&mut self.sights, tenths(account));
     }
 
     /// A fault if a refusal, or a sort of accepted account, never occurred in a count that should show
@@ -160,16 +168,29 @@ impl Survey {
             .filter(|number| !self.refusals.contains_key(number))
             .map(|number| number.to_string())
             .collect();
-        let sights: Vec<&str> =
-            self.sights.iter().filter(|(_, count)| **count == 0).map(|(what, _)| *what).collect();
-        if !refusals.is_empty() {
-            Err(io::Error::other(format!("refusals that never occurred: {}", refusals.join(", "))))
-        } else if !sights.is_empty() {
-            Err(io::Error::other(format!("never accepted: {}", sights.join(", "))))
-        } else {
-            Ok(())
+        let faults = [
+            ("refusals that never occurred", refusals),
+            ("never accepted", never(&self.sights)),
+            ("never refused", never(&self.refused)),
+        ];
+        match faults.into_iter().find(|(_, missing)| !missing.is_empty()) {
+            Some((what, missing)) => {
+                Err(io::Error::other(format!("{what}: {}", missing.join(", "))))
+            }
+            None => Ok(()),
         }
     }
+}
+
+fn count(counts: &mut BTreeMap<&'static str, u64>, sights: Vec<Sight>) {
+    for (what, seen) in sights {
+        *counts.entry(what).or_default() += u64::from(seen);
+    }
+}
+
+/// What was looked for and never seen.
+fn never(counts: &BTreeMap<&'static str, u64>) -> Vec<String> {
+    counts.iter().filter(|(_, count)| **count == 0).map(|(what, _)| what.to_string()).collect()
 }
 
 impl fmt::Display for Survey {
@@ -187,6 +208,9 @@ impl fmt::Display for Survey {
         }
         for (what, count) in &self.sights {
             writeln!(out, "accepted with {what}: {count}")?;
+        }
+        for (what, count) in &self.refused {
+            writeln!(out, "refused with {what}: {count}")?;
         }
         for (scenario, count) in &self.active {
             writeln!(out, "active scenario {scenario}: {count} contracts")?;

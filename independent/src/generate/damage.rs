@@ -7,14 +7,42 @@ use crate::format::*;
 
 /// Damages one record, or several, or one record in several ways.
 pub fn records(random: &mut Random, records: &mut Vec<Bytes>) {
-    let times = random.pick(&[1, 1, 1, 1, 2, 2, 3]);
-    let stay = random.one_in(2);
-    let mut place = random.place(records.len().max(1));
+    if random.one_in(8) {
+        return one_of_request(random, records);
+    }
+    let times = random.pick(&[1, 1, 1, 2, 2, 3]);
+    let stay = !random.one_in(3);
+    let mut place = some_place(random, records);
     for time in 0..times {
         if time > 0 && !stay {
-            place = random.place(records.len().max(1));
+            place = some_place(random, records);
         }
         place = at(random, records, place);
+    }
+}
+
+/// Damages one record whose kind has a field that a request of document 02 brought, if there is one.
+fn one_of_request(random: &mut Random, records: &mut [Bytes]) {
+    let kind = random.pick(&[ENTRY]);
+    let of_kind = of_kind(records, kind);
+    if !of_kind.is_empty() {
+        let place = random.pick(&of_kind);
+        field_of_request(random, &mut records[place]);
+    }
+}
+
+fn of_kind(records: &[Bytes], kind: u8) -> Vec<usize> {
+    (0..records.len()).filter(|place| records[*place][0] == kind).collect()
+}
+
+/// Any record, or any of one kind, so that kinds with few records are damaged too.
+fn some_place(random: &mut Random, records: &[Bytes]) -> usize {
+    let kind = random.between(1, i64::from(ENTRY)) as u8;
+    let of_kind = of_kind(records, kind);
+    if of_kind.is_empty() || random.one_in(2) {
+        random.place(records.len().max(1))
+    } else {
+        random.pick(&of_kind)
     }
 }
 
@@ -24,7 +52,8 @@ fn at(random: &mut Random, records: &mut Vec<Bytes>, place: usize) -> usize {
         records.push(record(random.between(0, 6) as u8, &[]));
         return records.len() - 1;
     }
-    match random.below(20) {
+    match random.below(22) {
+        20..=21 => field_of_request(random, &mut records[place]),
         0 => records[place][0] = random.pick(&[0, 6, 7, 128, 255]),
         1 => records[place][0] = random.between(1, 5) as u8,
         2 | 3 => unused_byte(random, &mut records[place]),
@@ -130,6 +159,24 @@ fn clash(random: &mut Random, record: &mut Bytes) {
     }
 }
 
+/// Damages a field that a request of document 02 brought; in other records, any field.
+fn field_of_request(random: &mut Random, record: &mut Bytes) {
+    match record[0] {
+        ENTRY => other_parts(random, record),
+        _ => field_at_its_end(random, record),
+    }
+}
+
+/// Turns an entry's ratios from tenths into whole ones or back, or into what is neither, and may move a
+/// ratio about the end of either range.
+fn other_parts(random: &mut Random, entry: &mut Bytes) {
+    put(entry, TENTHS, random.pick(&[0, 0, 0, 1, 1, 1, 2, 255]));
+    if !random.one_in(4) {
+        let ratio = random.pick(&[0, 100, 101, 1_000, 1_000, 1_001, 257, 65_535]);
+        put(entry, random.pick(&[FIRST_RATIO, SECOND_RATIO]), ratio);
+    }
+}
+
 fn flip(random: &mut Random, record: &mut Bytes) {
     for _ in 0..random.between(1, 3) {
         record[random.place(RECORD_BYTES)] ^= 1 << random.below(8);
@@ -155,7 +202,8 @@ fn shift(random: &mut Random, records: &mut Vec<Bytes>, place: usize) -> usize {
 }
 
 /// Adds records like this one until its contract has one more than the limit of the kind; a few
-/// times it stops at the limit. The place is that of the last one added.
+/// times it stops at the limit, and a few times that one is damaged further or put at the end. The
+/// place is that of the last one added.
 fn overfill(random: &mut Random, records: &mut Vec<Bytes>, place: usize) -> usize {
     let like = records[place];
     let most = match like[0] {
@@ -180,6 +228,15 @@ fn overfill(random: &mut Random, records: &mut Vec<Bytes>, place: usize) -> usiz
         last += 1;
         count += 1;
         records.insert(last, added);
+    }
+    match random.below(6) {
+        0 => misname(random, records, last),
+        1 => {
+            let moved = records.remove(last);
+            records.push(moved);
+            last = records.len() - 1;
+        }
+        _ => {}
     }
     last
 }

@@ -1,8 +1,9 @@
 //! Accounts made for their credits: price risks and net deltas at which the unit price risk of request
-//! 2026-04 falls on a half, is rounded to nothing, is rounded well up, or outgrows 64 bits.
+//! 2026-04 falls on a half, is rounded to nothing, is rounded well up, or outgrows 64 bits; and net
+//! deltas so small that the tenths of request 2026-03 use parts of a ten-thousandth.
 
 use super::random::Random;
-use super::values::percent;
+use super::values::{percent, tenths};
 use super::write::{put, record, Bytes};
 use crate::format::*;
 
@@ -11,20 +12,22 @@ use crate::format::*;
 pub fn account(random: &mut Random) -> Vec<Bytes> {
     let numbers: Vec<i64> = (0..random.between(2, 4)).map(|place| 4 * place + 1).collect();
     let long_first = random.one_in(2);
-    let shared = random.one_in(2).then(|| sizes(random));
+    let tiny = random.one_in(4);
+    let shared = (!tiny && random.one_in(2)).then(|| sizes(random));
     let (mut contracts, mut prompts, mut rows) = (vec![], vec![], vec![]);
     for (place, number) in numbers.iter().enumerate() {
         contracts.push(record(CONTRACT, &[(NUMBER, *number)]));
         prompts.push(record(PROMPT, &[(NUMBER, *number), (PROMPT_TIER, 1), (DAY, 20_260_318)]));
         let sign = if long_first == place.is_multiple_of(2) { 1 } else { -1 };
-        let sizes = shared.unwrap_or_else(|| sizes(random));
+        let sizes = if tiny { tiny_sizes(random) } else { shared.unwrap_or_else(|| sizes(random)) };
         rows.extend(position(random, *number, sign, sizes));
     }
-    let entries: Vec<Bytes> = (0..random.between(1, 3)).map(|_| entry(random, &numbers)).collect();
+    let entries: Vec<Bytes> =
+        (0..random.between(1, 3)).map(|_| entry(random, &numbers, tiny)).collect();
     [contracts, prompts, rows, entries].concat()
 }
 
-fn entry(random: &mut Random, numbers: &[i64]) -> Bytes {
+fn entry(random: &mut Random, numbers: &[i64], tiny: bool) -> Bytes {
     let first = random.place(numbers.len());
     let second = (first + 1 + random.place(numbers.len() - 1)) % numbers.len();
     let percent = if random.one_in(3) {
@@ -34,13 +37,21 @@ fn entry(random: &mut Random, numbers: &[i64]) -> Bytes {
     } else {
         percent(random)
     };
-    let ratio = random.pick(&[1, 1, 1, 1, 1, 2]);
+    let ratios = match random.below(8) {
+        _ if tiny => [random.between(1, 5), tenths(random), 1],
+        0..=2 => [1, 1, 0],
+        3 => [2, 1, 0],
+        4 => [10, 10, 1],
+        5 => [random.pick(&[5, 15, 25]), 10, 1],
+        _ => [tenths(random), tenths(random), 1],
+    };
     let fields = [
         (NUMBER, numbers[first]),
         (SECOND_NUMBER, numbers[second]),
         (PERCENT, percent),
-        (FIRST_RATIO, ratio),
-        (SECOND_RATIO, 1),
+        (FIRST_RATIO, ratios[0]),
+        (SECOND_RATIO, ratios[1]),
+        (TENTHS, ratios[2]),
     ];
     record(ENTRY, &fields)
 }
@@ -78,4 +89,9 @@ fn sizes(random: &mut Random) -> Sizes {
         // The most over 0.0001.
         _ => (1, 1, [LOTS.most, VALUE.most, loss(2).most]),
     }
+}
+
+/// A few ten-thousandths, of which ratios in tenths use parts.
+fn tiny_sizes(random: &mut Random) -> Sizes {
+    (random.between(1, 3), random.between(1, 8), [1, 1, random.between(1, 9)])
 }

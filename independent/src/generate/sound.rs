@@ -33,7 +33,7 @@ fn room(contracts: usize, entries: bool) -> usize {
 pub fn account(random: &mut Random) -> Vec<Bytes> {
     match random.below(200) {
         0 => return extreme(random),
-        1..=12 => return priced::account(random),
+        1..=16 => return priced::account(random),
         _ => {}
     }
     let plan = match random.below(200) {
@@ -373,6 +373,7 @@ fn legs(random: &mut Random, tiers: &[i64]) -> Vec<(i64, i64)> {
 fn entries(random: &mut Random, drafts: &[Draft], count: usize) -> Vec<Bytes> {
     let mut pair = (0, 0);
     let mut entries = vec![];
+    let with_tenths = random.one_in(2);
     for place in 0..count {
         if place > 0 && random.one_in(6) {
             pair = if random.one_in(2) { pair } else { (pair.1, pair.0) };
@@ -381,16 +382,20 @@ fn entries(random: &mut Random, drafts: &[Draft], count: usize) -> Vec<Bytes> {
             let second = (first + 1 + random.place(drafts.len() - 1)) % drafts.len();
             pair = (drafts[first].number, drafts[second].number);
         }
-        entries.push(record(
-            ENTRY,
-            &[
-                (NUMBER, pair.0),
-                (SECOND_NUMBER, pair.1),
-                (PERCENT, percent(random)),
-                (FIRST_RATIO, ratio(random)),
-                (SECOND_RATIO, ratio(random)),
-            ],
-        ));
+        let mut entry =
+            record(ENTRY, &[(NUMBER, pair.0), (SECOND_NUMBER, pair.1), (PERCENT, percent(random))]);
+        put_ratios(random, &mut entry, with_tenths);
+        entries.push(entry);
     }
     entries
+}
+
+/// Gives an entry whole ratios or, if they are allowed, now and then ratios in tenths.
+pub fn put_ratios(random: &mut Random, entry: &mut Bytes, with_tenths: bool) {
+    let in_tenths = with_tenths && random.one_in(2);
+    put(entry, TENTHS, i64::from(in_tenths));
+    for field in [FIRST_RATIO, SECOND_RATIO] {
+        let ratio = if in_tenths { tenths(random) } else { ratio(random) };
+        put(entry, field, ratio);
+    }
 }

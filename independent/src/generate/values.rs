@@ -126,6 +126,19 @@ pub fn ratio(random: &mut Random) -> i64 {
     }
 }
 
+/// A ratio in tenths: whole ones, 000's 9.6, those that leave halves, the ends, or any.
+pub fn tenths(random: &mut Random) -> i64 {
+    match random.below(8) {
+        0 | 1 => 10 * random.between(1, 4),
+        2 => random.pick(&[96, 14, 8]),
+        3 => random.pick(&[5, 15, 25]),
+        4 => 10 * random.between(0, 99) + 5,
+        5 => random.pick(&[1, 2, 3, 999, 1_000]),
+        6 => random.between(1, 30),
+        _ => random.between(1, 1_000),
+    }
+}
+
 pub fn percent(random: &mut Random) -> i64 {
     match random.below(4) {
         0 => random.pick(&[0, 1, 99, 100]),

@@ -113,6 +113,11 @@ pub fn entry(percent: u8, first: (u8, u16), second: (u8, u16)) -> Record {
     record
 }
 
+/// An intercontract spread whose ratios are in tenths.
+pub fn entry_in_tenths(percent: u8, first: (u8, u16), second: (u8, u16)) -> Record {
+    with(entry(percent, first, second), 8, 1)
+}
+
 /// The record with one byte changed.
 pub fn with(record: Record, at: usize, byte: u8) -> Record {
     let mut changed = record;

@@ -88,7 +88,7 @@ fn questions_and_numbers_lent_are_of_every_sort() {
     assert!([0, 8, 9, 10].iter().all(|numbers| lent.contains(numbers)));
 }
 
-/// The spreads of a book add up: each leg has taken number × ratio from its tier on its side, no
+/// The spreads of a book add up: each leg has taken its use from its tier on its side, no
 /// prompt crossed zero, and used and unused carry the sign of the net delta.
 fn adds_up(book: &Book, tiers: &[i64], spreads: &[Vec<Leg>]) {
     for (steps, legs) in book.steps.iter().zip(spreads) {
@@ -100,7 +100,9 @@ fn adds_up(book: &Book, tiers: &[i64], spreads: &[Vec<Leg>]) {
                     .map(|given| if leg.side == long { given } else { -given })
                     .map(|given| given.max(Delta(0)))
                     .sum();
-                assert_eq!(taken, Delta(step.number.0 * leg.ratio));
+                // "Number × ratio / 10, rounded to a ten-thousandth, halves up" is within a half.
+                let apart = 2 * (leg.parts * taken.0 - step.number.0 * leg.ratio);
+                assert!(-leg.parts < apart && apart <= leg.parts && (leg.parts > 1 || apart == 0));
             }
         }
     }
@@ -124,16 +126,7 @@ fn books_add_up() {
             formed += book.steps.iter().flatten().filter(|step| step.number.0 > 0).count();
         }
         let numbers: Vec<i64> = account.contracts.iter().map(|contract| contract.number).collect();
-        let entries: Vec<Vec<Leg>> = account
-            .entries
-            .iter()
-            .map(|entry| {
-                vec![
-                    Leg { tier: entry.first, side: Side::A, ratio: entry.first_ratio },
-                    Leg { tier: entry.second, side: Side::B, ratio: entry.second_ratio },
-                ]
-            })
-            .collect();
+        let entries: Vec<Vec<Leg>> = account.entries.iter().map(|entry| entry.legs()).collect();
         adds_up(&intercontract(&account), &numbers, &entries);
     }
     assert!(formed > 1_000, "only {formed} steps formed spreads");

@@ -10,5 +10,6 @@ mod order;
 mod program;
 mod reckoned;
 mod refusals;
+mod tenths;
 mod unit_price_risk;
 mod wrong;

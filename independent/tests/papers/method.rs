@@ -162,9 +162,23 @@ fn aex_and_fef(ratio_fef: u16, ratio_aex: u16) -> Vec<u8> {
 }
 
 #[test]
+fn in_tenths_aex_and_fef_have_their_credits_of_000() {
+    // 000's ratio of 9.6 FEF to 1 AEX, by 2026-03: credits 4,335.36 and 2,981.97.
+    let whole = aex_and_fef(96, 10);
+    let place = whole.len() - 96;
+    let account = [&whole[..place], &with(whole[place..].try_into().unwrap(), 8, 1)].concat();
+    assert_eq!(
+        book_of(&account, 16),
+        [-10_012, -10_012, 0, 1_200_000, 96_115, 1_103_885, 10_012, 0]
+    );
+    let figures = figures_of(&account);
+    assert_eq!([figures[5], figures[13]], [433_536, 298_197]);
+}
+
+#[test]
 fn aex_credit_is_4_335_36() {
-    // 000's ratio of 9.6 FEF is no ratio of 01. AEX's credit does not depend on it as long as all of
-    // AEX's 1.0012 is used: here with a ratio of 10. The scanning risk is 000's first 4,908.75.
+    // AEX's credit does not depend on FEF's ratio as long as all of AEX's 1.0012 is used: here with a
+    // ratio of 10. The scanning risk is 000's first 4,908.75.
     let account = aex_and_fef(10, 1);
     assert_eq!(
         book_of(&account, 16),

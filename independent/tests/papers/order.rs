@@ -66,7 +66,7 @@ fn entry_with(fault: u8) -> Record {
     match fault {
         3 => with(sound, 0, 6),
         4 => contract(3, 0),
-        5 => with(sound, 8, 1),
+        5 => with(sound, 9, 1),
         6 => with(sound, 3, 101),
         7 => with(sound, 2, 9),
         8 => with(sound, 2, 1),

@@ -86,7 +86,7 @@ fn refusal_5_is_for_every_unused_byte_of_every_kind() {
         (FORWARD, &[0..=2, 4..=87]),
         (TWO_LEGS, &[0..=2, 4..=15]),
         (THREE_LEGS, &[0..=2, 4..=19]),
-        (ENTRY, &[0..=7]),
+        (ENTRY, &[0..=8]),
     ];
     for (place, used) in used {
         for byte in 0..96 {
@@ -156,6 +156,7 @@ fn refusal_6_is_for_one_past_each_end_of_each_field() {
         (ENTRY, 3, 1, 0, 100),
         (ENTRY, 4, 2, 1, 100),
         (ENTRY, 6, 2, 1, 100),
+        (ENTRY, 8, 1, 0, 1),
     ];
     for (place, at, bytes, least, most) in fields {
         for past in [least - 1, most + 1] {

@@ -1,16 +1,18 @@
 //! Generated account files: from a seed and an index always the same bytes. About half are accepted
 //! accounts of every size; the others are such accounts damaged in one place or several, and noise.
-//! Pairs of a morning and a noon file are made of them.
+//! Pairs of a morning and a noon file, and runs of accounts, are made of them.
 
 mod damage;
 mod pair;
 mod priced;
 mod random;
+mod run;
 mod sound;
 mod values;
 mod write;
 
 pub use random::Random;
+pub use run::Run;
 
 use crate::format::{MOST_BYTES, RECORD_BYTES};
 use crate::joined::{Cover, MOST_AMOUNT};
@@ -25,6 +27,11 @@ pub fn account(seed: u64, index: u64) -> Vec<u8> {
 /// The morning and the noon file with this seed and index.
 pub fn pair(seed: u64, index: u64) -> (Vec<u8>, Vec<u8>) {
     pair::files(&mut Random::new(seed, index))
+}
+
+/// The run of accounts with this seed and index.
+pub fn run(seed: u64, index: u64) -> Run {
+    run::run(&mut Random::new(seed, index))
 }
 
 fn any(random: &mut Random) -> Vec<u8> {

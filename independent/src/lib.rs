@@ -11,6 +11,7 @@ pub mod generate;
 pub mod joined;
 pub mod margin;
 pub mod refusal;
+pub mod run;
 pub mod steps;
 pub mod units;
 

@@ -4,6 +4,8 @@
 
 mod survey;
 mod survey_pairs;
+mod survey_runs;
+mod tally;
 
 use independent::account::{Account, Contract};
 use independent::book::{Book, INTERCONTRACT};
@@ -27,6 +29,8 @@ const USAGE: &str =
                                        the call on two files joined
        independent survey-pairs SEED COUNT
                                        what occurs in so many generated pairs
+       independent survey-runs SEED COUNT
+                                       what occurs in so many generated runs of accounts
        independent write-pair SEED INDEX MORNING NOON
                                        writes the two files of one generated pair";
 
@@ -50,13 +54,15 @@ fn main() -> ExitCode {
             }
             Err(_) => return usage(),
         },
-        ["survey", seed, count] => match (seed.parse(), count.parse()) {
-            (Ok(seed), Ok(count)) => {
-                let survey = survey::Survey::of(seed, count);
-                print(&survey.to_string()).and_then(|()| survey.nothing_missing())
+        [survey, seed, count] if survey.starts_with("survey") => {
+            match (seed.parse(), count.parse()) {
+                (Ok(seed), Ok(count)) => match surveyed(survey, seed, count) {
+                    Some(done) => done,
+                    None => return usage(),
+                },
+                _ => return usage(),
             }
-            _ => return usage(),
-        },
+        }
         ["write", seed, index] => match (seed.parse(), index.parse()) {
             (Ok(seed), Ok(index)) => io::stdout().write_all(&generate::account(seed, index)),
             _ => return usage(),
@@ -74,13 +80,6 @@ fn main() -> ExitCode {
             read_pair(morning, noon)
                 .and_then(|(morning, noon)| print(&call_line(&morning, &noon, cover)))
         }
-        ["survey-pairs", seed, count] => match (seed.parse(), count.parse()) {
-            (Ok(seed), Ok(count)) => {
-                let survey = survey_pairs::PairSurvey::of(seed, count);
-                print(&survey.to_string()).and_then(|()| survey.nothing_missing())
-            }
-            _ => return usage(),
-        },
         ["write-pair", seed, index, morning, noon] => match (seed.parse(), index.parse()) {
             (Ok(seed), Ok(index)) => {
                 let files = generate::pair(seed, index);
@@ -97,6 +96,26 @@ fn main() -> ExitCode {
             ExitCode::FAILURE
         }
     }
+}
+
+/// Prints a survey and tells what never occurred; nothing if there is no such survey.
+fn surveyed(survey: &str, seed: u64, count: u64) -> Option<io::Result<()>> {
+    let (lines, missing) = match survey {
+        "survey" => {
+            let survey = survey::Survey::of(seed, count);
+            (survey.to_string(), survey.nothing_missing())
+        }
+        "survey-pairs" => {
+            let survey = survey_pairs::PairSurvey::of(seed, count);
+            (survey.to_string(), survey.nothing_missing())
+        }
+        "survey-runs" => {
+            let tally = survey_runs::survey(seed, count);
+            (tally.to_string(), tally.nothing_missing())
+        }
+        _ => return None,
+    };
+    Some(print(&lines).and(missing))
 }
 
 fn usage() -> ExitCode {

@@ -1,4 +1,4 @@
-//! The refusals of document 01 and their numbers, and those of document 02 for two files.
+//! The refusals of document 01 and their numbers, and those of document 02.
 
 use std::fmt;
 
@@ -28,6 +28,8 @@ pub const UNLISTED_QUESTION: u8 = 11;
 pub const NOON_ENTRY: u8 = 12;
 /// More than 640 records joined.
 pub const TOO_MANY_JOINED: u8 = 13;
+/// The lengths of a run do not add up to what was lent.
+pub const LENGTHS_DIFFER: u8 = 17;
 /// An amount outside its range.
 pub const AMOUNT_OUT_OF_RANGE: u8 = 21;
 

@@ -6,6 +6,7 @@ mod roundings;
 mod sights;
 mod tenths;
 
+use crate::tally::TELLING;
 use independent::book::INTERCONTRACT;
 use independent::check::{fault, not_whole_records, too_long};
 use independent::format::{records, Record, CONTRACT, MOST_RECORDS, NUMBER, RECORD_BYTES};
@@ -20,9 +21,6 @@ use std::collections::BTreeMap;
 use std::fmt;
 use std::io;
 use tenths::tenths;
-
-/// From this many files or pairs on, every refusal must have occurred.
-pub const TELLING: u64 = 2_000;
 
 /// The size classes of the histogram: the most records of each.
 const SIZES: [usize; 9] = [0, 5, 10, 20, 40, 80, 160, 320, MOST_RECORDS];

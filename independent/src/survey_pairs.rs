@@ -1,7 +1,7 @@
 //! A survey of generated pairs: how often each refusal occurs, where the contracts of the joined
 //! accounts come from, and on which side of its two comparisons the call falls.
 
-use crate::survey::TELLING;
+use crate::tally::TELLING;
 use independent::book::intercontract;
 use independent::format::{records, ENTRY, MOST_RECORDS, RECORD_BYTES};
 use independent::generate::{self, Random};

@@ -10,6 +10,7 @@ mod order;
 mod program;
 mod reckoned;
 mod refusals;
+mod runs;
 mod tenths;
 mod unit_price_risk;
 mod wrong;

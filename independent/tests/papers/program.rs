@@ -165,6 +165,14 @@ fn a_survey_of_pairs_counts_every_refusal() {
 }
 
 #[test]
+fn the_other_surveys_count_all_that_they_look_for() {
+    for survey in ["survey-runs"] {
+        let told = lines(&[survey, "5", "2000"], &[]);
+        assert!(!told.contains(": 0\n"), "{told}");
+    }
+}
+
+#[test]
 fn a_file_that_is_not_there_is_told() {
     let there = written("there", &[]);
     let missing = format!("{there}/missing");
@@ -189,6 +197,8 @@ fn wrong_usage_is_told() {
         &["call", "morning", "noon", "0", "0"],
         &["call", "morning", "noon", "0", "0", "0.5"],
         &["survey-pairs", "1"],
+        &["survey-runs", "1", "x"],
+        &["surveys", "1", "1"],
         &["write-pair", "1", "x", "morning", "noon"],
     ] {
         let output = run(arguments, &[]);

@@ -1,0 +1,69 @@
+//! Runs of accounts: few of any sort, or many small ones; the lengths now and then do not add up, wrap
+//! around, or cut the bytes elsewhere.
+
+use super::random::Random;
+use super::{any, sound};
+use crate::format::RECORD_BYTES;
+
+/// The bytes of a run and the lengths of its accounts.
+#[derive(Clone, Debug, PartialEq, Eq)]
+pub struct Run {
+    pub bytes: Vec<u8>,
+    pub lengths: Vec<u64>,
+}
+
+pub fn run(random: &mut Random) -> Run {
+    let accounts: Vec<Vec<u8>> = match random.below(16) {
+        0 => vec![],
+        1 => (0..random.between(99, 102)).map(|_| small(random)).collect(),
+        2 | 3 => (0..random.between(1, 12)).map(|_| small(random)).collect(),
+        _ => (0..random.between(1, 4)).map(|_| any(random)).collect(),
+    };
+    let mut lengths: Vec<u64> = accounts.iter().map(|account| account.len() as u64).collect();
+    match random.below(8) {
+        0 => other_sum(random, &mut lengths),
+        1 => cut_elsewhere(random, &mut lengths),
+        _ => {}
+    }
+    Run { bytes: accounts.concat(), lengths }
+}
+
+/// A small account, or nothing, or less than a record.
+fn small(random: &mut Random) -> Vec<u8> {
+    match random.below(8) {
+        0 => vec![],
+        1 => vec![1; random.place(RECORD_BYTES)],
+        _ => {
+            let size = random.place(9);
+            sound::of_size(random, size, &[0, 2, 3, 9], true).concat()
+        }
+    }
+}
+
+/// Lengths that do not add up to the bytes: one more or less, an account too many, or lengths whose sum
+/// does so only where it wraps around.
+fn other_sum(random: &mut Random, lengths: &mut Vec<u64>) {
+    match random.below(4) {
+        0 => lengths.push(random.pick(&[1, 96, u64::MAX])),
+        1 => {
+            let (first, second) = (u64::MAX - random.below(1_000), lengths.pop().unwrap_or(0));
+            lengths.extend([first, second.wrapping_sub(first)]);
+        }
+        _ if lengths.is_empty() => lengths.push(1),
+        more => {
+            let place = random.place(lengths.len());
+            let moved = if more == 2 { lengths[place] + 1 } else { lengths[place].max(1) - 1 };
+            lengths[place] = moved;
+        }
+    }
+}
+
+/// Moves a cut between two accounts; the sum stays.
+fn cut_elsewhere(random: &mut Random, lengths: &mut [u64]) {
+    if lengths.len() > 1 {
+        let place = random.place(lengths.len() - 1);
+        let by = random.pick(&[1, 96, lengths[place]]).min(lengths[place]);
+        lengths[place] -= by;
+        lengths[place + 1] += by;
+    }
+}

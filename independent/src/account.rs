@@ -1,6 +1,7 @@
 //! An accepted account, read from its records: contracts in file order, each with its prompts, rows
-//! and interprompt spreads, and the intercontract table.
+//! and interprompt spreads, the intercontract table and the currency rates.
 
+use crate::currency::{converted_products, rates, Rate};
 use crate::format::*;
 use crate::steps::{Leg, Side};
 use crate::units::{Amount, Delta};
@@ -10,6 +11,7 @@ pub struct Account {
     pub records: usize,
     pub contracts: Vec<Contract>,
     pub entries: Vec<Entry>,
+    pub rates: Vec<Rate>,
 }
 
 pub struct Contract {
@@ -36,6 +38,9 @@ pub struct Row {
     pub value: Amount,
     /// In ticks, scenario 1 first.
     pub losses: [i64; SCENARIOS],
+    pub currency: i64,
+    /// Lots × value × loss in the margin currency.
+    pub products: [Amount; SCENARIOS],
 }
 
 /// An interprompt spread.
@@ -69,14 +74,20 @@ impl Entry {
 impl Account {
     /// Reads the records of a file that the check has accepted.
     pub(crate) fn read(records: &[Record]) -> Account {
-        let mut account = Account { records: records.len(), contracts: vec![], entries: vec![] };
+        let rates = rates(records);
+        let (contracts, entries) = (vec![], vec![]);
+        let mut account = Account { records: records.len(), contracts, entries, rates };
         for record in records {
             match record.kind() {
                 CONTRACT => account.contracts.push(contract(record)),
                 PROMPT => account.named_by(record).prompts.push(prompt(record)),
-                ROW => account.named_by(record).rows.push(row(record)),
+                ROW => {
+                    let row = row(record, &account.rates);
+                    account.named_by(record).rows.push(row);
+                }
                 SPREAD => account.named_by(record).spreads.push(spread(record)),
-                _ => account.entries.push(entry(record)),
+                ENTRY => account.entries.push(entry(record)),
+                _ => {}
             }
         }
         account
@@ -115,7 +126,7 @@ fn prompt(record: &Record) -> Prompt {
     }
 }
 
-fn row(record: &Record) -> Row {
+fn row(record: &Record, rates: &[Rate]) -> Row {
     let class = record.get(CLASS);
     let mut losses = [0; SCENARIOS];
     for (scenario, ticks) in losses.iter_mut().enumerate() {
@@ -128,6 +139,8 @@ fn row(record: &Record) -> Row {
         delta: Delta(record.get(delta(class))),
         value: Amount(record.get(VALUE)),
         losses,
+        currency: record.get(CURRENCY),
+        products: converted_products(*record, rates),
     }
 }
 

@@ -84,12 +84,12 @@ fn contract_figures(account: &Account, table: &Book, place: usize, contract: &Co
     }
 }
 
-/// "For each scenario add lots × value × loss over the contract's rows."
+/// "For each scenario add lots × value × loss over the contract's rows", each row converted.
 pub fn totals(contract: &Contract) -> [Amount; SCENARIOS] {
     let mut totals = [Amount(0); SCENARIOS];
     for row in &contract.rows {
-        for (scenario, total) in totals.iter_mut().enumerate() {
-            *total += Amount(row.lots * row.value.0 * row.losses[scenario]);
+        for (total, product) in totals.iter_mut().zip(row.products) {
+            *total += product;
         }
     }
     totals

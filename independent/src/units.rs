@@ -112,6 +112,12 @@ impl Quotient {
         (2 * self.dividend + self.divisor) / (2 * self.divisor)
     }
 
+    /// Rounded to the nearest whole number, halves away from zero.
+    pub fn halves_away(self) -> i128 {
+        let size = Quotient { dividend: self.dividend.abs(), ..self }.halves_up();
+        size * self.dividend.signum()
+    }
+
     /// Whether it lies halfway between two whole numbers.
     pub fn is_half(self) -> bool {
         let twice = 2 * self.dividend;

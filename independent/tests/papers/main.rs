@@ -2,6 +2,7 @@
 
 mod answers;
 mod builder;
+mod currencies;
 mod generated;
 mod joined;
 mod lme;

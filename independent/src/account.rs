@@ -4,7 +4,7 @@
 use crate::currency::{converted_products, rates, Rate};
 use crate::format::*;
 use crate::steps::{Leg, Side};
-use crate::units::{Amount, Delta};
+use crate::units::{Amount, Delta, Quotient, Unit};
 
 pub struct Account {
     /// How many records the file has; refusals 10 and 11 name it.
@@ -17,6 +17,7 @@ pub struct Account {
 pub struct Contract {
     pub number: i64,
     pub short_option_rate: Amount,
+    pub unit: Unit,
     pub prompts: Vec<Prompt>,
     pub rows: Vec<Row>,
     pub spreads: Vec<Spread>,
@@ -39,7 +40,7 @@ pub struct Row {
     /// In ticks, scenario 1 first.
     pub losses: [i64; SCENARIOS],
     pub currency: i64,
-    /// Lots × value × loss in the margin currency.
+    /// Lots × value × loss in the margin currency, rounded to the contract's unit.
     pub products: [Amount; SCENARIOS],
 }
 
@@ -82,8 +83,9 @@ impl Account {
                 CONTRACT => account.contracts.push(contract(record)),
                 PROMPT => account.named_by(record).prompts.push(prompt(record)),
                 ROW => {
-                    let row = row(record, &account.rates);
-                    account.named_by(record).rows.push(row);
+                    let rates = account.rates.clone();
+                    let contract = account.named_by(record);
+                    contract.rows.push(row(record, &rates, contract.unit));
                 }
                 SPREAD => account.named_by(record).spreads.push(spread(record)),
                 ENTRY => account.entries.push(entry(record)),
@@ -111,6 +113,7 @@ fn contract(record: &Record) -> Contract {
     Contract {
         number: record.get(NUMBER),
         short_option_rate: Amount(record.get(SHORT_OPTION_RATE)),
+        unit: Unit(record.get(UNIT).max(1)),
         prompts: vec![],
         rows: vec![],
         spreads: vec![],
@@ -126,7 +129,7 @@ fn prompt(record: &Record) -> Prompt {
     }
 }
 
-fn row(record: &Record, rates: &[Rate]) -> Row {
+fn row(record: &Record, rates: &[Rate], unit: Unit) -> Row {
     let class = record.get(CLASS);
     let mut losses = [0; SCENARIOS];
     for (scenario, ticks) in losses.iter_mut().enumerate() {
@@ -140,7 +143,10 @@ fn row(record: &Record, rates: &[Rate]) -> Row {
         value: Amount(record.get(VALUE)),
         losses,
         currency: record.get(CURRENCY),
-        products: converted_products(*record, rates),
+        // 2026-09: "Every row product, after conversion to hundredths, is rounded to it, halves away
+        // from zero"
+        products: converted_products(*record, rates)
+            .map(|product| unit.halves_away(Quotient::whole(product.0))),
     }
 }
 

@@ -6,6 +6,7 @@ mod refused;
 mod roundings;
 mod sights;
 mod tenths;
+mod units;
 
 use crate::tally::TELLING;
 use independent::book::INTERCONTRACT;
@@ -157,6 +158,7 @@ impl Survey {
         count(&mut self.sights, roundings(account));
         count(&mut self.sights, tenths(account));
         count(&mut self.sights, currencies::currencies(account));
+        count(&mut self.sights, units::units(account));
     }
 
     /// A fault if a refusal, or a sort of accepted account, never occurred in a count that should show

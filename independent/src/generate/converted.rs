@@ -2,6 +2,7 @@
 //! there may be, or passes it by a half, and rows whose currency has no rate. Some are refused.
 
 use super::random::Random;
+use super::values::unit;
 use super::write::{record, Bytes};
 use crate::format::*;
 
@@ -15,7 +16,8 @@ pub fn account(random: &mut Random) -> Vec<Bytes> {
     for number in &numbers {
         rows.extend((0..random.between(1, 6)).map(|_| row(random, *number, faulty)));
     }
-    let contract = |number: &i64| record(CONTRACT, &[(NUMBER, *number)]);
+    let unit = if random.one_in(3) { unit(random) } else { 0 };
+    let contract = |number: &i64| record(CONTRACT, &[(NUMBER, *number), (UNIT, unit)]);
     let prompt =
         |number: &i64| record(PROMPT, &[(NUMBER, *number), (PROMPT_TIER, 1), (DAY, DAY_OF_ALL)]);
     let mut records: Vec<Bytes> = numbers.iter().map(contract).collect();

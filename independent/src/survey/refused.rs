@@ -15,7 +15,9 @@ pub fn refused(file: &[u8], refusal: Refusal) -> Vec<Sight> {
     let row = six.filter(|record| record.kind() == ROW);
     let falls = refusal.number == ORDER_OR_CLASH
         && record.is_some_and(|record| record.kind() == CURRENCY_RATE);
+    let contract = six.filter(|record| record.kind() == CONTRACT);
     vec![
+        ("a unit above 1,000", contract.is_some_and(|record| outside(record, UNIT))),
         ("a row's currency above 7", row.is_some_and(|record| outside(record, CURRENCY))),
         ("a rate of currency 0 or above 7", rate(RATE_CURRENCY)),
         ("a spot rate of 0 or above its most", rate(SPOT_RATE)),

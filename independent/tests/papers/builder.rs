@@ -126,6 +126,13 @@ pub fn rate(currency: u8, spot: u32, percent: u8) -> Record {
     record
 }
 
+/// A contract with this unit in hundredths.
+pub fn in_units(unit: u16, contract: Record) -> Record {
+    let mut record = contract;
+    put(&mut record, 8, unit.to_le_bytes());
+    record
+}
+
 /// A row in this currency.
 pub fn in_currency(currency: u8, row: Record) -> Record {
     with(row, 3, currency)

@@ -14,4 +14,5 @@ mod refusals;
 mod runs;
 mod tenths;
 mod unit_price_risk;
+mod units;
 mod wrong;

@@ -175,7 +175,8 @@ fn check_line(file: &[u8]) -> String {
     }
 }
 
-/// `P net used unused` per prompt, or per contract in question 16, then `S first second` per spread.
+/// `P net used unused` per prompt, or per contract in question 16, then `S first second` per spread,
+/// then `N takes`.
 fn book_lines(file: &[u8], question: u64) -> String {
     match check(file).and_then(|account| held_book(&account, question)) {
         Ok(book) => {
@@ -186,7 +187,7 @@ fn book_lines(file: &[u8], question: u64) -> String {
             for [first, second] in &book.steps {
                 lines += &line("S", &[first.number.0, second.number.0]);
             }
-            lines
+            lines + &line("N", &[book.takes() as i64])
         }
         Err(refusal) => format!("{refusal}\n"),
     }

@@ -5,6 +5,7 @@
 mod charged;
 mod converted;
 mod damage;
+mod list;
 mod pair;
 mod priced;
 mod random;
@@ -14,6 +15,7 @@ mod sound;
 mod values;
 mod write;
 
+pub use list::list;
 pub use random::Random;
 pub use run::Run;
 

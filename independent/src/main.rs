@@ -3,6 +3,7 @@
 //! file or the call on them, generated files or a survey of them.
 
 mod survey;
+mod survey_lists;
 mod survey_pairs;
 mod survey_runs;
 mod tally;
@@ -31,6 +32,8 @@ const USAGE: &str =
                                        what occurs in so many generated pairs
        independent survey-runs SEED COUNT
                                        what occurs in so many generated runs of accounts
+       independent survey-lists SEED COUNT
+                                       what occurs in so many lists of spreads
        independent write-pair SEED INDEX MORNING NOON
                                        writes the two files of one generated pair";
 
@@ -109,11 +112,14 @@ fn surveyed(survey: &str, seed: u64, count: u64) -> Option<io::Result<()>> {
             let survey = survey_pairs::PairSurvey::of(seed, count);
             (survey.to_string(), survey.nothing_missing())
         }
-        "survey-runs" => {
-            let tally = survey_runs::survey(seed, count);
+        _ => {
+            let tally = match survey {
+                "survey-runs" => survey_runs::survey(seed, count),
+                "survey-lists" => survey_lists::survey(seed, count),
+                _ => return None,
+            };
             (tally.to_string(), tally.nothing_missing())
         }
-        _ => return None,
     };
     Some(print(&lines).and(missing))
 }

@@ -34,6 +34,8 @@ pub const NO_RATE: u8 = 14;
 pub const CONVERSION_TOO_LARGE: u8 = 15;
 /// The lengths of a run do not add up to what was lent.
 pub const LENGTHS_DIFFER: u8 = 17;
+/// The step count or the prompt count of a list differs from the account's.
+pub const OTHER_COUNTS: u8 = 18;
 /// An amount outside its range.
 pub const AMOUNT_OUT_OF_RANGE: u8 = 21;
 

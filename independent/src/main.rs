@@ -3,6 +3,7 @@
 //! file or the call on them, generated files or a survey of them.
 
 mod survey;
+mod survey_committee;
 mod survey_lists;
 mod survey_pairs;
 mod survey_runs;
@@ -32,6 +33,8 @@ const USAGE: &str =
                                        what occurs in so many generated pairs
        independent survey-runs SEED COUNT
                                        what occurs in so many generated runs of accounts
+       independent survey-committee SEED COUNT
+                                       what the committee's figures of so many runs show
        independent survey-lists SEED COUNT
                                        what occurs in so many lists of spreads
        independent write-pair SEED INDEX MORNING NOON
@@ -115,6 +118,7 @@ fn surveyed(survey: &str, seed: u64, count: u64) -> Option<io::Result<()>> {
         _ => {
             let tally = match survey {
                 "survey-runs" => survey_runs::survey(seed, count),
+                "survey-committee" => survey_committee::survey(seed, count),
                 "survey-lists" => survey_lists::survey(seed, count),
                 _ => return None,
             };

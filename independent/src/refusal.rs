@@ -36,6 +36,8 @@ pub const CONVERSION_TOO_LARGE: u8 = 15;
 pub const LENGTHS_DIFFER: u8 = 17;
 /// The step count or the prompt count of a list differs from the account's.
 pub const OTHER_COUNTS: u8 = 18;
+/// More than 100 accounts for the committee.
+pub const TOO_MANY_ACCOUNTS: u8 = 19;
 /// An amount outside its range.
 pub const AMOUNT_OUT_OF_RANGE: u8 = 21;
 

@@ -13,12 +13,16 @@ pub struct Run {
 }
 
 pub fn run(random: &mut Random) -> Run {
-    let accounts: Vec<Vec<u8>> = match random.below(16) {
+    let mut accounts: Vec<Vec<u8>> = match random.below(16) {
         0 => vec![],
-        1 => (0..random.between(99, 102)).map(|_| small(random)).collect(),
+        1 => (0..random.between(98, 102)).map(|_| small(random)).collect(),
         2 | 3 => (0..random.between(1, 12)).map(|_| small(random)).collect(),
         _ => (0..random.between(1, 4)).map(|_| any(random)).collect(),
     };
+    if random.one_in(4) && !accounts.is_empty() {
+        let again = accounts[random.place(accounts.len())].clone();
+        accounts.push(again);
+    }
     let mut lengths: Vec<u64> = accounts.iter().map(|account| account.len() as u64).collect();
     match random.below(8) {
         0 => other_sum(random, &mut lengths),

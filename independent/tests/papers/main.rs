@@ -2,6 +2,7 @@
 
 mod answers;
 mod builder;
+mod committee;
 mod currencies;
 mod generated;
 mod joined;

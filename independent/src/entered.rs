@@ -79,14 +79,12 @@ pub fn record(entered: &Entered) -> Bytes {
         }
         Entered::Row { contract, class, currency, day, strike, lots, delta, value, losses } => {
             put(0, &[ROW, contract, class, currency]);
-            put(4, &day.to_le_bytes());
-            put(8, &strike.to_le_bytes());
-            put(12, &lots.to_le_bytes());
-            put(16, &delta.to_le_bytes());
-            put(20, &value.to_le_bytes());
-            for (scenario, ticks) in losses.iter().enumerate() {
-                put(24 + 4 * scenario, &ticks.to_le_bytes());
-            }
+            let unsigned = [(4, day), (8, strike), (20, value)];
+            unsigned.iter().for_each(|(at, field)| put(*at, &field.to_le_bytes()));
+            let signed = [(12, lots), (16, delta)];
+            signed.iter().for_each(|(at, field)| put(*at, &field.to_le_bytes()));
+            let losses = (24..).step_by(4).zip(losses);
+            losses.for_each(|(at, ticks)| put(at, &ticks.to_le_bytes()));
         }
         Entered::Spread { contract, legs, rate, leg } => {
             put(0, &[SPREAD, contract, legs]);

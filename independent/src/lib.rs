@@ -1,7 +1,8 @@
 //! The second, independent program of the margin build. It is written from document 01, the LME SPAN
 //! technical specification (002) and the SPAN method (000) alone, as plainly as they can be said, so
-//! that the proved program can be compared with it; the joining of two files from document 02 and
-//! the intra-day service description (004). Quoted sentences are document 01's.
+//! that the proved program can be compared with it; the requests of document 02 from that document
+//! and, for the joining of two files, the intra-day service description (004). Quoted sentences are
+//! document 01's, unless a request is named.
 
 pub mod account;
 pub mod book;

@@ -146,17 +146,23 @@ impl PairSurvey {
         );
     }
 
-    /// A fault if a refusal never occurred in a count that should show every one.
+    /// A fault if a refusal, or a sort of pair, never occurred in a count that should show every one.
     pub fn nothing_missing(&self) -> io::Result<()> {
-        let missing: Vec<String> = every_pair_refusal()
+        let refusals: Vec<String> = every_pair_refusal()
             .iter()
             .filter(|refusal| !self.refusals.contains_key(refusal))
             .map(|(file, number)| format!("{number} of file {file}"))
             .collect();
-        if self.count < TELLING || missing.is_empty() {
+        let sights: Vec<&str> =
+            self.sights.iter().filter(|(_, count)| **count == 0).map(|(what, _)| *what).collect();
+        if self.count < TELLING {
             Ok(())
+        } else if !refusals.is_empty() {
+            Err(io::Error::other(format!("refusals that never occurred: {}", refusals.join(", "))))
+        } else if !sights.is_empty() {
+            Err(io::Error::other(format!("pairs that never occurred: {}", sights.join(", "))))
         } else {
-            Err(io::Error::other(format!("refusals that never occurred: {}", missing.join(", "))))
+            Ok(())
         }
     }
 }
@@ -178,6 +184,16 @@ impl fmt::Display for PairSurvey {
 #[cfg(test)]
 mod tests {
     use super::PairSurvey;
+    use independent::refusal::every_pair_refusal;
+
+    #[test]
+    fn a_sort_of_pair_that_never_occurred_is_told() {
+        let refusals = every_pair_refusal().into_iter().map(|refusal| (refusal, 1)).collect();
+        let sights = [("a call", 0), ("640 records", 3)].into_iter().collect();
+        let survey = PairSurvey { count: 2_000, refusals, sights, ..PairSurvey::of(1, 0) };
+        let told = survey.nothing_missing().expect_err("no call occurred").to_string();
+        assert_eq!(told, "pairs that never occurred: a call");
+    }
 
     #[test]
     fn a_refusal_that_never_occurred_is_told_from_2_000_pairs_on() {

@@ -114,11 +114,11 @@ fn converted_at_noon(random: &mut Random) -> (Vec<Bytes>, Vec<Bytes>) {
 
 /// Two files with 640 records joined, or about so many, or up to 1,280; sometimes noon has entries.
 fn crowded(random: &mut Random) -> (Vec<Bytes>, Vec<Bytes>) {
-    let target = match random.below(8) {
+    let target = match random.below(9) {
         0..=2 => 640,
         3 | 4 => 641,
         5 => random.between(638, 644) as usize,
-        6 => 2 * MOST_RECORDS,
+        6 | 7 => 2 * MOST_RECORDS,
         _ => random.between(640, 1_280) as usize,
     };
     let size = random.between((target / 2) as i64, MOST_RECORDS as i64) as usize;
@@ -129,7 +129,7 @@ fn crowded(random: &mut Random) -> (Vec<Bytes>, Vec<Bytes>) {
     let lacking = target.saturating_sub(joined).min(MOST_RECORDS.saturating_sub(noon.len()));
     let in_neither = |number: &u8| !lists(&morning, *number) && !lists(&noon, *number);
     let new: Vec<i64> = (0..16).filter(in_neither).map(i64::from).collect();
-    let entries = random.one_in(8);
+    let entries = target < 2 * MOST_RECORDS && random.one_in(3);
     noon.extend(sound::of_size(random, lacking, &new, entries));
     in_order(&mut noon);
     (morning, noon)

@@ -2,8 +2,11 @@
 //! are tenths, 1..1000; 0 keeps whole ratios."
 
 use crate::builder::*;
+use independent::book::intercontract;
+use independent::generate;
 use independent::steps::{Leg, Side};
 use independent::units::{Delta, Spreads};
+use independent::{check, Account};
 
 /// Contracts 1 and 2 with these net deltas, and these entries.
 fn account(first: i64, second: i64, entries: &[Record]) -> Vec<u8> {
@@ -108,6 +111,37 @@ fn a_credit_goes_by_the_rounded_use() {
         &[entry_in_tenths(85, (1, 96), (2, 10))],
     ]);
     assert_eq!(figures_of(&account)[..6], [1, 3, 4_380_000, 0, 0, 298_197]);
+}
+
+/// The pool that a leg takes from in a step: the unused delta of its contract, if it is on that side.
+fn pool(account: &Account, unused: &[Delta], leg: &Leg, long: Side) -> i128 {
+    let place = account.contracts.iter().position(|of| of.number == leg.tier).unwrap();
+    let left = if leg.side == long { unused[place] } else { -unused[place] };
+    i128::from(left.0.max(0))
+}
+
+#[test]
+fn each_number_is_the_most_whose_unrounded_uses_fit() {
+    let mut formed = 0;
+    for index in 0..2_500 {
+        let Ok(account) = check(&generate::account(3, index)) else { continue };
+        let table = intercontract(&account);
+        let mut unused: Vec<Delta> = table.lines.iter().map(|line| line.net).collect();
+        for (entry, steps) in account.entries.iter().zip(&table.steps) {
+            for (step, long) in steps.iter().zip([Side::A, Side::B]) {
+                let fits = |leg: &Leg, number: Spreads| {
+                    let used = leg.unrounded(number);
+                    used.dividend <= pool(&account, &unused, leg, long) * used.divisor
+                };
+                let legs = entry.legs();
+                assert!(legs.iter().all(|leg| fits(leg, step.number)));
+                assert!(!legs.iter().all(|leg| fits(leg, step.number + Spreads(1))));
+                formed += usize::from(entry.tenths && step.number > Spreads(0));
+                unused.iter_mut().zip(&step.given).for_each(|(left, given)| *left -= *given);
+            }
+        }
+    }
+    assert!(formed > 100, "{formed} steps in tenths formed");
 }
 
 #[test]

@@ -1,7 +1,7 @@
 //! A survey of generated pairs: how often each refusal occurs, where the contracts of the joined
 //! accounts come from, and on which side of its two comparisons the call falls.
 
-use crate::tally::TELLING;
+use crate::tally::{TELLING, TELLING_SORTS};
 use independent::account::Contract;
 use independent::book::intercontract;
 use independent::check::check_records;
@@ -159,7 +159,7 @@ impl PairSurvey {
             Ok(())
         } else if !refusals.is_empty() {
             Err(io::Error::other(format!("refusals that never occurred: {}", refusals.join(", "))))
-        } else if !sights.is_empty() {
+        } else if self.count >= TELLING_SORTS && !sights.is_empty() {
             Err(io::Error::other(format!("pairs that never occurred: {}", sights.join(", "))))
         } else {
             Ok(())
@@ -190,7 +190,7 @@ mod tests {
     fn a_sort_of_pair_that_never_occurred_is_told() {
         let refusals = every_pair_refusal().into_iter().map(|refusal| (refusal, 1)).collect();
         let sights = [("a call", 0), ("640 records", 3)].into_iter().collect();
-        let survey = PairSurvey { count: 2_000, refusals, sights, ..PairSurvey::of(1, 0) };
+        let survey = PairSurvey { count: 5_000, refusals, sights, ..PairSurvey::of(1, 0) };
         let told = survey.nothing_missing().expect_err("no call occurred").to_string();
         assert_eq!(told, "pairs that never occurred: a call");
     }

@@ -4,8 +4,11 @@ use std::collections::BTreeMap;
 use std::fmt;
 use std::io;
 
-/// From this many files, pairs or runs on, everything that is looked for must have been seen.
+/// From this many on, every refusal must have been seen, and whatever a tally looks for.
 pub const TELLING: u64 = 2_000;
+
+/// From this many files or pairs on, so must every sort of file or pair; some are rare.
+pub const TELLING_SORTS: u64 = 5_000;
 
 pub struct Tally {
     /// What is counted: files, pairs, runs.

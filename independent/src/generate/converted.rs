@@ -62,7 +62,7 @@ fn row(random: &mut Random, number: i64, faulty: bool) -> Bytes {
         // As a gain at 1 less 50 percent this passes, as a loss at 1 and 50 percent it does not.
         6 if faulty => (most, VALUE.most, 66_667, 3),
         5 | 6 | 9 => (most, VALUE.most, 66_666, 3),
-        _ => (random.pick(&[0, 0, 0, 1]), 1, odd, random.between(0, 7)),
+        _ => (random.pick(&[0, 0, 0, 0, 1]), 1, odd, random.between(1, 7)),
     };
     let currency = if faulty && random.one_in(8) { random.between(1, 7) } else { currency };
     let lots = if random.one_in(2) { lots } else { -lots };

@@ -203,8 +203,8 @@ fn other_parts(random: &mut Random, entry: &mut Bytes) {
 fn other_rate(random: &mut Random, rate: &mut Bytes) {
     match random.below(8) {
         0 | 1 => put(rate, RATE_CURRENCY, random.pick(&[0, 7, 8, 255])),
-        2 => put(rate, SPOT_RATE, random.pick(&[0, 1, 100_000_001, 1 << 31])),
-        3..=5 => put(rate, ADJUSTMENT, random.pick(&[0, 50, 51, 51, 100, 255])),
+        2 | 3 => put(rate, SPOT_RATE, random.pick(&[0, 0, 1, 100_000_001, 1 << 31])),
+        4 | 5 => put(rate, ADJUSTMENT, random.pick(&[0, 50, 51, 51, 100, 255])),
         6 => put(rate, RATE_CURRENCY, random.between(1, 7)),
         _ => put(rate, SPOT_RATE, SPOT_RATE.most),
     }

@@ -12,7 +12,7 @@ use crate::format::*;
 pub fn account(random: &mut Random) -> Vec<Bytes> {
     let numbers: Vec<i64> = (0..random.between(2, 4)).map(|place| 4 * place + 1).collect();
     let long_first = random.one_in(2);
-    let tiny = random.one_in(4);
+    let tiny = random.one_in(3);
     let unit = if random.one_in(2) { random.pick(&[1, 2, 4, 10, 100, 1_000]) } else { 0 };
     let shared = (!tiny && random.one_in(2)).then(|| sizes(random, unit));
     let (mut contracts, mut prompts, mut rows) = (vec![], vec![], vec![]);

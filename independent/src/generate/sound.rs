@@ -47,7 +47,7 @@ pub fn account(random: &mut Random) -> Vec<Bytes> {
         0 => full(random),
         1 => no_prompts(random),
         2 => sixteen_contracts(random),
-        3 => Plan { contracts: vec![], entries: 0, rates: random.place(MOST_RATES + 1) },
+        3 | 4 => Plan { contracts: vec![], entries: 0, rates: random.place(MOST_RATES + 1) },
         _ => {
             let size = size(random);
             plan(random, size, NUMBERS.len(), true)

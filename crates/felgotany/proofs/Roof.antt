@@ -8,15 +8,18 @@ use Rattle.spread.proofs.Stepping.{stepped-one}
 use Rattle.account.proofs.Claimed.{claimed}
 use Rattle.account.proofs.OneJoined.{determined}
 use Rattle.account.proofs.PairClaimed.{pair-claimed}
-use Rattle.margin.proofs.Demands.{demand1, demand2, demanded-file, demanded-joined}
-use Rattle.margin.proofs.HeldLaws.{one-view, one-asked}
-use Rattle.margin.proofs.PairDemands.{pair-demand1}
+use Rattle.questions.proofs.Demands.{demand1, demand2, demanded-file, demanded-joined}
+use Rattle.questions.proofs.HeldLaws.{one-view, one-asked}
+use Rattle.questions.proofs.NeedLaws.{file-needed, pair-needed}
+use Rattle.questions.proofs.NoonLaws.{one-asked-pair}
+use Rattle.questions.proofs.PairDemands.{pair-demand1}
+use Rattle.questions.proofs.PlaceLaws.{file-places, pair-places}
 use Rattle.margin.proofs.PairLaws.{pair-table}
 use Rattle.margin.proofs.Reckoned.{reckoned, printed}
 use Rattle.margin.proofs.Skipped.{file-skips-none, pair-skips-none}
 use Rattle.margin.proofs.Unpaired.{file-unpaired, pair-unpaired}
 use Rattle.felgotany.specs.Roof.{OneFile, TwoFiles, Equations, OneOutcome, Roof}
-use Rattle.felgotany.proofs.Told.{one-told, all-told, one-told-of, one-call, one-place}
+use Rattle.felgotany.proofs.Told.{one-told, all-told, one-told-of, all-told-of, one-call, one-place}
 
 one-file : (file : List ℕ) → OneFile file
 one-file file =
@@ -26,6 +29,8 @@ one-file file =
       demand3 = demanded-file file;
       skipped = file-skips-none file;
       unpaired = file-unpaired file;
+      needed = file-needed file;
+      places = λ paid. file-places paid file;
     }
 
 two-files : (morning noon : List ℕ) → TwoFiles morning noon
@@ -36,6 +41,8 @@ two-files morning noon =
       demand3 = demanded-joined morning noon;
       skipped = pair-skips-none morning noon;
       unpaired = pair-unpaired morning noon;
+      needed = pair-needed morning noon;
+      places = λ paid. pair-places paid morning noon;
     }
 
 one-outcomes : OneOutcome
@@ -47,9 +54,11 @@ one-outcomes =
       check = determined;
       view = one-view;
       asked = one-asked;
+      askedOfPair = one-asked-pair;
       told = one-told;
       allTold = all-told;
       toldOf = one-told-of;
+      allToldOf = all-told-of;
       called = one-call;
       placed = one-place;
     }

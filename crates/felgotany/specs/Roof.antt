@@ -8,6 +8,7 @@ use mathlib.Core.Path.{_≡_}
 use mathlib.Core.Bool.{Bool, true}
 use mathlib.Core.List.{List}
 use lib.IntN.{ℤ}
+use lib.ListN.{length}
 use Rattle.exact.specs.Largest.{IsLargest}
 use Rattle.exact.specs.declared.largest.Place.{Place as Largest}
 use Rattle.spread.specs.Book.{Booked}
@@ -20,29 +21,36 @@ use Rattle.spread.specs.declared.stepwise.Step.{Step}
 use Rattle.account.specs.Check.{checked}
 use Rattle.account.specs.Claims.{Claims}
 use Rattle.account.specs.Determined.{Determined}
-use Rattle.account.specs.Noon.{clear, joinedVerdict}
+use Rattle.account.specs.Noon.{clear, ofJoined, _then_, joinedVerdict}
 use Rattle.account.specs.PairClaims.{PairClaims}
-use Rattle.account.specs.Records.{records}
-use Rattle.account.specs.Supplied.{accountOf}
+use Rattle.account.specs.Records.{records, recordCount}
+use Rattle.account.specs.Standing.{accountOf}
 use Rattle.account.specs.declared.answers.Answer.{Answer}
 use Rattle.account.specs.declared.answers.Answer.the-variants.{Accepted}
 use Rattle.account.specs.declared.noon.Place.{Place}
 use Rattle.account.specs.declared.noon.Verdict.{Verdict}
-use Rattle.margin.specs.Demands.{Demand1, Demand2, Demanded}
-use Rattle.margin.specs.Held.{FromCheck}
-use Rattle.margin.specs.PairDemands.{PairDemand1}
+use Rattle.questions.specs.Demands.{Demand1, Demand2, Demanded}
+use Rattle.questions.specs.Held.{FromCheck}
+use Rattle.questions.specs.Noon.{joinedAnswer, joinedNeed, afterJoined, joinedAll, afterJoinedAll}
+use Rattle.questions.specs.PairDemands.{PairDemand1}
+use Rattle.questions.specs.Questions.{answerTo, afterTo, needTo, allTo, afterAllTo, Needed}
 use Rattle.margin.specs.Pairs.{PairTable}
+use Rattle.margin.specs.Places.{EachPlace, questionOf, widthOf}
+use Rattle.margin.specs.Questions.{ifAccepted, asked}
 use Rattle.margin.specs.Reckoned.{Reckoned, Printed}
 use Rattle.margin.specs.Skipped.{NoneSkipped}
 use Rattle.margin.specs.Unpaired.{NothingOpen}
-use Rattle.margin.specs.declared.held.Asked.{Asked}
-use Rattle.margin.specs.declared.held.Held.{Held}
-use Rattle.margin.specs.declared.noon.Call.{Call}
+use Rattle.margin.specs.declared.asking.Question.{Question}
+use Rattle.questions.specs.declared.held.Asked.{Asked}
+use Rattle.questions.specs.declared.held.Held.{Held}
+use Rattle.questions.specs.declared.noon.AskedPair.{AskedPair}
+use Rattle.questions.specs.declared.noon.Call.{Call}
 use Rattle.felgotany.specs.Outcomes.{Tells, TellsOf, TellsCall, TellsPlace}
 use Rattle.felgotany.specs.declared.CallOutcome.{CallOutcome}
 use Rattle.felgotany.specs.declared.Outcome.{Outcome}
 use Rattle.felgotany.specs.declared.Outcomes.{Outcomes}
 use Rattle.felgotany.specs.declared.PairOutcome.{PairOutcome}
+use Rattle.felgotany.specs.declared.PairOutcomes.{PairOutcomes}
 use Rattle.felgotany.specs.declared.PromptPlace.{PromptPlace}
 
 -- ---- one file
@@ -56,6 +64,12 @@ pub record OneFile (file : List ℕ) : Type 0 where
   pub demand3 : checked file ≡ Accepted → Demanded (records file)
   pub skipped : checked file ≡ Accepted → NoneSkipped (records file)
   pub unpaired : checked file ≡ Accepted → NothingOpen (records file)
+  -- as many numbers as a question needs are enough, and fewer are 10
+  pub needed : (question : Question)
+      → Needed (ifAccepted (checked file) (asked (records file) question)) (recordCount file) (answerTo file question) (needTo file question)
+  -- all questions at once: in the place of each stands what it writes there by itself
+  pub places : (paid : Bool) (lent : List ℤ) → allTo paid file (length lent) ≡ Accepted
+      → EachPlace (widthOf paid) (λ q. afterTo file (questionOf paid q)) lent (afterAllTo paid file lent)
 
 -- ---- a pair of files, request 2026-01
 
@@ -66,6 +80,11 @@ pub record TwoFiles (morning noon : List ℕ) : Type 0 where
   pub demand3 : clear (joinedVerdict morning noon) ≡ true → Demanded (accountOf morning noon)
   pub skipped : clear (joinedVerdict morning noon) ≡ true → NoneSkipped (accountOf morning noon)
   pub unpaired : clear (joinedVerdict morning noon) ≡ true → NothingOpen (accountOf morning noon)
+  pub needed : (question : Question)
+      → Needed ((joinedVerdict morning noon then ofJoined (asked (accountOf morning noon) question)) .answer) (length (accountOf morning noon))
+      (λ lent. joinedAnswer morning noon question lent .answer) (joinedNeed morning noon question)
+  pub places : (paid : Bool) (lent : List ℤ) → joinedAll paid morning noon (length lent) ≡ ofJoined Accepted
+      → EachPlace (widthOf paid) (λ q. afterJoined morning noon (questionOf paid q)) lent (afterJoinedAll paid morning noon lent)
 
 -- ---- "Two outcomes satisfying it are shown identical"
 
@@ -87,11 +106,15 @@ pub record OneOutcome : Type 0 where
   pub view : (file : RefT (List ℕ)) (h k : Held) → (h .file ≡ file) × FromCheck h → (k .file ≡ file) × FromCheck k → h ≡ k
   pub asked : (a b c : Answer) (r s : Asked) → (r .figures ≡ a) × ((r .books ≡ b) × (r .uses ≡ c))
       → (s .figures ≡ a) × ((s .books ≡ b) × (s .uses ≡ c)) → r ≡ s
+  pub askedOfPair : (a b c : Verdict) (r s : AskedPair) → (r .figures ≡ a) × ((r .books ≡ b) × (r .uses ≡ c))
+      → (s .figures ≡ a) × ((s .books ≡ b) × (s .uses ≡ c)) → r ≡ s
   -- what C is told
   pub told : (a : Answer) (r s : Outcome) → Tells a r → Tells a s → r ≡ s
   pub allTold : (a b c : Answer) (r s : Outcomes) → Tells a (r .figures) × (Tells b (r .books) × Tells c (r .uses))
       → Tells a (s .figures) × (Tells b (s .books) × Tells c (s .uses)) → r ≡ s
   pub toldOf : (v : Verdict) (r s : PairOutcome) → TellsOf v r → TellsOf v s → r ≡ s
+  pub allToldOf : (a b c : Verdict) (r s : PairOutcomes) → TellsOf a (r .figures) × (TellsOf b (r .books) × TellsOf c (r .uses))
+      → TellsOf a (s .figures) × (TellsOf b (s .books) × TellsOf c (s .uses)) → r ≡ s
   pub called : (c : Call) (r s : CallOutcome) → TellsCall c r → TellsCall c s → r ≡ s
   pub placed : (p : Place) (r s : PromptPlace) → TellsPlace p r → TellsPlace p s → r ≡ s
 

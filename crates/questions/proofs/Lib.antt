@@ -1,0 +1,9 @@
+pub mod CheckedLaws
+pub mod NoonLaws
+pub mod HeldLaws
+pub mod NeedLaws
+pub mod PlaceLaws
+pub mod AskingLaws
+pub mod Demands
+pub mod PairDemands
+pub mod Turns

@@ -53,6 +53,22 @@ pub struct Leg {
     pub tenths: bool,
 }
 
+impl Leg {
+    /// How many parts of its ratio make a whole.
+    pub fn parts(&self) -> i128 {
+        if self.tenths {
+            10
+        } else {
+            1
+        }
+    }
+
+    /// Which side it takes in a step, counted from 0: "first A legs take long and B legs short, then the reverse".
+    pub fn takes_long(&self, step: usize) -> bool {
+        (self.side == SIDE_A) == (step == 0)
+    }
+}
+
 /// How many spreads a step forms, and what it takes of each prompt.
 pub struct Step {
     pub formed: i64,
@@ -178,12 +194,12 @@ fn answered(outcome: PairOutcome) -> Result<(), PairOutcome> {
     }
 }
 
-fn of_kind<'a>(records: &'a [Record<'a>], kind: u8) -> impl Iterator<Item = Record<'a>> {
+pub fn of_kind<'a>(records: &'a [Record<'a>], kind: u8) -> impl Iterator<Item = Record<'a>> {
     records.iter().copied().filter(move |record| record.kind() == kind)
 }
 
 /// The records of a kind that are a contract's.
-fn of_contract<'a>(records: &'a [Record<'a>], kind: u8, contract: usize) -> Vec<Record<'a>> {
+pub fn records_of<'a>(records: &'a [Record<'a>], kind: u8, contract: usize) -> Vec<Record<'a>> {
     of_kind(records, kind).filter(|record| record.get(NUMBER) == contract as i64).collect()
 }
 
@@ -191,7 +207,7 @@ fn of_contract<'a>(records: &'a [Record<'a>], kind: u8, contract: usize) -> Vec<
 fn prompts_of<'a>(records: &'a [Record<'a>], question: usize) -> Vec<Record<'a>> {
     match question {
         TABLE => of_kind(records, CONTRACT).collect(),
-        _ => of_contract(records, PROMPT, question),
+        _ => records_of(records, PROMPT, question),
     }
 }
 
@@ -199,13 +215,13 @@ fn prompts_of<'a>(records: &'a [Record<'a>], question: usize) -> Vec<Record<'a>>
 fn spreads_of<'a>(records: &'a [Record<'a>], question: usize) -> Vec<Record<'a>> {
     match question {
         TABLE => of_kind(records, ENTRY).collect(),
-        _ => of_contract(records, SPREAD, question),
+        _ => records_of(records, SPREAD, question),
     }
 }
 
 /// The records of the joined account: the library says which file supplies a contract, and the intercontract spreads are the
 /// morning's.
-fn joined(pair: Pair) -> Vec<Record> {
+pub fn joined(pair: Pair) -> Vec<Record> {
     let (morning, noon) = (records(pair.morning), records(pair.noon));
     let mut joined = vec![];
     for kind in CONTRACT..=SPREAD {

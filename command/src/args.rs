@@ -46,7 +46,11 @@ pub enum Asked {
         #[command(flatten)]
         empty: Empty,
     },
-    /// The figures and the delta books, with who paid for which spread
+    /// The report of an account: every figure with its working, who paid for which spread, what is still open and why
+    Report(crate::report::args::Report),
+    /// A client's statement: the report in short
+    Statement(crate::report::args::Statement),
+    /// The figures and the delta books as lines or CSV; for people there is the report
     Book {
         /// An account file or its text form; - is standard input
         #[arg(default_value = "-")]
@@ -65,7 +69,7 @@ pub enum Asked {
         /// The noon file or its text form: the contracts that traded, without intercontract spreads
         noon: PathBuf,
         /// The last cover call, the threshold and the revalued collateral, in whole hundredths of the currency
-        #[arg(long, num_args = 3, value_names = ["LAST", "THRESHOLD", "COLLATERAL"], allow_negative_numbers = true, conflicts_with = "csv")]
+        #[arg(long, num_args = 3, value_names = ["LAST", "THRESHOLD", "COLLATERAL"], allow_negative_numbers = true)]
         call: Option<Vec<i64>>,
         #[command(flatten)]
         form: Form,

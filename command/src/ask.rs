@@ -4,7 +4,7 @@ use crate::account::{Account, Book};
 use crate::args::{Asked, Form};
 use crate::failure::{Failure, Status};
 use crate::input::Input;
-use crate::{lines, night, noon, output, page, sheet, table};
+use crate::{lines, night, noon, output, page, report, sheet, table};
 use account_text::explain::{accepted, explain};
 use account_text::{read, wording};
 use felgotany::refusals::{rule, TOO_LONG};
@@ -53,6 +53,10 @@ pub fn ask(asked: Asked) -> Result<Answer, Failure> {
     match asked {
         Asked::Check { accounts, form, empty } => Ok(check(&accounts, form, empty.empty)),
         Asked::Margin { accounts, form, empty } => Ok(margin(&accounts, form, empty.empty)),
+        Asked::Book { form: Form { lines: false, csv: false }, .. } => {
+            let told = "a book is printed with --lines or with --csv; for people there is felgotany report ACCOUNT";
+            Err(Failure::called_wrongly(told.to_string()))
+        }
         Asked::Book { account, question, form, empty } => {
             let input = Input::load(&account, empty.empty).and_then(Input::accepted);
             Ok(Answer::of_result(form, input.and_then(|input| book(&input, question, form))))
@@ -62,6 +66,8 @@ pub fn ask(asked: Asked) -> Result<Answer, Failure> {
             Ok(Answer::of_result(form, noon::ask(&inputs.0, &inputs.1, call.as_deref(), form)))
         }
         Asked::Night(asked) => night::answer(&asked).map(Answer::ended),
+        Asked::Report(asked) => report::report(&asked),
+        Asked::Statement(asked) => report::statement(&asked),
         Asked::Explain { refusals: true, .. } => Ok(Answer::of(wording::table())),
         Asked::Explain { account, empty, .. } => explained(&Input::load(&account, empty.empty)?),
         Asked::Read { account, output, empty } => {
@@ -154,15 +160,13 @@ fn book(input: &Input, question: Option<usize>, form: Form) -> Result<String, Fa
         let books = account.contracts.iter().map(|contract| &contract.book).chain(&account.table);
         return Ok(match form {
             Form { lines: true, .. } => lines::account(&account),
-            Form { csv: true, .. } => sheet::books(books),
-            _ => page::account(&account),
+            _ => sheet::books(books),
         });
     };
     let book = Book::of_file(&input.file, question).map_err(|refused| unlisted(input, question, refused))?;
     Ok(match form {
         Form { lines: true, .. } => lines::book(&book),
-        Form { csv: true, .. } => sheet::books([&book].into_iter()),
-        _ => page::book(&book),
+        _ => sheet::books([&book].into_iter()),
     })
 }
 

@@ -14,6 +14,7 @@ mod numbers;
 mod output;
 mod page;
 mod progress;
+mod report;
 mod sheet;
 mod summary;
 mod table;

@@ -12,6 +12,17 @@ use felgotany::{Outcome, Pair, PairOutcome, PromptPlace, MORNING, NOON};
 use independent::format::{Record, DAY, RECORD_BYTES};
 
 pub fn ask(morning: &Input, noon: &Input, amounts: Option<&[i64]>, form: Form) -> Result<String, Failure> {
+    let (account, call) = answers(morning, noon, amounts)?;
+    let pair = Pair { morning: &morning.file, noon: &noon.file };
+    Ok(match form {
+        Form { lines: true, .. } => as_lines(pair, &account, call),
+        Form { csv: true, .. } => sheet::joined(&account, call.as_ref(), &|contract| supplier(pair, contract).to_string()),
+        _ => as_page(pair, &account, call),
+    })
+}
+
+/// The joined account, and the call on it where its amounts are given.
+pub fn answers(morning: &Input, noon: &Input, amounts: Option<&[i64]>) -> Result<(Account, Option<Call>), Failure> {
     let pair = Pair { morning: &morning.file, noon: &noon.file };
     let refused = |outcome| refusal(morning, noon, amounts, outcome);
     let account = Account::of_pair(pair).map_err(refused)?;
@@ -19,53 +30,61 @@ pub fn ask(morning: &Input, noon: &Input, amounts: Option<&[i64]>, form: Form) -
         Some(&[last, threshold, collateral]) => Some(Call::of(pair, &account, [last, threshold, collateral]).map_err(refused)?),
         _ => None,
     };
-    Ok(match form {
-        Form { lines: true, .. } => as_lines(pair, &account, call),
-        Form { csv: true, .. } => sheet::joined(&account, &|contract| supplier(pair, contract).to_string()),
-        _ => as_page(pair, &account, call),
-    })
+    Ok((account, call))
 }
 
-/// The call, and what it goes by.
-struct Call {
+/// The call, 0 where there is none, and what it goes by.
+pub struct Call {
     requirement: i64,
-    amounts: [i64; 3],
-    call: u64,
+    given: [i64; 3],
+    pub call: u64,
 }
+
+/// What the call goes by, the requirement first.
+pub const AMOUNTS: [&str; 4] = ["requirement", "last cover call", "threshold", "revalued collateral"];
 
 impl Call {
-    fn of(pair: Pair, account: &Account, amounts: [i64; 3]) -> Result<Call, PairOutcome> {
-        let [last, threshold, collateral] = amounts;
+    fn of(pair: Pair, account: &Account, given: [i64; 3]) -> Result<Call, PairOutcome> {
+        let [last, threshold, collateral] = given;
         let called = pair.call(last, threshold, collateral);
         match called.outcome.refusal {
-            0 => Ok(Call { requirement: account.total, amounts, call: called.call }),
+            0 => Ok(Call { requirement: account.total, given, call: called.call }),
             _ => Err(called.outcome),
         }
     }
 
-    fn page(&self) -> String {
-        let Call { requirement, amounts: [last, threshold, collateral], call } = *self;
-        let line = |label: &str, figure: String| format!("  {label:<20}{figure:>21}\n");
-        let mut page = String::from("\nCall\n\n");
-        page += &line("requirement", amount(requirement));
-        page += &line("last cover call", amount(last));
-        page += &line("threshold", amount(threshold));
-        page += &line("revalued collateral", amount(collateral));
-        if call > 0 {
-            return page + &line("call", amount(call as i64));
+    /// Each amount that it goes by, in hundredths, with its name.
+    pub fn amounts(&self) -> [(&'static str, i64); 4] {
+        let [last, threshold, collateral] = self.given;
+        let [of_requirement, of_last, of_threshold, of_collateral] = AMOUNTS;
+        [(of_requirement, self.requirement), (of_last, last), (of_threshold, threshold), (of_collateral, collateral)]
+    }
+
+    /// Why there is no call.
+    pub fn why_none(&self) -> Option<&'static str> {
+        let [last, threshold, _] = self.given;
+        match self.call {
+            0 if self.requirement <= last + threshold => {
+                Some("the requirement is not above the last cover call plus the threshold")
+            }
+            0 => Some("the requirement is not above the revalued collateral"),
+            _ => None,
         }
-        page += &line("call", "none".to_string());
-        let why = if requirement <= last + threshold {
-            "the requirement is not above the last cover call plus the threshold"
-        } else {
-            "the requirement is not above the revalued collateral"
-        };
-        page + &format!("  ({why})\n")
+    }
+
+    fn page(&self) -> String {
+        let line = |label: &str, figure: String| format!("  {label:<20}{figure:>21}\n");
+        let amounts = self.amounts().map(|(label, hundredths)| line(label, amount(hundredths)));
+        let page = format!("\nCall\n\n{}", amounts.concat());
+        match self.why_none() {
+            None => page + &line("call", amount(self.call as i64)),
+            Some(why) => page + &line("call", "none".to_string()) + &format!("  ({why})\n"),
+        }
     }
 }
 
 /// The name of the file that supplies a contract.
-fn supplier(pair: Pair, contract: i64) -> &'static str {
+pub fn supplier(pair: Pair, contract: i64) -> &'static str {
     match usize::try_from(contract).map_or(0, |contract| pair.prompts(contract).file) {
         MORNING => "morning",
         NOON => "noon",
@@ -89,7 +108,7 @@ fn as_page(pair: Pair, account: &Account, call: Option<Call>) -> String {
     let rows: Vec<Vec<String>> = [header].into_iter().chain(contracts).collect();
     let call = call.map_or(String::new(), |call| call.page());
     let records = account_text::wording::counted(account.records, "record");
-    format!("Joined account, {records}\n\n{}\n{}{call}", table(&rows), page::account(account))
+    format!("Joined account, {records}\n\n{}\n{}{call}", table(&rows), page::margin("the joined account", account))
 }
 
 /// The days of a contract's prompts, from the file that supplies them.

@@ -2,20 +2,35 @@
 
 /// Hundredths of the currency, with two places.
 pub fn amount(hundredths: i64) -> String {
-    decimal(hundredths, 2)
+    decimal(hundredths.into(), 2)
 }
 
 /// Ten-thousandths of lots or spreads, with four places.
 pub fn lots(ten_thousandths: i64) -> String {
-    decimal(ten_thousandths, 4)
+    decimal(ten_thousandths.into(), 4)
 }
 
 /// Tenths, with one place.
 pub fn tenths(tenths: i64) -> String {
-    decimal(tenths, 1)
+    decimal(tenths.into(), 1)
 }
 
-fn decimal(number: i64, places: usize) -> String {
+/// The digits of a number in groups of three, as in 1,357,531.09.
+pub fn grouped(number: &str) -> String {
+    let digits = number.trim_start_matches('-');
+    let (sign, whole) = (&number[..number.len() - digits.len()], digits.find('.').unwrap_or(digits.len()));
+    let mut grouped = sign.to_string();
+    for (at, digit) in digits[..whole].char_indices() {
+        if at > 0 && (whole - at) % 3 == 0 {
+            grouped.push(',');
+        }
+        grouped.push(digit);
+    }
+    grouped + &digits[whole..]
+}
+
+/// A whole number of parts, with as many places.
+pub fn decimal(number: i128, places: usize) -> String {
     let sign = if number < 0 { "-" } else { "" };
     let digits = format!("{:0>width$}", number.unsigned_abs(), width = places + 1);
     let (whole, decimals) = digits.split_at(digits.len() - places);
@@ -35,5 +50,14 @@ mod tests {
         assert_eq!([tenths(1), tenths(96), tenths(1000)], ["0.1", "9.6", "100.0"]);
         assert_eq!(lots(-300_000), "-30.0000");
         assert_eq!(lots(i64::MIN), "-922337203685477.5808");
+    }
+
+    #[test]
+    fn digits_stand_in_groups_of_three() {
+        let numbers =
+            [("0.00", "0.00"), ("999", "999"), ("1000", "1,000"), ("-100.00", "-100.00"), ("-135753109.5", "-135,753,109.5")];
+        for (number, written) in numbers {
+            assert_eq!(grouped(number), written);
+        }
     }
 }

@@ -1,6 +1,7 @@
 //! CSV for spreadsheets: amounts in the currency, lots with four places, empty cells where a column does not apply.
 
 use crate::account::{Account, Book, Prompt, Spread};
+use crate::noon::{Call, AMOUNTS};
 use crate::numbers::{amount, lots};
 use crate::page::{figures_in_words, FIGURES};
 use crate::table::csv;
@@ -22,10 +23,16 @@ pub fn margins(accounts: &[(String, Account)]) -> String {
     csv(&header, rows)
 }
 
-/// The figures of a joined account, with the file that supplies each contract.
-pub fn joined(account: &Account, supplied_by: &dyn Fn(i64) -> String) -> String {
-    let header: Vec<&str> = ["supplied by"].into_iter().chain(FIGURES).collect();
-    csv(&header, figure_rows(account, supplied_by))
+/// The figures of a joined account, with the file that supplies each contract; the call and what it goes by at the total.
+pub fn joined(account: &Account, call: Option<&Call>, supplied_by: &dyn Fn(i64) -> String) -> String {
+    let header: Vec<&str> = ["supplied by"].into_iter().chain(FIGURES).chain(AMOUNTS).chain(["call"]).collect();
+    let mut rows = figure_rows(account, supplied_by);
+    let called = call.map(|call| call.amounts().map(|(_, hundredths)| hundredths).into_iter().chain([call.call as i64]));
+    if let (Some(called), Some(total)) = (called, rows.last_mut()) {
+        total.extend(called.map(amount));
+    }
+    rows.iter_mut().for_each(|row| row.resize(header.len(), String::new()));
+    csv(&header, rows)
 }
 
 /// Each contract's figures after a cell of their own, then the total.

@@ -171,6 +171,24 @@ static void ask_run(const uint8_t *file, size_t bytes, const uint8_t *noon, size
     }
 }
 
+/* The committee's figures of the file and the noon file, of as many accounts as it takes and of one more. */
+static void ask_committee(const uint8_t *file, size_t bytes, const uint8_t *noon, size_t noon_bytes)
+{
+    size_t most = FELGOTANY_COMMITTEE_ACCOUNTS, count[4] = {2, 2, most, most + 1}, fewer[4] = {0, 1, 0, 0};
+    uint8_t *accounts = before_the_end(bytes + noon_bytes);
+    memcpy(accounts, file, bytes);
+    memcpy(accounts + bytes, noon, noon_bytes);
+    for (size_t i = 0; i < 4; ++i) {
+        size_t numbers = FELGOTANY_COMMITTEE_NUMBERS - fewer[i], *lengths = before_the_end(count[i] * sizeof *lengths);
+        int64_t *out = lent(numbers);
+        memset(lengths, 0, count[i] * sizeof *lengths);
+        lengths[0] = bytes;
+        lengths[1] = noon_bytes;
+        print_outcome("committee", i, felgotany_committee(accounts, bytes + noon_bytes, lengths, count[i], out, numbers));
+        print_numbers("committee", i, out, numbers);
+    }
+}
+
 int main(int argc, char **argv)
 {
     size_t bytes, noon_bytes;
@@ -179,8 +197,8 @@ int main(int argc, char **argv)
         return 2;
     }
     const uint8_t *file = read_file(argv[1], &bytes), *noon = read_file(argv[2], &noon_bytes);
-    printf("constants %d %d %d %d %d %d\n", FELGOTANY_MOST_FIGURES, FELGOTANY_MOST_BOOK, FELGOTANY_MOST_USES, FELGOTANY_TABLE,
-           FELGOTANY_ALL_BOOKS, FELGOTANY_ALL_USES);
+    printf("constants %d %d %d %d %d %d %d %d\n", FELGOTANY_MOST_FIGURES, FELGOTANY_MOST_BOOK, FELGOTANY_MOST_USES, FELGOTANY_TABLE,
+           FELGOTANY_ALL_BOOKS, FELGOTANY_ALL_USES, FELGOTANY_COMMITTEE_ACCOUNTS, FELGOTANY_COMMITTEE_NUMBERS);
     ask(file, bytes);
     ask_all(file, bytes, (const size_t[3]){0, 0, 0});
     ask_all(file, bytes, (const size_t[3]){1, 0, 0});
@@ -190,5 +208,6 @@ int main(int argc, char **argv)
     ask_joined_all(file, bytes, noon, noon_bytes, (const size_t[3]){0, 0, 0});
     ask_joined_all(file, bytes, noon, noon_bytes, (const size_t[3]){1, 1, 1});
     ask_run(file, bytes, noon, noon_bytes);
+    ask_committee(file, bytes, noon, noon_bytes);
     return 0;
 }

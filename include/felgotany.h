@@ -38,6 +38,10 @@ extern "C" {
 #define FELGOTANY_ALL_BOOKS (FELGOTANY_MOST_BOOK * (FELGOTANY_TABLE + 1))
 #define FELGOTANY_ALL_USES (FELGOTANY_MOST_USES * (FELGOTANY_TABLE + 1))
 
+/* The most accounts of a run for the risk committee, and the numbers of its figures. */
+#define FELGOTANY_COMMITTEE_ACCOUNTS 100
+#define FELGOTANY_COMMITTEE_NUMBERS 24
+
 /* What is refused, and the record that the refusal names, counted from 0.
  *
  *    0  nothing: the file is accepted, the question answered                record 0
@@ -64,7 +68,11 @@ extern "C" {
  *
  * A run of accounts is refused as a whole for one thing more, before any account is read; then for 10.
  *
- *   17  the lengths do not add up to the bytes that are lent                record 0 */
+ *   17  the lengths do not add up to the bytes that are lent                record 0
+ *
+ * Of the risk committee's figures of a run, one thing more is refused, before these.
+ *
+ *   19  more than 100 accounts                                              record 0 */
 typedef struct {
     size_t refusal;
     size_t record;
@@ -211,6 +219,30 @@ felgotany_call_outcome felgotany_call(const uint8_t *morning, size_t morning_byt
  * `file` and `out`, each aligned as size_t; no two of the four overlap. */
 felgotany_outcome felgotany_run(const uint8_t *accounts, size_t bytes, const size_t *lengths, size_t count, int64_t *figures,
                                 size_t numbers, size_t *outcomes, size_t outcome_numbers);
+
+/* The risk committee's figures of a run of accounts, which stand in `accounts` as for felgotany_run, in these
+ * FELGOTANY_COMMITTEE_NUMBERS numbers at the front of `out`; nothing after them is changed.
+ *
+ *    0        how many accounts are accepted
+ *    1        how many are refused
+ *    2 to 16  how many are refused with 1, with 2, .., with 15
+ *   17        the margin of all accepted accounts, summed
+ *   18        the largest margin
+ *   19        the lowest place that holds it; the accounts are counted from 0, refused ones too
+ *   20        how many accounts have credit: above 0 in some contract
+ *   21        how many contracts have a short option minimum above the risk that it is compared with, which is scanning risk and
+ *             charges less credit, not below 0
+ *   22        the mean margin: number 17 divided by number 0, in whole hundredths
+ *   23        what is left over: number 17 is number 22 times number 0, plus this one, which is below number 0
+ *
+ * Numbers 17, 18, 22 and 23 are in hundredths of the currency. A refused account is counted in number 1 and under its refusal, and
+ * enters no sum. With none accepted, numbers 17 to 23 are 0.
+ *
+ * The whole run is refused, with record 0, where there are more than FELGOTANY_COMMITTEE_ACCOUNTS accounts (19); then where the
+ * lengths do not add up to `bytes`, whatever they are (17); then where fewer than FELGOTANY_COMMITTEE_NUMBERS numbers are lent (10).
+ * Then no account is read and nothing is written. A run of no accounts is answered. */
+felgotany_outcome felgotany_committee(const uint8_t *accounts, size_t bytes, const size_t *lengths, size_t count, int64_t *out,
+                                      size_t numbers);
 
 #ifdef __cplusplus
 }

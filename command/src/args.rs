@@ -78,6 +78,16 @@ pub enum Asked {
     },
     /// The totals of a whole book, a folder or a list of accounts, one line each
     Night(Night),
+    /// Figures for the risk committee: one report over a run of at most 100 accounts, with a picture of margins and refusals
+    Committee {
+        /// Account files or their text form, or folders of them; - is standard input
+        #[arg(value_name = "ACCOUNT", required = true)]
+        accounts: Vec<PathBuf>,
+        #[command(flatten)]
+        form: CommitteeForm,
+        #[command(flatten)]
+        empty: Empty,
+    },
     /// Say in words why an account is refused, and show the record
     Explain {
         /// An account file or its text form; - is standard input
@@ -146,6 +156,27 @@ pub struct Form {
     /// Print CSV for a spreadsheet, with a header line
     #[arg(long)]
     pub csv: bool,
+}
+
+/// The same of the committee's report, which a browser shows, too.
+#[derive(Args, Clone, Copy)]
+pub struct CommitteeForm {
+    /// Print an N line with the 24 numbers, amounts in whole hundredths; a run that is refused is an R line
+    #[arg(long, conflicts_with_all = ["csv", "html"])]
+    pub lines: bool,
+    /// Print CSV for a spreadsheet, with a header line
+    #[arg(long, conflicts_with = "html")]
+    pub csv: bool,
+    /// Print a page for a browser, which needs no other file
+    #[arg(long)]
+    pub html: bool,
+}
+
+impl CommitteeForm {
+    /// In which form a refusal is told.
+    pub fn told(self) -> Form {
+        Form { lines: self.lines, csv: self.csv }
+    }
 }
 
 #[derive(Args, Clone, Copy)]

@@ -4,7 +4,7 @@ use crate::account::{Account, Book};
 use crate::args::{Asked, Form};
 use crate::failure::{Failure, Status};
 use crate::input::Input;
-use crate::{lines, night, noon, output, page, report, sheet, table};
+use crate::{committee, lines, night, noon, output, page, report, sheet, table};
 use account_text::explain::{accepted, explain};
 use account_text::{read, wording};
 use felgotany::refusals::{rule, TOO_LONG};
@@ -68,6 +68,7 @@ pub fn ask(asked: Asked) -> Result<Answer, Failure> {
         Asked::Night(asked) => night::answer(&asked).map(Answer::ended),
         Asked::Report(asked) => report::report(&asked),
         Asked::Statement(asked) => report::statement(&asked),
+        Asked::Committee { accounts, form, empty } => Ok(committee::ask(&accounts, form, empty.empty)),
         Asked::Explain { refusals: true, .. } => Ok(Answer::of(wording::table())),
         Asked::Explain { account, empty, .. } => explained(&Input::load(&account, empty.empty)?),
         Asked::Read { account, output, empty } => {

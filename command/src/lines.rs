@@ -60,3 +60,8 @@ pub fn supplied(contract: i64, place: PromptPlace) -> String {
 pub fn call(amount: u64) -> String {
     format!("L {amount}\n")
 }
+
+/// The committee's numbers, in the library's order.
+pub fn committee(numbers: &[i64]) -> String {
+    line('N', numbers)
+}

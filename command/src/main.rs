@@ -4,6 +4,7 @@
 mod account;
 mod args;
 mod ask;
+mod committee;
 mod failure;
 mod input;
 mod lines;

@@ -6,6 +6,7 @@
 pub mod account;
 pub mod book;
 pub mod check;
+pub mod committee;
 pub mod format;
 pub mod generate;
 pub mod joined;

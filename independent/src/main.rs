@@ -3,6 +3,7 @@
 //! file or the call on them, generated files or a survey of them.
 
 mod survey;
+mod survey_committee;
 mod survey_pairs;
 mod survey_runs;
 mod tally;
@@ -31,6 +32,8 @@ const USAGE: &str =
                                        what occurs in so many generated pairs
        independent survey-runs SEED COUNT
                                        what occurs in so many generated runs of accounts
+       independent survey-committee SEED COUNT
+                                       what the committee's figures of so many runs show
        independent write-pair SEED INDEX MORNING NOON
                                        writes the two files of one generated pair";
 
@@ -111,6 +114,10 @@ fn surveyed(survey: &str, seed: u64, count: u64) -> Option<io::Result<()>> {
         }
         "survey-runs" => {
             let tally = survey_runs::survey(seed, count);
+            (tally.to_string(), tally.nothing_missing())
+        }
+        "survey-committee" => {
+            let tally = survey_committee::survey(seed, count);
             (tally.to_string(), tally.nothing_missing())
         }
         _ => return None,

@@ -8,6 +8,10 @@ pub const MOST_FIGURES: usize = 129;
 pub const MOST_BOOK: usize = 160;
 pub const MOST_USES: usize = 2048;
 
+/// The most accounts of a run for the risk committee, and the numbers of its figures.
+pub const COMMITTEE_ACCOUNTS: usize = 100;
+pub const COMMITTEE_NUMBERS: usize = 24;
+
 /// The question for the book of the intercontract table.
 pub const TABLE: usize = 16;
 
@@ -175,6 +179,14 @@ extern "C" {
         outcomes: *mut usize,
         outcome_numbers: usize,
     ) -> Outcome;
+    fn felgotany_committee(
+        accounts: *const u8,
+        bytes: usize,
+        lengths: *const usize,
+        count: usize,
+        out: *mut i64,
+        numbers: usize,
+    ) -> Outcome;
 }
 
 pub fn check(file: &[u8]) -> Outcome {
@@ -233,6 +245,12 @@ pub fn run(accounts: &[u8], lengths: &[usize], figures: &mut [i64], outcomes: &m
             outcomes.as_mut_ptr(),
             outcomes.len(),
         )
+    }
+}
+
+pub fn committee(accounts: &[u8], lengths: &[usize], lent: &mut [i64]) -> Outcome {
+    unsafe {
+        felgotany_committee(accounts.as_ptr(), accounts.len(), lengths.as_ptr(), lengths.len(), lent.as_mut_ptr(), lent.len())
     }
 }
 

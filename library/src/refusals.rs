@@ -15,6 +15,7 @@ pub const UNLISTED_QUESTION: usize = 11;
 pub const NOON_INTERCONTRACT: usize = 12;
 pub const TOO_MANY_JOINED: usize = 13;
 pub const LENGTHS_DIFFER: usize = 17;
+pub const TOO_MANY_ACCOUNTS: usize = 19;
 pub const AMOUNT_OUTSIDE_RANGE: usize = 21;
 
 /// A refusal: its number, its rule, and the record that it names.
@@ -33,7 +34,7 @@ const fn refusal(number: usize, rule: &'static str, names: &'static str) -> Refu
 }
 
 /// Every refusal, by its number.
-pub const REFUSALS: [Refusal; 15] = [
+pub const REFUSALS: [Refusal; 16] = [
     refusal(TOO_LONG, "file longer than 61,440 bytes", "0"),
     refusal(NOT_WHOLE_RECORDS, "length not a multiple of 96", "0"),
     refusal(UNKNOWN_KIND, "kind not 1..5", THAT_ONE),
@@ -48,6 +49,7 @@ pub const REFUSALS: [Refusal; 15] = [
     refusal(NOON_INTERCONTRACT, "the noon file has an intercontract spread", "its first such record"),
     refusal(TOO_MANY_JOINED, "more than 640 records joined", JOINED_COUNT),
     refusal(LENGTHS_DIFFER, "the lengths of a run do not add up to what was lent", "0"),
+    refusal(TOO_MANY_ACCOUNTS, "more than 100 accounts for the risk committee", "0"),
     refusal(AMOUNT_OUTSIDE_RANGE, "an amount outside 0 to 1,000,000,000,000,000 hundredths", JOINED_COUNT),
 ];
 

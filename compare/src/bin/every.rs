@@ -3,6 +3,7 @@
 //! at once are not refused for.
 
 use felgotany::Outcome;
+use independent::committee::{self, NUMBERS};
 use independent::joined::{self, Cover};
 use independent::units::Amount;
 use independent::{held_book, held_figures, Account, PairRefusal, Refusal};
@@ -18,8 +19,8 @@ fn main() -> Result<(), Box<dyn std::error::Error>> {
     let words: Vec<String> = std::env::args().skip(1).collect();
     let [file, noon] = &words[..] else { return Err("usage: every FILE NOON".into()) };
     let (file, noon) = (std::fs::read(file)?, std::fs::read(noon)?);
-    let [figures, book, uses, table, books, all_uses] = constants();
-    let mut out = format!("constants {figures} {book} {uses} {table} {books} {all_uses}\n");
+    let [figures, book, uses, table, books, all_uses, accounts, numbers] = constants();
+    let mut out = format!("constants {figures} {book} {uses} {table} {books} {all_uses} {accounts} {numbers}\n");
     let checked = independent::check(&file);
     ask(&mut out, &checked);
     for fewer in [[0, 0, 0], [1, 0, 0], [0, 1, 0], [0, 0, 1]] {
@@ -30,6 +31,7 @@ fn main() -> Result<(), Box<dyn std::error::Error>> {
         ask_joined_all(&mut out, [&file, &noon], [book, uses], fewer);
     }
     ask_run(&mut out, &file, &noon, figures);
+    ask_committee(&mut out, &file, &noon);
     print!("{out}");
     Ok(())
 }
@@ -43,7 +45,7 @@ fn at_the_limits() -> [Vec<u8>; 2] {
     [contracts, record(&[1, 0]).into_iter().chain(prompts).chain(spreads).collect()]
 }
 
-fn constants() -> [usize; 6] {
+fn constants() -> [usize; 8] {
     let [contracts, full] = at_the_limits();
     let table = (0..100).rev().find(|&question| felgotany::book(&[], question, &mut []).refusal == 0).unwrap_or(0);
     let all = |books: usize, uses: usize| felgotany::all(&full, &mut [0; 9], &mut vec![0; books], &mut vec![0; uses]);
@@ -62,6 +64,8 @@ fn constants() -> [usize; 6] {
         table,
         least(&|numbers| all(numbers, 0).books.refusal != 0, 100_000),
         least(&|numbers| all(0, numbers).uses.refusal != 0, 100_000),
+        least(&|count| felgotany::committee(&[], &vec![0; count + 1], &mut []).refusal != 19, 1_000),
+        least(&|numbers| felgotany::committee(&[], &[], &mut vec![0; numbers]).refusal != 0, 1_000),
     ]
 }
 
@@ -218,4 +222,17 @@ fn ask_run(out: &mut String, file: &[u8], noon: &[u8], places: usize) {
     say(out, "run", 1, Outcome { refusal: 10, record: 0 });
     writeln!(out, "run 1 outcomes 7 7 7 7").unwrap();
     list(out, "run", 1, &vec![BEFORE; 2 * places - 1]);
+}
+
+/// The committee's figures of both files, with a number too few lent, with as many accounts as there may be and with one more.
+fn ask_committee(out: &mut String, file: &[u8], noon: &[u8]) {
+    let most = committee::MOST_ACCOUNTS;
+    for (place, count, numbers) in [(0, 2, NUMBERS), (1, 2, NUMBERS - 1), (2, most, NUMBERS), (3, most + 1, NUMBERS)] {
+        let mut lengths = vec![0; count];
+        lengths[..2].copy_from_slice(&[file.len() as u64, noon.len() as u64]);
+        let mut lent = vec![BEFORE; numbers];
+        let answer = committee::figures(&[file, noon].concat(), &lengths, &mut lent);
+        say(out, "committee", place, answer.as_ref().map_or_else(told, |_| ACCEPTED));
+        list(out, "committee", place, &lent);
+    }
 }

@@ -19,6 +19,7 @@ pub enum Answer {
     NoonSpread(usize),
     TooManyJoined(usize),
     LengthsDiffer,
+    TooManyAccounts,
     AmountOutside(usize),
 }
 
@@ -42,6 +43,7 @@ pub fn number_of(a: Answer) -> usize
         Answer::NoonSpread(_) => 12,
         Answer::TooManyJoined(_) => 13,
         Answer::LengthsDiffer => 17,
+        Answer::TooManyAccounts => 19,
         Answer::AmountOutside(_) => 21,
     }
 }
@@ -66,6 +68,7 @@ pub fn record_of(a: Answer) -> usize
         Answer::NoonSpread(k) => k,
         Answer::TooManyJoined(n) => n,
         Answer::LengthsDiffer => 0,
+        Answer::TooManyAccounts => 0,
         Answer::AmountOutside(n) => n,
     }
 }

@@ -18,6 +18,8 @@ use Rattle.margin.proofs.PairLaws.{pair-table}
 use Rattle.margin.proofs.Reckoned.{reckoned, printed}
 use Rattle.margin.proofs.Skipped.{file-skips-none, pair-skips-none}
 use Rattle.margin.proofs.Unpaired.{file-unpaired, pair-unpaired}
+use Rattle.runs.proofs.Claims.{claims as run-claims}
+use Rattle.committee.proofs.Claims.{claims as committee-claims}
 use Rattle.felgotany.specs.Roof.{OneFile, TwoFiles, Equations, OneOutcome, Roof}
 use Rattle.felgotany.proofs.Told.{one-told, all-told, one-told-of, all-told-of, one-call, one-place}
 
@@ -68,6 +70,8 @@ roof =
     record {
       oneFile = one-file;
       twoFiles = two-files;
+      run = run-claims;
+      committee = committee-claims;
       demand2 = demand2;
       reckoned = reckoned;
       printed = printed;

@@ -1,6 +1,6 @@
 -- All that is promised, under one roof: the three demands over one file and over a pair of files, the table of reckoned examples, the
 -- exactness of the check, that no accepted line is skipped, that nothing still open could have been paired, the table of paired
--- scenarios, and that no promise leaves a choice. proofs/Roof.antt proves it of any bytes.
+-- scenarios, what holds of a run of accounts and of the committee's figures of it, and that no promise leaves a choice. proofs/Roof.antt proves it of any bytes.
 -- Assumes nothing.
 use Prim.Native.Nat.{ℕ}
 use denote.Ref.{RefT}
@@ -45,6 +45,8 @@ use Rattle.questions.specs.declared.held.Asked.{Asked}
 use Rattle.questions.specs.declared.held.Held.{Held}
 use Rattle.questions.specs.declared.noon.AskedPair.{AskedPair}
 use Rattle.questions.specs.declared.noon.Call.{Call}
+use Rattle.runs.specs.Claims.{Claims as RunClaims}
+use Rattle.committee.specs.Claims.{Claims as CommitteeClaims}
 use Rattle.felgotany.specs.Outcomes.{Tells, TellsOf, TellsCall, TellsPlace}
 use Rattle.felgotany.specs.declared.CallOutcome.{CallOutcome}
 use Rattle.felgotany.specs.declared.Outcome.{Outcome}
@@ -123,6 +125,9 @@ pub record OneOutcome : Type 0 where
 pub record Roof : Type 1 where
   pub oneFile : (file : List ℕ) → OneFile file
   pub twoFiles : (morning noon : List ℕ) → TwoFiles morning noon
+  -- "Take a run of accounts, each with its length", requests 2026-08 and 2026-12
+  pub run : (bytes lengths : List ℕ) (figures : List ℤ) (outcomes : List ℕ) → RunClaims bytes lengths figures outcomes
+  pub committee : (bytes lengths : List ℕ) (lent : List ℤ) → CommitteeClaims bytes lengths lent
   -- "Every figure equals SPAN as published", and P1 to P10 "as a single table under one claim"
   pub demand2 : Demand2
   pub reckoned : Reckoned

@@ -1,11 +1,12 @@
 // Felgotany as C sees it: the check, the figures and the delta book over any bytes, the same of a morning's file with a noon file,
-// and the figures of a run of accounts. include/felgotany.h says the same in C's words.
+// the figures of a run of accounts, and the risk committee's of it. include/felgotany.h says the same in C's words.
 use account::answers::Answer;
 use account::answers::number_of;
 use account::answers::record_of;
 use account::check::check;
 use account::noon::Verdict;
 use account::noon::prompt_place;
+use committee::answer_committee;
 use margin::asking::Question;
 use questions::held::ask_all;
 use questions::noon::cover_call;
@@ -26,6 +27,7 @@ ghost use Rattle.questions.specs.Noon.{joinedFigures, afterJoinedFigures, joine
 ghost use Rattle.questions.specs.Noon.{joinedNeed, joinedAll, afterJoinedAll};
 ghost use Rattle.margin.specs.declared.asking.Question.the-variants.{Figures, Book, Uses};
 ghost use Rattle.runs.specs.Runs.{runAnswer, runFigures, runOutcomes};
+ghost use Rattle.committee.specs.Committee.{committeeAnswer, afterCommittee};
 ghost use Rattle.felgotany.specs.Outcomes.{Tells, TellsOf, TellsCall, TellsPlace};
 
 // The number of a refusal, 0 where nothing is refused, and the record that it names.
@@ -324,4 +326,16 @@ pub extern "C" fn felgotany_run(
     ensures { λ r. ⌜ now (outcomes .exit) ≡ runOutcomes (now (accounts .entry)) (now (lengths .entry)) (length (now (figures .entry))) (now (outcomes .entry)) ⌝ }
 {
     tell(answer_run(accounts, lengths, figures, outcomes))
+}
+
+// The risk committee's figures of a run of accounts, at the front of `out`. What is refused as a whole writes nothing.
+#[no_mangle]
+pub extern "C" fn felgotany_committee(
+    accounts: &[u8],
+    lengths: &[usize],
+    out: &mut [i64],
+) -> Outcome
+    ensures { λ r. ⌜ Tells (committeeAnswer (now (accounts .entry)) (now (lengths .entry)) (length (now (out .entry)))) r × (now (out .exit) ≡ afterCommittee (now (accounts .entry)) (now (lengths .entry)) (now (out .entry))) ⌝ }
+{
+    tell(answer_committee(accounts, lengths, out))
 }

@@ -50,7 +50,7 @@ one-day : (row : Record) (ps : List Record) → count (onDay (day row)) ps ≤ 1
 one-day row ps h = let m = mul-le-mul-right (natAbs (rowDelta row)) h in omega (arith, once row ps)
 
 -- all net deltas together, without their signs
-abbrev netSize : List Record → Record → ℕ
+abbrev pub netSize : List Record → Record → ℕ
 netSize rows p = natAbs (netDelta rows p)
 
 no-rows : (prompts : List Record) → sum (map (netSize []) prompts) ≡ 0
@@ -60,7 +60,7 @@ no-rows (p ∷ ps) = let h = no-rows ps in omega arith
 size-first-row : (row : Record) (rows : List Record) (p : Record) → netSize (row ∷ rows) p ≤ addedSize row p + netSize rows p
 size-first-row row rows p = subst⁻¹ (λ (z : ℤ). natAbs z ≤ addedSize row p + netSize rows p) (first-row row rows p) (abs-add (adds row p) (netDelta rows p))
 
-sizes-sum : (prompts rows : List Record) → OneDay prompts rows → ((k : ℕ) → k < length rows → RowFit (getD rows k [])) → sum (map (netSize rows) prompts) ≤ length rows * 1000000000
+pub sizes-sum : (prompts rows : List Record) → OneDay prompts rows → ((k : ℕ) → k < length rows → RowFit (getD rows k [])) → sum (map (netSize rows) prompts) ≤ length rows * 1000000000
 sizes-sum prompts [] r e = omega (arith, no-rows prompts)
 sizes-sum prompts (row ∷ rows) r e =
     let one : sum (map (addedSize row) prompts) ≤ 1000000000 = le-trans (one-day row prompts (r 0 (omega arith))) (delta-most row (e 0 (omega arith))) in

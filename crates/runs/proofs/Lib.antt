@@ -1,3 +1,3 @@
 mod PlaceLaws
-mod RunLaws
+pub mod RunLaws
 pub mod Claims

@@ -21,7 +21,7 @@ const FIGURES: usize = 129;
 const OUTCOME: usize = 2;
 
 // Whether the lengths add up to a whole, without adding them: each is taken from what is left.
-fn add_up(lengths: &[usize], whole: usize) -> bool
+pub fn add_up(lengths: &[usize], whole: usize) -> bool
     ensures { λ r. ⌜ r ≡ eqb (sum (now (lengths .entry))) whole ⌝ }
 {
     let mut left = whole;

@@ -13,12 +13,16 @@ pub struct Run {
 }
 
 pub fn run(random: &mut Random) -> Run {
-    let accounts: Vec<Vec<u8>> = match random.below(16) {
+    let mut accounts: Vec<Vec<u8>> = match random.below(16) {
         0 => vec![],
-        1 => (0..random.between(99, 102)).map(|_| small(random)).collect(),
+        1 => (0..random.between(98, 102)).map(|_| small(random)).collect(),
         2 | 3 => (0..random.between(1, 12)).map(|_| small(random)).collect(),
         _ => (0..random.between(1, 4)).map(|_| any(random)).collect(),
     };
+    if random.one_in(4) && !accounts.is_empty() {
+        let again = accounts[random.place(accounts.len())].clone();
+        accounts.push(again);
+    }
     let mut lengths: Vec<u64> = accounts.iter().map(|account| account.len() as u64).collect();
     match random.below(8) {
         0 => other_sum(random, &mut lengths),
@@ -33,11 +37,28 @@ fn small(random: &mut Random) -> Vec<u8> {
     match random.below(8) {
         0 => vec![],
         1 => vec![1; random.place(RECORD_BYTES)],
+        2 => at_minimum(random),
         _ => {
             let size = random.place(9);
             sound::of_size(random, size, &[0, 2, 3, 9], true).concat()
         }
     }
+}
+
+/// A contract with one short call, whose short option minimum is its scanning risk, or one more or less.
+fn at_minimum(random: &mut Random) -> Vec<u8> {
+    let minimum = random.between(1, 90_000) as i32;
+    let loss = -(minimum + random.pick(&[-1, 0, 1]));
+    let record = |head: [u8; 4], words: &[i32]| {
+        let mut bytes = head.to_vec();
+        bytes.extend(words.iter().flat_map(|word| word.to_le_bytes()));
+        bytes.resize(RECORD_BYTES, 0);
+        bytes
+    };
+    let (day, strike, lots, delta, value) = (20_260_318, 1, -1, 0, 1);
+    let row = [&[day, strike, lots, delta, value], &[loss; 16][..]].concat();
+    [record([1, 3, 0, 0], &[minimum]), record([2, 3, 1, 0], &[day]), record([3, 3, 1, 0], &row)]
+        .concat()
 }
 
 /// Lengths that do not add up to the bytes: one more or less, an account too many, or lengths whose sum

@@ -2,6 +2,7 @@
 
 mod answers;
 mod builder;
+mod committee;
 mod generated;
 mod joined;
 mod lme;

@@ -145,7 +145,7 @@ fn p10_one_short_call_at_500_and_nothing_else_gives_margin_500() {
 }
 
 /// 5 contracts with a prompt each and 126 rows each: 640 records.
-fn largest() -> Vec<u8> {
+pub fn largest() -> Vec<u8> {
     let numbers = [0, 3, 7, 12, 15];
     let contracts: Vec<Record> = numbers.iter().map(|number| contract(*number, 0)).collect();
     let prompts: Vec<Record> = numbers.iter().map(|number| prompt(*number, 1, 20260318)).collect();

@@ -1,0 +1,188 @@
+-- How large the margin of an accepted account can be: each of its rows and interprompt spreads brings at most 134,000,000,000,000, and an
+-- account has at most 640 records.
+-- Assumes nothing.
+use Prim.Native.Nat.{ℕ, zero, suc, _+_, _-_, _*_, _≤_, _<_, max, zero-le}
+use native.Mathlib.Nat.{le-refl, le-trans, add-le-add, mul-le-mul, mul-le-mul-left, mul-le-mul-right, mul-assoc}
+use native.Mathlib.Omega.{arith}
+use mathlib.Core.Path.{_≡_, refl, sym, ap, subst, _∙_}
+use mathlib.Core.List.{List, [], _∷_, map, map-map}
+use lib.IntN.{ℤ, pos, negsuc, natAbs}
+use lib.ListN.{length, getD}
+use Rattle.exact.specs.Largest.{largest}
+use Rattle.exact.specs.Lists.{sum, count}
+use Rattle.exact.specs.Signed.{orZero}
+use Rattle.exact.proofs.HalfUp.{half-within}
+use Rattle.exact.proofs.Lists.{length-keep}
+use Rattle.exact.proofs.Totals.{largest-held}
+use Rattle.record.specs.Layout.{Record, contract, shortOptionRate, ratePerSpread, spreadRate, outrightRate, mostRate}
+use Rattle.record.specs.Within.{ContractWithin}
+use Rattle.account.specs.Accepted.{Each}
+use Rattle.account.specs.Lawful.{Lawful}
+use Rattle.account.specs.Parts.{ofContract, contractsOf, promptsOf, rowsOf, spreadsOf, entriesOf}
+use Rattle.account.specs.Whole.{partsBy, Whole}
+use Rattle.spread.specs.Steps.{Open, Taker}
+use Rattle.margin.specs.Charges.{charged, promptCharge, promptCharges}
+use Rattle.margin.specs.Contract.{Contract, contractFrom, partsIn, contracts, stepsOf, opensOf, numbersOf, usedDeltas, unusedDeltas}
+use Rattle.margin.specs.Contract.{scanningOf, interpromptOf, promptOf, creditOf, minimumOf, marginOf}
+use Rattle.margin.specs.Deltas.{netDelta, netDeltas}
+use Rattle.margin.specs.Figures.{totalMargin}
+use Rattle.margin.specs.Scanning.{totals}
+use Rattle.margin.specs.Skipped.{overPlaces, spreadAt, NothingOver}
+use Rattle.margin.specs.Within.{PromptFit, ContractFit}
+use Rattle.margin.proofs.AcceptLaws.{contract-within}
+use Rattle.margin.proofs.LineLaws.{opens-sizes, interprompt-whole}
+use Rattle.margin.proofs.NetLaws.{sizes-sum}
+use Rattle.margin.proofs.PositionBounds.{total-most, short-lots-most}
+use Rattle.margin.proofs.PositionLaws.{totals-at}
+use Rattle.margin.proofs.StepBounds.{sizes, whole-number-within, used-within, unused-within}
+use Rattle.committee.specs.Sums.{mostTotal}
+
+-- ---- charges over places and over prompts
+
+places-most : (most n : ℕ) (f : ℕ → ℕ) → ((i : ℕ) → i < n → f i ≤ most) → overPlaces n f ≤ n * most
+places-most most zero f h = zero-le
+places-most most (suc n) f h =
+    let first = h 0 (omega arith) in
+    let rest = places-most most n (λ i. f (suc i)) (λ i l. h (suc i) (omega arith)) in
+    omega arith
+
+-- numbers or deltas of a size, at a rate
+charge-most : (a b size rate rate′ : ℕ) → a ≤ size → b ≤ size → rate ≤ mostRate → rate′ ≤ mostRate → charged (a * rate + b * rate′) ≤ 2000 * size
+charge-most a b size rate rate′ ha hb hr hr′ =
+    let x : a * rate ≤ size * 10000000 = mul-le-mul ha hr in
+    let y : b * rate′ ≤ size * 10000000 = mul-le-mul hb hr′ in
+    half-within (2000 * size) (a * rate + b * rate′) 10000 (omega arith)
+
+spread-most : (first second size rate : ℕ) → first ≤ size → second ≤ size → rate ≤ mostRate → charged ((first + second) * rate) ≤ 2000 * size
+spread-most first second size rate hf hs hr =
+    let both : first + second ≤ 2 * size = omega arith in
+    let x : (first + second) * rate ≤ 2 * size * 10000000 = mul-le-mul both hr in
+    half-within (2000 * size) ((first + second) * rate) 10000 (omega arith)
+
+-- each prompt is charged for what of its net delta is used and for what is not
+prompts-most : (ps : List Record) (used unused nets : List ℤ) → ((k : ℕ) → k < length ps → PromptFit (getD ps k []))
+    → ((k : ℕ) → natAbs (getD used k (pos 0)) ≤ natAbs (getD nets k (pos 0))) → ((k : ℕ) → natAbs (getD unused k (pos 0)) ≤ natAbs (getD nets k (pos 0)))
+    → promptCharges ps used unused ≤ 2000 * sum (map natAbs nets)
+prompts-most [] used unused nets fit hu hn = zero-le
+prompts-most (p ∷ ps) [] unused nets fit hu hn = zero-le
+prompts-most (p ∷ ps) (u ∷ used) [] nets fit hu hn = zero-le
+prompts-most (p ∷ ps) (u ∷ used) (n ∷ unused) [] fit hu hn =
+    let f = fit 0 (omega arith) in
+    let first = charge-most (natAbs u) (natAbs n) 0 (spreadRate p) (outrightRate p) (hu 0) (hn 0) (f .spread-rate) (f .outright-rate) in
+    let rest = prompts-most ps used unused [] (λ k l. fit (suc k) (omega arith)) (λ k. hu (suc k)) (λ k. hn (suc k)) in
+    omega arith
+prompts-most (p ∷ ps) (u ∷ used) (n ∷ unused) (z ∷ nets) fit hu hn =
+    let f = fit 0 (omega arith) in
+    let first = charge-most (natAbs u) (natAbs n) (natAbs z) (spreadRate p) (outrightRate p) (hu 0) (hn 0) (f .spread-rate) (f .outright-rate) in
+    let rest = prompts-most ps used unused nets (λ k l. fit (suc k) (omega arith)) (λ k. hu (suc k)) (λ k. hn (suc k)) in
+    omega arith
+
+-- ---- one contract
+
+or-zero-most : (z : ℤ) → orZero z ≤ natAbs z
+or-zero-most (pos n) = le-refl n
+or-zero-most (negsuc n) = zero-le
+
+module _ (own : Record) (prompts rows spreads : List Record) (w : ContractFit own prompts rows spreads)
+    (over : NothingOver (contractFrom own prompts rows spreads)) where
+  abbrev k : Contract
+  k = contractFrom own prompts rows spreads
+
+  pub scanning-most : scanningOf k ≤ length rows * 100000000000000
+  scanning-most =
+      let held = largest-held (totals rows) (omega arith) in
+      let here : natAbs (getD (totals rows) (held .place) (pos 0)) ≤ length rows * 100000000000000 =
+      subst (λ (z : ℤ). natAbs z ≤ length rows * 100000000000000) (sym (totals-at rows (held .place) (held .within)))
+      (total-most rows (w .rows-within .each) (held .place + 1) (omega arith) (let l = held .within in omega arith))
+      in
+      le-trans (or-zero-most (largest (totals rows)))
+      (subst (λ (z : ℤ). natAbs z ≤ length rows * 100000000000000) (held .holds) here)
+
+  -- all deltas of its prompts together
+  sizes-most : sizes (opensOf k) ≤ length rows * 1000000000
+  sizes-most =
+      let e = ap sum (map-map natAbs (netDelta rows) prompts) in
+      let s = sizes-sum prompts rows (w .one-day) (w .rows-within .each) in
+      let o = opens-sizes prompts (netDeltas prompts rows) in
+      omega arith
+
+  pub prompt-most : promptOf k ≤ length rows * 2000000000000
+  prompt-most =
+      let nets = map (λ (p : Open). p .unused) (opensOf k) in
+      let all =
+      prompts-most prompts (usedDeltas k) (unusedDeltas k) nets (w .each-prompt) (used-within (stepsOf k) (opensOf k)) (unused-within (stepsOf k) (opensOf k))
+      in
+      let e = ap sum (map-map natAbs (λ (p : Open). p .unused) (opensOf k)) in
+      let s = sizes-most in
+      omega arith
+
+  number-most : (j : ℕ) → getD (numbersOf k) j 0 ≤ length rows * 1000000000
+  number-most j = le-trans (whole-number-within (stepsOf k) (opensOf k) j (interprompt-whole spreads)) sizes-most
+
+  -- each of at most 32 spreads, over at most 128 rows
+  pub interprompt-most : interpromptOf k ≤ length rows * 32000000000000 + length spreads * 128000000000000
+  interprompt-most =
+      let each : (j : ℕ) → j < length spreads → spreadAt k j ≤ 2000 * (length rows * 1000000000) =
+      λ j l.
+      spread-most (getD (numbersOf k) (2 * j) 0) (getD (numbersOf k) (2 * j + 1) 0) (length rows * 1000000000) (ratePerSpread (getD spreads j []))
+      (number-most (2 * j)) (number-most (2 * j + 1)) (w .each-spread j l .rate)
+      in
+      let all = places-most (2000 * (length rows * 1000000000)) (length spreads) (spreadAt k) each in
+      let e = over .interprompt in
+      let apart : length spreads * (2000 * (length rows * 1000000000)) ≡ length spreads * length rows * 2000000000000 = product (length spreads) (length rows) in
+      let by-rows : length spreads * length rows ≤ 32 * length rows = mul-le-mul-right (length rows) (w .few-spreads) in
+      let by-spreads : length spreads * length rows ≤ length spreads * 128 = mul-le-mul-left (length spreads) (w .rows-within .few) in
+      omega arith
+    where
+      product : (s r : ℕ) → s * (2000 * (r * 1000000000)) ≡ s * r * 2000000000000
+      product s r =
+          let e : 2000 * (r * 1000000000) ≡ r * 2000000000000 = omega arith in
+          ap (λ (n : ℕ). s * n) e ∙ sym (mul-assoc s r 2000000000000)
+
+  minimum-most : minimumOf k ≤ length rows * 1000000000000
+  minimum-most =
+      let l = short-lots-most rows (w .rows-within .each) in
+      let x : minimumOf k ≤ length rows * 100000 * 10000000 = mul-le-mul l (w .rate) in
+      omega arith
+
+  pub margin-most : (entries : List Record) (table : List Open) → marginOf entries table k ≤ (length rows + length spreads) * 134000000000000
+  margin-most entries table =
+      let s = scanning-most in
+      let p = prompt-most in
+      let i = interprompt-most in
+      let m = minimum-most in
+      omega arith
+
+-- ---- all contracts of an account
+
+abbrev records-of : List Record → Record → ℕ
+records-of account own = length (rowsOf (contract own) account) + length (spreadsOf (contract own) account)
+
+rows-and-spreads : (account owns : List Record)
+    → sum (map (records-of account) owns) ≤ sum (map (λ part. count part account) (partsBy owns))
+rows-and-spreads account [] = zero-le
+rows-and-spreads account (own ∷ owns) =
+    let rest = rows-and-spreads account owns in
+    let r = length-keep (ofContract 3 (contract own)) account in
+    let s = length-keep (ofContract 4 (contract own)) account in
+    omega arith
+
+module _ (account : List Record) (law : Lawful account) (over : (own : Record) → NothingOver (partsIn account own)) (entries : List Record) (table : List Open) where
+  margins-most : (owns : List Record) → Each ContractWithin owns
+      → totalMargin entries table (map (partsIn account) owns) ≤ sum (map (records-of account) owns) * 134000000000000
+  margins-most [] e = zero-le
+  margins-most (own ∷ owns) e =
+      let c = contract own in
+      let first =
+      margin-most own (promptsOf c account) (rowsOf c account) (spreadsOf c account) (contract-within account law own c (e .0)) (over own) entries table
+      in
+      let rest = margins-most owns (e .1) in
+      omega arith
+
+  pub margin-within : Whole account → totalMargin entries table (contracts account) ≤ mostTotal
+  margin-within whole =
+      let all = margins-most (contractsOf account) (law .ranges .contracts) in
+      let parts = rows-and-spreads account (contractsOf account) in
+      let together = whole .together in
+      let few = law .limits .all in
+      omega arith

@@ -1,0 +1,99 @@
+-- What the contract at a place adds, from its eight numbers.
+-- Assumes nothing.
+use borrow.Author.Needs.{needs}
+use native.Mathlib.Omega.{arith}
+use mathlib.Core.Path.{ap, _∙_}
+use Prim.Native.Nat.{ℕ}
+use lib.Dec.{ltb}
+use Rattle.exact.specs.Lists.{oneIf}
+use Rattle.margin.specs.Margin.{risk}
+use Rattle.committee.proofs.contracts.found_at.Statement.{statement}
+use Rattle.committee.proofs.contracts.found_at.Tie as tie
+
+mul-at : tie.Need-mul-at
+mul-at c = search needs
+
+add-amount-at : tie.Need-add-amount-at
+add-amount-at c = search needs
+
+add-amount-at-2 : tie.Need-add-amount-at-2
+add-amount-at-2 c = search needs
+
+add-amount-at-3 : tie.Need-add-amount-at-3
+add-amount-at-3 c = search needs
+
+add-amount-at-4 : tie.Need-add-amount-at-4
+add-amount-at-4 c = search needs
+
+add-amount-at-5 : tie.Need-add-amount-at-5
+add-amount-at-5 c = search needs
+
+add-amount-at-6 : tie.Need-add-amount-at-6
+add-amount-at-6 c = search needs
+
+amount-at-requires : tie.Need-amount-at-requires
+amount-at-requires c κs = search needs
+
+amount-at-requires-2 : tie.Need-amount-at-requires-2
+amount-at-requires-2 c κs = search needs
+
+amount-at-requires-3 : tie.Need-amount-at-requires-3
+amount-at-requires-3 c κs = search needs
+
+amount-at-requires-4 : tie.Need-amount-at-requires-4
+amount-at-requires-4 c κs = search needs
+
+amount-at-requires-5 : tie.Need-amount-at-requires-5
+amount-at-requires-5 c κs = search needs
+
+amount-at-requires-6 : tie.Need-amount-at-requires-6
+amount-at-requires-6 c κs = search needs
+
+above-risk-requires : tie.Need-above-risk-requires
+above-risk-requires c κs =
+    let s = c .before .before .before .before .before .before in
+    let h = s .pre .0 .risk-within (s .args .i) (s .pre .1) in
+    omega (arith, h, c .before .before .before .before .before .amount-at .ensures, c .before .before .before .before .amount-at2 .ensures, c .before .before .before .amount-at3 .ensures)
+
+one-if-requires : tie.Need-one-if-requires
+one-if-requires c κs = search needs
+
+one-if-requires-2 : tie.Need-one-if-requires-2
+one-if-requires-2 c κs = search needs
+
+returns : tie.Need-returns
+returns c =
+    let scanning = c .before .before .before .before .before .before .before .before .before .amount-at .ensures in
+    let interprompt = c .before .before .before .before .before .before .before .before .amount-at2 .ensures in
+    let prompt = c .before .before .before .before .before .before .before .amount-at3 .ensures in
+    let credit = c .before .before .before .before .before .before .amount-at4 .ensures in
+    let minimum = c .before .before .before .before .before .amount-at5 .ensures in
+    record {
+      margin-is = c .before .before .before .before .amount-at6 .ensures;
+      credits-are = c .before .one-if .ensures ∙ ap (λ (n : ℕ). oneIf (ltb 0 n)) credit;
+      above-is =
+          c .one-if2 .ensures
+          ∙ ap oneIf (c .before .before .before .above-risk .ensures ∙ (λ i. ltb (risk (scanning i) (interprompt i) (prompt i) (credit i)) (minimum i)));
+    }
+
+pub found-at-spec : {M : Type 1} → statement M
+found-at-spec =
+    tie.close
+    (tie.spec
+    mul-at
+    add-amount-at
+    amount-at-requires
+    add-amount-at-2
+    amount-at-requires-2
+    add-amount-at-3
+    amount-at-requires-3
+    add-amount-at-4
+    amount-at-requires-4
+    add-amount-at-5
+    amount-at-requires-5
+    add-amount-at-6
+    amount-at-requires-6
+    above-risk-requires
+    one-if-requires
+    one-if-requires-2
+    returns)

@@ -1,0 +1,52 @@
+-- The question leaves the figures in 129 zeros, and what is found in them is what the account adds.
+-- Assumes nothing.
+use mathlib.Core.Path.{ap, subst, subst⁻¹, _∙_}
+use mathlib.Core.List.{List}
+use borrow.Author.Needs.{needs}
+use lib.IntN.{ℤ}
+use Rattle.account.specs.Answers.{numberOf}
+use Rattle.committee.specs.Sums.{Fit, FoundIn}
+use Rattle.committee.proofs.Padded.{fit, account-is}
+use Rattle.committee.proofs.figures.answer_account.Statement.{statement}
+use Rattle.committee.proofs.figures.answer_account.Tie as tie
+
+slice-aggregate-answer : tie.Need-slice-aggregate-answer
+slice-aggregate-answer c = search needs
+
+answer-requires : tie.Need-answer-requires
+answer-requires c κs = search needs
+
+number-of-requires : tie.Need-number-of-requires
+number-of-requires c κs = search needs
+
+slice-aggregate-found-in : tie.Need-slice-aggregate-found-in
+slice-aggregate-found-in c = search needs
+
+found-in-requires : tie.Need-found-in-requires
+found-in-requires c κs =
+    let f = c .before .before .before .answer in
+    subst⁻¹ Fit (f .ensures .1) (fit (c .before .before .before .before .before .before .args .account .now))
+
+one-if-requires : tie.Need-one-if-requires
+one-if-requires c κs = search needs
+
+returns : tie.Need-returns
+returns c =
+    let f = c .before .before .before .before .before .before .before .answer in
+    let n = c .before .before .before .before .before .number-of in
+    let found = c .before .before .before .found-in in
+    account-is (c .before .before .before .before .before .before .before .before .before .before .args .account .now) (found .result)
+    (subst (λ (xs : List ℤ). FoundIn xs 16 (found .result)) (f .ensures .1) (found .ensures))
+    (n .result) (c .one-if .result) (n .ensures ∙ ap numberOf (f .ensures .0)) (c .one-if .ensures)
+
+pub answer-account-spec : {M : Type 1} → statement M
+answer-account-spec =
+    tie.close
+    (tie.spec
+    slice-aggregate-answer
+    answer-requires
+    number-of-requires
+    slice-aggregate-found-in
+    found-in-requires
+    one-if-requires
+    returns)

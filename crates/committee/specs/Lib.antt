@@ -1,0 +1,4 @@
+pub mod Answered
+pub mod Claims
+pub mod Committee
+pub mod Sums

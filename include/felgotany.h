@@ -25,8 +25,8 @@ extern "C" {
 /* The most numbers that the figures of an account have: eight for each of sixteen contracts, and the total. */
 #define FELGOTANY_MOST_FIGURES 129
 
-/* The most numbers that a delta book has: three for each of 32 prompts, and two for each of 32 spreads. */
-#define FELGOTANY_MOST_BOOK 160
+/* The most numbers that a delta book has: three for each of 32 prompts, two for each of 32 spreads, and how often a prompt was touched. */
+#define FELGOTANY_MOST_BOOK 161
 
 /* The most numbers that say who paid in a delta book: one for each of 32 prompts in each of 32 spreads' two steps. */
 #define FELGOTANY_MOST_USES 2048
@@ -92,19 +92,23 @@ size_t felgotany_figures_needed(const uint8_t *file, size_t bytes);
  * nothing. */
 felgotany_outcome felgotany_figures(const uint8_t *file, size_t bytes, int64_t *out, size_t numbers);
 
-/* How many numbers the delta book of a question needs, 0 to FELGOTANY_MOST_BOOK; 0 for a refused file, for a question that
- * the file does not answer, and for a contract without prompts and spreads. */
+/* How many numbers the delta book of a question needs, 1 to FELGOTANY_MOST_BOOK; 0 for a refused file and for a question that the
+ * file does not answer. */
 size_t felgotany_book_needed(const uint8_t *file, size_t bytes, size_t question);
 
 /* The delta book of a question, 0 to 15 for that contract or FELGOTANY_TABLE. Of a contract, three numbers for each prompt
  * in file order: its net delta, what of it is used in spreads and what is unused, each with the sign of the net delta;
  * then two for each interprompt spread in file order: how many its first step formed, and its second. Of the table, the same
- * for each contract and each intercontract spread. All in ten-thousandths.
+ * for each contract and each intercontract spread. All in ten-thousandths. The last number of the book says how often a prompt was
+ * touched (of the table, a contract): how many times some step moved some prompt's unused delta towards zero. It is what the book
+ * costs to work out, and never more than its prompts plus all legs counted over both steps of every spread. A contract without
+ * prompts and spreads has this one number, 0.
  *
  * Lent numbers are written and left alone as by felgotany_figures. */
 felgotany_outcome felgotany_book(const uint8_t *file, size_t bytes, size_t question, int64_t *out, size_t numbers);
 
-/* How many numbers felgotany_uses writes for a question, 0 to FELGOTANY_MOST_USES; 0 as with felgotany_book_needed. */
+/* How many numbers felgotany_uses writes for a question, 0 to FELGOTANY_MOST_USES; 0 as with felgotany_book_needed, and for a
+ * contract without prompts or without spreads. */
 size_t felgotany_uses_needed(const uint8_t *file, size_t bytes, size_t question);
 
 /* Who paid for what in the delta book of a question: for each step of its table in order (the first and the second step of the

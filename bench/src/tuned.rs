@@ -13,14 +13,14 @@ use independent::format::*;
 use independent::refusal::{LENGTHS_DIFFER, TOO_FEW_LENT, UNLISTED_QUESTION};
 use independent::Refusal;
 use record::{get, Record};
-use table::{used, Table};
+use table::{touches, used, Table};
 
 /// The question for the intercontract table.
 const TABLE: usize = CONTRACTS;
 /// The numbers of a contract's figures.
 const FIGURES: usize = 8;
 pub const MOST_FIGURES: usize = FIGURES * CONTRACTS + 1;
-pub const MOST_BOOK: usize = 3 * MOST_PROMPTS + 2 * MOST_SPREADS;
+pub const MOST_BOOK: usize = 3 * MOST_PROMPTS + 2 * MOST_SPREADS + 1;
 /// The numbers of an account's refusal and record in a run.
 pub const OUTCOME: usize = 2;
 /// The books of all contracts and of the table.
@@ -113,7 +113,7 @@ impl Held<'_> {
         }
         let contract = self.contract(self.notes.place(question), question);
         let (prompts, spreads) = (contract.prompts.len(), contract.spreads.len());
-        let needed = 3 * prompts + 2 * spreads;
+        let needed = 3 * prompts + 2 * spreads + 1;
         let lent = self.enough(lent, needed)?;
         contract.run(&mut Book::at(lent, prompts, spreads));
         Ok(needed)
@@ -121,15 +121,17 @@ impl Held<'_> {
 
     fn table_book(&self, lent: &mut [i64]) -> Result<usize, Refusal> {
         let entries = self.entries();
-        let needed = 3 * self.notes.contracts + 2 * entries.len();
+        let needed = 3 * self.notes.contracts + 2 * entries.len() + 1;
         let lent = self.enough(lent, needed)?;
         let book = Book::at(lent, self.notes.contracts, entries.len());
         let mut table = Table::new();
         for (number, contract) in self.contracts() {
             table.add(number, contract.net());
         }
+        *book.touches = 0;
         for (numbers, entry) in book.spreads.iter_mut().zip(entries) {
             *numbers = table.steps(entry);
+            *book.touches += touches(entry, *numbers);
         }
         self.write_left(&table, book.prompts);
         Ok(needed)
@@ -149,7 +151,12 @@ impl Held<'_> {
             let mut takes = (Charges::default(), place);
             (contract.run(&mut takes), takes.0)
         };
-        let steps = |place: usize, numbers| book.spreads[place] = numbers;
+        *book.touches = 0;
+        let table_entries = self.entries();
+        let steps = |place: usize, numbers| {
+            book.spreads[place] = numbers;
+            *book.touches += touches(&table_entries[place], numbers);
+        };
         let needed = FIGURES * self.notes.contracts + 1;
         let (table, answer) = match self.enough(figures, needed) {
             Ok(lent) => (self.write_figures(lent, charges, steps), Ok(())),

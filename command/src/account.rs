@@ -25,6 +25,8 @@ pub struct Book {
     pub question: usize,
     pub prompts: Vec<Prompt>,
     pub spreads: Vec<Spread>,
+    /// How often a prompt was touched.
+    pub touches: i64,
 }
 
 /// A prompt by its place from 1. In the table a contract is a tier with one prompt, which has no day.
@@ -137,7 +139,7 @@ impl Book {
         Ok(Book::of_answers(question, &records(file), &book, &uses))
     }
 
-    /// Three numbers for each prompt, two for each spread, and of each step one use for each prompt.
+    /// Three numbers for each prompt, two for each spread and how often a prompt was touched; and of each step one use for each prompt.
     fn of_answers(question: usize, records: &[Record], numbers: &[i64], uses: &[i64]) -> Book {
         let prompt_records = prompts_of(records, question);
         let (of_prompts, of_spreads) = numbers.split_at(3 * prompt_records.len());
@@ -148,7 +150,9 @@ impl Book {
             .map(|(at, (record, numbers))| Prompt::of(question, at + 1, *record, numbers))
             .collect();
         let each = prompts.len();
-        let spreads = spreads_of(records, question)
+        let spread_records = spreads_of(records, question);
+        let touches = of_spreads[2 * spread_records.len()];
+        let spreads = spread_records
             .iter()
             .enumerate()
             .map(|(at, record)| {
@@ -159,7 +163,14 @@ impl Book {
                 Spread::of(question, at + 1, *record, [step(0), step(1)])
             })
             .collect();
-        Book { question, prompts, spreads }
+        Book { question, prompts, spreads, touches }
+    }
+}
+
+impl Book {
+    /// "The book's prompts (contracts in 16) plus all legs counted over both steps of every spread": never fewer than the touches.
+    pub fn most_touches(&self) -> usize {
+        self.prompts.len() + 2 * self.spreads.iter().map(|spread| spread.legs.len()).sum::<usize>()
     }
 }
 

@@ -28,7 +28,8 @@ pub fn book(book: &Book) -> String {
     let question = book.question as i64;
     let prompts = book.prompts.iter().map(|prompt| prompt_line(question, prompt));
     let spreads = book.spreads.iter().map(|spread| spread_lines(question, spread));
-    prompts.chain(spreads).collect()
+    let touches = line('N', &[question, book.touches, book.most_touches() as i64]);
+    prompts.chain(spreads).chain([touches]).collect()
 }
 
 fn prompt_line(question: i64, prompt: &Prompt) -> String {

@@ -6,9 +6,10 @@ use crate::numbers::{amount, lots};
 use crate::page::{figures_in_words, FIGURES};
 use crate::table::csv;
 
-/// What a line of a book is about, then the columns of a prompt, of a step, and of what the step takes.
-const BOOK: [&str; 13] =
-    ["book", "line", "prompt", "day", "tier", "net", "used", "unused", "spread", "rate", "step", "formed", "taken"];
+/// What a line of a book is about, then the columns of a prompt, of a step, of what the step takes, and of how often it is taken.
+const BOOK: [&str; 15] = [
+    "book", "line", "prompt", "day", "tier", "net", "used", "unused", "spread", "rate", "step", "formed", "taken", "touches", "most",
+];
 
 pub const VERDICTS: [&str; 5] = ["account", "verdict", "refusal", "record", "in words"];
 
@@ -54,7 +55,13 @@ pub fn books<'a>(books: impl Iterator<Item = &'a Book>) -> String {
 
 fn book_rows(book: &Book) -> Vec<Vec<String>> {
     let prompts = book.prompts.iter().map(|prompt| prompt_row(book, prompt));
-    prompts.chain(book.spreads.iter().flat_map(|spread| spread_rows(book, spread))).collect()
+    let spreads = book.spreads.iter().flat_map(|spread| spread_rows(book, spread));
+    prompts.chain(spreads).chain([touched_row(book)]).collect()
+}
+
+/// How often a prompt was touched, and the most for the book's prompts and legs.
+fn touched_row(book: &Book) -> Vec<String> {
+    row(book, "touched", &[("touches", book.touches.to_string()), ("most", book.most_touches().to_string())])
 }
 
 /// A row of a book with some of its columns, by name.

@@ -38,8 +38,15 @@ impl Book {
         (first.number, second.number)
     }
 
+    /// "How many times some step moved some prompt's unused delta towards zero" (2026-11 of document 02).
+    /// No step takes from a prompt by two legs, since they take from different tiers or sides.
+    pub fn takes(&self) -> usize {
+        let given = self.steps.iter().flatten().flat_map(|step| &step.given);
+        given.filter(|given| **given != Delta(0)).count()
+    }
+
     /// "Three numbers per prompt (net, used, unused), then two per spread (number in its first step,
-    /// in its second)."
+    /// in its second)." By 2026-11 "the book gains" the number of takes "at its end".
     pub fn numbers(&self) -> Vec<i64> {
         let mut numbers = vec![];
         for line in &self.lines {
@@ -48,6 +55,7 @@ impl Book {
         for [first, second] in &self.steps {
             numbers.extend([first.number.0, second.number.0]);
         }
+        numbers.push(self.takes() as i64);
         numbers
     }
 

@@ -182,7 +182,8 @@ fn check_line(file: &[u8]) -> String {
     }
 }
 
-/// `P net used unused` per prompt, or per contract in question 16, then `S first second` per spread.
+/// `P net used unused` per prompt, or per contract in question 16, then `S first second` per spread,
+/// then `N takes`.
 fn book_lines(file: &[u8], question: u64) -> String {
     match check(file).and_then(|account| held_book(&account, question)) {
         Ok(book) => {
@@ -193,7 +194,7 @@ fn book_lines(file: &[u8], question: u64) -> String {
             for [first, second] in &book.steps {
                 lines += &line("S", &[first.number.0, second.number.0]);
             }
-            lines
+            lines + &line("N", &[book.takes() as i64])
         }
         Err(refusal) => format!("{refusal}\n"),
     }
@@ -248,7 +249,7 @@ fn table_lines(account: &Account, book: &Book) -> String {
 
 /// `P question place day tier net used unused` per prompt; per spread `S question place legs`, each
 /// leg's `tier side ratio`, then `rate first second`; after it `G question spread step place amount`
-/// for whatever its steps take of a prompt.
+/// for whatever its steps take of a prompt; then `N question takes most`.
 fn book_records(
     question: i64,
     prompts: &[[i64; 2]],
@@ -273,7 +274,9 @@ fn book_records(
             }
         }
     }
-    lines
+    let legs: usize = spreads.iter().map(|(legs, _)| legs.len()).sum();
+    let most = prompts.len() + 2 * legs;
+    lines + &line("N", &[question, book.takes() as i64, most as i64])
 }
 
 fn line(letter: &str, numbers: &[i64]) -> String {

@@ -5,7 +5,7 @@ pub mod refusals;
 
 /// The most numbers of the figures, of a delta book, and of who paid in one.
 pub const MOST_FIGURES: usize = 129;
-pub const MOST_BOOK: usize = 160;
+pub const MOST_BOOK: usize = 161;
 pub const MOST_USES: usize = 2048;
 
 /// The most accounts of a run for the risk committee, and the numbers of its figures.

@@ -1,7 +1,7 @@
 //! A contract: what its rows come to, and what its spreads and prompts take and are charged.
 
 use super::record::{get, losses, Record};
-use super::steps::{both, pay, pool_of, Pools, POOLS, WHOLE};
+use super::steps::{both, pay, pool_of, Passing, Pools, POOLS, WHOLE};
 use independent::format::*;
 use independent::margin::PAIRED_SCENARIOS;
 use independent::units::ONE;
@@ -17,11 +17,20 @@ pub struct Contract<'a> {
 
 /// Takes what the steps give for each spread and each prompt of a contract.
 pub trait Takes {
+    /// The prompts with their net deltas, before the first step.
+    #[inline(always)]
+    fn start(&mut self, _prompts: &[Record], _nets: &[i64; MOST_PROMPTS]) {}
     fn spread(&mut self, place: usize, spread: &Record, numbers: [i64; 2]);
     fn prompt(&mut self, place: usize, prompt: &Record, net: i64, used: i64);
 }
 
 impl<A: Takes, B: Takes> Takes for (A, B) {
+    #[inline(always)]
+    fn start(&mut self, prompts: &[Record], nets: &[i64; MOST_PROMPTS]) {
+        self.0.start(prompts, nets);
+        self.1.start(prompts, nets);
+    }
+
     #[inline(always)]
     fn spread(&mut self, place: usize, spread: &Record, numbers: [i64; 2]) {
         self.0.spread(place, spread, numbers);
@@ -61,10 +70,12 @@ fn halves_up(parts: i64) -> i64 {
     ((parts as u64 + ONE as u64 / 2) / ONE as u64) as i64
 }
 
-/// A delta book in lent memory: three numbers a prompt, then two a spread.
+/// A delta book in lent memory: three numbers a prompt, then two a spread, and how often a prompt was touched.
 pub struct Book<'a> {
     pub prompts: &'a mut [[i64; 3]],
     pub spreads: &'a mut [[i64; 2]],
+    pub touches: &'a mut i64,
+    passing: Passing,
 }
 
 impl<'a> Book<'a> {
@@ -72,15 +83,30 @@ impl<'a> Book<'a> {
     pub fn at(lent: &'a mut [i64], prompts: usize, spreads: usize) -> Book<'a> {
         let (front, rest) = lent.split_at_mut(3 * prompts);
         let (prompts, _) = front.as_chunks_mut();
-        let (spreads, _) = rest[..2 * spreads].as_chunks_mut();
-        Book { prompts, spreads }
+        let (of_spreads, rest) = rest.split_at_mut(2 * spreads);
+        let (spreads, _) = of_spreads.as_chunks_mut();
+        Book { prompts, spreads, touches: &mut rest[0], passing: Passing::default() }
     }
 }
 
 impl Takes for Book<'_> {
     #[inline(always)]
-    fn spread(&mut self, place: usize, _: &Record, numbers: [i64; 2]) {
+    fn start(&mut self, prompts: &[Record], nets: &[i64; MOST_PROMPTS]) {
+        *self.touches = 0;
+        for (place, (prompt, net)) in prompts.iter().zip(nets).enumerate().rev() {
+            self.passing.lay(place, pool_of(get(prompt, PROMPT_TIER), *net < 0), net.unsigned_abs());
+        }
+    }
+
+    #[inline(always)]
+    fn spread(&mut self, place: usize, spread: &Record, numbers: [i64; 2]) {
         self.spreads[place] = numbers;
+        for (second, number) in numbers.into_iter().enumerate().filter(|(_, number)| *number > 0) {
+            for leg in 0..get(spread, LEGS) as usize {
+                let (pool, ratio) = leg_of(spread, leg);
+                *self.touches += self.passing.touches(pool ^ second, number as u64 * ratio);
+            }
+        }
     }
 
     #[inline(always)]
@@ -107,6 +133,7 @@ impl Contract<'_> {
     #[inline(always)]
     pub fn run(&self, takes: &mut impl Takes) -> i64 {
         let nets = self.nets();
+        takes.start(self.prompts, &nets);
         let mut full = [0; POOLS];
         for (prompt, net) in self.prompts.iter().zip(nets) {
             full[pool_of(get(prompt, PROMPT_TIER), net < 0)] += net.unsigned_abs();
@@ -161,11 +188,14 @@ fn row_delta(row: &Record) -> i64 {
 }
 
 #[inline(always)]
+fn leg_of(spread: &Record, leg: usize) -> (usize, u64) {
+    let short = get(spread, leg_side(leg)) == SIDE_B;
+    (pool_of(get(spread, leg_tier(leg)), short), get(spread, leg_ratio(leg)) as u64)
+}
+
+#[inline(always)]
 fn steps_of(pools: &mut Pools, spread: &Record) -> [i64; 2] {
-    let leg = |leg| {
-        let short = get(spread, leg_side(leg)) == SIDE_B;
-        (pool_of(get(spread, leg_tier(leg)), short), get(spread, leg_ratio(leg)) as u64)
-    };
+    let leg = |leg| leg_of(spread, leg);
     if get(spread, LEGS) == 2 {
         both::<WHOLE, 2>(pools, [leg(0), leg(1)])
     } else {

@@ -1,6 +1,7 @@
 //! The spread steps over pools, one for each tier and side: long at twice the tier, short beside it.
 
 use super::check::CONTRACTS;
+use independent::format::MOST_PROMPTS;
 
 /// The tiers of a contract and the contracts of the intercontract table both fit.
 pub const POOLS: usize = 2 * CONTRACTS;
@@ -59,5 +60,40 @@ pub fn pay(net: i64, full: &mut u64, left: u64) -> i64 {
         -(paid as i64)
     } else {
         paid as i64
+    }
+}
+
+/// The prompts of each pool in order of days, each with what is left of it: a leg goes on where the one before it stopped.
+#[derive(Default)]
+pub struct Passing {
+    left: [u64; MOST_PROMPTS],
+    next: [u8; MOST_PROMPTS],
+    at: [u8; POOLS],
+}
+
+impl Passing {
+    /// The prompt at a place, the later ones first.
+    #[inline(always)]
+    pub fn lay(&mut self, place: usize, pool: usize, size: u64) {
+        self.left[place] = size;
+        self.next[place] = self.at[pool];
+        self.at[pool] = place as u8;
+    }
+
+    /// How many prompts a leg takes of that takes so much of a pool, which has it.
+    #[inline(always)]
+    pub fn touches(&mut self, pool: usize, mut wanted: u64) -> i64 {
+        let mut touches = 0;
+        while wanted > 0 {
+            let place = usize::from(self.at[pool]);
+            let taken = wanted.min(self.left[place]);
+            touches += i64::from(taken > 0);
+            self.left[place] -= taken;
+            wanted -= taken;
+            if wanted > 0 {
+                self.at[pool] = self.next[place];
+            }
+        }
+        touches
     }
 }

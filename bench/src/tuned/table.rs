@@ -71,3 +71,17 @@ pub fn used(entry: &Record, numbers: [i64; 2], ratio: Field) -> i64 {
     });
     (taken[0] + taken[1]) as i64
 }
+
+/// How many contracts the two steps of an entry take of.
+#[inline(always)]
+pub fn touches(entry: &Record, numbers: [i64; 2]) -> i64 {
+    let taken = |number: i64, ratio| {
+        let ratio = get(entry, ratio) as u64;
+        match in_tenths(entry) {
+            true => takes::<IN_TENTHS>(number as u64, ratio) > 0,
+            false => number > 0,
+        }
+    };
+    let both = numbers.map(|number| i64::from(taken(number, FIRST_RATIO)) + i64::from(taken(number, SECOND_RATIO)));
+    both[0] + both[1]
+}

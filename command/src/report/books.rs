@@ -250,7 +250,15 @@ fn lacking_in_words(question: usize, lacking: &Lacking) -> String {
     }
 }
 
-/// The answer and the table of what is still open.
+/// How often some step took of some prompt, beside the most that a book with so many prompts and legs can cost.
+pub fn cost_table(book: &Book) -> Table {
+    let columns = ["takes", "most for its prompts and legs"];
+    let mut table = Table::new(table_name(book, "touches"), "What the book costs to work out: how often a step took of a prompt", &columns);
+    table.row(Kind::Plain, [book.touches.to_string(), book.most_touches().to_string()]);
+    table
+}
+
+/// The answer, the table of what is still open, and what the book costs.
 pub fn still_open(document: &mut Document, book: &Book, open: &[Open], named: &dyn Fn(i64) -> String) {
     let Pairing { short, why } = pairing(book, open);
     let answer = if open.is_empty() { why } else { format!("{short} {why}") };
@@ -258,4 +266,5 @@ pub fn still_open(document: &mut Document, book: &Book, open: &[Open], named: &d
     if !open.is_empty() && !book.spreads.is_empty() {
         document.parts.push(Part::Table(open_table(book, open, named)));
     }
+    document.parts.push(Part::Table(cost_table(book)));
 }

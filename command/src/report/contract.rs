@@ -29,7 +29,8 @@ pub fn of_contract(document: &mut Document, subject: &Subject, contract: &Contra
 fn who_paid(document: &mut Document, book: &Book, working: &OfContract, open: &[Open]) {
     document.heading(3, "Who paid, and what is still open");
     if book.prompts.is_empty() {
-        return document.say("This contract has no prompt dates: nothing was paid, and nothing is open.");
+        document.say("This contract has no prompt dates: nothing was paid, and nothing is open.");
+        return document.parts.push(Part::Table(books::cost_table(book)));
     }
     match book.spreads.len() {
         0 => document.say("The file lists no interprompt spread for this contract. No prompt date paid for one."),

@@ -12,7 +12,7 @@ use independent::{held_book, Account, Refusal};
 use std::process::ExitCode;
 
 const REFUSALS: usize = 11;
-const MOST_NUMBERS: usize = 160;
+const MOST_NUMBERS: usize = 161;
 /// 32 spreads of two steps over 32 prompts.
 const MOST_USES: usize = 2048;
 /// The books of the sixteen contracts and of the intercontract table.

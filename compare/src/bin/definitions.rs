@@ -17,7 +17,7 @@ use std::fmt::Write;
 use std::path::Path;
 use std::{fs, io};
 
-const MOST_NUMBERS: usize = 160;
+const MOST_NUMBERS: usize = 161;
 const MOST_USES: usize = 2048;
 const TABLE_QUESTION: u64 = 16;
 /// The contracts of the chosen pairs.

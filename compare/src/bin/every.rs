@@ -47,7 +47,7 @@ fn at_the_limits() -> [Vec<u8>; 2] {
 
 fn constants() -> [usize; 8] {
     let [contracts, full] = at_the_limits();
-    let table = (0..100).rev().find(|&question| felgotany::book(&[], question, &mut []).refusal == 0).unwrap_or(0);
+    let table = (0..100).rev().find(|&question| felgotany::book(&[], question, &mut [0]).refusal == 0).unwrap_or(0);
     let all = |books: usize, uses: usize| felgotany::all(&full, &mut [0; 9], &mut vec![0; books], &mut vec![0; uses]);
     let least = |refused: &dyn Fn(usize) -> bool, most: usize| {
         let (mut low, mut high) = (0, most);

@@ -5,6 +5,7 @@ use mathlib.Core.List.{List}
 use Rattle.exact.proofs.Determined.{one-result, one-outcome, one-largest}
 use Rattle.spread.proofs.Booking.{booked-one}
 use Rattle.spread.proofs.Stepping.{stepped-one}
+use Rattle.spread.proofs.Touching.{counted-one}
 use Rattle.account.proofs.Claimed.{claimed}
 use Rattle.account.proofs.OneJoined.{determined}
 use Rattle.account.proofs.PairClaimed.{pair-claimed}
@@ -17,6 +18,7 @@ use Rattle.questions.proofs.PlaceLaws.{file-places, pair-places}
 use Rattle.margin.proofs.PairLaws.{pair-table}
 use Rattle.margin.proofs.Reckoned.{reckoned, printed}
 use Rattle.margin.proofs.Skipped.{file-skips-none, pair-skips-none}
+use Rattle.margin.proofs.Touched.{file-touched, pair-touched}
 use Rattle.margin.proofs.Unpaired.{file-unpaired, pair-unpaired}
 use Rattle.runs.proofs.Claims.{claims as run-claims}
 use Rattle.committee.proofs.Claims.{claims as committee-claims}
@@ -31,6 +33,7 @@ one-file file =
       demand3 = demanded-file file;
       skipped = file-skips-none file;
       unpaired = file-unpaired file;
+      touched = file-touched file;
       needed = file-needed file;
       places = λ paid. file-places paid file;
     }
@@ -43,6 +46,7 @@ two-files morning noon =
       demand3 = demanded-joined morning noon;
       skipped = pair-skips-none morning noon;
       unpaired = pair-unpaired morning noon;
+      touched = pair-touched morning noon;
       needed = pair-needed morning noon;
       places = λ paid. pair-places paid morning noon;
     }
@@ -52,6 +56,7 @@ one-outcomes =
     record {
       largest = one-largest;
       booked = booked-one;
+      counted = counted-one;
       stepped = stepped-one;
       check = determined;
       view = one-view;

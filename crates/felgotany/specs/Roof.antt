@@ -1,6 +1,7 @@
 -- All that is promised, under one roof: the three demands over one file and over a pair of files, the table of reckoned examples, the
--- exactness of the check, that no accepted line is skipped, that nothing still open could have been paired, the table of paired
--- scenarios, what holds of a run of accounts and of the committee's figures of it, and that no promise leaves a choice. proofs/Roof.antt proves it of any bytes.
+-- exactness of the check, that no accepted line is skipped, that nothing still open could have been paired, how often a prompt is
+-- touched, the table of paired scenarios, what holds of a run of accounts and of the committee's figures of it, and that no promise
+-- leaves a choice. proofs/Roof.antt proves it of any bytes.
 -- Assumes nothing.
 use Prim.Native.Nat.{ℕ}
 use denote.Ref.{RefT}
@@ -12,12 +13,14 @@ use lib.ListN.{length}
 use Rattle.exact.specs.Largest.{IsLargest}
 use Rattle.exact.specs.declared.largest.Place.{Place as Largest}
 use Rattle.spread.specs.Book.{Booked}
+use Rattle.spread.specs.Touches.{CountedBook}
 use Rattle.spread.specs.Uses.{Stepped}
 use Rattle.spread.specs.declared.Prompts.{Prompts}
 use Rattle.spread.specs.declared.Spread.{Spread}
 use Rattle.spread.specs.declared.Table.{Table}
 use Rattle.spread.specs.declared.book.Book.{Book}
 use Rattle.spread.specs.declared.stepwise.Step.{Step}
+use Rattle.spread.specs.declared.touches.Counted.{Counted}
 use Rattle.account.specs.Check.{checked}
 use Rattle.account.specs.Claims.{Claims}
 use Rattle.account.specs.Determined.{Determined}
@@ -39,6 +42,7 @@ use Rattle.margin.specs.Places.{EachPlace, questionOf, widthOf}
 use Rattle.margin.specs.Questions.{ifAccepted, asked}
 use Rattle.margin.specs.Reckoned.{Reckoned, Printed}
 use Rattle.margin.specs.Skipped.{NoneSkipped}
+use Rattle.margin.specs.Touched.{TouchesCounted}
 use Rattle.margin.specs.Unpaired.{NothingOpen}
 use Rattle.margin.specs.declared.asking.Question.{Question}
 use Rattle.questions.specs.declared.held.Asked.{Asked}
@@ -66,6 +70,8 @@ pub record OneFile (file : List ℕ) : Type 0 where
   pub demand3 : checked file ≡ Accepted → Demanded (records file)
   pub skipped : checked file ≡ Accepted → NoneSkipped (records file)
   pub unpaired : checked file ≡ Accepted → NothingOpen (records file)
+  -- 2026-11: the number at the end of each delta book is the count of the takes, and within its bound
+  pub touched : checked file ≡ Accepted → TouchesCounted (records file)
   -- as many numbers as a question needs are enough, and fewer are 10
   pub needed : (question : Question)
       → Needed (ifAccepted (checked file) (asked (records file) question)) (recordCount file) (answerTo file question) (needTo file question)
@@ -82,6 +88,7 @@ pub record TwoFiles (morning noon : List ℕ) : Type 0 where
   pub demand3 : clear (joinedVerdict morning noon) ≡ true → Demanded (accountOf morning noon)
   pub skipped : clear (joinedVerdict morning noon) ≡ true → NoneSkipped (accountOf morning noon)
   pub unpaired : clear (joinedVerdict morning noon) ≡ true → NothingOpen (accountOf morning noon)
+  pub touched : clear (joinedVerdict morning noon) ≡ true → TouchesCounted (accountOf morning noon)
   pub needed : (question : Question)
       → Needed ((joinedVerdict morning noon then ofJoined (asked (accountOf morning noon) question)) .answer) (length (accountOf morning noon))
       (λ lent. joinedAnswer morning noon question lent .answer) (joinedNeed morning noon question)
@@ -101,6 +108,7 @@ pub record OneOutcome : Type 0 where
   pub largest : (totals : List ℤ) (r s : Largest) → IsLargest totals (r .value) (r .number) → IsLargest totals (s .value) (s .number) → r ≡ s
   -- the spread steps
   pub booked : (p : Prompts) (t : Table) (r s : Book) → Booked p t r → Booked p t s → r ≡ s
+  pub counted : (p : Prompts) (t : Table) (r s : Counted) → CountedBook p t r → CountedBook p t s → r ≡ s
   pub stepped : (p : Prompts) (s : Spread) (second : Bool) (r q : Step) → Stepped p s second r → Stepped p s second q → r ≡ q
   -- the check, of one file and of two
   pub check : Determined

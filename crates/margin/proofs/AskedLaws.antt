@@ -20,8 +20,8 @@ use Rattle.account.proofs.Days.{none-kept}
 use Rattle.account.proofs.Lists.{any-keep, none-counted}
 use Rattle.account.proofs.Noted.{part-is}
 use Rattle.spread.specs.Steps.{numbers, usedOf, unusedOf}
-use Rattle.margin.specs.Books.{threes, contractBook, tableBook, ofEach, ofQuestion, asks, answered, askedBy, book}
-use Rattle.margin.specs.Contract.{Contract, contractFrom, contracts, partsIn, partsOf, contractNet, asTier, stepsOf, opensOf, tableSteps}
+use Rattle.margin.specs.Books.{threes, contractParts, tableParts, contractBook, tableBook, ofEach, ofQuestion, asks, answered, askedBy, book}
+use Rattle.margin.specs.Contract.{Contract, contractFrom, contracts, partsIn, partsOf, contractNet, asTier, stepsOf, opensOf, contractTouches, tableSteps, tableTouches}
 use Rattle.margin.specs.Deltas.{interprompt, intercontract, netDeltas}
 use Rattle.margin.proofs.LineLaws.{numbers-length, used-length, unused-length, opens-length}
 
@@ -33,8 +33,8 @@ threes-length (n ∷ nets) [] unused e f = absurd (omega arith)
 threes-length (n ∷ nets) (u ∷ used) [] e f = absurd (omega arith)
 threes-length (n ∷ nets) (u ∷ used) (o ∷ unused) e f = let h = threes-length nets used unused (omega arith) (omega arith) in omega arith
 
-pub contract-length : (own : Record) (prompts rows spreads : List Record) → length (contractBook (contractFrom own prompts rows spreads)) ≡ 3 * length prompts + 2 * length spreads
-contract-length own prompts rows spreads =
+parts-length : (own : Record) (prompts rows spreads : List Record) → length (contractParts (contractFrom own prompts rows spreads)) ≡ 3 * length prompts + 2 * length spreads
+parts-length own prompts rows spreads =
     let k = contractFrom own prompts rows spreads in
     let o : length (opensOf k) ≡ length prompts = opens-length prompts (netDeltas prompts rows) (length-map prompts _) in
     let t = threes-length (netDeltas prompts rows) (usedOf (stepsOf k) (opensOf k)) (unusedOf (stepsOf k) (opensOf k))
@@ -43,14 +43,24 @@ contract-length own prompts rows spreads =
     length-append (threes (netDeltas prompts rows) (usedOf (stepsOf k) (opensOf k)) (unusedOf (stepsOf k) (opensOf k))) (map pos (numbers (stepsOf k) (opensOf k)))
     ∙ ap₂ _+_ (t ∙ ap (λ (x : ℕ). 3 * x) (length-map prompts _)) (length-map (numbers (stepsOf k) (opensOf k)) pos ∙ numbers-length interprompt spreads (opensOf k))
 
-pub table-length : (entries : List Record) (ks : List Contract) → length (tableBook entries ks) ≡ 3 * length ks + 2 * length entries
-table-length entries ks =
+table-parts-length : (entries : List Record) (ks : List Contract) → length (tableParts entries ks) ≡ 3 * length ks + 2 * length entries
+table-parts-length entries ks =
     let ss = tableSteps entries in
     let ps = map asTier ks in
     let o : length ps ≡ length ks = length-map ks asTier in
     let t = threes-length (map contractNet ks) (usedOf ss ps) (unusedOf ss ps) (used-length ss ps ∙ o ∙ sym (length-map ks contractNet)) (unused-length ss ps ∙ o ∙ sym (length-map ks contractNet)) in
     length-append (threes (map contractNet ks) (usedOf ss ps) (unusedOf ss ps)) (map pos (numbers ss ps))
     ∙ ap₂ _+_ (t ∙ ap (λ (x : ℕ). 3 * x) (length-map ks contractNet)) (length-map (numbers ss ps) pos ∙ numbers-length intercontract entries ps)
+
+pub contract-length : (own : Record) (prompts rows spreads : List Record)
+    → length (contractBook (contractFrom own prompts rows spreads)) ≡ 3 * length prompts + 2 * length spreads + 1
+contract-length own prompts rows spreads =
+    length-append (contractParts (contractFrom own prompts rows spreads)) (pos (contractTouches (contractFrom own prompts rows spreads)) ∷ [])
+    ∙ ap (λ (n : ℕ). n + 1) (parts-length own prompts rows spreads)
+
+pub table-length : (entries : List Record) (ks : List Contract) → length (tableBook entries ks) ≡ 3 * length ks + 2 * length entries + 1
+table-length entries ks =
+    length-append (tableParts entries ks) (pos (tableTouches entries ks) ∷ []) ∙ ap (λ (n : ℕ). n + 1) (table-parts-length entries ks)
 
 -- ---- the one contract of a number
 

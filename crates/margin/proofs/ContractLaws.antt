@@ -14,6 +14,7 @@ use Rattle.exact.proofs.Lists.{abs-sum}
 use Rattle.exact.proofs.Totals.{first-within as first-holding}
 use Rattle.record.specs.Layout.{Record, contract, shortOptionRate, ratePerSpread}
 use Rattle.spread.specs.Steps.{Open, Taker, steps, numbers, usedOf, unusedOf}
+use Rattle.spread.specs.Touches.{touches}
 use Rattle.spread.specs.declared.Spreads.{Spreads}
 use Rattle.spread.specs.declared.Delta.{Delta}
 use Rattle.spread.specs.declared.book.Book.{Book}
@@ -21,10 +22,10 @@ use Rattle.margin.specs.declared.rows.Position.{Position}
 use Rattle.margin.specs.declared.line.Line.{Line}
 use Rattle.margin.specs.Bounds.{mostDelta, mostRisk, mostLots, mostRate}
 use Rattle.margin.specs.declared.numbers.Numbers.{Numbers}
-use Rattle.margin.specs.Books.{threes, contractBook}
-use Rattle.margin.specs.Numbers.{written, SpreadsSigned, BookNumbers}
+use Rattle.margin.specs.Books.{threes, contractParts}
+use Rattle.margin.specs.Numbers.{written, SpreadsSigned, PartNumbers}
 use Rattle.margin.specs.Charges.{spreadCharge, interpromptCharge, promptCharges}
-use Rattle.margin.specs.Contract.{Contract, contractFrom, interpromptOf, promptOf, contractNet}
+use Rattle.margin.specs.Contract.{Contract, contractFrom, interpromptOf, promptOf, contractNet, contractTouches}
 use Rattle.margin.specs.Credit.{twicePriceRisk}
 use Rattle.margin.specs.Margin.{shortOptionMinimum}
 use Rattle.margin.specs.Scanning.{totals, scanningRisk, activeScenario}
@@ -78,6 +79,9 @@ module _ (own : Record) (prompts rows spreads : List Record) (w : ContractFit ow
 
   pub nets-are : opens prompts nets ≡ opens prompts (netDeltas prompts rows)
   nets-are = opens-first prompts nets ∙ ap (opens prompts) (is .nets-are)
+
+  pub touches-are : touches ss ps ≡ contractTouches k
+  touches-are = ap (touches ss) nets-are
 
   sizes-within : sizes ps ≤ mostDelta
   sizes-within =
@@ -189,7 +193,7 @@ module _ (own : Record) (prompts rows spreads : List Record) (w : ContractFit ow
     -- the numbers of the contract's book
     pub contract-book-listed : (r : Numbers) (n m np nm : ℕ) → n ≡ np → m ≡ nm → length prompts ≡ np → length spreads ≡ nm → r .count ≡ 3 * n + 2 * m
         → written r ≡ threes (take n nets) (take n (deltasIn (b .used))) (take n (deltasIn (b .unused))) ++ map pos (interleaved (take m (b .first)) (take m (b .second)))
-        → BookNumbers (contractBook k) np nm r
+        → PartNumbers (contractParts k) np nm r
     contract-book-listed r n m np nm en em ep es ec el =
         let fp = w .few-prompts in
         let fs = w .few-spreads in

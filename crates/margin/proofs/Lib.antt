@@ -31,3 +31,4 @@ pub mod UsesLaws
 pub mod NeedLaws
 pub mod Skipped
 pub mod Unpaired
+pub mod Touched

@@ -44,7 +44,7 @@ module _ (morning noon : List ℕ) (a : Account) (st : Stands morning noon a) wh
         book-has =
             ap length (table-book account (st .lawful) q e)
             ∙ table-length (entriesOf account) (contracts account)
-            ∙ ap₂ (λ (x y : ℕ). 3 * x + 2 * y) ks (sym of-table);
+            ∙ ap₂ (λ (x y : ℕ). 3 * x + 2 * y + 1) ks (sym of-table);
         uses-have =
             ap length (table-asked account (st .lawful) contractUses tableUses (λ own. refl) q e)
             ∙ spread-uses (map intercontract (entriesOf account)) (map asTier (contracts account))
@@ -66,7 +66,7 @@ module _ (morning noon : List ℕ) (a : Account) (st : Stands morning noon a) wh
         book-has =
             ap length (one-book account (st .lawful) q asked apart)
             ∙ contract-length [] ps rs ss
-            ∙ ap₂ (λ (x y : ℕ). 3 * x + 2 * y) (sym prompts) (sym spreads);
+            ∙ ap₂ (λ (x y : ℕ). 3 * x + 2 * y + 1) (sym prompts) (sym spreads);
         uses-have =
             ap length (contract-asked account (st .lawful) contractUses tableUses (λ own. refl) q asked apart)
             ∙ spread-uses (map interprompt ss) (opensOf (contractFrom [] ps rs ss))

@@ -1,13 +1,13 @@
 -- Numbers written one after the other: what is written and what is still to write are the whole.
 -- Assumes nothing.
-use mathlib.Core.Path.{_≡_, refl, sym, _∙_, ap, subst}
+use mathlib.Core.Path.{_≡_, refl, sym, _∙_, ap, ap₂, subst}
 use mathlib.Core.List.{List, [], _∷_, _++_, map, map-append}
 use Prim.Native.Nat.{ℕ, suc, _+_, _*_, _≤_, _<_, zero-le}
 use native.Mathlib.Nat.{add-suc, suc-add, add-zero, zero-add}
 use native.Mathlib.Numerals.{add-one}
 use native.Mathlib.Omega.{arith}
 use lib.ListN.{length, getD, take, drop, set, length-append, length-map}
-use lib.Seq.{sets, sets-eq, take-at, length-take-le, slice, slice-cons, slice-empty}
+use lib.Seq.{sets, sets-eq, take-at, length-take-le, slice, slice-cons, slice-empty, take-suc-set}
 use lib.IntN.{ℤ, pos}
 use Rattle.spread.specs.declared.Delta.{Delta}
 use Rattle.spread.specs.declared.Spreads.{Spreads}
@@ -15,7 +15,8 @@ use Rattle.margin.specs.declared.amount.Amount.{Amount}
 use Rattle.margin.specs.declared.line.Line.{Line}
 use Rattle.margin.specs.Books.{threes}
 use Rattle.margin.specs.Lines.{marginWith, eightOf, eightsFrom, totalFrom, figuresFrom, noLine}
-use Rattle.margin.specs.Numbers.{amountAt}
+use Rattle.margin.specs.Numbers.{amountAt, written, PartNumbers, BookNumbers}
+use Rattle.margin.specs.declared.numbers.Numbers.{Numbers}
 use Rattle.margin.specs.Sums.{interleaved, deltasIn, spreadsAt, deltaAt}
 use Rattle.margin.proofs.AddedLaws.{delta-at}
 
@@ -192,3 +193,16 @@ book-listed prompts spreads none number number′ threes twos lt ls h e f =
     ∙ ap (λ (n : ℕ). sets (sets none 0 threes) n twos) (sym at)
     ∙ sym (sets-append none 0 threes twos))
     ∙ take-sets (prompts * 3 + spreads * 2) (threes ++ twos) none long (omega arith)
+
+-- one number more at the end
+pub last-listed : (count : ℕ) (number : List ℤ) (z : ℤ) → count < length number → take (count + 1) (set number count z) ≡ take count number ++ (z ∷ [])
+last-listed count number z h = ap (λ (n : ℕ). take n (set number count z)) (add-one count) ∙ take-suc-set number count z h
+
+pub with-last : (parts : List ℤ) (prompts spreads : ℕ) (n r : Numbers) (last touches : ℕ) → PartNumbers parts prompts spreads n
+    → r .count ≡ n .count + 1 → written r ≡ written n ++ (pos last ∷ []) → last ≡ touches → BookNumbers (parts ++ (pos touches ∷ [])) prompts spreads r
+with-last parts prompts spreads n r last touches is count listed same =
+    record {
+      listed-is = listed ∙ ap₂ (λ (zs : List ℤ) (t : ℕ). zs ++ (pos t ∷ [])) (is .listed-is) same;
+      count-is = count ∙ ap (λ (k : ℕ). k + 1) (is .count-is);
+      few = omega (arith, count, is .few);
+    }

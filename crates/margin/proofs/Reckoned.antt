@@ -9,9 +9,11 @@ reckoned =
       p1-formed = refl;
       p1-charge = refl;
       p1-prompts = refl;
+      p1-touches = refl;
       p2 = refl;
       p3-formed = refl;
       p3-left = refl;
+      p3-touches = refl;
       p4-formed = refl;
       p4-charge = refl;
       p5 = refl;
@@ -30,6 +32,7 @@ reckoned =
       fef-keeps = refl;
       unrounded-beyond = refl;
       use-of-nothing = refl;
+      touch-of-nothing = refl;
       use-of-half = refl;
     }
 

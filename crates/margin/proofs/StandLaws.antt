@@ -140,7 +140,7 @@ module _ (account : List Record) (law : Lawful account) where
           let b : recordCount spreads ≡ length (spreadsOf c account) = sym (count-is spreads) ∙ ap length ss-are in
           record {
             listed-is = is .listed-is ∙ ap contractBook parts-by-number;
-            count-is = is .count-is ∙ ap₂ (λ (x y : ℕ). 3 * x + 2 * y) a b;
+            count-is = is .count-is ∙ ap₂ (λ (x y : ℕ). 3 * x + 2 * y + 1) a b;
             few = is .few;
           }
 

@@ -24,6 +24,7 @@ use Rattle.spread.specs.Accepted as given
 use Rattle.spread.specs.Accepted.{every, soundPrompt}
 use Rattle.spread.specs.Book.{Booked}
 use Rattle.spread.specs.Steps.{Open, steps, numbers, usedOf, unusedOf}
+use Rattle.spread.specs.Touches.{touchesOf}
 use Rattle.spread.specs.declared.Delta.{Delta}
 use Rattle.spread.specs.declared.Prompts.{Prompts}
 use Rattle.spread.specs.declared.Table.{Table}
@@ -32,19 +33,19 @@ use Rattle.spread.proofs.Both.{and-left, and-right, and-both}
 use Rattle.margin.specs.declared.line.Line.{Line}
 use Rattle.margin.specs.declared.numbers.Numbers.{Numbers}
 use Rattle.margin.specs.declared.rows.Position.{Position}
-use Rattle.margin.specs.Books.{threes, tableBook}
+use Rattle.margin.specs.Books.{threes, tableParts}
 use Rattle.margin.specs.Bounds.{mostDelta, mostFormed}
-use Rattle.margin.specs.Contract.{Contract, contracts, partsIn, asTier, contractNet}
+use Rattle.margin.specs.Contract.{Contract, contracts, partsIn, asTier, contractNet, tableTouches}
 use Rattle.margin.specs.Deltas.{netDeltas, intercontract}
 use Rattle.margin.specs.Lines.{noLine}
-use Rattle.margin.specs.Numbers.{written, SpreadsSigned, BookNumbers}
+use Rattle.margin.specs.Numbers.{written, SpreadsSigned, PartNumbers}
 use Rattle.margin.specs.Promised.{BookOf}
 use Rattle.margin.specs.Lined.{TierIs, TiersIn, PositionAt}
 use Rattle.margin.specs.Sums.{interleaved, deltasIn}
 use Rattle.margin.specs.Table.{tierOf}
 use Rattle.margin.specs.Tables.{TableOf}
 use Rattle.margin.proofs.AcceptLaws.{contract-within}
-use Rattle.margin.proofs.BookLaws.{first-at, second-at, book-accepted, handed-sound, book-listed}
+use Rattle.margin.proofs.BookLaws.{first-at, second-at, book-accepted, touches-accepted, handed-sound, book-listed}
 use Rattle.margin.proofs.ContractLaws.{net-is, net-sizes}
 use Rattle.margin.proofs.LineLaws.{spreads-sound, numbers-length, used-length, unused-length}
 use Rattle.margin.proofs.RecordLaws.{count-is}
@@ -166,6 +167,12 @@ module _ (account : List Record) (law : Lawful account) (p : Prompts) (is : Tier
       (omega (arith, is .few)) (omega (arith, table .count-is, entries-few)) (is .tiers-sound)
       (spreads-sound intercontract (records part) (λ k h. entry-accepted (getD (records part) k []) ((entries-fit account law part ep) .each k h)))
 
+  pub tiers-touches : (t : Table) → TableOf intercontract part t → touchesOf p t ≡ tableTouches (entriesOf account) (contracts account)
+  tiers-touches t table =
+      touches-accepted (steps (map intercontract (records part))) (map asTier (contracts account)) p t (is .opens-are) (ap steps (table .spreads-are))
+      (tiers-accepted t table)
+      ∙ ap (λ (x : List Record). tableTouches x (contracts account)) (entries-part account law part ep)
+
   module _ (t : Table) (table : TableOf intercontract part t) (b : Book) (booked : Booked p t b) where
     book-is : BookOf (steps (map intercontract (records part))) (map asTier (contracts account)) b
     book-is =
@@ -194,7 +201,7 @@ module _ (account : List Record) (law : Lawful account) (p : Prompts) (is : Tier
     -- the numbers of the table's book
     pub tiers-listed : (r : Numbers) (m : ℕ) → m ≡ recordCount part → r .count ≡ 3 * p .count + 2 * m
         → written r ≡ threes (take (p .count) (deltasIn (p .net))) (take (p .count) (deltasIn (b .used))) (take (p .count) (deltasIn (b .unused))) ++ map pos (interleaved (take m (b .first)) (take m (b .second)))
-        → BookNumbers (tableBook (entriesOf account) (contracts account)) (length (contractsOf account)) (length (entriesOf account)) r
+        → PartNumbers (tableParts (entriesOf account) (contracts account)) (length (contractsOf account)) (length (entriesOf account)) r
     tiers-listed r m em ec el =
         let ss = steps (map intercontract (records part)) in
         let ps = map asTier (contracts account) in
@@ -208,7 +215,7 @@ module _ (account : List Record) (law : Lawful account) (p : Prompts) (is : Tier
               book-listed ss ps b (take (p .count) (deltasIn (p .net))) (p .count) m (written r) book-is ps-length (omega arith) (numbers-length intercontract (records part) ps ∙ ap (λ (x : ℕ). 2 * x) (g ∙ sym em)) (omega arith)
               (used-length ss ps ∙ ps-length) (unused-length ss ps ∙ ps-length) el
               ∙ ap (λ (zs : List ℤ). threes zs (usedOf ss ps) (unusedOf ss ps) ++ map pos (numbers ss ps)) (is .nets-are)
-              ∙ ap (λ (x : List Record). tableBook x (contracts account)) (entries-part account law part ep);
+              ∙ ap (λ (x : List Record). tableParts x (contracts account)) (entries-part account law part ep);
           count-is = omega arith;
           few = omega arith;
         }

@@ -1,6 +1,7 @@
 -- "Delta book of question 0..15 (that contract): three numbers per prompt (net, used, unused), then two per spread
 -- (number in its first step, in its second). Question 16 is the intercontract table: three numbers per contract, then
--- two per entry."
+-- two per entry." Request 2026-11: "Report with each delta book how many times some step moved some prompt's unused delta towards
+-- zero. .. The book gains this number at its end."
 -- Assumes nothing.
 use Prim.Native.Nat.{ℕ, _+_}
 use mathlib.Core.Bool.{Bool, cond, not, _&&_, _||_}
@@ -14,7 +15,7 @@ use Rattle.account.specs.Check.{mostContracts}
 use Rattle.account.specs.Notes.{part}
 use Rattle.account.specs.Parts.{contractsOf, entriesOf}
 use Rattle.spread.specs.Steps.{numbers, usedOf, unusedOf}
-use Rattle.margin.specs.Contract.{Contract, contracts, partsIn, contractNet, asTier, numbersOf, usedDeltas, unusedDeltas, tableSteps}
+use Rattle.margin.specs.Contract.{Contract, contracts, partsIn, contractNet, asTier, numbersOf, usedDeltas, unusedDeltas, contractTouches, tableSteps, tableTouches}
 
 -- net, used and unused of each
 abbrev pub threes : List ℤ → List ℤ → List ℤ → List ℤ
@@ -23,13 +24,20 @@ threes (n ∷ nets) [] unused = []
 threes (n ∷ nets) (u ∷ used) [] = []
 threes (n ∷ nets) (u ∷ used) (o ∷ unused) = n ∷ u ∷ o ∷ threes nets used unused
 
-abbrev pub contractBook : Contract → List ℤ
-contractBook k = threes (k .nets) (usedDeltas k) (unusedDeltas k) ++ map pos (numbersOf k)
+abbrev pub contractParts : Contract → List ℤ
+contractParts k = threes (k .nets) (usedDeltas k) (unusedDeltas k) ++ map pos (numbersOf k)
 
-abbrev pub tableBook : List Record → List Contract → List ℤ
-tableBook entries ks =
+abbrev pub tableParts : List Record → List Contract → List ℤ
+tableParts entries ks =
     threes (map contractNet ks) (usedOf (tableSteps entries) (map asTier ks)) (unusedOf (tableSteps entries) (map asTier ks))
     ++ map pos (numbers (tableSteps entries) (map asTier ks))
+
+-- and at the end how often a prompt was touched, or a contract
+abbrev pub contractBook : Contract → List ℤ
+contractBook k = contractParts k ++ (pos (contractTouches k) ∷ [])
+
+abbrev pub tableBook : List Record → List Contract → List ℤ
+tableBook entries ks = tableParts entries ks ++ (pos (tableTouches entries ks) ∷ [])
 
 -- the table of intercontract spreads is question 16
 abbrev pub tableQuestion : ℕ

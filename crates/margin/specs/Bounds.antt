@@ -25,9 +25,9 @@ mostLots = 12800000
 abbrev pub longestFigures : ℕ
 longestFigures = 129
 
--- the numbers of a book: three for each of 32 prompts, two for each of 32 spreads
+-- the numbers of a book: three for each of 32 prompts, two for each of 32 spreads, and how often a prompt was touched
 abbrev pub longestBook : ℕ
-longestBook = 160
+longestBook = 161
 
 -- the numbers that say who paid in it: one for each of 32 prompts in each of 32 spreads' two steps
 abbrev pub longestUses : ℕ

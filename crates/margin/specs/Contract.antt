@@ -7,6 +7,7 @@ use Rattle.exact.specs.Lists.{sumℤ}
 use Rattle.record.specs.Layout.{Record, contract, shortOptionRate}
 use Rattle.account.specs.Parts.{contractsOf, promptsOf, rowsOf, spreadsOf}
 use Rattle.spread.specs.Steps.{Open, Taker, steps, numbers, usedOf, unusedOf}
+use Rattle.spread.specs.Touches.{touches}
 use Rattle.margin.specs.Scanning.{totals, scanningRisk, activeScenario}
 use Rattle.margin.specs.Deltas.{netDeltas, opens, interprompt, intercontract}
 use Rattle.margin.specs.Charges.{interpromptCharge, promptCharges}
@@ -61,6 +62,10 @@ usedDeltas k = usedOf (stepsOf k) (opensOf k)
 abbrev pub unusedDeltas : Contract → List ℤ
 unusedDeltas k = unusedOf (stepsOf k) (opensOf k)
 
+-- how often its prompts are touched
+abbrev pub contractTouches : Contract → ℕ
+contractTouches k = touches (stepsOf k) (opensOf k)
+
 -- ".. whose net delta is the sum over its prompts before interprompt use"
 abbrev pub contractNet : Contract → ℤ
 contractNet k = sumℤ (k .nets)
@@ -71,6 +76,9 @@ asTier k = record { tier = contract (k .own); unused = contractNet k }
 -- the intercontract steps, over the contracts
 abbrev pub tableSteps : List Record → List (List Taker)
 tableSteps entries = steps (map intercontract entries)
+
+abbrev pub tableTouches : List Record → List Contract → ℕ
+tableTouches entries ks = touches (tableSteps entries) (map asTier ks)
 
 -- "active scenario, scanning risk, interprompt charge, prompt charge, credit, short option minimum, margin"
 abbrev pub activeOf : Contract → ℕ

@@ -25,3 +25,4 @@ pub mod Lined
 pub mod Uses
 pub mod Skipped
 pub mod Unpaired
+pub mod Touched

@@ -33,8 +33,14 @@ pub record SpreadsSigned (count : ℕ) (firsts seconds : List Spreads) : Type 0 
   pub first-within : (k : ℕ) → k < count → spreadsAt firsts k < 2 ^ 63
   pub second-within : (k : ℕ) → k < count → spreadsAt seconds k < 2 ^ 63
 
--- the numbers of a book with so many prompts and spreads
+-- the numbers of a book with so many prompts and spreads, without the last
+pub record PartNumbers (parts : List ℤ) (prompts spreads : ℕ) (n : Numbers) : Type 0 where
+  pub listed-is : written n ≡ parts
+  pub count-is : n .count ≡ 3 * prompts + 2 * spreads
+  pub few : n .count < longestBook
+
+-- and with it
 pub record BookNumbers (book : List ℤ) (prompts spreads : ℕ) (n : Numbers) : Type 0 where
   pub listed-is : written n ≡ book
-  pub count-is : n .count ≡ 3 * prompts + 2 * spreads
+  pub count-is : n .count ≡ 3 * prompts + 2 * spreads + 1
   pub few : n .count ≤ longestBook

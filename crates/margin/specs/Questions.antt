@@ -70,7 +70,7 @@ mostFor (Uses question) = longestUses
 
 -- how many prompts and spreads a book is about
 pub record SizesOf (account : List Record) (question prompts spreads : ℕ) : Type 0 where
-  pub book-has : length (book account question) ≡ 3 * prompts + 2 * spreads
+  pub book-has : length (book account question) ≡ 3 * prompts + 2 * spreads + 1
   pub uses-have : length (uses account question) ≡ spreads * (2 * prompts)
   pub prompts-few : prompts ≤ mostPrompts
   pub spreads-few : spreads ≤ mostSpreads

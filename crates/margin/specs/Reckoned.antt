@@ -1,4 +1,4 @@
--- "Reckoned examples" of document 01, P1 to P10, and that of request 2026-03 with its corners, one claim. Deltas and numbers of
+-- "Reckoned examples" of document 01, P1 to P10, and those of requests 2026-03 and 2026-11 with their corners, one claim. Deltas and numbers of
 -- spreads stand in ten-thousandths, amounts in hundredths.
 -- Assumes nothing.
 use Prim.Native.Nat.{ℕ, _*_}
@@ -16,7 +16,8 @@ use Rattle.margin.specs.Charges.{spreadCharge}
 use Rattle.margin.specs.Pairs.{pairOf}
 use Rattle.margin.specs.Credit.{unitPriceRisk, credit}
 use Rattle.spread.specs.Steps.{Open, Taker, numbers, unusedOf}
-use Rattle.margin.specs.Contract.{Contract, contractFrom, numbersOf, unusedDeltas, interpromptOf, promptOf, marginOf, asTier, tableSteps}
+use Rattle.spread.specs.Touches.{touches}
+use Rattle.margin.specs.Contract.{Contract, contractFrom, numbersOf, unusedDeltas, contractTouches, interpromptOf, promptOf, marginOf, asTier, tableSteps}
 use Rattle.margin.specs.Figures.{figures}
 
 -- whole lots, long and short
@@ -160,11 +161,15 @@ pub record Reckoned : Type 0 where
   pub p1-formed : numbersOf caseThree ≡ 0 ∷ 0 ∷ 50000 ∷ 0 ∷ 200000 ∷ 0 ∷ 0 ∷ 150000 ∷ 0 ∷ 0 ∷ 0 ∷ 150000 ∷ []
   pub p1-charge : interpromptOf caseThree ≡ 1700000
   pub p1-prompts : promptOf caseThree ≡ 22500
+  -- 2026-11: 2-2 takes of two prompts, 3-3 of three, 1-2 and 1-3 of two each
+  pub p1-touches : contractTouches caseThree ≡ 9
   -- "form 6, 4, 0"
   pub p2 : numbersOf threeTiers ≡ 60000 ∷ 0 ∷ 40000 ∷ 0 ∷ 0 ∷ 0 ∷ []
   -- "first step 1.5000, second 0.0001; left 0 long, 3.4998 short"
   pub p3-formed : numbersOf oneTier ≡ 15000 ∷ 1 ∷ []
   pub p3-left : unusedDeltas oneTier ≡ pos 0 ∷ negℤ (pos 34998) ∷ []
+  -- both steps take of both prompts
+  pub p3-touches : contractTouches oneTier ≡ 4
   -- "formed 10, 0; charge 50.00"
   pub p4-formed : numbersOf byPriority ≡ 100000 ∷ 0 ∷ 0 ∷ 0 ∷ []
   pub p4-charge : interpromptOf byPriority ≡ 5000
@@ -195,6 +200,8 @@ pub record Reckoned : Type 0 where
   pub unrounded-beyond : numbers (inTenths 14 10) (against (pos 1) (lotsShort 1)) ≡ 0 ∷ 0 ∷ []
   -- 0.0004 at 0.1 use 0.00004 of a pool, which rounds to nothing; 0.0005 use half a ten-thousandth, which goes up
   pub use-of-nothing : unusedOf (inTenths 1 10) (against (lotsLong 1) (negℤ (pos 4))) ≡ lotsLong 1 ∷ pos 0 ∷ []
+  -- and a leg that takes nothing touches nothing
+  pub touch-of-nothing : touches (inTenths 1 10) (against (lotsLong 1) (negℤ (pos 4))) ≡ 1
   pub use-of-half : unusedOf (inTenths 1 10) (against (lotsLong 1) (negℤ (pos 5))) ≡ pos 9999 ∷ pos 0 ∷ []
 
 -- "it prints C 3 13 383250 0 400 0 1500 383650, T 383650"

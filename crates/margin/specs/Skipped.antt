@@ -63,7 +63,7 @@ pub record NothingOver (k : Contract) : Type 0 where
   pub used : length (usedDeltas k) ≡ length (k .prompts)
   pub unused : length (unusedDeltas k) ≡ length (k .prompts)
   pub formed : length (numbersOf k) ≡ 2 * length (k .spreads)
-  pub book : length (contractBook k) ≡ 3 * length (k .prompts) + 2 * length (k .spreads)
+  pub book : length (contractBook k) ≡ 3 * length (k .prompts) + 2 * length (k .spreads) + 1
   -- each spread is charged for its two numbers, each prompt for its two deltas
   pub interprompt : interpromptOf k ≡ overPlaces (length (k .spreads)) (spreadAt k)
   pub prompt : promptOf k ≡ overPlaces (length (k .prompts)) (promptAt k)
@@ -72,7 +72,7 @@ pub record TableOver (entries : List Record) (ks : List Contract) : Type 0 where
   pub used : length (usedOf (tableSteps entries) (map asTier ks)) ≡ length ks
   pub unused : length (unusedOf (tableSteps entries) (map asTier ks)) ≡ length ks
   pub formed : length (numbers (tableSteps entries) (map asTier ks)) ≡ 2 * length entries
-  pub book : length (tableBook entries ks) ≡ 3 * length ks + 2 * length entries
+  pub book : length (tableBook entries ks) ≡ 3 * length ks + 2 * length entries + 1
 
 pub record NoneSkipped (account : List Record) : Type 0 where
   -- each record is in exactly one part of exactly one contract, or among the intercontract spreads

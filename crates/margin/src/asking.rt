@@ -163,7 +163,7 @@ fn book_need<'a>(morning: &'a [u8], noon: &'a [u8], account: Account, question: 
         return 0;
     }
     let sizes = sizes_over(morning, noon, account, question);
-    3 * sizes.prompts + 2 * sizes.spreads
+    3 * sizes.prompts + 2 * sizes.spreads + 1
 }
 
 fn uses_need<'a>(morning: &'a [u8], noon: &'a [u8], account: Account, question: usize) -> usize

@@ -22,8 +22,8 @@ ghost use Rattle.margin.specs.Numbers.{written, LinesWithin, SpreadsSign
 ghost use Rattle.margin.specs.Books.{threes};
 ghost use Rattle.margin.specs.Sums.{interleaved, deltasIn};
 
-// The most numbers that a book has: three for each prompt and two for each spread.
-pub const LONGEST_BOOK: usize = 3 * MOST_PROMPTS + 2 * MOST_SPREADS;
+// The most numbers that a book has: three for each prompt, two for each spread, and how often a prompt was touched.
+pub const LONGEST_BOOK: usize = 3 * MOST_PROMPTS + 2 * MOST_SPREADS + 1;
 
 // The most that say who paid in it: one for each prompt in each spread's two steps.
 pub const LONGEST_USES: usize = 2 * MOST_SPREADS * MOST_PROMPTS;
@@ -156,7 +156,7 @@ fn put_spreads(
     }
 }
 
-// A delta book: three numbers for each prompt, then two for each spread.
+// A delta book but for its last number: three numbers for each prompt, then two for each spread.
 pub(crate) fn book_numbers(
     prompts: usize,
     nets: [Delta; MOST_PROMPTS],
@@ -174,6 +174,20 @@ pub(crate) fn book_numbers(
     put_spreads(&mut number, prompts * 3, spreads, first, second);
     Numbers {
         count: prompts * 3 + spreads * 2,
+        number: number,
+    }
+}
+
+// One number more, at the end.
+pub(crate) fn with_last(numbers: Numbers, last: u64) -> Numbers
+    requires { ⌜ (numbers .count < longestBook) × (last < 2 ^ 63) ⌝ }
+    ensures { λ r. ⌜ (r .count ≡ numbers .count + 1) × (written r ≡ written numbers ++ (pos last ∷ [])) ⌝ }
+{
+    let count = numbers.count;
+    let mut number = numbers.number;
+    put(&mut number, count, last);
+    Numbers {
+        count: count + 1,
         number: number,
     }
 }

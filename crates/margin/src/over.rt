@@ -1,7 +1,7 @@
 // What an account's answers are made of: the lines of its contracts, the numbers of its figures and books, and what is asked
 // about by a question.
 use crate::amount::Amount;
-use crate::books::contract_book;
+use crate::books::counted_contract;
 use crate::intercontract::table_credits;
 use crate::line::Line;
 use crate::line::contract_net;
@@ -9,6 +9,7 @@ use crate::line::line_of;
 use crate::numbers::Numbers;
 use crate::numbers::book_numbers;
 use crate::numbers::figures_numbers;
+use crate::numbers::with_last;
 use crate::rows::Position;
 use crate::rows::position_of;
 use crate::tables::intercontract_table;
@@ -31,7 +32,7 @@ use exact::signed::magnitude;
 use spread::Delta;
 use spread::MOST_PROMPTS;
 use spread::Prompts;
-use spread::book::delta_book;
+use spread::touches::counted_book;
 ghost use mathlib.Core.Path.{_≡_};
 ghost use mathlib.Core.Bool.{true};
 ghost use mathlib.Core.List.{[]};
@@ -147,12 +148,13 @@ fn contract_answer(prompts: &[u8], spreads: &[u8], p: Position) -> Numbers
     ensures { λ r. ⌜ BookNumbers (contractBook (contractWith [] (records (now (prompts .entry))) (records (now (spreads .entry))) p)) (recordCount (now (prompts .entry))) (recordCount (now (spreads .entry))) r ⌝ }
 {
     let nets = p.nets;
-    let book = contract_book(prompts, nets, spreads);
+    let counted = counted_contract(prompts, nets, spreads);
+    let book = counted.book;
     let used = book.used;
     let unused = book.unused;
     let first = book.first;
     let second = book.second;
-    book_numbers(
+    let numbers = book_numbers(
         record_count(prompts),
         nets,
         used,
@@ -160,7 +162,8 @@ fn contract_answer(prompts: &[u8], spreads: &[u8], p: Position) -> Numbers
         record_count(spreads),
         first,
         second,
-    )
+    );
+    with_last(numbers, counted.touches)
 }
 
 // The numbers of the book of contract `c`.
@@ -226,12 +229,13 @@ fn table_numbers<'a>(morning: &'a [u8], noon: &'a [u8], account: Account) -> Num
     let count = tiers.count;
     let nets = tiers.net;
     let entries = part(morning, noon, account, ENTRIES);
-    let book = delta_book(tiers, intercontract_table(entries));
+    let counted = counted_book(tiers, intercontract_table(entries));
+    let book = counted.book;
     let used = book.used;
     let unused = book.unused;
     let first = book.first;
     let second = book.second;
-    book_numbers(
+    let numbers = book_numbers(
         count,
         nets,
         used,
@@ -239,7 +243,8 @@ fn table_numbers<'a>(morning: &'a [u8], noon: &'a [u8], account: Account) -> Num
         record_count(entries),
         first,
         second,
-    )
+    );
+    with_last(numbers, counted.touches)
 }
 
 // The numbers of the delta book that a question asks for.

@@ -18,6 +18,7 @@ use Rattle.account.specs.declared.answers.Answer.{Answer}
 use Rattle.account.specs.declared.answers.Answer.the-variants.{Accepted}
 use Rattle.spread.specs.Demand.{Demand3, FirstWords}
 use Rattle.spread.specs.Steps.{Open, Taker, numbers, usedOf, unusedOf}
+use Rattle.spread.specs.Touches.{touches}
 use Rattle.spread.specs.Uses.{usesOf, WhoPaid}
 use Rattle.margin.specs.declared.asking.Question.{Question}
 use Rattle.margin.specs.Books.{threes, answered, book, tableQuestion}
@@ -88,9 +89,10 @@ pub record Demand2 : Type 0 where
 
 -- ---- 3. "For each accepted account and each spread table"
 
--- a book holds what the steps form, use and leave, its uses what each takes, and demand 3 holds of these
+-- a book holds what the steps form, use and leave, and how often they touch a prompt; its uses what each takes; and demand 3 holds of
+-- these
 pub record Holds (written taken nets : List ℤ) (ss : List (List Taker)) (ps : List Open) : Type 0 where
-  pub writes : written ≡ threes nets (usedOf ss ps) (unusedOf ss ps) ++ map pos (numbers ss ps)
+  pub writes : written ≡ (threes nets (usedOf ss ps) (unusedOf ss ps) ++ map pos (numbers ss ps)) ++ (pos (touches ss ps) ∷ [])
   pub takes : taken ≡ usesOf ss ps
   pub demand : Demand3 ss ps
   pub paid : WhoPaid ss ps

@@ -56,13 +56,13 @@ Stepwise (s ∷ ss) (x ∷ xs) ps = Within s x ps × Stepwise ss xs (after s x p
 ratio-above : (k : Taker) (ks : List Taker) → soundLegs (k ∷ ks) ≡ true → 0 < k .ratio
 ratio-above k ks e = ltb-true 0 (k .ratio) (and-left (ltb 0 (k .ratio)) (not (any (draws (k .market) (k .tier)) ks) && soundLegs ks) e)
 
-alone : (k : Taker) (ks : List Taker) → soundLegs (k ∷ ks) ≡ true → any (draws (k .market) (k .tier)) ks ≡ false
+pub alone : (k : Taker) (ks : List Taker) → soundLegs (k ∷ ks) ≡ true → any (draws (k .market) (k .tier)) ks ≡ false
 alone k ks e =
     not-true (any (draws (k .market) (k .tier)) ks)
     (and-left (not (any (draws (k .market) (k .tier)) ks)) (soundLegs ks)
     (and-right (ltb 0 (k .ratio)) (not (any (draws (k .market) (k .tier)) ks) && soundLegs ks) e))
 
-others : (k : Taker) (ks : List Taker) → soundLegs (k ∷ ks) ≡ true → soundLegs ks ≡ true
+pub others : (k : Taker) (ks : List Taker) → soundLegs (k ∷ ks) ≡ true → soundLegs ks ≡ true
 others k ks e =
     and-right (not (any (draws (k .market) (k .tier)) ks)) (soundLegs ks)
     (and-right (ltb 0 (k .ratio)) (not (any (draws (k .market) (k .tier)) ks) && soundLegs ks) e)
@@ -94,7 +94,7 @@ formed-most x (k ∷ l ∷ ks) ps e w =
     both : (x a b : ℕ) → x ≤ a → x ≤ b → x ≤ min a b
     both x a b h g = omega arith
 
-sound-legs : (ks : List Taker) → soundStep ks ≡ true → soundLegs ks ≡ true
+pub sound-legs : (ks : List Taker) → soundStep ks ≡ true → soundLegs ks ≡ true
 sound-legs [] e = refl
 sound-legs (k ∷ ks) e = e
 
@@ -124,7 +124,7 @@ ours-larger (s ∷ ss) ps (y ∷ ys) (suc k) e w d =
 -- What one step uses of a pool: before rounding within ten times the pool, rounded within the pool.
 
 module _ (m : Market) (t x : ℕ) where
-  none-drawn : (ks : List Taker) → any (draws m t) ks ≡ false → (stepUse m t ks x ≡ 0) × (stepUnrounded m t ks x ≡ 0)
+  pub none-drawn : (ks : List Taker) → any (draws m t) ks ≡ false → (stepUse m t ks x ≡ 0) × (stepUnrounded m t ks x ≡ 0)
   none-drawn [] e = (refl, refl)
   none-drawn (k ∷ ks) e = go (draws m t k) (none-drawn ks) e
     where

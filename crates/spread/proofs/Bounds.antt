@@ -42,11 +42,11 @@ small-after (k ∷ ks) number cells h = small-after ks number (lessIn number k c
 pub small-taken : (ks : List Taker) (cells left : List ℕ) (number : ℕ) → Taken ks cells left number → Small cells → Small left
 small-taken ks cells left number taken h = subst⁻¹ Small (taken .leaves) (small-after ks (formedIn ks cells) cells h)
 
-room-most : (tenths : Bool) (p ratio : ℕ) → p ≤ mostPool → room tenths p ratio ≤ mostNumber
+pub room-most : (tenths : Bool) (p ratio : ℕ) → p ≤ mostPool → room tenths p ratio ≤ mostNumber
 room-most false p ratio h = let d = div-le-self p ratio in omega arith
 room-most true p ratio h = let d = div-le-self (10 * p) ratio in omega arith
 
-least-first : (x : ℕ) (xs : List ℕ) → least (x ∷ xs) ≤ x
+pub least-first : (x : ℕ) (xs : List ℕ) → least (x ∷ xs) ≤ x
 least-first x [] = omega arith
 least-first x (y ∷ ys) = omega arith
 

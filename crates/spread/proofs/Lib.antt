@@ -15,3 +15,7 @@ pub mod Soundness
 pub mod Spending
 pub mod Stepping
 pub mod Again
+pub mod Touching
+pub mod Passing
+pub mod Laying
+pub mod Counting

@@ -48,10 +48,17 @@ out-of-range m t h = rw (le-ltb t 16 h)
 pub cell-small : (m : Market) (t : ℕ) → t < 16 → cellOf m t < 32
 cell-small m t h = let p = parity-small m in let e = in-range m t h in omega arith
 
+pub cell-most : (m : Market) (t : ℕ) → cellOf m t ≤ 32
+cell-most m t = go (ltb t 16) refl
+  where
+    go : (b : Bool) → ltb t 16 ≡ b → cellOf m t ≤ 32
+    go true e = let s = cell-small m t (ltb-true t 16 e) in omega arith
+    go false e = let o = out-of-range m t (ltb-false t 16 e) in omega arith
+
 pub no-cell : (cells : List ℕ) (m : Market) (t : ℕ) → length cells ≡ 32 → 16 ≤ t → cellAt cells m t ≡ 0
 no-cell cells m t l h = ap (λ (k : ℕ). getD cells k 0) (out-of-range m t h) ∙ List·getD-eq-default cells 0 (omega arith)
 
-same-cells : (m n : Market) (t u : ℕ) → u < 16 → eqb (cellOf m t) (cellOf n u) ≡ sameMarket n m && eqb t u
+pub same-cells : (m n : Market) (t u : ℕ) → u < 16 → eqb (cellOf m t) (cellOf n u) ≡ sameMarket n m && eqb t u
 same-cells m n t u h = go (ltb t 16) refl
   where
     go : (b : Bool) → ltb t 16 ≡ b → eqb (cellOf m t) (cellOf n u) ≡ sameMarket n m && eqb t u

@@ -52,7 +52,7 @@ module _ (f g : Market → ℕ) where
 -- what a tier and side has after a spend
 
 module _ (w : Market → ℕ → ℕ) where
-  tier-less : (m : Market) (t : ℕ) (p : Open) → inTier m t (less p (w (marketOf (p .unused)) (p .tier))) ≡ inTier m t p - w m t
+  pub tier-less : (m : Market) (t : ℕ) (p : Open) → inTier m t (less p (w (marketOf (p .unused)) (p .tier))) ≡ inTier m t p - w m t
   tier-less m t p = go (eqb (p .tier) t) refl
     where
       go : (b : Bool) → eqb (p .tier) t ≡ b → cond b (onSide m (towardsZero (p .unused) (w (marketOf (p .unused)) (p .tier)))) 0 ≡ cond b (onSide m (p .unused)) 0 - w m t
@@ -113,7 +113,7 @@ as-far w n = omega arith
 nothing : (w n : ℕ) → n - min w 0 ≡ n - 0
 nothing w n = omega arith
 
-wants : (w : ℕ) (m : Market) (z : ℤ) (b : Bool) → towardsZero z (min w (cond b (onSide m z) 0)) ≡ towardsZero z (cond (sameMarket m (marketOf z) && b) w 0)
+pub wants : (w : ℕ) (m : Market) (z : ℤ) (b : Bool) → towardsZero z (min w (cond b (onSide m z) 0)) ≡ towardsZero z (cond (sameMarket m (marketOf z) && b) w 0)
 wants w long (pos n) true = ap pos (as-far w n)
 wants w long (pos n) false = ap pos (nothing w n)
 wants w long (negsuc n) true = ap (λ k. negℤ (pos k)) (nothing w (suc n))

@@ -52,7 +52,7 @@ pub(crate) struct Paid {
 }
 
 // The pool of a prompt: its tier's, on the side of its net delta.
-fn pool_of(tier: u8, net: Delta) -> usize
+pub(crate) fn pool_of(tier: u8, net: Delta) -> usize
     ensures { λ r. ⌜ r ≡ cellOf (marketOf (net .0)) tier ⌝ }
 {
     cell_of(tier, net.is_short())

@@ -6,6 +6,7 @@ pub mod book;
 pub mod deltas;
 pub mod pools;
 pub mod stepwise;
+pub mod touches;
 
 // The most that a table and its prompts hold.
 pub const MOST_PROMPTS: usize = 32;

@@ -43,7 +43,7 @@ pub(crate) fn cell_of(tier: u8, short: bool) -> usize
 }
 
 // The pool that a leg takes from, in its spread's first step or in the second.
-fn cell_for(leg: Leg, second: bool) -> usize
+pub(crate) fn cell_for(leg: Leg, second: bool) -> usize
     ensures { λ r. ⌜ r ≡ cellOf (marketIn second (leg .side)) (leg .tier) ⌝ }
 {
     let a = leg.side == 1;
@@ -66,7 +66,7 @@ fn room(pool: u64, ratio: u64, tenths: bool) -> u64
 }
 
 // "number × ratio"; of tenths "number × ratio / 10, rounded to a ten-thousandth, halves up".
-fn use_of(number: u64, ratio: u16, tenths: bool) -> u64
+pub(crate) fn use_of(number: u64, ratio: u16, tenths: bool) -> u64
     requires { ⌜ number ≤ mostNumber ⌝ }
     ensures { λ r. ⌜ r ≡ useOf tenths number ratio ⌝ }
 {
@@ -85,7 +85,7 @@ pub(crate) fn beyond(a: u64, b: u64) -> u64
     if b < a { a - b } else { 0 }
 }
 
-fn lesser(a: u64, b: u64) -> u64
+pub(crate) fn lesser(a: u64, b: u64) -> u64
     ensures { λ r. ⌜ r ≡ min a b ⌝ }
 {
     if a < b { a } else { b }

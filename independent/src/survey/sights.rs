@@ -68,6 +68,12 @@ pub fn steps(account: &Account) -> Vec<Sight> {
         ("an intercontract spread formed", table.steps.iter().flatten().any(forms)),
         ("an intercontract second step formed", table.steps.iter().any(|of| forms(&of[1]))),
         ("a contract flat over prompts that are not", flat),
+        (
+            "more takes than prompts and spreads",
+            books.iter().any(|book| book.takes() > book.lines.len() + book.steps.len()),
+        ),
+        ("a table without a take", !account.entries.is_empty() && table.takes() == 0),
+        ("a table with a take", table.takes() > 0),
     ]
 }
 

@@ -23,16 +23,17 @@ fn refusal_10_names_the_record_count_and_writes_nothing() {
     let mut lent = [UNTOUCHED; 8];
     assert_eq!(figures(&printed(), &mut lent), Err(Refusal { number: 10, record: 4 }));
     assert_eq!(lent, [UNTOUCHED; 8]);
-    assert_eq!(book(&printed(), 3, &mut lent[..2]), Err(Refusal { number: 10, record: 4 }));
+    assert_eq!(book(&printed(), 3, &mut lent[..3]), Err(Refusal { number: 10, record: 4 }));
     assert_eq!(lent, [UNTOUCHED; 8]);
-    assert_eq!(book(&printed(), 3, &mut lent[..3]), Ok(3));
-    assert_eq!(lent, [4_000, 0, 4_000, UNTOUCHED, UNTOUCHED, UNTOUCHED, UNTOUCHED, UNTOUCHED]);
+    assert_eq!(book(&printed(), 3, &mut lent[..4]), Ok(4));
+    assert_eq!(lent, [4_000, 0, 4_000, 0, UNTOUCHED, UNTOUCHED, UNTOUCHED, UNTOUCHED]);
 }
 
 #[test]
-fn an_empty_file_needs_one_number_for_its_figures() {
+fn an_empty_file_needs_one_number_for_its_figures_and_one_for_its_book() {
     assert_eq!(figures(&[], &mut []), Err(Refusal { number: 10, record: 0 }));
-    assert_eq!(book(&[], 16, &mut []), Ok(0));
+    assert_eq!(book(&[], 16, &mut []), Err(Refusal { number: 10, record: 0 }));
+    assert_eq!(book(&[], 16, &mut [UNTOUCHED]), Ok(1));
     assert_eq!(book(&[], 0, &mut []), Err(Refusal { number: 11, record: 0 }));
 }
 

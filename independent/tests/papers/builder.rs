@@ -138,12 +138,22 @@ pub fn figures_of(file: &[u8]) -> Vec<i64> {
     lent
 }
 
-/// The numbers of a delta book.
+/// The numbers of a delta book, without the number of takes at its end.
 pub fn book_of(file: &[u8], question: u64) -> Vec<i64> {
-    let mut lent = vec![0; 160];
+    book_and_takes(file, question).0
+}
+
+/// The number of takes at the end of a delta book.
+pub fn takes_of(file: &[u8], question: u64) -> i64 {
+    book_and_takes(file, question).1
+}
+
+fn book_and_takes(file: &[u8], question: u64) -> (Vec<i64>, i64) {
+    let mut lent = vec![0; 161];
     let written = book(file, question, &mut lent).expect("an accepted account");
     lent.truncate(written);
-    lent
+    let takes = lent.pop().expect("the number of takes is written");
+    (lent, takes)
 }
 
 /// The refusal of a file and the record it names, or nothing for an accepted account.

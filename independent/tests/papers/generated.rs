@@ -123,11 +123,15 @@ fn books_add_up() {
                 contract.spreads.iter().map(|spread| spread.legs.clone()).collect();
             let book = interprompt(contract);
             adds_up(&book, &tiers, &spreads);
+            let legs: usize = spreads.iter().map(Vec::len).sum();
+            assert!(book.takes() <= tiers.len() + 2 * legs);
             formed += book.steps.iter().flatten().filter(|step| step.number.0 > 0).count();
         }
         let numbers: Vec<i64> = account.contracts.iter().map(|contract| contract.number).collect();
         let entries: Vec<Vec<Leg>> = account.entries.iter().map(|entry| entry.legs()).collect();
         adds_up(&intercontract(&account), &numbers, &entries);
+        let legs: usize = entries.iter().map(Vec::len).sum();
+        assert!(intercontract(&account).takes() <= numbers.len() + 2 * legs);
     }
     assert!(formed > 1_000, "only {formed} steps formed spreads");
 }

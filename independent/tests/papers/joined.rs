@@ -152,7 +152,7 @@ fn an_empty_file_takes_and_gives_nothing() {
     let mut lent = [UNTOUCHED; 2];
     assert_eq!(figures(&[], &[], &mut lent), Ok(1));
     assert_eq!(lent, [0, UNTOUCHED]);
-    assert_eq!(book(&[], &[], 16, &mut []), Ok(0));
+    assert_eq!(book(&[], &[], 16, &mut lent[1..]), Ok(1));
     assert_eq!(call(&[], &[], cover(0, 0, 0)), called(0));
 }
 
@@ -168,12 +168,12 @@ fn a_contract_that_noon_lists_alone_is_flat() {
     let mut lent = [UNTOUCHED; 33];
     assert_eq!(figures(&morning(), &noon(), &mut lent), Ok(33));
     assert_eq!(lent[24..32], [7, 1, 0, 0, 0, 0, 0, 0]);
-    assert_eq!(book(&morning(), &noon(), 7, &mut []), Ok(0));
-    let mut lent = [UNTOUCHED; 16];
-    assert_eq!(book(&morning(), &noon(), 16, &mut lent), Ok(16));
+    assert_eq!(book(&morning(), &noon(), 7, &mut lent[..1]), Ok(1));
+    let mut lent = [UNTOUCHED; 17];
+    assert_eq!(book(&morning(), &noon(), 16, &mut lent), Ok(17));
     // Contracts 1, 4, 5 and 7 with nothing used, since 7 has no delta, and two entries.
     let nets = [[10_000, 0, 10_000], [50_000, 0, 50_000], [90_000, 0, 90_000], [0; 3]].concat();
-    assert_eq!(lent[..], [nets, vec![0; 4]].concat());
+    assert_eq!(lent[..], [nets, vec![0; 5]].concat());
 }
 
 #[test]
@@ -184,11 +184,11 @@ fn the_mornings_entries_run_over_the_deltas_of_noon() {
         &[contract(4, 0), contract(7, 0), prompt(4, 1, 1), prompt(7, 1, 1)],
         &[long(4, 1, 1), long(7, 1, -5)],
     ]);
-    let mut lent = [UNTOUCHED; 14];
-    assert_eq!(book(&morning(), &noon, 16, &mut lent), Ok(13));
+    let mut lent = [UNTOUCHED; 15];
+    assert_eq!(book(&morning(), &noon, 16, &mut lent), Ok(14));
     let nets = [[10_000, 10_000, 0], [10_000, 10_000, 0], [-50_000, -20_000, -30_000]].concat();
     assert_eq!(lent[..9], nets);
-    assert_eq!(lent[9..], [0, 10_000, 10_000, 0, UNTOUCHED]);
+    assert_eq!(lent[9..], [0, 10_000, 10_000, 0, 4, UNTOUCHED]);
     let mut lent = [UNTOUCHED; 13];
     assert_eq!(uses(&morning(), &noon, 16, &mut lent), Ok(12));
     let steps = [[0; 3], [10_000, 0, -10_000], [0, 10_000, -10_000], [0; 3]].concat();
@@ -205,7 +205,8 @@ fn figures_books_and_uses_are_those_of_the_joined_file() {
     for question in [1, 4, 5, 7, 16] {
         let mut lent = [UNTOUCHED; 40];
         let written = book(&morning(), &noon(), question, &mut lent).unwrap();
-        assert_eq!(lent[..written], book_of(&joined, question));
+        let takes = takes_of(&joined, question);
+        assert_eq!(lent[..written], [book_of(&joined, question), vec![takes]].concat());
         assert_eq!(lent[written..], [UNTOUCHED; 40][written..]);
         let [mut pair, mut one] = [[UNTOUCHED; 40]; 2];
         let written = uses(&morning(), &noon(), question, &mut pair);
@@ -348,12 +349,12 @@ fn refusals_11_and_10_name_the_joined_record_count() {
         assert_eq!(book(&morning, &noon, question, &mut []), refusal(0, 11, 15));
     }
     assert_eq!(figures(&morning, &noon, &mut lent[..32]), refusal(0, 10, 15));
-    assert_eq!(book(&morning, &noon, 5, &mut lent[..4]), refusal(0, 10, 15));
+    assert_eq!(book(&morning, &noon, 5, &mut lent[..5]), refusal(0, 10, 15));
     assert_eq!(uses(&morning, &noon, 5, &mut lent[..1]), refusal(0, 10, 15));
-    assert_eq!(book(&morning, &noon, 16, &mut lent[..15]), refusal(0, 10, 15));
+    assert_eq!(book(&morning, &noon, 16, &mut lent[..16]), refusal(0, 10, 15));
     assert_eq!(lent, [UNTOUCHED; 160]);
-    assert_eq!(book(&morning, &noon, 5, &mut lent[..5]), Ok(5));
-    assert_eq!(lent[..6], [90_000, 0, 90_000, 0, 0, UNTOUCHED]);
+    assert_eq!(book(&morning, &noon, 5, &mut lent[..6]), Ok(6));
+    assert_eq!(lent[..7], [90_000, 0, 90_000, 0, 0, 0, UNTOUCHED]);
 }
 
 #[test]

@@ -12,6 +12,7 @@ mod program;
 mod reckoned;
 mod refusals;
 mod runs;
+mod takes;
 mod tenths;
 mod unit_price_risk;
 mod wrong;

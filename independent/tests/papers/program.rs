@@ -60,11 +60,11 @@ fn a_book_is_printed_by_prompts_and_spreads() {
     ]);
     assert_eq!(
         lines(&["book", "1"], &account),
-        "P 30001 30001 0\nP -50000 -15002 -34998\nS 15000 1\n"
+        "P 30001 30001 0\nP -50000 -15002 -34998\nS 15000 1\nN 4\n"
     );
     assert_eq!(
         lines(&["book", "16"], &account),
-        "P -19999 -10000 -9999\nP 10000 10000 0\nS 10000 0\n"
+        "P -19999 -10000 -9999\nP 10000 10000 0\nS 10000 0\nN 2\n"
     );
     assert_eq!(lines(&["book", "3"], &account), "R 11 13\n");
 }

@@ -67,7 +67,11 @@ fn book(tables: &Tables, question: i128, name: &str) -> Result<String, String> {
             spread.paid.push([spread.step as i128 + 1, place as i128 + 1, paid]);
         }
     }
-    Ok(lines + &spread.map_or(String::new(), |spread| spread.lines(question)))
+    lines += &spread.map_or(String::new(), |spread| spread.lines(question));
+    for row in tables.rows(&format!("{name}-touches")) {
+        lines += &line("N", &[question, number(&row[0])?, number(&row[1])?]);
+    }
+    Ok(lines)
 }
 
 struct Spread {

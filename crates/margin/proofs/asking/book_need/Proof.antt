@@ -43,6 +43,9 @@ mul-result-2 c = omega (arith, c .before .before .sizes-over .ensures .spreads-f
 add-result : tie.Need-add-result
 add-result c = omega (arith, c .before .before .sizes-over .ensures .prompts-few, c .before .before .sizes-over .ensures .spreads-few)
 
+add-result-2 : tie.Need-add-result-2
+add-result-2 c = omega (arith, c .before .before .sizes-over .ensures .prompts-few, c .before .before .sizes-over .ensures .spreads-few)
+
 returns-2 : tie.Need-returns-2
 returns-2 c =
     let s = c .before .before .before .before .before .before .before in
@@ -62,4 +65,5 @@ book-need-spec =
     mul-result
     mul-result-2
     add-result
+    add-result-2
     returns-2)

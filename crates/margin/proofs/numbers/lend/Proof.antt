@@ -46,7 +46,7 @@ loop-again c =
     let s = c .before .before .before .before in
     let l = c .before .before .loop in
     let number = s .args .numbers .number in
-    let long : length number ≡ 160 = search needs in
+    let long : length number ≡ 161 = search needs in
     let here : ℤ = getD number (l .i) (pos 0) in (
       next (l .i) (l .i) (l .i + 1) (l .out) _ (here ∷ [])
           (l .inv .0) (omega arith)
@@ -63,7 +63,7 @@ returns c =
     let s = c .before .before .before in
     let l = c .before .loop in
     let n = s .args .numbers .count in
-    let long : length (s .args .numbers .number) ≡ 160 = search needs in
+    let long : length (s .args .numbers .number) ≡ 161 = search needs in
     let all : length (take n (s .args .numbers .number)) ≡ n = length-take-le n (s .args .numbers .number) (omega arith) in
     finish (l .i) (l .i) (l .out) (l .inv .0) (omega arith) (slice-empty n (s .args .numbers .number))
     ∙ sets-front (take n (s .args .numbers .number)) (s .args .out .now) (omega arith)

@@ -24,7 +24,7 @@ returns c =
     let l = table-length (entriesOf a) (contracts a) in
     let k = length-map (contractsOf a) (partsIn a) in
     let e = s .pre .0 .places .contracts in
-    (n .listed-is ∙ sym t, ap length t ∙ l ∙ sym (n .count-is ∙ ap (λ (x : ℕ). 3 * x + 2 * length (entriesOf a)) (e ∙ sym k)), n .few)
+    (n .listed-is ∙ sym t, ap length t ∙ l ∙ sym (n .count-is ∙ ap (λ (x : ℕ). 3 * x + 2 * length (entriesOf a) + 1) (e ∙ sym k)), n .few)
 
 contract-numbers-requires : tie.Need-contract-numbers-requires
 contract-numbers-requires c κs =

@@ -1,17 +1,18 @@
 -- The book of the intercontract table, over the contracts as tiers.
 -- Assumes nothing.
-use mathlib.Core.Path.{sym, subst}
+use mathlib.Core.Path.{sym, _∙_, subst}
 use mathlib.Core.List.{List}
 use Prim.Native.Nat.{ℕ}
 use native.Mathlib.Omega.{arith}
 use borrow.Author.Needs.{needs}
 use lib.ListN.{length}
-use Rattle.account.specs.Parts.{entriesOf}
+use Rattle.account.specs.Parts.{contractsOf, entriesOf}
 use Rattle.account.specs.Standing.{accountOf}
-use Rattle.margin.specs.Books.{tableBook}
-use Rattle.margin.specs.Contract.{contracts}
-use Rattle.margin.specs.Numbers.{BookNumbers}
-use Rattle.margin.proofs.TierLaws.{entries-few, tiers-signed, tiers-listed}
+use Rattle.margin.specs.Books.{tableParts, tableBook}
+use Rattle.margin.specs.Contract.{contracts, tableTouches}
+use Rattle.margin.specs.Numbers.{PartNumbers, BookNumbers}
+use Rattle.margin.proofs.TierLaws.{entries-few, tiers-touches, tiers-signed, tiers-listed}
+use Rattle.margin.proofs.NumberLaws.{with-last}
 use Rattle.margin.proofs.over.table_numbers.Statement.{statement}
 use Rattle.margin.proofs.over.table_numbers.Tie as tie
 
@@ -28,37 +29,57 @@ intercontract-table-requires c κs =
     let e = c .part in
     entries-few (accountOf (s .args .morning .now) (s .args .noon .now)) (s .pre .lawful) (p .result) (p .ensures) (e .result .now) (e .ensures)
 
-delta-book-requires : tie.Need-delta-book-requires
-delta-book-requires c κs = search needs
+counted-book-requires : tie.Need-counted-book-requires
+counted-book-requires c κs = search needs
 
 record-count-requires : tie.Need-record-count-requires
 record-count-requires c κs = search needs
 
 book-numbers-requires : tie.Need-book-numbers-requires
 book-numbers-requires c κs =
-    let s = c .before .before .before .before .before .before .before .before .before .before .before .before in
-    let p = c .before .before .before .before .before .before .before .before .before .tiers-over in
-    let e = c .before .before .before .before .before .before .before .part in
-    let t = c .before .before .before .before .before .before .intercontract-table in
-    let b = c .before .before .before .before .before .delta-book in
-    let n = c .record-count in (
-      omega (arith, p .ensures .few),
-      tiers-signed (accountOf (s .args .morning .now) (s .args .noon .now)) (s .pre .lawful) (p .result) (p .ensures) (e .result .now) (e .ensures) (t .result) (t .ensures) (b .result) (b .ensures) (n .result) (n .ensures),
-    )
-
-returns : tie.Need-returns
-returns c =
     let s = c .before .before .before .before .before .before .before .before .before .before .before .before .before in
-    let a = accountOf (s .args .morning .now) (s .args .noon .now) in
     let p = c .before .before .before .before .before .before .before .before .before .before .tiers-over in
     let e = c .before .before .before .before .before .before .before .before .part in
     let t = c .before .before .before .before .before .before .before .intercontract-table in
-    let b = c .before .before .before .before .before .before .delta-book in
+    let b = c .before .before .before .before .before .before .counted-book in
+    let n = c .record-count in (
+      omega (arith, p .ensures .few),
+      tiers-signed (accountOf (s .args .morning .now) (s .args .noon .now)) (s .pre .lawful) (p .result) (p .ensures) (e .result .now) (e .ensures) (t .result) (t .ensures) (b .result .book) (b .ensures .book) (n .result) (n .ensures),
+    )
+
+-- the numbers but for the last
+parts : (c : tie.After-book-numbers)
+    → let s = c .before .before .before .before .before .before .before .before .before .before .before .before .before .before in
+    let a = accountOf (s .args .morning .now) (s .args .noon .now) in
+    PartNumbers (tableParts (entriesOf a) (contracts a)) (length (contractsOf a)) (length (entriesOf a)) (c .book-numbers .result)
+parts c =
+    let s = c .before .before .before .before .before .before .before .before .before .before .before .before .before .before in
+    let a = accountOf (s .args .morning .now) (s .args .noon .now) in
+    let p = c .before .before .before .before .before .before .before .before .before .before .before .tiers-over in
+    let e = c .before .before .before .before .before .before .before .before .before .part in
+    let t = c .before .before .before .before .before .before .before .before .intercontract-table in
+    let b = c .before .before .before .before .before .before .before .counted-book in
     let n = c .before .record-count in
     let r = c .book-numbers in
+    tiers-listed a (s .pre .lawful) (p .result) (p .ensures) (e .result .now) (e .ensures) (t .result) (t .ensures) (b .result .book) (b .ensures .book)
+    (r .result) (n .result) (n .ensures) (r .ensures .0) (r .ensures .1)
+
+with-last-requires : tie.Need-with-last-requires
+with-last-requires c κs = (parts c .few, omega (arith, c .before .before .before .before .before .before .before .counted-book .ensures .few))
+
+returns : tie.Need-returns
+returns c =
+    let s = c .before .before .before .before .before .before .before .before .before .before .before .before .before .before .before in
+    let a = accountOf (s .args .morning .now) (s .args .noon .now) in
+    let p = c .before .before .before .before .before .before .before .before .before .before .before .before .tiers-over in
+    let e = c .before .before .before .before .before .before .before .before .before .before .part in
+    let t = c .before .before .before .before .before .before .before .before .before .intercontract-table in
+    let b = c .before .before .before .before .before .before .before .before .counted-book in
+    let r = c .with-last in
     subst (λ (k : ℕ). BookNumbers (tableBook (entriesOf a) (contracts a)) k (length (entriesOf a)) (r .result)) (sym (s .pre .places .contracts))
-    (tiers-listed a (s .pre .lawful) (p .result) (p .ensures) (e .result .now) (e .ensures) (t .result) (t .ensures) (b .result) (b .ensures)
-    (r .result) (n .result) (n .ensures) (r .ensures .0) (r .ensures .1))
+    (with-last (tableParts (entriesOf a) (contracts a)) (length (contractsOf a)) (length (entriesOf a)) (c .before .book-numbers .result) (r .result) _ (tableTouches (entriesOf a) (contracts a))
+    (parts (c .before)) (r .ensures .0) (r .ensures .1)
+    (b .ensures .touches ∙ tiers-touches a (s .pre .lawful) (p .result) (p .ensures) (e .result .now) (e .ensures) (t .result) (t .ensures)))
 
 pub table-numbers-spec : {M : Type 1} → statement M
 table-numbers-spec =
@@ -67,7 +88,8 @@ table-numbers-spec =
     tiers-over-requires
     part-requires
     intercontract-table-requires
-    delta-book-requires
+    counted-book-requires
     record-count-requires
     book-numbers-requires
+    with-last-requires
     returns)

@@ -1,0 +1,212 @@
+-- `touches_of`: the cells and sizes are those of the prompts as the spreads passed leave them.
+-- Assumes nothing.
+use Prim.Native.Nat.{ℕ, _+_, _-_, _*_, _≤_, _<_}
+use native.Mathlib.Omega.{arith}
+use mathlib.Core.Bool.{true}
+use mathlib.Core.List.{List}
+use mathlib.Core.Path.{_≡_, sym, _∙_}
+use lib.Dec.{leb}
+use lib.ListN.{length, length-map, getD}
+use borrow.Author.Needs.{needs}
+use borrow.Author.Tests.{leb-true}
+use Rattle.spread.specs.Accepted.{openOf, spreadsOf, every, soundSpread, soundPrompts, soundTable, sound}
+use Rattle.spread.specs.Cells.{mostNumber}
+use Rattle.spread.specs.Passing.{Ready, Laid}
+use Rattle.spread.specs.Steps.{Open}
+use Rattle.spread.specs.declared.Prompts.{Prompts}
+use Rattle.spread.specs.declared.Table.{Table}
+use Rattle.spread.proofs.Both.{and-left, and-right}
+use Rattle.spread.proofs.Counting.{Formed, formed-by, numbers-small, Counting, counting-none, counting-all, table-counting}
+use Rattle.spread.proofs.Running.{noSpreads, table-length}
+use Rattle.spread.proofs.touches.touches_of.Statement.{statement}
+use Rattle.spread.proofs.touches.touches_of.Tie as tie
+
+abbrev Inv-loop : tie.InvT-loop
+Inv-loop table first second pool size₀ at₀ n touches₀ i₀ size at touches i =
+    (i ≤ n) × (n ≤ 32) × (touches ≤ 192 * i) × Ready at pool size
+    × ((ps : List Open) → Laid ps pool size₀ → Formed (spreadsOf table) ps first second → Counting (spreadsOf table) ps i pool size touches)
+
+abbrev μ-loop : tie.MeasureT-loop
+μ-loop table first second pool size₀ at₀ n touches₀ i₀ size at touches i = n - i
+
+tables : (s : tie.Start Inv-loop μ-loop) → length (s .args .t2 .spread) ≡ 32
+tables s = sym (length-map (s .args .t2 .spread) _) ∙ s .good .1 .0 .1 .1 .1 .0 .1 .0 .1
+
+tiers : (s : tie.Start Inv-loop μ-loop) → length (s .args .prompts .tier) ≡ 32
+tiers s = sym (length-map (s .args .prompts .tier) _) ∙ s .good .0 .1 .1 .1 .0 .1 .0 .1
+
+nets : (s : tie.Start Inv-loop μ-loop) → length (s .args .prompts .net) ≡ 32
+nets s = sym (length-map (s .args .prompts .net) _) ∙ s .good .0 .1 .1 .1 .1 .0 .1 .0 .1
+
+few : (s : tie.Start Inv-loop μ-loop) → s .args .t2 .count ≤ 32
+few s =
+    let t = s .args .t2 in
+    leb-true (t .count) 32
+    (and-left (leb (t .count) 32) (every soundSpread (spreadsOf t)) (and-right (soundPrompts (s .args .prompts)) (soundTable t) (s .pre .0)))
+
+formed : (s : tie.Start Inv-loop μ-loop) → Formed (spreadsOf (s .args .t2)) (openOf (s .args .prompts)) (s .args .t3) (s .args .t4)
+formed s = formed-by (s .args .prompts) (s .args .t2) (s .args .t3) (s .args .t4) (s .pre .0) (s .pre .1)
+
+first-small : (s : tie.Start Inv-loop μ-loop) (i : ℕ) → i < 32 → (getD (s .args .t3) i noSpreads) .0 ≤ mostNumber
+first-small s i h =
+    let p = s .args .prompts in
+    let n = numbers-small p (s .args .t2) (tiers s) (nets s) (and-left (soundPrompts p) (soundTable (s .args .t2)) (s .pre .0)) (2 * i) in
+    let e = formed s i h .0 in
+    omega (arith, n, e)
+
+second-small : (s : tie.Start Inv-loop μ-loop) (i : ℕ) → i < 32 → (getD (s .args .t4) i noSpreads) .0 ≤ mostNumber
+second-small s i h =
+    let p = s .args .prompts in
+    let n = numbers-small p (s .args .t2) (tiers s) (nets s) (and-left (soundPrompts p) (soundTable (s .args .t2)) (s .pre .0)) (2 * i + 1) in
+    let e = formed s i h .1 in
+    omega (arith, n, e)
+
+within : (c : tie.In-loop Inv-loop μ-loop) → c .before .loop .i < 32
+within c = omega (arith, c .before .loop .inv .0, c .before .loop .inv .1, c .loop-test .taken)
+
+laid-requires : tie.Need-laid-requires Inv-loop μ-loop
+laid-requires c κs = and-left (soundPrompts (c .args .prompts)) (soundTable (c .args .t2)) (c .pre .0)
+
+loop-holds : tie.Need-loop-holds Inv-loop μ-loop
+loop-holds c =
+    let s = c .before .before .before .before in
+    let l = c .before .before .before .laid in
+    let r = l .result in (
+      omega arith,
+      few s,
+      omega arith,
+      record { places = search needs; pools = search needs; sizes = search needs; begun = l .ensures .1 },
+      λ ps h f. counting-none (spreadsOf (s .args .t2)) ps (r .pool) (r .size) h,
+    )
+
+mul-spread : tie.Need-mul-spread Inv-loop μ-loop
+mul-spread c = let h = within c in omega arith
+
+element-copy-out-spread : tie.Need-element-copy-out-spread Inv-loop μ-loop
+element-copy-out-spread c = within c
+
+mul-formed : tie.Need-mul-formed Inv-loop μ-loop
+mul-formed c = let h = within (c .before) in omega arith
+
+array-copy-out-formed : tie.Need-array-copy-out-formed Inv-loop μ-loop
+array-copy-out-formed c = within (c .before)
+
+mul-reverse : tie.Need-mul-reverse Inv-loop μ-loop
+mul-reverse c = let h = within (c .before .before) in omega arith
+
+array-copy-out-reverse : tie.Need-array-copy-out-reverse Inv-loop μ-loop
+array-copy-out-reverse c = within (c .before .before)
+
+slice-aggregate-step-touches : tie.Need-slice-aggregate-step-touches Inv-loop μ-loop
+slice-aggregate-step-touches c = search needs
+
+slice-aggregate-step-touches-2 : tie.Need-slice-aggregate-step-touches-2 Inv-loop μ-loop
+slice-aggregate-step-touches-2 c = search needs
+
+slice-aggregate-step-touches-3 : tie.Need-slice-aggregate-step-touches-3 Inv-loop μ-loop
+slice-aggregate-step-touches-3 c = search needs
+
+step-touches-requires : tie.Need-step-touches-requires Inv-loop μ-loop
+step-touches-requires c κs = (
+  c .before .before .before .before .before .before .before .loop .inv .3,
+  first-small
+      (c .before .before .before .before .before .before .before .before .before .before .before .before)
+      (c .before .before .before .before .before .before .before .loop .i) (within (c .before .before .before .before .before .before)),
+)
+
+slice-aggregate-step-touches-4 : tie.Need-slice-aggregate-step-touches-4 Inv-loop μ-loop
+slice-aggregate-step-touches-4 c = search needs
+
+slice-aggregate-step-touches-5 : tie.Need-slice-aggregate-step-touches-5 Inv-loop μ-loop
+slice-aggregate-step-touches-5 c = search needs
+
+slice-aggregate-step-touches-6 : tie.Need-slice-aggregate-step-touches-6 Inv-loop μ-loop
+slice-aggregate-step-touches-6 c = search needs
+
+step-touches-requires-2 : tie.Need-step-touches-requires-2 Inv-loop μ-loop
+step-touches-requires-2 c κs = (
+  c .before .before .before .before .before .step-touches .ensures .ready,
+  second-small
+      (c .before .before .before .before .before .before .before .before .before .before .before .before .before .before .before .before .before .before)
+      (c .before .before .before .before .before .before .before .before .before .before .before .before .before .loop .i) (within
+      (c .before .before .before .before .before .before .before .before .before .before .before .before)),
+)
+
+-- the turn that ends
+abbrev in-turn : tie.After-at5 Inv-loop μ-loop → tie.In-loop Inv-loop μ-loop
+in-turn c = c .before .before .before .before .before .before .before .before .before .before .before .before .before .before .before
+
+add-touches : tie.Need-add-touches Inv-loop μ-loop
+add-touches c = omega
+    (arith, c .before .before .step-touches2 .ensures .few, c .before .before .before .before .before .before .before .before .step-touches .ensures .few)
+
+add-touches-2 : tie.Need-add-touches-2 Inv-loop μ-loop
+add-touches-2 c =
+    omega (
+      arith,
+      c .before .before .step-touches2 .ensures .few,
+      c .before .before .before .before .before .before .before .before .step-touches .ensures .few,
+      in-turn c .before .loop .inv .2,
+      within (in-turn c),
+    )
+
+add-i : tie.Need-add-i Inv-loop μ-loop
+add-i c = let h = within (in-turn c) in omega arith
+
+loop-less : tie.Need-loop-less Inv-loop μ-loop
+loop-less c = omega (arith, in-turn c .loop-test .taken)
+
+loop-again : tie.Need-loop-again Inv-loop μ-loop
+loop-again c =
+    let two = c .before .before .step-touches2 in
+    let one = c .before .before .before .before .before .before .before .before .step-touches in
+    let l = in-turn c .before .loop in
+    let s = in-turn c .before .before .before .before .before .before in
+    let t = s .args .t2 in (
+      omega (arith, in-turn c .loop-test .taken),
+      l .inv .1,
+      omega (arith, two .ensures .few, one .ensures .few, l .inv .2),
+      two .ensures .ready,
+      λ ps h f.
+          table-counting t ps (l .i) _ _ _ _ _ _ _ _ _ _ _ _ (tables s) (few s)
+          (in-turn c .loop-test .taken)
+          (f (l .i) (within (in-turn c)) .0) (f (l .i) (within (in-turn c)) .1)
+          (one .ensures) (two .ensures) (l .inv .4 ps h f),
+    )
+
+returns : tie.Need-returns Inv-loop μ-loop
+returns c =
+    let l = c .before .loop in
+    let s = c .before .before .before .before .before .before in
+    let n = table-length (s .args .t2) (tables s) (few s) in
+    counting-all (spreadsOf (s .args .t2)) (openOf (s .args .prompts)) (l .i) _ _ _ (omega (arith, n, c .loop-test .left))
+    (l .inv .4 (openOf (s .args .prompts)) (c .before .before .before .before .before .laid .ensures .0) (formed s))
+
+pub touches-of-spec : {M : Type 1} → statement M
+touches-of-spec =
+    tie.close
+    (tie.spec
+    Inv-loop
+    μ-loop
+    laid-requires
+    loop-holds
+    mul-spread
+    element-copy-out-spread
+    mul-formed
+    array-copy-out-formed
+    mul-reverse
+    array-copy-out-reverse
+    slice-aggregate-step-touches
+    slice-aggregate-step-touches-2
+    slice-aggregate-step-touches-3
+    step-touches-requires
+    slice-aggregate-step-touches-4
+    slice-aggregate-step-touches-5
+    slice-aggregate-step-touches-6
+    step-touches-requires-2
+    add-touches
+    add-touches-2
+    add-i
+    loop-less
+    loop-again
+    returns)

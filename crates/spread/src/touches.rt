@@ -1,0 +1,248 @@
+// How often a prompt is touched: each pool's prompts are passed in order of days, a leg going on where the one before it stopped.
+use crate::Leg;
+use crate::MOST_PROMPTS;
+use crate::MOST_SPREADS;
+use crate::Prompts;
+use crate::Spread;
+use crate::Spreads;
+use crate::Table;
+use crate::book::Book;
+use crate::book::delta_book;
+use crate::book::pool_of;
+use crate::pools::CELLS;
+use crate::pools::cell_for;
+use crate::pools::lesser;
+use crate::pools::use_of;
+ghost use mathlib.Core.Path.{_≡_};
+ghost use mathlib.Core.Bool.{true, cond};
+ghost use Prim.Native.Nat.{_+_, _≤_, min};
+ghost use lib.Dec.{ltb};
+ghost use lib.ListN.{length};
+ghost use Rattle.exact.specs.Lists.{oneIf};
+ghost use Rattle.spread.specs.Accepted.{openOf, stepsOf, soundPrompts, sound};
+ghost use Rattle.spread.specs.Cells.{cellOf, marketIn, stepOf, mostNumber};
+ghost use Rattle.spread.specs.Steps.{useOf};
+ghost use Rattle.spread.specs.Passing.{givesIn, UsedUp, Begun, Ready, Passed, LegTaken, StepTaken, FormedBy, Laid};
+ghost use Rattle.spread.specs.Touches.{touches, CountedBook};
+
+// A cell for each pool, and one for a tier out of range.
+const PLACES: usize = CELLS + 1;
+
+// The delta book, and how many times its steps took of a prompt.
+pub struct Counted {
+    pub book: Book,
+    pub touches: u64,
+}
+
+// Each prompt's pool and the size of its net delta, and for each pool the place of its first prompt.
+struct Laying {
+    pool: [usize; MOST_PROMPTS],
+    size: [u64; MOST_PROMPTS],
+    at: [usize; PLACES],
+}
+
+// How many prompts a leg takes of, and the last place that it came to.
+struct Passing {
+    at: usize,
+    touches: u64,
+}
+
+fn earlier(a: usize, b: usize) -> usize
+    ensures { λ r. ⌜ r ≡ min a b ⌝ }
+{
+    if a < b { a } else { b }
+}
+
+fn laid(prompts: Prompts) -> Laying
+    requires { ⌜ soundPrompts prompts ≡ true ⌝ }
+    ensures { λ r. ⌜ Laid (openOf prompts) (r .pool) (r .size) × Begun (r .at) (r .pool) (r .size) ⌝ }
+{
+    let n = prompts.count;
+    let mut pool = [0; MOST_PROMPTS];
+    let mut size = [0; MOST_PROMPTS];
+    let mut at = [MOST_PROMPTS; PLACES];
+    let mut k = 0;
+    while k < n {
+        let net = prompts.net[k];
+        let cell = pool_of(prompts.tier[k], net);
+        pool[k] = cell;
+        size[k] = net.size();
+        at[cell] = earlier(at[cell], k);
+        k += 1;
+    }
+    Laying {
+        pool: pool,
+        size: size,
+        at: at,
+    }
+}
+
+// What a prompt gives to a leg on a cell that still wants an amount.
+fn gives(cell: usize, wanted: u64, pool: usize, size: u64) -> u64
+    ensures { λ r. ⌜ r ≡ givesIn cell wanted pool size ⌝ }
+{
+    if pool == cell {
+        return lesser(wanted, size);
+    }
+    0
+}
+
+fn one_if(there: bool) -> u64
+    ensures { λ r. ⌜ r ≡ oneIf there ⌝ }
+{
+    if there { 1 } else { 0 }
+}
+
+// The next place where more is wanted, else the same.
+fn further(k: usize, wanted: u64) -> usize
+    requires { ⌜ k ≤ 32 ⌝ }
+    ensures { λ r. ⌜ r ≡ k + oneIf (ltb 0 wanted) ⌝ }
+{
+    if 0 < wanted { k + 1 } else { k }
+}
+
+// "from the prompts of its tier on that side, earliest day first", from a place on before which they are used up.
+fn pass(size: &mut [u64], pool: &[usize], cell: usize, wanted: u64, start: usize) -> Passing
+    requires { ⌜ (length (now pool) ≡ 32) × (length (now size) ≡ 32) × UsedUp cell (now pool) (now size) start ⌝ }
+    ensures { λ r. ⌜ Passed cell wanted (now (pool .entry)) (now (size .entry)) (now (size .exit)) (r .at) (r .touches) ⌝ }
+{
+    let mut due = wanted;
+    let mut k = start;
+    let mut touches = 0;
+    while (0 < due) & (k < MOST_PROMPTS) {
+        let given = gives(cell, due, pool[k], size[k]);
+        size[k] = size[k] - given;
+        due = due - given;
+        touches = touches + one_if(0 < given);
+        k = further(k, due);
+    }
+    Passing {
+        at: k,
+        touches: touches,
+    }
+}
+
+// A leg in a step: how many prompts it takes of.
+fn leg_touches(
+    size: &mut [u64],
+    at: &mut [usize],
+    pool: &[usize],
+    leg: Leg,
+    second: bool,
+    wanted: u64,
+) -> u64
+    requires { ⌜ Ready (now at) (now pool) (now size) ⌝ }
+    ensures { λ r. ⌜ LegTaken (cellOf (marketIn second (leg .side)) (leg .tier)) wanted (now (pool .entry)) (now (size .entry)) (now (size .exit)) (now (at .exit)) r ⌝ }
+{
+    let cell = cell_for(leg, second);
+    let start = at[cell];
+    let passed = pass(size, pool, cell, wanted, start);
+    at[cell] = passed.at;
+    passed.touches
+}
+
+// What a leg wants, if the spread has it.
+fn wanted_by(there: bool, leg: Leg, tenths: bool, number: u64) -> u64
+    requires { ⌜ number ≤ mostNumber ⌝ }
+    ensures { λ r. ⌜ r ≡ cond there (useOf tenths number (leg .ratio)) 0 ⌝ }
+{
+    if there {
+        use_of(number, leg.ratio, tenths)
+    } else {
+        0
+    }
+}
+
+// A step that forms a number: how often its legs take of a prompt.
+fn step_touches(
+    size: &mut [u64],
+    at: &mut [usize],
+    pool: &[usize],
+    spread: Spread,
+    second: bool,
+    number: u64,
+) -> u64
+    requires { ⌜ Ready (now at) (now pool) (now size) × (number ≤ mostNumber) ⌝ }
+    ensures { λ r. ⌜ StepTaken (stepOf second spread) number (now (pool .entry)) (now (size .entry)) (now (size .exit)) (now (at .exit)) r ⌝ }
+{
+    let legs = spread.legs;
+    let tenths = spread.tenths;
+    let one = spread.leg[0];
+    let two = spread.leg[1];
+    let three = spread.leg[2];
+    let a = leg_touches(
+        size,
+        at,
+        pool,
+        one,
+        second,
+        wanted_by(0 < legs, one, tenths, number),
+    );
+    let b = leg_touches(
+        size,
+        at,
+        pool,
+        two,
+        second,
+        wanted_by(1 < legs, two, tenths, number),
+    );
+    let c = leg_touches(
+        size,
+        at,
+        pool,
+        three,
+        second,
+        wanted_by(2 < legs, three, tenths, number),
+    );
+    a + b + c
+}
+
+// The steps with the numbers that they formed: how often they take of a prompt.
+fn touches_of(
+    prompts: Prompts,
+    table: Table,
+    first: [Spreads; MOST_SPREADS],
+    second: [Spreads; MOST_SPREADS],
+) -> u64
+    requires { ⌜ (sound prompts table ≡ true) × FormedBy prompts table first second ⌝ }
+    ensures { λ r. ⌜ r ≡ touches (stepsOf table) (openOf prompts) ⌝ }
+{
+    let lay = laid(prompts);
+    let pool = lay.pool;
+    let mut size = lay.size;
+    let mut at = lay.at;
+    let n = table.count;
+    let mut touches = 0;
+    let mut i = 0;
+    while i < n {
+        let spread = table.spread[i];
+        let formed = first[i];
+        let reverse = second[i];
+        let one = step_touches(&mut size, &mut at, &pool, spread, false, formed.0);
+        let two = step_touches(&mut size, &mut at, &pool, spread, true, reverse.0);
+        touches = touches + (one + two);
+        i += 1;
+    }
+    touches
+}
+
+// The delta book, and "how many times some step moved some prompt's unused delta towards zero". Prompts or spreads that are
+// not accepted get zeros.
+pub fn counted_book(prompts: Prompts, table: Table) -> Counted
+    ensures { λ r. ⌜ CountedBook prompts table r ⌝ }
+{
+    let book = delta_book(prompts, table);
+    if !book.accepted {
+        return Counted {
+            book: book,
+            touches: 0,
+        };
+    }
+    let first = book.first;
+    let second = book.second;
+    let touches = touches_of(prompts, table, first, second);
+    Counted {
+        book: book,
+        touches: touches,
+    }
+}

@@ -85,8 +85,9 @@ felgotany_outcome felgotany_check(const uint8_t *file, size_t bytes);
 size_t felgotany_figures_needed(const uint8_t *file, size_t bytes);
 
 /* The figures. For each contract in file order eight numbers: contract, active scenario, scanning risk, interprompt charge,
- * prompt charge, credit, short option minimum and margin, all but the first two in hundredths of the currency; then the
- * total of the margins. An empty file is an accepted account with the one number 0.
+ * prompt charge, credit, short option minimum and margin, all but the first two in hundredths of the currency, also where
+ * the contract's unit is larger (docs/FILE.md, kind 1); then the total of the margins. An empty file is an accepted account
+ * with the one number 0.
  *
  * Where nothing is refused, the numbers stand at the front of `out` and nothing after them is changed. A refusal changes
  * nothing. */

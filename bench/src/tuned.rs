@@ -96,7 +96,7 @@ impl Held<'_> {
         let needed = FIGURES * self.notes.contracts + 1;
         let lent = self.enough(lent, needed)?;
         let charges = |_, contract: &Contract| {
-            let mut charges = Charges::default();
+            let mut charges = Charges::of(contract);
             (contract.run(&mut charges), charges)
         };
         self.write_figures(lent, charges, |_, _| ());
@@ -126,7 +126,7 @@ impl Held<'_> {
         let book = Book::at(lent, self.notes.contracts, entries.len());
         let mut table = Table::new();
         for (number, contract) in self.contracts() {
-            table.add(number, contract.net());
+            table.add(number, contract.net(), contract.unit());
         }
         *book.touches = 0;
         for (numbers, entry) in book.spreads.iter_mut().zip(entries) {
@@ -148,7 +148,7 @@ impl Held<'_> {
         let charges = |number: usize, contract: &Contract| {
             let (prompts, spreads) = (contract.prompts.len(), contract.spreads.len());
             let place = Book::at(&mut of_contracts[number], prompts, spreads);
-            let mut takes = (Charges::default(), place);
+            let mut takes = (Charges::of(contract), place);
             (contract.run(&mut takes), takes.0)
         };
         *book.touches = 0;
@@ -183,7 +183,7 @@ impl Held<'_> {
         for (line, (number, contract)) in lines.iter_mut().zip(self.contracts()) {
             let risks = contract.risks();
             let (net, charges) = charges(number, &contract);
-            table.add(number, net);
+            table.add(number, net, contract.unit());
             // twice the price risk stands in the margin's place until the credits are known
             *line = [
                 number as i64,

@@ -15,8 +15,9 @@ pub struct Account {
     pub total: i64,
 }
 
-/// A contract's figures, as the library gives them, and its delta book.
+/// A contract's figures, as the library gives them, its unit in hundredths, and its delta book.
 pub struct Contract {
+    pub unit: i64,
     pub figures: [i64; FIGURES],
     pub book: Book,
 }
@@ -115,15 +116,16 @@ impl Account {
             let (numbers, uses) = answer(question)?;
             Ok(Book::of_answers(question, records, numbers.as_ref(), uses.as_ref()))
         };
-        let count = of_kind(records, CONTRACT).count();
+        let owns: Vec<Record> = of_kind(records, CONTRACT).collect();
         let mut contracts = vec![];
-        for figures in figures.chunks_exact(FIGURES).take(count) {
+        for (own, figures) in owns.iter().zip(figures.chunks_exact(FIGURES)) {
             let figures: [i64; FIGURES] = figures.try_into().expect("eight figures");
-            contracts.push(Contract { figures, book: book(figures[0] as usize)? });
+            let unit = own.get(UNIT).max(1);
+            contracts.push(Contract { unit, figures, book: book(figures[0] as usize)? });
         }
         let spread = of_kind(records, ENTRY).next().is_some();
         let table = if spread { Some(book(TABLE)?) } else { None };
-        Ok(Account { records: records.len(), contracts, table, total: figures[FIGURES * count] })
+        Ok(Account { records: records.len(), contracts, table, total: figures[FIGURES * owns.len()] })
     }
 }
 

@@ -5,6 +5,14 @@ pub fn amount(hundredths: i64) -> String {
     decimal(hundredths.into(), 2)
 }
 
+/// Hundredths of the currency, where the unit is so many of them: without places where neither has any.
+pub fn amount_in(unit: i64, hundredths: i64) -> String {
+    match unit % 100 == 0 && hundredths % 100 == 0 {
+        true => format!("{}   ", hundredths / 100),
+        false => amount(hundredths),
+    }
+}
+
 /// Ten-thousandths of lots or spreads, with four places.
 pub fn lots(ten_thousandths: i64) -> String {
     decimal(ten_thousandths.into(), 4)
@@ -47,6 +55,9 @@ mod tests {
         for (number, written) in amounts {
             assert_eq!(amount(number), written);
         }
+        // whole amounts stand under the whole part of others
+        assert_eq!([amount_in(1, 5_400), amount_in(10, 5_400), amount_in(100, 549)], ["54.00", "54.00", "5.49"]);
+        assert_eq!([amount_in(100, 5_400), amount_in(1_000, 0)], ["54   ", "0   "]);
         assert_eq!([tenths(1), tenths(96), tenths(1000)], ["0.1", "9.6", "100.0"]);
         assert_eq!(lots(-300_000), "-30.0000");
         assert_eq!(lots(i64::MIN), "-922337203685477.5808");

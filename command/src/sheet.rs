@@ -44,7 +44,7 @@ fn figure_rows(account: &Account, first: &dyn Fn(i64) -> String) -> Vec<Vec<Stri
     total[FIGURES.len() - 1] = amount(account.total);
     let contracts = account.contracts.iter();
     let mut rows: Vec<Vec<String>> =
-        contracts.map(|contract| with(first(contract.figures[0]), figures_in_words(contract))).collect();
+        contracts.map(|contract| with(first(contract.figures[0]), figures_in_words(contract, amount))).collect();
     rows.push(with(first(-1), total));
     rows
 }

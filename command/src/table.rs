@@ -7,7 +7,7 @@ pub fn table(rows: &[Vec<String>]) -> String {
     let widths: Vec<usize> = (0..columns).map(widest).collect();
     let line = |row: &Vec<String>| {
         let cells = row.iter().zip(&widths).map(|(cell, width)| format!("  {cell:>width$}"));
-        cells.collect::<String>() + "\n"
+        cells.collect::<String>().trim_end().to_string() + "\n"
     };
     rows.iter().map(line).collect()
 }

@@ -3,7 +3,7 @@
 
 use crate::format::*;
 use crate::steps::{Leg, Side};
-use crate::units::{Amount, Delta};
+use crate::units::{Amount, Delta, Quotient, Unit};
 
 pub struct Account {
     /// How many records the file has; refusals 10 and 11 name it.
@@ -15,6 +15,7 @@ pub struct Account {
 pub struct Contract {
     pub number: i64,
     pub short_option_rate: Amount,
+    pub unit: Unit,
     pub prompts: Vec<Prompt>,
     pub rows: Vec<Row>,
     pub spreads: Vec<Spread>,
@@ -36,6 +37,8 @@ pub struct Row {
     pub value: Amount,
     /// In ticks, scenario 1 first.
     pub losses: [i64; SCENARIOS],
+    /// Lots × value × loss, rounded to the contract's unit.
+    pub products: [Amount; SCENARIOS],
 }
 
 /// An interprompt spread.
@@ -74,7 +77,10 @@ impl Account {
             match record.kind() {
                 CONTRACT => account.contracts.push(contract(record)),
                 PROMPT => account.named_by(record).prompts.push(prompt(record)),
-                ROW => account.named_by(record).rows.push(row(record)),
+                ROW => {
+                    let contract = account.named_by(record);
+                    contract.rows.push(row(record, contract.unit));
+                }
                 SPREAD => account.named_by(record).spreads.push(spread(record)),
                 _ => account.entries.push(entry(record)),
             }
@@ -100,6 +106,7 @@ fn contract(record: &Record) -> Contract {
     Contract {
         number: record.get(NUMBER),
         short_option_rate: Amount(record.get(SHORT_OPTION_RATE)),
+        unit: Unit(record.get(UNIT).max(1)),
         prompts: vec![],
         rows: vec![],
         spreads: vec![],
@@ -115,7 +122,7 @@ fn prompt(record: &Record) -> Prompt {
     }
 }
 
-fn row(record: &Record) -> Row {
+fn row(record: &Record, unit: Unit) -> Row {
     let class = record.get(CLASS);
     let mut losses = [0; SCENARIOS];
     for (scenario, ticks) in losses.iter_mut().enumerate() {
@@ -128,6 +135,11 @@ fn row(record: &Record) -> Row {
         delta: Delta(record.get(delta(class))),
         value: Amount(record.get(VALUE)),
         losses,
+        // 2026-09: "Every row product, after conversion to hundredths, is rounded to it, halves away
+        // from zero"
+        products: losses.map(|ticks| {
+            unit.halves_away(Quotient::whole(record.get(LOTS) * record.get(VALUE) * ticks))
+        }),
     }
 }
 

@@ -59,6 +59,10 @@ pub const NUMBER: Field = unsigned(1, 1, 0, 15);
 
 pub const SHORT_OPTION_RATE: Field = unsigned(4, 4, 0, MOST_RATE);
 
+/// 2026-09: "Bytes 8-9 of kind 1 hold the unit in hundredths, 0 and 1 both meaning one hundredth, at most
+/// 1,000."
+pub const UNIT: Field = unsigned(8, 2, 0, 1_000);
+
 pub const PROMPT_TIER: Field = unsigned(2, 1, 1, 8);
 /// The day of a prompt and of a row.
 pub const DAY: Field = unsigned(4, 4, 1, 99_999_999);
@@ -160,7 +164,7 @@ impl Record<'_> {
     /// The fields of this record, byte 0 aside; none for a kind that is not listed.
     pub fn fields(&self) -> Vec<Field> {
         match self.kind() {
-            CONTRACT => vec![NUMBER, SHORT_OPTION_RATE],
+            CONTRACT => vec![NUMBER, SHORT_OPTION_RATE, UNIT],
             PROMPT => vec![NUMBER, PROMPT_TIER, DAY, RATE_IN_SPREADS, RATE_OUTRIGHT],
             ROW => {
                 let class = self.get(CLASS);

@@ -2,6 +2,7 @@
 //! accounts of every size; the others are such accounts damaged in one place or several, and noise.
 //! Pairs of a morning and a noon file, and runs of accounts, are made of them.
 
+mod charged;
 mod damage;
 mod pair;
 mod priced;

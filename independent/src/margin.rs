@@ -4,7 +4,7 @@
 use crate::account::{Account, Contract, Prompt};
 use crate::book::{intercontract, interprompt, Book, Line};
 use crate::format::SCENARIOS;
-use crate::units::{halves_up, Amount, Delta, Quotient, Spreads, ONE};
+use crate::units::{Amount, Delta, Quotient, Spreads, Unit, ONE};
 
 /// "Paired scenarios (000), for 1 to 16."
 pub const PAIRED_SCENARIOS: [usize; SCENARIOS] =
@@ -55,6 +55,8 @@ pub fn total(figures: &[Figures]) -> Amount {
 }
 
 fn contract_figures(account: &Account, table: &Book, place: usize, contract: &Contract) -> Figures {
+    // 2026-09: "every charge and credit that 01 rounds to a hundredth is rounded to it, halves up"
+    let unit = contract.unit;
     let totals = totals(contract);
     let scanning_risk = scanning_risk(&totals);
     let book = interprompt(contract);
@@ -62,13 +64,13 @@ fn contract_figures(account: &Account, table: &Book, place: usize, contract: &Co
         .spreads
         .iter()
         .enumerate()
-        .map(|(spread, terms)| spread_charge(book.formed(spread), terms.rate))
+        .map(|(spread, terms)| unit.halves_up(spread_charge(book.formed(spread), terms.rate)))
         .sum();
     let prompt_charges = contract
         .prompts
         .iter()
         .zip(&book.lines)
-        .map(|(prompt, line)| prompt_charge(prompt, line))
+        .map(|(prompt, line)| unit.halves_up(prompt_charge(prompt, line)))
         .sum();
     let credit = credits(account, table, place, twice_price_risk(&totals));
     let minimum = short_option_minimum(contract);
@@ -84,12 +86,12 @@ fn contract_figures(account: &Account, table: &Book, place: usize, contract: &Co
     }
 }
 
-/// "For each scenario add lots × value × loss over the contract's rows."
+/// "For each scenario add lots × value × loss over the contract's rows", each rounded to its unit.
 pub fn totals(contract: &Contract) -> [Amount; SCENARIOS] {
     let mut totals = [Amount(0); SCENARIOS];
     for row in &contract.rows {
-        for (scenario, total) in totals.iter_mut().enumerate() {
-            *total += Amount(row.lots * row.value.0 * row.losses[scenario]);
+        for (total, product) in totals.iter_mut().zip(row.products) {
+            *total += product;
         }
     }
     totals
@@ -126,30 +128,29 @@ fn total_of(totals: &[Amount; SCENARIOS], scenario: usize) -> Amount {
     totals[scenario - 1]
 }
 
-/// "The spread's charge is (first + second number) × rate / 10,000", rounded once, halves up.
-pub fn spread_charge((first, second): (Spreads, Spreads), rate: Amount) -> Amount {
+/// "The spread's charge is (first + second number) × rate / 10,000", before it is rounded.
+pub fn spread_charge((first, second): (Spreads, Spreads), rate: Amount) -> Quotient {
     let number = first + second;
-    Amount(halves_up(i128::from(number.0) * i128::from(rate.0), i128::from(ONE)))
+    Quotient { dividend: i128::from(number.0) * i128::from(rate.0), divisor: i128::from(ONE) }
 }
 
-/// "A prompt's charge is (|used| × first rate + |unused| × second rate) / 10,000", rounded once,
-/// halves up.
-pub fn prompt_charge(prompt: &Prompt, line: &Line) -> Amount {
+/// "A prompt's charge is (|used| × first rate + |unused| × second rate) / 10,000", before it is rounded.
+pub fn prompt_charge(prompt: &Prompt, line: &Line) -> Quotient {
     let in_spreads = i128::from(line.used.size().0) * i128::from(prompt.rate_in_spreads.0);
     let outright = i128::from(line.unused.size().0) * i128::from(prompt.rate_outright.0);
-    Amount(halves_up(in_spreads + outright, i128::from(ONE)))
+    Quotient { dividend: in_spreads + outright, divisor: i128::from(ONE) }
 }
 
 /// A contract's credits from all the entries of the intercontract table, each rounded by itself.
 fn credits(account: &Account, table: &Book, place: usize, twice_price_risk: Amount) -> Amount {
-    let net = table.lines[place].net;
+    let (net, unit) = (table.lines[place].net, account.contracts[place].unit);
     account
         .entries
         .iter()
         .zip(&table.steps)
         .map(|(entry, [first, second])| {
             let used = first.given[place] + second.given[place];
-            credit(twice_price_risk, used, net, entry.percent)
+            credit(twice_price_risk, used, net, entry.percent, unit)
         })
         .sum()
 }
@@ -177,18 +178,23 @@ pub fn credit_of(unit_price_risk: i128, used: Delta, percent: i64) -> Quotient {
 }
 
 /// "A contract's credit from one entry = price risk × |used in that entry| × percent / (100 × |net
-/// delta|), rounded once, halves up; 0 where the net delta is 0." The net delta is all of it. By
-/// 2026-04 the unit price risk is rounded "before it meets used delta and percent".
-pub fn credit(twice_price_risk: Amount, used: Delta, net: Delta, percent: i64) -> Amount {
+/// delta|), rounded once, halves up; 0 where the net delta is 0." The net delta is all of it, and what
+/// it is rounded to is the contract's unit. By 2026-04 the unit price risk is rounded "before it meets used delta and percent".
+pub fn credit(
+    twice_price_risk: Amount,
+    used: Delta,
+    net: Delta,
+    percent: i64,
+    unit: Unit,
+) -> Amount {
     if net == Delta(0) {
         return Amount(0);
     }
-    let unit = unit_price_risk(twice_price_risk, net).halves_up();
-    let credit = credit_of(unit, used, percent).halves_up();
-    Amount(i64::try_from(credit).expect("a credit fits in 64 bits"))
+    let unit_price_risk = unit_price_risk(twice_price_risk, net).halves_up();
+    unit.halves_up(credit_of(unit_price_risk, used, percent))
 }
 
-/// "Short option minimum: short lots of calls and puts × rate."
+/// "Short option minimum: short lots of calls and puts × rate." It "stays exact" whatever the unit.
 pub fn short_option_minimum(contract: &Contract) -> Amount {
     let short_lots: i64 =
         contract.rows.iter().filter(|row| row.option && row.lots < 0).map(|row| -row.lots).sum();

@@ -5,6 +5,7 @@ mod refused;
 mod roundings;
 mod sights;
 mod tenths;
+mod units;
 
 use crate::tally::TELLING;
 use independent::book::INTERCONTRACT;
@@ -160,6 +161,7 @@ impl Survey {
         count(&mut self.sights, sights::steps(account));
         count(&mut self.sights, roundings(account));
         count(&mut self.sights, tenths(account));
+        count(&mut self.sights, units::units(account));
     }
 
     /// A fault if a refusal, or a sort of accepted account, never occurred in a count that should show

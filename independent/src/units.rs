@@ -107,9 +107,20 @@ pub struct Quotient {
 }
 
 impl Quotient {
+    /// A number that needs no division.
+    pub fn whole(number: i64) -> Quotient {
+        Quotient { dividend: i128::from(number), divisor: 1 }
+    }
+
     /// Rounded to the nearest whole number, halves up; for a dividend not below 0.
     pub fn halves_up(self) -> i128 {
         (2 * self.dividend + self.divisor) / (2 * self.divisor)
+    }
+
+    /// Rounded to the nearest whole number, halves away from zero.
+    pub fn halves_away(self) -> i128 {
+        let size = Quotient { dividend: self.dividend.abs(), ..self }.halves_up();
+        size * self.dividend.signum()
     }
 
     /// Whether it lies halfway between two whole numbers.
@@ -119,8 +130,31 @@ impl Quotient {
     }
 }
 
-/// A quotient rounded once to a whole number, halves up; for a dividend not below 0.
-pub fn halves_up(dividend: i128, divisor: i128) -> i64 {
-    i64::try_from(Quotient { dividend, divisor }.halves_up())
-        .expect("an answer of an accepted account fits in 64 bits")
+/// The unit of a contract's currency in hundredths, request 2026-09 of document 02: what its amounts are
+/// rounded to.
+#[derive(Clone, Copy, Debug, PartialEq, Eq)]
+pub struct Unit(pub i64);
+
+impl Unit {
+    pub const HUNDREDTH: Unit = Unit(1);
+
+    /// Hundredths in this unit, before they are rounded.
+    pub fn of(self, hundredths: Quotient) -> Quotient {
+        Quotient { divisor: hundredths.divisor * i128::from(self.0), ..hundredths }
+    }
+
+    /// Hundredths, rounded once to this unit, halves up; for those not below 0.
+    pub fn halves_up(self, hundredths: Quotient) -> Amount {
+        self.amount(self.of(hundredths).halves_up())
+    }
+
+    /// Hundredths, rounded once to this unit, halves away from zero.
+    pub fn halves_away(self, hundredths: Quotient) -> Amount {
+        self.amount(self.of(hundredths).halves_away())
+    }
+
+    fn amount(self, units: i128) -> Amount {
+        let hundredths = i64::try_from(units * i128::from(self.0));
+        Amount(hundredths.expect("an amount of an accepted account fits in 64 bits"))
+    }
 }

@@ -14,7 +14,7 @@ pub struct Kind {
 }
 
 pub const KINDS: [Kind; 5] = [
-    Kind { kind: CONTRACT, name: "contract", columns: &["number", "short option rate"] },
+    Kind { kind: CONTRACT, name: "contract", columns: &["number", "short option rate", "unit"] },
     Kind {
         kind: PROMPT,
         name: "prompt",
@@ -95,6 +95,7 @@ pub struct Unit {
 pub fn unit(column: &str) -> Option<Unit> {
     let (name, places) = match column {
         "short option rate"
+        | "unit"
         | "rate per delta in spreads"
         | "rate per outright delta"
         | "value"
@@ -106,6 +107,12 @@ pub fn unit(column: &str) -> Option<Unit> {
         _ => return None,
     };
     Some(Unit { name, places })
+}
+
+/// What a cell that is left out at the end of a line stands for, where a column may be left out: a contract whose unit is not
+/// said has hundredths.
+pub fn left_out(column: &str) -> Option<i64> {
+    (column == "unit").then_some(UNIT.least)
 }
 
 /// A thing with its article, as in "a row".

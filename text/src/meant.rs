@@ -49,6 +49,9 @@ pub fn cell(column: &str, cell: &str) -> Option<String> {
     if plain != cell && plain.parse::<i64>().is_ok() {
         return Some(format!("{}, with no mark between the digits", written(&plain)));
     }
+    if columns::left_out(column).is_some() && one_more(cell).is_some() {
+        return one_more(cell);
+    }
     let unit = columns::unit(column);
     match units(&plain, unit.as_ref().map_or(0, |unit| unit.places)) {
         None if matches!(column, "first ratio" | "second ratio") => {

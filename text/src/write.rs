@@ -184,6 +184,12 @@ fn number(column: &str, field: Field, cell: &str) -> Option<i64> {
     if let Some((number, _)) = columns::words(column).iter().find(|(_, word)| *word == cell) {
         return Some(*number);
     }
+    if let Some(number) = columns::left_out(column) {
+        // three zeros are the rest of a number that had a comma
+        if cell.is_empty() || cell == "000" {
+            return cell.is_empty().then_some(number);
+        }
+    }
     let (least, most) = held(field);
     let number = cell.parse().ok()?;
     ((least..=most).contains(&number) && columns::word(column, number).is_none()).then_some(number)

@@ -59,6 +59,10 @@ fn the_first_field_outside_its_range() {
             said(6, "contract,1,10000001"),
             "short option rate (bytes 4-7) is 10000001; its range is 0..10000000, in hundredths",
         ),
+        (
+            said(6, "contract,1,0,1001"),
+            "unit (bytes 8-9) is 1001; its range is 0..1000, in hundredths",
+        ),
         (row("7,0,0,0,0,0"), "class (byte 2) is 7; its range is 0..2 (forward, call, put)"),
         (row("forward,20260318,9,0,0,1"), "strike (bytes 8-11) is 9; its range is 0 for a forward"),
         (

@@ -35,7 +35,8 @@ fn lines(text: &str) -> Vec<String> {
 #[test]
 fn every_kind_is_read_as_it_was_written() {
     let text = [
-        "contract,3,500",
+        "contract,3,500,0",
+        "contract,4,0,100",
         "prompt,3,1,20260318,0,1000",
         FORWARD_ROW,
         "interprompt spread,3,2,700,1,A,1,2,B,3",
@@ -86,7 +87,7 @@ fn every_line_with_a_fault_is_told() {
 
 #[test]
 fn numbers_outside_their_range_are_written_as_far_as_the_bytes_hold_them() {
-    let text = ["contract,255,4294967295", "prompt,16,0,0,4294967295,10000001"];
+    let text = ["contract,255,4294967295,65535", "prompt,16,0,0,4294967295,10000001"];
     assert_eq!(lines(&text.join("\n")), text);
     let row = FORWARD_ROW.replace("9800,25", "-2147483648,0").replace("forward", "7");
     assert_eq!(lines(&row), [row]);
@@ -110,6 +111,10 @@ fn numbers_that_the_bytes_do_not_hold_are_not_written() {
         (
             "intercontract spread,1,2,85,10,65536,tenths",
             "line 1, second ratio: found '65536', expected a whole number 1..1000 in tenths",
+        ),
+        (
+            "contract,1,0,65536",
+            "line 1, unit: found '65536', expected a whole number 0..1000, in hundredths",
         ),
         ("contract,-1,0", "line 1, number: found '-1', expected a whole number 0..15"),
         (
@@ -157,6 +162,7 @@ fn what_was_probably_meant_is_told() {
         (row("9800,25", "0.98,25"), "0.98 is 9800 in ten-thousandths"),
         (row(",2,", ",2.0,"), "'2' was probably meant"),
         (meant("contract,1,250.00"), "250.00 is 25000 in hundredths"),
+        (meant("contract,1,0,1.00"), "1.00 is 100 in hundredths"),
         (meant("contract,1,-2.5"), "-2.5 is -250 in hundredths"),
         (
             meant("contract,1,\"25,000\""),
@@ -217,10 +223,16 @@ fn a_line_with_too_few_columns_is_not_written() {
 }
 
 #[test]
+fn a_contract_whose_unit_is_left_out_has_hundredths() {
+    assert_eq!(bytes(b"contract,3,500"), bytes(b"contract,3,500,0"));
+    assert_ne!(bytes(b"contract,3,500"), bytes(b"contract,3,500,1"));
+}
+
+#[test]
 fn a_line_with_too_many_columns_is_not_written() {
     assert_eq!(
-        message("contract,3,500,7"),
-        "line 1, column 4: found '7', expected the line to end after 3 columns"
+        message("contract,3,500,0,7"),
+        "line 1, column 5: found '7', expected the line to end after 4 columns"
     );
     assert_eq!(
         message("interprompt spread,3,2,700,1,A,1,2,B,3,3,A,1"),

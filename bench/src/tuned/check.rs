@@ -159,8 +159,10 @@ impl Walk<'_, '_> {
     }
 
     fn contract(&mut self, record: &Record) -> Passed {
-        refuse((record[2] | record[3] != 0) | set_from::<8>(record), UNUSED_BYTE)?;
-        refuse(outside(record, NUMBER) | outside(record, SHORT_OPTION_RATE), OUT_OF_RANGE)?;
+        refuse((record[2] | record[3] != 0) | set_from::<10>(record), UNUSED_BYTE)?;
+        let outside =
+            outside(record, NUMBER) | outside(record, SHORT_OPTION_RATE) | outside(record, UNIT);
+        refuse(outside, OUT_OF_RANGE)?;
         let number = get(record, NUMBER);
         refuse(number <= self.before.contract, ORDER_OR_CLASH)?;
         self.before.contract = number;

@@ -44,30 +44,52 @@ impl<A: Takes, B: Takes> Takes for (A, B) {
     }
 }
 
-/// The charges of a contract's spreads and of its prompts, each rounded by itself.
-#[derive(Default)]
+/// The charges of a contract's spreads and of its prompts, each rounded by itself to the contract's unit.
 pub struct Charges {
+    unit: u64,
     pub interprompt: i64,
     pub prompt: i64,
+}
+
+impl Charges {
+    pub fn of(contract: &Contract) -> Charges {
+        Charges { unit: contract.unit(), interprompt: 0, prompt: 0 }
+    }
 }
 
 impl Takes for Charges {
     #[inline(always)]
     fn spread(&mut self, _: usize, spread: &Record, [first, second]: [i64; 2]) {
-        self.interprompt += halves_up((first + second) * get(spread, SPREAD_RATE));
+        self.interprompt += halves_up((first + second) * get(spread, SPREAD_RATE), self.unit);
     }
 
     #[inline(always)]
     fn prompt(&mut self, _: usize, prompt: &Record, net: i64, used: i64) {
         let in_spreads = used.abs() * get(prompt, RATE_IN_SPREADS);
-        self.prompt += halves_up(in_spreads + (net - used).abs() * get(prompt, RATE_OUTRIGHT));
+        self.prompt +=
+            halves_up(in_spreads + (net - used).abs() * get(prompt, RATE_OUTRIGHT), self.unit);
     }
 }
 
-/// Ten-thousandths of an amount, rounded once.
+/// Ten-thousandths of an amount, rounded once to the unit.
 #[inline(always)]
-fn halves_up(parts: i64) -> i64 {
-    ((parts as u64 + ONE as u64 / 2) / ONE as u64) as i64
+fn halves_up(parts: i64, unit: u64) -> i64 {
+    let rounded = match unit {
+        1 => (parts as u64 + ONE as u64 / 2) / ONE as u64,
+        _ => (parts as u64 + ONE as u64 * unit / 2) / (ONE as u64 * unit) * unit,
+    };
+    rounded as i64
+}
+
+/// A product, rounded to the unit, halves away from zero.
+#[inline(always)]
+fn halves_away(product: i64, unit: u64) -> i64 {
+    let rounded = ((product.unsigned_abs() + unit / 2) / unit * unit) as i64;
+    if product < 0 {
+        -rounded
+    } else {
+        rounded
+    }
 }
 
 /// A delta book in lent memory: three numbers a prompt, then two a spread, and how often a prompt was touched.
@@ -116,6 +138,11 @@ impl Takes for Book<'_> {
 }
 
 impl Contract<'_> {
+    /// Its unit in hundredths.
+    pub fn unit(&self) -> u64 {
+        get(self.own, UNIT).max(1) as u64
+    }
+
     /// The net delta over all prompts.
     pub fn net(&self) -> i64 {
         self.rows.iter().map(row_delta).sum()
@@ -152,11 +179,18 @@ impl Contract<'_> {
     pub fn risks(&self) -> Risks {
         let mut totals = [0; SCENARIOS];
         let mut short_lots = 0;
+        let unit = self.unit();
         for row in self.rows {
             let lots = get(row, LOTS);
             let a_tick = lots * get(row, VALUE);
-            for (total, ticks) in totals.iter_mut().zip(losses(row)) {
-                *total += a_tick * i64::from(ticks);
+            if unit == 1 {
+                for (total, ticks) in totals.iter_mut().zip(losses(row)) {
+                    *total += a_tick * i64::from(ticks);
+                }
+            } else {
+                for (total, ticks) in totals.iter_mut().zip(losses(row)) {
+                    *total += halves_away(a_tick * i64::from(ticks), unit);
+                }
             }
             short_lots += if get(row, CLASS) == FORWARD { 0 } else { -lots.min(0) };
         }

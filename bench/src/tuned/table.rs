@@ -2,22 +2,24 @@
 
 use super::check::CONTRACTS;
 use super::record::{get, Record};
-use super::steps::{both, pool_of, takes, Pools, POOLS, WHOLE};
 use super::steps::TENTHS as IN_TENTHS;
+use super::steps::{both, pool_of, takes, Pools, POOLS, WHOLE};
 use independent::format::*;
 
-/// The pools of the contracts, with their net deltas by contract number.
+/// The pools of the contracts, with their units and net deltas by contract number.
 pub struct Table {
+    units: [u64; CONTRACTS],
     nets: [i64; CONTRACTS],
     pools: Pools,
 }
 
 impl Table {
     pub fn new() -> Table {
-        Table { nets: [0; CONTRACTS], pools: [0; POOLS] }
+        Table { units: [1; CONTRACTS], nets: [0; CONTRACTS], pools: [0; POOLS] }
     }
 
-    pub fn add(&mut self, contract: usize, net: i64) {
+    pub fn add(&mut self, contract: usize, net: i64, unit: u64) {
+        self.units[contract] = unit;
         self.nets[contract] = net;
         self.pools[pool_of(contract as i64, net < 0)] = net.unsigned_abs();
     }
@@ -41,18 +43,25 @@ impl Table {
         (net, if net < 0 { -left } else { left })
     }
 
-    /// What a contract earns by an entry that uses so much of its net delta, rounded once; before it the unit price risk,
-    /// in ten-thousandths of the currency per lot `UNIT * whole + part`, is rounded.
+    /// What a contract earns by an entry that uses so much of its net delta, rounded once to its unit; before it the unit
+    /// price risk, in ten-thousandths of the currency per lot `UNIT * whole + part`, is rounded.
     pub fn credit(&self, contract: usize, twice_price: i64, used: i64, percent: i64) -> i64 {
         const UNIT: u64 = 500_000;
-        let net = self.nets[contract].unsigned_abs();
+        let (unit, net) = (self.units[contract], self.nets[contract].unsigned_abs());
         let (twice_price, share) = (twice_price as u64, used as u64 * percent as u64);
         if twice_price == 0 || share == 0 {
             return 0;
         }
         let (whole, part) = (twice_price / net, (twice_price % net * UNIT + net / 2) / net);
         let halves = whole * share;
-        (halves / 200 + (halves % 200 * UNIT + part * share + 50_000_000) / 100_000_000) as i64
+        if unit == 1 {
+            return (halves / 200 + (halves % 200 * UNIT + part * share + 50_000_000) / 100_000_000)
+                as i64;
+        }
+        let each = 200 * unit;
+        let units = halves / each
+            + (halves % each * UNIT + part * share + 50_000_000 * unit) / (100_000_000 * unit);
+        (units * unit) as i64
     }
 }
 

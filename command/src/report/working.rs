@@ -79,14 +79,17 @@ pub struct Credit {
     pub credit: i64,
 }
 
-/// A row's loss in a scenario in money, the only place where it is worked out: "lots × value × loss".
-fn product(row: Record, scenario: usize) -> i64 {
-    row.get(LOTS) * row.get(VALUE) * row.get(loss(scenario))
+/// A row's loss in a scenario in money, the only place where it is worked out: "lots × value × loss", rounded to the contract's unit,
+/// "halves away from zero".
+fn product(row: Record, scenario: usize, unit: i64) -> i64 {
+    let product = row.get(LOTS) * row.get(VALUE) * row.get(loss(scenario));
+    product.signum() * rounded(product.abs().into(), 1, unit)
 }
 
-/// A charge or a credit, "rounded once to a hundredth, halves up".
-fn rounded(dividend: i128, divisor: i128) -> i64 {
-    i64::try_from(halves_up(dividend, divisor)).expect("a charge or a credit fits in 64 bits")
+/// A charge or a credit, from its exact value in one rounding to the contract's unit, "halves up".
+fn rounded(dividend: i128, divisor: i128, unit: i64) -> i64 {
+    let unit = i128::from(unit);
+    i64::try_from(halves_up(dividend, divisor * unit) * unit).expect("a charge or a credit fits in 64 bits")
 }
 
 fn halves_up(dividend: i128, divisor: i128) -> i128 {
@@ -122,13 +125,14 @@ impl OfContract {
         let number = contract.figures[0];
         let of = |kind: u8| records_of(records, kind, number as usize);
         let row_records = of(ROW);
-        let totals = totals(&row_records);
+        let unit = contract.unit;
+        let totals = totals(&row_records, unit);
         let active = active_scenario(&totals);
         let paired = PAIRED[active - 1];
         let twice_price_risk = (totals[active - 1] + totals[paired - 1] - totals[0] - totals[1]).max(0);
         let net: i64 = contract.book.prompts.iter().map(|prompt| prompt.net).sum();
         let unit_price_risk = unit_price_risk(twice_price_risk, net);
-        let rows = (1..).zip(&row_records).map(|(place, record)| row(place, *record, active)).collect();
+        let rows = (1..).zip(&row_records).map(|(place, record)| row(place, *record, active, unit)).collect();
         let short_option_rate = of(CONTRACT).first().map_or(0, |record| record.get(SHORT_OPTION_RATE));
         let mut working = OfContract {
             number,
@@ -139,9 +143,9 @@ impl OfContract {
             twice_price_risk,
             net,
             unit_price_risk,
-            spread_charges: spread_charges(&contract.book),
-            prompt_charges: prompt_charges(&of(PROMPT), &contract.book),
-            credits: table.map_or(vec![], |table| credits(number, table, unit_price_risk)),
+            spread_charges: spread_charges(&contract.book, unit),
+            prompt_charges: prompt_charges(&of(PROMPT), &contract.book, unit),
+            credits: table.map_or(vec![], |table| credits(number, table, unit_price_risk, unit)),
             short_lots: 0,
             short_option_rate,
             risk: 0,
@@ -183,8 +187,8 @@ fn sum(numbers: impl Iterator<Item = i64>) -> i128 {
 }
 
 /// "For each scenario add lots × value × loss over the contract's rows."
-fn totals(rows: &[Record]) -> [i64; SCENARIOS] {
-    std::array::from_fn(|scenario| rows.iter().map(|row| product(*row, scenario)).sum())
+fn totals(rows: &[Record], unit: i64) -> [i64; SCENARIOS] {
+    std::array::from_fn(|scenario| rows.iter().map(|row| product(*row, scenario, unit)).sum())
 }
 
 /// "The active scenario is the lowest number holding the largest total, even a negative one."
@@ -193,7 +197,7 @@ fn active_scenario(totals: &[i64; SCENARIOS]) -> usize {
     1 + totals.iter().position(|total| *total == largest).unwrap_or_default()
 }
 
-fn row(place: usize, record: Record, active: usize) -> Row {
+fn row(place: usize, record: Record, active: usize, unit: i64) -> Row {
     let class = record.get(CLASS);
     Row {
         place,
@@ -204,23 +208,23 @@ fn row(place: usize, record: Record, active: usize) -> Row {
         delta: record.get(delta(class)),
         value: record.get(VALUE),
         loss: record.get(loss(active - 1)),
-        amount: product(record, active - 1),
+        amount: product(record, active - 1, unit),
     }
 }
 
 /// "The spread's charge is (first + second number) × rate / 10,000."
-fn spread_charges(book: &Book) -> Vec<i64> {
-    let charge = |formed: i64, rate: i64| rounded(i128::from(formed) * i128::from(rate), ONE);
+fn spread_charges(book: &Book, unit: i64) -> Vec<i64> {
+    let charge = |formed: i64, rate: i64| rounded(i128::from(formed) * i128::from(rate), ONE, unit);
     book.spreads.iter().map(|spread| charge(spread.steps.iter().map(|step| step.formed).sum(), spread.rate)).collect()
 }
 
 /// "A prompt's charge is (|used| × first rate + |unused| × second rate) / 10,000."
-fn prompt_charges(records: &[Record], book: &Book) -> Vec<PromptCharge> {
+fn prompt_charges(records: &[Record], book: &Book, unit: i64) -> Vec<PromptCharge> {
     let charge = |(record, prompt): (&Record, &Prompt)| {
         let (rate_in_spreads, rate_outright) = (record.get(RATE_IN_SPREADS), record.get(RATE_OUTRIGHT));
         let in_spreads = i128::from(prompt.used.abs()) * i128::from(rate_in_spreads);
         let outright = i128::from(prompt.unused.abs()) * i128::from(rate_outright);
-        PromptCharge { rate_in_spreads, rate_outright, charge: rounded(in_spreads + outright, ONE) }
+        PromptCharge { rate_in_spreads, rate_outright, charge: rounded(in_spreads + outright, ONE, unit) }
     };
     records.iter().zip(&book.prompts).map(charge).collect()
 }
@@ -232,14 +236,14 @@ fn unit_price_risk(twice_price_risk: i64, net: i64) -> Option<i128> {
 }
 
 /// The credits of a contract, one for each intercontract spread that names it: the unit price risk × used × percent.
-fn credits(contract: i64, table: &Book, unit_price_risk: Option<i128>) -> Vec<Credit> {
+fn credits(contract: i64, table: &Book, unit_price_risk: Option<i128>, unit: i64) -> Vec<Credit> {
     let Some(place) = table.prompts.iter().position(|prompt| prompt.tier == contract) else { return vec![] };
     let naming = table.spreads.iter().filter(|spread| spread.legs.iter().any(|leg| leg.tier == contract));
     let credit = |spread: &crate::account::Spread| {
         let used: i64 = spread.steps.iter().map(|step| step.taken[place]).sum();
         let earned = unit_price_risk.unwrap_or(0) * i128::from(used.abs()) * i128::from(spread.rate);
         let with = spread.legs.iter().map(|leg| leg.tier).find(|tier| *tier != contract).unwrap_or(contract);
-        Credit { spread: spread.place, with, percent: spread.rate, used, credit: rounded(earned, ONE * ONE) }
+        Credit { spread: spread.place, with, percent: spread.rate, used, credit: rounded(earned, ONE * ONE, unit) }
     };
     naming.map(credit).collect()
 }

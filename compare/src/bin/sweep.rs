@@ -31,12 +31,17 @@ struct Sort {
     turned: Vec<Record>,
 }
 
-/// "1: number 0..15; 4-7: short option rate"
+/// "1: number 0..15; 4-7: short option rate"; 2026-09: "Bytes 8-9 of kind 1 hold the unit in hundredths, 0 and 1 both meaning one
+/// hundredth, at most 1,000."
 fn contracts() -> Sort {
     Sort {
         name: "contract",
-        fields: vec![field("number", (1, 1), (0, 15)), field("short option rate", (4, 7), (0, 10_000_000))],
-        unused: &[(2, 3), (8, 95)],
+        fields: vec![
+            field("number", (1, 1), (0, 15)),
+            field("short option rate", (4, 7), (0, 10_000_000)),
+            field("unit", (8, 9), (0, 1_000)),
+        ],
+        unused: &[(2, 3), (10, 95)],
         file: vec![contract(3)],
         turned: vec![],
     }

@@ -6,3 +6,4 @@ pub mod Integers
 pub mod Lists
 pub mod Totals
 pub mod Table
+pub mod UnitLaws

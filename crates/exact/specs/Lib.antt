@@ -2,3 +2,4 @@ pub mod Largest
 pub mod Lists
 pub mod Rounding
 pub mod Signed
+pub mod Units

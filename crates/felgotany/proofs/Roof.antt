@@ -3,6 +3,7 @@
 use Prim.Native.Nat.{ℕ}
 use mathlib.Core.List.{List}
 use Rattle.exact.proofs.Determined.{one-result, one-outcome, one-largest}
+use Rattle.exact.proofs.UnitLaws.{units}
 use Rattle.spread.proofs.Booking.{booked-one}
 use Rattle.spread.proofs.Stepping.{stepped-one}
 use Rattle.spread.proofs.Touching.{counted-one}
@@ -81,6 +82,7 @@ roof =
       reckoned = reckoned;
       printed = printed;
       pairTable = pair-table;
+      units = units;
       equations = record { result = λ x r s. one-result x r s; outcome = λ x r s y after after′. one-outcome x r s y after after′ };
       oneOutcome = one-outcomes;
     }

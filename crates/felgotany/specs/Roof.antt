@@ -11,6 +11,7 @@ use mathlib.Core.List.{List}
 use lib.IntN.{ℤ}
 use lib.ListN.{length}
 use Rattle.exact.specs.Largest.{IsLargest}
+use Rattle.exact.specs.Units.{Units}
 use Rattle.exact.specs.declared.largest.Place.{Place as Largest}
 use Rattle.spread.specs.Book.{Booked}
 use Rattle.spread.specs.Touches.{CountedBook}
@@ -141,5 +142,7 @@ pub record Roof : Type 1 where
   pub reckoned : Reckoned
   pub printed : Printed
   pub pairTable : PairTable
+  -- 2026-09: "The rounding is to be proved once for all units."
+  pub units : Units
   pub equations : Equations
   pub oneOutcome : OneOutcome

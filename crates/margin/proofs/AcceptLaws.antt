@@ -1,13 +1,13 @@
 -- A lawful account's contracts and entries are within the ranges that the figures rest on.
 -- Assumes nothing.
-use Prim.Native.Nat.{ℕ, zero, suc, _≤_, _<_}
+use Prim.Native.Nat.{ℕ, zero, suc, _≤_, _<_, zero-le}
 use native.Mathlib.Nat.{not-suc-le-zero}
 use native.Mathlib.Omega.{arith}
 use mathlib.Core.Path.{_≡_, refl, sym, subst⁻¹}
 use mathlib.Core.Bool.{Bool, true, false, not, _&&_, _||_, false≢true}
 use mathlib.Core.List.{List, []}
 use borrow.Author.Tests.{lt-ltb, eqb-true, eqb-false}
-use lib.Dec.{eqb}
+use lib.Dec.{eqb, lit≤}
 use lib.ListN.{length, getD}
 use Rattle.record.specs.Layout.{Record, contract, secondContract, day, legCount, legsOf, legTier, legSide, legRatio}
 use Rattle.record.specs.Within as ranges
@@ -78,6 +78,10 @@ row-within r w =
       loss-within = λ s l h. w .losses s (record { least = l; most = h });
     }
 
+-- a contract without a record of its own
+pub none-within : ranges.ContractWithin []
+none-within = record { contracts = zero-le; rates = zero-le; units = record { least = lit≤ tt; most = lit≤ tt } }
+
 module _ (account : List Record) (ok : Lawful account) where
   -- a contract of the account, with its parts
   pub contract-within : (own : Record) (c : ℕ) → ranges.ContractWithin own → ContractFit own (promptsOf c account) (rowsOf c account) (spreadsOf c account)
@@ -85,6 +89,7 @@ module _ (account : List Record) (ok : Lawful account) where
       record {
         number = w .contracts;
         rate = w .rates;
+        unit-within = w .units;
         few-prompts = ok .limits .prompts c;
         few-spreads = ok .limits .spreads c;
         each-prompt =

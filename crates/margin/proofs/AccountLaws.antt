@@ -11,7 +11,7 @@ use lib.IntN.{ℤ, pos, natAbs}
 use lib.ListN.{length, getD, take, set, length-set, length-map}
 use lib.Seq.{getD-set-same, getD-set-other, getD-take, length-take-le}
 use Rattle.exact.proofs.Lists.{getD-map}
-use Rattle.record.specs.Layout.{Record, contract, percent}
+use Rattle.record.specs.Layout.{Record, contract, unit, percent}
 use Rattle.account.specs.Parts.{contractsOf}
 use Rattle.account.specs.Records.{records}
 use Rattle.account.specs.Lawful.{Lawful}
@@ -173,11 +173,12 @@ module _ (account : List Record) (law : Lawful account) (all : Lines) (is : Line
               λ i h.
               record {
                 most = (entries-fit account law part ep) .few;
-                price-within = line-at i h .price-within;
                 each =
                     λ k m.
                     let l : k < 32 = omega (arith, (entries-fit account law part ep) .few) in
                     record {
+                      unit-within = line-at i h .unit-within;
+                      price-within = line-at i h .price-within;
                       net-within = line-at i h .net-within;
                       percent-within = (entries-fit account law part ep) .each k m .percent-within;
                       first-within = subst⁻¹ (λ (x : ℕ). x ≤ mostFormed) (first-at bk k l) (formed-most (2 * k));
@@ -197,12 +198,12 @@ module _ (account : List Record) (law : Lawful account) (all : Lines) (is : Line
           let l = getD (all .line) i noLine in
           let k = getD ks i kd in
           let li = line-at i h in
-          ap (λ (c : ℕ). creditsBy c (l .«twice_price») (natAbs (l .net .0)) (records part) (interleaved (b .first) (b .second))) (li .contract-is)
-          ∙ ap₂ (λ (t : ℕ) (z : ℤ). creditsBy (contract (k .own)) t (natAbs z) (records part) (interleaved (b .first) (b .second))) (li .price-is) (li .net-is)
-          ∙ ap₂ (λ (x y : List Spreads). creditsBy (contract (k .own)) (twicePriceRisk (k .totals)) (natAbs (contractNet k)) (records part) (interleaved x y)) (bk .first-is) (bk .second-is)
-          ∙ over-arrays (λ e x y. credit (twicePriceRisk (k .totals)) (entryUse (contract (k .own)) e x y) (percent e) (natAbs (contractNet k))) (records part) ns 32 (numbers-length intercontract (records part) (map tierOf ls)) ((entries-fit account law part ep) .few)
-          ∙ ap (λ (ps : List Open). creditsBy (contract (k .own)) (twicePriceRisk (k .totals)) (natAbs (contractNet k)) (records part) (numbers (steps (map intercontract (records part))) ps)) (tiers-are ks ls lined)
-          ∙ sym (credits-by (contract (k .own)) (twicePriceRisk (k .totals)) (natAbs (contractNet k)) (records part) (map asTier ks) (entries-fit account law part ep))
+          ap₂ (λ (u c : ℕ). creditsBy u c (l .«twice_price») (natAbs (l .net .0)) (records part) (interleaved (b .first) (b .second))) (li .unit-is) (li .contract-is)
+          ∙ ap₂ (λ (t : ℕ) (z : ℤ). creditsBy (unit (k .own)) (contract (k .own)) t (natAbs z) (records part) (interleaved (b .first) (b .second))) (li .price-is) (li .net-is)
+          ∙ ap₂ (λ (x y : List Spreads). creditsBy (unit (k .own)) (contract (k .own)) (twicePriceRisk (k .totals)) (natAbs (contractNet k)) (records part) (interleaved x y)) (bk .first-is) (bk .second-is)
+          ∙ over-arrays (λ e x y. credit (unit (k .own)) (twicePriceRisk (k .totals)) (entryUse (contract (k .own)) e x y) (percent e) (natAbs (contractNet k))) (records part) ns 32 (numbers-length intercontract (records part) (map tierOf ls)) ((entries-fit account law part ep) .few)
+          ∙ ap (λ (ps : List Open). creditsBy (unit (k .own)) (contract (k .own)) (twicePriceRisk (k .totals)) (natAbs (contractNet k)) (records part) (numbers (steps (map intercontract (records part))) ps)) (tiers-are ks ls lined)
+          ∙ sym (credits-by (unit (k .own)) (contract (k .own)) (twicePriceRisk (k .totals)) (natAbs (contractNet k)) (records part) (map asTier ks) (entries-fit account law part ep))
 
       credited : Credited (records part) (map asTier ks) ks (take n cs)
       credited =

@@ -76,15 +76,15 @@ deltas-next : (n : ℕ) (z : ℤ) (zs : List ℤ) → entries (suc n) (deltaEntr
 unfolding entries
 deltas-next n z zs = refl
 
-pub prompts-arrays : (rs : List Record) (used unused : List ℤ) (n : ℕ) → length used ≡ length rs → length unused ≡ length rs → length rs ≤ n
-    → promptCharges rs (deltasIn (entries n (deltaEntry used))) (deltasIn (entries n (deltaEntry unused))) ≡ promptCharges rs used unused
-prompts-arrays [] used unused n e g h = refl
-prompts-arrays (r ∷ rs) used unused zero e g h = absurd (not-suc-le-zero h)
-prompts-arrays (r ∷ rs) [] unused (suc n) e g h = absurd (omega arith)
-prompts-arrays (r ∷ rs) (u ∷ used) [] (suc n) e g h = absurd (omega arith)
-prompts-arrays (r ∷ rs) (u ∷ used) (v ∷ unused) (suc n) e g h =
-    ap₂ (λ (xs ys : List Delta). promptCharges (r ∷ rs) (deltasIn xs) (deltasIn ys)) (deltas-next n u used) (deltas-next n v unused)
-    ∙ ap (λ (x : ℕ). promptCharge (spreadRate r) (outrightRate r) u v + x) (prompts-arrays rs used unused n (omega arith) (omega arith) (le-of-suc-le-suc h))
+pub prompts-arrays : (unit : ℕ) (rs : List Record) (used unused : List ℤ) (n : ℕ) → length used ≡ length rs → length unused ≡ length rs → length rs ≤ n
+    → promptCharges unit rs (deltasIn (entries n (deltaEntry used))) (deltasIn (entries n (deltaEntry unused))) ≡ promptCharges unit rs used unused
+prompts-arrays unit [] used unused n e g h = refl
+prompts-arrays unit (r ∷ rs) used unused zero e g h = absurd (not-suc-le-zero h)
+prompts-arrays unit (r ∷ rs) [] unused (suc n) e g h = absurd (omega arith)
+prompts-arrays unit (r ∷ rs) (u ∷ used) [] (suc n) e g h = absurd (omega arith)
+prompts-arrays unit (r ∷ rs) (u ∷ used) (v ∷ unused) (suc n) e g h =
+    ap₂ (λ (xs ys : List Delta). promptCharges unit (r ∷ rs) (deltasIn xs) (deltasIn ys)) (deltas-next n u used) (deltas-next n v unused)
+    ∙ ap (λ (x : ℕ). promptCharge unit (spreadRate r) (outrightRate r) u v + x) (prompts-arrays unit rs used unused n (omega arith) (omega arith) (le-of-suc-le-suc h))
 
 -- ---- what the spread steps are handed is what the definitions speak of
 

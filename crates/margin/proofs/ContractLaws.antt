@@ -12,7 +12,7 @@ use lib.ListN.{length, getD, take, length-map, List·getD-eq-default}
 use Rattle.exact.specs.Lists.{sum, sumℤ}
 use Rattle.exact.proofs.Lists.{abs-sum}
 use Rattle.exact.proofs.Totals.{first-within as first-holding}
-use Rattle.record.specs.Layout.{Record, contract, shortOptionRate, ratePerSpread}
+use Rattle.record.specs.Layout.{Record, contract, shortOptionRate, unit, ratePerSpread}
 use Rattle.spread.specs.Steps.{Open, Taker, steps, numbers, usedOf, unusedOf}
 use Rattle.spread.specs.Touches.{touches}
 use Rattle.spread.specs.declared.Spreads.{Spreads}
@@ -48,7 +48,7 @@ everywhere n most zs e h k = go (decLt k n)
     go (yes l) = h k l
     go (no l) = subst⁻¹ (λ (z : ℤ). natAbs z ≤ most) (List·getD-eq-default zs (pos 0) (omega (arith, l))) zero-le
 
-module _ (own : Record) (prompts rows spreads : List Record) (w : ContractFit own prompts rows spreads) (q : Position) (is : PositionOf prompts rows q) (most : Bounded 128 q) where
+module _ (own : Record) (prompts rows spreads : List Record) (w : ContractFit own prompts rows spreads) (q : Position) (is : PositionOf (unit own) prompts rows q) (most : Bounded 128 q) where
   abbrev nets : List ℤ
   nets = deltasIn (q .nets)
 
@@ -110,7 +110,7 @@ module _ (own : Record) (prompts rows spreads : List Record) (w : ContractFit ow
   prompts-open = ap length nets-are ∙ opens-length prompts (netDeltas prompts rows) (length-map prompts _)
 
   module _ (b : Book) (bk : BookOf ss ps b) where
-    pub spreads-room : SpreadsWithin spreads (b .first) (b .second)
+    pub spreads-room : SpreadsWithin (unit own) spreads (b .first) (b .second)
     spreads-room =
         record {
           most = w .few-spreads;
@@ -118,13 +118,14 @@ module _ (own : Record) (prompts rows spreads : List Record) (w : ContractFit ow
               λ j h.
               let l : j < 32 = omega (arith, w .few-spreads) in
               record {
+                unit-within = w .unit-within .most;
                 rate = w .each-spread j h .rate;
                 first-within = rw (bk .first-is) (first-within (numbers ss ps) (λ i. 2 * i) mostDelta number-most j l);
                 second-within = rw (bk .second-is) (first-within (numbers ss ps) (λ i. 2 * i + 1) mostDelta number-most j l);
               };
         }
 
-    pub prompts-room : PromptsWithin prompts (b .used) (b .unused)
+    pub prompts-room : PromptsWithin (unit own) prompts (b .used) (b .unused)
     prompts-room =
         record {
           most = w .few-prompts;
@@ -132,6 +133,7 @@ module _ (own : Record) (prompts rows spreads : List Record) (w : ContractFit ow
               λ j h.
               let l : j < 32 = omega (arith, w .few-prompts) in
               record {
+                unit-within = w .unit-within .most;
                 spread-rate = w .each-prompt j h .spread-rate;
                 outright-rate = w .each-prompt j h .outright-rate;
                 used-within = rw (bk .used-is) (delta-within (usedOf ss ps) mostDelta used-most j l);
@@ -139,27 +141,28 @@ module _ (own : Record) (prompts rows spreads : List Record) (w : ContractFit ow
               };
         }
 
-    pub interprompt-is : interpromptCharge spreads (interleaved (b .first) (b .second)) ≡ interpromptOf k
+    pub interprompt-is : interpromptCharge (unit own) spreads (interleaved (b .first) (b .second)) ≡ interpromptOf k
     interprompt-is =
-        ap₂ (λ (x y : List Spreads). interpromptCharge spreads (interleaved x y)) (bk .first-is) (bk .second-is)
-        ∙ over-arrays (λ s. spreadCharge (ratePerSpread s)) spreads (numbers ss ps) 32 (numbers-length interprompt spreads ps) (w .few-spreads)
-        ∙ ap (λ (x : List Open). interpromptCharge spreads (numbers ss x)) nets-are
+        ap₂ (λ (x y : List Spreads). interpromptCharge (unit own) spreads (interleaved x y)) (bk .first-is) (bk .second-is)
+        ∙ over-arrays (λ s. spreadCharge (unit own) (ratePerSpread s)) spreads (numbers ss ps) 32 (numbers-length interprompt spreads ps) (w .few-spreads)
+        ∙ ap (λ (x : List Open). interpromptCharge (unit own) spreads (numbers ss x)) nets-are
 
-    pub prompt-is : promptCharges prompts (deltasIn (b .used)) (deltasIn (b .unused)) ≡ promptOf k
+    pub prompt-is : promptCharges (unit own) prompts (deltasIn (b .used)) (deltasIn (b .unused)) ≡ promptOf k
     prompt-is =
-        ap₂ (λ (x y : List Delta). promptCharges prompts (deltasIn x) (deltasIn y)) (bk .used-is) (bk .unused-is)
-        ∙ prompts-arrays prompts (usedOf ss ps) (unusedOf ss ps) 32 (used-length ss ps ∙ prompts-open) (unused-length ss ps ∙ prompts-open) (w .few-prompts)
-        ∙ ap (λ (x : List Open). promptCharges prompts (usedOf ss x) (unusedOf ss x)) nets-are
+        ap₂ (λ (x y : List Delta). promptCharges (unit own) prompts (deltasIn x) (deltasIn y)) (bk .used-is) (bk .unused-is)
+        ∙ prompts-arrays (unit own) prompts (usedOf ss ps) (unusedOf ss ps) 32 (used-length ss ps ∙ prompts-open) (unused-length ss ps ∙ prompts-open) (w .few-prompts)
+        ∙ ap (λ (x : List Open). promptCharges (unit own) prompts (usedOf ss x) (unusedOf ss x)) nets-are
 
     -- the line, from what was made of the rows, the book and the contract's own record
-    pub line-is : (l : Line) (rate : ℕ) → l .contract ≡ contract own → Scanned (q .totals .0) (l .active) (l .scanning .0) (l .«twice_price») → Charged prompts spreads b (l .interprompt .0) (l .prompt .0)
+    pub line-is : (l : Line) (rate : ℕ) → l .contract ≡ contract own → l .unit ≡ unit own → Scanned (q .totals .0) (l .active) (l .scanning .0) (l .«twice_price») → Charged (unit own) prompts spreads b (l .interprompt .0) (l .prompt .0)
         → rate ≡ shortOptionRate own → l .minimum .0 ≡ shortOptionMinimum (q .shorts) rate → l .minimum .0 ≤ mostLots * mostRate → l .net .0 ≡ sumℤ nets → LineOf k l
-    line-is l rate ec sc ch er em hm en =
-        let active : l .active ≡ activeScenario (totals rows) = sc .active-is ∙ ap activeScenario (is .totals-are) in
-        let sixteen : length (totals rows) ≡ 16 = refl in
-        let few : activeScenario (totals rows) ≤ 16 = first-holding (totals rows) (omega arith) in
+    line-is l rate ec eu sc ch er em hm en =
+        let active : l .active ≡ activeScenario (totals (unit own) rows) = sc .active-is ∙ ap activeScenario (is .totals-are) in
+        let sixteen : length (totals (unit own) rows) ≡ 16 = refl in
+        let few : activeScenario (totals (unit own) rows) ≤ 16 = first-holding (totals (unit own) rows) (omega arith) in
         record {
           contract-is = ec;
+          unit-is = eu;
           active-is = active;
           scanning-is = sc .scanning-is ∙ ap scanningRisk (is .totals-are);
           interprompt-is = ch .interprompt-is ∙ interprompt-is;
@@ -176,6 +179,7 @@ module _ (own : Record) (prompts rows spreads : List Record) (w : ContractFit ow
                 prompt-within = omega (arith, ch .prompt-within);
                 minimum-within = hm;
               };
+          unit-within = record { least = omega (arith, eu, w .unit-within .least); most = omega (arith, eu, w .unit-within .most) };
           price-within = sc .price-within;
           net-within = subst⁻¹ (λ (z : ℤ). natAbs z ≤ mostDelta) en (le-trans (abs-sum nets) net-sizes);
         }

@@ -83,9 +83,9 @@ left-within c e ps w =
 pub rest-within : (e : Record) (es : List Record) → EntriesFit (e ∷ es) → EntriesFit es
 rest-within e es w = record { few = omega (arith, w .few); each = λ k h. w .each (suc k) (suc-le-suc h) }
 
-pub credits-by : (c twice net : ℕ) (es : List Record) (ps : List Open) → EntriesFit es
-    → credits c twice net es ps ≡ creditsBy c twice net es (numbers (steps (map intercontract es)) ps)
-credits-by c twice net [] ps w = refl
-credits-by c twice net (e ∷ es) ps w =
-    ap₂ _+_ (ap (λ (u : ℕ). credit twice u (percent e) net) (used-in c e ps (w .each 0 (suc-le-suc zero-le))))
-    (credits-by c twice net es (afterEntry e ps) (rest-within e es w))
+pub credits-by : (unit c twice net : ℕ) (es : List Record) (ps : List Open) → EntriesFit es
+    → credits unit c twice net es ps ≡ creditsBy unit c twice net es (numbers (steps (map intercontract es)) ps)
+credits-by unit c twice net [] ps w = refl
+credits-by unit c twice net (e ∷ es) ps w =
+    ap₂ _+_ (ap (λ (u : ℕ). credit unit twice u (percent e) net) (used-in c e ps (w .each 0 (suc-le-suc zero-le))))
+    (credits-by unit c twice net es (afterEntry e ps) (rest-within e es w))

@@ -1,7 +1,11 @@
 -- The reckoned examples hold of the definitions: each is computed.
 -- Assumes nothing.
-use mathlib.Core.Path.{refl}
-use Rattle.margin.specs.Reckoned.{Reckoned, Printed}
+use mathlib.Core.Path.{_≡_, refl}
+use mathlib.Core.List.{[], _∷_, map}
+use lib.IntN.{pos}
+use Rattle.account.specs.Records.{records}
+use Rattle.margin.specs.Figures.{figures}
+use Rattle.margin.specs.Reckoned.{printedAt, Reckoned, Printed}
 
 pub reckoned : Reckoned
 reckoned =
@@ -34,7 +38,27 @@ reckoned =
       use-of-nothing = refl;
       touch-of-nothing = refl;
       use-of-half = refl;
+      yen-half = refl;
+      yen-below = refl;
+      yen-half-gained = refl;
+      yen-below-gained = refl;
+      yen-total = refl;
+      yen-charge-below = refl;
+      yen-charge = refl;
+      yen-charge-once = refl;
+      yen-prompt-below = refl;
+      yen-prompt = refl;
+      yen-credit-below = refl;
+      yen-credit-once = refl;
+      yen-credit = refl;
+      yen-minimum = refl;
     }
 
+at-one : figures (records (printedAt 1)) ≡ map pos (3 ∷ 13 ∷ 383250 ∷ 0 ∷ 400 ∷ 0 ∷ 1500 ∷ 383650 ∷ 383650 ∷ [])
+at-one = refl
+
+in-yen : figures (records (printedAt 100)) ≡ map pos (3 ∷ 13 ∷ 383200 ∷ 0 ∷ 400 ∷ 0 ∷ 1500 ∷ 383600 ∷ 383600 ∷ [])
+in-yen = refl
+
 pub printed : Printed
-printed = record { accepted = refl; prints = refl }
+printed = record { accepted = refl; prints = refl; at-one = at-one; in-yen = in-yen }

@@ -11,7 +11,7 @@ use lib.IntN.{ℤ, pos, natAbs, _+ℤ_, +ℤ-idl, +ℤ-idr}
 use lib.ListN.{length, getD, length-append, length-map}
 use Rattle.exact.specs.Lists.{consIf, keep, count, oneIf, sum, sumℤ}
 use Rattle.exact.proofs.Lists.{map-same, sumℤ-map-add}
-use Rattle.record.specs.Layout.{Record, kind, contract, ratePerSpread, spreadRate, outrightRate}
+use Rattle.record.specs.Layout.{Record, kind, contract, unit, ratePerSpread, spreadRate, outrightRate}
 use Rattle.account.specs.Accepted.{Each}
 use Rattle.account.specs.Check.{checked}
 use Rattle.account.specs.Lawful.{Lawful}
@@ -35,7 +35,7 @@ use Rattle.margin.specs.Deltas.{rowDelta, netDeltas, interprompt, interc
 use Rattle.margin.specs.Lines.{eightOf, eightsFrom}
 use Rattle.margin.specs.Margin.{shortOptions, shortLots}
 use Rattle.margin.specs.Scanning.{product, total, totals}
-use Rattle.margin.specs.Skipped.{allRows, RowsOnce, overPlaces, NothingOver, TableOver, NoneSkipped}
+use Rattle.margin.specs.Skipped.{allRows, ownerOf, lossIn, RowsOnce, overPlaces, NothingOver, TableOver, NoneSkipped}
 use Rattle.margin.proofs.AskedLaws.{contract-length, table-length}
 use Rattle.margin.proofs.LineLaws.{opens-length, numbers-length, used-length, unused-length}
 use Rattle.margin.proofs.NetLaws.{all-rows}
@@ -44,27 +44,28 @@ use Rattle.margin.proofs.QuestionLaws.{figures-length}
 
 -- ---- what the rows come to, contract by contract and all together
 
-module _ (f : Record → ℤ) where
+-- of what a row comes to, given its contract's own record
+module _ (f : Record → Record → ℤ) where
   abbrev ofRows : List Record → Record → ℤ
-  ofRows xs own = sumℤ (map f (rowsOf (contract own) xs))
+  ofRows xs own = sumℤ (map (f own) (rowsOf (contract own) xs))
 
   -- what a record gives to a contract's rows
   abbrev share : Record → Record → ℤ
-  share x own = cond (ofContract 3 (contract own) x) (f x) (pos 0)
+  share x own = cond (ofContract 3 (contract own) x) (f own x) (pos 0)
 
   first-share : (x : Record) (xs : List Record) (own : Record) → ofRows (x ∷ xs) own ≡ share x own +ℤ ofRows xs own
   first-share x xs own = go (ofContract 3 (contract own) x)
     where
-      go : (t : Bool) → sumℤ (map f (consIf t x (rowsOf (contract own) xs))) ≡ cond t (f x) (pos 0) +ℤ ofRows xs own
+      go : (t : Bool) → sumℤ (map (f own) (consIf t x (rowsOf (contract own) xs))) ≡ cond t (f own x) (pos 0) +ℤ ofRows xs own
       go true = refl
       go false = sym (+ℤ-idl (ofRows xs own))
 
   module _ (x : Record) where
     -- a row, at a contract
-    own-share : kind x ≡ 3 → (own : Record) → share x own ≡ cond (eqb (contract own) (contract x)) (f x) (pos 0)
+    own-share : kind x ≡ 3 → (own : Record) → share x own ≡ cond (eqb (contract own) (contract x)) (f own x) (pos 0)
     own-share e own =
-        ap (λ (t : Bool). cond (t && eqb (contract x) (contract own)) (f x) (pos 0)) (eq-eqb (kind x) 3 e)
-        ∙ ap (λ (t : Bool). cond t (f x) (pos 0)) (eqb-turned (contract x) (contract own))
+        ap (λ (t : Bool). cond (t && eqb (contract x) (contract own)) (f own x) (pos 0)) (eq-eqb (kind x) 3 e)
+        ∙ ap (λ (t : Bool). cond t (f own x) (pos 0)) (eqb-turned (contract x) (contract own))
 
     none-shared : kind x ≡ 3 → (owns : List Record) → owners x owns ≡ 0 → sumℤ (map (share x) owns) ≡ pos 0
     none-shared k [] e = refl
@@ -72,47 +73,51 @@ module _ (f : Record → ℤ) where
         ap (λ (z : ℤ). z +ℤ sumℤ (map (share x) owns)) (own-share k own) ∙ go (eqb (contract own) (contract x)) (none-shared k owns) e
       where
         go : (t : Bool) → (owners x owns ≡ 0 → sumℤ (map (share x) owns) ≡ pos 0) → oneIf t + owners x owns ≡ 0
-            → cond t (f x) (pos 0) +ℤ sumℤ (map (share x) owns) ≡ pos 0
+            → cond t (f own x) (pos 0) +ℤ sumℤ (map (share x) owns) ≡ pos 0
         go true rest z = absurd (omega arith)
         go false rest z = +ℤ-idl (sumℤ (map (share x) owns)) ∙ rest (omega arith)
 
-    once-shared : kind x ≡ 3 → (owns : List Record) → owners x owns ≡ 1 → sumℤ (map (share x) owns) ≡ f x
+    once-shared : kind x ≡ 3 → (owns : List Record) → owners x owns ≡ 1 → sumℤ (map (share x) owns) ≡ f (ownerOf owns x) x
     once-shared k [] e = absurd (omega arith)
     once-shared k (own ∷ owns) e =
         ap (λ (z : ℤ). z +ℤ sumℤ (map (share x) owns)) (own-share k own) ∙ go (eqb (contract own) (contract x)) (once-shared k owns) e
       where
-        go : (t : Bool) → (owners x owns ≡ 1 → sumℤ (map (share x) owns) ≡ f x) → oneIf t + owners x owns ≡ 1
-            → cond t (f x) (pos 0) +ℤ sumℤ (map (share x) owns) ≡ f x
-        go true rest z = ap (λ (y : ℤ). f x +ℤ y) (none-shared k owns (omega arith)) ∙ +ℤ-idr (f x)
+        go : (t : Bool) → (owners x owns ≡ 1 → sumℤ (map (share x) owns) ≡ f (ownerOf owns x) x) → oneIf t + owners x owns ≡ 1
+            → cond t (f own x) (pos 0) +ℤ sumℤ (map (share x) owns) ≡ f (cond t own (ownerOf owns x)) x
+        go true rest z = ap (λ (y : ℤ). f own x +ℤ y) (none-shared k owns (omega arith)) ∙ +ℤ-idr (f own x)
         go false rest z = +ℤ-idl (sumℤ (map (share x) owns)) ∙ rest (omega arith)
 
     -- a record of another kind
     no-row : (kind x ≡ 3 → ⊥) → (owns : List Record) → sumℤ (map (share x) owns) ≡ pos 0
     no-row d [] = refl
     no-row d (own ∷ owns) =
-        ap (λ (t : Bool). cond (t && eqb (contract x) (contract own)) (f x) (pos 0) +ℤ sumℤ (map (share x) owns)) (ne-eqb (kind x) 3 d)
+        ap (λ (t : Bool). cond (t && eqb (contract x) (contract own)) (f own x) (pos 0) +ℤ sumℤ (map (share x) owns)) (ne-eqb (kind x) 3 d)
         ∙ +ℤ-idl (sumℤ (map (share x) owns))
         ∙ no-row d owns
 
   module _ (owns : List Record) where
+    -- what a row comes to, by the contract that it names
+    abbrev owned : Record → ℤ
+    owned x = f (ownerOf owns x) x
+
     nothing-shared : (owns : List Record) → sumℤ (map (ofRows []) owns) ≡ pos 0
     nothing-shared [] = refl
     nothing-shared (own ∷ owns) = ap (λ (z : ℤ). pos 0 +ℤ z) (nothing-shared owns)
 
-    pub all-shared : (xs : List Record) → Each (λ r. (kind r ≡ 5 → ⊥) → owners r owns ≡ 1) xs → sumℤ (map (ofRows xs) owns) ≡ sumℤ (map f (allRows xs))
+    pub all-shared : (xs : List Record) → Each (λ r. (kind r ≡ 5 → ⊥) → owners r owns ≡ 1) xs → sumℤ (map (ofRows xs) owns) ≡ sumℤ (map owned (allRows xs))
     all-shared [] h = nothing-shared owns
     all-shared (x ∷ xs) h =
         ap sumℤ (map-same (ofRows (x ∷ xs)) (λ own. share x own +ℤ ofRows xs own) (first-share x xs) owns)
         ∙ sumℤ-map-add (share x) (ofRows xs) owns
         ∙ go (ofKind 3 x) refl (all-shared xs (h .1))
       where
-        go : (t : Bool) → ofKind 3 x ≡ t → sumℤ (map (ofRows xs) owns) ≡ sumℤ (map f (allRows xs))
-            → sumℤ (map (share x) owns) +ℤ sumℤ (map (ofRows xs) owns) ≡ sumℤ (map f (consIf t x (allRows xs)))
+        go : (t : Bool) → ofKind 3 x ≡ t → sumℤ (map (ofRows xs) owns) ≡ sumℤ (map owned (allRows xs))
+            → sumℤ (map (share x) owns) +ℤ sumℤ (map (ofRows xs) owns) ≡ sumℤ (map owned (consIf t x (allRows xs)))
         go true e rest =
             let k = eqb-true (kind x) 3 e in
             ap₂ _+ℤ_ (once-shared x k owns (h .0 (λ z. omega (arith, k, z)))) rest
         go false e rest =
-            ap₂ _+ℤ_ (no-row x (eqb-false (kind x) 3 e) owns) rest ∙ +ℤ-idl (sumℤ (map f (allRows xs)))
+            ap₂ _+ℤ_ (no-row x (eqb-false (kind x) 3 e) owns) rest ∙ +ℤ-idl (sumℤ (map owned (allRows xs)))
 
 -- sums of naturals, signed
 pos-sum : (xs : List ℕ) → sumℤ (map pos xs) ≡ pos (sum xs)
@@ -127,21 +132,21 @@ short-rows rows = ap sumℤ (sym (map-map pos shortOptions rows)) ∙ pos-sum (m
 
 -- ---- the sixteen totals
 
-total-at : (rows : List Record) (scenario : ℕ) → 1 ≤ scenario → scenario ≤ 16 → totalOf (totals rows) scenario ≡ total rows scenario
-total-at rows scenario l h =
+total-at : (unit : ℕ) (rows : List Record) (scenario : ℕ) → 1 ≤ scenario → scenario ≤ 16 → totalOf (totals unit rows) scenario ≡ total unit rows scenario
+total-at unit rows scenario l h =
     let e : scenario - 1 + 1 ≡ scenario = omega arith in
-    totals-at rows (scenario - 1) (omega arith) ∙ ap (total rows) e
+    totals-at unit rows (scenario - 1) (omega arith) ∙ ap (total unit rows) e
 
 module _ (account : List Record) (law : Lawful account) (within : Each KindWithin account) where
   abbrev owns : List Record
   owns = contractsOf account
 
-  together : (f : Record → ℤ) → sumℤ (map (ofRows f account) owns) ≡ sumℤ (map f (allRows account))
+  together : (f : Record → Record → ℤ) → sumℤ (map (ofRows f account) owns) ≡ sumℤ (map (λ x. f (ownerOf owns x) x) (allRows account))
   together f = all-shared f owns account (owned-once account law within)
 
   -- over the contracts as over their own records
-  over-owns : (g : Contract → ℤ) (f : Record → ℤ) → ((own : Record) → g (partsIn account own) ≡ ofRows f account own)
-      → sumℤ (map g (contracts account)) ≡ sumℤ (map f (allRows account))
+  over-owns : (g : Contract → ℤ) (f : Record → Record → ℤ) → ((own : Record) → g (partsIn account own) ≡ ofRows f account own)
+      → sumℤ (map g (contracts account)) ≡ sumℤ (map (λ x. f (ownerOf owns x) x) (allRows account))
   over-owns g f e =
       ap sumℤ (map-map g (partsIn account) owns ∙ map-same (λ own. g (partsIn account own)) (ofRows f account) e owns) ∙ together f
 
@@ -150,15 +155,15 @@ module _ (account : List Record) (law : Lawful account) (within : Each KindWithi
       record {
         totals =
             λ scenario l h.
-            over-owns (λ k. totalOf (k .totals) scenario) (product scenario) (λ own. total-at (rowsOf (contract own) account) scenario l h);
+            over-owns (λ k. totalOf (k .totals) scenario) (λ own. product (unit own) scenario) (λ own. total-at (unit own) (rowsOf (contract own) account) scenario l h);
         nets =
-            over-owns contractNet rowDelta
+            over-owns contractNet (λ own. rowDelta)
             (λ own. all-rows (promptsOf (contract own) account) (rowsOf (contract own) account) (law .onePrompt (contract own)));
         prompts = λ c h. all-rows (promptsOf c account) (rowsOf c account) (law .onePrompt c);
         shorts =
             sum-pos (map (λ k. k .shorts) (contracts account)) (map shortOptions (allRows account))
             (ap sumℤ (map-map pos (λ k. k .shorts) (contracts account))
-            ∙ over-owns (λ k. pos (k .shorts)) (λ r. pos (shortOptions r)) (λ own. sym (short-rows (rowsOf (contract own) account)))
+            ∙ over-owns (λ k. pos (k .shorts)) (λ own r. pos (shortOptions r)) (λ own. sym (short-rows (rowsOf (contract own) account)))
             ∙ ap sumℤ (sym (map-map pos shortOptions (allRows account))));
       }
 
@@ -183,14 +188,14 @@ over-steps amount (r ∷ rs) (a ∷ b ∷ ns) e =
     let q : suc (suc (2 * i + 1)) ≡ 2 * suc i + 1 = omega arith in
     ap₂ (λ (j k : ℕ). amount (getD rs i []) (getD (a ∷ b ∷ ns) j 0) (getD (a ∷ b ∷ ns) k 0)) p q))
 
-over-prompts : (ps : List Record) (used unused : List ℤ) → length used ≡ length ps → length unused ≡ length ps
-    → promptCharges ps used unused
-    ≡ overPlaces (length ps) (λ i. promptCharge (spreadRate (getD ps i [])) (outrightRate (getD ps i [])) (getD used i (pos 0)) (getD unused i (pos 0)))
-over-prompts [] used unused e g = refl
-over-prompts (p ∷ ps) [] unused e g = absurd (omega arith)
-over-prompts (p ∷ ps) (u ∷ used) [] e g = absurd (omega arith)
-over-prompts (p ∷ ps) (u ∷ used) (n ∷ unused) e g =
-    ap (λ (x : ℕ). promptCharge (spreadRate p) (outrightRate p) u n + x) (over-prompts ps used unused (omega arith) (omega arith))
+over-prompts : (unit : ℕ) (ps : List Record) (used unused : List ℤ) → length used ≡ length ps → length unused ≡ length ps
+    → promptCharges unit ps used unused
+    ≡ overPlaces (length ps) (λ i. promptCharge unit (spreadRate (getD ps i [])) (outrightRate (getD ps i [])) (getD used i (pos 0)) (getD unused i (pos 0)))
+over-prompts unit [] used unused e g = refl
+over-prompts unit (p ∷ ps) [] unused e g = absurd (omega arith)
+over-prompts unit (p ∷ ps) (u ∷ used) [] e g = absurd (omega arith)
+over-prompts unit (p ∷ ps) (u ∷ used) (n ∷ unused) e g =
+    ap (λ (x : ℕ). promptCharge unit (spreadRate p) (outrightRate p) u n + x) (over-prompts unit ps used unused (omega arith) (omega arith))
 
 nothing-over : (own : Record) (prompts rows spreads : List Record) → NothingOver (contractFrom own prompts rows spreads)
 nothing-over own prompts rows spreads =
@@ -207,8 +212,8 @@ nothing-over own prompts rows spreads =
       unused = unused;
       formed = formed;
       book = contract-length own prompts rows spreads;
-      interprompt = over-steps (λ s. spreadCharge (ratePerSpread s)) spreads (numbersOf k) formed;
-      prompt = over-prompts prompts (usedDeltas k) (unusedDeltas k) used unused;
+      interprompt = over-steps (λ s. spreadCharge (unit own) (ratePerSpread s)) spreads (numbersOf k) formed;
+      prompt = over-prompts (unit own) prompts (usedDeltas k) (unusedDeltas k) used unused;
     }
 
 table-over : (entries : List Record) (ks : List Contract) → TableOver entries ks

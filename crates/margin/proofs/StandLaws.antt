@@ -11,7 +11,7 @@ use lib.Dec.{eqb}
 use lib.IntN.{ℤ, natAbs}
 use lib.ListN.{length, getD}
 use Rattle.exact.specs.Lists.{consIf, keep, count, oneIf}
-use Rattle.record.specs.Layout.{Record, contract}
+use Rattle.record.specs.Layout.{Record, contract, unit}
 use Rattle.record.specs.Within as ranges
 use Rattle.account.specs.Lawful.{Lawful}
 use Rattle.account.specs.Notes.{part, entryPart}
@@ -32,16 +32,16 @@ use Rattle.margin.specs.Numbers.{BookNumbers}
 use Rattle.margin.specs.Position.{PositionOf, Bounded}
 use Rattle.margin.specs.Promised.{LineOf, PositionFit, contractWith}
 use Rattle.margin.specs.Within.{ContractFit, EntriesFit}
-use Rattle.margin.proofs.AcceptLaws.{contract-within, own-within, entries-within}
+use Rattle.margin.proofs.AcceptLaws.{none-within, contract-within, own-within, entries-within}
 use Rattle.margin.proofs.AskedLaws.{count-keep}
 use Rattle.margin.proofs.RecordLaws.{count-is}
 
 -- a contract known by its rows is the one known by what they come to
-pub contract-with : (own : Record) (prompts rows spreads : List Record) (p : Position) → PositionOf prompts rows p → contractFrom own prompts rows spreads ≡ contractWith own prompts spreads p
+pub contract-with : (own : Record) (prompts rows spreads : List Record) (p : Position) → PositionOf (unit own) prompts rows p → contractFrom own prompts rows spreads ≡ contractWith own prompts spreads p
 contract-with own prompts rows spreads p is =
     λ i. record { own = own; prompts = prompts; spreads = spreads; totals = sym (is .totals-are) i; nets = sym (is .nets-are) i; shorts = sym (is .shorts-are) i }
 
-pub line-with : (own : Record) (prompts rows spreads : List Record) (p : Position) → PositionOf prompts rows p → (l : Line) → LineOf (contractFrom own prompts rows spreads) l → LineOf (contractWith own prompts spreads p) l
+pub line-with : (own : Record) (prompts rows spreads : List Record) (p : Position) → PositionOf (unit own) prompts rows p → (l : Line) → LineOf (contractFrom own prompts rows spreads) l → LineOf (contractWith own prompts spreads p) l
 line-with own prompts rows spreads p is l = subst (λ (k : Contract). LineOf k l) (contract-with own prompts rows spreads p is)
 
 -- ---- the one record of a contract's own part
@@ -91,83 +91,91 @@ module _ (account : List Record) (law : Lawful account) where
     pub of-contract : (k : ℕ) → k ≤ 4 → (bytes : List ℕ) → PartOf account (part k c) bytes → records bytes ≡ keep (ofContract k c) account
     of-contract k hk bytes is = is .are ∙ contract-part k c hk h account
 
+    -- its own record
+    module _ (i : ℕ) (listed : i < length (contractsOf account)) (number : c ≡ contract (getD (contractsOf account) i [])) (own : List ℕ) (eo : PartOf account (part 1 c) own) where
+      abbrev its : Record
+      its = getD (contractsOf account) i []
+
+      own-kept : keep (ofContract 1 c) account ≡ its ∷ []
+      own-kept =
+          sym (keep-keep (ofKind 1) (λ r. eqb (contract r) c) account)
+          ∙ kept-at (λ r. eqb (contract r) c) (contractsOf account) i listed (eq-eqb (contract its) c (sym number))
+          (omega (arith, count-keep (ofKind 1) (λ r. eqb (contract r) c) account, law .named .once c))
+
+      own-is : own ≡ its
+      own-is =
+          one-record own its (of-contract 1 (omega arith) own eo ∙ own-kept)
+          (eo .whole ∙ ap (λ (rs : List Record). length rs * 96) (contract-part 1 c (omega arith) h account ∙ own-kept))
+
+      pub its-within : ranges.ContractWithin own
+      its-within = subst⁻¹ ranges.ContractWithin own-is (own-within account law i listed)
+
     -- what its rows come to
     module _ (prompts rows : List ℕ) (ep : PartOf account (part 2 c) prompts) (er : PartOf account (part 3 c) rows) where
       pub rows-room : ContractFit [] (promptsOf c account) (records rows) (spreadsOf c account)
-      rows-room = rw (of-contract 3 (omega arith) rows er) (contract-within account law [] c (record { contracts = zero-le; rates = zero-le }))
+      rows-room = rw (of-contract 3 (omega arith) rows er) (contract-within account law [] c none-within)
 
       pub prompts-few : recordCount prompts ≤ 32
       prompts-few = omega (arith, count-is prompts, ap length (of-contract 2 (omega arith) prompts ep), law .limits .prompts c)
 
-      pub position-is : (p : Position) → PositionOf (records prompts) (records rows) p → Bounded 128 p → PositionAt account c p
-      position-is p is most =
+      pub position-is : (u : ℕ) (p : Position) → PositionOf u (records prompts) (records rows) p → Bounded 128 p → PositionAt u account c p
+      position-is u p is most =
           record {
-            is = subst (λ (rs : List Record). PositionOf (promptsOf c account) rs p) (of-contract 3 (omega arith) rows er) (subst (λ (ps : List Record). PositionOf ps (records rows) p) (of-contract 2 (omega arith) prompts ep) is);
+            is = subst (λ (rs : List Record). PositionOf u (promptsOf c account) rs p) (of-contract 3 (omega arith) rows er) (subst (λ (ps : List Record). PositionOf u ps (records rows) p) (of-contract 2 (omega arith) prompts ep) is);
             most = most;
           }
 
-    module _ (prompts spreads : List ℕ) (ep : PartOf account (part 2 c) prompts) (es : PartOf account (part 4 c) spreads) (p : Position) (at : PositionAt account c p) where
+    module _ (prompts spreads : List ℕ) (ep : PartOf account (part 2 c) prompts) (es : PartOf account (part 4 c) spreads) (u : ℕ) (p : Position) (at : PositionAt u account c p) where
       ps-are : records prompts ≡ promptsOf c account
       ps-are = of-contract 2 (omega arith) prompts ep
+
+      here : (own : Record) → u ≡ unit own → PositionOf (unit own) (promptsOf c account) (rowsOf c account) p
+      here own eu = subst (λ (n : ℕ). PositionOf n (promptsOf c account) (rowsOf c account) p) eu (at .is)
 
       ss-are : records spreads ≡ spreadsOf c account
       ss-are = of-contract 4 (omega arith) spreads es
 
-      fits : (own : Record) → ranges.ContractWithin own → PositionFit own (records prompts) (records spreads) p
-      fits own w =
+      fits : (own : Record) → u ≡ unit own → ranges.ContractWithin own → PositionFit own (records prompts) (records spreads) p
+      fits own eu w =
           record {
             rows = rowsOf c account;
             fit = rw (ps-are, ss-are) (contract-within account law own c w);
-            is = rw ps-are (at .is);
+            is = rw ps-are (here own eu);
             most = at .most;
           }
 
-      with-is : (own : Record) → contractWith own (records prompts) (records spreads) p ≡ contractFrom own (promptsOf c account) (rowsOf c account) (spreadsOf c account)
-      with-is own = ap₂ (λ (ps ss : List Record). contractWith own ps ss p) ps-are ss-are ∙ sym (contract-with own (promptsOf c account) (rowsOf c account) (spreadsOf c account) p (at .is))
+      with-is : (own : Record) → u ≡ unit own → contractWith own (records prompts) (records spreads) p ≡ contractFrom own (promptsOf c account) (rowsOf c account) (spreadsOf c account)
+      with-is own eu = ap₂ (λ (ps ss : List Record). contractWith own ps ss p) ps-are ss-are ∙ sym (contract-with own (promptsOf c account) (rowsOf c account) (spreadsOf c account) p (here own eu))
 
       -- whatever its own record
-      pub parts-room : PositionFit [] (records prompts) (records spreads) p
-      parts-room = fits [] (record { contracts = zero-le; rates = zero-le })
+      pub parts-room : u ≡ 1 → PositionFit [] (records prompts) (records spreads) p
+      parts-room eu = fits [] eu none-within
 
-      pub parts-by-number : contractWith [] (records prompts) (records spreads) p ≡ partsOf account c
-      parts-by-number = with-is []
+      pub parts-by-number : u ≡ 1 → contractWith [] (records prompts) (records spreads) p ≡ partsOf account c
+      parts-by-number eu = with-is [] eu
 
       pub parts-numbers :
-          (r : Numbers) → BookNumbers (contractBook (contractWith [] (records prompts) (records spreads) p)) (recordCount prompts) (recordCount spreads) r
+          u ≡ 1 → (r : Numbers) → BookNumbers (contractBook (contractWith [] (records prompts) (records spreads) p)) (recordCount prompts) (recordCount spreads) r
           → BookNumbers (contractBook (partsOf account c)) (length (promptsOf c account)) (length (spreadsOf c account)) r
-      parts-numbers r is =
+      parts-numbers eu r is =
           let a : recordCount prompts ≡ length (promptsOf c account) = sym (count-is prompts) ∙ ap length ps-are in
           let b : recordCount spreads ≡ length (spreadsOf c account) = sym (count-is spreads) ∙ ap length ss-are in
           record {
-            listed-is = is .listed-is ∙ ap contractBook parts-by-number;
+            listed-is = is .listed-is ∙ ap contractBook (parts-by-number eu);
             count-is = is .count-is ∙ ap₂ (λ (x y : ℕ). 3 * x + 2 * y + 1) a b;
             few = is .few;
           }
 
       -- with its own record
-      module _ (i : ℕ) (here : i < length (contractsOf account)) (number : c ≡ contract (getD (contractsOf account) i [])) (own : List ℕ) (eo : PartOf account (part 1 c) own) where
-        abbrev its : Record
-        its = getD (contractsOf account) i []
+      module _ (i : ℕ) (listed : i < length (contractsOf account)) (number : c ≡ contract (getD (contractsOf account) i [])) (own : List ℕ) (eo : PartOf account (part 1 c) own) where
+        pub line-room : u ≡ unit own → PositionFit own (records prompts) (records spreads) p
+        line-room eu = fits own eu (its-within i listed number own eo)
 
-        own-kept : keep (ofContract 1 c) account ≡ its ∷ []
-        own-kept =
-            sym (keep-keep (ofKind 1) (λ r. eqb (contract r) c) account)
-            ∙ kept-at (λ r. eqb (contract r) c) (contractsOf account) i here (eq-eqb (contract its) c (sym number))
-            (omega (arith, count-keep (ofKind 1) (λ r. eqb (contract r) c) account, law .named .once c))
-
-        own-is : own ≡ its
-        own-is =
-            one-record own its (of-contract 1 (omega arith) own eo ∙ own-kept)
-            (eo .whole ∙ ap (λ (rs : List Record). length rs * 96) (contract-part 1 c (omega arith) h account ∙ own-kept))
-
-        pub line-room : PositionFit own (records prompts) (records spreads) p
-        line-room = fits own (subst⁻¹ ranges.ContractWithin own-is (own-within account law i here))
-
-        pub line-at : (l : Line) → LineOf (contractWith own (records prompts) (records spreads) p) l → LineOf (partsIn account its) l
-        line-at l is =
+        pub line-at : u ≡ unit own → (l : Line) → LineOf (contractWith own (records prompts) (records spreads) p) l → LineOf (partsIn account (getD (contractsOf account) i [])) l
+        line-at eu l is =
             subst (λ (k : Contract). LineOf k l)
-            (with-is own ∙ ap (λ (r : Record). contractFrom r (promptsOf c account) (rowsOf c account) (spreadsOf c account)) own-is
-            ∙ ap (λ (n : ℕ). contractFrom its (promptsOf n account) (rowsOf n account) (spreadsOf n account)) number)
+            (with-is own eu ∙ ap (λ (r : Record). contractFrom r (promptsOf c account) (rowsOf c account) (spreadsOf c account)) (own-is i listed number own eo)
+            ∙ ap (λ (n : ℕ). contractFrom (getD (contractsOf account) i []) (promptsOf n account) (rowsOf n account) (spreadsOf n account)) number)
             is
 
   -- the number of a contract of the account

@@ -15,7 +15,7 @@ use Rattle.record.specs.Layout.{Record, contract, secondContract, firstRatio, s
 use borrow.Author.Tests.{eq-eqb, ne-eqb}
 use Rattle.spread.specs.declared.Delta.{Delta}
 use Rattle.spread.specs.declared.Spreads.{Spreads}
-use Rattle.margin.specs.Bounds.{mostFormed, mostRisk}
+use Rattle.margin.specs.Bounds.{mostFormed}
 use Rattle.margin.specs.Charges.{spreadCharge, interpromptCharge, promptCharge, promptCharges}
 use Rattle.margin.specs.Credit.{credit, bothTake, entryUse, creditsBy}
 use Rattle.margin.specs.Sums.{interleaved, deltasIn, spreadsAt, deltaAt}
@@ -39,12 +39,12 @@ pub finish : {n most : ℕ} {rest : ℕ → ℕ} (i sum : ℕ) → ToGo n most r
 finish i sum t h e = let a = t .all in omega arith
 
 -- the interprompt charge
-module _ (rs : List Record) (firsts seconds : List Spreads) where
+module _ (unit : ℕ) (rs : List Record) (firsts seconds : List Spreads) where
   abbrev pub chargeAt : ℕ → ℕ
-  chargeAt i = spreadCharge (ratePerSpread (getD rs i [])) (spreadsAt firsts i) (spreadsAt seconds i)
+  chargeAt i = spreadCharge unit (ratePerSpread (getD rs i [])) (spreadsAt firsts i) (spreadsAt seconds i)
 
   abbrev pub chargeFrom : ℕ → ℕ
-  chargeFrom i = interpromptCharge (drop i rs) (interleaved (drop i firsts) (drop i seconds))
+  chargeFrom i = interpromptCharge unit (drop i rs) (interleaved (drop i firsts) (drop i seconds))
 
   pub charge-step : length rs ≤ length firsts → length rs ≤ length seconds → (i : ℕ) → i < length rs → chargeFrom i ≡ chargeAt i + chargeFrom (i + 1)
   charge-step hf hs i h =
@@ -56,12 +56,12 @@ module _ (rs : List Record) (firsts seconds : List Spreads) where
   charge-none i h = rw (drop-of-length-le rs h)
 
 -- the prompt date charges
-module _ (rs : List Record) (used unused : List Delta) where
+module _ (unit : ℕ) (rs : List Record) (used unused : List Delta) where
   abbrev pub promptAt : ℕ → ℕ
-  promptAt i = promptCharge (spreadRate (getD rs i [])) (outrightRate (getD rs i [])) (deltaAt used i) (deltaAt unused i)
+  promptAt i = promptCharge unit (spreadRate (getD rs i [])) (outrightRate (getD rs i [])) (deltaAt used i) (deltaAt unused i)
 
   abbrev pub promptFrom : ℕ → ℕ
-  promptFrom i = promptCharges (drop i rs) (deltasIn (drop i used)) (deltasIn (drop i unused))
+  promptFrom i = promptCharges unit (drop i rs) (deltasIn (drop i used)) (deltasIn (drop i unused))
 
   pub prompt-step : length rs ≤ length used → length rs ≤ length unused → (i : ℕ) → i < length rs → promptFrom i ≡ promptAt i + promptFrom (i + 1)
   prompt-step hu hn i h =
@@ -73,14 +73,14 @@ module _ (rs : List Record) (used unused : List Delta) where
   prompt-none i h = rw (drop-of-length-le rs h)
 
 -- a contract's credits
-module _ (c twice net : ℕ) (rs : List Record) (firsts seconds : List Spreads) where
-  abbrev pub creditAt : ℕ → ℕ
-  creditAt i = credit twice (entryUse c (getD rs i []) (spreadsAt firsts i) (spreadsAt seconds i)) (percent (getD rs i [])) net
+module _ (unit c twice net : ℕ) (rs : List Record) (firsts seconds : List Spreads) where
+  abbrev pub creditHere : ℕ → ℕ
+  creditHere i = credit unit twice (entryUse c (getD rs i []) (spreadsAt firsts i) (spreadsAt seconds i)) (percent (getD rs i [])) net
 
   abbrev pub creditFrom : ℕ → ℕ
-  creditFrom i = creditsBy c twice net (drop i rs) (interleaved (drop i firsts) (drop i seconds))
+  creditFrom i = creditsBy unit c twice net (drop i rs) (interleaved (drop i firsts) (drop i seconds))
 
-  pub credit-step : length rs ≤ length firsts → length rs ≤ length seconds → (i : ℕ) → i < length rs → creditFrom i ≡ creditAt i + creditFrom (i + 1)
+  pub credit-step : length rs ≤ length firsts → length rs ≤ length seconds → (i : ℕ) → i < length rs → creditFrom i ≡ creditHere i + creditFrom (i + 1)
   credit-step hf hs i h =
       let f : i < length firsts = omega arith in
       let s : i < length seconds = omega arith in
@@ -112,7 +112,3 @@ step-product number ratio h g =
 
 pub rounded-small : (n r most : ℕ) → n ≤ most → r ≡ halfUp n 10 → r ≤ most
 rounded-small n r most h e = omega arith
-
--- at most 32 credits of at most twice the price risk each
-pub credits-small : (sum i twice : ℕ) → sum ≤ i * twice → i ≤ 32 → twice ≤ 4 * mostRisk → sum ≤ 128 * mostRisk
-credits-small sum i twice h k m = le-trans h (mul-le-mul k m)

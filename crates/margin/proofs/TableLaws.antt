@@ -28,7 +28,7 @@ use Rattle.spread.specs.declared.book.Book.{Book}
 use Rattle.margin.specs.declared.amount.Amount.{Amount}
 use Rattle.margin.specs.declared.charges.Earner.{Earner}
 use Rattle.margin.specs.declared.line.Line.{Line}
-use Rattle.margin.specs.Bounds.{mostRisk}
+use Rattle.margin.specs.Bounds.{mostCredits}
 use Rattle.margin.specs.Credit.{creditsBy}
 use Rattle.margin.specs.Deltas.{intercontract}
 use Rattle.margin.specs.Lines.{noLine}
@@ -93,13 +93,13 @@ tiered-all lines i count p is e c =
     }
 
 -- the first i contracts' credits stand in the array
-pub earned-next : (i : ℕ) (lines : List Line) (entries : List Record) (f g : List Spreads) (xs : List Amount) (a : Amount) → CreditsOf i lines entries f g xs → i < 16 → a .0 ≡ earns (getD lines i noLine) entries f g → a .0 ≤ 128 * mostRisk
+pub earned-next : (i : ℕ) (lines : List Line) (entries : List Record) (f g : List Spreads) (xs : List Amount) (a : Amount) → CreditsOf i lines entries f g xs → i < 16 → a .0 ≡ earns (getD lines i noLine) entries f g → a .0 ≤ mostCredits
     → CreditsOf (i + 1) lines entries f g (set xs i a)
 earned-next i lines entries f g xs a is h e m =
     record {
       places = rw length-set (is .places);
       each = λ j l. at j l (λ (x : Amount). x .0 ≡ earns (getD lines j noLine) entries f g) (λ q. subst (λ (k : ℕ). a .0 ≡ earns (getD lines k noLine) entries f g) (sym q) e) (is .each j);
-      most = λ j l. at j l (λ (x : Amount). x .0 ≤ 128 * mostRisk) (λ q. m) (is .most j);
+      most = λ j l. at j l (λ (x : Amount). x .0 ≤ mostCredits) (λ q. m) (is .most j);
     }
   where
     at : (j : ℕ) → j < i + 1 → (P : Amount → Type 0) → (j ≡ i → P a) → (j < i → P (getD xs j (record { 0 = 0 }))) → P (getD (set xs i a) j (record { 0 = 0 }))
@@ -110,14 +110,14 @@ earned-next i lines entries f g xs a is h e m =
         go (no q) = subst⁻¹ P (getD-set-other xs i j a (record { 0 = 0 }) q) (before (omega (arith, q)))
 
 module _ (l : Line) (e : Earner) (entries : List Record) (f g : List Spreads) (is : EarnerOf l e) where
-  pub earner-room : EntriesRoom (l .contract) (l .«twice_price») (natAbs (l .net .0)) entries f g → EntriesRoom (e .contract) (e .«twice_price») (e .net) entries f g
-  earner-room h = rw (is .contract-is, is .price-is, is .net-is) h
+  pub earner-room : EntriesRoom (l .unit) (l .contract) (l .«twice_price») (natAbs (l .net .0)) entries f g → EntriesRoom (e .unit) (e .contract) (e .«twice_price») (e .net) entries f g
+  earner-room h = rw (is .unit-is, is .contract-is, is .price-is, is .net-is) h
 
-  pub earner-earns : (r : ℕ) → r ≡ creditsBy (e .contract) (e .«twice_price») (e .net) entries (interleaved f g) → r ≡ earns l entries f g
+  pub earner-earns : (r : ℕ) → r ≡ creditsBy (e .unit) (e .contract) (e .«twice_price») (e .net) entries (interleaved f g) → r ≡ earns l entries f g
   earner-earns r h =
       h
-      ∙ ap (λ (c : ℕ). creditsBy c (e .«twice_price») (e .net) entries (interleaved f g)) (is .contract-is)
-      ∙ ap₂ (λ (t n : ℕ). creditsBy (l .contract) t n entries (interleaved f g)) (is .price-is) (is .net-is)
+      ∙ ap₂ (λ (u c : ℕ). creditsBy u c (e .«twice_price») (e .net) entries (interleaved f g)) (is .unit-is) (is .contract-is)
+      ∙ ap₂ (λ (t n : ℕ). creditsBy (l .unit) (l .contract) t n entries (interleaved f g)) (is .price-is) (is .net-is)
 
 -- without entries there is nothing to earn
 pub none-earned : (count : ℕ) (lines : List Line) (part : List ℕ) (f g : List Spreads) → length part < 96 → CreditsOf count lines (records part) f g (replicate 16 (record { 0 = 0 }))
@@ -127,7 +127,7 @@ none-earned count lines part f g h =
     (record {
       places = refl;
       each = λ i l. ap (λ (a : Amount). a .0) (getD-same 16 (record { 0 = 0 }) i);
-      most = λ i l. subst⁻¹ (λ (a : Amount). a .0 ≤ 128 * mostRisk) (getD-same 16 (record { 0 = 0 }) i) zero-le;
+      most = λ i l. subst⁻¹ (λ (a : Amount). a .0 ≤ mostCredits) (getD-same 16 (record { 0 = 0 }) i) zero-le;
     })
 
 -- the entries of a table are spreads that the steps accept

@@ -44,7 +44,7 @@ use Rattle.margin.specs.Lined.{TierIs, TiersIn, PositionAt}
 use Rattle.margin.specs.Sums.{interleaved, deltasIn}
 use Rattle.margin.specs.Table.{tierOf}
 use Rattle.margin.specs.Tables.{TableOf}
-use Rattle.margin.proofs.AcceptLaws.{contract-within}
+use Rattle.margin.proofs.AcceptLaws.{none-within, contract-within}
 use Rattle.margin.proofs.BookLaws.{first-at, second-at, book-accepted, touches-accepted, handed-sound, book-listed}
 use Rattle.margin.proofs.ContractLaws.{net-is, net-sizes}
 use Rattle.margin.proofs.LineLaws.{spreads-sound, numbers-length, used-length, unused-length}
@@ -54,10 +54,10 @@ use Rattle.margin.proofs.StepBounds.{sizes, number-within}
 use Rattle.margin.proofs.TableLaws.{Tiered, tiered-next, tiered-all, entry-accepted}
 
 -- a contract's number and net delta, by what its rows come to
-module _ (account : List Record) (law : Lawful account) (c : ℕ) (q : Position) (at : PositionAt account c q) where
+module _ (account : List Record) (law : Lawful account) (c : ℕ) (q : Position) (at : PositionAt 1 account c q) where
   pub tier-sizes : sum (map natAbs (deltasIn (q .nets))) ≤ mostDelta
   tier-sizes =
-      net-sizes [] (promptsOf c account) (rowsOf c account) (spreadsOf c account) (contract-within account law [] c (record { contracts = zero-le; rates = zero-le })) q (at .is) (at .most)
+      net-sizes [] (promptsOf c account) (rowsOf c account) (spreadsOf c account) (contract-within account law [] c none-within) q (at .is) (at .most)
 
   pub tier-is : (own : Record) (z : ℤ) → c ≡ contract own → c ≤ 15 → z ≡ sumℤ (deltasIn (q .nets)) → TierIs (partsIn account own) c z
   tier-is own z ec few ez =
@@ -65,7 +65,7 @@ module _ (account : List Record) (law : Lawful account) (c : ℕ) (q : Position)
         number-is = ec;
         net-is =
             ez
-            ∙ net-is [] (promptsOf c account) (rowsOf c account) (spreadsOf c account) (contract-within account law [] c (record { contracts = zero-le; rates = zero-le })) q (at .is) (at .most)
+            ∙ net-is [] (promptsOf c account) (rowsOf c account) (spreadsOf c account) (contract-within account law [] c none-within) q (at .is) (at .most)
             ∙ ap (λ (n : ℕ). sumℤ (netDeltas (promptsOf n account) (rowsOf n account))) ec;
         number-within = few;
         net-within = subst⁻¹ (λ (x : ℤ). natAbs x ≤ mostDelta) ez (le-trans (abs-sum (deltasIn (q .nets))) tier-sizes);
@@ -73,7 +73,7 @@ module _ (account : List Record) (law : Lawful account) (c : ℕ) (q : Position)
 
 -- a line with a contract's number and net delta alone
 abbrev pub lean : Contract → Line
-lean k = record { contract = contract (k .own); active = 0; scanning = record { 0 = 0 }; interprompt = record { 0 = 0 }; prompt = record { 0 = 0 }; minimum = record { 0 = 0 }; «twice_price» = 0; net = record { 0 = contractNet k } }
+lean k = record { contract = contract (k .own); unit = 1; active = 0; scanning = record { 0 = 0 }; interprompt = record { 0 = 0 }; prompt = record { 0 = 0 }; minimum = record { 0 = 0 }; «twice_price» = 0; net = record { 0 = contractNet k } }
 
 lean-tiers : (ks : List Contract) → map tierOf (map lean ks) ≡ map asTier ks
 lean-tiers [] = refl

@@ -20,7 +20,7 @@ use Rattle.spread.proofs.Soundness.{steps-sound}
 use Rattle.margin.specs.Contract.{contracts, partsOf, asTier, stepsOf, opensOf, tableSteps}
 use Rattle.margin.specs.Deltas.{interprompt, intercontract}
 use Rattle.margin.specs.Unpaired.{NothingOpen}
-use Rattle.margin.proofs.AcceptLaws.{contract-within, entries-within}
+use Rattle.margin.proofs.AcceptLaws.{none-within, contract-within, entries-within}
 use Rattle.margin.proofs.LineLaws.{spreads-sound, interprompt-whole}
 use Rattle.margin.proofs.TableLaws.{entry-accepted}
 
@@ -29,7 +29,7 @@ nothing-open account law =
     record {
       interprompt =
           λ c.
-          let w = contract-within account law [] c (record { contracts = zero-le; rates = zero-le }) in
+          let w = contract-within account law [] c none-within in
           nothing-to-pair (stepsOf (partsOf account c)) (opensOf (partsOf account c))
           (steps-sound (map interprompt (spreadsOf c account))
           (spreads-sound interprompt (spreadsOf c account) (λ k h. w .each-spread k h .sound)))

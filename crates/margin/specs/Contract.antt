@@ -4,7 +4,7 @@ use Prim.Native.Nat.{ℕ}
 use mathlib.Core.List.{List, [], map}
 use lib.IntN.{ℤ, natAbs}
 use Rattle.exact.specs.Lists.{sumℤ}
-use Rattle.record.specs.Layout.{Record, contract, shortOptionRate}
+use Rattle.record.specs.Layout.{Record, contract, shortOptionRate, unit}
 use Rattle.account.specs.Parts.{contractsOf, promptsOf, rowsOf, spreadsOf}
 use Rattle.spread.specs.Steps.{Open, Taker, steps, numbers, usedOf, unusedOf}
 use Rattle.spread.specs.Touches.{touches}
@@ -29,7 +29,7 @@ contractFrom own prompts rows spreads =
       own = own;
       prompts = prompts;
       spreads = spreads;
-      totals = totals rows;
+      totals = totals (unit own) rows;
       nets = netDeltas prompts rows;
       shorts = shortLots rows;
     }
@@ -88,14 +88,14 @@ abbrev pub scanningOf : Contract → ℕ
 scanningOf k = scanningRisk (k .totals)
 
 abbrev pub interpromptOf : Contract → ℕ
-interpromptOf k = interpromptCharge (k .spreads) (numbersOf k)
+interpromptOf k = interpromptCharge (unit (k .own)) (k .spreads) (numbersOf k)
 
 abbrev pub promptOf : Contract → ℕ
-promptOf k = promptCharges (k .prompts) (usedDeltas k) (unusedDeltas k)
+promptOf k = promptCharges (unit (k .own)) (k .prompts) (usedDeltas k) (unusedDeltas k)
 
 abbrev pub creditOf : List Record → List Open → Contract → ℕ
 creditOf entries table k =
-    credits (contract (k .own)) (twicePriceRisk (k .totals)) (natAbs (contractNet k)) entries table
+    credits (unit (k .own)) (contract (k .own)) (twicePriceRisk (k .totals)) (natAbs (contractNet k)) entries table
 
 abbrev pub minimumOf : Contract → ℕ
 minimumOf k = shortOptionMinimum (k .shorts) (shortOptionRate (k .own))

@@ -6,7 +6,7 @@ use mathlib.Core.List.{List, [], _∷_}
 use lib.ListN.{getD}
 use lib.Dec.{eqb}
 use lib.IntN.{ℤ, pos, _+ℤ_, _-ℤ_}
-use Rattle.exact.specs.Rounding.{halfUp}
+use Rattle.exact.specs.Rounding.{halfUp, halfUpTo}
 use Rattle.record.specs.Layout.{Record, contract, secondContract, percent, firstRatio, secondRatio, tenths}
 use Rattle.spread.specs.Steps.{Open, long, short, pool, useOf, steps, left}
 use Rattle.exact.specs.Signed.{orZero}
@@ -40,14 +40,15 @@ fromUnit = 100000000
 abbrev pub unitPriceRisk : ℕ → ℕ → ℕ
 unitPriceRisk twiceRisk net = halfUp (twiceRisk * toUnit) net
 
--- the unit price risk "× |used in that entry| × percent / 100, rounded once, halves up"
-abbrev pub creditAtUnit : ℕ → ℕ → ℕ → ℕ
-creditAtUnit unit used percentage = halfUp (unit * used * percentage) fromUnit
+-- the unit price risk "× |used in that entry| × percent / 100, rounded once, halves up", and (2026-09) "every .. credit that 01
+-- rounds to a hundredth is rounded to" the contract's unit
+abbrev pub creditAt : ℕ → ℕ → ℕ → ℕ → ℕ
+creditAt unit unitRisk used percentage = halfUpTo (unitRisk * used * percentage) fromUnit unit
 
 -- "A contract's credit from one entry = price risk × |used in that entry| × percent / (100 × |net delta|) ..; 0 where the
 -- net delta is 0."
-abbrev pub credit : ℕ → ℕ → ℕ → ℕ → ℕ
-credit twiceRisk used percentage net = cond (eqb net 0) 0 (creditAtUnit (unitPriceRisk twiceRisk net) used percentage)
+abbrev pub credit : ℕ → ℕ → ℕ → ℕ → ℕ → ℕ
+credit unit twiceRisk used percentage net = cond (eqb net 0) 0 (creditAt unit (unitPriceRisk twiceRisk net) used percentage)
 
 -- what a contract has unused, either way: each contract is a tier with one prompt
 abbrev pub unusedBy : ℕ → List Open → ℕ
@@ -61,10 +62,11 @@ abbrev pub usedByEntry : Record → ℕ → List Open → ℕ
 usedByEntry e c contracts = unusedBy c contracts - unusedBy c (afterEntry e contracts)
 
 -- a contract's credits over the table, entry by entry, what one leaves handed to the next
-abbrev pub credits : ℕ → ℕ → ℕ → List Record → List Open → ℕ
-credits c twiceRisk net [] contracts = 0
-credits c twiceRisk net (e ∷ es) contracts =
-    credit twiceRisk (usedByEntry e c contracts) (percent e) net + credits c twiceRisk net es (afterEntry e contracts)
+abbrev pub credits : ℕ → ℕ → ℕ → ℕ → List Record → List Open → ℕ
+credits unit c twiceRisk net [] contracts = 0
+credits unit c twiceRisk net (e ∷ es) contracts =
+    credit unit twiceRisk (usedByEntry e c contracts) (percent e) net
+    + credits unit c twiceRisk net es (afterEntry e contracts)
 
 -- the same from the numbers that the entries' steps form: what an entry uses of a contract that it names is what its two steps
 -- take, each rounded by itself
@@ -76,6 +78,6 @@ entryUse c e first second =
     cond (eqb c (contract e)) (bothTake (tenths e) (firstRatio e) first second)
     (cond (eqb c (secondContract e)) (bothTake (tenths e) (secondRatio e) first second) 0)
 
-abbrev pub creditsBy : ℕ → ℕ → ℕ → List Record → List ℕ → ℕ
-creditsBy c twiceRisk net =
-    overSteps (λ e first second. credit twiceRisk (entryUse c e first second) (percent e) net)
+abbrev pub creditsBy : ℕ → ℕ → ℕ → ℕ → List Record → List ℕ → ℕ
+creditsBy unit c twiceRisk net =
+    overSteps (λ e first second. credit unit twiceRisk (entryUse c e first second) (percent e) net)

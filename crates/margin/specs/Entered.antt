@@ -1,5 +1,5 @@
--- Records as a person enters them, for the reckoned examples: the table of fields of document 01 and of request 2026-03, written
--- out.
+-- Records as a person enters them, for the reckoned examples: the table of fields of document 01 and of requests 2026-03 and
+-- 2026-09, written out.
 -- Assumes nothing.
 use Prim.Native.Nat.{ℕ, _-_, _/_, _%_}
 use mathlib.Core.List.{List, [], _∷_, _++_}
@@ -24,8 +24,9 @@ allSigned (z ∷ zs) = signed z ++ allSigned zs
 abbrev pub filled : List ℕ → Record
 filled bytes = take 96 (bytes ++ replicate 96 0)
 
-abbrev pub contractRecord : ℕ → ℕ → Record
-contractRecord number rate = filled (1 ∷ number ∷ 0 ∷ 0 ∷ four rate)
+-- the unit in hundredths, or 0
+abbrev pub contractRecord : ℕ → ℕ → ℕ → Record
+contractRecord number rate unit = filled (1 ∷ number ∷ 0 ∷ 0 ∷ four rate ++ two unit)
 
 abbrev pub promptRecord : ℕ → ℕ → ℕ → ℕ → ℕ → Record
 promptRecord number tier day spreadRate outrightRate =

@@ -52,6 +52,7 @@ abbrev pub noLine : Line
 noLine =
     record {
       contract = 0;
+      unit = 0;
       active = 0;
       scanning = record { 0 = 0 };
       interprompt = record { 0 = 0 };

@@ -10,7 +10,7 @@ use Rattle.spread.specs.declared.Spreads.{Spreads}
 use Rattle.margin.specs.declared.amount.Amount.{Amount}
 use Rattle.margin.specs.declared.line.Line.{Line}
 use Rattle.margin.specs.declared.numbers.Numbers.{Numbers}
-use Rattle.margin.specs.Bounds.{mostRisk, longestBook}
+use Rattle.margin.specs.Bounds.{mostCredits, longestBook}
 use Rattle.margin.specs.Lines.{LineWithin, noLine}
 use Rattle.margin.specs.Sums.{spreadsAt}
 
@@ -25,7 +25,7 @@ amountAt amounts k = getD amounts k (record { 0 = 0 }) .0
 pub record LinesWithin (count : ℕ) (lines : List Line) (credits : List Amount) : Type 0 where
   pub most : count ≤ mostContracts
   pub line-within : (k : ℕ) → k < count → LineWithin (getD lines k noLine)
-  pub credit-within : (k : ℕ) → k < count → amountAt credits k ≤ 128 * mostRisk
+  pub credit-within : (k : ℕ) → k < count → amountAt credits k ≤ mostCredits
 
 -- numbers of spreads that can be written signed
 pub record SpreadsSigned (count : ℕ) (firsts seconds : List Spreads) : Type 0 where

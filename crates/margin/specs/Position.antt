@@ -15,6 +15,7 @@ use Rattle.account.specs.Parts.{onDay}
 use Rattle.margin.specs.declared.rows.Days.{Days}
 use Rattle.margin.specs.declared.rows.Position.{Position}
 pub use Rattle.margin.specs.Sums.{deltasIn}
+use Rattle.margin.specs.Bounds.{mostProduct}
 use Rattle.margin.specs.Scanning.{product, total, totals}
 use Rattle.margin.specs.Deltas.{rowDelta, ofDay, netDeltas}
 use Rattle.margin.specs.Margin.{shortLots}
@@ -52,8 +53,8 @@ abbrev pub netOn : List Record → ℕ → ℤ
 netOn rows d = sumℤ (map rowDelta (keep (ofDay d) rows))
 
 -- what a row adds to each total, scenario 1 first
-abbrev pub products : Record → ℕ → ℤ
-products row k = product (k + 1) row
+abbrev pub products : ℕ → Record → ℕ → ℤ
+products unit row k = product unit (k + 1) row
 
 -- what a row of a day adds to the net delta of each prompt, by the prompts' days
 abbrev pub addsOn : List ℕ → ℕ → ℤ → ℕ → ℤ
@@ -65,9 +66,9 @@ pub record DaysOf (prompts : List Record) (d : Days) : Type 0 where
   pub few : d .count ≤ 32
   pub day-is : (j : ℕ) → j < length prompts → getD (d .day) j 0 ≡ day (getD prompts j [])
 
--- what rows come to, for a contract with these prompts; the nets past its prompts are 0
-pub record PositionOf (prompts rows : List Record) (p : Position) : Type 0 where
-  pub totals-are : p .totals .0 ≡ totals rows
+-- what rows come to, for a contract with this unit and these prompts; the nets past its prompts are 0
+pub record PositionOf (unit : ℕ) (prompts rows : List Record) (p : Position) : Type 0 where
+  pub totals-are : p .totals .0 ≡ totals unit rows
   pub nets-are : take (length prompts) (deltasIn (p .nets)) ≡ netDeltas prompts rows
   pub nets-beyond : (j : ℕ) → length prompts ≤ j → getD (deltasIn (p .nets)) j (pos 0) ≡ pos 0
   pub places : length (deltasIn (p .nets)) ≡ 32
@@ -75,13 +76,13 @@ pub record PositionOf (prompts rows : List Record) (p : Position) : Type 0 where
 
 -- no more than what n rows within their ranges can come to
 pub record Bounded (n : ℕ) (p : Position) : Type 0 where
-  pub totals-most : AtMost 16 (n * 100000000000000) (p .totals .0)
+  pub totals-most : AtMost 16 (n * mostProduct) (p .totals .0)
   pub nets-most : AtMost 32 (n * 1000000000) (deltasIn (p .nets))
   pub shorts-most : p .shorts ≤ n * 100000
 
 -- q is the position p with more rows
-pub record WithRows (days : Days) (p : Position) (rows : List Record) (q : Position) : Type 0 where
-  pub totals-added : Added 16 (λ k. total rows (k + 1)) (p .totals .0) (q .totals .0)
+pub record WithRows (unit : ℕ) (days : Days) (p : Position) (rows : List Record) (q : Position) : Type 0 where
+  pub totals-added : Added 16 (λ k. total unit rows (k + 1)) (p .totals .0) (q .totals .0)
   pub nets-added : Added (days .count) (λ j. netOn rows (getD (days .day) j 0)) (deltasIn (p .nets)) (deltasIn (q .nets))
   pub shorts-added : q .shorts ≡ p .shorts + shortLots rows
 

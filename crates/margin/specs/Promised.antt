@@ -6,7 +6,8 @@ use mathlib.Core.Bool.{true}
 use mathlib.Core.List.{List, map}
 use lib.IntN.{ℤ, pos, natAbs}
 use lib.ListN.{length, getD, take}
-use Rattle.record.specs.Layout.{Record, contract}
+use Rattle.record.specs.Layout.{Record, contract, unit, mostUnit}
+use Rattle.record.specs.Within.{Between}
 use Rattle.account.specs.Check.{mostPrompts, mostRows, mostSpreads}
 use Rattle.spread.specs.Steps.{Open, Taker, numbers, usedOf, unusedOf}
 use Rattle.spread.specs.Accepted.{every, soundPrompt, soundSpread}
@@ -42,7 +43,7 @@ contractWith own prompts spreads p =
 pub record PositionFit (own : Record) (prompts spreads : List Record) (p : Position) : Type 0 where
   pub rows : List Record
   pub fit : ContractFit own prompts rows spreads
-  pub is : PositionOf prompts rows p
+  pub is : PositionOf (unit own) prompts rows p
   pub most : Bounded mostRows p
 
 -- the book of steps over prompts, place by place, and zeros beyond
@@ -67,15 +68,16 @@ pub record BookRoom (prompts : List Record) (nets : List ℤ) (spreads : List Re
   pub spreads-sound : every soundSpread (map interprompt spreads) ≡ true
 
 -- what a contract is charged, over the arrays of its book
-pub record Charged (prompts spreads : List Record) (b : Book) (interprompt prompt : ℕ) : Type 0 where
-  pub interprompt-is : interprompt ≡ interpromptCharge spreads (interleaved (b .first) (b .second))
-  pub prompt-is : prompt ≡ promptCharges prompts (deltasIn (b .used)) (deltasIn (b .unused))
+pub record Charged (unit : ℕ) (prompts spreads : List Record) (b : Book) (interprompt prompt : ℕ) : Type 0 where
+  pub interprompt-is : interprompt ≡ interpromptCharge unit spreads (interleaved (b .first) (b .second))
+  pub prompt-is : prompt ≡ promptCharges unit prompts (deltasIn (b .used)) (deltasIn (b .unused))
   pub interprompt-within : interprompt ≤ mostSpreads * mostCharge
   pub prompt-within : prompt ≤ mostPrompts * mostCharge
 
 -- a contract's line
 pub record LineOf (k : Contract) (l : Line) : Type 0 where
   pub contract-is : l .contract ≡ contract (k .own)
+  pub unit-is : l .unit ≡ unit (k .own)
   pub active-is : l .active ≡ activeOf k
   pub scanning-is : l .scanning .0 ≡ scanningOf k
   pub interprompt-is : l .interprompt .0 ≡ interpromptOf k
@@ -84,5 +86,6 @@ pub record LineOf (k : Contract) (l : Line) : Type 0 where
   pub price-is : l .«twice_price» ≡ twicePriceRisk (k .totals)
   pub net-is : l .net .0 ≡ contractNet k
   pub within : LineWithin l
+  pub unit-within : Between 1 (l .unit) mostUnit
   pub price-within : l .«twice_price» ≤ 4 * mostRisk
   pub net-within : natAbs (l .net .0) ≤ mostDelta

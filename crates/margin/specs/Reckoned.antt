@@ -1,5 +1,5 @@
--- "Reckoned examples" of document 01, P1 to P10, and those of requests 2026-03 and 2026-11 with their corners, one claim. Deltas and numbers of
--- spreads stand in ten-thousandths, amounts in hundredths.
+-- "Reckoned examples" of document 01, P1 to P10, those of requests 2026-03, 2026-04 and 2026-11 with their corners, and where 2026-09
+-- rounds, one claim. Deltas and numbers of spreads stand in ten-thousandths, amounts in hundredths.
 -- Assumes nothing.
 use Prim.Native.Nat.{ℕ, _*_}
 use mathlib.Core.Path.{_≡_}
@@ -11,8 +11,8 @@ use Rattle.account.specs.Records.{records}
 use Rattle.account.specs.Check.{checked}
 use Rattle.account.specs.declared.answers.Answer.the-variants.{Accepted}
 use Rattle.margin.specs.Entered.{contractRecord, promptRecord, rowRecord, spreadRecord, entryRecord}
-use Rattle.margin.specs.Scanning.{scanningRisk, activeScenario}
-use Rattle.margin.specs.Charges.{spreadCharge}
+use Rattle.margin.specs.Scanning.{product, total, scanningRisk, activeScenario}
+use Rattle.margin.specs.Charges.{spreadCharge, promptCharge}
 use Rattle.margin.specs.Pairs.{pairOf}
 use Rattle.margin.specs.Credit.{unitPriceRisk, credit}
 use Rattle.spread.specs.Steps.{Open, Taker, numbers, unusedOf}
@@ -31,7 +31,7 @@ lotsShort n = negℤ (pos (n * 10000))
 abbrev pub holding : List Record → List ℤ → List Record → Contract
 holding prompts nets spreads =
     record {
-      own = contractRecord 0 0;
+      own = contractRecord 0 0 0;
       prompts = prompts;
       spreads = spreads;
       totals = replicate 16 (pos 0);
@@ -92,8 +92,18 @@ gains = replicate 16 (negsuc 3)
 -- "P10: one short call, rate 500, nothing else above 0"
 abbrev pub shortCall : Contract
 shortCall =
-    contractFrom (contractRecord 0 500) (promptIn 1 1 ∷ [])
+    contractFrom (contractRecord 0 500 0) (promptIn 1 1 ∷ [])
     (rowRecord 0 1 1 1850 (negsuc 0) (pos 5200) 1 (replicate 16 (pos 0)) ∷ []) []
+
+-- 2026-09: the same at a rate of 549, in whole yen
+abbrev pub yenCall : Contract
+yenCall =
+    contractFrom (contractRecord 0 549 100) (promptIn 1 1 ∷ [])
+    (rowRecord 0 1 1 1850 (negsuc 0) (pos 5200) 1 (replicate 16 (pos 0)) ∷ []) []
+
+-- a forward of one lot that loses so many hundredths in scenario 1
+abbrev pub losing : ℤ → Record
+losing loss = rowRecord 0 0 1 0 (pos 1) (pos 0) 1 (loss ∷ replicate 15 (pos 0))
 
 -- "Given contract 3 with short option rate 500; one prompt, tier 1, day 20260318, rates 0 and 1000; two rows at value 25,
 -- being 002's forward array for 2 lots (delta 9800) and its call array at strike 1850 for -3 lots (delta 5200)"
@@ -137,9 +147,10 @@ callLosses =
     ∷ pos 2480
     ∷ []
 
-abbrev pub printed : List ℕ
-printed =
-    contractRecord 3 500
+-- at a unit in hundredths, or 0
+abbrev pub printedAt : ℕ → List ℕ
+printedAt unit =
+    contractRecord 3 500 unit
     ++ promptRecord 3 1 20260318 0 1000
     ++ rowRecord 3 0 20260318 0 (pos 2) (pos 9800) 25 forwardLosses
     ++ rowRecord 3 1 20260318 1850 (negsuc 2) (pos 5200) 25 callLosses
@@ -174,21 +185,21 @@ pub record Reckoned : Type 0 where
   pub p4-formed : numbersOf byPriority ≡ 100000 ∷ 0 ∷ 0 ∷ 0 ∷ []
   pub p4-charge : interpromptOf byPriority ≡ 5000
   -- "P5, P6: numbers 1.4999 and 1.5000 at a rate of one hundredth charge 1 and 2 hundredths"
-  pub p5 : spreadCharge 1 14999 0 ≡ 1
-  pub p6 : spreadCharge 1 15000 0 ≡ 2
+  pub p5 : spreadCharge 1 1 14999 0 ≡ 1
+  pub p6 : spreadCharge 1 1 15000 0 ≡ 2
   -- "scanning risk 0, active scenario 1"
   pub p7-risk : scanningRisk gains ≡ 0
   pub p7-active : activeScenario gains ≡ 1
   -- "P8, 000 AEX: price risk 5,100.42, used and net 1.0012, 85 percent: credit 4,335.36"
-  pub p8 : credit (2 * 510042) 10012 85 10012 ≡ 433536
+  pub p8 : credit 1 (2 * 510042) 10012 85 10012 ≡ 433536
   -- 2026-04: "A price risk of 100.00 on a fully used net delta of 30,000 at 100 percent now earns 99.00 and not 100.00."
-  pub four-places : credit (2 * 10000) 300000000 100 300000000 ≡ 9900
+  pub four-places : credit 1 (2 * 10000) 300000000 100 300000000 ≡ 9900
   -- half a ten-thousandth, from the half of a hundredth in a price risk of 100.005: on 666,700 lots 0.00015, which counts as 0.0002
   pub half-a-place : unitPriceRisk 20001 6667000000 ≡ 2
-  pub half-a-place-earns : credit 20001 6667000000 100 6667000000 ≡ 13334
+  pub half-a-place-earns : credit 1 20001 6667000000 100 6667000000 ≡ 13334
   -- the largest price risk on the smallest net delta, 0.0001: a unit beyond 64 bits
   pub largest-unit : unitPriceRisk (2 * 25600000000000000) 1 ≡ 25600000000000000000000
-  pub largest-unit-earns : credit (2 * 25600000000000000) 1 100 1 ≡ 25600000000000000
+  pub largest-unit-earns : credit 1 (2 * 25600000000000000) 1 100 1 ≡ 25600000000000000
   -- "P9: active 15 pairs with 15"
   pub p9 : pairOf 15 ≡ 15
   -- "margin 500"
@@ -203,8 +214,30 @@ pub record Reckoned : Type 0 where
   -- and a leg that takes nothing touches nothing
   pub touch-of-nothing : touches (inTenths 1 10) (against (lotsLong 1) (negℤ (pos 4))) ≡ 1
   pub use-of-half : unusedOf (inTenths 1 10) (against (lotsLong 1) (negℤ (pos 5))) ≡ pos 9999 ∷ pos 0 ∷ []
+  -- 2026-09: a product of 1.50 in whole yen, one hundredth less, and the same the other way
+  pub yen-half : product 100 1 (losing (pos 150)) ≡ pos 200
+  pub yen-below : product 100 1 (losing (pos 149)) ≡ pos 100
+  pub yen-half-gained : product 100 1 (losing (negℤ (pos 150))) ≡ negℤ (pos 200)
+  pub yen-below-gained : product 100 1 (losing (negℤ (pos 149))) ≡ negℤ (pos 100)
+  -- each is rounded "before adding": two of 1.50 are 4 yen
+  pub yen-total : total 100 (losing (pos 150) ∷ losing (pos 150) ∷ []) 1 ≡ pos 400
+  -- a charge of 1.49 and of 1.50; one of 1.495 in one rounding, which two would take to 2 yen
+  pub yen-charge-below : spreadCharge 100 149 10000 0 ≡ 100
+  pub yen-charge : spreadCharge 100 150 10000 0 ≡ 200
+  pub yen-charge-once : spreadCharge 100 50 29900 0 ≡ 100
+  pub yen-prompt-below : promptCharge 100 100 49 (pos 10000) (negℤ (pos 10000)) ≡ 100
+  pub yen-prompt : promptCharge 100 100 50 (pos 10000) (negℤ (pos 10000)) ≡ 200
+  -- a credit of 1.49, of 1.495 and of 1.50
+  pub yen-credit-below : credit 100 (2 * 149) 10000 100 10000 ≡ 100
+  pub yen-credit-once : credit 100 299 10000 100 10000 ≡ 100
+  pub yen-credit : credit 100 (2 * 150) 10000 100 10000 ≡ 200
+  -- "The short option minimum stays exact."
+  pub yen-minimum : marginOf [] (asTier yenCall ∷ []) yenCall ≡ 549
 
--- "it prints C 3 13 383250 0 400 0 1500 383650, T 383650"
+-- "it prints C 3 13 383250 0 400 0 1500 383650, T 383650", and (2026-09) the same at "0 and 1 both meaning one hundredth"; in whole yen
+-- the call's gain of 3,517.50 is 3,518
 pub record Printed : Type 0 where
-  pub accepted : checked printed ≡ Accepted
-  pub prints : figures (records printed) ≡ map pos (3 ∷ 13 ∷ 383250 ∷ 0 ∷ 400 ∷ 0 ∷ 1500 ∷ 383650 ∷ 383650 ∷ [])
+  pub accepted : checked (printedAt 0) ≡ Accepted
+  pub prints : figures (records (printedAt 0)) ≡ map pos (3 ∷ 13 ∷ 383250 ∷ 0 ∷ 400 ∷ 0 ∷ 1500 ∷ 383650 ∷ 383650 ∷ [])
+  pub at-one : figures (records (printedAt 1)) ≡ map pos (3 ∷ 13 ∷ 383250 ∷ 0 ∷ 400 ∷ 0 ∷ 1500 ∷ 383650 ∷ 383650 ∷ [])
+  pub in-yen : figures (records (printedAt 100)) ≡ map pos (3 ∷ 13 ∷ 383200 ∷ 0 ∷ 400 ∷ 0 ∷ 1500 ∷ 383600 ∷ 383600 ∷ [])

@@ -2,12 +2,14 @@
 -- side none of them is longer, so that nothing is left over.
 -- Assumes nothing.
 use Prim.Native.Nat.{ℕ, zero, suc, _+_, _*_, _≤_}
+use mathlib.Core.Bool.{cond}
+use lib.Dec.{eqb}
 use mathlib.Core.Path.{_≡_}
 use mathlib.Core.List.{List, [], _∷_, map}
 use lib.IntN.{ℤ, pos}
 use lib.ListN.{length, getD}
 use Rattle.exact.specs.Lists.{keep, sum, sumℤ}
-use Rattle.record.specs.Layout.{Record, mostContract, ratePerSpread, spreadRate, outrightRate}
+use Rattle.record.specs.Layout.{Record, contract, mostContract, unit, ratePerSpread, spreadRate, outrightRate}
 use Rattle.account.specs.Parts.{ofKind, contractsOf, promptsOf, rowsOf, entriesOf}
 use Rattle.account.specs.Whole.{Whole}
 use Rattle.spread.specs.Steps.{numbers, usedOf, unusedOf}
@@ -29,10 +31,19 @@ use Rattle.margin.specs.Scanning.{product}
 abbrev pub allRows : List Record → List Record
 allRows = keep (ofKind 3)
 
+-- among contracts' own records, that of a row's contract
+abbrev pub ownerOf : List Record → Record → Record
+ownerOf [] row = []
+ownerOf (own ∷ owns) row = cond (eqb (contract own) (contract row)) own (ownerOf owns row)
+
+-- what a row loses in a scenario, rounded to the unit of its contract
+abbrev pub lossIn : List Record → ℕ → Record → ℤ
+lossIn account scenario row = product (unit (ownerOf (contractsOf account) row)) scenario row
+
 pub record RowsOnce (account : List Record) : Type 0 where
   -- the contracts' totals of a scenario together are what all rows lose in it
   pub totals : (scenario : ℕ) → 1 ≤ scenario → scenario ≤ 16
-      → sumℤ (map (λ k. totalOf (k .totals) scenario) (contracts account)) ≡ sumℤ (map (product scenario) (allRows account))
+      → sumℤ (map (λ k. totalOf (k .totals) scenario) (contracts account)) ≡ sumℤ (map (lossIn account scenario) (allRows account))
   -- their net deltas together are those of all rows, and a contract's those of its rows
   pub nets : sumℤ (map contractNet (contracts account)) ≡ sumℤ (map rowDelta (allRows account))
   pub prompts : (c : ℕ) → c ≤ mostContract
@@ -49,12 +60,12 @@ overPlaces (suc n) f = f 0 + overPlaces n (λ i. f (suc i))
 
 -- the charge of a contract's spread, or prompt, at a place
 abbrev pub spreadAt : Contract → ℕ → ℕ
-spreadAt k i = spreadCharge (ratePerSpread (getD (k .spreads) i [])) (getD (numbersOf k) (2 * i) 0) (getD (numbersOf k) (2 * i + 1) 0)
+spreadAt k i = spreadCharge (unit (k .own)) (ratePerSpread (getD (k .spreads) i [])) (getD (numbersOf k) (2 * i) 0) (getD (numbersOf k) (2 * i + 1) 0)
 
 abbrev pub promptAt : Contract → ℕ → ℕ
 promptAt k i =
     let p = getD (k .prompts) i [] in
-    promptCharge (spreadRate p) (outrightRate p) (getD (usedDeltas k) i (pos 0)) (getD (unusedDeltas k) i (pos 0))
+    promptCharge (unit (k .own)) (spreadRate p) (outrightRate p) (getD (usedDeltas k) i (pos 0)) (getD (unusedDeltas k) i (pos 0))
 
 pub record NothingOver (k : Contract) : Type 0 where
   -- a net delta, an open prompt, a used and an unused delta for each prompt; two numbers for each spread

@@ -16,7 +16,7 @@ use Rattle.spread.specs.declared.Spreads.{Spreads}
 use Rattle.margin.specs.declared.amount.Amount.{Amount}
 use Rattle.margin.specs.declared.charges.Earner.{Earner}
 use Rattle.margin.specs.declared.line.Line.{Line}
-use Rattle.margin.specs.Bounds.{mostRisk}
+use Rattle.margin.specs.Bounds.{mostCredits}
 use Rattle.margin.specs.Credit.{creditsBy}
 use Rattle.margin.specs.Deltas.{intercontract}
 use Rattle.margin.specs.Lines.{noLine}
@@ -45,19 +45,20 @@ abbrev pub tableSeconds : ℕ → List Line → List Record → List Spreads
 tableSeconds count lines es = places 32 (λ k. spreadsEntry (numbers (steps (map intercontract es)) (map tierOf (take count lines))) (2 * k + 1))
 
 pub record EarnerOf (l : Line) (e : Earner) : Type 0 where
+  pub unit-is : e .unit ≡ l .unit
   pub contract-is : e .contract ≡ l .contract
   pub price-is : e .«twice_price» ≡ l .«twice_price»
   pub net-is : e .net ≡ natAbs (l .net .0)
 
 -- what a line earns from the table, over the arrays of its book
 abbrev pub earns : Line → List Record → List Spreads → List Spreads → ℕ
-earns l entries firsts seconds = creditsBy (l .contract) (l .«twice_price») (natAbs (l .net .0)) entries (interleaved firsts seconds)
+earns l entries firsts seconds = creditsBy (l .unit) (l .contract) (l .«twice_price») (natAbs (l .net .0)) entries (interleaved firsts seconds)
 
 pub record CreditsRoom (count : ℕ) (lines : List Line) (entries : List Record) (firsts seconds : List Spreads) : Type 0 where
   pub few : count ≤ mostContracts
-  pub each : (i : ℕ) → i < count → EntriesRoom (getD lines i noLine .contract) (getD lines i noLine .«twice_price») (natAbs (getD lines i noLine .net .0)) entries firsts seconds
+  pub each : (i : ℕ) → i < count → EntriesRoom (getD lines i noLine .unit) (getD lines i noLine .contract) (getD lines i noLine .«twice_price») (natAbs (getD lines i noLine .net .0)) entries firsts seconds
 
 pub record CreditsOf (count : ℕ) (lines : List Line) (entries : List Record) (firsts seconds : List Spreads) (earned : List Amount) : Type 0 where
   pub places : length earned ≡ 16
   pub each : (i : ℕ) → i < count → getD earned i (record { 0 = 0 }) .0 ≡ earns (getD lines i noLine) entries firsts seconds
-  pub most : (i : ℕ) → i < count → getD earned i (record { 0 = 0 }) .0 ≤ 128 * mostRisk
+  pub most : (i : ℕ) → i < count → getD earned i (record { 0 = 0 }) .0 ≤ mostCredits

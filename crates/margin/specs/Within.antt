@@ -5,7 +5,8 @@ use mathlib.Core.Path.{_≡_}
 use mathlib.Core.Bool.{true}
 use mathlib.Core.List.{List, []}
 use lib.ListN.{length, getD}
-use Rattle.record.specs.Layout.{Record, contract, shortOptionRate, tier, spreadRate, outrightRate, ratePerSpread, secondContract, percent, firstRatio, secondRatio, mostContract, mostRate, mostPercent}
+use Rattle.record.specs.Layout.{Record, contract, shortOptionRate, unit, mostUnit, tier, spreadRate, outrightRate, ratePerSpread, secondContract, percent, firstRatio, secondRatio, mostContract, mostRate, mostPercent}
+use Rattle.record.specs.Within.{Between}
 use Rattle.account.specs.Check.{mostPrompts, mostSpreads, mostEntries}
 use Rattle.spread.specs.Accepted.{soundSpread}
 use Rattle.margin.specs.Deltas.{interprompt}
@@ -23,6 +24,7 @@ pub record SpreadFit (s : Record) : Type 0 where
 pub record ContractFit (own : Record) (prompts rows spreads : List Record) : Type 0 where
   pub number : contract own ≤ mostContract
   pub rate : shortOptionRate own ≤ mostRate
+  pub unit-within : Between 1 (unit own) mostUnit
   pub few-prompts : length prompts ≤ mostPrompts
   pub few-spreads : length spreads ≤ mostSpreads
   pub each-prompt : (k : ℕ) → k < length prompts → PromptFit (getD prompts k [])

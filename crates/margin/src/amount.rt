@@ -1,13 +1,15 @@
 // Amounts: the formulas of document 01 in which deltas and numbers of spreads become amounts. Nothing else crosses.
 use exact::rounding::half_up;
+use exact::rounding::half_up_to;
 use exact::signed::magnitude;
 use spread::Delta;
 use spread::Spreads;
 ghost use mathlib.Core.Path.{_≡_};
 ghost use Prim.Native.Nat.{_+_, _*_, _≤_};
+ghost use Rattle.record.specs.Within.{Between};
 ghost use lib.IntN.{natAbs};
-ghost use Rattle.record.specs.Layout.{mostPercent};
-ghost use Rattle.margin.specs.Bounds.{mostDelta, mostRate, mostCharge, mostRisk, mostLots};
+ghost use Rattle.record.specs.Layout.{mostPercent, mostUnit};
+ghost use Rattle.margin.specs.Bounds.{mostDelta, mostRate, mostCharge, mostRisk, mostCredit, mostLots};
 ghost use Rattle.margin.specs.Charges.{spreadCharge, promptCharge};
 ghost use Rattle.margin.specs.Credit.{toUnit, unitPriceRisk, credit};
 ghost use Rattle.margin.specs.Margin.{shortOptionMinimum, risk, margin};
@@ -15,27 +17,29 @@ ghost use Rattle.margin.specs.Margin.{shortOptionMinimum, risk, margin};
 // An amount, in hundredths of the currency. None is negative.
 pub struct Amount(pub u64);
 
-// The charge of a spread for the numbers of its two steps.
-pub(crate) fn spread_charge(first: Spreads, second: Spreads, rate: u64) -> Amount
-    requires { ⌜ (first .0 ≤ mostDelta) × (second .0 ≤ mostDelta) × (rate ≤ mostRate) ⌝ }
-    ensures { λ r. ⌜ (r .0 ≡ spreadCharge rate (first .0) (second .0)) × (r .0 ≤ mostCharge) ⌝ }
+// The charge of a spread for the numbers of its two steps, rounded to the contract's unit.
+pub(crate) fn spread_charge(unit: u64, first: Spreads, second: Spreads, rate: u64) -> Amount
+    requires { ⌜ (first .0 ≤ mostDelta) × (second .0 ≤ mostDelta) × (rate ≤ mostRate) × (unit ≤ mostUnit) ⌝ }
+    ensures { λ r. ⌜ (r .0 ≡ spreadCharge unit rate (first .0) (second .0)) × (r .0 ≤ mostCharge) ⌝ }
 {
-    Amount(half_up((first.0 + second.0) * rate, 10000))
+    Amount(half_up_to((first.0 + second.0) * rate, 10000, unit))
 }
 
 // The charge of a prompt for what of it is used in spreads and what is not.
 pub(crate) fn prompt_charge(
+    unit: u64,
     used: Delta,
     unused: Delta,
     spread_rate: u64,
     outright_rate: u64,
 ) -> Amount
-    requires { ⌜ (natAbs (used .0) ≤ mostDelta) × (natAbs (unused .0) ≤ mostDelta) × («spread_rate» ≤ mostRate) × («outright_rate» ≤ mostRate) ⌝ }
-    ensures { λ r. ⌜ (r .0 ≡ promptCharge «spread_rate» «outright_rate» (used .0) (unused .0)) × (r .0 ≤ mostCharge) ⌝ }
+    requires { ⌜ (natAbs (used .0) ≤ mostDelta) × (natAbs (unused .0) ≤ mostDelta) × («spread_rate» ≤ mostRate) × («outright_rate» ≤ mostRate) × (unit ≤ mostUnit) ⌝ }
+    ensures { λ r. ⌜ (r .0 ≡ promptCharge unit «spread_rate» «outright_rate» (used .0) (unused .0)) × (r .0 ≤ mostCharge) ⌝ }
 {
-    Amount(half_up(
+    Amount(half_up_to(
         magnitude(used.0) * spread_rate + magnitude(unused.0) * outright_rate,
         10000,
+        unit,
     ))
 }
 
@@ -67,15 +71,17 @@ fn unit_price_risk(twice_risk: u64, net: u64) -> UnitPriceRisk
 }
 
 // A contract's credit from one entry, from twice its price risk and the sizes of what the entry used and of its net delta.
-// The wholes come to half hundredths, of which 200 times a percent are as many hundredths.
-pub(crate) fn credit(twice_risk: u64, used: u64, percent: u64, net: u64) -> Amount
-    requires { ⌜ (used ≤ net) × (net ≤ mostDelta) × (percent ≤ mostPercent) ⌝ }
-    ensures { λ r. ⌜ (r .0 ≡ credit «twice_risk» used percent net) × (r .0 ≤ «twice_risk») ⌝ }
+// The wholes come to half hundredths, of which 200 times a percent are as many hundredths: so many for each unit.
+pub(crate) fn credit(unit: u64, twice_risk: u64, used: u64, percent: u64, net: u64) -> Amount
+    requires { ⌜ (used ≤ net) × (net ≤ mostDelta) × (percent ≤ mostPercent) × («twice_risk» ≤ 4 * mostRisk) × Between 1 unit mostUnit ⌝ }
+    ensures { λ r. ⌜ (r .0 ≡ credit unit «twice_risk» used percent net) × (r .0 ≤ mostCredit) ⌝ }
 {
-    let unit = unit_price_risk(twice_risk, net);
-    let halves = unit.whole * used;
-    let parts = halves % 200 * percent * TO_UNIT + unit.part * (used * percent);
-    Amount(halves / 200 * percent + half_up(parts, FROM_UNIT))
+    let risk = unit_price_risk(twice_risk, net);
+    let halves = risk.whole * used;
+    let each = 200 * unit;
+    let parts = halves % each * percent * TO_UNIT + risk.part * (used * percent);
+    let units = halves / each * percent + half_up(parts, FROM_UNIT * unit);
+    Amount(units * unit)
 }
 
 // The short option minimum.

@@ -21,7 +21,7 @@ use spread::Spreads;
 ghost use mathlib.Core.Path.{_≡_};
 ghost use Prim.Native.Nat.{_*_, _≤_, _<_};
 ghost use Rattle.account.specs.Records.{records};
-ghost use Rattle.margin.specs.Bounds.{mostFormed, mostCharge, mostRisk};
+ghost use Rattle.margin.specs.Bounds.{mostFormed, mostCharge, mostCredit, mostCredits};
 ghost use Rattle.margin.specs.Charges.{spreadCharge, interpromptCharge, promptCharge, promptCharges};
 ghost use Rattle.margin.specs.Credit.{credit, bothTake, entryUse, creditsBy};
 ghost use Rattle.margin.specs.Sums.{interleaved, deltasIn, SpreadRoom, SpreadsWithin, PromptRoom, PromptsWithin, CreditRoom, EntriesRoom};
@@ -29,56 +29,64 @@ ghost use Rattle.account.specs.Check.{mostPrompts, mostSpreads};
 ghost use Rattle.record.specs.Layout.{ratePerSpread, spreadRate, outrightRate, percent};
 ghost use Rattle.spread.specs.Steps.{useOf};
 
-fn charge_of_spread(s: &[u8], first: Spreads, second: Spreads) -> Amount
-    requires { ⌜ SpreadRoom (now s) (first .0) (second .0) ⌝ }
-    ensures { λ r. ⌜ (r .0 ≡ spreadCharge (ratePerSpread (now (s .entry))) (first .0) (second .0)) × (r .0 ≤ mostCharge) ⌝ }
+fn charge_of_spread(unit: u64, s: &[u8], first: Spreads, second: Spreads) -> Amount
+    requires { ⌜ SpreadRoom unit (now s) (first .0) (second .0) ⌝ }
+    ensures { λ r. ⌜ (r .0 ≡ spreadCharge unit (ratePerSpread (now (s .entry))) (first .0) (second .0)) × (r .0 ≤ mostCharge) ⌝ }
 {
-    spread_charge(first, second, rate_per_spread(s) as u64)
+    spread_charge(unit, first, second, rate_per_spread(s) as u64)
 }
 
 // The interprompt charge: each spread's charge for the numbers of its two steps.
 pub(crate) fn interprompt_charge(
+    unit: u64,
     spreads: &[u8],
     first: [Spreads; MOST_SPREADS],
     second: [Spreads; MOST_SPREADS],
 ) -> Amount
-    requires { ⌜ SpreadsWithin (records (now spreads)) first second ⌝ }
-    ensures { λ r. ⌜ (r .0 ≡ interpromptCharge (records (now (spreads .entry))) (interleaved first second)) × (r .0 ≤ mostSpreads * mostCharge) ⌝ }
+    requires { ⌜ SpreadsWithin unit (records (now spreads)) first second ⌝ }
+    ensures { λ r. ⌜ (r .0 ≡ interpromptCharge unit (records (now (spreads .entry))) (interleaved first second)) × (r .0 ≤ mostSpreads * mostCharge) ⌝ }
 {
     let count = spreads.len() / RECORD_BYTES;
     let mut sum: u64 = 0;
     let mut i = 0;
     while i < count {
         let at = i * RECORD_BYTES;
-        let charge = charge_of_spread(&spreads[at..at + RECORD_BYTES], first[i], second[i]);
+        let charge = charge_of_spread(unit, &spreads[at..at + RECORD_BYTES], first[i], second[i]);
         sum += charge.0;
         i += 1;
     }
     Amount(sum)
 }
 
-fn charge_of_prompt(p: &[u8], used: Delta, unused: Delta) -> Amount
-    requires { ⌜ PromptRoom (now p) (used .0) (unused .0) ⌝ }
-    ensures { λ r. ⌜ (r .0 ≡ promptCharge (spreadRate (now (p .entry))) (outrightRate (now (p .entry))) (used .0) (unused .0)) × (r .0 ≤ mostCharge) ⌝ }
+fn charge_of_prompt(unit: u64, p: &[u8], used: Delta, unused: Delta) -> Amount
+    requires { ⌜ PromptRoom unit (now p) (used .0) (unused .0) ⌝ }
+    ensures { λ r. ⌜ (r .0 ≡ promptCharge unit (spreadRate (now (p .entry))) (outrightRate (now (p .entry))) (used .0) (unused .0)) × (r .0 ≤ mostCharge) ⌝ }
 {
-    prompt_charge(used, unused, spread_rate(p) as u64, outright_rate(p) as u64)
+    prompt_charge(
+        unit,
+        used,
+        unused,
+        spread_rate(p) as u64,
+        outright_rate(p) as u64,
+    )
 }
 
 // The prompt date charges: each prompt's charge for what of it is used and what is not.
 pub(crate) fn prompt_charges(
+    unit: u64,
     prompts: &[u8],
     used: [Delta; MOST_PROMPTS],
     unused: [Delta; MOST_PROMPTS],
 ) -> Amount
-    requires { ⌜ PromptsWithin (records (now prompts)) used unused ⌝ }
-    ensures { λ r. ⌜ (r .0 ≡ promptCharges (records (now (prompts .entry))) (deltasIn used) (deltasIn unused)) × (r .0 ≤ mostPrompts * mostCharge) ⌝ }
+    requires { ⌜ PromptsWithin unit (records (now prompts)) used unused ⌝ }
+    ensures { λ r. ⌜ (r .0 ≡ promptCharges unit (records (now (prompts .entry))) (deltasIn used) (deltasIn unused)) × (r .0 ≤ mostPrompts * mostCharge) ⌝ }
 {
     let count = prompts.len() / RECORD_BYTES;
     let mut sum: u64 = 0;
     let mut i = 0;
     while i < count {
         let at = i * RECORD_BYTES;
-        let charge = charge_of_prompt(&prompts[at..at + RECORD_BYTES], used[i], unused[i]);
+        let charge = charge_of_prompt(unit, &prompts[at..at + RECORD_BYTES], used[i], unused[i]);
         sum += charge.0;
         i += 1;
     }
@@ -119,19 +127,26 @@ fn entry_use(c: usize, e: &[u8], first: Spreads, second: Spreads) -> u64
     0
 }
 
-// A contract as the intercontract table sees it: its number, twice its price risk, and the size of its net delta.
+// A contract as the intercontract table sees it: its unit, its number, twice its price risk, and the size of its net delta.
 pub struct Earner {
+    pub unit: u64,
     pub contract: usize,
     pub twice_price: u64,
     pub net: u64,
 }
 
 fn credit_from(e: &[u8], earner: Earner, first: Spreads, second: Spreads) -> Amount
-    requires { ⌜ CreditRoom (earner .contract) (earner .net) (now e) (first .0) (second .0) ⌝ }
-    ensures { λ r. ⌜ (r .0 ≡ credit (earner .«twice_price») (entryUse (earner .contract) (now (e .entry)) (first .0) (second .0)) (percent (now (e .entry))) (earner .net)) × (r .0 ≤ earner .«twice_price») ⌝ }
+    requires { ⌜ CreditRoom (earner .unit) (earner .contract) (earner .«twice_price») (earner .net) (now e) (first .0) (second .0) ⌝ }
+    ensures { λ r. ⌜ (r .0 ≡ credit (earner .unit) (earner .«twice_price») (entryUse (earner .contract) (now (e .entry)) (first .0) (second .0)) (percent (now (e .entry))) (earner .net)) × (r .0 ≤ mostCredit) ⌝ }
 {
     let used = entry_use(earner.contract, e, first, second);
-    credit(earner.twice_price, used, percent(e) as u64, earner.net)
+    credit(
+        earner.unit,
+        earner.twice_price,
+        used,
+        percent(e) as u64,
+        earner.net,
+    )
 }
 
 // A contract's credits over the entries of the intercontract table.
@@ -141,8 +156,8 @@ pub(crate) fn credits(
     first: [Spreads; MOST_SPREADS],
     second: [Spreads; MOST_SPREADS],
 ) -> Amount
-    requires { ⌜ EntriesRoom (earner .contract) (earner .«twice_price») (earner .net) (records (now entries)) first second ⌝ }
-    ensures { λ r. ⌜ (r .0 ≡ creditsBy (earner .contract) (earner .«twice_price») (earner .net) (records (now (entries .entry))) (interleaved first second)) × (r .0 ≤ 128 * mostRisk) ⌝ }
+    requires { ⌜ EntriesRoom (earner .unit) (earner .contract) (earner .«twice_price») (earner .net) (records (now entries)) first second ⌝ }
+    ensures { λ r. ⌜ (r .0 ≡ creditsBy (earner .unit) (earner .contract) (earner .«twice_price») (earner .net) (records (now (entries .entry))) (interleaved first second)) × (r .0 ≤ mostCredits) ⌝ }
 {
     let count = entries.len() / RECORD_BYTES;
     let mut sum: u64 = 0;

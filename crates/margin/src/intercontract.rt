@@ -57,6 +57,7 @@ fn earner_of(line: Line) -> Earner
 {
     let net = line.net;
     Earner {
+        unit: line.unit,
         contract: line.contract as usize,
         twice_price: line.twice_price,
         net: magnitude(net.0),

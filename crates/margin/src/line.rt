@@ -9,6 +9,7 @@ use crate::rows::Position;
 use exact::signed::plus;
 use record::fields::contract;
 use record::fields::short_option_rate;
+use record::fields::unit;
 use spread::Delta;
 use spread::MOST_PROMPTS;
 use spread::book::Book;
@@ -17,6 +18,7 @@ ghost use mathlib.Core.List.{map};
 ghost use Prim.Native.Nat.{_+_, _^_, _≤_, _<_};
 ghost use lib.IntN.{natAbs, _+ℤ_};
 ghost use Rattle.exact.specs.Lists.{sum, sumℤ};
+ghost use Rattle.record.specs.Layout.{mostUnit};
 ghost use Rattle.account.specs.Records.{records};
 ghost use Rattle.margin.specs.Bounds.{mostDelta};
 ghost use Rattle.margin.specs.Promised.{Charged, LineOf, PositionFit, contractWith};
@@ -25,6 +27,7 @@ ghost use Rattle.margin.specs.Sums.{deltasIn, SpreadsWithin, PromptsWith
 // What the figures say of a contract, but for its credit and its margin; and what its credit is reckoned from.
 pub struct Line {
     pub contract: u8,
+    pub unit: u64,
     pub active: usize,
     pub scanning: Amount,
     pub interprompt: Amount,
@@ -63,16 +66,16 @@ struct Charges {
     prompt: Amount,
 }
 
-fn charges_of(prompts: &[u8], spreads: &[u8], book: Book) -> Charges
-    requires { ⌜ SpreadsWithin (records (now spreads)) (book .first) (book .second) × PromptsWithin (records (now prompts)) (book .used) (book .unused) ⌝ }
-    ensures { λ r. ⌜ Charged (records (now (prompts .entry))) (records (now (spreads .entry))) book (r .interprompt .0) (r .prompt .0) ⌝ }
+fn charges_of(unit: u64, prompts: &[u8], spreads: &[u8], book: Book) -> Charges
+    requires { ⌜ SpreadsWithin unit (records (now spreads)) (book .first) (book .second) × PromptsWithin unit (records (now prompts)) (book .used) (book .unused) ⌝ }
+    ensures { λ r. ⌜ Charged unit (records (now (prompts .entry))) (records (now (spreads .entry))) book (r .interprompt .0) (r .prompt .0) ⌝ }
 {
     let first = book.first;
     let second = book.second;
-    let interprompt = interprompt_charge(spreads, first, second);
+    let interprompt = interprompt_charge(unit, spreads, first, second);
     let used = book.used;
     let unused = book.unused;
-    let prompt = prompt_charges(prompts, used, unused);
+    let prompt = prompt_charges(unit, prompts, used, unused);
     Charges {
         interprompt: interprompt,
         prompt: prompt,
@@ -88,7 +91,13 @@ pub(crate) fn line_of(own: &[u8], prompts: &[u8], spreads: &[u8], p: Position) -
     let sixteen = p.totals;
     let totals = sixteen.0;
     let risks = scanned(totals);
-    let charges = charges_of(prompts, spreads, contract_book(prompts, nets, spreads));
+    let its_unit = unit(own) as u64;
+    let charges = charges_of(
+        its_unit,
+        prompts,
+        spreads,
+        contract_book(prompts, nets, spreads),
+    );
     let minimum = short_option_minimum(p.shorts, short_option_rate(own) as u64);
     let net = contract_net(nets);
     let scanning = risks.scanning;
@@ -96,6 +105,7 @@ pub(crate) fn line_of(own: &[u8], prompts: &[u8], spreads: &[u8], p: Position) -
     let prompt = charges.prompt;
     Line {
         contract: contract(own) as u8,
+        unit: its_unit,
         active: risks.active,
         scanning: scanning,
         interprompt: interprompt,

@@ -16,7 +16,7 @@ ghost use lib.IntN.{pos};
 ghost use lib.ListN.{length, take, drop, set};
 ghost use lib.Seq.{sets};
 ghost use Rattle.account.specs.Check.{mostPrompts};
-ghost use Rattle.margin.specs.Bounds.{mostRisk, longestBook};
+ghost use Rattle.margin.specs.Bounds.{mostRisk, mostCredits, longestBook};
 ghost use Rattle.margin.specs.Lines.{LineWithin, marginWith, eightOf, figuresFrom};
 ghost use Rattle.margin.specs.Numbers.{written, LinesWithin, SpreadsSigned};
 ghost use Rattle.margin.specs.Books.{threes};
@@ -52,7 +52,7 @@ fn margin_of(l: Line, credit: Amount) -> Amount
 
 // A contract's eight numbers, from a place on.
 fn put_eight(out: &mut [i64; LONGEST_BOOK], at: usize, l: Line, credit: Amount, margin: Amount)
-    requires { ⌜ (at + 8 ≤ longestBook) × (LineWithin l × ((credit .0 ≤ 128 * mostRisk) × ((margin .0 ≡ marginWith l (credit .0)) × (margin .0 ≤ 3 * mostRisk)))) ⌝ }
+    requires { ⌜ (at + 8 ≤ longestBook) × (LineWithin l × ((credit .0 ≤ mostCredits) × ((margin .0 ≡ marginWith l (credit .0)) × (margin .0 ≤ 3 * mostRisk)))) ⌝ }
     ensures { λ r. ⌜ now (out .exit) ≡ sets (now (out .entry)) at (map pos (eightOf l (credit .0))) ⌝ }
 {
     put(out, at, l.contract as u64);

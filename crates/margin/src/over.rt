@@ -29,6 +29,7 @@ use account::parts::ROWS;
 use account::parts::SPREADS;
 use account::stretches::record_count;
 use exact::signed::magnitude;
+use record::fields::unit;
 use spread::Delta;
 use spread::MOST_PROMPTS;
 use spread::Prompts;
@@ -41,7 +42,7 @@ ghost use lib.ListN.{length, getD};
 ghost use Rattle.account.specs.Parts.{contractsOf, promptsOf, spreadsOf, entriesOf};
 ghost use Rattle.account.specs.Records.{records, recordCount};
 ghost use Rattle.account.specs.Standing.{Stands, accountOf};
-ghost use Rattle.record.specs.Layout.{mostContract};
+ghost use Rattle.record.specs.Layout.{mostContract, mostUnit};
 ghost use Rattle.margin.specs.Books.{contractBook, tableBook, answered, askedBy, book};
 ghost use Rattle.margin.specs.Bounds.{longestBook};
 ghost use Rattle.margin.specs.Contract.{contracts, partsIn, partsOf};
@@ -60,14 +61,23 @@ pub struct Lines {
     pub line: [Line; CONTRACTS],
 }
 
-// What the rows of contract `c` come to.
-fn position_at<'a>(morning: &'a [u8], noon: &'a [u8], account: Account, c: usize) -> Position
-    requires { ⌜ Stands (now morning) (now noon) account × (c ≤ mostContract) ⌝ }
-    ensures { λ p. ⌜ PositionAt (accountOf (now (morning .entry)) (now (noon .entry))) c p ⌝ }
+// The unit where none is asked for: net deltas and short lots have none.
+const ONE_HUNDREDTH: u64 = 1;
+
+// What the rows of contract `c` come to at a unit.
+fn position_at<'a>(
+    morning: &'a [u8],
+    noon: &'a [u8],
+    account: Account,
+    c: usize,
+    unit: u64,
+) -> Position
+    requires { ⌜ Stands (now morning) (now noon) account × ((c ≤ mostContract) × (unit ≤ mostUnit)) ⌝ }
+    ensures { λ p. ⌜ PositionAt unit (accountOf (now (morning .entry)) (now (noon .entry))) c p ⌝ }
 {
     let prompts = part(morning, noon, account, PROMPTS + c);
     let rows = part(morning, noon, account, ROWS + c);
-    position_of(prompts, rows)
+    position_of(unit, prompts, rows)
 }
 
 // The line of the i-th contract.
@@ -79,17 +89,14 @@ fn line_at<'a>(morning: &'a [u8], noon: &'a [u8], account: Account, i: usize) ->
     let own = part(morning, noon, account, OWN + c);
     let prompts = part(morning, noon, account, PROMPTS + c);
     let spreads = part(morning, noon, account, SPREADS + c);
-    line_of(
-        own,
-        prompts,
-        spreads,
-        position_at(morning, noon, account, c),
-    )
+    let p = position_at(morning, noon, account, c, unit(own) as u64);
+    line_of(own, prompts, spreads, p)
 }
 
 fn no_line() -> Line {
     Line {
         contract: 0,
+        unit: 0,
         active: 0,
         scanning: Amount(0),
         interprompt: Amount(0),
@@ -173,7 +180,11 @@ fn contract_numbers<'a>(morning: &'a [u8], noon: &'a [u8], account: Account, c: 
 {
     let prompts = part(morning, noon, account, PROMPTS + c);
     let spreads = part(morning, noon, account, SPREADS + c);
-    contract_answer(prompts, spreads, position_at(morning, noon, account, c))
+    contract_answer(
+        prompts,
+        spreads,
+        position_at(morning, noon, account, c, ONE_HUNDREDTH),
+    )
 }
 
 // A contract as a tier of the intercontract table.
@@ -188,7 +199,7 @@ fn tier_at<'a>(morning: &'a [u8], noon: &'a [u8], account: Account, i: usize) ->
     ensures { λ r. ⌜ TierIs (partsIn (accountOf (now (morning .entry)) (now (noon .entry))) (getD (contractsOf (accountOf (now (morning .entry)) (now (noon .entry)))) i [])) (r .contract) (r .net .0) ⌝ }
 {
     let c = contract_number(account, i);
-    let p = position_at(morning, noon, account, c);
+    let p = position_at(morning, noon, account, c, ONE_HUNDREDTH);
     let nets = p.nets;
     let net = contract_net(nets);
     Tier {
@@ -282,7 +293,11 @@ fn asking_of<'a>(morning: &'a [u8], noon: &'a [u8], account: Account, c: usize) 
 {
     let prompts = part(morning, noon, account, PROMPTS + c);
     let spreads = part(morning, noon, account, SPREADS + c);
-    contract_asking(prompts, spreads, position_at(morning, noon, account, c))
+    contract_asking(
+        prompts,
+        spreads,
+        position_at(morning, noon, account, c, ONE_HUNDREDTH),
+    )
 }
 
 // The contracts as tiers, and the intercontract spreads.

@@ -2,16 +2,19 @@
 ghost use mathlib.Core.Path.{_≡_};
 ghost use mathlib.Core.Bool.{cond};
 ghost use mathlib.Core.List.{List, [], _++_};
-ghost use Prim.Native.Nat.{_≤_, _-_};
+ghost use Prim.Native.Nat.{ℕ, _≤_, _-_, _*_};
 ghost use lib.IntN.{pos, natAbs, _+ℤ_, _*ℤ_};
+ghost use Rattle.exact.specs.Rounding.{halfAwayTo};
 ghost use lib.ListN.{length};
-ghost use Rattle.record.specs.Layout.{Record, lots, value};
+ghost use Rattle.record.specs.Layout.{Record, lots, value, hundredThousand, mostUnit};
 ghost use Rattle.account.specs.Check.{mostPrompts, mostRows};
 ghost use Rattle.account.specs.Records.{records, recordCount};
+ghost use Rattle.margin.specs.Bounds.{mostProduct};
 ghost use Rattle.margin.specs.Deltas.{rowDelta};
 ghost use Rattle.margin.specs.Margin.{short, shortOptions};
 ghost use Rattle.margin.specs.Position.{RowFit, RowsFit, Sized, AtMost, Added, products, DaysOf};
 ghost use Rattle.margin.specs.Position.{PositionOf, Bounded, WithRows};
+use exact::rounding::half_away_to;
 use exact::signed::as_signed;
 use exact::signed::is_negative;
 use exact::signed::magnitude;
@@ -50,6 +53,14 @@ fn per_tick(row: &[u8]) -> i64
     ensures { λ r. ⌜ Sized 1000000000 (lots (now (row .entry)) *ℤ pos (value (now (row .entry)))) r ⌝ }
 {
     times(lots(row), as_signed(value(row) as u64))
+}
+
+// Lots × value × loss, rounded to the contract's unit.
+fn product(each: i64, loss: i64, unit: u64) -> i64
+    requires { ⌜ (natAbs each ≤ 1000000000) × (natAbs loss ≤ hundredThousand) × (unit ≤ mostUnit) ⌝ }
+    ensures { λ r. ⌜ Sized mostProduct (halfAwayTo (each *ℤ loss) unit) r ⌝ }
+{
+    half_away_to(times(each, loss), unit)
 }
 
 // Lots × delta.
@@ -95,16 +106,16 @@ fn net_with(net: Delta, same: bool, more: Delta) -> Delta
 }
 
 // Each total with one row more.
-fn totals_with(t: Totals, row: &[u8]) -> Totals
-    requires { ⌜ RowFit (now row) × AtMost 16 12700000000000000 (t .0) ⌝ }
-    ensures { λ r. ⌜ Added 16 (products (now (row .entry))) (t .0) (r .0) ⌝ }
+fn totals_with(t: Totals, unit: u64, row: &[u8]) -> Totals
+    requires { ⌜ (unit ≤ mostUnit) × (RowFit (now row) × AtMost 16 (127 * mostProduct) (t .0)) ⌝ }
+    ensures { λ r. ⌜ Added 16 (products unit (now (row .entry))) (t .0) (r .0) ⌝ }
 {
     let each = per_tick(row);
     let mut totals = t.0;
     let mut s = 0;
     while s < SCENARIOS {
-        let product = times(each, loss(row, s + 1));
-        totals[s] = plus(totals[s], product);
+        let more = product(each, loss(row, s + 1), unit);
+        totals[s] = plus(totals[s], more);
         s += 1;
     }
     Totals(totals)
@@ -128,7 +139,7 @@ pub(crate) fn days_of(prompts: &[u8]) -> Days
 
 // What no rows come to.
 pub(crate) fn flat() -> Position
-    ensures { λ p. ⌜ ((prompts : List Record) → length prompts ≤ mostPrompts → PositionOf prompts [] p) ⌝ }
+    ensures { λ p. ⌜ ((unit : ℕ) (prompts : List Record) → length prompts ≤ mostPrompts → PositionOf unit prompts [] p) ⌝ }
 {
     let totals = [0i64; SCENARIOS];
     let none = Delta(0);
@@ -141,10 +152,10 @@ pub(crate) fn flat() -> Position
 }
 
 // What rows come to with more rows, in one walk over these. A ticket is one row more.
-pub(crate) fn with_rows(p: Position, days: Days, rows: &[u8]) -> Position
-    requires { ⌜ (days .count ≤ mostPrompts) × (RowsFit (records (now rows)) × Bounded (mostRows - length (records (now rows))) p) ⌝ }
-    ensures added { λ q. ⌜ WithRows days p (records (now (rows .entry))) q ⌝ }
-    ensures more { λ q. ⌜ ((prompts earlier : List Record) → DaysOf prompts days → PositionOf prompts earlier p → PositionOf prompts (earlier ++ records (now (rows .entry))) q) ⌝ }
+pub(crate) fn with_rows(p: Position, days: Days, unit: u64, rows: &[u8]) -> Position
+    requires { ⌜ (unit ≤ mostUnit) × ((days .count ≤ mostPrompts) × (RowsFit (records (now rows)) × Bounded (mostRows - length (records (now rows))) p)) ⌝ }
+    ensures added { λ q. ⌜ WithRows unit days p (records (now (rows .entry))) q ⌝ }
+    ensures more { λ q. ⌜ ((prompts earlier : List Record) → DaysOf prompts days → PositionOf unit prompts earlier p → PositionOf unit prompts (earlier ++ records (now (rows .entry))) q) ⌝ }
     ensures most { λ q. ⌜ Bounded mostRows q ⌝ }
 {
     let count = rows.len() / RECORD_BYTES;
@@ -156,7 +167,7 @@ pub(crate) fn with_rows(p: Position, days: Days, rows: &[u8]) -> Position
     while i < count {
         let at = i * RECORD_BYTES;
         let row = &rows[at..at + RECORD_BYTES];
-        let sums = totals_with(totals, row);
+        let sums = totals_with(totals, unit, row);
         totals = sums;
         shorts = shorts + short_options(row);
         let row_day = day(row);
@@ -176,11 +187,11 @@ pub(crate) fn with_rows(p: Position, days: Days, rows: &[u8]) -> Position
     }
 }
 
-// What a contract's rows come to, by its prompts' days.
-pub(crate) fn position_of(prompts: &[u8], rows: &[u8]) -> Position
-    requires { ⌜ (recordCount (now prompts) ≤ mostPrompts) × RowsFit (records (now rows)) ⌝ }
-    ensures is { λ p. ⌜ PositionOf (records (now (prompts .entry))) (records (now (rows .entry))) p ⌝ }
+// What a contract's rows come to, by its unit and its prompts' days.
+pub(crate) fn position_of(unit: u64, prompts: &[u8], rows: &[u8]) -> Position
+    requires { ⌜ (unit ≤ mostUnit) × ((recordCount (now prompts) ≤ mostPrompts) × RowsFit (records (now rows))) ⌝ }
+    ensures is { λ p. ⌜ PositionOf unit (records (now (prompts .entry))) (records (now (rows .entry))) p ⌝ }
     ensures most { λ p. ⌜ Bounded mostRows p ⌝ }
 {
-    with_rows(flat(), days_of(prompts), rows)
+    with_rows(flat(), days_of(prompts), unit, rows)
 }

@@ -14,7 +14,7 @@ use Rattle.questions.specs.Noon.{coverCall}
 -- rate 500; two calls long, three short, a put short, four forwards short
 abbrev pub mixed : Contract
 mixed =
-    contractFrom (contractRecord 0 500) (promptRecord 0 1 1 0 0 ∷ [])
+    contractFrom (contractRecord 0 500 0) (promptRecord 0 1 1 0 0 ∷ [])
     (rowRecord 0 1 1 1850 (pos 2) (pos 5200) 1 (replicate 16 (pos 0))
     ∷ rowRecord 0 1 1 1850 (negsuc 2) (pos 5200) 1 (replicate 16 (pos 0))
     ∷ rowRecord 0 2 1 1850 (negsuc 0) (negsuc 4799) 1 (replicate 16 (pos 0))
@@ -25,7 +25,7 @@ pub record Turns : Type 0 where
   -- "short lots of calls and puts × rate"
   pub short-lots : minimumOf mixed ≡ 2000
   -- "rounded once, halves up": 8.5 hundredths
-  pub half-credit : credit 17 1000 100 1000 ≡ 9
+  pub half-credit : credit 1 17 1000 100 1000 ≡ 9
   -- "none unless the requirement exceeds the last cover call plus the threshold and also the revalued collateral; otherwise
   -- requirement minus collateral"
   pub at-the-threshold : coverCall 100 60 40 0 ≡ 0

@@ -2,7 +2,7 @@
 -- Assumes nothing.
 use Prim.Native.Nat.{ℕ, zero, suc, _+_, _≤_, _<_}
 use mathlib.Core.Path.{_≡_, refl, sym, ap, _∙_}
-use mathlib.Core.Bool.{Bool, true, false, _&&_, _||_}
+use mathlib.Core.Bool.{Bool, true, false, cond, _&&_, _||_}
 use mathlib.Core.List.{List, [], _∷_, map}
 use lib.Dec.{eqb, leb, lit≤}
 use lib.IntN.{ℤ, pos, negsuc, negℤ, natAbs}
@@ -11,7 +11,7 @@ use native.Mathlib.Omega.{arith}
 use borrow.Author.Tests.{leb-true, not-false, eqb-true, eqb-false}
 use mathlib.Core.Logic.{_⊎_, inl, inr, ⊎-elim}
 use Rattle.record.specs.Bytes.{Record, Field, countFrom, numberIn, plain, signed, twosComplement}
-use Rattle.record.specs.Layout.{kind, contract, shortOptionRate, tier, day, spreadRate, outrightRate, rowType, value, put}
+use Rattle.record.specs.Layout.{kind, contract, shortOptionRate, unitField, unitOf, unit, tier, day, spreadRate, outrightRate, rowType, value, put}
 use Rattle.record.specs.Layout.{legCount, ratePerSpread, legTier, legSide, legRatio, secondContract, percent, firstRatio, secondRatio, tenths, mostEntryRatio}
 use Rattle.record.specs.Layout.{fieldsOf, contractFields, promptFields, rowFields, spreadFields, entryFields, legFields, thirdLeg}
 use Rattle.record.specs.Layout.{lotsField, deltaField, lossField, hundredThousands}
@@ -83,7 +83,18 @@ module _ (r : Record) where
   pub contract-within : kind r ≡ 1 → fieldOutside r ≡ false → ContractWithin r
   contract-within k h =
       let a = by contractFields (of-contract r k) h in
-      record { contracts = most 0 15 (contract r) (a .0); rates = most 0 10000000 (shortOptionRate r) (a .1 .0) }
+      record {
+        contracts = most 0 15 (contract r) (a .0);
+        rates = most 0 10000000 (shortOptionRate r) (a .1 .0);
+        units = unit-in (numberIn unitField r) (most 0 1000 (numberIn unitField r) (a .1 .1 .0));
+      }
+    where
+      unit-in : (n : ℕ) → n ≤ 1000 → Between 1 (unitOf n) 1000
+      unit-in n h = go (eqb n 0) refl
+        where
+          go : (t : Bool) → eqb n 0 ≡ t → Between 1 (cond t 1 n) 1000
+          go true e = record { least = lit≤ tt; most = lit≤ tt }
+          go false e = let d = eqb-false n 0 e in record { least = omega arith; most = h }
 
   pub prompt-within : kind r ≡ 2 → fieldOutside r ≡ false → PromptWithin r
   prompt-within k h =

@@ -1,4 +1,5 @@
--- The table of kinds and fields of document 01, "The account file", and of request 2026-03 of document 02, with its ranges.
+-- The table of kinds and fields of document 01, "The account file", and of requests 2026-03 and 2026-09 of document 02, with its
+-- ranges.
 -- Every offset, width and range of the definitions is said here.
 -- Assumes nothing.
 use Prim.Native.Nat.{ℕ, _+_, _-_, _*_}
@@ -64,8 +65,18 @@ contractField = field 1 one contractRange
 abbrev pub shortOptionRateField : Field
 shortOptionRateField = field 4 four rateRange
 
+-- 2026-09: "Bytes 8-9 of kind 1 hold the unit in hundredths, 0 and 1 both meaning one hundredth, at most 1,000."
+abbrev pub mostUnit : ℕ
+mostUnit = 1000
+
+abbrev pub unitField : Field
+unitField = field 8 two (plain 0 mostUnit)
+
+abbrev pub unitOf : ℕ → ℕ
+unitOf n = cond (eqb n 0) 1 n
+
 abbrev pub contractFields : List Field
-contractFields = contractField ∷ shortOptionRateField ∷ []
+contractFields = contractField ∷ shortOptionRateField ∷ unitField ∷ []
 
 -- "2 prompt | 1: contract; 2: tier 1..8; 4-7: day 1..99,999,999; 8-11: rate per delta in spreads; 12-15: rate per outright
 -- delta"
@@ -219,6 +230,10 @@ contract = numberIn contractField
 
 abbrev pub shortOptionRate : Record → ℕ
 shortOptionRate = numberIn shortOptionRateField
+
+-- the unit of a contract's amounts, in hundredths
+abbrev pub unit : Record → ℕ
+unit r = unitOf (numberIn unitField r)
 
 abbrev pub tier : Record → ℕ
 tier = numberIn tierField

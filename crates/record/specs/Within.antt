@@ -3,7 +3,7 @@
 use Prim.Native.Nat.{ℕ, _≤_}
 use mathlib.Core.Path.{_≡_}
 use lib.IntN.{natAbs}
-use Rattle.record.specs.Layout.{Record, contract, shortOptionRate, tier, day, spreadRate, outrightRate}
+use Rattle.record.specs.Layout.{Record, contract, shortOptionRate, unit, mostUnit, tier, day, spreadRate, outrightRate}
 use Rattle.record.specs.Layout.{rowType, lots, delta, value, loss}
 use Rattle.record.specs.Layout.{legCount, ratePerSpread, legTier, legSide, legRatio}
 use Rattle.record.specs.Layout.{secondContract, percent, firstRatio, secondRatio, tenths, mostEntryRatio}
@@ -16,6 +16,7 @@ pub record Between (low x high : ℕ) : Type 0 where
 pub record ContractWithin (r : Record) : Type 0 where
   pub contracts : contract r ≤ mostContract
   pub rates : shortOptionRate r ≤ mostRate
+  pub units : Between 1 (unit r) mostUnit
 
 pub record PromptWithin (r : Record) : Type 0 where
   pub contracts : contract r ≤ mostContract

@@ -1,7 +1,7 @@
 // The fields of a record, by document 01's table. Unsigned fields come as they stand, signed ones as signed numbers.
 ghost use mathlib.Core.Path.{_≡_};
 ghost use Prim.Native.Nat.{_<_};
-ghost use Rattle.record.specs.Layout.{kind, contract, shortOptionRate, tier, day, spreadRate, outrightRate};
+ghost use Rattle.record.specs.Layout.{kind, contract, shortOptionRate, unitField, unit, tier, day, spreadRate, outrightRate};
 ghost use Rattle.record.specs.Layout.{rowType, strike, lots, delta, value, loss};
 ghost use Rattle.record.specs.Layout.{legCount, ratePerSpread, legTier, legSide, legRatio};
 ghost use Rattle.record.specs.Layout.{secondContract, percent, firstRatio, secondRatio, tenthsField, tenths};
@@ -32,6 +32,21 @@ pub fn short_option_rate(r: &[u8]) -> usize
     ensures { λ n. ⌜ (n ≡ shortOptionRate (now (r .entry))) × (n < 4294967296) ⌝ }
 {
     u32_at(r, layout::SHORT_OPTION_RATE)
+}
+
+// What bytes 8-9 of a contract hold.
+pub(crate) fn unit_bytes(r: &[u8]) -> usize
+    ensures { λ n. ⌜ (n ≡ numberIn unitField (now (r .entry))) × (n < 65536) ⌝ }
+{
+    u16_at(r, layout::UNIT)
+}
+
+// The unit of a contract's amounts, in hundredths of the currency.
+pub fn unit(r: &[u8]) -> usize
+    ensures { λ n. ⌜ (n ≡ unit (now (r .entry))) × (n < 65536) ⌝ }
+{
+    let held = unit_bytes(r);
+    if held == 0 { 1 } else { held }
 }
 
 // Of a prompt; the day is also that of a row.

@@ -9,6 +9,8 @@ pub(crate) const CONTRACT: usize = 1;
 // Of a contract.
 pub(crate) const SHORT_OPTION_RATE: usize = 4;
 
+pub(crate) const UNIT: usize = 8;
+
 // Of a prompt; the day is also that of a row.
 pub(crate) const TIER: usize = 2;
 
@@ -60,7 +62,7 @@ pub(crate) const CONTRACT_GAP: usize = 2;
 pub(crate) const GAP: usize = 3;
 
 // And those from here on.
-pub(crate) const CONTRACT_END: usize = SHORT_OPTION_RATE + 4;
+pub(crate) const CONTRACT_END: usize = UNIT + 2;
 
 pub(crate) const PROMPT_END: usize = OUTRIGHT_RATE + 4;
 

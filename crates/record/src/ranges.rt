@@ -30,6 +30,7 @@ use crate::fields::strike;
 use crate::fields::tenths;
 use crate::fields::tenths_byte;
 use crate::fields::tier;
+use crate::fields::unit_bytes;
 use crate::fields::value;
 use crate::layout;
 
@@ -88,7 +89,7 @@ fn too_many(x: usize) -> bool
 pub(crate) fn in_contract(r: &[u8]) -> bool
     ensures { λ b. ⌜ b ≡ outsideAmong contractFields (now (r .entry)) ⌝ }
 {
-    no_contract(contract(r)) | no_rate(short_option_rate(r))
+    no_contract(contract(r)) | (no_rate(short_option_rate(r)) | beyond(unit_bytes(r), 0, 1000))
 }
 
 pub(crate) fn in_prompt(r: &[u8]) -> bool

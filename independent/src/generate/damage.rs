@@ -23,7 +23,7 @@ pub fn records(random: &mut Random, records: &mut Vec<Bytes>) {
 
 /// Damages one record whose kind has a field that a request of document 02 brought, if there is one.
 fn one_of_request(random: &mut Random, records: &mut [Bytes]) {
-    let kind = random.pick(&[ENTRY]);
+    let kind = random.pick(&[ENTRY, CONTRACT]);
     let of_kind = of_kind(records, kind);
     if !of_kind.is_empty() {
         let place = random.pick(&of_kind);
@@ -164,6 +164,7 @@ fn clash(random: &mut Random, record: &mut Bytes) {
 fn field_of_request(random: &mut Random, record: &mut Bytes) {
     match record[0] {
         ENTRY => other_parts(random, record),
+        CONTRACT => put(record, UNIT, random.pick(&[0, 1, 2, 256, 1_000, 1_001, 1_001, 65_535])),
         _ => field_at_its_end(random, record),
     }
 }

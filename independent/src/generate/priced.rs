@@ -13,13 +13,15 @@ pub fn account(random: &mut Random) -> Vec<Bytes> {
     let numbers: Vec<i64> = (0..random.between(2, 4)).map(|place| 4 * place + 1).collect();
     let long_first = random.one_in(2);
     let tiny = random.one_in(4);
-    let shared = (!tiny && random.one_in(2)).then(|| sizes(random));
+    let unit = if random.one_in(2) { random.pick(&[1, 2, 4, 10, 100, 1_000]) } else { 0 };
+    let shared = (!tiny && random.one_in(2)).then(|| sizes(random, unit));
     let (mut contracts, mut prompts, mut rows) = (vec![], vec![], vec![]);
     for (place, number) in numbers.iter().enumerate() {
-        contracts.push(record(CONTRACT, &[(NUMBER, *number)]));
+        contracts.push(record(CONTRACT, &[(NUMBER, *number), (UNIT, unit)]));
         prompts.push(record(PROMPT, &[(NUMBER, *number), (PROMPT_TIER, 1), (DAY, 20_260_318)]));
         let sign = if long_first == place.is_multiple_of(2) { 1 } else { -1 };
-        let sizes = if tiny { tiny_sizes(random) } else { shared.unwrap_or_else(|| sizes(random)) };
+        let sizes =
+            if tiny { tiny_sizes(random) } else { shared.unwrap_or_else(|| sizes(random, unit)) };
         rows.extend(position(random, *number, sign, sizes));
     }
     let entries: Vec<Bytes> =
@@ -75,17 +77,17 @@ fn position(random: &mut Random, number: i64, sign: i64, sizes: Sizes) -> [Bytes
 /// Lots and delta, then lots, value and ticks of the losses.
 type Sizes = (i64, i64, [i64; 3]);
 
-fn sizes(random: &mut Random) -> Sizes {
+fn sizes(random: &mut Random, unit: i64) -> Sizes {
     let odd = 2 * random.between(0, 40) + 1;
-    match random.below(8) {
+    match random.below(10) {
         // An odd number of hundredths over 8 lots, or 40, or 200, is a half of a fourth decimal.
         0 | 1 => (random.pick(&[8, 40, 200]), 10_000, [1, 1, odd]),
-        // One hundredth for each lot: half of it is a half where the lots used are odd.
-        2 => (odd, 10_000, [odd, 1, 1]),
+        // One unit for each lot: half of it is a half where the lots used are odd.
+        2 | 3 => (odd, 10_000, [odd, 1, unit.max(1)]),
         // The request's own net delta, and price risks about its own.
-        3..=5 => (30_000, 10_000, [1, 1, random.between(9_900, 20_100)]),
+        4..=7 => (30_000, 10_000, [1, 1, random.between(9_900, 20_100)]),
         // Next to nothing over much.
-        6 => (random.between(40_000, LOTS.most), 10_000, [1, 1, random.between(1, 3)]),
+        8 => (random.between(40_000, LOTS.most), 10_000, [1, 1, random.between(1, 3)]),
         // The most over 0.0001.
         _ => (1, 1, [LOTS.most, VALUE.most, loss(2).most]),
     }

@@ -1,5 +1,6 @@
 //! Accepted accounts.
 
+use super::charged;
 use super::priced;
 use super::random::Random;
 use super::values::*;
@@ -33,7 +34,8 @@ fn room(contracts: usize, entries: bool) -> usize {
 pub fn account(random: &mut Random) -> Vec<Bytes> {
     match random.below(200) {
         0 => return extreme(random),
-        1..=16 => return priced::account(random),
+        1..=22 => return priced::account(random),
+        23..=27 => return charged::account(random),
         _ => {}
     }
     let plan = match random.below(200) {
@@ -211,9 +213,12 @@ struct Draft {
 fn fill(random: &mut Random, plan: &Plan, numbers: &[i64]) -> Vec<Bytes> {
     let drafts = drafts(random, plan, numbers);
     let mut records = vec![];
+    let with_units = random.one_in(2);
     for draft in &drafts {
         let rate = rate(random, draft.taste, SHORT_OPTION_RATE);
-        records.push(record(CONTRACT, &[(NUMBER, draft.number), (SHORT_OPTION_RATE, rate)]));
+        let unit = if with_units { unit(random) } else { 0 };
+        let fields = [(NUMBER, draft.number), (SHORT_OPTION_RATE, rate), (UNIT, unit)];
+        records.push(record(CONTRACT, &fields));
     }
     for draft in &drafts {
         records.extend(prompts(random, draft));

@@ -87,6 +87,17 @@ pub fn rate(random: &mut Random, taste: Taste, field: Field) -> i64 {
     by_taste(random, taste, field, (100, 60_000), (0, 3))
 }
 
+/// A contract's unit: one hundredth in both ways of saying it, small ones, powers of ten, the ends, any.
+pub fn unit(random: &mut Random) -> i64 {
+    match random.below(6) {
+        0 => random.pick(&[0, 1]),
+        1 | 2 => random.pick(&[2, 3, 4, 10]),
+        3 => random.pick(&[100, 1_000]),
+        4 => random.pick(&[999, 1_000]),
+        _ => random.between(UNIT.least, UNIT.most),
+    }
+}
+
 pub fn lots(random: &mut Random, taste: Taste) -> i64 {
     by_taste(random, taste, LOTS, (-50, 50), (-3, 3))
 }

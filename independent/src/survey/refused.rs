@@ -1,7 +1,7 @@
 //! Which fields of document 02's requests a refused file has outside their range.
 
 use super::sights::Sight;
-use independent::format::{entry_ratios, records, Field, Record, ENTRY, TENTHS};
+use independent::format::{entry_ratios, records, Field, Record, CONTRACT, ENTRY, TENTHS, UNIT};
 use independent::refusal::OUT_OF_RANGE;
 use independent::Refusal;
 
@@ -10,7 +10,9 @@ pub fn refused(file: &[u8], refusal: Refusal) -> Vec<Sight> {
     let six = record.filter(|_| refusal.number == OUT_OF_RANGE);
     let entry = six.filter(|record| record.kind() == ENTRY);
     let entry = |seen: fn(Record) -> bool| entry.is_some_and(seen);
+    let contract = six.filter(|record| record.kind() == CONTRACT);
     vec![
+        ("a unit above 1,000", contract.is_some_and(|record| outside(record, UNIT))),
         ("byte 8 of an entry above 1", entry(|of| of.get(TENTHS) > TENTHS.most)),
         ("a ratio in tenths of 0 or above 1,000", entry(|of| of.get(TENTHS) == 1 && ratio(of))),
         ("a whole ratio that would pass in tenths", entry(passes_in_tenths)),

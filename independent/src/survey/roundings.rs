@@ -3,7 +3,7 @@
 use super::sights::Sight;
 use independent::book::intercontract;
 use independent::margin::{credit_of, totals, twice_price_risk, unit_price_risk};
-use independent::units::{Amount, Delta, Quotient};
+use independent::units::{Amount, Delta, Quotient, Unit};
 use independent::Account;
 
 /// One credit as it is reckoned.
@@ -11,6 +11,7 @@ struct Credit {
     twice_price_risk: Amount,
     unit: Quotient,
     credit: Quotient,
+    currency_unit: Unit,
 }
 
 pub fn roundings(account: &Account) -> Vec<Sight> {
@@ -18,7 +19,16 @@ pub fn roundings(account: &Account) -> Vec<Sight> {
     let any = |seen: fn(&Credit) -> bool| all.iter().any(seen);
     vec![
         ("a unit price risk that ends in a half", any(|of| of.unit.is_half())),
-        ("a credit that ends in a half", any(|of| of.credit.is_half())),
+        (
+            "a credit that ends in half a hundredth",
+            any(|of| of.currency_unit == Unit::HUNDREDTH && of.credit.is_half()),
+        ),
+        (
+            "a credit that ends in half a larger unit",
+            any(|of| {
+                of.currency_unit != Unit::HUNDREDTH && of.currency_unit.of(of.credit).is_half()
+            }),
+        ),
         ("a unit price risk beyond 64 bits", any(|of| of.unit.halves_up() >> 64 != 0)),
         ("a unit price risk rounded to 0", any(rounded_to_nothing)),
         ("a credit above the price risk", any(above_price_risk)),
@@ -44,7 +54,8 @@ fn credits(account: &Account) -> Vec<Credit> {
             if used != Delta(0) {
                 let unit = unit_price_risk(twice_price_risk, table.lines[place].net);
                 let credit = credit_of(unit.halves_up(), used, entry.percent);
-                credits.push(Credit { twice_price_risk, unit, credit });
+                let currency_unit = contract.unit;
+                credits.push(Credit { twice_price_risk, unit, credit, currency_unit });
             }
         }
     }

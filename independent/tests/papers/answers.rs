@@ -4,7 +4,7 @@
 use crate::builder::*;
 use crate::reckoned::printed;
 use independent::margin::{active_scenario, credit, scanning_risk, twice_price_risk};
-use independent::units::{Amount, Delta, Spreads};
+use independent::units::{Amount, Delta, Spreads, Unit};
 use independent::{book, check, figures, held_book, Refusal};
 
 /// A number that no answer here has.
@@ -170,9 +170,9 @@ fn price_risk_keeps_its_halves() {
     let mut totals = [Amount(0); 16];
     totals[2] = Amount(1);
     assert_eq!(twice_price_risk(&totals), Amount(1));
-    assert_eq!(credit(Amount(1), Delta(7), Delta(-7), 100), Amount(1));
-    assert_eq!(credit(Amount(1), Delta(7), Delta(-7), 99), Amount(0));
-    assert_eq!(credit(Amount(1), Delta(0), Delta(0), 100), Amount(0));
+    assert_eq!(credit(Amount(1), Delta(7), Delta(-7), 100, Unit::HUNDREDTH), Amount(1));
+    assert_eq!(credit(Amount(1), Delta(7), Delta(-7), 99, Unit::HUNDREDTH), Amount(0));
+    assert_eq!(credit(Amount(1), Delta(0), Delta(0), 100, Unit::HUNDREDTH), Amount(0));
 }
 
 #[test]

@@ -118,6 +118,13 @@ pub fn entry_in_tenths(percent: u8, first: (u8, u16), second: (u8, u16)) -> Reco
     with(entry(percent, first, second), 8, 1)
 }
 
+/// A contract with this unit in hundredths.
+pub fn in_units(unit: u16, contract: Record) -> Record {
+    let mut record = contract;
+    put(&mut record, 8, unit.to_le_bytes());
+    record
+}
+
 /// The record with one byte changed.
 pub fn with(record: Record, at: usize, byte: u8) -> Record {
     let mut changed = record;

@@ -15,4 +15,5 @@ mod runs;
 mod takes;
 mod tenths;
 mod unit_price_risk;
+mod units;
 mod wrong;

@@ -2,7 +2,7 @@
 
 use crate::builder::*;
 use independent::margin::{credit, PAIRED_SCENARIOS};
-use independent::units::{Amount, Delta};
+use independent::units::{Amount, Delta, Unit};
 
 /// P1's prompts and spreads, which are 002's Case Three, with amounts in hundredths.
 fn p1() -> Vec<u8> {
@@ -120,7 +120,10 @@ fn p7_totals_of_minus_4_give_scanning_risk_0_and_active_scenario_1() {
 #[test]
 fn p8_aex_credit_is_4_335_36() {
     let twice_price_risk = Amount(2 * 510_042);
-    assert_eq!(credit(twice_price_risk, Delta(-10_012), Delta(-10_012), 85), Amount(433_536));
+    assert_eq!(
+        credit(twice_price_risk, Delta(-10_012), Delta(-10_012), 85, Unit::HUNDREDTH),
+        Amount(433_536)
+    );
 }
 
 #[test]

@@ -81,7 +81,7 @@ fn refusal_4_is_for_a_kind_below_the_kind_before() {
 #[test]
 fn refusal_5_is_for_every_unused_byte_of_every_kind() {
     let used: [(usize, &[std::ops::RangeInclusive<usize>]); 6] = [
-        (CONTRACT, &[0..=1, 4..=7]),
+        (CONTRACT, &[0..=1, 4..=9]),
         (PROMPT, &[0..=2, 4..=15]),
         (FORWARD, &[0..=2, 4..=87]),
         (TWO_LEGS, &[0..=2, 4..=15]),
@@ -126,6 +126,7 @@ fn refusal_6_is_for_one_past_each_end_of_each_field() {
     let fields = [
         (CONTRACT, 1, 1, 0, 15),
         (CONTRACT, 4, 4, 0, 10_000_000),
+        (CONTRACT, 8, 2, 0, 1_000),
         (PROMPT, 1, 1, 0, 15),
         (PROMPT, 2, 1, 1, 8),
         (PROMPT, 4, 4, 1, 99_999_999),

@@ -3,7 +3,7 @@
 
 use crate::builder::*;
 use independent::margin::{credit, credit_of, unit_price_risk};
-use independent::units::{Amount, Delta};
+use independent::units::{Amount, Delta, Unit};
 
 /// Contract 1 with this price risk in hundredths and this net delta, all used against contract 2.
 fn fully_used(price_risk: i32, net_delta: i64, percent: u8) -> Vec<u8> {
@@ -35,7 +35,10 @@ fn p8_stays_4_335_36() {
     let unit = unit_price_risk(Amount(2 * 510_042), Delta(-10_012));
     // 000 prints 5,094.3068.
     assert_eq!(unit.halves_up(), 50_943_068);
-    assert_eq!(credit(Amount(2 * 510_042), Delta(-10_012), Delta(-10_012), 85), Amount(433_536));
+    assert_eq!(
+        credit(Amount(2 * 510_042), Delta(-10_012), Delta(-10_012), 85, Unit::HUNDREDTH),
+        Amount(433_536)
+    );
 }
 
 #[test]

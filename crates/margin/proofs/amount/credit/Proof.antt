@@ -2,6 +2,7 @@
 -- Assumes nothing.
 use mathlib.Core.Path.{_≡_, _∙_, ap}
 use Prim.Native.Nat.{ℕ, _+_, _*_, _/_}
+use native.Mathlib.Nat.{le-mul-of-pos-right}
 use native.Mathlib.Omega.{arith}
 use borrow.Author.Needs.{needs}
 use Rattle.margin.specs.Credit.{credit}
@@ -13,18 +14,24 @@ use Rattle.margin.proofs.amount.credit.Tie as tie
 parts :
     (c : tie.After-unit-price-risk) →
     let s = c .before .args in
-    CreditParts (s .twice-risk) (s .used) (s .percent) (s .net) (c .unit-price-risk .result .whole) (c .unit-price-risk .result .part)
+    CreditParts (s .unit) (s .twice-risk) (s .used) (s .percent) (s .net) (c .unit-price-risk .result .whole) (c .unit-price-risk .result .part)
 parts c =
     let s = c .before .args in
     let p = c .before .pre in
     let u = c .unit-price-risk .ensures in
-    credit-parts (s .twice-risk) (s .used) (s .percent) (s .net) _ _ (p .0) (p .1) (p .2) (u .0) (u .1) (u .2)
+    credit-parts (s .unit) (s .twice-risk) (s .used) (s .percent) (s .net) _ _ (p .4 .least) (p .4 .most) (p .0) (p .1) (p .2) (p .3) (u .0) (u .1) (u .2)
 
 unit-price-risk-requires : tie.Need-unit-price-risk-requires
 unit-price-risk-requires c κs = search needs
 
 mul-halves : tie.Need-mul-halves
 mul-halves c = let h = parts (c .before) .halves-within in omega (arith, h, c .before .before .fits .twice-risk)
+
+mul-each : tie.Need-mul-each
+mul-each c = omega (arith, c .before .before .pre .4 .most)
+
+rem-parts : tie.Need-rem-parts
+rem-parts c = omega (arith, c .before .before .pre .4 .least)
 
 mul-parts : tie.Need-mul-parts
 mul-parts c = let h = parts (c .before) .rest-within in omega (arith, h)
@@ -41,30 +48,40 @@ mul-parts-4 c = let h = parts (c .before .before) .part-within in omega (arith, 
 add-parts : tie.Need-add-parts
 add-parts c = let h = parts (c .before .before) in omega (arith, h .rest-within, h .part-within)
 
-mul-t12 : tie.Need-mul-t12
-mul-t12 c =
+div-units : tie.Need-div-units
+div-units c = omega (arith, c .before .before .before .pre .4 .least)
+
+mul-units : tie.Need-mul-units
+mul-units c =
     let h = parts (c .before .before) .wholes-within in
     omega (arith, h, c .before .before .before .fits .twice-risk)
+
+mul-half-up : tie.Need-mul-half-up
+mul-half-up c = omega (arith, c .before .before .before .pre .4 .most)
 
 half-up-requires : tie.Need-half-up-requires
 half-up-requires c κs = search needs
 
--- the sum that is returned
+-- the sum of units that is returned, in hundredths
 credited :
     (c : tie.After-half-up) →
     let u = c .before .before .before in
     let s = u .before .args in
-    u .unit-price-risk .result .whole * s .used / 200 * s .percent + c .half-up .result ≡ credit (s .twice-risk) (s .used) (s .percent) (s .net)
+    (u .unit-price-risk .result .whole * s .used / (200 * s .unit) * s .percent + c .half-up .result) * s .unit ≡ credit (s .unit) (s .twice-risk) (s .used) (s .percent) (s .net)
 credited c =
     let u = c .before .before .before in
     let s = u .before .args in
-    ap (λ (x : ℕ). u .unit-price-risk .result .whole * s .used / 200 * s .percent + x) (c .half-up .ensures) ∙ parts u .is
+    ap (λ (x : ℕ). (u .unit-price-risk .result .whole * s .used / (200 * s .unit) * s .percent + x) * s .unit) (c .half-up .ensures) ∙ parts u .is
 
-add-t10 : tie.Need-add-t10
-add-t10 c =
-    let e = credited c in
-    let h = parts (c .before .before .before) .within in
-    omega (arith, e, h, c .before .before .before .before .fits .twice-risk)
+add-units : tie.Need-add-units
+add-units c =
+    let u = c .before .before .before in
+    let s = u .before .args in
+    let units = u .unit-price-risk .result .whole * s .used / (200 * s .unit) * s .percent + c .half-up .result in
+    omega (arith, credited c, parts u .within, le-mul-of-pos-right units (u .before .pre .4 .least))
+
+mul-t12 : tie.Need-mul-t12
+mul-t12 c = omega (arith, credited c, parts (c .before .before .before) .within)
 
 returns : tie.Need-returns
 returns c =
@@ -78,12 +95,17 @@ credit-spec =
     (tie.spec
     unit-price-risk-requires
     mul-halves
+    mul-each
+    rem-parts
     mul-parts
     mul-parts-2
     mul-parts-3
     mul-parts-4
     add-parts
-    mul-t12
+    div-units
+    mul-units
+    mul-half-up
     half-up-requires
-    add-t10
+    add-units
+    mul-t12
     returns)

@@ -36,20 +36,29 @@ second-product c =
     let e = unused-size c in
     delta-rate (c .magnitude2 .result) (s .args .outright-rate) (omega (arith, s .pre .1)) (s .pre .3)
 
-mul-half-up : tie.Need-mul-half-up
-mul-half-up c = let p = first-product c in omega arith
+mul-half-up-to : tie.Need-mul-half-up-to
+mul-half-up-to c = let p = first-product c in omega arith
 
 magnitude-requires-2 : tie.Need-magnitude-requires-2
 magnitude-requires-2 c κs = search needs
 
-mul-half-up-2 : tie.Need-mul-half-up-2
-mul-half-up-2 c = let p = second-product c in omega arith
+mul-half-up-to-2 : tie.Need-mul-half-up-to-2
+mul-half-up-to-2 c = let p = second-product c in omega arith
 
-add-half-up : tie.Need-add-half-up
-add-half-up c = let p = first-product (c .before .before) in let q = second-product c in omega arith
+add-half-up-to : tie.Need-add-half-up-to
+add-half-up-to c = let p = first-product (c .before .before) in let q = second-product c in omega arith
 
-half-up-requires : tie.Need-half-up-requires
-half-up-requires c κs = search needs
+half-up-to-requires : tie.Need-half-up-to-requires
+half-up-to-requires c κs =
+    let s = c .before .before .before .before in
+    let p = first-product (c .before .before) in
+    let q = second-product c in (
+      omega (arith, s .pre .4),
+      omega (
+        arith,
+        charged-within (s .args .unit) (c .before .before .magnitude .result * s .args .spread-rate + c .magnitude2 .result * s .args .outright-rate) (s .pre .4) (omega arith),
+      ),
+    )
 
 returns : tie.Need-returns
 returns c =
@@ -64,17 +73,17 @@ returns c =
     let second : c .before .magnitude2 .result * s .args .outright-rate ≡ natAbs (s .args .unused .0) * s .args .outright-rate =
     ap (λ (x : ℕ). x * s .args .outright-rate) n
     in
-    let e = c .half-up .ensures in
-    (e ∙ ap₂ (λ (a b : ℕ). charged (a + b)) first second, subst⁻¹ (λ (x : ℕ). x ≤ mostCharge) e (charged-within _ (omega arith)))
+    let e = c .half-up-to .ensures in
+    (e ∙ ap₂ (λ (a b : ℕ). charged (s .args .unit) (a + b)) first second, subst⁻¹ (λ (x : ℕ). x ≤ mostCharge) e (charged-within (s .args .unit) _ (s .pre .4) (omega arith)))
 
 pub prompt-charge-spec : {M : Type 1} → statement M
 prompt-charge-spec =
     tie.close
     (tie.spec
     magnitude-requires
-    mul-half-up
+    mul-half-up-to
     magnitude-requires-2
-    mul-half-up-2
-    add-half-up
-    half-up-requires
+    mul-half-up-to-2
+    add-half-up-to
+    half-up-to-requires
     returns)

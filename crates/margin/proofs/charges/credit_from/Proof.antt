@@ -20,7 +20,7 @@ returns : tie.Need-returns
 returns c =
     let s = c .before .before .before .before in (
       c .credit .ensures .0
-          ∙ ap₂ (λ (u p : ℕ). credit (s .args .earner .«twice_price») u p (s .args .earner .net)) (c .before .before .entry-use .ensures) (c .before .percent .ensures .0),
+          ∙ ap₂ (λ (u p : ℕ). credit (s .args .earner .unit) (s .args .earner .«twice_price») u p (s .args .earner .net)) (c .before .before .entry-use .ensures) (c .before .percent .ensures .0),
       c .credit .ensures .1,
     )
 

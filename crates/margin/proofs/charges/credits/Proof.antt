@@ -8,15 +8,16 @@ use lib.ListN.{length, getD}
 use Rattle.record.specs.Layout.{Record}
 use Rattle.account.specs.Records.{records, recordCount}
 use Rattle.record.specs.Layout.{percent}
+use Rattle.margin.specs.Bounds.{mostCredit}
 use Rattle.margin.specs.Credit.{credit, entryUse}
 use Rattle.margin.specs.Sums.{CreditRoom}
 use Rattle.margin.proofs.RecordLaws.{lent-at, below-records, length-cut}
-use Rattle.margin.proofs.SumLaws.{credits-small, ToGo, start, next, finish, creditFrom, credit-step, credit-none}
+use Rattle.margin.proofs.SumLaws.{ToGo, start, next, finish, creditFrom, credit-step, credit-none}
 use Rattle.margin.proofs.charges.credits.Statement.{statement}
 use Rattle.margin.proofs.charges.credits.Tie as tie
 
 abbrev Inv-loop : tie.InvT-loop
-Inv-loop entries earner first second count sum₀ i₀ sum i = ToGo (recordCount entries) (earner .«twice_price») (creditFrom (earner .contract) (earner .«twice_price») (earner .net) (records entries) first second) i sum
+Inv-loop entries earner first second count sum₀ i₀ sum i = ToGo (recordCount entries) mostCredit (creditFrom (earner .unit) (earner .contract) (earner .«twice_price») (earner .net) (records entries) first second) i sum
 
 abbrev μ-loop : tie.MeasureT-loop
 μ-loop entries earner first second count sum₀ i₀ sum i = count - i
@@ -55,7 +56,7 @@ credit-from-requires : tie.Need-credit-from-requires Inv-loop μ-loop
 credit-from-requires c κs =
     let s = c .before .before .before .before .before .before in
     let l = c .before .before .before .before .loop in
-    subst⁻¹ (λ (r : Record). CreditRoom (s .args .earner .contract) (s .args .earner .net) r (getD (s .args .t3) (l .i) (record { 0 = 0 }) .0) (getD (s .args .t4) (l .i) (record { 0 = 0 }) .0)) (lent-at (s .args .entries .now) (l .i) (omega arith)) (s .pre .each (l .i) (below-records (s .args .entries .now) (l .i) (omega arith)))
+    subst⁻¹ (λ (r : Record). CreditRoom (s .args .earner .unit) (s .args .earner .contract) (s .args .earner .«twice_price») (s .args .earner .net) r (getD (s .args .t3) (l .i) (record { 0 = 0 }) .0) (getD (s .args .t4) (l .i) (record { 0 = 0 }) .0)) (lent-at (s .args .entries .now) (l .i) (omega arith)) (s .pre .each (l .i) (below-records (s .args .entries .now) (l .i) (omega arith)))
 
 add-sum : tie.Need-add-sum Inv-loop μ-loop
 add-sum c =
@@ -64,9 +65,6 @@ add-sum c =
     let h = s .pre .most in
     let k = length-cut (recordCount (s .args .entries .now)) (s .args .entries .now) in
     let m = c .before .credit-from .ensures .1 in
-    let l = c .before .before .before .before .before .before .loop in
-    let z = credits-small (l .sum) (l .i) (s .args .earner .«twice_price») t (omega arith) (s .pre .price-within) in
-    let p = s .pre .price-within in
     omega arith
 
 add-i : tie.Need-add-i Inv-loop μ-loop
@@ -85,8 +83,8 @@ loop-again c =
     let first : length (s .args .t3) ≡ 32 = search needs in
     let second : length (s .args .t4) ≡ 32 = search needs in
     next (l .i) (l .sum) (c .before .credit-from .result .0) (l .inv) (omega arith)
-    (credit-step (s .args .earner .contract) (s .args .earner .«twice_price») (s .args .earner .net) (records (s .args .entries .now)) (s .args .t3) (s .args .t4) (omega arith) (omega arith) (l .i) (below-records f (l .i) (omega arith))
-    ∙ ap (λ (x : ℕ). x + creditFrom (s .args .earner .contract) (s .args .earner .«twice_price») (s .args .earner .net) (records (s .args .entries .now)) (s .args .t3) (s .args .t4) (l .i + 1)) (sym (c .before .credit-from .ensures .0 ∙ ap (λ (r : Record). credit (s .args .earner .«twice_price») (entryUse (s .args .earner .contract) r (getD (s .args .t3) (l .i) (record { 0 = 0 }) .0) (getD (s .args .t4) (l .i) (record { 0 = 0 }) .0)) (percent r) (s .args .earner .net)) (lent-at f (l .i) (omega arith)))))
+    (credit-step (s .args .earner .unit) (s .args .earner .contract) (s .args .earner .«twice_price») (s .args .earner .net) (records (s .args .entries .now)) (s .args .t3) (s .args .t4) (omega arith) (omega arith) (l .i) (below-records f (l .i) (omega arith))
+    ∙ ap (λ (x : ℕ). x + creditFrom (s .args .earner .unit) (s .args .earner .contract) (s .args .earner .«twice_price») (s .args .earner .net) (records (s .args .entries .now)) (s .args .t3) (s .args .t4) (l .i + 1)) (sym (c .before .credit-from .ensures .0 ∙ ap (λ (r : Record). credit (s .args .earner .unit) (s .args .earner .«twice_price») (entryUse (s .args .earner .contract) r (getD (s .args .t3) (l .i) (record { 0 = 0 }) .0) (getD (s .args .t4) (l .i) (record { 0 = 0 }) .0)) (percent r) (s .args .earner .net)) (lent-at f (l .i) (omega arith)))))
     (c .before .credit-from .ensures .1)
 
 returns : tie.Need-returns Inv-loop μ-loop
@@ -98,7 +96,7 @@ returns c =
     let h = s .pre .most in
     let t = l .inv .small in
     let w = l .inv .within in
-    (finish (l .i) (l .sum) (l .inv) (omega arith) (credit-none (s .args .earner .contract) (s .args .earner .«twice_price») (s .args .earner .net) (records (s .args .entries .now)) (s .args .t3) (s .args .t4) (l .i) (omega arith)), credits-small (l .sum) (l .i) (s .args .earner .«twice_price») t (omega arith) (s .pre .price-within))
+    (finish (l .i) (l .sum) (l .inv) (omega arith) (credit-none (s .args .earner .unit) (s .args .earner .contract) (s .args .earner .«twice_price») (s .args .earner .net) (records (s .args .entries .now)) (s .args .t3) (s .args .t4) (l .i) (omega arith)), omega arith)
 
 pub credits-spec : {M : Type 1} → statement M
 credits-spec =

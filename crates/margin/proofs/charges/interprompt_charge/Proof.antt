@@ -17,10 +17,10 @@ use Rattle.margin.proofs.charges.interprompt_charge.Statement.{statemen
 use Rattle.margin.proofs.charges.interprompt_charge.Tie as tie
 
 abbrev Inv-loop : tie.InvT-loop
-Inv-loop spreads first second count sum₀ i₀ sum i = ToGo (recordCount spreads) mostCharge (chargeFrom (records spreads) first second) i sum
+Inv-loop unit spreads first second count sum₀ i₀ sum i = ToGo (recordCount spreads) mostCharge (chargeFrom unit (records spreads) first second) i sum
 
 abbrev μ-loop : tie.MeasureT-loop
-μ-loop spreads first second count sum₀ i₀ sum i = count - i
+μ-loop unit spreads first second count sum₀ i₀ sum i = count - i
 
 loop-holds : tie.Need-loop-holds Inv-loop μ-loop
 loop-holds c = start _ _ _
@@ -56,7 +56,7 @@ charge-of-spread-requires : tie.Need-charge-of-spread-requires Inv-loop μ-loop
 charge-of-spread-requires c κs =
     let s = c .before .before .before .before .before .before in
     let l = c .before .before .before .before .loop in
-    subst⁻¹ (λ (r : Record). SpreadRoom r (getD (s .args .t2) (l .i) (record { 0 = 0 }) .0) (getD (s .args .t3) (l .i) (record { 0 = 0 }) .0)) (lent-at (s .args .spreads .now) (l .i) (omega arith)) (s .pre .each (l .i) (below-records (s .args .spreads .now) (l .i) (omega arith)))
+    subst⁻¹ (λ (r : Record). SpreadRoom (s .args .unit) r (getD (s .args .t3) (l .i) (record { 0 = 0 }) .0) (getD (s .args .t4) (l .i) (record { 0 = 0 }) .0)) (lent-at (s .args .spreads .now) (l .i) (omega arith)) (s .pre .each (l .i) (below-records (s .args .spreads .now) (l .i) (omega arith)))
 
 add-sum : tie.Need-add-sum Inv-loop μ-loop
 add-sum c =
@@ -80,11 +80,11 @@ loop-again c =
     let f = s .args .spreads .now in
     let n = length-cut (recordCount f) f in
     let h = s .pre .most in
-    let first : length (s .args .t2) ≡ 32 = search needs in
-    let second : length (s .args .t3) ≡ 32 = search needs in
+    let first : length (s .args .t3) ≡ 32 = search needs in
+    let second : length (s .args .t4) ≡ 32 = search needs in
     next (l .i) (l .sum) (c .before .charge-of-spread .result .0) (l .inv) (omega arith)
-    (charge-step (records (s .args .spreads .now)) (s .args .t2) (s .args .t3) (omega arith) (omega arith) (l .i) (below-records f (l .i) (omega arith))
-    ∙ ap (λ (x : ℕ). x + chargeFrom (records (s .args .spreads .now)) (s .args .t2) (s .args .t3) (l .i + 1)) (sym (c .before .charge-of-spread .ensures .0 ∙ ap (λ (r : Record). spreadCharge (ratePerSpread r) (getD (s .args .t2) (l .i) (record { 0 = 0 }) .0) (getD (s .args .t3) (l .i) (record { 0 = 0 }) .0)) (lent-at f (l .i) (omega arith)))))
+    (charge-step (s .args .unit) (records (s .args .spreads .now)) (s .args .t3) (s .args .t4) (omega arith) (omega arith) (l .i) (below-records f (l .i) (omega arith))
+    ∙ ap (λ (x : ℕ). x + chargeFrom (s .args .unit) (records (s .args .spreads .now)) (s .args .t3) (s .args .t4) (l .i + 1)) (sym (c .before .charge-of-spread .ensures .0 ∙ ap (λ (r : Record). spreadCharge (s .args .unit) (ratePerSpread r) (getD (s .args .t3) (l .i) (record { 0 = 0 }) .0) (getD (s .args .t4) (l .i) (record { 0 = 0 }) .0)) (lent-at f (l .i) (omega arith)))))
     (c .before .charge-of-spread .ensures .1)
 
 returns : tie.Need-returns Inv-loop μ-loop
@@ -96,7 +96,7 @@ returns c =
     let h = s .pre .most in
     let t = l .inv .small in
     let w = l .inv .within in
-    (finish (l .i) (l .sum) (l .inv) (omega arith) (charge-none (records (s .args .spreads .now)) (s .args .t2) (s .args .t3) (l .i) (omega arith)), omega arith)
+    (finish (l .i) (l .sum) (l .inv) (omega arith) (charge-none (s .args .unit) (records (s .args .spreads .now)) (s .args .t3) (s .args .t4) (l .i) (omega arith)), omega arith)
 
 pub interprompt-charge-spec : {M : Type 1} → statement M
 interprompt-charge-spec =

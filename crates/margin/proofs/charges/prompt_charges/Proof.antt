@@ -18,10 +18,10 @@ use Rattle.margin.proofs.charges.prompt_charges.Statement.{statement}
 use Rattle.margin.proofs.charges.prompt_charges.Tie as tie
 
 abbrev Inv-loop : tie.InvT-loop
-Inv-loop prompts used unused count sum₀ i₀ sum i = ToGo (recordCount prompts) mostCharge (promptFrom (records prompts) used unused) i sum
+Inv-loop unit prompts used unused count sum₀ i₀ sum i = ToGo (recordCount prompts) mostCharge (promptFrom unit (records prompts) used unused) i sum
 
 abbrev μ-loop : tie.MeasureT-loop
-μ-loop prompts used unused count sum₀ i₀ sum i = count - i
+μ-loop unit prompts used unused count sum₀ i₀ sum i = count - i
 
 loop-holds : tie.Need-loop-holds Inv-loop μ-loop
 loop-holds c = start _ _ _
@@ -57,7 +57,7 @@ charge-of-prompt-requires : tie.Need-charge-of-prompt-requires Inv-loop μ-loop
 charge-of-prompt-requires c κs =
     let s = c .before .before .before .before .before .before in
     let l = c .before .before .before .before .loop in
-    subst⁻¹ (λ (r : Record). PromptRoom r (getD (s .args .t2) (l .i) (record { 0 = pos 0 }) .0) (getD (s .args .t3) (l .i) (record { 0 = pos 0 }) .0)) (lent-at (s .args .prompts .now) (l .i) (omega arith)) (s .pre .each (l .i) (below-records (s .args .prompts .now) (l .i) (omega arith)))
+    subst⁻¹ (λ (r : Record). PromptRoom (s .args .unit) r (getD (s .args .t3) (l .i) (record { 0 = pos 0 }) .0) (getD (s .args .t4) (l .i) (record { 0 = pos 0 }) .0)) (lent-at (s .args .prompts .now) (l .i) (omega arith)) (s .pre .each (l .i) (below-records (s .args .prompts .now) (l .i) (omega arith)))
 
 add-sum : tie.Need-add-sum Inv-loop μ-loop
 add-sum c =
@@ -81,11 +81,11 @@ loop-again c =
     let f = s .args .prompts .now in
     let n = length-cut (recordCount f) f in
     let h = s .pre .most in
-    let first : length (s .args .t2) ≡ 32 = search needs in
-    let second : length (s .args .t3) ≡ 32 = search needs in
+    let first : length (s .args .t3) ≡ 32 = search needs in
+    let second : length (s .args .t4) ≡ 32 = search needs in
     next (l .i) (l .sum) (c .before .charge-of-prompt .result .0) (l .inv) (omega arith)
-    (prompt-step (records (s .args .prompts .now)) (s .args .t2) (s .args .t3) (omega arith) (omega arith) (l .i) (below-records f (l .i) (omega arith))
-    ∙ ap (λ (x : ℕ). x + promptFrom (records (s .args .prompts .now)) (s .args .t2) (s .args .t3) (l .i + 1)) (sym (c .before .charge-of-prompt .ensures .0 ∙ ap (λ (r : Record). promptCharge (spreadRate r) (outrightRate r) (getD (s .args .t2) (l .i) (record { 0 = pos 0 }) .0) (getD (s .args .t3) (l .i) (record { 0 = pos 0 }) .0)) (lent-at f (l .i) (omega arith)))))
+    (prompt-step (s .args .unit) (records (s .args .prompts .now)) (s .args .t3) (s .args .t4) (omega arith) (omega arith) (l .i) (below-records f (l .i) (omega arith))
+    ∙ ap (λ (x : ℕ). x + promptFrom (s .args .unit) (records (s .args .prompts .now)) (s .args .t3) (s .args .t4) (l .i + 1)) (sym (c .before .charge-of-prompt .ensures .0 ∙ ap (λ (r : Record). promptCharge (s .args .unit) (spreadRate r) (outrightRate r) (getD (s .args .t3) (l .i) (record { 0 = pos 0 }) .0) (getD (s .args .t4) (l .i) (record { 0 = pos 0 }) .0)) (lent-at f (l .i) (omega arith)))))
     (c .before .charge-of-prompt .ensures .1)
 
 returns : tie.Need-returns Inv-loop μ-loop
@@ -97,7 +97,7 @@ returns c =
     let h = s .pre .most in
     let t = l .inv .small in
     let w = l .inv .within in
-    (finish (l .i) (l .sum) (l .inv) (omega arith) (prompt-none (records (s .args .prompts .now)) (s .args .t2) (s .args .t3) (l .i) (omega arith)), omega arith)
+    (finish (l .i) (l .sum) (l .inv) (omega arith) (prompt-none (s .args .unit) (records (s .args .prompts .now)) (s .args .t3) (s .args .t4) (l .i) (omega arith)), omega arith)
 
 pub prompt-charges-spec : {M : Type 1} → statement M
 prompt-charges-spec =

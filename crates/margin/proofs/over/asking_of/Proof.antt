@@ -1,6 +1,6 @@
 -- What is asked about by a contract number: its parts are the account's.
 -- Assumes nothing.
-use mathlib.Core.Path.{subst}
+use mathlib.Core.Path.{refl, subst}
 use borrow.Author.Needs.{needs}
 use Rattle.account.specs.Standing.{accountOf}
 use Rattle.margin.specs.Contract.{Contract}
@@ -31,7 +31,7 @@ contract-asking-requires c κs =
     let ps = c .before .before .part in
     let ss = c .before .part2 in
     let p = c .position-at in
-    parts-room a (s .pre .0 .lawful) (s .args .c) (s .pre .1) (ps .result .now) (ss .result .now) (ps .ensures) (ss .ensures) (p .result) (p .ensures)
+    parts-room a (s .pre .0 .lawful) (s .args .c) (s .pre .1) (ps .result .now) (ss .result .now) (ps .ensures) (ss .ensures) 1 (p .result) (p .ensures) refl
 
 returns : tie.Need-returns
 returns c =
@@ -42,7 +42,7 @@ returns c =
     let p = c .before .position-at in
     let r = c .contract-asking in
     subst (λ (k : Contract). Asks (contractUses k) (r .result))
-    (parts-by-number a (s .pre .0 .lawful) (s .args .c) (s .pre .1) (ps .result .now) (ss .result .now) (ps .ensures) (ss .ensures) (p .result) (p .ensures))
+    (parts-by-number a (s .pre .0 .lawful) (s .args .c) (s .pre .1) (ps .result .now) (ss .result .now) (ps .ensures) (ss .ensures) 1 (p .result) (p .ensures) refl)
     (r .ensures)
 
 pub asking-of-spec : {M : Type 1} → statement M

@@ -1,5 +1,6 @@
 -- The book of a contract number: its parts are the account's.
 -- Assumes nothing.
+use mathlib.Core.Path.{refl}
 use borrow.Author.Needs.{needs}
 use Rattle.account.specs.Standing.{accountOf}
 use Rattle.margin.proofs.StandLaws.{parts-room, parts-numbers}
@@ -28,7 +29,7 @@ contract-answer-requires c κs =
     let ps = c .before .before .part in
     let ss = c .before .part2 in
     let p = c .position-at in
-    parts-room a (s .pre .0 .lawful) (s .args .c) (s .pre .1) (ps .result .now) (ss .result .now) (ps .ensures) (ss .ensures) (p .result) (p .ensures)
+    parts-room a (s .pre .0 .lawful) (s .args .c) (s .pre .1) (ps .result .now) (ss .result .now) (ps .ensures) (ss .ensures) 1 (p .result) (p .ensures) refl
 
 returns : tie.Need-returns
 returns c =
@@ -38,7 +39,7 @@ returns c =
     let ss = c .before .before .part2 in
     let p = c .before .position-at in
     let r = c .contract-answer in
-    parts-numbers a (s .pre .0 .lawful) (s .args .c) (s .pre .1) (ps .result .now) (ss .result .now) (ps .ensures) (ss .ensures) (p .result) (p .ensures) (r .result) (r .ensures)
+    parts-numbers a (s .pre .0 .lawful) (s .args .c) (s .pre .1) (ps .result .now) (ss .result .now) (ps .ensures) (ss .ensures) 1 (p .result) (p .ensures) refl (r .result) (r .ensures)
 
 pub contract-numbers-spec : {M : Type 1} → statement M
 contract-numbers-spec =

@@ -5,7 +5,7 @@ use mathlib.Core.Path.{_≡_}
 use native.Mathlib.Omega.{arith}
 use borrow.Author.Needs.{needs}
 use Rattle.account.specs.Standing.{accountOf}
-use Rattle.margin.proofs.StandLaws.{number-at, listed-at, own-number, line-room, line-at}
+use Rattle.margin.proofs.StandLaws.{number-at, listed-at, own-number, its-within, line-room, line-at}
 use Rattle.margin.proofs.over.line_at.Statement.{statement}
 use Rattle.margin.proofs.over.line_at.Tie as tie
 
@@ -42,24 +42,23 @@ add-part-3 c = omega (arith, small (c .before .before))
 part-requires-3 : tie.Need-part-requires-3
 part-requires-3 c κs = search needs
 
-position-at-requires : tie.Need-position-at-requires
-position-at-requires c κs = (c .before .before .before .before .before .before .pre .0, small (c .before .before .before))
+unit-requires : tie.Need-unit-requires
+unit-requires c κs = search needs
 
-line-of-requires : tie.Need-line-of-requires
-line-of-requires c κs =
+position-at-requires : tie.Need-position-at-requires
+position-at-requires c κs =
     let s = c .before .before .before .before .before .before .before in
     let m = s .args .morning .now in
     let n = s .args .noon .now in
     let k = c .before .before .before .before .contract-number in
     let own = c .before .before .before .part in
-    let ps = c .before .before .part2 in
-    let ss = c .before .part3 in
-    let p = c .position-at in
-    line-room (accountOf m n) (s .pre .0 .lawful) (k .result) (small (c .before .before .before .before)) (ps .result .now) (ss .result .now) (ps .ensures) (ss .ensures) (p .result) (p .ensures)
-    (s .args .i) (listed-at m n (s .args .account) (s .pre .0) (s .args .i) (s .pre .1)) (number-at m n (s .args .account) (s .pre .0) (s .args .i) (s .pre .1) (k .result) (k .ensures)) (own .result .now) (own .ensures)
+    let w = its-within (accountOf m n) (s .pre .0 .lawful) (k .result) (small (c .before .before .before .before)) (s .args .i)
+    (listed-at m n (s .args .account) (s .pre .0) (s .args .i) (s .pre .1)) (number-at m n (s .args .account) (s .pre .0) (s .args .i) (s .pre .1) (k .result) (k .ensures)) (own .result .now) (own .ensures)
+    in
+    (s .pre .0, (small (c .before .before .before .before), omega (arith, c .unit .ensures .0, w .units .most)))
 
-returns : tie.Need-returns
-returns c =
+line-of-requires : tie.Need-line-of-requires
+line-of-requires c κs =
     let s = c .before .before .before .before .before .before .before .before in
     let m = s .args .morning .now in
     let n = s .args .noon .now in
@@ -67,10 +66,26 @@ returns c =
     let own = c .before .before .before .before .part in
     let ps = c .before .before .before .part2 in
     let ss = c .before .before .part3 in
-    let p = c .before .position-at in
-    line-at (accountOf m n) (s .pre .0 .lawful) (k .result) (small (c .before .before .before .before .before)) (ps .result .now) (ss .result .now) (ps .ensures) (ss .ensures) (p .result) (p .ensures)
+    let u = c .before .unit in
+    let p = c .position-at in
+    line-room (accountOf m n) (s .pre .0 .lawful) (k .result) (small (c .before .before .before .before .before)) (ps .result .now) (ss .result .now) (ps .ensures) (ss .ensures) (u .result) (p .result) (p .ensures)
     (s .args .i) (listed-at m n (s .args .account) (s .pre .0) (s .args .i) (s .pre .1)) (number-at m n (s .args .account) (s .pre .0) (s .args .i) (s .pre .1) (k .result) (k .ensures)) (own .result .now) (own .ensures)
-    (c .line-of .result) (c .line-of .ensures)
+    (u .ensures .0)
+
+returns : tie.Need-returns
+returns c =
+    let s = c .before .before .before .before .before .before .before .before .before in
+    let m = s .args .morning .now in
+    let n = s .args .noon .now in
+    let k = c .before .before .before .before .before .before .contract-number in
+    let own = c .before .before .before .before .before .part in
+    let ps = c .before .before .before .before .part2 in
+    let ss = c .before .before .before .part3 in
+    let u = c .before .before .unit in
+    let p = c .before .position-at in
+    line-at (accountOf m n) (s .pre .0 .lawful) (k .result) (small (c .before .before .before .before .before .before)) (ps .result .now) (ss .result .now) (ps .ensures) (ss .ensures) (u .result) (p .result) (p .ensures)
+    (s .args .i) (listed-at m n (s .args .account) (s .pre .0) (s .args .i) (s .pre .1)) (number-at m n (s .args .account) (s .pre .0) (s .args .i) (s .pre .1) (k .result) (k .ensures)) (own .result .now) (own .ensures)
+    (u .ensures .0) (c .line-of .result) (c .line-of .ensures)
 
 pub line-at-spec : {M : Type 1} → statement M
 line-at-spec =
@@ -83,6 +98,7 @@ line-at-spec =
     part-requires-2
     add-part-3
     part-requires-3
+    unit-requires
     position-at-requires
     line-of-requires
     returns)

@@ -24,8 +24,11 @@ position-of-requires c κs =
     let a = accountOf (s .args .morning .now) (s .args .noon .now) in
     let ps = c .before .part in
     let rs = c .part2 in (
-      prompts-few a (s .pre .0 .lawful) (s .args .c) (s .pre .1) (ps .result .now) (rs .result .now) (ps .ensures) (rs .ensures),
-      rows-room a (s .pre .0 .lawful) (s .args .c) (s .pre .1) (ps .result .now) (rs .result .now) (ps .ensures) (rs .ensures) .rows-within,
+      s .pre .1 .1,
+      (
+        prompts-few a (s .pre .0 .lawful) (s .args .c) (s .pre .1 .0) (ps .result .now) (rs .result .now) (ps .ensures) (rs .ensures),
+        rows-room a (s .pre .0 .lawful) (s .args .c) (s .pre .1 .0) (ps .result .now) (rs .result .now) (ps .ensures) (rs .ensures) .rows-within,
+      ),
     )
 
 returns : tie.Need-returns
@@ -35,7 +38,7 @@ returns c =
     let ps = c .before .before .part in
     let rs = c .before .part2 in
     let p = c .position-of in
-    position-is a (s .pre .0 .lawful) (s .args .c) (s .pre .1) (ps .result .now) (rs .result .now) (ps .ensures) (rs .ensures) (p .result) (p .ensures .0) (p .ensures .1)
+    position-is a (s .pre .0 .lawful) (s .args .c) (s .pre .1 .0) (ps .result .now) (rs .result .now) (ps .ensures) (rs .ensures) (s .args .unit) (p .result) (p .ensures .0) (p .ensures .1)
 
 pub position-at-spec : {M : Type 1} → statement M
 position-at-spec =

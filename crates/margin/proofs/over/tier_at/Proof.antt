@@ -5,6 +5,7 @@ use mathlib.Core.Path.{_≡_}
 use mathlib.Core.List.{[]}
 use native.Mathlib.Omega.{arith}
 use borrow.Author.Needs.{needs}
+use lib.Dec.{lit≤}
 use lib.ListN.{getD}
 use Rattle.account.specs.Parts.{contractsOf}
 use Rattle.account.specs.Standing.{accountOf}
@@ -29,7 +30,7 @@ small c =
     )
 
 position-at-requires : tie.Need-position-at-requires
-position-at-requires c κs = (c .before .before .before .pre .0, small c)
+position-at-requires c κs = (c .before .before .before .pre .0, (small c, lit≤ tt))
 
 contract-net-requires : tie.Need-contract-net-requires
 contract-net-requires c κs =

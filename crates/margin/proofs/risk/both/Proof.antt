@@ -1,12 +1,13 @@
 -- Two totals added: each is within its bound, so the sum fits.
 -- Assumes nothing.
 use mathlib.Core.Path.{subst⁻¹}
-use Prim.Native.Nat.{_≤_}
+use Prim.Native.Nat.{_≤_, _*_}
 use native.Mathlib.Omega.{arith}
 use borrow.Author.Needs.{needs}
 use lib.IntN.{ℤ, natAbs, _+ℤ_}
 use Rattle.exact.proofs.Integers.{abs-add}
 use Rattle.margin.specs.Credit.{totalOf}
+use Rattle.margin.specs.Bounds.{mostRisk}
 use Rattle.margin.proofs.Calls.{op-fits, op-is}
 use Rattle.margin.proofs.risk.both.Statement.{statement}
 use Rattle.margin.proofs.risk.both.Tie as tie
@@ -18,7 +19,7 @@ total-of-requires-2 : tie.Need-total-of-requires-2
 total-of-requires-2 c κs = search needs
 
 -- the two totals at entry, and the size of their sum
-sum-within : (c : tie.Start) → natAbs (totalOf (c .args .totals) (c .args .one) +ℤ totalOf (c .args .totals) (c .args .other)) ≤ 25600000000000000
+sum-within : (c : tie.Start) → natAbs (totalOf (c .args .totals) (c .args .one) +ℤ totalOf (c .args .totals) (c .args .other)) ≤ 2 * mostRisk
 sum-within c =
     let h = c .pre .each (c .args .one) in
     let k = c .pre .each (c .args .other) in
@@ -39,7 +40,7 @@ returns c =
     (c .before .before .total-of .ok) (c .before .total-of2 .ok) (c .before .before .total-of .ensures) (c .before .total-of2 .ensures)
     (c .plus .result) (c .plus .ok) (c .plus .ensures)
     in
-    (e, subst⁻¹ (λ (z : ℤ). natAbs z ≤ 25600000000000000) e (sum-within s))
+    (e, subst⁻¹ (λ (z : ℤ). natAbs z ≤ 2 * mostRisk) e (sum-within s))
 
 pub both-spec : {M : Type 1} → statement M
 both-spec = tie.close (tie.spec total-of-requires total-of-requires-2 plus-requires returns)

@@ -1,7 +1,7 @@
 -- The price risk, twice over: the difference of two sums of totals, or 0 if negative.
 -- Assumes nothing.
 use mathlib.Core.Path.{_≡_, _∙_, ap, subst, subst⁻¹}
-use Prim.Native.Nat.{ℕ, _≤_}
+use Prim.Native.Nat.{ℕ, _≤_, _*_}
 use native.Mathlib.Nat.{le-trans}
 use native.Mathlib.Omega.{arith}
 use borrow.Author.Needs.{needs}
@@ -10,6 +10,7 @@ use Rattle.exact.specs.Signed.{orZero}
 use Rattle.exact.proofs.Integers.{abs-sub, or-zero-abs}
 use Rattle.margin.specs.Credit.{totalOf}
 use Rattle.margin.specs.Pairs.{pairOf}
+use Rattle.margin.specs.Bounds.{mostRisk}
 use Rattle.margin.proofs.Calls.{op-fits, op-is}
 use Rattle.margin.proofs.risk.twice_price_risk.Statement.{statement}
 use Rattle.margin.proofs.risk.twice_price_risk.Tie as tie
@@ -34,12 +35,12 @@ paired-is : (c : tie.After-both) → c .both .result ≡ paired (c .before .befo
 unfolding paired
 paired-is c = let s = c .before .before in c .both .ensures .0 ∙ ap (λ (p : ℕ). totalOf (s .args .totals) (s .args .active) +ℤ totalOf (s .args .totals) p) (c .before .pair-of .ensures)
 
-within : (c : tie.After-both2) → natAbs (paired (c .before .before .before) -ℤ still (c .before .before .before)) ≤ 51200000000000000
+within : (c : tie.After-both2) → natAbs (paired (c .before .before .before) -ℤ still (c .before .before .before)) ≤ 4 * mostRisk
 unfolding still
 within c =
     let s = c .before .before .before in
-    let a : natAbs (paired s) ≤ 25600000000000000 = subst (λ (z : ℤ). natAbs z ≤ 25600000000000000) (paired-is (c .before)) (c .before .both .ensures .1) in
-    let b : natAbs (still s) ≤ 25600000000000000 = subst (λ (z : ℤ). natAbs z ≤ 25600000000000000) (c .both2 .ensures .0) (c .both2 .ensures .1) in
+    let a : natAbs (paired s) ≤ 2 * mostRisk = subst (λ (z : ℤ). natAbs z ≤ 2 * mostRisk) (paired-is (c .before)) (c .before .both .ensures .1) in
+    let b : natAbs (still s) ≤ 2 * mostRisk = subst (λ (z : ℤ). natAbs z ≤ 2 * mostRisk) (c .both2 .ensures .0) (c .both2 .ensures .1) in
     let h = abs-sub (paired s) (still s) in
     omega arith
 
@@ -62,7 +63,7 @@ returns c =
     (c .before .minus .result) (c .before .minus .ok) (c .before .minus .ensures)
     in
     let r : c .or-zero .result ≡ orZero (paired s -ℤ still s) = c .or-zero .ensures ∙ ap orZero e in
-    (r, subst⁻¹ (λ (n : ℕ). n ≤ 51200000000000000) r (le-trans (or-zero-abs (paired s -ℤ still s)) (within b)))
+    (r, subst⁻¹ (λ (n : ℕ). n ≤ 4 * mostRisk) r (le-trans (or-zero-abs (paired s -ℤ still s)) (within b)))
 
 pub twice-price-risk-spec : {M : Type 1} → statement M
 twice-price-risk-spec =

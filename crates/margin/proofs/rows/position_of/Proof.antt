@@ -28,11 +28,14 @@ with-rows-requires c κs =
     let s = c .before .before .before .before in
     let prompts = records (now (s .args .prompts)) in
     let few : length prompts ≤ 32 = omega (arith, c .days-of .ensures .few, c .days-of .ensures .count-is) in (
-      c .days-of .ensures .few,
+      s .pre .0,
       (
-        s .pre .1,
-        wider 0 (128 - length (records (now (s .args .rows)))) (c .before .flat .result) (omega arith)
-            (bounded prompts [] (c .before .flat .result) no-rows (c .before .flat .ensures prompts few)),
+        c .days-of .ensures .few,
+        (
+          s .pre .1 .1,
+          wider 0 (128 - length (records (now (s .args .rows)))) (c .before .flat .result) (omega arith)
+              (bounded (s .args .unit) (s .pre .0) prompts [] (c .before .flat .result) no-rows (c .before .flat .ensures (s .args .unit) prompts few)),
+        ),
       ),
     )
 
@@ -42,7 +45,7 @@ returns c =
     let prompts = records (now (s .args .prompts)) in
     let known = c .before .days-of .ensures in
     let few : length prompts ≤ 32 = omega (arith, known .few, known .count-is) in (
-      c .with-rows .ensures .1 .0 prompts [] known (c .before .before .flat .ensures prompts few),
+      c .with-rows .ensures .1 .0 prompts [] known (c .before .before .flat .ensures (s .args .unit) prompts few),
       c .with-rows .ensures .1 .1,
     )
 

@@ -1,7 +1,7 @@
--- `totals_with`: each turn adds one product, of at most 100,000,000,000,000.
+-- `totals_with`: each turn adds one product.
 -- Assumes nothing.
-use mathlib.Core.Path.{_≡_, refl, _∙_, ap, subst}
-use Prim.Native.Nat.{ℕ, _+_, _-_, _≤_}
+use mathlib.Core.Path.{_≡_, refl, _∙_, ap, ap₂, subst}
+use Prim.Native.Nat.{ℕ, _+_, _-_, _*_, _≤_}
 use native.Mathlib.Omega.{arith}
 use lib.IntN.{ℤ, pos, natAbs, _*ℤ_}
 use lib.ListN.{getD}
@@ -10,24 +10,26 @@ use borrow.Author.Needs.{needs}
 use Rattle.record.specs.Layout.{lots, value, loss}
 use mir.Syntax.{w64}
 use mir.Val.{toZ, ofZ}
+use Rattle.exact.specs.Rounding.{halfAwayTo}
 use Rattle.exact.proofs.Integers.{back, sfits-abs}
+use Rattle.margin.specs.Bounds.{mostProduct}
 use Rattle.margin.specs.Position.{Sized, Added, products}
-use Rattle.margin.proofs.SignedCalls.{times-fits, times-is, plus-fits, plus-is}
+use Rattle.margin.proofs.SignedCalls.{plus-fits, plus-is}
 use Rattle.margin.proofs.AddedLaws.{start, next}
 use Rattle.margin.proofs.rows.totals_with.Statement.{statement}
 use Rattle.margin.proofs.rows.totals_with.Tie as tie
 
 abbrev Inv-loop : tie.InvT-loop
-Inv-loop row each totals₀ s₀ totals s = (s ≤ 16) × Added s (products row) totals₀ totals
+Inv-loop unit row each totals₀ s₀ totals s = (s ≤ 16) × Added s (products unit row) totals₀ totals
 
 abbrev μ-loop : tie.MeasureT-loop
-μ-loop row each totals₀ s₀ totals s = 16 - s
+μ-loop unit row each totals₀ s₀ totals s = 16 - s
 
 per-tick-requires : tie.Need-per-tick-requires Inv-loop μ-loop
 per-tick-requires c κs = search needs
 
 loop-holds : tie.Need-loop-holds Inv-loop μ-loop
-loop-holds c = (omega arith, start (products (now (c .before .before .before .args .row))) (c .before .before .before .args .t .0))
+loop-holds c = let s = c .before .before .before in (omega arith, start (products (s .args .unit) (now (s .args .row))) (s .args .t .0))
 
 add-loss : tie.Need-add-loss Inv-loop μ-loop
 add-loss c = omega arith
@@ -35,24 +37,37 @@ add-loss c = omega arith
 loss-requires : tie.Need-loss-requires Inv-loop μ-loop
 loss-requires c κs = search needs
 
-times-requires : tie.Need-times-requires Inv-loop μ-loop
-times-requires c κs =
-    let s = c .before .before .before .before .before .before in
-    let tick = c .before .before .before .before .per-tick in
-    times-fits (tick .result) (c .loss .result) (lots (now (s .args .row)) *ℤ pos (value (now (s .args .row)))) (loss (now (s .args .row)) (c .before .before .loop .s + 1)) 1000000000 100000
-    (record { sfits = tick .ok }) (record { sfits = c .loss .ok }) (tick .ensures .is) (c .loss .ensures)
-    (subst (λ (z : ℤ). natAbs z ≤ 1000000000) (tick .ensures .is) (tick .ensures .size))
-    (s .pre .0 .loss-within (c .before .before .loop .s + 1) (omega arith) (omega arith)) (omega arith)
+-- what the row loses for each tick, and in the scenario
+tick-is : (c : tie.After-loss Inv-loop μ-loop) →
+    let row = now (c .before .before .before .before .before .before .args .row) in
+    toZ w64 (ofZ w64 (c .before .before .before .before .per-tick .result)) ≡ lots row *ℤ pos (value row)
+tick-is c = let tick = c .before .before .before .before .per-tick in back (tick .result) (record { sfits = tick .ok }) ∙ tick .ensures .is
 
--- what the call of `times` left
-multiplied : (c : tie.After-times Inv-loop μ-loop) → Sized 100000000000000 (products (now (c .before .before .before .before .before .before .before .args .row)) (c .before .before .before .loop .s)) (c .times .result)
+loss-is : (c : tie.After-loss Inv-loop μ-loop) →
+    let row = now (c .before .before .before .before .before .before .args .row) in
+    toZ w64 (ofZ w64 (c .loss .result)) ≡ loss row (c .before .before .loop .s + 1)
+loss-is c = back (c .loss .result) (record { sfits = c .loss .ok }) ∙ c .loss .ensures
+
+product-requires : tie.Need-product-requires Inv-loop μ-loop
+product-requires c κs =
+    let s = c .before .before .before .before .before .before in
+    let tick = c .before .before .before .before .per-tick in (
+      omega (arith, ap natAbs (back (tick .result) (record { sfits = tick .ok })), tick .ensures .size),
+      omega (arith, ap natAbs (loss-is c), s .pre .1 .0 .loss-within (c .before .before .loop .s + 1) (omega arith) (omega arith)),
+      s .pre .0,
+    )
+
+-- what the call of `product` left
+multiplied : (c : tie.After-product Inv-loop μ-loop) →
+    let s = c .before .before .before .before .before .before .before in
+    Sized mostProduct (products (s .args .unit) (now (s .args .row)) (c .before .before .before .loop .s)) (c .product .result)
 multiplied c =
     let s = c .before .before .before .before .before .before .before in
-    let tick = c .before .before .before .before .before .per-tick in
-    times-is (tick .result) (c .before .loss .result) (lots (now (s .args .row)) *ℤ pos (value (now (s .args .row)))) (loss (now (s .args .row)) (c .before .before .before .loop .s + 1)) 1000000000 100000
-    (record { sfits = tick .ok }) (record { sfits = c .before .loss .ok }) (tick .ensures .is) (c .before .loss .ensures)
-    (subst (λ (z : ℤ). natAbs z ≤ 1000000000) (tick .ensures .is) (tick .ensures .size))
-    (s .pre .0 .loss-within (c .before .before .before .loop .s + 1) (omega arith) (omega arith)) (c .times .result) (c .times .ensures)
+    let e = c .product .ensures in
+    record {
+      is = e .is ∙ ap₂ (λ (x y : ℤ). halfAwayTo (x *ℤ y) (s .args .unit)) (tick-is (c .before)) (loss-is (c .before));
+      size = e .size;
+    }
 
 mul-plus : tie.Need-mul-plus Inv-loop μ-loop
 mul-plus c = omega arith
@@ -64,11 +79,11 @@ plus-requires : tie.Need-plus-requires Inv-loop μ-loop
 plus-requires c κs =
     let i = c .before .before .before .before .loop in
     let ts = c .before .before .before .before .before .before .before .before .args .t .0 in
-    let here : natAbs (getD ts (i .s) (pos 0)) ≤ 12700000000000000 = c .before .before .before .before .before .before .before .before .pre .1 .size (i .s) (omega arith) in
+    let here : natAbs (getD ts (i .s) (pos 0)) ≤ 127 * mostProduct = c .before .before .before .before .before .before .before .before .pre .1 .1 .size (i .s) (omega arith) in
     let by = multiplied (c .before) in
     let same : getD (i .totals) (i .s) (pos 0) ≡ getD ts (i .s) (pos 0) = i .inv .1 .others (i .s) (omega arith) in
-    plus-fits (getD (i .totals) (i .s) (pos 0)) (c .before .times .result) (getD ts (i .s) (pos 0)) (c .before .times .result) 12700000000000000 100000000000000
-    (sfits-abs (getD (i .totals) (i .s) (pos 0)) (omega (arith, ap natAbs same))) (record { sfits = c .before .times .ok })
+    plus-fits (getD (i .totals) (i .s) (pos 0)) (c .before .product .result) (getD ts (i .s) (pos 0)) (c .before .product .result) (127 * mostProduct) mostProduct
+    (sfits-abs (getD (i .totals) (i .s) (pos 0)) (omega (arith, ap natAbs same))) (record { sfits = c .before .product .ok })
     same refl here (by .size) (omega arith)
 
 mul-totals : tie.Need-mul-totals Inv-loop μ-loop
@@ -88,16 +103,19 @@ loop-again c =
     let i = c .before .before .before .before .before .loop in
     let s = c .before .before .before .before .before .before .before .before .before in
     let ts = s .args .t .0 in
-    let here : natAbs (getD ts (i .s) (pos 0)) ≤ 12700000000000000 = s .pre .1 .size (i .s) (omega arith) in
+    let here : natAbs (getD ts (i .s) (pos 0)) ≤ 127 * mostProduct = s .pre .1 .1 .size (i .s) (omega arith) in
     let by = multiplied (c .before .before) in
     let same : getD (i .totals) (i .s) (pos 0) ≡ getD ts (i .s) (pos 0) = i .inv .1 .others (i .s) (omega arith) in
-    let sum = plus-is (getD (i .totals) (i .s) (pos 0)) (c .before .before .times .result) (getD ts (i .s) (pos 0)) (products (now (s .args .row)) (i .s)) 12700000000000000 100000000000000
-    (sfits-abs (getD (i .totals) (i .s) (pos 0)) (omega (arith, ap natAbs same))) (record { sfits = c .before .before .times .ok })
-    same (by .is) here (subst (λ (z : ℤ). natAbs z ≤ 100000000000000) (by .is) (by .size)) (c .plus .result) (c .plus .ensures) in
-    (omega arith, next (i .s) (products (now (s .args .row))) ts (i .totals) (toZ w64 (ofZ w64 (c .plus .result))) (i .inv .1) (omega (arith, s .pre .1 .as-many)) (back (c .plus .result) (record { sfits = c .plus .ok }) ∙ sum .is))
+    let sum = plus-is (getD (i .totals) (i .s) (pos 0)) (c .before .before .product .result) (getD ts (i .s) (pos 0)) (products (s .args .unit) (now (s .args .row)) (i .s)) (127 * mostProduct) mostProduct
+    (sfits-abs (getD (i .totals) (i .s) (pos 0)) (omega (arith, ap natAbs same))) (record { sfits = c .before .before .product .ok })
+    same (by .is) here (subst (λ (z : ℤ). natAbs z ≤ mostProduct) (by .is) (by .size)) (c .plus .result) (c .plus .ensures) in
+    (omega arith, next (i .s) (products (s .args .unit) (now (s .args .row))) ts (i .totals) (toZ w64 (ofZ w64 (c .plus .result))) (i .inv .1) (omega (arith, s .pre .1 .1 .as-many)) (back (c .plus .result) (record { sfits = c .plus .ok }) ∙ sum .is))
 
 returns : tie.Need-returns Inv-loop μ-loop
-returns c = let i = c .before .loop in subst (λ (n : ℕ). Added n (products (now (c .before .before .before .before .before .args .row))) (c .before .before .before .before .before .args .t .0) (i .totals)) (omega arith) (i .inv .1)
+returns c =
+    let i = c .before .loop in
+    let s = c .before .before .before .before .before in
+    subst (λ (n : ℕ). Added n (products (s .args .unit) (now (s .args .row))) (s .args .t .0) (i .totals)) (omega arith) (i .inv .1)
 
 pub totals-with-spec : {M : Type 1} → statement M
 totals-with-spec =
@@ -109,7 +127,7 @@ totals-with-spec =
     loop-holds
     add-loss
     loss-requires
-    times-requires
+    product-requires
     mul-plus
     array-copy-out-plus
     plus-requires

@@ -25,23 +25,23 @@ most : {n : ℕ} (p : Position) → Bounded n p → Most n (p .totals .0) (delta
 most p b = record { totals-most = b .totals-most; nets-most = b .nets-most; shorts-most = b .shorts-most }
 
 abbrev Inv-loop2 : tie.InvT-loop2
-Inv-loop2 rows days count prompts totals nets₀ shorts i at of-row more j₀ nets j =
+Inv-loop2 unit rows days count prompts totals nets₀ shorts i at of-row more j₀ nets j =
     (j ≤ days .count) × Added j (addsOn (days .day) of-row (more .0)) (deltasIn nets₀) (deltasIn nets)
 
 abbrev μ-loop2 : tie.MeasureT-loop2
-μ-loop2 rows days count prompts totals nets₀ shorts i at of-row more j₀ nets j = days .count - j
+μ-loop2 unit rows days count prompts totals nets₀ shorts i at of-row more j₀ nets j = days .count - j
 
 abbrev Inv-loop : tie.InvT-loop
-Inv-loop rows days count prompts totals₀ nets₀ shorts₀ i₀ totals nets shorts i =
-    SoFar (records rows) (days .count) (days .day) (totals₀ .0) (deltasIn nets₀) shorts₀ i (totals .0) (deltasIn nets) shorts
+Inv-loop unit rows days count prompts totals₀ nets₀ shorts₀ i₀ totals nets shorts i =
+    SoFar unit (records rows) (days .count) (days .day) (totals₀ .0) (deltasIn nets₀) shorts₀ i (totals .0) (deltasIn nets) shorts
 
 abbrev μ-loop : tie.MeasureT-loop
-μ-loop rows days count prompts totals₀ nets₀ shorts₀ i₀ totals nets shorts i = length rows / 96 - i
+μ-loop unit rows days count prompts totals₀ nets₀ shorts₀ i₀ totals nets shorts i = length rows / 96 - i
 
 loop-holds : tie.Need-loop-holds Inv-loop2 μ-loop2 Inv-loop μ-loop
 loop-holds c =
     let s = c .before .before .before in
-    start (records (now (s .args .rows))) (s .args .t2 .count) (s .args .t2 .day) (s .args .p .totals .0) (deltasIn (s .args .p .nets)) (s .args .p .shorts)
+    start (s .args .unit) (records (now (s .args .rows))) (s .args .t2 .count) (s .args .t2 .day) (s .args .p .totals .0) (deltasIn (s .args .p .nets)) (s .args .p .shorts)
 
 -- at the head of a turn: the row is within its ranges, and there is room for it
 row-within : (c : tie.In-loop Inv-loop2 μ-loop2 Inv-loop μ-loop) → RowFit (take (c .before .loop .i * 96 + 96 - c .before .loop .i * 96) (drop (c .before .loop .i * 96) (now (c .before .before .before .before .before .args .rows))))
@@ -49,7 +49,7 @@ row-within c =
     let s = c .before .before .before .before .before in
     let file = now (s .args .rows) in
     let more : c .before .loop .i < length file / 96 = c .loop-test .taken in
-    subst (λ (row : Record). RowFit row) (record-at file (c .before .loop .i) more) (s .pre .1 .0 .each (c .before .loop .i) (omega (arith, count-is file)))
+    subst (λ (row : Record). RowFit row) (record-at file (c .before .loop .i) more) (s .pre .1 .1 .0 .each (c .before .loop .i) (omega (arith, count-is file)))
 
 has-room : (c : tie.In-loop Inv-loop2 μ-loop2 Inv-loop μ-loop) → Most 127 (c .before .loop .totals .0) (deltasIn (c .before .loop .nets)) (c .before .loop .shorts)
 has-room c =
@@ -57,8 +57,8 @@ has-room c =
     let i = c .before .loop in
     let file = now (s .args .rows) in
     let more : i .i < length file / 96 = c .loop-test .taken in
-    room (records file) (s .args .t2 .count) (s .args .t2 .day) (s .args .p .totals .0) (deltasIn (s .args .p .nets)) (s .args .p .shorts)
-    (s .pre .1 .0) (most (s .args .p) (s .pre .1 .1)) (i .i) 127 (i .totals .0) (deltasIn (i .nets)) (i .shorts) (i .inv) (omega (arith, count-is file, s .pre .1 .0 .few))
+    room (s .args .unit) (s .pre .0) (records file) (s .args .t2 .count) (s .args .t2 .day) (s .args .p .totals .0) (deltasIn (s .args .p .nets)) (s .args .p .shorts)
+    (s .pre .1 .1 .0) (most (s .args .p) (s .pre .1 .1 .1)) (i .i) 127 (i .totals .0) (deltasIn (i .nets)) (i .shorts) (i .inv) (omega (arith, count-is file, s .pre .1 .1 .0 .few))
 
 mul-at : tie.Need-mul-at Inv-loop2 μ-loop2 Inv-loop μ-loop
 mul-at c = omega arith
@@ -76,7 +76,8 @@ part-row-end : tie.Need-part-row-end Inv-loop2 μ-loop2 Inv-loop μ-loop
 part-row-end c = search needs
 
 totals-with-requires : tie.Need-totals-with-requires Inv-loop2 μ-loop2 Inv-loop μ-loop
-totals-with-requires c κs = (row-within (c .before), has-room (c .before) .totals-most)
+totals-with-requires c κs =
+    (c .before .before .before .before .before .before .pre .0, (row-within (c .before), has-room (c .before) .totals-most))
 
 short-options-requires : tie.Need-short-options-requires Inv-loop2 μ-loop2 Inv-loop μ-loop
 short-options-requires c κs = tt
@@ -98,35 +99,35 @@ loop2-holds c =
     (omega arith, adding.start (addsOn (s .args .t2 .day) (c .before .day .result) (c .row-delta .result .0)) (deltasIn (c .before .before .before .before .before .before .loop .nets)))
 
 mul-net-with : tie.Need-mul-net-with Inv-loop2 μ-loop2 Inv-loop μ-loop
-mul-net-with c = omega (arith, c .before .before .before .before .before .before .before .before .before .before .before .before .pre .0)
+mul-net-with c = omega (arith, c .before .before .before .before .before .before .before .before .before .before .before .before .pre .1 .0)
 
 array-copy-out-net-with : tie.Need-array-copy-out-net-with Inv-loop2 μ-loop2 Inv-loop μ-loop
-array-copy-out-net-with c = omega (arith, c .before .before .before .before .before .before .before .before .before .before .before .before .pre .0)
+array-copy-out-net-with c = omega (arith, c .before .before .before .before .before .before .before .before .before .before .before .before .pre .1 .0)
 
 mul-net-with-2 : tie.Need-mul-net-with-2 Inv-loop2 μ-loop2 Inv-loop μ-loop
-mul-net-with-2 c = omega (arith, c .before .before .before .before .before .before .before .before .before .before .before .before .before .pre .0)
+mul-net-with-2 c = omega (arith, c .before .before .before .before .before .before .before .before .before .before .before .before .before .pre .1 .0)
 
 element-copy-out-net-with : tie.Need-element-copy-out-net-with Inv-loop2 μ-loop2 Inv-loop μ-loop
-element-copy-out-net-with c = omega (arith, c .before .before .before .before .before .before .before .before .before .before .before .before .before .pre .0)
+element-copy-out-net-with c = omega (arith, c .before .before .before .before .before .before .before .before .before .before .before .before .before .pre .1 .0)
 
 net-with-requires : tie.Need-net-with-requires Inv-loop2 μ-loop2 Inv-loop μ-loop
 net-with-requires c κs =
     let i = c .before .before .before .before .before .before .before .before .before .before .loop in
     let k = c .before .before .before .loop2 in
-    let few : k .j < 32 = omega (arith, c .before .before .before .before .before .before .before .before .before .before .before .before .before .before .pre .0) in
+    let few : k .j < 32 = omega (arith, c .before .before .before .before .before .before .before .before .before .before .before .before .before .before .pre .1 .0) in
     let here : natAbs (getD (deltasIn (i .nets)) (k .j) (pos 0)) ≤ 127000000000 = has-room (c .before .before .before .before .before .before .before .before .before) .nets-most .size (k .j) few in (
       subst (λ (z : ℤ). natAbs z ≤ 127000000000) (sym (k .inv .1 .others (k .j) (omega arith)) ∙ adding.delta-at (k .nets) (k .j)) here,
       c .before .before .before .before .row-delta .ensures .size,
     )
 
 mul-nets : tie.Need-mul-nets Inv-loop2 μ-loop2 Inv-loop μ-loop
-mul-nets c = omega (arith, c .before .before .before .before .before .before .before .before .before .before .before .before .before .before .before .pre .0)
+mul-nets c = omega (arith, c .before .before .before .before .before .before .before .before .before .before .before .before .before .before .before .pre .1 .0)
 
 array-set-from-nets : tie.Need-array-set-from-nets Inv-loop2 μ-loop2 Inv-loop μ-loop
-array-set-from-nets c = omega (arith, c .before .before .before .before .before .before .before .before .before .before .before .before .before .before .before .pre .0)
+array-set-from-nets c = omega (arith, c .before .before .before .before .before .before .before .before .before .before .before .before .before .before .before .pre .1 .0)
 
 add-j : tie.Need-add-j Inv-loop2 μ-loop2 Inv-loop μ-loop
-add-j c = omega (arith, c .before .before .before .before .before .before .before .before .before .before .before .before .before .before .before .pre .0)
+add-j c = omega (arith, c .before .before .before .before .before .before .before .before .before .before .before .before .before .before .before .pre .1 .0)
 
 loop2-less : tie.Need-loop2-less Inv-loop2 μ-loop2 Inv-loop μ-loop
 loop2-less c = omega arith
@@ -138,7 +139,7 @@ loop2-again c =
     let k = c .before .before .before .before .loop2 in
     let more = addsOn (s .args .t2 .day) (c .before .before .before .before .before .before .day .result) (c .before .before .before .before .before .row-delta .result .0) in
     let same : getD (k .nets) (k .j) (record { 0 = pos 0 }) .0 ≡ getD (deltasIn (i .nets)) (k .j) (pos 0) = sym (adding.delta-at (k .nets) (k .j)) ∙ k .inv .1 .others (k .j) (omega arith) in
-    let few : k .j < 32 = omega (arith, s .pre .0) in
+    let few : k .j < 32 = omega (arith, s .pre .1 .0) in
     let places : length (deltasIn (i .nets)) ≡ 32 = has-room (c .before .before .before .before .before .before .before .before .before .before) .nets-most .as-many in (
       omega arith,
       subst (λ (zs : List ℤ). Added (k .j + 1) more (deltasIn (i .nets)) zs) (sym (adding.deltas-set (k .nets) (k .j) (c .net-with .result)))
@@ -161,7 +162,7 @@ loop-again c =
     let turn : i .i < length file / 96 = c .before .before .before .before .before .before .before .loop-test .taken in
     let row = take (i .i * 96 + 96 - i .i * 96) (drop (i .i * 96) file) in
     let all : k .j ≡ s .args .t2 .count = omega arith in
-    next (records file) (s .args .t2 .count) days (s .args .p .totals .0) (deltasIn (s .args .p .nets)) (s .args .p .shorts)
+    next (s .args .unit) (records file) (s .args .t2 .count) days (s .args .p .totals .0) (deltasIn (s .args .p .nets)) (s .args .p .shorts)
     (i .i) (i .totals .0) (deltasIn (i .nets)) (c .before .before .before .before .before .totals-with .result .0) (deltasIn (k .nets)) (i .shorts) _ row
     (i .inv) (omega (arith, count-is file)) (record-at file (i .i) turn)
     (c .before .before .before .before .before .totals-with .ensures)
@@ -178,15 +179,15 @@ returns c =
     let file = now (s .args .rows) in
     let count = s .args .t2 .count in
     let days = s .args .t2 .day in
-    let all = finish (records file) count days (s .args .p .totals .0) (deltasIn (s .args .p .nets)) (s .args .p .shorts) (i .i) (i .totals .0) (deltasIn (i .nets)) (i .shorts) (omega (arith, count-is file, c .loop-test .left)) (i .inv) in
+    let all = finish (s .args .unit) (records file) count days (s .args .p .totals .0) (deltasIn (s .args .p .nets)) (s .args .p .shorts) (i .i) (i .totals .0) (deltasIn (i .nets)) (i .shorts) (omega (arith, count-is file, c .loop-test .left)) (i .inv) in
     let last =
-    room (records file) count days (s .args .p .totals .0) (deltasIn (s .args .p .nets)) (s .args .p .shorts)
-    (s .pre .1 .0) (most (s .args .p) (s .pre .1 .1)) (i .i) 128 (i .totals .0) (deltasIn (i .nets)) (i .shorts) (i .inv) (omega (arith, i .inv .passed, s .pre .1 .0 .few)) in
-    let added : WithRows (s .args .t2) (s .args .p) (records file) (record { totals = i .totals; nets = i .nets; shorts = i .shorts }) =
+    room (s .args .unit) (s .pre .0) (records file) count days (s .args .p .totals .0) (deltasIn (s .args .p .nets)) (s .args .p .shorts)
+    (s .pre .1 .1 .0) (most (s .args .p) (s .pre .1 .1 .1)) (i .i) 128 (i .totals .0) (deltasIn (i .nets)) (i .shorts) (i .inv) (omega (arith, i .inv .passed, s .pre .1 .1 .0 .few)) in
+    let added : WithRows (s .args .unit) (s .args .t2) (s .args .p) (records file) (record { totals = i .totals; nets = i .nets; shorts = i .shorts }) =
     record { totals-added = all .0; nets-added = all .1 .0; shorts-added = all .1 .1 } in (
       added,
       (
-        λ prompts earlier known is. joined prompts earlier (records file) (s .args .t2) (s .args .p) (record { totals = i .totals; nets = i .nets; shorts = i .shorts }) known is added,
+        λ prompts earlier known is. joined (s .args .unit) prompts earlier (records file) (s .args .t2) (s .args .p) (record { totals = i .totals; nets = i .nets; shorts = i .shorts }) known is added,
         record { totals-most = last .totals-most; nets-most = last .nets-most; shorts-most = last .shorts-most },
       ),
     )

@@ -189,6 +189,48 @@ static void ask_committee(const uint8_t *file, size_t bytes, const uint8_t *noon
     }
 }
 
+static void print_list(const char *word, size_t question, size_t file, felgotany_list_outcome list)
+{
+    printf("%s %zu file %zu refusal %zu record %zu verdict %zu step %zu\n", word, question, file, list.refusal, list.record, list.verdict,
+           list.step);
+}
+
+/* How many records of a kind a question is about: all of them for the table. */
+static size_t records_of(const uint8_t *file, size_t bytes, uint8_t kind, size_t question)
+{
+    size_t count = 0;
+    for (size_t at = 0; at < bytes; at += 96)
+        count += file[at] == kind && (question == FELGOTANY_TABLE || file[at + 1] == question);
+    return count;
+}
+
+/* The library's own list of each question, the same with its last use wrong by one and with its last number wrong by one, and the
+ * same with a prompt more; each for the file and for the pair. */
+static void ask_lists(const uint8_t *file, size_t bytes, const uint8_t *noon, size_t noon_bytes)
+{
+    int64_t *book = lent(FELGOTANY_MOST_BOOK), *uses = lent(FELGOTANY_MOST_USES);
+    for (size_t question = 0; question <= FELGOTANY_TABLE + 1; ++question) {
+        int table = question == FELGOTANY_TABLE, answered = felgotany_book(file, bytes, question, book, FELGOTANY_MOST_BOOK).refusal == 0;
+        size_t prompts = answered ? records_of(file, bytes, table ? 1 : 2, question) : 0;
+        size_t steps = answered ? 2 * records_of(file, bytes, table ? 5 : 4, question) : 0, all = steps * prompts;
+        felgotany_uses(file, bytes, question, uses, FELGOTANY_MOST_USES);
+        int64_t *numbers = before_the_end(steps * sizeof *numbers), *used = before_the_end(all * sizeof *used);
+        memcpy(numbers, book + 3 * prompts, steps * sizeof *numbers);
+        memcpy(used, uses, all * sizeof *used);
+        for (size_t wrong = 0; wrong < 4; ++wrong) {
+            if (wrong == 1 && all > 0)
+                used[all - 1] += 1;
+            if (wrong == 2 && steps > 0)
+                numbers[steps - 1] -= 1;
+            size_t of = prompts + (wrong == 3);
+            print_list("list", question, 0, felgotany_judge(file, bytes, question, of, numbers, steps, used, all));
+            felgotany_pair_list_outcome pair =
+                felgotany_joined_judge(file, bytes, noon, noon_bytes, question, of, numbers, steps, used, all);
+            print_list("joined list", question, pair.file, pair.list);
+        }
+    }
+}
+
 int main(int argc, char **argv)
 {
     size_t bytes, noon_bytes;
@@ -209,5 +251,6 @@ int main(int argc, char **argv)
     ask_joined_all(file, bytes, noon, noon_bytes, (const size_t[3]){1, 1, 1});
     ask_run(file, bytes, noon, noon_bytes);
     ask_committee(file, bytes, noon, noon_bytes);
+    ask_lists(file, bytes, noon, noon_bytes);
     return 0;
 }

@@ -70,6 +70,10 @@ extern "C" {
  *
  *   17  the lengths do not add up to the bytes that are lent                record 0
  *
+ * A list of spreads is refused for one thing more, after the account's own refusals and 11.
+ *
+ *   18  step count or prompt count differs from the account's               record 0
+ *
  * Of the risk committee's figures of a run, one thing more is refused, before these.
  *
  *   19  more than 100 accounts                                              record 0 */
@@ -224,6 +228,47 @@ felgotany_call_outcome felgotany_call(const uint8_t *morning, size_t morning_byt
  * `file` and `out`, each aligned as size_t; no two of the four overlap. */
 felgotany_outcome felgotany_run(const uint8_t *accounts, size_t bytes, const size_t *lengths, size_t count, int64_t *figures,
                                 size_t numbers, size_t *outcomes, size_t outcome_numbers);
+
+/* What is said of a list of spreads that others send, by felgotany_judge. */
+#define FELGOTANY_NOT_JUDGED 0       /* the list is refused */
+#define FELGOTANY_RIGHT 1            /* yes: it is the list that the spread steps form, with the uses that they make */
+#define FELGOTANY_MORE_THAN_FORMED 2 /* the number of the step named is more than can be formed */
+#define FELGOTANY_LESS_THAN_FORMED 3 /* it is less than can be formed */
+#define FELGOTANY_WRONG_USE 4        /* it is right, and some prompt's use in that step is not */
+
+/* The refusal and its record, both 0 where the list is judged; the verdict; and the first step that is wrong, counted from 0. The
+ * step is 0 where none is wrong. */
+typedef struct {
+    size_t refusal;
+    size_t record;
+    size_t verdict;
+    size_t step;
+} felgotany_list_outcome;
+
+/* A list of spreads that others say were formed, judged for a question, 0 to 15 for that contract or FELGOTANY_TABLE. The list has a
+ * number for each step, of each spread of the question its first step and then its second, in `numbers`; and in `uses`, one step
+ * after the other, what the step used of each prompt in file order, or of each contract of the table, with the sign of its net delta,
+ * as felgotany_uses writes them. `prompts` says how many prompts the list speaks of. All in ten-thousandths; any number of 64 bits is
+ * answered, also one below zero.
+ *
+ * The first step that is wrong answers, and in it the number before the uses. What can be formed in a step is said of what the
+ * steps before it, all right till then, have left.
+ *
+ * 18 is given where `number_count` is not two for each spread, where `prompts` is not the question's prompts (or contracts), and
+ * where `use_count` is not the one times the other. Nothing is written. `numbers` and `uses` are owed what is owed of `file`, each
+ * aligned as int64_t. */
+felgotany_list_outcome felgotany_judge(const uint8_t *file, size_t bytes, size_t question, size_t prompts, const int64_t *numbers,
+                                       size_t number_count, const int64_t *uses, size_t use_count);
+
+/* The same for the joined account, with the file that a refusal is about, as in felgotany_pair_outcome. */
+typedef struct {
+    size_t file;
+    felgotany_list_outcome list;
+} felgotany_pair_list_outcome;
+
+felgotany_pair_list_outcome felgotany_joined_judge(const uint8_t *morning, size_t morning_bytes, const uint8_t *noon,
+                                                   size_t noon_bytes, size_t question, size_t prompts, const int64_t *numbers,
+                                                   size_t number_count, const int64_t *uses, size_t use_count);
 
 /* The risk committee's figures of a run of accounts, which stand in `accounts` as for felgotany_run, in these
  * FELGOTANY_COMMITTEE_NUMBERS numbers at the front of `out`; nothing after them is changed.

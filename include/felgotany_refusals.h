@@ -20,6 +20,7 @@
 #define FELGOTANY_NOON_INTERCONTRACT 12
 #define FELGOTANY_TOO_MANY_JOINED 13
 #define FELGOTANY_LENGTHS_DIFFER 17
+#define FELGOTANY_OTHER_COUNTS 18
 #define FELGOTANY_TOO_MANY_ACCOUNTS 19
 #define FELGOTANY_AMOUNT_OUTSIDE_RANGE 21
 
@@ -57,6 +58,8 @@ static inline const char *felgotany_refusal_text(size_t refusal)
         return "more than 640 records joined";
     case FELGOTANY_LENGTHS_DIFFER:
         return "the lengths of a run do not add up to what was lent";
+    case FELGOTANY_OTHER_COUNTS:
+        return "step count or prompt count differs from the account's";
     case FELGOTANY_TOO_MANY_ACCOUNTS:
         return "more than 100 accounts for the risk committee";
     case FELGOTANY_AMOUNT_OUTSIDE_RANGE:

@@ -141,6 +141,14 @@ impl Book {
         Ok(Book::of_answers(question, &records(file), &book, &uses))
     }
 
+    /// The same of the account joined of two files.
+    pub fn of_pair(pair: Pair, question: usize) -> Result<Book, PairOutcome> {
+        let (mut book, mut uses) = ([0; MOST_BOOK], vec![0; MOST_USES]);
+        answered(pair.book(question, &mut book))?;
+        answered(pair.uses(question, &mut uses))?;
+        Ok(Book::of_answers(question, &joined(pair), &book, &uses))
+    }
+
     /// Three numbers for each prompt, two for each spread and how often a prompt was touched; and of each step one use for each prompt.
     fn of_answers(question: usize, records: &[Record], numbers: &[i64], uses: &[i64]) -> Book {
         let prompt_records = prompts_of(records, question);

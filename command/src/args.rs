@@ -8,7 +8,8 @@ const NOTES: &str = "\
 An account is an account file or its text form, a CSV file with one record a line, as `felgotany read` prints it. A name
 of - is standard input, which is also read where no account is named.
 
-Exit status: 0 answered, 1 the account is refused, 2 called wrongly, 3 something could not be read or written.";
+Exit status: 0 answered, 1 the account is refused or the list judged is not right, 2 called wrongly, 3 something could not be
+read or written.";
 
 const NIGHT_NOTES: &str = "\
 Every name is answered in one line on standard output, in the order of the list or, of a folder, of its names: the total, or the
@@ -88,6 +89,26 @@ pub enum Asked {
         #[command(flatten)]
         empty: Empty,
     },
+    /// Judge a list of spreads that others send: right, or its first wrong step and why
+    Judge {
+        /// An account file or its text form; - is standard input
+        account: PathBuf,
+        /// 0 to 15 for the spreads of that contract, 16 for the intercontract spreads
+        question: usize,
+        /// The list, as `felgotany list` prints it: CSV with one step a row; - is standard input
+        list: PathBuf,
+        #[command(flatten)]
+        judging: Judging,
+    },
+    /// Print the list of spreads that the steps form, in the form that `felgotany judge` reads
+    List {
+        /// An account file or its text form; - is standard input
+        account: PathBuf,
+        /// 0 to 15 for the spreads of that contract, 16 for the intercontract spreads
+        question: usize,
+        #[command(flatten)]
+        judging: Judging,
+    },
     /// Say in words why an account is refused, and show the record
     Explain {
         /// An account file or its text form; - is standard input
@@ -145,6 +166,16 @@ pub struct Night {
     pub progress: bool,
     #[command(flatten)]
     pub empty: Empty,
+}
+
+#[derive(Args)]
+pub struct Judging {
+    /// A noon file or its text form, to be joined to the account
+    #[arg(long)]
+    pub noon: Option<PathBuf>,
+    /// Print lines for other programs; what is refused is an R line
+    #[arg(long)]
+    pub lines: bool,
 }
 
 /// For whom is printed: people, other programs, or a spreadsheet.

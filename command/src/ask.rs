@@ -4,7 +4,7 @@ use crate::account::{Account, Book};
 use crate::args::{Asked, Form};
 use crate::failure::{Failure, Status};
 use crate::input::Input;
-use crate::{committee, lines, night, noon, output, page, report, sheet, table};
+use crate::{committee, judge, lines, night, noon, output, page, report, sheet, table};
 use account_text::explain::{accepted, explain};
 use account_text::{read, wording};
 use felgotany::refusals::{rule, TOO_LONG};
@@ -69,6 +69,14 @@ pub fn ask(asked: Asked) -> Result<Answer, Failure> {
         Asked::Report(asked) => report::report(&asked),
         Asked::Statement(asked) => report::statement(&asked),
         Asked::Committee { accounts, form, empty } => Ok(committee::ask(&accounts, form, empty.empty)),
+        Asked::Judge { account, question, list, judging } => {
+            let form = Form { lines: judging.lines, csv: false };
+            judge::judge(&account, question, &list, &judging).or_else(|failure| Ok(Answer::of_result(form, Err(failure))))
+        }
+        Asked::List { account, question, judging } => {
+            let form = Form { lines: judging.lines, csv: false };
+            Ok(Answer::of_result(form, judge::list(&account, question, &judging)))
+        }
         Asked::Explain { refusals: true, .. } => Ok(Answer::of(wording::table())),
         Asked::Explain { account, empty, .. } => explained(&Input::load(&account, empty.empty)?),
         Asked::Read { account, output, empty } => {
@@ -172,7 +180,7 @@ fn book(input: &Input, question: Option<usize>, form: Form) -> Result<String, Fa
 }
 
 /// A question that an accepted account does not answer.
-fn unlisted(input: &Input, question: usize, Outcome { refusal, record }: Outcome) -> Failure {
+pub fn unlisted(input: &Input, question: usize, Outcome { refusal, record }: Outcome) -> Failure {
     let rule = rule(refusal).unwrap_or_default();
     let records = records(&input.file);
     let listed = records.iter().filter(|record| record.kind() == CONTRACT);

@@ -29,22 +29,14 @@ pub struct Input {
 impl Input {
     /// The account of this name; - is standard input. One without records must be asked for.
     pub fn load(path: &Path, empty: bool) -> Result<Input, Failure> {
-        if path != Path::new(STANDARD) {
-            return Input::open(path, empty);
-        }
-        if io::stdin().is_terminal() {
-            return Err(Failure::called_wrongly("no account is named".to_string()));
-        }
-        Input::read("standard input".to_string(), io::stdin(), empty)
+        let (name, from) = named(path, "account")?;
+        Input::read(name, from, empty)
     }
 
     /// The account in a file, whatever its name.
     pub fn open(path: &Path, empty: bool) -> Result<Input, Failure> {
-        let name = path.display().to_string();
-        match File::open(path) {
-            Ok(file) => Input::read(name, file, empty),
-            Err(fault) => Err(Failure::not_read(format!("{name}: {fault}"))),
-        }
+        let (name, file) = opened(path)?;
+        Input::read(name, file, empty)
     }
 
     fn read(name: String, mut from: impl Read, empty: bool) -> Result<Input, Failure> {
@@ -65,9 +57,7 @@ impl Input {
     }
 
     fn of_text(name: String, text: Vec<u8>) -> Result<Input, Failure> {
-        if text.len() > LONGEST_TEXT {
-            return Err(Failure::not_read(format!("{name}: a text of more than {LONGEST_TEXT} bytes")));
-        }
+        not_too_long(&name, &text)?;
         match write(&text) {
             Ok(written) => Ok(Input { name, file: written.file.clone(), text: Some(written) }),
             Err(misread) => Err(Failure::not_read(misread_lines(&name, &misread))),
@@ -75,12 +65,8 @@ impl Input {
     }
 
     fn of_file(name: String, file: Vec<u8>) -> Result<Input, Failure> {
-        let saved_as = match file[..] {
-            [0xff, 0xfe, ..] | [0xfe, 0xff, ..] => "text in UTF-16: save it as CSV in UTF-8",
-            [b'P', b'K', 3, 4, ..] => "a spreadsheet: save it as CSV in UTF-8",
-            _ => return Ok(Input { name, file, text: None }),
-        };
-        Err(Failure::not_read(format!("{name}: {saved_as}")))
+        no_spreadsheet(&name, &file)?;
+        Ok(Input { name, file, text: None })
     }
 
     /// The account, if it is accepted.
@@ -123,6 +109,50 @@ impl Input {
             None => format!("record {record}"),
         }
     }
+}
+
+fn opened(path: &Path) -> Result<(String, Box<dyn Read>), Failure> {
+    let name = path.display().to_string();
+    match File::open(path) {
+        Ok(file) => Ok((name, Box::new(file))),
+        Err(fault) => Err(Failure::not_read(format!("{name}: {fault}"))),
+    }
+}
+
+/// A file or standard input by its name.
+fn named(path: &Path, what: &str) -> Result<(String, Box<dyn Read>), Failure> {
+    if path != Path::new(STANDARD) {
+        return opened(path);
+    }
+    if io::stdin().is_terminal() {
+        return Err(Failure::called_wrongly(format!("no {what} is named")));
+    }
+    Ok(("standard input".to_string(), Box::new(io::stdin())))
+}
+
+/// The name and the bytes of a list of spreads, which is a text.
+pub fn text_of(path: &Path) -> Result<(String, Vec<u8>), Failure> {
+    let (name, mut from) = named(path, "list")?;
+    let text = read_up_to(&mut from, LONGEST_TEXT + 1).map_err(|fault| Failure::not_read(format!("{name}: {fault}")))?;
+    not_too_long(&name, &text)?;
+    no_spreadsheet(&name, &text)?;
+    Ok((name, text))
+}
+
+fn not_too_long(name: &str, text: &[u8]) -> Result<(), Failure> {
+    match text.len() {
+        0..=LONGEST_TEXT => Ok(()),
+        _ => Err(Failure::not_read(format!("{name}: a text of more than {LONGEST_TEXT} bytes"))),
+    }
+}
+
+fn no_spreadsheet(name: &str, file: &[u8]) -> Result<(), Failure> {
+    let saved_as = match file[..] {
+        [0xff, 0xfe, ..] | [0xfe, 0xff, ..] => "text in UTF-16: save it as CSV in UTF-8",
+        [b'P', b'K', 3, 4, ..] => "a spreadsheet: save it as CSV in UTF-8",
+        _ => return Ok(()),
+    };
+    Err(Failure::not_read(format!("{name}: {saved_as}")))
 }
 
 /// Every line of a text that cannot be written.

@@ -64,5 +64,10 @@ pub fn call(amount: u64) -> String {
 
 /// The committee's numbers, in the library's order.
 pub fn committee(numbers: &[i64]) -> String {
-    line('N', numbers)
+    line('K', numbers)
+}
+
+/// What is said of a list, as the library numbers it, and the step.
+pub fn judged(verdict: usize, step: usize) -> String {
+    line('J', &[verdict as i64, step as i64])
 }

@@ -124,7 +124,7 @@ fn prompts(pair: Pair, contract: usize) -> String {
 }
 
 /// A refusal of two files in words, and as a line.
-fn refusal(morning: &Input, noon: &Input, amounts: Option<&[i64]>, outcome: PairOutcome) -> Failure {
+pub fn refusal(morning: &Input, noon: &Input, amounts: Option<&[i64]>, outcome: PairOutcome) -> Failure {
     let PairOutcome { file, refusal, record } = outcome;
     let line = format!("R {file} {refusal} {record}");
     let of_file = |input: &Input| {

@@ -4,6 +4,7 @@
 
 mod charged;
 mod damage;
+mod list;
 mod pair;
 mod priced;
 mod random;
@@ -12,6 +13,7 @@ mod sound;
 mod values;
 mod write;
 
+pub use list::list;
 pub use random::Random;
 pub use run::Run;
 

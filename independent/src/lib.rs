@@ -10,6 +10,7 @@ pub mod committee;
 pub mod format;
 pub mod generate;
 pub mod joined;
+pub mod list;
 pub mod margin;
 pub mod refusal;
 pub mod run;

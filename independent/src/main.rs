@@ -4,6 +4,7 @@
 
 mod survey;
 mod survey_committee;
+mod survey_lists;
 mod survey_pairs;
 mod survey_runs;
 mod tally;
@@ -34,6 +35,8 @@ const USAGE: &str =
                                        what occurs in so many generated runs of accounts
        independent survey-committee SEED COUNT
                                        what the committee's figures of so many runs show
+       independent survey-lists SEED COUNT
+                                       what occurs in so many lists of spreads
        independent write-pair SEED INDEX MORNING NOON
                                        writes the two files of one generated pair";
 
@@ -112,15 +115,15 @@ fn surveyed(survey: &str, seed: u64, count: u64) -> Option<io::Result<()>> {
             let survey = survey_pairs::PairSurvey::of(seed, count);
             (survey.to_string(), survey.nothing_missing())
         }
-        "survey-runs" => {
-            let tally = survey_runs::survey(seed, count);
+        _ => {
+            let tally = match survey {
+                "survey-runs" => survey_runs::survey(seed, count),
+                "survey-committee" => survey_committee::survey(seed, count),
+                "survey-lists" => survey_lists::survey(seed, count),
+                _ => return None,
+            };
             (tally.to_string(), tally.nothing_missing())
         }
-        "survey-committee" => {
-            let tally = survey_committee::survey(seed, count);
-            (tally.to_string(), tally.nothing_missing())
-        }
-        _ => return None,
     };
     Some(print(&lines).and(missing))
 }

@@ -30,6 +30,8 @@ pub const NOON_ENTRY: u8 = 12;
 pub const TOO_MANY_JOINED: u8 = 13;
 /// The lengths of a run do not add up to what was lent.
 pub const LENGTHS_DIFFER: u8 = 17;
+/// The step count or the prompt count of a list differs from the account's.
+pub const OTHER_COUNTS: u8 = 18;
 /// More than 100 accounts for the committee.
 pub const TOO_MANY_ACCOUNTS: u8 = 19;
 /// An amount outside its range.

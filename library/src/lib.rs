@@ -75,6 +75,40 @@ pub struct PromptPlace {
     pub records: usize,
 }
 
+/// What is said of a list of spreads, as the header numbers it.
+pub const NOT_JUDGED: usize = 0;
+pub const RIGHT: usize = 1;
+pub const MORE_THAN_FORMED: usize = 2;
+pub const LESS_THAN_FORMED: usize = 3;
+pub const WRONG_USE: usize = 4;
+
+/// A list of spreads that others send: how many prompts it speaks of, the number of each step, and what each step used of each
+/// prompt, one step after the other.
+#[derive(Clone, Copy, Debug)]
+pub struct List<'a> {
+    pub prompts: usize,
+    pub numbers: &'a [i64],
+    pub uses: &'a [i64],
+}
+
+/// The refusal of a list and its record, both 0 where it is judged; what is said of it, and the step that is wrong first.
+#[repr(C)]
+#[derive(Clone, Copy, Debug, PartialEq, Eq)]
+pub struct ListOutcome {
+    pub refusal: usize,
+    pub record: usize,
+    pub verdict: usize,
+    pub step: usize,
+}
+
+/// The same for a morning and a noon file, and the file that a refusal is about.
+#[repr(C)]
+#[derive(Clone, Copy, Debug, PartialEq, Eq)]
+pub struct PairListOutcome {
+    pub file: usize,
+    pub list: ListOutcome,
+}
+
 /// A morning and a noon file.
 #[derive(Clone, Copy)]
 pub struct Pair<'a> {
@@ -187,6 +221,28 @@ extern "C" {
         out: *mut i64,
         numbers: usize,
     ) -> Outcome;
+    fn felgotany_judge(
+        file: *const u8,
+        bytes: usize,
+        question: usize,
+        prompts: usize,
+        numbers: *const i64,
+        number_count: usize,
+        uses: *const i64,
+        use_count: usize,
+    ) -> ListOutcome;
+    fn felgotany_joined_judge(
+        morning: *const u8,
+        morning_bytes: usize,
+        noon: *const u8,
+        noon_bytes: usize,
+        question: usize,
+        prompts: usize,
+        numbers: *const i64,
+        number_count: usize,
+        uses: *const i64,
+        use_count: usize,
+    ) -> PairListOutcome;
 }
 
 pub fn check(file: &[u8]) -> Outcome {
@@ -254,7 +310,41 @@ pub fn committee(accounts: &[u8], lengths: &[usize], lent: &mut [i64]) -> Outcom
     }
 }
 
+/// What is said of a list of spreads that is sent for a question.
+pub fn judge(file: &[u8], question: usize, List { prompts, numbers, uses }: List) -> ListOutcome {
+    unsafe {
+        felgotany_judge(
+            file.as_ptr(),
+            file.len(),
+            question,
+            prompts,
+            numbers.as_ptr(),
+            numbers.len(),
+            uses.as_ptr(),
+            uses.len(),
+        )
+    }
+}
+
 impl Pair<'_> {
+    pub fn judge(self, question: usize, List { prompts, numbers, uses }: List) -> PairListOutcome {
+        let Pair { morning, noon } = self;
+        unsafe {
+            felgotany_joined_judge(
+                morning.as_ptr(),
+                morning.len(),
+                noon.as_ptr(),
+                noon.len(),
+                question,
+                prompts,
+                numbers.as_ptr(),
+                numbers.len(),
+                uses.as_ptr(),
+                uses.len(),
+            )
+        }
+    }
+
     pub fn figures(self, lent: &mut [i64]) -> PairOutcome {
         let Pair { morning, noon } = self;
         unsafe {

@@ -15,6 +15,7 @@ pub const UNLISTED_QUESTION: usize = 11;
 pub const NOON_INTERCONTRACT: usize = 12;
 pub const TOO_MANY_JOINED: usize = 13;
 pub const LENGTHS_DIFFER: usize = 17;
+pub const OTHER_COUNTS: usize = 18;
 pub const TOO_MANY_ACCOUNTS: usize = 19;
 pub const AMOUNT_OUTSIDE_RANGE: usize = 21;
 
@@ -49,6 +50,7 @@ pub const REFUSALS: [Refusal; 16] = [
     refusal(NOON_INTERCONTRACT, "the noon file has an intercontract spread", "its first such record"),
     refusal(TOO_MANY_JOINED, "more than 640 records joined", JOINED_COUNT),
     refusal(LENGTHS_DIFFER, "the lengths of a run do not add up to what was lent", "0"),
+    refusal(OTHER_COUNTS, "step count or prompt count differs from the account's", "0"),
     refusal(TOO_MANY_ACCOUNTS, "more than 100 accounts for the risk committee", "0"),
     refusal(AMOUNT_OUTSIDE_RANGE, "an amount outside 0 to 1,000,000,000,000,000 hundredths", JOINED_COUNT),
 ];

@@ -3,8 +3,10 @@
 //! at once are not refused for.
 
 use felgotany::Outcome;
+use compare::numbered;
 use independent::committee::{self, NUMBERS};
 use independent::joined::{self, Cover};
+use independent::list::{judge, judge_joined, List, Verdict};
 use independent::units::Amount;
 use independent::{held_book, held_figures, Account, PairRefusal, Refusal};
 use std::fmt::Write;
@@ -32,6 +34,7 @@ fn main() -> Result<(), Box<dyn std::error::Error>> {
     }
     ask_run(&mut out, &file, &noon, figures);
     ask_committee(&mut out, &file, &noon);
+    ask_lists(&mut out, &file, &noon);
     print!("{out}");
     Ok(())
 }
@@ -235,4 +238,29 @@ fn ask_committee(out: &mut String, file: &[u8], noon: &[u8]) {
         say(out, "committee", place, answer.as_ref().map_or_else(told, |_| ACCEPTED));
         list(out, "committee", place, &lent);
     }
+}
+
+/// The right list of each question, the same with its last use and then its last number wrong by one too, and with a prompt more.
+fn ask_lists(out: &mut String, file: &[u8], noon: &[u8]) {
+    let checked = independent::check(file);
+    for question in QUESTIONS {
+        let right = checked.as_ref().ok().and_then(|account| held_book(account, question).ok()).map(|book| List::of(&book));
+        let mut list = right.unwrap_or(List { prompts: 0, numbers: vec![], uses: vec![] });
+        for wrong in 0..4 {
+            match wrong {
+                1 => list.uses.iter_mut().last().into_iter().for_each(|number| *number += 1),
+                2 => list.numbers.iter_mut().last().into_iter().for_each(|number| *number -= 1),
+                3 => list.prompts += 1,
+                _ => {}
+            }
+            say_list(out, "list", question, judge(file, question, &list).map_err(|refusal| refusal.of(0)));
+            say_list(out, "joined list", question, judge_joined(file, noon, question, &list));
+        }
+    }
+}
+
+fn say_list(out: &mut String, word: &str, question: u64, said: Result<Verdict, PairRefusal>) {
+    let [file, refusal, record] = said.as_ref().map_or_else(|told| [told.file.into(), told.number.into(), told.record], |_| [0; 3]);
+    let [verdict, step] = said.map_or([0; 2], numbered);
+    writeln!(out, "{word} {question} file {file} refusal {refusal} record {record} verdict {verdict} step {step}").unwrap();
 }

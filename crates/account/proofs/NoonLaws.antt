@@ -21,7 +21,7 @@ use Rattle.account.specs.Records.{records}
 use Rattle.account.specs.Standing.{JoinedBy, Stands, accountOf}
 use Rattle.account.specs.Surveyed.{Surveyed, ofAccepted}
 use Rattle.account.specs.declared.answers.Answer.{Answer}
-use Rattle.account.specs.declared.answers.Answer.the-variants.{Accepted, TooLong, CutRecord, UnknownKind, KindFalls, UnusedByte, FieldOutside, Unlisted, OutOfOrder, OverLimit, TooFewNumbers, NoSuchQuestion, NoonSpread, TooManyJoined, LengthsDiffer, TooManyAccounts, AmountOutside}
+use Rattle.account.specs.declared.answers.Answer.the-variants.{Accepted, TooLong, CutRecord, UnknownKind, KindFalls, UnusedByte, FieldOutside, Unlisted, OutOfOrder, OverLimit, TooFewNumbers, NoSuchQuestion, NoonSpread, TooManyJoined, LengthsDiffer, OtherCounts, TooManyAccounts, AmountOutside}
 use Rattle.account.specs.declared.check.Survey.{Survey}
 use Rattle.account.specs.declared.accounts.Account.{Account}
 use Rattle.account.specs.declared.noon.Place.{Place}
@@ -59,6 +59,7 @@ accepted-only (NoSuchQuestion k) e = absurd (some e)
 accepted-only (NoonSpread k) e = absurd (some e)
 accepted-only (TooManyJoined k) e = absurd (some e)
 accepted-only LengthsDiffer e = absurd (some e)
+accepted-only OtherCounts e = absurd (some e)
 accepted-only TooManyAccounts e = absurd (some e)
 accepted-only (AmountOutside k) e = absurd (some e)
 

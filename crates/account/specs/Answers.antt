@@ -1,11 +1,11 @@
--- The table of refusals of document 01, "What comes back", and of requests 2026-01, 2026-08 and 2026-12: the number of each and
+-- The table of refusals of document 01, "What comes back", and of requests 2026-01, 2026-08, 2026-10 and 2026-12: the number of each and
 -- the record that it names.
 -- Assumes nothing.
 use Prim.Native.Nat.{ℕ}
 use mathlib.Core.Bool.{cond}
 use lib.Dec.{eqb}
 use Rattle.account.specs.declared.answers.Answer.{Answer}
-use Rattle.account.specs.declared.answers.Answer.the-variants.{Accepted, TooLong, CutRecord, UnknownKind, KindFalls, UnusedByte, FieldOutside, Unlisted, OutOfOrder, OverLimit, TooFewNumbers, NoSuchQuestion, NoonSpread, TooManyJoined, LengthsDiffer, TooManyAccounts, AmountOutside}
+use Rattle.account.specs.declared.answers.Answer.the-variants.{Accepted, TooLong, CutRecord, UnknownKind, KindFalls, UnusedByte, FieldOutside, Unlisted, OutOfOrder, OverLimit, TooFewNumbers, NoSuchQuestion, NoonSpread, TooManyJoined, LengthsDiffer, OtherCounts, TooManyAccounts, AmountOutside}
 
 -- "No."; 0 where nothing is refused
 abbrev pub numberOf : Answer → ℕ
@@ -24,6 +24,7 @@ numberOf (NoSuchQuestion n) = 11
 numberOf (NoonSpread k) = 12
 numberOf (TooManyJoined n) = 13
 numberOf LengthsDiffer = 17
+numberOf OtherCounts = 18
 numberOf TooManyAccounts = 19
 numberOf (AmountOutside n) = 21
 
@@ -44,6 +45,7 @@ recordOf (NoSuchQuestion n) = n
 recordOf (NoonSpread k) = k
 recordOf (TooManyJoined n) = n
 recordOf LengthsDiffer = 0
+recordOf OtherCounts = 0
 recordOf TooManyAccounts = 0
 recordOf (AmountOutside n) = n
 

@@ -19,6 +19,7 @@ pub enum Answer {
     NoonSpread(usize),
     TooManyJoined(usize),
     LengthsDiffer,
+    OtherCounts,
     TooManyAccounts,
     AmountOutside(usize),
 }
@@ -43,6 +44,7 @@ pub fn number_of(a: Answer) -> usize
         Answer::NoonSpread(_) => 12,
         Answer::TooManyJoined(_) => 13,
         Answer::LengthsDiffer => 17,
+        Answer::OtherCounts => 18,
         Answer::TooManyAccounts => 19,
         Answer::AmountOutside(_) => 21,
     }
@@ -68,6 +70,7 @@ pub fn record_of(a: Answer) -> usize
         Answer::NoonSpread(k) => k,
         Answer::TooManyJoined(n) => n,
         Answer::LengthsDiffer => 0,
+        Answer::OtherCounts => 0,
         Answer::TooManyAccounts => 0,
         Answer::AmountOutside(n) => n,
     }

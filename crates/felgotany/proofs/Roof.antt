@@ -15,6 +15,7 @@ use Rattle.questions.proofs.HeldLaws.{one-view, one-asked}
 use Rattle.questions.proofs.NeedLaws.{file-needed, pair-needed}
 use Rattle.questions.proofs.NoonLaws.{one-asked-pair}
 use Rattle.questions.proofs.PairDemands.{pair-demand1}
+use Rattle.lists.proofs.Claims.{list-claims, pair-claims}
 use Rattle.questions.proofs.PlaceLaws.{file-places, pair-places}
 use Rattle.margin.proofs.PairLaws.{pair-table}
 use Rattle.margin.proofs.Reckoned.{reckoned, printed}
@@ -24,7 +25,7 @@ use Rattle.margin.proofs.Unpaired.{file-unpaired, pair-unpaired}
 use Rattle.runs.proofs.Claims.{claims as run-claims}
 use Rattle.committee.proofs.Claims.{claims as committee-claims}
 use Rattle.felgotany.specs.Roof.{OneFile, TwoFiles, Equations, OneOutcome, Roof}
-use Rattle.felgotany.proofs.Told.{one-told, all-told, one-told-of, all-told-of, one-call, one-place}
+use Rattle.felgotany.proofs.Told.{one-told, all-told, one-told-of, all-told-of, one-call, one-place, one-list, one-pair-list}
 
 one-file : (file : List ℕ) → OneFile file
 one-file file =
@@ -69,6 +70,8 @@ one-outcomes =
       allToldOf = all-told-of;
       called = one-call;
       placed = one-place;
+      listTold = one-list;
+      pairListTold = one-pair-list;
     }
 
 pub roof : Roof
@@ -78,6 +81,7 @@ roof =
       twoFiles = two-files;
       run = run-claims;
       committee = committee-claims;
+      sentLists = record { oneFile = list-claims; twoFiles = pair-claims };
       demand2 = demand2;
       reckoned = reckoned;
       printed = printed;

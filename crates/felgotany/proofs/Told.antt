@@ -4,11 +4,15 @@ use mathlib.Core.Path.{_≡_, sym, _∙_}
 use Rattle.account.specs.declared.answers.Answer.{Answer}
 use Rattle.account.specs.declared.noon.Place.{Place}
 use Rattle.account.specs.declared.noon.Verdict.{Verdict}
+use Rattle.lists.specs.declared.JudgedPair.{JudgedPair}
+use Rattle.margin.specs.declared.lists.Judged.{Judged}
 use Rattle.questions.specs.declared.noon.Call.{Call}
-use Rattle.felgotany.specs.Outcomes.{Tells, TellsOf, TellsCall, TellsPlace}
+use Rattle.felgotany.specs.Outcomes.{Tells, TellsOf, TellsCall, TellsPlace, TellsList, TellsPairList}
 use Rattle.felgotany.specs.declared.CallOutcome.{CallOutcome}
+use Rattle.felgotany.specs.declared.ListOutcome.{ListOutcome}
 use Rattle.felgotany.specs.declared.Outcome.{Outcome}
 use Rattle.felgotany.specs.declared.Outcomes.{Outcomes}
+use Rattle.felgotany.specs.declared.PairListOutcome.{PairListOutcome}
 use Rattle.felgotany.specs.declared.PairOutcome.{PairOutcome}
 use Rattle.felgotany.specs.declared.PairOutcomes.{PairOutcomes}
 use Rattle.felgotany.specs.declared.PromptPlace.{PromptPlace}
@@ -37,3 +41,17 @@ one-call c r s x y =
 pub one-place : (p : Place) (r s : PromptPlace) → TellsPlace p r → TellsPlace p s → r ≡ s
 one-place p r s x y =
     λ i. record { file = (x .file-is ∙ sym (y .file-is)) i; first = (x .first-is ∙ sym (y .first-is)) i; records = (x .records-are ∙ sym (y .records-are)) i }
+
+pub one-list : (j : Judged) (r s : ListOutcome) → TellsList j r → TellsList j s → r ≡ s
+one-list j r s x y =
+    λ i.
+    record {
+      refusal = (x .refusal ∙ sym (y .refusal)) i;
+      «record» = (x .record-named ∙ sym (y .record-named)) i;
+      verdict = (x .verdict-is ∙ sym (y .verdict-is)) i;
+      step = (x .step-is ∙ sym (y .step-is)) i;
+    }
+
+pub one-pair-list : (j : JudgedPair) (r s : PairListOutcome) → TellsPairList j r → TellsPairList j s → r ≡ s
+one-pair-list j r s x y =
+    λ i. record { file = (x .file-is ∙ sym (y .file-is)) i; list = one-list (j .judged) (r .list) (s .list) (x .list-is) (y .list-is) i }

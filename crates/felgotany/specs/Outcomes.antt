@@ -5,9 +5,14 @@ use Rattle.account.specs.Answers.{numberOf, recordOf}
 use Rattle.account.specs.declared.answers.Answer.{Answer}
 use Rattle.account.specs.declared.noon.Place.{Place}
 use Rattle.account.specs.declared.noon.Verdict.{Verdict}
+use Rattle.lists.specs.Lists.{answerIn, verdictNumber, stepNamed}
+use Rattle.lists.specs.declared.JudgedPair.{JudgedPair}
+use Rattle.margin.specs.declared.lists.Judged.{Judged}
 use Rattle.questions.specs.declared.noon.Call.{Call}
 use Rattle.felgotany.specs.declared.CallOutcome.{CallOutcome}
+use Rattle.felgotany.specs.declared.ListOutcome.{ListOutcome}
 use Rattle.felgotany.specs.declared.Outcome.{Outcome}
+use Rattle.felgotany.specs.declared.PairListOutcome.{PairListOutcome}
 use Rattle.felgotany.specs.declared.PairOutcome.{PairOutcome}
 use Rattle.felgotany.specs.declared.PromptPlace.{PromptPlace}
 
@@ -29,3 +34,14 @@ pub record TellsPlace (p : Place) (r : PromptPlace) : Type 0 where
   pub file-is : r .file ≡ p .file
   pub first-is : r .first ≡ p .first
   pub records-are : r .records ≡ p .records
+
+-- what is said of a list of spreads
+pub record TellsList (j : Judged) (r : ListOutcome) : Type 0 where
+  pub refusal : r .refusal ≡ numberOf (answerIn j)
+  pub record-named : r .record ≡ recordOf (answerIn j)
+  pub verdict-is : r .verdict ≡ verdictNumber j
+  pub step-is : r .step ≡ stepNamed j
+
+pub record TellsPairList (j : JudgedPair) (r : PairListOutcome) : Type 0 where
+  pub file-is : r .file ≡ j .file
+  pub list-is : TellsList (j .judged) (r .list)

@@ -37,6 +37,8 @@ use Rattle.questions.specs.Demands.{Demand1, Demand2, Demanded}
 use Rattle.questions.specs.Held.{FromCheck}
 use Rattle.questions.specs.Noon.{joinedAnswer, joinedNeed, afterJoined, joinedAll, afterJoinedAll}
 use Rattle.questions.specs.PairDemands.{PairDemand1}
+use Rattle.lists.specs.Claims as lists
+use Rattle.lists.specs.declared.JudgedPair.{JudgedPair}
 use Rattle.questions.specs.Questions.{answerTo, afterTo, needTo, allTo, afterAllTo, Needed}
 use Rattle.margin.specs.Pairs.{PairTable}
 use Rattle.margin.specs.Places.{EachPlace, questionOf, widthOf}
@@ -45,6 +47,7 @@ use Rattle.margin.specs.Reckoned.{Reckoned, Printed}
 use Rattle.margin.specs.Skipped.{NoneSkipped}
 use Rattle.margin.specs.Touched.{TouchesCounted}
 use Rattle.margin.specs.Unpaired.{NothingOpen}
+use Rattle.margin.specs.declared.lists.Judged.{Judged}
 use Rattle.margin.specs.declared.asking.Question.{Question}
 use Rattle.questions.specs.declared.held.Asked.{Asked}
 use Rattle.questions.specs.declared.held.Held.{Held}
@@ -52,10 +55,12 @@ use Rattle.questions.specs.declared.noon.AskedPair.{AskedPair}
 use Rattle.questions.specs.declared.noon.Call.{Call}
 use Rattle.runs.specs.Claims.{Claims as RunClaims}
 use Rattle.committee.specs.Claims.{Claims as CommitteeClaims}
-use Rattle.felgotany.specs.Outcomes.{Tells, TellsOf, TellsCall, TellsPlace}
+use Rattle.felgotany.specs.Outcomes.{Tells, TellsOf, TellsCall, TellsPlace, TellsList, TellsPairList}
 use Rattle.felgotany.specs.declared.CallOutcome.{CallOutcome}
+use Rattle.felgotany.specs.declared.ListOutcome.{ListOutcome}
 use Rattle.felgotany.specs.declared.Outcome.{Outcome}
 use Rattle.felgotany.specs.declared.Outcomes.{Outcomes}
+use Rattle.felgotany.specs.declared.PairListOutcome.{PairListOutcome}
 use Rattle.felgotany.specs.declared.PairOutcome.{PairOutcome}
 use Rattle.felgotany.specs.declared.PairOutcomes.{PairOutcomes}
 use Rattle.felgotany.specs.declared.PromptPlace.{PromptPlace}
@@ -96,6 +101,12 @@ pub record TwoFiles (morning noon : List ℕ) : Type 0 where
   pub places : (paid : Bool) (lent : List ℤ) → joinedAll paid morning noon (length lent) ≡ ofJoined Accepted
       → EachPlace (widthOf paid) (λ q. afterJoined morning noon (questionOf paid q)) lent (afterJoinedAll paid morning noon lent)
 
+-- ---- a list of spreads that others send, request 2026-10
+
+pub record SentLists : Type 0 where
+  pub oneFile : (file : List ℕ) (question sent : ℕ) (xs us : List ℤ) → lists.Claims file question sent xs us
+  pub twoFiles : (morning noon : List ℕ) (question sent : ℕ) (xs us : List ℤ) → lists.PairClaims morning noon question sent xs us
+
 -- ---- "Two outcomes satisfying it are shown identical"
 
 -- a promise that is an equation for the result, with one for the lent numbers where some are lent
@@ -128,6 +139,8 @@ pub record OneOutcome : Type 0 where
       → TellsOf a (s .figures) × (TellsOf b (s .books) × TellsOf c (s .uses)) → r ≡ s
   pub called : (c : Call) (r s : CallOutcome) → TellsCall c r → TellsCall c s → r ≡ s
   pub placed : (p : Place) (r s : PromptPlace) → TellsPlace p r → TellsPlace p s → r ≡ s
+  pub listTold : (j : Judged) (r s : ListOutcome) → TellsList j r → TellsList j s → r ≡ s
+  pub pairListTold : (j : JudgedPair) (r s : PairListOutcome) → TellsPairList j r → TellsPairList j s → r ≡ s
 
 -- ---- all of it
 
@@ -137,6 +150,7 @@ pub record Roof : Type 1 where
   -- "Take a run of accounts, each with its length", requests 2026-08 and 2026-12
   pub run : (bytes lengths : List ℕ) (figures : List ℤ) (outcomes : List ℕ) → RunClaims bytes lengths figures outcomes
   pub committee : (bytes lengths : List ℕ) (lent : List ℤ) → CommitteeClaims bytes lengths lent
+  pub sentLists : SentLists
   -- "Every figure equals SPAN as published", and P1 to P10 "as a single table under one claim"
   pub demand2 : Demand2
   pub reckoned : Reckoned

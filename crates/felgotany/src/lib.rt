@@ -7,7 +7,10 @@ use account::check::check;
 use account::noon::Verdict;
 use account::noon::prompt_place;
 use committee::answer_committee;
+use lists::judge;
+use lists::judge_joined;
 use margin::asking::Question;
+use margin::lists::Judged;
 use questions::held::ask_all;
 use questions::noon::cover_call;
 use questions::plain::answer;
@@ -24,11 +27,12 @@ ghost use Rattle.questions.specs.Questions.{figuresNeed, bookNeed, usesNeed};
 ghost use Rattle.questions.specs.Questions.{booksAnswer, booksAfter, allUsesAnswer, allUsesAfter};
 ghost use Rattle.account.specs.Noon.{promptPlace};
 ghost use Rattle.questions.specs.Noon.{joinedFigures, afterJoinedFigures, joinedBook, afterJoinedBook, joinedUses, afterJoinedUses, joinedCall};
+ghost use Rattle.lists.specs.Lists.{answerIn, verdictNumber, stepNamed, judgedTo, joinedJudged};
 ghost use Rattle.questions.specs.Noon.{joinedNeed, joinedAll, afterJoinedAll};
 ghost use Rattle.margin.specs.declared.asking.Question.the-variants.{Figures, Book, Uses};
 ghost use Rattle.runs.specs.Runs.{runAnswer, runFigures, runOutcomes};
 ghost use Rattle.committee.specs.Committee.{committeeAnswer, afterCommittee};
-ghost use Rattle.felgotany.specs.Outcomes.{Tells, TellsOf, TellsCall, TellsPlace};
+ghost use Rattle.felgotany.specs.Outcomes.{Tells, TellsOf, TellsCall, TellsPlace, TellsList, TellsPairList};
 
 // The number of a refusal, 0 where nothing is refused, and the record that it names.
 #[repr(C)]
@@ -338,4 +342,105 @@ pub extern "C" fn felgotany_committee(
     ensures { λ r. ⌜ Tells (committeeAnswer (now (accounts .entry)) (now (lengths .entry)) (length (now (out .entry)))) r × (now (out .exit) ≡ afterCommittee (now (accounts .entry)) (now (lengths .entry)) (now (out .entry))) ⌝ }
 {
     tell(answer_committee(accounts, lengths, out))
+}
+
+// What is said of a list of spreads: the refusal and its record, both 0 where the list is judged; the verdict, 0 where it is not
+// judged, 1 for a yes, 2 where a step's number is more than can be formed, 3 where it is less, 4 where a use is wrong; and that
+// step.
+#[repr(C)]
+pub struct ListOutcome {
+    pub refusal: usize,
+    pub record: usize,
+    pub verdict: usize,
+    pub step: usize,
+}
+
+fn answer_in(judged: Judged) -> Answer
+    ensures { λ r. ⌜ r ≡ answerIn judged ⌝ }
+{
+    match judged {
+        Judged::Refused(answer) => answer,
+        Judged::Right => Answer::Accepted,
+        Judged::MoreThanFormed(_) => Answer::Accepted,
+        Judged::LessThanFormed(_) => Answer::Accepted,
+        Judged::WrongUse(_) => Answer::Accepted,
+    }
+}
+
+fn verdict_number(judged: Judged) -> usize
+    ensures { λ n. ⌜ n ≡ verdictNumber judged ⌝ }
+{
+    match judged {
+        Judged::Refused(_) => 0,
+        Judged::Right => 1,
+        Judged::MoreThanFormed(_) => 2,
+        Judged::LessThanFormed(_) => 3,
+        Judged::WrongUse(_) => 4,
+    }
+}
+
+fn step_named(judged: Judged) -> usize
+    ensures { λ n. ⌜ n ≡ stepNamed judged ⌝ }
+{
+    match judged {
+        Judged::Refused(_) => 0,
+        Judged::Right => 0,
+        Judged::MoreThanFormed(step) => step,
+        Judged::LessThanFormed(step) => step,
+        Judged::WrongUse(step) => step,
+    }
+}
+
+fn tell_list(judged: Judged) -> ListOutcome
+    ensures { λ r. ⌜ TellsList judged r ⌝ }
+{
+    let answer = answer_in(judged);
+    let told = tell(answer);
+    ListOutcome {
+        refusal: told.refusal,
+        record: told.record,
+        verdict: verdict_number(judged),
+        step: step_named(judged),
+    }
+}
+
+// What is said of a list of spreads that is sent for a question: a number for each step, what each step used of each prompt, one
+// step after the other, and how many prompts the list speaks of. Nothing is written.
+#[no_mangle]
+pub extern "C" fn felgotany_judge(
+    file: &[u8],
+    question: usize,
+    prompts: usize,
+    numbers: &[i64],
+    uses: &[i64],
+) -> ListOutcome
+    ensures { λ r. ⌜ TellsList (judgedTo (now (file .entry)) question prompts (now (numbers .entry)) (now (uses .entry))) r ⌝ }
+{
+    tell_list(judge(file, question, prompts, numbers, uses))
+}
+
+// The same for the joined account, saying which file a refusal is about.
+#[repr(C)]
+pub struct PairListOutcome {
+    pub file: usize,
+    pub list: ListOutcome,
+}
+
+#[no_mangle]
+pub extern "C" fn felgotany_joined_judge<'a>(
+    morning: &'a [u8],
+    noon: &'a [u8],
+    question: usize,
+    prompts: usize,
+    numbers: &[i64],
+    uses: &[i64],
+) -> PairListOutcome
+    ensures { λ r. ⌜ TellsPairList (joinedJudged (now (morning .entry)) (now (noon .entry)) question prompts (now (numbers .entry)) (now (uses .entry))) r ⌝ }
+{
+    let said = judge_joined(morning, noon, question, prompts, numbers, uses);
+    let judged = said.judged;
+    PairListOutcome {
+        file: said.file,
+        list: tell_list(judged),
+    }
 }

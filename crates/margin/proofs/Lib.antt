@@ -28,6 +28,7 @@ pub mod PlaceLaws
 pub mod UnspreadLaws
 pub mod TierLaws
 pub mod UsesLaws
+pub mod ListLaws
 pub mod NeedLaws
 pub mod Skipped
 pub mod Unpaired

@@ -7,11 +7,11 @@ use native.Mathlib.Omega.{arith}
 use mathlib.Core.Path.{_≡_, refl, sym, ap, ap₂, _∙_, subst}
 use mathlib.Core.Bool.{Bool, true, false, cond}
 use mathlib.Core.List.{List, [], _∷_, _++_, map}
-use lib.Dec.{leb}
+use lib.Dec.{eqb, leb}
 use lib.IntN.{ℤ}
 use lib.ListN.{length, length-append, length-map, getD, take, drop, drop-of-length-le}
 use lib.Seq.{sets, length-sets, drop-cons, getD-take, length-take-le}
-use borrow.Author.Tests.{leb-true}
+use borrow.Author.Tests.{leb-true, eqb-true, eqb-false}
 use Rattle.account.specs.Parts.{entriesOf}
 use Rattle.account.specs.Records.{records}
 use Rattle.account.specs.Lawful.{Lawful}
@@ -33,13 +33,15 @@ use Rattle.spread.proofs.Both.{and-left, and-right, and-both}
 use Rattle.spread.proofs.Every.{open-length}
 use Rattle.spread.proofs.Stepping.{after-length}
 use Rattle.margin.specs.declared.rows.Position.{Position}
-use Rattle.margin.specs.Contract.{contracts, asTier}
+use Rattle.margin.specs.Books.{answered}
+use Rattle.margin.specs.Contract.{contracts, partsOf, asTier, stepsOf, opensOf, tableSteps}
 use Rattle.margin.specs.Deltas.{opens, interprompt, intercontract}
 use Rattle.margin.specs.Promised.{PositionFit, contractWith}
 use Rattle.margin.specs.Lined.{TiersIn}
 use Rattle.margin.specs.Sums.{deltasIn}
 use Rattle.margin.specs.Tables.{TiersOf, TableOf}
-use Rattle.margin.specs.Uses.{contractUses, tableUses, LeftBy, Asks}
+use Rattle.margin.specs.Uses.{contractUses, tableUses, uses, stepsFor, opensFor, LeftBy, Asks}
+use Rattle.margin.proofs.AskedLaws.{contract-asked, table-asked}
 use Rattle.margin.proofs.BookLaws.{take-deltas, opens-are, contract-sound}
 use Rattle.margin.proofs.ContractLaws.{book-room}
 use Rattle.margin.proofs.LineLaws.{opens-first, opens-length, steps-length, used-length}
@@ -202,17 +204,18 @@ spread-uses spreads ps =
 
 -- the steps of a table over prompts
 pub asks : (p : Prompts) (t : Table) (ps : List Open) (spreads : List Spread) → openOf p ≡ ps → spreadsOf t ≡ spreads → sound p t ≡ true → p .count ≡ length ps → t .count ≡ length spreads
-    → Asks (usesOf (steps spreads) ps) (record { prompts = p; table = t })
+    → Asks (steps spreads) ps (record { prompts = p; table = t })
 asks p t ps spreads eo es ok np nt =
     record {
-      takes = ap₂ (λ (l : List Spread) (qs : List Open). usesOf (steps l) qs) es eo;
+      steps = ap steps es;
+      opens = eo;
       accepted = ok;
       many = spread-uses spreads ps ∙ ap₂ (λ (x y : ℕ). x * (2 * y)) (sym nt) (sym np);
     }
 
 pub contract-asks : (prompts spreads : List ℕ) (q : Position) → PositionFit [] (records prompts) (records spreads) q
     → (p : Prompts) (t : Table) → TiersOf prompts (q .nets) p → TableOf interprompt spreads t
-    → Asks (contractUses (contractWith [] (records prompts) (records spreads) q)) (record { prompts = p; table = t })
+    → Asks (stepsOf (contractWith [] (records prompts) (records spreads) q)) (opensOf (contractWith [] (records prompts) (records spreads) q)) (record { prompts = p; table = t })
 contract-asks prompts spreads q w p t tiers table =
     let ps = records prompts in
     let room = book-room [] ps (w .rows) (records spreads) (w .fit) q (w .is) (w .most) in
@@ -224,10 +227,20 @@ contract-asks prompts spreads q w p t tiers table =
     (table .count-is ∙ sym (count-is spreads) ∙ sym (length-map (records spreads) interprompt))
 
 pub table-asks : (account : List Record) (law : Lawful account) (p : Prompts) (is : TiersIn account p) (part : List ℕ) (ep : PartOf account entryPart part)
-    → (t : Table) → TableOf intercontract part t → Asks (tableUses (entriesOf account) (contracts account)) (record { prompts = p; table = t })
+    → (t : Table) → TableOf intercontract part t → Asks (tableSteps (entriesOf account)) (map asTier (contracts account)) (record { prompts = p; table = t })
 table-asks account law p is part ep t table =
     let es = entries-part account law part ep in
     asks p t (map asTier (contracts account)) (map intercontract (entriesOf account)) (is .opens-are) (table .spreads-are ∙ ap (map intercontract) es)
     (tiers-accepted account law p is part ep t table)
     (sym (ps-length account law p is part ep))
     (table .count-is ∙ sym (count-is part) ∙ ap length es ∙ sym (length-map (entriesOf account) intercontract))
+
+-- who paid for what goes by the question's steps, over its prompts
+pub uses-by-steps : (account : List Record) → Lawful account → (question : ℕ) → answered account question ≡ true
+    → uses account question ≡ usesOf (stepsFor account question) (opensFor account question)
+uses-by-steps account law question a = go (eqb question 16) refl
+  where
+    go : (t : Bool) → eqb question 16 ≡ t → uses account question ≡ usesOf
+        (cond t (tableSteps (entriesOf account)) (stepsOf (partsOf account question))) (cond t (map asTier (contracts account)) (opensOf (partsOf account question)))
+    go true e = table-asked account law contractUses tableUses (λ own. refl) question (eqb-true question 16 e)
+    go false e = contract-asked account law contractUses tableUses (λ own. refl) question a (eqb-false question 16 e)

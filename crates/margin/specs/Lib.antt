@@ -25,4 +25,5 @@ pub mod Lined
 pub mod Uses
 pub mod Skipped
 pub mod Unpaired
+pub mod Lists
 pub mod Touched

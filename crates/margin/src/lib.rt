@@ -5,6 +5,7 @@ mod books;
 mod charges;
 mod intercontract;
 pub mod line;
+pub mod lists;
 pub mod numbers;
 pub mod over;
 pub mod pairs;

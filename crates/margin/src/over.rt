@@ -36,7 +36,7 @@ use spread::Prompts;
 use spread::touches::counted_book;
 ghost use mathlib.Core.Path.{_≡_};
 ghost use mathlib.Core.Bool.{true};
-ghost use mathlib.Core.List.{[]};
+ghost use mathlib.Core.List.{[], map};
 ghost use Prim.Native.Nat.{_+_, _*_, _≤_, _<_};
 ghost use lib.ListN.{length, getD};
 ghost use Rattle.account.specs.Parts.{contractsOf, promptsOf, spreadsOf, entriesOf};
@@ -45,12 +45,12 @@ ghost use Rattle.account.specs.Standing.{Stands, accountOf};
 ghost use Rattle.record.specs.Layout.{mostContract, mostUnit};
 ghost use Rattle.margin.specs.Books.{contractBook, tableBook, answered, askedBy, book};
 ghost use Rattle.margin.specs.Bounds.{longestBook};
-ghost use Rattle.margin.specs.Contract.{contracts, partsIn, partsOf};
+ghost use Rattle.margin.specs.Contract.{contracts, partsIn, partsOf, asTier, stepsOf, opensOf, tableSteps};
 ghost use Rattle.margin.specs.Figures.{figures, accountTotal};
 ghost use Rattle.margin.specs.Numbers.{written, BookNumbers};
 ghost use Rattle.margin.specs.Promised.{LineOf, PositionFit, contractWith};
 ghost use Rattle.margin.specs.Lined.{LinesOf, TierIs, TiersIn, PositionAt};
-ghost use Rattle.margin.specs.Uses.{contractUses, tableUses, uses, Asks};
+ghost use Rattle.margin.specs.Uses.{stepsFor, opensFor, Asks};
 
 // The question for the intercontract table; those below it are contracts.
 pub const TABLE: usize = CONTRACTS;
@@ -277,7 +277,7 @@ pub(crate) fn book_over<'a>(
 // A contract's prompts with their net deltas, and its interprompt spreads.
 fn contract_asking(prompts: &[u8], spreads: &[u8], p: Position) -> Asking
     requires { ⌜ PositionFit [] (records (now prompts)) (records (now spreads)) p ⌝ }
-    ensures { λ r. ⌜ Asks (contractUses (contractWith [] (records (now (prompts .entry))) (records (now (spreads .entry))) p)) r ⌝ }
+    ensures { λ r. ⌜ Asks (stepsOf (contractWith [] (records (now (prompts .entry))) (records (now (spreads .entry))) p)) (opensOf (contractWith [] (records (now (prompts .entry))) (records (now (spreads .entry))) p)) r ⌝ }
 {
     let nets = p.nets;
     Asking {
@@ -289,7 +289,7 @@ fn contract_asking(prompts: &[u8], spreads: &[u8], p: Position) -> Asking
 // The same by the contract's number.
 fn asking_of<'a>(morning: &'a [u8], noon: &'a [u8], account: Account, c: usize) -> Asking
     requires { ⌜ Stands (now morning) (now noon) account × (c ≤ mostContract) ⌝ }
-    ensures { λ r. ⌜ Asks (contractUses (partsOf (accountOf (now (morning .entry)) (now (noon .entry))) c)) r ⌝ }
+    ensures { λ r. ⌜ Asks (stepsOf (partsOf (accountOf (now (morning .entry)) (now (noon .entry))) c)) (opensOf (partsOf (accountOf (now (morning .entry)) (now (noon .entry))) c)) r ⌝ }
 {
     let prompts = part(morning, noon, account, PROMPTS + c);
     let spreads = part(morning, noon, account, SPREADS + c);
@@ -303,7 +303,7 @@ fn asking_of<'a>(morning: &'a [u8], noon: &'a [u8], account: Account, c: usize) 
 // The contracts as tiers, and the intercontract spreads.
 fn table_asking<'a>(morning: &'a [u8], noon: &'a [u8], account: Account) -> Asking
     requires { ⌜ Stands (now morning) (now noon) account ⌝ }
-    ensures { λ r. ⌜ Asks (tableUses (entriesOf (accountOf (now (morning .entry)) (now (noon .entry)))) (contracts (accountOf (now (morning .entry)) (now (noon .entry))))) r ⌝ }
+    ensures { λ r. ⌜ Asks (tableSteps (entriesOf (accountOf (now (morning .entry)) (now (noon .entry))))) (map asTier (contracts (accountOf (now (morning .entry)) (now (noon .entry))))) r ⌝ }
 {
     let entries = part(morning, noon, account, ENTRIES);
     Asking {
@@ -320,7 +320,7 @@ pub(crate) fn asking_over<'a>(
     question: usize,
 ) -> Asking
     requires { ⌜ Stands (now morning) (now noon) account × (answered (accountOf (now morning) (now noon)) question ≡ true) ⌝ }
-    ensures { λ r. ⌜ Asks (uses (accountOf (now (morning .entry)) (now (noon .entry))) question) r ⌝ }
+    ensures { λ r. ⌜ Asks (stepsFor (accountOf (now (morning .entry)) (now (noon .entry))) question) (opensFor (accountOf (now (morning .entry)) (now (noon .entry))) question) r ⌝ }
 {
     if question == TABLE {
         return table_asking(morning, noon, account);

@@ -5,6 +5,7 @@ mod builder;
 mod committee;
 mod generated;
 mod joined;
+mod lists;
 mod lme;
 mod method;
 mod order;

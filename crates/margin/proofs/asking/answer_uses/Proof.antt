@@ -1,8 +1,9 @@
 -- What each step takes of each prompt: not to be asked, too few numbers lent, or written at the front.
 -- Assumes nothing.
-use mathlib.Core.Path.{_≡_, refl, sym, ap, _∙_}
+use mathlib.Core.Path.{_≡_, refl, sym, ap, ap₂, _∙_}
+use mathlib.Core.List.{List}
 use mathlib.Core.Bool.{true, false}
-use Prim.Native.Nat.{_≤_}
+use Prim.Native.Nat.{_*_, _≤_}
 use native.Mathlib.Omega.{arith}
 use borrow.Author.Needs.{needs}
 use borrow.Author.Tests.{not-true, not-false}
@@ -10,11 +11,16 @@ use lib.ListN.{length}
 use lib.Seq.{sets}
 use Rattle.account.specs.Standing.{accountOf}
 use Rattle.account.specs.declared.answers.Answer.the-variants.{TooFewNumbers, NoSuchQuestion}
+use Rattle.spread.specs.Accepted as given
+use Rattle.spread.specs.Accepted.{openOf}
+use Rattle.spread.specs.Steps.{Open, Taker}
+use Rattle.spread.specs.Uses.{usesOf}
 use Rattle.margin.specs.Books.{answered}
 use Rattle.margin.specs.Uses.{uses}
 use Rattle.margin.specs.declared.asking.Question.the-variants.{Uses}
 use Rattle.margin.proofs.AskedLaws.{asked-is}
 use Rattle.margin.proofs.NumberLaws.{sets-front}
+use Rattle.margin.proofs.UsesLaws.{uses-by-steps}
 use Rattle.margin.proofs.QuestionLaws.{not-asked, asked-few, asked-many, refused-with, accepted-with}
 use Rattle.margin.proofs.asking.answer_uses.Statement.{statement}
 use Rattle.margin.proofs.asking.answer_uses.Tie as tie
@@ -44,6 +50,23 @@ returns c =
 asking-over-requires : tie.Need-asking-over-requires
 asking-over-requires c κs = (c .before .before .before .before .pre, asked (c .before) ∙ not-false (c .before .is-asked .result) (c .if1 .left))
 
+-- what the steps take is who paid for what
+paid : (c : tie.After-asking-over)
+    → let s = c .before .before .before .before .before in
+    usesOf (given.stepsOf (c .asking-over .result .table)) (openOf (c .asking-over .result .prompts)) ≡ uses (accountOf (s .args .morning .now) (s .args .noon .now)) (s .args .question)
+paid c =
+    let s = c .before .before .before .before .before in
+    let o = c .asking-over .ensures in
+    ap₂ usesOf (o .steps) (o .opens)
+    ∙ sym (uses-by-steps (accountOf (s .args .morning .now) (s .args .noon .now)) (s .pre .lawful) (s .args .question) (asked (c .before .before) ∙ not-false (c .before .before .is-asked .result) (c .before .if1 .left)))
+
+many : (c : tie.After-asking-over)
+    → let s = c .before .before .before .before .before in
+    length (uses (accountOf (s .args .morning .now) (s .args .noon .now)) (s .args .question)) ≡ c .asking-over .result .table .count * (2 * c .asking-over .result .prompts .count)
+many c =
+    let o = c .asking-over .ensures in
+    ap length (sym (paid c)) ∙ ap₂ (λ (ss : List (List Taker)) (ps : List Open). length (usesOf ss ps)) (o .steps) (o .opens) ∙ o .many
+
 uses-count-requires : tie.Need-uses-count-requires
 uses-count-requires c κs = c .before .before .asking-over .ensures .accepted
 
@@ -57,7 +80,7 @@ returns-2 c =
     let q = s .args .question in
     refused-with (TooFewNumbers (c .record-total2 .result)) _ (uses a q) (s .args .out .now)
     (asked-few a (Uses q) (length (s .args .out .now)) (asked (c .before .before .before .before .before .before .before) ∙ not-false (c .before .before .before .before .before .before .before .is-asked .result) (c .before .before .before .before .before .before .if1 .left))
-    (omega (arith, c .before .before .before .before .before .asking-over .ensures .many, c .before .before .uses-count .ensures, c .before .if2 .taken))
+    (omega (arith, many (c .before .before .before .before .before), c .before .before .uses-count .ensures, c .before .if2 .taken))
     ∙ ap TooFewNumbers (sym (c .record-total2 .ensures ∙ s .pre .places .all))) (λ e. omega arith)
 
 put-uses-requires : tie.Need-put-uses-requires
@@ -71,11 +94,11 @@ returns-3 c =
     let s = c .before .before .before .before .before .before .before .before .before .before .before .before in
     let a = accountOf (s .args .morning .now) (s .args .noon .now) in
     let q = s .args .question in
-    let o = c .before .before .before .before .before .before .before .asking-over .ensures in
-    let enough : length (uses a q) ≤ length (s .args .out .now) = omega (arith, o .many, c .before .before .before .before .uses-count .ensures) in
+    let o = c .before .before .before .before .before .before .before in
+    let enough : length (uses a q) ≤ length (s .args .out .now) = omega (arith, many o, c .before .before .before .before .uses-count .ensures) in
     accepted-with _ (uses a q) (s .args .out .now) (c .before .put-uses .last .0) (length (uses a q))
     (asked-many a (Uses q) (length (s .args .out .now)) (asked (c .before .before .before .before .before .before .before .before .before) ∙ not-false (c .before .before .before .before .before .before .before .before .before .is-asked .result) (c .before .before .before .before .before .before .before .before .if1 .left)) enough)
-    refl (c .before .put-uses .ensures ∙ ap (sets (s .args .out .now) 0) (o .takes) ∙ sets-front (uses a q) (s .args .out .now) enough)
+    refl (c .before .put-uses .ensures ∙ ap (sets (s .args .out .now) 0) (paid o) ∙ sets-front (uses a q) (s .args .out .now) enough)
 
 pub answer-uses-spec : {M : Type 1} → statement M
 answer-uses-spec =

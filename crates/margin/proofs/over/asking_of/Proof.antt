@@ -3,8 +3,8 @@
 use mathlib.Core.Path.{refl, subst}
 use borrow.Author.Needs.{needs}
 use Rattle.account.specs.Standing.{accountOf}
-use Rattle.margin.specs.Contract.{Contract}
-use Rattle.margin.specs.Uses.{contractUses, Asks}
+use Rattle.margin.specs.Contract.{Contract, stepsOf, opensOf}
+use Rattle.margin.specs.Uses.{Asks}
 use Rattle.margin.proofs.StandLaws.{parts-room, parts-by-number}
 use Rattle.margin.proofs.over.asking_of.Statement.{statement}
 use Rattle.margin.proofs.over.asking_of.Tie as tie
@@ -41,7 +41,7 @@ returns c =
     let ss = c .before .before .part2 in
     let p = c .before .position-at in
     let r = c .contract-asking in
-    subst (λ (k : Contract). Asks (contractUses k) (r .result))
+    subst (λ (k : Contract). Asks (stepsOf k) (opensOf k) (r .result))
     (parts-by-number a (s .pre .0 .lawful) (s .args .c) (s .pre .1) (ps .result .now) (ss .result .now) (ps .ensures) (ss .ensures) 1 (p .result) (p .ensures) refl)
     (r .ensures)
 

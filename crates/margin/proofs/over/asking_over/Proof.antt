@@ -1,12 +1,15 @@
 -- Question 16 asks about the table, any other about the contract.
 -- Assumes nothing.
-use mathlib.Core.Path.{refl, sym, subst}
-use mathlib.Core.List.{List}
-use lib.IntN.{ℤ}
+use mathlib.Core.Path.{sym, subst}
+use mathlib.Core.Bool.{Bool, cond}
+use mathlib.Core.List.{map}
+use borrow.Author.Tests.{eq-eqb, ne-eqb}
 use borrow.Author.Needs.{needs}
 use Rattle.account.specs.Standing.{accountOf}
-use Rattle.margin.specs.Uses.{contractUses, tableUses, Asks}
-use Rattle.margin.proofs.AskedLaws.{contract-asked, table-asked, asked-small}
+use Rattle.account.specs.Parts.{entriesOf}
+use Rattle.margin.specs.Contract.{contracts, partsOf, asTier, stepsOf, opensOf, tableSteps}
+use Rattle.margin.specs.Uses.{Asks}
+use Rattle.margin.proofs.AskedLaws.{asked-small}
 use Rattle.margin.proofs.over.asking_over.Statement.{statement}
 use Rattle.margin.proofs.over.asking_over.Tie as tie
 
@@ -16,9 +19,11 @@ table-asking-requires c κs = search needs
 returns : tie.Need-returns
 returns c =
     let s = c .before .before .before .before in
-    subst (λ (wanted : List ℤ). Asks wanted (c .table-asking .result))
-    (sym (table-asked (accountOf (s .args .morning .now) (s .args .noon .now)) (s .pre .0 .lawful) contractUses tableUses (λ own. refl) (s .args .question) (c .before .if1 .taken)))
-    (c .table-asking .ensures)
+    let a = accountOf (s .args .morning .now) (s .args .noon .now) in
+    let q = s .args .question in
+    subst
+    (λ (t : Bool). Asks (cond t (tableSteps (entriesOf a)) (stepsOf (partsOf a q))) (cond t (map asTier (contracts a)) (opensOf (partsOf a q))) (c .table-asking .result))
+    (sym (eq-eqb q 16 (c .before .if1 .taken))) (c .table-asking .ensures)
 
 asking-of-requires : tie.Need-asking-of-requires
 asking-of-requires c κs =
@@ -28,9 +33,11 @@ asking-of-requires c κs =
 returns-2 : tie.Need-returns-2
 returns-2 c =
     let s = c .before .before .before .before in
-    subst (λ (wanted : List ℤ). Asks wanted (c .asking-of .result))
-    (sym (contract-asked (accountOf (s .args .morning .now) (s .args .noon .now)) (s .pre .0 .lawful) contractUses tableUses (λ own. refl) (s .args .question) (s .pre .1) (c .before .if1 .left)))
-    (c .asking-of .ensures)
+    let a = accountOf (s .args .morning .now) (s .args .noon .now) in
+    let q = s .args .question in
+    subst
+    (λ (t : Bool). Asks (cond t (tableSteps (entriesOf a)) (stepsOf (partsOf a q))) (cond t (map asTier (contracts a)) (opensOf (partsOf a q))) (c .asking-of .result))
+    (sym (ne-eqb q 16 (c .before .if1 .left))) (c .asking-of .ensures)
 
 pub asking-over-spec : {M : Type 1} → statement M
 asking-over-spec = tie.close (tie.spec table-asking-requires returns asking-of-requires returns-2)

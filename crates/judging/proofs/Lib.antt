@@ -1,0 +1,4 @@
+mod Comparing
+mod Walking
+mod Beside
+pub mod Claims

@@ -156,7 +156,7 @@ fn no_spreadsheet(name: &str, file: &[u8]) -> Result<(), Failure> {
 }
 
 /// Every line of a text that cannot be written.
-fn misread_lines(name: &str, misread: &[Misread]) -> String {
+pub fn misread_lines(name: &str, misread: &[Misread]) -> String {
     let lines: Vec<String> = misread.iter().map(|misread| format!("{name}: {misread}")).collect();
     lines.join("\n")
 }

@@ -2,9 +2,9 @@
 
 use crate::account::{Book, Prompt};
 use crate::failure::Failure;
-use crate::input::text_of;
+use crate::input::{misread_lines, text_of};
 use crate::numbers::lots;
-use crate::page::{leg_in_words, DIRECTIONS};
+use crate::report::books::{spread_in_words, DIRECTIONS};
 use crate::table::csv;
 use account_text::write::Misread;
 use felgotany::{List, LESS_THAN_FORMED, MORE_THAN_FORMED, RIGHT, TABLE, WRONG_USE};
@@ -18,7 +18,8 @@ const STEPS: [&str; 2] = ["A long", "A short"];
 
 /// The list of a delta book: for each step its number and what it used of each prompt.
 pub fn of_book(book: &Book) -> String {
-    let header: Vec<String> = COLUMNS.iter().map(ToString::to_string).chain(book.prompts.iter().map(|prompt| column(book, prompt))).collect();
+    let header: Vec<String> =
+        COLUMNS.iter().map(ToString::to_string).chain(book.prompts.iter().map(|prompt| column(book, prompt))).collect();
     let steps = book.spreads.iter().flat_map(|spread| spread.steps.iter().map(move |step| (spread.place, step)));
     let rows = steps.enumerate().map(|(at, (spread, step))| {
         let of_step = [at.to_string(), spread.to_string(), STEPS[at % 2].to_string(), lots(step.formed)];
@@ -45,10 +46,10 @@ pub struct Sent {
 impl Sent {
     pub fn load(path: &Path) -> Result<Sent, Failure> {
         let (name, text) = text_of(path)?;
-        Sent::of_text(&text).map(|(prompts, numbers, uses)| Sent { name: name.clone(), prompts, numbers, uses }).map_err(|misread| {
-            let lines: Vec<String> = misread.iter().map(|misread| format!("{name}: {misread}")).collect();
-            Failure::not_read(lines.join("\n"))
-        })
+        match Sent::of_text(&text) {
+            Ok((prompts, numbers, uses)) => Ok(Sent { name, prompts, numbers, uses }),
+            Err(misread) => Err(Failure::not_read(misread_lines(&name, &misread))),
+        }
     }
 
     /// The header says how many prompts there are; each row after it is a step.
@@ -72,16 +73,21 @@ impl Sent {
         for (at, column) in COLUMNS.iter().enumerate() {
             let found = header.get(at).map_or("", String::as_str);
             if !found.eq_ignore_ascii_case(column) {
-                return Err(vec![misread(*line, &format!("column {}", at + 1), found, format!("the header '{column}', after it a comma"))]);
+                return Err(vec![misread(
+                    *line,
+                    &format!("column {}", at + 1),
+                    found,
+                    format!("the header '{column}', after it a comma"),
+                )]);
             }
         }
         let prompts = header.len() - COLUMNS.len();
         let (mut numbers, mut uses, mut faults) = (vec![], vec![], vec![]);
         for (at, (line, cells)) in steps.iter().enumerate() {
             faults.extend(unlike_step(at, *line, cells, header.len()));
-            for (column, cell) in header.iter().zip(cells).skip(COLUMNS.len() - 1) {
+            for (place, (column, cell)) in header.iter().zip(cells).enumerate().skip(COLUMNS.len() - 1) {
                 match ten_thousandths(cell) {
-                    Some(number) if *column == header[COLUMNS.len() - 1] => numbers.push(number),
+                    Some(number) if place < COLUMNS.len() => numbers.push(number),
                     Some(number) => uses.push(number),
                     None => faults.push(misread(*line, column, cell, "a number of lots with at most four places".to_string())),
                 }
@@ -101,7 +107,7 @@ impl Sent {
     /// What the list has where an account has other counts.
     pub fn counts(&self, book: &Book) -> String {
         let (steps, prompts) = (2 * book.spreads.len(), book.prompts.len());
-        let of = if book.question == TABLE { "contracts" } else { "prompts" };
+        let of = prompts_in(book);
         format!("the list has {} steps and {} {of}; the account has {steps} and {prompts}", self.numbers.len(), self.prompts)
     }
 
@@ -109,22 +115,24 @@ impl Sent {
     pub fn verdict(&self, book: &Book, verdict: usize, step: usize) -> String {
         let name = &self.name;
         if verdict == RIGHT {
-            return format!("{name}: right, all {} steps with what each used of {} prompts\n", self.numbers.len(), self.prompts);
+            let of = prompts_in(book);
+            return format!("{name}: right, all {} steps with what each used of {} {of}\n", self.numbers.len(), self.prompts);
         }
         let (spread, right) = (&book.spreads[step / 2], &book.spreads[step / 2].steps[step % 2]);
-        let legs: Vec<String> = spread.legs.iter().map(|leg| leg_in_words(book.question, leg)).collect();
+        let legs = spread_in_words(book.question, spread);
         let why = match verdict {
             MORE_THAN_FORMED => "the number is more than can be formed",
             LESS_THAN_FORMED => "the number is less than can be formed",
             _ => "the number is right, and a use is not",
         };
         let mut page = format!("{name}: wrong at step {step}: {why}\n");
-        page += &format!("  step {step} is spread {}, {}: {}\n", spread.place, DIRECTIONS[step % 2], legs.join(", "));
+        page += &format!("  step {step} is spread {}, {}: {}\n", spread.place, DIRECTIONS[step % 2], legs);
         if verdict != WRONG_USE {
             return page + &format!("  sent {}, right {}\n", lots(self.numbers[step]), lots(right.formed));
         }
         let sent = &self.uses[step * self.prompts..][..self.prompts];
-        for ((prompt, sent), right) in book.prompts.iter().zip(sent).zip(&right.taken).filter(|((_, sent), right)| sent != right) {
+        for ((prompt, sent), right) in book.prompts.iter().zip(sent).zip(&right.taken).filter(|((_, sent), right)| sent != right)
+        {
             let which = match book.question {
                 TABLE => format!("contract {}", prompt.tier),
                 _ => format!("prompt {}, day {}, tier {}", prompt.place, prompt.day, prompt.tier),
@@ -132,6 +140,13 @@ impl Sent {
             page += &format!("  {which}: sent {}, right {}\n", lots(*sent), lots(*right));
         }
         page
+    }
+}
+
+fn prompts_in(book: &Book) -> &'static str {
+    match book.question {
+        TABLE => "contracts",
+        _ => "prompts",
     }
 }
 
@@ -193,7 +208,8 @@ mod tests {
         let rows = "0,1,A long,1.5,1.5,-1.5\n1,1,A short,0,0,0\n";
         let read = Sent::of_text(format!("\u{feff}{header}\r\n{rows}").as_bytes()).ok();
         assert_eq!(read, Some((2, vec![15_000, 0], vec![15_000, -15_000, 0, 0])));
-        for rows in ["1,1,A short,0,0,0\n", "0,2,A long,0,0,0\n", "0,1,A short,0,0,0\n", "0,1,A long,0,0\n", "0,1,A long,x,0,0\n"] {
+        for rows in ["1,1,A short,0,0,0\n", "0,2,A long,0,0,0\n", "0,1,A short,0,0,0\n", "0,1,A long,0,0\n", "0,1,A long,x,0,0\n"]
+        {
             assert_eq!(Sent::of_text(format!("{header}{rows}").as_bytes()).map_err(|told| told.len()), Err(1), "{rows}");
         }
         assert!(Sent::of_text(b"").is_err());

@@ -17,9 +17,6 @@ pub const FIGURES: [&str; 8] = [
     "margin",
 ];
 
-/// The two steps of a spread.
-pub const DIRECTIONS: [&str; 2] = ["first step, A long and B short", "second step, A short and B long"];
-
 const EMPTY: &str = "The account is empty: it has no records.\n\n";
 
 fn empty(account: &Account) -> &'static str {

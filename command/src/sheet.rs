@@ -8,7 +8,8 @@ use crate::table::csv;
 
 /// What a line of a book is about, then the columns of a prompt, of a step, of what the step takes, and of how often it is taken.
 const BOOK: [&str; 15] = [
-    "book", "line", "prompt", "day", "tier", "net", "used", "unused", "spread", "rate", "step", "formed", "taken", "touches", "most",
+    "book", "line", "prompt", "day", "tier", "net", "used", "unused", "spread", "rate", "step", "formed", "taken", "touches",
+    "most",
 ];
 
 pub const VERDICTS: [&str; 5] = ["account", "verdict", "refusal", "record", "in words"];

@@ -313,16 +313,7 @@ pub fn committee(accounts: &[u8], lengths: &[usize], lent: &mut [i64]) -> Outcom
 /// What is said of a list of spreads that is sent for a question.
 pub fn judge(file: &[u8], question: usize, List { prompts, numbers, uses }: List) -> ListOutcome {
     unsafe {
-        felgotany_judge(
-            file.as_ptr(),
-            file.len(),
-            question,
-            prompts,
-            numbers.as_ptr(),
-            numbers.len(),
-            uses.as_ptr(),
-            uses.len(),
-        )
+        felgotany_judge(file.as_ptr(), file.len(), question, prompts, numbers.as_ptr(), numbers.len(), uses.as_ptr(), uses.len())
     }
 }
 

@@ -35,7 +35,7 @@ const fn refusal(number: usize, rule: &'static str, names: &'static str) -> Refu
 }
 
 /// Every refusal, by its number.
-pub const REFUSALS: [Refusal; 16] = [
+pub const REFUSALS: [Refusal; 17] = [
     refusal(TOO_LONG, "file longer than 61,440 bytes", "0"),
     refusal(NOT_WHOLE_RECORDS, "length not a multiple of 96", "0"),
     refusal(UNKNOWN_KIND, "kind not 1..5", THAT_ONE),

@@ -116,7 +116,11 @@ impl Takes for Book<'_> {
     fn start(&mut self, prompts: &[Record], nets: &[i64; MOST_PROMPTS]) {
         *self.touches = 0;
         for (place, (prompt, net)) in prompts.iter().zip(nets).enumerate().rev() {
-            self.passing.lay(place, pool_of(get(prompt, PROMPT_TIER), *net < 0), net.unsigned_abs());
+            self.passing.lay(
+                place,
+                pool_of(get(prompt, PROMPT_TIER), *net < 0),
+                net.unsigned_abs(),
+            );
         }
     }
 

@@ -91,6 +91,8 @@ pub fn touches(entry: &Record, numbers: [i64; 2]) -> i64 {
             false => number > 0,
         }
     };
-    let both = numbers.map(|number| i64::from(taken(number, FIRST_RATIO)) + i64::from(taken(number, SECOND_RATIO)));
+    let both = numbers.map(|number| {
+        i64::from(taken(number, FIRST_RATIO)) + i64::from(taken(number, SECOND_RATIO))
+    });
     both[0] + both[1]
 }

@@ -50,7 +50,8 @@ pub fn spread_in_words(question: usize, spread: &Spread) -> String {
     legs.join(", ")
 }
 
-const STEPS: [&str; 2] = ["first step, A long and B short", "second step, A short and B long"];
+/// The two steps of a spread.
+pub const DIRECTIONS: [&str; 2] = ["first step, A long and B short", "second step, A short and B long"];
 
 /// Which prompt dates paid for each interprompt spread, and what it was charged.
 pub fn paid_by_prompts(book: &Book, working: &OfContract) -> Table {
@@ -61,7 +62,7 @@ pub fn paid_by_prompts(book: &Book, working: &OfContract) -> Table {
         let formed = spread.steps.iter().map(|step| step.formed).sum();
         let words = format!("spread {}: {}", spread.place, spread_in_words(book.question, spread));
         table.row(Kind::Head, [words, none(), none(), none(), delta(formed), money(spread.rate), money(*charge)]);
-        for (name, step) in STEPS.iter().zip(&spread.steps).filter(|(_, step)| step.formed != 0) {
+        for (name, step) in DIRECTIONS.iter().zip(&spread.steps).filter(|(_, step)| step.formed != 0) {
             table.row(Kind::Plain, [name.to_string(), none(), none(), none(), delta(step.formed), none(), none()]);
             for (prompt, taken) in book.prompts.iter().zip(&step.taken).filter(|(_, taken)| **taken != 0) {
                 let Prompt { day, tier, .. } = prompt;
@@ -85,7 +86,7 @@ pub fn paid_by_contracts(book: &Book, working: &[OfContract], named: &dyn Fn(i64
         let formed = spread.steps.iter().map(|step| step.formed).sum();
         let words = format!("spread {}: {}", spread.place, spread_in_words(book.question, spread));
         table.row(Kind::Head, [words, none(), none(), delta(formed), spread.rate.to_string(), money(earned)]);
-        for (name, step) in STEPS.iter().zip(&spread.steps).filter(|(_, step)| step.formed != 0) {
+        for (name, step) in DIRECTIONS.iter().zip(&spread.steps).filter(|(_, step)| step.formed != 0) {
             table.row(Kind::Plain, [name.to_string(), none(), none(), delta(step.formed), none(), none()]);
             for (prompt, taken) in book.prompts.iter().zip(&step.taken).filter(|(_, taken)| **taken != 0) {
                 let of = credits().find(|(number, credit)| *number == prompt.tier && credit.spread == spread.place);

@@ -2,7 +2,7 @@
 
 mod account;
 pub mod args;
-mod books;
+pub mod books;
 mod contract;
 mod document;
 mod html;

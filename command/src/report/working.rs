@@ -281,10 +281,11 @@ mod tests {
     use super::*;
     use crate::report::left;
 
-    const FILES: [&[u8]; 3] = [
+    const FILES: [&[u8]; 4] = [
         include_bytes!("../../../examples/copper-aluminium.account"),
         include_bytes!("../../../examples/case-three.account"),
         include_bytes!("../../../examples/aex-fef.account"),
+        include_bytes!("../../../examples/yen.account"),
     ];
 
     fn account(file: &[u8]) -> Account {
@@ -350,7 +351,8 @@ mod tests {
 
     #[test]
     fn halves_go_up_and_wide_products_stay_exact() {
-        assert_eq!([14_999, 15_000].map(|formed| rounded(formed, ONE)), [1, 2]);
+        assert_eq!([14_999, 15_000].map(|formed| rounded(formed, ONE, 1)), [1, 2]);
+        assert_eq!([1_499_999, 1_500_000].map(|formed| rounded(formed, ONE, 100)), [100, 200]);
         assert_eq!(unit_price_risk(2 * 510_042, -10_012), Some(50_943_068));
         assert_eq!(unit_price_risk(51_200_000_000_000_000, 1), Some(25_600_000_000_000_000_000_000));
         assert_eq!(unit_price_risk(7, 0), None);

@@ -2,8 +2,8 @@
 //! longest answers of accounts at their limits, the last question that is answered, and the fewest numbers that all questions
 //! at once are not refused for.
 
-use felgotany::Outcome;
 use compare::numbered;
+use felgotany::Outcome;
 use independent::committee::{self, NUMBERS};
 use independent::joined::{self, Cover};
 use independent::list::{judge, judge_joined, List, Verdict};
@@ -260,7 +260,8 @@ fn ask_lists(out: &mut String, file: &[u8], noon: &[u8]) {
 }
 
 fn say_list(out: &mut String, word: &str, question: u64, said: Result<Verdict, PairRefusal>) {
-    let [file, refusal, record] = said.as_ref().map_or_else(|told| [told.file.into(), told.number.into(), told.record], |_| [0; 3]);
+    let [file, refusal, record] =
+        said.as_ref().map_or_else(|told| [told.file.into(), told.number.into(), told.record], |_| [0; 3]);
     let [verdict, step] = said.map_or([0; 2], numbered);
     writeln!(out, "{word} {question} file {file} refusal {refusal} record {record} verdict {verdict} step {step}").unwrap();
 }

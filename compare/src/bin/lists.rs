@@ -154,7 +154,7 @@ fn tiers_of(account: Option<&Account>, question: u64) -> Vec<i64> {
 /// What the library writes for a question is what it judges right.
 fn own_is_right(of: Of, question: u64, right: Option<&List>) -> Result<(), String> {
     let Some(List { prompts, numbers, uses }) = right else { return Ok(()) };
-    let (mut book, mut used) = ([0; 160], vec![0; 2048]);
+    let (mut book, mut used) = ([0; felgotany::MOST_BOOK], vec![0; felgotany::MOST_USES]);
     match of {
         Of::File(file) => {
             felgotany::book(file, question as usize, &mut book);
@@ -165,11 +165,8 @@ fn own_is_right(of: Of, question: u64, right: Option<&List>) -> Result<(), Strin
             Pair { morning, noon }.uses(question as usize, &mut used);
         }
     }
-    let own = List {
-        prompts: *prompts,
-        numbers: book[3 * prompts..][..numbers.len()].to_vec(),
-        uses: used[..uses.len()].to_vec(),
-    };
+    let own =
+        List { prompts: *prompts, numbers: book[3 * prompts..][..numbers.len()].to_vec(), uses: used[..uses.len()].to_vec() };
     same(&format!("question {question}, the library's own list"), of.proved(question, &own), told(&Ok(Verdict::Yes)))
 }
 

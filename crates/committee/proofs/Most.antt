@@ -1,8 +1,8 @@
--- How large the margin of an accepted account can be: each of its rows and interprompt spreads brings at most 134,000,000,000,000, and an
--- account has at most 640 records.
+-- How large the margin of an accepted account can be: each of its prompts, rows and interprompt spreads brings at most
+-- 134,000,000,001,000, and an account has at most 640 records.
 -- Assumes nothing.
 use Prim.Native.Nat.{ℕ, zero, suc, _+_, _-_, _*_, _≤_, _<_, max, zero-le}
-use native.Mathlib.Nat.{le-refl, le-trans, add-le-add, mul-le-mul, mul-le-mul-left, mul-le-mul-right, mul-assoc}
+use native.Mathlib.Nat.{le-refl, le-trans, add-le-add, mul-le-mul, mul-le-mul-left, mul-le-mul-right, mul-assoc, mul-add}
 use native.Mathlib.Omega.{arith}
 use mathlib.Core.Path.{_≡_, refl, sym, ap, subst, _∙_}
 use mathlib.Core.List.{List, [], _∷_, map, map-map}
@@ -11,10 +11,10 @@ use lib.ListN.{length, getD}
 use Rattle.exact.specs.Largest.{largest}
 use Rattle.exact.specs.Lists.{sum, count}
 use Rattle.exact.specs.Signed.{orZero}
-use Rattle.exact.proofs.HalfUp.{half-within}
 use Rattle.exact.proofs.Lists.{length-keep}
 use Rattle.exact.proofs.Totals.{largest-held}
-use Rattle.record.specs.Layout.{Record, contract, shortOptionRate, ratePerSpread, spreadRate, outrightRate, mostRate}
+use Rattle.exact.proofs.UnitLaws.{up-above}
+use Rattle.record.specs.Layout.{Record, contract, shortOptionRate, unit, ratePerSpread, spreadRate, outrightRate, mostRate}
 use Rattle.record.specs.Within.{ContractWithin}
 use Rattle.account.specs.Accepted.{Each}
 use Rattle.account.specs.Lawful.{Lawful}
@@ -46,35 +46,37 @@ places-most most (suc n) f h =
     let rest = places-most most n (λ i. f (suc i)) (λ i l. h (suc i) (omega arith)) in
     omega arith
 
--- numbers or deltas of a size, at a rate
-charge-most : (a b size rate rate′ : ℕ) → a ≤ size → b ≤ size → rate ≤ mostRate → rate′ ≤ mostRate → charged (a * rate + b * rate′) ≤ 2000 * size
-charge-most a b size rate rate′ ha hb hr hr′ =
+-- numbers or deltas of a size, at a rate; rounding to the unit adds at most half of the largest
+charge-most : (unit a b size rate rate′ : ℕ) → unit ≤ 1000 → a ≤ size → b ≤ size → rate ≤ mostRate → rate′ ≤ mostRate
+    → charged unit (a * rate + b * rate′) ≤ 2000 * size + 500
+charge-most unit a b size rate rate′ hu ha hb hr hr′ =
     let x : a * rate ≤ size * 10000000 = mul-le-mul ha hr in
     let y : b * rate′ ≤ size * 10000000 = mul-le-mul hb hr′ in
-    half-within (2000 * size) (a * rate + b * rate′) 10000 (omega arith)
+    omega (arith, up-above unit 10000 (a * rate + b * rate′))
 
-spread-most : (first second size rate : ℕ) → first ≤ size → second ≤ size → rate ≤ mostRate → charged ((first + second) * rate) ≤ 2000 * size
-spread-most first second size rate hf hs hr =
+spread-most : (unit first second size rate : ℕ) → unit ≤ 1000 → first ≤ size → second ≤ size → rate ≤ mostRate
+    → charged unit ((first + second) * rate) ≤ 2000 * size + 500
+spread-most unit first second size rate hu hf hs hr =
     let both : first + second ≤ 2 * size = omega arith in
     let x : (first + second) * rate ≤ 2 * size * 10000000 = mul-le-mul both hr in
-    half-within (2000 * size) ((first + second) * rate) 10000 (omega arith)
+    omega (arith, up-above unit 10000 ((first + second) * rate))
 
 -- each prompt is charged for what of its net delta is used and for what is not
-prompts-most : (ps : List Record) (used unused nets : List ℤ) → ((k : ℕ) → k < length ps → PromptFit (getD ps k []))
+prompts-most : (unit : ℕ) → unit ≤ 1000 → (ps : List Record) (used unused nets : List ℤ) → ((k : ℕ) → k < length ps → PromptFit (getD ps k []))
     → ((k : ℕ) → natAbs (getD used k (pos 0)) ≤ natAbs (getD nets k (pos 0))) → ((k : ℕ) → natAbs (getD unused k (pos 0)) ≤ natAbs (getD nets k (pos 0)))
-    → promptCharges ps used unused ≤ 2000 * sum (map natAbs nets)
-prompts-most [] used unused nets fit hu hn = zero-le
-prompts-most (p ∷ ps) [] unused nets fit hu hn = zero-le
-prompts-most (p ∷ ps) (u ∷ used) [] nets fit hu hn = zero-le
-prompts-most (p ∷ ps) (u ∷ used) (n ∷ unused) [] fit hu hn =
+    → promptCharges unit ps used unused ≤ 2000 * sum (map natAbs nets) + 500 * length ps
+prompts-most unit o [] used unused nets fit hu hn = zero-le
+prompts-most unit o (p ∷ ps) [] unused nets fit hu hn = zero-le
+prompts-most unit o (p ∷ ps) (u ∷ used) [] nets fit hu hn = zero-le
+prompts-most unit o (p ∷ ps) (u ∷ used) (n ∷ unused) [] fit hu hn =
     let f = fit 0 (omega arith) in
-    let first = charge-most (natAbs u) (natAbs n) 0 (spreadRate p) (outrightRate p) (hu 0) (hn 0) (f .spread-rate) (f .outright-rate) in
-    let rest = prompts-most ps used unused [] (λ k l. fit (suc k) (omega arith)) (λ k. hu (suc k)) (λ k. hn (suc k)) in
+    let first = charge-most unit (natAbs u) (natAbs n) 0 (spreadRate p) (outrightRate p) o (hu 0) (hn 0) (f .spread-rate) (f .outright-rate) in
+    let rest = prompts-most unit o ps used unused [] (λ k l. fit (suc k) (omega arith)) (λ k. hu (suc k)) (λ k. hn (suc k)) in
     omega arith
-prompts-most (p ∷ ps) (u ∷ used) (n ∷ unused) (z ∷ nets) fit hu hn =
+prompts-most unit o (p ∷ ps) (u ∷ used) (n ∷ unused) (z ∷ nets) fit hu hn =
     let f = fit 0 (omega arith) in
-    let first = charge-most (natAbs u) (natAbs n) (natAbs z) (spreadRate p) (outrightRate p) (hu 0) (hn 0) (f .spread-rate) (f .outright-rate) in
-    let rest = prompts-most ps used unused nets (λ k l. fit (suc k) (omega arith)) (λ k. hu (suc k)) (λ k. hn (suc k)) in
+    let first = charge-most unit (natAbs u) (natAbs n) (natAbs z) (spreadRate p) (outrightRate p) o (hu 0) (hn 0) (f .spread-rate) (f .outright-rate) in
+    let rest = prompts-most unit o ps used unused nets (λ k l. fit (suc k) (omega arith)) (λ k. hu (suc k)) (λ k. hn (suc k)) in
     omega arith
 
 -- ---- one contract
@@ -83,20 +85,29 @@ or-zero-most : (z : ℤ) → orZero z ≤ natAbs z
 or-zero-most (pos n) = le-refl n
 or-zero-most (negsuc n) = zero-le
 
+-- what prompts, rows and spreads bring, over plain numbers
+risk-most : (p r s scanning interprompt prompt : ℕ) → scanning ≤ r * 100000000000500 → interprompt ≤ r * 32000000000000 + s * 128000000000500
+    → prompt ≤ r * 2000000000000 + p * 500 → scanning + interprompt + prompt ≤ (p + r + s) * 134000000001000
+risk-most p r s scanning interprompt prompt hs hi hp = omega arith
+
+larger-most : (p r s minimum risk credit : ℕ) → minimum ≤ r * 1000000000000 → risk ≤ (p + r + s) * 134000000001000
+    → max minimum (risk - credit) ≤ (p + r + s) * 134000000001000
+larger-most p r s minimum risk credit hm hr = omega arith
+
 module _ (own : Record) (prompts rows spreads : List Record) (w : ContractFit own prompts rows spreads)
     (over : NothingOver (contractFrom own prompts rows spreads)) where
   abbrev k : Contract
   k = contractFrom own prompts rows spreads
 
-  pub scanning-most : scanningOf k ≤ length rows * 100000000000000
+  pub scanning-most : scanningOf k ≤ length rows * 100000000000500
   scanning-most =
-      let held = largest-held (totals rows) (omega arith) in
-      let here : natAbs (getD (totals rows) (held .place) (pos 0)) ≤ length rows * 100000000000000 =
-      subst (λ (z : ℤ). natAbs z ≤ length rows * 100000000000000) (sym (totals-at rows (held .place) (held .within)))
-      (total-most rows (w .rows-within .each) (held .place + 1) (omega arith) (let l = held .within in omega arith))
+      let held = largest-held (totals (unit own) rows) (omega arith) in
+      let here : natAbs (getD (totals (unit own) rows) (held .place) (pos 0)) ≤ length rows * 100000000000500 =
+      subst (λ (z : ℤ). natAbs z ≤ length rows * 100000000000500) (sym (totals-at (unit own) rows (held .place) (held .within)))
+      (total-most (unit own) (w .unit-within .most) rows (w .rows-within .each) (held .place + 1) (omega arith) (let l = held .within in omega arith))
       in
-      le-trans (or-zero-most (largest (totals rows)))
-      (subst (λ (z : ℤ). natAbs z ≤ length rows * 100000000000000) (held .holds) here)
+      le-trans (or-zero-most (largest (totals (unit own) rows)))
+      (subst (λ (z : ℤ). natAbs z ≤ length rows * 100000000000500) (held .holds) here)
 
   -- all deltas of its prompts together
   sizes-most : sizes (opensOf k) ≤ length rows * 1000000000
@@ -106,11 +117,11 @@ module _ (own : Record) (prompts rows spreads : List Record) (w : ContractFit ow
       let o = opens-sizes prompts (netDeltas prompts rows) in
       omega arith
 
-  pub prompt-most : promptOf k ≤ length rows * 2000000000000
+  pub prompt-most : promptOf k ≤ length rows * 2000000000000 + length prompts * 500
   prompt-most =
       let nets = map (λ (p : Open). p .unused) (opensOf k) in
       let all =
-      prompts-most prompts (usedDeltas k) (unusedDeltas k) nets (w .each-prompt) (used-within (stepsOf k) (opensOf k)) (unused-within (stepsOf k) (opensOf k))
+      prompts-most (unit own) (w .unit-within .most) prompts (usedDeltas k) (unusedDeltas k) nets (w .each-prompt) (used-within (stepsOf k) (opensOf k)) (unused-within (stepsOf k) (opensOf k))
       in
       let e = ap sum (map-map natAbs (λ (p : Open). p .unused) (opensOf k)) in
       let s = sizes-most in
@@ -120,24 +131,28 @@ module _ (own : Record) (prompts rows spreads : List Record) (w : ContractFit ow
   number-most j = le-trans (whole-number-within (stepsOf k) (opensOf k) j (interprompt-whole spreads)) sizes-most
 
   -- each of at most 32 spreads, over at most 128 rows
-  pub interprompt-most : interpromptOf k ≤ length rows * 32000000000000 + length spreads * 128000000000000
+  pub interprompt-most : interpromptOf k ≤ length rows * 32000000000000 + length spreads * 128000000000500
   interprompt-most =
-      let each : (j : ℕ) → j < length spreads → spreadAt k j ≤ 2000 * (length rows * 1000000000) =
+      let each : (j : ℕ) → j < length spreads → spreadAt k j ≤ 2000 * (length rows * 1000000000) + 500 =
       λ j l.
-      spread-most (getD (numbersOf k) (2 * j) 0) (getD (numbersOf k) (2 * j + 1) 0) (length rows * 1000000000) (ratePerSpread (getD spreads j []))
-      (number-most (2 * j)) (number-most (2 * j + 1)) (w .each-spread j l .rate)
+      spread-most (unit own) (getD (numbersOf k) (2 * j) 0) (getD (numbersOf k) (2 * j + 1) 0) (length rows * 1000000000) (ratePerSpread (getD spreads j []))
+      (w .unit-within .most) (number-most (2 * j)) (number-most (2 * j + 1)) (w .each-spread j l .rate)
       in
-      let all = places-most (2000 * (length rows * 1000000000)) (length spreads) (spreadAt k) each in
+      let all = places-most (2000 * (length rows * 1000000000) + 500) (length spreads) (spreadAt k) each in
       let e = over .interprompt in
-      let apart : length spreads * (2000 * (length rows * 1000000000)) ≡ length spreads * length rows * 2000000000000 = product (length spreads) (length rows) in
+      let apart : length spreads * (2000 * (length rows * 1000000000) + 500) ≡ length spreads * length rows * 2000000000000 + length spreads * 500 =
+      product (length spreads) (length rows)
+      in
       let by-rows : length spreads * length rows ≤ 32 * length rows = mul-le-mul-right (length rows) (w .few-spreads) in
       let by-spreads : length spreads * length rows ≤ length spreads * 128 = mul-le-mul-left (length spreads) (w .rows-within .few) in
       omega arith
     where
-      product : (s r : ℕ) → s * (2000 * (r * 1000000000)) ≡ s * r * 2000000000000
+      product : (s r : ℕ) → s * (2000 * (r * 1000000000) + 500) ≡ s * r * 2000000000000 + s * 500
       product s r =
           let e : 2000 * (r * 1000000000) ≡ r * 2000000000000 = omega arith in
-          ap (λ (n : ℕ). s * n) e ∙ sym (mul-assoc s r 2000000000000)
+          mul-add s (2000 * (r * 1000000000)) 500
+          ∙ ap (λ (n : ℕ). s * n + s * 500) e
+          ∙ ap (λ (n : ℕ). n + s * 500) (sym (mul-assoc s r 2000000000000))
 
   minimum-most : minimumOf k ≤ length rows * 1000000000000
   minimum-most =
@@ -145,31 +160,31 @@ module _ (own : Record) (prompts rows spreads : List Record) (w : ContractFit ow
       let x : minimumOf k ≤ length rows * 100000 * 10000000 = mul-le-mul l (w .rate) in
       omega arith
 
-  pub margin-most : (entries : List Record) (table : List Open) → marginOf entries table k ≤ (length rows + length spreads) * 134000000000000
+  pub margin-most : (entries : List Record) (table : List Open) → marginOf entries table k ≤ (length prompts + length rows + length spreads) * 134000000001000
   margin-most entries table =
-      let s = scanning-most in
-      let p = prompt-most in
-      let i = interprompt-most in
-      let m = minimum-most in
-      omega arith
+      larger-most (length prompts) (length rows) (length spreads) (minimumOf k) (scanningOf k + interpromptOf k + promptOf k) (creditOf entries table k)
+      minimum-most
+      (risk-most (length prompts) (length rows) (length spreads) (scanningOf k) (interpromptOf k) (promptOf k) scanning-most interprompt-most prompt-most)
 
 -- ---- all contracts of an account
 
 abbrev records-of : List Record → Record → ℕ
-records-of account own = length (rowsOf (contract own) account) + length (spreadsOf (contract own) account)
+records-of account own =
+    length (promptsOf (contract own) account) + length (rowsOf (contract own) account) + length (spreadsOf (contract own) account)
 
-rows-and-spreads : (account owns : List Record)
+all-parts : (account owns : List Record)
     → sum (map (records-of account) owns) ≤ sum (map (λ part. count part account) (partsBy owns))
-rows-and-spreads account [] = zero-le
-rows-and-spreads account (own ∷ owns) =
-    let rest = rows-and-spreads account owns in
+all-parts account [] = zero-le
+all-parts account (own ∷ owns) =
+    let rest = all-parts account owns in
+    let p = length-keep (ofContract 2 (contract own)) account in
     let r = length-keep (ofContract 3 (contract own)) account in
     let s = length-keep (ofContract 4 (contract own)) account in
     omega arith
 
 module _ (account : List Record) (law : Lawful account) (over : (own : Record) → NothingOver (partsIn account own)) (entries : List Record) (table : List Open) where
   margins-most : (owns : List Record) → Each ContractWithin owns
-      → totalMargin entries table (map (partsIn account) owns) ≤ sum (map (records-of account) owns) * 134000000000000
+      → totalMargin entries table (map (partsIn account) owns) ≤ sum (map (records-of account) owns) * 134000000001000
   margins-most [] e = zero-le
   margins-most (own ∷ owns) e =
       let c = contract own in
@@ -182,7 +197,7 @@ module _ (account : List Record) (law : Lawful account) (over : (own : Record) �
   pub margin-within : Whole account → totalMargin entries table (contracts account) ≤ mostTotal
   margin-within whole =
       let all = margins-most (contractsOf account) (law .ranges .contracts) in
-      let parts = rows-and-spreads account (contractsOf account) in
+      let parts = all-parts account (contractsOf account) in
       let together = whole .together in
       let few = law .limits .all in
       omega arith

@@ -238,6 +238,7 @@ module _ (account : List ℕ) (ok : checked account ≡ Accepted) where
       let b = place-is i 3 h (omega arith) in
       let d = place-is i 4 h (omega arith) in
       let few-rows = w .rows-within .few in
+      let few-prompts = w .few-prompts in
       let few-spreads = w .few-spreads in
       omega arith
 

@@ -16,9 +16,9 @@ use Rattle.committee.specs.declared.contracts.Found.{Found}
 use Rattle.committee.specs.declared.figures.Account.{Account}
 use Rattle.committee.specs.declared.sums.Sums.{Sums}
 
--- an account's margin, in hundredths: at most 134,000,000,000,000 for each of 640 records, so that a hundred accounts stay below 2^63
+-- an account's margin, in hundredths: at most 134,000,000,001,000 for each of 640 records, so that a hundred accounts stay below 2^63
 abbrev pub mostTotal : ℕ
-mostTotal = 85760000000000000
+mostTotal = 85760000000640000
 
 -- ---- one account
 

@@ -1,6 +1,6 @@
 -- The claims about a list that is sent for an account: its steps are ones that the judging accepts.
 -- Assumes nothing.
-use Prim.Native.Nat.{ℕ, zero-le}
+use Prim.Native.Nat.{ℕ}
 use native.Mathlib.Omega.{arith}
 use mathlib.Core.Bool.{Bool, true, false, cond}
 use mathlib.Core.List.{List, [], map}
@@ -36,7 +36,7 @@ use Rattle.margin.specs.Questions.{accepted}
 use Rattle.margin.specs.Uses.{stepsFor, opensFor}
 use Rattle.margin.specs.declared.lists.Judged.{Judged}
 use Rattle.margin.specs.declared.lists.Judged.the-variants.{Refused}
-use Rattle.margin.proofs.AcceptLaws.{contract-within, entries-within}
+use Rattle.margin.proofs.AcceptLaws.{none-within, contract-within, entries-within}
 use Rattle.margin.proofs.LineLaws.{spreads-sound}
 use Rattle.margin.proofs.QuestionLaws.{accepted-only}
 use Rattle.margin.proofs.TableLaws.{entry-accepted}
@@ -54,7 +54,7 @@ sound-steps account law question = go (eqb question 16)
         steps-sound (map intercontract (entriesOf account))
         (spreads-sound intercontract (entriesOf account) (λ k h. entry-accepted (getD (entriesOf account) k []) (w .each k h)))
     go false =
-        let w = contract-within account law [] question (record { contracts = zero-le; rates = zero-le }) in
+        let w = contract-within account law [] question none-within in
         steps-sound (map interprompt (spreadsOf question account)) (spreads-sound interprompt (spreadsOf question account) (λ k h. w .each-spread k h .sound))
 
 -- only a list of other counts is refused with 18

@@ -1,6 +1,6 @@
 -- The takes of an account's steps are counted and bounded: its spreads and entries are ones that the spread steps accept.
 -- Assumes nothing.
-use Prim.Native.Nat.{ℕ, zero-le}
+use Prim.Native.Nat.{ℕ}
 use mathlib.Core.Path.{_≡_}
 use mathlib.Core.Bool.{true}
 use mathlib.Core.List.{List, [], map}
@@ -19,7 +19,7 @@ use Rattle.spread.proofs.Touching.{touched}
 use Rattle.margin.specs.Contract.{contracts, partsOf, asTier, opensOf}
 use Rattle.margin.specs.Deltas.{interprompt, intercontract}
 use Rattle.margin.specs.Touched.{TouchesCounted}
-use Rattle.margin.proofs.AcceptLaws.{contract-within, entries-within}
+use Rattle.margin.proofs.AcceptLaws.{none-within, contract-within, entries-within}
 use Rattle.margin.proofs.LineLaws.{spreads-sound}
 use Rattle.margin.proofs.TableLaws.{entry-accepted}
 
@@ -28,7 +28,7 @@ touches-counted account law =
     record {
       interprompt =
           λ c.
-          let w = contract-within account law [] c (record { contracts = zero-le; rates = zero-le }) in
+          let w = contract-within account law [] c none-within in
           touched (map interprompt (spreadsOf c account)) (opensOf (partsOf account c))
           (spreads-sound interprompt (spreadsOf c account) (λ k h. w .each-spread k h .sound));
       intercontract =

@@ -1,7 +1,7 @@
 -- The three demands: 1 of any bytes, 2 of the definitions, 3 of every accepted account, whose spreads and entries are ones that
 -- the spread steps accept.
 -- Assumes nothing.
-use Prim.Native.Nat.{ℕ, zero, suc, _≤_, _<_, zero-le}
+use Prim.Native.Nat.{ℕ, zero, suc, _≤_, _<_}
 use native.Mathlib.Omega.{arith}
 use mathlib.Core.Path.{_≡_, refl, sym, ap, _∙_}
 use mathlib.Core.Bool.{true, false}
@@ -34,7 +34,7 @@ use Rattle.margin.specs.Contract.{contracts, partsOf, asTier, stepsOf, opensOf,
 use Rattle.margin.specs.Deltas.{interprompt, intercontract}
 use Rattle.margin.specs.Questions.{numbersFor, answerOver}
 use Rattle.margin.specs.Uses.{contractUses, tableUses}
-use Rattle.margin.proofs.AcceptLaws.{contract-within, entries-within}
+use Rattle.margin.proofs.AcceptLaws.{none-within, contract-within, entries-within}
 use Rattle.margin.proofs.AskedLaws.{one-book, table-book, contract-asked, table-asked}
 use Rattle.margin.proofs.LineLaws.{spreads-sound, interprompt-whole}
 use Rattle.margin.proofs.QuestionLaws.{if-refused, if-accepted, after-refused}
@@ -124,7 +124,7 @@ demand2 = record { reckoned = reckoned; printed = printed; empty-accepted = refl
 module _ (account : List Record) (law : Lawful account) where
   interprompt-steps : (c : ℕ) → soundSteps (stepsOf (partsOf account c)) ≡ true
   interprompt-steps c =
-      let w = contract-within account law [] c (record { contracts = zero-le; rates = zero-le }) in
+      let w = contract-within account law [] c none-within in
       steps-sound (map interprompt (spreadsOf c account)) (spreads-sound interprompt (spreadsOf c account) (λ k h. w .each-spread k h .sound))
 
   pub demanded : Demanded account

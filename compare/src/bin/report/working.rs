@@ -7,7 +7,7 @@ use independent::book::{book_of, intercontract, interprompt, Book, INTERCONTRACT
 use independent::format::*;
 use independent::margin::{self, figures_of, Figures};
 use independent::steps::{steps, Leg, Net, Side};
-use independent::units::{Amount, Delta};
+use independent::units::{Amount, Delta, Quotient};
 
 fn equal(what: &str, found: i128, wanted: i128) -> Result<(), String> {
     if found == wanted {
@@ -36,7 +36,7 @@ pub fn compare(tables: &Tables, account: &Account, file: &[u8]) -> Result<(), St
         let totals = margin::totals(contract);
         compare_margin(&rows("margin"), contract, &figures).map_err(told)?;
         compare_totals(&rows("totals"), &totals.map(|total| total.0), figures.active_scenario).map_err(told)?;
-        compare_rows(&rows("rows"), file, contract.number, figures.active_scenario).map_err(told)?;
+        compare_rows(&rows("rows"), file, contract, figures.active_scenario).map_err(told)?;
         let book = interprompt(contract);
         compare_charges(&rows("paid"), &rows("prompts"), contract, &book, &figures).map_err(told)?;
         let of_contract = credits(account, &table, place, margin::twice_price_risk(&totals));
@@ -83,15 +83,16 @@ fn compare_totals(rows: &[&[String]], totals: &[i64; SCENARIOS], active: usize) 
 }
 
 /// Every row of the file with its fields, and its amount in the active scenario.
-fn compare_rows(rows: &[&[String]], file: &[u8], contract: i64, active: usize) -> Result<(), String> {
+fn compare_rows(rows: &[&[String]], file: &[u8], contract: &Contract, active: usize) -> Result<(), String> {
     let all = records(file);
-    let of_contract: Vec<&Record> = all.iter().filter(|row| row.kind() == ROW && row.get(NUMBER) == contract).collect();
+    let of_contract: Vec<&Record> = all.iter().filter(|row| row.kind() == ROW && row.get(NUMBER) == contract.number).collect();
     if of_contract.is_empty() {
         return equal("rows", rows.len() as i128, 0);
     }
     let numbers = |of: &dyn Fn(&Record) -> i64| -> Vec<i64> { of_contract.iter().map(|record| of(record)).collect() };
     let net = |record: &Record| record.get(LOTS) * record.get(delta(record.get(CLASS)));
-    let amount = |record: &Record| record.get(LOTS) * record.get(VALUE) * record.get(loss(active - 1));
+    let product = |record: &Record| record.get(LOTS) * record.get(VALUE) * record.get(loss(active - 1));
+    let amount = |record: &Record| contract.unit.halves_away(Quotient::whole(product(record))).0;
     column("lots x delta", rows, 6, &numbers(&net))?;
     column("amount", rows, 9, &numbers(&amount))?;
     for (place, (row, record)) in (1..).zip(rows.iter().zip(&of_contract)) {
@@ -118,14 +119,14 @@ fn compare_charges(
     figures: &Figures,
 ) -> Result<(), String> {
     let of_spreads: Vec<i64> =
-        contract.spreads.iter().enumerate().map(|(at, spread)| margin::spread_charge(book.formed(at), spread.rate).0).collect();
+        contract.spreads.iter().enumerate().map(|(at, spread)| contract.unit.halves_up(margin::spread_charge(book.formed(at), spread.rate)).0).collect();
     if !of_spreads.is_empty() {
         let charged: Vec<&[String]> = paid.iter().copied().filter(|row| !row[6].is_empty()).collect();
         column("charge of a spread", &charged, 6, &of_spreads)?;
     }
     equal("interprompt charge", of_spreads.iter().map(|charge| i128::from(*charge)).sum(), figures.interprompt_charge.0.into())?;
     let of_prompts: Vec<i64> =
-        contract.prompts.iter().zip(&book.lines).map(|(prompt, line)| margin::prompt_charge(prompt, line).0).collect();
+        contract.prompts.iter().zip(&book.lines).map(|(prompt, line)| contract.unit.halves_up(margin::prompt_charge(prompt, line)).0).collect();
     if of_prompts.is_empty() {
         return equal("prompts", prompts.len() as i128, 0);
     }
@@ -136,7 +137,7 @@ fn compare_charges(
 fn credits(account: &Account, table: &Book, place: usize, twice: Amount) -> Vec<i64> {
     let number = account.contracts[place].number;
     let naming = account.entries.iter().zip(&table.steps).filter(|(entry, _)| [entry.first, entry.second].contains(&number));
-    let credit = |used: Delta, percent: i64| margin::credit(twice, used, table.lines[place].net, percent).0;
+    let credit = |used: Delta, percent: i64| margin::credit(twice, used, table.lines[place].net, percent, account.contracts[place].unit).0;
     naming.map(|(entry, [first, second])| credit(first.given[place] + second.given[place], entry.percent)).collect()
 }
 

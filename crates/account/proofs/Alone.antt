@@ -2,7 +2,7 @@
 -- Assumes nothing.
 use Prim.Native.Nat.{ℕ, _+_, _%_, _<_}
 use native.Mathlib.Omega.{arith}
-use mathlib.Core.Path.{_≡_, refl, sym, ap, _∙_, subst⁻¹}
+use mathlib.Core.Path.{_≡_, refl, sym, ap, _∙_, subst, subst⁻¹}
 use mathlib.Core.Bool.{Bool, true, false, not, _&&_, cond}
 use mathlib.Core.List.{List, []}
 use lib.Dec.{eqb, ltb}
@@ -11,11 +11,12 @@ use Rattle.exact.specs.Lists.{sum}
 use Rattle.account.specs.Check.{checked, mostContracts}
 use Rattle.account.specs.Notes.{parts}
 use Rattle.account.specs.Records.{records, recordCount}
-use Rattle.account.specs.Supplied.{lists, fromNoon, eitherNote, Filled, Flagged, JoinedBy, AloneBy, Supplied}
+use Rattle.account.specs.Standing.{lists, fromNoon, eitherNote, Filled, Flagged, JoinedBy, AloneBy, Stands, CheckedBy}
 use Rattle.account.specs.Surveyed.{Surveyed}
 use Rattle.account.specs.declared.answers.Answer.the-variants.{Accepted}
 use Rattle.account.specs.declared.check.Survey.{Survey}
-use Rattle.account.specs.declared.joined.Joined.{Joined}
+use Rattle.account.specs.declared.accounts.Account.{Account}
+use Rattle.account.proofs.Going.{same-survey}
 use Rattle.account.proofs.Places.{alone, alone-lawful, records-are, places}
 use Rattle.account.proofs.Walk.{length-cut}
 
@@ -51,9 +52,9 @@ none-supplied v = ap (λ (t : Bool). ltb v 80 && t) (none-listed (v % 16) (omega
 noted : (xs : List ℕ) → length xs ≡ parts → Filled parts (eitherNote xs zeros zeros) xs
 noted xs l = record { long = l; each = λ v h. sym (ap (λ (t : Bool). cond t (getD zeros v 0) (getD xs v 0)) (none-supplied v)) }
 
-module _ (file : List ℕ) (s : Survey) (k : ℕ) (j : Joined) (sv : Surveyed file s) (by : AloneBy s k j) where
+module _ (file : List ℕ) (s : Survey) (k : ℕ) (j : Account) (sv : Surveyed file s) (by : AloneBy s k j) where
   -- the same with the records added up from the parts
-  added : Joined
+  added : Account
   added = record { records = sum (j .counts); contracts = j .contracts; numbers = j .numbers; noon = j .noon; first = j .first; counts = j .counts }
 
   added-by : JoinedBy s nothing added
@@ -83,8 +84,17 @@ module _ (file : List ℕ) (s : Survey) (k : ℕ) (j : Joined) (sv : Surveyed fi
     unfolding nothing added
     joined-by = record { first = added-by .first; counts = added-by .counts; noon = added-by .noon; numbers = by .numbers; records = all-added }
 
-    pub alone-supplied : (none : List ℕ) → none ≡ [] → Supplied file none j
-    alone-supplied none z =
-        subst⁻¹ (λ (x : List ℕ). Supplied file x j) z
+    pub alone-stands : (none : List ℕ) → none ≡ [] → Stands file none j
+    alone-stands none z =
+        subst⁻¹ (λ (x : List ℕ). Stands file x j) z
         (let law = alone-lawful file [] refl ok in
         record { lawful = law; places = places file [] s nothing j sv nothing-surveyed ok refl joined-by law })
+
+-- what the check of a file hands out
+pub checked-alone : (file : List ℕ) (s : Survey) (j : Account) → Surveyed file s → AloneBy s (recordCount file) j → CheckedBy file (record { answer = s .answer; account = j })
+checked-alone file s j sv by =
+    record {
+      answer-is = sv .answer;
+      alone-by = λ s′ sv′. subst (λ (x : Survey). AloneBy x (recordCount file) j) (same-survey file s s′ sv sv′) by;
+      stands = λ ok. alone-stands file s (recordCount file) j sv by ok refl;
+    }

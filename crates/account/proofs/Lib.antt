@@ -18,11 +18,12 @@ pub mod Accepted
 pub mod ByKind
 pub mod Claimed
 pub mod Orders
-pub mod Supplied
+pub mod Filled
 pub mod Lawful
 pub mod JoinedLaws
 pub mod Places
 pub mod Alone
+pub mod Standing
 pub mod NoonLaws
 pub mod PairClaimed
 pub mod Whole

@@ -14,16 +14,16 @@ use Rattle.account.specs.Accepted.{listed}
 use Rattle.account.specs.Answers.{numberOf}
 use Rattle.account.specs.Check.{checked, mostRecords, mostContracts}
 use Rattle.account.specs.Lawful.{Lawful}
-use Rattle.account.specs.Noon.{ofJoined, ofMorning, ofNoon, clear, _then_, noSpread, fewJoined, joinedVerdict, verdictBy, CheckedBy, nowhere, placeIn, placeBy, promptPlace}
+use Rattle.account.specs.Noon.{ofJoined, ofMorning, ofNoon, clear, _then_, noSpread, fewJoined, joinedVerdict, verdictBy, PairBy, nowhere, placeIn, placeBy, promptPlace}
 use Rattle.account.specs.Notes.{part, inPart}
 use Rattle.account.specs.Parts.{ofKind, ofContract, placeOf, startOf}
 use Rattle.account.specs.Records.{records}
-use Rattle.account.specs.Supplied.{JoinedBy, Supplied, accountOf}
+use Rattle.account.specs.Standing.{JoinedBy, Stands, accountOf}
 use Rattle.account.specs.Surveyed.{Surveyed, ofAccepted}
 use Rattle.account.specs.declared.answers.Answer.{Answer}
 use Rattle.account.specs.declared.answers.Answer.the-variants.{Accepted, TooLong, CutRecord, UnknownKind, KindFalls, UnusedByte, FieldOutside, Unlisted, OutOfOrder, OverLimit, TooFewNumbers, NoSuchQuestion, NoonSpread, TooManyJoined, LengthsDiffer, AmountOutside}
 use Rattle.account.specs.declared.check.Survey.{Survey}
-use Rattle.account.specs.declared.joined.Joined.{Joined}
+use Rattle.account.specs.declared.accounts.Account.{Account}
 use Rattle.account.specs.declared.noon.Place.{Place}
 use Rattle.account.specs.declared.noon.Verdict.{Verdict}
 use Rattle.account.proofs.Going.{same-survey}
@@ -100,7 +100,7 @@ module _ (morning noon : List ℕ) (c : clear (joinedVerdict morning noon) ≡ t
   pub pair-lawful : Lawful (accountOf morning noon)
   pair-lawful = joined-lawful (records morning) (records noon) (lawful morning morning-accepted) (lawful noon noon-accepted) few
 
-module _ (morning noon : List ℕ) (m n : Survey) (j : Joined) (sm : Surveyed morning m) (sn : Surveyed noon n) (by : JoinedBy m n j) where
+module _ (morning noon : List ℕ) (m n : Survey) (j : Account) (sm : Surveyed morning m) (sn : Surveyed noon n) (by : JoinedBy m n j) where
   rest : Verdict
   rest = ofNoon (noSpread noon) then ofJoined (fewJoined (length (accountOf morning noon)))
 
@@ -151,17 +151,17 @@ module _ (morning noon : List ℕ) (m n : Survey) (j : Joined) (sm : Surveyed mo
           let h : numberOf (checked morning) ≡ 0 → ⊥ = λ z. some (sym e ∙ z) in
           stops (ofMorning (checked morning)) (ofNoon (checked noon) then restBy) h ∙ sym (stops (ofMorning (checked morning)) (ofNoon (checked noon) then rest) h)
 
-  pub joined-supplied : clear (joinedVerdict morning noon) ≡ true → Supplied morning noon j
-  joined-supplied c =
+  pub pair-stands : clear (joinedVerdict morning noon) ≡ true → Stands morning noon j
+  pair-stands c =
       let law = pair-lawful morning noon c in
       record { lawful = law; places = places morning noon m n j sm sn (morning-accepted morning noon c) (noon-accepted morning noon c) by law }
 
-  pub checked-by : (v : Verdict) → v ≡ verdictBy m n (j .records) → CheckedBy morning noon (record { verdict = v; joined = j })
+  pub checked-by : (v : Verdict) → v ≡ verdictBy m n (j .records) → PairBy morning noon (record { verdict = v; account = j })
   checked-by v e =
       record {
         verdict-is = e ∙ verdict-is;
         joined-by = λ m′ n′ sm′ sn′. subst₂ (λ (x y : Survey). JoinedBy x y j) (same-survey morning m m′ sm sm′) (same-survey noon n n′ sn sn′) by;
-        supplied = joined-supplied;
+        stands = pair-stands;
       }
 
 -- ---- where a contract's prompts stand
@@ -180,12 +180,32 @@ own-listed file s c sv ok h =
     ∙ ap not (none-counted (ofContract 1 c) (records file))
     ∙ Bool·not-not (any (ofContract 1 c) (records file))
 
-module _ (morning noon : List ℕ) (m n : Survey) (j : Joined) (sm : Surveyed morning m) (sn : Surveyed noon n) (by : JoinedBy m n j) (v : Verdict) (e : v ≡ verdictBy m n (j .records)) (c : ℕ) where
+-- both files checked, joined, and the verdict on them
+pub record Joining (morning noon : List ℕ) : Type 0 where
+  pub first : Survey
+  pub second : Survey
+  pub account : Account
+  pub first-is : Surveyed morning first
+  pub second-is : Surveyed noon second
+  pub joined-by : JoinedBy first second account
+  pub verdict : Verdict
+  pub verdict-is : verdict ≡ verdictBy first second (account .records)
+
+module _ (morning noon : List ℕ) (known : Joining morning noon) (c : ℕ) where
+  abbrev m : Survey
+  m = known .first
+
+  abbrev n : Survey
+  n = known .second
+
+  abbrev v : Verdict
+  v = known .verdict
+
   abbrev there : Place
   there = cond (listed c (records noon)) (placeIn 2 noon c) (cond (listed c (records morning)) (placeIn 1 morning c) nowhere)
 
   its : v ≡ joinedVerdict morning noon
-  its = e ∙ verdict-is morning noon m n j sm sn by
+  its = known .verdict-is ∙ verdict-is morning noon m n (known .account) (known .first-is) (known .second-is) (known .joined-by)
 
   pub place-refused : (numberOf (v .answer) ≡ 0 → ⊥) → promptPlace morning noon c ≡ nowhere
   place-refused h =
@@ -210,22 +230,22 @@ module _ (morning noon : List ℕ) (m n : Survey) (j : Joined) (sm : Surveyed mo
 
     pub place-noon : (getD (n .counts) (16 + c) 0 ≡ 0 → ⊥) → placeBy 2 n c ≡ promptPlace morning noon c
     place-noon s =
-        by-survey 2 noon n c sn h
+        by-survey 2 noon n c (known .second-is) h
         ∙ sym (place-there ∙ ap (λ (t : Bool). cond t (placeIn 2 noon c) (cond (listed c (records morning)) (placeIn 1 morning c) nowhere))
-        (sym (own-listed noon n c sn (noon-accepted morning noon unrefused) h) ∙ ap not (ne-eqb _ 0 s)))
+        (sym (own-listed noon n c (known .second-is) (noon-accepted morning noon unrefused) h) ∙ ap not (ne-eqb _ 0 s)))
 
     module _ (s : getD (n .counts) (16 + c) 0 ≡ 0) where
       place-else : promptPlace morning noon c ≡ cond (listed c (records morning)) (placeIn 1 morning c) nowhere
       place-else =
           place-there ∙ ap (λ (t : Bool). cond t (placeIn 2 noon c) (cond (listed c (records morning)) (placeIn 1 morning c) nowhere))
-          (sym (own-listed noon n c sn (noon-accepted morning noon unrefused) h) ∙ ap not (eq-eqb _ 0 s))
+          (sym (own-listed noon n c (known .second-is) (noon-accepted morning noon unrefused) h) ∙ ap not (eq-eqb _ 0 s))
 
       abbrev ours : not (eqb (getD (m .counts) (16 + c) 0) 0) ≡ listed c (records morning)
-      ours = own-listed morning m c sm (morning-accepted morning noon unrefused) h
+      ours = own-listed morning m c (known .first-is) (morning-accepted morning noon unrefused) h
 
       pub place-morning : (getD (m .counts) (16 + c) 0 ≡ 0 → ⊥) → placeBy 1 m c ≡ promptPlace morning noon c
       place-morning k =
-          by-survey 1 morning m c sm h
+          by-survey 1 morning m c (known .first-is) h
           ∙ sym (place-else ∙ ap (λ (t : Bool). cond t (placeIn 1 morning c) nowhere) (sym ours ∙ ap not (ne-eqb _ 0 k)))
 
       pub place-nowhere : getD (m .counts) (16 + c) 0 ≡ 0 → promptPlace morning noon c ≡ nowhere

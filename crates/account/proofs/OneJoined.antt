@@ -12,13 +12,15 @@ use Rattle.exact.proofs.Lists.{getD-map}
 use Rattle.record.specs.Bytes.{countFrom}
 use Rattle.account.specs.Check.{checked, mostContracts}
 use Rattle.account.specs.Determined.{Determined}
-use Rattle.account.specs.Noon.{CheckedBy}
+use Rattle.account.specs.Noon.{PairBy}
 use Rattle.account.specs.Notes.{parts}
-use Rattle.account.specs.Supplied.{lists, Filled, Flagged, Numbered, JoinedBy, AloneBy}
+use Rattle.account.specs.Records.{recordCount}
+use Rattle.account.specs.Standing.{lists, Filled, Flagged, Numbered, JoinedBy, AloneBy, CheckedBy}
 use Rattle.account.specs.Surveyed.{Surveyed, contractCount, partStart, partCount}
 use Rattle.account.specs.declared.check.Survey.{Survey}
-use Rattle.account.specs.declared.joined.Joined.{Joined}
-use Rattle.account.specs.declared.noon.Checked.{Checked}
+use Rattle.account.specs.declared.accounts.Account.{Account}
+use Rattle.account.specs.declared.accounts.Checked.{Checked}
+use Rattle.account.specs.declared.noon.CheckedPair.{CheckedPair}
 use Rattle.account.proofs.Going.{same-survey}
 
 -- ---- lists given place by place
@@ -50,13 +52,13 @@ module _ (counts : List ℕ) where
   one-numbered : (n k : ℕ) (xs ys : List ℕ) → Numbered counts n xs → Numbered counts k ys → xs ≡ ys
   one-numbered n k xs ys a b = which n xs a ∙ sym (which k ys b)
 
-same-numbered : (j k : Joined) → j .counts ≡ k .counts → Numbered (k .counts) (k .contracts) (k .numbers)
+same-numbered : (j k : Account) → j .counts ≡ k .counts → Numbered (k .counts) (k .contracts) (k .numbers)
     → Numbered (j .counts) (k .contracts) (k .numbers)
 same-numbered j k e a = subst⁻¹ (λ (cs : List ℕ). Numbered cs (k .contracts) (k .numbers)) e a
 
 -- ---- a joined account, field by field
 
-pub one-joined : (m n : Survey) (j k : Joined) → JoinedBy m n j → JoinedBy m n k → j ≡ k
+pub one-joined : (m n : Survey) (j k : Account) → JoinedBy m n j → JoinedBy m n k → j ≡ k
 one-joined m n j k a b =
     let first = one-filled parts _ (j .first) (k .first) (a .first) (b .first) in
     let counts = one-filled parts _ (j .counts) (k .counts) (a .counts) (b .counts) in
@@ -72,7 +74,7 @@ one-joined m n j k a b =
       counts = counts i;
     }
 
-pub one-alone : (s : Survey) (records : ℕ) (j k : Joined) → AloneBy s records j → AloneBy s records k → j ≡ k
+pub one-alone : (s : Survey) (records : ℕ) (j k : Account) → AloneBy s records j → AloneBy s records k → j ≡ k
 one-alone s records j k a b =
     let counts : j .counts ≡ k .counts = a .counts ∙ sym (b .counts) in
     let own = same-numbered j k counts (b .numbers) in
@@ -125,15 +127,23 @@ surveyed file =
       counts = noted-at (partCount file);
     }
 
-pub one-checked : (morning noon : List ℕ) (r s : Checked) → CheckedBy morning noon r → CheckedBy morning noon s → r ≡ s
+pub one-file : (file : List ℕ) (r s : Checked) → CheckedBy file r → CheckedBy file s → r ≡ s
+one-file file r s a b =
+    let m = taken file in
+    let account =
+    one-alone m (recordCount file) (r .account) (s .account) (a .alone-by m (surveyed file)) (b .alone-by m (surveyed file))
+    in
+    λ i. record { answer = (a .answer-is ∙ sym (b .answer-is)) i; account = account i }
+
+pub one-checked : (morning noon : List ℕ) (r s : CheckedPair) → PairBy morning noon r → PairBy morning noon s → r ≡ s
 one-checked morning noon r s a b =
     let m = taken morning in
     let n = taken noon in
     let joined =
-    one-joined m n (r .joined) (s .joined)
+    one-joined m n (r .account) (s .account)
     (a .joined-by m n (surveyed morning) (surveyed noon)) (b .joined-by m n (surveyed morning) (surveyed noon))
     in
-    λ i. record { verdict = (a .verdict-is ∙ sym (b .verdict-is)) i; joined = joined i }
+    λ i. record { verdict = (a .verdict-is ∙ sym (b .verdict-is)) i; account = joined i }
 
 pub determined : Determined
-determined = record { survey = same-survey; joined = one-joined; alone = one-alone; pair = one-checked }
+determined = record { survey = same-survey; joined = one-joined; alone = one-alone; file = one-file; pair = one-checked }

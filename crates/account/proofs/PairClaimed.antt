@@ -21,7 +21,7 @@ use Rattle.account.specs.Notes.{part}
 use Rattle.account.specs.PairClaims.{Says, BothPass, FirstSpread, NoSpread, PairExactly, OfMorning, OfNoon, OfJoined, PromptsHanded, PairClaims}
 use Rattle.account.specs.Parts.{ofKind, ofContract, placeOf, promptsOf}
 use Rattle.account.specs.Records.{records, recordAt, recordCount, stretch}
-use Rattle.account.specs.Supplied.{accountOf}
+use Rattle.account.specs.Standing.{accountOf}
 use Rattle.account.specs.declared.answers.Answer.{Answer}
 use Rattle.account.specs.declared.answers.Answer.the-variants.{Accepted, NoonSpread, TooManyJoined}
 use Rattle.account.specs.declared.noon.Place.{Place}

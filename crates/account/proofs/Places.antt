@@ -20,11 +20,11 @@ use Rattle.account.specs.Lawful.{Lawful}
 use Rattle.account.specs.Notes.{part, parts, inPart}
 use Rattle.account.specs.Parts.{ofKind, ofContract, contractsOf, entriesOf}
 use Rattle.account.specs.Records.{records, stretch}
-use Rattle.account.specs.Supplied.{lists, fromNoon, JoinedBy, accountOf, supplies, Places}
+use Rattle.account.specs.Standing.{lists, fromNoon, JoinedBy, accountOf, supplies, Places}
 use Rattle.account.specs.Surveyed.{Surveyed, partStart, partCount}
 use Rattle.account.specs.declared.answers.Answer.the-variants.{Accepted}
 use Rattle.account.specs.declared.check.Survey.{Survey}
-use Rattle.account.specs.declared.joined.Joined.{Joined}
+use Rattle.account.specs.declared.accounts.Account.{Account}
 use Rattle.account.proofs.Accepted.{accepts, part-stands}
 use Rattle.account.proofs.Every.{length-kept}
 use Rattle.account.proofs.Going.{if-accepted}
@@ -45,7 +45,7 @@ module _ (v : ℕ) (low : v < 16) where
   not-low : (r : Record) → (kind r ≡ 0 → ⊥) → inPart v r ≡ false
   not-low r d = rw (ne-eqb v 80 (λ z. omega arith)) (other-kind (v / 16) (v % 16) r (λ z. d (omega arith)))
 
-  none-low : (m n : List Record) → keep (inPart v) (joined m n) ≡ []
+  pub none-low : (m n : List Record) → keep (inPart v) (joined m n) ≡ []
   none-low m n =
       let p = inPart v in
       let no : (k : ℕ) → (k ≡ 0 → ⊥) → keep p (joinedOf m n k) ≡ [] = λ k d. others m n p 0 k not-low d in
@@ -109,7 +109,7 @@ module _ (morning noon : List ℕ) (okm : checked morning ≡ Accepted) (okn : c
 
 -- ---- the joined account
 module _
-    (morning noon : List ℕ) (m n : Survey) (j : Joined) (sm : Surveyed morning m) (sn : Surveyed noon n)
+    (morning noon : List ℕ) (m n : Survey) (j : Account) (sm : Surveyed morning m) (sn : Surveyed noon n)
     (okm : checked morning ≡ Accepted) (okn : checked noon ≡ Accepted) (by : JoinedBy m n j) where
   noon-lists : (c : ℕ) → c ≤ 15 → lists (n .counts) c ≡ listed c (records noon)
   noon-lists c h =

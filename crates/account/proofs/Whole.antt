@@ -20,7 +20,7 @@ use Rattle.account.specs.Lawful.{Lawful}
 use Rattle.account.specs.Noon.{clear, joinedVerdict}
 use Rattle.account.specs.Parts.{ofKind, ofContract, contractsOf, entriesOf}
 use Rattle.account.specs.Records.{records}
-use Rattle.account.specs.Supplied.{accountOf}
+use Rattle.account.specs.Standing.{accountOf}
 use Rattle.account.specs.Whole.{partsBy, inHowMany, Whole}
 use Rattle.account.specs.declared.answers.Answer.the-variants.{Accepted}
 use Rattle.account.proofs.Every.{every-append, every-weaker}

@@ -9,7 +9,7 @@ pub mod Claims
 pub mod Orders
 pub mod Lawful
 pub mod Joined
-pub mod Supplied
+pub mod Standing
 pub mod Noon
 pub mod PairClaims
 pub mod Whole

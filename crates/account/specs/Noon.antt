@@ -13,12 +13,12 @@ use Rattle.account.specs.Check.{checked, mostRecords, mostContracts}
 use Rattle.account.specs.Notes.{part, entryPart}
 use Rattle.account.specs.Parts.{ofKind, placeOf}
 use Rattle.account.specs.Records.{records, stretch}
-use Rattle.account.specs.Supplied.{accountOf, JoinedBy, Supplied}
+use Rattle.account.specs.Standing.{accountOf, JoinedBy, Stands}
 use Rattle.account.specs.Surveyed.{Surveyed, partStart, partCount}
 use Rattle.account.specs.declared.answers.Answer.{Answer}
 use Rattle.account.specs.declared.answers.Answer.the-variants.{Accepted, NoonSpread, TooManyJoined}
 use Rattle.account.specs.declared.check.Survey.{Survey}
-use Rattle.account.specs.declared.noon.Checked.{Checked}
+use Rattle.account.specs.declared.noon.CheckedPair.{CheckedPair}
 use Rattle.account.specs.declared.noon.Place.{Place}
 use Rattle.account.specs.declared.noon.Verdict.{Verdict}
 
@@ -60,10 +60,10 @@ verdictBy m n records =
     then ofNoon (cond (eqb (getD (n .counts) entryPart 0) 0) Accepted (NoonSpread (getD (n .first) entryPart 0)))
     then ofJoined (fewJoined records)
 
-pub record CheckedBy (morning noon : List ℕ) (r : Checked) : Type 0 where
+pub record PairBy (morning noon : List ℕ) (r : CheckedPair) : Type 0 where
   pub verdict-is : r .verdict ≡ joinedVerdict morning noon
-  pub joined-by : (m n : Survey) → Surveyed morning m → Surveyed noon n → JoinedBy m n (r .joined)
-  pub supplied : clear (joinedVerdict morning noon) ≡ true → Supplied morning noon (r .joined)
+  pub joined-by : (m n : Survey) → Surveyed morning m → Surveyed noon n → JoinedBy m n (r .account)
+  pub stands : clear (joinedVerdict morning noon) ≡ true → Stands morning noon (r .account)
 
 -- "hand back its prompt records as they stand in whichever file supplies them, an empty part if neither lists it or the
 -- pair's records are refused": in which file they stand, from which record on, and how many

@@ -6,8 +6,8 @@ use Prim.Native.Nat.{ℕ, _+_, _*_, _/_, _%_}
 use mathlib.Core.Bool.{Bool, false, not, _||_, cond}
 use mathlib.Core.List.{List, [], _∷_}
 use lib.ListN.{getD, set}
-use lib.Dec.{eqb, leb}
-use Rattle.exact.specs.Lists.{any}
+use lib.Dec.{eqb, leb, ltb}
+use Rattle.exact.specs.Lists.{any, keep}
 use Rattle.record.specs.Layout.{Record, byKind, kind, contract, day, legsOf, legTier, secondContract}
 use Rattle.record.specs.Ranges.{unknownKind, unusedByte, fieldOutside}
 use Rattle.account.specs.Check.{theOneBefore, kindFalls, outOfOrder, mostContracts, mostPrompts, mostRows, mostSpreads, mostEntries, _when_, firstOf}
@@ -29,6 +29,10 @@ partOf r = cond (eqb (kind r) 5) entryPart (part (kind r) (contract r))
 
 abbrev pub inPart : ℕ → Record → Bool
 inPart v r = cond (eqb v entryPart) (ofKind 5 r) (ofContract (v / mostContracts) (v % mostContracts) r)
+
+-- the records of part v of an account, in order
+abbrev pub partRecords : ℕ → List Record → List Record
+partRecords v account = cond (ltb entryPart v) [] (keep (inPart v) account)
 
 -- the notes with one more record, the k-th
 abbrev pub oneMore : List ℕ → ℕ → List ℕ

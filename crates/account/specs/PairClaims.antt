@@ -16,7 +16,7 @@ use Rattle.account.specs.Noon.{clear, joinedVerdict, joinedPrompts}
 use Rattle.account.specs.Notes.{part}
 use Rattle.account.specs.Parts.{ofKind, promptsOf}
 use Rattle.account.specs.Records.{records, recordAt, recordCount}
-use Rattle.account.specs.Supplied.{accountOf}
+use Rattle.account.specs.Standing.{accountOf}
 use Rattle.account.specs.declared.answers.Answer.the-variants.{Accepted}
 use Rattle.account.specs.declared.noon.Verdict.{Verdict}
 

@@ -4,9 +4,10 @@ use crate::answers::number_of;
 use crate::check::MOST_RECORDS;
 use crate::check::Survey;
 use crate::check::take_survey;
-use crate::joined::Joined;
-use crate::joined::join;
-use crate::joined::supplier;
+use crate::accounts::Account;
+use crate::accounts::join;
+use crate::accounts::record_total;
+use crate::accounts::supplier;
 use crate::parts::CONTRACTS;
 use crate::parts::ENTRIES;
 use crate::parts::OWN;
@@ -15,7 +16,7 @@ use crate::stretches::stretch;
 ghost use mathlib.Core.Path.{_≡_};
 ghost use Prim.Native.Nat.{_<_};
 ghost use Rattle.account.specs.Check.{mostContracts};
-ghost use Rattle.account.specs.Noon.{verdictBy, CheckedBy, placeBy, promptPlace, joinedPrompts};
+ghost use Rattle.account.specs.Noon.{verdictBy, PairBy, placeBy, promptPlace, joinedPrompts};
 
 // Which file an answer is about.
 pub const JOINED: usize = 0;
@@ -66,21 +67,20 @@ fn verdict_of(morning: Survey, noon: Survey, records: usize) -> Verdict
 }
 
 // The verdict on a pair of files, and the joined account.
-pub struct Checked {
+pub struct CheckedPair {
     pub verdict: Verdict,
-    pub joined: Joined,
+    pub account: Account,
 }
 
-pub fn take_joined(morning: &[u8], noon: &[u8]) -> Checked
-    ensures { λ r. ⌜ CheckedBy (now (morning .entry)) (now (noon .entry)) r ⌝ }
+pub fn check_pair(morning: &[u8], noon: &[u8]) -> CheckedPair
+    ensures { λ r. ⌜ PairBy (now (morning .entry)) (now (noon .entry)) r ⌝ }
 {
     let first = take_survey(morning);
     let second = take_survey(noon);
-    let joined = join(first, second);
-    let records = joined.records;
-    Checked {
-        verdict: verdict_of(first, second, records),
-        joined,
+    let account = join(first, second);
+    CheckedPair {
+        verdict: verdict_of(first, second, record_total(account)),
+        account,
     }
 }
 
@@ -118,8 +118,8 @@ pub fn prompt_place(morning: &[u8], noon: &[u8], contract: usize) -> Place
 {
     let first = take_survey(morning);
     let second = take_survey(noon);
-    let joined = join(first, second);
-    let verdict = verdict_of(first, second, joined.records);
+    let account = join(first, second);
+    let verdict = verdict_of(first, second, record_total(account));
     let answer = verdict.answer;
     if number_of(answer) != 0 {
         return nowhere();

@@ -14,13 +14,14 @@ use Rattle.exact.proofs.Lists.{getD-map}
 use Rattle.record.specs.Layout.{Record, contract, percent}
 use Rattle.account.specs.Parts.{contractsOf}
 use Rattle.account.specs.Records.{records}
-use Rattle.account.specs.Supplied.{Supplied, accountOf}
-use Rattle.account.specs.declared.joined.Joined.{Joined}
+use Rattle.account.specs.Lawful.{Lawful}
+use Rattle.account.specs.Notes.{entryPart}
+use Rattle.account.specs.Standing.{PartOf}
 use Rattle.spread.specs.Book.{entries, deltaEntry}
 use Rattle.spread.specs.Steps.{Open, steps, numbers, usedOf, unusedOf}
 use Rattle.spread.specs.declared.Spreads.{Spreads}
 use Rattle.spread.specs.declared.book.Book.{Book}
-use Rattle.margin.specs.declared.accepted.Lines.{Lines}
+use Rattle.margin.specs.declared.over.Lines.{Lines}
 use Rattle.margin.specs.declared.amount.Amount.{Amount}
 use Rattle.margin.specs.declared.line.Line.{Line}
 use Rattle.margin.specs.Bounds.{mostDelta, mostFormed}
@@ -31,7 +32,7 @@ use Rattle.margin.specs.Figures.{figures, figuresOver}
 use Rattle.margin.specs.Lines.{noLine, figuresFrom}
 use Rattle.margin.specs.Numbers.{LinesWithin}
 use Rattle.margin.specs.Promised.{BookOf, LineOf}
-use Rattle.margin.specs.Stands.{LinesOf}
+use Rattle.margin.specs.Lined.{LinesOf}
 use Rattle.margin.specs.Sums.{interleaved, spreadsAt}
 use Rattle.margin.specs.Table.{tierOf, TableRoom, CreditsRoom, CreditsOf, earns, tableFirsts, tableSeconds}
 use Rattle.margin.proofs.AcceptLaws.{entries-within, numbers-rise}
@@ -39,7 +40,7 @@ use Rattle.margin.proofs.BookLaws.{first-at, second-at, over-arrays}
 use Rattle.margin.proofs.CreditLaws.{credits-by}
 use Rattle.margin.proofs.FigureLaws.{Lined, Apart, Credited, tiers-are, tiers-sound, tier-sizes, unused-is, entry-use-within, figures-are}
 use Rattle.margin.proofs.LineLaws.{numbers-length}
-use Rattle.margin.proofs.StandLaws.{entryPartIn, entries-part, entries-fit}
+use Rattle.margin.proofs.StandLaws.{entries-part, entries-fit}
 use Rattle.margin.proofs.StepBounds.{number-within}
 
 -- ---- lines, filled place by place
@@ -76,10 +77,7 @@ credited-from es table [] d cs h e = tt
 credited-from es table (k ∷ ks) d [] h e = absurd (not-suc-le-zero h)
 credited-from es table (k ∷ ks) d (c ∷ cs) h e = (e 0 (suc-le-suc zero-le), credited-from es table ks d cs (le-of-suc-le-suc h) (λ i m. e (suc i) (suc-le-suc m)))
 
-module _ (morning noon : List ℕ) (j : Joined) (st : Supplied morning noon j) (all : Lines) (is : LinesOf (accountOf morning noon) all) (part : List ℕ) (ep : part ≡ entryPartIn morning noon j st) where
-  abbrev account : List Record
-  account = accountOf morning noon
-
+module _ (account : List Record) (law : Lawful account) (all : Lines) (is : LinesOf account all) (part : List ℕ) (ep : PartOf account entryPart part) where
   abbrev n : ℕ
   n = all .count
 
@@ -121,13 +119,13 @@ module _ (morning noon : List ℕ) (j : Joined) (st : Supplied morning noon j) (
       (λ i j k m.
       let a : j < n = omega (arith, ls-length) in
       let b : i < n = omega arith in
-      let c = numbers-rise account (st .lawful) i j k (omega (arith, is .count-is)) in
+      let c = numbers-rise account law i j k (omega (arith, is .count-is)) in
       let e = number-at i b in
       let f = number-at j a in
       omega arith)
 
   pub table-room : TableRoom n (all .line) (records part)
-  table-room = record { few = is .few; tiers-sound = tiers-sound ks ls lined; entries-within = (entries-fit morning noon j st part ep) }
+  table-room = record { few = is .few; tiers-sound = tiers-sound ks ls lined; entries-within = (entries-fit account law part ep) }
 
   -- the book of the table, run or not
   abbrev pub its : Book
@@ -158,9 +156,9 @@ module _ (morning noon : List ℕ) (j : Joined) (st : Supplied morning noon j) (
 
     use-most : (i : ℕ) → i < n → (k : ℕ) → k < length (records part) → entryUse (getD (all .line) i noLine .contract) (getD (records part) k []) (spreadsAt (b .first) k) (spreadsAt (b .second) k) ≤ natAbs (getD (all .line) i noLine .net .0)
     use-most i h k m =
-        let l : k < 32 = omega (arith, (entries-fit morning noon j st part ep) .few) in
+        let l : k < 32 = omega (arith, (entries-fit account law part ep) .few) in
         let c = getD (all .line) i noLine .contract in
-        let u = entry-use-within c (records part) (map tierOf ls) (entries-fit morning noon j st part ep) k m in
+        let u = entry-use-within c (records part) (map tierOf ls) (entries-fit account law part ep) k m in
         let v : unusedBy c (map tierOf ls) ≡ natAbs (getD (all .line) i noLine .net .0) =
         subst (λ (x : Line). unusedBy (x .contract) (map tierOf ls) ≡ natAbs (x .net .0)) (line-here i h) (unused-is ls noLine apart i (omega (arith, ls-length)))
         in
@@ -174,14 +172,14 @@ module _ (morning noon : List ℕ) (j : Joined) (st : Supplied morning noon j) (
           each =
               λ i h.
               record {
-                most = (entries-fit morning noon j st part ep) .few;
+                most = (entries-fit account law part ep) .few;
                 price-within = line-at i h .price-within;
                 each =
                     λ k m.
-                    let l : k < 32 = omega (arith, (entries-fit morning noon j st part ep) .few) in
+                    let l : k < 32 = omega (arith, (entries-fit account law part ep) .few) in
                     record {
                       net-within = line-at i h .net-within;
-                      percent-within = (entries-fit morning noon j st part ep) .each k m .percent-within;
+                      percent-within = (entries-fit account law part ep) .each k m .percent-within;
                       first-within = subst⁻¹ (λ (x : ℕ). x ≤ mostFormed) (first-at bk k l) (formed-most (2 * k));
                       second-within = subst⁻¹ (λ (x : ℕ). x ≤ mostFormed) (second-at bk k l) (formed-most (2 * k + 1));
                       use-within = use-most i h k m;
@@ -202,9 +200,9 @@ module _ (morning noon : List ℕ) (j : Joined) (st : Supplied morning noon j) (
           ap (λ (c : ℕ). creditsBy c (l .«twice_price») (natAbs (l .net .0)) (records part) (interleaved (b .first) (b .second))) (li .contract-is)
           ∙ ap₂ (λ (t : ℕ) (z : ℤ). creditsBy (contract (k .own)) t (natAbs z) (records part) (interleaved (b .first) (b .second))) (li .price-is) (li .net-is)
           ∙ ap₂ (λ (x y : List Spreads). creditsBy (contract (k .own)) (twicePriceRisk (k .totals)) (natAbs (contractNet k)) (records part) (interleaved x y)) (bk .first-is) (bk .second-is)
-          ∙ over-arrays (λ e x y. credit (twicePriceRisk (k .totals)) (entryUse (contract (k .own)) e x y) (percent e) (natAbs (contractNet k))) (records part) ns 32 (numbers-length intercontract (records part) (map tierOf ls)) ((entries-fit morning noon j st part ep) .few)
+          ∙ over-arrays (λ e x y. credit (twicePriceRisk (k .totals)) (entryUse (contract (k .own)) e x y) (percent e) (natAbs (contractNet k))) (records part) ns 32 (numbers-length intercontract (records part) (map tierOf ls)) ((entries-fit account law part ep) .few)
           ∙ ap (λ (ps : List Open). creditsBy (contract (k .own)) (twicePriceRisk (k .totals)) (natAbs (contractNet k)) (records part) (numbers (steps (map intercontract (records part))) ps)) (tiers-are ks ls lined)
-          ∙ sym (credits-by (contract (k .own)) (twicePriceRisk (k .totals)) (natAbs (contractNet k)) (records part) (map asTier ks) (entries-fit morning noon j st part ep))
+          ∙ sym (credits-by (contract (k .own)) (twicePriceRisk (k .totals)) (natAbs (contractNet k)) (records part) (map asTier ks) (entries-fit account law part ep))
 
       credited : Credited (records part) (map asTier ks) ks (take n cs)
       credited =
@@ -215,4 +213,4 @@ module _ (morning noon : List ℕ) (j : Joined) (st : Supplied morning noon j) (
       pub answer-is : map pos (figuresFrom ls (take n cs)) ≡ figures account
       answer-is =
           ap (map pos) (figures-are (records part) ks ls (take n cs) lined credited)
-          ∙ ap (λ (x : List Record). map pos (figuresOver x ks)) (entries-part morning noon j st part ep)
+          ∙ ap (λ (x : List Record). map pos (figuresOver x ks)) (entries-part account law part ep)

@@ -7,22 +7,20 @@ use native.Mathlib.Omega.{arith}
 use mathlib.Core.Path.{_≡_, refl, sym, ap, ap₂, subst, _∙_}
 use mathlib.Core.Bool.{Bool, true, false, cond}
 use mathlib.Core.List.{List, _++_}
-use borrow.Author.Tests.{eqb-true, ltb-false}
+use borrow.Rule.Slice.PartMut.{putMid, post-is}
+use borrow.Author.Tests.{eqb-true, lt-ltb, le-ltb, ltb-false}
 use lib.Dec.{ltb}
 use lib.IntN.{ℤ}
 use lib.ListN.{length, length-append, length-drop, take, drop, take-append-drop}
 use lib.Seq.{length-take-le, take-at, drop-at, take-append-le, drop-append-le, drop-append-add, drop-drop}
+use Rattle.record.specs.Layout.{Record}
 use Rattle.account.specs.Answers.{numberOf}
-use Rattle.account.specs.Check.{checked}
-use Rattle.account.specs.Records.{records, recordCount}
 use Rattle.account.specs.declared.answers.Answer.{Answer}
 use Rattle.account.specs.declared.answers.Answer.the-variants.{Accepted, TooFewNumbers}
-use Rattle.margin.specs.Books.{book}
-use Rattle.margin.specs.Bounds.{longestBook, longestUses}
-use Rattle.margin.specs.Held.{questions, atPlace, afterEach, eachAnswer, eachAfter, booksAnswer, allUsesAnswer, place, EachPlace}
-use Rattle.margin.specs.Questions.{accepted, ifAccepted, asked, answerTo, afterwards, afterBook, afterUses}
-use Rattle.margin.specs.Uses.{uses}
-use Rattle.margin.proofs.QuestionLaws.{accepted-only, if-refused, if-accepted, not-asked, then-enough}
+use Rattle.margin.specs.Places.{questions, atPlace, afterEach, eachOver, afterEachOver, questionOf, widthOf, allOver, afterAllOver, place, EachPlace}
+use Rattle.margin.specs.Questions.{accepted, answers, numbersFor, answerOver, afterOver}
+use Rattle.margin.specs.declared.asking.Question.{Question}
+use Rattle.margin.proofs.QuestionLaws.{not-asked, then-enough}
 
 -- ---- one place
 
@@ -75,23 +73,23 @@ lent-enough : (need lent k : ℕ) (t : Bool) → ltb lent need ≡ t → numberO
 lent-enough need lent k true e z = absurd (omega arith)
 lent-enough need lent k false e z = ltb-false lent need e
 
-module _ (file : List ℕ) (q : ℕ) (numbers lent : List ℤ) where
+module _ (account : List Record) (question : Question) (lent : List ℤ) where
   abbrev answer : Answer
-  answer = answerTo file q numbers (length lent)
+  answer = answerOver account question (length lent)
 
-  abbrev may : Answer
-  may = ifAccepted (checked file) (asked file q)
+  abbrev numbers : List ℤ
+  numbers = numbersFor account question
 
   within : numberOf answer ≡ 0 → length numbers ≤ length lent
-  within z = from-asked (numberOf may) refl
+  within z = go (answers account question) refl
     where
-      from-asked : (n : ℕ) → numberOf may ≡ n → length numbers ≤ length lent
-      from-asked zero e = lent-enough (length numbers) (length lent) (recordCount file) (ltb (length lent) (length numbers)) refl (ap numberOf (sym (then-enough file q may refl numbers (length lent) e)) ∙ z)
-      from-asked (suc n) e =
-          let r = ap numberOf (not-asked file q may refl numbers (length lent) (λ g. let k : suc n ≡ 0 = sym e ∙ g in omega arith)) in
-          absurd (let k : suc n ≡ 0 = sym e ∙ sym r ∙ z in omega arith)
+      go : (t : Bool) → answers account question ≡ t → length numbers ≤ length lent
+      go true e =
+          lent-enough (length numbers) (length lent) (length account) (ltb (length lent) (length numbers)) refl
+          (ap numberOf (sym (then-enough account question (length lent) e)) ∙ z)
+      go false e = absurd (let n = ap numberOf (sym (not-asked account question (length lent) e)) ∙ z in omega arith)
 
-  keeps-length : length (afterwards answer numbers lent) ≡ length lent
+  pub keeps-length : length (afterOver account question lent) ≡ length lent
   keeps-length = go (accepted answer) refl
     where
       go : (t : Bool) → accepted answer ≡ t → length (cond t (numbers ++ drop (length numbers) lent) lent) ≡ length lent
@@ -100,18 +98,15 @@ module _ (file : List ℕ) (q : ℕ) (numbers lent : List ℤ) where
           length-append numbers (drop (length numbers) lent) ∙ (let d = length-drop (length numbers) lent in omega arith)
       go false e = refl
 
-book-keeps : (file : List ℕ) (q : ℕ) (lent : List ℤ) → length (afterBook file q lent) ≡ length lent
-book-keeps file q lent = keeps-length file q (book (records file) q) lent
-
-uses-keeps : (file : List ℕ) (q : ℕ) (lent : List ℤ) → length (afterUses file q lent) ≡ length lent
-uses-keeps file q lent = keeps-length file q (uses (records file) q) lent
+-- a place ends before a later one begins
+pub ends-within : (width n m : ℕ) → n < m → width * n + width ≤ width * m
+ends-within width n m g = subst (λ (k : ℕ). k ≤ width * m) (mul-suc width n) (mul-le-mul-left width g)
 
 -- ---- all places
 
 module _ (width : ℕ) (after : ℕ → List ℤ → List ℤ) (keeps : (q : ℕ) (xs : List ℤ) → length (after q xs) ≡ length xs) where
-  -- a place ends before a later one begins
   ends : (n m : ℕ) → n < m → width * n + width ≤ width * m
-  ends n m g = subst (λ (k : ℕ). k ≤ width * m) (mul-suc width n) (mul-le-mul-left width g)
+  ends = ends-within width
 
   module _ (lent : List ℤ) (h : width * questions ≤ length lent) where
     each-length : (n : ℕ) → n ≤ questions → length (afterEach width after n lent) ≡ length lent
@@ -151,29 +146,46 @@ module _ (width : ℕ) (after : ℕ → List ℤ → List ℤ) (keeps : (q : ℕ
             at-before width (width * n) (after n) (keeps n) (afterEach width after n lent) (room n g) (width * q) (ends q n l)
             ∙ before l
 
-  each-room : (file : List ℕ) (lent : ℕ) → eachAnswer width file lent ≡ Accepted → width * questions ≤ lent
-  each-room file lent ok = by-number (numberOf (checked file)) refl
-    where
-      enough : Answer
-      enough = cond (ltb lent (width * questions)) (TooFewNumbers (recordCount file)) Accepted
+  each-room : (account : List Record) (lent : ℕ) → eachOver width account lent ≡ Accepted → width * questions ≤ lent
+  each-room account lent ok = lent-enough (width * questions) lent (length account) (ltb lent (width * questions)) refl (ap numberOf ok)
 
-      by-number : (n : ℕ) → numberOf (checked file) ≡ n → width * questions ≤ lent
-      by-number zero e = lent-enough (width * questions) lent (recordCount file) (ltb lent (width * questions)) refl (ap numberOf (sym (if-accepted (checked file) enough (accepted-only (checked file) e)) ∙ ok))
-      by-number (suc n) e =
-          let r = if-refused (checked file) enough (λ z. let k : suc n ≡ 0 = sym e ∙ z in omega arith) in
-          absurd (let k : suc n ≡ 0 = sym e ∙ ap numberOf (sym r ∙ ok) in omega arith)
-
-  each-place : (file : List ℕ) (lent : List ℤ) → eachAnswer width file (length lent) ≡ Accepted → EachPlace width after file lent
-  each-place file lent ok =
-      let h = each-room file (length lent) ok in
-      let e : eachAfter width after file lent ≡ afterEach width after questions lent = ap (λ (a : Answer). cond (accepted a) (afterEach width after questions lent) lent) ok in
+  pub each-place : (account : List Record) (lent : List ℤ) → eachOver width account (length lent) ≡ Accepted → EachPlace width after lent (afterEachOver width after account lent)
+  each-place account lent ok =
+      let h = each-room account (length lent) ok in
+      let e : afterEachOver width after account lent ≡ afterEach width after questions lent = ap (λ (a : Answer). cond (accepted a) (afterEach width after questions lent) lent) ok in
       record {
         each = λ q g. ap (place width q) e ∙ placed lent h questions q g (omega arith);
         rest = ap (drop (width * questions)) e ∙ past lent h questions (width * questions) (omega arith) (omega arith);
       }
 
-pub each-book : (file : List ℕ) (lent : List ℤ) → booksAnswer file (length lent) ≡ Accepted → EachPlace longestBook (afterBook file) file lent
-each-book file = each-place longestBook (afterBook file) (book-keeps file) file
+pub all-places : (paid : Bool) (account : List Record) (lent : List ℤ) → allOver paid account (length lent) ≡ Accepted
+    → EachPlace (widthOf paid) (λ q. afterOver account (questionOf paid q)) lent (afterAllOver paid account lent)
+all-places paid account lent = each-place (widthOf paid) (λ q. afterOver account (questionOf paid q)) (λ q. keeps-length account (questionOf paid q)) account lent
 
-pub each-uses : (file : List ℕ) (lent : List ℤ) → allUsesAnswer file (length lent) ≡ Accepted → EachPlace longestUses (afterUses file) file lent
-each-uses file = each-place longestUses (afterUses file) (uses-keeps file) file
+-- ---- what the code does, place by place
+
+pub put-place : (width at : ℕ) (out part : List ℤ) (change : List ℤ → List ℤ) → part ≡ change (take (at + width - at) (drop at out)) → putMid at (at + width - at) out part ≡ atPlace width at change out
+put-place width at out part change e =
+    let k : at + width - at ≡ width = omega arith in
+    ap₂ (λ (ys zs : List ℤ). take at out ++ (ys ++ zs)) (e ∙ ap (λ (n : ℕ). change (take n (drop at out))) k) (post-is at (at + width) out (omega arith))
+
+module _ (width : ℕ) (after : ℕ → List ℤ → List ℤ) where
+  pub next-each : (q : ℕ) (lent out left : List ℤ) → out ≡ afterEach width after q lent → left ≡ atPlace width (width * q) (after q) out → left ≡ afterEach width after (q + 1) lent
+  next-each q lent out left h e =
+      e ∙ ap (atPlace width (width * q) (after q)) h ∙ sym (ap (λ (n : ℕ). afterEach width after n lent) (more q))
+    where
+      more : (q : ℕ) → q + 1 ≡ suc q
+      more q = omega arith
+
+  abbrev pub EachAnswered : Answer → List ℤ → List Record → List ℤ → Type 0
+  EachAnswered a left account lent = (a ≡ eachOver width account (length lent)) × (left ≡ afterEachOver width after account lent)
+
+  pub each-too-few : (account : List Record) (lent : List ℤ) (k : ℕ) → length lent < width * questions → k ≡ length account → EachAnswered (TooFewNumbers k) lent account lent
+  each-too-few account lent k h e =
+      let a : eachOver width account (length lent) ≡ TooFewNumbers k = ap (λ (t : Bool). cond t (TooFewNumbers (length account)) Accepted) (lt-ltb (length lent) (width * questions) h) ∙ ap TooFewNumbers (sym e) in
+      (sym a, sym (ap (λ (x : Answer). cond (accepted x) (afterEach width after questions lent) lent) a))
+
+  pub each-accepted : (account : List Record) (lent left : List ℤ) → width * questions ≤ length lent → left ≡ afterEach width after questions lent → EachAnswered Accepted left account lent
+  each-accepted account lent left h e =
+      let a : eachOver width account (length lent) ≡ Accepted = ap (λ (t : Bool). cond t (TooFewNumbers (length account)) Accepted) (le-ltb (length lent) (width * questions) h) in
+      (sym a, e ∙ sym (ap (λ (x : Answer). cond (accepted x) (afterEach width after questions lent) lent) a))

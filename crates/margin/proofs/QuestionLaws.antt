@@ -1,35 +1,31 @@
 -- What a question answers and leaves behind, by what the check, the question and the lent numbers say.
 -- Assumes nothing.
-use Prim.Native.Nat.{ℕ, zero, suc, _+_, _*_, _≤_, _<_}
+use Prim.Native.Nat.{ℕ, zero, suc, _+_, _*_, _-_, _≤_, _<_}
 use native.Mathlib.Omega.{arith}
 use mathlib.Core.Path.{_≡_, refl, sym, ap, _∙_}
 use mathlib.Core.Bool.{Bool, true, false, cond}
 use mathlib.Core.List.{List, [], _∷_, _++_, map}
 use borrow.Author.Tests.{lt-ltb, le-ltb, ne-eqb}
-use lib.IntN.{ℤ, pos}
-use lib.ListN.{length, drop, length-append, length-map}
+use lib.IntN.{ℤ, pos, natAbs}
+use lib.ListN.{length, getD, drop, length-append, length-map}
+use lib.Seq.{getD-take}
+use Rattle.exact.proofs.Lists.{getD-map}
 use Rattle.record.specs.Layout.{Record}
 use Rattle.account.specs.Answers.{numberOf}
-use Rattle.account.specs.Check.{checked}
 use Rattle.account.specs.Parts.{contractsOf, entriesOf}
-use Rattle.account.specs.Records.{records, recordCount}
-use Rattle.account.specs.Surveyed.{Surveyed}
 use Rattle.account.specs.declared.answers.Answer.{Answer}
 use Rattle.account.specs.declared.answers.Answer.the-variants.{Accepted, TooFewNumbers, NoSuchQuestion}
-use Rattle.account.specs.declared.check.Survey.{Survey}
 pub use Rattle.account.proofs.NoonLaws.{accepted-only}
 use Rattle.spread.specs.Steps.{Open}
 use Rattle.margin.specs.Contract.{Contract, contracts, partsIn, asTier}
-use Rattle.margin.specs.Figures.{eights, figures, figuresOver, totalMargin}
-use Rattle.margin.specs.Books.{answered}
-use Rattle.margin.specs.Questions.{accepted, ifAccepted, asked, answerTo, enough, afterwards}
-use Rattle.margin.specs.Stands.{Stands}
+use Rattle.margin.specs.Figures.{eights, figures, figuresOver, totalMargin, accountTotal}
+use Rattle.margin.specs.Numbers.{written}
+use Rattle.margin.specs.Questions.{accepted, ifAccepted, numbersFor, answers, enough, answerOver, afterwards}
+use Rattle.margin.specs.declared.asking.Question.{Question}
+use Rattle.margin.specs.declared.numbers.Numbers.{Numbers}
 
 pub some : {n : ℕ} → suc n ≡ 0 → ⊥
 some e = omega arith
-
-pub stands-from : (file : List ℕ) (s : Survey) → Surveyed file s → (n : ℕ) → n ≡ numberOf (s .answer) → n ≡ 0 → Stands file s
-stands-from file s is n e z = record { accepted = accepted-only (checked file) (ap numberOf (sym (is .answer)) ∙ sym e ∙ z); surveyed = is }
 
 -- ---- the answer and the lent numbers, case by case
 
@@ -42,11 +38,11 @@ if-accepted a next e = ap (λ (x : Answer). cond (accepted x) next x) e
 pub after-refused : (a : Answer) (numbers out : List ℤ) → (numberOf a ≡ 0 → ⊥) → afterwards a numbers out ≡ out
 after-refused a numbers out h = rw (ne-eqb (numberOf a) 0 h)
 
-pub too-few : (file : List ℕ) (numbers : List ℤ) (lent : ℕ) → lent < length numbers → enough file numbers lent ≡ TooFewNumbers (recordCount file)
-too-few file numbers lent h = rw (lt-ltb lent (length numbers) h)
+pub too-few : (account : List Record) (numbers : List ℤ) (lent : ℕ) → lent < length numbers → enough account numbers lent ≡ TooFewNumbers (length account)
+too-few account numbers lent h = rw (lt-ltb lent (length numbers) h)
 
-pub as-many : (file : List ℕ) (numbers : List ℤ) (lent : ℕ) → length numbers ≤ lent → enough file numbers lent ≡ Accepted
-as-many file numbers lent h = rw (le-ltb lent (length numbers) h)
+pub as-many : (account : List Record) (numbers : List ℤ) (lent : ℕ) → length numbers ≤ lent → enough account numbers lent ≡ Accepted
+as-many account numbers lent h = rw (le-ltb lent (length numbers) h)
 
 -- an answer, and the lent numbers afterwards
 abbrev pub Answers : Answer → List ℤ → Answer → List ℤ → List ℤ → Type 0
@@ -71,33 +67,18 @@ if-then a b next = go (accepted a) refl
         ap (λ (t : Bool). cond t (ifAccepted b next) a) e
         ∙ sym (ap (λ (t : Bool). ifAccepted (cond t b a) next) e ∙ ap (λ (t : Bool). cond t next a) e)
 
-module _ (file : List ℕ) (question : ℕ) (m : Answer) (is : m ≡ ifAccepted (checked file) (asked file question)) (numbers : List ℤ) (lent : ℕ) where
-  by-asking : answerTo file question numbers lent ≡ ifAccepted m (enough file numbers lent)
-  by-asking = if-then (checked file) (asked file question) (enough file numbers lent) ∙ ap (λ (a : Answer). ifAccepted a (enough file numbers lent)) (sym is)
+module _ (account : List Record) (question : Question) (lent : ℕ) where
+  pub not-asked : answers account question ≡ false → answerOver account question lent ≡ NoSuchQuestion (length account)
+  not-asked e = ap (λ (t : Bool). ifAccepted (cond t Accepted (NoSuchQuestion (length account))) (enough account (numbersFor account question) lent)) e
 
-  pub not-asked : (numberOf m ≡ 0 → ⊥) → answerTo file question numbers lent ≡ m
-  not-asked h = by-asking ∙ if-refused m (enough file numbers lent) h
+  pub then-enough : answers account question ≡ true → answerOver account question lent ≡ enough account (numbersFor account question) lent
+  then-enough e = ap (λ (t : Bool). ifAccepted (cond t Accepted (NoSuchQuestion (length account))) (enough account (numbersFor account question) lent)) e
 
-  pub then-enough : numberOf m ≡ 0 → answerTo file question numbers lent ≡ enough file numbers lent
-  then-enough z = by-asking ∙ if-accepted m (enough file numbers lent) (accepted-only m z)
+  pub asked-few : answers account question ≡ true → lent < length (numbersFor account question) → answerOver account question lent ≡ TooFewNumbers (length account)
+  asked-few e h = then-enough e ∙ too-few account (numbersFor account question) lent h
 
-module _ (file : List ℕ) (question : ℕ) (m : Answer) (is : m ≡ ifAccepted (checked file) (asked file question)) (z : numberOf m ≡ 0) where
-  pub asked-accepted : checked file ≡ Accepted
-  asked-accepted = go (numberOf (checked file)) refl
-    where
-      go : (n : ℕ) → numberOf (checked file) ≡ n → checked file ≡ Accepted
-      go zero e = accepted-only (checked file) e
-      go (suc n) e =
-          let h : numberOf (checked file) ≡ 0 → ⊥ = λ g. some (sym e ∙ g) in
-          absurd (h (ap numberOf (sym (is ∙ if-refused (checked file) (asked file question) h)) ∙ z))
-
-  pub asked-answered : answered (records file) question ≡ true
-  asked-answered = go (answered (records file) question) refl
-    where
-      go : (t : Bool) → answered (records file) question ≡ t → answered (records file) question ≡ true
-      go true e = e
-      go false e =
-          absurd (some (ap numberOf (sym (is ∙ if-accepted (checked file) (asked file question) asked-accepted ∙ ap (λ (t : Bool). cond t Accepted (NoSuchQuestion (recordCount file))) e)) ∙ z))
+  pub asked-many : answers account question ≡ true → length (numbersFor account question) ≤ lent → answerOver account question lent ≡ Accepted
+  asked-many e h = then-enough e ∙ as-many account (numbersFor account question) lent h
 
 -- ---- how many numbers the figures have
 
@@ -112,3 +93,28 @@ figures-length account =
     length-map (figuresOver es ks) pos
     ∙ length-append (eights es (map asTier ks) ks) (totalMargin es (map asTier ks) ks ∷ [])
     ∙ ap (λ (n : ℕ). n + 1) (eights-length es (map asTier ks) ks ∙ ap (λ (n : ℕ). 8 * n) (length-map (contractsOf account) (partsIn account)))
+
+-- ---- the total stands last in the figures
+
+last-is : (xs : List ℕ) (x : ℕ) → getD (xs ++ x ∷ []) (length xs) 0 ≡ x
+last-is [] x = refl
+last-is (y ∷ xs) x = last-is xs x
+
+ends-with : (xs : List ℕ) (x : ℕ) → length (xs ++ x ∷ []) ≡ suc (length xs)
+ends-with [] x = refl
+ends-with (y ∷ xs) x = ap suc (ends-with xs x)
+
+pub total-last : (account : List Record) (n : Numbers) → written n ≡ figures account → n .count ≡ length (figures account)
+    → natAbs (getD (n .number) (n .count - 1) (pos 0)) ≡ accountTotal account
+total-last account n w k =
+    let es = entriesOf account in
+    let ks = contracts account in
+    let xs = eights es (map asTier ks) ks in
+    let x = totalMargin es (map asTier ks) ks in
+    let l : n .count ≡ suc (length xs) = k ∙ length-map (figuresOver es ks) pos ∙ ends-with xs x in
+    let i : n .count - 1 ≡ length xs = omega arith in
+    ap (λ (m : ℕ). natAbs (getD (n .number) m (pos 0))) i
+    ∙ ap natAbs (sym (getD-take (n .count) (n .number) (length xs) (pos 0) (omega arith)))
+    ∙ ap (λ (zs : List ℤ). natAbs (getD zs (length xs) (pos 0))) w
+    ∙ ap natAbs (getD-map pos (figuresOver es ks) (length xs) 0 (pos 0) (omega (arith, ends-with xs x)))
+    ∙ last-is xs x

@@ -12,13 +12,14 @@ use lib.Dec.{leb, ltb}
 use lib.IntN.{ℤ, pos, natAbs}
 use lib.ListN.{length, getD, take, set, length-map}
 use lib.Seq.{take-all}
-use Rattle.exact.specs.Lists.{sumℤ}
+use Rattle.exact.specs.Lists.{sum, sumℤ}
 use Rattle.exact.proofs.Lists.{getD-map, abs-sum}
 use Rattle.record.specs.Layout.{Record, contract}
-use Rattle.account.specs.Parts.{contractsOf, entriesOf}
+use Rattle.account.specs.Parts.{contractsOf, promptsOf, rowsOf, spreadsOf, entriesOf}
 use Rattle.account.specs.Records.{records, recordCount}
-use Rattle.account.specs.Supplied.{Supplied, accountOf}
-use Rattle.account.specs.declared.joined.Joined.{Joined}
+use Rattle.account.specs.Lawful.{Lawful}
+use Rattle.account.specs.Notes.{entryPart}
+use Rattle.account.specs.Standing.{PartOf}
 use Rattle.spread.specs.Accepted as given
 use Rattle.spread.specs.Accepted.{every, soundPrompt}
 use Rattle.spread.specs.Book.{Booked}
@@ -33,35 +34,41 @@ use Rattle.margin.specs.declared.numbers.Numbers.{Numbers}
 use Rattle.margin.specs.declared.rows.Position.{Position}
 use Rattle.margin.specs.Books.{threes, tableBook}
 use Rattle.margin.specs.Bounds.{mostDelta, mostFormed}
-use Rattle.margin.specs.Contract.{Contract, contracts, contractFrom, partsIn, asTier, contractNet}
-use Rattle.margin.specs.Deltas.{intercontract}
+use Rattle.margin.specs.Contract.{Contract, contracts, partsIn, asTier, contractNet}
+use Rattle.margin.specs.Deltas.{netDeltas, intercontract}
 use Rattle.margin.specs.Lines.{noLine}
 use Rattle.margin.specs.Numbers.{written, SpreadsSigned, BookNumbers}
-use Rattle.margin.specs.Position.{PositionOf, Bounded}
 use Rattle.margin.specs.Promised.{BookOf}
-use Rattle.margin.specs.Stands.{TierIs, TiersIn}
+use Rattle.margin.specs.Lined.{TierIs, TiersIn, PositionAt}
 use Rattle.margin.specs.Sums.{interleaved, deltasIn}
 use Rattle.margin.specs.Table.{tierOf}
 use Rattle.margin.specs.Tables.{TableOf}
-use Rattle.margin.specs.Within.{ContractFit}
+use Rattle.margin.proofs.AcceptLaws.{contract-within}
 use Rattle.margin.proofs.BookLaws.{first-at, second-at, book-accepted, handed-sound, book-listed}
 use Rattle.margin.proofs.ContractLaws.{net-is, net-sizes}
 use Rattle.margin.proofs.LineLaws.{spreads-sound, numbers-length, used-length, unused-length}
 use Rattle.margin.proofs.RecordLaws.{count-is}
-use Rattle.margin.proofs.StandLaws.{entryPartIn, entries-part, entries-fit}
+use Rattle.margin.proofs.StandLaws.{entries-part, entries-fit}
 use Rattle.margin.proofs.StepBounds.{sizes, number-within}
 use Rattle.margin.proofs.TableLaws.{Tiered, tiered-next, tiered-all, entry-accepted}
 
 -- a contract's number and net delta, by what its rows come to
-pub tier-is : (own : Record) (prompts rows spreads : List Record) (w : ContractFit own prompts rows spreads) (q : Position) (is : PositionOf prompts rows q) (most : Bounded 128 q) (c : ℕ) (z : ℤ)
-    → c ≡ contract own → z ≡ sumℤ (deltasIn (q .nets)) → TierIs (contractFrom own prompts rows spreads) c z
-tier-is own prompts rows spreads w q is most c z ec ez =
-    record {
-      number-is = ec;
-      net-is = ez ∙ net-is own prompts rows spreads w q is most;
-      number-within = omega (arith, w .number);
-      net-within = subst⁻¹ (λ (x : ℤ). natAbs x ≤ mostDelta) ez (le-trans (abs-sum (deltasIn (q .nets))) (net-sizes own prompts rows spreads w q is most));
-    }
+module _ (account : List Record) (law : Lawful account) (c : ℕ) (q : Position) (at : PositionAt account c q) where
+  pub tier-sizes : sum (map natAbs (deltasIn (q .nets))) ≤ mostDelta
+  tier-sizes =
+      net-sizes [] (promptsOf c account) (rowsOf c account) (spreadsOf c account) (contract-within account law [] c (record { contracts = zero-le; rates = zero-le })) q (at .is) (at .most)
+
+  pub tier-is : (own : Record) (z : ℤ) → c ≡ contract own → c ≤ 15 → z ≡ sumℤ (deltasIn (q .nets)) → TierIs (partsIn account own) c z
+  tier-is own z ec few ez =
+      record {
+        number-is = ec;
+        net-is =
+            ez
+            ∙ net-is [] (promptsOf c account) (rowsOf c account) (spreadsOf c account) (contract-within account law [] c (record { contracts = zero-le; rates = zero-le })) q (at .is) (at .most)
+            ∙ ap (λ (n : ℕ). sumℤ (netDeltas (promptsOf n account) (rowsOf n account))) ec;
+        number-within = few;
+        net-within = subst⁻¹ (λ (x : ℤ). natAbs x ≤ mostDelta) ez (le-trans (abs-sum (deltasIn (q .nets))) tier-sizes);
+      }
 
 -- a line with a contract's number and net delta alone
 abbrev pub lean : Contract → Line
@@ -145,12 +152,9 @@ module _ (account : List Record) where
 
 -- ---- the book of the table
 
-module _ (morning noon : List ℕ) (j : Joined) (st : Supplied morning noon j) (p : Prompts) (is : TiersIn (accountOf morning noon) p) (part : List ℕ) (ep : part ≡ entryPartIn morning noon j st) where
-  abbrev account : List Record
-  account = accountOf morning noon
-
+module _ (account : List Record) (law : Lawful account) (p : Prompts) (is : TiersIn account p) (part : List ℕ) (ep : PartOf account entryPart part) where
   pub entries-few : recordCount part ≤ 32
-  entries-few = omega (arith, (entries-fit morning noon j st part ep) .few, count-is part)
+  entries-few = omega (arith, (entries-fit account law part ep) .few, count-is part)
 
   pub ps-length : length (map asTier (contracts account)) ≡ p .count
   ps-length = length-map (contracts account) asTier ∙ length-map (contractsOf account) (partsIn account) ∙ sym (is .count-is)
@@ -160,7 +164,7 @@ module _ (morning noon : List ℕ) (j : Joined) (st : Supplied morning noon j) (
   tiers-accepted t table =
       handed-sound p t (map asTier (contracts account)) (map intercontract (records part)) (is .opens-are) (table .spreads-are)
       (omega (arith, is .few)) (omega (arith, table .count-is, entries-few)) (is .tiers-sound)
-      (spreads-sound intercontract (records part) (λ k h. entry-accepted (getD (records part) k []) ((entries-fit morning noon j st part ep) .each k h)))
+      (spreads-sound intercontract (records part) (λ k h. entry-accepted (getD (records part) k []) ((entries-fit account law part ep) .each k h)))
 
   module _ (t : Table) (table : TableOf intercontract part t) (b : Book) (booked : Booked p t b) where
     book-is : BookOf (steps (map intercontract (records part))) (map asTier (contracts account)) b
@@ -190,14 +194,13 @@ module _ (morning noon : List ℕ) (j : Joined) (st : Supplied morning noon j) (
     -- the numbers of the table's book
     pub tiers-listed : (r : Numbers) (m : ℕ) → m ≡ recordCount part → r .count ≡ 3 * p .count + 2 * m
         → written r ≡ threes (take (p .count) (deltasIn (p .net))) (take (p .count) (deltasIn (b .used))) (take (p .count) (deltasIn (b .unused))) ++ map pos (interleaved (take m (b .first)) (take m (b .second)))
-        → BookNumbers (tableBook (entriesOf account) (contracts account)) (j .contracts) (length (entriesOf account)) r
+        → BookNumbers (tableBook (entriesOf account) (contracts account)) (length (contractsOf account)) (length (entriesOf account)) r
     tiers-listed r m em ec el =
         let ss = steps (map intercontract (records part)) in
         let ps = map asTier (contracts account) in
         let few = is .few in
         let fe = entries-few in
-        let c = st .places .contracts in
-        let d = ap length (entries-part morning noon j st part ep) in
+        let d = ap length (entries-part account law part ep) in
         let e = is .count-is in
         let g = count-is part in
         record {
@@ -205,7 +208,7 @@ module _ (morning noon : List ℕ) (j : Joined) (st : Supplied morning noon j) (
               book-listed ss ps b (take (p .count) (deltasIn (p .net))) (p .count) m (written r) book-is ps-length (omega arith) (numbers-length intercontract (records part) ps ∙ ap (λ (x : ℕ). 2 * x) (g ∙ sym em)) (omega arith)
               (used-length ss ps ∙ ps-length) (unused-length ss ps ∙ ps-length) el
               ∙ ap (λ (zs : List ℤ). threes zs (usedOf ss ps) (unusedOf ss ps) ++ map pos (numbers ss ps)) (is .nets-are)
-              ∙ ap (λ (x : List Record). tableBook x (contracts account)) (entries-part morning noon j st part ep);
+              ∙ ap (λ (x : List Record). tableBook x (contracts account)) (entries-part account law part ep);
           count-is = omega arith;
           few = omega arith;
         }

@@ -11,7 +11,7 @@ use Rattle.account.specs.Lawful.{Lawful}
 use Rattle.account.specs.Noon.{clear, joinedVerdict}
 use Rattle.account.specs.Parts.{spreadsOf, entriesOf}
 use Rattle.account.specs.Records.{records}
-use Rattle.account.specs.Supplied.{accountOf}
+use Rattle.account.specs.Standing.{accountOf}
 use Rattle.account.specs.declared.answers.Answer.the-variants.{Accepted}
 use Rattle.account.proofs.Lawful.{lawful}
 use Rattle.account.proofs.NoonLaws.{pair-lawful}

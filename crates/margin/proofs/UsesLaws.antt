@@ -14,8 +14,10 @@ use lib.Seq.{sets, length-sets, drop-cons, getD-take, length-take-le}
 use borrow.Author.Tests.{leb-true}
 use Rattle.account.specs.Parts.{entriesOf}
 use Rattle.account.specs.Records.{records}
-use Rattle.account.specs.Supplied.{Supplied, accountOf}
-use Rattle.account.specs.declared.joined.Joined.{Joined}
+use Rattle.account.specs.Lawful.{Lawful}
+use Rattle.account.specs.Notes.{entryPart}
+use Rattle.account.specs.Standing.{PartOf}
+use Rattle.record.specs.Layout.{Record}
 use Rattle.spread.specs.Accepted.{every, openOf, spreadsOf, soundSpread, soundPrompts, soundTable, sound}
 use Rattle.spread.specs.Book.{entries, deltaEntry}
 use Rattle.spread.specs.Cells.{stepOf}
@@ -31,20 +33,19 @@ use Rattle.spread.proofs.Both.{and-left, and-right, and-both}
 use Rattle.spread.proofs.Every.{open-length}
 use Rattle.spread.proofs.Stepping.{after-length}
 use Rattle.margin.specs.declared.rows.Position.{Position}
-use Rattle.margin.specs.Contract.{contractFrom, contracts, asTier}
-use Rattle.margin.specs.Deltas.{opens, interprompt, intercontract, netDeltas}
-use Rattle.margin.specs.Position.{PositionOf, Bounded}
-use Rattle.margin.specs.Stands.{TiersIn}
+use Rattle.margin.specs.Contract.{contracts, asTier}
+use Rattle.margin.specs.Deltas.{opens, interprompt, intercontract}
+use Rattle.margin.specs.Promised.{PositionFit, contractWith}
+use Rattle.margin.specs.Lined.{TiersIn}
 use Rattle.margin.specs.Sums.{deltasIn}
 use Rattle.margin.specs.Tables.{TiersOf, TableOf}
 use Rattle.margin.specs.Uses.{contractUses, tableUses, LeftBy, Asks}
-use Rattle.margin.specs.Within.{ContractFit}
 use Rattle.margin.proofs.BookLaws.{take-deltas, opens-are, contract-sound}
-use Rattle.margin.proofs.ContractLaws.{book-room, nets-are}
-use Rattle.margin.proofs.LineLaws.{opens-length, steps-length, used-length}
+use Rattle.margin.proofs.ContractLaws.{book-room}
+use Rattle.margin.proofs.LineLaws.{opens-first, opens-length, steps-length, used-length}
 use Rattle.margin.proofs.NumberLaws.{sets-append}
 use Rattle.margin.proofs.RecordLaws.{count-is}
-use Rattle.margin.proofs.StandLaws.{entryPartIn, entries-part}
+use Rattle.margin.proofs.StandLaws.{entries-part}
 use Rattle.margin.proofs.TierLaws.{ps-length, tiers-accepted}
 
 -- ---- one step
@@ -209,22 +210,24 @@ asks p t ps spreads eo es ok np nt =
       many = spread-uses spreads ps ∙ ap₂ (λ (x y : ℕ). x * (2 * y)) (sym nt) (sym np);
     }
 
-pub contract-asks : (prompts rows spreads : List ℕ) → ContractFit [] (records prompts) (records rows) (records spreads) → (q : Position) → PositionOf (records prompts) (records rows) q → Bounded 128 q
+pub contract-asks : (prompts spreads : List ℕ) (q : Position) → PositionFit [] (records prompts) (records spreads) q
     → (p : Prompts) (t : Table) → TiersOf prompts (q .nets) p → TableOf interprompt spreads t
-    → Asks (contractUses (contractFrom [] (records prompts) (records rows) (records spreads))) (record { prompts = p; table = t })
-contract-asks prompts rows spreads w q is most p t tiers table =
-    let room = book-room [] (records prompts) (records rows) (records spreads) w q is most in
-    let same = nets-are [] (records prompts) (records rows) (records spreads) w q is most in
-    asks p t (opens (records prompts) (netDeltas (records prompts) (records rows))) (map interprompt (records spreads)) (opens-are prompts (q .nets) p tiers ∙ same) (table .spreads-are)
+    → Asks (contractUses (contractWith [] (records prompts) (records spreads) q)) (record { prompts = p; table = t })
+contract-asks prompts spreads q w p t tiers table =
+    let ps = records prompts in
+    let room = book-room [] ps (w .rows) (records spreads) (w .fit) q (w .is) (w .most) in
+    let same = opens-first ps (deltasIn (q .nets)) in
+    let few : length (take (length ps) (deltasIn (q .nets))) ≡ length ps = ap length (w .is .nets-are) ∙ length-map ps _ in
+    asks p t (opens ps (take (length ps) (deltasIn (q .nets)))) (map interprompt (records spreads)) (opens-are prompts (q .nets) p tiers ∙ same) (table .spreads-are)
     (contract-sound prompts spreads (q .nets) p t tiers table room)
-    (tiers .count-is ∙ sym (count-is prompts) ∙ sym (opens-length (records prompts) (netDeltas (records prompts) (records rows)) (length-map (records prompts) _)))
+    (tiers .count-is ∙ sym (count-is prompts) ∙ sym (opens-length ps (take (length ps) (deltasIn (q .nets))) few))
     (table .count-is ∙ sym (count-is spreads) ∙ sym (length-map (records spreads) interprompt))
 
-pub table-asks : (morning noon : List ℕ) (j : Joined) (st : Supplied morning noon j) (p : Prompts) (is : TiersIn (accountOf morning noon) p) (part : List ℕ) (ep : part ≡ entryPartIn morning noon j st)
-    → (t : Table) → TableOf intercontract part t → Asks (tableUses (entriesOf (accountOf morning noon)) (contracts (accountOf morning noon))) (record { prompts = p; table = t })
-table-asks morning noon j st p is part ep t table =
-    let es = entries-part morning noon j st part ep in
-    asks p t (map asTier (contracts (accountOf morning noon))) (map intercontract (entriesOf (accountOf morning noon))) (is .opens-are) (table .spreads-are ∙ ap (map intercontract) es)
-    (tiers-accepted morning noon j st p is part ep t table)
-    (sym (ps-length morning noon j st p is part ep))
-    (table .count-is ∙ sym (count-is part) ∙ ap length es ∙ sym (length-map (entriesOf (accountOf morning noon)) intercontract))
+pub table-asks : (account : List Record) (law : Lawful account) (p : Prompts) (is : TiersIn account p) (part : List ℕ) (ep : PartOf account entryPart part)
+    → (t : Table) → TableOf intercontract part t → Asks (tableUses (entriesOf account) (contracts account)) (record { prompts = p; table = t })
+table-asks account law p is part ep t table =
+    let es = entries-part account law part ep in
+    asks p t (map asTier (contracts account)) (map intercontract (entriesOf account)) (is .opens-are) (table .spreads-are ∙ ap (map intercontract) es)
+    (tiers-accepted account law p is part ep t table)
+    (sym (ps-length account law p is part ep))
+    (table .count-is ∙ sym (count-is part) ∙ ap length es ∙ sym (length-map (entriesOf account) intercontract))

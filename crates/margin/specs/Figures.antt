@@ -36,3 +36,7 @@ figuresOver entries ks =
 
 abbrev pub figures : List Record → List ℤ
 figures account = map pos (figuresOver (entriesOf account) (contracts account))
+
+-- "then the total": of the whole account
+abbrev pub accountTotal : List Record → ℕ
+accountTotal account = totalMargin (entriesOf account) (map asTier (contracts account)) (contracts account)

@@ -9,6 +9,7 @@ pub mod Contract
 pub mod Figures
 pub mod Books
 pub mod Questions
+pub mod Places
 pub mod Entered
 pub mod Reckoned
 pub mod Risks
@@ -20,13 +21,7 @@ pub mod Within
 pub mod Promised
 pub mod Table
 pub mod Numbers
-pub mod Stands
-pub mod Demands
-pub mod Held
+pub mod Lined
 pub mod Uses
-pub mod Needs
-pub mod Noon
-pub mod PairDemands
 pub mod Skipped
 pub mod Unpaired
-pub mod Turns

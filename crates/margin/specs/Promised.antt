@@ -5,14 +5,15 @@ use mathlib.Core.Path.{_≡_}
 use mathlib.Core.Bool.{true}
 use mathlib.Core.List.{List, map}
 use lib.IntN.{ℤ, pos, natAbs}
-use lib.ListN.{length, getD}
+use lib.ListN.{length, getD, take}
 use Rattle.record.specs.Layout.{Record, contract}
-use Rattle.account.specs.Check.{mostPrompts, mostSpreads}
+use Rattle.account.specs.Check.{mostPrompts, mostRows, mostSpreads}
 use Rattle.spread.specs.Steps.{Open, Taker, numbers, usedOf, unusedOf}
 use Rattle.spread.specs.Accepted.{every, soundPrompt, soundSpread}
 use Rattle.spread.specs.Book.{entries, spreadsEntry, deltaEntry}
 use Rattle.spread.specs.declared.book.Book.{Book}
 use Rattle.margin.specs.declared.line.Line.{Line}
+use Rattle.margin.specs.declared.rows.Position.{Position}
 use Rattle.margin.specs.Bounds.{mostDelta, mostCharge, mostRisk}
 use Rattle.margin.specs.Charges.{interpromptCharge, promptCharges}
 use Rattle.margin.specs.Sums.{interleaved, deltasIn}
@@ -20,6 +21,27 @@ use Rattle.margin.specs.Contract.{Contract, activeOf, scanningOf, interp
 use Rattle.margin.specs.Deltas.{opens, interprompt}
 use Rattle.margin.specs.Credit.{twicePriceRisk}
 use Rattle.margin.specs.Lines.{LineWithin}
+use Rattle.margin.specs.Position.{PositionOf, Bounded}
+use Rattle.margin.specs.Within.{ContractFit}
+
+-- a contract known by what its rows come to
+abbrev pub contractWith : Record → List Record → List Record → Position → Contract
+contractWith own prompts spreads p =
+    record {
+      own = own;
+      prompts = prompts;
+      spreads = spreads;
+      totals = p .totals .0;
+      nets = take (length prompts) (deltasIn (p .nets));
+      shorts = p .shorts;
+    }
+
+-- some rows within their ranges come to it
+pub record PositionFit (own : Record) (prompts spreads : List Record) (p : Position) : Type 0 where
+  pub rows : List Record
+  pub fit : ContractFit own prompts rows spreads
+  pub is : PositionOf prompts rows p
+  pub most : Bounded mostRows p
 
 -- the book of steps over prompts, place by place, and zeros beyond
 pub record BookOf (ss : List (List Taker)) (ps : List Open) (b : Book) : Type 0 where

@@ -1,19 +1,23 @@
--- "Two questions: the figures, and the delta book": what each answers over any bytes, and what stands in the lent
--- numbers afterwards. Of a delta book it can be asked too what each step takes of each prompt.
+-- "Two questions: the figures, and the delta book": what an account answers, after its records, and what stands in the lent numbers
+-- afterwards. Of a delta book it can be asked too what each step takes of each prompt.
 -- Assumes nothing.
-use Prim.Native.Nat.{ℕ}
-use mathlib.Core.Bool.{Bool, cond}
+use Prim.Native.Nat.{ℕ, _+_, _*_, _≤_}
+use mathlib.Core.Path.{_≡_}
+use mathlib.Core.Bool.{Bool, true, cond}
 use mathlib.Core.List.{List, _++_}
 use lib.ListN.{length, drop}
 use lib.Dec.{eqb, ltb}
 use lib.IntN.{ℤ}
+use Rattle.record.specs.Layout.{Record}
 use Rattle.account.specs.Answers.{numberOf}
-use Rattle.account.specs.Check.{checked}
-use Rattle.account.specs.Records.{records, recordCount}
+use Rattle.account.specs.Check.{mostPrompts, mostSpreads}
 use Rattle.account.specs.declared.answers.Answer.{Answer}
 use Rattle.account.specs.declared.answers.Answer.the-variants.{Accepted, TooFewNumbers, NoSuchQuestion}
+use Rattle.margin.specs.declared.asking.Question.{Question}
+use Rattle.margin.specs.declared.asking.Question.the-variants.{Figures, Book, Uses}
 use Rattle.margin.specs.Figures.{figures}
 use Rattle.margin.specs.Books.{answered, book}
+use Rattle.margin.specs.Bounds.{longestFigures, longestBook, longestUses}
 use Rattle.margin.specs.Uses.{uses}
 
 abbrev pub accepted : Answer → Bool
@@ -23,39 +27,50 @@ accepted a = eqb (numberOf a) 0
 abbrev pub ifAccepted : Answer → Answer → Answer
 ifAccepted a next = cond (accepted a) next a
 
--- 10: "fewer numbers lent than the answer needs", naming the record count
-abbrev pub enough : List ℕ → List ℤ → ℕ → Answer
-enough file numbers lent = cond (ltb lent (length numbers)) (TooFewNumbers (recordCount file)) Accepted
+-- the answer of each question
+abbrev pub numbersFor : List Record → Question → List ℤ
+numbersFor account Figures = figures account
+numbersFor account (Book question) = book account question
+numbersFor account (Uses question) = uses account question
+
+abbrev pub answers : List Record → Question → Bool
+answers account Figures = true
+answers account (Book question) = answered account question
+answers account (Uses question) = answered account question
 
 -- 11: "question neither a listed contract nor 16", naming the record count
-abbrev pub asked : List ℕ → ℕ → Answer
-asked file question = cond (answered (records file) question) Accepted (NoSuchQuestion (recordCount file))
+abbrev pub asked : List Record → Question → Answer
+asked account question = cond (answers account question) Accepted (NoSuchQuestion (length account))
 
--- "Order: 1, 2; then records from 0 up ..; then 11, then 10."
-abbrev pub figuresAnswer : List ℕ → ℕ → Answer
-figuresAnswer file lent = ifAccepted (checked file) (enough file (figures (records file)) lent)
+-- 10: "fewer numbers lent than the answer needs", naming the record count
+abbrev pub enough : List Record → List ℤ → ℕ → Answer
+enough account numbers lent = cond (ltb lent (length numbers)) (TooFewNumbers (length account)) Accepted
 
-abbrev pub answerTo : List ℕ → ℕ → List ℤ → ℕ → Answer
-answerTo file question numbers lent =
-    ifAccepted (checked file) (ifAccepted (asked file question) (enough file numbers lent))
-
-abbrev pub bookAnswer : List ℕ → ℕ → ℕ → Answer
-bookAnswer file question lent = answerTo file question (book (records file) question) lent
-
-abbrev pub usesAnswer : List ℕ → ℕ → ℕ → Answer
-usesAnswer file question lent = answerTo file question (uses (records file) question) lent
+-- "Order: .. then 11, then 10."
+abbrev pub answerOver : List Record → Question → ℕ → Answer
+answerOver account question lent = ifAccepted (asked account question) (enough account (numbersFor account question) lent)
 
 -- "A refusal writes no number. .. Success writes the answer at the front and nothing after it."
 abbrev pub afterwards : Answer → List ℤ → List ℤ → List ℤ
 afterwards a numbers lent = cond (accepted a) (numbers ++ drop (length numbers) lent) lent
 
-abbrev pub afterFigures : List ℕ → List ℤ → List ℤ
-afterFigures file lent = afterwards (figuresAnswer file (length lent)) (figures (records file)) lent
+abbrev pub afterOver : List Record → Question → List ℤ → List ℤ
+afterOver account question lent =
+    afterwards (answerOver account question (length lent)) (numbersFor account question) lent
 
-abbrev pub afterBook : List ℕ → ℕ → List ℤ → List ℤ
-afterBook file question lent =
-    afterwards (bookAnswer file question (length lent)) (book (records file) question) lent
+-- how many numbers an answer has, 0 where the question is not answered
+abbrev pub needOver : List Record → Question → ℕ
+needOver account question = cond (answers account question) (length (numbersFor account question)) 0
 
-abbrev pub afterUses : List ℕ → ℕ → List ℤ → List ℤ
-afterUses file question lent =
-    afterwards (usesAnswer file question (length lent)) (uses (records file) question) lent
+-- never more than this many
+abbrev pub mostFor : Question → ℕ
+mostFor Figures = longestFigures
+mostFor (Book question) = longestBook
+mostFor (Uses question) = longestUses
+
+-- how many prompts and spreads a book is about
+pub record SizesOf (account : List Record) (question prompts spreads : ℕ) : Type 0 where
+  pub book-has : length (book account question) ≡ 3 * prompts + 2 * spreads
+  pub uses-have : length (uses account question) ≡ spreads * (2 * prompts)
+  pub prompts-few : prompts ≤ mostPrompts
+  pub spreads-few : spreads ≤ mostSpreads

@@ -1,16 +1,13 @@
-// Margin from an account: figures and delta books.
-pub mod accepted;
+// Margin from an account: a contract's figures and book, and the questions that an account answers.
 pub mod amount;
+pub mod asking;
 mod books;
 mod charges;
-pub mod held;
 mod intercontract;
 pub mod line;
-pub mod needs;
-pub mod noon;
 pub mod numbers;
+pub mod over;
 pub mod pairs;
-pub mod questions;
 mod risk;
 pub mod rows;
 mod tables;

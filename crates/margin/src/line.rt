@@ -5,7 +5,7 @@ use crate::books::contract_book;
 use crate::charges::interprompt_charge;
 use crate::charges::prompt_charges;
 use crate::risk::scanned;
-use crate::rows::position_of;
+use crate::rows::Position;
 use exact::signed::plus;
 use record::fields::contract;
 use record::fields::short_option_rate;
@@ -19,10 +19,8 @@ ghost use lib.IntN.{natAbs, _+ℤ_};
 ghost use Rattle.exact.specs.Lists.{sum, sumℤ};
 ghost use Rattle.account.specs.Records.{records};
 ghost use Rattle.margin.specs.Bounds.{mostDelta};
-ghost use Rattle.margin.specs.Contract.{contractFrom};
-ghost use Rattle.margin.specs.Promised.{Charged, LineOf};
+ghost use Rattle.margin.specs.Promised.{Charged, LineOf, PositionFit, contractWith};
 ghost use Rattle.margin.specs.Sums.{deltasIn, SpreadsWithin, PromptsWithin};
-ghost use Rattle.margin.specs.Within.{ContractFit};
 
 // What the figures say of a contract, but for its credit and its margin; and what its credit is reckoned from.
 pub struct Line {
@@ -37,7 +35,7 @@ pub struct Line {
 }
 
 // Two deltas together.
-fn joined(a: Delta, b: Delta) -> Delta
+fn together(a: Delta, b: Delta) -> Delta
     requires { ⌜ natAbs (a .0) + natAbs (b .0) < 2 ^ 63 ⌝ }
     ensures { λ r. ⌜ r .0 ≡ a .0 +ℤ b .0 ⌝ }
 {
@@ -52,7 +50,7 @@ pub(crate) fn contract_net(nets: [Delta; MOST_PROMPTS]) -> Delta
     let mut net = Delta(0);
     let mut i = 0;
     while i < MOST_PROMPTS {
-        let more = joined(net, nets[i]);
+        let more = together(net, nets[i]);
         net = more;
         i += 1;
     }
@@ -81,12 +79,11 @@ fn charges_of(prompts: &[u8], spreads: &[u8], book: Book) -> Charges
     }
 }
 
-// The line of a contract, from its own record and the stretches of its prompts, rows and interprompt spreads.
-pub(crate) fn line_of(own: &[u8], prompts: &[u8], rows: &[u8], spreads: &[u8]) -> Line
-    requires { ⌜ ContractFit (now own) (records (now prompts)) (records (now rows)) (records (now spreads)) ⌝ }
-    ensures { λ r. ⌜ LineOf (contractFrom (now (own .entry)) (records (now (prompts .entry))) (records (now (rows .entry))) (records (now (spreads .entry)))) r ⌝ }
+// The line of a contract, from its own record, its prompts and interprompt spreads, and what its rows come to.
+pub(crate) fn line_of(own: &[u8], prompts: &[u8], spreads: &[u8], p: Position) -> Line
+    requires { ⌜ PositionFit (now own) (records (now prompts)) (records (now spreads)) p ⌝ }
+    ensures { λ r. ⌜ LineOf (contractWith (now (own .entry)) (records (now (prompts .entry))) (records (now (spreads .entry))) p) r ⌝ }
 {
-    let p = position_of(prompts, rows);
     let nets = p.nets;
     let sixteen = p.totals;
     let totals = sixteen.0;

@@ -1,9 +1,11 @@
 -- The place by what the check hands out of both files.
 -- Assumes nothing.
-use mathlib.Core.Path.{sym, _∙_}
+use mathlib.Core.Path.{_≡_, sym, ap, _∙_}
 use native.Mathlib.Omega.{arith}
 use borrow.Author.Needs.{needs}
-use Rattle.account.proofs.NoonLaws.{place-refused, place-beyond, place-noon, place-morning, place-nowhere}
+use Rattle.account.specs.Answers.{numberOf}
+use Rattle.account.specs.Noon.{verdictBy}
+use Rattle.account.proofs.NoonLaws.{Joining, place-refused, place-beyond, place-noon, place-morning, place-nowhere}
 use Rattle.account.proofs.noon.prompt_place.Statement.{statement}
 use Rattle.account.proofs.noon.prompt_place.Tie as tie
 
@@ -16,8 +18,28 @@ take-survey-requires-2 c κs = search needs
 join-requires : tie.Need-join-requires
 join-requires c κs = search needs
 
+record-total-requires : tie.Need-record-total-requires
+record-total-requires c κs = search needs
+
 verdict-of-requires : tie.Need-verdict-of-requires
 verdict-of-requires c κs = search needs
+
+-- both files checked and joined, with the verdict
+abbrev known : (c : tie.After-verdict-of) → Joining (c .before .before .before .before .before .before .before .args .morning .now) (c .before .before .before .before .before .before .before .args .noon .now)
+known c =
+    let m = c .before .before .before .before .take-survey in
+    let n = c .before .before .before .take-survey2 in
+    let j = c .before .before .join in
+    record {
+      first = m .result;
+      second = n .result;
+      account = j .result;
+      first-is = m .ensures;
+      second-is = n .ensures;
+      joined-by = j .ensures;
+      verdict = c .verdict-of .result;
+      verdict-is = c .verdict-of .ensures ∙ ap (verdictBy (m .result) (n .result)) (c .before .record-total .ensures);
+    }
 
 number-of-requires : tie.Need-number-of-requires
 number-of-requires c κs = search needs
@@ -27,14 +49,23 @@ nowhere-requires c κs = search needs
 
 returns : tie.Need-returns
 returns c =
-    c .nowhere .ensures ∙ sym (place-refused (c .before .before .before .before .before .before .before .before .before .args .morning .now) (c .before .before .before .before .before .before .before .before .before .args .noon .now) (c .before .before .before .before .before .before .take-survey .result) (c .before .before .before .before .before .take-survey2 .result) (c .before .before .before .before .join .result) (c .before .before .before .before .before .before .take-survey .ensures) (c .before .before .before .before .before .take-survey2 .ensures) (c .before .before .before .before .join .ensures) (c .before .before .before .verdict-of .result) (c .before .before .before .verdict-of .ensures) (c .before .before .before .before .before .before .before .before .before .args .contract) (λ z. c .before .if1 .taken (c .before .before .number-of .ensures ∙ z)))
+    let k = c .before .before .before in
+    let s = k .before .before .before .before .before .before .before .args in
+    c .nowhere .ensures
+    ∙ sym (place-refused (s .morning .now) (s .noon .now) (known k) (s .contract) (λ z. c .before .if1 .taken (c .before .before .number-of .ensures ∙ z)))
 
 nowhere-requires-2 : tie.Need-nowhere-requires-2
 nowhere-requires-2 c κs = search needs
 
 returns-2 : tie.Need-returns-2
 returns-2 c =
-    c .nowhere2 .ensures ∙ sym (place-beyond (c .before .before .before .before .before .before .before .before .before .before .args .morning .now) (c .before .before .before .before .before .before .before .before .before .before .args .noon .now) (c .before .before .before .before .before .before .before .take-survey .result) (c .before .before .before .before .before .before .take-survey2 .result) (c .before .before .before .before .before .join .result) (c .before .before .before .before .before .before .before .take-survey .ensures) (c .before .before .before .before .before .before .take-survey2 .ensures) (c .before .before .before .before .before .join .ensures) (c .before .before .before .before .verdict-of .result) (c .before .before .before .before .verdict-of .ensures) (c .before .before .before .before .before .before .before .before .before .before .args .contract) (c .before .if2 .taken))
+    let k = c .before .before .before .before in
+    let s = k .before .before .before .before .before .before .before .args in
+    c .nowhere2 .ensures ∙ sym (place-beyond (s .morning .now) (s .noon .now) (known k) (s .contract) (c .before .if2 .taken))
+
+-- nothing is refused, and the number is a contract's
+clear : (c : tie.Else2) → numberOf (c .before .before .before .verdict-of .result .answer) ≡ 0
+clear c = sym (c .before .before .number-of .ensures) ∙ omega (arith, c .before .if1 .left)
 
 add-if3 : tie.Need-add-if3
 add-if3 c = search needs
@@ -50,7 +81,11 @@ place-in-requires c κs = search needs
 
 returns-3 : tie.Need-returns-3
 returns-3 c =
-    c .place-in .ensures ∙ place-noon (c .before .before .before .before .before .before .before .before .before .before .before .before .args .morning .now) (c .before .before .before .before .before .before .before .before .before .before .before .before .args .noon .now) (c .before .before .before .before .before .before .before .before .before .take-survey .result) (c .before .before .before .before .before .before .before .before .take-survey2 .result) (c .before .before .before .before .before .before .before .join .result) (c .before .before .before .before .before .before .before .before .before .take-survey .ensures) (c .before .before .before .before .before .before .before .before .take-survey2 .ensures) (c .before .before .before .before .before .before .before .join .ensures) (c .before .before .before .before .before .before .verdict-of .result) (c .before .before .before .before .before .before .verdict-of .ensures) (c .before .before .before .before .before .before .before .before .before .before .before .before .args .contract) (sym (c .before .before .before .before .before .number-of .ensures) ∙ omega (arith, c .before .before .before .before .if1 .left)) (omega (arith, c .before .before .before .if2 .left)) (c .before .if3 .taken)
+    let e = c .before .before .before in
+    let k = e .before .before .before in
+    let s = k .before .before .before .before .before .before .before .args in
+    c .place-in .ensures
+    ∙ place-noon (s .morning .now) (s .noon .now) (known k) (s .contract) (clear e) (omega (arith, e .if2 .left)) (c .before .if3 .taken)
 
 add-if4 : tie.Need-add-if4
 add-if4 c = search needs
@@ -66,14 +101,24 @@ place-in-requires-2 c κs = search needs
 
 returns-4 : tie.Need-returns-4
 returns-4 c =
-    c .place-in2 .ensures ∙ place-morning (c .before .before .before .before .before .before .before .before .before .before .before .before .before .before .args .morning .now) (c .before .before .before .before .before .before .before .before .before .before .before .before .before .before .args .noon .now) (c .before .before .before .before .before .before .before .before .before .before .before .take-survey .result) (c .before .before .before .before .before .before .before .before .before .before .take-survey2 .result) (c .before .before .before .before .before .before .before .before .before .join .result) (c .before .before .before .before .before .before .before .before .before .before .before .take-survey .ensures) (c .before .before .before .before .before .before .before .before .before .before .take-survey2 .ensures) (c .before .before .before .before .before .before .before .before .before .join .ensures) (c .before .before .before .before .before .before .before .before .verdict-of .result) (c .before .before .before .before .before .before .before .before .verdict-of .ensures) (c .before .before .before .before .before .before .before .before .before .before .before .before .before .before .args .contract) (sym (c .before .before .before .before .before .before .before .number-of .ensures) ∙ omega (arith, c .before .before .before .before .before .before .if1 .left)) (omega (arith, c .before .before .before .before .before .if2 .left)) (omega (arith, c .before .before .before .if3 .left)) (c .before .if4 .taken)
+    let e = c .before .before .before .before .before in
+    let k = e .before .before .before in
+    let s = k .before .before .before .before .before .before .before .args in
+    c .place-in2 .ensures
+    ∙ place-morning (s .morning .now) (s .noon .now) (known k) (s .contract) (clear e) (omega (arith, e .if2 .left))
+    (omega (arith, c .before .before .before .if3 .left)) (c .before .if4 .taken)
 
 nowhere-requires-3 : tie.Need-nowhere-requires-3
 nowhere-requires-3 c κs = search needs
 
 returns-5 : tie.Need-returns-5
 returns-5 c =
-    c .nowhere3 .ensures ∙ sym (place-nowhere (c .before .before .before .before .before .before .before .before .before .before .before .before .before .before .args .morning .now) (c .before .before .before .before .before .before .before .before .before .before .before .before .before .before .args .noon .now) (c .before .before .before .before .before .before .before .before .before .before .before .take-survey .result) (c .before .before .before .before .before .before .before .before .before .before .take-survey2 .result) (c .before .before .before .before .before .before .before .before .before .join .result) (c .before .before .before .before .before .before .before .before .before .before .before .take-survey .ensures) (c .before .before .before .before .before .before .before .before .before .before .take-survey2 .ensures) (c .before .before .before .before .before .before .before .before .before .join .ensures) (c .before .before .before .before .before .before .before .before .verdict-of .result) (c .before .before .before .before .before .before .before .before .verdict-of .ensures) (c .before .before .before .before .before .before .before .before .before .before .before .before .before .before .args .contract) (sym (c .before .before .before .before .before .before .before .number-of .ensures) ∙ omega (arith, c .before .before .before .before .before .before .if1 .left)) (omega (arith, c .before .before .before .before .before .if2 .left)) (omega (arith, c .before .before .before .if3 .left)) (omega (arith, c .before .if4 .left)))
+    let e = c .before .before .before .before .before in
+    let k = e .before .before .before in
+    let s = k .before .before .before .before .before .before .before .args in
+    c .nowhere3 .ensures
+    ∙ sym (place-nowhere (s .morning .now) (s .noon .now) (known k) (s .contract) (clear e) (omega (arith, e .if2 .left))
+    (omega (arith, c .before .before .before .if3 .left)) (omega (arith, c .before .if4 .left)))
 
 pub prompt-place-spec : {M : Type 1} → statement M
 prompt-place-spec =
@@ -82,6 +127,7 @@ prompt-place-spec =
     take-survey-requires
     take-survey-requires-2
     join-requires
+    record-total-requires
     verdict-of-requires
     number-of-requires
     nowhere-requires

@@ -23,14 +23,14 @@ abbrev μ-loop : tie.MeasureT-loop
 loop-holds : tie.Need-loop-holds Inv-loop μ-loop
 loop-holds c = (refl, omega arith)
 
-mul-joined : tie.Need-mul-joined Inv-loop μ-loop
-mul-joined c = omega arith
+mul-together : tie.Need-mul-together Inv-loop μ-loop
+mul-together c = omega arith
 
-array-copy-out-joined : tie.Need-array-copy-out-joined Inv-loop μ-loop
-array-copy-out-joined c = omega arith
+array-copy-out-together : tie.Need-array-copy-out-together Inv-loop μ-loop
+array-copy-out-together c = omega arith
 
-joined-requires : tie.Need-joined-requires Inv-loop μ-loop
-joined-requires c κs =
+together-requires : tie.Need-together-requires Inv-loop μ-loop
+together-requires c κs =
     let l = c .before .before .loop in
     let s = c .before .before .before in
     let n : length (s .args .t1) ≡ 32 = search needs in
@@ -54,8 +54,8 @@ loop-again c =
     let s = c .before .before .before .before in
     let n : length (s .args .t1) ≡ 32 = search needs in
     let h : l .i < length (deltasIn (s .args .t1)) = rw length-map (omega arith) in (
-      net-next (deltasIn (s .args .t1)) (l .i) (l .net .0) (c .joined .result .0) h (l .inv .0)
-          (c .joined .ensures ∙ ap (λ (z : ℤ). l .net .0 +ℤ z) (sym (List·getD-map (λ d. d .0) (s .args .t1) (l .i) (record { 0 = pos 0 })))),
+      net-next (deltasIn (s .args .t1)) (l .i) (l .net .0) (c .together .result .0) h (l .inv .0)
+          (c .together .ensures ∙ ap (λ (z : ℤ). l .net .0 +ℤ z) (sym (List·getD-map (λ d. d .0) (s .args .t1) (l .i) (record { 0 = pos 0 })))),
       omega arith,
     )
 
@@ -73,9 +73,9 @@ contract-net-spec =
     Inv-loop
     μ-loop
     loop-holds
-    mul-joined
-    array-copy-out-joined
-    joined-requires
+    mul-together
+    array-copy-out-together
+    together-requires
     add-i
     loop-less
     loop-again

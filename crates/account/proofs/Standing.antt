@@ -1,0 +1,93 @@
+-- A part of an account as it stands in whichever file supplies it: the account's own records, whole.
+-- Assumes nothing.
+use Prim.Native.Nat.{ℕ, _+_, _*_, _/_, _%_, _≤_, _<_}
+use native.Mathlib.Omega.{arith}
+use mathlib.Core.Path.{_≡_, refl, sym, ap, ap₂, _∙_, subst}
+use mathlib.Core.Bool.{Bool, true, false, _&&_, cond}
+use mathlib.Core.List.{List, [], _∷_}
+use borrow.Author.Tests.{lt-ltb, le-ltb, ltb-true, ltb-false}
+use lib.Dec.{ltb}
+use lib.ListN.{length, getD, drop, length-take}
+use lib.Seq.{take-all}
+use Rattle.exact.specs.Lists.{keep, count}
+use Rattle.record.specs.Layout.{Record}
+use Rattle.account.specs.Notes.{part, parts, entryPart, inPart, partRecords}
+use Rattle.account.specs.Parts.{ofContract}
+use Rattle.account.specs.Records.{cut, records, recordCount, stretch}
+use Rattle.account.specs.Standing.{accountOf, Stands, PartOf}
+use Rattle.account.specs.declared.accounts.Account.{Account}
+use Rattle.account.proofs.Every.{length-kept}
+use Rattle.account.proofs.Noted.{part-is}
+use Rattle.account.proofs.Places.{none-low}
+use Rattle.account.proofs.Walk.{length-cut}
+
+-- n records that are as many as n: all of their bytes are there
+whole : (file : List ℕ) (k n : ℕ) → recordCount (stretch file k n) ≡ n → length (stretch file k n) ≡ n * 96
+whole file k n e = omega (arith, e, length-take (n * 96) (drop (k * 96) file))
+
+-- the part of a number, where there is one
+within : (v : ℕ) → v ≤ entryPart → (account : List Record) → partRecords v account ≡ keep (inPart v) account
+within v h account = ap (λ (t : Bool). cond t [] (keep (inPart v) account)) (le-ltb entryPart v h)
+
+-- a contract's part has its records of a kind
+pub contract-part : (k c : ℕ) → k ≤ 4 → c ≤ 15 → (account : List Record) → partRecords (part k c) account ≡ keep (ofContract k c) account
+contract-part k c hk hc account =
+    within (part k c) (omega arith) account ∙ ap (λ (p : Record → Bool). keep p account) (part-is k c hk hc)
+
+-- the bytes of one record are that record
+pub one-record : (bytes : List ℕ) (r : Record) → records bytes ≡ r ∷ [] → length bytes ≡ 96 → bytes ≡ r
+one-record bytes r e l =
+    let one : recordCount bytes ≡ 1 = sym (length-cut (recordCount bytes) bytes) ∙ ap length e in
+    sym (take-all 96 bytes (omega (arith, l))) ∙ ap (λ (rs : List Record). getD rs 0 []) (sym (ap (λ (n : ℕ). cut n bytes) one) ∙ e)
+
+-- none past the last
+pub part-past : (account : List Record) (v : ℕ) → entryPart < v → PartOf account v []
+part-past account v h =
+    let e : partRecords v account ≡ [] = ap (λ (t : Bool). cond t [] (keep (inPart v) account)) (lt-ltb entryPart v h) in
+    record { are = sym e; whole = sym (ap (λ (rs : List Record). length rs * 96) e) }
+
+module _ (morning noon : List ℕ) (a : Account) (st : Stands morning noon a) (v : ℕ) (h : v ≤ entryPart) where
+  abbrev account : List Record
+  account = accountOf morning noon
+
+  abbrev file : Bool → List ℕ
+  file late = cond late noon morning
+
+  abbrev bytes : Bool → List ℕ
+  bytes late = stretch (file late) (getD (a .first) v 0) (getD (a .counts) v 0)
+
+  counted : getD (a .counts) v 0 ≡ length (keep (inPart v) account)
+  counted = st .places .counts v (omega arith) ∙ sym (length-kept (inPart v) account)
+
+  abbrev late : Bool
+  late = ltb v entryPart && getD (a .noon) (v % 16) false
+
+  are : records (bytes late) ≡ keep (inPart v) account
+  are = go (ltb v 16) refl (ltb v 80) refl
+    where
+      go : (t : Bool) → ltb v 16 ≡ t → (u : Bool) → ltb v 80 ≡ u → records (bytes late) ≡ keep (inPart v) account
+      go true e u f =
+          let z : keep (inPart v) account ≡ [] = none-low v (ltb-true v 16 e) (records morning) (records noon) in
+          ap (λ (n : ℕ). records (stretch (file late) (getD (a .first) v 0) n)) (counted ∙ ap length z) ∙ sym z
+      go false e true f =
+          let low = ltb-false v 16 e in
+          let high = ltb-true v 80 f in
+          let d : part (v / 16) (v % 16) ≡ v = omega arith in
+          ap (λ (t : Bool). records (bytes (t && getD (a .noon) (v % 16) false))) f
+          ∙ subst (λ (i : ℕ). records (stretch (file (getD (a .noon) (v % 16) false)) (getD (a .first) i 0) (getD (a .counts) i 0)) ≡ keep (inPart i) account) d
+          (st .places .each (v / 16) (v % 16) (omega arith) (omega arith) (omega arith)
+          ∙ ap (λ (p : Record → Bool). keep p account) (sym (part-is (v / 16) (v % 16) (omega arith) (omega arith))))
+      go false e false f =
+          let d : 80 ≡ v = omega (arith, ltb-false v 80 f) in
+          ap (λ (t : Bool). records (bytes (t && getD (a .noon) (v % 16) false))) f
+          ∙ subst (λ (i : ℕ). records (stretch morning (getD (a .first) i 0) (getD (a .counts) i 0)) ≡ keep (inPart i) account) d (st .places .entries)
+
+  pub part-stands : (b : Bool) → b ≡ late → (r : List ℕ) → r ≡ bytes b → PartOf account v r
+  part-stands b eb r er =
+      let is : records r ≡ keep (inPart v) account = ap records (er ∙ ap bytes eb) ∙ are in
+      let n = getD (a .counts) v 0 in
+      let many : recordCount (bytes b) ≡ n = sym (length-cut (recordCount (bytes b)) (bytes b)) ∙ ap (λ (x : List ℕ). length (records x)) (sym er) ∙ ap length is ∙ sym counted in
+      record {
+        are = is ∙ sym (within v h account);
+        whole = ap length er ∙ whole (file b) (getD (a .first) v 0) n many ∙ ap (λ (k : ℕ). k * 96) counted ∙ ap (λ (rs : List Record). length rs * 96) (sym (within v h account));
+      }

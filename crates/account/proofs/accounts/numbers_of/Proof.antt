@@ -1,0 +1,89 @@
+-- The listed numbers are put one after the other.
+-- Assumes nothing.
+use Prim.Native.Nat.{ℕ, _+_, _-_, _≤_, _<_}
+use mathlib.Core.Bool.{Bool, true, false}
+use mathlib.Core.Path.{_≡_, refl, sym, ap, ap₂, _∙_}
+use native.Mathlib.Omega.{arith}
+use lib.ListN.{length, take, drop, replicate}
+use Rattle.exact.specs.Lists.{keep, oneIf}
+use Rattle.record.specs.Bytes.{countFrom}
+use Rattle.account.specs.Standing.{lists}
+use Rattle.account.proofs.Filled.{numbers-next, left-after}
+use Rattle.account.proofs.accounts.numbers_of.Statement.{statement}
+use Rattle.account.proofs.accounts.numbers_of.Tie as tie
+
+at-most : (b : Bool) → oneIf b ≤ 1
+at-most true = omega arith
+at-most false = omega arith
+
+abbrev Inv-loop : tie.InvT-loop
+Inv-loop counts count₀ number₀ c₀ count number c = (length number ≡ 16) × ((count ≤ c) × ((c ≤ 16) × ((take count number ≡ keep (lists counts) (countFrom 0 c)) × (drop count number ≡ replicate (16 - count) 0))))
+
+abbrev μ-loop : tie.MeasureT-loop
+μ-loop counts count₀ number₀ c₀ count number c = 16 - c
+
+loop-holds : tie.Need-loop-holds Inv-loop μ-loop
+loop-holds c = (refl, (omega arith, (omega arith, (refl, refl))))
+
+lists-requires : tie.Need-lists-requires Inv-loop μ-loop
+lists-requires c κs = c .loop-test .taken
+
+slice-aggregate-put-number : tie.Need-slice-aggregate-put-number Inv-loop μ-loop
+slice-aggregate-put-number c = sym (c .before .before .before .loop .inv .0)
+
+put-number-requires : tie.Need-put-number-requires Inv-loop μ-loop
+put-number-requires c κs = (omega (arith, c .before .before .before .loop .inv .0, c .before .before .before .loop .inv .1 .0, c .before .before .loop-test .taken), c .before .before .loop-test .taken)
+
+one-if-requires : tie.Need-one-if-requires Inv-loop μ-loop
+one-if-requires c κs = tt
+
+add-count : tie.Need-add-count Inv-loop μ-loop
+add-count c = omega (arith, c .one-if .ensures, at-most (c .before .before .before .before .lists .result), c .before .before .before .before .before .before .loop .inv .1 .0, c .before .before .before .before .before .loop-test .taken)
+
+add-c : tie.Need-add-c Inv-loop μ-loop
+add-c c = omega (arith, c .before .before .before .before .before .loop-test .taken)
+
+loop-less : tie.Need-loop-less Inv-loop μ-loop
+loop-less c = omega (arith, c .before .before .before .before .before .loop-test .taken)
+
+loop-again : tie.Need-loop-again Inv-loop μ-loop
+loop-again c =
+    let l = c .before .before .before .before .before .before .loop in
+    let h = c .before .before .before .before .before .loop-test .taken in
+    let b = c .before .before .before .before .lists in
+    let u = c .before .before .put-number in
+    let o = c .one-if .ensures in
+    let m = at-most (b .result) in
+    let n : l .count < length (l .number) = omega (arith, h, l .inv .0, l .inv .1 .0) in
+    let p = lists (c .before .before .before .before .before .before .before .before .args .counts .now) in (
+      c .before .number2 .given,
+      (omega (arith, o, m, l .inv .1 .0), (omega (arith, h), (ap (λ (k : ℕ). take (l .count + k) (u .last .0)) o ∙ numbers-next p (l .c) (l .count) (l .number) (u .last .0) (b .result) (b .ensures) n (u .ensures) (l .inv .1 .1 .1 .0), ap₂ (λ (k i : ℕ). drop (l .count + k) (u .last .0)) o o ∙ left-after p (l .c) (l .count) (l .number) (u .last .0) (b .result) (b .ensures) n (u .ensures) 16 (l .inv .0) (l .inv .1 .1 .1 .1) ∙ ap (λ (k : ℕ). replicate (16 - (l .count + k)) 0) (sym o)))),
+    )
+
+returns : tie.Need-returns Inv-loop μ-loop
+returns c =
+    let l = c .before .loop in
+    let e : l .c ≡ 16 = omega (arith, c .loop-test .left, l .inv .1 .1 .0) in
+    record {
+      long = l .inv .0;
+      few = omega (arith, l .inv .1 .0, l .inv .1 .1 .0);
+      those = l .inv .1 .1 .1 .0 ∙ ap (λ (n : ℕ). keep (lists (c .before .before .before .args .counts .now)) (countFrom 0 n)) e;
+      rest = l .inv .1 .1 .1 .1;
+    }
+
+pub numbers-of-spec : {M : Type 1} → statement M
+numbers-of-spec =
+    tie.close
+    (tie.spec
+    Inv-loop
+    μ-loop
+    loop-holds
+    lists-requires
+    slice-aggregate-put-number
+    put-number-requires
+    one-if-requires
+    add-count
+    add-c
+    loop-less
+    loop-again
+    returns)

@@ -1,0 +1,43 @@
+-- Both files are checked, and joined by what the check hands out.
+-- Assumes nothing.
+use borrow.Author.Needs.{needs}
+use mathlib.Core.Path.{ap, _∙_}
+use Rattle.account.specs.Noon.{verdictBy}
+use Rattle.account.proofs.NoonLaws.{checked-by}
+use Rattle.account.proofs.noon.check_pair.Statement.{statement}
+use Rattle.account.proofs.noon.check_pair.Tie as tie
+
+take-survey-requires : tie.Need-take-survey-requires
+take-survey-requires c κs = search needs
+
+take-survey-requires-2 : tie.Need-take-survey-requires-2
+take-survey-requires-2 c κs = search needs
+
+join-requires : tie.Need-join-requires
+join-requires c κs = search needs
+
+record-total-requires : tie.Need-record-total-requires
+record-total-requires c κs = search needs
+
+verdict-of-requires : tie.Need-verdict-of-requires
+verdict-of-requires c κs = search needs
+
+returns : tie.Need-returns
+returns c =
+    let s = c .before .before .before .before .before .before .before .args in
+    let m = c .before .before .before .before .take-survey in
+    let n = c .before .before .before .take-survey2 in
+    let j = c .before .before .join in
+    checked-by (s .morning .now) (s .noon .now) (m .result) (n .result) (j .result) (m .ensures) (n .ensures) (j .ensures) (c .verdict-of .result)
+    (c .verdict-of .ensures ∙ ap (verdictBy (m .result) (n .result)) (c .before .record-total .ensures))
+
+pub check-pair-spec : {M : Type 1} → statement M
+check-pair-spec =
+    tie.close
+    (tie.spec
+    take-survey-requires
+    take-survey-requires-2
+    join-requires
+    record-total-requires
+    verdict-of-requires
+    returns)

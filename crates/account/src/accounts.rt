@@ -1,0 +1,264 @@
+// An account as one thing: which contracts there are, and where the records of each kind of each contract stand, in one
+// file or in two. Nothing above this module knows files, surveys or offsets.
+use crate::answers::Answer;
+use crate::check::Survey;
+use crate::check::take_survey;
+use crate::notes::note_at;
+use crate::notes::noted;
+use crate::notes::wide;
+use crate::parts::CONTRACTS;
+use crate::parts::ENTRIES;
+use crate::parts::OWN;
+use crate::parts::PARTS;
+use crate::stretches::record_count;
+use crate::stretches::stretch;
+ghost use mathlib.Core.Path.{_≡_};
+ghost use mathlib.Core.Bool.{cond};
+ghost use Prim.Native.Nat.{_≤_, _<_};
+ghost use lib.ListN.{length, getD, set};
+ghost use Rattle.exact.specs.Lists.{oneIf, sum};
+ghost use Rattle.account.specs.Check.{mostContracts};
+ghost use Rattle.account.specs.Notes.{parts};
+ghost use Rattle.account.specs.Standing.{accountOf, Stands, PartOf, CheckedBy};
+ghost use Rattle.account.specs.Standing.{lists, fromNoon, eitherNote, Filled, Flagged, Numbered, JoinedBy, AloneBy};
+
+// An account: how many records it has, its contracts' numbers in order, which of them the noon file supplies, and of each
+// part where it begins in its file and how many records it has. Only the check and a join of two checked files make one:
+// its fields are of this module alone.
+pub struct Account {
+    records: usize,
+    contracts: usize,
+    numbers: [u8; CONTRACTS],
+    noon: [bool; CONTRACTS],
+    first: [u16; PARTS],
+    counts: [u16; PARTS],
+}
+
+// How many records the account has.
+pub fn record_total(account: Account) -> usize
+    ensures { λ n. ⌜ n ≡ account .records ⌝ }
+{
+    account.records
+}
+
+// How many contracts it lists.
+pub fn contract_total(account: Account) -> usize
+    ensures { λ n. ⌜ n ≡ account .contracts ⌝ }
+{
+    account.contracts
+}
+
+fn widened(x: u8) -> usize
+    ensures { λ n. ⌜ n ≡ x ⌝ }
+{
+    x as usize
+}
+
+fn number_in(numbers: &[u8], i: usize) -> u8
+    ensures { λ n. ⌜ n ≡ getD (now (numbers .entry)) i 0 ⌝ }
+{
+    if i < numbers.len() { numbers[i] } else { 0 }
+}
+
+// The number of the i-th contract.
+pub fn contract_number(account: Account, i: usize) -> usize
+    ensures { λ n. ⌜ n ≡ getD (account .numbers) i 0 ⌝ }
+{
+    let numbers = account.numbers;
+    widened(number_in(&numbers, i))
+}
+
+// How many records part `v` has.
+pub fn part_total(account: Account, v: usize) -> usize
+    ensures { λ n. ⌜ n ≡ getD (account .counts) v 0 ⌝ }
+{
+    let counts = account.counts;
+    noted(&counts, v)
+}
+
+// The records of part `v` of an account, as they stand in whichever file supplies them.
+pub fn part<'a>(morning: &'a [u8], noon: &'a [u8], account: Account, v: usize) -> &'a [u8]
+    requires { ⌜ Stands (now morning) (now noon) account ⌝ }
+    ensures { λ r. ⌜ PartOf (accountOf (now (morning .entry)) (now (noon .entry))) v (now r) ⌝ }
+{
+    if ENTRIES < v {
+        return &morning[..0];
+    }
+    let late = (v < ENTRIES) & account.noon[v % CONTRACTS];
+    let file = supplier(morning, noon, late);
+    stretch(file, account.first[v] as usize, account.counts[v] as usize)
+}
+
+// Whichever file supplies a contract.
+pub(crate) fn supplier<'a>(morning: &'a [u8], noon: &'a [u8], later: bool) -> &'a [u8]
+    ensures { λ r. ⌜ now r ≡ cond later (now (noon .entry)) (now (morning .entry)) ⌝ }
+{
+    if later {
+        return noon;
+    }
+    morning
+}
+
+// Whether a file lists contract `c`, by its counts.
+fn lists(counts: &[u16], c: usize) -> bool
+    requires { ⌜ c < mostContracts ⌝ }
+    ensures { λ b. ⌜ b ≡ lists (now (counts .entry)) c ⌝ }
+{
+    noted(counts, OWN + c) != 0
+}
+
+// Whether the noon file supplies part `v`, by its counts.
+fn from_noon(counts: &[u16], v: usize) -> bool
+    ensures { λ b. ⌜ b ≡ fromNoon (now (counts .entry)) v ⌝ }
+{
+    if ENTRIES <= v {
+        return false;
+    }
+    lists(counts, v % CONTRACTS)
+}
+
+// What is noted of part `v` in whichever file supplies it.
+fn either_note(morning: &[u16], noon: &[u16], counts: &[u16], v: usize) -> u16
+    ensures { λ n. ⌜ n ≡ eitherNote (now (morning .entry)) (now (noon .entry)) (now (counts .entry)) v ⌝ }
+{
+    if from_noon(counts, v) {
+        return note_at(noon, v);
+    }
+    note_at(morning, v)
+}
+
+// The same of every part.
+fn either_notes(notes: &mut [u16], morning: &[u16], noon: &[u16], counts: &[u16])
+    ensures { λ _. ⌜ Filled (length (now (notes .entry))) (eitherNote (now (morning .entry)) (now (noon .entry)) (now (counts .entry))) (now (notes .exit)) ⌝ }
+{
+    let mut v = 0;
+    while v < notes.len() {
+        notes[v] = either_note(morning, noon, counts, v);
+        v += 1;
+    }
+}
+
+// Which contracts a file lists, by its counts.
+fn flags(counts: &[u16]) -> [bool; CONTRACTS]
+    ensures { λ r. ⌜ Flagged (now (counts .entry)) r ⌝ }
+{
+    let mut listed = [false; CONTRACTS];
+    let mut c = 0;
+    while c < CONTRACTS {
+        listed[c] = lists(counts, c);
+        c += 1;
+    }
+    listed
+}
+
+struct Numbers {
+    count: usize,
+    number: [u8; CONTRACTS],
+}
+
+// The number of a contract put after the others, where it is listed.
+fn put_number(number: &mut [u8], count: usize, c: usize, listed: bool)
+    requires { ⌜ (count < length (now number)) × (c < mostContracts) ⌝ }
+    ensures { λ _. ⌜ now (number .exit) ≡ cond listed (set (now (number .entry)) count c) (now (number .entry)) ⌝ }
+{
+    if listed {
+        number[count] = c as u8;
+    }
+}
+
+fn one_if(b: bool) -> usize
+    ensures { λ n. ⌜ n ≡ oneIf b ⌝ }
+{
+    if b { 1 } else { 0 }
+}
+
+// Their numbers in order: the first `count`.
+fn numbers_of(counts: &[u16]) -> Numbers
+    ensures { λ r. ⌜ Numbered (now (counts .entry)) (r .count) (r .number) ⌝ }
+{
+    let mut count = 0;
+    let mut number = [0u8; CONTRACTS];
+    let mut c = 0;
+    while c < CONTRACTS {
+        let listed = lists(counts, c);
+        put_number(&mut number, count, c, listed);
+        count += one_if(listed);
+        c += 1;
+    }
+    Numbers { count, number }
+}
+
+// How many records there are in all parts.
+fn records_in(counts: &[u16]) -> usize
+    requires { ⌜ length (now counts) ≤ parts ⌝ }
+    ensures { λ n. ⌜ n ≡ sum (now (counts .entry)) ⌝ }
+{
+    let mut n = 0;
+    let mut v = 0;
+    while v < counts.len() {
+        n += wide(note_at(counts, v));
+        v += 1;
+    }
+    n
+}
+
+// The joined account of two files, by what the check handed out of them.
+pub(crate) fn join(morning: Survey, noon: Survey) -> Account
+    ensures { λ j. ⌜ JoinedBy morning noon j ⌝ }
+{
+    let morning_first = morning.first;
+    let morning_counts = morning.counts;
+    let noon_first = noon.first;
+    let noon_counts = noon.counts;
+    let supplied = flags(&noon_counts);
+    let mut first = [0u16; PARTS];
+    let mut counts = [0u16; PARTS];
+    either_notes(&mut first, &morning_first, &noon_first, &noon_counts);
+    either_notes(&mut counts, &morning_counts, &noon_counts, &noon_counts);
+    let records = records_in(&counts);
+    let listed = numbers_of(&counts);
+    let contracts = listed.count;
+    let numbers = listed.number;
+    Account {
+        records,
+        contracts,
+        numbers,
+        noon: supplied,
+        first,
+        counts,
+    }
+}
+
+// An account of so many records that stands in one file: no noon file supplies anything.
+fn in_one_file(survey: Survey, records: usize) -> Account
+    ensures { λ j. ⌜ AloneBy survey records j ⌝ }
+{
+    let first = survey.first;
+    let counts = survey.counts;
+    let listed = numbers_of(&counts);
+    let contracts = listed.count;
+    let numbers = listed.number;
+    Account {
+        records,
+        contracts,
+        numbers,
+        noon: [false; CONTRACTS],
+        first,
+        counts,
+    }
+}
+
+// What the check of a file hands out: its answer, and of an accepted file the account.
+pub struct Checked {
+    pub answer: Answer,
+    pub account: Account,
+}
+
+pub fn check_file(file: &[u8]) -> Checked
+    ensures { λ r. ⌜ CheckedBy (now (file .entry)) r ⌝ }
+{
+    let survey = take_survey(file);
+    let answer = survey.answer;
+    let account = in_one_file(survey, record_count(file));
+    Checked { answer, account }
+}

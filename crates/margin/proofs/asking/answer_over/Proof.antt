@@ -1,0 +1,81 @@
+-- Each question is answered by its own function.
+-- Assumes nothing.
+use mathlib.Core.Path.{_≡_, subst⁻¹}
+use mathlib.Core.List.{List}
+use borrow.Author.Needs.{needs}
+use lib.IntN.{ℤ}
+use lib.ListN.{length}
+use Rattle.record.specs.Layout.{Record}
+use Rattle.account.specs.Standing.{accountOf}
+use Rattle.account.specs.declared.answers.Answer.{Answer}
+use Rattle.margin.specs.Questions.{answerOver, afterOver}
+use Rattle.margin.specs.declared.asking.Question.{Question}
+use Rattle.margin.proofs.asking.answer_over.Statement.{statement}
+use Rattle.margin.proofs.asking.answer_over.Tie as tie
+
+-- the same question by another name
+answered : (account : List Record) (a : Answer) (left lent : List ℤ) (q q′ : Question) → q ≡ q′ → (a ≡ answerOver account q′ (length lent)) × (left ≡ afterOver account q′ lent)
+    → (a ≡ answerOver account q (length lent)) × (left ≡ afterOver account q lent)
+answered account a left lent q q′ e = subst⁻¹ (λ (x : Question). (a ≡ answerOver account x (length lent)) × (left ≡ afterOver account x lent)) e
+
+enum-told : tie.Need-enum-told
+enum-told c = search needs
+
+answer-figures-requires : tie.Need-answer-figures-requires
+answer-figures-requires c κs = search needs
+
+enum-known-question : tie.Need-enum-known-question
+enum-known-question c = search needs
+
+answer-book-requires : tie.Need-answer-book-requires
+answer-book-requires c κs = search needs
+
+enum-known-question-2 : tie.Need-enum-known-question-2
+enum-known-question-2 c = search needs
+
+answer-uses-requires : tie.Need-answer-uses-requires
+answer-uses-requires c κs = search needs
+
+same-length : tie.Need-same-length
+same-length c = search needs
+
+returns : tie.Need-returns
+returns c =
+    let s = c .before .before .before .before .before .before .before in
+    let r = c .before .answer-figures in
+    answered (accountOf (s .args .morning .now) (s .args .noon .now)) (r .result) (r .last .1 .1 .1 .0) (s .args .out .now) _ _ (c .before .before .before .enum-told .given .1) (r .ensures)
+
+same-length-2 : tie.Need-same-length-2
+same-length-2 c = search needs
+
+returns-2 : tie.Need-returns-2
+returns-2 c =
+    let s = c .before .before .before .before .before .before .before .before in
+    let r = c .before .answer-book in
+    answered (accountOf (s .args .morning .now) (s .args .noon .now)) (r .result) (r .last .1 .1 .1 .1 .0) (s .args .out .now) _ _ (c .before .before .before .before .question .given .1) (r .ensures)
+
+same-length-3 : tie.Need-same-length-3
+same-length-3 c = search needs
+
+returns-3 : tie.Need-returns-3
+returns-3 c =
+    let s = c .before .before .before .before .before .before .before .before in
+    let r = c .before .answer-uses in
+    answered (accountOf (s .args .morning .now) (s .args .noon .now)) (r .result) (r .last .1 .1 .1 .1 .0) (s .args .out .now) _ _ (c .before .before .before .before .question2 .given .1) (r .ensures)
+
+pub answer-over-spec : {M : Type 1} → statement M
+answer-over-spec =
+    tie.close
+    (tie.spec
+    enum-told
+    answer-figures-requires
+    enum-known-question
+    answer-book-requires
+    enum-known-question-2
+    answer-uses-requires
+    same-length
+    returns
+    same-length-2
+    returns-2
+    same-length-3
+    returns-3)

@@ -1,0 +1,58 @@
+-- What is asked about by a contract number: its parts are the account's.
+-- Assumes nothing.
+use mathlib.Core.Path.{subst}
+use borrow.Author.Needs.{needs}
+use Rattle.account.specs.Standing.{accountOf}
+use Rattle.margin.specs.Contract.{Contract}
+use Rattle.margin.specs.Uses.{contractUses, Asks}
+use Rattle.margin.proofs.StandLaws.{parts-room, parts-by-number}
+use Rattle.margin.proofs.over.asking_of.Statement.{statement}
+use Rattle.margin.proofs.over.asking_of.Tie as tie
+
+add-part : tie.Need-add-part
+add-part c = search needs
+
+part-requires : tie.Need-part-requires
+part-requires c κs = search needs
+
+add-part-2 : tie.Need-add-part-2
+add-part-2 c = search needs
+
+part-requires-2 : tie.Need-part-requires-2
+part-requires-2 c κs = search needs
+
+position-at-requires : tie.Need-position-at-requires
+position-at-requires c κs = search needs
+
+contract-asking-requires : tie.Need-contract-asking-requires
+contract-asking-requires c κs =
+    let s = c .before .before .before .before .before in
+    let a = accountOf (s .args .morning .now) (s .args .noon .now) in
+    let ps = c .before .before .part in
+    let ss = c .before .part2 in
+    let p = c .position-at in
+    parts-room a (s .pre .0 .lawful) (s .args .c) (s .pre .1) (ps .result .now) (ss .result .now) (ps .ensures) (ss .ensures) (p .result) (p .ensures)
+
+returns : tie.Need-returns
+returns c =
+    let s = c .before .before .before .before .before .before in
+    let a = accountOf (s .args .morning .now) (s .args .noon .now) in
+    let ps = c .before .before .before .part in
+    let ss = c .before .before .part2 in
+    let p = c .before .position-at in
+    let r = c .contract-asking in
+    subst (λ (k : Contract). Asks (contractUses k) (r .result))
+    (parts-by-number a (s .pre .0 .lawful) (s .args .c) (s .pre .1) (ps .result .now) (ss .result .now) (ps .ensures) (ss .ensures) (p .result) (p .ensures))
+    (r .ensures)
+
+pub asking-of-spec : {M : Type 1} → statement M
+asking-of-spec =
+    tie.close
+    (tie.spec
+    add-part
+    part-requires
+    add-part-2
+    part-requires-2
+    position-at-requires
+    contract-asking-requires
+    returns)

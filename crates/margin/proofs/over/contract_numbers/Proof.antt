@@ -1,0 +1,53 @@
+-- The book of a contract number: its parts are the account's.
+-- Assumes nothing.
+use borrow.Author.Needs.{needs}
+use Rattle.account.specs.Standing.{accountOf}
+use Rattle.margin.proofs.StandLaws.{parts-room, parts-numbers}
+use Rattle.margin.proofs.over.contract_numbers.Statement.{statement}
+use Rattle.margin.proofs.over.contract_numbers.Tie as tie
+
+add-part : tie.Need-add-part
+add-part c = search needs
+
+part-requires : tie.Need-part-requires
+part-requires c κs = search needs
+
+add-part-2 : tie.Need-add-part-2
+add-part-2 c = search needs
+
+part-requires-2 : tie.Need-part-requires-2
+part-requires-2 c κs = search needs
+
+position-at-requires : tie.Need-position-at-requires
+position-at-requires c κs = search needs
+
+contract-answer-requires : tie.Need-contract-answer-requires
+contract-answer-requires c κs =
+    let s = c .before .before .before .before .before in
+    let a = accountOf (s .args .morning .now) (s .args .noon .now) in
+    let ps = c .before .before .part in
+    let ss = c .before .part2 in
+    let p = c .position-at in
+    parts-room a (s .pre .0 .lawful) (s .args .c) (s .pre .1) (ps .result .now) (ss .result .now) (ps .ensures) (ss .ensures) (p .result) (p .ensures)
+
+returns : tie.Need-returns
+returns c =
+    let s = c .before .before .before .before .before .before in
+    let a = accountOf (s .args .morning .now) (s .args .noon .now) in
+    let ps = c .before .before .before .part in
+    let ss = c .before .before .part2 in
+    let p = c .before .position-at in
+    let r = c .contract-answer in
+    parts-numbers a (s .pre .0 .lawful) (s .args .c) (s .pre .1) (ps .result .now) (ss .result .now) (ps .ensures) (ss .ensures) (p .result) (p .ensures) (r .result) (r .ensures)
+
+pub contract-numbers-spec : {M : Type 1} → statement M
+contract-numbers-spec =
+    tie.close
+    (tie.spec
+    add-part
+    part-requires
+    add-part-2
+    part-requires-2
+    position-at-requires
+    contract-answer-requires
+    returns)

@@ -1,0 +1,33 @@
+-- The contracts as tiers and the intercontract spreads are accepted by the steps, and are those that the table's uses go by.
+-- Assumes nothing.
+use borrow.Author.Needs.{needs}
+use Rattle.account.specs.Standing.{accountOf}
+use Rattle.margin.proofs.TierLaws.{entries-few}
+use Rattle.margin.proofs.UsesLaws.{table-asks}
+use Rattle.margin.proofs.over.table_asking.Statement.{statement}
+use Rattle.margin.proofs.over.table_asking.Tie as tie
+
+part-requires : tie.Need-part-requires
+part-requires c κs = search needs
+
+tiers-over-requires : tie.Need-tiers-over-requires
+tiers-over-requires c κs = search needs
+
+intercontract-table-requires : tie.Need-intercontract-table-requires
+intercontract-table-requires c κs =
+    let s = c .before .before .before .before in
+    let p = c .tiers-over in
+    let e = c .before .part in
+    entries-few (accountOf (s .args .morning .now) (s .args .noon .now)) (s .pre .lawful) (p .result) (p .ensures) (e .result .now) (e .ensures)
+
+returns : tie.Need-returns
+returns c =
+    let s = c .before .before .before .before .before in
+    let p = c .before .tiers-over in
+    let e = c .before .before .part in
+    let t = c .intercontract-table in
+    table-asks (accountOf (s .args .morning .now) (s .args .noon .now)) (s .pre .lawful) (p .result) (p .ensures) (e .result .now) (e .ensures) (t .result) (t .ensures)
+
+pub table-asking-spec : {M : Type 1} → statement M
+table-asking-spec =
+    tie.close (tie.spec part-requires tiers-over-requires intercontract-table-requires returns)

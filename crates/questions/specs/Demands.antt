@@ -1,0 +1,86 @@
+-- The three demands, as claims about the definitions, each under its words; proofs/Demands.antt proves them of any bytes. The code
+-- meets them where `check` (account) and the questions (src/plain.rt) promise these definitions.
+-- Assumes nothing.
+use Prim.Native.Nat.{ℕ, _≤_, _<_}
+use mathlib.Core.Path.{_≡_}
+use mathlib.Core.Bool.{true, false}
+use mathlib.Core.List.{List, [], _∷_, _++_, map}
+use lib.IntN.{ℤ, pos}
+use lib.ListN.{length}
+use Rattle.account.specs.Answers.{numberOf, recordOf}
+use Rattle.record.specs.Layout.{Record, mostContract}
+use Rattle.account.specs.Check.{checked}
+use Rattle.account.specs.Claims.{Iff, Claims}
+use Rattle.account.specs.Orders.{Later}
+use Rattle.account.specs.Parts.{promptsOf, entriesOf}
+use Rattle.account.specs.Records.{records, recordCount}
+use Rattle.account.specs.declared.answers.Answer.{Answer}
+use Rattle.account.specs.declared.answers.Answer.the-variants.{Accepted}
+use Rattle.spread.specs.Demand.{Demand3}
+use Rattle.spread.specs.Steps.{Open, Taker, numbers, usedOf, unusedOf}
+use Rattle.spread.specs.Uses.{usesOf, WhoPaid}
+use Rattle.margin.specs.declared.asking.Question.{Question}
+use Rattle.margin.specs.Books.{threes, answered, book, tableQuestion}
+use Rattle.margin.specs.Contract.{contracts, partsOf, contractNet, asTier, stepsOf, opensOf, tableSteps}
+use Rattle.margin.specs.Figures.{figures}
+use Rattle.margin.specs.Questions.{numbersFor, answers, answerOver, afterwards}
+use Rattle.margin.specs.Reckoned.{Reckoned, Printed}
+use Rattle.margin.specs.Skipped.{NoneSkipped}
+use Rattle.margin.specs.Uses.{uses}
+use Rattle.questions.specs.Questions.{answerTo}
+
+-- ---- 1. "Every input gets an answer: figures, or one refusal number with the record at fault. A refusal comes exactly when its
+-- condition is the first in document 01's order to hold, and lent memory then stays untouched. .. no accepted line is skipped."
+
+-- a question put to an account with so many numbers lent for its answer: "then 11, then 10", both naming the record count
+pub record Asking (account : List Record) (question : Question) (lent : ℕ) : Type 0 where
+  pub eleven : Iff (numberOf (answerOver account question lent) ≡ 11) (answers account question ≡ false)
+  pub ten : Iff (numberOf (answerOver account question lent) ≡ 10) ((answers account question ≡ true) × (lent < length (numbersFor account question)))
+  pub accepted : Iff (numberOf (answerOver account question lent) ≡ 0) ((answers account question ≡ true) × (length (numbersFor account question) ≤ lent))
+  pub named : 1 ≤ numberOf (answerOver account question lent) → recordOf (answerOver account question lent) ≡ length account
+
+-- put to a file
+pub record FileAsked (file : List ℕ) (question : Question) (lent : ℕ) : Type 0 where
+  pub refused : (numberOf (checked file) ≡ 0 → ⊥) → answerTo file question lent ≡ checked file
+  pub eleven : Iff (numberOf (answerTo file question lent) ≡ 11) ((checked file ≡ Accepted) × (answers (records file) question ≡ false))
+  pub ten : Iff (numberOf (answerTo file question lent) ≡ 10)
+      ((checked file ≡ Accepted) × ((answers (records file) question ≡ true) × (lent < length (numbersFor (records file) question))))
+  pub accepted : Iff (numberOf (answerTo file question lent) ≡ 0)
+      ((checked file ≡ Accepted) × ((answers (records file) question ≡ true) × (length (numbersFor (records file) question) ≤ lent)))
+  pub named : 10 ≤ numberOf (answerTo file question lent) → recordOf (answerTo file question lent) ≡ recordCount file
+
+pub record Demand1 (file : List ℕ) : Type 0 where
+  -- 1 to 9
+  pub check : Claims file
+  -- 10 and 11, of the figures, a book or who paid in it
+  pub question : (question : Question) (lent : ℕ) → FileAsked file question lent
+  -- "lent memory then stays untouched"
+  pub untouched : (a : Answer) (answer lent : List ℤ) → (numberOf a ≡ 0 → ⊥) → afterwards a answer lent ≡ lent
+  -- "no accepted line is skipped"
+  pub skipped : checked file ≡ Accepted → NoneSkipped (records file)
+
+-- ---- 2. "Every figure equals SPAN as published .., under 01's rounding and tie rules": what is published is said by the definitions
+-- of Scanning, Deltas, Charges, Pairs, Credit, Margin, Contract, Figures and Books; the reckoned examples fix them.
+
+pub record Demand2 : Type 0 where
+  pub reckoned : Reckoned
+  pub printed : Printed
+  -- "An empty file is an accepted account with total 0."
+  pub empty-accepted : checked [] ≡ Accepted
+  pub empty-total : figures (records []) ≡ pos 0 ∷ []
+
+-- ---- 3. "For each accepted account and each spread table"
+
+-- a book holds what the steps form, use and leave, its uses what each takes, and demand 3 holds of these
+pub record Holds (written taken nets : List ℤ) (ss : List (List Taker)) (ps : List Open) : Type 0 where
+  pub writes : written ≡ threes nets (usedOf ss ps) (unusedOf ss ps) ++ map pos (numbers ss ps)
+  pub takes : taken ≡ usesOf ss ps
+  pub demand : Demand3 ss ps
+  pub paid : WhoPaid ss ps
+
+pub record Demanded (account : List Record) : Type 0 where
+  pub interprompt : (c : ℕ) → answered account c ≡ true → (c ≡ tableQuestion → ⊥)
+      → Holds (book account c) (uses account c) (partsOf account c .nets) (stepsOf (partsOf account c)) (opensOf (partsOf account c))
+  pub intercontract : Holds (book account tableQuestion) (uses account tableQuestion) (map contractNet (contracts account)) (tableSteps (entriesOf account)) (map asTier (contracts account))
+  -- "earlier dates": the prompts of a contract stand by their days
+  pub dates : (c : ℕ) → c ≤ mostContract → Later (promptsOf c account)

@@ -1,0 +1,66 @@
+// The questions over a file that is checked: its refusal, or what the account answers that stands in it alone.
+use account::accounts::Checked;
+use account::answers::Answer;
+use account::answers::number_of;
+use margin::asking::Question;
+use margin::asking::all_over;
+use margin::asking::answer_over;
+use margin::asking::needed_over;
+ghost use mathlib.Core.Path.{_≡_};
+ghost use mathlib.Core.List.{[]};
+ghost use Prim.Native.Nat.{_≤_};
+ghost use lib.ListN.{length};
+ghost use Rattle.account.specs.Standing.{CheckedBy};
+ghost use Rattle.margin.specs.Questions.{mostFor};
+ghost use Rattle.questions.specs.Questions.{answerTo, afterTo, needTo, allTo, afterAllTo};
+
+// No records: the noon file of an account that stands in one file.
+fn nothing_of(file: &[u8]) -> &[u8]
+    ensures { λ r. ⌜ now r ≡ [] ⌝ }
+{
+    &file[0..0]
+}
+
+// A question's answer, at the front of `out`. A refusal writes nothing.
+pub(crate) fn answer_checked(
+    file: &[u8],
+    checked: Checked,
+    question: Question,
+    out: &mut [i64],
+) -> Answer
+    requires { ⌜ CheckedBy (now file) checked ⌝ }
+    ensures { λ r. ⌜ (r ≡ answerTo (now (file .entry)) question (length (now (out .entry)))) × (now (out .exit) ≡ afterTo (now (file .entry)) question (now (out .entry))) ⌝ }
+{
+    let answer = checked.answer;
+    if number_of(answer) != 0 {
+        return answer;
+    }
+    let account = checked.account;
+    answer_over(file, nothing_of(file), account, question, out)
+}
+
+// How many numbers the answer of a question has, 0 where there is none.
+pub(crate) fn needed_checked(file: &[u8], checked: Checked, question: Question) -> usize
+    requires { ⌜ CheckedBy (now file) checked ⌝ }
+    ensures { λ n. ⌜ (n ≡ needTo (now (file .entry)) question) × (n ≤ mostFor question) ⌝ }
+{
+    let answer = checked.answer;
+    if number_of(answer) != 0 {
+        return 0;
+    }
+    let account = checked.account;
+    needed_over(file, nothing_of(file), account, question)
+}
+
+// The books of all questions, or who paid for what in them, each in its place. A refusal writes nothing.
+pub(crate) fn all_checked(file: &[u8], checked: Checked, paid: bool, out: &mut [i64]) -> Answer
+    requires { ⌜ CheckedBy (now file) checked ⌝ }
+    ensures { λ r. ⌜ (r ≡ allTo paid (now (file .entry)) (length (now (out .entry)))) × (now (out .exit) ≡ afterAllTo paid (now (file .entry)) (now (out .entry))) ⌝ }
+{
+    let answer = checked.answer;
+    if number_of(answer) != 0 {
+        return answer;
+    }
+    let account = checked.account;
+    all_over(file, nothing_of(file), account, paid, out)
+}

@@ -1,13 +1,13 @@
 // "Noon against the morning": the verdict on a pair of files, the joined account, and a contract's prompts.
+use crate::accounts::Account;
+use crate::accounts::join;
+use crate::accounts::record_total;
+use crate::accounts::supplier;
 use crate::answers::Answer;
 use crate::answers::number_of;
 use crate::check::MOST_RECORDS;
 use crate::check::Survey;
 use crate::check::take_survey;
-use crate::accounts::Account;
-use crate::accounts::join;
-use crate::accounts::record_total;
-use crate::accounts::supplier;
 use crate::parts::CONTRACTS;
 use crate::parts::ENTRIES;
 use crate::parts::OWN;

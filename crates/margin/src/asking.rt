@@ -139,12 +139,7 @@ struct Sizes {
     spreads: usize,
 }
 
-fn sizes_over<'a>(
-    morning: &'a [u8],
-    noon: &'a [u8],
-    account: Account,
-    question: usize,
-) -> Sizes
+fn sizes_over<'a>(morning: &'a [u8], noon: &'a [u8], account: Account, question: usize) -> Sizes
     requires { ⌜ Stands (now morning) (now noon) account × (answered (accountOf (now morning) (now noon)) question ≡ true) ⌝ }
     ensures { λ r. ⌜ SizesOf (accountOf (now (morning .entry)) (now (noon .entry))) question (r .prompts) (r .spreads) ⌝ }
 {

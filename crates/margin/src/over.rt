@@ -78,7 +78,12 @@ fn line_at<'a>(morning: &'a [u8], noon: &'a [u8], account: Account, i: usize) ->
     let own = part(morning, noon, account, OWN + c);
     let prompts = part(morning, noon, account, PROMPTS + c);
     let spreads = part(morning, noon, account, SPREADS + c);
-    line_of(own, prompts, spreads, position_at(morning, noon, account, c))
+    line_of(
+        own,
+        prompts,
+        spreads,
+        position_at(morning, noon, account, c),
+    )
 }
 
 fn no_line() -> Line {

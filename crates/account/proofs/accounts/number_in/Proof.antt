@@ -6,7 +6,6 @@ use borrow.Author.Needs.{needs}
 use Rattle.account.proofs.accounts.number_in.Statement.{statement}
 use Rattle.account.proofs.accounts.number_in.Tie as tie
 
-
 shared-slice-read-result : tie.Need-shared-slice-read-result
 shared-slice-read-result c = search needs
 

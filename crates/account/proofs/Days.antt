@@ -10,6 +10,7 @@ use native.Mathlib.Omega.{arith}
 use native.Mathlib.Nat.{le-refl}
 use borrow.Author.Tests.{eq-eqb, ne-eqb, eqb-true, leb-false, ltb-false}
 use Rattle.exact.specs.Lists.{consIf, keep, count}
+use Rattle.exact.proofs.Lists.{keep-append}
 use Rattle.record.specs.Layout.{Record, kind, contract, tier, day}
 use Rattle.record.proofs.Within.{never, both-true, neither}
 use Rattle.account.specs.Accepted.{Each}
@@ -21,7 +22,7 @@ use Rattle.account.proofs.Dispatch.{order-2}
 use Rattle.account.proofs.Earlier.{cut-more}
 use Rattle.account.proofs.Every.{every-append, every-weaker, length-kept}
 use Rattle.account.proofs.Laid.{Faultless, laid, passed-at}
-use Rattle.account.proofs.Lists.{keep-append, counts-one, counts-not}
+use Rattle.account.proofs.Lists.{counts-one, counts-not}
 use Rattle.account.proofs.Noted.{part-is}
 use Rattle.account.proofs.Passed.{known-of, mine, right-off, part-rises}
 

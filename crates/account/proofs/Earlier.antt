@@ -8,10 +8,10 @@ use lib.ListN.{length, take, drop, length-drop}
 use lib.Seq.{drop-drop, take-take, take-add, drop-at, length-take-le}
 use native.Mathlib.Omega.{arith}
 use Rattle.exact.specs.Lists.{any, count}
+use Rattle.exact.proofs.Lists.{count-append}
 use Rattle.record.specs.Layout.{Record}
 use Rattle.record.proofs.Tests.{any-append, or-false}
 use Rattle.account.specs.Records.{cut, stretch, recordAt, records, recordCount, earlier}
-use Rattle.account.proofs.Lists.{count-append}
 
 pub cut-more : (k : ℕ) (file : List ℕ) → cut (suc k) file ≡ cut k file ++ recordAt file k ∷ []
 cut-more zero file = refl

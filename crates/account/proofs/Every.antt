@@ -7,11 +7,12 @@ use mathlib.Core.List.{List, [], _∷_, _++_}
 use lib.ListN.{length}
 use native.Mathlib.Omega.{arith}
 use Rattle.exact.specs.Lists.{consIf, keep, count}
+use Rattle.exact.proofs.Lists.{keep-append}
 use Rattle.record.specs.Layout.{Record}
 use Rattle.account.specs.Accepted.{Each}
 use Rattle.account.specs.Records.{cut, recordAt, earlier}
 use Rattle.account.proofs.Earlier.{cut-more, count-earlier}
-use Rattle.account.proofs.Lists.{keep-append, counts-one, counts-not}
+use Rattle.account.proofs.Lists.{counts-one, counts-not}
 
 pub every-append : (P : Record → Type 0) (xs ys : List Record) → Each P xs → Each P ys → Each P (xs ++ ys)
 every-append P [] ys a b = b

@@ -11,6 +11,7 @@ use native.Mathlib.Numerals.{add-one}
 use borrow.Author.Count.{below-more}
 use borrow.Author.Tests.{ne-eqb}
 use Rattle.exact.specs.Lists.{oneIf, count}
+use Rattle.exact.proofs.Lists.{count-append}
 use Rattle.record.specs.Layout.{Record}
 use Rattle.account.specs.Answers.{numberOf, refusal}
 use Rattle.account.specs.Check.{faultOf, tooLong, cutRecord, checked}
@@ -25,7 +26,6 @@ use Rattle.account.proofs.Earlier.{cut-more}
 use Rattle.account.proofs.Faults.{same-fault}
 use Rattle.account.proofs.Firsts.{number-refusal}
 use Rattle.account.proofs.Laid.{Faultless}
-use Rattle.account.proofs.Lists.{count-append}
 use Rattle.account.proofs.Noted.{Noted, noted-none, noted-more}
 use Rattle.account.proofs.Passed.{passed, Known, known-of, part-bound}
 use Rattle.account.proofs.Verdict.{stops, ends, by-records, fault-number}

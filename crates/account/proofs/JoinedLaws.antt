@@ -10,7 +10,7 @@ use lib.Dec.{eqb, leb}
 use native.Mathlib.Omega.{arith}
 use borrow.Author.Tests.{eq-eqb, ne-eqb, eqb-true, eqb-false, leb-true, leb-false}
 use Rattle.exact.specs.Lists.{keep, any, oneIf, count, sum}
-use Rattle.exact.proofs.Lists.{sum-map-add}
+use Rattle.exact.proofs.Lists.{sum-map-add, keep-append}
 use Rattle.record.specs.Bytes.{countFrom}
 use Rattle.record.specs.Layout.{Record, kind, contract, day, secondContract, mostContract}
 use Rattle.record.specs.Within.{ContractWithin, PromptWithin, RowWithin, SpreadWithin, EntryWithin}
@@ -28,7 +28,7 @@ use Rattle.account.proofs.Days.{none-kept}
 use Rattle.account.proofs.Earlier.{cut-more}
 use Rattle.account.proofs.Every.{every-append, every-weaker, length-kept}
 use Rattle.account.proofs.Laid.{Faultless, laid, passed-at}
-use Rattle.account.proofs.Lists.{keep-append, any-kept, keeps-not, keeps-one, every-both, kept-pass, keep-all, keep-none, every-stricter}
+use Rattle.account.proofs.Lists.{any-kept, keeps-not, keeps-one, every-both, kept-pass, keep-all, keep-none, every-stricter}
 use Rattle.account.proofs.Named.{kind-of}
 use Rattle.account.proofs.Noted.{part-is}
 use Rattle.account.proofs.Orders.{every-at, fine}

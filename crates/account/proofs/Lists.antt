@@ -11,24 +11,13 @@ use native.Mathlib.Omega.{arith}
 use native.Mathlib.Numerals.{add-one}
 use borrow.Author.Tests.{eq-eqb, ne-eqb}
 use Rattle.exact.specs.Lists.{consIf, keep, any, oneIf, count}
+use Rattle.exact.proofs.Lists.{keep-append, count-append}
 use Rattle.record.specs.Layout.{Record}
 use Rattle.record.proofs.Within.{never}
 use Rattle.account.specs.Accepted.{Each}
 use Rattle.account.specs.Parts.{placeOf, startOf}
 
 module _ (p : Record → Bool) where
-  pub count-append : (xs ys : List Record) → count p (xs ++ ys) ≡ count p xs + count p ys
-  count-append [] ys = omega arith
-  count-append (x ∷ xs) ys = omega (arith, count-append xs ys)
-
-  keep-if : (t : Bool) (x : Record) (xs ys : List Record) → consIf t x (xs ++ ys) ≡ consIf t x xs ++ ys
-  keep-if true x xs ys = refl
-  keep-if false x xs ys = refl
-
-  pub keep-append : (xs ys : List Record) → keep p (xs ++ ys) ≡ keep p xs ++ keep p ys
-  keep-append [] ys = refl
-  keep-append (x ∷ xs) ys = rw (keep-append xs ys) (keep-if (p x) x (keep p xs) (keep p ys))
-
   pub none-counted : (xs : List Record) → eqb (count p xs) 0 ≡ not (any p xs)
   none-counted [] = refl
   none-counted (x ∷ xs) = go (p x) refl (none-counted xs)
@@ -100,19 +89,19 @@ module _ (p : Record → Bool) where
     pub counts-not : p r ≡ false → count p (xs ++ r ∷ []) ≡ count p xs
     counts-not t =
         let e : oneIf (p r) ≡ 0 = rw t in
-        omega (arith, count-append xs (r ∷ []))
+        omega (arith, count-append p xs (r ∷ []))
 
     pub counts-one : p r ≡ true → count p (xs ++ r ∷ []) ≡ count p xs + 1
     counts-one t =
         let e : oneIf (p r) ≡ 1 = rw t in
-        omega (arith, count-append xs (r ∷ []))
+        omega (arith, count-append p xs (r ∷ []))
 
     pub keeps-not : p r ≡ false → keep p (xs ++ r ∷ []) ≡ keep p xs
     keeps-not t =
-        keep-append xs (r ∷ []) ∙ ap (λ (b : Bool). keep p xs ++ consIf b r []) t ∙ append-nil (keep p xs)
+        keep-append p xs (r ∷ []) ∙ ap (λ (b : Bool). keep p xs ++ consIf b r []) t ∙ append-nil (keep p xs)
 
     pub keeps-one : p r ≡ true → keep p (xs ++ r ∷ []) ≡ keep p xs ++ r ∷ []
-    keeps-one t = keep-append xs (r ∷ []) ∙ ap (λ (b : Bool). keep p xs ++ consIf b r []) t
+    keeps-one t = keep-append p xs (r ∷ []) ∙ ap (λ (b : Bool). keep p xs ++ consIf b r []) t
 
     pub starts-same-not : p r ≡ false → startOf p (xs ++ r ∷ []) ≡ startOf p xs
     starts-same-not t = go (count p xs) refl

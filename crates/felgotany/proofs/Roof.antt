@@ -8,9 +8,9 @@ use Rattle.spread.proofs.Stepping.{stepped-one}
 use Rattle.account.proofs.Claimed.{claimed}
 use Rattle.account.proofs.OneJoined.{determined}
 use Rattle.account.proofs.PairClaimed.{pair-claimed}
-use Rattle.margin.proofs.Demands.{demand1, demand2, demanded-file, demanded-joined}
-use Rattle.margin.proofs.HeldLaws.{one-view, one-asked}
-use Rattle.margin.proofs.PairDemands.{pair-demand1}
+use Rattle.questions.proofs.Demands.{demand1, demand2, demanded-file, demanded-joined}
+use Rattle.questions.proofs.HeldLaws.{one-view, one-asked}
+use Rattle.questions.proofs.PairDemands.{pair-demand1}
 use Rattle.margin.proofs.PairLaws.{pair-table}
 use Rattle.margin.proofs.Reckoned.{reckoned, printed}
 use Rattle.margin.proofs.Skipped.{file-skips-none, pair-skips-none}

@@ -5,7 +5,7 @@ use Rattle.account.specs.Answers.{numberOf, recordOf}
 use Rattle.account.specs.declared.answers.Answer.{Answer}
 use Rattle.account.specs.declared.noon.Place.{Place}
 use Rattle.account.specs.declared.noon.Verdict.{Verdict}
-use Rattle.margin.specs.declared.noon.Call.{Call}
+use Rattle.questions.specs.declared.noon.Call.{Call}
 use Rattle.felgotany.specs.declared.CallOutcome.{CallOutcome}
 use Rattle.felgotany.specs.declared.Outcome.{Outcome}
 use Rattle.felgotany.specs.declared.PairOutcome.{PairOutcome}

@@ -23,21 +23,21 @@ use Rattle.account.specs.Determined.{Determined}
 use Rattle.account.specs.Noon.{clear, joinedVerdict}
 use Rattle.account.specs.PairClaims.{PairClaims}
 use Rattle.account.specs.Records.{records}
-use Rattle.account.specs.Supplied.{accountOf}
+use Rattle.account.specs.Standing.{accountOf}
 use Rattle.account.specs.declared.answers.Answer.{Answer}
 use Rattle.account.specs.declared.answers.Answer.the-variants.{Accepted}
 use Rattle.account.specs.declared.noon.Place.{Place}
 use Rattle.account.specs.declared.noon.Verdict.{Verdict}
-use Rattle.margin.specs.Demands.{Demand1, Demand2, Demanded}
-use Rattle.margin.specs.Held.{FromCheck}
-use Rattle.margin.specs.PairDemands.{PairDemand1}
+use Rattle.questions.specs.Demands.{Demand1, Demand2, Demanded}
+use Rattle.questions.specs.Held.{FromCheck}
+use Rattle.questions.specs.PairDemands.{PairDemand1}
 use Rattle.margin.specs.Pairs.{PairTable}
 use Rattle.margin.specs.Reckoned.{Reckoned, Printed}
 use Rattle.margin.specs.Skipped.{NoneSkipped}
 use Rattle.margin.specs.Unpaired.{NothingOpen}
-use Rattle.margin.specs.declared.held.Asked.{Asked}
-use Rattle.margin.specs.declared.held.Held.{Held}
-use Rattle.margin.specs.declared.noon.Call.{Call}
+use Rattle.questions.specs.declared.held.Asked.{Asked}
+use Rattle.questions.specs.declared.held.Held.{Held}
+use Rattle.questions.specs.declared.noon.Call.{Call}
 use Rattle.felgotany.specs.Outcomes.{Tells, TellsOf, TellsCall, TellsPlace}
 use Rattle.felgotany.specs.declared.CallOutcome.{CallOutcome}
 use Rattle.felgotany.specs.declared.Outcome.{Outcome}

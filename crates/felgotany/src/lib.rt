@@ -6,25 +6,22 @@ use account::answers::record_of;
 use account::check::check;
 use account::noon::Verdict;
 use account::noon::prompt_place;
-use margin::held::ask_all;
-use margin::needs::book_needed;
-use margin::needs::figures_needed;
-use margin::needs::uses_needed;
-use margin::noon::cover_call;
-use margin::questions::book;
-use margin::questions::figures;
-use margin::questions::uses;
+use margin::asking::Question;
+use questions::held::ask_all;
+use questions::noon::cover_call;
+use questions::plain::answer;
+use questions::plain::needed;
 use runs::answer_run;
 ghost use mathlib.Core.Path.{_≡_};
 ghost use Prim.Native.Nat.{_≤_};
 ghost use lib.ListN.{length};
 ghost use Rattle.account.specs.Check.{checked};
-ghost use Rattle.margin.specs.Questions.{figuresAnswer, afterFigures, bookAnswer, afterBook, usesAnswer, afterUses};
-ghost use Rattle.margin.specs.Needs.{figuresNeed, bookNeed, usesNeed};
 ghost use Rattle.margin.specs.Bounds.{longestFigures, longestBook, longestUses};
-ghost use Rattle.margin.specs.Held.{booksAnswer, booksAfter, allUsesAnswer, allUsesAfter};
+ghost use Rattle.questions.specs.Questions.{figuresAnswer, afterFigures, bookAnswer, afterBook, usesAnswer, afterUses};
+ghost use Rattle.questions.specs.Questions.{figuresNeed, bookNeed, usesNeed};
+ghost use Rattle.questions.specs.Questions.{booksAnswer, booksAfter, allUsesAnswer, allUsesAfter};
 ghost use Rattle.account.specs.Noon.{promptPlace};
-ghost use Rattle.margin.specs.Noon.{joinedFigures, afterJoinedFigures, joinedBook, afterJoinedBook, joinedUses, afterJoinedUses, joinedCall};
+ghost use Rattle.questions.specs.Noon.{joinedFigures, afterJoinedFigures, joinedBook, afterJoinedBook, joinedUses, afterJoinedUses, joinedCall};
 ghost use Rattle.runs.specs.Runs.{runAnswer, runFigures, runOutcomes};
 ghost use Rattle.felgotany.specs.Outcomes.{Tells, TellsOf, TellsCall, TellsPlace};
 
@@ -57,7 +54,7 @@ pub extern "C" fn felgotany_check(file: &[u8]) -> Outcome
 pub extern "C" fn felgotany_figures_needed(file: &[u8]) -> usize
     ensures { λ r. ⌜ (r ≡ figuresNeed (now (file .entry))) × (r ≤ longestFigures) ⌝ }
 {
-    figures_needed(file)
+    needed(file, Question::Figures)
 }
 
 // The figures, at the front of `out`. A refusal writes nothing.
@@ -65,7 +62,7 @@ pub extern "C" fn felgotany_figures_needed(file: &[u8]) -> usize
 pub extern "C" fn felgotany_figures(file: &[u8], out: &mut [i64]) -> Outcome
     ensures { λ r. ⌜ Tells (figuresAnswer (now (file .entry)) (length (now (out .entry)))) r × (now (out .exit) ≡ afterFigures (now (file .entry)) (now (out .entry))) ⌝ }
 {
-    tell(figures(file, out))
+    tell(answer(file, Question::Figures, out))
 }
 
 // How many numbers the delta book of a question needs; 0 for a refused file, and where the question is not answered.
@@ -73,7 +70,7 @@ pub extern "C" fn felgotany_figures(file: &[u8], out: &mut [i64]) -> Outcome
 pub extern "C" fn felgotany_book_needed(file: &[u8], question: usize) -> usize
     ensures { λ r. ⌜ (r ≡ bookNeed (now (file .entry)) question) × (r ≤ longestBook) ⌝ }
 {
-    book_needed(file, question)
+    needed(file, Question::Book(question))
 }
 
 // The delta book of a question, 0 to 15 for that contract or 16 for the intercontract table, at the front of `out`. A
@@ -82,7 +79,7 @@ pub extern "C" fn felgotany_book_needed(file: &[u8], question: usize) -> usize
 pub extern "C" fn felgotany_book(file: &[u8], question: usize, out: &mut [i64]) -> Outcome
     ensures { λ r. ⌜ Tells (bookAnswer (now (file .entry)) question (length (now (out .entry)))) r × (now (out .exit) ≡ afterBook (now (file .entry)) question (now (out .entry))) ⌝ }
 {
-    tell(book(file, question, out))
+    tell(answer(file, Question::Book(question), out))
 }
 
 // How many numbers the uses of a question need; 0 for a refused file, and where the question is not answered.
@@ -90,7 +87,7 @@ pub extern "C" fn felgotany_book(file: &[u8], question: usize, out: &mut [i64]) 
 pub extern "C" fn felgotany_uses_needed(file: &[u8], question: usize) -> usize
     ensures { λ r. ⌜ (r ≡ usesNeed (now (file .entry)) question) × (r ≤ longestUses) ⌝ }
 {
-    uses_needed(file, question)
+    needed(file, Question::Uses(question))
 }
 
 // Who paid for what in the delta book of a question: for each step of its table, what it takes of each prompt, at the front
@@ -99,7 +96,7 @@ pub extern "C" fn felgotany_uses_needed(file: &[u8], question: usize) -> usize
 pub extern "C" fn felgotany_uses(file: &[u8], question: usize, out: &mut [i64]) -> Outcome
     ensures { λ r. ⌜ Tells (usesAnswer (now (file .entry)) question (length (now (out .entry)))) r × (now (out .exit) ≡ afterUses (now (file .entry)) question (now (out .entry))) ⌝ }
 {
-    tell(uses(file, question, out))
+    tell(answer(file, Question::Uses(question), out))
 }
 
 // The outcomes of all questions at once.
@@ -164,7 +161,7 @@ pub extern "C" fn felgotany_joined_figures<'a>(
 ) -> PairOutcome
     ensures { λ r. ⌜ TellsOf (joinedFigures (now (morning .entry)) (now (noon .entry)) (length (now (out .entry)))) r × (now (out .exit) ≡ afterJoinedFigures (now (morning .entry)) (now (noon .entry)) (now (out .entry))) ⌝ }
 {
-    tell_of(margin::noon::figures(morning, noon, out))
+    tell_of(questions::noon::answer(morning, noon, Question::Figures, out))
 }
 
 // The delta book of a question, of the joined account.
@@ -177,7 +174,7 @@ pub extern "C" fn felgotany_joined_book<'a>(
 ) -> PairOutcome
     ensures { λ r. ⌜ TellsOf (joinedBook (now (morning .entry)) (now (noon .entry)) question (length (now (out .entry)))) r × (now (out .exit) ≡ afterJoinedBook (now (morning .entry)) (now (noon .entry)) question (now (out .entry))) ⌝ }
 {
-    tell_of(margin::noon::book(morning, noon, question, out))
+    tell_of(questions::noon::answer(morning, noon, Question::Book(question), out))
 }
 
 // Who paid for what in it.
@@ -190,7 +187,7 @@ pub extern "C" fn felgotany_joined_uses<'a>(
 ) -> PairOutcome
     ensures { λ r. ⌜ TellsOf (joinedUses (now (morning .entry)) (now (noon .entry)) question (length (now (out .entry)))) r × (now (out .exit) ≡ afterJoinedUses (now (morning .entry)) (now (noon .entry)) question (now (out .entry))) ⌝ }
 {
-    tell_of(margin::noon::uses(morning, noon, question, out))
+    tell_of(questions::noon::answer(morning, noon, Question::Uses(question), out))
 }
 
 // Where a contract's prompts stand: in which file, from which record on, and how many.

@@ -164,10 +164,12 @@ all-places paid account lent = each-place (widthOf paid) (λ q. afterOver accoun
 
 -- ---- what the code does, place by place
 
-pub put-place : (width at : ℕ) (out part : List ℤ) (change : List ℤ → List ℤ) → part ≡ change (take (at + width - at) (drop at out)) → putMid at (at + width - at) out part ≡ atPlace width at change out
+-- the part that was lent on, put back
+pub put-place : {A : Type 0} (width at : ℕ) (out part : List A) (change : List A → List A)
+    → part ≡ change (take (at + width - at) (drop at out)) → putMid at (at + width - at) out part ≡ atPlace width at change out
 put-place width at out part change e =
     let k : at + width - at ≡ width = omega arith in
-    ap₂ (λ (ys zs : List ℤ). take at out ++ (ys ++ zs)) (e ∙ ap (λ (n : ℕ). change (take n (drop at out))) k) (post-is at (at + width) out (omega arith))
+    ap₂ (λ ys zs. take at out ++ (ys ++ zs)) (e ∙ ap (λ (n : ℕ). change (take n (drop at out))) k) (post-is at (at + width) out (omega arith))
 
 module _ (width : ℕ) (after : ℕ → List ℤ → List ℤ) where
   pub next-each : (q : ℕ) (lent out left : List ℤ) → out ≡ afterEach width after q lent → left ≡ atPlace width (width * q) (after q) out → left ≡ afterEach width after (q + 1) lent

@@ -10,22 +10,9 @@ use lib.ListN.{length, getD, take, drop, set, length-map, length-set}
 use lib.Seq.{take-suc, take-suc-set, take-all, drop-drop}
 use Rattle.exact.proofs.Lists.{getD-map}
 use Rattle.record.specs.Layout.{Record}
-use Rattle.account.specs.Records.{cut, records, recordCount}
-
-pub length-cut : (n : ℕ) (f : List ℕ) → length (cut n f) ≡ n
-length-cut zero f = refl
-length-cut (suc n) f = ap suc (length-cut n (drop 96 f))
-
--- the record at a place, as a part of the file gives it
-abbrev pub recordAt : List ℕ → ℕ → Record
-recordAt f k = take 96 (drop (k * 96) f)
-
-pub cut-at : (n k : ℕ) (f : List ℕ) → k < n → getD (cut n f) k [] ≡ recordAt f k
-cut-at zero k f h = absurd (not-suc-le-zero h)
-cut-at (suc n) zero f h = refl
-cut-at (suc n) (suc k) f h =
-    cut-at n k (drop 96 f) (le-of-suc-le-suc h)
-    ∙ ap (take 96) (drop-drop (k * 96) 96 f ∙ ap (λ (m : ℕ). drop m f) (add-comm 96 (k * 96) ∙ sym (suc-mul k 96)))
+use Rattle.account.specs.Records.{cut, records, recordAt, recordCount}
+use Rattle.account.proofs.Orders.{cut-at}
+pub use Rattle.account.proofs.Walk.{length-cut}
 
 pub record-here : (f : List ℕ) (k : ℕ) → k < recordCount f → getD (records f) k [] ≡ recordAt f k
 record-here f k h = cut-at (recordCount f) k f h

@@ -20,6 +20,7 @@ use Rattle.spread.specs.declared.Delta.{Delta}
 use Rattle.spread.specs.declared.Prompts.{Prompts}
 use Rattle.account.specs.Records.{cut, records}
 use Rattle.spread.specs.Book.{Booked}
+use Rattle.spread.proofs.Every.{opens-length}
 use Rattle.spread.proofs.Filling.{getD-same}
 use Rattle.spread.specs.declared.Spreads.{Spreads}
 use Rattle.spread.specs.declared.Table.{Table}
@@ -47,12 +48,6 @@ opens-set (x ∷ ts) [] (suc i) t d = refl
 opens-set (x ∷ ts) (y ∷ ds) zero t d = refl
 opens-set (x ∷ ts) (y ∷ ds) (suc i) t d = ap (λ (ps : List Open). record { tier = x; unused = y .0 } ∷ ps) (opens-set ts ds i t d)
 
-opens-length : (n : ℕ) (ts : List ℕ) (ds : List Delta) → length ts ≡ n → length ds ≡ n → length (given.opens ts ds) ≡ n
-opens-length n [] ds e f = e
-opens-length zero (t ∷ ts) ds e f = absurd (omega arith)
-opens-length (suc n) (t ∷ ts) [] e f = absurd (omega arith)
-opens-length (suc n) (t ∷ ts) (d ∷ ds) e f = ap suc (opens-length n ts ds (omega arith) (omega arith))
-
 -- the first i contracts stand in the arrays
 pub record Tiered (lines : List Line) (i : ℕ) (ts : List ℕ) (ds : List Delta) : Type 0 where
   pub tiers : length ts ≡ 32
@@ -62,7 +57,7 @@ pub record Tiered (lines : List Line) (i : ℕ) (ts : List ℕ) (ds : List Delta
 pub tiered-next : (lines : List Line) (i : ℕ) (ts : List ℕ) (ds : List Delta) (t : ℕ) (d : Delta) → Tiered lines i ts ds → i < 32 → i < length lines → record { tier = t; unused = d .0 } ≡ tierOf (getD lines i noLine)
     → Tiered lines (i + 1) (set ts i t) (set ds i d)
 tiered-next lines i ts ds t d is h l e =
-    let n = opens-length 32 ts ds (is .tiers) (is .nets) in
+    let n = opens-length ts ds 32 (is .tiers) (is .nets) in
     record {
       tiers = rw length-set (is .tiers);
       nets = rw length-set (is .nets);

@@ -16,13 +16,19 @@ use Rattle.margin.specs.Books.{tableQuestion}
 use Rattle.margin.specs.Bounds.{longestBook, longestUses}
 use Rattle.margin.specs.Questions.{accepted, afterOver}
 
+-- places in lent numbers, all of one width, one after the other
+module _ {ℓ} {A : Type ℓ} where
+  -- what stands in a place
+  abbrev pub place : ℕ → ℕ → List A → List A
+  place width i lent = take width (drop (width * i) lent)
+
+  -- the lent numbers with the `width` from one on changed
+  abbrev pub atPlace : ℕ → ℕ → (List A → List A) → List A → List A
+  atPlace width at change lent = take at lent ++ (change (take width (drop at lent)) ++ drop (at + width) lent)
+
 -- one for each contract number, and one for the intercontract table
 abbrev pub questions : ℕ
 questions = tableQuestion + 1
-
--- the lent numbers with the `width` from a place on changed
-abbrev pub atPlace : ℕ → ℕ → (List ℤ → List ℤ) → List ℤ → List ℤ
-atPlace width at change lent = take at lent ++ (change (take width (drop at lent)) ++ drop (at + width) lent)
 
 -- once questions 0 to n - 1 are asked, each into its place; `after` says what a question leaves where it is asked
 abbrev pub afterEach : ℕ → (ℕ → List ℤ → List ℤ) → ℕ → List ℤ → List ℤ
@@ -51,9 +57,6 @@ abbrev pub afterAllOver : Bool → List Record → List ℤ → List ℤ
 afterAllOver paid account = afterEachOver (widthOf paid) (λ q. afterOver account (questionOf paid q)) account
 
 -- ---- what this says of each question by itself
-
-abbrev pub place : ℕ → ℕ → List ℤ → List ℤ
-place width q lent = take width (drop (width * q) lent)
 
 -- in the place of a question stands what the question by itself writes there, and nothing after the places is changed
 pub record EachPlace (width : ℕ) (after : ℕ → List ℤ → List ℤ) (lent left : List ℤ) : Type 0 where

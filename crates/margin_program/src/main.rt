@@ -1,7 +1,7 @@
 // Reads an account file on standard input and writes for each contract `C` and its eight numbers, then `T` and the total;
 // or only `R`, the refusal and the record.
-use account::stretches::record_count;
-use margin::questions::figures;
+use margin::asking::Question;
+use questions::plain::needed;
 use reading::input::called_alone;
 use reading::input::read_input;
 use reading::lines::FIGURES;
@@ -11,7 +11,6 @@ use reading::lines::print_refused;
 use reading::lines::print_total;
 use reading::numbers::after;
 use reading::numbers::number_at;
-use reading::parts::contracts;
 
 // Eight numbers for each contract, then the total.
 fn print_figures(count: usize, numbers: &[i64]) {
@@ -28,11 +27,11 @@ fn print_figures(count: usize, numbers: &[i64]) {
 
 fn answer(file: &[u8]) {
     let mut numbers = [0i64; MOST_FIGURES];
-    let answer = figures(file, &mut numbers);
+    let answer = questions::plain::answer(file, Question::Figures, &mut numbers);
     if print_refused(answer) {
         return;
     }
-    print_figures(record_count(contracts(file)), &numbers);
+    print_figures(needed(file, Question::Figures) / FIGURES, &numbers);
 }
 
 fn main() {

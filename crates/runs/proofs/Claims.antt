@@ -15,9 +15,10 @@ use Rattle.account.specs.Answers.{numberOf, recordOf}
 use Rattle.account.specs.declared.answers.Answer.{Answer}
 use Rattle.account.specs.declared.answers.Answer.the-variants.{Accepted, TooFewNumbers, LengthsDiffer}
 use Rattle.margin.specs.Bounds.{longestFigures}
-use Rattle.margin.specs.Questions.{accepted, figuresAnswer, afterFigures}
+use Rattle.margin.specs.Questions.{accepted}
+use Rattle.questions.specs.Questions.{figuresAnswer, afterFigures}
 use Rattle.runs.specs.Claims.{EachAccount, Lacking, Exactly, Untouched, Claims}
-use Rattle.runs.specs.Places.{place}
+use Rattle.margin.specs.Places.{place}
 use Rattle.runs.specs.Runs.{accountsOf, outcomeNumbers, outcomeOf, tooFew, runAnswer, eachFigures, eachOutcome, afterOutcome, runFigures, runOutcomes}
 use Rattle.runs.proofs.PlaceLaws.{placed, past}
 use Rattle.runs.proofs.RunLaws.{verdict, keeps-figures, keeps-outcome, accounts-length, account-at}

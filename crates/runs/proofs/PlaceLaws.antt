@@ -5,10 +5,9 @@ use native.Mathlib.Nat.{mul-zero, mul-suc, le-of-suc-le-suc, not-suc-le-zero}
 use native.Mathlib.Omega.{arith}
 use mathlib.Core.Path.{_≡_, refl, sym, ap, ap₂, _∙_}
 use mathlib.Core.List.{List, [], _∷_, _++_, append-assoc}
-use borrow.Rule.Slice.PartMut.{putMid, post-is}
 use lib.ListN.{length, length-append, length-drop, getD, set, take, drop, take-append-drop}
 use lib.Seq.{length-take-le, take-at, drop-at, drop-append-add, drop-drop, sets-eq}
-use Rattle.runs.specs.Places.{place, atPlace}
+use Rattle.margin.specs.Places.{place, atPlace}
 use Rattle.runs.specs.Runs.{eachPlace}
 
 module _ {ℓ} {A : Type ℓ} (width : ℕ) (after : List ℕ → List A → List A)
@@ -108,13 +107,6 @@ module _ {ℓ} {A : Type ℓ} (width : ℕ) (after : List ℕ → List A → Lis
       ∙ skipped (length accounts) lent
 
 -- ---- one place
-
--- the part that was lent on, put back
-pub put-place : {A : Type 0} (width at : ℕ) (out part : List A) (change : List A → List A)
-    → part ≡ change (take (at + width - at) (drop at out)) → putMid at (at + width - at) out part ≡ atPlace width at change out
-put-place width at out part change e =
-    let k : at + width - at ≡ width = omega arith in
-    ap₂ (λ ys zs. take at out ++ (ys ++ zs)) (e ∙ ap (λ (n : ℕ). change (take n (drop at out))) k) (post-is at (at + width) out (omega arith))
 
 -- two numbers, written one after the other
 pub two-at : (out : List ℕ) (at n r : ℕ) → at + 2 ≤ length out → set (set out at n) (at + 1) r ≡ take at out ++ ((n ∷ r ∷ []) ++ drop (at + 2) out)

@@ -14,17 +14,20 @@ use lib.Seq.{drop-cons, drop-drop}
 use Rattle.exact.specs.Lists.{sum}
 use Rattle.account.specs.Answers.{numberOf}
 use Rattle.account.specs.Check.{checked}
-use Rattle.account.specs.Records.{records, recordCount}
+use Rattle.account.specs.Records.{records}
 use Rattle.account.specs.declared.answers.Answer.{Answer}
 use Rattle.account.specs.declared.answers.Answer.the-variants.{Accepted, TooFewNumbers, LengthsDiffer}
 use Rattle.account.proofs.Lawful.{lawful}
 use Rattle.account.proofs.NoonLaws.{accepted-only}
 use Rattle.margin.specs.Bounds.{longestFigures}
 use Rattle.margin.specs.Figures.{figures}
-use Rattle.margin.specs.Questions.{accepted, enough, figuresAnswer, afterwards, afterFigures}
+use Rattle.margin.specs.Questions.{accepted, enough, answerOver, afterwards}
+use Rattle.margin.specs.declared.asking.Question.the-variants.{Figures}
+use Rattle.margin.proofs.PlaceLaws.{keeps-length}
 use Rattle.margin.proofs.QuestionLaws.{figures-length}
+use Rattle.questions.specs.Questions.{figuresAnswer, afterFigures}
 use Rattle.runs.specs.Claims.{accountAt}
-use Rattle.runs.specs.Places.{atPlace}
+use Rattle.margin.specs.Places.{atPlace}
 use Rattle.runs.specs.Runs.{accountsOf, outcomeNumbers, outcomeOf, tooFew, runAnswer, afterOutcome, eachFigures, eachOutcome, runFigures, runOutcomes}
 use Rattle.runs.proofs.PlaceLaws.{ToGo, start, next, next-length, finish}
 
@@ -38,13 +41,14 @@ figures-fit account ok =
 pub verdict : (account : List ℕ) → figuresAnswer account longestFigures ≡ checked account
 verdict account = go (accepted (checked account)) refl
   where
-    fits : accepted (checked account) ≡ true → enough account (figures (records account)) longestFigures ≡ checked account
+    fits : accepted (checked account) ≡ true → enough (records account) (figures (records account)) longestFigures ≡ checked account
     fits e =
         let ok = accepted-only (checked account) (eqb-true (numberOf (checked account)) 0 e) in
         let room = le-ltb longestFigures (length (figures (records account))) (figures-fit account ok) in
-        ap (λ (t : Bool). cond t (TooFewNumbers (recordCount account)) Accepted) room ∙ sym ok
+        ap (λ (t : Bool). cond t (TooFewNumbers (length (records account))) Accepted) room ∙ sym ok
 
-    go : (t : Bool) → accepted (checked account) ≡ t → cond t (enough account (figures (records account)) longestFigures) (checked account) ≡ checked account
+    go : (t : Bool) → accepted (checked account) ≡ t →
+        cond t (enough (records account) (figures (records account)) longestFigures) (checked account) ≡ checked account
     go true e = fits e
     go false e = refl
 
@@ -53,15 +57,9 @@ module _ (file : List ℕ) (lent : List ℤ) where
   abbrev numbers : List ℤ
   numbers = figures (records file)
 
-  written : (t : Bool) → ltb (length lent) (length numbers) ≡ t →
-      length (afterwards (cond t (TooFewNumbers (recordCount file)) Accepted) numbers lent) ≡ length lent
-  written true e = refl
-  written false e =
-      length-append numbers (drop (length numbers) lent)
-      ∙ (let d = length-drop (length numbers) lent in let h = ltb-false (length lent) (length numbers) e in omega arith)
-
-  asked : (t : Bool) → accepted (checked file) ≡ t → length (afterwards (cond t (enough file numbers (length lent)) (checked file)) numbers lent) ≡ length lent
-  asked true e = written (ltb (length lent) (length numbers)) refl
+  asked : (t : Bool) → accepted (checked file) ≡ t
+      → length (afterwards (cond t (answerOver (records file) Figures (length lent)) (checked file)) numbers lent) ≡ length lent
+  asked true e = keeps-length (records file) Figures lent
   asked false e = ap (λ (t : Bool). length (cond t (numbers ++ drop (length numbers) lent) lent)) e
 
   figures-keep : length (afterFigures file lent) ≡ length lent

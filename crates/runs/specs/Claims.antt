@@ -11,8 +11,8 @@ use Rattle.account.specs.Answers.{numberOf, recordOf}
 use Rattle.account.specs.Check.{checked}
 use Rattle.account.specs.Claims.{Iff}
 use Rattle.margin.specs.Bounds.{longestFigures}
-use Rattle.margin.specs.Questions.{figuresAnswer, afterFigures}
-use Rattle.runs.specs.Places.{place}
+use Rattle.questions.specs.Questions.{figuresAnswer, afterFigures}
+use Rattle.margin.specs.Places.{place}
 use Rattle.runs.specs.Runs.{outcomeNumbers, outcomeOf, runAnswer, runFigures, runOutcomes}
 
 -- the bytes of an account: as many as its length, after those of the accounts before it

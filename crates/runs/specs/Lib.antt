@@ -1,3 +1,2 @@
 pub mod Claims
-pub mod Places
 pub mod Runs

@@ -11,7 +11,8 @@ use Rattle.account.specs.Answers.{numberOf, recordOf}
 use Rattle.account.specs.declared.answers.Answer.{Answer}
 use Rattle.account.specs.declared.answers.Answer.the-variants.{Accepted, TooFewNumbers, LengthsDiffer}
 use Rattle.margin.specs.Bounds.{longestFigures}
-use Rattle.margin.specs.Questions.{accepted, figuresAnswer, afterFigures}
+use Rattle.margin.specs.Questions.{accepted}
+use Rattle.questions.specs.Questions.{figuresAnswer, afterFigures}
 
 -- "Take a run of accounts, each with its length": the accounts stand one after the other in what is lent
 abbrev pub accountsOf : List ℕ → List ℕ → List (List ℕ)

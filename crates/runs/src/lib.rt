@@ -2,16 +2,17 @@
 use account::answers::Answer;
 use account::answers::number_of;
 use account::answers::record_of;
-use margin::questions::figures;
+use margin::asking::Question;
+use questions::plain::answer;
 ghost use mathlib.Core.Path.{_≡_};
 ghost use Prim.Native.Nat.{_+_, _*_, _≤_};
 ghost use lib.Dec.{eqb};
 ghost use lib.ListN.{length};
 ghost use Rattle.exact.specs.Lists.{sum};
 ghost use Rattle.margin.specs.Bounds.{longestFigures};
-ghost use Rattle.margin.specs.Questions.{figuresAnswer, afterFigures};
+ghost use Rattle.questions.specs.Questions.{figuresAnswer, afterFigures};
 ghost use Rattle.runs.specs.Runs.{outcomeNumbers, outcomeOf, runAnswer, runFigures, runOutcomes};
-ghost use Rattle.runs.specs.Places.{atPlace};
+ghost use Rattle.margin.specs.Places.{atPlace};
 
 // The numbers of an account's place for figures.
 const FIGURES: usize = 129;
@@ -42,7 +43,7 @@ fn place_figures(account: &[u8], place: usize, out: &mut [i64]) -> Answer
     ensures { λ r. ⌜ (r ≡ figuresAnswer (now (account .entry)) longestFigures) × (now (out .exit) ≡ atPlace longestFigures (longestFigures * place) (afterFigures (now (account .entry))) (now (out .entry))) ⌝ }
 {
     let start = FIGURES * place;
-    figures(account, &mut out[start..start + FIGURES])
+    answer(account, Question::Figures, &mut out[start..start + FIGURES])
 }
 
 // Refusal and record of an answer, in their place.

@@ -2,12 +2,12 @@
 -- Assumes nothing.
 use borrow.Author.Needs.{needs}
 use mathlib.Core.Path.{refl, ap, ap₂, subst, _∙_}
-use Rattle.margin.specs.declared.noon.Call.{Call}
+use Rattle.questions.specs.declared.noon.Call.{Call}
 use lib.IntN.{ℤ}
 use mir.Syntax.{w64}
 use mir.Val.{toZ, ofZ}
 use Rattle.exact.proofs.Integers.{back}
-use Rattle.margin.specs.Noon.{joinedCall}
+use Rattle.questions.specs.Noon.{joinedCall}
 use Rattle.felgotany.specs.Outcomes.{TellsCall}
 use Rattle.felgotany.proofs.felgotany_call.Statement.{statement}
 use Rattle.felgotany.proofs.felgotany_call.Tie as tie

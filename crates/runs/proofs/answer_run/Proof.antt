@@ -9,8 +9,8 @@ use borrow.Author.Tests.{not-true, not-false, eqb-true}
 use lib.ListN.{length, getD, take, drop}
 use Rattle.exact.specs.Lists.{sum}
 use Rattle.margin.specs.Bounds.{longestFigures}
-use Rattle.margin.specs.Questions.{figuresAnswer, afterFigures}
-use Rattle.runs.specs.Places.{atPlace}
+use Rattle.questions.specs.Questions.{figuresAnswer, afterFigures}
+use Rattle.margin.specs.Places.{atPlace}
 use Rattle.runs.proofs.RunLaws.{Going, begin, room-here, outcome-here, ends, go-on, end, differ, few-figures, few-outcomes, all}
 use Rattle.runs.proofs.answer_run.Statement.{statement}
 use Rattle.runs.proofs.answer_run.Tie as tie

@@ -7,8 +7,8 @@ use borrow.Author.Needs.{needs}
 use lib.ListN.{length, length-drop, take, drop}
 use lib.Seq.{length-take-le}
 use Rattle.margin.specs.Bounds.{longestFigures}
-use Rattle.margin.specs.Questions.{figuresAnswer, afterFigures}
-use Rattle.runs.proofs.PlaceLaws.{put-place}
+use Rattle.questions.specs.Questions.{figuresAnswer, afterFigures}
+use Rattle.margin.proofs.PlaceLaws.{put-place}
 use Rattle.runs.proofs.place_figures.Statement.{statement}
 use Rattle.runs.proofs.place_figures.Tie as tie
 

@@ -120,6 +120,11 @@ static void ask_joined(const uint8_t *morning, size_t morning_bytes, const uint8
                    felgotany_joined_uses(morning, morning_bytes, noon, noon_bytes, question, uses, FELGOTANY_MOST_USES));
         print_numbers("joined uses", question, uses, FELGOTANY_MOST_USES);
     }
+    printf("joined figures needed %zu\n", felgotany_joined_figures_needed(morning, morning_bytes, noon, noon_bytes));
+    for (size_t question = 0; question <= FELGOTANY_TABLE + 1; ++question)
+        printf("joined needed %zu book %zu uses %zu\n", question,
+               felgotany_joined_book_needed(morning, morning_bytes, noon, noon_bytes, question),
+               felgotany_joined_uses_needed(morning, morning_bytes, noon, noon_bytes, question));
     const int64_t amounts[][3] = {{0, 0, 0}, {0, 5, 0}, {5, 0, 0}, {0, 0, 5}, {1, 1000000000000000, 2}, {-1, 0, 0}, {0, 0, -1}};
     for (size_t i = 0; i < sizeof amounts / sizeof amounts[0]; ++i) {
         felgotany_call_outcome called =
@@ -127,6 +132,23 @@ static void ask_joined(const uint8_t *morning, size_t morning_bytes, const uint8
         print_pair("call", i, called.outcome);
         printf("call %zu %" PRIu64 "\n", i, called.call);
     }
+}
+
+/* All at once of a pair, with so many numbers fewer lent for the figures, the books and the uses; every lent number afterwards. */
+static void ask_joined_all(const uint8_t *morning, size_t morning_bytes, const uint8_t *noon, size_t noon_bytes, const size_t fewer[3])
+{
+    size_t needed = felgotany_joined_figures_needed(morning, morning_bytes, noon, noon_bytes);
+    size_t numbers = needed > fewer[0] ? needed - fewer[0] : 0;
+    size_t book_numbers = FELGOTANY_ALL_BOOKS - fewer[1], use_numbers = FELGOTANY_ALL_USES - fewer[2];
+    int64_t *figures = lent(numbers), *books = lent(book_numbers), *uses = lent(use_numbers);
+    felgotany_pair_outcomes outcomes = felgotany_joined_all(morning, morning_bytes, noon, noon_bytes, figures, numbers, books,
+                                                            book_numbers, uses, use_numbers);
+    print_pair("joined all figures", 0, outcomes.figures);
+    print_pair("joined all books", 0, outcomes.books);
+    print_pair("joined all uses", 0, outcomes.uses);
+    print_numbers("joined all figures", 0, figures, numbers);
+    print_numbers("joined all books", 0, books, book_numbers);
+    print_numbers("joined all uses", 0, uses, use_numbers);
 }
 
 /* A run of the file and the noon file, once as it is and once with a number too few lent. */
@@ -165,6 +187,8 @@ int main(int argc, char **argv)
     ask_all(file, bytes, (const size_t[3]){0, 1, 0});
     ask_all(file, bytes, (const size_t[3]){0, 0, 1});
     ask_joined(file, bytes, noon, noon_bytes);
+    ask_joined_all(file, bytes, noon, noon_bytes, (const size_t[3]){0, 0, 0});
+    ask_joined_all(file, bytes, noon, noon_bytes, (const size_t[3]){1, 1, 1});
     ask_run(file, bytes, noon, noon_bytes);
     return 0;
 }

@@ -34,7 +34,7 @@ extern "C" {
 /* The question for the book of the intercontract table. */
 #define FELGOTANY_TABLE 16
 
-/* The numbers that felgotany_all is lent for all books, and for all uses: a place for each question, the longest fits. */
+/* The numbers that felgotany_all and felgotany_joined_all are lent for all books, and for all uses: a place for each question, the longest fits. */
 #define FELGOTANY_ALL_BOOKS (FELGOTANY_MOST_BOOK * (FELGOTANY_TABLE + 1))
 #define FELGOTANY_ALL_USES (FELGOTANY_MOST_USES * (FELGOTANY_TABLE + 1))
 
@@ -149,6 +149,27 @@ felgotany_pair_outcome felgotany_joined_book(const uint8_t *morning, size_t morn
 /* Who paid for what in that delta book, as felgotany_uses gives it for one file: at most FELGOTANY_MOST_USES numbers. */
 felgotany_pair_outcome felgotany_joined_uses(const uint8_t *morning, size_t morning_bytes, const uint8_t *noon,
                                              size_t noon_bytes, size_t question, int64_t *out, size_t numbers);
+
+/* How many numbers felgotany_joined_figures, felgotany_joined_book and felgotany_joined_uses write: as
+ * felgotany_figures_needed, felgotany_book_needed and felgotany_uses_needed say it of one file; 0 where the two files are refused. */
+size_t felgotany_joined_figures_needed(const uint8_t *morning, size_t morning_bytes, const uint8_t *noon, size_t noon_bytes);
+size_t felgotany_joined_book_needed(const uint8_t *morning, size_t morning_bytes, const uint8_t *noon, size_t noon_bytes,
+                                    size_t question);
+size_t felgotany_joined_uses_needed(const uint8_t *morning, size_t morning_bytes, const uint8_t *noon, size_t noon_bytes,
+                                    size_t question);
+
+/* The outcomes of all questions at once to two files. */
+typedef struct {
+    felgotany_pair_outcome figures;
+    felgotany_pair_outcome books;
+    felgotany_pair_outcome uses;
+} felgotany_pair_outcomes;
+
+/* All questions to the joined account of two files that are checked once, each in its place, as felgotany_all has it for one
+ * file. */
+felgotany_pair_outcomes felgotany_joined_all(const uint8_t *morning, size_t morning_bytes, const uint8_t *noon,
+                                             size_t noon_bytes, int64_t *figures, size_t numbers, int64_t *books,
+                                             size_t book_numbers, int64_t *uses, size_t use_numbers);
 
 /* Where the prompt records of a contract stand: the file that supplies them, 1 the morning's or 2 the noon's; the first of
  * them, counted from 0 in that file; and how many there are. They are 96 * records bytes, from byte 96 * first of the file. */

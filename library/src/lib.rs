@@ -45,6 +45,15 @@ pub struct PairOutcome {
     pub record: usize,
 }
 
+/// The outcomes of the figures, of the books and of the uses, asked of a morning and a noon file that are checked once.
+#[repr(C)]
+#[derive(Clone, Copy, Debug, PartialEq, Eq)]
+pub struct PairOutcomes {
+    pub figures: PairOutcome,
+    pub books: PairOutcome,
+    pub uses: PairOutcome,
+}
+
 /// The call on a morning and a noon file, 0 where they are refused.
 #[repr(C)]
 #[derive(Clone, Copy, Debug, PartialEq, Eq)]
@@ -113,6 +122,33 @@ extern "C" {
         out: *mut i64,
         numbers: usize,
     ) -> PairOutcome;
+    fn felgotany_joined_figures_needed(morning: *const u8, morning_bytes: usize, noon: *const u8, noon_bytes: usize) -> usize;
+    fn felgotany_joined_book_needed(
+        morning: *const u8,
+        morning_bytes: usize,
+        noon: *const u8,
+        noon_bytes: usize,
+        question: usize,
+    ) -> usize;
+    fn felgotany_joined_uses_needed(
+        morning: *const u8,
+        morning_bytes: usize,
+        noon: *const u8,
+        noon_bytes: usize,
+        question: usize,
+    ) -> usize;
+    fn felgotany_joined_all(
+        morning: *const u8,
+        morning_bytes: usize,
+        noon: *const u8,
+        noon_bytes: usize,
+        figures: *mut i64,
+        numbers: usize,
+        books: *mut i64,
+        book_numbers: usize,
+        uses: *mut i64,
+        use_numbers: usize,
+    ) -> PairOutcomes;
     fn felgotany_joined_prompts(
         morning: *const u8,
         morning_bytes: usize,
@@ -234,6 +270,39 @@ impl Pair<'_> {
                 question,
                 lent.as_mut_ptr(),
                 lent.len(),
+            )
+        }
+    }
+
+    pub fn figures_needed(self) -> usize {
+        let Pair { morning, noon } = self;
+        unsafe { felgotany_joined_figures_needed(morning.as_ptr(), morning.len(), noon.as_ptr(), noon.len()) }
+    }
+
+    pub fn book_needed(self, question: usize) -> usize {
+        let Pair { morning, noon } = self;
+        unsafe { felgotany_joined_book_needed(morning.as_ptr(), morning.len(), noon.as_ptr(), noon.len(), question) }
+    }
+
+    pub fn uses_needed(self, question: usize) -> usize {
+        let Pair { morning, noon } = self;
+        unsafe { felgotany_joined_uses_needed(morning.as_ptr(), morning.len(), noon.as_ptr(), noon.len(), question) }
+    }
+
+    pub fn all(self, figures: &mut [i64], books: &mut [i64], uses: &mut [i64]) -> PairOutcomes {
+        let Pair { morning, noon } = self;
+        unsafe {
+            felgotany_joined_all(
+                morning.as_ptr(),
+                morning.len(),
+                noon.as_ptr(),
+                noon.len(),
+                figures.as_mut_ptr(),
+                figures.len(),
+                books.as_mut_ptr(),
+                books.len(),
+                uses.as_mut_ptr(),
+                uses.len(),
             )
         }
     }

@@ -35,12 +35,12 @@ use Rattle.account.specs.Answers.{numberOf, recordOf}
 use Rattle.account.specs.Check.{checked}
 use Rattle.account.specs.Noon.{joinedVerdict, promptPlace}
 use Rattle.account.specs.Records.{records}
-use Rattle.account.specs.Supplied.{accountOf}
+use Rattle.account.specs.Standing.{accountOf}
 use Rattle.margin.specs.Books.{answered, book}
 use Rattle.margin.specs.Figures.{figures}
-use Rattle.margin.specs.Noon.{joinedCall}
-use Rattle.margin.specs.Questions.{figuresAnswer}
 use Rattle.margin.specs.Uses.{uses}
+use Rattle.questions.specs.Noon.{joinedCall}
+use Rattle.questions.specs.Questions.{figuresAnswer}
 ";
 
 fn main() -> io::Result<()> {

@@ -26,6 +26,9 @@ fn main() -> Result<(), Box<dyn std::error::Error>> {
         ask_all(&mut out, &checked, fewer);
     }
     ask_joined(&mut out, &file, &noon, [figures, book, uses]);
+    for fewer in [0, 1] {
+        ask_joined_all(&mut out, [&file, &noon], [book, uses], fewer);
+    }
     ask_run(&mut out, &file, &noon, figures);
     print!("{out}");
     Ok(())
@@ -138,6 +141,12 @@ fn ask_joined(out: &mut String, morning: &[u8], noon: &[u8], [figures, book, use
         say_pair(out, "joined uses", question, &joined::uses(morning, noon, question, &mut all_uses));
         list(out, "joined uses", question, &all_uses);
     }
+    let [needed_figures, ..] = needed(morning, noon, 0);
+    writeln!(out, "joined figures needed {needed_figures}").unwrap();
+    for question in QUESTIONS {
+        let [_, book, uses] = needed(morning, noon, question);
+        writeln!(out, "joined needed {question} book {book} uses {uses}").unwrap();
+    }
     let calls = [[0, 0, 0], [0, 5, 0], [5, 0, 0], [0, 0, 5], [1, 1_000_000_000_000_000, 2], [-1, 0, 0], [0, 0, -1]];
     for (place, amounts) in (0..).zip(calls) {
         let [last_call, threshold, collateral] = amounts.map(Amount);
@@ -145,6 +154,48 @@ fn ask_joined(out: &mut String, morning: &[u8], noon: &[u8], [figures, book, use
         say_pair(out, "call", place, &called);
         list(out, "call", place, &[called.map_or(0, |call| call.0)]);
     }
+}
+
+/// How many numbers the figures, the book and the uses of a question have, 0 where they are refused.
+fn needed(morning: &[u8], noon: &[u8], question: u64) -> [usize; 3] {
+    let mut lent = vec![BEFORE; 4096];
+    let asked = [
+        joined::figures(morning, noon, &mut lent),
+        joined::book(morning, noon, question, &mut lent),
+        joined::uses(morning, noon, question, &mut lent),
+    ];
+    asked.map(|written| written.unwrap_or(0))
+}
+
+/// All at once of a pair, with every lent number afterwards; with a number fewer lent for each of the three all are refused.
+fn ask_joined_all(out: &mut String, [morning, noon]: [&[u8]; 2], [book, uses]: [usize; 2], fewer: usize) {
+    let account = joined::account(morning, noon);
+    let numbers = account.as_ref().map_or(vec![], held_figures);
+    let lent = [numbers.len(), book * BOOKS.count(), uses * BOOKS.count()].map(|numbers| numbers.saturating_sub(fewer));
+    let [mut figures, mut books, mut all_uses] = lent.map(|numbers| vec![BEFORE; numbers]);
+    let answer = account.and_then(|account| match fewer {
+        0 => Ok(account),
+        _ => Err(PairRefusal { file: 0, number: 10, record: account.records }),
+    });
+    if let Ok(account) = &answer {
+        put(&mut figures, &numbers);
+        for (place, question) in BOOKS.enumerate() {
+            if let Ok(held) = held_book(account, question) {
+                put(&mut books[book * place..], &held.numbers());
+                put(&mut all_uses[uses * place..], &held.uses());
+            }
+        }
+    }
+    for word in ["joined all figures", "joined all books", "joined all uses"] {
+        say_pair(out, word, 0, &answer);
+    }
+    list(out, "joined all figures", 0, &figures);
+    list(out, "joined all books", 0, &books);
+    list(out, "joined all uses", 0, &all_uses);
+}
+
+fn put(lent: &mut [i64], numbers: &[i64]) {
+    lent[..numbers.len()].copy_from_slice(numbers);
 }
 
 /// A run of both files, with every lent number afterwards; with a number too few lent nothing is written.

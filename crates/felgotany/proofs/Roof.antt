@@ -10,13 +10,14 @@ use Rattle.account.proofs.OneJoined.{determined}
 use Rattle.account.proofs.PairClaimed.{pair-claimed}
 use Rattle.questions.proofs.Demands.{demand1, demand2, demanded-file, demanded-joined}
 use Rattle.questions.proofs.HeldLaws.{one-view, one-asked}
+use Rattle.questions.proofs.NoonLaws.{one-asked-pair}
 use Rattle.questions.proofs.PairDemands.{pair-demand1}
 use Rattle.margin.proofs.PairLaws.{pair-table}
 use Rattle.margin.proofs.Reckoned.{reckoned, printed}
 use Rattle.margin.proofs.Skipped.{file-skips-none, pair-skips-none}
 use Rattle.margin.proofs.Unpaired.{file-unpaired, pair-unpaired}
 use Rattle.felgotany.specs.Roof.{OneFile, TwoFiles, Equations, OneOutcome, Roof}
-use Rattle.felgotany.proofs.Told.{one-told, all-told, one-told-of, one-call, one-place}
+use Rattle.felgotany.proofs.Told.{one-told, all-told, one-told-of, all-told-of, one-call, one-place}
 
 one-file : (file : List ℕ) → OneFile file
 one-file file =
@@ -47,9 +48,11 @@ one-outcomes =
       check = determined;
       view = one-view;
       asked = one-asked;
+      askedOfPair = one-asked-pair;
       told = one-told;
       allTold = all-told;
       toldOf = one-told-of;
+      allToldOf = all-told-of;
       called = one-call;
       placed = one-place;
     }

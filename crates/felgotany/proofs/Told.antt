@@ -10,6 +10,7 @@ use Rattle.felgotany.specs.declared.CallOutcome.{CallOutcome}
 use Rattle.felgotany.specs.declared.Outcome.{Outcome}
 use Rattle.felgotany.specs.declared.Outcomes.{Outcomes}
 use Rattle.felgotany.specs.declared.PairOutcome.{PairOutcome}
+use Rattle.felgotany.specs.declared.PairOutcomes.{PairOutcomes}
 use Rattle.felgotany.specs.declared.PromptPlace.{PromptPlace}
 
 pub one-told : (a : Answer) (r s : Outcome) → Tells a r → Tells a s → r ≡ s
@@ -23,6 +24,11 @@ all-told a b c r s (x, (y, z)) (x′, (y′, z′)) =
 pub one-told-of : (v : Verdict) (r s : PairOutcome) → TellsOf v r → TellsOf v s → r ≡ s
 one-told-of v r s x y =
     λ i. record { file = (x .file-is ∙ sym (y .file-is)) i; refusal = (x .refusal ∙ sym (y .refusal)) i; «record» = (x .record-named ∙ sym (y .record-named)) i }
+
+pub all-told-of : (a b c : Verdict) (r s : PairOutcomes) → TellsOf a (r .figures) × (TellsOf b (r .books) × TellsOf c (r .uses))
+    → TellsOf a (s .figures) × (TellsOf b (s .books) × TellsOf c (s .uses)) → r ≡ s
+all-told-of a b c r s (x, (y, z)) (x′, (y′, z′)) =
+    λ i. record { figures = one-told-of a (r .figures) (s .figures) x x′ i; books = one-told-of b (r .books) (s .books) y y′ i; uses = one-told-of c (r .uses) (s .uses) z z′ i }
 
 pub one-call : (c : Call) (r s : CallOutcome) → TellsCall c r → TellsCall c s → r ≡ s
 one-call c r s x y =

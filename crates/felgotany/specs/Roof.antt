@@ -37,12 +37,14 @@ use Rattle.margin.specs.Skipped.{NoneSkipped}
 use Rattle.margin.specs.Unpaired.{NothingOpen}
 use Rattle.questions.specs.declared.held.Asked.{Asked}
 use Rattle.questions.specs.declared.held.Held.{Held}
+use Rattle.questions.specs.declared.noon.AskedPair.{AskedPair}
 use Rattle.questions.specs.declared.noon.Call.{Call}
 use Rattle.felgotany.specs.Outcomes.{Tells, TellsOf, TellsCall, TellsPlace}
 use Rattle.felgotany.specs.declared.CallOutcome.{CallOutcome}
 use Rattle.felgotany.specs.declared.Outcome.{Outcome}
 use Rattle.felgotany.specs.declared.Outcomes.{Outcomes}
 use Rattle.felgotany.specs.declared.PairOutcome.{PairOutcome}
+use Rattle.felgotany.specs.declared.PairOutcomes.{PairOutcomes}
 use Rattle.felgotany.specs.declared.PromptPlace.{PromptPlace}
 
 -- ---- one file
@@ -87,11 +89,15 @@ pub record OneOutcome : Type 0 where
   pub view : (file : RefT (List ℕ)) (h k : Held) → (h .file ≡ file) × FromCheck h → (k .file ≡ file) × FromCheck k → h ≡ k
   pub asked : (a b c : Answer) (r s : Asked) → (r .figures ≡ a) × ((r .books ≡ b) × (r .uses ≡ c))
       → (s .figures ≡ a) × ((s .books ≡ b) × (s .uses ≡ c)) → r ≡ s
+  pub askedOfPair : (a b c : Verdict) (r s : AskedPair) → (r .figures ≡ a) × ((r .books ≡ b) × (r .uses ≡ c))
+      → (s .figures ≡ a) × ((s .books ≡ b) × (s .uses ≡ c)) → r ≡ s
   -- what C is told
   pub told : (a : Answer) (r s : Outcome) → Tells a r → Tells a s → r ≡ s
   pub allTold : (a b c : Answer) (r s : Outcomes) → Tells a (r .figures) × (Tells b (r .books) × Tells c (r .uses))
       → Tells a (s .figures) × (Tells b (s .books) × Tells c (s .uses)) → r ≡ s
   pub toldOf : (v : Verdict) (r s : PairOutcome) → TellsOf v r → TellsOf v s → r ≡ s
+  pub allToldOf : (a b c : Verdict) (r s : PairOutcomes) → TellsOf a (r .figures) × (TellsOf b (r .books) × TellsOf c (r .uses))
+      → TellsOf a (s .figures) × (TellsOf b (s .books) × TellsOf c (s .uses)) → r ≡ s
   pub called : (c : Call) (r s : CallOutcome) → TellsCall c r → TellsCall c s → r ≡ s
   pub placed : (p : Place) (r s : PromptPlace) → TellsPlace p r → TellsPlace p s → r ≡ s
 

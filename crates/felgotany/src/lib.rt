@@ -13,6 +13,7 @@ use questions::plain::answer;
 use questions::plain::needed;
 use runs::answer_run;
 ghost use mathlib.Core.Path.{_≡_};
+ghost use mathlib.Core.Bool.{true, false};
 ghost use Prim.Native.Nat.{_≤_};
 ghost use lib.ListN.{length};
 ghost use Rattle.account.specs.Check.{checked};
@@ -22,6 +23,8 @@ ghost use Rattle.questions.specs.Questions.{figuresNeed, bookNeed, usesNeed};
 ghost use Rattle.questions.specs.Questions.{booksAnswer, booksAfter, allUsesAnswer, allUsesAfter};
 ghost use Rattle.account.specs.Noon.{promptPlace};
 ghost use Rattle.questions.specs.Noon.{joinedFigures, afterJoinedFigures, joinedBook, afterJoinedBook, joinedUses, afterJoinedUses, joinedCall};
+ghost use Rattle.questions.specs.Noon.{joinedNeed, joinedAll, afterJoinedAll};
+ghost use Rattle.margin.specs.declared.asking.Question.the-variants.{Figures, Book, Uses};
 ghost use Rattle.runs.specs.Runs.{runAnswer, runFigures, runOutcomes};
 ghost use Rattle.felgotany.specs.Outcomes.{Tells, TellsOf, TellsCall, TellsPlace};
 
@@ -188,6 +191,73 @@ pub extern "C" fn felgotany_joined_uses<'a>(
     ensures { λ r. ⌜ TellsOf (joinedUses (now (morning .entry)) (now (noon .entry)) question (length (now (out .entry)))) r × (now (out .exit) ≡ afterJoinedUses (now (morning .entry)) (now (noon .entry)) question (now (out .entry))) ⌝ }
 {
     tell_of(questions::noon::answer(morning, noon, Question::Uses(question), out))
+}
+
+// How many numbers the figures of the joined account need; 0 for a refused pair.
+#[no_mangle]
+pub extern "C" fn felgotany_joined_figures_needed<'a>(morning: &'a [u8], noon: &'a [u8]) -> usize
+    ensures { λ r. ⌜ (r ≡ joinedNeed (now (morning .entry)) (now (noon .entry)) Figures) × (r ≤ longestFigures) ⌝ }
+{
+    questions::noon::needed(morning, noon, Question::Figures)
+}
+
+// How many numbers the delta book of a question needs; 0 for a refused pair, and where the question is not answered.
+#[no_mangle]
+pub extern "C" fn felgotany_joined_book_needed<'a>(
+    morning: &'a [u8],
+    noon: &'a [u8],
+    question: usize,
+) -> usize
+    ensures { λ r. ⌜ (r ≡ joinedNeed (now (morning .entry)) (now (noon .entry)) (Book question)) × (r ≤ longestBook) ⌝ }
+{
+    questions::noon::needed(morning, noon, Question::Book(question))
+}
+
+// How many numbers the uses of a question need; 0 as with the book.
+#[no_mangle]
+pub extern "C" fn felgotany_joined_uses_needed<'a>(
+    morning: &'a [u8],
+    noon: &'a [u8],
+    question: usize,
+) -> usize
+    ensures { λ r. ⌜ (r ≡ joinedNeed (now (morning .entry)) (now (noon .entry)) (Uses question)) × (r ≤ longestUses) ⌝ }
+{
+    questions::noon::needed(morning, noon, Question::Uses(question))
+}
+
+// The outcomes of all questions at once to a pair of files.
+#[repr(C)]
+pub struct PairOutcomes {
+    pub figures: PairOutcome,
+    pub books: PairOutcome,
+    pub uses: PairOutcome,
+}
+
+// All questions to the joined account of a pair that is checked once, each in its place. What is refused writes nothing.
+#[no_mangle]
+pub extern "C" fn felgotany_joined_all<'a>(
+    morning: &'a [u8],
+    noon: &'a [u8],
+    figures: &mut [i64],
+    books: &mut [i64],
+    uses: &mut [i64],
+) -> PairOutcomes
+    ensures { λ r. ⌜ TellsOf (joinedFigures (now (morning .entry)) (now (noon .entry)) (length (now (figures .entry)))) (r .figures) × (now (figures .exit) ≡ afterJoinedFigures (now (morning .entry)) (now (noon .entry)) (now (figures .entry))) ⌝ }
+    ensures { λ r. ⌜ TellsOf (joinedAll false (now (morning .entry)) (now (noon .entry)) (length (now (books .entry)))) (r .books) × (now (books .exit) ≡ afterJoinedAll false (now (morning .entry)) (now (noon .entry)) (now (books .entry))) ⌝ }
+    ensures { λ r. ⌜ TellsOf (joinedAll true (now (morning .entry)) (now (noon .entry)) (length (now (uses .entry)))) (r .uses) × (now (uses .exit) ≡ afterJoinedAll true (now (morning .entry)) (now (noon .entry)) (now (uses .entry))) ⌝ }
+{
+    let asked = questions::noon::ask_all(morning, noon, figures, books, uses);
+    let of_figures = asked.figures;
+    let of_books = asked.books;
+    let of_uses = asked.uses;
+    let first = tell_of(of_figures);
+    let second = tell_of(of_books);
+    let third = tell_of(of_uses);
+    PairOutcomes {
+        figures: first,
+        books: second,
+        uses: third,
+    }
 }
 
 // Where a contract's prompts stand: in which file, from which record on, and how many.

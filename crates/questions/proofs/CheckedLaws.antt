@@ -1,9 +1,8 @@
 -- What a checked file answers: its refusal, or what the account answers that stands in it alone.
 -- Assumes nothing.
-use Prim.Native.Nat.{ℕ, zero, suc, _≤_, _<_, zero-le}
-use native.Mathlib.Omega.{arith}
-use mathlib.Core.Path.{_≡_, refl, sym, ap, _∙_, subst}
-use mathlib.Core.Bool.{Bool, true, cond}
+use Prim.Native.Nat.{ℕ, _≤_, zero-le}
+use mathlib.Core.Path.{_≡_, sym, ap, _∙_, subst}
+use mathlib.Core.Bool.{Bool, cond}
 use mathlib.Core.List.{List, []}
 use borrow.Author.Tests.{ne-eqb}
 use lib.IntN.{ℤ}
@@ -18,10 +17,9 @@ use Rattle.account.specs.declared.answers.Answer.{Answer}
 use Rattle.account.specs.declared.answers.Answer.the-variants.{Accepted}
 use Rattle.account.proofs.Places.{alone}
 use Rattle.margin.specs.declared.asking.Question.{Question}
-use Rattle.margin.specs.Places.{questionOf, widthOf, allOver, afterAllOver, EachPlace}
+use Rattle.margin.specs.Places.{allOver, afterAllOver}
 use Rattle.margin.specs.Questions.{accepted, ifAccepted, numbersFor, answerOver, afterOver, afterwards, needOver, mostFor}
-use Rattle.margin.proofs.PlaceLaws.{all-places}
-use Rattle.margin.proofs.QuestionLaws.{some, accepted-only, if-refused, if-accepted, after-refused}
+use Rattle.margin.proofs.QuestionLaws.{accepted-only, if-refused, if-accepted, after-refused}
 use Rattle.questions.specs.Questions.{answerTo, afterTo, needTo, allTo, afterAllTo}
 
 module _ (file : List ℕ) (r : Checked) (by : CheckedBy file r) where
@@ -33,17 +31,22 @@ module _ (file : List ℕ) (r : Checked) (by : CheckedBy file r) where
     stops : (next : Answer) → r .answer ≡ ifAccepted (checked file) next
     stops next = by .answer-is ∙ sym (if-refused (checked file) next refused)
 
-    pub answer-refused : (question : Question) (lent : List ℤ) → (r .answer ≡ answerTo file question (length lent)) × (lent ≡ afterTo file question lent)
+    pub answer-refused : (question : Question) (lent : List ℤ)
+        → (r .answer ≡ answerTo file question (length lent)) × (lent ≡ afterTo file question lent)
     answer-refused question lent =
+        let numbers = numbersFor (records file) question in
         let e = stops (answerOver (records file) question (length lent)) in
-        (e, sym (ap (λ (a : Answer). afterwards a (numbersFor (records file) question) lent) (sym e) ∙ after-refused (r .answer) (numbersFor (records file) question) lent h))
+        (e, sym (ap (λ (a : Answer). afterwards a numbers lent) (sym e) ∙ after-refused (r .answer) numbers lent h))
 
     pub none-needed : (question : Question) → (0 ≡ needTo file question) × (0 ≤ mostFor question)
-    none-needed question = (sym (ap (λ (t : Bool). cond t (needOver (records file) question) 0) (ne-eqb (numberOf (checked file)) 0 refused)), zero-le)
+    none-needed question =
+        (sym (ap (λ (t : Bool). cond t (needOver (records file) question) 0) (ne-eqb (numberOf (checked file)) 0 refused)), zero-le)
 
     pub all-refused : (paid : Bool) (lent : List ℤ) → (r .answer ≡ allTo paid file (length lent)) × (lent ≡ afterAllTo paid file lent)
-    all-refused paid lent =
-        (stops (allOver paid (records file) (length lent)), sym (ap (λ (t : Bool). cond t (afterAllOver paid (records file) lent) lent) (ne-eqb (numberOf (checked file)) 0 refused)))
+    all-refused paid lent = (
+      stops (allOver paid (records file) (length lent)),
+      sym (ap (λ (t : Bool). cond t (afterAllOver paid (records file) lent) lent) (ne-eqb (numberOf (checked file)) 0 refused)),
+    )
 
   -- ---- an accepted one
   module _ (z : numberOf (r .answer) ≡ 0) (none : List ℕ) (nothing : none ≡ []) where
@@ -64,13 +67,20 @@ module _ (file : List ℕ) (r : Checked) (by : CheckedBy file r) where
         let n = if-accepted (checked file) (answerOver (records file) question (length lent)) ok in
         (e .0 ∙ sym n, e .1 ∙ sym (ap (λ (x : Answer). afterwards x (numbersFor (records file) question) lent) n))
 
-    pub needed-accepted : (question : Question) (n : ℕ) → (n ≡ needOver (accountOf file none) question) × (n ≤ mostFor question) → (n ≡ needTo file question) × (n ≤ mostFor question)
-    needed-accepted question n is =
-        (is .0 ∙ ap (λ (x : List Record). needOver x question) same ∙ sym (ap (λ (a : Answer). cond (accepted a) (needOver (records file) question) 0) ok), is .1)
+    pub needed-accepted : (question : Question) (n : ℕ) → (n ≡ needOver (accountOf file none) question) × (n ≤ mostFor question)
+        → (n ≡ needTo file question) × (n ≤ mostFor question)
+    needed-accepted question n is = (
+      is .0
+          ∙ ap (λ (x : List Record). needOver x question) same
+          ∙ sym (ap (λ (a : Answer). cond (accepted a) (needOver (records file) question) 0) ok),
+      is .1,
+    )
 
     pub all-accepted : (paid : Bool) (lent : List ℤ) (a : Answer) (left : List ℤ)
         → (a ≡ allOver paid (accountOf file none) (length lent)) × (left ≡ afterAllOver paid (accountOf file none) lent)
         → (a ≡ allTo paid file (length lent)) × (left ≡ afterAllTo paid file lent)
     all-accepted paid lent a left is =
-        let e = subst (λ (x : List Record). (a ≡ allOver paid x (length lent)) × (left ≡ afterAllOver paid x lent)) same is in
-        (e .0 ∙ sym (if-accepted (checked file) (allOver paid (records file) (length lent)) ok), e .1 ∙ sym (ap (λ (x : Answer). cond (accepted x) (afterAllOver paid (records file) lent) lent) ok))
+        let e = subst (λ (x : List Record). (a ≡ allOver paid x (length lent)) × (left ≡ afterAllOver paid x lent)) same is in (
+          e .0 ∙ sym (if-accepted (checked file) (allOver paid (records file) (length lent)) ok),
+          e .1 ∙ sym (ap (λ (x : Answer). cond (accepted x) (afterAllOver paid (records file) lent) lent) ok),
+        )

@@ -23,23 +23,25 @@ use Rattle.account.proofs.Lawful.{lawful}
 use Rattle.account.proofs.NoonLaws.{accepted-only, pair-lawful}
 use Rattle.account.proofs.Walk.{length-cut}
 use Rattle.spread.specs.Accepted.{every, soundSpread}
+use Rattle.spread.specs.Demand.{soundSteps}
 use Rattle.spread.proofs.Demand3.{demand3}
 use Rattle.spread.proofs.Soundness.{steps-sound}
 use Rattle.spread.proofs.Stepping.{who-paid}
 use Rattle.margin.specs.declared.asking.Question.{Question}
+use Rattle.margin.specs.declared.asking.Question.the-variants.{Figures}
 use Rattle.margin.specs.Books.{tableQuestion}
 use Rattle.margin.specs.Contract.{contracts, partsOf, asTier, stepsOf, opensOf, tableSteps}
 use Rattle.margin.specs.Deltas.{interprompt, intercontract}
-use Rattle.margin.specs.Questions.{answers, answerOver}
+use Rattle.margin.specs.Questions.{answerOver}
 use Rattle.margin.specs.Uses.{contractUses, tableUses}
 use Rattle.margin.proofs.AcceptLaws.{contract-within, entries-within}
 use Rattle.margin.proofs.AskedLaws.{one-book, table-book, contract-asked, table-asked}
-use Rattle.margin.proofs.LineLaws.{spreads-sound}
+use Rattle.margin.proofs.LineLaws.{spreads-sound, interprompt-whole}
 use Rattle.margin.proofs.QuestionLaws.{if-refused, if-accepted, after-refused}
 use Rattle.margin.proofs.Reckoned.{reckoned, printed}
 use Rattle.margin.proofs.Skipped.{file-skips-none}
 use Rattle.margin.proofs.TableLaws.{entry-accepted}
-use Rattle.questions.specs.Demands.{FileAsked, Demand1, Demand2, Demanded}
+use Rattle.questions.specs.Demands.{FileAsked, FiguresAsked, Demand1, Demand2, Demanded}
 use Rattle.questions.specs.Questions.{answerTo}
 use Rattle.questions.proofs.AskingLaws.{asking}
 
@@ -91,8 +93,25 @@ module _ (file : List ℕ) (question : Question) (lent : ℕ) where
           let h : numberOf (checked file) ≡ 0 → ⊥ = λ y. let m : suc k ≡ 0 = sym z ∙ y in omega arith in
           absurd (omega (arith, l, ap numberOf (if-refused (checked file) next h), claimed file .exactly .most))
 
+figures-asked : (file : List ℕ) (lent : ℕ) → FiguresAsked file lent
+figures-asked file lent =
+    let asked = file-asked file Figures lent in
+    record {
+      refused = asked .refused;
+      ten = record { forth = λ e. let x = asked .ten .forth e in (x .0, x .1 .1); back = λ (ok, h). asked .ten .back (ok, (refl, h)) };
+      accepted = record { forth = λ e. let x = asked .accepted .forth e in (x .0, x .1 .1); back = λ (ok, h). asked .accepted .back (ok, (refl, h)) };
+      named = asked .named;
+    }
+
 pub demand1 : (file : List ℕ) → Demand1 file
-demand1 file = record { check = claimed file; question = file-asked file; untouched = after-refused; skipped = file-skips-none file }
+demand1 file =
+    record {
+      check = claimed file;
+      question = file-asked file;
+      figures = figures-asked file;
+      untouched = after-refused;
+      skipped = file-skips-none file;
+    }
 
 -- ---- 2
 
@@ -102,21 +121,26 @@ demand2 = record { reckoned = reckoned; printed = printed; empty-accepted = refl
 -- ---- 3
 
 module _ (account : List Record) (law : Lawful account) where
+  interprompt-steps : (c : ℕ) → soundSteps (stepsOf (partsOf account c)) ≡ true
+  interprompt-steps c =
+      let w = contract-within account law [] c (record { contracts = zero-le; rates = zero-le }) in
+      steps-sound (map interprompt (spreadsOf c account)) (spreads-sound interprompt (spreadsOf c account) (λ k h. w .each-spread k h .sound))
+
   pub demanded : Demanded account
   demanded =
       record {
         interprompt =
             λ c a n.
-            let w = contract-within account law [] c (record { contracts = zero-le; rates = zero-le }) in
-            let sound : every soundSpread (map interprompt (spreadsOf c account)) ≡ true =
-            spreads-sound interprompt (spreadsOf c account) (λ k h. w .each-spread k h .sound)
-            in
             record {
               writes = one-book account law c a n;
               takes = contract-asked account law contractUses tableUses (λ own. refl) c a n;
-              demand = demand3 (stepsOf (partsOf account c)) (opensOf (partsOf account c)) (steps-sound (map interprompt (spreadsOf c account)) sound);
-              paid = who-paid (stepsOf (partsOf account c)) (opensOf (partsOf account c)) (steps-sound (map interprompt (spreadsOf c account)) sound);
+              demand = demand3 (stepsOf (partsOf account c)) (opensOf (partsOf account c)) (interprompt-steps c);
+              paid = who-paid (stepsOf (partsOf account c)) (opensOf (partsOf account c)) (interprompt-steps c);
             };
+        firstWords =
+            λ c.
+            demand3 (stepsOf (partsOf account c)) (opensOf (partsOf account c)) (interprompt-steps c) .firstWords
+            (interprompt-whole (spreadsOf c account));
         intercontract =
             let w = entries-within account law in
             let sound : every soundSpread (map intercontract (entriesOf account)) ≡ true =

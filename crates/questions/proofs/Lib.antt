@@ -1,5 +1,8 @@
 pub mod CheckedLaws
 pub mod NoonLaws
+pub mod HeldLaws
+pub mod NeedLaws
+pub mod PlaceLaws
 pub mod AskingLaws
 pub mod Demands
 pub mod PairDemands

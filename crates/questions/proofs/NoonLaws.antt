@@ -1,142 +1,147 @@
 -- What a question over a pair of files answers and leaves behind, and the call.
 -- Assumes nothing.
-use Prim.Native.Nat.{ℕ, suc, _+_, _*_, _-_, _≤_, _<_}
+use Prim.Native.Nat.{ℕ, _+_, _-_, _≤_, _<_, zero-le}
 use native.Mathlib.Omega.{arith}
-use mathlib.Core.Path.{_≡_, refl, sym, ap, _∙_}
-use mathlib.Core.Bool.{Bool, true, false, _&&_, cond, false≢true}
-use mathlib.Core.List.{List, [], _∷_, _++_, map}
+use mathlib.Core.Path.{_≡_, sym, ap, _∙_}
+use mathlib.Core.Bool.{Bool, true, false, _&&_, _||_, cond, false≢true}
+use mathlib.Core.List.{List}
 use borrow.Author.Tests.{ne-eqb, eq-eqb, lt-ltb, le-ltb, ltb-false}
 use lib.Dec.{ltb}
 use lib.IntN.{ℤ, pos, negsuc, natAbs}
-use lib.ListN.{length, getD, drop, length-map}
-use lib.Seq.{getD-take}
-use Rattle.exact.proofs.Lists.{getD-map}
+use lib.ListN.{length}
 use Rattle.record.specs.Layout.{Record}
 use Rattle.record.proofs.Within.{neither}
 use Rattle.account.specs.Answers.{numberOf}
-use Rattle.account.specs.Noon.{ofJoined, clear, _then_, joinedVerdict, CheckedBy}
-use Rattle.account.specs.Parts.{entriesOf}
-use Rattle.account.specs.Supplied.{Supplied, accountOf}
+use Rattle.account.specs.Noon.{ofJoined, clear, _then_, joinedVerdict, PairBy}
+use Rattle.account.specs.Standing.{Stands, accountOf}
 use Rattle.account.specs.declared.answers.Answer.{Answer}
-use Rattle.account.specs.declared.answers.Answer.the-variants.{Accepted, TooFewNumbers, NoSuchQuestion}
-use Rattle.account.specs.declared.noon.Checked.{Checked}
+use Rattle.account.specs.declared.answers.Answer.the-variants.{Accepted, AmountOutside}
+use Rattle.account.specs.declared.noon.CheckedPair.{CheckedPair}
 use Rattle.account.specs.declared.noon.Verdict.{Verdict}
 use Rattle.account.proofs.NoonLaws.{stops, goes, joined-accepted}
 use Rattle.margin.specs.declared.amount.Amount.{Amount}
-use Rattle.margin.specs.declared.numbers.Numbers.{Numbers}
-use Rattle.margin.specs.Books.{answered, askedBy}
-use Rattle.margin.specs.Contract.{contracts, asTier}
-use Rattle.margin.specs.Figures.{eights, totalMargin, figuresOver, figures}
-use Rattle.margin.specs.Noon.{manyEnough, joinedFigures, joinedAnswer, requirement, coverCall, mostAmount, beyondAmount, callVerdict, joinedCall}
-use Rattle.margin.specs.Numbers.{written}
-use Rattle.margin.specs.Questions.{afterwards}
-use Rattle.margin.proofs.AskedLaws.{asked-is}
-use Rattle.margin.proofs.QuestionLaws.{some, refused-with, accepted-with, figures-length}
+use Rattle.margin.specs.declared.asking.Question.{Question}
+use Rattle.margin.specs.Places.{allOver, afterAllOver}
+use Rattle.margin.specs.Questions.{numbersFor, answerOver, afterOver, afterwards, needOver, mostFor}
+use Rattle.margin.proofs.QuestionLaws.{some, after-refused}
+use Rattle.questions.specs.declared.noon.AskedPair.{AskedPair}
+use Rattle.questions.specs.Noon.{joinedAnswer, afterJoined, joinedNeed, joinedAll, afterJoinedAll}
+use Rattle.questions.specs.Noon.{requirement, coverCall, mostAmount, beyondAmount, amountsWithin, callVerdict, joinedCall}
 
--- ---- the verdict and the lent numbers, case by case
-
-module _ (answer v : Verdict) (numbers out : List ℤ) (e : answer ≡ v) where
-  pub told-refused : (numberOf (v .answer) ≡ 0 → ⊥) → (v ≡ answer) × (out ≡ afterwards (answer .answer) numbers out)
-  told-refused h = (sym e, refused-with (v .answer) (answer .answer) numbers out (ap (λ (w : Verdict). w .answer) e) h .1)
-
-  pub told-accepted : (after : List ℤ) (n : ℕ) → v ≡ ofJoined Accepted → length numbers ≡ n → after ≡ numbers ++ drop n out → (v ≡ answer) × (after ≡ afterwards (answer .answer) numbers out)
-  told-accepted after n a l f = (sym e, accepted-with (answer .answer) numbers out after n (ap (λ (w : Verdict). w .answer) (e ∙ a)) l f .1)
-
--- a refusal of the joined account has a number
-pub refusal-some : (v : Verdict) (a : Answer) (n : ℕ) → numberOf a ≡ suc n → v ≡ ofJoined a → numberOf (v .answer) ≡ 0 → ⊥
-refusal-some v a n h e z = some (sym h ∙ ap (λ (w : Verdict). numberOf (w .answer)) (sym e) ∙ z)
-
-module _ (morning noon : List ℕ) (r : Checked) (by : CheckedBy morning noon r) where
+module _ (morning noon : List ℕ) (r : CheckedPair) (by : PairBy morning noon r) where
   abbrev account : List Record
   account = accountOf morning noon
 
-  pub pair-refused : (numberOf (r .verdict .answer) ≡ 0 → ⊥) → (next : Verdict) → joinedVerdict morning noon then next ≡ r .verdict
-  pair-refused h next = ap (λ (v : Verdict). v then next) (sym (by .verdict-is)) ∙ stops (r .verdict) next h
+  -- ---- a refused pair
+  module _ (h : numberOf (r .verdict .answer) ≡ 0 → ⊥) where
+    not-clear : clear (joinedVerdict morning noon) ≡ false
+    not-clear = ap clear (sym (by .verdict-is)) ∙ ne-eqb (numberOf (r .verdict .answer)) 0 h
 
+    pub pair-refused : (next : Verdict) → joinedVerdict morning noon then next ≡ r .verdict
+    pair-refused next = ap (λ (v : Verdict). v then next) (sym (by .verdict-is)) ∙ stops (r .verdict) next h
+
+    pub answer-refused : (question : Question) (lent : List ℤ)
+        → (r .verdict ≡ joinedAnswer morning noon question (length lent)) × (lent ≡ afterJoined morning noon question lent)
+    answer-refused question lent =
+        let numbers = numbersFor account question in
+        let e = pair-refused (ofJoined (answerOver account question (length lent))) in
+        (sym e, sym (ap (λ (v : Verdict). afterwards (v .answer) numbers lent) e ∙ after-refused (r .verdict .answer) numbers lent h))
+
+    pub none-needed : (question : Question) → (0 ≡ joinedNeed morning noon question) × (0 ≤ mostFor question)
+    none-needed question = (sym (ap (λ (t : Bool). cond t (needOver account question) 0) not-clear), zero-le)
+
+    pub all-refused : (paid : Bool) (lent : List ℤ)
+        → (r .verdict ≡ joinedAll paid morning noon (length lent)) × (lent ≡ afterJoinedAll paid morning noon lent)
+    all-refused paid lent =
+        (sym (pair-refused (ofJoined (allOver paid account (length lent)))), sym (ap (λ (t : Bool). cond t (afterAllOver paid account lent) lent) not-clear))
+
+  -- ---- one that is not refused
   module _ (z : numberOf (r .verdict .answer) ≡ 0) where
     unrefused : clear (joinedVerdict morning noon) ≡ true
-    unrefused = eq-eqb (numberOf (joinedVerdict morning noon .answer)) 0 (ap (λ (v : Verdict). numberOf (v .answer)) (sym (by .verdict-is)) ∙ z)
+    unrefused = ap clear (sym (by .verdict-is)) ∙ eq-eqb (numberOf (r .verdict .answer)) 0 z
 
-    pub pair-supplied : Supplied morning noon (r .joined)
-    pair-supplied = by .supplied unrefused
+    pub pair-stands : Stands morning noon (r .account)
+    pair-stands = by .stands unrefused
 
-    pub pair-accepted : r .verdict ≡ ofJoined Accepted
+    pair-accepted : r .verdict ≡ ofJoined Accepted
     pair-accepted = by .verdict-is ∙ joined-accepted morning noon unrefused
 
-    pub pair-asked : (next : Verdict) → joinedVerdict morning noon then next ≡ next
+    pair-asked : (next : Verdict) → joinedVerdict morning noon then next ≡ next
     pair-asked next = ap (λ (v : Verdict). v then next) (sym (by .verdict-is)) ∙ goes (r .verdict) next z
 
-    pub counted : (case : ℕ → Answer) → ofJoined (case (length account)) ≡ ofJoined (case (r .joined .records))
-    counted case = ap (λ (n : ℕ). ofJoined (case n)) (sym (pair-supplied .places .all))
+    pub answer-accepted : (question : Question) (lent left : List ℤ) (a : Answer) (v : Verdict) → v ≡ ofJoined a
+        → (a ≡ answerOver account question (length lent)) × (left ≡ afterOver account question lent)
+        → (v ≡ joinedAnswer morning noon question (length lent)) × (left ≡ afterJoined morning noon question lent)
+    answer-accepted question lent left a v of (is, has) =
+        let e = sym (pair-asked (ofJoined (answerOver account question (length lent)))) in
+        (of ∙ ap ofJoined is ∙ e, has ∙ ap (λ (w : Verdict). afterwards (w .answer) (numbersFor account question) lent) e)
 
-    module _ (numbers : List ℤ) (lent : ℕ) where
-      few : lent < length numbers → ofJoined (manyEnough account numbers lent) ≡ ofJoined (TooFewNumbers (r .joined .records))
-      few h = ap (λ (t : Bool). ofJoined (cond t (TooFewNumbers (length account)) Accepted)) (lt-ltb lent (length numbers) h) ∙ counted TooFewNumbers
+    pub needed-accepted : (question : Question) (n : ℕ) → (n ≡ needOver account question) × (n ≤ mostFor question)
+        → (n ≡ joinedNeed morning noon question) × (n ≤ mostFor question)
+    needed-accepted question n (is, most) = (is ∙ sym (ap (λ (t : Bool). cond t (needOver account question) 0) unrefused), most)
 
-      many : length numbers ≤ lent → ofJoined (manyEnough account numbers lent) ≡ r .verdict
-      many h = ap (λ (t : Bool). ofJoined (cond t (TooFewNumbers (length account)) Accepted)) (le-ltb lent (length numbers) h) ∙ sym pair-accepted
+    pub all-accepted : (paid : Bool) (lent left : List ℤ) (a : Answer) (v : Verdict) → v ≡ ofJoined a
+        → (a ≡ allOver paid account (length lent)) × (left ≡ afterAllOver paid account lent)
+        → (v ≡ joinedAll paid morning noon (length lent)) × (left ≡ afterJoinedAll paid morning noon lent)
+    all-accepted paid lent left a v of (is, has) = (
+      of ∙ ap ofJoined is ∙ sym (pair-asked (ofJoined (allOver paid account (length lent)))),
+      has ∙ sym (ap (λ (t : Bool). cond t (afterAllOver paid account lent) lent) unrefused),
+    )
 
-      -- a question that the joined account does not answer, or answers
-      pub asked-not : (q : ℕ) → answered account q ≡ false → joinedAnswer morning noon q numbers lent ≡ ofJoined (NoSuchQuestion (r .joined .records))
-      asked-not q a =
-          pair-asked _
-          ∙ ap (λ (t : Bool). ofJoined (cond t Accepted (NoSuchQuestion (length account))) then ofJoined (manyEnough account numbers lent)) a
-          ∙ counted NoSuchQuestion
+  -- ---- the call
+  module _ (last threshold collateral : ℤ) where
+    abbrev outside : Bool
+    outside = (beyondAmount last || beyondAmount threshold) || beyondAmount collateral
 
-      asked-next : (q : ℕ) → answered account q ≡ true → joinedAnswer morning noon q numbers lent ≡ ofJoined (manyEnough account numbers lent)
-      asked-next q a =
-          pair-asked _
-          ∙ ap (λ (t : Bool). ofJoined (cond t Accepted (NoSuchQuestion (length account))) then ofJoined (manyEnough account numbers lent)) a
+    abbrev due : ℕ
+    due = coverCall (requirement account) (natAbs last) (natAbs threshold) (natAbs collateral)
 
-      pub asked-few : (q : ℕ) → answered account q ≡ true → lent < length numbers → joinedAnswer morning noon q numbers lent ≡ ofJoined (TooFewNumbers (r .joined .records))
-      asked-few q a h = asked-next q a ∙ few h
+    amounts-if : (t : Bool) → outside ≡ t
+        → ofJoined (amountsWithin (length account) last threshold collateral) ≡ ofJoined (cond t (AmountOutside (length account)) Accepted)
+    amounts-if t e = ap (λ (b : Bool). ofJoined (cond b (AmountOutside (length account)) Accepted)) e
 
-      pub asked-many : (q : ℕ) → answered account q ≡ true → length numbers ≤ lent → joinedAnswer morning noon q numbers lent ≡ r .verdict
-      asked-many q a h = asked-next q a ∙ many h
+    -- a refusal calls for nothing
+    told : (v : Verdict) → callVerdict morning noon last threshold collateral ≡ v → (numberOf (v .answer) ≡ 0 → ⊥)
+        → record { verdict = v; amount = record { 0 = 0 } } ≡ joinedCall morning noon last threshold collateral
+    told v e h =
+        let q : cond (clear (callVerdict morning noon last threshold collateral)) due 0 ≡ 0 =
+        ap (λ (t : Bool). cond t due 0) (ap clear e ∙ ne-eqb (numberOf (v .answer)) 0 h)
+        in
+        λ i. record { verdict = sym e i; amount = record { 0 = sym q i } }
 
-    pub figures-few : (lent : ℕ) → lent < length (figures account) → joinedFigures morning noon lent ≡ ofJoined (TooFewNumbers (r .joined .records))
-    figures-few lent h = pair-asked _ ∙ few (figures account) lent h
+    pub call-refused : (numberOf (r .verdict .answer) ≡ 0 → ⊥)
+        → record { verdict = r .verdict; amount = record { 0 = 0 } } ≡ joinedCall morning noon last threshold collateral
+    call-refused h = told (r .verdict) (pair-refused h _) h
 
-    pub figures-many : (lent : ℕ) → length (figures account) ≤ lent → joinedFigures morning noon lent ≡ r .verdict
-    figures-many lent h = pair-asked _ ∙ many (figures account) lent h
+    module _ (z : numberOf (r .verdict .answer) ≡ 0) where
+      pub call-outside : outside ≡ true → (n : ℕ) → n ≡ r .account .records → (v : Verdict) → v ≡ ofJoined (AmountOutside n)
+          → record { verdict = v; amount = record { 0 = 0 } } ≡ joinedCall morning noon last threshold collateral
+      call-outside out n is v of =
+          let e = of ∙ ap (λ (k : ℕ). ofJoined (AmountOutside k)) (is ∙ pair-stands z .places .all) in
+          told v (pair-asked z _ ∙ amounts-if true out ∙ sym e) (λ no. some (sym (ap (λ (w : Verdict). numberOf (w .answer)) e) ∙ no))
 
-    pub figures-count : (n : ℕ) → n ≡ 8 * r .joined .contracts + 1 → length (figures account) ≡ n
-    figures-count n e = figures-length account ∙ omega (arith, e, pair-supplied .places .contracts)
+      pub call-made : outside ≡ false → (a : Amount) → a .0 ≡ due
+          → record { verdict = r .verdict; amount = a } ≡ joinedCall morning noon last threshold collateral
+      call-made in-range a d =
+          let e : callVerdict morning noon last threshold collateral ≡ ofJoined Accepted = pair-asked z _ ∙ amounts-if false in-range in
+          let q : cond (clear (callVerdict morning noon last threshold collateral)) due 0 ≡ due = ap (λ (v : Verdict). cond (clear v) due 0) e in
+          λ i. record { verdict = (pair-accepted z ∙ sym e) i; amount = record { 0 = (d ∙ sym q) i } }
 
-    pub asked-of : (q : ℕ) (t : Bool) → t ≡ askedBy (r .joined .counts) q → answered account q ≡ t
-    asked-of q t e = sym (e ∙ asked-is account (pair-supplied .lawful) (r .joined .counts) (pair-supplied .places .counts) q)
+-- all questions at once are answered in one way
+pub one-asked-pair : (a b c : Verdict) (r s : AskedPair) → (r .figures ≡ a) × ((r .books ≡ b) × (r .uses ≡ c))
+    → (s .figures ≡ a) × ((s .books ≡ b) × (s .uses ≡ c)) → r ≡ s
+one-asked-pair a b c r s (x, (y, z)) (x′, (y′, z′)) =
+    λ i. record { figures = (x ∙ sym x′) i; books = (y ∙ sym y′) i; uses = (z ∙ sym z′) i }
 
--- ---- the call
-
--- the total stands last
-last-is : (xs : List ℕ) (x : ℕ) → getD (xs ++ x ∷ []) (length xs) 0 ≡ x
-last-is [] x = refl
-last-is (y ∷ xs) x = last-is xs x
-
-ends-with : (xs : List ℕ) (x : ℕ) → length (xs ++ x ∷ []) ≡ suc (length xs)
-ends-with [] x = refl
-ends-with (y ∷ xs) x = ap suc (ends-with xs x)
-
-pub total-last : (account : List Record) (n : Numbers) → written n ≡ figures account → n .count ≡ length (figures account) → natAbs (getD (n .number) (n .count - 1) (pos 0)) ≡ requirement account
-total-last account n w k =
-    let es = entriesOf account in
-    let ks = contracts account in
-    let xs = eights es (map asTier ks) ks in
-    let x = totalMargin es (map asTier ks) ks in
-    let l : n .count ≡ suc (length xs) = k ∙ length-map (figuresOver es ks) pos ∙ ends-with xs x in
-    let i : n .count - 1 ≡ length xs = omega arith in
-    ap (λ (m : ℕ). natAbs (getD (n .number) m (pos 0))) i
-    ∙ ap natAbs (sym (getD-take (n .count) (n .number) (length xs) (pos 0) (omega arith)))
-    ∙ ap (λ (zs : List ℤ). natAbs (getD zs (length xs) (pos 0))) w
-    ∙ ap natAbs (getD-map pos (figuresOver es ks) (length xs) 0 (pos 0) (omega (arith, ends-with xs x)))
-    ∙ last-is xs x
+-- ---- the amounts of a call
 
 pub amount-within : (z : ℤ) → beyondAmount z ≡ false → natAbs z ≤ mostAmount
 amount-within (pos n) e = ltb-false mostAmount n (neither (ltb n 0) (ltb mostAmount n) e .1)
 amount-within (negsuc n) e = absurd (false≢true (sym e))
 
 pub no-call : (required last threshold collateral : ℕ) → required ≤ last + threshold → coverCall required last threshold collateral ≡ 0
-no-call required last threshold collateral h = ap (λ (t : Bool). cond (t && ltb collateral required) (required - collateral) 0) (le-ltb (last + threshold) required h)
+no-call required last threshold collateral h =
+    ap (λ (t : Bool). cond (t && ltb collateral required) (required - collateral) 0) (le-ltb (last + threshold) required h)
 
 module _ (required last threshold collateral : ℕ) (h : last + threshold < required) where
   over : (t : Bool) → ltb collateral required ≡ t → coverCall required last threshold collateral ≡ cond t (required - collateral) 0
@@ -149,17 +154,3 @@ module _ (required last threshold collateral : ℕ) (h : last + threshold < requ
 
   pub called : collateral < required → coverCall required last threshold collateral ≡ required - collateral
   called k = over true (lt-ltb collateral required k)
-
-module _ (morning noon : List ℕ) (last threshold collateral : ℤ) (v : Verdict) (e : callVerdict morning noon last threshold collateral ≡ v) where
-  abbrev due : ℕ
-  due = coverCall (requirement (accountOf morning noon)) (natAbs last) (natAbs threshold) (natAbs collateral)
-
-  pub call-refused : (numberOf (v .answer) ≡ 0 → ⊥) → record { verdict = v; amount = record { 0 = 0 } } ≡ joinedCall morning noon last threshold collateral
-  call-refused h =
-      let q : cond (clear (callVerdict morning noon last threshold collateral)) due 0 ≡ 0 = ap (λ (t : Bool). cond t due 0) (ap clear e ∙ ne-eqb (numberOf (v .answer)) 0 h) in
-      λ i. record { verdict = sym e i; amount = record { 0 = sym q i } }
-
-  pub call-made : v ≡ ofJoined Accepted → (a : Amount) → a .0 ≡ due → record { verdict = v; amount = a } ≡ joinedCall morning noon last threshold collateral
-  call-made w a d =
-      let q : cond (clear (callVerdict morning noon last threshold collateral)) due 0 ≡ due = ap (λ (t : Bool). cond t due 0) (ap clear (e ∙ w)) in
-      λ i. record { verdict = sym e i; amount = record { 0 = (d ∙ sym q) i } }

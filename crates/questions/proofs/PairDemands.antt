@@ -22,10 +22,11 @@ use Rattle.account.specs.declared.noon.Verdict.{Verdict}
 use Rattle.account.proofs.NoonLaws.{stops, goes, accepted-only}
 use Rattle.account.proofs.PairClaimed.{pair-claimed, pair-saying}
 use Rattle.margin.specs.declared.asking.Question.{Question}
+use Rattle.margin.specs.declared.asking.Question.the-variants.{Figures}
 use Rattle.margin.specs.Questions.{answerOver, afterwards}
 use Rattle.margin.proofs.QuestionLaws.{after-refused}
 use Rattle.questions.specs.Noon.{requirement, coverCall, mostAmount, beyondAmount, amountsWithin, callVerdict}
-use Rattle.questions.specs.PairDemands.{NamesAll, PairQuestion, InRange, PairCall, PairLent, PairDemand1}
+use Rattle.questions.specs.PairDemands.{NamesAll, PairQuestion, PairFigures, InRange, PairCall, PairLent, PairDemand1}
 use Rattle.questions.proofs.AskingLaws.{asking}
 
 -- ---- the verdict on a pair, and what is asked next where it is clear
@@ -94,6 +95,16 @@ module _ (morning noon : List ℕ) where
         ten = record { forth = λ e. let x = b .forth e in (x .0, over .ten .forth (x .1)); back = λ (c, h). b .back (c, over .ten .back h) };
         accepted = record { forth = λ e. let x = z .forth e in (x .0, over .accepted .forth (x .1)); back = λ (c, h). z .back (c, over .accepted .back h) };
         named = names next (over .named);
+      }
+
+  pair-figures : (lent : ℕ) → PairFigures morning noon lent
+  pair-figures lent =
+      let asked = pair-question Figures lent in
+      record {
+        refused = asked .refused;
+        ten = record { forth = λ e. let x = asked .ten .forth e in (x .0, x .1 .1); back = λ (c, h). asked .ten .back (c, (refl, h)) };
+        accepted = record { forth = λ e. let x = asked .accepted .forth e in (x .0, x .1 .1); back = λ (c, h). asked .accepted .back (c, (refl, h)) };
+        named = asked .named;
       }
 
   -- ---- the call
@@ -178,5 +189,6 @@ pair-demand1 morning noon =
       call = pair-call morning noon;
       amounts = in-range;
       question = pair-question morning noon;
+      figures = pair-figures morning noon;
       after = λ question lent. lent-after _ _ lent;
     }

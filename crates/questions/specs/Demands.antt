@@ -1,5 +1,5 @@
 -- The three demands, as claims about the definitions, each under its words; proofs/Demands.antt proves them of any bytes. The code
--- meets them where `check` (account) and the questions (src/plain.rt) promise these definitions.
+-- meets them where `check` (account) and `answer` (src/plain.rt, src/held.rt) promise these definitions.
 -- Assumes nothing.
 use Prim.Native.Nat.{ℕ, _≤_, _<_}
 use mathlib.Core.Path.{_≡_}
@@ -16,7 +16,7 @@ use Rattle.account.specs.Parts.{promptsOf, entriesOf}
 use Rattle.account.specs.Records.{records, recordCount}
 use Rattle.account.specs.declared.answers.Answer.{Answer}
 use Rattle.account.specs.declared.answers.Answer.the-variants.{Accepted}
-use Rattle.spread.specs.Demand.{Demand3}
+use Rattle.spread.specs.Demand.{Demand3, FirstWords}
 use Rattle.spread.specs.Steps.{Open, Taker, numbers, usedOf, unusedOf}
 use Rattle.spread.specs.Uses.{usesOf, WhoPaid}
 use Rattle.margin.specs.declared.asking.Question.{Question}
@@ -27,7 +27,7 @@ use Rattle.margin.specs.Questions.{numbersFor, answers, answerOver, afterwards}
 use Rattle.margin.specs.Reckoned.{Reckoned, Printed}
 use Rattle.margin.specs.Skipped.{NoneSkipped}
 use Rattle.margin.specs.Uses.{uses}
-use Rattle.questions.specs.Questions.{answerTo}
+use Rattle.questions.specs.Questions.{answerTo, figuresAnswer}
 
 -- ---- 1. "Every input gets an answer: figures, or one refusal number with the record at fault. A refusal comes exactly when its
 -- condition is the first in document 01's order to hold, and lent memory then stays untouched. .. no accepted line is skipped."
@@ -35,8 +35,10 @@ use Rattle.questions.specs.Questions.{answerTo}
 -- a question put to an account with so many numbers lent for its answer: "then 11, then 10", both naming the record count
 pub record Asking (account : List Record) (question : Question) (lent : ℕ) : Type 0 where
   pub eleven : Iff (numberOf (answerOver account question lent) ≡ 11) (answers account question ≡ false)
-  pub ten : Iff (numberOf (answerOver account question lent) ≡ 10) ((answers account question ≡ true) × (lent < length (numbersFor account question)))
-  pub accepted : Iff (numberOf (answerOver account question lent) ≡ 0) ((answers account question ≡ true) × (length (numbersFor account question) ≤ lent))
+  pub ten : Iff (numberOf (answerOver account question lent) ≡ 10)
+      ((answers account question ≡ true) × (lent < length (numbersFor account question)))
+  pub accepted : Iff (numberOf (answerOver account question lent) ≡ 0)
+      ((answers account question ≡ true) × (length (numbersFor account question) ≤ lent))
   pub named : 1 ≤ numberOf (answerOver account question lent) → recordOf (answerOver account question lent) ≡ length account
 
 -- put to a file
@@ -49,11 +51,19 @@ pub record FileAsked (file : List ℕ) (question : Question) (lent : ℕ) : Type
       ((checked file ≡ Accepted) × ((answers (records file) question ≡ true) × (length (numbersFor (records file) question) ≤ lent)))
   pub named : 10 ≤ numberOf (answerTo file question lent) → recordOf (answerTo file question lent) ≡ recordCount file
 
+-- the figures, which ask no question that could be another
+pub record FiguresAsked (file : List ℕ) (lent : ℕ) : Type 0 where
+  pub refused : (numberOf (checked file) ≡ 0 → ⊥) → figuresAnswer file lent ≡ checked file
+  pub ten : Iff (numberOf (figuresAnswer file lent) ≡ 10) ((checked file ≡ Accepted) × (lent < length (figures (records file))))
+  pub accepted : Iff (numberOf (figuresAnswer file lent) ≡ 0) ((checked file ≡ Accepted) × (length (figures (records file)) ≤ lent))
+  pub named : 10 ≤ numberOf (figuresAnswer file lent) → recordOf (figuresAnswer file lent) ≡ recordCount file
+
 pub record Demand1 (file : List ℕ) : Type 0 where
   -- 1 to 9
   pub check : Claims file
   -- 10 and 11, of the figures, a book or who paid in it
   pub question : (question : Question) (lent : ℕ) → FileAsked file question lent
+  pub figures : (lent : ℕ) → FiguresAsked file lent
   -- "lent memory then stays untouched"
   pub untouched : (a : Answer) (answer lent : List ℤ) → (numberOf a ≡ 0 → ⊥) → afterwards a answer lent ≡ lent
   -- "no accepted line is skipped"
@@ -81,6 +91,9 @@ pub record Holds (written taken nets : List ℤ) (ss : List (List Taker)) (ps : 
 pub record Demanded (account : List Record) : Type 0 where
   pub interprompt : (c : ℕ) → answered account c ≡ true → (c ≡ tableQuestion → ⊥)
       → Holds (book account c) (uses account c) (partsOf account c .nets) (stepsOf (partsOf account c)) (opensOf (partsOf account c))
-  pub intercontract : Holds (book account tableQuestion) (uses account tableQuestion) (map contractNet (contracts account)) (tableSteps (entriesOf account)) (map asTier (contracts account))
+  -- interprompt ratios are whole: there the demand also holds in its first words
+  pub firstWords : (c : ℕ) → FirstWords (stepsOf (partsOf account c)) (opensOf (partsOf account c))
+  pub intercontract : Holds (book account tableQuestion) (uses account tableQuestion) (map contractNet (contracts account))
+      (tableSteps (entriesOf account)) (map asTier (contracts account))
   -- "earlier dates": the prompts of a contract stand by their days
   pub dates : (c : ℕ) → c ≤ mostContract → Later (promptsOf c account)

@@ -14,8 +14,9 @@ use Rattle.account.specs.PairClaims.{PairClaims}
 use Rattle.account.specs.Standing.{accountOf}
 use Rattle.account.specs.declared.noon.Verdict.{Verdict}
 use Rattle.margin.specs.declared.asking.Question.{Question}
+use Rattle.margin.specs.Figures.{figures}
 use Rattle.margin.specs.Questions.{numbersFor, answers}
-use Rattle.questions.specs.Noon.{joinedAnswer, afterJoined}
+use Rattle.questions.specs.Noon.{joinedAnswer, joinedFigures, afterJoined}
 use Rattle.questions.specs.Noon.{requirement, coverCall, mostAmount, beyondAmount, callVerdict, joinedCall}
 
 -- a refusal of the joined account, "naming the joined record count"
@@ -29,11 +30,23 @@ pub record PairQuestion (morning noon : List ℕ) (question : Question) (lent : 
   pub eleven : Iff (numberOf (joinedAnswer morning noon question lent .answer) ≡ 11)
       ((clear (joinedVerdict morning noon) ≡ true) × (answers (accountOf morning noon) question ≡ false))
   pub ten : Iff (numberOf (joinedAnswer morning noon question lent .answer) ≡ 10)
-      ((clear (joinedVerdict morning noon) ≡ true) × ((answers (accountOf morning noon) question ≡ true) × (lent < length (numbersFor (accountOf morning noon) question))))
+      ((clear (joinedVerdict morning noon) ≡ true)
+      × ((answers (accountOf morning noon) question ≡ true) × (lent < length (numbersFor (accountOf morning noon) question))))
   pub accepted : Iff (numberOf (joinedAnswer morning noon question lent .answer) ≡ 0)
-      ((clear (joinedVerdict morning noon) ≡ true) × ((answers (accountOf morning noon) question ≡ true) × (length (numbersFor (accountOf morning noon) question) ≤ lent)))
+      ((clear (joinedVerdict morning noon) ≡ true)
+      × ((answers (accountOf morning noon) question ≡ true) × (length (numbersFor (accountOf morning noon) question) ≤ lent)))
   pub named : clear (joinedVerdict morning noon) ≡ true → 1 ≤ numberOf (joinedAnswer morning noon question lent .answer)
       → NamesAll morning noon (joinedAnswer morning noon question lent)
+
+-- the figures ask no question that could be another
+pub record PairFigures (morning noon : List ℕ) (lent : ℕ) : Type 0 where
+  pub refused : clear (joinedVerdict morning noon) ≡ false → joinedFigures morning noon lent ≡ joinedVerdict morning noon
+  pub ten : Iff (numberOf (joinedFigures morning noon lent .answer) ≡ 10)
+      ((clear (joinedVerdict morning noon) ≡ true) × (lent < length (figures (accountOf morning noon))))
+  pub accepted : Iff (numberOf (joinedFigures morning noon lent .answer) ≡ 0)
+      ((clear (joinedVerdict morning noon) ≡ true) × (length (figures (accountOf morning noon)) ≤ lent))
+  pub named : clear (joinedVerdict morning noon) ≡ true → 1 ≤ numberOf (joinedFigures morning noon lent .answer)
+      → NamesAll morning noon (joinedFigures morning noon lent)
 
 -- "The three amounts, in hundredths, are 0..1,000,000,000,000,000."
 pub record InRange (z : ℤ) : Type 0 where
@@ -70,6 +83,8 @@ pub record PairDemand1 (morning noon : List ℕ) : Type 0 where
   pub amounts : (z : ℤ) → Iff (beyondAmount z ≡ false) (InRange z)
   -- 11 and 10, of the figures, a book or who paid in it
   pub question : (question : Question) (lent : ℕ) → PairQuestion morning noon question lent
+  pub figures : (lent : ℕ) → PairFigures morning noon lent
   -- lent memory
   pub after : (question : Question) (lent : List ℤ)
-      → PairLent (joinedAnswer morning noon question (length lent)) (numbersFor (accountOf morning noon) question) lent (afterJoined morning noon question lent)
+      → PairLent (joinedAnswer morning noon question (length lent)) (numbersFor (accountOf morning noon) question) lent
+      (afterJoined morning noon question lent)

@@ -2,6 +2,7 @@
 use account::accounts::record_total;
 use account::answers::Answer;
 use account::answers::number_of;
+use account::noon::CheckedPair;
 use account::noon::JOINED;
 use account::noon::Verdict;
 use account::noon::check_pair;
@@ -16,9 +17,9 @@ use margin::over::total_over;
 ghost use mathlib.Core.Path.{_≡_};
 ghost use Prim.Native.Nat.{_≤_};
 ghost use lib.ListN.{length};
-ghost use Rattle.account.specs.Noon.{ofJoined};
+ghost use Rattle.account.specs.Noon.{ofJoined, PairBy};
 ghost use Rattle.margin.specs.Questions.{mostFor};
-ghost use Rattle.questions.specs.Noon.{joinedAnswer, afterJoined, joinedNeed, joinedAll, afterJoinedAll, coverCall, mostAmount, beyondAmount, joinedCall};
+ghost use Rattle.questions.specs.Noon.{joinedAnswer, afterJoined, joinedNeed, joinedAll, afterJoinedAll, PairAllAnswered, coverCall, mostAmount, beyondAmount, joinedCall};
 
 // An answer about the joined account.
 fn of_joined(answer: Answer) -> Verdict
@@ -30,16 +31,17 @@ fn of_joined(answer: Answer) -> Verdict
     }
 }
 
-// A question's answer over the joined account, at the front of `out`. A refusal writes nothing.
-pub fn answer<'a>(
+// A question's answer over the joined account of a pair that is checked, at the front of `out`. A refusal writes nothing.
+fn answer_pair<'a>(
     morning: &'a [u8],
     noon: &'a [u8],
+    checked: CheckedPair,
     question: Question,
     out: &mut [i64],
 ) -> Verdict
+    requires { ⌜ PairBy (now morning) (now noon) checked ⌝ }
     ensures { λ v. ⌜ (v ≡ joinedAnswer (now (morning .entry)) (now (noon .entry)) question (length (now (out .entry)))) × (now (out .exit) ≡ afterJoined (now (morning .entry)) (now (noon .entry)) question (now (out .entry))) ⌝ }
 {
-    let checked = check_pair(morning, noon);
     let verdict = checked.verdict;
     let refusal = verdict.answer;
     if number_of(refusal) != 0 {
@@ -47,6 +49,14 @@ pub fn answer<'a>(
     }
     let account = checked.account;
     of_joined(answer_over(morning, noon, account, question, out))
+}
+
+// A question's answer over the joined account, at the front of `out`. A refusal writes nothing.
+pub fn answer<'a>(morning: &'a [u8], noon: &'a [u8], question: Question, out: &mut [i64]) -> Verdict
+    ensures { λ v. ⌜ (v ≡ joinedAnswer (now (morning .entry)) (now (noon .entry)) question (length (now (out .entry)))) × (now (out .exit) ≡ afterJoined (now (morning .entry)) (now (noon .entry)) question (now (out .entry))) ⌝ }
+{
+    let checked = check_pair(morning, noon);
+    answer_pair(morning, noon, checked, question, out)
 }
 
 // How many numbers the answer of a question has, 0 where there is none.
@@ -63,11 +73,18 @@ pub fn needed<'a>(morning: &'a [u8], noon: &'a [u8], question: Question) -> usiz
     needed_over(morning, noon, account, question)
 }
 
-// The books of all questions, or who paid for what in them, each in its place. A refusal writes nothing.
-pub fn all<'a>(morning: &'a [u8], noon: &'a [u8], paid: bool, out: &mut [i64]) -> Verdict
+// The books of all questions, or who paid for what in them, each in its place, of a pair that is checked. A refusal writes
+// nothing.
+fn all_pair<'a>(
+    morning: &'a [u8],
+    noon: &'a [u8],
+    checked: CheckedPair,
+    paid: bool,
+    out: &mut [i64],
+) -> Verdict
+    requires { ⌜ PairBy (now morning) (now noon) checked ⌝ }
     ensures { λ v. ⌜ (v ≡ joinedAll paid (now (morning .entry)) (now (noon .entry)) (length (now (out .entry)))) × (now (out .exit) ≡ afterJoinedAll paid (now (morning .entry)) (now (noon .entry)) (now (out .entry))) ⌝ }
 {
-    let checked = check_pair(morning, noon);
     let verdict = checked.verdict;
     let refusal = verdict.answer;
     if number_of(refusal) != 0 {
@@ -75,6 +92,31 @@ pub fn all<'a>(morning: &'a [u8], noon: &'a [u8], paid: bool, out: &mut [i64]) -
     }
     let account = checked.account;
     of_joined(all_over(morning, noon, account, paid, out))
+}
+
+// What a pair of files is answered that is asked for everything: its figures, the books of all questions, and their uses.
+pub struct AskedPair {
+    pub figures: Verdict,
+    pub books: Verdict,
+    pub uses: Verdict,
+}
+
+// The figures, and the books and uses of all questions, over the joined account of a pair that is checked once.
+pub fn ask_all<'a>(
+    morning: &'a [u8],
+    noon: &'a [u8],
+    figures: &mut [i64],
+    books: &mut [i64],
+    uses: &mut [i64],
+) -> AskedPair
+    ensures { λ r. ⌜ PairAllAnswered (now (morning .entry)) (now (noon .entry)) (now (figures .entry)) (now (books .entry)) (now (uses .entry)) r (now (figures .exit)) (now (books .exit)) (now (uses .exit)) ⌝ }
+{
+    let checked = check_pair(morning, noon);
+    AskedPair {
+        figures: answer_pair(morning, noon, checked, Question::Figures, figures),
+        books: all_pair(morning, noon, checked, false, books),
+        uses: all_pair(morning, noon, checked, true, uses),
+    }
 }
 
 // "The three amounts, in hundredths, are 0..1,000,000,000,000,000."

@@ -31,10 +31,10 @@ same-length-3 c = search needs
 returns : tie.Need-returns
 returns c =
     let f = c .before .before .before .before .before .before .ask-all .ensures in (
-      (subst (λ (a : Answer). Tells a (c .before .before .tell .result)) (f .0 .0) (c .before .before .tell .ensures), f .0 .1),
+      (subst (λ (a : Answer). Tells a (c .before .before .tell .result)) (f .figures-answer) (c .before .before .tell .ensures), f .figures-after),
       (
-        (subst (λ (a : Answer). Tells a (c .before .tell2 .result)) (f .1 .0 .0) (c .before .tell2 .ensures), f .1 .0 .1),
-        (subst (λ (a : Answer). Tells a (c .tell3 .result)) (f .1 .1 .0) (c .tell3 .ensures), f .1 .1 .1),
+        (subst (λ (a : Answer). Tells a (c .before .tell2 .result)) (f .books-answer) (c .before .tell2 .ensures), f .books-after),
+        (subst (λ (a : Answer). Tells a (c .tell3 .result)) (f .uses-answer) (c .tell3 .ensures), f .uses-after),
       ),
     )
 

@@ -7,8 +7,8 @@ use Rattle.felgotany.specs.Outcomes.{TellsOf}
 use Rattle.felgotany.proofs.felgotany_joined_uses.Statement.{statement}
 use Rattle.felgotany.proofs.felgotany_joined_uses.Tie as tie
 
-uses-requires : tie.Need-uses-requires
-uses-requires c κs = search needs
+answer-requires : tie.Need-answer-requires
+answer-requires c κs = search needs
 
 tell-of-requires : tie.Need-tell-of-requires
 tell-of-requires c κs = search needs
@@ -18,9 +18,9 @@ same-length c = search needs
 
 returns : tie.Need-returns
 returns c =
-    let f = c .before .before .uses .ensures in
+    let f = c .before .before .answer .ensures in
     (subst (λ (v : Verdict). TellsOf v (c .tell-of .result)) (f .0) (c .tell-of .ensures), f .1)
 
 pub felgotany-joined-uses-spec : {M : Type 1} → statement M
 felgotany-joined-uses-spec =
-    tie.close (tie.spec uses-requires tell-of-requires same-length returns)
+    tie.close (tie.spec answer-requires tell-of-requires same-length returns)

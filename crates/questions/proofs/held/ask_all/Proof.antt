@@ -38,26 +38,25 @@ use denote.Triple.Table.{entered, cited}
 use denote.Triple.Walked.{says, Stays, stay-none-slice, gave-slice, walkOf, goes-none-slice, goes-gave-slice, Walks, ends-at, walked, walk-meets}
 use denote.Exit.{yes}
 use denote.Triple.Clauses.{ensured, lasts}
-use Rattle.margin.specs.Held.{FromCheck, booksAnswer, booksAfter, allUsesAnswer, allUsesAfter}
-use Rattle.margin.specs.Questions.{figuresAnswer, afterFigures}
-use Rattle.margin.specs.declared.held.Asked.{Asked}
-use Rattle.margin.specs.declared.held.Held.{Held}
-use Rattle.margin.proofs.held.Asked as K
-use Rattle.margin.proofs.held.Asked.Laws as K′
-use Rattle.margin.proofs.held.Held as T
-use Rattle.margin.proofs.held.Held.Laws as T′
-use Rattle.margin.proofs.held.hold as hold
-use Rattle.margin.proofs.held.hold.Symbol as hold-def
-use Rattle.margin.proofs.held.hold.Symbol.{name as #margin·held·hold}
-use Rattle.margin.proofs.held.hold.Met as hold-thm
-use Rattle.margin.proofs.held.held_all as held
-use Rattle.margin.proofs.held.held_all.Symbol as held-def
-use Rattle.margin.proofs.held.held_all.Symbol.{name as #margin·held·held-all}
-use Rattle.margin.proofs.held.held_all.Met as held-thm
-use Rattle.margin.proofs.held.ask_all.Key.{name as #margin·held·ask-all}
-use Rattle.margin.proofs.held.ask_all as all
-use Rattle.margin.proofs.held.ask_all.Statement as stated
-use Rattle.margin.proofs.held.ask_all.Code as code
+use Rattle.questions.specs.Held.{FromCheck, AllAnswered}
+use Rattle.questions.specs.declared.held.Asked.{Asked}
+use Rattle.questions.specs.declared.held.Held.{Held}
+use Rattle.questions.proofs.held.Asked as K
+use Rattle.questions.proofs.held.Asked.Laws as K′
+use Rattle.questions.proofs.held.Held as T
+use Rattle.questions.proofs.held.Held.Laws as T′
+use Rattle.questions.proofs.held.hold as hold
+use Rattle.questions.proofs.held.hold.Symbol as hold-def
+use Rattle.questions.proofs.held.hold.Symbol.{name as #questions·held·hold}
+use Rattle.questions.proofs.held.hold.Met as hold-thm
+use Rattle.questions.proofs.held.held_all as held
+use Rattle.questions.proofs.held.held_all.Symbol as held-def
+use Rattle.questions.proofs.held.held_all.Symbol.{name as #questions·held·held-all}
+use Rattle.questions.proofs.held.held_all.Met as held-thm
+use Rattle.questions.proofs.held.ask_all.Key.{name as #questions·held·ask-all}
+use Rattle.questions.proofs.held.ask_all as all
+use Rattle.questions.proofs.held.ask_all.Statement as stated
+use Rattle.questions.proofs.held.ask_all.Code as code
 
 -- the view's type, over the signature's lifetimes
 abbrev B : Lfts 4 → RattleType
@@ -147,19 +146,17 @@ module _ {M : Type 1} (𝓤 : URA M) (H : Heap 𝓤) (A : Atoms 𝓤) (W : Given
 
   goes-held : (h : Held) (w : Val) → FromCheck h
       → ent 𝓤 (⋆ 𝓤 H A (‵ (B κs .own h (w ∷ [])) ∷ (‵ (flft κ q) ⊛ ‵ ftrue) ∷ (‵ OwnFile ⊛ ‵ Lent ⊛ (‵ (flft κ₁ q₁) ⊛ ‵ (flft κ₂ q₂) ⊛ ‵ (flft κ₃ q₃) ⊛ ‵ ftrue)) ∷ [])) (sep 𝓤 (HeldAll 𝓤 H A mem run .pre (to-held h w)) (sem 𝓤 H A OwnFile))
-  goes-held h w checked =
+  goes-held h w told =
       qed W (‵ (B κs .own h (w ∷ [])) ∷ (‵ (flft κ q) ⊛ ‵ ftrue) ∷ (‵ OwnFile ⊛ ‵ Lent ⊛ (‵ (flft κ₁ q₁) ⊛ ‵ (flft κ₂ q₂) ⊛ ‵ (flft κ₃ q₃) ⊛ ‵ ftrue)) ∷ []) ∵
       move ! (1 ∷ []) $ split ! $ move ! (1 ∷ []) $ drop ! $ move ! (2 ∷ []) $ split ! $ move ! (1 ∷ []) $ split ! $
       -- [what the lent numbers own; the other tokens; what the file owns; the first token; what the view owns]
       move ! (3 ∷ 1 ∷ []) $ join ! $ move ! (3 ∷ 1 ∷ []) $ fjoin ! $ move ! (1 ∷ 0 ∷ []) $
-      use2 W (raw (HeldAll 𝓤 H A mem run .pre (to-held h w))) (qed W ((‵ (flft κ q) ⊛ ‵ (flft κ₁ q₁) ⊛ ‵ (flft κ₂ q₂) ⊛ ‵ (flft κ₃ q₃) ⊛ ‵ ftrue) ∷ ‵ (owns (B κs ∷ MutSlice (named 1) κ₁ i64 ∷ MutSlice (named 2) κ₂ i64 ∷ MutSlice (named 3) κ₃ i64 ∷ []) (h, (x₁, (x₂, (x₃, tt)))) (w ∷ [], (n₁ ∷ [], (n₂ ∷ [], (n₃ ∷ [], tt))))) ∷ []) ∵ says ! checked $ frame ! $ done !) $
+      use2 W (raw (HeldAll 𝓤 H A mem run .pre (to-held h w))) (qed W ((‵ (flft κ q) ⊛ ‵ (flft κ₁ q₁) ⊛ ‵ (flft κ₂ q₂) ⊛ ‵ (flft κ₃ q₃) ⊛ ‵ ftrue) ∷ ‵ (owns (B κs ∷ MutSlice (named 1) κ₁ i64 ∷ MutSlice (named 2) κ₂ i64 ∷ MutSlice (named 3) κ₃ i64 ∷ []) (h, (x₁, (x₂, (x₃, tt)))) (w ∷ [], (n₁ ∷ [], (n₂ ∷ [], (n₃ ∷ [], tt))))) ∷ []) ∵ says ! told $ frame ! $ done !) $
       frame ! $ done !
 
   -- what is said of the answers and of the numbers left behind, of a file's bytes
   abbrev Said : RefT (List ℕ) → Asked → List ℤ → List ℤ → List ℤ → Type 0
-  Said f r zs₁ zs₂ zs₃ =
-      ((r .figures ≡ figuresAnswer (now f) (length ys₁)) × (zs₁ ≡ afterFigures (now f) ys₁))
-      × (((r .books ≡ booksAnswer (now f) (length ys₂)) × (zs₂ ≡ booksAfter (now f) ys₂)) × ((r .uses ≡ allUsesAnswer (now f) (length ys₃)) × (zs₃ ≡ allUsesAfter (now f) ys₃)))
+  Said f r zs₁ zs₂ zs₃ = AllAnswered (now f) ys₁ ys₂ ys₃ r zs₁ zs₂ zs₃
 
   exits : (r : Asked) (w : Val) (zs₁ zs₂ zs₃ : List ℤ) → Said s r zs₁ zs₂ zs₃ → length zs₁ ≡ length ys₁ → length zs₂ ≡ length ys₂ → length zs₃ ≡ length ys₃
       → ent 𝓤 (⋆ 𝓤 H A (‵ (K.the-row .own r (w ∷ [])) ∷ (‵ (flft κ q) ⊛ ‵ (flft κ₁ q₁) ⊛ ‵ (flft κ₂ q₂) ⊛ ‵ (flft κ₃ q₃) ⊛ ‵ ftrue) ∷ ‵ (finally i64 γ₃ zs₃) ∷ ‵ (finally i64 γ₂ zs₂) ∷ ‵ (finally i64 γ₁ zs₁) ∷ ‵ OwnFile ∷ [])) (Post w)
@@ -168,7 +165,7 @@ module _ {M : Type 1} (𝓤 : URA M) (H : Heap 𝓤) (A : Atoms 𝓤) (W : Given
       suffices ! _ (ends-at 𝓤 H A all.ended stayed (all.clauses 𝓤 H A mem run) W ((κs, (q, (q₁, (q₂, (q₃, tt)))), tt, a, vals), tt) w r (tt, (zs₁, (zs₂, (zs₃, tt)))) (tt, (l₁, (l₂, (l₃, tt))))) $ says ! e $
       move ! (1 ∷ []) $ frame ! $ nothing ! $ move ! (2 ∷ 0 ∷ []) $ fjoin ! $ move ! (2 ∷ 0 ∷ []) $ fjoin ! $ move ! (2 ∷ 0 ∷ []) $ fjoin ! $ move ! (2 ∷ 0 ∷ []) $ fjoin ! $ frame ! $ done !
 
-  module _ (C : Calls 𝓤 H) (Λ : Loops 𝓤 H) (fm : FmC 𝓤 H (W .laws) C) (known-hold : Triple 𝓤 (C #margin·held·hold) (Hold 𝓤 H A mem run)) (known-held : Triple 𝓤 (C #margin·held·held-all) (HeldAll 𝓤 H A mem run)) where
+  module _ (C : Calls 𝓤 H) (Λ : Loops 𝓤 H) (fm : FmC 𝓤 H (W .laws) C) (known-hold : Triple 𝓤 (C #questions·held·hold) (Hold 𝓤 H A mem run)) (known-held : Triple 𝓤 (C #questions·held·held-all) (HeldAll 𝓤 H A mem run)) where
     walk : Is (ShrSlice (named 0) κ u8) s (v ∷ []) → Room i64 (length ys₁) → Room i64 (length ys₂) → Room i64 (length ys₃) → ent 𝓤 (onEntry 𝓤 H A all.signature κs (q, (q₁, (q₂, (q₃, tt)))) a vals) (WpFn 𝓤 H C Λ code.function (v ∷ n₁ ∷ n₂ ∷ n₃ ∷ []) Post)
     walk p room₁ room₂ room₃ =
         qed W (raw (onEntry 𝓤 H A all.signature κs (q, (q₁, (q₂, (q₃, tt)))) a vals) ∷ []) ∵ enter ! C Λ code.function (v ∷ n₁ ∷ n₂ ∷ n₃ ∷ []) _ $
@@ -207,7 +204,7 @@ module _ {M : Type 1} (𝓤 : URA M) (H : Heap 𝓤) (A : Atoms 𝓤) (W : Given
         by ! (exits r w′ (zs .1 .0) (zs .1 .1 .0) (zs .1 .1 .1 .0) (subst (λ (f : RefT (List ℕ)). Said f r (zs .1 .0) (zs .1 .1 .0) (zs .1 .1 .1 .0)) (e .0) e′) f₁ f₂ f₃)))))))))))))))))))))))))
 
 module _ {M : Type 1} (𝓤 : URA M) (H : Heap 𝓤) (A : Atoms 𝓤) (W : Given 𝓤 H A) (mem : Memory → SProp 𝓤) (run : Routine → Fun 𝓤) where
-  all-walks : (C : Calls 𝓤 H) (Λ : Loops 𝓤 H) → FmC 𝓤 H (W .laws) C → Triple 𝓤 (C #margin·held·hold) (Hold 𝓤 H A mem run) → Triple 𝓤 (C #margin·held·held-all) (HeldAll 𝓤 H A mem run)
+  all-walks : (C : Calls 𝓤 H) (Λ : Loops 𝓤 H) → FmC 𝓤 H (W .laws) C → Triple 𝓤 (C #questions·held·hold) (Hold 𝓤 H A mem run) → Triple 𝓤 (C #questions·held·held-all) (HeldAll 𝓤 H A mem run)
       → Walks 𝓤 H A all.ended stayed (WpFn 𝓤 H C Λ code.function) (all.clauses 𝓤 H A mem run)
   all-walks C Λ fm known-hold known-held = walked 𝓤 H A all.ended stayed (all.clauses 𝓤 H A mem run) (WpFn 𝓤 H C Λ code.function)
       (λ κs. (slice-vals, (slice-vals, (slice-vals, (slice-vals, tt)))))
@@ -218,7 +215,7 @@ module _ {M : Type 1} (𝓤 : URA M) (H : Heap 𝓤) (A : Atoms 𝓤) (W : Given
       (a .1 .1 .1 .0 .ptr .0) (a .1 .1 .1 .0 .ptr .1) (a .1 .1 .1 .0 .name) (a .1 .1 .1 .0 .now) C Λ fm known-hold known-held (are .0) (are .1 .0 .0 .1) (are .1 .1 .0 .0 .1) (are .1 .1 .1 .0 .0 .1)))
 
 all-meets : {M : Type 1} (𝓤 : URA M) (H : Heap 𝓤) (A : Atoms 𝓤) (W : Given 𝓤 H A) (mem : Memory → SProp 𝓤) (run : Routine → Fun 𝓤) (𝓣 : Tables 𝓤 H)
-    → Triple 𝓤 (𝓣 .C #margin·held·hold) (Hold 𝓤 H A mem run) → Triple 𝓤 (𝓣 .C #margin·held·held-all) (HeldAll 𝓤 H A mem run)
+    → Triple 𝓤 (𝓣 .C #questions·held·hold) (Hold 𝓤 H A mem run) → Triple 𝓤 (𝓣 .C #questions·held·held-all) (HeldAll 𝓤 H A mem run)
     → Meets 𝓤 H A all.signature (WpFn 𝓤 H (𝓣 .C) (𝓣 .Λ) code.function) (all.spec 𝓤 H A mem run)
 all-meets 𝓤 H A W mem run 𝓣 known-hold known-held =
     walk-meets 𝓤 H A all.ended stayed W
@@ -229,7 +226,7 @@ pub ask-all-spec : {M : Type 1} → stated.statement M
 unfolding code.routine tablesOf
 ask-all-spec 𝓤 H 𝓜 𝓖 𝓡 =
     entered 𝓤 H (tripleOf 𝓤 H (𝓖 .A) all.signature (all.spec 𝓤 H (𝓖 .A) (𝓜 .mem) (𝓡 .run)))
-    (tables 𝓤 H 𝓜 𝓡 code.env .C) (tables 𝓤 H 𝓜 𝓡 code.env .Λ) #margin·held·ask-all code.function (code.unfolded 𝓤 H 𝓜 𝓡)
+    (tables 𝓤 H 𝓜 𝓡 code.env .C) (tables 𝓤 H 𝓜 𝓡 code.env .Λ) #questions·held·ask-all code.function (code.unfolded 𝓤 H 𝓜 𝓡)
     (all-meets 𝓤 H (𝓖 .A) (givenOf 𝓤 H 𝓜 𝓖) (𝓜 .mem) (𝓡 .run) (tablesOf 𝓤 H 𝓜 (tables 𝓤 H 𝓜 𝓡 code.env))
-    (cited 𝓤 H (Hold 𝓤 H (𝓖 .A) (𝓜 .mem) (𝓡 .run)) 𝓜 𝓡 code.env #margin·held·hold hold-def.routine code.calls-margin·held·hold (hold-thm.met 𝓤 H 𝓜 𝓖 𝓡))
-    (cited 𝓤 H (HeldAll 𝓤 H (𝓖 .A) (𝓜 .mem) (𝓡 .run)) 𝓜 𝓡 code.env #margin·held·held-all held-def.routine code.calls-margin·held·held-all (held-thm.met 𝓤 H 𝓜 𝓖 𝓡)))
+    (cited 𝓤 H (Hold 𝓤 H (𝓖 .A) (𝓜 .mem) (𝓡 .run)) 𝓜 𝓡 code.env #questions·held·hold hold-def.routine code.calls-questions·held·hold (hold-thm.met 𝓤 H 𝓜 𝓖 𝓡))
+    (cited 𝓤 H (HeldAll 𝓤 H (𝓖 .A) (𝓜 .mem) (𝓡 .run)) 𝓜 𝓡 code.env #questions·held·held-all held-def.routine code.calls-questions·held·held-all (held-thm.met 𝓤 H 𝓜 𝓖 𝓡)))

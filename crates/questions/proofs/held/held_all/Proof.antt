@@ -1,4 +1,4 @@
--- Everything that a held file is asked for: a walk of `held_all`'s MIR, by hand. The view is taken apart, and `answer_all` is called on its bytes, its survey and the lent numbers.
+-- Everything that a held file is asked for: a walk of `held_all`'s MIR, by hand. The view is taken apart, and `everything` is called on its bytes, what the check handed out and the lent numbers.
 -- The view is Copy: what it owns is had twice, and one copy is kept whole for the exit. The lent numbers are given up for good to the callee.
 -- Assumes nothing.
 use mathlib.Core.Path.{_≡_, refl}
@@ -42,26 +42,25 @@ use denote.Triple.Table.{entered, cited}
 use denote.Triple.Walked.{says, needs, Stays, stay-none, gave-slice, walkOf, goes-none, goes-gave-slice, Walks, ends-at, walked, walk-meets}
 use denote.Exit.{yes}
 use denote.Triple.Clauses.{ensured, lasts}
-use Rattle.account.specs.Surveyed.{Surveyed}
-use Rattle.account.specs.declared.check.Survey.{Survey}
-use Rattle.account.proofs.check.Survey as S
-use Rattle.account.proofs.check.Survey.Laws as S′
-use Rattle.margin.specs.Held.{FromCheck, booksAnswer, booksAfter, allUsesAnswer, allUsesAfter}
-use Rattle.margin.specs.Questions.{figuresAnswer, afterFigures}
-use Rattle.margin.specs.declared.held.Asked.{Asked}
-use Rattle.margin.specs.declared.held.Held.{Held}
-use Rattle.margin.proofs.held.Asked as K
-use Rattle.margin.proofs.held.Asked.Laws as K′
-use Rattle.margin.proofs.held.Held as T
-use Rattle.margin.proofs.held.Held.Laws as T′
-use Rattle.margin.proofs.held.answer_all as answer
-use Rattle.margin.proofs.held.answer_all.Symbol as answer-def
-use Rattle.margin.proofs.held.answer_all.Symbol.{name as #margin·held·answer-all}
-use Rattle.margin.proofs.held.answer_all.Met as answer-thm
-use Rattle.margin.proofs.held.held_all.Key.{name as #margin·held·held-all}
-use Rattle.margin.proofs.held.held_all as held
-use Rattle.margin.proofs.held.held_all.Statement as stated
-use Rattle.margin.proofs.held.held_all.Code as code
+use Rattle.account.specs.Standing.{CheckedBy}
+use Rattle.account.specs.declared.accounts.Checked.{Checked}
+use Rattle.account.proofs.accounts.Checked as S
+use Rattle.account.proofs.accounts.Checked.Laws as S′
+use Rattle.questions.specs.Held.{FromCheck, AllAnswered}
+use Rattle.questions.specs.declared.held.Asked.{Asked}
+use Rattle.questions.specs.declared.held.Held.{Held}
+use Rattle.questions.proofs.held.Asked as K
+use Rattle.questions.proofs.held.Asked.Laws as K′
+use Rattle.questions.proofs.held.Held as T
+use Rattle.questions.proofs.held.Held.Laws as T′
+use Rattle.questions.proofs.held.everything as answer
+use Rattle.questions.proofs.held.everything.Symbol as answer-def
+use Rattle.questions.proofs.held.everything.Symbol.{name as #questions·held·everything}
+use Rattle.questions.proofs.held.everything.Met as answer-thm
+use Rattle.questions.proofs.held.held_all.Key.{name as #questions·held·held-all}
+use Rattle.questions.proofs.held.held_all as held
+use Rattle.questions.proofs.held.held_all.Statement as stated
+use Rattle.questions.proofs.held.held_all.Code as code
 
 -- the view's type and laws, over the signature's lifetimes
 abbrev B : Lfts 4 → RattleType
@@ -78,8 +77,8 @@ stayed = (stay-none B yes, (gave-slice (1 ∷ []) tt (plain (λ _. i64)), (gave-
 
 module _ {M : Type 1} (𝓤 : URA M) (H : Heap 𝓤) (A : Atoms 𝓤) (mem : Memory → SProp 𝓤) (run : Routine → Fun 𝓤) where
   -- the contract that the proof cites
-  abbrev AnswerAll : Contract 𝓤
-  AnswerAll = tripleOf 𝓤 H A answer.signature (answer.spec 𝓤 H A mem run)
+  abbrev Everything : Contract 𝓤
+  Everything = tripleOf 𝓤 H A answer.signature (answer.spec 𝓤 H A mem run)
 
 module _ {M : Type 1} (𝓤 : URA M) (H : Heap 𝓤) (A : Atoms 𝓤) (W : Given 𝓤 H A) (mem : Memory → SProp 𝓤) (run : Routine → Fun 𝓤) (κ κ₁ κ₂ κ₃ : Lft) (q q₁ q₂ q₃ : Share) (d : Held) (b₁ o₁ : ℕ) (γ₁ : GName) (ys₁ : List ℤ) (b₂ o₂ : ℕ) (γ₂ : GName) (ys₂ : List ℤ) (b₃ o₃ : ℕ) (γ₃ : GName) (ys₃ : List ℤ) where
   abbrev κs : Lfts 4
@@ -95,7 +94,7 @@ module _ {M : Type 1} (𝓤 : URA M) (H : Heap 𝓤) (A : Atoms 𝓤) (W : Given
   abbrev x₃ : RefT (List ℤ)
   x₃ = record { ptr = (b₃, o₃); name = γ₃; now = ys₃ }
 
-  -- the machine values of the view, of its bytes and survey, and of the lent numbers
+  -- the machine values of the view, of its bytes and what the check handed out, and of the lent numbers
   abbrev mach : Val
   mach = LL.val (D κs) (L κs) d
 
@@ -103,7 +102,7 @@ module _ {M : Type 1} (𝓤 : URA M) (H : Heap 𝓤) (A : Atoms 𝓤) (W : Given
   v = sliceVal (d .file .ptr) (length (d .file .now))
 
   abbrev u : Val
-  u = LL.val S.the-type S′.the-laws (d .survey)
+  u = LL.val S.the-type S′.the-laws (d .checked)
 
   abbrev n₁ : Val
   n₁ = sliceVal (b₁, o₁) (length ys₁)
@@ -130,40 +129,38 @@ module _ {M : Type 1} (𝓤 : URA M) (H : Heap 𝓤) (A : Atoms 𝓤) (W : Given
   Own = B κs .own d (mach ∷ [])
 
   abbrev vd : Values (D κs .parts)
-  vd = (d .file, (d .survey, tt))
+  vd = (d .file, (d .checked, tt))
 
   -- what the callee is passed
   abbrev Passed : Type 0
-  Passed = RefT (List ℕ) × (Survey × (RefT (List ℤ) × (RefT (List ℤ) × (RefT (List ℤ) × Unit {0}))))
+  Passed = RefT (List ℕ) × (Checked × (RefT (List ℤ) × (RefT (List ℤ) × (RefT (List ℤ) × Unit {0}))))
 
   abbrev args : Passed
-  args = (d .file, (d .survey, (x₁, (x₂, (x₃, tt)))))
+  args = (d .file, (d .checked, (x₁, (x₂, (x₃, tt)))))
 
   abbrev passed : Vals answer.signature κs
   passed = (v ∷ [], (u ∷ [], (n₁ ∷ [], (n₂ ∷ [], (n₃ ∷ [], tt)))))
 
-  abbrev to : AnswerAll 𝓤 H A mem run .Ghost
+  abbrev to : Everything 𝓤 H A mem run .Ghost
   to = ((κs, (q, (q₁, (q₂, (q₃, tt)))), tt, args, passed), tt)
 
-  asked : Surveyed (now (d .file)) (d .survey) → ent 𝓤 (onEntry 𝓤 H A answer.signature κs (q, (q₁, (q₂, (q₃, tt)))) args passed) (AnswerAll 𝓤 H A mem run .pre to)
-  asked checked =
+  asked : CheckedBy (now (d .file)) (d .checked) → ent 𝓤 (onEntry 𝓤 H A answer.signature κs (q, (q₁, (q₂, (q₃, tt)))) args passed) (Everything 𝓤 H A mem run .pre to)
+  asked told =
       qed W ((‵ (flft κ q) ⊛ ‵ (flft κ₁ q₁) ⊛ ‵ (flft κ₂ q₂) ⊛ ‵ (flft κ₃ q₃) ⊛ ‵ ftrue) ∷ ‵ (owns (ShrSlice (named 0) κ u8 ∷ S.the-row ∷ MutSlice (named 1) κ₁ i64 ∷ MutSlice (named 2) κ₂ i64 ∷ MutSlice (named 3) κ₃ i64 ∷ []) args passed) ∷ []) ∵
-      says ! checked $ frame ! $ done !
+      says ! told $ frame ! $ done !
 
   -- what the view and the lent numbers own gives what the callee asks, and the view is kept
-  apart : Surveyed (now (d .file)) (d .survey) → ent 𝓤 (onEntry 𝓤 H A held.signature κs (q, (q₁, (q₂, (q₃, tt)))) a vals) (sep 𝓤 (AnswerAll 𝓤 H A mem run .pre to) (sem 𝓤 H A Own))
-  apart checked =
+  apart : CheckedBy (now (d .file)) (d .checked) → ent 𝓤 (onEntry 𝓤 H A held.signature κs (q, (q₁, (q₂, (q₃, tt)))) a vals) (sep 𝓤 (Everything 𝓤 H A mem run .pre to) (sem 𝓤 H A Own))
+  apart told =
       qed W ((‵ (flft κ q) ⊛ ‵ (flft κ₁ q₁) ⊛ ‵ (flft κ₂ q₂) ⊛ ‵ (flft κ₃ q₃) ⊛ ‵ ftrue) ∷ ‵ (owns (B κs ∷ MutSlice (named 1) κ₁ i64 ∷ MutSlice (named 2) κ₂ i64 ∷ MutSlice (named 3) κ₃ i64 ∷ []) a vals) ∷ []) ∵
       move ! (1 ∷ []) $ fsplit ! $ use1 W (‵ Own ⊛ ‵ Own) (LL.copy (D κs) (T′.the-copy (namedLft 4 0 tt κs)) 𝓤 H A W .twice d (mach ∷ [])) $ split ! $
       use1 W (given (mach ∷ [] ≡ mach ∷ []) (‵ (all-own (D κs .parts) (L κs) vd))) (own-open 𝓤 H A W (D κs) (L κs) vd mach) $ learn ! (λ _. fsplit ! $ move ! (1 ∷ []) $ fsplit ! $ move ! (1 ∷ []) $ drop ! $
-      -- [what the survey owns; what the bytes own; what the view owns; what the lent numbers own; the tokens]
-      move ! (0 ∷ 3 ∷ []) $ fjoin ! $ move ! (1 ∷ 0 ∷ []) $ fjoin ! $ move ! (2 ∷ 0 ∷ []) $ use2 W (raw (AnswerAll 𝓤 H A mem run .pre to)) (asked checked) $ frame ! $ done !)
+      -- [what the check handed out owns; what the bytes own; what the view owns; what the lent numbers own; the tokens]
+      move ! (0 ∷ 3 ∷ []) $ fjoin ! $ move ! (1 ∷ 0 ∷ []) $ fjoin ! $ move ! (2 ∷ 0 ∷ []) $ use2 W (raw (Everything 𝓤 H A mem run .pre to)) (asked told) $ frame ! $ done !)
 
   -- what is said of the answers and of the numbers left behind, of a file's bytes
   abbrev Said : RefT (List ℕ) → Asked → List ℤ → List ℤ → List ℤ → Type 0
-  Said f r zs₁ zs₂ zs₃ =
-      ((r .figures ≡ figuresAnswer (now f) (length ys₁)) × (zs₁ ≡ afterFigures (now f) ys₁))
-      × (((r .books ≡ booksAnswer (now f) (length ys₂)) × (zs₂ ≡ booksAfter (now f) ys₂)) × ((r .uses ≡ allUsesAnswer (now f) (length ys₃)) × (zs₃ ≡ allUsesAfter (now f) ys₃)))
+  Said f r zs₁ zs₂ zs₃ = AllAnswered (now f) ys₁ ys₂ ys₃ r zs₁ zs₂ zs₃
 
   exits : (r : Asked) (w : Val) (zs₁ zs₂ zs₃ : List ℤ) → Said (d .file) r zs₁ zs₂ zs₃ → length zs₁ ≡ length ys₁ → length zs₂ ≡ length ys₂ → length zs₃ ≡ length ys₃
       → ent 𝓤 (⋆ 𝓤 H A (‵ (K.the-row .own r (w ∷ [])) ∷ (‵ (flft κ q) ⊛ ‵ (flft κ₁ q₁) ⊛ ‵ (flft κ₂ q₂) ⊛ ‵ (flft κ₃ q₃) ⊛ ‵ ftrue) ∷ ‵ (finally i64 γ₃ zs₃) ∷ ‵ (finally i64 γ₂ zs₂) ∷ ‵ (finally i64 γ₁ zs₁) ∷ ‵ Own ∷ [])) (Post w)
@@ -172,24 +169,24 @@ module _ {M : Type 1} (𝓤 : URA M) (H : Heap 𝓤) (A : Atoms 𝓤) (W : Given
       suffices ! _ (ends-at 𝓤 H A held.ended stayed (held.clauses 𝓤 H A mem run) W ((κs, (q, (q₁, (q₂, (q₃, tt)))), tt, a, vals), tt) w r (tt, (zs₁, (zs₂, (zs₃, tt)))) (tt, (l₁, (l₂, (l₃, tt))))) $ says ! e $
       move ! (1 ∷ []) $ frame ! $ nothing ! $ move ! (2 ∷ 0 ∷ []) $ fjoin ! $ move ! (2 ∷ 0 ∷ []) $ fjoin ! $ move ! (2 ∷ 0 ∷ []) $ fjoin ! $ move ! (2 ∷ 0 ∷ []) $ fjoin ! $ frame ! $ done !
 
-  module _ (C : Calls 𝓤 H) (Λ : Loops 𝓤 H) (fm : FmC 𝓤 H (W .laws) C) (known : Triple 𝓤 (C #margin·held·answer-all) (AnswerAll 𝓤 H A mem run)) where
-    walk : Holds (hasTy (T′.mir (named 0)) mach) × WT mach → Is S.the-row (d .survey) (u ∷ []) → Room i64 (length ys₁) → Room i64 (length ys₂) → Room i64 (length ys₃) → FromCheck d
+  module _ (C : Calls 𝓤 H) (Λ : Loops 𝓤 H) (fm : FmC 𝓤 H (W .laws) C) (known : Triple 𝓤 (C #questions·held·everything) (Everything 𝓤 H A mem run)) where
+    walk : Holds (hasTy (T′.mir (named 0)) mach) × WT mach → Is S.the-row (d .checked) (u ∷ []) → Room i64 (length ys₁) → Room i64 (length ys₂) → Room i64 (length ys₃) → FromCheck d
         → ent 𝓤 (onEntry 𝓤 H A held.signature κs (q, (q₁, (q₂, (q₃, tt)))) a vals) (WpFn 𝓤 H C Λ code.function (mach ∷ n₁ ∷ n₂ ∷ n₃ ∷ []) Post)
-    walk wt is-survey room₁ room₂ room₃ checked =
+    walk wt is-checked room₁ room₂ room₃ told =
         qed W (raw (onEntry 𝓤 H A held.signature κs (q, (q₁, (q₂, (q₃, tt)))) a vals) ∷ []) ∵ enter ! C Λ code.function (mach ∷ n₁ ∷ n₂ ∷ n₃ ∷ []) _ $
         alloc1 ! (λ l₀. alloc1 ! (λ l₁. alloc1 ! (λ l₂. alloc1 ! (λ l₃. alloc1 ! (λ l₄. alloc1 ! (λ l₅. alloc1 ! (λ l₆. alloc1 ! (λ l₇. alloc1 ! (λ l₈. alloc1 ! (λ l₉. alloc1 ! (λ lₐ. alloc1 ! (λ lᵇ. alloc1 ! (λ lᶜ. alloc0 ! $ params1 ! $
         pass1 ! (init ! 22 refl wt) $ pass1 ! (init ! 20 refl (tt, (tt, (record { fits = room₁ .0 }, tt)))) $ pass1 ! (init ! 18 refl (tt, (tt, (record { fits = room₂ .0 }, tt)))) $ pass1 ! (init ! 16 refl (tt, (tt, (record { fits = room₃ .0 }, tt)))) $ pass0 ! $
         -- [_12; …; _11; …; _10; …; _9; …; _8; …; _7; …; _6; …; _5; …; _4; …; _3; …; _2; …; _1; …; room for _0; …; the tokens, and what the parameters own]
         assigns ! (of-opd ! (load ! (from ! (fld ! refl (stop !))) (look-in ! 22 (sub ! 0 refl (whole !))))) (from ! (stop !)) (init ! 14 refl (tt, wt .1 .0)) $
-        assigns ! (of-opd ! (load ! (from ! (fld ! refl (stop !))) (look-in ! 22 (sub ! 1 refl (whole !))))) (from ! (stop !)) (init ! 12 refl (LL.lawful S.the-type S′.the-laws 𝓤 H A W .typed (d .survey) _ is-survey .0)) $
+        assigns ! (of-opd ! (load ! (from ! (fld ! refl (stop !))) (look-in ! 22 (sub ! 1 refl (whole !))))) (from ! (stop !)) (init ! 12 refl (LL.lawful S.the-type S′.the-laws 𝓤 H A W .typed (d .checked) _ is-checked .0)) $
         assigns ! (addr ! (from ! (fld ! refl (hop ! (look-in ! 20 (sub ! 0 refl (whole !))) (stop !))))) (from ! (stop !)) (init ! 10 refl (tt, tt)) $
         assigns ! (agg ! (and-then ! (load ! (from ! (stop !)) (look ! 10 refl)) (and-then ! (load ! (from ! (fld ! refl (stop !))) (look-in ! 20 (sub ! 1 refl (whole !)))) (no-more !)))) (from ! (stop !)) (init ! 8 refl (tt, (tt, (record { fits = room₁ .0 }, tt)))) $
         assigns ! (addr ! (from ! (fld ! refl (hop ! (look-in ! 18 (sub ! 0 refl (whole !))) (stop !))))) (from ! (stop !)) (init ! 6 refl (tt, tt)) $
         assigns ! (agg ! (and-then ! (load ! (from ! (stop !)) (look ! 6 refl)) (and-then ! (load ! (from ! (fld ! refl (stop !))) (look-in ! 18 (sub ! 1 refl (whole !)))) (no-more !)))) (from ! (stop !)) (init ! 4 refl (tt, (tt, (record { fits = room₂ .0 }, tt)))) $
         assigns ! (addr ! (from ! (fld ! refl (hop ! (look-in ! 16 (sub ! 0 refl (whole !))) (stop !))))) (from ! (stop !)) (init ! 2 refl (tt, tt)) $
         assigns ! (agg ! (and-then ! (load ! (from ! (stop !)) (look ! 2 refl)) (and-then ! (load ! (from ! (fld ! refl (stop !))) (look-in ! 16 (sub ! 1 refl (whole !)))) (no-more !)))) (from ! (stop !)) (init ! 0 refl (tt, (tt, (record { fits = room₃ .0 }, tt)))) $
-        move ! (26 ∷ []) $ use1 W (raw (AnswerAll 𝓤 H A mem run .pre to) ⊛ ‵ Own) (apart checked) $ split ! $
-        calls-at ! fm (AnswerAll 𝓤 H A mem run) known to (and-then ! (load ! (from ! (stop !)) (look ! 16 refl)) (and-then ! (load ! (from ! (stop !)) (look ! 14 refl)) (and-then ! (load ! (from ! (stop !)) (look ! 10 refl)) (and-then ! (load ! (from ! (stop !)) (look ! 6 refl)) (and-then ! (load ! (from ! (stop !)) (look ! 2 refl)) (no-more !)))))) (λ w.
+        move ! (26 ∷ []) $ use1 W (raw (Everything 𝓤 H A mem run .pre to) ⊛ ‵ Own) (apart told) $ split ! $
+        calls-at ! fm (Everything 𝓤 H A mem run) known to (and-then ! (load ! (from ! (stop !)) (look ! 16 refl)) (and-then ! (load ! (from ! (stop !)) (look ! 14 refl)) (and-then ! (load ! (from ! (stop !)) (look ! 10 refl)) (and-then ! (load ! (from ! (stop !)) (look ! 6 refl)) (and-then ! (load ! (from ! (stop !)) (look ! 2 refl)) (no-more !)))))) (λ w.
         use1 W (later (some (λ (r : Asked). ((‵ (flft κ q) ⊛ ‵ (flft κ₁ q₁) ⊛ ‵ (flft κ₂ q₂) ⊛ ‵ (flft κ₃ q₃) ⊛ ‵ ftrue) ⊛ ‵ (K.the-row .own r (w ∷ []))) ⊛ raw (ensured 𝓤 H A answer.ended (answer.clauses 𝓤 H A mem run) κs args tt r)))) (id⊢ 𝓤 _) $ await ! tt $ pick ! (λ r.
         split ! $ move ! (1 ∷ []) $ use1 W (some (λ (zs : Unit {0} × (Unit {0} × (List ℤ × (List ℤ × (List ℤ × Unit {0}))))). ‵ (lasts answer.ended κs args zs) ⊛ raw (fact 𝓤 (Said (d .file) r (zs .1 .1 .0) (zs .1 .1 .1 .0) (zs .1 .1 .1 .1 .0))))) (id⊢ 𝓤 _) $ pick ! (λ zs.
         split ! $ move ! (1 ∷ []) $ heard ! (Said (d .file) r (zs .1 .1 .0) (zs .1 .1 .1 .0) (zs .1 .1 .1 .1 .0)) (λ e. fsplit ! $ drop ! $ fsplit ! $ drop ! $ fsplit ! $ fsplit ! $ move ! (1 ∷ []) $ feqL ! (λ f₁.
@@ -205,19 +202,19 @@ module _ {M : Type 1} (𝓤 : URA M) (H : Heap 𝓤) (A : Atoms 𝓤) (W : Given
         by ! (exits r w (zs .1 .1 .0) (zs .1 .1 .1 .0) (zs .1 .1 .1 .1 .0) e f₁ f₂ f₃))))))))))))))))))))))
 
 module _ {M : Type 1} (𝓤 : URA M) (H : Heap 𝓤) (A : Atoms 𝓤) (W : Given 𝓤 H A) (mem : Memory → SProp 𝓤) (run : Routine → Fun 𝓤) where
-  held-walks : (C : Calls 𝓤 H) (Λ : Loops 𝓤 H) → FmC 𝓤 H (W .laws) C → Triple 𝓤 (C #margin·held·answer-all) (AnswerAll 𝓤 H A mem run)
+  held-walks : (C : Calls 𝓤 H) (Λ : Loops 𝓤 H) → FmC 𝓤 H (W .laws) C → Triple 𝓤 (C #questions·held·everything) (Everything 𝓤 H A mem run)
       → Walks 𝓤 H A held.ended stayed (WpFn 𝓤 H C Λ code.function) (held.clauses 𝓤 H A mem run)
   held-walks C Λ fm known = walked 𝓤 H A held.ended stayed (held.clauses 𝓤 H A mem run) (WpFn 𝓤 H C Λ code.function)
       (λ κs. (LL.vals (D κs) (L κs), (slice-vals, (slice-vals, (slice-vals, tt)))))
       (λ κs. (LL.tells (D κs) (L κs), (mut-slice-tells (named 1) (κs .1 .0) i64, (mut-slice-tells (named 2) (κs .1 .1 .0) i64, (mut-slice-tells (named 3) (κs .1 .1 .1 .0) i64, tt)))))
-      (λ κs qs bounds a g are. needs 𝓤 (FromCheck (a .0)) _ (λ checked.
+      (λ κs qs bounds a g are. needs 𝓤 (FromCheck (a .0)) _ (λ told.
       walk 𝓤 H A W mem run (κs .0) (κs .1 .0) (κs .1 .1 .0) (κs .1 .1 .1 .0) (qs .0) (qs .1 .0) (qs .1 .1 .0) (qs .1 .1 .1 .0) (a .0)
       (a .1 .0 .ptr .0) (a .1 .0 .ptr .1) (a .1 .0 .name) (a .1 .0 .now) (a .1 .1 .0 .ptr .0) (a .1 .1 .0 .ptr .1) (a .1 .1 .0 .name) (a .1 .1 .0 .now)
       (a .1 .1 .1 .0 .ptr .0) (a .1 .1 .1 .0 .ptr .1) (a .1 .1 .1 .0 .name) (a .1 .1 .1 .0 .now) C Λ fm known
-      (LL.lawful (D κs) (L κs) 𝓤 H A W .typed (a .0) _ (are .0) .0) (LL.owed (D κs) (L κs) (a .0) _ (are .0) .1 .0) (are .1 .0 .0 .1) (are .1 .1 .0 .0 .1) (are .1 .1 .1 .0 .0 .1) checked))
+      (LL.lawful (D κs) (L κs) 𝓤 H A W .typed (a .0) _ (are .0) .0) (LL.owed (D κs) (L κs) (a .0) _ (are .0) .1 .0) (are .1 .0 .0 .1) (are .1 .1 .0 .0 .1) (are .1 .1 .1 .0 .0 .1) told))
 
 held-meets : {M : Type 1} (𝓤 : URA M) (H : Heap 𝓤) (A : Atoms 𝓤) (W : Given 𝓤 H A) (mem : Memory → SProp 𝓤) (run : Routine → Fun 𝓤) (𝓣 : Tables 𝓤 H)
-    → Triple 𝓤 (𝓣 .C #margin·held·answer-all) (AnswerAll 𝓤 H A mem run)
+    → Triple 𝓤 (𝓣 .C #questions·held·everything) (Everything 𝓤 H A mem run)
     → Meets 𝓤 H A held.signature (WpFn 𝓤 H (𝓣 .C) (𝓣 .Λ) code.function) (held.spec 𝓤 H A mem run)
 held-meets 𝓤 H A W mem run 𝓣 known =
     walk-meets 𝓤 H A held.ended stayed W
@@ -228,6 +225,6 @@ pub held-all-spec : {M : Type 1} → stated.statement M
 unfolding code.routine tablesOf
 held-all-spec 𝓤 H 𝓜 𝓖 𝓡 =
     entered 𝓤 H (tripleOf 𝓤 H (𝓖 .A) held.signature (held.spec 𝓤 H (𝓖 .A) (𝓜 .mem) (𝓡 .run)))
-    (tables 𝓤 H 𝓜 𝓡 code.env .C) (tables 𝓤 H 𝓜 𝓡 code.env .Λ) #margin·held·held-all code.function (code.unfolded 𝓤 H 𝓜 𝓡)
+    (tables 𝓤 H 𝓜 𝓡 code.env .C) (tables 𝓤 H 𝓜 𝓡 code.env .Λ) #questions·held·held-all code.function (code.unfolded 𝓤 H 𝓜 𝓡)
     (held-meets 𝓤 H (𝓖 .A) (givenOf 𝓤 H 𝓜 𝓖) (𝓜 .mem) (𝓡 .run) (tablesOf 𝓤 H 𝓜 (tables 𝓤 H 𝓜 𝓡 code.env))
-    (cited 𝓤 H (AnswerAll 𝓤 H (𝓖 .A) (𝓜 .mem) (𝓡 .run)) 𝓜 𝓡 code.env #margin·held·answer-all answer-def.routine code.calls-margin·held·answer-all (answer-thm.met 𝓤 H 𝓜 𝓖 𝓡)))
+    (cited 𝓤 H (Everything 𝓤 H (𝓖 .A) (𝓜 .mem) (𝓡 .run)) 𝓜 𝓡 code.env #questions·held·everything answer-def.routine code.calls-questions·held·everything (answer-thm.met 𝓤 H 𝓜 𝓖 𝓡)))

@@ -2,25 +2,31 @@
 -- Assumes nothing.
 use mathlib.Core.Path.{sym}
 use native.Mathlib.Omega.{arith}
-use Rattle.margin.proofs.NoonLaws.{no-call, covered, called}
+use Rattle.questions.proofs.NoonLaws.{no-call, covered, called}
 use borrow.Author.Needs.{needs}
-use Rattle.margin.proofs.noon.call_of.Statement.{statement}
-use Rattle.margin.proofs.noon.call_of.Tie as tie
+use Rattle.questions.proofs.noon.call_of.Statement.{statement}
+use Rattle.questions.proofs.noon.call_of.Tie as tie
 
 add-if1 : tie.Need-add-if1
 add-if1 c = search needs
 
 returns : tie.Need-returns
-returns c = sym (no-call (c .before .before .before .before .args .required .0) (c .before .before .before .before .args .last .0) (c .before .before .before .before .args .threshold .0) (c .before .before .before .before .args .collateral .0) (c .if1 .taken))
+returns c =
+    let a = c .before .before .before .before .args in
+    sym (no-call (a .required .0) (a .last .0) (a .threshold .0) (a .collateral .0) (c .if1 .taken))
 
 returns-2 : tie.Need-returns-2
-returns-2 c = sym (covered (c .before .before .before .before .before .before .before .args .required .0) (c .before .before .before .before .before .before .before .args .last .0) (c .before .before .before .before .before .before .before .args .threshold .0) (c .before .before .before .before .before .before .before .args .collateral .0) (omega (arith, c .before .before .before .if1 .left)) (c .if2 .taken))
+returns-2 c =
+    let a = c .before .before .before .before .before .before .before .args in
+    sym (covered (a .required .0) (a .last .0) (a .threshold .0) (a .collateral .0) (omega (arith, c .before .before .before .if1 .left)) (c .if2 .taken))
 
 sub-t5 : tie.Need-sub-t5
 sub-t5 c = search needs
 
 returns-3 : tie.Need-returns-3
-returns-3 c = sym (called (c .before .before .before .before .before .before .before .before .before .args .required .0) (c .before .before .before .before .before .before .before .before .before .args .last .0) (c .before .before .before .before .before .before .before .before .before .args .threshold .0) (c .before .before .before .before .before .before .before .before .before .args .collateral .0) (omega (arith, c .before .before .before .before .before .if1 .left)) (omega (arith, c .before .before .if2 .left)))
+returns-3 c =
+    let a = c .before .before .before .before .before .before .before .before .before .args in
+    sym (called (a .required .0) (a .last .0) (a .threshold .0) (a .collateral .0) (omega (arith, c .before .before .before .before .before .if1 .left)) (omega (arith, c .before .before .if2 .left)))
 
 pub call-of-spec : {M : Type 1} → statement M
 call-of-spec = tie.close (tie.spec add-if1 returns returns-2 sub-t5 returns-3)

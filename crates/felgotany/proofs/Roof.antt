@@ -10,8 +10,10 @@ use Rattle.account.proofs.OneJoined.{determined}
 use Rattle.account.proofs.PairClaimed.{pair-claimed}
 use Rattle.questions.proofs.Demands.{demand1, demand2, demanded-file, demanded-joined}
 use Rattle.questions.proofs.HeldLaws.{one-view, one-asked}
+use Rattle.questions.proofs.NeedLaws.{file-needed, pair-needed}
 use Rattle.questions.proofs.NoonLaws.{one-asked-pair}
 use Rattle.questions.proofs.PairDemands.{pair-demand1}
+use Rattle.questions.proofs.PlaceLaws.{file-places, pair-places}
 use Rattle.margin.proofs.PairLaws.{pair-table}
 use Rattle.margin.proofs.Reckoned.{reckoned, printed}
 use Rattle.margin.proofs.Skipped.{file-skips-none, pair-skips-none}
@@ -27,6 +29,8 @@ one-file file =
       demand3 = demanded-file file;
       skipped = file-skips-none file;
       unpaired = file-unpaired file;
+      needed = file-needed file;
+      places = λ paid. file-places paid file;
     }
 
 two-files : (morning noon : List ℕ) → TwoFiles morning noon
@@ -37,6 +41,8 @@ two-files morning noon =
       demand3 = demanded-joined morning noon;
       skipped = pair-skips-none morning noon;
       unpaired = pair-unpaired morning noon;
+      needed = pair-needed morning noon;
+      places = λ paid. pair-places paid morning noon;
     }
 
 one-outcomes : OneOutcome

@@ -8,6 +8,7 @@ use mathlib.Core.Path.{_≡_}
 use mathlib.Core.Bool.{Bool, true}
 use mathlib.Core.List.{List}
 use lib.IntN.{ℤ}
+use lib.ListN.{length}
 use Rattle.exact.specs.Largest.{IsLargest}
 use Rattle.exact.specs.declared.largest.Place.{Place as Largest}
 use Rattle.spread.specs.Book.{Booked}
@@ -20,9 +21,9 @@ use Rattle.spread.specs.declared.stepwise.Step.{Step}
 use Rattle.account.specs.Check.{checked}
 use Rattle.account.specs.Claims.{Claims}
 use Rattle.account.specs.Determined.{Determined}
-use Rattle.account.specs.Noon.{clear, joinedVerdict}
+use Rattle.account.specs.Noon.{clear, ofJoined, _then_, joinedVerdict}
 use Rattle.account.specs.PairClaims.{PairClaims}
-use Rattle.account.specs.Records.{records}
+use Rattle.account.specs.Records.{records, recordCount}
 use Rattle.account.specs.Standing.{accountOf}
 use Rattle.account.specs.declared.answers.Answer.{Answer}
 use Rattle.account.specs.declared.answers.Answer.the-variants.{Accepted}
@@ -30,11 +31,16 @@ use Rattle.account.specs.declared.noon.Place.{Place}
 use Rattle.account.specs.declared.noon.Verdict.{Verdict}
 use Rattle.questions.specs.Demands.{Demand1, Demand2, Demanded}
 use Rattle.questions.specs.Held.{FromCheck}
+use Rattle.questions.specs.Noon.{joinedAnswer, joinedNeed, afterJoined, joinedAll, afterJoinedAll}
 use Rattle.questions.specs.PairDemands.{PairDemand1}
+use Rattle.questions.specs.Questions.{answerTo, afterTo, needTo, allTo, afterAllTo, Needed}
 use Rattle.margin.specs.Pairs.{PairTable}
+use Rattle.margin.specs.Places.{EachPlace, questionOf, widthOf}
+use Rattle.margin.specs.Questions.{ifAccepted, asked}
 use Rattle.margin.specs.Reckoned.{Reckoned, Printed}
 use Rattle.margin.specs.Skipped.{NoneSkipped}
 use Rattle.margin.specs.Unpaired.{NothingOpen}
+use Rattle.margin.specs.declared.asking.Question.{Question}
 use Rattle.questions.specs.declared.held.Asked.{Asked}
 use Rattle.questions.specs.declared.held.Held.{Held}
 use Rattle.questions.specs.declared.noon.AskedPair.{AskedPair}
@@ -58,6 +64,12 @@ pub record OneFile (file : List ℕ) : Type 0 where
   pub demand3 : checked file ≡ Accepted → Demanded (records file)
   pub skipped : checked file ≡ Accepted → NoneSkipped (records file)
   pub unpaired : checked file ≡ Accepted → NothingOpen (records file)
+  -- as many numbers as a question needs are enough, and fewer are 10
+  pub needed : (question : Question)
+      → Needed (ifAccepted (checked file) (asked (records file) question)) (recordCount file) (answerTo file question) (needTo file question)
+  -- all questions at once: in the place of each stands what it writes there by itself
+  pub places : (paid : Bool) (lent : List ℤ) → allTo paid file (length lent) ≡ Accepted
+      → EachPlace (widthOf paid) (λ q. afterTo file (questionOf paid q)) lent (afterAllTo paid file lent)
 
 -- ---- a pair of files, request 2026-01
 
@@ -68,6 +80,11 @@ pub record TwoFiles (morning noon : List ℕ) : Type 0 where
   pub demand3 : clear (joinedVerdict morning noon) ≡ true → Demanded (accountOf morning noon)
   pub skipped : clear (joinedVerdict morning noon) ≡ true → NoneSkipped (accountOf morning noon)
   pub unpaired : clear (joinedVerdict morning noon) ≡ true → NothingOpen (accountOf morning noon)
+  pub needed : (question : Question)
+      → Needed ((joinedVerdict morning noon then ofJoined (asked (accountOf morning noon) question)) .answer) (length (accountOf morning noon))
+      (λ lent. joinedAnswer morning noon question lent .answer) (joinedNeed morning noon question)
+  pub places : (paid : Bool) (lent : List ℤ) → joinedAll paid morning noon (length lent) ≡ ofJoined Accepted
+      → EachPlace (widthOf paid) (λ q. afterJoined morning noon (questionOf paid q)) lent (afterJoinedAll paid morning noon lent)
 
 -- ---- "Two outcomes satisfying it are shown identical"
 

@@ -42,7 +42,9 @@ file-places paid file lent given = go (numberOf (checked file)) refl
     go zero e =
         let ok = accepted-only (checked file) e in
         as-named (widthOf paid) _ _ lent _ _
-        (λ q xs. ap (λ (a : Answer). afterwards a (numbersFor (records file) (questionOf paid q)) xs) (if-accepted (checked file) (answerOver (records file) (questionOf paid q) (length xs)) ok))
+        (λ q xs.
+        ap (λ (a : Answer). afterwards a (numbersFor (records file) (questionOf paid q)) xs)
+        (if-accepted (checked file) (answerOver (records file) (questionOf paid q) (length xs)) ok))
         (ap (λ (a : Answer). cond (accepted a) (afterAllOver paid (records file) lent) lent) ok)
         (all-places paid (records file) lent (sym (if-accepted (checked file) (allOver paid (records file) (length lent)) ok) ∙ given))
     go (suc k) e =

@@ -30,7 +30,7 @@ same-length-3 c = search needs
 
 returns : tie.Need-returns
 returns c =
-    let f = c .before .before .before .before .before .before .ask-all .ensures in (
+    let f = c .before .before .before .before .before .before .before .before .before .ask-all .ensures in (
       (subst (λ (v : Verdict). TellsOf v (c .before .before .tell-of .result)) (f .figures-answer) (c .before .before .tell-of .ensures), f .figures-after),
       (
         (subst (λ (v : Verdict). TellsOf v (c .before .tell-of2 .result)) (f .books-answer) (c .before .tell-of2 .ensures), f .books-after),

@@ -18,7 +18,8 @@ number-of-requires c κs = search needs
 returns : tie.Need-returns
 returns c =
     let s = c .before .before .before in
-    answer-refused (s .args .file .now) (s .args .checked) (s .pre) (λ e. c .if1 .taken (c .before .number-of .ensures ∙ e)) (s .args .question) (s .args .out .now)
+    answer-refused (s .args .file .now) (s .args .checked) (s .pre) (λ e. c .if1 .taken (c .before .number-of .ensures ∙ e))
+    (s .args .question) (s .args .out .now)
 
 nothing-of-requires : tie.Need-nothing-of-requires
 nothing-of-requires c κs = search needs

@@ -34,7 +34,8 @@ returns-2 c =
     let s = c .before .before .before .before .before .before in
     let n = c .before .nothing-of in
     let r = c .needed-over in
-    needed-accepted (s .args .file .now) (s .args .checked) (s .pre) (clear (c .before .before .before)) (n .result .now) (n .ensures) (s .args .question) (r .result) (r .ensures)
+    needed-accepted (s .args .file .now) (s .args .checked) (s .pre) (clear (c .before .before .before)) (n .result .now) (n .ensures)
+    (s .args .question) (r .result) (r .ensures)
 
 pub needed-checked-spec : {M : Type 1} → statement M
 needed-checked-spec = tie.close (tie.spec number-of-requires returns nothing-of-requires needed-over-requires returns-2)

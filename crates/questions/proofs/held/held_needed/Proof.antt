@@ -1,4 +1,5 @@
--- How many numbers the answer of a question put to a held file has: a walk of `held_needed`'s MIR, by hand. The view is taken apart, and `needed_checked` is called on its bytes, what the check handed out and the question.
+-- How many numbers the answer of a question put to a held file has: a walk of `held_needed`'s MIR, by hand. The view is
+-- taken apart, and `needed_checked` is called on its bytes, what the check handed out and the question.
 -- The view is Copy: what it owns is had twice, and one copy is kept whole for the exit.
 -- Assumes nothing.
 use mathlib.Core.Path.{_≡_, refl}
@@ -18,9 +19,11 @@ use ghost.Atoms.{Atoms, sem}
 use contract.Lifetimes.{Lfts}
 use contract.Monad.{Fun, fact}
 use contract.Running.{givenOf, tables, tablesOf}
-use types.Kit.{Given, ‵, raw, _⊛_, given, ⋆, some, later, _$_, _∵_, !, qed, by, move, drop, use1, use2, split, learn, pick, fsplit, fjoin, suffices, frame, await, done}
+use types.Kit.{Given, ‵, raw, _⊛_, given, ⋆, some, later, _$_, _∵_, !, qed, by, move, drop, use1, use2, split, learn, pick, fsplit, fjoin, suffices}
+use types.Kit.{frame, await, done}
 use types.Part.{whole, sub, look-in}
-use types.Run.{look, init, forget, stop, fld, from, load, of-opd, and-then, no-more, assigns, land, returns, enter, alloc1, alloc0, params1, pass1, pass0, free1, free0}
+use types.Run.{look, init, forget, stop, fld, from, load, of-opd, and-then, no-more, assigns, land, returns, enter, alloc1, alloc0, params1, pass1}
+use types.Run.{pass0, free1, free0}
 use sound.WpLaws.{FmC, fmOf, WpFn-mono}
 use denote.RattleType.{RattleType, owns}
 use denote.Laws.{Is, shows}
@@ -83,7 +86,8 @@ module _ {M : Type 1} (𝓤 : URA M) (H : Heap 𝓤) (A : Atoms 𝓤) (mem : Mem
   abbrev NeededChecked : Contract 𝓤
   NeededChecked = tripleOf 𝓤 H A need.signature (need.spec 𝓤 H A mem run)
 
-module _ {M : Type 1} (𝓤 : URA M) (H : Heap 𝓤) (A : Atoms 𝓤) (W : Given 𝓤 H A) (mem : Memory → SProp 𝓤) (run : Routine → Fun 𝓤) (κ : Lft) (q : Share) (d : Held) (k : Question) (k-is : Is Q.the-row k (EL.vals Q.the-type Q′.the-laws k)) where
+module _ {M : Type 1} (𝓤 : URA M) (H : Heap 𝓤) (A : Atoms 𝓤) (W : Given 𝓤 H A) (mem : Memory → SProp 𝓤) (run : Routine → Fun 𝓤) (κ : Lft) (q : Share)
+    (d : Held) (k : Question) (k-is : Is Q.the-row k (EL.vals Q.the-type Q′.the-laws k)) where
   abbrev κs : Lfts 1
   κs = (κ, tt)
 
@@ -132,16 +136,20 @@ module _ {M : Type 1} (𝓤 : URA M) (H : Heap 𝓤) (A : Atoms 𝓤) (W : Given
   to = ((κs, (q, tt), tt, args, passed), tt)
 
   asked : CheckedBy (now (d .file)) (d .checked) → ent 𝓤 (onEntry 𝓤 H A need.signature κs (q, tt) args passed) (NeededChecked 𝓤 H A mem run .pre to)
-  asked told = qed W ((‵ (flft κ q) ⊛ ‵ ftrue) ∷ ‵ (owns (ShrSlice (named 0) κ u8 ∷ S.the-row ∷ Q.the-row ∷ []) args passed) ∷ []) ∵ says ! told $ frame ! $ done !
+  asked told = qed W ((‵ (flft κ q) ⊛ ‵ ftrue) ∷ ‵ (owns (ShrSlice (named 0) κ u8 ∷ S.the-row ∷ Q.the-row ∷ []) args passed) ∷ []) ∵ says ! told $ frame ! $
+      done !
 
   -- what the view and the question own gives what the callee asks, and the view is kept
-  apart : CheckedBy (now (d .file)) (d .checked) → ent 𝓤 (onEntry 𝓤 H A held.signature κs (q, tt) a vals) (sep 𝓤 (NeededChecked 𝓤 H A mem run .pre to) (sem 𝓤 H A Own))
+  apart : CheckedBy (now (d .file)) (d .checked)
+      → ent 𝓤 (onEntry 𝓤 H A held.signature κs (q, tt) a vals) (sep 𝓤 (NeededChecked 𝓤 H A mem run .pre to) (sem 𝓤 H A Own))
   apart told =
       qed W ((‵ (flft κ q) ⊛ ‵ ftrue) ∷ ‵ (owns (B κs ∷ Q.the-row ∷ []) a vals) ∷ []) ∵
       move ! (1 ∷ []) $ fsplit ! $ use1 W (‵ Own ⊛ ‵ Own) (LL.copy (D κs) (T′.the-copy (namedLft 1 0 tt κs)) 𝓤 H A W .twice d (mach ∷ [])) $ split ! $
-      use1 W (given (mach ∷ [] ≡ mach ∷ []) (‵ (all-own (D κs .parts) (L κs) vd))) (own-open 𝓤 H A W (D κs) (L κs) vd mach) $ learn ! (λ _. fsplit ! $ move ! (1 ∷ []) $ fsplit ! $ move ! (1 ∷ []) $ drop ! $
+      use1 W (given (mach ∷ [] ≡ mach ∷ []) (‵ (all-own (D κs .parts) (L κs) vd))) (own-open 𝓤 H A W (D κs) (L κs) vd mach) $ learn ! (λ _. fsplit ! $
+      move ! (1 ∷ []) $ fsplit ! $ move ! (1 ∷ []) $ drop ! $
       -- [what the check handed out owns; what the bytes own; what the view owns; what the question owns; the token]
-      move ! (0 ∷ 3 ∷ []) $ fjoin ! $ move ! (1 ∷ 0 ∷ []) $ fjoin ! $ move ! (2 ∷ 0 ∷ []) $ use2 W (raw (NeededChecked 𝓤 H A mem run .pre to)) (asked told) $ frame ! $ done !)
+      move ! (0 ∷ 3 ∷ []) $ fjoin ! $ move ! (1 ∷ 0 ∷ []) $ fjoin ! $ move ! (2 ∷ 0 ∷ []) $ use2 W (raw (NeededChecked 𝓤 H A mem run .pre to)) (asked told) $
+      frame ! $ done !)
 
   -- what is said of the answer
   abbrev Said : ℕ → Type 0
@@ -154,28 +162,36 @@ module _ {M : Type 1} (𝓤 : URA M) (H : Heap 𝓤) (A : Atoms 𝓤) (W : Given
   exits : (n : ℕ) (w : Val) → Said n → ent 𝓤 (⋆ 𝓤 H A (‵ (usize .own n (w ∷ [])) ∷ (‵ (flft κ q) ⊛ ‵ ftrue) ∷ ‵ Own ∷ [])) (Post w)
   exits n w e =
       qed W (‵ (usize .own n (w ∷ [])) ∷ (‵ (flft κ q) ⊛ ‵ ftrue) ∷ ‵ Own ∷ []) ∵
-      suffices ! _ (ends-at 𝓤 H A held.ended stayed (held.clauses 𝓤 H A mem run) W ((κs, (q, tt), tt, a, vals), tt) w n (tt, (tt, tt)) (tt, (tt, tt))) $ says ! e $
-      move ! (1 ∷ []) $ frame ! $ nothing ! $ owned ! Q.the-row (Is Q.the-row) (EL.makes Q.the-type Q′.the-plain 𝓤 H A) k _ k-is $ fjoin ! $ move ! (2 ∷ 0 ∷ []) $ fjoin ! $ frame ! $ done !
+      suffices ! _ (ends-at 𝓤 H A held.ended stayed (held.clauses 𝓤 H A mem run) W ((κs, (q, tt), tt, a, vals), tt) w n (tt, (tt, tt)) (tt, (tt, tt))) $
+      says ! e $
+      move ! (1 ∷ []) $ frame ! $ nothing ! $ owned ! Q.the-row (Is Q.the-row) (EL.makes Q.the-type Q′.the-plain 𝓤 H A) k _ k-is $ fjoin ! $
+      move ! (2 ∷ 0 ∷ []) $ fjoin ! $ frame ! $ done !
 
-  module _ (C : Calls 𝓤 H) (Λ : Loops 𝓤 H) (fm : FmC 𝓤 H (W .laws) C) (known : Triple 𝓤 (C #questions·checked·needed-checked) (NeededChecked 𝓤 H A mem run)) where
-    walk : Holds (hasTy (T′.mir (named 0)) mach) × WT mach → Is S.the-row (d .checked) (u ∷ []) → FromCheck d → ent 𝓤 (onEntry 𝓤 H A held.signature κs (q, tt) a vals) (WpFn 𝓤 H C Λ code.function (mach ∷ kv ∷ []) Post)
+  module _ (C : Calls 𝓤 H) (Λ : Loops 𝓤 H) (fm : FmC 𝓤 H (W .laws) C) (known : Triple 𝓤 (C #questions·checked·needed-checked)
+      (NeededChecked 𝓤 H A mem run)) where
+    walk : Holds (hasTy (T′.mir (named 0)) mach) × WT mach → Is S.the-row (d .checked) (u ∷ []) → FromCheck d
+        → ent 𝓤 (onEntry 𝓤 H A held.signature κs (q, tt) a vals) (WpFn 𝓤 H C Λ code.function (mach ∷ kv ∷ []) Post)
     walk wt is-checked told =
         qed W (raw (onEntry 𝓤 H A held.signature κs (q, tt) a vals) ∷ []) ∵ enter ! C Λ code.function (mach ∷ kv ∷ []) _ $
         alloc1 ! (λ l₀. alloc1 ! (λ l₁. alloc1 ! (λ l₂. alloc1 ! (λ l₃. alloc1 ! (λ l₄. alloc0 ! $ params1 ! $
         pass1 ! (init ! 6 refl wt) $ pass1 ! (init ! 4 refl (EL.lawful Q.the-type Q′.the-laws 𝓤 H A W tt .typed k _ k-is .0)) $ pass0 ! $
         -- [_4; …; _3; …; _2; …; _1; …; room for _0; …; the token, and what h and question own]
         assigns ! (of-opd ! (load ! (from ! (fld ! refl (stop !))) (look-in ! 6 (sub ! 0 refl (whole !))))) (from ! (stop !)) (init ! 2 refl (tt, wt .1 .0)) $
-        assigns ! (of-opd ! (load ! (from ! (fld ! refl (stop !))) (look-in ! 6 (sub ! 1 refl (whole !))))) (from ! (stop !)) (init ! 0 refl (LL.lawful S.the-type S′.the-laws 𝓤 H A W .typed (d .checked) _ is-checked .0)) $
+        assigns ! (of-opd ! (load ! (from ! (fld ! refl (stop !))) (look-in ! 6 (sub ! 1 refl (whole !))))) (from ! (stop !))
+        (init ! 0 refl (LL.lawful S.the-type S′.the-laws 𝓤 H A W .typed (d .checked) _ is-checked .0)) $
         move ! (10 ∷ []) $ use1 W (raw (NeededChecked 𝓤 H A mem run .pre to) ⊛ ‵ Own) (apart told) $ split ! $
         -- [what the callee asks; what the view owns; _4; …; _3; …; _2; …; _1; …; room for _0; …]
-        calls-at ! fm (NeededChecked 𝓤 H A mem run) known to (and-then ! (load ! (from ! (stop !)) (look ! 4 refl)) (and-then ! (load ! (from ! (stop !)) (look ! 2 refl)) (and-then ! (load ! (from ! (stop !)) (look ! 6 refl)) (no-more !)))) (λ w.
-        use1 W (later (some (λ (n : ℕ). ((‵ (flft κ q) ⊛ ‵ ftrue) ⊛ ‵ (usize .own n (w ∷ []))) ⊛ raw (ensured 𝓤 H A need.ended (need.clauses 𝓤 H A mem run) κs args tt n)))) (id⊢ 𝓤 _) $ await ! tt $ pick ! (λ n.
+        calls-at ! fm (NeededChecked 𝓤 H A mem run) known to (and-then ! (load ! (from ! (stop !)) (look ! 4 refl))
+        (and-then ! (load ! (from ! (stop !)) (look ! 2 refl)) (and-then ! (load ! (from ! (stop !)) (look ! 6 refl)) (no-more !)))) (λ w.
+        use1 W (later (some (λ (n : ℕ). ((‵ (flft κ q) ⊛ ‵ ftrue) ⊛ ‵ (usize .own n (w ∷ []))) ⊛
+        raw (ensured 𝓤 H A need.ended (need.clauses 𝓤 H A mem run) κs args tt n)))) (id⊢ 𝓤 _) $ await ! tt $ pick ! (λ n.
         split ! $ move ! (1 ∷ []) $ use1 W (raw (fact 𝓤 (Said n))) (said n) $ heard ! (Said n) (λ e. split ! $ move ! (1 ∷ []) $
         -- [the result; the token; what the view owns; _4; …; _3; …; _2; …; _1; …; room for _0; …]
         peeks ! usize (Is usize) (shows 𝓤 H A usize) n (w ∷ []) (λ is.
         land ! (from ! (stop !)) (init ! 11 refl (uint-lawful 𝓤 H A W w64 .typed n _ is .0)) $
         returns ! (look ! 11 refl) $ forget ! 3 refl $ forget ! 5 refl $ forget ! 7 refl $ forget ! 9 refl $ forget ! 11 refl $
-        move ! (11 ∷ 12 ∷ []) $ free1 ! $ move ! (9 ∷ 10 ∷ []) $ free1 ! $ move ! (7 ∷ 8 ∷ []) $ free1 ! $ move ! (5 ∷ 6 ∷ []) $ free1 ! $ move ! (3 ∷ 4 ∷ []) $ free1 ! $ free0 ! $
+        move ! (11 ∷ 12 ∷ []) $ free1 ! $ move ! (9 ∷ 10 ∷ []) $ free1 ! $ move ! (7 ∷ 8 ∷ []) $ free1 ! $ move ! (5 ∷ 6 ∷ []) $ free1 ! $
+        move ! (3 ∷ 4 ∷ []) $ free1 ! $ free0 ! $
         by ! (exits n w e))))))))))
 
 module _ {M : Type 1} (𝓤 : URA M) (H : Heap 𝓤) (A : Atoms 𝓤) (W : Given 𝓤 H A) (mem : Memory → SProp 𝓤) (run : Routine → Fun 𝓤) where
@@ -191,7 +207,8 @@ held-meets : {M : Type 1} (𝓤 : URA M) (H : Heap 𝓤) (A : Atoms 𝓤) (W : G
     → Triple 𝓤 (𝓣 .C #questions·checked·needed-checked) (NeededChecked 𝓤 H A mem run)
     → Meets 𝓤 H A held.signature (WpFn 𝓤 H (𝓣 .C) (𝓣 .Λ) code.function) (held.spec 𝓤 H A mem run)
 held-meets 𝓤 H A W mem run 𝓣 known =
-    walk-meets 𝓤 H A held.ended stayed W (goes-none 𝓤 H A W 1 B yes (λ κs x f. refl), (goes-none 𝓤 H A W 1 (λ _. Q.the-row) yes (λ κs x f. refl), tt)) (held.clauses 𝓤 H A mem run)
+    walk-meets 𝓤 H A held.ended stayed W (goes-none 𝓤 H A W 1 B yes (λ κs x f. refl), (goes-none 𝓤 H A W 1 (λ _. Q.the-row) yes (λ κs x f. refl), tt))
+    (held.clauses 𝓤 H A mem run)
     (WpFn 𝓤 H (𝓣 .C) (𝓣 .Λ) code.function) (WpFn-mono 𝓤 H (W .laws) 𝓣 code.function) (held-walks 𝓤 H A W mem run (𝓣 .C) (𝓣 .Λ) (fmOf 𝓤 H (W .laws) 𝓣) known)
 
 pub held-needed-spec : {M : Type 1} → stated.statement M
@@ -200,4 +217,5 @@ held-needed-spec 𝓤 H 𝓜 𝓖 𝓡 =
     entered 𝓤 H (tripleOf 𝓤 H (𝓖 .A) held.signature (held.spec 𝓤 H (𝓖 .A) (𝓜 .mem) (𝓡 .run)))
     (tables 𝓤 H 𝓜 𝓡 code.env .C) (tables 𝓤 H 𝓜 𝓡 code.env .Λ) #questions·held·held-needed code.function (code.unfolded 𝓤 H 𝓜 𝓡)
     (held-meets 𝓤 H (𝓖 .A) (givenOf 𝓤 H 𝓜 𝓖) (𝓜 .mem) (𝓡 .run) (tablesOf 𝓤 H 𝓜 (tables 𝓤 H 𝓜 𝓡 code.env))
-    (cited 𝓤 H (NeededChecked 𝓤 H (𝓖 .A) (𝓜 .mem) (𝓡 .run)) 𝓜 𝓡 code.env #questions·checked·needed-checked need-def.routine code.calls-questions·checked·needed-checked (need-thm.met 𝓤 H 𝓜 𝓖 𝓡)))
+    (cited 𝓤 H (NeededChecked 𝓤 H (𝓖 .A) (𝓜 .mem) (𝓡 .run)) 𝓜 𝓡 code.env #questions·checked·needed-checked need-def.routine
+    code.calls-questions·checked·needed-checked (need-thm.met 𝓤 H 𝓜 𝓖 𝓡)))

@@ -25,8 +25,11 @@ sub-t5 c = search needs
 
 returns-3 : tie.Need-returns-3
 returns-3 c =
-    let a = c .before .before .before .before .before .before .before .before .before .args in
-    sym (called (a .required .0) (a .last .0) (a .threshold .0) (a .collateral .0) (omega (arith, c .before .before .before .before .before .if1 .left)) (omega (arith, c .before .before .if2 .left)))
+    let e = c .before .before .before .before .before in
+    let a = e .before .before .before .before .args in
+    sym
+    (called (a .required .0) (a .last .0) (a .threshold .0) (a .collateral .0) (omega (arith, e .if1 .left))
+    (omega (arith, c .before .before .if2 .left)))
 
 pub call-of-spec : {M : Type 1} → statement M
 call-of-spec = tie.close (tie.spec add-if1 returns returns-2 sub-t5 returns-3)

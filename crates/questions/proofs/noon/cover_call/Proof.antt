@@ -67,11 +67,12 @@ of-joined-requires c κs = search needs
 
 returns-2 : tie.Need-returns-2
 returns-2 c =
-    let a = c .before .before .before .before .before .before .before .before .before .before .before .before .before .args in
-    let o = c .before .before .before .before .before .before .before .before .before .before .check-pair in
+    let t = c .before .before .before in
+    let a = t .before .before .before .before .before .before .before .before .before .before .args in
+    let o = t .before .before .before .before .before .before .before .check-pair in
     let n = c .before .record-total in
-    call-outside (a .morning .now) (a .noon .now) (o .result) (o .ensures) (a .last) (a .threshold) (a .collateral) (clear (c .before .before .before .before .before .before .before))
-    (sym (tested (c .before .before .before)) ∙ c .before .before .if2 .taken) (n .result) (n .ensures) (c .of-joined .result) (c .of-joined .ensures)
+    call-outside (a .morning .now) (a .noon .now) (o .result) (o .ensures) (a .last) (a .threshold) (a .collateral) (clear (t .before .before .before .before))
+    (sym (tested t) ∙ c .before .before .if2 .taken) (n .result) (n .ensures) (c .of-joined .result) (c .of-joined .ensures)
 
 total-over-requires : tie.Need-total-over-requires
 total-over-requires c κs =
@@ -90,21 +91,24 @@ magnitude-requires-3 c κs = search needs
 
 call-of-requires : tie.Need-call-of-requires
 call-of-requires c κs =
-    let s = c .before .before .before .before .before .before .before .before .before .before .before .before .before .before .before in
-    let w = neither _ _ (neither _ _ (within (c .before .before .before .before)) .0) in (
+    let e = c .before .before .before .before in
+    let s = e .before .before .before .before .before .before .before .before .before .before .before in
+    let w = neither _ _ (neither _ _ (within e) .0) in (
       omega (arith, amount-within (s .args .last) (w .0), seen natAbs (s .args .last) (s .fits .last) (c .before .before .magnitude .ensures)),
       omega (arith, amount-within (s .args .threshold) (w .1), seen natAbs (s .args .threshold) (s .fits .threshold) (c .before .magnitude2 .ensures)),
     )
 
 returns-3 : tie.Need-returns-3
 returns-3 c =
-    let s = c .before .before .before .before .before .before .before .before .before .before .before .before .before .before .before .before in
+    let e = c .before .before .before .before .before in
+    let s = e .before .before .before .before .before .before .before .before .before .before .before in
     let a = s .args in
-    let o = c .before .before .before .before .before .before .before .before .before .before .before .before .before .check-pair in
-    call-made (a .morning .now) (a .noon .now) (o .result) (o .ensures) (a .last) (a .threshold) (a .collateral) (clear (c .before .before .before .before .before .before .before .before .before .before))
-    (within (c .before .before .before .before .before)) (c .call-of .result)
+    let o = e .before .before .before .before .before .before .before .before .check-pair in
+    call-made (a .morning .now) (a .noon .now) (o .result) (o .ensures) (a .last) (a .threshold) (a .collateral)
+    (clear (e .before .before .before .before .before)) (within e) (c .call-of .result)
     (c .call-of .ensures
-    ∙ ap₂ (λ (x y : ℕ). coverCall x y (c .before .before .magnitude2 .result) (c .before .magnitude3 .result)) (c .before .before .before .before .total-over .ensures)
+    ∙ ap₂ (λ (x y : ℕ). coverCall x y (c .before .before .magnitude2 .result) (c .before .magnitude3 .result))
+    (c .before .before .before .before .total-over .ensures)
     (seen natAbs (a .last) (s .fits .last) (c .before .before .before .magnitude .ensures))
     ∙ ap₂ (coverCall (requirement (accountOf (a .morning .now) (a .noon .now))) (natAbs (a .last)))
     (seen natAbs (a .threshold) (s .fits .threshold) (c .before .before .magnitude2 .ensures))

@@ -2,13 +2,15 @@
 //! number, with enough numbers lent and with too few.
 
 use crate::accounts;
-use crate::tuned::{self, BOOKS, MOST_BOOK, MOST_FIGURES};
+use crate::tuned::{self, BOOKS, MOST_BOOK, MOST_FIGURES, OUTCOME};
 use independent::format::{MOST_SPREADS, RECORD_BYTES};
 use independent::generate::{self, Random};
-use independent::refusal::TOO_FEW_LENT;
+use independent::refusal::{LENGTHS_DIFFER, TOO_FEW_LENT};
+use independent::run::{accounts as accounts_of, answer};
 use independent::{held_book, Refusal};
 
 const ACCOUNTS: u64 = 20_000;
+const RUNS: u64 = 2_000;
 const SEED: u64 = 1;
 /// The books, and questions that no account lists.
 const QUESTIONS: [u64; 4] = [BOOKS as u64, 256, 1 << 32, u64::MAX];
@@ -30,6 +32,58 @@ fn agrees_on_full_tables() {
     for spreads in 0..=MOST_SPREADS {
         compare(&accounts::table(spreads), &mut Random::new(!SEED, 0), &mut answers);
     }
+}
+
+#[test]
+fn agrees_on_generated_runs() {
+    let mut told = [0; LENGTHS_DIFFER as usize + 1];
+    for index in 0..RUNS {
+        let mut random = Random::new(!SEED, index);
+        let run = generate::run(SEED, index);
+        let accounts = run.lengths.len();
+        let (figures, outcomes) = (MOST_FIGURES * accounts, OUTCOME * accounts);
+        let lent = (generate::lent(&mut random, figures), generate::lent(&mut random, outcomes));
+        for (figures, outcomes) in [(figures, outcomes), lent] {
+            let number = compare_run(&run, figures, outcomes, &mut random);
+            told[usize::from(number)] += 1;
+        }
+    }
+    let numbers = [0, TOO_FEW_LENT, LENGTHS_DIFFER];
+    assert!(numbers.iter().all(|number| told[usize::from(*number)] > 0), "{told:?}");
+}
+
+/// A run with so many numbers lent, filled alike; gives the number of its refusal.
+fn compare_run(run: &generate::Run, figures: usize, outcomes: usize, random: &mut Random) -> u8 {
+    let lengths: Vec<usize> = run.lengths.iter().map(|&length| length as usize).collect();
+    let before = (numbers(random, figures), vec![usize::MAX; outcomes]);
+    let (mut by_tuned, mut by_plain) = (before.clone(), before);
+    let plain = plain_run(run, &mut by_plain.0, &mut by_plain.1);
+    assert_eq!(tuned::run(&run.bytes, &lengths, &mut by_tuned.0, &mut by_tuned.1), plain);
+    assert_eq!(by_tuned, by_plain);
+    plain.err().map_or(0, |refusal| refusal.number)
+}
+
+fn plain_run(
+    run: &generate::Run,
+    figures: &mut [i64],
+    outcomes: &mut [usize],
+) -> Result<(), Refusal> {
+    let files = accounts_of(&run.bytes, &run.lengths)?;
+    if figures.len() < MOST_FIGURES * files.len() || outcomes.len() < OUTCOME * files.len() {
+        return Err(Refusal { number: TOO_FEW_LENT, record: 0 });
+    }
+    let places = figures.chunks_mut(MOST_FIGURES).zip(outcomes.chunks_mut(OUTCOME));
+    for (file, (figures, outcome)) in files.iter().zip(places) {
+        let told = match answer(file) {
+            Ok(numbers) => {
+                figures[..numbers.len()].copy_from_slice(&numbers);
+                [0; OUTCOME]
+            }
+            Err(refusal) => [refusal.number.into(), refusal.record],
+        };
+        outcome.copy_from_slice(&told);
+    }
+    Ok(())
 }
 
 fn compare(file: &[u8], random: &mut Random, answers: &mut [u64; REFUSALS + 1]) {

@@ -1,7 +1,7 @@
 //! The same questions put to the proved library, to the tuned program and to the plain one.
 
-use bench::tuned::{self, BOOKS, MOST_BOOK, MOST_FIGURES};
-use independent::{held_book, margin};
+use bench::tuned::{self, BOOKS, MOST_BOOK, MOST_FIGURES, OUTCOME};
+use independent::{held_book, margin, run};
 
 /// Memory lent for the figures and for all the books, each book with a place of its own.
 #[derive(PartialEq)]
@@ -28,6 +28,32 @@ impl Lent {
     }
 }
 
+/// A run of accounts, one behind the other, with their lengths.
+pub struct Run {
+    accounts: Vec<u8>,
+    lengths: Vec<usize>,
+}
+
+impl Run {
+    pub fn of(files: &[Vec<u8>]) -> Run {
+        Run { accounts: files.concat(), lengths: files.iter().map(Vec::len).collect() }
+    }
+}
+
+/// Memory lent for a run: for each account a place for its figures, and one for its refusal and record.
+#[derive(PartialEq)]
+pub struct Places {
+    figures: Vec<i64>,
+    outcomes: Vec<usize>,
+}
+
+impl Places {
+    pub fn of(run: &Run) -> Places {
+        let accounts = run.lengths.len();
+        Places { figures: vec![-1; MOST_FIGURES * accounts], outcomes: vec![1; OUTCOME * accounts] }
+    }
+}
+
 /// One of the three: it checks a file, and answers questions about it to lent memory.
 pub trait Asked {
     fn check(file: &[u8]) -> usize;
@@ -37,6 +63,8 @@ pub trait Asked {
     fn all(file: &[u8], lent: &mut Lent);
     /// The figures and all the books, the file being checked for each.
     fn each(file: &[u8], lent: &mut Lent);
+    /// The figures of each account of a run.
+    fn run(run: &Run, lent: &mut Places);
 }
 
 pub struct Proved;
@@ -65,6 +93,10 @@ impl Asked for Proved {
             |question, lent| felgotany::book(file, question, lent),
         );
     }
+
+    fn run(run: &Run, lent: &mut Places) {
+        felgotany::run(&run.accounts, &run.lengths, &mut lent.figures, &mut lent.outcomes);
+    }
 }
 
 pub struct Tuned;
@@ -91,6 +123,10 @@ impl Asked for Tuned {
             |lent| tuned::figures(file, lent),
             |question, lent| tuned::book(file, question as u64, lent),
         );
+    }
+
+    fn run(run: &Run, lent: &mut Places) {
+        _ = tuned::run(&run.accounts, &run.lengths, &mut lent.figures, &mut lent.outcomes);
     }
 }
 
@@ -128,5 +164,22 @@ impl Asked for Plain {
             |lent| independent::figures(file, lent),
             |question, lent| independent::book(file, question as u64, lent),
         );
+    }
+
+    fn run(Run { accounts, lengths }: &Run, lent: &mut Places) {
+        let mut left = &accounts[..];
+        let figures = lent.figures.chunks_exact_mut(MOST_FIGURES);
+        let places = figures.zip(lent.outcomes.chunks_exact_mut(OUTCOME));
+        for (&length, (figures, outcome)) in lengths.iter().zip(places) {
+            let (file, after) = left.split_at(length);
+            left = after;
+            match run::answer(file) {
+                Ok(numbers) => {
+                    figures[..numbers.len()].copy_from_slice(&numbers);
+                    outcome.fill(0);
+                }
+                Err(refusal) => outcome.copy_from_slice(&[refusal.number.into(), refusal.record]),
+            }
+        }
     }
 }

@@ -1,14 +1,15 @@
 //! bench [SEED]: accounts per second of the proved library, of the tuned program and of the plain one:
-//! for the check, the figures, the figures with all books of a file checked once, and of a file checked
-//! for each; and for the book of a contract with 32 prompts, without spreads and with 32 of three legs,
-//! so that the difference is the spreads': their check and their steps.
+//! for the check, the figures, the figures in one call for a run of accounts, the figures with all books
+//! of a file checked once, and of a file checked for each; and for the book of a contract with 32 prompts,
+//! without spreads and with 32 of three legs, so that the difference is the spreads': their check and
+//! their steps.
 
 mod answers;
 mod timing;
 
 use bench::accounts;
 use independent::format::{MOST_PROMPTS, MOST_SPREADS};
-use timing::{times, Question, Times};
+use timing::{run_times, times, Question, Times};
 
 const SIZES: [usize; 4] = [1, 10, 100, 640];
 const GENERATED: u64 = 5_000;
@@ -40,6 +41,7 @@ fn main() {
             print(name, asked, times);
             times
         });
+        print(name, "figures, in one run", run_times(files));
         held.push((name, once, each));
     }
     for spreads in [0, MOST_SPREADS] {

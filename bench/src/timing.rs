@@ -1,6 +1,7 @@
-//! Rounds of the three alternate on the same files, and the quickest round of each counts.
+//! Rounds of the three alternate on the same files, and the quickest round of each counts. A round's time is the
+//! processor's for this thread, to which other work on the machine does not add.
 
-use crate::answers::{Asked, Lent, Plain, Proved, Tuned};
+use crate::answers::{Asked, Lent, Places, Plain, Proved, Run, Tuned};
 use std::hint::black_box;
 use std::time::{Duration, Instant};
 
@@ -49,6 +50,32 @@ pub fn times(files: &[Vec<u8>], question: Question) -> Times {
     least
 }
 
+/// Times one call for all the files, after the three have left the same numbers in its places.
+pub fn run_times(files: &[Vec<u8>]) -> Times {
+    let run = Run::of(files);
+    let [mut by_proved, mut by_tuned, mut by_plain] = [(); 3].map(|()| Places::of(&run));
+    Proved::run(&run, &mut by_proved);
+    Tuned::run(&run, &mut by_tuned);
+    Plain::run(&run, &mut by_plain);
+    assert!(by_proved == by_tuned && by_proved == by_plain);
+    let mut least = Times { proved: f64::MAX, tuned: f64::MAX, plain: f64::MAX };
+    for _ in 0..ROUNDS {
+        least.proved = least.proved.min(run_round::<Proved>(&run, files.len(), &mut by_proved));
+        least.tuned = least.tuned.min(run_round::<Tuned>(&run, files.len(), &mut by_tuned));
+        least.plain = least.plain.min(run_round::<Plain>(&run, files.len(), &mut by_plain));
+    }
+    least
+}
+
+/// The run, as often as a round lasts.
+fn run_round<A: Asked>(run: &Run, accounts: usize, lent: &mut Places) -> f64 {
+    let each = each_time(|| {
+        A::run(black_box(run), lent);
+        black_box(&mut *lent);
+    });
+    each / accounts as f64
+}
+
 fn same_answers(file: &[u8], question: Question) {
     let lent = answer::<Proved>(file, question);
     assert!(lent == answer::<Tuned>(file, question) && lent == answer::<Plain>(file, question));
@@ -64,14 +91,38 @@ fn answer<A: Asked>(file: &[u8], question: Question) -> Lent {
 /// All the files, as often as a round lasts.
 fn round<A: Asked>(files: &[Vec<u8>], question: Question) -> f64 {
     let mut lent = Lent::new();
-    let began = Instant::now();
-    let mut asked = 0;
-    while asked == 0 || began.elapsed() < ROUND {
+    let each = each_time(|| {
         for file in files {
             question.put::<A>(black_box(file), &mut lent);
             black_box(&mut lent);
         }
-        asked += files.len();
+    });
+    each / files.len() as f64
+}
+
+/// Processor time for one of many times, in seconds.
+fn each_time(mut ask: impl FnMut()) -> f64 {
+    let (began, used) = (Instant::now(), processor_time());
+    let mut times = 0;
+    while times == 0 || began.elapsed() < ROUND {
+        ask();
+        times += 1;
     }
-    began.elapsed().as_secs_f64() / asked as f64
+    (processor_time() - used).as_secs_f64() / f64::from(times)
+}
+
+/// What this thread has had of a processor.
+fn processor_time() -> Duration {
+    #[repr(C)]
+    struct Time {
+        seconds: i64,
+        nanoseconds: i64,
+    }
+    extern "C" {
+        fn clock_gettime(clock: i32, time: *mut Time) -> i32;
+    }
+    const THREAD: i32 = 3;
+    let mut time = Time { seconds: 0, nanoseconds: 0 };
+    assert_eq!(unsafe { clock_gettime(THREAD, &mut time) }, 0);
+    Duration::new(time.seconds as u64, time.nanoseconds as u32)
 }

@@ -10,7 +10,7 @@ mod table;
 use check::{Notes, CONTRACTS};
 use contract::{Book, Charges, Contract};
 use independent::format::*;
-use independent::refusal::{TOO_FEW_LENT, UNLISTED_QUESTION};
+use independent::refusal::{LENGTHS_DIFFER, TOO_FEW_LENT, UNLISTED_QUESTION};
 use independent::Refusal;
 use record::{get, Record};
 use table::{used, Table};
@@ -21,6 +21,8 @@ const TABLE: usize = CONTRACTS;
 const FIGURES: usize = 8;
 pub const MOST_FIGURES: usize = FIGURES * CONTRACTS + 1;
 pub const MOST_BOOK: usize = 3 * MOST_PROMPTS + 2 * MOST_SPREADS;
+/// The numbers of an account's refusal and record in a run.
+pub const OUTCOME: usize = 2;
 /// The books of all contracts and of the table.
 pub const BOOKS: usize = CONTRACTS + 1;
 
@@ -50,6 +52,36 @@ pub fn all(file: &[u8], figures: &mut [i64], books: &mut [i64]) -> [Result<(), R
         Ok(records) => Held { records, notes: &notes, places: &places }.all(figures, books),
         Err(refusal) => [Err(refusal); 2],
     }
+}
+
+/// A run of accounts, one behind the other: the figures of each in the `MOST_FIGURES` numbers that are its
+/// place, its refusal and record in the `OUTCOME` that are its place, both 0 if it is accepted.
+pub fn run(
+    accounts: &[u8],
+    lengths: &[usize],
+    figures: &mut [i64],
+    outcomes: &mut [usize],
+) -> Result<(), Refusal> {
+    let sum = lengths.iter().try_fold(0, |sum: usize, length| sum.checked_add(*length));
+    if sum != Some(accounts.len()) {
+        return Err(Refusal { number: LENGTHS_DIFFER, record: 0 });
+    }
+    let (figures, _) = figures.as_chunks_mut::<MOST_FIGURES>();
+    let (outcomes, _) = outcomes.as_chunks_mut::<OUTCOME>();
+    if figures.len() < lengths.len() || outcomes.len() < lengths.len() {
+        return Err(Refusal { number: TOO_FEW_LENT, record: 0 });
+    }
+    let (mut places, mut left) = ([0; MOST_RECORDS], accounts);
+    for ((&length, figures), outcome) in lengths.iter().zip(figures).zip(outcomes) {
+        let (file, after) = left.split_at(length);
+        left = after;
+        let mut notes = Notes::default();
+        let answer = check::check(file, &mut notes, &mut places)
+            .and_then(|records| Held { records, notes: &notes, places: &places }.figures(figures));
+        *outcome =
+            answer.map_or_else(|refusal| [refusal.number.into(), refusal.record], |_| [0; 2]);
+    }
+    Ok(())
 }
 
 /// An accepted account with what the check noted.

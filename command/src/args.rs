@@ -1,5 +1,6 @@
 //! How the command is called.
 
+use crate::names::Part;
 use clap::{Args, Parser, Subcommand};
 use std::path::PathBuf;
 
@@ -8,6 +9,12 @@ An account is an account file or its text form, a CSV file with one record a lin
 of - is standard input, which is also read where no account is named.
 
 Exit status: 0 answered, 1 the account is refused, 2 called wrongly, 3 something could not be read or written.";
+
+const NIGHT_NOTES: &str = "\
+Every name is answered in one line on standard output, in the order of the list or, of a folder, of its names: the total, or the
+refusal and its record, or why it is not read. Then the counts stand on standard error. --empty takes a book without names, too.
+
+Exit status: 0 all accepted, 1 some refused, 2 called wrongly, 3 something could not be read or written.";
 
 /// SPAN margin for metal forwards and options
 #[derive(Parser)]
@@ -65,6 +72,8 @@ pub enum Asked {
         #[command(flatten)]
         empty: Empty,
     },
+    /// The totals of a whole book, a folder or a list of accounts, one line each
+    Night(Night),
     /// Say in words why an account is refused, and show the record
     Explain {
         /// An account file or its text form; - is standard input
@@ -98,6 +107,30 @@ pub enum Asked {
         #[command(flatten)]
         empty: Empty,
     },
+}
+
+#[derive(Args)]
+#[command(after_help = NIGHT_NOTES)]
+pub struct Night {
+    /// A folder of account files or their text form, or a list: a file with one name a line; - is a list on standard input
+    #[arg(value_name = "BOOK", default_value = "-")]
+    pub book: PathBuf,
+    #[command(flatten)]
+    pub form: Form,
+    /// Say in words, too, why an account is refused
+    #[arg(long, conflicts_with = "lines")]
+    pub words: bool,
+    /// Only this part of a list: part 1/4 is the first quarter. The parts' outputs, one after the other, are the whole's
+    #[arg(long, value_name = "I/N")]
+    pub part: Option<Part>,
+    /// Print the names alone, as a list, and answer none
+    #[arg(long, conflicts_with_all = ["lines", "csv", "words", "progress"])]
+    pub names: bool,
+    /// Tell each tenth of the way on standard error where that is no terminal; on a terminal a bar is shown
+    #[arg(long)]
+    pub progress: bool,
+    #[command(flatten)]
+    pub empty: Empty,
 }
 
 /// For whom is printed: people, other programs, or a spreadsheet.

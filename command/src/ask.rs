@@ -2,9 +2,9 @@
 
 use crate::account::{Account, Book};
 use crate::args::{Asked, Form};
-use crate::failure::Failure;
+use crate::failure::{Failure, Status};
 use crate::input::Input;
-use crate::{lines, noon, output, page, sheet, table};
+use crate::{lines, night, noon, output, page, sheet, table};
 use account_text::explain::{accepted, explain};
 use account_text::{read, wording};
 use felgotany::refusals::{rule, TOO_LONG};
@@ -23,6 +23,11 @@ pub struct Answer {
 impl Answer {
     pub fn of(text: String) -> Answer {
         Answer { text, failures: vec![] }
+    }
+
+    /// Everything is printed and told already.
+    pub fn ended(status: Status) -> Answer {
+        Answer { text: String::new(), failures: vec![Failure { status, told: String::new(), line: None }] }
     }
 
     /// A failure is told; other programs are printed the line of a refusal.
@@ -56,6 +61,7 @@ pub fn ask(asked: Asked) -> Result<Answer, Failure> {
             let inputs = (Input::load(&morning, empty.empty)?, Input::load(&noon, empty.empty)?);
             Ok(Answer::of_result(form, noon::ask(&inputs.0, &inputs.1, call.as_deref(), form)))
         }
+        Asked::Night(asked) => night::answer(&asked).map(Answer::ended),
         Asked::Explain { refusals: true, .. } => Ok(Answer::of(wording::table())),
         Asked::Explain { account, empty, .. } => explained(&Input::load(&account, empty.empty)?),
         Asked::Read { account, output, empty } => {
@@ -182,7 +188,7 @@ fn explained(input: &Input) -> Result<Answer, Failure> {
     let record = explain(&input.file, verdict).unwrap_or_default();
     let record: String = record.lines().skip(2).map(|line| format!("{line}\n")).collect();
     let text = format!("{}\n{record}", input.refusal_in_words(verdict));
-    Ok(Answer { text, failures: vec![Failure::refused(String::new(), String::new())] })
+    Ok(Answer { text, ..Answer::ended(Status::Refused) })
 }
 
 /// The text of any account but one that is too long, of which no more is read than shows that it is.

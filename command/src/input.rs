@@ -10,6 +10,9 @@ use std::fs::File;
 use std::io::{self, IsTerminal, Read};
 use std::path::Path;
 
+/// The name that is standard input.
+pub const STANDARD: &str = "-";
+
 /// Longer texts are not read: 640 records take a tenth of this.
 const LONGEST_TEXT: usize = 4 << 20;
 
@@ -24,15 +27,28 @@ pub struct Input {
 }
 
 impl Input {
-    /// An account without records must be asked for.
+    /// The account of this name; - is standard input. One without records must be asked for.
     pub fn load(path: &Path, empty: bool) -> Result<Input, Failure> {
-        let standard = path == Path::new("-");
-        let name = if standard { "standard input".into() } else { path.display().to_string() };
-        let told = |fault: io::Error| Failure::not_read(format!("{name}: {fault}"));
-        if standard && io::stdin().is_terminal() {
+        if path != Path::new(STANDARD) {
+            return Input::open(path, empty);
+        }
+        if io::stdin().is_terminal() {
             return Err(Failure::called_wrongly("no account is named".to_string()));
         }
-        let mut from: Box<dyn Read> = if standard { Box::new(io::stdin()) } else { Box::new(File::open(path).map_err(told)?) };
+        Input::read("standard input".to_string(), io::stdin(), empty)
+    }
+
+    /// The account in a file, whatever its name.
+    pub fn open(path: &Path, empty: bool) -> Result<Input, Failure> {
+        let name = path.display().to_string();
+        match File::open(path) {
+            Ok(file) => Input::read(name, file, empty),
+            Err(fault) => Err(Failure::not_read(format!("{name}: {fault}"))),
+        }
+    }
+
+    fn read(name: String, mut from: impl Read, empty: bool) -> Result<Input, Failure> {
+        let told = |fault: io::Error| Failure::not_read(format!("{name}: {fault}"));
         let bytes = read_up_to(&mut from, MOST_BYTES + 1).map_err(told)?;
         let input = match is_text(&bytes) {
             true => {

@@ -7,11 +7,15 @@ mod ask;
 mod failure;
 mod input;
 mod lines;
+mod names;
+mod night;
 mod noon;
 mod numbers;
 mod output;
 mod page;
+mod progress;
 mod sheet;
+mod summary;
 mod table;
 
 use args::Call;

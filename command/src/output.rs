@@ -6,9 +6,9 @@ use std::fs::{self, File, OpenOptions};
 use std::io::{self, Write};
 use std::path::{Path, PathBuf};
 
-pub fn to_standard(text: &str) -> Result<(), Failure> {
+pub fn to_standard(text: impl AsRef<[u8]>) -> Result<(), Failure> {
     let mut out = io::stdout();
-    let written = out.write_all(text.as_bytes()).and_then(|()| out.flush());
+    let written = out.write_all(text.as_ref()).and_then(|()| out.flush());
     written.map_err(|fault| Failure::not_read(format!("standard output: {fault}")))
 }
 

@@ -11,6 +11,8 @@ const BOOK: [&str; 13] =
 
 pub const VERDICTS: [&str; 5] = ["account", "verdict", "refusal", "record", "in words"];
 
+pub const NIGHT: [&str; 6] = ["account", "verdict", "total", "refusal", "record", "in words"];
+
 /// The figures of accounts, each contract a row and each total one.
 pub fn margins(accounts: &[(String, Account)]) -> String {
     let header: Vec<&str> = ["account"].into_iter().chain(FIGURES).collect();

@@ -14,11 +14,14 @@ pub fn table(rows: &[Vec<String>]) -> String {
 
 /// CSV with a header line.
 pub fn csv<Row: AsRef<[String]>>(header: &[&str], rows: impl IntoIterator<Item = Row>) -> String {
+    csv_rows([header.iter().map(ToString::to_string).collect::<Vec<_>>()]) + &csv_rows(rows)
+}
+
+/// Lines of CSV, all with the same columns.
+pub fn csv_rows<Row: AsRef<[String]>>(rows: impl IntoIterator<Item = Row>) -> String {
     let mut writer = csv::Writer::from_writer(vec![]);
-    // memory takes whatever is written, and every row has the header's columns
-    let mut put = |cells: &[String]| writer.write_record(cells).expect("a row of the header's length");
-    put(&header.iter().map(ToString::to_string).collect::<Vec<_>>());
-    rows.into_iter().for_each(|row| put(row.as_ref()));
+    // memory takes whatever is written
+    rows.into_iter().for_each(|row| writer.write_record(row.as_ref()).expect("rows of one length"));
     let bytes = writer.into_inner().expect("memory");
     String::from_utf8(bytes).expect("cells are text")
 }

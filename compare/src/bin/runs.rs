@@ -1,6 +1,7 @@
 //! runs SEED COUNT [FIRST]: puts COUNT generated runs of accounts, from index FIRST on, to the proved library and to the
 //! independent program, with exactly enough numbers lent, with more and with too few. The outcome of the run, every lent number
-//! afterwards and those behind them must agree; and each account's places must be what the plain question leaves of it.
+//! afterwards and those behind them must agree; and each account's places must be what the plain question leaves of it. From 2,000
+//! runs on, ten thousand generated accounts are one run more.
 
 use compare::asking::{same, Run};
 use felgotany::Outcome;
@@ -18,6 +19,8 @@ const NOT_LENT: usize = 8;
 const SPARE: u64 = 140;
 /// From so many runs on, each refusal is expected to occur.
 const ALL_OCCUR: u64 = 2_000;
+/// The accounts of the long run.
+const LONG: u64 = 10_000;
 
 fn main() -> ExitCode {
     let Some(run) = Run::of_arguments() else {
@@ -25,7 +28,13 @@ fn main() -> ExitCode {
         return ExitCode::from(2);
     };
     let mut tally = Tally::default();
-    let differences = run.differences(|index| compare_run(run.seed, index, &mut tally));
+    let mut differences = run.differences(|index| compare_run(run.seed, index, &mut tally));
+    if run.count >= ALL_OCCUR {
+        if let Err(fault) = compare_long(run.seed, &mut tally) {
+            println!("seed {}, the long run: {fault}", run.seed);
+            differences += 1;
+        }
+    }
     tally.print(run, differences);
     if differences == 0 && (run.count < ALL_OCCUR || tally.nothing_missing()) {
         ExitCode::SUCCESS
@@ -111,6 +120,16 @@ fn compare_run(seed: u64, index: u64, tally: &mut Tally) -> Result<(), String> {
         ask(&run.bytes, &lengths, Memory::lent(figures, outcomes, &mut random), tally)?;
     }
     Ok(())
+}
+
+/// Ten thousand generated accounts in one call.
+fn compare_long(seed: u64, tally: &mut Tally) -> Result<(), String> {
+    let files: Vec<Vec<u8>> = (0..LONG).map(|index| generate::account(seed, index)).collect();
+    let lengths: Vec<usize> = files.iter().map(Vec::len).collect();
+    let (figures, outcomes) = (FIGURES_PLACE * lengths.len(), OUTCOME_PLACE * lengths.len());
+    let memory = Memory::lent(figures, outcomes, &mut Random::new(!seed, LONG));
+    let done = ask(&files.concat(), &lengths, memory, tally);
+    done.map_err(|fault| fault.chars().take(400).collect())
 }
 
 fn ask(bytes: &[u8], lengths: &[usize], before: Memory, tally: &mut Tally) -> Result<(), String> {

@@ -28,10 +28,7 @@ pub fn both<const PARTS: u64, const LEGS: usize>(
 }
 
 #[inline(always)]
-fn step<const PARTS: u64, const LEGS: usize>(
-    pools: &mut Pools,
-    legs: [(usize, u64); LEGS],
-) -> i64 {
+fn step<const PARTS: u64, const LEGS: usize>(pools: &mut Pools, legs: [(usize, u64); LEGS]) -> i64 {
     if legs.iter().any(|(pool, _)| pools[*pool] == 0) {
         return 0;
     }

@@ -2,8 +2,8 @@
 
 use super::check::CONTRACTS;
 use super::record::{get, Record};
-use super::steps::{both, pool_of, takes, Pools, POOLS, WHOLE};
 use super::steps::TENTHS as IN_TENTHS;
+use super::steps::{both, pool_of, takes, Pools, POOLS, WHOLE};
 use independent::format::*;
 
 /// The pools of the contracts, with their net deltas by contract number.

@@ -2,12 +2,11 @@
 -- Assumes nothing.
 use Prim.Native.Nat.{ℕ, zero, suc, _+_, _-_, _*_, _/_, _≤_, _<_}
 use mathlib.Core.Path.{_≡_, refl, sym, ap, _∙_}
-use mathlib.Core.Bool.{Bool, true, false, not}
+use mathlib.Core.Bool.{Bool, true, false, not, _||_}
 use mathlib.Core.List.{List, [], _∷_}
 use lib.ListN.{length, take, drop, length-drop, drop-of-length-le}
 use lib.Seq.{take-nil, take-all, drop-drop}
 use lib.Dec.{leb, leb·suc-zero, leb·suc-suc}
-use native.Mathlib.Nat.{zero-add}
 use native.Mathlib.Omega.{arith}
 use native.Mathlib.Numerals.{add-one}
 use Rattle.exact.specs.Lists.{any}
@@ -57,30 +56,27 @@ pub length-cut : (n : ℕ) (file : List ℕ) → length (cut n file) ≡ n
 length-cut zero file = refl
 length-cut (suc n) file = ap suc (length-cut n (drop 96 file))
 
--- ---- the place of a record, looked for from the front
-module _ (p : Record → Bool) (file : List ℕ) (n i : ℕ) where
-  abbrev pub placeFrom : ℕ
-  placeFrom = i + placeOf p (cut (n - i) (drop (i * 96) file))
+-- ---- whether a record passes, of those found so far and those from record i on
+abbrev pub anyFrom : (Record → Bool) → List ℕ → ℕ → ℕ → Bool
+anyFrom p file n i = any p (cut (n - i) (drop (i * 96) file))
 
-  pub place-here : i < n → p (recordAt file i) ≡ true → placeFrom ≡ i
-  place-here h t = rw (cut-on file n i h, t) (omega arith)
+module _ (p : Record → Bool) (file : List ℕ) where
+  pub any-start : any p (records file) ≡ false || anyFrom p file (recordCount file) 0
+  any-start =
+      let e : recordCount file - 0 ≡ recordCount file = omega arith in
+      rw e
 
-  pub place-past : n ≤ i → placeFrom ≡ i
-  place-past h =
+  pub any-next : (found : Bool) (n i : ℕ) → i < n → found || anyFrom p file n i ≡ (found || p (recordAt file i)) || anyFrom p file n (i + 1)
+  any-next true n i h = refl
+  any-next false n i h = rw (cut-on file n i h)
+
+  pub any-past : (found : Bool) (n i : ℕ) → n ≤ i → found || anyFrom p file n i ≡ found
+  any-past true n i h = refl
+  any-past false n i h =
       let s : n - i ≡ 0 = omega arith in
-      rw s (omega arith)
+      rw s
 
-pub place-next :
-    (p : Record → Bool) (file : List ℕ) (n i : ℕ) → i < n → p (recordAt file i) ≡ false
-    → placeFrom p file n i ≡ placeFrom p file n (i + 1)
-place-next p file n i h t = rw (cut-on file n i h, t) (omega arith)
-
-pub place-start :
-    (p : Record → Bool) (file : List ℕ) → placeOf p (records file) ≡ placeFrom p file (recordCount file) 0
-place-start p file =
-    let e : recordCount file - 0 ≡ recordCount file = omega arith in
-    rw e (sym (zero-add (placeOf p (records file))))
-
+-- ---- the place of a record
 pub none-place : (p : Record → Bool) (rs : List Record) → leb (length rs) (placeOf p rs) ≡ not (any p rs)
 none-place p [] = refl
 none-place p (r ∷ rs) = go (p r) refl (none-place p rs)

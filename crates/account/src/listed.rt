@@ -7,9 +7,8 @@ ghost use Rattle.account.specs.Notes.{noContract, noDay, noTier, unliste
 ghost use Rattle.account.specs.Records.{records};
 use crate::notes::noted;
 use crate::parts::OWN;
-use crate::prompts::place_of_day;
-use crate::prompts::place_of_tier;
-use crate::stretches::record_count;
+use crate::prompts::has_day;
+use crate::prompts::has_tier;
 use record::fields::contract;
 use record::fields::day;
 use record::fields::kind;
@@ -27,13 +26,13 @@ fn no_contract(counts: &[u16], c: usize) -> bool
 fn no_day(prompts: &[u8], d: usize) -> bool
     ensures { λ b. ⌜ b ≡ noDay (records (now (prompts .entry))) d ⌝ }
 {
-    record_count(prompts) <= place_of_day(prompts, d)
+    !has_day(prompts, d)
 }
 
 fn no_tier(prompts: &[u8], t: usize) -> bool
     ensures { λ b. ⌜ b ≡ noTier (records (now (prompts .entry))) t ⌝ }
 {
-    record_count(prompts) <= place_of_tier(prompts, t)
+    !has_tier(prompts, t)
 }
 
 fn no_leg_tier(prompts: &[u8], r: &[u8], leg: usize) -> bool

@@ -1,26 +1,15 @@
 -- `account::listed::no_day` meets its contract. Assumes nothing.
-use mathlib.Core.Path.{_≡_, sym, _∙_}
-use lib.ListN.{length}
-use Rattle.account.specs.Parts.{onDay}
-use Rattle.account.specs.Records.{records, recordCount}
-use Rattle.account.proofs.Walk.{length-cut, none-place}
+use mathlib.Core.Path.{ap}
+use mathlib.Core.Bool.{Bool, not}
+use borrow.Author.Needs.{needs}
 use Rattle.account.proofs.listed.no_day.Statement.{statement}
 use Rattle.account.proofs.listed.no_day.Tie as tie
 
-record-count-requires : tie.Need-record-count-requires
-record-count-requires c κs = tt
-
-place-of-day-requires : tie.Need-place-of-day-requires
-place-of-day-requires c κs = tt
+has-day-requires : tie.Need-has-day-requires
+has-day-requires c κs = search needs
 
 returns : tie.Need-returns
-returns c =
-    let args = c .before .before .before .args in
-    let p = onDay (args .d) in
-    let ps = records (args .prompts .now) in
-    let n : c .before .record-count .result ≡ length ps = c .before .record-count .ensures ∙ sym
-    (length-cut (recordCount (args .prompts .now)) (args .prompts .now)) in
-    rw (n, c .place-of-day .ensures) (none-place p ps)
+returns c = ap (λ (t : Bool). not t) (c .has-day .ensures)
 
 pub no-day-spec : {M : Type 1} → statement M
-no-day-spec = tie.close (tie.spec record-count-requires place-of-day-requires returns)
+no-day-spec = tie.close (tie.spec has-day-requires returns)

@@ -27,7 +27,7 @@ use Rattle.margin.proofs.LineLaws.{numbers-length, used-length, unused-
 
 -- ---- how many numbers a book has
 
-threes-length : (nets used unused : List ℤ) → length used ≡ length nets → length unused ≡ length nets → length (threes nets used unused) ≡ 3 * length nets
+pub threes-length : (nets used unused : List ℤ) → length used ≡ length nets → length unused ≡ length nets → length (threes nets used unused) ≡ 3 * length nets
 threes-length [] used unused e f = refl
 threes-length (n ∷ nets) [] unused e f = absurd (omega arith)
 threes-length (n ∷ nets) (u ∷ used) [] e f = absurd (omega arith)

@@ -71,7 +71,7 @@ net-here unit prompts rows p is j h =
 
 -- ---- no rows
 
-zeros : (n j : ℕ) → getD (replicate n (pos 0)) j (pos 0) ≡ pos 0
+pub zeros : (n j : ℕ) → getD (replicate n (pos 0)) j (pos 0) ≡ pos 0
 zeros zero j = refl
 zeros (suc n) zero = refl
 zeros (suc n) (suc j) = zeros n j

@@ -3,7 +3,7 @@
 use Prim.Native.Nat.{ℕ, _+_, _*_, _^_, _≤_, _<_}
 use mathlib.Core.Path.{_≡_}
 use mathlib.Core.List.{List}
-use lib.ListN.{getD, take}
+use lib.ListN.{length, getD, take}
 use lib.IntN.{ℤ}
 use Rattle.account.specs.Check.{mostContracts, mostSpreads}
 use Rattle.spread.specs.declared.Spreads.{Spreads}
@@ -43,4 +43,10 @@ pub record PartNumbers (parts : List ℤ) (prompts spreads : ℕ) (n : Numbers) 
 pub record BookNumbers (book : List ℤ) (prompts spreads : ℕ) (n : Numbers) : Type 0 where
   pub listed-is : written n ≡ book
   pub count-is : n .count ≡ 3 * prompts + 2 * spreads + 1
+  pub few : n .count ≤ longestBook
+
+-- the numbers of an answer, all of them
+pub record AllOf (numbers : List ℤ) (n : Numbers) : Type 0 where
+  pub listed-is : written n ≡ numbers
+  pub count-is : n .count ≡ length numbers
   pub few : n .count ≤ longestBook

@@ -86,6 +86,11 @@ pub record WithRows (unit : ℕ) (days : Days) (p : Position) (rows : List Recor
   pub nets-added : Added (days .count) (λ j. netOn rows (getD (days .day) j 0)) (deltasIn (p .nets)) (deltasIn (q .nets))
   pub shorts-added : q .shorts ≡ p .shorts + shortLots rows
 
+-- p has these rows among those that it is of
+pub record HasRows (unit : ℕ) (days : Days) (rows : List Record) (p : Position) : Type 0 where
+  pub before : Position
+  pub added : WithRows unit days before rows p
+
 -- each row is of the day of one prompt at most
 abbrev pub OneDay : List Record → List Record → Type 0
 OneDay prompts rows = (k : ℕ) → k < length rows → count (onDay (day (getD rows k []))) prompts ≤ 1

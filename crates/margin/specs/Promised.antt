@@ -46,6 +46,11 @@ pub record PositionFit (own : Record) (prompts spreads : List Record) (p : Posit
   pub is : PositionOf (unit own) prompts rows p
   pub most : Bounded mostRows p
 
+-- the same, whatever the contract's own record: its book does not go by it
+pub record BookFit (prompts spreads : List Record) (p : Position) : Type 0 where
+  pub own : Record
+  pub fits : PositionFit own prompts spreads p
+
 -- the book of steps over prompts, place by place, and zeros beyond
 pub record BookOf (ss : List (List Taker)) (ps : List Open) (b : Book) : Type 0 where
   pub first-is : b .first ≡ entries 32 (λ k. spreadsEntry (numbers ss ps) (2 * k))

@@ -16,7 +16,6 @@ use Rattle.account.specs.Lawful.{Lawful}
 use Rattle.account.specs.Parts.{promptsOf, rowsOf, entriesOf}
 use Rattle.spread.specs.Accepted as given
 use Rattle.spread.specs.Accepted.{openOf, spreadsOf, soundPrompts, soundTable, sound}
-use Rattle.spread.specs.Book.{Booked}
 use Rattle.spread.specs.Steps.{Open, Taker, steps, numbers, usedOf, unusedOf}
 use Rattle.spread.specs.Touches.{touches, CountedBook}
 use Rattle.spread.specs.Uses.{usesOf}
@@ -29,14 +28,14 @@ use Rattle.spread.proofs.Both.{and-left, and-right}
 use Rattle.spread.proofs.Demand3.{one-per-step}
 use Rattle.spread.proofs.Every.{open-length}
 use Rattle.spread.proofs.Gathering.{few, all-sound}
-use Rattle.margin.specs.declared.asking.Question.the-variants.{Book, Uses}
+use Rattle.margin.specs.declared.asking.Question.the-variants.{Book}
 use Rattle.margin.specs.declared.numbers.Numbers.{Numbers}
 use Rattle.margin.specs.declared.uses.Asking.{Asking}
 use Rattle.margin.specs.Books.{threes, bookBy, contractBook, tableBook, answered, book}
-use Rattle.margin.specs.Bounds.{mostDelta}
+use Rattle.margin.specs.Bounds.{mostDelta, longestBook}
 use Rattle.margin.specs.Contract.{Contract, contracts, partsOf, asTier, contractNet, stepsOf, opensOf, tableSteps}
 use Rattle.margin.specs.Deltas.{opens, netDeltas}
-use Rattle.margin.specs.Numbers.{written, SpreadsSigned, PartNumbers, BookNumbers, AllOf}
+use Rattle.margin.specs.Numbers.{written, SpreadsSigned, AllOf}
 use Rattle.margin.specs.Promised.{BookOf}
 use Rattle.margin.specs.Questions.{Holds, AskedBy}
 use Rattle.margin.specs.Sums.{deltasIn, interleaved}
@@ -106,6 +105,12 @@ by-length spreads ps =
 
 -- ---- the numbers of a book, as the code makes them
 
+-- with so many prompts and spreads, without the last
+pub record PartNumbers (parts : List ℤ) (prompts spreads : ℕ) (n : Numbers) : Type 0 where
+  pub listed-is : written n ≡ parts
+  pub count-is : n .count ≡ 3 * prompts + 2 * spreads
+  pub few : n .count < longestBook
+
 module _ (p : Prompts) (t : Table) (lt : length (p .tier) ≡ 32) (ln : length (p .net) ≡ 32) (ls : length (t .spread) ≡ 32) (ok : sound p t ≡ true) where
   abbrev ss : List (List Taker)
   ss = given.stepsOf t
@@ -165,14 +170,15 @@ module _ (p : Prompts) (t : Table) (lt : length (p .tier) ≡ 32) (ln : length (
         }
 
     pub finished : (n r : Numbers) → PartNumbers (threes (map (λ p. p .unused) ps) (usedOf ss ps) (unusedOf ss ps) ++ map pos (numbers ss ps)) (p .count) (t .count) n
-        → r .count ≡ n .count + 1 → written r ≡ written n ++ (pos (c .touches) ∷ []) → BookNumbers (bookBy ss ps) (p .count) (t .count) r
+        → r .count ≡ n .count + 1 → written r ≡ written n ++ (pos (c .touches) ∷ []) → AllOf (bookBy ss ps) r
     finished n r parts ec el =
-        with-last (threes (map (λ p. p .unused) ps) (usedOf ss ps) (unusedOf ss ps) ++ map pos (numbers ss ps)) (p .count) (t .count) n r (c .touches) (touches ss ps) parts ec el
-        (is .touches ∙ touches-accepted ss ps p t refl refl ok)
-
-  -- how many numbers its book has
-  pub book-long : length (bookBy ss ps) ≡ 3 * p .count + 2 * t .count + 1
-  book-long = by-length (spreadsOf t) ps ∙ ap₂ (λ (x y : ℕ). 3 * x + 2 * y + 1) ps-long spreads-long
+        record {
+          listed-is =
+              with-last (threes (map (λ p. p .unused) ps) (usedOf ss ps) (unusedOf ss ps) ++ map pos (numbers ss ps)) (written n) (written r) (c .touches) (touches ss ps) (parts .listed-is) el
+              (is .touches ∙ touches-accepted ss ps p t refl refl ok);
+          count-is = ec ∙ ap (λ (k : ℕ). k + 1) (parts .count-is) ∙ sym (by-length (spreadsOf t) ps ∙ ap₂ (λ (x y : ℕ). 3 * x + 2 * y + 1) ps-long spreads-long);
+          few = omega (arith, ec, parts .few);
+        }
 
 -- ---- an account's answers
 

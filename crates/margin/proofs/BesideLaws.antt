@@ -1,9 +1,9 @@
 -- An account that but for its rows stands in the files: its lines, its tiers and what is asked about, by what each contract's rows
 -- come to.
 -- Assumes nothing.
-use Prim.Native.Nat.{ℕ, _+_, _*_, _≤_, _<_}
+use Prim.Native.Nat.{ℕ, _*_, _≤_, _<_}
 use native.Mathlib.Omega.{arith}
-use mathlib.Core.Path.{_≡_, refl, sym, ap, _∙_, subst, subst⁻¹}
+use mathlib.Core.Path.{_≡_, refl, sym, ap, _∙_, subst}
 use mathlib.Core.Bool.{Bool, true, false, _||_}
 use mathlib.Core.List.{List, [], _∷_, map}
 use borrow.Author.Tests.{eq-eqb}
@@ -11,7 +11,7 @@ use lib.IntN.{ℤ, natAbs}
 use lib.ListN.{length, getD}
 use lib.Dec.{eqb}
 use Rattle.exact.specs.Lists.{any, consIf, keep, sum, sumℤ}
-use Rattle.record.specs.Layout.{Record, contract, unit}
+use Rattle.record.specs.Layout.{Record, contract}
 use Rattle.record.specs.Within as ranges
 use Rattle.account.specs.Accepted.{Each}
 use Rattle.account.specs.Lawful.{Lawful}

@@ -1,14 +1,11 @@
 -- The parts of an account, as the code has them, are the account's own records, and a contract's are within their ranges.
 -- Assumes nothing.
-use Prim.Native.Nat.{ℕ, zero, suc, _+_, _*_, _≤_, _<_, zero-le}
+use Prim.Native.Nat.{ℕ, zero, suc, _+_, _*_, _≤_, _<_}
 use native.Mathlib.Nat.{le-of-suc-le-suc, not-suc-le-zero}
 use native.Mathlib.Omega.{arith}
-use mathlib.Core.Path.{_≡_, refl, sym, ap, ap₂, _∙_, subst, subst⁻¹}
+use mathlib.Core.Path.{_≡_, refl, sym, ap, _∙_, subst, subst⁻¹}
 use mathlib.Core.Bool.{Bool, true, false, _&&_}
 use mathlib.Core.List.{List, [], _∷_}
-use borrow.Author.Tests.{eq-eqb}
-use lib.Dec.{eqb}
-use lib.IntN.{ℤ, natAbs}
 use lib.ListN.{length, getD}
 use Rattle.exact.specs.Lists.{consIf, keep, count, oneIf}
 use Rattle.record.specs.Layout.{Record, contract, unit}
@@ -32,7 +29,6 @@ use Rattle.margin.specs.Position.{PositionOf, Bounded}
 use Rattle.margin.specs.Promised.{LineOf, BookFit, contractWith}
 use Rattle.margin.specs.Within.{ContractFit, EntriesFit}
 use Rattle.margin.proofs.AcceptLaws.{none-within, contract-within, own-within, entries-within}
-use Rattle.margin.proofs.AskedLaws.{count-keep}
 use Rattle.margin.proofs.RecordLaws.{count-is}
 
 -- a contract known by its rows is the one known by what they come to

@@ -1,56 +1,49 @@
 -- The contracts of an account as tiers, and the book of the intercontract table over them.
 -- Assumes nothing.
 use Prim.Native.Nat.{ℕ, suc, _+_, _*_, _≤_, _<_, zero-le, suc-le-suc}
-use native.Mathlib.Nat.{le-trans, not-suc-le-zero, mul-le-mul-right}
+use native.Mathlib.Nat.{le-trans, not-suc-le-zero}
 use native.Mathlib.Decide.{ℕ-discrete}
 use native.Mathlib.Omega.{arith}
 use mathlib.Core.Path.{_≡_, refl, sym, ap, _∙_, subst, subst⁻¹}
 use mathlib.Core.Bool.{true}
-use mathlib.Core.List.{List, [], _∷_, _++_, map}
+use mathlib.Core.List.{List, [], _∷_, map}
 use borrow.Author.Tests.{lt-ltb, le-leb, leb-true}
 use lib.Dec.{leb, ltb}
-use lib.IntN.{ℤ, pos, natAbs}
+use lib.IntN.{ℤ, natAbs}
 use lib.ListN.{length, getD, take, set, length-map}
 use lib.Seq.{take-all}
 use Rattle.exact.specs.Lists.{sum, sumℤ}
 use Rattle.exact.proofs.Lists.{getD-map, abs-sum}
 use Rattle.record.specs.Layout.{Record, contract, unit}
 use Rattle.record.specs.Within as ranges
-use Rattle.account.specs.Parts.{contractsOf, promptsOf, rowsOf, spreadsOf, entriesOf}
+use Rattle.account.specs.Parts.{contractsOf, promptsOf, rowsOf, spreadsOf}
 use Rattle.account.specs.Records.{records, recordCount}
 use Rattle.account.specs.Lawful.{Lawful}
 use Rattle.account.specs.Notes.{entryPart}
 use Rattle.account.specs.Standing.{PartOf}
 use Rattle.spread.specs.Accepted as given
 use Rattle.spread.specs.Accepted.{every, soundPrompt}
-use Rattle.spread.specs.Book.{Booked}
-use Rattle.spread.specs.Steps.{Open, steps, numbers, usedOf, unusedOf}
-use Rattle.spread.specs.Touches.{touchesOf}
+use Rattle.spread.specs.Steps.{Open, steps}
 use Rattle.spread.specs.declared.Delta.{Delta}
 use Rattle.spread.specs.declared.Prompts.{Prompts}
 use Rattle.spread.specs.declared.Table.{Table}
-use Rattle.spread.specs.declared.book.Book.{Book}
 use Rattle.spread.proofs.Both.{and-left, and-right, and-both}
 use Rattle.margin.specs.declared.line.Line.{Line}
-use Rattle.margin.specs.declared.numbers.Numbers.{Numbers}
 use Rattle.margin.specs.declared.rows.Position.{Position}
-use Rattle.margin.specs.Books.{threes, tableParts}
-use Rattle.margin.specs.Bounds.{mostDelta, mostFormed}
-use Rattle.margin.specs.Contract.{Contract, contracts, partsIn, asTier, contractNet, tableTouches}
+use Rattle.margin.specs.Bounds.{mostDelta}
+use Rattle.margin.specs.Contract.{Contract, contracts, partsIn, asTier, contractNet}
 use Rattle.margin.specs.Deltas.{netDeltas, intercontract}
 use Rattle.margin.specs.Lines.{noLine}
-use Rattle.margin.specs.Numbers.{written, SpreadsSigned, PartNumbers}
-use Rattle.margin.specs.Promised.{BookOf}
 use Rattle.margin.specs.Lined.{TierIs, TiersIn, PositionAt}
-use Rattle.margin.specs.Sums.{interleaved, deltasIn}
+use Rattle.margin.specs.Sums.{deltasIn}
 use Rattle.margin.specs.Table.{tierOf}
 use Rattle.margin.specs.Tables.{TableOf}
 use Rattle.margin.proofs.AcceptLaws.{contract-within}
-use Rattle.margin.proofs.BookLaws.{first-at, second-at, book-accepted, touches-accepted, handed-sound, book-listed}
+use Rattle.margin.proofs.BookLaws.{handed-sound}
 use Rattle.margin.proofs.ContractLaws.{net-is, net-sizes}
-use Rattle.margin.proofs.LineLaws.{spreads-sound, numbers-length, used-length, unused-length}
+use Rattle.margin.proofs.LineLaws.{spreads-sound}
 use Rattle.margin.proofs.RecordLaws.{count-is}
-use Rattle.margin.proofs.StandLaws.{entries-part, entries-fit}
+use Rattle.margin.proofs.StandLaws.{entries-fit}
 use Rattle.margin.proofs.StepBounds.{sizes, number-within}
 use Rattle.margin.proofs.TableLaws.{Tiered, tiered-next, tiered-all, entry-accepted}
 

@@ -1,6 +1,6 @@
 -- Answers as lists of numbers, and the bounds within which they are made.
 -- Assumes nothing.
-use Prim.Native.Nat.{ℕ, _+_, _*_, _^_, _≤_, _<_}
+use Prim.Native.Nat.{ℕ, _^_, _≤_, _<_}
 use mathlib.Core.Path.{_≡_}
 use mathlib.Core.List.{List}
 use lib.ListN.{length, getD, take}
@@ -32,18 +32,6 @@ pub record SpreadsSigned (count : ℕ) (firsts seconds : List Spreads) : Type 0 
   pub most : count ≤ mostSpreads
   pub first-within : (k : ℕ) → k < count → spreadsAt firsts k < 2 ^ 63
   pub second-within : (k : ℕ) → k < count → spreadsAt seconds k < 2 ^ 63
-
--- the numbers of a book with so many prompts and spreads, without the last
-pub record PartNumbers (parts : List ℤ) (prompts spreads : ℕ) (n : Numbers) : Type 0 where
-  pub listed-is : written n ≡ parts
-  pub count-is : n .count ≡ 3 * prompts + 2 * spreads
-  pub few : n .count < longestBook
-
--- and with it
-pub record BookNumbers (book : List ℤ) (prompts spreads : ℕ) (n : Numbers) : Type 0 where
-  pub listed-is : written n ≡ book
-  pub count-is : n .count ≡ 3 * prompts + 2 * spreads + 1
-  pub few : n .count ≤ longestBook
 
 -- the numbers of an answer, all of them
 pub record AllOf (numbers : List ℤ) (n : Numbers) : Type 0 where

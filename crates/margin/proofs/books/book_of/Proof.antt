@@ -9,8 +9,7 @@ use borrow.Author.Needs.{needs}
 use Rattle.spread.specs.Accepted.{openOf, stepsOf}
 use Rattle.spread.specs.Steps.{numbers, usedOf, unusedOf}
 use Rattle.margin.specs.Books.{threes}
-use Rattle.margin.specs.Numbers.{PartNumbers}
-use Rattle.margin.proofs.AnswerLaws.{few-prompts, signed, listed, finished, book-long}
+use Rattle.margin.proofs.AnswerLaws.{PartNumbers, few-prompts, signed, listed, finished}
 use Rattle.margin.proofs.books.book_of.Statement.{statement}
 use Rattle.margin.proofs.books.book_of.Tie as tie
 
@@ -57,8 +56,7 @@ returns c =
     let t = s .args .asking .table in
     let b = c .before .before .before .before .before .before .before .counted-book in
     let r = c .with-last in
-    let f = finished p t (tiers-32 s) (nets-32 s) (spreads-32 s) (s .pre) (b .result) (b .ensures) (c .before .book-numbers .result) (r .result) (parts (c .before)) (r .ensures .0) (r .ensures .1) in
-    record { listed-is = f .listed-is; count-is = f .count-is ∙ sym (book-long p t (tiers-32 s) (nets-32 s) (spreads-32 s) (s .pre)); few = f .few }
+    finished p t (tiers-32 s) (nets-32 s) (spreads-32 s) (s .pre) (b .result) (b .ensures) (c .before .book-numbers .result) (r .result) (parts (c .before)) (r .ensures .0) (r .ensures .1)
 
 pub book-of-spec : {M : Type 1} → statement M
 book-of-spec =

@@ -2,7 +2,6 @@
 -- Assumes nothing.
 use mathlib.Core.Path.{subst}
 use borrow.Author.Needs.{needs}
-use lib.Dec.{lit≤}
 use Rattle.account.specs.Standing.{accountOf}
 use Rattle.margin.specs.Contract.{Contract, stepsOf, opensOf}
 use Rattle.margin.specs.Uses.{Asks}

@@ -1,14 +1,10 @@
 -- The figures of an account: its lines, the table over them, and its credits.
 -- Assumes nothing.
 use mathlib.Core.Path.{_∙_, ap}
-use mathlib.Core.List.{List}
 use native.Mathlib.Omega.{arith}
 use borrow.Author.Needs.{needs}
 use lib.ListN.{length}
-use Rattle.record.specs.Layout.{Record}
 use Rattle.account.specs.Standing.{accountOf}
-use Rattle.margin.specs.Beside.{Besides}
-use Rattle.margin.specs.Lined.{LinesOf}
 use Rattle.margin.proofs.AccountLaws.{table-room, its, its-book, credits-room, lines-within, answer-is}
 use Rattle.margin.proofs.BesideLaws.{entries-beside}
 use Rattle.margin.proofs.over.figures_of.Statement.{statement}

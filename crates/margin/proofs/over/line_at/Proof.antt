@@ -1,7 +1,6 @@
 -- The line of the i-th contract, by what its rows come to.
 -- Assumes nothing.
 use Prim.Native.Nat.{_≤_}
-use mathlib.Core.Path.{_≡_}
 use native.Mathlib.Omega.{arith}
 use borrow.Author.Needs.{needs}
 use Rattle.account.specs.Standing.{accountOf}

@@ -6,7 +6,6 @@ use mathlib.Core.List.{map}
 use Prim.Native.Nat.{_≤_}
 use native.Mathlib.Omega.{arith}
 use borrow.Author.Tests.{eq-eqb, ne-eqb}
-use borrow.Author.Needs.{needs}
 use lib.ListN.{getD}
 use Rattle.account.specs.Standing.{accountOf}
 use Rattle.account.specs.Parts.{entriesOf}

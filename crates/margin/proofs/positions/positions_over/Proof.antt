@@ -3,10 +3,10 @@
 use mathlib.Core.Path.{_≡_, _∙_}
 use mathlib.Core.List.{[]}
 use lib.ListN.{getD}
-use Prim.Native.Nat.{ℕ, _-_, _≤_, _<_}
+use Prim.Native.Nat.{_-_, _≤_, _<_}
 use native.Mathlib.Omega.{arith}
 use borrow.Author.Needs.{needs}
-use Rattle.record.specs.Layout.{Record, contract}
+use Rattle.record.specs.Layout.{contract}
 use Rattle.account.specs.Parts.{contractsOf}
 use Rattle.account.specs.Standing.{accountOf}
 use Rattle.margin.proofs.PositionsLaws.{Placed, placed-none, placed-next, placed-all}

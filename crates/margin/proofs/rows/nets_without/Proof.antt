@@ -5,7 +5,7 @@ use mathlib.Core.List.{List}
 use Prim.Native.Nat.{ℕ, _+_, _-_, _≤_, _<_}
 use native.Mathlib.Omega.{arith}
 use lib.IntN.{ℤ, pos, negℤ, natAbs, _-ℤ_}
-use lib.ListN.{length, getD}
+use lib.ListN.{getD}
 use Rattle.margin.specs.Bounds.{mostDelta}
 use Rattle.margin.specs.Position.{Added, deltasIn}
 use Rattle.margin.proofs.AddedLaws.{start, next, delta-at, deltas-set}

@@ -1,7 +1,7 @@
 -- Each turn takes one total away.
 -- Assumes nothing.
-use mathlib.Core.Path.{_≡_, refl, ap, subst, sym}
-use Prim.Native.Nat.{ℕ, _+_, _-_, _*_, _^_, _≤_, _<_}
+use mathlib.Core.Path.{_≡_, refl, ap, subst}
+use Prim.Native.Nat.{ℕ, _-_, _*_, _≤_, _<_}
 use native.Mathlib.Omega.{arith}
 use lib.IntN.{ℤ, pos, negℤ, natAbs, _-ℤ_}
 use lib.ListN.{getD}

@@ -1,6 +1,6 @@
 -- What the rows alone come to is taken away again.
 -- Assumes nothing.
-use mathlib.Core.Path.{_≡_, refl}
+use mathlib.Core.Path.{refl}
 use mathlib.Core.List.{[]}
 use Prim.Native.Nat.{_-_, zero-le}
 use native.Mathlib.Omega.{arith}

@@ -59,10 +59,13 @@ fn everything(
     }
     let account = checked.account;
     let all = everything_over(file, nothing_of(file), account, figures, books, uses);
+    let of_figures = all.figures;
+    let of_books = all.books;
+    let of_uses = all.uses;
     Asked {
-        figures: all.figures,
-        books: all.books,
-        uses: all.uses,
+        figures: of_figures,
+        books: of_books,
+        uses: of_uses,
     }
 }
 

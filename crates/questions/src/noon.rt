@@ -102,10 +102,13 @@ pub fn ask_all<'a>(
     }
     let account = checked.account;
     let all = everything_over(morning, noon, account, figures, books, uses);
+    let of_figures = all.figures;
+    let of_books = all.books;
+    let of_uses = all.uses;
     AskedPair {
-        figures: of_joined(all.figures),
-        books: of_joined(all.books),
-        uses: of_joined(all.uses),
+        figures: of_joined(of_figures),
+        books: of_joined(of_books),
+        uses: of_joined(of_uses),
     }
 }
 

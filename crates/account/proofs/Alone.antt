@@ -8,16 +8,17 @@ use mathlib.Core.List.{List, []}
 use lib.Dec.{eqb, ltb}
 use lib.ListN.{length, getD, replicate, length-replicate, getD-replicate}
 use Rattle.exact.specs.Lists.{sum}
-use Rattle.account.specs.Check.{checked, mostContracts}
+use Rattle.account.specs.Check.{recordsChecked, mostContracts}
 use Rattle.account.specs.Notes.{parts}
 use Rattle.account.specs.Records.{records, recordCount}
-use Rattle.account.specs.Standing.{lists, fromNoon, eitherNote, Filled, Flagged, JoinedBy, AloneBy, Stands, CheckedBy}
+use Rattle.account.specs.Standing.{lists, fromNoon, eitherNote, Filled, Flagged, JoinedBy, AloneBy, Stands, CheckedBy, accountOf}
 use Rattle.account.specs.Surveyed.{Surveyed}
 use Rattle.account.specs.declared.answers.Answer.the-variants.{Accepted}
 use Rattle.account.specs.declared.check.Survey.{Survey}
 use Rattle.account.specs.declared.accounts.Account.{Account}
 use Rattle.account.proofs.Going.{same-survey}
-use Rattle.account.proofs.Places.{alone, alone-lawful, records-are, places}
+use Rattle.account.proofs.Lawful.{lawful-of}
+use Rattle.account.proofs.Places.{alone, alone-recorded, records-are, places}
 use Rattle.account.proofs.Walk.{length-cut}
 
 abbrev zeros : List ℕ
@@ -70,7 +71,7 @@ module _ (file : List ℕ) (s : Survey) (k : ℕ) (j : Account) (sv : Surveyed f
         records = refl;
       }
 
-  module _ (ok : checked file ≡ Accepted) (e : k ≡ recordCount file) where
+  module _ (ok : recordsChecked file ≡ Accepted) (e : k ≡ recordCount file) where
     all-added : j .records ≡ sum (j .counts)
     unfolding added
     all-added =
@@ -87,8 +88,8 @@ module _ (file : List ℕ) (s : Survey) (k : ℕ) (j : Account) (sv : Surveyed f
     pub alone-stands : (none : List ℕ) → none ≡ [] → Stands file none j
     alone-stands none z =
         subst⁻¹ (λ (x : List ℕ). Stands file x j) z
-        (let law = alone-lawful file [] refl ok in
-        record { lawful = law; places = places file [] s nothing j sv nothing-surveyed ok refl joined-by law })
+        (let law = alone-recorded file [] refl ok in
+        record { lawful = lawful-of (accountOf file []) law; places = places file [] s nothing j sv nothing-surveyed ok refl joined-by law })
 
 -- what the check of a file hands out
 pub checked-alone : (file : List ℕ) (s : Survey) (j : Account) → Surveyed file s → AloneBy s (recordCount file) j → CheckedBy file (record { answer = s .answer; account = j })

@@ -12,7 +12,7 @@ use borrow.Author.Tests.{eq-eqb, ne-eqb, eqb-true, eqb-false, ltb-true, ltb-fals
 use Rattle.record.specs.Layout.{Record}
 use Rattle.record.proofs.Within.{never}
 use Rattle.account.specs.Answers.{numberOf, recordOf}
-use Rattle.account.specs.Check.{Refusal, firstOf, refusals, faultOf, tooLong, cutRecord, checked}
+use Rattle.account.specs.Check.{Refusal, firstOf, refusals, faultOf, tooLong, cutRecord, recordsChecked}
 use Rattle.account.specs.Claims.{Iff, givenIn, holdsAt, Gives, First, Clean, Exactly}
 use Rattle.account.specs.Records.{recordAt, recordCount, earlier}
 use Rattle.account.specs.declared.answers.Answer.{Answer}
@@ -164,7 +164,7 @@ module _ (file : List ℕ) where
       → (tooLong file ≡ false → cutRecord file ≡ false → (f : Fault) → Gives file (f .number) (f .place) → P)
       → P
 
-  gives : {a : Answer} (n k : ℕ) → checked file ≡ a → numberOf a ≡ n → recordOf a ≡ k → Gives file n k
+  gives : {a : Answer} (n k : ℕ) → recordsChecked file ≡ a → numberOf a ≡ n → recordOf a ≡ k → Gives file n k
   gives n k e p q = record { number = ap numberOf e ∙ p; place = ap recordOf e ∙ q }
 
   fault-gives : tooLong file ≡ false → cutRecord file ≡ false → (f : Fault) → Gives file (f .number) (f .place)

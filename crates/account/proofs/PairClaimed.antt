@@ -14,12 +14,12 @@ use Rattle.exact.proofs.Lists.{any-at}
 use Rattle.record.specs.Layout.{Record, mostContract}
 use Rattle.account.specs.Accepted.{Each, listed, partBytes}
 use Rattle.account.specs.Answers.{numberOf, recordOf}
-use Rattle.account.specs.Check.{checked, mostRecords, mostContracts}
+use Rattle.account.specs.Check.{recordsChecked, mostRecords, mostContracts}
 use Rattle.account.specs.Claims.{Iff, Gives}
-use Rattle.account.specs.Noon.{ofJoined, ofMorning, ofNoon, clear, _then_, noSpread, fewJoined, joinedVerdict, nowhere, placeIn, promptPlace, joinedPrompts}
+use Rattle.account.specs.Noon.{ofJoined, ofMorning, ofNoon, clear, _then_, morningsOwn, noSpread, fewJoined, joinedVerdict, nowhere, placeIn, promptPlace, joinedPrompts}
 use Rattle.account.specs.Notes.{part}
 use Rattle.account.specs.PairClaims.{Says, BothPass, FirstSpread, NoSpread, PairExactly, OfMorning, OfNoon, OfJoined, PromptsHanded, PairClaims}
-use Rattle.account.specs.Parts.{ofKind, ofContract, placeOf, promptsOf}
+use Rattle.account.specs.Parts.{ofContract, placeOf, promptsOf}
 use Rattle.account.specs.Records.{records, recordAt, recordCount, stretch}
 use Rattle.account.specs.Standing.{accountOf}
 use Rattle.account.specs.declared.answers.Answer.{Answer}
@@ -29,7 +29,7 @@ use Rattle.account.specs.declared.noon.Verdict.{Verdict}
 use Rattle.account.proofs.Accepted.{part-stands}
 use Rattle.account.proofs.Exactly.{exactly}
 use Rattle.account.proofs.JoinedLaws.{part-joined}
-use Rattle.account.proofs.Lawful.{lawful}
+use Rattle.account.proofs.Lawful.{recorded}
 use Rattle.account.proofs.NoonLaws.{stops, goes, accepted-only, morning-accepted, noon-accepted}
 use Rattle.account.proofs.Orders.{cut-at}
 use Rattle.account.proofs.Walk.{length-cut, none-place}
@@ -167,42 +167,42 @@ accepted-clear : (a : Answer) (f : ℕ) → a ≡ Accepted → clear (record { f
 accepted-clear a f e = ap (λ (x : Answer). eqb (numberOf x) 0) e
 
 module _ (noon : List ℕ) where
-  spread-if : (t : Bool) → any (ofKind 5) (records noon) ≡ t → noSpread noon ≡ cond t (NoonSpread (placeOf (ofKind 5) (records noon))) Accepted
-  spread-if t e = ap (λ (b : Bool). cond b (NoonSpread (placeOf (ofKind 5) (records noon))) Accepted) e
+  spread-if : (t : Bool) → any morningsOwn (records noon) ≡ t → noSpread noon ≡ cond t (NoonSpread (placeOf morningsOwn (records noon))) Accepted
+  spread-if t e = ap (λ (b : Bool). cond b (NoonSpread (placeOf morningsOwn (records noon))) Accepted) e
 
   spread-says : (k : ℕ) → Iff (Says (ofNoon (noSpread noon)) 2 12 k) (FirstSpread noon k)
   spread-says k =
       record {
-        forth = λ s. go (any (ofKind 5) (records noon)) refl s;
+        forth = λ s. go (any morningsOwn (records noon)) refl s;
         back =
             λ f.
-            let a = spread-if true (any-there (ofKind 5) noon k (f .there) (f .here)) in
-            record { of = refl; number = ap numberOf a; place = ap recordOf a ∙ placed (ofKind 5) noon k (f .there) (f .here) (f .before) };
+            let a = spread-if true (any-there morningsOwn noon k (f .there) (f .here)) in
+            record { of = refl; number = ap numberOf a; place = ap recordOf a ∙ placed morningsOwn noon k (f .there) (f .here) (f .before) };
       }
     where
-      go : (t : Bool) → any (ofKind 5) (records noon) ≡ t → Says (ofNoon (noSpread noon)) 2 12 k → FirstSpread noon k
+      go : (t : Bool) → any morningsOwn (records noon) ≡ t → Says (ofNoon (noSpread noon)) 2 12 k → FirstSpread noon k
       go true a s =
-          let e : placeOf (ofKind 5) (records noon) ≡ k = sym (ap recordOf (spread-if true a)) ∙ s .place in
+          let e : placeOf morningsOwn (records noon) ≡ k = sym (ap recordOf (spread-if true a)) ∙ s .place in
           subst (FirstSpread noon) e
-          (record { there = place-there (ofKind 5) noon a; here = place-is (ofKind 5) noon a; before = place-first (ofKind 5) noon a })
+          (record { there = place-there morningsOwn noon a; here = place-is morningsOwn noon a; before = place-first morningsOwn noon a })
       go false a s = absurd (apart {a = 0} {b = 12} (omega arith) (sym (ap numberOf (spread-if false a)) ∙ s .number))
 
   spread-number : (n : ℕ) → 1 ≤ n → n ≤ 9 → numberOf (noSpread noon) ≡ n → ⊥
-  spread-number n l h = go (any (ofKind 5) (records noon)) refl
+  spread-number n l h = go (any morningsOwn (records noon)) refl
     where
-      go : (t : Bool) → any (ofKind 5) (records noon) ≡ t → numberOf (noSpread noon) ≡ n → ⊥
+      go : (t : Bool) → any morningsOwn (records noon) ≡ t → numberOf (noSpread noon) ≡ n → ⊥
       go true a e = let d = sym (ap numberOf (spread-if true a)) ∙ e in omega arith
       go false a e = let d = sym (ap numberOf (spread-if false a)) ∙ e in omega arith
 
   spread-clear : clear (ofNoon (noSpread noon)) ≡ true → NoSpread noon
-  spread-clear c = go (any (ofKind 5) (records noon)) refl
+  spread-clear c = go (any morningsOwn (records noon)) refl
     where
-      go : (t : Bool) → any (ofKind 5) (records noon) ≡ t → NoSpread noon
+      go : (t : Bool) → any morningsOwn (records noon) ≡ t → NoSpread noon
       go true a = absurd (false≢true (ap (λ (x : Answer). eqb (numberOf x) 0) (sym (spread-if true a)) ∙ c))
-      go false a = record { none = none-of (ofKind 5) noon a }
+      go false a = record { none = none-of morningsOwn noon a }
 
   clear-spread : NoSpread noon → clear (ofNoon (noSpread noon)) ≡ true
-  clear-spread f = accepted-clear (noSpread noon) 2 (spread-if false (none-there (ofKind 5) noon (f .none)))
+  clear-spread f = accepted-clear (noSpread noon) 2 (spread-if false (none-there morningsOwn noon (f .none)))
 
 module _ (many : ℕ) where
   few-if : (t : Bool) → ltb mostRecords many ≡ t → fewJoined many ≡ cond t (TooManyJoined many) Accepted
@@ -235,7 +235,7 @@ module _ (many : ℕ) where
 
 -- ---- the pair
 
-says-gives : (file : List ℕ) (f n k : ℕ) → Iff (Says (record { file = f; answer = checked file }) f n k) (Gives file n k)
+says-gives : (file : List ℕ) (f n k : ℕ) → Iff (Says (record { file = f; answer = recordsChecked file }) f n k) (Gives file n k)
 says-gives file f n k =
     record {
       forth = λ s. record { number = s .number; place = s .place };
@@ -244,10 +244,10 @@ says-gives file f n k =
 
 module _ (morning noon : List ℕ) where
   abbrev m : Verdict
-  m = ofMorning (checked morning)
+  m = ofMorning (recordsChecked morning)
 
   abbrev n : Verdict
-  n = ofNoon (checked noon)
+  n = ofNoon (recordsChecked noon)
 
   abbrev spread : Verdict
   spread = ofNoon (noSpread noon)
@@ -259,7 +259,7 @@ module _ (morning noon : List ℕ) where
   past-morning : (f i k : ℕ) → (1 ≡ f → ⊥) → Iff (Says (joinedVerdict morning noon) f i k) ((clear m ≡ true) × Says (n then spread then all) f i k)
   past-morning f i k d = next-says m (n then spread then all) f i k (λ s. absurd (d (s .of)))
 
-  -- what is said of the joined account is said where the noon file passes too and has no kind 5
+  -- what is said of the joined account is said where the noon file passes too and has no kind 5 or 6
   of-joined : (i k : ℕ) → Iff (Says (joinedVerdict morning noon) 0 i k) (BothPass morning noon × (NoSpread noon × Says all 0 i k))
   of-joined i k =
       let a = past-morning 0 i k (λ e. omega arith) in
@@ -271,10 +271,10 @@ module _ (morning noon : List ℕ) where
             let x = a .forth s in
             let y = b .forth (x .1) in
             let z = c .forth (y .1) in
-            (record { first = clear-accepted (checked morning) 1 (x .0); second = clear-accepted (checked noon) 2 (y .0) }, (spread-clear noon (z .0), z .1));
+            (record { first = clear-accepted (recordsChecked morning) 1 (x .0); second = clear-accepted (recordsChecked noon) 2 (y .0) }, (spread-clear noon (z .0), z .1));
         back =
             λ (p, (q, s)).
-            a .back (accepted-clear (checked morning) 1 (p .first), b .back (accepted-clear (checked noon) 2 (p .second), c .back (clear-spread noon q, s)));
+            a .back (accepted-clear (recordsChecked morning) 1 (p .first), b .back (accepted-clear (recordsChecked noon) 2 (p .second), c .back (clear-spread noon q, s)));
       }
 
   pub pair-exactly : PairExactly morning noon
@@ -291,8 +291,8 @@ module _ (morning noon : List ℕ) where
             let b = first-says n (spread then all) 2 i k l (not-spread i k l h) in
             let g = says-gives noon 2 i k in
             record {
-              forth = λ s. let x = a .forth s in (clear-accepted (checked morning) 1 (x .0), g .forth (b .forth (x .1)));
-              back = λ (p, s). a .back (accepted-clear (checked morning) 1 p, b .back (g .back s));
+              forth = λ s. let x = a .forth s in (clear-accepted (recordsChecked morning) 1 (x .0), g .forth (b .forth (x .1)));
+              back = λ (p, s). a .back (accepted-clear (recordsChecked morning) 1 p, b .back (g .back s));
             };
         twelve =
             λ k.
@@ -305,10 +305,10 @@ module _ (morning noon : List ℕ) where
                   λ s.
                   let x = a .forth s in
                   let y = b .forth (x .1) in
-                  (record { first = clear-accepted (checked morning) 1 (x .0); second = clear-accepted (checked noon) 2 (y .0) }, g .forth (c .forth (y .1)));
+                  (record { first = clear-accepted (recordsChecked morning) 1 (x .0); second = clear-accepted (recordsChecked noon) 2 (y .0) }, g .forth (c .forth (y .1)));
               back =
                   λ (p, f).
-                  a .back (accepted-clear (checked morning) 1 (p .first), b .back (accepted-clear (checked noon) 2 (p .second), c .back (g .back f)));
+                  a .back (accepted-clear (recordsChecked morning) 1 (p .first), b .back (accepted-clear (recordsChecked noon) 2 (p .second), c .back (g .back f)));
             };
         thirteen =
             λ k.
@@ -327,7 +327,7 @@ module _ (morning noon : List ℕ) where
             };
       }
     where
-      at-most-nine : numberOf (checked noon) ≡ 12 → ⊥
+      at-most-nine : numberOf (recordsChecked noon) ≡ 12 → ⊥
       at-most-nine e = omega (arith, exactly noon .most, e)
 
       not-morning : (n then spread then all) .file ≡ 1 → ⊥
@@ -350,9 +350,9 @@ module _ (morning noon : List ℕ) where
       above a e = let d = eqb-false (numberOf a) 0 e in omega (arith, d)
 
       twelve : clear spread ≡ false → numberOf (noSpread noon) ≡ 12
-      twelve e = by (any (ofKind 5) (records noon)) refl
+      twelve e = by (any morningsOwn (records noon)) refl
         where
-          by : (t : Bool) → any (ofKind 5) (records noon) ≡ t → numberOf (noSpread noon) ≡ 12
+          by : (t : Bool) → any morningsOwn (records noon) ≡ t → numberOf (noSpread noon) ≡ 12
           by true a = ap numberOf (spread-if noon true a)
           by false a = absurd (false≢true (sym e ∙ ap (λ (x : Answer). eqb (numberOf x) 0) (spread-if noon false a)))
 
@@ -367,23 +367,23 @@ module _ (morning noon : List ℕ) where
       go : (t : Bool) → clear m ≡ t → (u : Bool) → clear n ≡ u → (w : Bool) → clear spread ≡ w
           → OfMorning (joinedVerdict morning noon) ⊎ (OfNoon (joinedVerdict morning noon) ⊎ OfJoined (joinedVerdict morning noon))
       go false a u b w c =
-          inl (subst⁻¹ OfMorning (stops m (n then spread then all) (eqb-false (numberOf (checked morning)) 0 a))
-          (record { of = refl; least = above (checked morning) a; most = exactly morning .most }))
+          inl (subst⁻¹ OfMorning (stops m (n then spread then all) (eqb-false (numberOf (recordsChecked morning)) 0 a))
+          (record { of = refl; least = above (recordsChecked morning) a; most = exactly morning .most }))
       go true a false b w c =
           inr (inl (subst⁻¹ OfNoon
-          (goes m (n then spread then all) (eqb-true (numberOf (checked morning)) 0 a)
-          ∙ stops n (spread then all) (eqb-false (numberOf (checked noon)) 0 b))
-          (record { of = refl; number = inl (above (checked noon) b, exactly noon .most) })))
+          (goes m (n then spread then all) (eqb-true (numberOf (recordsChecked morning)) 0 a)
+          ∙ stops n (spread then all) (eqb-false (numberOf (recordsChecked noon)) 0 b))
+          (record { of = refl; number = inl (above (recordsChecked noon) b, exactly noon .most) })))
       go true a true b false c =
           inr (inl (subst⁻¹ OfNoon
-          (goes m (n then spread then all) (eqb-true (numberOf (checked morning)) 0 a)
-          ∙ goes n (spread then all) (eqb-true (numberOf (checked noon)) 0 b)
+          (goes m (n then spread then all) (eqb-true (numberOf (recordsChecked morning)) 0 a)
+          ∙ goes n (spread then all) (eqb-true (numberOf (recordsChecked noon)) 0 b)
           ∙ stops spread all (eqb-false (numberOf (noSpread noon)) 0 c))
           (record { of = refl; number = inr (twelve c) })))
       go true a true b true c =
           inr (inr (subst⁻¹ OfJoined
-          (goes m (n then spread then all) (eqb-true (numberOf (checked morning)) 0 a)
-          ∙ goes n (spread then all) (eqb-true (numberOf (checked noon)) 0 b)
+          (goes m (n then spread then all) (eqb-true (numberOf (recordsChecked morning)) 0 a)
+          ∙ goes n (spread then all) (eqb-true (numberOf (recordsChecked noon)) 0 b)
           ∙ goes spread all (eqb-true (numberOf (noSpread noon)) 0 c))
           (record { of = refl; number = last })))
 
@@ -445,7 +445,7 @@ module _ (morning noon : List ℕ) (c : ℕ) where
             ∙ sym (supplied false e)
         go false e false f =
             ap records (none-either e f)
-            ∙ sym (none-listed (promptsOf c (records morning)) (listed c (records morning)) (lawful morning (morning-accepted morning noon o) .named .prompts c) f)
+            ∙ sym (none-listed (promptsOf c (records morning)) (listed c (records morning)) (recorded morning (morning-accepted morning noon o) .named .prompts c) f)
             ∙ sym (supplied false e)
 
   no-place : clear (joinedVerdict morning noon) && ltb c mostContracts ≡ false → joinedPrompts morning noon c ≡ []

@@ -7,12 +7,12 @@ use mathlib.Core.Bool.{Bool, true, false, _&&_, _||_, cond}
 use mathlib.Core.List.{List, [], _∷_}
 use lib.Dec.{eqb}
 use Rattle.exact.specs.Lists.{any}
-use Rattle.record.specs.Layout.{Record, byKind, kind, contract}
+use Rattle.record.specs.Layout.{Record, _has_, byKind, kind, contract}
 use Rattle.record.specs.Ranges.{unknownKind, fieldOutside}
 use Rattle.account.specs.Accepted.{Accepts}
 use Rattle.account.specs.Answers.{numberOf, recordOf}
-use Rattle.account.specs.Check.{Refusal, refusals, tooLong, cutRecord, checked}
-use Rattle.account.specs.Check.{theOneBefore, kindFalls, numberNotAbove, dayNotAbove, tierFalls, contractFalls, legsClash, withItself, outOfOrder, faultOf}
+use Rattle.account.specs.Check.{Refusal, refusals, tooLong, cutRecord, recordsChecked}
+use Rattle.account.specs.Check.{theOneBefore, kindFalls, numberNotAbove, dayNotAbove, tierFalls, contractFalls, legsClash, withItself, currencyNotAbove, outOfOrder, faultOf}
 use Rattle.account.specs.Orders.{Orders}
 use Rattle.account.specs.Parts.{ofKind, ofContract}
 use Rattle.account.specs.Records.{records, recordAt, recordCount, earlier}
@@ -32,8 +32,8 @@ holdsAt file k n = givenIn (refusals (earlier file k) (recordAt file k)) n
 
 -- the file comes back with refusal n and record k
 pub record Gives (file : List ℕ) (n k : ℕ) : Type 0 where
-  pub number : numberOf (checked file) ≡ n
-  pub place : recordOf (checked file) ≡ k
+  pub number : numberOf (recordsChecked file) ≡ n
+  pub place : recordOf (recordsChecked file) ≡ k
 
 -- refusal n holds at record k, none before it in the table holds there, none holds at a record before, and neither 1 nor 2
 pub record First (file : List ℕ) (n k : ℕ) : Type 0 where
@@ -56,7 +56,7 @@ pub record Exactly (file : List ℕ) : Type 0 where
   pub two : Iff (Gives file 2 0) ((tooLong file ≡ false) × (cutRecord file ≡ true))
   pub others : (n k : ℕ) → 3 ≤ n → n ≤ 9 → Iff (Gives file n k) (First file n k)
   pub accepted : Iff (Gives file 0 0) (Clean file)
-  pub most : numberOf (checked file) ≤ 9
+  pub most : numberOf (recordsChecked file) ≤ 9
 
 -- "the one before of its kind", "the prompt before it in its contract": the latest earlier record that passes a test, and
 -- where none does one of no bytes
@@ -68,11 +68,12 @@ latest p (e ∷ es) = cond (p e) e (latest p es)
 abbrev pub outOfOrderByKind : List Record → Record → Bool
 outOfOrderByKind es r =
     byKind (kind r)
-    (numberNotAbove (latest (ofKind 1) es) r)
-    (dayNotAbove (latest (ofKind 2) es) r || tierFalls (latest (ofContract 2 (contract r)) es) r)
-    (contractFalls (latest (ofKind 3) es) r)
-    (contractFalls (latest (ofKind 4) es) r || legsClash r)
-    (withItself r)
+    (1 has numberNotAbove (latest (ofKind 1) es) r
+    ∷ 2 has (dayNotAbove (latest (ofKind 2) es) r || tierFalls (latest (ofContract 2 (contract r)) es) r)
+    ∷ 3 has contractFalls (latest (ofKind 3) es) r
+    ∷ 4 has (contractFalls (latest (ofKind 4) es) r || legsClash r)
+    ∷ 5 has withItself r
+    ∷ 6 has currencyNotAbove (latest (ofKind 6) es) r ∷ [])
     false
 
 -- it comes to the same at every record that the check comes to and that has no 3, 4 or 6
@@ -88,5 +89,5 @@ ByKind file =
 pub record Claims (file : List ℕ) : Type 0 where
   pub exactly : Exactly file
   pub byKind : ByKind file
-  pub accepts : checked file ≡ Accepted → Accepts file
-  pub orders : checked file ≡ Accepted → Orders (records file)
+  pub accepts : recordsChecked file ≡ Accepted → Accepts file
+  pub orders : recordsChecked file ≡ Accepted → Orders (records file)

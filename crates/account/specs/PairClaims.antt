@@ -10,11 +10,11 @@ use lib.ListN.{length}
 use Rattle.record.specs.Layout.{mostContract}
 use Rattle.account.specs.Accepted.{listed, partBytes}
 use Rattle.account.specs.Answers.{numberOf, recordOf}
-use Rattle.account.specs.Check.{checked, mostRecords}
+use Rattle.account.specs.Check.{recordsChecked, mostRecords}
 use Rattle.account.specs.Claims.{Iff, Gives}
-use Rattle.account.specs.Noon.{clear, joinedVerdict, joinedPrompts}
+use Rattle.account.specs.Noon.{clear, morningsOwn, joinedVerdict, joinedPrompts}
 use Rattle.account.specs.Notes.{part}
-use Rattle.account.specs.Parts.{ofKind, promptsOf}
+use Rattle.account.specs.Parts.{promptsOf}
 use Rattle.account.specs.Records.{records, recordAt, recordCount}
 use Rattle.account.specs.Standing.{accountOf}
 use Rattle.account.specs.declared.answers.Answer.the-variants.{Accepted}
@@ -28,23 +28,23 @@ pub record Says (v : Verdict) (file n k : ℕ) : Type 0 where
 
 -- neither file is refused by 01
 pub record BothPass (morning noon : List ℕ) : Type 0 where
-  pub first : checked morning ≡ Accepted
-  pub second : checked noon ≡ Accepted
+  pub first : recordsChecked morning ≡ Accepted
+  pub second : recordsChecked noon ≡ Accepted
 
--- "the noon file has kind 5, at its first such record"
+-- "the noon file has kind 5, at its first such record"; or kind 6
 pub record FirstSpread (noon : List ℕ) (k : ℕ) : Type 0 where
   pub there : k < recordCount noon
-  pub here : ofKind 5 (recordAt noon k) ≡ true
-  pub before : (j : ℕ) → j < k → ofKind 5 (recordAt noon j) ≡ false
+  pub here : morningsOwn (recordAt noon k) ≡ true
+  pub before : (j : ℕ) → j < k → morningsOwn (recordAt noon j) ≡ false
 
 pub record NoSpread (noon : List ℕ) : Type 0 where
-  pub none : (j : ℕ) → j < recordCount noon → ofKind 5 (recordAt noon j) ≡ false
+  pub none : (j : ℕ) → j < recordCount noon → morningsOwn (recordAt noon j) ≡ false
 
 -- "Refusals: each file by 01's 1 to 9, morning first, saying which; then 12 ..; then, naming the joined record count, 13, more than
 -- 640 records joined"
 pub record PairExactly (morning noon : List ℕ) : Type 0 where
   pub ofMorning : (n k : ℕ) → 1 ≤ n → n ≤ 9 → Iff (Says (joinedVerdict morning noon) 1 n k) (Gives morning n k)
-  pub ofNoon : (n k : ℕ) → 1 ≤ n → n ≤ 9 → Iff (Says (joinedVerdict morning noon) 2 n k) ((checked morning ≡ Accepted) × Gives noon n k)
+  pub ofNoon : (n k : ℕ) → 1 ≤ n → n ≤ 9 → Iff (Says (joinedVerdict morning noon) 2 n k) ((recordsChecked morning ≡ Accepted) × Gives noon n k)
   pub twelve : (k : ℕ) → Iff (Says (joinedVerdict morning noon) 2 12 k) (BothPass morning noon × FirstSpread noon k)
   pub thirteen : (k : ℕ) → Iff (Says (joinedVerdict morning noon) 0 13 k)
       (BothPass morning noon × (NoSpread noon × ((mostRecords < length (accountOf morning noon)) × (length (accountOf morning noon) ≡ k))))

@@ -10,6 +10,7 @@ use crate::parts::CONTRACTS;
 use crate::parts::ENTRIES;
 use crate::parts::OWN;
 use crate::parts::PARTS;
+use crate::parts::RATES;
 use crate::stretches::record_count;
 use crate::stretches::stretch;
 ghost use mathlib.Core.Path.{_≡_};
@@ -19,7 +20,7 @@ ghost use lib.ListN.{length, getD, set};
 ghost use Rattle.exact.specs.Lists.{oneIf, sum};
 ghost use Rattle.account.specs.Check.{mostContracts};
 ghost use Rattle.account.specs.Notes.{parts};
-ghost use Rattle.account.specs.Standing.{accountOf, Stands, PartOf, CheckedBy};
+ghost use Rattle.account.specs.Standing.{accountOf, Places, Stands, PartOf, CheckedBy};
 ghost use Rattle.account.specs.Standing.{lists, fromNoon, eitherNote, Filled, Flagged, Numbered, JoinedBy, AloneBy};
 
 // An account: how many records it has, its contracts' numbers in order, which of them the noon file supplies, and of each
@@ -81,7 +82,20 @@ pub fn part<'a>(morning: &'a [u8], noon: &'a [u8], account: Account, v: usize) -
     requires { ⌜ Stands (now morning) (now noon) account ⌝ }
     ensures { λ r. ⌜ PartOf (accountOf (now (morning .entry)) (now (noon .entry))) v (now r) ⌝ }
 {
-    if ENTRIES < v {
+    placed_part(morning, noon, account, v)
+}
+
+// The same where the rates are still to be looked at.
+pub(crate) fn placed_part<'a>(
+    morning: &'a [u8],
+    noon: &'a [u8],
+    account: Account,
+    v: usize,
+) -> &'a [u8]
+    requires { ⌜ Places (now morning) (now noon) account ⌝ }
+    ensures { λ r. ⌜ PartOf (accountOf (now (morning .entry)) (now (noon .entry))) v (now r) ⌝ }
+{
+    if RATES < v {
         return &morning[..0];
     }
     let late = (v < ENTRIES) & account.noon[v % CONTRACTS];

@@ -12,11 +12,12 @@ use crate::parts::CONTRACTS;
 use crate::parts::ENTRIES;
 use crate::parts::OWN;
 use crate::parts::PROMPTS;
+use crate::parts::RATES;
 use crate::stretches::stretch;
 ghost use mathlib.Core.Path.{_≡_};
 ghost use Prim.Native.Nat.{_<_};
 ghost use Rattle.account.specs.Check.{mostContracts};
-ghost use Rattle.account.specs.Noon.{verdictBy, PairBy, placeBy, promptPlace, joinedPrompts};
+ghost use Rattle.account.specs.Noon.{noonSpread, verdictBy, PairBy, placeBy, promptPlace, joinedPrompts};
 
 // Which file an answer is about.
 pub const JOINED: usize = 0;
@@ -28,6 +29,19 @@ pub const NOON: usize = 2;
 pub struct Verdict {
     pub file: usize,
     pub answer: Answer,
+}
+
+// 12: "the noon file has kind 5, at its first such record", or kind 6.
+fn noon_spread(noon: Survey) -> Answer
+    ensures { λ a. ⌜ a ≡ noonSpread noon ⌝ }
+{
+    if noon.counts[ENTRIES] != 0 {
+        return Answer::NoonSpread(noon.first[ENTRIES] as usize);
+    }
+    if noon.counts[RATES] != 0 {
+        return Answer::NoonSpread(noon.first[RATES] as usize);
+    }
+    Answer::Accepted
 }
 
 // "Each file by 01's 1 to 9, morning first, saying which; then 12 ..; then, naming the joined record count, 13".
@@ -48,10 +62,11 @@ fn verdict_of(morning: Survey, noon: Survey, records: usize) -> Verdict
             answer: second,
         };
     }
-    if noon.counts[ENTRIES] != 0 {
+    let third = noon_spread(noon);
+    if number_of(third) != 0 {
         return Verdict {
             file: NOON,
-            answer: Answer::NoonSpread(noon.first[ENTRIES] as usize),
+            answer: third,
         };
     }
     if MOST_RECORDS < records {

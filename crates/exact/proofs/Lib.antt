@@ -1,6 +1,7 @@
 -- The laws that the layers above cite, and a file for one function.
 pub mod Determined
 mod Downward
+pub mod FractionLaws
 pub mod HalfUp
 pub mod Integers
 pub mod Lists

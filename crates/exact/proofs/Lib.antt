@@ -5,6 +5,7 @@ pub mod FractionLaws
 pub mod HalfUp
 pub mod Integers
 pub mod Lists
+pub mod SignedCalls
 pub mod Totals
 pub mod Table
 pub mod UnitLaws

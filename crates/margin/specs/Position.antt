@@ -8,6 +8,7 @@ use lib.Dec.{eqb}
 use lib.IntN.{ℤ, pos, natAbs, _+ℤ_}
 use lib.ListN.{length, getD, take}
 use Rattle.exact.specs.Lists.{keep, sumℤ}
+pub use Rattle.exact.specs.Signed.{Sized}
 use Rattle.record.specs.Layout.{Record, lots, delta, value, loss, day, hundredThousand, oneLot, mostValue, scenarioCount}
 use Rattle.account.specs.Check.{mostRows}
 use Rattle.exact.specs.Lists.{count}
@@ -31,11 +32,6 @@ pub record RowFit (row : Record) : Type 0 where
 pub record RowsFit (rows : List Record) : Type 0 where
   pub few : length rows ≤ mostRows
   pub each : (k : ℕ) → k < length rows → RowFit (getD rows k [])
-
--- a result, and how large it can be
-pub record Sized (most : ℕ) (z r : ℤ) : Type 0 where
-  pub is : r ≡ z
-  pub size : natAbs r ≤ most
 
 -- n numbers, each of a size up to the most
 pub record AtMost (n most : ℕ) (zs : List ℤ) : Type 0 where

@@ -1,4 +1,5 @@
 pub mod Walk
+pub mod ProductLaws
 pub mod Dispatch
 pub mod Firsts
 pub mod Lists

@@ -5,6 +5,7 @@ pub mod Check
 pub mod Notes
 pub mod Surveyed
 pub mod Accepted
+pub mod Products
 pub mod Claims
 pub mod Orders
 pub mod Lawful

@@ -36,7 +36,7 @@ use Rattle.account.proofs.Passed.{Known, known-of, part-cases, part-bou
 
 -- ---- lists one after the other
 module _ (f : ℕ → List Record) where
-  every-turn :
+  pub every-turn :
       (P : Record → Type 0) (a n : ℕ) → ((v : ℕ) → a ≤ v → v < a + n → Each P (f v)) → Each P (inTurn f a n)
   every-turn P a zero h = tt
   every-turn P a (suc n) h =
@@ -49,7 +49,7 @@ module _ (f : ℕ → List Record) where
       keep-append p (f a) (inTurn f (a + 1) n)
       ∙ ap (λ (rs : List Record). keep p (f a) ++ rs) (keep-turn p (a + 1) n)
 
-  none-turn : (a n : ℕ) → ((v : ℕ) → a ≤ v → v < a + n → f v ≡ []) → inTurn f a n ≡ []
+  pub none-turn : (a n : ℕ) → ((v : ℕ) → a ≤ v → v < a + n → f v ≡ []) → inTurn f a n ≡ []
   none-turn a zero h = refl
   none-turn a (suc n) h =
       rw (h a (omega arith) (omega arith)) (none-turn (a + 1) n (λ v l m. h v (omega arith) (omega arith)))
@@ -505,7 +505,7 @@ module _ (m n : List Record) (morning : Recorded m) (noon : Recorded n) where
       }
 
 -- ---- an account alone
-turn-join : (f : ℕ → List Record) (a i j : ℕ) → inTurn f a i ++ inTurn f (a + i) j ≡ inTurn f a (i + j)
+pub turn-join : (f : ℕ → List Record) (a i j : ℕ) → inTurn f a i ++ inTurn f (a + i) j ≡ inTurn f a (i + j)
 turn-join f a zero j =
     let e : a + 0 ≡ a = omega arith in
     let d : 0 + j ≡ j = omega arith in
@@ -559,7 +559,7 @@ none-some zero h = refl
 none-some (suc n) h = absurd (h (omega arith))
 
 -- the parts of records, in the order of their numbers
-abbrev partsOf : List Record → ℕ → List Record
+abbrev pub partsOf : List Record → ℕ → List Record
 partsOf rs v = keep (inPart v) rs
 
 in-parts : (file : List ℕ) (k : ℕ) → Faultless file k → inTurn (partsOf (cut k file)) 16 66 ≡ cut k file
@@ -614,6 +614,26 @@ module _ (m : List Record) where
         kind-turn 3 (omega arith),
         kind-turn 4 (omega arith),
       ) all-turn
+
+-- a joined account is its own parts in the order of their numbers
+module _ (m n : List Record) where
+  own-turn : (k : ℕ) → 1 ≤ k → k ≤ 4 → joinedOf m n k ≡ inTurn (partsOf (joined m n)) (16 * k + 0) 16
+  own-turn k l h =
+      turn-shift (λ c. keep (ofContract k c) (supplier m n c)) (partsOf (joined m n)) (16 * k) 0 16
+      (λ c i.
+      sym (part-joined m n k c l h (omega arith))
+      ∙ ap (λ (p : Record → Bool). keep p (joined m n)) (sym (part-is k c h (omega arith))))
+
+  mornings : fromMorning m ≡ fromMorning (joined m n)
+  mornings = ap₂ (λ (a b : List Record). a ++ b) (sym (entries-joined m n)) (sym (rates-joined m n))
+
+  pub joined-turn : joined m n ≡ inTurn (partsOf (joined m n)) 16 66
+  joined-turn =
+      let one = own-turn 1 (omega arith) (omega arith) in
+      let two = own-turn 2 (omega arith) (omega arith) in
+      let three = own-turn 3 (omega arith) (omega arith) in
+      let four = own-turn 4 (omega arith) (omega arith) in
+      (λ i. five (one i) (two i) (three i) (four i) (mornings i)) ∙ all-turn (joined m n)
 
 -- an account alone is the joined account with an empty noon file
 pub joined-alone : (file : List ℕ) → recordsChecked file ≡ Accepted → joined (records file) [] ≡ records file

@@ -11,8 +11,8 @@ use Rattle.exact.specs.Lists.{consIf, keep, any}
 use Rattle.record.specs.Bytes.{countFrom}
 use Rattle.record.specs.Layout.{Record, contract}
 use Rattle.account.specs.Accepted.{Each, listed}
-use Rattle.account.specs.Check.{recordsChecked, checked, mostContracts}
-use Rattle.account.specs.Lawful.{Recorded, Lawful}
+use Rattle.account.specs.Check.{recordsChecked, mostContracts}
+use Rattle.account.specs.Lawful.{Recorded}
 use Rattle.account.specs.Orders.{Rising}
 use Rattle.account.specs.Parts.{ofKind, contractsOf}
 use Rattle.account.specs.Records.{records}
@@ -32,12 +32,6 @@ recorded file ok =
       named = a .named;
       orders = orders file ok;
     }
-
-pub lawful-of : (rs : List Record) → Recorded rs → Lawful rs
-lawful-of rs r = record { ranges = r .ranges; limits = r .limits; onePrompt = r .onePrompt; named = r .named; orders = r .orders }
-
-pub lawful : (file : List ℕ) → checked file ≡ Accepted → Lawful (records file)
-lawful file ok = lawful-of (records file) (recorded file ok)
 
 -- ---- contract numbers that rise, the first of them a or above
 abbrev From : ℕ → List Record → Type 0

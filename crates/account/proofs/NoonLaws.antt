@@ -13,24 +13,28 @@ use Rattle.record.specs.Layout.{Record, kind}
 use Rattle.account.specs.Accepted.{Each, listed}
 use Rattle.account.specs.Answers.{numberOf}
 use Rattle.account.specs.Check.{recordsChecked, mostRecords, mostContracts}
+use Rattle.account.specs.Checked.{ratesChecked}
 use Rattle.account.specs.Joined.{joinedOf, fromMorning}
 use Rattle.account.specs.Lawful.{Recorded, Lawful}
-use Rattle.account.specs.Noon.{ofJoined, ofMorning, ofNoon, clear, _then_, morningsOwn, noSpread, fewJoined, joinedVerdict, noonSpread, verdictBy, PairBy, nowhere, placeIn, placeBy, promptPlace}
+use Rattle.account.specs.Noon.{ofJoined, ofMorning, ofNoon, clear, _then_, morningsOwn, noSpread, fewJoined, recordsVerdict, joinedVerdict, noonSpread, verdictBy, PairBy, nowhere, placeIn, placeBy, promptPlace}
 use Rattle.account.specs.Notes.{part, inPart}
 use Rattle.account.specs.Parts.{ofKind, ofContract, placeOf, startOf, entriesOf, ratesOf}
 use Rattle.account.specs.Records.{records}
-use Rattle.account.specs.Standing.{JoinedBy, Stands, accountOf}
+use Rattle.account.specs.Standing.{JoinedBy, Places, Stands, accountOf}
 use Rattle.account.specs.Surveyed.{Surveyed, ofAccepted}
 use Rattle.account.specs.declared.answers.Answer.{Answer}
-use Rattle.account.specs.declared.answers.Answer.the-variants.{Accepted, TooLong, CutRecord, UnknownKind, KindFalls, UnusedByte, FieldOutside, Unlisted, OutOfOrder, OverLimit, TooFewNumbers, NoSuchQuestion, NoonSpread, TooManyJoined, LengthsDiffer, OtherCounts, TooManyAccounts, AmountOutside}
+use Rattle.account.specs.declared.answers.Answer.the-variants.{Accepted, NoonSpread, TooManyJoined}
 use Rattle.account.specs.declared.check.Survey.{Survey}
 use Rattle.account.specs.declared.accounts.Account.{Account}
 use Rattle.account.specs.declared.noon.Place.{Place}
 use Rattle.account.specs.declared.noon.Verdict.{Verdict}
+pub use Rattle.account.proofs.AcceptedOnly.{accepted-only}
+use Rattle.account.proofs.AcceptedOnly.{some}
 use Rattle.account.proofs.Every.{every-append, every-weaker}
 use Rattle.account.proofs.Going.{same-survey}
 use Rattle.account.proofs.JoinedLaws.{joined-recorded, joined-kind, entries-kind, rates-kind, joined-alone}
-use Rattle.account.proofs.Lawful.{recorded, lawful-of}
+use Rattle.account.proofs.Lawful.{recorded}
+use Rattle.account.proofs.RateLaws.{lawful-of}
 use Rattle.account.proofs.Lists.{none-counted}
 use Rattle.account.proofs.Noted.{part-is}
 use Rattle.account.proofs.Places.{records-are, places}
@@ -41,30 +45,6 @@ stops v next h = ap (λ (t : Bool). cond t next v) (ne-eqb (numberOf (v .answer)
 pub goes : (v next : Verdict) → numberOf (v .answer) ≡ 0 → v then next ≡ next
 goes v next z = ap (λ (t : Bool). cond t next v) (eq-eqb (numberOf (v .answer)) 0 z)
 
-some : {n : ℕ} → suc n ≡ 0 → ⊥
-some e = omega arith
-
--- number 0 is given to what is accepted alone
-pub accepted-only : (a : Answer) → numberOf a ≡ 0 → a ≡ Accepted
-accepted-only Accepted e = refl
-accepted-only TooLong e = absurd (some e)
-accepted-only CutRecord e = absurd (some e)
-accepted-only (UnknownKind k) e = absurd (some e)
-accepted-only (KindFalls k) e = absurd (some e)
-accepted-only (UnusedByte k) e = absurd (some e)
-accepted-only (FieldOutside k) e = absurd (some e)
-accepted-only (Unlisted k) e = absurd (some e)
-accepted-only (OutOfOrder k) e = absurd (some e)
-accepted-only (OverLimit k) e = absurd (some e)
-accepted-only (TooFewNumbers k) e = absurd (some e)
-accepted-only (NoSuchQuestion k) e = absurd (some e)
-accepted-only (NoonSpread k) e = absurd (some e)
-accepted-only (TooManyJoined k) e = absurd (some e)
-accepted-only LengthsDiffer e = absurd (some e)
-accepted-only OtherCounts e = absurd (some e)
-accepted-only TooManyAccounts e = absurd (some e)
-accepted-only (AmountOutside k) e = absurd (some e)
-
 -- what a verdict that is clear says of its parts
 pub clear-first : (v next : Verdict) → clear (v then next) ≡ true → (clear v ≡ true) × (clear next ≡ true)
 clear-first v next c = go (clear v) refl
@@ -73,39 +53,64 @@ clear-first v next c = go (clear v) refl
     go true e = (e, ap clear (sym (ap (λ (t : Bool). cond t next v) e)) ∙ c)
     go false e = absurd (false≢true (sym e ∙ ap clear (sym (ap (λ (t : Bool). cond t next v) e)) ∙ c))
 
--- a pair that is not refused is accepted, as a joined account
-pub joined-accepted : (morning noon : List ℕ) → clear (joinedVerdict morning noon) ≡ true → joinedVerdict morning noon ≡ ofJoined Accepted
-joined-accepted morning noon c =
-    let one = clear-first (ofMorning (recordsChecked morning)) _ c in
-    let two = clear-first (ofNoon (recordsChecked noon)) _ (one .1) in
-    let three = clear-first (ofNoon (noSpread noon)) _ (two .1) in
-    goes (ofMorning (recordsChecked morning)) _ (eqb-true _ _ (one .0))
-    ∙ goes (ofNoon (recordsChecked noon)) _ (eqb-true _ _ (two .0))
-    ∙ goes (ofNoon (noSpread noon)) _ (eqb-true _ _ (three .0))
-    ∙ ap ofJoined (accepted-only _ (eqb-true _ _ (three .1)))
+-- what a pair whose records are accepted is known to be
+module _ (morning noon : List ℕ) (c : clear (recordsVerdict morning noon) ≡ true) where
+  past-first : clear (ofNoon (recordsChecked noon) then ofNoon (noSpread noon) then ofJoined (fewJoined (length (accountOf morning noon)))) ≡ true
+  past-first = clear-first (ofMorning (recordsChecked morning)) _ c .1
 
--- a pair that is not refused
-module _ (morning noon : List ℕ) (c : clear (joinedVerdict morning noon) ≡ true) where
-  pub morning-accepted : recordsChecked morning ≡ Accepted
-  morning-accepted = accepted-only (recordsChecked morning) (eqb-true _ _ (clear-first (ofMorning (recordsChecked morning)) _ c .0))
+  past-second : clear (ofNoon (noSpread noon) then ofJoined (fewJoined (length (accountOf morning noon)))) ≡ true
+  past-second = clear-first (ofNoon (recordsChecked noon)) _ past-first .1
 
-  pub noon-accepted : recordsChecked noon ≡ Accepted
-  noon-accepted = accepted-only (recordsChecked noon) (eqb-true _ _ (clear-first (ofNoon (recordsChecked noon)) _ (clear-first (ofMorning (recordsChecked morning)) _ c .1) .0))
+  pub morning-recorded : recordsChecked morning ≡ Accepted
+  morning-recorded = accepted-only (recordsChecked morning) (eqb-true _ _ (clear-first (ofMorning (recordsChecked morning)) _ c .0))
+
+  pub noon-recorded : recordsChecked noon ≡ Accepted
+  noon-recorded = accepted-only (recordsChecked noon) (eqb-true _ _ (clear-first (ofNoon (recordsChecked noon)) _ past-first .0))
 
   few : length (accountOf morning noon) ≤ mostRecords
-  few =
-      go (ltb mostRecords (length (accountOf morning noon))) refl
-      (clear-first (ofNoon (noSpread noon)) _ (clear-first (ofNoon (recordsChecked noon)) _ (clear-first (ofMorning (recordsChecked morning)) _ c .1) .1) .1)
+  few = go (ltb mostRecords (length (accountOf morning noon))) refl (clear-first (ofNoon (noSpread noon)) _ past-second .1)
     where
-      go : (t : Bool) → ltb mostRecords (length (accountOf morning noon)) ≡ t → clear (ofJoined (cond (ltb mostRecords (length (accountOf morning noon))) (TooManyJoined (length (accountOf morning noon))) Accepted)) ≡ true → length (accountOf morning noon) ≤ mostRecords
-      go true e z = absurd (false≢true (ap (λ (t : Bool). clear (ofJoined (cond t (TooManyJoined (length (accountOf morning noon))) Accepted))) (sym e) ∙ z))
+      go : (t : Bool) → ltb mostRecords (length (accountOf morning noon)) ≡ t
+          → clear (ofJoined (cond (ltb mostRecords (length (accountOf morning noon))) (TooManyJoined (length (accountOf morning noon))) Accepted)) ≡ true
+          → length (accountOf morning noon) ≤ mostRecords
+      go true e z =
+          absurd (false≢true (ap (λ (t : Bool). clear (ofJoined (cond t (TooManyJoined (length (accountOf morning noon))) Accepted))) (sym e) ∙ z))
       go false e z = ltb-false mostRecords (length (accountOf morning noon)) e
 
+  pub records-accepted : recordsVerdict morning noon ≡ ofJoined Accepted
+  records-accepted =
+      let three = clear-first (ofNoon (noSpread noon)) _ past-second in
+      goes (ofMorning (recordsChecked morning)) _ (ap numberOf morning-recorded)
+      ∙ goes (ofNoon (recordsChecked noon)) _ (ap numberOf noon-recorded)
+      ∙ goes (ofNoon (noSpread noon)) _ (eqb-true _ _ (three .0))
+      ∙ ap ofJoined (accepted-only _ (eqb-true _ _ (three .1)))
+
   pub pair-recorded : Recorded (accountOf morning noon)
-  pair-recorded = joined-recorded (records morning) (records noon) (recorded morning morning-accepted) (recorded noon noon-accepted) few
+  pair-recorded = joined-recorded (records morning) (records noon) (recorded morning morning-recorded) (recorded noon noon-recorded) few
+
+-- a pair that is not refused is accepted, as a joined account
+module _ (morning noon : List ℕ) (c : clear (joinedVerdict morning noon) ≡ true) where
+  both-clear : (clear (recordsVerdict morning noon) ≡ true) × (clear (ofJoined (ratesChecked (accountOf morning noon))) ≡ true)
+  both-clear = clear-first (recordsVerdict morning noon) (ofJoined (ratesChecked (accountOf morning noon))) c
+
+  pub pair-passed : clear (recordsVerdict morning noon) ≡ true
+  pair-passed = both-clear .0
+
+  pub pair-rated : ratesChecked (accountOf morning noon) ≡ Accepted
+  pair-rated = accepted-only (ratesChecked (accountOf morning noon)) (eqb-true _ _ (both-clear .1))
+
+  pub joined-accepted : joinedVerdict morning noon ≡ ofJoined Accepted
+  joined-accepted =
+      goes (recordsVerdict morning noon) _ (eqb-true _ _ pair-passed) ∙ ap ofJoined pair-rated
+
+  pub morning-accepted : recordsChecked morning ≡ Accepted
+  morning-accepted = morning-recorded morning noon pair-passed
+
+  pub noon-accepted : recordsChecked noon ≡ Accepted
+  noon-accepted = noon-recorded morning noon pair-passed
 
   pub pair-lawful : Lawful (accountOf morning noon)
-  pair-lawful = lawful-of (accountOf morning noon) pair-recorded
+  pair-lawful = lawful-of (accountOf morning noon) (pair-recorded morning noon pair-passed) pair-rated
 
 -- ---- kinds 5 and 6 of a noon file: those of kind 5 come first
 module _ (p : Record → Bool) where
@@ -238,9 +243,9 @@ module _ (morning noon : List ℕ) (m n : Survey) (j : Account) (sm : Surveyed m
   rest-is okm okn =
       ap₂ (λ (a : Answer) (k : ℕ). ofNoon a then ofJoined (fewJoined k)) (spread-is noon n sn okn) (records-are morning noon m n j sm sn okm okn by)
 
-  pub verdict-is : verdictBy m n (j .records) ≡ joinedVerdict morning noon
+  pub records-verdict : verdictBy m n (j .records) ≡ recordsVerdict morning noon
   unfolding rest restBy
-  verdict-is =
+  records-verdict =
       ap₂ (λ (a b : Answer). ofMorning a then ofNoon b then restBy) (sm .answer) (sn .answer)
       ∙ first (numberOf (recordsChecked morning)) refl
     where
@@ -256,18 +261,36 @@ module _ (morning noon : List ℕ) (m n : Survey) (j : Account) (sm : Surveyed m
           let h : numberOf (recordsChecked morning) ≡ 0 → ⊥ = λ z. some (sym e ∙ z) in
           stops (ofMorning (recordsChecked morning)) (ofNoon (recordsChecked noon) then restBy) h ∙ sym (stops (ofMorning (recordsChecked morning)) (ofNoon (recordsChecked noon) then rest) h)
 
-  pub pair-stands : clear (joinedVerdict morning noon) ≡ true → Stands morning noon j
-  pair-stands c =
-      record {
-        lawful = pair-lawful morning noon c;
-        places =
-            places morning noon m n j sm sn (morning-accepted morning noon c) (noon-accepted morning noon c) by (pair-recorded morning noon c);
-      }
+  pair-places : clear (recordsVerdict morning noon) ≡ true → Places morning noon j
+  pair-places c =
+      places morning noon m n j sm sn (morning-recorded morning noon c) (noon-recorded morning noon c) by (pair-recorded morning noon c)
 
-  pub checked-by : (v : Verdict) → v ≡ verdictBy m n (j .records) → PairBy morning noon (record { verdict = v; account = j })
+  pair-stands : clear (joinedVerdict morning noon) ≡ true → Stands morning noon j
+  pair-stands c =
+      record { lawful = pair-lawful morning noon c; places = pair-places (pair-passed morning noon c) }
+
+  -- the verdict on the records, and on the rates where that is clear
+  pub verdict-stops : (v : Verdict) → v ≡ verdictBy m n (j .records) → (numberOf (v .answer) ≡ 0 → ⊥) → v ≡ joinedVerdict morning noon
+  verdict-stops v e d =
+      let same = e ∙ records-verdict in
+      same ∙ sym (stops (recordsVerdict morning noon) _ (λ z. d (ap (λ (w : Verdict). numberOf (w .answer)) same ∙ z)))
+
+  module _ (v : Verdict) (e : v ≡ verdictBy m n (j .records)) (z : numberOf (v .answer) ≡ 0) where
+    none-yet : numberOf (recordsVerdict morning noon .answer) ≡ 0
+    none-yet = ap (λ (w : Verdict). numberOf (w .answer)) (sym (e ∙ records-verdict)) ∙ z
+
+    pub verdict-clear : Places morning noon j × Recorded (accountOf morning noon)
+    verdict-clear =
+        let c = eq-eqb _ _ none-yet in
+        (pair-places c, pair-recorded morning noon c)
+
+    pub verdict-goes : (a : Answer) → a ≡ ratesChecked (accountOf morning noon) → ofJoined a ≡ joinedVerdict morning noon
+    verdict-goes a is = ap ofJoined is ∙ sym (goes (recordsVerdict morning noon) _ none-yet)
+
+  pub checked-by : (v : Verdict) → v ≡ joinedVerdict morning noon → PairBy morning noon (record { verdict = v; account = j })
   checked-by v e =
       record {
-        verdict-is = e ∙ verdict-is;
+        verdict-is = e;
         joined-by = λ m′ n′ sm′ sn′. subst₂ (λ (x y : Survey). JoinedBy x y j) (same-survey morning m m′ sm sm′) (same-survey noon n n′ sn sn′) by;
         stands = pair-stands;
       }
@@ -297,7 +320,7 @@ pub record Joining (morning noon : List ℕ) : Type 0 where
   pub second-is : Surveyed noon second
   pub joined-by : JoinedBy first second account
   pub verdict : Verdict
-  pub verdict-is : verdict ≡ verdictBy first second (account .records)
+  pub verdict-is : verdict ≡ joinedVerdict morning noon
 
 module _ (morning noon : List ℕ) (known : Joining morning noon) (c : ℕ) where
   abbrev m : Survey
@@ -313,7 +336,7 @@ module _ (morning noon : List ℕ) (known : Joining morning noon) (c : ℕ) wher
   there = cond (listed c (records noon)) (placeIn 2 noon c) (cond (listed c (records morning)) (placeIn 1 morning c) nowhere)
 
   its : v ≡ joinedVerdict morning noon
-  its = known .verdict-is ∙ verdict-is morning noon m n (known .account) (known .first-is) (known .second-is) (known .joined-by)
+  its = known .verdict-is
 
   pub place-refused : (numberOf (v .answer) ≡ 0 → ⊥) → promptPlace morning noon c ≡ nowhere
   place-refused h =

@@ -12,7 +12,7 @@ use lib.Seq.{take-all}
 use Rattle.exact.specs.Lists.{keep, count}
 use Rattle.record.specs.Layout.{Record}
 use Rattle.account.specs.Notes.{part, parts, entryPart, ratePart, inPart, partRecords}
-use Rattle.account.specs.Parts.{ofContract}
+use Rattle.account.specs.Parts.{ofKind, ofContract}
 use Rattle.account.specs.Records.{cut, records, recordCount, stretch}
 use Rattle.account.specs.Standing.{accountOf, Places, PartOf}
 use Rattle.account.specs.declared.accounts.Account.{Account}
@@ -33,6 +33,13 @@ within v h account = ap (λ (t : Bool). cond t [] (keep (inPart v) account)) (le
 pub contract-part : (k c : ℕ) → k ≤ 4 → c ≤ 15 → (account : List Record) → partRecords (part k c) account ≡ keep (ofContract k c) account
 contract-part k c hk hc account =
     within (part k c) (omega arith) account ∙ ap (λ (p : Record → Bool). keep p account) (part-is k c hk hc)
+
+-- the rows of contract c, and the rates
+pub row-part : (c : ℕ) → c < 16 → (account : List Record) → partRecords (48 + c) account ≡ keep (inPart (48 + c)) account
+row-part c h account = within (48 + c) (omega arith) account
+
+pub rate-part : (account : List Record) → partRecords 81 account ≡ keep (ofKind 6) account
+rate-part account = within 81 (omega arith) account
 
 -- the bytes of one record are that record
 pub one-record : (bytes : List ℕ) (r : Record) → records bytes ≡ r ∷ [] → length bytes ≡ 96 → bytes ≡ r

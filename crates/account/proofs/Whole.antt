@@ -14,7 +14,7 @@ use Rattle.record.specs.Layout.{Record, kind, contract}
 use Rattle.record.specs.Within.{Between}
 use Rattle.record.proofs.Within.{by-kind}
 use Rattle.account.specs.Accepted.{Each, listed}
-use Rattle.account.specs.Check.{recordsChecked}
+use Rattle.account.specs.Checked.{checked}
 use Rattle.account.specs.Joined.{joined, joinedOf, fromMorning}
 use Rattle.account.specs.Lawful.{Recorded}
 use Rattle.account.specs.Noon.{clear, joinedVerdict}
@@ -23,11 +23,12 @@ use Rattle.account.specs.Records.{records}
 use Rattle.account.specs.Standing.{accountOf}
 use Rattle.account.specs.Whole.{partsBy, inHowMany, Whole}
 use Rattle.account.specs.declared.answers.Answer.the-variants.{Accepted}
+use Rattle.account.proofs.Alone.{passes}
 use Rattle.account.proofs.Every.{every-append, every-weaker}
 use Rattle.account.proofs.JoinedLaws.{other-kind, joined-kind, entries-kind, rates-kind, joined-alone}
 use Rattle.account.proofs.Lawful.{recorded}
 use Rattle.account.proofs.Lists.{every-both, none-counted}
-use Rattle.account.proofs.NoonLaws.{pair-recorded}
+use Rattle.account.proofs.NoonLaws.{pair-recorded, pair-passed}
 
 -- ---- the kinds of a joined account's records
 abbrev pub KindWithin : Record → Type 0
@@ -216,14 +217,14 @@ whole account law within =
     record { onePart = one; together = all-counted (partsBy (contractsOf account)) account one }
 
 -- of an accepted file, and of a pair of files that is not refused
-pub file-kinds : (file : List ℕ) → recordsChecked file ≡ Accepted → Each KindWithin (records file)
-file-kinds file ok = subst (Each KindWithin) (joined-alone file ok) (kinds (records file) [])
+pub file-kinds : (file : List ℕ) → checked file ≡ Accepted → Each KindWithin (records file)
+file-kinds file ok = subst (Each KindWithin) (joined-alone file (passes file ok .recorded)) (kinds (records file) [])
 
-pub whole-file : (file : List ℕ) → recordsChecked file ≡ Accepted → Whole (records file)
-whole-file file ok = whole (records file) (recorded file ok) (file-kinds file ok)
+pub whole-file : (file : List ℕ) → checked file ≡ Accepted → Whole (records file)
+whole-file file ok = whole (records file) (recorded file (passes file ok .recorded)) (file-kinds file ok)
 
 pub pair-kinds : (morning noon : List ℕ) → Each KindWithin (accountOf morning noon)
 pair-kinds morning noon = kinds (records morning) (records noon)
 
 pub whole-pair : (morning noon : List ℕ) → clear (joinedVerdict morning noon) ≡ true → Whole (accountOf morning noon)
-whole-pair morning noon c = whole (accountOf morning noon) (pair-recorded morning noon c) (pair-kinds morning noon)
+whole-pair morning noon c = whole (accountOf morning noon) (pair-recorded morning noon (pair-passed morning noon c)) (pair-kinds morning noon)

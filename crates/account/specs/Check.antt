@@ -175,6 +175,3 @@ cutRecord file = not (eqb (length file % recordBytes) 0)
 abbrev pub recordsChecked : List ℕ → Answer
 recordsChecked file =
     cond (tooLong file) TooLong (cond (cutRecord file) CutRecord (firstFault 0 [] (records file)))
-
-abbrev pub checked : List ℕ → Answer
-checked file = recordsChecked file

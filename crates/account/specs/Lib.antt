@@ -6,9 +6,11 @@ pub mod Notes
 pub mod Surveyed
 pub mod Accepted
 pub mod Products
-pub mod Claims
+pub mod Checked
+pub mod Conversions
 pub mod Orders
 pub mod Lawful
+pub mod Claims
 pub mod Joined
 pub mod Standing
 pub mod Noon

@@ -11,6 +11,7 @@ use Rattle.exact.specs.Lists.{any}
 use Rattle.account.specs.Accepted.{listed}
 use Rattle.account.specs.Answers.{numberOf}
 use Rattle.account.specs.Check.{recordsChecked, mostRecords, mostContracts}
+use Rattle.account.specs.Checked.{ratesChecked}
 use Rattle.account.specs.Notes.{part, entryPart, ratePart}
 use Rattle.account.specs.Parts.{ofKind, placeOf}
 use Rattle.account.specs.Records.{records, stretch}
@@ -53,12 +54,16 @@ abbrev pub fewJoined : ℕ → Answer
 fewJoined n = cond (ltb mostRecords n) (TooManyJoined n) Accepted
 
 -- "Refusals: each file by 01's 1 to 9, morning first, saying which; then 12 ..; then .. 13"
-abbrev pub joinedVerdict : List ℕ → List ℕ → Verdict
-joinedVerdict morning noon =
+abbrev pub recordsVerdict : List ℕ → List ℕ → Verdict
+recordsVerdict morning noon =
     ofMorning (recordsChecked morning) then ofNoon (recordsChecked noon) then ofNoon (noSpread noon)
     then ofJoined (fewJoined (length (accountOf morning noon)))
 
--- the same by what the check handed out of both files
+-- 2026-05: 14 and 15 "joined, between 13 and 21, naming the joined record"
+abbrev pub joinedVerdict : List ℕ → List ℕ → Verdict
+joinedVerdict morning noon = recordsVerdict morning noon then ofJoined (ratesChecked (accountOf morning noon))
+
+-- the records' verdict by what the check handed out of both files
 abbrev pub noonSpread : Survey → Answer
 noonSpread n =
     cond (eqb (getD (n .counts) entryPart 0) 0)

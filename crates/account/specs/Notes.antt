@@ -18,6 +18,9 @@ use Rattle.account.specs.Records.{recordAt, stretch, records, earlier}
 abbrev pub part : ℕ → ℕ → ℕ
 part n c = mostContracts * n + c
 
+abbrev pub rowPart : ℕ
+rowPart = part 3 0
+
 abbrev pub entryPart : ℕ
 entryPart = part 5 0
 

@@ -9,7 +9,8 @@ use lib.ListN.{length, getD, take, drop, replicate}
 use Rattle.exact.specs.Lists.{keep, count, sum}
 use Rattle.record.specs.Layout.{Record, recordBytes, contract, mostContract}
 use Rattle.record.specs.Bytes.{countFrom}
-use Rattle.account.specs.Check.{recordsChecked, mostContracts}
+use Rattle.account.specs.Check.{mostContracts}
+use Rattle.account.specs.Checked.{checked}
 use Rattle.account.specs.Joined.{joined}
 use Rattle.account.specs.Lawful.{Lawful}
 use Rattle.account.specs.Notes.{part, parts, entryPart, ratePart, inPart, partRecords, noContract}
@@ -97,6 +98,6 @@ pub record PartOf (account : List Record) (v : ℕ) (bytes : List ℕ) : Type 0 
 
 -- what the check of one file hands out: its answer, and of an accepted file the account, which stands in it alone
 pub record CheckedBy (file : List ℕ) (r : Checked) : Type 0 where
-  pub answer-is : r .answer ≡ recordsChecked file
+  pub answer-is : r .answer ≡ checked file
   pub alone-by : (s : Survey) → Surveyed file s → AloneBy s (recordCount file) (r .account)
-  pub stands : recordsChecked file ≡ Accepted → (none : List ℕ) → none ≡ [] → Stands file none (r .account)
+  pub stands : checked file ≡ Accepted → (none : List ℕ) → none ≡ [] → Stands file none (r .account)

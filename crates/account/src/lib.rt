@@ -10,6 +10,7 @@ mod listed; // listed.rt: refusal 7
 mod order; // order.rt: refusals 4 and 8
 mod limits; // limits.rt: refusal 9
 mod fault; // fault.rt: the first refusal of a record
+mod conversions; // conversions.rt: refusals 14 and 15
 pub mod check; // check.rt: the check of a file
 pub mod accounts; // accounts.rt: an account, in one file or in two
 pub mod noon; // noon.rt: the verdict on a noon file and the morning's, and a contract's prompts

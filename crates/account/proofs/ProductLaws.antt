@@ -4,7 +4,7 @@ use Prim.Native.Nat.{ℕ, zero, suc, _+_, _-_, _*_, _≤_, _<_, zero-le}
 use mathlib.Core.Path.{_≡_, refl, sym, ap, _∙_, subst}
 use mathlib.Core.Bool.{Bool, true, false, not, _&&_, _||_, cond, true≢false}
 use mathlib.Core.List.{List, [], _∷_}
-use native.Mathlib.Nat.{mul-le-mul, mul-pos}
+use native.Mathlib.Nat.{mul-le-mul, mul-pos, mul-zero}
 use native.Mathlib.Omega.{arith}
 use lib.Dec.{eqb, ltb}
 use lib.IntN.{ℤ, pos, natAbs, _*ℤ_}
@@ -12,12 +12,14 @@ use lib.ListN.{length, getD, set, drop, length-set, replicate, getD-replicate}
 use lib.Seq.{getD-set-same, getD-set-other}
 use borrow.Author.Tests.{eqb-true, eqb-false, eq-eqb, ne-eqb, ltb-false}
 use Rattle.exact.specs.Lists.{any}
+use Rattle.exact.specs.Signed.{negative}
+use Rattle.exact.proofs.FractionLaws.{fraction-within}
 use Rattle.exact.proofs.SignedCalls.{abs-times}
 use Rattle.record.specs.Bytes.{countFrom}
 use Rattle.record.specs.Layout.{Record, lots, value, loss, currency, mostCurrency, rateCurrency, spotRate, adjustment, scenarioCount}
 use Rattle.record.specs.Within.{Between, RowWithin, RateWithin}
 use Rattle.account.specs.Accepted.{Each}
-use Rattle.account.specs.Products.{inOwn, ofCurrency, rateFor, raised, lowered, mostFactor, inHundredths, hasRate, mostConversion, beyondIn, conversionBeyond, Convertible}
+use Rattle.account.specs.Products.{inOwn, ofCurrency, rateFor, raised, lowered, mostFactor, hundredMillion, converted, inHundredths, hasRate, mostConversion, beyondIn, conversionBeyond, Convertible}
 
 -- ---- the table, one rate at a time
 
@@ -101,3 +103,18 @@ convertible rates row w rated none = record { rated = rated; within = λ s b. go
     go s b true e h = rw e (own-within row s w b)
     go s b false e h =
         ltb-false mostConversion (natAbs (inHundredths rates s row)) (none-does (beyondIn rates row) 1 scenarioCount h s (b .least) (omega (arith, b .most)))
+
+-- at no rates another currency comes to nothing
+unrated : (z : ℤ) → natAbs (converted [] z) ≤ 0
+unrated z = fraction-within 0 z (cond (negative z) 0 0) hundredMillion (none (negative z))
+  where
+    none : (t : Bool) → natAbs z * cond t 0 0 ≤ 0 * hundredMillion
+    none true = omega (arith, mul-zero (natAbs z))
+    none false = omega (arith, mul-zero (natAbs z))
+
+pub unrated-within : (row : Record) (s : ℕ) → RowWithin row → Between 1 s scenarioCount → natAbs (inHundredths [] s row) ≤ mostConversion
+unrated-within row s w b = go (eqb (currency row) 0)
+  where
+    go : (t : Bool) → natAbs (cond t (inOwn s row) (converted [] (inOwn s row))) ≤ mostConversion
+    go true = own-within row s w b
+    go false = omega (arith, unrated (inOwn s row))

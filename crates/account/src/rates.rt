@@ -16,7 +16,7 @@ use record::fields::spot_rate;
 use record::fields::value;
 ghost use mathlib.Core.Path.{_≡_};
 ghost use mathlib.Core.Bool.{cond};
-ghost use mathlib.Core.List.{List, _∷_};
+ghost use mathlib.Core.List.{List, [], _∷_};
 ghost use Prim.Native.Nat.{ℕ, _≤_};
 ghost use lib.Dec.{ltb};
 ghost use lib.IntN.{pos, natAbs, _*ℤ_};
@@ -84,14 +84,21 @@ fn with_rate(t: Rates, rate: &[u8]) -> Rates
     }
 }
 
+// The table of no rates.
+pub fn no_rates() -> Rates
+    ensures { λ r. ⌜ RatesOf [] r ⌝ }
+{
+    Rates {
+        raised: [0; CURRENCIES],
+        lowered: [0; CURRENCIES],
+    }
+}
+
 // The table of an account's rates.
 pub fn rates_of(rates: &[u8]) -> Rates
     ensures { λ r. ⌜ RatesOf (records (now (rates .entry))) r ⌝ }
 {
-    let mut t = Rates {
-        raised: [0; CURRENCIES],
-        lowered: [0; CURRENCIES],
-    };
+    let mut t = no_rates();
     let mut i = record_count(rates);
     while 0 < i {
         i -= 1;

@@ -1,16 +1,15 @@
 -- `rates_of`: the table of the rates from place i on.
 -- Assumes nothing.
-use mathlib.Core.Path.{_≡_, refl, _∙_, sym, ap, subst}
+use mathlib.Core.Path.{_≡_, _∙_, sym, ap, subst}
 use mathlib.Core.List.{List, [], _∷_}
 use Prim.Native.Nat.{ℕ, _+_, _-_, _*_, _≤_, _<_}
 use native.Mathlib.Omega.{arith}
-use lib.ListN.{drop, replicate}
+use lib.ListN.{drop}
 use denote.Ref.{now}
 use borrow.Author.Needs.{needs}
 use Rattle.record.specs.Layout.{Record}
-use Rattle.account.specs.Products.{raised, lowered, RatesOf}
+use Rattle.account.specs.Products.{RatesOf}
 use Rattle.account.specs.Records.{cut, records, recordAt, recordCount}
-use Rattle.account.proofs.ProductLaws.{held-none}
 use Rattle.account.proofs.Walk.{cut-on}
 use Rattle.account.proofs.rates.rates_of.Statement.{statement}
 use Rattle.account.proofs.rates.rates_of.Tie as tie
@@ -18,25 +17,25 @@ use Rattle.account.proofs.rates.rates_of.Tie as tie
 abbrev from-here : List ℕ → ℕ → List Record
 from-here file i = cut (recordCount file - i) (drop (i * 96) file)
 
-no-rates : RatesOf [] (record { raised = replicate 8 0; lowered = replicate 8 0 })
-no-rates = record { raised-places = refl; lowered-places = refl; raised-are = held-none raised refl; lowered-are = held-none lowered refl }
-
 abbrev Inv-loop : tie.InvT-loop
 Inv-loop rates t₀ i₀ t i = (i ≤ recordCount rates) × RatesOf (from-here rates i) t
 
 abbrev μ-loop : tie.MeasureT-loop
 μ-loop rates t₀ i₀ t i = i
 
+no-rates-requires : tie.Need-no-rates-requires Inv-loop μ-loop
+no-rates-requires c κs = search needs
+
 record-count-requires : tie.Need-record-count-requires Inv-loop μ-loop
 record-count-requires c κs = search needs
 
 loop-holds : tie.Need-loop-holds Inv-loop μ-loop
 loop-holds c =
-    let file = c .before .before .args .rates .now in
+    let file = c .before .before .before .args .rates .now in
     let past : recordCount file - c .record-count .result ≡ 0 = omega (arith, c .record-count .ensures) in
     let none : from-here file (c .record-count .result) ≡ [] = ap (λ (n : ℕ). cut n (drop (c .record-count .result * 96) file)) past in (
       omega (arith, c .record-count .ensures),
-      subst (λ (rates : List Record). RatesOf rates (record { raised = replicate 8 0; lowered = replicate 8 0 })) (sym none) no-rates,
+      subst (λ (rates : List Record). RatesOf rates (c .before .no-rates .result)) (sym none) (c .before .no-rates .ensures),
     )
 
 sub-i : tie.Need-sub-i Inv-loop μ-loop
@@ -53,7 +52,7 @@ loop-less c = omega arith
 
 loop-again : tie.Need-loop-again Inv-loop μ-loop
 loop-again c =
-    let file = c .before .before .before .before .before .before .args .rates .now in
+    let file = c .before .before .before .before .before .before .before .args .rates .now in
     let i = c .before .before .before .loop in
     let back-one : i .i - 1 + 1 ≡ i .i = omega arith in
     let more : from-here file (i .i - 1) ≡ recordAt file (i .i - 1) ∷ from-here file (i .i) =
@@ -67,7 +66,7 @@ loop-again c =
 
 returns : tie.Need-returns Inv-loop μ-loop
 returns c =
-    let file = now (c .before .before .before .before .args .rates) in
+    let file = now (c .before .before .before .before .before .args .rates) in
     let i = c .before .loop in
     let none : i .i ≡ 0 = omega arith in
     let all : recordCount file - 0 ≡ recordCount file = omega arith in
@@ -79,6 +78,7 @@ rates-of-spec =
     (tie.spec
     Inv-loop
     μ-loop
+    no-rates-requires
     record-count-requires
     loop-holds
     sub-i

@@ -92,13 +92,13 @@ gains = replicate 16 (negsuc 3)
 -- "P10: one short call, rate 500, nothing else above 0"
 abbrev pub shortCall : Contract
 shortCall =
-    contractFrom (contractRecord 0 500 0) (promptIn 1 1 ∷ [])
+    contractFrom [] (contractRecord 0 500 0) (promptIn 1 1 ∷ [])
     (rowRecord 0 1 1 1850 (negsuc 0) (pos 5200) 1 (replicate 16 (pos 0)) ∷ []) []
 
 -- 2026-09: the same at a rate of 549, in whole yen
 abbrev pub yenCall : Contract
 yenCall =
-    contractFrom (contractRecord 0 549 100) (promptIn 1 1 ∷ [])
+    contractFrom [] (contractRecord 0 549 100) (promptIn 1 1 ∷ [])
     (rowRecord 0 1 1 1850 (negsuc 0) (pos 5200) 1 (replicate 16 (pos 0)) ∷ []) []
 
 -- a forward of one lot that loses so many hundredths in scenario 1
@@ -215,12 +215,12 @@ pub record Reckoned : Type 0 where
   pub touch-of-nothing : touches (inTenths 1 10) (against (lotsLong 1) (negℤ (pos 4))) ≡ 1
   pub use-of-half : unusedOf (inTenths 1 10) (against (lotsLong 1) (negℤ (pos 5))) ≡ pos 9999 ∷ pos 0 ∷ []
   -- 2026-09: a product of 1.50 in whole yen, one hundredth less, and the same the other way
-  pub yen-half : product 100 1 (losing (pos 150)) ≡ pos 200
-  pub yen-below : product 100 1 (losing (pos 149)) ≡ pos 100
-  pub yen-half-gained : product 100 1 (losing (negℤ (pos 150))) ≡ negℤ (pos 200)
-  pub yen-below-gained : product 100 1 (losing (negℤ (pos 149))) ≡ negℤ (pos 100)
+  pub yen-half : product [] 100 1 (losing (pos 150)) ≡ pos 200
+  pub yen-below : product [] 100 1 (losing (pos 149)) ≡ pos 100
+  pub yen-half-gained : product [] 100 1 (losing (negℤ (pos 150))) ≡ negℤ (pos 200)
+  pub yen-below-gained : product [] 100 1 (losing (negℤ (pos 149))) ≡ negℤ (pos 100)
   -- each is rounded "before adding": two of 1.50 are 4 yen
-  pub yen-total : total 100 (losing (pos 150) ∷ losing (pos 150) ∷ []) 1 ≡ pos 400
+  pub yen-total : total [] 100 (losing (pos 150) ∷ losing (pos 150) ∷ []) 1 ≡ pos 400
   -- a charge of 1.49 and of 1.50; one of 1.495 in one rounding, which two would take to 2 yen
   pub yen-charge-below : spreadCharge 100 149 10000 0 ≡ 100
   pub yen-charge : spreadCharge 100 150 10000 0 ≡ 200

@@ -1,16 +1,18 @@
--- "Reckoned examples" of document 01, P1 to P10, those of requests 2026-03, 2026-04 and 2026-11 with their corners, and where 2026-09
--- rounds, one claim. Deltas and numbers of spreads stand in ten-thousandths, amounts in hundredths.
+-- "Reckoned examples" of document 01, P1 to P10, those of requests 2026-03, 2026-04 and 2026-11 with their corners, where 2026-05
+-- converts and where 2026-09 rounds, one claim. Deltas and numbers of spreads stand in ten-thousandths, amounts in hundredths.
 -- Assumes nothing.
 use Prim.Native.Nat.{ℕ, _*_}
 use mathlib.Core.Path.{_≡_}
+use mathlib.Core.Bool.{true, false}
 use mathlib.Core.List.{List, [], _∷_, _++_, map}
 use lib.IntN.{ℤ, pos, negsuc, negℤ}
 use lib.ListN.{replicate}
 use Rattle.record.specs.Layout.{Record}
 use Rattle.account.specs.Records.{records}
 use Rattle.account.specs.Check.{checked}
+use Rattle.account.specs.Products.{inHundredths, hasRate, conversionBeyond}
 use Rattle.account.specs.declared.answers.Answer.the-variants.{Accepted}
-use Rattle.margin.specs.Entered.{contractRecord, promptRecord, rowRecord, spreadRecord, entryRecord}
+use Rattle.margin.specs.Entered.{contractRecord, promptRecord, rowIn, rowRecord, spreadRecord, entryRecord, rateRecord}
 use Rattle.margin.specs.Scanning.{product, total, scanningRisk, activeScenario}
 use Rattle.margin.specs.Charges.{spreadCharge, promptCharge}
 use Rattle.margin.specs.Pairs.{pairOf}
@@ -104,6 +106,18 @@ yenCall =
 -- a forward of one lot that loses so many hundredths in scenario 1
 abbrev pub losing : ℤ → Record
 losing loss = rowRecord 0 0 1 0 (pos 1) (pos 0) 1 (loss ∷ replicate 15 (pos 0))
+
+-- 2026-05: a forward in currency 1 that loses, or gains, in scenario 1: lots, value and loss
+abbrev pub foreign : ℤ → ℕ → ℤ → Record
+foreign lots value loss = rowIn 1 0 0 1 0 lots (pos 0) value (loss ∷ replicate 15 (pos 0))
+
+-- the one rate of an account, in millionths, and its percent
+abbrev pub rateOf : ℕ → ℕ → List Record
+rateOf spotRate adjustment = rateRecord 1 spotRate adjustment ∷ []
+
+-- 002's one worked conversion, 15.00 at a rate of 1 and 33 percent
+abbrev pub fifteen : ℤ → Record
+fifteen = foreign (pos 1) 1
 
 -- "Given contract 3 with short option rate 500; one prompt, tier 1, day 20260318, rates 0 and 1000; two rows at value 25,
 -- being 002's forward array for 2 lots (delta 9800) and its call array at strike 1850 for -3 lots (delta 5200)"
@@ -214,6 +228,36 @@ pub record Reckoned : Type 0 where
   -- and a leg that takes nothing touches nothing
   pub touch-of-nothing : touches (inTenths 1 10) (against (lotsLong 1) (negℤ (pos 4))) ≡ 1
   pub use-of-half : unusedOf (inTenths 1 10) (against (lotsLong 1) (negℤ (pos 5))) ≡ pos 9999 ∷ pos 0 ∷ []
+  -- 2026-05: at a rate of 1.25 and 10 percent a loss of 100.00 is 137.50, a gain of 100.00 is 112.50
+  pub converted-loss : product (rateOf 1250000 10) 1 1 (foreign (pos 1) 1 (pos 10000)) ≡ pos 13750
+  pub converted-gain : product (rateOf 1250000 10) 1 1 (foreign (pos 1) 1 (negℤ (pos 10000))) ≡ negℤ (pos 11250)
+  -- "goes by the sign of lots × value × loss": a short lot gains where a long one loses
+  pub converted-short : product (rateOf 1250000 10) 1 1 (foreign (negsuc 0) 1 (pos 10000)) ≡ negℤ (pos 11250)
+  -- "currency 0 is not converted"
+  pub not-converted : product (rateOf 1250000 10) 1 1 (losing (pos 10000)) ≡ pos 10000
+  -- half a hundredth goes away from zero, less than half does not
+  pub converted-half : product (rateOf 500000 0) 1 1 (foreign (pos 1) 1 (pos 1)) ≡ pos 1
+  pub converted-half-gained : product (rateOf 500000 0) 1 1 (foreign (pos 1) 1 (negsuc 0)) ≡ negsuc 0
+  pub converted-below : product (rateOf 499999 0) 1 1 (foreign (pos 1) 1 (pos 1)) ≡ pos 0
+  -- 002 gives -10 or -20 for a gain and 10 or 20 for a loss of 15 in whole units: the gain is -10.05, the loss 19.95
+  pub fifteen-gained : product (rateOf 1000000 33) 1 1 (fifteen (negℤ (pos 1500))) ≡ negℤ (pos 1005)
+  pub fifteen-lost : product (rateOf 1000000 33) 1 1 (fifteen (pos 1500)) ≡ pos 1995
+  -- 2026-09: "after conversion to hundredths", to whole units
+  pub fifteen-gained-whole : product (rateOf 1000000 33) 100 1 (fifteen (negℤ (pos 1500))) ≡ negℤ (pos 1000)
+  pub fifteen-lost-whole : product (rateOf 1000000 33) 100 1 (fifteen (pos 1500)) ≡ pos 2000
+  -- each row is converted, not what they come to: a lot long and one short leave 20.00 of 100.00 at 10 percent
+  pub not-netted : total (rateOf 1000000 10) 1 (foreign (pos 1) 1 (pos 10000) ∷ foreign (negsuc 0) 1 (pos 10000) ∷ []) 1 ≡ pos 2000
+  -- 14: no rate of its currency
+  pub unrated : hasRate (rateRecord 2 1000000 0 ∷ []) (foreign (pos 1) 1 (pos 1)) ≡ false
+  -- 15: 100,000,000,000,000 passes on either side of zero, also as what 100,000,000,000,000.34 rounds to; one hundredth more does not
+  pub largest-loss : inHundredths (rateOf 1000000 0) 1 (foreign (pos 100000) 10000 (pos 100000)) ≡ pos 100000000000000
+  pub largest-loss-passes : conversionBeyond (rateOf 1000000 0) (foreign (pos 100000) 10000 (pos 100000)) ≡ false
+  pub largest-gain-passes : conversionBeyond (rateOf 1000000 0) (foreign (negℤ (pos 100000)) 10000 (pos 100000)) ≡ false
+  pub rounded-passes : conversionBeyond (rateOf 99990225 50) (foreign (pos 80702) 84 (pos 98353)) ≡ false
+  pub one-more : inHundredths (rateOf 90130527 50) 1 (foreign (pos 80120) 117 (pos 78906)) ≡ pos 100000000000001
+  pub one-more-refused : conversionBeyond (rateOf 90130527 50) (foreign (pos 80120) 117 (pos 78906)) ≡ true
+  pub one-more-gained : inHundredths (rateOf 99050910 0) 1 (foreign (pos 96314) 112 (negℤ (pos 93591))) ≡ negℤ (pos 100000000000001)
+  pub one-more-gained-refused : conversionBeyond (rateOf 99050910 0) (foreign (pos 96314) 112 (negℤ (pos 93591))) ≡ true
   -- 2026-09: a product of 1.50 in whole yen, one hundredth less, and the same the other way
   pub yen-half : product [] 100 1 (losing (pos 150)) ≡ pos 200
   pub yen-below : product [] 100 1 (losing (pos 149)) ≡ pos 100

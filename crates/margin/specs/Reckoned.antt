@@ -115,7 +115,7 @@ foreign lots value loss = rowIn 1 0 0 1 0 lots (pos 0) value (loss ∷ replicate
 abbrev pub rateOf : ℕ → ℕ → List Record
 rateOf spotRate adjustment = rateRecord 1 spotRate adjustment ∷ []
 
--- 002's one worked conversion, 15.00 at a rate of 1 and 33 percent
+-- 15.00 at a rate of 1 and 33 percent: lowered and raised it is the 10 and 20 in whole units that 002 compares
 abbrev pub fifteen : ℤ → Record
 fifteen = foreign (pos 1) 1
 
@@ -239,10 +239,10 @@ pub record Reckoned : Type 0 where
   pub converted-half : product (rateOf 500000 0) 1 1 (foreign (pos 1) 1 (pos 1)) ≡ pos 1
   pub converted-half-gained : product (rateOf 500000 0) 1 1 (foreign (pos 1) 1 (negsuc 0)) ≡ negsuc 0
   pub converted-below : product (rateOf 499999 0) 1 1 (foreign (pos 1) 1 (pos 1)) ≡ pos 0
-  -- 002 gives -10 or -20 for a gain and 10 or 20 for a loss of 15 in whole units: the gain is -10.05, the loss 19.95
+  -- 002: "if -10 is compared to -20 then -10 is selected; .. if 10 is compared to 20 then 20 is selected"
   pub fifteen-gained : product (rateOf 1000000 33) 1 1 (fifteen (negℤ (pos 1500))) ≡ negℤ (pos 1005)
   pub fifteen-lost : product (rateOf 1000000 33) 1 1 (fifteen (pos 1500)) ≡ pos 1995
-  -- 2026-09: "after conversion to hundredths", to whole units
+  -- and (2026-09) "after conversion to hundredths" to whole units
   pub fifteen-gained-whole : product (rateOf 1000000 33) 100 1 (fifteen (negℤ (pos 1500))) ≡ negℤ (pos 1000)
   pub fifteen-lost-whole : product (rateOf 1000000 33) 100 1 (fifteen (pos 1500)) ≡ pos 2000
   -- each row is converted, not what they come to: a lot long and one short leave 20.00 of 100.00 at 10 percent

@@ -9,7 +9,7 @@ use native.Mathlib.Omega.{arith}
 use lib.Dec.{eqb, ltb}
 use lib.IntN.{ℤ, pos, natAbs, _*ℤ_}
 use lib.ListN.{length, getD, set, drop, length-set, replicate, getD-replicate}
-use lib.Seq.{getD-set-same, getD-set-other}
+use lib.Seq.{getD-set-same, getD-set-other, ext-getD}
 use borrow.Author.Tests.{eqb-true, eqb-false, eq-eqb, ne-eqb, ltb-false}
 use Rattle.exact.specs.Lists.{any}
 use Rattle.exact.specs.Signed.{negative}
@@ -19,7 +19,8 @@ use Rattle.record.specs.Bytes.{countFrom}
 use Rattle.record.specs.Layout.{Record, lots, value, loss, currency, mostCurrency, rateCurrency, spotRate, adjustment, scenarioCount}
 use Rattle.record.specs.Within.{Between, RowWithin, RateWithin}
 use Rattle.account.specs.Accepted.{Each}
-use Rattle.account.specs.Products.{inOwn, ofCurrency, rateFor, raised, lowered, mostFactor, hundredMillion, converted, inHundredths, hasRate, mostConversion, beyondIn, conversionBeyond, Convertible}
+use Rattle.account.specs.Products.{inOwn, ofCurrency, rateFor, raised, lowered, mostFactor, hundredMillion, converted, inHundredths, hasRate, mostConversion, beyondIn, conversionBeyond, Convertible, RatesOf}
+use Rattle.account.specs.declared.rates.Rates.{Rates}
 
 -- ---- the table, one rate at a time
 
@@ -118,3 +119,15 @@ unrated-within row s w b = go (eqb (currency row) 0)
     go : (t : Bool) → natAbs (cond t (inOwn s row) (converted [] (inOwn s row))) ≤ mostConversion
     go true = own-within row s w b
     go false = omega (arith, unrated (inOwn s row))
+
+-- ---- one table
+
+one-list : (f : Record → ℕ) (rates : List Record) (xs ys : List ℕ) → length xs ≡ 8 → length ys ≡ 8 → Held f rates xs → Held f rates ys → xs ≡ ys
+one-list f rates xs ys ex ey hx hy = ext-getD 0 xs ys (ex ∙ sym ey) (λ c h. hx c (omega arith) ∙ sym (hy c (omega arith)))
+
+-- two tables of the same rates are the same
+pub one-table : (rates : List Record) (r s : Rates) → RatesOf rates r → RatesOf rates s → r ≡ s
+one-table rates r s a b =
+    let up = one-list raised rates (r .raised) (s .raised) (a .raised-places) (b .raised-places) (a .raised-are) (b .raised-are) in
+    let down = one-list lowered rates (r .lowered) (s .lowered) (a .lowered-places) (b .lowered-places) (a .lowered-are) (b .lowered-are) in
+    λ i. record { raised = up i; lowered = down i }

@@ -24,7 +24,7 @@ use Rattle.spread.specs.declared.Table.{Table}
 use Rattle.spread.specs.declared.book.Book.{Book}
 use Rattle.spread.specs.declared.stepwise.Step.{Step}
 use Rattle.spread.specs.declared.touches.Counted.{Counted}
-use Rattle.account.specs.Check.{checked}
+use Rattle.account.specs.Checked.{checked}
 use Rattle.account.specs.Claims.{Claims}
 use Rattle.account.specs.Determined.{Determined}
 use Rattle.account.specs.Noon.{clear, ofJoined, _then_, joinedVerdict}

@@ -13,7 +13,7 @@ use Rattle.exact.specs.Lists.{consIf, keep, count, oneIf, sum, sumℤ}
 use Rattle.exact.proofs.Lists.{map-same, sumℤ-map-add}
 use Rattle.record.specs.Layout.{Record, kind, contract, unit, ratePerSpread, spreadRate, outrightRate}
 use Rattle.account.specs.Accepted.{Each}
-use Rattle.account.specs.Check.{checked}
+use Rattle.account.specs.Checked.{checked}
 use Rattle.account.specs.Lawful.{Recorded, Lawful}
 use Rattle.account.specs.Noon.{clear, joinedVerdict}
 use Rattle.account.specs.Parts.{ofKind, ofContract, contractsOf, promptsOf, rowsOf, entriesOf, ratesOf}
@@ -21,7 +21,7 @@ use Rattle.account.specs.Records.{records}
 use Rattle.account.specs.Standing.{accountOf}
 use Rattle.account.specs.Whole.{Whole}
 use Rattle.account.specs.declared.answers.Answer.the-variants.{Accepted}
-use Rattle.account.proofs.Lawful.{lawful}
+use Rattle.account.proofs.Alone.{lawful}
 use Rattle.account.proofs.NoonLaws.{pair-lawful}
 use Rattle.account.proofs.Whole.{KindWithin, owners, owned-once, file-kinds, pair-kinds, whole-file, whole-pair}
 use Rattle.spread.proofs.Gathering.{eqb-turned}

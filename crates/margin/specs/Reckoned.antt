@@ -9,7 +9,7 @@ use lib.IntN.{ℤ, pos, negsuc, negℤ}
 use lib.ListN.{replicate}
 use Rattle.record.specs.Layout.{Record}
 use Rattle.account.specs.Records.{records}
-use Rattle.account.specs.Check.{checked}
+use Rattle.account.specs.Checked.{checked}
 use Rattle.account.specs.Products.{inHundredths, hasRate, conversionBeyond}
 use Rattle.account.specs.declared.answers.Answer.the-variants.{Accepted}
 use Rattle.margin.specs.Entered.{contractRecord, promptRecord, rowIn, rowRecord, spreadRecord, entryRecord, rateRecord}

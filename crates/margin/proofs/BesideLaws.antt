@@ -16,7 +16,7 @@ use Rattle.record.specs.Within as ranges
 use Rattle.account.specs.Accepted.{Each}
 use Rattle.account.specs.Lawful.{Lawful}
 use Rattle.account.specs.Notes.{entryPart}
-use Rattle.account.specs.Parts.{ofKind, contractsOf, promptsOf, rowsOf, spreadsOf}
+use Rattle.account.specs.Parts.{ofKind, contractsOf, promptsOf, rowsOf, spreadsOf, ratesOf}
 use Rattle.account.specs.Standing.{PartOf, Stands, accountOf}
 use Rattle.account.specs.declared.accounts.Account.{Account}
 use Rattle.margin.specs.declared.line.Line.{Line}
@@ -59,7 +59,7 @@ module _ (whole : List Record) (law : Lawful whole) where
 
 -- that account itself
 pub alone : (morning noon : List ℕ) (a : Account) → Stands morning noon a → Besides (accountOf morning noon) (accountOf morning noon)
-alone morning noon a st = record { lawful = st .lawful; contracts = refl; prompts = λ c. refl; spreads = λ c. refl; entries = refl }
+alone morning noon a st = record { lawful = st .lawful; contracts = refl; prompts = λ c. refl; spreads = λ c. refl; entries = refl; rates = refl }
 
 module _ (standing whole : List Record) (b : Besides standing whole) where
   pub entries-beside : (bytes : List ℕ) → PartOf standing entryPart bytes → PartOf whole entryPart bytes
@@ -81,14 +81,14 @@ module _ (standing whole : List Record) (b : Besides standing whole) where
       (subst (λ (ps : List Record). P (ownOf c whole) ps (spreadsOf c standing)) (b .prompts c)
       (subst (λ (ss : List Record). P (ownOf c whole) (promptsOf c whole) ss) (b .spreads c) x))
 
-  module _ (c : ℕ) (p : Position) (at : PositionAt (unitOf c whole) whole c p) where
+  module _ (c : ℕ) (p : Position) (at : PositionAt (ratesOf whole) (unitOf c whole) whole c p) where
     abbrev k : Contract
-    k = contractFrom (ownOf c whole) (promptsOf c whole) (rowsOf c whole) (spreadsOf c whole)
+    k = contractFrom (ratesOf whole) (ownOf c whole) (promptsOf c whole) (rowsOf c whole) (spreadsOf c whole)
 
     pub fits : PositionFit (ownOf c standing) (promptsOf c standing) (spreadsOf c standing) p
     fits =
         parts-beside c (λ own ps ss. PositionFit own ps ss p)
-        (record { rows = rowsOf c whole; fit = contract-within whole (b .lawful) (ownOf c whole) c (own-fit whole (b .lawful) c); is = at .is; most = at .most })
+        (record { rates = ratesOf whole; rows = rowsOf c whole; fit = contract-within whole (b .lawful) (ownOf c whole) c (own-fit whole (b .lawful) c); is = at .is; most = at .most })
 
     pub fits-book : BookFit (promptsOf c standing) (spreadsOf c standing) p
     fits-book = record { own = ownOf c standing; fits = fits }
@@ -96,7 +96,7 @@ module _ (standing whole : List Record) (b : Besides standing whole) where
     contract-is : contractWith (ownOf c standing) (promptsOf c standing) (spreadsOf c standing) p ≡ k
     contract-is =
         parts-beside c (λ own ps ss. contractWith own ps ss p ≡ k)
-        (sym (contract-with (ownOf c whole) (promptsOf c whole) (rowsOf c whole) (spreadsOf c whole) p (at .is)))
+        (sym (contract-with (ratesOf whole) (ownOf c whole) (promptsOf c whole) (rowsOf c whole) (spreadsOf c whole) p (at .is)))
 
     -- what is asked about
     pub asks-beside : (a : Asking)
@@ -113,11 +113,11 @@ module _ (standing whole : List Record) (b : Besides standing whole) where
       line-is l =
           subst (λ (x : Contract). LineOf x l)
           (contract-is
-          ∙ ap (λ (n : ℕ). contractFrom (ownOf n whole) (promptsOf n whole) (rowsOf n whole) (spreadsOf n whole)) number
-          ∙ ap (λ (r : Record). contractFrom r (promptsOf (contract its) whole) (rowsOf (contract its) whole) (spreadsOf (contract its) whole)) (own-here whole (b .lawful) i listed))
+          ∙ ap (λ (n : ℕ). contractFrom (ratesOf whole) (ownOf n whole) (promptsOf n whole) (rowsOf n whole) (spreadsOf n whole)) number
+          ∙ ap (λ (r : Record). contractFrom (ratesOf whole) r (promptsOf (contract its) whole) (rowsOf (contract its) whole) (spreadsOf (contract its) whole)) (own-here whole (b .lawful) i listed))
 
       pub tier-is : (z : ℤ) → c ≤ 15 → z ≡ sumℤ (deltasIn (p .nets)) → TierIs (partsIn whole its) c z
-      tier-is z few e = tiers.tier-is whole (b .lawful) (ownOf c whole) (own-fit whole (b .lawful) c) c p at its z number few e
+      tier-is z few e = tiers.tier-is whole (b .lawful) (ratesOf whole) (ownOf c whole) (own-fit whole (b .lawful) c) c p at its z number few e
 
     pub tier-sizes : sum (map natAbs (deltasIn (p .nets))) ≤ mostDelta
-    tier-sizes = tiers.tier-sizes whole (b .lawful) (ownOf c whole) (own-fit whole (b .lawful) c) c p at
+    tier-sizes = tiers.tier-sizes whole (b .lawful) (ratesOf whole) (ownOf c whole) (own-fit whole (b .lawful) c) c p at

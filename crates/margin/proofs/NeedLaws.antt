@@ -44,7 +44,7 @@ module _ (account : List Record) (law : Lawful account) (q : ℕ) (asked : answe
       ∙ table-length (entriesOf account) (contracts account)
       ∙ ap (λ (n : ℕ). 3 * n + 2 * length (entriesOf account) + 1) (length-map (contractsOf account) (partsIn account))
   book-size false e =
-      ap length (one-book account law q asked (eqb-false q 16 e)) ∙ contract-length [] (promptsOf q account) (rowsOf q account) (spreadsOf q account)
+      ap length (one-book account law q asked (eqb-false q 16 e)) ∙ contract-length [] [] (promptsOf q account) (rowsOf q account) (spreadsOf q account)
 
   uses-size : (t : Bool) → eqb q 16 ≡ t → length (uses account q) ≡ spreadsIn account t q * (2 * promptsIn account t q)
   uses-size true e =

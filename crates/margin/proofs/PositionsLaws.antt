@@ -10,12 +10,12 @@ use mathlib.Core.List.{List, [], _∷_}
 use borrow.Author.Tests.{eqb-true, eq-eqb}
 use lib.Dec.{eqb}
 use lib.ListN.{length, getD, set, length-set, replicate, length-replicate, getD-replicate}
-use lib.Seq.{getD-set-same, getD-set-other}
+use lib.Seq.{ext-getD, getD-set-same, getD-set-other}
 use Rattle.exact.specs.Lists.{any}
 use Rattle.record.specs.Layout.{Record, contract}
 use Rattle.account.specs.Accepted.{Each, listed}
 use Rattle.account.specs.Lawful.{Lawful}
-use Rattle.account.specs.Parts.{ofKind, contractsOf, promptsOf, rowsOf}
+use Rattle.account.specs.Parts.{ofKind, contractsOf, promptsOf, rowsOf, ratesOf}
 use Rattle.account.specs.Standing.{Stands, accountOf}
 use Rattle.account.specs.declared.accounts.Account.{Account}
 use Rattle.account.proofs.Lists.{any-keep}
@@ -27,6 +27,7 @@ use Rattle.margin.specs.Lined.{PositionAt}
 use Rattle.margin.specs.Position.{PositionOf}
 use Rattle.margin.specs.Positions.{noPosition, PositionsOf, Told}
 use Rattle.margin.proofs.BesideLaws.{alone, own-fit}
+use Rattle.margin.proofs.PositionLaws.{one-position}
 use Rattle.margin.proofs.PositionBounds.{no-rows, bounded, wider}
 
 -- ---- a contract by its number
@@ -56,7 +57,7 @@ none c (x ∷ xs) e (suc j) h q = go (eqb (contract x) c) e (λ a. none c xs a j
 -- ---- no rows
 
 abbrev pub Flat : Position → Type 0
-Flat p = (unit : ℕ) (prompts : List Record) → length prompts ≤ 32 → PositionOf unit prompts [] p
+Flat p = (rates : List Record) (unit : ℕ) (prompts : List Record) → length prompts ≤ 32 → PositionOf rates unit prompts [] p
 
 module _ (account : List Record) (law : Lawful account) where
   -- a contract that is not listed has none
@@ -67,19 +68,19 @@ module _ (account : List Record) (law : Lawful account) where
       go [] q each = q
       go (r ∷ rs) q each = absurd (false≢true (sym e ∙ any-keep (ofKind 1) (asks c) account ∙ each .0))
 
-  flat-at : (c : ℕ) (p : Position) → Flat p → any (asks c) (contractsOf account) ≡ false → PositionAt (unitOf c account) account c p
+  flat-at : (c : ℕ) (p : Position) → Flat p → any (asks c) (contractsOf account) ≡ false → PositionAt (ratesOf account) (unitOf c account) account c p
   flat-at c p flat e =
-      let is = flat (unitOf c account) (promptsOf c account) (law .limits .prompts c) in
+      let is = flat (ratesOf account) (unitOf c account) (promptsOf c account) (law .limits .prompts c) in
       record {
-        is = subst⁻¹ (λ (rs : List Record). PositionOf (unitOf c account) (promptsOf c account) rs p) (unlisted c e) is;
-        most = wider 0 128 p zero-le (bounded (unitOf c account) (own-fit account law c .units .most) (promptsOf c account) [] p no-rows is);
+        is = subst⁻¹ (λ (rs : List Record). PositionOf (ratesOf account) (unitOf c account) (promptsOf c account) rs p) (unlisted c e) is;
+        most = wider 0 128 p zero-le (bounded (ratesOf account) (unitOf c account) (own-fit account law c .units .most) (promptsOf c account) [] p no-rows (λ k h. absurd (not-suc-le-zero h)) is);
       }
 
 -- ---- put in place one after the other
 
 pub record Placed (account : List Record) (i : ℕ) (at : List Position) : Type 0 where
   pub places : length at ≡ 16
-  pub done : (j : ℕ) → j < i → PositionAt (unitOf (contract (getD (contractsOf account) j [])) account) account (contract (getD (contractsOf account) j [])) (getD at (contract (getD (contractsOf account) j [])) noPosition)
+  pub done : (j : ℕ) → j < i → PositionAt (ratesOf account) (unitOf (contract (getD (contractsOf account) j [])) account) account (contract (getD (contractsOf account) j [])) (getD at (contract (getD (contractsOf account) j [])) noPosition)
   pub rest : (c : ℕ) → c ≤ 15 → ((j : ℕ) → j < i → contract (getD (contractsOf account) j []) ≡ c → ⊥) → Flat (getD at c noPosition)
 
 pub placed-none : (account : List Record) (p : Position) → Flat p → Placed account 0 (replicate 16 p)
@@ -91,7 +92,7 @@ placed-none account p flat =
     }
 
 pub placed-next : (account : List Record) (i : ℕ) (at : List Position) (c : ℕ) (p : Position) → Placed account i at → c ≤ 15 → c ≡ contract (getD (contractsOf account) i [])
-    → PositionAt (unitOf c account) account c p → Placed account (i + 1) (set at c p)
+    → PositionAt (ratesOf account) (unitOf c account) account c p → Placed account (i + 1) (set at c p)
 placed-next account i at c p is few number here =
     record {
       places = length-set at c p ∙ is .places;
@@ -99,15 +100,15 @@ placed-next account i at c p is few number here =
       rest = λ d h n. subst⁻¹ Flat (getD-set-other at c d p noPosition (λ q. n i (omega arith) (sym number ∙ sym q))) (is .rest d h (λ j l. n j (omega arith)));
     }
   where
-    same : PositionAt (unitOf c account) account c (getD (set at c p) c noPosition)
-    same = subst⁻¹ (PositionAt (unitOf c account) account c) (getD-set-same at c p noPosition (omega (arith, is .places))) here
+    same : PositionAt (ratesOf account) (unitOf c account) account c (getD (set at c p) c noPosition)
+    same = subst⁻¹ (PositionAt (ratesOf account) (unitOf c account) account c) (getD-set-same at c p noPosition (omega (arith, is .places))) here
 
     done : (j : ℕ) → j < i + 1 → Dec (contract (getD (contractsOf account) j []) ≡ c)
-        → PositionAt (unitOf (contract (getD (contractsOf account) j [])) account) account (contract (getD (contractsOf account) j [])) (getD (set at c p) (contract (getD (contractsOf account) j [])) noPosition)
-    done j h (yes q) = subst⁻¹ (λ (d : ℕ). PositionAt (unitOf d account) account d (getD (set at c p) d noPosition)) q same
+        → PositionAt (ratesOf account) (unitOf (contract (getD (contractsOf account) j [])) account) account (contract (getD (contractsOf account) j [])) (getD (set at c p) (contract (getD (contractsOf account) j [])) noPosition)
+    done j h (yes q) = subst⁻¹ (λ (d : ℕ). PositionAt (ratesOf account) (unitOf d account) account d (getD (set at c p) d noPosition)) q same
     done j h (no q) =
         let d = contract (getD (contractsOf account) j []) in
-        subst⁻¹ (PositionAt (unitOf d account) account d) (getD-set-other at c d p noPosition q) (is .done j (earlier (ℕ-discrete j i)))
+        subst⁻¹ (PositionAt (ratesOf account) (unitOf d account) account d) (getD-set-other at c d p noPosition q) (is .done j (earlier (ℕ-discrete j i)))
       where
         earlier : Dec (j ≡ i) → j < i
         earlier (yes e) = absurd (q (ap (λ (n : ℕ). contract (getD (contractsOf account) n [])) e ∙ sym number))
@@ -116,13 +117,27 @@ placed-next account i at c p is few number here =
 pub placed-all : (account : List Record) (law : Lawful account) (i : ℕ) (ps : Positions) → i ≡ length (contractsOf account) → Placed account i (ps .at) → ps .records ≡ length account → PositionsOf account ps
 placed-all account law i ps e is n = record { records-are = n; places = is .places; each = λ c h. go c h (any (asks c) (contractsOf account)) refl }
   where
-    go : (c : ℕ) → c ≤ 15 → (t : Bool) → any (asks c) (contractsOf account) ≡ t → PositionAt (unitOf c account) account c (getD (ps .at) c noPosition)
+    go : (c : ℕ) → c ≤ 15 → (t : Bool) → any (asks c) (contractsOf account) ≡ t → PositionAt (ratesOf account) (unitOf c account) account c (getD (ps .at) c noPosition)
     go c h true a =
         let f = found c (contractsOf account) a in
-        subst (λ (d : ℕ). PositionAt (unitOf d account) account d (getD (ps .at) d noPosition)) (f .here) (is .done (f .place) (omega (arith, e, f .below)))
+        subst (λ (d : ℕ). PositionAt (ratesOf account) (unitOf d account) account d (getD (ps .at) d noPosition)) (f .here) (is .done (f .place) (omega (arith, e, f .below)))
     go c h false a =
         flat-at account law c (getD (ps .at) c noPosition) (is .rest c h (λ j l. none c (contractsOf account) a j (omega (arith, e)))) a
 
 -- the account itself
 pub told-alone : (morning noon : List ℕ) (a : Account) → Stands morning noon a → (ps : Positions) → PositionsOf (accountOf morning noon) ps → Told (accountOf morning noon) ps (accountOf morning noon)
 told-alone morning noon a st ps is = record { beside = alone morning noon a st; positions = is }
+
+-- an account has one
+pub one-positions : (whole : List Record) (a b : Positions) → PositionsOf whole a → PositionsOf whole b → a ≡ b
+one-positions whole a b x y =
+    λ i.
+    record {
+      records = (x .records-are ∙ sym (y .records-are)) i;
+      at =
+          ext-getD noPosition (a .at) (b .at) (x .places ∙ sym (y .places))
+          (λ c h.
+          let l : c ≤ 15 = omega (arith, x .places) in
+          one-position (ratesOf whole) (unitOf c whole) (promptsOf c whole) (rowsOf c whole) (getD (a .at) c noPosition) (getD (b .at) c noPosition) (x .each c l .is) (y .each c l .is))
+          i;
+    }

@@ -16,6 +16,7 @@ use Rattle.account.specs.Parts.{ofKind, ofContract, contractsOf, promptsOf, row
 use Rattle.account.specs.Records.{records, recordCount}
 use Rattle.account.specs.Standing.{PartOf, Stands, accountOf}
 use Rattle.account.specs.declared.accounts.Account.{Account}
+use Rattle.account.specs.declared.rates.Rates.{Rates}
 use Rattle.account.proofs.Days.{none-kept}
 use Rattle.account.proofs.Every.{length-kept}
 use Rattle.account.proofs.Standing.{contract-part, one-record}
@@ -25,19 +26,19 @@ use Rattle.margin.specs.Beside.{ownOf}
 use Rattle.margin.specs.Books.{asks}
 use Rattle.margin.specs.Contract.{Contract, contractFrom, partsOf}
 use Rattle.margin.specs.Lined.{PositionAt}
-use Rattle.margin.specs.Position.{PositionOf, Bounded}
+use Rattle.margin.specs.Position.{RatedBy, PositionOf, Bounded}
 use Rattle.margin.specs.Promised.{LineOf, BookFit, contractWith}
 use Rattle.margin.specs.Within.{ContractFit, EntriesFit}
 use Rattle.margin.proofs.AcceptLaws.{none-within, contract-within, own-within, entries-within}
 use Rattle.margin.proofs.RecordLaws.{count-is}
 
 -- a contract known by its rows is the one known by what they come to
-pub contract-with : (own : Record) (prompts rows spreads : List Record) (p : Position) → PositionOf (unit own) prompts rows p → contractFrom own prompts rows spreads ≡ contractWith own prompts spreads p
-contract-with own prompts rows spreads p is =
+pub contract-with : (rates : List Record) (own : Record) (prompts rows spreads : List Record) (p : Position) → PositionOf rates (unit own) prompts rows p → contractFrom rates own prompts rows spreads ≡ contractWith own prompts spreads p
+contract-with rates own prompts rows spreads p is =
     λ i. record { own = own; prompts = prompts; spreads = spreads; totals = sym (is .totals-are) i; nets = sym (is .nets-are) i; shorts = sym (is .shorts-are) i }
 
-pub line-with : (own : Record) (prompts rows spreads : List Record) (p : Position) → PositionOf (unit own) prompts rows p → (l : Line) → LineOf (contractFrom own prompts rows spreads) l → LineOf (contractWith own prompts spreads p) l
-line-with own prompts rows spreads p is l = subst (λ (k : Contract). LineOf k l) (contract-with own prompts rows spreads p is)
+pub line-with : (rates : List Record) (own : Record) (prompts rows spreads : List Record) (p : Position) → PositionOf rates (unit own) prompts rows p → (l : Line) → LineOf (contractFrom rates own prompts rows spreads) l → LineOf (contractWith own prompts spreads p) l
+line-with rates own prompts rows spreads p is l = subst (λ (k : Contract). LineOf k l) (contract-with rates own prompts rows spreads p is)
 
 -- ---- the one record of a contract's own part
 
@@ -116,10 +117,13 @@ module _ (account : List Record) (law : Lawful account) where
       pub prompts-few : recordCount prompts ≤ 32
       prompts-few = omega (arith, count-is prompts, ap length (of-contract 2 (omega arith) prompts ep), law .limits .prompts c)
 
-      pub position-is : (u : ℕ) (p : Position) → PositionOf u (records prompts) (records rows) p → Bounded 128 p → PositionAt u account c p
-      position-is u p is most =
+      pub rows-rated-by : (t : Rates) → RatedBy t (rowsOf c account) → RatedBy t (records rows)
+      rows-rated-by t = subst⁻¹ (RatedBy t) (of-contract 3 (omega arith) rows er)
+
+      pub position-is : (rates : List Record) (u : ℕ) (p : Position) → PositionOf rates u (records prompts) (records rows) p → Bounded 128 p → PositionAt rates u account c p
+      position-is rates u p is most =
           record {
-            is = subst (λ (rs : List Record). PositionOf u (promptsOf c account) rs p) (of-contract 3 (omega arith) rows er) (subst (λ (ps : List Record). PositionOf u ps (records rows) p) (of-contract 2 (omega arith) prompts ep) is);
+            is = subst (λ (rs : List Record). PositionOf rates u (promptsOf c account) rs p) (of-contract 3 (omega arith) rows er) (subst (λ (ps : List Record). PositionOf rates u ps (records rows) p) (of-contract 2 (omega arith) prompts ep) is);
             most = most;
           }
 
@@ -136,12 +140,12 @@ module _ (account : List Record) (law : Lawful account) where
           (subst (λ (ss : List Record). P (records prompts) ss) (of-contract 4 (omega arith) spreads es) x)
 
     -- a contract without a record of its own
-    module _ (p : Position) (at : PositionAt 1 account c p) where
+    module _ (p : Position) (at : PositionAt [] 1 account c p) where
       pub book-fits : BookFit (promptsOf c account) (spreadsOf c account) p
-      book-fits = record { own = []; fits = record { rows = rowsOf c account; fit = contract-within account law [] c none-within; is = at .is; most = at .most } }
+      book-fits = record { own = []; fits = record { rates = []; rows = rowsOf c account; fit = contract-within account law [] c none-within; is = at .is; most = at .most } }
 
       pub by-number : contractWith [] (promptsOf c account) (spreadsOf c account) p ≡ partsOf account c
-      by-number = sym (contract-with [] (promptsOf c account) (rowsOf c account) (spreadsOf c account) p (at .is))
+      by-number = sym (contract-with [] [] (promptsOf c account) (rowsOf c account) (spreadsOf c account) p (at .is))
 
   -- the number of a contract of the account
   pub own-number : (i : ℕ) → i < length (contractsOf account) → contract (getD (contractsOf account) i []) ≤ 15

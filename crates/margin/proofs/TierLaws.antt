@@ -48,10 +48,10 @@ use Rattle.margin.proofs.StepBounds.{sizes, number-within}
 use Rattle.margin.proofs.TableLaws.{Tiered, tiered-next, tiered-all, entry-accepted}
 
 -- a contract's number and net delta, by what its rows come to
-module _ (account : List Record) (law : Lawful account) (own : Record) (w : ranges.ContractWithin own) (c : ℕ) (q : Position) (at : PositionAt (unit own) account c q) where
+module _ (account : List Record) (law : Lawful account) (rates : List Record) (own : Record) (w : ranges.ContractWithin own) (c : ℕ) (q : Position) (at : PositionAt rates (unit own) account c q) where
   pub tier-sizes : sum (map natAbs (deltasIn (q .nets))) ≤ mostDelta
   tier-sizes =
-      net-sizes own (promptsOf c account) (rowsOf c account) (spreadsOf c account) (contract-within account law own c w) q (at .is) (at .most)
+      net-sizes rates own (promptsOf c account) (rowsOf c account) (spreadsOf c account) (contract-within account law own c w) q (at .is) (at .most)
 
   pub tier-is : (its : Record) (z : ℤ) → c ≡ contract its → c ≤ 15 → z ≡ sumℤ (deltasIn (q .nets)) → TierIs (partsIn account its) c z
   tier-is its z ec few ez =
@@ -59,7 +59,7 @@ module _ (account : List Record) (law : Lawful account) (own : Record) (w : rang
         number-is = ec;
         net-is =
             ez
-            ∙ net-is own (promptsOf c account) (rowsOf c account) (spreadsOf c account) (contract-within account law own c w) q (at .is) (at .most)
+            ∙ net-is rates own (promptsOf c account) (rowsOf c account) (spreadsOf c account) (contract-within account law own c w) q (at .is) (at .most)
             ∙ ap (λ (n : ℕ). sumℤ (netDeltas (promptsOf n account) (rowsOf n account))) ec;
         number-within = few;
         net-within = subst⁻¹ (λ (x : ℤ). natAbs x ≤ mostDelta) ez (le-trans (abs-sum (deltasIn (q .nets))) tier-sizes);

@@ -219,7 +219,7 @@ pub contract-asks : (prompts spreads : List ℕ) (q : Position) → BookFit (rec
 contract-asks prompts spreads q w p t tiers table =
     let ps = records prompts in
     let f = w .fits in
-    let room = book-room (w .own) ps (f .rows) (records spreads) (f .fit) q (f .is) (f .most) in
+    let room = book-room (f .rates) (w .own) ps (f .rows) (records spreads) (f .fit) q (f .is) (f .most) in
     let same = opens-first ps (deltasIn (q .nets)) in
     let few : length (take (length ps) (deltasIn (q .nets))) ≡ length ps = ap length (f .is .nets-are) ∙ length-map ps _ in
     asks p t (opens ps (take (length ps) (deltasIn (q .nets)))) (map interprompt (records spreads)) (opens-are prompts (q .nets) p tiers ∙ same) (table .spreads-are)

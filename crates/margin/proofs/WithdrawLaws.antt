@@ -8,15 +8,14 @@ use native.Mathlib.Omega.{arith}
 use borrow.Author.Tests.{ltb-true, ltb-false}
 use lib.Dec.{ltb}
 use lib.IntN.{ℤ, pos, negℤ, _+ℤ_, +ℤ-idl, +ℤ-idr, +ℤ-negℤ-cancel}
-use lib.ListN.{length, getD, length-map}
+use lib.ListN.{length, getD}
 use lib.Seq.{ext-getD}
 use Rattle.record.specs.Layout.{Record}
-use Rattle.spread.specs.declared.Delta.{Delta}
 use Rattle.margin.specs.declared.rows.Days.{Days}
 use Rattle.margin.specs.declared.rows.Position.{Position}
 use Rattle.margin.specs.Position.{PositionOf, Bounded, Added, WithRows, deltasIn, netOn}
 use Rattle.margin.specs.Scanning.{total}
-use Rattle.margin.proofs.AddedLaws.{delta-at}
+use Rattle.margin.proofs.AddedLaws.{same-deltas}
 use Rattle.margin.proofs.PositionLaws.{zeros}
 
 -- numbers to which more was added, less what was added to zeros
@@ -34,23 +33,14 @@ undone n m more xs ys zs none gone h l a flat g b =
         let i = ltb-false k n e in
         ap₂ (λ (x y : ℤ). x +ℤ negℤ y) (a .others k i) (g .others k i ∙ flat k) ∙ +ℤ-idr (getD xs k (pos 0))
 
--- deltas by their numbers
-same-deltas : (xs ys : List Delta) → deltasIn xs ≡ deltasIn ys → xs ≡ ys
-same-deltas xs ys e =
-    ext-getD (record { 0 = pos 0 }) xs ys (sym (length-map xs (λ d. d .0)) ∙ ap length e ∙ length-map ys (λ d. d .0))
-    (λ j h. one (sym (delta-at xs j) ∙ ap (λ (zs : List ℤ). getD zs j (pos 0)) e ∙ delta-at ys j))
-  where
-    one : {x y : Delta} → x .0 ≡ y .0 → x ≡ y
-    one q = λ i. record { 0 = q i }
-
-module _ (unit : ℕ) (days : Days) (rows : List Record) (before p flat gone q : Position) (w : WithRows unit days before rows p) (g : WithRows unit days flat rows gone)
-    (none : PositionOf unit [] [] flat) (most : Bounded 128 p) (few : days .count ≤ 32)
+module _ (rates : List Record) (unit : ℕ) (days : Days) (rows : List Record) (before p flat gone q : Position) (w : WithRows rates unit days before rows p) (g : WithRows rates unit days flat rows gone)
+    (none : PositionOf rates unit [] [] flat) (most : Bounded 128 p) (few : days .count ≤ 32)
     (et : Added 16 (λ k. negℤ (getD (gone .totals .0) k (pos 0))) (p .totals .0) (q .totals .0))
     (en : Added 32 (λ j. negℤ (getD (deltasIn (gone .nets)) j (pos 0))) (deltasIn (p .nets)) (deltasIn (q .nets)))
     (es : q .shorts ≡ p .shorts - gone .shorts) where
   totals-back : q .totals .0 ≡ before .totals .0
   totals-back =
-      undone 16 16 (λ k. total unit rows (k + 1)) (before .totals .0) (p .totals .0) (q .totals .0) (flat .totals .0) (gone .totals .0) (omega arith) (most .totals-most .as-many)
+      undone 16 16 (λ k. total rates unit rows (k + 1)) (before .totals .0) (p .totals .0) (q .totals .0) (flat .totals .0) (gone .totals .0) (omega arith) (most .totals-most .as-many)
       (w .totals-added) (λ k. ap (λ (zs : List ℤ). getD zs k (pos 0)) (none .totals-are) ∙ zeros 16 k) (g .totals-added) et
 
   shorts-back : q .shorts ≡ before .shorts

@@ -7,7 +7,7 @@ use lib.ListN.{getD}
 use Rattle.exact.specs.Lists.{keep}
 use Rattle.record.specs.Layout.{Record, unit}
 use Rattle.account.specs.Lawful.{Lawful}
-use Rattle.account.specs.Parts.{contractsOf, promptsOf, spreadsOf, entriesOf}
+use Rattle.account.specs.Parts.{contractsOf, promptsOf, spreadsOf, entriesOf, ratesOf}
 use Rattle.spread.specs.declared.Prompts.{Prompts}
 use Rattle.margin.specs.declared.over.Lines.{Lines}
 use Rattle.margin.specs.Books.{asks}
@@ -28,6 +28,7 @@ pub record Besides (standing whole : List Record) : Type 0 where
   pub prompts : (c : ℕ) → promptsOf c whole ≡ promptsOf c standing
   pub spreads : (c : ℕ) → spreadsOf c whole ≡ spreadsOf c standing
   pub entries : entriesOf whole ≡ entriesOf standing
+  pub rates : ratesOf whole ≡ ratesOf standing
 
 -- one with these lines, and one with these tiers
 pub record LinesKnown (standing : List Record) (ls : Lines) : Type 0 where

@@ -22,8 +22,12 @@ use account::parts::CONTRACTS;
 use account::parts::ENTRIES;
 use account::parts::OWN;
 use account::parts::PROMPTS;
+use account::parts::RATES;
 use account::parts::ROWS;
 use account::parts::SPREADS;
+use account::rates::Rates;
+use account::rates::no_rates;
+use account::rates::rates_of;
 use exact::signed::magnitude;
 use record::fields::unit;
 use spread::Delta;
@@ -34,7 +38,8 @@ ghost use mathlib.Core.Bool.{true};
 ghost use mathlib.Core.List.{List, [], map};
 ghost use Prim.Native.Nat.{_+_, _*_, _≤_, _<_};
 ghost use lib.ListN.{getD};
-ghost use Rattle.account.specs.Parts.{contractsOf, promptsOf, spreadsOf, entriesOf};
+ghost use Rattle.account.specs.Parts.{contractsOf, promptsOf, rowsOf, spreadsOf, entriesOf, ratesOf};
+ghost use Rattle.account.specs.Products.{RatesOf};
 ghost use Rattle.account.specs.Records.{records};
 ghost use Rattle.account.specs.Standing.{Stands, accountOf};
 ghost use Rattle.record.specs.Layout.{Record, mostContract, mostUnit};
@@ -43,6 +48,7 @@ ghost use Rattle.margin.specs.Bounds.{longestBook};
 ghost use Rattle.margin.specs.Contract.{contracts, partsIn, partsOf, asTier, stepsOf, opensOf, tableSteps};
 ghost use Rattle.margin.specs.Figures.{figures, accountTotal};
 ghost use Rattle.margin.specs.Numbers.{written};
+ghost use Rattle.margin.specs.Position.{RatedBy};
 ghost use Rattle.margin.specs.Promised.{LineOf, PositionFit, BookFit, contractWith};
 ghost use Rattle.margin.specs.Beside.{ownOf, unitOf, Besides, LinesKnown, TiersKnown};
 ghost use Rattle.margin.specs.Lined.{LinesOf, TierIs, TiersIn, PositionAt};
@@ -57,37 +63,39 @@ pub struct Lines {
     pub line: [Line; CONTRACTS],
 }
 
-// The unit where none is asked for: net deltas and short lots have none.
+// The unit where none is asked for: net deltas and short lots have none, and are not converted.
 const ONE_HUNDREDTH: u64 = 1;
 
-// What the rows of contract `c` come to at a unit.
+// What the rows of contract `c` come to at rates and a unit.
 fn position_at<'a>(
     morning: &'a [u8],
     noon: &'a [u8],
     account: Account,
     c: usize,
+    rates: Rates,
     unit: u64,
 ) -> Position
-    requires { ⌜ Stands (now morning) (now noon) account × ((c ≤ mostContract) × (unit ≤ mostUnit)) ⌝ }
-    ensures { λ p. ⌜ PositionAt unit (accountOf (now (morning .entry)) (now (noon .entry))) c p ⌝ }
+    requires { ⌜ Stands (now morning) (now noon) account × ((c ≤ mostContract) × ((unit ≤ mostUnit) × RatedBy rates (rowsOf c (accountOf (now morning) (now noon))))) ⌝ }
+    ensures { λ p. ⌜ ((held : List Record) → RatesOf held rates → PositionAt held unit (accountOf (now (morning .entry)) (now (noon .entry))) c p) ⌝ }
 {
     let prompts = part(morning, noon, account, PROMPTS + c);
     let rows = part(morning, noon, account, ROWS + c);
-    position_of(unit, prompts, rows)
+    position_of(rates, unit, prompts, rows)
 }
 
-// The same by the unit of the contract.
+// The same at the account's rates and by the unit of the contract.
 pub(crate) fn position_in<'a>(
     morning: &'a [u8],
     noon: &'a [u8],
     account: Account,
     c: usize,
+    rates: Rates,
 ) -> Position
-    requires { ⌜ Stands (now morning) (now noon) account × (c ≤ mostContract) ⌝ }
-    ensures { λ p. ⌜ PositionAt (unitOf c (accountOf (now (morning .entry)) (now (noon .entry)))) (accountOf (now (morning .entry)) (now (noon .entry))) c p ⌝ }
+    requires { ⌜ Stands (now morning) (now noon) account × ((c ≤ mostContract) × RatesOf (ratesOf (accountOf (now morning) (now noon))) rates) ⌝ }
+    ensures { λ p. ⌜ PositionAt (ratesOf (accountOf (now (morning .entry)) (now (noon .entry)))) (unitOf c (accountOf (now (morning .entry)) (now (noon .entry)))) (accountOf (now (morning .entry)) (now (noon .entry))) c p ⌝ }
 {
     let own = part(morning, noon, account, OWN + c);
-    position_at(morning, noon, account, c, unit(own) as u64)
+    position_at(morning, noon, account, c, rates, unit(own) as u64)
 }
 
 // The line of contract `c`, by what its rows come to.
@@ -107,13 +115,13 @@ pub(crate) fn line_with<'a>(
     line_of(own, prompts, spreads, p)
 }
 
-// The line of the i-th contract.
-fn line_at<'a>(morning: &'a [u8], noon: &'a [u8], account: Account, i: usize) -> Line
-    requires { ⌜ Stands (now morning) (now noon) account × (i < account .contracts) ⌝ }
+// The line of the i-th contract, at the account's rates.
+fn line_at<'a>(morning: &'a [u8], noon: &'a [u8], account: Account, i: usize, rates: Rates) -> Line
+    requires { ⌜ Stands (now morning) (now noon) account × ((i < account .contracts) × RatesOf (ratesOf (accountOf (now morning) (now noon))) rates) ⌝ }
     ensures { λ r. ⌜ LineOf (partsIn (accountOf (now (morning .entry)) (now (noon .entry))) (getD (contractsOf (accountOf (now (morning .entry)) (now (noon .entry)))) i [])) r ⌝ }
 {
     let c = contract_number(account, i);
-    let p = position_in(morning, noon, account, c);
+    let p = position_in(morning, noon, account, c, rates);
     line_with(morning, noon, account, c, p)
 }
 
@@ -137,10 +145,11 @@ fn lines_of<'a>(morning: &'a [u8], noon: &'a [u8], account: Account) -> Lines
     ensures { λ r. ⌜ LinesOf (accountOf (now (morning .entry)) (now (noon .entry))) r ⌝ }
 {
     let count = contract_total(account);
+    let rates = rates_of(part(morning, noon, account, RATES));
     let mut lines = [no_line(); CONTRACTS];
     let mut i = 0;
     while i < count {
-        lines[i] = line_at(morning, noon, account, i);
+        lines[i] = line_at(morning, noon, account, i, rates);
         i += 1;
     }
     Lines {
@@ -198,7 +207,7 @@ fn tier_at<'a>(morning: &'a [u8], noon: &'a [u8], account: Account, i: usize) ->
     ensures { λ r. ⌜ TierIs (partsIn (accountOf (now (morning .entry)) (now (noon .entry))) (getD (contractsOf (accountOf (now (morning .entry)) (now (noon .entry)))) i [])) (r .contract) (r .net .0) ⌝ }
 {
     let c = contract_number(account, i);
-    let p = position_at(morning, noon, account, c, ONE_HUNDREDTH);
+    let p = position_at(morning, noon, account, c, no_rates(), ONE_HUNDREDTH);
     let nets = p.nets;
     let net = contract_net(nets);
     Tier {
@@ -263,7 +272,7 @@ fn asking_of<'a>(morning: &'a [u8], noon: &'a [u8], account: Account, c: usize) 
     requires { ⌜ Stands (now morning) (now noon) account × (c ≤ mostContract) ⌝ }
     ensures { λ r. ⌜ Asks (stepsOf (partsOf (accountOf (now (morning .entry)) (now (noon .entry))) c)) (opensOf (partsOf (accountOf (now (morning .entry)) (now (noon .entry))) c)) r ⌝ }
 {
-    let p = position_at(morning, noon, account, c, ONE_HUNDREDTH);
+    let p = position_at(morning, noon, account, c, no_rates(), ONE_HUNDREDTH);
     asking_with(morning, noon, account, c, p)
 }
 

@@ -17,8 +17,11 @@ use crate::uses::Asking;
 use account::accounts::Account;
 use account::accounts::contract_number;
 use account::accounts::contract_total;
+use account::accounts::part;
 use account::accounts::record_total;
 use account::parts::CONTRACTS;
+use account::parts::RATES;
+use account::rates::rates_of;
 use exact::signed::magnitude;
 use spread::Delta;
 use spread::MOST_PROMPTS;
@@ -52,11 +55,12 @@ pub fn positions_over<'a>(morning: &'a [u8], noon: &'a [u8], account: Account) -
     ensures { λ r. ⌜ PositionsOf (accountOf (now (morning .entry)) (now (noon .entry))) r ⌝ }
 {
     let count = contract_total(account);
+    let rates = rates_of(part(morning, noon, account, RATES));
     let mut at = [flat(); CONTRACTS];
     let mut i = 0;
     while i < count {
         let c = contract_number(account, i);
-        at[c] = position_in(morning, noon, account, c);
+        at[c] = position_in(morning, noon, account, c, rates);
         i += 1;
     }
     Positions {

@@ -20,12 +20,12 @@ small c =
     let n = s .args .noon .now in
     omega (
       arith,
-      number-at m n (s .args .account) (s .pre .0) (s .args .i) (s .pre .1) (c .contract-number .result) (c .contract-number .ensures),
-      own-number (accountOf m n) (s .pre .0 .lawful) (s .args .i) (listed-at m n (s .args .account) (s .pre .0) (s .args .i) (s .pre .1)),
+      number-at m n (s .args .account) (s .pre .0) (s .args .i) (s .pre .1 .0) (c .contract-number .result) (c .contract-number .ensures),
+      own-number (accountOf m n) (s .pre .0 .lawful) (s .args .i) (listed-at m n (s .args .account) (s .pre .0) (s .args .i) (s .pre .1 .0)),
     )
 
 position-in-requires : tie.Need-position-in-requires
-position-in-requires c κs = (c .before .before .before .pre .0, small c)
+position-in-requires c κs = (c .before .before .before .pre .0, (small c, c .before .before .before .pre .1 .1))
 
 line-with-requires : tie.Need-line-with-requires
 line-with-requires c κs =
@@ -43,8 +43,8 @@ returns c =
     let k = c .before .before .contract-number in
     let p = c .before .position-in in
     line-is (accountOf m n) (accountOf m n) (alone m n (s .args .account) (s .pre .0)) (k .result) (p .result) (p .ensures)
-    (s .args .i) (listed-at m n (s .args .account) (s .pre .0) (s .args .i) (s .pre .1))
-    (number-at m n (s .args .account) (s .pre .0) (s .args .i) (s .pre .1) (k .result) (k .ensures)) (c .line-with .result) (c .line-with .ensures)
+    (s .args .i) (listed-at m n (s .args .account) (s .pre .0) (s .args .i) (s .pre .1 .0))
+    (number-at m n (s .args .account) (s .pre .0) (s .args .i) (s .pre .1 .0) (k .result) (k .ensures)) (c .line-with .result) (c .line-with .ensures)
 
 pub line-at-spec : {M : Type 1} → statement M
 line-at-spec =

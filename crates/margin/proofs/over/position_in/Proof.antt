@@ -5,9 +5,11 @@ use Prim.Native.Nat.{ℕ}
 use native.Mathlib.Omega.{arith}
 use borrow.Author.Needs.{needs}
 use Rattle.record.specs.Layout.{unit}
+use Rattle.account.specs.Parts.{ratesOf}
 use Rattle.account.specs.Standing.{accountOf}
 use Rattle.margin.specs.Beside.{unitOf}
 use Rattle.margin.specs.Lined.{PositionAt}
+use Rattle.margin.proofs.AcceptLaws.{rows-rated}
 use Rattle.margin.proofs.BesideLaws.{own-fit}
 use Rattle.margin.proofs.StandLaws.{own-by}
 use Rattle.margin.proofs.over.position_in.Statement.{statement}
@@ -29,19 +31,23 @@ its-unit : (c : tie.After-unit)
 its-unit c =
     let s = c .before .before .before .before in
     let own = c .before .part in
-    c .unit .ensures .0 ∙ ap unit (own-by (accountOf (s .args .morning .now) (s .args .noon .now)) (s .pre .0 .lawful) (s .args .c) (s .pre .1) (own .result .now) (own .ensures))
+    c .unit .ensures .0 ∙ ap unit (own-by (accountOf (s .args .morning .now) (s .args .noon .now)) (s .pre .0 .lawful) (s .args .c) (s .pre .1 .0) (own .result .now) (own .ensures))
 
 position-at-requires : tie.Need-position-at-requires
 position-at-requires c κs =
     let s = c .before .before .before .before in
     let w = own-fit (accountOf (s .args .morning .now) (s .args .noon .now)) (s .pre .0 .lawful) (s .args .c) in
-    (s .pre .0, (s .pre .1, omega (arith, its-unit c, w .units .most)))
+    (
+      s .pre .0,
+      (s .pre .1 .0, (omega (arith, its-unit c, w .units .most), rows-rated (accountOf (s .args .morning .now) (s .args .noon .now)) (s .pre .0 .lawful) (s .args .c) (s .args .rates) (s .pre .1 .1))),
+    )
 
 returns : tie.Need-returns
 returns c =
     let s = c .before .before .before .before .before in
     let p = c .position-at in
-    subst (λ (u : ℕ). PositionAt u (accountOf (s .args .morning .now) (s .args .noon .now)) (s .args .c) (p .result)) (its-unit (c .before)) (p .ensures)
+    let a = accountOf (s .args .morning .now) (s .args .noon .now) in
+    subst (λ (u : ℕ). PositionAt (ratesOf a) u a (s .args .c) (p .result)) (its-unit (c .before)) (p .ensures (ratesOf a) (s .pre .1 .1))
 
 pub position-in-spec : {M : Type 1} → statement M
 position-in-spec =

@@ -261,13 +261,7 @@ fn nets_without(nets: [Delta; MOST_PROMPTS], gone: [Delta; MOST_PROMPTS]) -> [De
 }
 
 // What rows come to without the last of them, which it has: the position before these rows, in every number.
-pub fn without_rows(
-    p: Position,
-    days: Days,
-    rates: Rates,
-    unit: u64,
-    rows: &[u8],
-) -> Position
+pub fn without_rows(p: Position, days: Days, rates: Rates, unit: u64, rows: &[u8]) -> Position
     requires { ⌜ (unit ≤ mostUnit) × ((days .count ≤ mostPrompts) × (RowsFit (records (now rows)) × (RatedBy rates (records (now rows)) × (Bounded mostRows p × HasRows rates unit days (records (now rows)) p)))) ⌝ }
     ensures { λ q. ⌜ ((held : List Record) (before : Position) → RatesOf held rates → WithRows held unit days before (records (now (rows .entry))) p → q ≡ before) ⌝ }
 {

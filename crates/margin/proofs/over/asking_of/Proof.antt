@@ -15,7 +15,6 @@ use Rattle.margin.proofs.over.asking_of.Tie as tie
 no-rates-requires : tie.Need-no-rates-requires
 no-rates-requires c κs = search needs
 
-
 position-at-requires : tie.Need-position-at-requires
 position-at-requires c κs =
     let s = c .before .before .before in

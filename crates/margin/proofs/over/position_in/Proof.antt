@@ -36,8 +36,7 @@ its-unit c =
 position-at-requires : tie.Need-position-at-requires
 position-at-requires c κs =
     let s = c .before .before .before .before in
-    let w = own-fit (accountOf (s .args .morning .now) (s .args .noon .now)) (s .pre .0 .lawful) (s .args .c) in
-    (
+    let w = own-fit (accountOf (s .args .morning .now) (s .args .noon .now)) (s .pre .0 .lawful) (s .args .c) in (
       s .pre .0,
       (s .pre .1 .0, (omega (arith, its-unit c, w .units .most), rows-rated (accountOf (s .args .morning .now) (s .args .noon .now)) (s .pre .0 .lawful) (s .args .c) (s .args .rates) (s .pre .1 .1))),
     )

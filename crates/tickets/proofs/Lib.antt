@@ -1,0 +1,6 @@
+pub mod Inserted
+pub mod Placed
+pub mod Claims
+pub mod Taken
+pub mod Counting
+pub mod CountLaws

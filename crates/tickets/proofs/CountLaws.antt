@@ -416,10 +416,10 @@ counts-more file ts t k m co h more =
 
 -- ---- one ticket less
 module _ (file : List ℕ) (ts : List Record) (t : Record) (k : Counts) (co : CountsOf file (ts ++ t ∷ []) k) where
-  taken-here : ticketChecked (withTickets file ts) t ≡ Accepted
+  pub taken-here : ticketChecked (withTickets file ts) t ≡ Accepted
   taken-here = taken-last file ts t (co .taken)
 
-  before-ok : checked (withTickets file ts) ≡ Accepted
+  pub before-ok : checked (withTickets file ts) ≡ Accepted
   before-ok = accepted-with file ts (file-ok file (k .account) (co .from-check)) (taken-less file ts t (co .taken))
 
   pub some-rows : 1 ≤ getD (k .rows) (contract t) 0

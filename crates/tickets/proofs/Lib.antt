@@ -4,3 +4,5 @@ pub mod Claims
 pub mod Taken
 pub mod Counting
 pub mod CountLaws
+pub mod BeforeLaws
+pub mod KeptLaws

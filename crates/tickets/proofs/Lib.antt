@@ -6,3 +6,4 @@ pub mod Counting
 pub mod CountLaws
 pub mod BeforeLaws
 pub mod KeptLaws
+pub mod AskLaws

@@ -7,3 +7,4 @@ pub mod CountLaws
 pub mod BeforeLaws
 pub mod KeptLaws
 pub mod AskLaws
+pub mod KeptClaimed

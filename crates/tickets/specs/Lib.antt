@@ -4,3 +4,4 @@ pub mod Counts
 pub mod Kept
 pub mod Asked
 pub mod Held
+pub mod KeptClaims

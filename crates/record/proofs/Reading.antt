@@ -1,13 +1,14 @@
 -- Numbers read from a record: past its end they are 0, and two's complement at the machine's width is that of 32 bits.
 -- Assumes nothing.
-use Prim.Native.Nat.{ℕ, zero, suc, _+_, _-_, _≤_, _<_, _^_}
+use Prim.Native.Nat.{ℕ, _+_, _-_, _%_, _≤_, _<_, _^_}
 use mathlib.Core.Path.{_≡_, refl, ap, _∙_}
-use lib.IntN.{ℤ, pos, negsuc, _-ℤ_}
+use mathlib.Core.Bool.{Bool, true, false}
+use lib.Dec.{ltb}
+use lib.IntN.{ℤ, pos, negsuc, subℕ, _-ℤ_}
 use lib.ListN.{length, take, List·getD-eq-default}
 use lib.Seq.{getD-take}
 use native.Mathlib.Omega.{arith}
-use native.Mathlib.Nat.{zero-add}
-use borrow.Author.Tests.{lt-ltb, le-ltb}
+use borrow.Author.Tests.{lt-ltb, le-ltb, ltb-true, ltb-false}
 use lib.Signed.{mag}
 use mir.Syntax.{w64}
 use mir.Val.{SFits, toZ, ofZ}
@@ -39,19 +40,26 @@ u32-in n r o h =
 pub back : (z : ℤ) → mag z < 2 ^ 63 → toZ w64 (ofZ w64 z) ≡ z
 back z h = toZ-ofZ (record { sfits = h })
 
-below-zero : (k : ℕ) → negsuc 0 -ℤ pos k ≡ negsuc k
-below-zero zero = refl
-below-zero (suc k) = ap (λ (n : ℕ). negsuc (suc n)) (zero-add k)
+module _ (x : ℕ) (h : x < 4294967296) where
+  -- 2 ^ 31 on, round at 2 ^ 32, and 2 ^ 31 back
+  moved : ℕ
+  moved = (x + 2147483648) % 4294967296
 
-pub signed-low : (x : ℕ) → x < 2147483648 → toZ w64 x ≡ twosComplement x
-signed-low x h = toZ-pos w64 {n = x} (omega arith) ∙ rw (lt-ltb _ _ h)
+  back-again : (t : Bool) → ltb x 2147483648 ≡ t → subℕ moved 2147483648 ≡ twosComplement x
+  unfolding moved
+  back-again true e = let low = ltb-true x 2147483648 e in rw (e, le-ltb moved 2147483648 (omega arith)) (ap pos (omega arith))
+  back-again false e = let high = ltb-false x 2147483648 e in rw (e, lt-ltb moved 2147483648 (omega arith)) (ap negsuc (omega arith))
 
-module _ (x : ℕ) (high : 2147483648 ≤ x) (h : x < 4294967296) where
-  minus : negsuc 0 -ℤ toZ w64 (4294967295 - x) ≡ negsuc (4294967295 - x)
-  minus = rw (toZ-pos w64 {n = 4294967295 - x} (omega arith)) (below-zero (4294967295 - x))
+  minus : toZ w64 ((x + 2147483648) % 4294967296) -ℤ pos 2147483648 ≡ twosComplement x
+  unfolding moved
+  minus = rw (toZ-pos w64 {n = (x + 2147483648) % 4294967296} (omega arith)) (back-again (ltb x 2147483648) refl)
 
-  pub signed-fits : SFits w64 (negsuc 0 -ℤ toZ w64 (4294967295 - x))
-  signed-fits = rw minus (record { sfits = omega arith })
+  fits : (t : Bool) → ltb x 2147483648 ≡ t → SFits w64 (twosComplement x)
+  fits true e = let low = ltb-true x 2147483648 e in rw e (record { sfits = omega arith })
+  fits false e = let high = ltb-false x 2147483648 e in rw e (record { sfits = omega arith })
 
-  pub signed-high : toZ w64 (ofZ w64 (negsuc 0 -ℤ toZ w64 (4294967295 - x))) ≡ twosComplement x
-  signed-high = toZ-ofZ signed-fits ∙ minus ∙ rw (le-ltb _ _ high)
+  pub signed-fits : SFits w64 (toZ w64 ((x + 2147483648) % 4294967296) -ℤ pos 2147483648)
+  signed-fits = rw minus (fits (ltb x 2147483648) refl)
+
+  pub signed-is : toZ w64 (ofZ w64 (toZ w64 ((x + 2147483648) % 4294967296) -ℤ pos 2147483648)) ≡ twosComplement x
+  signed-is = toZ-ofZ signed-fits ∙ minus

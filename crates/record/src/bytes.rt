@@ -47,11 +47,7 @@ fn signed(x: usize) -> i64
     requires { ⌜ x < 4294967296 ⌝ }
     ensures { λ z. ⌜ z ≡ twosComplement x ⌝ }
 {
-    if x < 2147483648 {
-        x as i64
-    } else {
-        -1 - (4294967295 - x) as i64
-    }
+    ((x + 2147483648) % 4294967296) as i64 - 2147483648
 }
 
 pub(crate) fn i32_at(r: &[u8], o: usize) -> i64

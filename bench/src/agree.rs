@@ -5,12 +5,15 @@ use crate::accounts;
 use crate::tuned::{self, BOOKS, MOST_BOOK, MOST_FIGURES, OUTCOME};
 use independent::format::{MOST_SPREADS, RECORD_BYTES};
 use independent::generate::{self, Random};
-use independent::refusal::{LENGTHS_DIFFER, TOO_FEW_LENT};
+use independent::refusal::*;
 use independent::run::{accounts as accounts_of, answer};
-use independent::{held_book, Refusal};
+use independent::{held_book, held_figures, joined, write, PairRefusal, Refusal};
+use std::collections::BTreeMap;
 
 const ACCOUNTS: u64 = 20_000;
 const RUNS: u64 = 2_000;
+const PAIRS: u64 = 1_500;
+const DESKS: u64 = 3;
 const SEED: u64 = 1;
 /// The books, and questions that no account lists.
 const QUESTIONS: [u64; 4] = [BOOKS as u64, 256, 1 << 32, u64::MAX];
@@ -32,6 +35,71 @@ fn agrees_on_full_tables() {
     for spreads in 0..=MOST_SPREADS {
         compare(&accounts::table(spreads), &mut Random::new(!SEED, 0), &mut answers);
     }
+}
+
+#[test]
+fn agrees_on_accounts_of_a_desk() {
+    let mut answers = [0; REFUSALS + 1];
+    for desk in accounts::DESKS {
+        for file in desk.accounts(SEED, DESKS) {
+            compare(&file, &mut Random::new(!SEED, 0), &mut answers);
+        }
+        for [morning, noon] in desk.pairs(SEED, DESKS) {
+            compare_pair(&morning, &noon, &mut Random::new(!SEED, 0));
+        }
+    }
+}
+
+#[test]
+fn agrees_on_generated_pairs() {
+    let mut told = BTreeMap::new();
+    for index in 0..PAIRS {
+        let (morning, noon) = generate::pair(SEED, index);
+        for refused in compare_pair(&morning, &noon, &mut Random::new(!SEED, index)) {
+            *told.entry((refused.file, refused.number)).or_insert(0) += 1;
+        }
+    }
+    let missing: Vec<_> = every_pair_refusal()
+        .into_iter()
+        .filter(|(file, number)| {
+            *number != AMOUNT_OUT_OF_RANGE && !told.contains_key(&(*file, *number))
+        })
+        .collect();
+    assert!(missing.is_empty(), "these never occurred: {missing:?}");
+}
+
+/// Every question of a pair, with enough numbers lent and with too few; gives the refusals.
+fn compare_pair(morning: &[u8], noon: &[u8], random: &mut Random) -> Vec<PairRefusal> {
+    let mut refused = vec![];
+    let account = joined::account(morning, noon);
+    let questions = (0..BOOKS as u64).chain(QUESTIONS).map(Some);
+    for question in questions.chain([None]) {
+        let tuned = |lent: &mut [i64]| match question {
+            Some(question) => tuned::joined_book(morning, noon, question, lent),
+            None => tuned::joined_figures(morning, noon, lent),
+        };
+        let plain = account.as_ref().map_err(|refusal| *refusal).and_then(|account| {
+            match question {
+                Some(question) => held_book(account, question).map(|book| book.numbers()),
+                None => Ok(held_figures(account)),
+            }
+            .map(|numbers| (account, numbers))
+            .map_err(|refusal| refusal.of(JOINED))
+        });
+        let needed = plain.as_ref().map_or(0, |(_, numbers)| numbers.len());
+        for lent in [needed, generate::lent(random, needed)] {
+            let mut by_tuned = numbers(random, lent);
+            let mut by_plain = by_tuned.clone();
+            let answer =
+                plain.as_ref().map_err(|refusal| *refusal).and_then(|(account, numbers)| {
+                    write(account, numbers, &mut by_plain).map_err(|refusal| refusal.of(JOINED))
+                });
+            assert_eq!(tuned(&mut by_tuned), answer);
+            assert_eq!(by_tuned, by_plain);
+            refused.extend(answer.err());
+        }
+    }
+    refused
 }
 
 #[test]

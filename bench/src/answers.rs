@@ -1,7 +1,7 @@
 //! The same questions put to the proved library, to the tuned program and to the plain one.
 
 use bench::tuned::{self, BOOKS, MOST_BOOK, MOST_FIGURES, OUTCOME};
-use independent::{held_book, margin, run};
+use independent::{held_book, joined, margin, run};
 
 /// Memory lent for the figures and for all the books, each book with a place of its own.
 #[derive(PartialEq)]
@@ -65,6 +65,10 @@ pub trait Asked {
     fn each(file: &[u8], lent: &mut Lent);
     /// The figures of each account of a run.
     fn run(run: &Run, lent: &mut Places);
+    /// The figures of a morning and a noon file joined.
+    fn joined_figures(pair: &[Vec<u8>; 2], lent: &mut Lent);
+    /// A book of a morning and a noon file joined.
+    fn joined_book(pair: &[Vec<u8>; 2], question: usize, lent: &mut Lent);
 }
 
 pub struct Proved;
@@ -97,6 +101,14 @@ impl Asked for Proved {
     fn run(run: &Run, lent: &mut Places) {
         felgotany::run(&run.accounts, &run.lengths, &mut lent.figures, &mut lent.outcomes);
     }
+
+    fn joined_figures([morning, noon]: &[Vec<u8>; 2], lent: &mut Lent) {
+        felgotany::Pair { morning, noon }.figures(&mut lent.figures);
+    }
+
+    fn joined_book([morning, noon]: &[Vec<u8>; 2], question: usize, lent: &mut Lent) {
+        felgotany::Pair { morning, noon }.book(question, &mut lent.books);
+    }
 }
 
 pub struct Tuned;
@@ -127,6 +139,14 @@ impl Asked for Tuned {
 
     fn run(run: &Run, lent: &mut Places) {
         _ = tuned::run(&run.accounts, &run.lengths, &mut lent.figures, &mut lent.outcomes);
+    }
+
+    fn joined_figures([morning, noon]: &[Vec<u8>; 2], lent: &mut Lent) {
+        _ = tuned::joined_figures(morning, noon, &mut lent.figures);
+    }
+
+    fn joined_book([morning, noon]: &[Vec<u8>; 2], question: usize, lent: &mut Lent) {
+        _ = tuned::joined_book(morning, noon, question as u64, &mut lent.books);
     }
 }
 
@@ -181,5 +201,13 @@ impl Asked for Plain {
                 Err(refusal) => outcome.copy_from_slice(&[refusal.number.into(), refusal.record]),
             }
         }
+    }
+
+    fn joined_figures([morning, noon]: &[Vec<u8>; 2], lent: &mut Lent) {
+        _ = joined::figures(morning, noon, &mut lent.figures);
+    }
+
+    fn joined_book([morning, noon]: &[Vec<u8>; 2], question: usize, lent: &mut Lent) {
+        _ = joined::book(morning, noon, question as u64, &mut lent.books);
     }
 }

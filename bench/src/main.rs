@@ -2,20 +2,71 @@
 //! for the check, the figures, the figures in one call for a run of accounts, the figures with all books
 //! of a file checked once, and of a file checked for each; and for the book of a contract with 32 prompts,
 //! without spreads and with 32 of three legs, so that the difference is the spreads': their check and
-//! their steps.
+//! their steps. Then the same of accounts as a desk has them, many prompts with rows on random days and
+//! spreads, with one book and joined to a noon file: a few accounts again and again, and cold, one after
+//! another of 2,000 different ones. `bench SEED desks` times these alone.
 
 mod answers;
 mod timing;
 
-use bench::accounts;
+use bench::accounts::{self, Desk, CONTRACTS, DESKS, MIDDLE, ROWS, SPREADS};
+use felgotany::TABLE;
 use independent::format::{MOST_PROMPTS, MOST_SPREADS};
-use timing::{run_times, times, Question, Times};
+use timing::{joined_times, run_times, times, Question, Times};
 
 const SIZES: [usize; 4] = [1, 10, 100, 640];
 const GENERATED: u64 = 5_000;
+/// So many accounts of a desk are asked again and again, and so many, one after another.
+const WARM: u64 = 8;
+const COLD: u64 = 2_000;
 
 fn main() {
     let seed = std::env::args().nth(1).and_then(|word| word.parse().ok()).unwrap_or(1);
+    if std::env::args().nth(2).as_deref() != Some("desks") {
+        sizes(seed);
+        println!();
+    }
+    desks(seed);
+}
+
+const HEAD: &str =
+    "| Accounts | Asked | Proved | Tuned | Plain | Proved to tuned | Proved to plain |\n|---|---|---|---|---|---|---|";
+
+/// Accounts as a desk has them.
+fn desks(seed: u64) {
+    println!("{HEAD}");
+    let asked = [
+        ("check", Question::Check),
+        ("figures", Question::Figures),
+        ("all, checked once", Question::All),
+    ];
+    for desk in DESKS {
+        let files = desk.accounts(seed, WARM);
+        for (asked, question) in asked {
+            print(desk.name, asked, times(&files, question));
+        }
+        print(desk.name, "book of contract 0", times(&files, Question::Book(0)));
+        if desk.entries > 0 {
+            print(desk.name, "book of the table", times(&files, Question::Book(TABLE)));
+        }
+    }
+    for desk in [MIDDLE, CONTRACTS] {
+        let name = format!("{}, joined", desk.name);
+        let pairs = desk.pairs(seed, WARM);
+        print(&name, "figures", joined_times(&pairs, None));
+        print(&name, "book of contract 0", joined_times(&pairs, Some(0)));
+    }
+    let name = format!("{} different, cold", thousands(COLD as f64));
+    let large = [ROWS, SPREADS, CONTRACTS].map(|desk: Desk| desk.accounts(seed, COLD / 3 + 1));
+    let by_turns =
+        (0..COLD as usize).map(|place| large[place % 3][place / 3].clone()).collect::<Vec<_>>();
+    for (asked, question) in asked {
+        print(&name, asked, times(&by_turns, question));
+    }
+}
+
+/// Accounts of a size, and generated ones.
+fn sizes(seed: u64) {
     let mut sets = vec![];
     for records in SIZES {
         let plural = if records == 1 { "" } else { "s" };
@@ -26,8 +77,7 @@ fn main() {
         accounts::generated(seed, GENERATED),
     ));
 
-    println!("| Files | Asked | Proved | Tuned | Plain | Proved to tuned | Proved to plain |");
-    println!("|---|---|---|---|---|---|---|");
+    println!("{HEAD}");
     let mut held = vec![];
     for (name, files) in &sets {
         let [_, _, once, each] = [

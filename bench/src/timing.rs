@@ -1,5 +1,5 @@
-//! Rounds of the three alternate on the same files, and the quickest round of each counts. A round's time is the
-//! processor's for this thread, to which other work on the machine does not add.
+//! Rounds of the proved library and of the tuned program alternate on the same accounts, and the quickest of seven counts. A
+//! round's time is the processor's for this thread, to which other work on the machine does not add.
 
 use crate::answers::{Asked, Lent, Places, Plain, Proved, Run, Tuned};
 use std::hint::black_box;
@@ -41,11 +41,45 @@ impl Question {
 /// Times a question after the three have given the same answers to it.
 pub fn times(files: &[Vec<u8>], question: Question) -> Times {
     files.iter().for_each(|file| same_answers(file, question));
-    let mut least = Times { proved: f64::MAX, tuned: f64::MAX, plain: f64::MAX };
+    quickest(
+        || round(files, |file, lent| question.put::<Proved>(file, lent)),
+        || round(files, |file, lent| question.put::<Tuned>(file, lent)),
+        || round(files, |file, lent| question.put::<Plain>(file, lent)),
+    )
+}
+
+/// Times the figures of pairs, or the book of a question, in the same way.
+pub fn joined_times(pairs: &[[Vec<u8>; 2]], book: Option<usize>) -> Times {
+    fn put<A: Asked>(pair: &[Vec<u8>; 2], book: Option<usize>, lent: &mut Lent) {
+        match book {
+            Some(question) => A::joined_book(pair, question, lent),
+            None => A::joined_figures(pair, lent),
+        }
+    }
+    for pair in pairs {
+        let [mut by_proved, mut by_tuned, mut by_plain] = [(); 3].map(|()| Lent::new());
+        put::<Proved>(pair, book, &mut by_proved);
+        put::<Tuned>(pair, book, &mut by_tuned);
+        put::<Plain>(pair, book, &mut by_plain);
+        assert!(by_proved == by_tuned && by_proved == by_plain && by_proved != Lent::new());
+    }
+    quickest(
+        || round(pairs, |pair, lent| put::<Proved>(pair, book, lent)),
+        || round(pairs, |pair, lent| put::<Tuned>(pair, book, lent)),
+        || round(pairs, |pair, lent| put::<Plain>(pair, book, lent)),
+    )
+}
+
+/// The quickest round of each, by turns; one of the plain program, which takes longest.
+fn quickest(
+    mut proved: impl FnMut() -> f64,
+    mut tuned: impl FnMut() -> f64,
+    mut plain: impl FnMut() -> f64,
+) -> Times {
+    let mut least = Times { proved: f64::MAX, tuned: f64::MAX, plain: plain() };
     for _ in 0..ROUNDS {
-        least.proved = least.proved.min(round::<Proved>(files, question));
-        least.tuned = least.tuned.min(round::<Tuned>(files, question));
-        least.plain = least.plain.min(round::<Plain>(files, question));
+        least.proved = least.proved.min(proved());
+        least.tuned = least.tuned.min(tuned());
     }
     least
 }
@@ -58,13 +92,11 @@ pub fn run_times(files: &[Vec<u8>]) -> Times {
     Tuned::run(&run, &mut by_tuned);
     Plain::run(&run, &mut by_plain);
     assert!(by_proved == by_tuned && by_proved == by_plain);
-    let mut least = Times { proved: f64::MAX, tuned: f64::MAX, plain: f64::MAX };
-    for _ in 0..ROUNDS {
-        least.proved = least.proved.min(run_round::<Proved>(&run, files.len(), &mut by_proved));
-        least.tuned = least.tuned.min(run_round::<Tuned>(&run, files.len(), &mut by_tuned));
-        least.plain = least.plain.min(run_round::<Plain>(&run, files.len(), &mut by_plain));
-    }
-    least
+    quickest(
+        || run_round::<Proved>(&run, files.len(), &mut by_proved),
+        || run_round::<Tuned>(&run, files.len(), &mut by_tuned),
+        || run_round::<Plain>(&run, files.len(), &mut by_plain),
+    )
 }
 
 /// The run, as often as a round lasts.
@@ -88,16 +120,16 @@ fn answer<A: Asked>(file: &[u8], question: Question) -> Lent {
     lent
 }
 
-/// All the files, as often as a round lasts.
-fn round<A: Asked>(files: &[Vec<u8>], question: Question) -> f64 {
+/// All the accounts, as often as a round lasts.
+fn round<T>(accounts: &[T], put: impl Fn(&T, &mut Lent)) -> f64 {
     let mut lent = Lent::new();
     let each = each_time(|| {
-        for file in files {
-            question.put::<A>(black_box(file), &mut lent);
+        for account in accounts {
+            put(black_box(account), &mut lent);
             black_box(&mut lent);
         }
     });
-    each / files.len() as f64
+    each / accounts.len() as f64
 }
 
 /// Processor time for one of many times, in seconds.

@@ -7,11 +7,10 @@ mod record;
 mod steps;
 mod table;
 
-use check::{Notes, CONTRACTS};
+use check::{place_in, Notes, CONTRACTS};
 use contract::{Book, Charges, Contract};
 use independent::format::*;
-use independent::refusal::{LENGTHS_DIFFER, TOO_FEW_LENT, UNLISTED_QUESTION};
-use independent::Refusal;
+use independent::refusal::*;
 use record::{get, Record};
 use table::{touches, used, Table};
 
@@ -35,23 +34,66 @@ pub fn check(file: &[u8]) -> Result<(), Refusal> {
 pub fn figures(file: &[u8], lent: &mut [i64]) -> Result<usize, Refusal> {
     let (mut notes, mut places) = (Notes::default(), [0; MOST_RECORDS]);
     let records = check::check(file, &mut notes, &mut places)?;
-    Held { records, notes: &notes, places: &places }.figures(lent)
+    Held(File { records, notes: &notes, places: &places }).figures(lent)
 }
 
 /// The delta book of a question, written as the figures are.
 pub fn book(file: &[u8], question: u64, lent: &mut [i64]) -> Result<usize, Refusal> {
     let (mut notes, mut places) = (Notes::default(), [0; MOST_RECORDS]);
     let records = check::check(file, &mut notes, &mut places)?;
-    Held { records, notes: &notes, places: &places }.book(question, lent)
+    Held(File { records, notes: &notes, places: &places }).book(question, lent)
 }
 
 /// The figures, and the books of questions 0 to 16, each in the `MOST_BOOK` numbers that are its place.
 pub fn all(file: &[u8], figures: &mut [i64], books: &mut [i64]) -> [Result<(), Refusal>; 2] {
     let (mut notes, mut places) = (Notes::default(), [0; MOST_RECORDS]);
     match check::check(file, &mut notes, &mut places) {
-        Ok(records) => Held { records, notes: &notes, places: &places }.all(figures, books),
+        Ok(records) => Held(File { records, notes: &notes, places: &places }).all(figures, books),
         Err(refusal) => [Err(refusal); 2],
     }
+}
+
+/// The figures of a morning and a noon file joined, written as those of a file are.
+pub fn joined_figures(morning: &[u8], noon: &[u8], lent: &mut [i64]) -> Result<usize, PairRefusal> {
+    joined(morning, noon, |held| held.figures(lent))
+}
+
+/// The delta book of a question of a morning and a noon file joined.
+pub fn joined_book(
+    morning: &[u8],
+    noon: &[u8],
+    question: u64,
+    lent: &mut [i64],
+) -> Result<usize, PairRefusal> {
+    joined(morning, noon, |held| held.book(question, lent))
+}
+
+#[inline(always)]
+fn joined<T>(
+    morning: &[u8],
+    noon: &[u8],
+    ask: impl FnOnce(Held<Pair>) -> Result<T, Refusal>,
+) -> Result<T, PairRefusal> {
+    let (mut notes, mut places) = (Notes::default(), [0; MOST_RECORDS]);
+    let records =
+        check::check(morning, &mut notes, &mut places).map_err(|refusal| refusal.of(MORNING))?;
+    let morning = File { records, notes: &notes, places: &places };
+    let (mut notes, mut places) = (Notes::default(), [0; MOST_RECORDS]);
+    let records =
+        check::check(noon, &mut notes, &mut places).map_err(|refusal| refusal.of(NOON))?;
+    let noon = File { records, notes: &notes, places: &places };
+    if noon.notes.entries.count() > 0 {
+        let record = noon.notes.entries.range().start;
+        return Err(PairRefusal { file: NOON, number: NOON_ENTRY, record });
+    }
+    let traded = noon.notes.listed();
+    let replaced: usize =
+        bits(morning.notes.listed() & traded).map(|number| morning.notes.records_of(number)).sum();
+    let count = morning.records.len() - replaced + noon.records.len();
+    if count > MOST_RECORDS {
+        return Err(PairRefusal { file: JOINED, number: TOO_MANY_JOINED, record: count });
+    }
+    ask(Held(Pair { morning, noon, count })).map_err(|refusal| refusal.of(JOINED))
 }
 
 /// A run of accounts, one behind the other: the figures of each in the `MOST_FIGURES` numbers that are its
@@ -76,24 +118,108 @@ pub fn run(
         let (file, after) = left.split_at(length);
         left = after;
         let mut notes = Notes::default();
-        let answer = check::check(file, &mut notes, &mut places)
-            .and_then(|records| Held { records, notes: &notes, places: &places }.figures(figures));
+        let answer = check::check(file, &mut notes, &mut places).and_then(|records| {
+            Held(File { records, notes: &notes, places: &places }).figures(figures)
+        });
         *outcome =
             answer.map_or_else(|refusal| [refusal.number.into(), refusal.record], |_| [0; 2]);
     }
     Ok(())
 }
 
-/// An accepted account with what the check noted.
-struct Held<'a> {
+/// Where the parts of an account stand.
+trait Supplies {
+    /// A bit for each contract number listed.
+    fn listed(&self) -> u32;
+    fn count(&self) -> usize;
+    fn contract(&self, number: usize) -> Contract<'_>;
+    fn entries(&self) -> &[Record];
+
+    fn contracts(&self) -> usize {
+        self.listed().count_ones() as usize
+    }
+}
+
+/// An accepted file with what the check noted.
+struct File<'a> {
     records: &'a [Record],
     notes: &'a Notes,
     places: &'a [u8; MOST_RECORDS],
 }
 
-impl Held<'_> {
+impl Supplies for File<'_> {
+    #[inline(always)]
+    fn listed(&self) -> u32 {
+        self.notes.listed()
+    }
+
+    fn count(&self) -> usize {
+        self.records.len()
+    }
+
+    #[inline(always)]
+    fn contract(&self, number: usize) -> Contract<'_> {
+        let rows = self.notes.rows[number].range();
+        Contract {
+            own: &self.records[self.notes.place(number)],
+            prompts: &self.records[self.notes.prompts[number].range()],
+            rows: &self.records[rows.clone()],
+            places: &self.places[rows],
+            spreads: &self.records[self.notes.spreads[number].range()],
+        }
+    }
+
+    fn entries(&self) -> &[Record] {
+        &self.records[self.notes.entries.range()]
+    }
+}
+
+/// A morning and a noon file: a contract is noon's where noon lists it.
+struct Pair<'a> {
+    morning: File<'a>,
+    noon: File<'a>,
+    count: usize,
+}
+
+impl Supplies for Pair<'_> {
+    #[inline(always)]
+    fn listed(&self) -> u32 {
+        self.morning.listed() | self.noon.listed()
+    }
+
+    fn count(&self) -> usize {
+        self.count
+    }
+
+    #[inline(always)]
+    fn contract(&self, number: usize) -> Contract<'_> {
+        let file = if self.noon.notes.lists(number) { &self.noon } else { &self.morning };
+        file.contract(number)
+    }
+
+    fn entries(&self) -> &[Record] {
+        self.morning.entries()
+    }
+}
+
+/// The places of the bits that are set, from the lowest up.
+#[inline(always)]
+fn bits(mut set: u32) -> impl Iterator<Item = usize> {
+    std::iter::from_fn(move || {
+        let lowest = set.trailing_zeros() as usize;
+        (set != 0).then(|| {
+            set &= set - 1;
+            lowest
+        })
+    })
+}
+
+/// An accepted account, to be asked.
+struct Held<S>(S);
+
+impl<S: Supplies> Held<S> {
     fn figures(&self, lent: &mut [i64]) -> Result<usize, Refusal> {
-        let needed = FIGURES * self.notes.contracts + 1;
+        let needed = FIGURES * self.0.contracts() + 1;
         let lent = self.enough(lent, needed)?;
         let charges = |_, contract: &Contract| {
             let mut charges = Charges::of(contract);
@@ -108,10 +234,10 @@ impl Held<'_> {
         if question == TABLE {
             return self.table_book(lent);
         }
-        if !self.notes.lists(question) {
+        if question > TABLE || self.0.listed() >> question & 1 == 0 {
             return Err(self.refusal(UNLISTED_QUESTION));
         }
-        let contract = self.contract(self.notes.place(question), question);
+        let contract = self.0.contract(question);
         let (prompts, spreads) = (contract.prompts.len(), contract.spreads.len());
         let needed = 3 * prompts + 2 * spreads + 1;
         let lent = self.enough(lent, needed)?;
@@ -120,10 +246,10 @@ impl Held<'_> {
     }
 
     fn table_book(&self, lent: &mut [i64]) -> Result<usize, Refusal> {
-        let entries = self.entries();
-        let needed = 3 * self.notes.contracts + 2 * entries.len() + 1;
+        let entries = self.0.entries();
+        let needed = 3 * self.0.contracts() + 2 * entries.len() + 1;
         let lent = self.enough(lent, needed)?;
-        let book = Book::at(lent, self.notes.contracts, entries.len());
+        let book = Book::at(lent, self.0.contracts(), entries.len());
         let mut table = Table::new();
         for (number, contract) in self.contracts() {
             table.add(number, contract.net(), contract.unit());
@@ -143,8 +269,8 @@ impl Held<'_> {
         }
         let (books, _) = books.as_chunks_mut::<MOST_BOOK>();
         let (of_contracts, of_table) = books.split_at_mut(TABLE);
-        let entries = self.entries().len();
-        let book = Book::at(&mut of_table[0], self.notes.contracts, entries);
+        let entries = self.0.entries().len();
+        let book = Book::at(&mut of_table[0], self.0.contracts(), entries);
         let charges = |number: usize, contract: &Contract| {
             let (prompts, spreads) = (contract.prompts.len(), contract.spreads.len());
             let place = Book::at(&mut of_contracts[number], prompts, spreads);
@@ -152,12 +278,12 @@ impl Held<'_> {
             (contract.run(&mut takes), takes.0)
         };
         *book.touches = 0;
-        let table_entries = self.entries();
+        let table_entries = self.0.entries();
         let steps = |place: usize, numbers| {
             book.spreads[place] = numbers;
             *book.touches += touches(&table_entries[place], numbers);
         };
-        let needed = FIGURES * self.notes.contracts + 1;
+        let needed = FIGURES * self.0.contracts() + 1;
         let (table, answer) = match self.enough(figures, needed) {
             Ok(lent) => (self.write_figures(lent, charges, steps), Ok(())),
             Err(refusal) => {
@@ -177,7 +303,8 @@ impl Held<'_> {
         mut charges: impl FnMut(usize, &Contract) -> (i64, Charges),
         mut steps: impl FnMut(usize, [i64; 2]),
     ) -> Table {
-        let (lines, total) = lent.split_at_mut(FIGURES * self.notes.contracts);
+        let listed = self.0.listed();
+        let (lines, total) = lent.split_at_mut(FIGURES * self.0.contracts());
         let (lines, _) = lines.as_chunks_mut::<FIGURES>();
         let mut table = Table::new();
         for (line, (number, contract)) in lines.iter_mut().zip(self.contracts()) {
@@ -196,14 +323,14 @@ impl Held<'_> {
                 risks.twice_price,
             ];
         }
-        for (place, entry) in self.entries().iter().enumerate() {
+        for (place, entry) in self.0.entries().iter().enumerate() {
             let numbers = table.steps(entry);
             steps(place, numbers);
             if numbers != [0, 0] {
                 for (number, ratio) in [(NUMBER, FIRST_RATIO), (SECOND_NUMBER, SECOND_RATIO)] {
                     let contract = get(entry, number) as usize;
                     let used = used(entry, numbers, ratio);
-                    let [.., credit, _, twice_price] = &mut lines[self.notes.place(contract)];
+                    let [.., credit, _, twice_price] = &mut lines[place_in(listed, contract)];
                     *credit += table.credit(contract, *twice_price, used, get(entry, PERCENT));
                 }
             }
@@ -217,33 +344,14 @@ impl Held<'_> {
     }
 
     fn write_left(&self, table: &Table, lines: &mut [[i64; 3]]) {
-        for (line, own) in lines.iter_mut().zip(self.records) {
-            let (net, left) = table.left(usize::from(own[NUMBER.at]));
+        for (line, number) in lines.iter_mut().zip(bits(self.0.listed())) {
+            let (net, left) = table.left(number);
             *line = [net, net - left, left];
         }
     }
 
     fn contracts(&self) -> impl Iterator<Item = (usize, Contract<'_>)> {
-        (0..self.notes.contracts).map(|place| {
-            let number = usize::from(self.records[place][NUMBER.at]);
-            (number, self.contract(place, number))
-        })
-    }
-
-    #[inline(always)]
-    fn contract(&self, place: usize, number: usize) -> Contract<'_> {
-        let rows = self.notes.rows[number].range();
-        Contract {
-            own: &self.records[place],
-            prompts: &self.records[self.notes.prompts[number].range()],
-            rows: &self.records[rows.clone()],
-            places: &self.places[rows],
-            spreads: &self.records[self.notes.spreads[number].range()],
-        }
-    }
-
-    fn entries(&self) -> &[Record] {
-        &self.records[self.notes.entries.range()]
+        bits(self.0.listed()).map(|number| (number, self.0.contract(number)))
     }
 
     fn enough<'b>(&self, lent: &'b mut [i64], needed: usize) -> Result<&'b mut [i64], Refusal> {
@@ -251,6 +359,6 @@ impl Held<'_> {
     }
 
     fn refusal(&self, number: u8) -> Refusal {
-        Refusal { number, record: self.records.len() }
+        Refusal { number, record: self.0.count() }
     }
 }

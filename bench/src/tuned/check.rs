@@ -39,7 +39,6 @@ impl Part {
 /// What is noted of the records passed.
 #[derive(Default)]
 pub struct Notes {
-    pub contracts: usize,
     /// A bit for each contract number listed.
     listed: u32,
     /// By contract number, a bit for each tier with a prompt.
@@ -55,10 +54,29 @@ impl Notes {
         contract < CONTRACTS && self.listed >> contract & 1 == 1
     }
 
+    /// A bit for each contract number listed.
+    pub fn listed(&self) -> u32 {
+        self.listed
+    }
+
     /// The place of a listed contract in file order.
     pub fn place(&self, contract: usize) -> usize {
-        (self.listed & ((1 << contract) - 1)).count_ones() as usize
+        place_in(self.listed, contract)
     }
+
+    /// How many records of kinds 1 to 4 a listed contract has.
+    pub fn records_of(&self, contract: usize) -> usize {
+        1 + [self.prompts, self.rows, self.spreads]
+            .map(|parts| parts[contract].count())
+            .iter()
+            .sum::<usize>()
+    }
+}
+
+/// The place of a contract among those of which a bit is set.
+#[inline(always)]
+pub fn place_in(listed: u32, contract: usize) -> usize {
+    (listed & ((1 << contract) - 1)).count_ones() as usize
 }
 
 /// Keeps the place of each row's prompt among the prompts of its contract.
@@ -167,7 +185,6 @@ impl Walk<'_, '_> {
         refuse(number <= self.before.contract, ORDER_OR_CLASH)?;
         self.before.contract = number;
         self.notes.listed |= 1 << number;
-        self.notes.contracts += 1;
         Ok(())
     }
 

@@ -147,6 +147,44 @@ impl Contract<'_> {
         get(self.own, UNIT).max(1) as u64
     }
 
+    /// The sixteen totals, and the short lots of calls and puts. A product is at most 10^14 and is added in the fraction of a
+    /// floating number, exactly for as many rows as 2^53 allows.
+    #[inline(always)]
+    fn totals(&self) -> ([i64; SCENARIOS], i64) {
+        const EXACT_ROWS: usize = 64;
+        let (mut totals, mut short_lots) = ([0; SCENARIOS], 0);
+        for rows in self.rows.chunks(EXACT_ROWS) {
+            let mut sums = [0.0; SCENARIOS];
+            for row in rows {
+                let lots = get(row, LOTS);
+                let a_tick = (lots * get(row, VALUE)) as f64;
+                for (sum, ticks) in sums.iter_mut().zip(losses(row)) {
+                    *sum += a_tick * f64::from(ticks);
+                }
+                short_lots += if get(row, CLASS) == FORWARD { 0 } else { -lots.min(0) };
+            }
+            for (total, sum) in totals.iter_mut().zip(sums) {
+                // SAFETY: a whole number, of less than 2^53
+                *total += unsafe { sum.to_int_unchecked::<i64>() };
+            }
+        }
+        (totals, short_lots)
+    }
+
+    /// The same where the unit is more than one hundredth: each product is rounded to it.
+    fn rounded_totals(&self) -> ([i64; SCENARIOS], i64) {
+        let (mut totals, mut short_lots) = ([0; SCENARIOS], 0);
+        for row in self.rows {
+            let lots = get(row, LOTS);
+            let a_tick = lots * get(row, VALUE);
+            for (total, ticks) in totals.iter_mut().zip(losses(row)) {
+                *total += halves_away(a_tick * i64::from(ticks), self.unit());
+            }
+            short_lots += if get(row, CLASS) == FORWARD { 0 } else { -lots.min(0) };
+        }
+        (totals, short_lots)
+    }
+
     /// The net delta over all prompts.
     pub fn net(&self) -> i64 {
         self.rows.iter().map(row_delta).sum()
@@ -181,23 +219,8 @@ impl Contract<'_> {
     }
 
     pub fn risks(&self) -> Risks {
-        let mut totals = [0; SCENARIOS];
-        let mut short_lots = 0;
-        let unit = self.unit();
-        for row in self.rows {
-            let lots = get(row, LOTS);
-            let a_tick = lots * get(row, VALUE);
-            if unit == 1 {
-                for (total, ticks) in totals.iter_mut().zip(losses(row)) {
-                    *total += a_tick * i64::from(ticks);
-                }
-            } else {
-                for (total, ticks) in totals.iter_mut().zip(losses(row)) {
-                    *total += halves_away(a_tick * i64::from(ticks), unit);
-                }
-            }
-            short_lots += if get(row, CLASS) == FORWARD { 0 } else { -lots.min(0) };
-        }
+        let (totals, short_lots) =
+            if self.unit() == 1 { self.totals() } else { self.rounded_totals() };
         let mut active = 0;
         for scenario in 1..SCENARIOS {
             active = if totals[scenario] > totals[active] { scenario } else { active };

@@ -1,6 +1,7 @@
 //! The working behind the figures. The figures, the delta books and who paid are the proved library's; the sixteen totals, the
 //! price risk and the single charges and credits are worked out here from the same records, and must add up to what is proved.
 
+use super::books::money_in;
 use crate::account::{of_kind, records_of, Account, Book, Contract, Leg, Prompt};
 use independent::format::*;
 
@@ -26,6 +27,8 @@ pub struct Working {
 
 pub struct OfContract {
     pub number: i64,
+    /// In hundredths.
+    pub unit: i64,
     pub rows: Vec<Row>,
     pub totals: [i64; SCENARIOS],
     pub active: usize,
@@ -136,6 +139,7 @@ impl OfContract {
         let short_option_rate = of(CONTRACT).first().map_or(0, |record| record.get(SHORT_OPTION_RATE));
         let mut working = OfContract {
             number,
+            unit,
             rows,
             totals,
             active,
@@ -155,6 +159,16 @@ impl OfContract {
         working.risk = (scanning + interprompt + prompt - credit).max(0);
         working.adds_up(contract, table)?;
         Ok(working)
+    }
+
+    /// An amount of this contract, for a column of amounts.
+    pub fn money(&self, hundredths: i64) -> String {
+        money_in(self.unit, hundredths)
+    }
+
+    /// The same in a sentence.
+    pub fn said(&self, hundredths: i64) -> String {
+        self.money(hundredths).trim_end().to_string()
     }
 
     /// What is worked out against what is proved.

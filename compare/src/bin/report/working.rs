@@ -1,7 +1,7 @@
 //! The working of a page against the independent program: the rows, the sixteen totals, single charges and credits, the sums over
 //! each column, and what is said of what is still open.
 
-use crate::tables::{number, Tables};
+use crate::tables::{amount, number, Tables};
 use independent::account::{Account, Contract};
 use independent::book::{book_of, intercontract, interprompt, Book, INTERCONTRACT};
 use independent::format::*;
@@ -16,15 +16,18 @@ fn equal(what: &str, found: i128, wanted: i128) -> Result<(), String> {
     Err(format!("{what}: the page has {found}, the independent program {wanted}"))
 }
 
+/// How a cell is read: as a number or as an amount.
+type Reads = fn(&str) -> Result<i128, String>;
+
 /// The numbers of a column, but for the last row, must be these; the last row must be their sum.
-fn column(what: &str, rows: &[&[String]], at: usize, wanted: &[i64]) -> Result<(), String> {
+fn column(what: &str, rows: &[&[String]], at: usize, read: Reads, wanted: &[i64]) -> Result<(), String> {
     equal(&format!("rows of {what}"), rows.len() as i128, wanted.len() as i128 + 1)?;
     let mut sum = 0;
     for (row, wanted) in rows.iter().zip(wanted) {
-        equal(what, number(&row[at])?, (*wanted).into())?;
-        sum += number(&row[at])?;
+        equal(what, read(&row[at])?, (*wanted).into())?;
+        sum += read(&row[at])?;
     }
-    equal(&format!("sum of {what}"), number(&rows[wanted.len()][at])?, sum)
+    equal(&format!("sum of {what}"), read(&rows[wanted.len()][at])?, sum)
 }
 
 pub fn compare(tables: &Tables, account: &Account, file: &[u8]) -> Result<(), String> {
@@ -41,7 +44,7 @@ pub fn compare(tables: &Tables, account: &Account, file: &[u8]) -> Result<(), St
         compare_charges(&rows("paid"), &rows("prompts"), contract, &book, &figures).map_err(told)?;
         let of_contract = credits(account, &table, place, margin::twice_price_risk(&totals));
         if !of_contract.is_empty() {
-            column("credit", &rows("credits"), 4, &of_contract).map_err(told)?;
+            column("credit", &rows("credits"), 4, amount, &of_contract).map_err(told)?;
         }
         equal("credits", of_contract.iter().map(|credit| i128::from(*credit)).sum(), figures.credit.0.into()).map_err(told)?;
         let legs = contract.spreads.iter().map(|spread| spread.legs.clone()).collect();
@@ -56,7 +59,7 @@ pub fn compare(tables: &Tables, account: &Account, file: &[u8]) -> Result<(), St
 
 /// Scanning risk, charges and credit add up to the risk, and the larger of risk and minimum is the margin.
 fn compare_margin(rows: &[&[String]], contract: &Contract, figures: &Figures) -> Result<(), String> {
-    let amounts: Vec<i128> = rows.iter().map(|row| number(&row[1])).collect::<Result<_, _>>()?;
+    let amounts: Vec<i128> = rows.iter().map(|row| amount(&row[1])).collect::<Result<_, _>>()?;
     let [scanning, interprompt, prompt, credit, risk, minimum, margin] = amounts[..] else {
         return Err("not seven amounts".to_string());
     };
@@ -67,6 +70,10 @@ fn compare_margin(rows: &[&[String]], contract: &Contract, figures: &Figures) ->
     }
     equal("the risk", risk, (scanning + interprompt + prompt + credit).max(0))?;
     equal("the margin", margin, risk.max(minimum))?;
+    for (row, amount) in rows.iter().zip(&amounts) {
+        let whole = contract.unit.0 % 100 == 0 && amount % 100 == 0;
+        equal("whole amounts without places", (!row[1].contains('.')).into(), whole.into())?;
+    }
     equal("the minimum", minimum, margin::short_option_minimum(contract).0.into())
 }
 
@@ -74,7 +81,7 @@ fn compare_totals(rows: &[&[String]], totals: &[i64; SCENARIOS], active: usize) 
     equal("scenarios", rows.len() as i128, SCENARIOS as i128)?;
     for (scenario, (row, total)) in (1..).zip(rows.iter().zip(totals)) {
         equal("scenario", number(&row[0])?, scenario as i128)?;
-        equal("total", number(&row[1])?, (*total).into())?;
+        equal("total", amount(&row[1])?, (*total).into())?;
         equal("active", row[2].starts_with("active").into(), (scenario == active).into())?;
         let paired = margin::PAIRED_SCENARIOS[active - 1] == scenario;
         equal("paired", row[2].contains("paired with").into(), paired.into())?;
@@ -92,9 +99,9 @@ fn compare_rows(rows: &[&[String]], file: &[u8], contract: &Contract, active: us
     let numbers = |of: &dyn Fn(&Record) -> i64| -> Vec<i64> { of_contract.iter().map(|record| of(record)).collect() };
     let net = |record: &Record| record.get(LOTS) * record.get(delta(record.get(CLASS)));
     let product = |record: &Record| record.get(LOTS) * record.get(VALUE) * record.get(loss(active - 1));
-    let amount = |record: &Record| contract.unit.halves_away(Quotient::whole(product(record))).0;
-    column("lots x delta", rows, 6, &numbers(&net))?;
-    column("amount", rows, 9, &numbers(&amount))?;
+    let of_active = |record: &Record| contract.unit.halves_away(Quotient::whole(product(record))).0;
+    column("lots x delta", rows, 6, number, &numbers(&net))?;
+    column("amount", rows, 9, amount, &numbers(&of_active))?;
     for (place, (row, record)) in (1..).zip(rows.iter().zip(&of_contract)) {
         let class = record.get(CLASS);
         let word = ["forward", "call", "put"][class as usize];
@@ -102,11 +109,11 @@ fn compare_rows(rows: &[&[String]], file: &[u8], contract: &Contract, active: us
         if row[1] != word || row[3] != of_strike {
             return Err(format!("row {place} is a {word} with strike {of_strike}"));
         }
-        let fields =
-            [place, record.get(DAY), record.get(LOTS), record.get(delta(class)), record.get(VALUE), record.get(loss(active - 1))];
-        for (cell, wanted) in [0, 2, 4, 5, 7, 8].into_iter().zip(fields) {
+        let fields = [place, record.get(DAY), record.get(LOTS), record.get(delta(class)), record.get(loss(active - 1))];
+        for (cell, wanted) in [0, 2, 4, 5, 8].into_iter().zip(fields) {
             equal(&format!("row {place}"), number(&row[cell])?, wanted.into())?;
         }
+        equal(&format!("value of row {place}"), amount(&row[7])?, record.get(VALUE).into())?;
     }
     Ok(())
 }
@@ -122,7 +129,7 @@ fn compare_charges(
         contract.spreads.iter().enumerate().map(|(at, spread)| contract.unit.halves_up(margin::spread_charge(book.formed(at), spread.rate)).0).collect();
     if !of_spreads.is_empty() {
         let charged: Vec<&[String]> = paid.iter().copied().filter(|row| !row[6].is_empty()).collect();
-        column("charge of a spread", &charged, 6, &of_spreads)?;
+        column("charge of a spread", &charged, 6, amount, &of_spreads)?;
     }
     equal("interprompt charge", of_spreads.iter().map(|charge| i128::from(*charge)).sum(), figures.interprompt_charge.0.into())?;
     let of_prompts: Vec<i64> =
@@ -130,7 +137,7 @@ fn compare_charges(
     if of_prompts.is_empty() {
         return equal("prompts", prompts.len() as i128, 0);
     }
-    column("charge of a prompt", prompts, 7, &of_prompts)
+    column("charge of a prompt", prompts, 7, amount, &of_prompts)
 }
 
 /// A contract's credit from each intercontract spread that names it.

@@ -3,11 +3,13 @@
 //! Pairs of a morning and a noon file, and runs of accounts, are made of them.
 
 mod charged;
+mod converted;
 mod damage;
 mod list;
 mod pair;
 mod priced;
 mod random;
+mod rates;
 mod run;
 mod sound;
 mod values;
@@ -39,8 +41,9 @@ pub fn run(seed: u64, index: u64) -> Run {
 
 fn any(random: &mut Random) -> Vec<u8> {
     match random.below(100) {
-        0..=44 => sound::account(random).concat(),
-        45..=94 => {
+        0..=41 => sound::account(random).concat(),
+        42..=46 => converted::account(random).concat(),
+        47..=94 => {
             let records = sound::account(random);
             damaged(random, records)
         }
@@ -101,7 +104,7 @@ pub fn cover(random: &mut Random, requirement: Amount) -> Cover {
 
 /// Records whose kinds rise and whose bytes are mostly small, without regard for anything else.
 fn loose_records(random: &mut Random) -> Vec<Bytes> {
-    let mut kinds: Vec<u8> = (0..random.below(12)).map(|_| random.between(1, 5) as u8).collect();
+    let mut kinds: Vec<u8> = (0..random.below(12)).map(|_| random.between(1, 6) as u8).collect();
     kinds.sort_unstable();
     let loose = |kind| {
         let mut record = [0; RECORD_BYTES];

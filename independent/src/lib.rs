@@ -7,6 +7,7 @@ pub mod account;
 pub mod book;
 pub mod check;
 pub mod committee;
+pub mod currency;
 pub mod format;
 pub mod generate;
 pub mod joined;

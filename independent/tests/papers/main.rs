@@ -3,6 +3,7 @@
 mod answers;
 mod builder;
 mod committee;
+mod currencies;
 mod generated;
 mod joined;
 mod lists;

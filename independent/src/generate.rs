@@ -12,12 +12,14 @@ mod random;
 mod rates;
 mod run;
 mod sound;
+mod ticket;
 mod values;
 mod write;
 
 pub use list::list;
 pub use random::Random;
 pub use run::Run;
+pub use ticket::Doing;
 
 use crate::format::{MOST_BYTES, RECORD_BYTES};
 use crate::joined::{Cover, MOST_AMOUNT};
@@ -37,6 +39,11 @@ pub fn pair(seed: u64, index: u64) -> (Vec<u8>, Vec<u8>) {
 /// The run of accounts with this seed and index.
 pub fn run(seed: u64, index: u64) -> Run {
     run::run(&mut Random::new(seed, index))
+}
+
+/// The account with this seed and index for tickets, and what is done with it.
+pub fn tickets(seed: u64, index: u64) -> (Vec<u8>, Vec<Doing>) {
+    ticket::tickets(&mut Random::new(seed, index))
 }
 
 fn any(random: &mut Random) -> Vec<u8> {

@@ -16,6 +16,7 @@ pub mod margin;
 pub mod refusal;
 pub mod run;
 pub mod steps;
+pub mod ticket;
 pub mod units;
 
 pub use account::Account;

@@ -7,6 +7,7 @@ mod survey_committee;
 mod survey_lists;
 mod survey_pairs;
 mod survey_runs;
+mod survey_tickets;
 mod tally;
 
 use independent::account::{Account, Contract};
@@ -37,6 +38,8 @@ const USAGE: &str =
                                        what the committee's figures of so many runs show
        independent survey-lists SEED COUNT
                                        what occurs in so many lists of spreads
+       independent survey-tickets SEED COUNT
+                                       what occurs in so many accounts with tickets
        independent write-pair SEED INDEX MORNING NOON
                                        writes the two files of one generated pair";
 
@@ -119,6 +122,7 @@ fn surveyed(survey: &str, seed: u64, count: u64) -> Option<io::Result<()>> {
             let tally = match survey {
                 "survey-runs" => survey_runs::survey(seed, count),
                 "survey-committee" => survey_committee::survey(seed, count),
+                "survey-tickets" => survey_tickets::survey(seed, count),
                 "survey-lists" => survey_lists::survey(seed, count),
                 _ => return None,
             };

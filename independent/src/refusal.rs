@@ -41,6 +41,9 @@ pub const TOO_MANY_ACCOUNTS: u8 = 19;
 /// An amount outside its range.
 pub const AMOUNT_OUT_OF_RANGE: u8 = 21;
 
+/// A withdrawal with no ticket left.
+pub const NO_TICKET: u8 = 22;
+
 /// What the refusal of a pair names by its file: the joined account, the morning file, the noon file.
 pub const JOINED: u8 = 0;
 pub const MORNING: u8 = 1;

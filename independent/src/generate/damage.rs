@@ -80,6 +80,22 @@ fn at(random: &mut Random, records: &mut Vec<Bytes>, place: usize) -> usize {
     place
 }
 
+/// One damage to a row that is not in a file yet.
+pub fn row(random: &mut Random, row: &mut Bytes, records: &[Bytes]) {
+    match random.below(6) {
+        0 | 1 => unused_byte(random, row),
+        2 => field_at_its_end(random, row),
+        3 => renumber(random, row),
+        4 => flip(random, row),
+        _ => {
+            let mut with_row = records.to_vec();
+            with_row.push(*row);
+            misname(random, &mut with_row, records.len());
+            *row = with_row[records.len()];
+        }
+    }
+}
+
 /// Sets a byte that the record does not use.
 fn unused_byte(random: &mut Random, record: &mut Bytes) {
     let fields = Record(record).fields();

@@ -150,6 +150,14 @@ fn full(random: &mut Random) -> Plan {
     Plan { contracts: vec![share; contracts], entries: MOST_ENTRIES, rates }
 }
 
+/// Contracts with as many rows as they can have, in 640 records or next to so many.
+pub fn crammed(random: &mut Random) -> Vec<Bytes> {
+    let rows = MOST_ROWS - random.place(2);
+    let share = Share { prompts: 3, rows, spreads: 20 };
+    let entries = random.between(30, 32) as usize;
+    fill(random, &Plan { contracts: vec![share; 4], entries, rates: 0 }, &NUMBERS)
+}
+
 /// Contracts without prompts, and entries between them.
 fn no_prompts(random: &mut Random) -> Plan {
     let contracts = random.between(2, 16) as usize;

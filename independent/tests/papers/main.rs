@@ -16,6 +16,7 @@ mod refusals;
 mod runs;
 mod takes;
 mod tenths;
+mod tickets;
 mod unit_price_risk;
 mod units;
 mod wrong;

@@ -11,6 +11,7 @@ mod priced;
 mod random;
 mod rates;
 mod run;
+mod screen;
 mod sound;
 mod ticket;
 mod values;
@@ -19,6 +20,7 @@ mod write;
 pub use list::list;
 pub use random::Random;
 pub use run::Run;
+pub use screen::{limit, Screen};
 pub use ticket::Doing;
 
 use crate::format::{MOST_BYTES, RECORD_BYTES};
@@ -44,6 +46,11 @@ pub fn run(seed: u64, index: u64) -> Run {
 /// The account with this seed and index for tickets, and what is done with it.
 pub fn tickets(seed: u64, index: u64) -> (Vec<u8>, Vec<Doing>) {
     ticket::tickets(&mut Random::new(seed, index))
+}
+
+/// The screen with this seed and index.
+pub fn screen(seed: u64, index: u64) -> Screen {
+    screen::screen(&mut Random::new(seed, index))
 }
 
 fn any(random: &mut Random) -> Vec<u8> {

@@ -15,6 +15,7 @@ pub mod list;
 pub mod margin;
 pub mod refusal;
 pub mod run;
+pub mod screen;
 pub mod steps;
 pub mod ticket;
 pub mod units;

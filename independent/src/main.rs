@@ -7,6 +7,7 @@ mod survey_committee;
 mod survey_lists;
 mod survey_pairs;
 mod survey_runs;
+mod survey_screen;
 mod survey_tickets;
 mod tally;
 
@@ -40,6 +41,8 @@ const USAGE: &str =
                                        what occurs in so many lists of spreads
        independent survey-tickets SEED COUNT
                                        what occurs in so many accounts with tickets
+       independent survey-screen SEED COUNT
+                                       what occurs in so many calls of an order screen
        independent write-pair SEED INDEX MORNING NOON
                                        writes the two files of one generated pair";
 
@@ -123,6 +126,7 @@ fn surveyed(survey: &str, seed: u64, count: u64) -> Option<io::Result<()>> {
                 "survey-runs" => survey_runs::survey(seed, count),
                 "survey-committee" => survey_committee::survey(seed, count),
                 "survey-tickets" => survey_tickets::survey(seed, count),
+                "survey-screen" => survey_screen::survey(seed, count),
                 "survey-lists" => survey_lists::survey(seed, count),
                 _ => return None,
             };

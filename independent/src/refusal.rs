@@ -32,12 +32,16 @@ pub const TOO_MANY_JOINED: u8 = 13;
 pub const NO_RATE: u8 = 14;
 /// A rounded conversion beyond its limit.
 pub const CONVERSION_TOO_LARGE: u8 = 15;
+/// Fewer bytes lent than are named or needed.
+pub const TOO_FEW_BYTES: u8 = 16;
 /// The lengths of a run do not add up to what was lent.
 pub const LENGTHS_DIFFER: u8 = 17;
 /// The step count or the prompt count of a list differs from the account's.
 pub const OTHER_COUNTS: u8 = 18;
 /// More than 100 accounts for the committee.
 pub const TOO_MANY_ACCOUNTS: u8 = 19;
+/// A limit below zero.
+pub const LIMIT_BELOW_ZERO: u8 = 20;
 /// An amount outside its range.
 pub const AMOUNT_OUT_OF_RANGE: u8 = 21;
 

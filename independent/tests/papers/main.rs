@@ -14,6 +14,7 @@ mod program;
 mod reckoned;
 mod refusals;
 mod runs;
+mod screen;
 mod takes;
 mod tenths;
 mod tickets;

@@ -5,6 +5,7 @@
 mod charged;
 mod converted;
 mod damage;
+mod entered;
 mod list;
 mod pair;
 mod priced;
@@ -23,6 +24,7 @@ pub use run::Run;
 pub use screen::{limit, Screen};
 pub use ticket::Doing;
 
+use crate::entered::Entered;
 use crate::format::{MOST_BYTES, RECORD_BYTES};
 use crate::joined::{Cover, MOST_AMOUNT};
 use crate::units::Amount;
@@ -51,6 +53,11 @@ pub fn tickets(seed: u64, index: u64) -> (Vec<u8>, Vec<Doing>) {
 /// The screen with this seed and index.
 pub fn screen(seed: u64, index: u64) -> Screen {
     screen::screen(&mut Random::new(seed, index))
+}
+
+/// The entries with this seed and index.
+pub fn entries(seed: u64, index: u64) -> Vec<Entered> {
+    entered::entries(&mut Random::new(seed, index))
 }
 
 fn any(random: &mut Random) -> Vec<u8> {

@@ -8,6 +8,7 @@ pub mod book;
 pub mod check;
 pub mod committee;
 pub mod currency;
+pub mod entered;
 pub mod format;
 pub mod generate;
 pub mod joined;

@@ -4,6 +4,7 @@
 
 mod survey;
 mod survey_committee;
+mod survey_entered;
 mod survey_lists;
 mod survey_pairs;
 mod survey_runs;
@@ -43,6 +44,8 @@ const USAGE: &str =
                                        what occurs in so many accounts with tickets
        independent survey-screen SEED COUNT
                                        what occurs in so many calls of an order screen
+       independent survey-entries SEED COUNT
+                                       what occurs in so many lists of entries for the writer
        independent write-pair SEED INDEX MORNING NOON
                                        writes the two files of one generated pair";
 
@@ -127,6 +130,7 @@ fn surveyed(survey: &str, seed: u64, count: u64) -> Option<io::Result<()>> {
                 "survey-committee" => survey_committee::survey(seed, count),
                 "survey-tickets" => survey_tickets::survey(seed, count),
                 "survey-screen" => survey_screen::survey(seed, count),
+                "survey-entries" => survey_entered::survey(seed, count),
                 "survey-lists" => survey_lists::survey(seed, count),
                 _ => return None,
             };

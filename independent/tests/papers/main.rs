@@ -4,6 +4,7 @@ mod answers;
 mod builder;
 mod committee;
 mod currencies;
+mod entered;
 mod generated;
 mod joined;
 mod lists;

@@ -11,6 +11,7 @@ mod pair;
 mod priced;
 mod random;
 mod rates;
+mod rows;
 mod run;
 mod screen;
 mod sound;
@@ -20,6 +21,7 @@ mod write;
 
 pub use list::list;
 pub use random::Random;
+pub use rows::{parted, reordered};
 pub use run::Run;
 pub use screen::{limit, Screen};
 pub use ticket::Doing;

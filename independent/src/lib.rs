@@ -17,6 +17,7 @@ pub mod margin;
 pub mod refusal;
 pub mod run;
 pub mod screen;
+pub mod statements;
 pub mod steps;
 pub mod ticket;
 pub mod units;

@@ -9,6 +9,7 @@ mod survey_lists;
 mod survey_pairs;
 mod survey_runs;
 mod survey_screen;
+mod survey_statements;
 mod survey_tickets;
 mod tally;
 
@@ -46,6 +47,8 @@ const USAGE: &str =
                                        what occurs in so many calls of an order screen
        independent survey-entries SEED COUNT
                                        what occurs in so many lists of entries for the writer
+       independent survey-statements SEED COUNT
+                                       the two statements tried on so many generated files
        independent write-pair SEED INDEX MORNING NOON
                                        writes the two files of one generated pair";
 
@@ -131,6 +134,7 @@ fn surveyed(survey: &str, seed: u64, count: u64) -> Option<io::Result<()>> {
                 "survey-tickets" => survey_tickets::survey(seed, count),
                 "survey-screen" => survey_screen::survey(seed, count),
                 "survey-entries" => survey_entered::survey(seed, count),
+                "survey-statements" => survey_statements::survey(seed, count),
                 "survey-lists" => survey_lists::survey(seed, count),
                 _ => return None,
             };

@@ -16,6 +16,7 @@ mod reckoned;
 mod refusals;
 mod runs;
 mod screen;
+mod statements;
 mod takes;
 mod tenths;
 mod tickets;

@@ -173,6 +173,7 @@ fn the_other_surveys_count_all_that_they_look_for() {
         "survey-tickets",
         "survey-screen",
         "survey-entries",
+        "survey-statements",
     ] {
         let told = lines(&[survey, "5", "2000"], &[]);
         assert!(!told.contains(": 0\n"), "{told}");

@@ -12,6 +12,7 @@ use independent::format::{MOST_PROMPTS, MOST_SPREADS};
 use timing::{run_times, times, Question, Times};
 
 const SIZES: [usize; 4] = [1, 10, 100, 640];
+const CONVERTED: usize = 100;
 const GENERATED: u64 = 5_000;
 
 fn main() {
@@ -21,6 +22,10 @@ fn main() {
         let plural = if records == 1 { "" } else { "s" };
         sets.push((format!("{records} record{plural}"), accounts::accepted(seed, records)));
     }
+    sets.push((
+        format!("about {CONVERTED} records, in currencies"),
+        accounts::converted(seed, CONVERTED),
+    ));
     sets.push((
         format!("{} generated", thousands(GENERATED as f64)),
         accounts::generated(seed, GENERATED),

@@ -3,6 +3,7 @@
 
 mod check;
 mod contract;
+mod rates;
 mod record;
 mod steps;
 mod table;
@@ -239,6 +240,7 @@ impl Held<'_> {
             rows: &self.records[rows.clone()],
             places: &self.places[rows],
             spreads: &self.records[self.notes.spreads[number].range()],
+            rates: &self.notes.rates,
         }
     }
 

@@ -21,6 +21,11 @@ pub fn lots(ten_thousandths: i64) -> String {
     decimal(ten_thousandths.into(), 4)
 }
 
+/// A currency's rate in hundred-millionths, with eight places.
+pub fn rate(hundred_millionths: i64) -> String {
+    decimal(hundred_millionths.into(), 8)
+}
+
 /// Tenths, with one place.
 pub fn tenths(tenths: i64) -> String {
     decimal(tenths.into(), 1)

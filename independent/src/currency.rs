@@ -65,7 +65,7 @@ fn rate_of(row: Record, rates: &[Rate]) -> Option<Rate> {
 }
 
 /// "A rounded conversion beyond ±100,000,000,000,000".
-const MOST_CONVERTED: i128 = 100_000_000_000_000;
+pub const MOST_CONVERTED: i128 = 100_000_000_000_000;
 
 /// "14 for a row whose currency has no rate, else 15 for one with a rounded conversion beyond" the limit.
 pub fn row_fault(row: Record, rates: &[Rate]) -> Option<u8> {

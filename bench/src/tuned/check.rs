@@ -1,6 +1,8 @@
 //! The check: one walk over the records, with notes of those passed in place of looking back.
 
+use super::rates::Rates;
 use super::record::{get, losses, outside, set_from, Record};
+use independent::currency::MOST_CONVERTED;
 use independent::format::*;
 use independent::refusal::*;
 use independent::Refusal;
@@ -48,6 +50,9 @@ pub struct Notes {
     pub rows: [Part; CONTRACTS],
     pub spreads: [Part; CONTRACTS],
     pub entries: Part,
+    /// A bit for each currency that a row names.
+    currencies: u16,
+    pub rates: Rates,
 }
 
 impl Notes {
@@ -93,7 +98,28 @@ pub fn check<'a>(
     for place in 0..records.len() {
         walk.pass(place, places).map_err(|number| Refusal { number, record: place })?;
     }
+    if notes.currencies > 1 {
+        conversions(records, &notes.rates)?;
+    }
     Ok(records)
+}
+
+/// Rows in file order: 14 for one whose currency has no rate, else 15 for one with a conversion beyond its limit.
+#[cold]
+fn conversions(records: &[Record], rates: &Rates) -> Result<(), Refusal> {
+    for (record, row) in records.iter().enumerate().filter(|(_, record)| record[0] == ROW) {
+        let currency = usize::from(row[CURRENCY.at]);
+        if currency != 0 {
+            let refusal = |number| Refusal { number, record };
+            let rate = rates.of(currency).ok_or(refusal(NO_RATE))?;
+            let a_tick = get(row, LOTS) * get(row, VALUE);
+            let converted = |ticks| rate.converted(a_tick * i64::from(ticks)).unsigned_abs();
+            if losses(row).into_iter().any(|ticks| converted(ticks) > MOST_CONVERTED as u64) {
+                return Err(refusal(CONVERSION_TOO_LARGE));
+            }
+        }
+    }
+    Ok(())
 }
 
 /// The last record of each kind, as far as order goes by it.
@@ -106,6 +132,7 @@ struct Before {
     /// The days of the contract of the last row, and a number above every day beyond them.
     days: [i32; MOST_PROMPTS],
     spread: i64,
+    rate: i64,
 }
 
 impl Default for Before {
@@ -118,6 +145,7 @@ impl Default for Before {
             row: -1,
             days: [i32::MAX; MOST_PROMPTS],
             spread: -1,
+            rate: 0,
         }
     }
 }
@@ -146,7 +174,7 @@ impl Walk<'_, '_> {
     fn pass(&mut self, place: usize, places: &mut impl Places) -> Passed {
         let record = &self.records[place];
         let kind = record[0];
-        refuse(!(CONTRACT..=ENTRY).contains(&kind), UNKNOWN_KIND)?;
+        refuse(!(CONTRACT..=CURRENCY_RATE).contains(&kind), UNKNOWN_KIND)?;
         refuse(kind < self.before.kind, KIND_BELOW)?;
         self.before.kind = kind;
         match kind {
@@ -154,7 +182,8 @@ impl Walk<'_, '_> {
             PROMPT => self.prompt(record, place),
             ROW => self.row(record, place, places),
             SPREAD => self.spread(record, place),
-            _ => self.entry(record, place),
+            ENTRY => self.entry(record, place),
+            _ => self.rate(record),
         }
     }
 
@@ -193,7 +222,7 @@ impl Walk<'_, '_> {
 
     #[inline(always)]
     fn row(&mut self, row: &Record, place: usize, places: &mut impl Places) -> Passed {
-        refuse((row[3] != 0) | set_from::<88>(row), UNUSED_BYTE)?;
+        refuse(set_from::<88>(row), UNUSED_BYTE)?;
         refuse(row_outside(row), OUT_OF_RANGE)?;
         let contract = get(row, NUMBER);
         if contract != self.before.row {
@@ -207,6 +236,7 @@ impl Walk<'_, '_> {
         self.before.row = contract;
         self.notes.rows[contract as usize].add(place, MOST_ROWS)?;
         places.keep(place, prompt);
+        self.notes.currencies |= 1 << row[CURRENCY.at];
         Ok(())
     }
 
@@ -254,6 +284,18 @@ impl Walk<'_, '_> {
         refuse(first == second, ORDER_OR_CLASH)?;
         self.notes.entries.add(place, MOST_ENTRIES)
     }
+
+    fn rate(&mut self, rate: &Record) -> Passed {
+        refuse((rate[2] != 0) | (rate[3] != 0) | set_from::<9>(rate), UNUSED_BYTE)?;
+        let outside =
+            outside(rate, RATE_CURRENCY) | outside(rate, SPOT_RATE) | outside(rate, ADJUSTMENT);
+        refuse(outside, OUT_OF_RANGE)?;
+        let currency = get(rate, RATE_CURRENCY);
+        refuse(currency <= self.before.rate, ORDER_OR_CLASH)?;
+        self.before.rate = currency;
+        self.notes.rates.add(currency as usize, get(rate, SPOT_RATE), get(rate, ADJUSTMENT));
+        Ok(())
+    }
 }
 
 #[inline(always)]
@@ -264,6 +306,7 @@ fn row_outside(row: &Record) -> bool {
     let losses = losses(row).iter().fold(false, |any, loss| any | (*loss < least) | (*loss > most));
     outside(row, NUMBER)
         | outside(row, CLASS)
+        | outside(row, CURRENCY)
         | outside(row, DAY)
         | outside(row, strike(class))
         | outside(row, LOTS)

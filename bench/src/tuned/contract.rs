@@ -1,5 +1,6 @@
 //! A contract: what its rows come to, and what its spreads and prompts take and are charged.
 
+use super::rates::Rates;
 use super::record::{get, losses, Record};
 use super::steps::{both, pay, pool_of, Passing, Pools, POOLS, WHOLE};
 use independent::format::*;
@@ -13,6 +14,7 @@ pub struct Contract<'a> {
     pub rows: &'a [Record],
     pub places: &'a [u8],
     pub spreads: &'a [Record],
+    pub rates: &'a Rates,
 }
 
 /// Takes what the steps give for each spread and each prompt of a contract.
@@ -187,7 +189,11 @@ impl Contract<'_> {
         for row in self.rows {
             let lots = get(row, LOTS);
             let a_tick = lots * get(row, VALUE);
-            if unit == 1 {
+            if let Some(rate) = self.rates.of(usize::from(row[CURRENCY.at])) {
+                for (total, ticks) in totals.iter_mut().zip(losses(row)) {
+                    *total += halves_away(rate.converted(a_tick * i64::from(ticks)), unit);
+                }
+            } else if unit == 1 {
                 for (total, ticks) in totals.iter_mut().zip(losses(row)) {
                     *total += a_tick * i64::from(ticks);
                 }

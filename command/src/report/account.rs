@@ -7,7 +7,8 @@ use super::left::{open, Open};
 use super::subject::Subject;
 use super::working::{Differs, OfContract};
 use super::Answered;
-use crate::account::{Account, Book, Prompt};
+use crate::account::{adjusted, Account, Book, Prompt};
+use crate::numbers::{decimal, rate};
 use crate::page::FIGURES;
 use account_text::wording::counted;
 
@@ -39,6 +40,7 @@ pub fn report(subject: &Subject, answered: &Answered) -> Result<Document, Differ
     }
     document.say(PROVED);
     document.parts.push(Part::Table(figures(subject, account)));
+    rates(&mut document, subject, account);
     joined(&mut document, subject, answered);
     let contracts = account.contracts.iter().zip(&working.contracts);
     let open_of: Vec<Vec<Open>> = contracts.clone().map(|(contract, _)| open(&contract.book)).collect::<Result<_, _>>()?;
@@ -83,6 +85,22 @@ pub fn figures(subject: &Subject, account: &Account) -> Table {
     table
 }
 
+/// The rate of each currency, where there are any.
+pub fn rates(document: &mut Document, subject: &Subject, account: &Account) {
+    if account.rates.is_empty() {
+        return;
+    }
+    let caption = format!("Currency rates: what 1 of the currency is in {}", subject.currency());
+    let columns = ["'currency", "spot rate", "adjustment percent", "rate for losses", "rate for gains"];
+    let mut table = Table::new("rates", caption, &columns);
+    for of in &account.rates {
+        let (spot, percent) = (decimal(of.spot.into(), 6), of.adjustment_percent.to_string());
+        let [losses, gains] = [true, false].map(|loss| rate(adjusted(of, loss)));
+        table.row(Kind::Plain, [subject.currency_of(of.currency), spot, percent, losses, gains]);
+    }
+    document.parts.push(Part::Table(table));
+}
+
 /// Which file supplied each contract, and the call.
 pub fn joined(document: &mut Document, subject: &Subject, answered: &Answered) {
     if let Some(suppliers) = &answered.suppliers {
@@ -117,7 +135,8 @@ fn answers(document: &mut Document, subject: &Subject, account: &Account, open_o
     let charged = account.contracts.iter().map(|contract| money_in(contract.unit, contract.figures[3]));
     let credited = money(account.contracts.iter().map(|contract| contract.figures[5]).sum());
     let came = charged.chain([credited]);
-    let paid = books.iter().zip(came).map(|((book, _), came)| format!("{}: {}.", named(book), paid_in_words(book, came.trim_end())));
+    let paid =
+        books.iter().zip(came).map(|((book, _), came)| format!("{}: {}.", named(book), paid_in_words(book, came.trim_end())));
     document.answer("Which prompt dates paid for each spread?", paid);
     let paired =
         books.iter().map(|(book, open)| format!("{}: {} {}.", named(book), pairing(book, open).short, open_in_words(open)));

@@ -259,7 +259,8 @@ fn lacking_in_words(question: usize, lacking: &Lacking) -> String {
 /// How often some step took of some prompt, beside the most that a book with so many prompts and legs can cost.
 pub fn cost_table(book: &Book) -> Table {
     let columns = ["takes", "most for its prompts and legs"];
-    let mut table = Table::new(table_name(book, "touches"), "What the book costs to work out: how often a step took of a prompt", &columns);
+    let mut table =
+        Table::new(table_name(book, "touches"), "What the book costs to work out: how often a step took of a prompt", &columns);
     table.row(Kind::Plain, [book.touches.to_string(), book.most_touches().to_string()]);
     table
 }

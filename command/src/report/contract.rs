@@ -1,12 +1,12 @@
 //! The part of a report that is about one contract: its margin, who paid and what is still open, its rows, and its credit.
 
-use super::books::{self, delta, table_name};
-use super::document::{none, Document, Kind, Part, Table};
+use super::books::{self, delta, money, table_name};
+use super::document::{self, none, Document, Kind, Part, Table};
 use super::left::Open;
 use super::subject::Subject;
 use super::working::{OfContract, Row};
 use crate::account::{Book, Contract, Prompt};
-use crate::numbers::{decimal, grouped};
+use crate::numbers::{decimal, grouped, rate};
 use account_text::columns::word;
 use account_text::wording::counted;
 use independent::format::{CALL, FORWARD, PUT};
@@ -18,7 +18,7 @@ pub fn of_contract(document: &mut Document, subject: &Subject, contract: &Contra
     document.parts.push(Part::Table(margin(contract, working)));
     who_paid(document, book, working, open);
     document.heading(3, "Rows and scanning risk");
-    rows(document, book, working);
+    rows(document, subject, book, working);
     document.parts.push(Part::Table(totals(book, working)));
     document.heading(3, "Price risk and credit");
     document.say(price_risk(working));
@@ -56,7 +56,8 @@ pub fn margin(contract: &Contract, working: &OfContract) -> Table {
         true => format!("the largest of the sixteen totals is below 0, {}: no scanning risk", working.said(largest)),
         false => format!("the largest of the sixteen totals, of scenario {}, the active one", working.active),
     };
-    let mut line = |kind: Kind, figure: &str, amount: i64, how: String| table.row(kind, [figure.to_string(), working.money(amount), how]);
+    let mut line =
+        |kind: Kind, figure: &str, amount: i64, how: String| table.row(kind, [figure.to_string(), working.money(amount), how]);
     line(Kind::Plain, "scanning risk", scanning, scanned);
     let spreads = counted(contract.book.spreads.len(), "interprompt spread");
     line(Kind::Plain, "interprompt charge", interprompt, format!("the charges of {spreads}"));
@@ -88,31 +89,47 @@ pub fn classes(rows: &[Row]) -> String {
     format!("{}, {}, {}", of(FORWARD, "forward"), of(CALL, "call"), of(PUT, "put"))
 }
 
-fn rows(document: &mut Document, book: &Book, working: &OfContract) {
+/// The columns of rows, and those that stand before the amount where a row is in another currency than the margin's.
+const ROWS: [&str; 9] =
+    ["row", "'class", "prompt date", "strike", "lots", "delta", "lots x delta", "value of a tick", "loss in ticks"];
+const CONVERTED: [&str; 3] = ["'currency", "in its currency", "rate"];
+
+fn rows(document: &mut Document, subject: &Subject, book: &Book, working: &OfContract) {
     let OfContract { rows, active, .. } = working;
     if rows.is_empty() {
         return document.say("0 of 0 rows counted: this contract has no rows.");
     }
     let count = rows.len();
+    let convert = rows.iter().any(|row| row.rate.is_some());
+    let (converted, of_currency) = if convert { (", converted at its currency's rate", &CONVERTED[..]) } else { ("", &[][..]) };
     let caption = format!(
-        "{count} of {count} rows counted ({}), with what each loses in scenario {active}: lots x value x loss",
+        "{count} of {count} rows counted ({}), with what each loses in scenario {active}: lots x value x loss{converted}",
         classes(rows)
     );
-    let columns =
-        ["row", "'class", "prompt date", "strike", "lots", "delta", "lots x delta", "value of a tick", "loss in ticks", "amount"];
+    let columns = [&ROWS[..], of_currency, &["amount"]].concat();
     let mut table = Table::new(table_name(book, "rows"), caption, &columns);
     for row in rows {
         let class = word("class", row.class).unwrap_or_default().to_string();
         let strike = if row.class == FORWARD { "-".to_string() } else { row.strike.to_string() };
         let per_lot = decimal(row.delta.into(), 4);
         let (lots, loss) = (grouped(&row.lots.to_string()), grouped(&row.loss.to_string()));
-        let (net, value, amount) = (delta(row.net()), working.money(row.value), working.money(row.amount));
+        let (net, amount) = (delta(row.net()), working.money(row.amount));
+        let value = if row.rate.is_some() { money(row.value) } else { working.money(row.value) };
         let (place, day) = (row.place.to_string(), row.day.to_string());
-        table.row(Kind::Plain, [place, class, day, strike, lots, per_lot, net, value, loss, amount]);
+        let mut cells = vec![place, class, day, strike, lots, per_lot, net, value, loss];
+        if convert {
+            let at = row.rate.map_or("-".to_string(), rate);
+            cells.extend([subject.currency_of(row.currency), money(row.own), at]);
+        }
+        cells.push(amount);
+        table.rows.push(document::Row { kind: Kind::Plain, cells });
     }
     let net = delta(rows.iter().map(Row::net).sum());
     let total = working.money(rows.iter().map(|row| row.amount).sum());
-    table.row(Kind::Sum, [none(), "total".to_string(), none(), none(), none(), none(), net, none(), none(), total]);
+    let mut cells = vec![none(), "total".to_string(), none(), none(), none(), none(), net];
+    cells.resize(columns.len() - 1, none());
+    cells.push(total);
+    table.rows.push(document::Row { kind: Kind::Sum, cells });
     document.parts.push(Part::Table(table));
 }
 
@@ -172,7 +189,8 @@ fn credits(document: &mut Document, subject: &Subject, book: &Book, working: &Of
     let mut table = Table::new(table_name(book, "credits"), "Credit from each intercontract spread", &columns);
     for credit in &working.credits {
         let (spread, percent) = (credit.spread.to_string(), credit.percent.to_string());
-        table.row(Kind::Plain, [spread, subject.contract(credit.with), delta(credit.used), percent, working.money(credit.credit)]);
+        table
+            .row(Kind::Plain, [spread, subject.contract(credit.with), delta(credit.used), percent, working.money(credit.credit)]);
     }
     let sum = working.credits.iter().map(|credit| credit.credit).sum();
     table.row(Kind::Sum, [none(), "credit".to_string(), none(), none(), working.money(sum)]);
@@ -188,7 +206,10 @@ pub fn prompts(book: &Book, working: &OfContract) -> Table {
         let Prompt { day, tier, net, used, unused, .. } = *prompt;
         let [net, used, unused] = [net, used, unused].map(delta);
         let [in_spreads, outright] = [of.rate_in_spreads, of.rate_outright].map(|rate| working.money(rate));
-        table.row(Kind::Plain, [day.to_string(), tier.to_string(), net, used, unused, in_spreads, outright, working.money(of.charge)]);
+        table.row(
+            Kind::Plain,
+            [day.to_string(), tier.to_string(), net, used, unused, in_spreads, outright, working.money(of.charge)],
+        );
     }
     let sum = |of: &dyn Fn(&Prompt) -> i64| delta(book.prompts.iter().map(of).sum());
     let sums = [sum(&|prompt| prompt.net), sum(&|prompt| prompt.used), sum(&|prompt| prompt.unused)];

@@ -46,8 +46,9 @@ fn folded(words: &str, indent: &str) -> String {
 fn of_table(table: &Table) -> String {
     let Table { caption, columns, .. } = table;
     let rows = table.cells();
-    let widest =
-        |at: usize, column: &Column| rows.iter().map(|(_, cells)| width(cells[at])).chain([width(column.name)]).max().unwrap_or(0);
+    let widest = |at: usize, column: &Column| {
+        rows.iter().map(|(_, cells)| width(cells[at])).chain([width(column.name)]).max().unwrap_or(0)
+    };
     let widths: Vec<usize> = columns.iter().enumerate().map(|(at, column)| widest(at, column)).collect();
     let line = |cells: &mut dyn Iterator<Item = &str>| {
         let mut line = String::new();

@@ -2,7 +2,8 @@
 //! price risk and the single charges and credits are worked out here from the same records, and must add up to what is proved.
 
 use super::books::money_in;
-use crate::account::{of_kind, records_of, Account, Book, Contract, Leg, Prompt};
+use crate::account::{adjusted, of_kind, records_of, Account, Book, Contract, Leg, Prompt};
+use independent::currency::Rate;
 use independent::format::*;
 
 /// "Paired scenarios (000), for 1 to 16."
@@ -58,6 +59,11 @@ pub struct Row {
     pub delta: i64,
     pub value: i64,
     pub loss: i64,
+    pub currency: i64,
+    /// In its own currency.
+    pub own: i64,
+    /// What it is converted at, in hundred-millionths; none in the margin currency.
+    pub rate: Option<i64>,
     pub amount: i64,
 }
 
@@ -82,11 +88,33 @@ pub struct Credit {
     pub credit: i64,
 }
 
-/// A row's loss in a scenario in money, the only place where it is worked out: "lots × value × loss", rounded to the contract's unit,
-/// "halves away from zero".
-fn product(row: Record, scenario: usize, unit: i64) -> i64 {
-    let product = row.get(LOTS) * row.get(VALUE) * row.get(loss(scenario));
-    product.signum() * rounded(product.abs().into(), 1, unit)
+/// How the products of a contract's rows become amounts: by the account's rates and the contract's unit.
+struct Money<'a> {
+    rates: &'a [Rate],
+    unit: i64,
+}
+
+impl Money<'_> {
+    /// A row's loss in a scenario in its own currency: "lots × value × loss".
+    fn own(&self, row: Record, scenario: usize) -> i64 {
+        row.get(LOTS) * row.get(VALUE) * row.get(loss(scenario))
+    }
+
+    /// What a row's loss or gain is converted at: "currency 0 is not converted".
+    fn rate(&self, row: Record, own: i64) -> Option<i64> {
+        let of = self.rates.iter().find(|rate| rate.currency == row.get(CURRENCY));
+        of.filter(|_| row.get(CURRENCY) != MARGIN_CURRENCY).map(|rate| adjusted(rate, own > 0))
+    }
+
+    /// A row's loss in a scenario as it counts: converted, "rounded to a hundredth, halves away from zero", then to the unit likewise.
+    fn product(&self, row: Record, scenario: usize) -> i64 {
+        let own = self.own(row, scenario);
+        let hundredths = match self.rate(row, own) {
+            Some(rate) => halves_up(i128::from(own.abs()) * i128::from(rate), 100_000_000),
+            None => own.abs().into(),
+        };
+        own.signum() * rounded(hundredths, 1, self.unit)
+    }
 }
 
 /// A charge or a credit, from its exact value in one rounding to the contract's unit, "halves up".
@@ -109,11 +137,8 @@ fn equal(what: impl FnOnce() -> String, worked_out: impl Into<i128>, proved: imp
 
 impl Working {
     pub fn of(records: &[Record], account: &Account) -> Result<Working, Differs> {
-        let contracts: Vec<OfContract> = account
-            .contracts
-            .iter()
-            .map(|contract| OfContract::of(records, contract, account.table.as_ref()))
-            .collect::<Result<_, _>>()?;
+        let contracts: Vec<OfContract> =
+            account.contracts.iter().map(|contract| OfContract::of(records, contract, account)).collect::<Result<_, _>>()?;
         let rows: usize = contracts.iter().map(|contract| contract.rows.len()).sum();
         equal(|| "rows counted".to_string(), rows as i128, of_kind(records, ROW).count() as i128)?;
         let margins: i128 = account.contracts.iter().map(|contract| i128::from(contract.figures[7])).sum();
@@ -124,18 +149,20 @@ impl Working {
 }
 
 impl OfContract {
-    fn of(records: &[Record], contract: &Contract, table: Option<&Book>) -> Result<OfContract, Differs> {
+    fn of(records: &[Record], contract: &Contract, account: &Account) -> Result<OfContract, Differs> {
+        let table = account.table.as_ref();
         let number = contract.figures[0];
         let of = |kind: u8| records_of(records, kind, number as usize);
         let row_records = of(ROW);
         let unit = contract.unit;
-        let totals = totals(&row_records, unit);
+        let money = Money { rates: &account.rates, unit };
+        let totals = totals(&row_records, &money);
         let active = active_scenario(&totals);
         let paired = PAIRED[active - 1];
         let twice_price_risk = (totals[active - 1] + totals[paired - 1] - totals[0] - totals[1]).max(0);
         let net: i64 = contract.book.prompts.iter().map(|prompt| prompt.net).sum();
         let unit_price_risk = unit_price_risk(twice_price_risk, net);
-        let rows = (1..).zip(&row_records).map(|(place, record)| row(place, *record, active, unit)).collect();
+        let rows = (1..).zip(&row_records).map(|(place, record)| row(place, *record, active, &money)).collect();
         let short_option_rate = of(CONTRACT).first().map_or(0, |record| record.get(SHORT_OPTION_RATE));
         let mut working = OfContract {
             number,
@@ -201,8 +228,8 @@ fn sum(numbers: impl Iterator<Item = i64>) -> i128 {
 }
 
 /// "For each scenario add lots × value × loss over the contract's rows."
-fn totals(rows: &[Record], unit: i64) -> [i64; SCENARIOS] {
-    std::array::from_fn(|scenario| rows.iter().map(|row| product(*row, scenario, unit)).sum())
+fn totals(rows: &[Record], money: &Money) -> [i64; SCENARIOS] {
+    std::array::from_fn(|scenario| rows.iter().map(|row| money.product(*row, scenario)).sum())
 }
 
 /// "The active scenario is the lowest number holding the largest total, even a negative one."
@@ -211,8 +238,9 @@ fn active_scenario(totals: &[i64; SCENARIOS]) -> usize {
     1 + totals.iter().position(|total| *total == largest).unwrap_or_default()
 }
 
-fn row(place: usize, record: Record, active: usize, unit: i64) -> Row {
+fn row(place: usize, record: Record, active: usize, money: &Money) -> Row {
     let class = record.get(CLASS);
+    let own = money.own(record, active - 1);
     Row {
         place,
         class,
@@ -222,7 +250,10 @@ fn row(place: usize, record: Record, active: usize, unit: i64) -> Row {
         delta: record.get(delta(class)),
         value: record.get(VALUE),
         loss: record.get(loss(active - 1)),
-        amount: product(record, active - 1, unit),
+        currency: record.get(CURRENCY),
+        own,
+        rate: money.rate(record, own),
+        amount: money.product(record, active - 1),
     }
 }
 

@@ -38,6 +38,46 @@ fn a_loss_is_converted_at_the_rate_raised_and_a_gain_at_the_rate_lowered() {
     assert_eq!(figures_of(&account(&[short], &[rate]))[2], 1_650);
 }
 
+/// The sixteen totals of the first contract.
+fn totals_of(file: &[u8]) -> [i64; 16] {
+    let account = independent::check(file).unwrap_or_else(|refusal| panic!("{refusal}"));
+    independent::margin::totals(&account.contracts[0]).map(|total| total.0)
+}
+
+#[test]
+fn of_the_two_adjusted_rates_the_worse_one_counts_as_in_002() {
+    // 002, 1.10.2.2: of the losses converted at the rate adjusted upwards and at the one adjusted downwards the
+    // algebraically larger one is selected: "if -10 is compared to -20 then -10 is selected; [..] if 10 is compared
+    // to 20 then 20 is selected". At 1 and 33 percent 15 is 10.05 or 19.95, in whole units, to which 002 rounds, 10
+    // or 20. That 10 is compared to -10, 002's first case, cannot be: no rate is lowered below 0.
+    let mut losses = NO_LOSS;
+    losses[1..3].copy_from_slice(&[-1_500, 1_500]);
+    let sterling = in_currency(1, forward(1, 1, (1, 0, 1, &losses)));
+    let whole = file(&[
+        &[in_units(100, contract(1, 0)), prompt(1, 1, 1)],
+        &[sterling],
+        &[rate(1, 1_000_000, 33)],
+    ]);
+    assert_eq!(totals_of(&whole)[..4], [0, -1_000, 2_000, 0]);
+    // In hundredths they stay 10.05 and 19.95.
+    let hundredths = account(&[sterling], &[rate(1, 1_000_000, 33)]);
+    assert_eq!(totals_of(&hundredths)[..4], [0, -1_005, 1_995, 0]);
+}
+
+#[test]
+fn rows_of_one_currency_are_converted_apart_where_002_adds_them_first() {
+    // 002 converts the total losses of a contract in a currency: a lot long and a lot short are nothing. By 2026-05
+    // each row is converted, the loss at 1.1 and the gain at 0.9.
+    let rates = [rate(1, 1_000_000, 10)];
+    let [long, short] =
+        [1, -1].map(|lots| in_currency(1, forward(1, 1, (lots, 0, 1, &[1_000; 16]))));
+    assert_eq!(totals_of(&account(&[long, short], &rates)), [200; 16]);
+    // Two rows on one side come to the same either way, but for the rounding of each.
+    assert_eq!(totals_of(&account(&[long, long], &rates)), [2_200; 16]);
+    let odd = row(1, 5);
+    assert_eq!(totals_of(&account(&[odd, odd], &rates)), [12; 16]);
+}
+
 #[test]
 fn halves_go_away_from_zero() {
     let half = rate(1, 500_000, 0);

@@ -4,10 +4,11 @@
 use crate::tables::{amount, number, Tables};
 use independent::account::{Account, Contract};
 use independent::book::{book_of, intercontract, interprompt, Book, INTERCONTRACT};
+use independent::currency::Rate;
 use independent::format::*;
 use independent::margin::{self, figures_of, Figures};
 use independent::steps::{steps, Leg, Net, Side};
-use independent::units::{Amount, Delta, Quotient};
+use independent::units::{Amount, Delta};
 
 fn equal(what: &str, found: i128, wanted: i128) -> Result<(), String> {
     if found == wanted {
@@ -39,7 +40,7 @@ pub fn compare(tables: &Tables, account: &Account, file: &[u8]) -> Result<(), St
         let totals = margin::totals(contract);
         compare_margin(&rows("margin"), contract, &figures).map_err(told)?;
         compare_totals(&rows("totals"), &totals.map(|total| total.0), figures.active_scenario).map_err(told)?;
-        compare_rows(&rows("rows"), file, contract, figures.active_scenario).map_err(told)?;
+        compare_rows(&rows("rows"), file, account, contract, figures.active_scenario).map_err(told)?;
         let book = interprompt(contract);
         compare_charges(&rows("paid"), &rows("prompts"), contract, &book, &figures).map_err(told)?;
         let of_contract = credits(account, &table, place, margin::twice_price_risk(&totals));
@@ -51,6 +52,7 @@ pub fn compare(tables: &Tables, account: &Account, file: &[u8]) -> Result<(), St
         let prompts = contract.prompts.iter().map(|prompt| (vec![prompt.day.to_string(), prompt.tier.to_string()], prompt.tier));
         Left { of: "tier", legs, prompts: prompts.collect(), unused: unused(&book) }.compare(&rows("open")).map_err(told)?;
     }
+    compare_rates(&tables.rows("rates"), &account.rates)?;
     let legs = account.entries.iter().map(|entry| entry.legs()).collect();
     let contracts = account.contracts.iter().map(|contract| (vec![format!("contract {}", contract.number)], contract.number));
     let left = Left { of: "contract", legs, prompts: contracts.collect(), unused: unused(&table) };
@@ -89,8 +91,23 @@ fn compare_totals(rows: &[&[String]], totals: &[i64; SCENARIOS], active: usize) 
     Ok(())
 }
 
-/// Every row of the file with its fields, and its amount in the active scenario.
-fn compare_rows(rows: &[&[String]], file: &[u8], contract: &Contract, active: usize) -> Result<(), String> {
+/// The rate of each currency as it stands, and raised and lowered by its percent.
+fn compare_rates(rows: &[&[String]], rates: &[Rate]) -> Result<(), String> {
+    equal("rates", rows.len() as i128, rates.len() as i128)?;
+    for (row, rate) in rows.iter().zip(rates) {
+        let Rate { currency, spot, adjustment_percent } = *rate;
+        let adjusted = [spot * (100 + adjustment_percent), spot * (100 - adjustment_percent)];
+        let wanted = [currency, spot, adjustment_percent, adjusted[0], adjusted[1]];
+        for (cell, wanted) in row.iter().zip(wanted) {
+            equal("a rate", number(cell)?, wanted.into())?;
+        }
+    }
+    Ok(())
+}
+
+/// Every row of the file with its fields, and its amount in the active scenario; where a row is in another currency than the margin's,
+/// also each row's currency, its amount in it, and the rate that it is converted at.
+fn compare_rows(rows: &[&[String]], file: &[u8], account: &Account, contract: &Contract, active: usize) -> Result<(), String> {
     let all = records(file);
     let of_contract: Vec<&Record> = all.iter().filter(|row| row.kind() == ROW && row.get(NUMBER) == contract.number).collect();
     if of_contract.is_empty() {
@@ -99,9 +116,10 @@ fn compare_rows(rows: &[&[String]], file: &[u8], contract: &Contract, active: us
     let numbers = |of: &dyn Fn(&Record) -> i64| -> Vec<i64> { of_contract.iter().map(|record| of(record)).collect() };
     let net = |record: &Record| record.get(LOTS) * record.get(delta(record.get(CLASS)));
     let product = |record: &Record| record.get(LOTS) * record.get(VALUE) * record.get(loss(active - 1));
-    let of_active = |record: &Record| contract.unit.halves_away(Quotient::whole(product(record))).0;
+    let amounts: Vec<i64> = contract.rows.iter().map(|row| row.products[active - 1].0).collect();
+    let converted = of_contract.iter().any(|record| record.get(CURRENCY) != MARGIN_CURRENCY);
     column("lots x delta", rows, 6, number, &numbers(&net))?;
-    column("amount", rows, 9, amount, &numbers(&of_active))?;
+    column("amount", rows, if converted { 12 } else { 9 }, amount, &amounts)?;
     for (place, (row, record)) in (1..).zip(rows.iter().zip(&of_contract)) {
         let class = record.get(CLASS);
         let word = ["forward", "call", "put"][class as usize];
@@ -114,6 +132,17 @@ fn compare_rows(rows: &[&[String]], file: &[u8], contract: &Contract, active: us
             equal(&format!("row {place}"), number(&row[cell])?, wanted.into())?;
         }
         equal(&format!("value of row {place}"), amount(&row[7])?, record.get(VALUE).into())?;
+        if converted {
+            let currency = record.get(CURRENCY);
+            equal(&format!("currency of row {place}"), number(&row[9])?, currency.into())?;
+            equal(&format!("row {place} in its currency"), amount(&row[10])?, product(record).into())?;
+            let rate = account.rates.iter().find(|rate| rate.currency == currency);
+            let percent = |rate: &Rate| rate.adjustment_percent * if product(record) > 0 { 1 } else { -1 };
+            let at = rate.map_or("-".to_string(), |rate| places(rate.spot * (100 + percent(rate)), 8));
+            if row[11] != at {
+                return Err(format!("row {place} is converted at {} in place of {at}", row[11]));
+            }
+        }
     }
     Ok(())
 }
@@ -125,15 +154,23 @@ fn compare_charges(
     book: &Book,
     figures: &Figures,
 ) -> Result<(), String> {
-    let of_spreads: Vec<i64> =
-        contract.spreads.iter().enumerate().map(|(at, spread)| contract.unit.halves_up(margin::spread_charge(book.formed(at), spread.rate)).0).collect();
+    let of_spreads: Vec<i64> = contract
+        .spreads
+        .iter()
+        .enumerate()
+        .map(|(at, spread)| contract.unit.halves_up(margin::spread_charge(book.formed(at), spread.rate)).0)
+        .collect();
     if !of_spreads.is_empty() {
         let charged: Vec<&[String]> = paid.iter().copied().filter(|row| !row[6].is_empty()).collect();
         column("charge of a spread", &charged, 6, amount, &of_spreads)?;
     }
     equal("interprompt charge", of_spreads.iter().map(|charge| i128::from(*charge)).sum(), figures.interprompt_charge.0.into())?;
-    let of_prompts: Vec<i64> =
-        contract.prompts.iter().zip(&book.lines).map(|(prompt, line)| contract.unit.halves_up(margin::prompt_charge(prompt, line)).0).collect();
+    let of_prompts: Vec<i64> = contract
+        .prompts
+        .iter()
+        .zip(&book.lines)
+        .map(|(prompt, line)| contract.unit.halves_up(margin::prompt_charge(prompt, line)).0)
+        .collect();
     if of_prompts.is_empty() {
         return equal("prompts", prompts.len() as i128, 0);
     }
@@ -144,7 +181,8 @@ fn compare_charges(
 fn credits(account: &Account, table: &Book, place: usize, twice: Amount) -> Vec<i64> {
     let number = account.contracts[place].number;
     let naming = account.entries.iter().zip(&table.steps).filter(|(entry, _)| [entry.first, entry.second].contains(&number));
-    let credit = |used: Delta, percent: i64| margin::credit(twice, used, table.lines[place].net, percent, account.contracts[place].unit).0;
+    let credit =
+        |used: Delta, percent: i64| margin::credit(twice, used, table.lines[place].net, percent, account.contracts[place].unit).0;
     naming.map(|(entry, [first, second])| credit(first.given[place] + second.given[place], entry.percent)).collect()
 }
 

@@ -326,11 +326,12 @@ mod tests {
     use super::*;
     use crate::report::left;
 
-    const FILES: [&[u8]; 4] = [
+    const FILES: [&[u8]; 5] = [
         include_bytes!("../../../examples/copper-aluminium.account"),
         include_bytes!("../../../examples/case-three.account"),
         include_bytes!("../../../examples/aex-fef.account"),
         include_bytes!("../../../examples/yen.account"),
+        include_bytes!("../../../examples/four-currencies.account"),
     ];
 
     fn account(file: &[u8]) -> Account {
@@ -375,6 +376,31 @@ mod tests {
         for (at, other) in others.iter().enumerate() {
             assert!(differs(FILES[0], other).is_some(), "{at}");
         }
+    }
+
+    #[test]
+    fn another_rate_or_another_currency_is_told() {
+        let other_rate = |account: &mut Account| account.rates[0].spot += 1;
+        let other_percent = |account: &mut Account| account.rates[2].adjustment_percent = 0;
+        assert!(differs(FILES[4], other_rate).is_some() && differs(FILES[4], other_percent).is_some());
+        let mut other_currency = FILES[4].to_vec();
+        other_currency[(1 + 8 + 9) * RECORD_BYTES + CURRENCY.at] = 2;
+        assert!(Working::of(&records(&other_currency), &account(FILES[4])).is_err());
+    }
+
+    #[test]
+    fn a_loss_is_converted_at_the_raised_rate_and_a_gain_at_the_lowered_one() {
+        let rates = [Rate { currency: 1, spot: 1_500_000, adjustment_percent: 10 }];
+        let row = |lots: i32| {
+            let mut row = [0; RECORD_BYTES];
+            (row[0], row[CURRENCY.at], row[VALUE.at]) = (ROW, 1, 1);
+            row[LOTS.at..][..4].copy_from_slice(&lots.to_le_bytes());
+            row[loss(0).at..][..4].copy_from_slice(&1_000_i32.to_le_bytes());
+            row
+        };
+        let converted = |lots, unit| Money { rates: &rates, unit }.product(Record(&row(lots)), 0);
+        assert_eq!([converted(1, 1), converted(-1, 1)], [1_650, -1_350]);
+        assert_eq!([converted(1, 100), converted(-1, 100)], [1_700, -1_400]);
     }
 
     #[test]

@@ -47,7 +47,7 @@ extern "C" {
  *    0  nothing: the file is accepted, the question answered                record 0
  *    1  the file is longer than 61,440 bytes                                record 0
  *    2  its length is no multiple of 96                                     record 0
- *    3  a kind that is not 1 to 5                                           that record
+ *    3  a kind that is not 1 to 6                                           that record
  *    4  a kind below the kind before it                                     that record
  *    5  an unused byte that is not zero                                     that record
  *    6  a field outside its range                                           that record
@@ -56,13 +56,15 @@ extern "C" {
  *    9  one record more than a limit                                        that record
  *   10  fewer numbers lent than the answer needs                            how many records the file has
  *   11  a question that is neither a listed contract nor 16                 how many records the file has
+ *   14  a row whose currency has no rate                                    that record
+ *   15  a row with a conversion beyond 100,000,000,000,000 hundredths       that record
  *
- * The length is tested first, then the records from 0 up, each for 3 to 9 in that order; the first fault answers. Then
- * come 11 and 10.
+ * The length is tested first, then the records from 0 up, each for 3 to 9 in that order, then the rows in file order, each for 14
+ * and else for 15; the first fault answers. Then come 11 and 10.
  *
  * A morning's file and a noon file can be refused for three things more; felgotany_pair_outcome has the order.
  *
- *   12  the noon file has a record of kind 5                                its first such record
+ *   12  the noon file has a record of kind 5 or 6                           its first such record
  *   13  more than 640 records joined                                        how many records the joined account has
  *   21  an amount outside 0 to 1,000,000,000,000,000                        how many records the joined account has
  *
@@ -89,9 +91,9 @@ felgotany_outcome felgotany_check(const uint8_t *file, size_t bytes);
 size_t felgotany_figures_needed(const uint8_t *file, size_t bytes);
 
 /* The figures. For each contract in file order eight numbers: contract, active scenario, scanning risk, interprompt charge,
- * prompt charge, credit, short option minimum and margin, all but the first two in hundredths of the currency, also where
- * the contract's unit is larger (docs/FILE.md, kind 1); then the total of the margins. An empty file is an accepted account
- * with the one number 0.
+ * prompt charge, credit, short option minimum and margin, all but the first two in hundredths of the margin currency, also where
+ * the contract's unit is larger (docs/FILE.md, kind 1) and where rows are in other currencies (kind 6); then the total of the
+ * margins. An empty file is an accepted account with the one number 0.
  *
  * Where nothing is refused, the numbers stand at the front of `out` and nothing after them is changed. A refusal changes
  * nothing. */
@@ -141,12 +143,13 @@ felgotany_outcomes felgotany_all(const uint8_t *file, size_t bytes, int64_t *fig
                                  size_t book_numbers, int64_t *uses, size_t use_numbers);
 
 /* A noon file joined to the morning's. A contract's records of kinds 1 to 4 come from the noon file if that file lists the
- * contract, else from the morning's; kind 5 always from the morning. These records, in the order of an account file, are the
+ * contract, else from the morning's; kinds 5 and 6 always from the morning. These records, in the order of an account file, are the
  * joined account. With an empty noon file it is the morning's account.
  *
  * What is refused, the record that the refusal names, and the file that it is about: 0 the joined account, 1 the morning's
  * file, 2 the noon's. The order: the morning's file for 1 to 9, the noon's for 1 to 9, 12 of the noon's; then of the joined
- * account 13, 21, 11 and 10, each naming how many records are joined. Where nothing is refused, all three are 0. */
+ * account 13; 14 and 15 of its rows in order, naming the row by its place in the joined account; then 21, 11 and 10, which like 13 name
+ * how many records are joined. Where nothing is refused, all three are 0. */
 typedef struct {
     size_t file;
     size_t refusal;
@@ -198,7 +201,7 @@ typedef struct {
 
 /* The prompt records of a contract, as they stand in whichever file supplies them. Of a contract that is listed without
  * prompts, the file with first 0 and records 0. All three are 0 where neither file lists the contract, and where the two files
- * are refused by 1 to 9, 12 or 13. */
+ * are refused by 1 to 9 or 12 to 15. */
 felgotany_prompt_place felgotany_joined_prompts(const uint8_t *morning, size_t morning_bytes, const uint8_t *noon,
                                                 size_t noon_bytes, size_t contract);
 

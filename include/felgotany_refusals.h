@@ -19,6 +19,8 @@
 #define FELGOTANY_UNLISTED_QUESTION 11
 #define FELGOTANY_NOON_INTERCONTRACT 12
 #define FELGOTANY_TOO_MANY_JOINED 13
+#define FELGOTANY_NO_RATE 14
+#define FELGOTANY_CONVERSION_BEYOND 15
 #define FELGOTANY_LENGTHS_DIFFER 17
 #define FELGOTANY_OTHER_COUNTS 18
 #define FELGOTANY_TOO_MANY_ACCOUNTS 19
@@ -35,7 +37,7 @@ static inline const char *felgotany_refusal_text(size_t refusal)
     case FELGOTANY_NOT_WHOLE_RECORDS:
         return "length not a multiple of 96";
     case FELGOTANY_UNKNOWN_KIND:
-        return "kind not 1..5";
+        return "kind not 1..6";
     case FELGOTANY_KIND_BELOW:
         return "kind below the kind before it";
     case FELGOTANY_UNUSED_BYTE:
@@ -53,9 +55,13 @@ static inline const char *felgotany_refusal_text(size_t refusal)
     case FELGOTANY_UNLISTED_QUESTION:
         return "question neither a listed contract nor 16";
     case FELGOTANY_NOON_INTERCONTRACT:
-        return "the noon file has an intercontract spread";
+        return "the noon file has an intercontract spread or a currency rate";
     case FELGOTANY_TOO_MANY_JOINED:
         return "more than 640 records joined";
+    case FELGOTANY_NO_RATE:
+        return "a row whose currency has no rate";
+    case FELGOTANY_CONVERSION_BEYOND:
+        return "a row with a rounded conversion beyond 100,000,000,000,000 hundredths";
     case FELGOTANY_LENGTHS_DIFFER:
         return "the lengths of a run do not add up to what was lent";
     case FELGOTANY_OTHER_COUNTS:

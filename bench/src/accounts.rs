@@ -1,5 +1,5 @@
-//! The accounts that are timed: accepted ones of a size, generated ones, one with a full table, and accounts as a desk has
-//! them.
+//! The accounts that are timed: accepted ones of a size, in the margin currency alone and in several, generated ones, one with a
+//! full table, and accounts as a desk has them.
 
 use independent::check;
 use independent::format::*;
@@ -8,11 +8,12 @@ use independent::generate::{self, Random};
 const ACCOUNTS_OF_A_SIZE: usize = 8;
 const LOOKED_THROUGH: u64 = 60_000;
 
-/// Accepted accounts of so many records: generated ones of just that size, or larger ones cut there,
-/// since what stands before a record decides whether it is accepted.
+/// Accepted accounts of so many records in the margin currency: generated ones of just that size, or larger ones cut there,
+/// since without currencies what stands before a record decides whether it is accepted.
 pub fn accepted(seed: u64, records: usize) -> Vec<Vec<u8>> {
     let bytes = records * RECORD_BYTES;
-    let all = || (0..LOOKED_THROUGH).map(|index| generate::account(seed, index));
+    let all =
+        || (0..LOOKED_THROUGH).map(|index| in_margin_currency(generate::account(seed, index)));
     let sound = |file: &Vec<u8>| file.len() >= bytes && check(file).is_ok();
     let mut files: Vec<Vec<u8>> =
         all().filter(|file| file.len() == bytes && sound(file)).take(ACCOUNTS_OF_A_SIZE).collect();
@@ -22,6 +23,40 @@ pub fn accepted(seed: u64, records: usize) -> Vec<Vec<u8>> {
         files.extend(cut.take(more).map(|file| file[..bytes].to_vec()));
     }
     assert!(!files.is_empty(), "no accepted account of {records} records was generated");
+    files
+}
+
+/// The account without its currency rates, every row in the margin currency.
+fn in_margin_currency(file: Vec<u8>) -> Vec<u8> {
+    let mut kept = vec![];
+    for record in file.chunks(RECORD_BYTES).filter(|record| record[0] != CURRENCY_RATE) {
+        kept.extend(record);
+        if record[0] == ROW && record.len() == RECORD_BYTES {
+            let at = kept.len() - RECORD_BYTES + CURRENCY.at;
+            kept[at] = 0;
+        }
+    }
+    kept
+}
+
+/// Accepted accounts of about so many records with at least half of their rows in other currencies than the margin's.
+pub fn converted(seed: u64, records: usize) -> Vec<Vec<u8>> {
+    let of_size = |file: &Vec<u8>| {
+        (records * 9 / 10..=records * 11 / 10).contains(&(file.len() / RECORD_BYTES))
+    };
+    let half = |file: &Vec<u8>| {
+        let rows = || file.chunks_exact(RECORD_BYTES).filter(|record| record[0] == ROW);
+        2 * rows().filter(|row| row[CURRENCY.at] != 0).count() > rows().count()
+    };
+    let all = (0..LOOKED_THROUGH).map(|index| generate::account(seed, index));
+    let files: Vec<Vec<u8>> = all
+        .filter(|file| of_size(file) && half(file) && check(file).is_ok())
+        .take(ACCOUNTS_OF_A_SIZE)
+        .collect();
+    assert!(
+        !files.is_empty(),
+        "no accepted account of about {records} records in currencies was generated"
+    );
     files
 }
 

@@ -15,6 +15,7 @@ use independent::format::{MOST_PROMPTS, MOST_SPREADS};
 use timing::{joined_times, run_times, times, Question, Times};
 
 const SIZES: [usize; 4] = [1, 10, 100, 640];
+const CONVERTED: usize = 100;
 const GENERATED: u64 = 5_000;
 /// So many accounts of a desk are asked again and again, and so many, one after another.
 const WARM: u64 = 8;
@@ -72,6 +73,10 @@ fn sizes(seed: u64) {
         let plural = if records == 1 { "" } else { "s" };
         sets.push((format!("{records} record{plural}"), accounts::accepted(seed, records)));
     }
+    sets.push((
+        format!("about {CONVERTED} records, in currencies"),
+        accounts::converted(seed, CONVERTED),
+    ));
     sets.push((
         format!("{} generated", thousands(GENERATED as f64)),
         accounts::generated(seed, GENERATED),

@@ -3,6 +3,7 @@
 
 mod check;
 mod contract;
+mod rates;
 mod record;
 mod steps;
 mod table;
@@ -76,14 +77,15 @@ fn joined<T>(
 ) -> Result<T, PairRefusal> {
     let (mut notes, mut places) = (Notes::default(), [0; MOST_RECORDS]);
     let records =
-        check::check(morning, &mut notes, &mut places).map_err(|refusal| refusal.of(MORNING))?;
+        check::records(morning, &mut notes, &mut places).map_err(|refusal| refusal.of(MORNING))?;
     let morning = File { records, notes: &notes, places: &places };
     let (mut notes, mut places) = (Notes::default(), [0; MOST_RECORDS]);
     let records =
-        check::check(noon, &mut notes, &mut places).map_err(|refusal| refusal.of(NOON))?;
+        check::records(noon, &mut notes, &mut places).map_err(|refusal| refusal.of(NOON))?;
     let noon = File { records, notes: &notes, places: &places };
-    if noon.notes.entries.count() > 0 {
-        let record = noon.notes.entries.range().start;
+    let of_contracts = noon.records.partition_point(|record| record[0] <= SPREAD);
+    if of_contracts < noon.records.len() {
+        let record = of_contracts;
         return Err(PairRefusal { file: NOON, number: NOON_ENTRY, record });
     }
     let traded = noon.notes.listed();
@@ -93,7 +95,11 @@ fn joined<T>(
     if count > MOST_RECORDS {
         return Err(PairRefusal { file: JOINED, number: TOO_MANY_JOINED, record: count });
     }
-    ask(Held(Pair { morning, noon, count })).map_err(|refusal| refusal.of(JOINED))
+    let pair = Pair { morning, noon, count };
+    if pair.morning.notes.converts() || pair.noon.notes.converts() {
+        pair.conversions().map_err(|refusal| refusal.of(JOINED))?;
+    }
+    ask(Held(pair)).map_err(|refusal| refusal.of(JOINED))
 }
 
 /// A run of accounts, one behind the other: the figures of each in the `MOST_FIGURES` numbers that are its
@@ -166,6 +172,7 @@ impl Supplies for File<'_> {
             rows: &self.records[rows.clone()],
             places: &self.places[rows],
             spreads: &self.records[self.notes.spreads[number].range()],
+            rates: &self.notes.rates,
         }
     }
 
@@ -181,6 +188,18 @@ struct Pair<'a> {
     count: usize,
 }
 
+impl Pair<'_> {
+    /// 14 and 15 of the joined rows, which stand behind all contracts and prompts.
+    #[cold]
+    fn conversions(&self) -> Result<(), Refusal> {
+        let contracts: Vec<Contract> =
+            bits(self.listed()).map(|number| self.contract(number)).collect();
+        let prompts: usize = contracts.iter().map(|contract| contract.prompts.len()).sum();
+        let rows = contracts.iter().flat_map(|contract| contract.rows);
+        check::conversions((contracts.len() + prompts..).zip(rows), &self.morning.notes.rates)
+    }
+}
+
 impl Supplies for Pair<'_> {
     #[inline(always)]
     fn listed(&self) -> u32 {
@@ -194,7 +213,7 @@ impl Supplies for Pair<'_> {
     #[inline(always)]
     fn contract(&self, number: usize) -> Contract<'_> {
         let file = if self.noon.notes.lists(number) { &self.noon } else { &self.morning };
-        file.contract(number)
+        Contract { rates: &self.morning.notes.rates, ..file.contract(number) }
     }
 
     fn entries(&self) -> &[Record] {

@@ -2,6 +2,7 @@
 //! tiers, legs and rates are read from its records.
 
 use felgotany::{Outcome, Pair, PairOutcome, MOST_BOOK, MOST_FIGURES, MOST_USES, QUESTIONS, TABLE};
+use independent::currency::{rates, Rate};
 use independent::format::*;
 
 /// How many figures a contract has.
@@ -12,12 +13,15 @@ pub struct Account {
     pub contracts: Vec<Contract>,
     /// The delta book of the intercontract spreads, where the account has any.
     pub table: Option<Book>,
+    pub rates: Vec<Rate>,
     pub total: i64,
 }
 
-/// A contract's figures, as the library gives them, its unit in hundredths, and its delta book.
+/// A contract's figures, as the library gives them, its unit in hundredths, the currencies of its rows but for the margin's, and its
+/// delta book.
 pub struct Contract {
     pub unit: i64,
+    pub currencies: Vec<i64>,
     pub figures: [i64; FIGURES],
     pub book: Book,
 }
@@ -121,12 +125,28 @@ impl Account {
         for (own, figures) in owns.iter().zip(figures.chunks_exact(FIGURES)) {
             let figures: [i64; FIGURES] = figures.try_into().expect("eight figures");
             let unit = own.get(UNIT).max(1);
-            contracts.push(Contract { unit, figures, book: book(figures[0] as usize)? });
+            let currencies = currencies(&records_of(records, ROW, figures[0] as usize));
+            contracts.push(Contract { unit, currencies, figures, book: book(figures[0] as usize)? });
         }
         let spread = of_kind(records, ENTRY).next().is_some();
         let table = if spread { Some(book(TABLE)?) } else { None };
-        Ok(Account { records: records.len(), contracts, table, total: figures[FIGURES * owns.len()] })
+        let total = figures[FIGURES * owns.len()];
+        Ok(Account { records: records.len(), contracts, table, rates: rates(records), total })
     }
+}
+
+/// The currencies of rows but for the margin's, each once, in their order.
+fn currencies(rows: &[Record]) -> Vec<i64> {
+    let mut currencies: Vec<i64> = rows.iter().map(|row| row.get(CURRENCY)).filter(|of| *of != MARGIN_CURRENCY).collect();
+    currencies.sort_unstable();
+    currencies.dedup();
+    currencies
+}
+
+/// A currency's rate for losses or for gains, in hundred-millionths: the spot rate "raised by that percent" or "lowered by it".
+pub fn adjusted(rate: &Rate, loss: bool) -> i64 {
+    let percent = if loss { 100 + rate.adjustment_percent } else { 100 - rate.adjustment_percent };
+    rate.spot * percent
 }
 
 impl Book {
@@ -240,8 +260,8 @@ fn spreads_of<'a>(records: &'a [Record<'a>], question: usize) -> Vec<Record<'a>>
     }
 }
 
-/// The records of the joined account: the library says which file supplies a contract, and the intercontract spreads are the
-/// morning's.
+/// The records of the joined account: the library says which file supplies a contract, and the intercontract spreads and currency
+/// rates are the morning's.
 pub fn joined(pair: Pair) -> Vec<Record> {
     let (morning, noon) = (records(pair.morning), records(pair.noon));
     let mut joined = vec![];

@@ -7,9 +7,10 @@ use crate::input::Input;
 use crate::numbers::amount;
 use crate::table::table;
 use crate::{lines, page, sheet};
-use felgotany::refusals::{rule, AMOUNT_OUTSIDE_RANGE, NOON_INTERCONTRACT};
+use account_text::explain::refused;
+use felgotany::refusals::{rule, AMOUNT_OUTSIDE_RANGE, CONVERSION_BEYOND, NOON_INTERCONTRACT, NO_RATE};
 use felgotany::{Outcome, Pair, PairOutcome, PromptPlace, MORNING, NOON};
-use independent::format::{Record, DAY, RECORD_BYTES};
+use independent::format::*;
 
 pub fn ask(morning: &Input, noon: &Input, amounts: Option<&[i64]>, form: Form) -> Result<String, Failure> {
     let (account, call) = answers(morning, noon, amounts)?;
@@ -134,7 +135,7 @@ pub fn refusal(morning: &Input, noon: &Input, amounts: Option<&[i64]>, outcome: 
     let rule = rule(refusal).unwrap_or_default();
     let told = match (file, refusal) {
         (NOON, NOON_INTERCONTRACT) => {
-            let advice = "intercontract spreads always come from the morning: leave them out of the noon file";
+            let advice = "intercontract spreads and currency rates always come from the morning: leave them out of the noon file";
             format!("{}: refusal {refusal}, {}: {rule}\n  {advice}", noon.name, noon.place(record))
         }
         (MORNING, _) => of_file(morning),
@@ -143,7 +144,42 @@ pub fn refusal(morning: &Input, noon: &Input, amounts: Option<&[i64]>, outcome: 
             let amounts: Vec<String> = amounts.unwrap_or_default().iter().map(i64::to_string).collect();
             format!("joined account: refusal {refusal}, record {record}: {rule}\n  the amounts are {}", amounts.join(", "))
         }
+        (_, NO_RATE | CONVERSION_BEYOND) => refused_row(morning, noon, Outcome { refusal, record }),
         _ => format!("joined account: refusal {refusal}, record {record}: {rule}\n  {record} records are joined"),
     };
     Failure::refused(told, line)
+}
+
+/// A row of the joined account that is refused for its currency, and where it stands in the file that it comes from.
+fn refused_row(morning: &Input, noon: &Input, verdict: Outcome) -> String {
+    let Outcome { refusal, record } = verdict;
+    let joined = joined_places(morning, noon);
+    let file: Vec<u8> = joined.iter().flat_map(|(input, place)| bytes_of(input, *place)).copied().collect();
+    let told = refused(&file, verdict).unwrap_or_default();
+    let (input, place) = joined[record];
+    let from = format!("it is {} of {}; currency rates come from the morning", input.place(place), input.name);
+    format!("joined account: refusal {refusal}, record {record}{told}\n  {from}")
+}
+
+fn bytes_of(input: &Input, place: usize) -> &[u8] {
+    &input.file[place * RECORD_BYTES..][..RECORD_BYTES]
+}
+
+/// Where each record of the joined account comes from, of two files whose records are accepted: the file and the place in it.
+fn joined_places<'a>(morning: &'a Input, noon: &'a Input) -> Vec<(&'a Input, usize)> {
+    let lists = |input: &Input, contract: i64| {
+        records(&input.file).iter().any(|record| record.kind() == CONTRACT && record.get(NUMBER) == contract)
+    };
+    let mut joined = vec![];
+    for kind in CONTRACT..=SPREAD {
+        for contract in NUMBER.least..=NUMBER.most {
+            let input = if lists(noon, contract) { noon } else { morning };
+            let all = records(&input.file);
+            let of_contract = |place: &usize| all[*place].kind() == kind && all[*place].get(NUMBER) == contract;
+            joined.extend((0..all.len()).filter(of_contract).map(|place| (input, place)));
+        }
+    }
+    let all = records(&morning.file);
+    joined.extend((0..all.len()).filter(|place| all[*place].kind() > SPREAD).map(|place| (morning, place)));
+    joined
 }

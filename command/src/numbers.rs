@@ -5,10 +5,13 @@ pub fn amount(hundredths: i64) -> String {
     decimal(hundredths.into(), 2)
 }
 
+/// What stands under a point and two places, where an amount has none.
+pub const PLACES: &str = "   ";
+
 /// Hundredths of the currency, where the unit is so many of them: without places where neither has any.
 pub fn amount_in(unit: i64, hundredths: i64) -> String {
     match unit % 100 == 0 && hundredths % 100 == 0 {
-        true => format!("{}   ", hundredths / 100),
+        true => format!("{}{PLACES}", hundredths / 100),
         false => amount(hundredths),
     }
 }
@@ -16,6 +19,11 @@ pub fn amount_in(unit: i64, hundredths: i64) -> String {
 /// Ten-thousandths of lots or spreads, with four places.
 pub fn lots(ten_thousandths: i64) -> String {
     decimal(ten_thousandths.into(), 4)
+}
+
+/// A currency's rate in hundred-millionths, with eight places.
+pub fn rate(hundred_millionths: i64) -> String {
+    decimal(hundred_millionths.into(), 8)
 }
 
 /// Tenths, with one place.
@@ -26,7 +34,7 @@ pub fn tenths(tenths: i64) -> String {
 /// The digits of a number in groups of three, as in 1,357,531.09.
 pub fn grouped(number: &str) -> String {
     let digits = number.trim_start_matches('-');
-    let (sign, whole) = (&number[..number.len() - digits.len()], digits.find('.').unwrap_or(digits.len()));
+    let (sign, whole) = (&number[..number.len() - digits.len()], digits.find(['.', ' ']).unwrap_or(digits.len()));
     let mut grouped = sign.to_string();
     for (at, digit) in digits[..whole].char_indices() {
         if at > 0 && (whole - at) % 3 == 0 {
@@ -67,6 +75,7 @@ mod tests {
     fn digits_stand_in_groups_of_three() {
         let numbers =
             [("0.00", "0.00"), ("999", "999"), ("1000", "1,000"), ("-100.00", "-100.00"), ("-135753109.5", "-135,753,109.5")];
+        assert_eq!(grouped(&amount_in(100, -286_112_700)), "-2,861,127   ");
         for (number, written) in numbers {
             assert_eq!(grouped(number), written);
         }

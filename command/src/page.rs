@@ -1,8 +1,8 @@
 //! The page of figures for people: amounts in the currency with two places, or with none for a contract whose unit is whole. Books,
 //! working and who paid are the report's.
 
-use crate::account::{Account, Contract};
-use crate::numbers::{amount, amount_in};
+use crate::account::{adjusted, Account, Contract};
+use crate::numbers::{amount, amount_in, decimal, rate};
 use crate::table::table;
 
 /// The figures of a contract, in the library's order.
@@ -45,9 +45,27 @@ pub fn margin(name: &str, account: &Account) -> String {
     total[0] = "total".to_string();
     total[FIGURES.len() - 1] = amount(account.total);
     rows.push(total);
-    let rounded: String = account.contracts.iter().filter_map(rounded).collect();
-    let rounded = if rounded.is_empty() { rounded } else { format!("\n{rounded}") };
-    format!("Margin of {name}, in the currency\n\n{}{}{rounded}", empty(account), table(&rows))
+    let contracts = || account.contracts.iter();
+    let notes: String = contracts().filter_map(rounded).chain(contracts().filter_map(converted)).chain(rates(account)).collect();
+    let notes = if notes.is_empty() { notes } else { format!("\n{notes}") };
+    format!("Margin of {name}, in the currency\n\n{}{}{notes}", empty(account), table(&rows))
+}
+
+/// Which rows of a contract are in other currencies.
+fn converted(contract: &Contract) -> Option<String> {
+    let Contract { currencies, figures, .. } = contract;
+    let named: Vec<String> = currencies.iter().map(i64::to_string).collect();
+    let of = if named.len() == 1 { "currency" } else { "currencies" };
+    let told = format!("  Contract {}: its rows in {of} {} are converted.\n", figures[0], named.join(", "));
+    (!named.is_empty()).then_some(told)
+}
+
+/// The rate of each currency, and what it is for losses and for gains.
+fn rates(account: &Account) -> impl Iterator<Item = String> + '_ {
+    account.rates.iter().map(|of| {
+        let (spot, losses, gains) = (decimal(of.spot.into(), 6), rate(adjusted(of, true)), rate(adjusted(of, false)));
+        format!("  Currency {}: rate {spot}, for losses {losses}, for gains {gains}.\n", of.currency)
+    })
 }
 
 /// What a contract whose unit is not a hundredth is rounded to.

@@ -1,6 +1,7 @@
 //! An accepted account, read from its records: contracts in file order, each with its prompts, rows
-//! and interprompt spreads, and the intercontract table.
+//! and interprompt spreads, the intercontract table and the currency rates.
 
+use crate::currency::{converted_products, rates, Rate};
 use crate::format::*;
 use crate::steps::{Leg, Side};
 use crate::units::{Amount, Delta, Quotient, Unit};
@@ -10,6 +11,7 @@ pub struct Account {
     pub records: usize,
     pub contracts: Vec<Contract>,
     pub entries: Vec<Entry>,
+    pub rates: Vec<Rate>,
 }
 
 pub struct Contract {
@@ -37,7 +39,8 @@ pub struct Row {
     pub value: Amount,
     /// In ticks, scenario 1 first.
     pub losses: [i64; SCENARIOS],
-    /// Lots × value × loss, rounded to the contract's unit.
+    pub currency: i64,
+    /// Lots × value × loss in the margin currency, rounded to the contract's unit.
     pub products: [Amount; SCENARIOS],
 }
 
@@ -72,17 +75,21 @@ impl Entry {
 impl Account {
     /// Reads the records of a file that the check has accepted.
     pub(crate) fn read(records: &[Record]) -> Account {
-        let mut account = Account { records: records.len(), contracts: vec![], entries: vec![] };
+        let rates = rates(records);
+        let (contracts, entries) = (vec![], vec![]);
+        let mut account = Account { records: records.len(), contracts, entries, rates };
         for record in records {
             match record.kind() {
                 CONTRACT => account.contracts.push(contract(record)),
                 PROMPT => account.named_by(record).prompts.push(prompt(record)),
                 ROW => {
+                    let rates = account.rates.clone();
                     let contract = account.named_by(record);
-                    contract.rows.push(row(record, contract.unit));
+                    contract.rows.push(row(record, &rates, contract.unit));
                 }
                 SPREAD => account.named_by(record).spreads.push(spread(record)),
-                _ => account.entries.push(entry(record)),
+                ENTRY => account.entries.push(entry(record)),
+                _ => {}
             }
         }
         account
@@ -122,7 +129,7 @@ fn prompt(record: &Record) -> Prompt {
     }
 }
 
-fn row(record: &Record, unit: Unit) -> Row {
+fn row(record: &Record, rates: &[Rate], unit: Unit) -> Row {
     let class = record.get(CLASS);
     let mut losses = [0; SCENARIOS];
     for (scenario, ticks) in losses.iter_mut().enumerate() {
@@ -135,11 +142,11 @@ fn row(record: &Record, unit: Unit) -> Row {
         delta: Delta(record.get(delta(class))),
         value: Amount(record.get(VALUE)),
         losses,
+        currency: record.get(CURRENCY),
         // 2026-09: "Every row product, after conversion to hundredths, is rounded to it, halves away
         // from zero"
-        products: losses.map(|ticks| {
-            unit.halves_away(Quotient::whole(record.get(LOTS) * record.get(VALUE) * ticks))
-        }),
+        products: converted_products(*record, rates)
+            .map(|product| unit.halves_away(Quotient::whole(product.0))),
     }
 }
 

@@ -1,12 +1,21 @@
 //! Checking an account file. "Order: 1, 2; then records from 0 up, each tested 3 to 9, the first
-//! fault answering."
+//! fault answering"; then, by 2026-05 of document 02, each row 14 and 15.
 
 use crate::account::Account;
+use crate::currency;
 use crate::format::*;
 use crate::refusal::*;
 
 /// The accepted account, or the refusal that the paper gives to this file.
 pub fn check(file: &[u8]) -> Result<Account, Refusal> {
+    check_records(file)?;
+    let records = records(file);
+    currency::check_rows(&records)?;
+    Ok(Account::read(&records))
+}
+
+/// The refusal of 1 to 9 that the paper gives to this file.
+pub fn check_records(file: &[u8]) -> Result<(), Refusal> {
     if too_long(file) {
         return Err(Refusal { number: TOO_LONG, record: 0 });
     }
@@ -21,7 +30,7 @@ pub fn check(file: &[u8]) -> Result<Account, Refusal> {
             }
         }
     }
-    Ok(Account::read(&records))
+    Ok(())
 }
 
 pub fn too_long(file: &[u8]) -> bool {
@@ -35,7 +44,7 @@ pub fn not_whole_records(file: &[u8]) -> bool {
 /// Whether the condition of refusal 3 to 9 holds for a record that stands after these earlier ones.
 pub fn fault(number: u8, record: Record, earlier: &[Record]) -> bool {
     match number {
-        UNKNOWN_KIND => !(CONTRACT..=ENTRY).contains(&record.kind()),
+        UNKNOWN_KIND => !(CONTRACT..=CURRENCY_RATE).contains(&record.kind()),
         KIND_BELOW => earlier.last().is_some_and(|before| record.kind() < before.kind()),
         UNUSED_BYTE => unused_byte(record),
         OUT_OF_RANGE => out_of_range(record),
@@ -110,6 +119,10 @@ fn order_or_clash(record: Record, earlier: &[Record]) -> bool {
         SPREAD => before.is_some_and(|before| contract < before.get(NUMBER)) || legs_clash(record),
         // "an intercontract spread of a contract with itself"
         ENTRY => contract == record.get(SECOND_NUMBER),
+        // 2026-05: "currency 1..7, ascending"
+        CURRENCY_RATE => {
+            before.is_some_and(|before| record.get(RATE_CURRENCY) <= before.get(RATE_CURRENCY))
+        }
         _ => false,
     }
 }

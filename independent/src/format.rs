@@ -17,11 +17,16 @@ pub const PROMPT: u8 = 2;
 pub const ROW: u8 = 3;
 pub const SPREAD: u8 = 4;
 pub const ENTRY: u8 = 5;
+/// 2026-05: "Kind 6, after kind 5".
+pub const CURRENCY_RATE: u8 = 6;
 
 /// What byte 2 of a row says.
 pub const FORWARD: i64 = 0;
 pub const CALL: i64 = 1;
 pub const PUT: i64 = 2;
+
+/// What byte 3 of a row says: "currency 0..7, 0 being the margin currency".
+pub const MARGIN_CURRENCY: i64 = 0;
 
 /// What a leg's second byte says.
 pub const SIDE_A: i64 = 1;
@@ -54,7 +59,7 @@ const fn signed(at: usize, least: i64, most: i64) -> Field {
     Field { at, bytes: 4, signed: true, least, most }
 }
 
-/// Byte 1 of every kind: a contract number.
+/// Byte 1 of kinds 1 to 5: a contract number.
 pub const NUMBER: Field = unsigned(1, 1, 0, 15);
 
 pub const SHORT_OPTION_RATE: Field = unsigned(4, 4, 0, MOST_RATE);
@@ -77,6 +82,8 @@ const DELTA: Field = signed(16, 0, MOST_DELTA);
 const PUT_DELTA: Field = signed(16, -MOST_DELTA, 0);
 pub const VALUE: Field = unsigned(20, 4, 1, 10_000);
 
+pub const CURRENCY: Field = unsigned(3, 1, MARGIN_CURRENCY, 7);
+
 pub const LEGS: Field = unsigned(2, 1, 2, 3);
 pub const SPREAD_RATE: Field = unsigned(4, 4, 0, MOST_RATE);
 
@@ -86,6 +93,12 @@ pub const FIRST_RATIO: Field = unsigned(4, 2, 1, MOST_RATIO);
 pub const SECOND_RATIO: Field = unsigned(6, 2, 1, MOST_RATIO);
 /// 2026-03: "Byte 8 of kind 5 set to 1 says that its ratios are tenths, 1..1000; 0 keeps whole ratios."
 pub const TENTHS: Field = unsigned(8, 1, 0, 1);
+
+/// "Byte 1 currency 1..7, ascending; bytes 4-7 spot rate in millionths, 1..100,000,000; byte 8 adjustment
+/// percent 0..50."
+pub const RATE_CURRENCY: Field = unsigned(1, 1, 1, 7);
+pub const SPOT_RATE: Field = unsigned(4, 4, 1, 100_000_000);
+pub const ADJUSTMENT: Field = unsigned(8, 1, 0, 50);
 
 /// "Strike 0 for a forward, 1..4,294,967,295 otherwise."
 pub fn strike(class: i64) -> Field {
@@ -168,7 +181,8 @@ impl Record<'_> {
             PROMPT => vec![NUMBER, PROMPT_TIER, DAY, RATE_IN_SPREADS, RATE_OUTRIGHT],
             ROW => {
                 let class = self.get(CLASS);
-                let mut fields = vec![NUMBER, CLASS, DAY, strike(class), LOTS, delta(class), VALUE];
+                let mut fields = vec![NUMBER, CLASS, CURRENCY, DAY, strike(class)];
+                fields.extend([LOTS, delta(class), VALUE]);
                 fields.extend((0..SCENARIOS).map(loss));
                 fields
             }
@@ -183,6 +197,7 @@ impl Record<'_> {
                 let [first, second] = entry_ratios(self.get(TENTHS));
                 vec![NUMBER, SECOND_NUMBER, PERCENT, first, second, TENTHS]
             }
+            CURRENCY_RATE => vec![RATE_CURRENCY, SPOT_RATE, ADJUSTMENT],
             _ => vec![],
         }
     }

@@ -3,20 +3,30 @@
 //! Pairs of a morning and a noon file, and runs of accounts, are made of them.
 
 mod charged;
+mod converted;
 mod damage;
+mod entered;
 mod list;
 mod pair;
 mod priced;
 mod random;
+mod rates;
+mod rows;
 mod run;
+mod screen;
 mod sound;
+mod ticket;
 mod values;
 mod write;
 
 pub use list::list;
 pub use random::Random;
+pub use rows::{parted, reordered};
 pub use run::Run;
+pub use screen::{limit, Screen};
+pub use ticket::Doing;
 
+use crate::entered::Entered;
 use crate::format::{MOST_BYTES, RECORD_BYTES};
 use crate::joined::{Cover, MOST_AMOUNT};
 use crate::units::Amount;
@@ -37,10 +47,26 @@ pub fn run(seed: u64, index: u64) -> Run {
     run::run(&mut Random::new(seed, index))
 }
 
+/// The account with this seed and index for tickets, and what is done with it.
+pub fn tickets(seed: u64, index: u64) -> (Vec<u8>, Vec<Doing>) {
+    ticket::tickets(&mut Random::new(seed, index))
+}
+
+/// The screen with this seed and index.
+pub fn screen(seed: u64, index: u64) -> Screen {
+    screen::screen(&mut Random::new(seed, index))
+}
+
+/// The entries with this seed and index.
+pub fn entries(seed: u64, index: u64) -> Vec<Entered> {
+    entered::entries(&mut Random::new(seed, index))
+}
+
 fn any(random: &mut Random) -> Vec<u8> {
     match random.below(100) {
-        0..=44 => sound::account(random).concat(),
-        45..=94 => {
+        0..=41 => sound::account(random).concat(),
+        42..=46 => converted::account(random).concat(),
+        47..=94 => {
             let records = sound::account(random);
             damaged(random, records)
         }
@@ -101,7 +127,7 @@ pub fn cover(random: &mut Random, requirement: Amount) -> Cover {
 
 /// Records whose kinds rise and whose bytes are mostly small, without regard for anything else.
 fn loose_records(random: &mut Random) -> Vec<Bytes> {
-    let mut kinds: Vec<u8> = (0..random.below(12)).map(|_| random.between(1, 5) as u8).collect();
+    let mut kinds: Vec<u8> = (0..random.below(12)).map(|_| random.between(1, 6) as u8).collect();
     kinds.sort_unstable();
     let loose = |kind| {
         let mut record = [0; RECORD_BYTES];

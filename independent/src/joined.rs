@@ -3,7 +3,8 @@
 //! request's, unless another paper is named.
 
 use crate::account::Account;
-use crate::check::check;
+use crate::check::{check, check_records};
+use crate::currency::check_rows;
 use crate::format::*;
 use crate::margin::{figures_of, total};
 use crate::refusal::*;
@@ -13,11 +14,11 @@ use crate::{held_book, held_figures, write};
 /// The file of the joined account: "these records in 01's order".
 pub fn join(morning: &[u8], noon: &[u8]) -> Result<Vec<u8>, PairRefusal> {
     // "Refusals: each file by 01's 1 to 9, morning first, saying which"
-    check(morning).map_err(|refusal| refusal.of(MORNING))?;
-    check(noon).map_err(|refusal| refusal.of(NOON))?;
+    check_records(morning).map_err(|refusal| refusal.of(MORNING))?;
+    check_records(noon).map_err(|refusal| refusal.of(NOON))?;
     let (morning, noon) = (records(morning), records(noon));
-    // "then 12, the noon file has kind 5, at its first such record"
-    if let Some(record) = noon.iter().position(|record| record.kind() == ENTRY) {
+    // "then 12, the noon file has kind 5, at its first such record"; kind 6 too, by 2026-05
+    if let Some(record) = noon.iter().position(|record| record.kind() >= ENTRY) {
         return Err(PairRefusal { file: NOON, number: NOON_ENTRY, record });
     }
     let mut joined: Vec<Record> = vec![];
@@ -29,12 +30,14 @@ pub fn join(morning: &[u8], noon: &[u8]) -> Result<Vec<u8>, PairRefusal> {
             joined.extend(supplier.iter().filter(|record| is(record, kind, contract)));
         }
     }
-    // "kind 5 always from the morning"
-    joined.extend(morning.iter().filter(|record| record.kind() == ENTRY));
+    // "kind 5 always from the morning"; 2026-05: "In a joined account kind 6 comes from the morning"
+    joined.extend(morning.iter().filter(|record| record.kind() >= ENTRY));
     // "then, naming the joined record count, 13, more than 640 records joined"
     if joined.len() > MOST_RECORDS {
         return Err(PairRefusal { file: JOINED, number: TOO_MANY_JOINED, record: joined.len() });
     }
+    // 14 and 15 "joined, between 13 and 21, naming the joined record"
+    check_rows(&joined).map_err(|refusal| refusal.of(JOINED))?;
     Ok(joined.iter().flat_map(|record| record.0).copied().collect())
 }
 

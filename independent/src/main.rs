@@ -4,9 +4,13 @@
 
 mod survey;
 mod survey_committee;
+mod survey_entered;
 mod survey_lists;
 mod survey_pairs;
 mod survey_runs;
+mod survey_screen;
+mod survey_statements;
+mod survey_tickets;
 mod tally;
 
 use independent::account::{Account, Contract};
@@ -37,6 +41,14 @@ const USAGE: &str =
                                        what the committee's figures of so many runs show
        independent survey-lists SEED COUNT
                                        what occurs in so many lists of spreads
+       independent survey-tickets SEED COUNT
+                                       what occurs in so many accounts with tickets
+       independent survey-screen SEED COUNT
+                                       what occurs in so many calls of an order screen
+       independent survey-entries SEED COUNT
+                                       what occurs in so many lists of entries for the writer
+       independent survey-statements SEED COUNT
+                                       the two statements tried on so many generated files
        independent write-pair SEED INDEX MORNING NOON
                                        writes the two files of one generated pair";
 
@@ -119,6 +131,10 @@ fn surveyed(survey: &str, seed: u64, count: u64) -> Option<io::Result<()>> {
             let tally = match survey {
                 "survey-runs" => survey_runs::survey(seed, count),
                 "survey-committee" => survey_committee::survey(seed, count),
+                "survey-tickets" => survey_tickets::survey(seed, count),
+                "survey-screen" => survey_screen::survey(seed, count),
+                "survey-entries" => survey_entered::survey(seed, count),
+                "survey-statements" => survey_statements::survey(seed, count),
                 "survey-lists" => survey_lists::survey(seed, count),
                 _ => return None,
             };

@@ -86,7 +86,8 @@ fn contract_figures(account: &Account, table: &Book, place: usize, contract: &Co
     }
 }
 
-/// "For each scenario add lots × value × loss over the contract's rows", each rounded to its unit.
+/// "For each scenario add lots × value × loss over the contract's rows", each converted and rounded to its
+/// unit.
 pub fn totals(contract: &Contract) -> [Amount; SCENARIOS] {
     let mut totals = [Amount(0); SCENARIOS];
     for row in &contract.rows {

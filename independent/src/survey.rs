@@ -1,6 +1,7 @@
 //! A survey of generated files: how often each answer occurs, how large the files are, what their
 //! figures show, and which refusals compete in one file.
 
+mod currencies;
 mod refused;
 mod roundings;
 mod sights;
@@ -79,6 +80,7 @@ impl Survey {
             Err(refusal) => {
                 *self.refusals.entry(refusal.number).or_default() += 1;
                 count(&mut self.refused, refused(file, refusal));
+                count(&mut self.refused, currencies::refused(file, refusal));
                 self.competitors(file, refusal);
                 if let Some(fault) = fault_of_legs(file, refusal) {
                     *self.legs.entry(fault).or_default() += 1;
@@ -99,8 +101,8 @@ impl Survey {
         let booked = book(file, question, &mut all[..lent]);
         for answer in [asked, booked] {
             match answer {
-                Err(refusal) if refusal.number >= TOO_FEW_LENT => {
-                    *self.refusals.entry(refusal.number).or_default() += 1;
+                Err(Refusal { number: number @ (TOO_FEW_LENT | UNLISTED_QUESTION), .. }) => {
+                    *self.refusals.entry(number).or_default() += 1;
                 }
                 _ => {}
             }
@@ -110,12 +112,12 @@ impl Survey {
         };
         let contract_unlisted = question != INTERCONTRACT && !records(file).iter().any(listed);
         match booked {
-            Err(refusal) if refusal.number < UNLISTED_QUESTION && contract_unlisted => {
-                self.compete(refusal.number, UNLISTED_QUESTION);
+            Err(refusal) if refusal.number == UNLISTED_QUESTION => {
+                if lent == 0 {
+                    self.compete(UNLISTED_QUESTION, TOO_FEW_LENT);
+                }
             }
-            Err(refusal) if refusal.number == UNLISTED_QUESTION && lent == 0 => {
-                self.compete(UNLISTED_QUESTION, TOO_FEW_LENT);
-            }
+            Err(refusal) if contract_unlisted => self.compete(refusal.number, UNLISTED_QUESTION),
             _ => {}
         }
     }
@@ -161,6 +163,7 @@ impl Survey {
         count(&mut self.sights, sights::steps(account));
         count(&mut self.sights, roundings(account));
         count(&mut self.sights, tenths(account));
+        count(&mut self.sights, currencies::currencies(account));
         count(&mut self.sights, units::units(account));
     }
 
@@ -171,6 +174,7 @@ impl Survey {
             return Ok(());
         }
         let refusals: Vec<String> = (TOO_LONG..=UNLISTED_QUESTION)
+            .chain([NO_RATE, CONVERSION_TOO_LARGE])
             .filter(|number| !self.refusals.contains_key(number))
             .map(|number| number.to_string())
             .collect();
@@ -267,7 +271,7 @@ mod tests {
 
     #[test]
     fn a_sort_of_account_that_never_occurred_is_told() {
-        let refusals = (1..=11).map(|number| (number, 1)).collect();
+        let refusals = (1..=11).chain([14, 15]).map(|number| (number, 1)).collect();
         let sights = [("a tie", 0), ("a half", 3)].into_iter().collect();
         let survey = Survey { count: 2_000, refusals, sights, ..Survey::of(1, 0) };
         let told = survey.nothing_missing().expect_err("no tie occurred").to_string();
@@ -279,12 +283,12 @@ mod tests {
         let of_nothing = |count| Survey { count, ..Survey::of(1, 0) }.nothing_missing();
         assert!(of_nothing(1_999).is_ok());
         let told = of_nothing(2_000).expect_err("nothing occurred").to_string();
-        assert_eq!(told, "refusals that never occurred: 1, 2, 3, 4, 5, 6, 7, 8, 9, 10, 11");
+        assert_eq!(told, "refusals that never occurred: 1, 2, 3, 4, 5, 6, 7, 8, 9, 10, 11, 14, 15");
     }
 
     #[test]
     fn a_fault_of_legs_that_never_occurred_is_told() {
-        let refusals = (1..=11).map(|number| (number, 1)).collect();
+        let refusals = (1..=11).chain([14, 15]).map(|number| (number, 1)).collect();
         let survey = Survey { count: 2_000, refusals, ..Survey::of(1, 0) };
         let told = survey.nothing_missing().expect_err("no fault of legs occurred").to_string();
         assert!(told.starts_with("legs never refused for: "), "{told}");

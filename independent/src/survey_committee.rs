@@ -65,7 +65,7 @@ fn see(tally: &mut Tally, files: &[&[u8]], of: &Committee) {
     );
     tally.sight("a minimum of one more", contracts().any(|contract| gap(&contract) == Amount(1)));
     tally.sight("a remainder", of.remainder > 0);
-    for number in 1..=9 {
+    for number in (1..=9).chain([14, 15]) {
         let seen = of.refusals[number - 1] > 0;
         tally.sight(&format!("an account with refusal {number}"), seen);
     }

@@ -2,14 +2,16 @@
 //! accounts come from, and on which side of its two comparisons the call falls.
 
 use crate::tally::TELLING;
+use independent::account::Contract;
 use independent::book::intercontract;
-use independent::format::{records, ENTRY, MOST_RECORDS, RECORD_BYTES};
+use independent::check::check_records;
+use independent::format::*;
 use independent::generate::{self, Random};
 use independent::joined::{self, Cover};
 use independent::margin::{figures_of, total};
 use independent::refusal::*;
 use independent::units::{Amount, Delta};
-use independent::{check, Account};
+use independent::Account;
 use std::collections::BTreeMap;
 use std::fmt;
 use std::io;
@@ -77,15 +79,19 @@ impl PairSurvey {
     }
 
     fn sources(&mut self, morning: &[u8], noon: &[u8], account: &Account) {
-        let [Ok(morning), Ok(noon)] = [morning, noon].map(check) else { return };
+        let (morning, noon) = (records(morning), records(noon));
+        let has = |records: &[Record], kind, number| {
+            records.iter().any(|record| record.kind() == kind && record.get(NUMBER) == number)
+        };
         let table = intercontract(account);
         let (mut kept, mut new, mut flat, mut used) = (false, false, false, false);
         for (contract, line) in account.contracts.iter().zip(&table.lines) {
-            match (morning.contract(contract.number), noon.contract(contract.number)) {
-                (_, None) => kept = true,
-                (None, Some(_)) => new = true,
-                (Some(before), Some(_)) => {
-                    flat |= !before.rows.is_empty() && contract.prompts.is_empty();
+            let number = contract.number;
+            match (has(&morning, CONTRACT, number), has(&noon, CONTRACT, number)) {
+                (_, false) => kept = true,
+                (false, true) => new = true,
+                (true, true) => {
+                    flat |= has(&morning, ROW, number) && contract.prompts.is_empty();
                     used |= line.used != Delta(0);
                 }
             }
@@ -95,17 +101,28 @@ impl PairSurvey {
         self.sight("a contract flat at noon", flat);
         self.sight("a contract of noon used in the morning's entries", used);
         self.sight("640 records", account.records == MOST_RECORDS);
+        let converted = |contract: &Contract| {
+            has(&noon, CONTRACT, contract.number)
+                && contract.rows.iter().any(|row| row.currency > 0)
+        };
+        self.sight("a noon row at a rate of the morning", account.contracts.iter().any(converted));
     }
 
     /// Notes what else holds for a refused pair.
     fn competitors(&mut self, morning: &[u8], noon: &[u8], first: PairRefusal) {
         let of = |file, number| (first.file, first.number) == (file, number);
-        self.sight("a noon file refused as well", first.file == MORNING && check(noon).is_err());
+        self.sight(
+            "a noon file refused as well",
+            first.file == MORNING && check_records(noon).is_err(),
+        );
         let at_entry = of(NOON, UNLISTED) && records(noon)[first.record].kind() == ENTRY;
         self.sight("a noon entry of an unlisted contract", at_entry);
+        let without = || joined::join(morning, &noon[..first.record * RECORD_BYTES]);
         let crowded = of(NOON, NOON_ENTRY)
-            && joined::join(morning, &noon[..first.record * RECORD_BYTES]).is_err();
+            && without().is_err_and(|refusal| refusal.number == TOO_MANY_JOINED);
         self.sight("a noon entry and more than 640 records", crowded);
+        let rate = of(NOON, NOON_ENTRY) && records(noon)[first.record].kind() == CURRENCY_RATE;
+        self.sight("a noon currency rate", rate);
         let joined = |records| of(JOINED, TOO_MANY_JOINED) && first.record == records;
         self.sight("641 records", joined(MOST_RECORDS + 1));
         self.sight("1,280 records", joined(2 * MOST_RECORDS));
@@ -170,7 +187,8 @@ mod tests {
         assert!(told.starts_with("refusals that never occurred: 1 of file 1, 2 of file 1, "));
         assert!(told.contains("9 of file 1, 1 of file 2, "));
         assert!(told.ends_with(
-            ", 9 of file 2, 12 of file 2, 13 of file 0, 21 of file 0, 11 of file 0, 10 of file 0"
+            ", 9 of file 2, 12 of file 2, 13 of file 0, 14 of file 0, 15 of file 0, 21 of file 0, \
+             11 of file 0, 10 of file 0"
         ));
     }
 }

@@ -14,6 +14,8 @@ pub const TOO_FEW_NUMBERS: usize = 10;
 pub const UNLISTED_QUESTION: usize = 11;
 pub const NOON_INTERCONTRACT: usize = 12;
 pub const TOO_MANY_JOINED: usize = 13;
+pub const NO_RATE: usize = 14;
+pub const CONVERSION_BEYOND: usize = 15;
 pub const LENGTHS_DIFFER: usize = 17;
 pub const OTHER_COUNTS: usize = 18;
 pub const TOO_MANY_ACCOUNTS: usize = 19;
@@ -35,10 +37,10 @@ const fn refusal(number: usize, rule: &'static str, names: &'static str) -> Refu
 }
 
 /// Every refusal, by its number.
-pub const REFUSALS: [Refusal; 17] = [
+pub const REFUSALS: [Refusal; 19] = [
     refusal(TOO_LONG, "file longer than 61,440 bytes", "0"),
     refusal(NOT_WHOLE_RECORDS, "length not a multiple of 96", "0"),
-    refusal(UNKNOWN_KIND, "kind not 1..5", THAT_ONE),
+    refusal(UNKNOWN_KIND, "kind not 1..6", THAT_ONE),
     refusal(KIND_BELOW, "kind below the kind before it", THAT_ONE),
     refusal(UNUSED_BYTE, "an unused byte is not zero", THAT_ONE),
     refusal(OUTSIDE_RANGE, "a field outside its range", THAT_ONE),
@@ -47,8 +49,10 @@ pub const REFUSALS: [Refusal; 17] = [
     refusal(OVER_LIMIT, "one record more than a per-contract or intercontract limit", THAT_ONE),
     refusal(TOO_FEW_NUMBERS, "less memory provided than the answer needs", RECORD_COUNT),
     refusal(UNLISTED_QUESTION, "question neither a listed contract nor 16", RECORD_COUNT),
-    refusal(NOON_INTERCONTRACT, "the noon file has an intercontract spread", "its first such record"),
+    refusal(NOON_INTERCONTRACT, "the noon file has an intercontract spread or a currency rate", "its first such record"),
     refusal(TOO_MANY_JOINED, "more than 640 records joined", JOINED_COUNT),
+    refusal(NO_RATE, "a row whose currency has no rate", THAT_ONE),
+    refusal(CONVERSION_BEYOND, "a row with a rounded conversion beyond 100,000,000,000,000 hundredths", THAT_ONE),
     refusal(LENGTHS_DIFFER, "the lengths of a run do not add up to what was lent", "0"),
     refusal(OTHER_COUNTS, "step count or prompt count differs from the account's", "0"),
     refusal(TOO_MANY_ACCOUNTS, "more than 100 accounts for the risk committee", "0"),

@@ -1,5 +1,6 @@
 //! The kinds of record in the text form: their names, the names of their columns in the order of the
-//! record's fields, and the words that stand for numbers. Offsets and ranges are `independent::format`'s.
+//! record's fields, a row's currency last, and the words that stand for numbers. Offsets and ranges are
+//! `independent::format`'s.
 
 use independent::format::*;
 
@@ -13,7 +14,7 @@ pub struct Kind {
     pub columns: &'static [&'static str],
 }
 
-pub const KINDS: [Kind; 5] = [
+pub const KINDS: [Kind; 6] = [
     Kind { kind: CONTRACT, name: "contract", columns: &["number", "short option rate", "unit"] },
     Kind {
         kind: PROMPT,
@@ -32,7 +33,7 @@ pub const KINDS: [Kind; 5] = [
         columns: &[
             "contract", "class", "day", "strike", "lots", "delta", "value", "loss 1", "loss 2",
             "loss 3", "loss 4", "loss 5", "loss 6", "loss 7", "loss 8", "loss 9", "loss 10",
-            "loss 11", "loss 12", "loss 13", "loss 14", "loss 15", "loss 16",
+            "loss 11", "loss 12", "loss 13", "loss 14", "loss 15", "loss 16", "currency",
         ],
     },
     Kind {
@@ -64,6 +65,11 @@ pub const KINDS: [Kind; 5] = [
             "second ratio",
             "ratios",
         ],
+    },
+    Kind {
+        kind: CURRENCY_RATE,
+        name: "currency rate",
+        columns: &["currency", "spot rate", "adjustment percent"],
     },
 ];
 
@@ -101,18 +107,19 @@ pub fn unit(column: &str) -> Option<Unit> {
         | "value"
         | "rate per spread" => ("hundredths", 2),
         "delta" => ("ten-thousandths", 4),
+        "spot rate" => ("millionths", 6),
         "lots" => ("lots", 0),
-        "credit percent" => ("percent", 0),
+        "credit percent" | "adjustment percent" => ("percent", 0),
         _ if column.starts_with("loss") => ("ticks", 0),
         _ => return None,
     };
     Some(Unit { name, places })
 }
 
-/// What a cell that is left out at the end of a line stands for, where a column may be left out: a contract whose unit is not
-/// said has hundredths.
-pub fn left_out(column: &str) -> Option<i64> {
-    (column == "unit").then_some(UNIT.least)
+/// What a cell that is left out at the end of a line stands for, where a field may be left out: a contract whose unit is not
+/// said has hundredths, and a row whose currency is not said is in the margin currency.
+pub fn left_out(field: Field) -> Option<i64> {
+    [UNIT, CURRENCY].contains(&field).then_some(field.least)
 }
 
 /// A thing with its article, as in "a row".
@@ -129,7 +136,10 @@ pub fn word(column: &str, number: i64) -> Option<&'static str> {
 /// The fields of a record with their columns; none for a kind that is not listed.
 pub fn fields(record: Record) -> Vec<(&'static str, Field)> {
     let columns = kind(record.kind()).map_or(&[][..], |kind| kind.columns);
-    columns.iter().copied().zip(record.fields()).collect()
+    let (last, mut fields): (Vec<Field>, Vec<Field>) =
+        record.fields().into_iter().partition(|field| *field == CURRENCY);
+    fields.extend(last);
+    columns.iter().copied().zip(fields).collect()
 }
 
 /// The first unused byte of a record that is not zero.
@@ -152,13 +162,16 @@ mod tests {
     use super::*;
 
     #[test]
-    fn every_field_has_a_column_and_stands_in_the_order_of_the_bytes() {
+    fn every_field_has_a_column_in_the_order_of_the_bytes_but_for_the_currency_of_a_row() {
         for kind in &KINDS {
             let mut record = [0; RECORD_BYTES];
             record[0] = kind.kind;
-            let fields = Record(&record).fields();
-            assert_eq!(fields.len(), kind.columns.len(), "{}", kind.name);
-            assert!(fields.is_sorted_by_key(|field| field.at), "{}", kind.name);
+            assert_eq!(Record(&record).fields().len(), kind.columns.len(), "{}", kind.name);
+            let mut fields = fields(Record(&record));
+            if kind.kind == ROW {
+                assert_eq!(fields.pop(), Some(("currency", CURRENCY)));
+            }
+            assert!(fields.is_sorted_by_key(|(_, field)| field.at), "{}", kind.name);
         }
     }
 

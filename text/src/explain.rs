@@ -1,6 +1,6 @@
 //! A verdict in words: the refusal with its rule, the fault, and the record that it names as text.
 
-use crate::fault::{fault, kind_in_words, of_its_own};
+use crate::fault::{self, fault, kind_in_words};
 use crate::read::read;
 use crate::wording::*;
 use felgotany::refusals::rule;
@@ -45,6 +45,5 @@ fn named(file: &[u8], verdict: Outcome) -> Option<&[u8]> {
 
 /// The records after the one that a refusal names which have a fault of their own, each with its fault.
 pub fn others(file: &[u8], verdict: Outcome) -> Vec<(usize, String)> {
-    let records = file.chunks_exact(RECORD_BYTES).enumerate().skip(verdict.record + 1);
-    records.filter_map(|(place, bytes)| Some((place, of_its_own(Record(bytes))?))).collect()
+    fault::others(verdict.refusal, file, verdict.record)
 }

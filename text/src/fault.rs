@@ -1,14 +1,16 @@
 //! What is wrong with the file or the record that a refusal names, in words: the length and the record
-//! by itself here, the record among the earlier ones in `among`.
+//! by itself here, the record among the earlier ones in `among`, a row with the rates in `converted`.
 
 mod among;
+mod converted;
 
 use crate::columns;
 use crate::wording::*;
+use independent::currency::rates;
 use independent::format::*;
 
-/// The fault for which a file is given a refusal of 1 to 9 that names this record; nothing where the
-/// file has no such fault.
+/// The fault for which a file is given a refusal of 1 to 9, 14 or 15 that names this record; nothing where
+/// the file has no such fault.
 pub fn fault(number: usize, record: usize, file: &[u8]) -> Option<String> {
     match number {
         1 => return too_long(file),
@@ -25,8 +27,22 @@ pub fn fault(number: usize, record: usize, file: &[u8]) -> Option<String> {
         7 => among::unlisted(record, earlier),
         8 => among::order_or_clash(record, earlier),
         9 => among::over_limit(record, earlier),
+        14 => converted::no_rate(record, &rates(&records)),
+        15 => converted::beyond(record, &rates(&records)),
         _ => None,
     }
+}
+
+/// The records after one that have a fault for which they would be refused like it: each by itself, or each row by its currency.
+pub fn others(number: usize, file: &[u8], after: usize) -> Vec<(usize, String)> {
+    let records = records(file);
+    let rates = rates(&records);
+    let later = records.iter().enumerate().skip(after + 1);
+    let fault = |record: Record| match number {
+        14 | 15 => converted::fault(record, &rates),
+        _ => of_its_own(record),
+    };
+    later.filter_map(|(place, record)| Some((place, fault(*record)?))).collect()
 }
 
 /// A record's kind in words.
@@ -80,7 +96,7 @@ fn unused_byte(record: Record) -> Option<String> {
 }
 
 /// The faults of a record by itself: its kind, an unused byte, a field outside its range.
-pub fn of_its_own(record: Record) -> Option<String> {
+fn of_its_own(record: Record) -> Option<String> {
     unknown_kind(record).or_else(|| unused_byte(record)).or_else(|| outside(record))
 }
 

@@ -1,15 +1,22 @@
 //! What was probably meant by a cell that cannot be read.
 
 use crate::columns::{self, KINDS};
+use independent::format::Field;
 
 /// Names of lines that people write in place of a kind's.
-const LIKE_KINDS: [(&str, &str); 5] = [
+const LIKE_KINDS: [(&str, &str); 7] = [
     ("spread", "interprompt spread"),
     ("interprompt", "interprompt spread"),
     ("entry", "intercontract spread"),
     ("intercontract", "intercontract spread"),
     ("position", "row"),
+    ("rate", "currency rate"),
+    ("currency", "currency rate"),
 ];
+
+/// A currency is often written by its letters.
+const CURRENCY_NUMBER: &str =
+    "a currency is a number: 0 is the margin currency, each other has its line 'currency rate'";
 
 /// The decimal places of a ratio in tenths.
 const TENTHS: usize = 1;
@@ -29,7 +36,7 @@ pub fn kind(cell: &str) -> Option<String> {
 }
 
 /// For a cell of a column.
-pub fn cell(column: &str, cell: &str) -> Option<String> {
+pub fn cell(column: &str, field: Field, cell: &str) -> Option<String> {
     let written = |text: &str| format!("'{text}' was probably meant");
     if cell.eq_ignore_ascii_case(column) {
         return Some("a line with the names of the columns begins with #".to_string());
@@ -41,6 +48,9 @@ pub fn cell(column: &str, cell: &str) -> Option<String> {
     if column == "day" {
         return day(cell).as_deref().map(written);
     }
+    if column == "currency" && !cell.is_empty() && cell.chars().all(char::is_alphabetic) {
+        return Some(CURRENCY_NUMBER.to_string());
+    }
     if cell.contains(['e', 'E']) && cell.parse::<f64>().is_ok() {
         return Some("a spreadsheet has shortened this number".to_string());
     }
@@ -49,7 +59,7 @@ pub fn cell(column: &str, cell: &str) -> Option<String> {
     if plain != cell && plain.parse::<i64>().is_ok() {
         return Some(format!("{}, with no mark between the digits", written(&plain)));
     }
-    if columns::left_out(column).is_some() && one_more(cell).is_some() {
+    if columns::left_out(field).is_some() && one_more(cell).is_some() {
         return one_more(cell);
     }
     let unit = columns::unit(column);

@@ -11,7 +11,7 @@ pub const LONGER: &str = "the file has more than {most} bytes, which are {most} 
 pub const NOT_WHOLE: &str = "the file has {bytes}: {records} and {bytes} more";
 pub const NO_SUCH_KIND: &str =
     "kind (byte 0) is {kind}; the kinds are 1 contract, 2 prompt, 3 row, 4 interprompt spread, \
-     5 intercontract spread";
+     5 intercontract spread, 6 currency rate";
 pub const KIND_FALLS: &str = "kind (byte 0) is {kind}; the record before is {before}, kind {kind}";
 pub const UNUSED: &str = "byte {byte} is {number}; {kind} does not use it";
 pub const OUTSIDE: &str = "{field} is {number}; its range is {range}";
@@ -29,6 +29,8 @@ pub const CONTRACT_BELOW: &str =
 pub const TIER_BELOW: &str =
     "{field} is {tier}; the prompt before in contract {contract} has tier {tier}, and none below it \
      may follow";
+pub const CURRENCY_NOT_ABOVE: &str =
+    "{field} is {currency}; the currency rate before has {currency}, and a higher currency must follow";
 pub const SAME_LEGS: &str = "legs {leg} and {leg} both have tier {tier} and side {side}";
 pub const NO_SIDE: &str = "every leg has side {side}, and none has side {side}";
 pub const WITH_ITSELF: &str = "{field} and {field} are both {contract}";
@@ -36,6 +38,12 @@ pub const OVER_CONTRACT_LIMIT: &str =
     "{field} is {contract}; that contract has {most} {kind}s before this one, which is the most";
 pub const OVER_TABLE_LIMIT: &str =
     "{most} intercontract spreads come before this one, which is the most";
+
+pub const WITHOUT_RATE: &str =
+    "{field} is {currency}; the account has no currency rate, kind 6, of that currency";
+pub const BEYOND: &str =
+    "{field} is {currency}; its {loss} of {product} in scenario {scenario} is {amount} in the margin \
+     currency, at {rate} millionths {raised} by {percent} percent; the most is {most}, in hundredths";
 
 /// What is said of the faults of a refusal; nothing of one that is not the check's.
 pub fn faults(number: usize) -> &'static [&'static str] {
@@ -52,11 +60,14 @@ pub fn faults(number: usize) -> &'static [&'static str] {
             CONTRACT_BELOW,
             DAY_NOT_ABOVE,
             TIER_BELOW,
+            CURRENCY_NOT_ABOVE,
             SAME_LEGS,
             NO_SIDE,
             WITH_ITSELF,
         ],
         OVER_LIMIT => &[OVER_CONTRACT_LIMIT, OVER_TABLE_LIMIT],
+        NO_RATE => &[WITHOUT_RATE],
+        CONVERSION_BEYOND => &[BEYOND],
         _ => &[],
     }
 }

@@ -159,7 +159,7 @@ impl Line {
         let (column, field) = columns::fields(Record(&record))[place - 1];
         let cell = self.cell(place);
         let mut fault = self.misread(column, cell, expected(&record, column, field));
-        fault.meant = meant::cell(column, cell);
+        fault.meant = meant::cell(column, field, cell);
         fault
     }
 
@@ -184,7 +184,7 @@ fn number(column: &str, field: Field, cell: &str) -> Option<i64> {
     if let Some((number, _)) = columns::words(column).iter().find(|(_, word)| *word == cell) {
         return Some(*number);
     }
-    if let Some(number) = columns::left_out(column) {
+    if let Some(number) = columns::left_out(field) {
         // three zeros are the rest of a number that had a comma
         if cell.is_empty() || cell == "000" {
             return cell.is_empty().then_some(number);

@@ -27,7 +27,7 @@ fn an_unknown_kind() {
     assert_eq!(
         after_account(3, &format!("bytes,0x00{zeros}")),
         "kind (byte 0) is 0; the kinds are 1 contract, 2 prompt, 3 row, 4 interprompt spread, \
-         5 intercontract spread"
+         5 intercontract spread, 6 currency rate"
     );
 }
 
@@ -62,6 +62,19 @@ fn the_first_field_outside_its_range() {
         (
             said(6, "contract,1,0,1001"),
             "unit (bytes 8-9) is 1001; its range is 0..1000, in hundredths",
+        ),
+        (
+            after_account(6, &format!("row,3,forward,20260318,0,0,0,1,{NO_LOSS},8")),
+            "currency (byte 3) is 8; its range is 0..7",
+        ),
+        (said(6, "currency rate,0,0,51"), "currency (byte 1) is 0; its range is 1..7"),
+        (
+            said(6, "currency rate,7,100000001,51"),
+            "spot rate (bytes 4-7) is 100000001; its range is 1..100000000, in millionths",
+        ),
+        (
+            said(6, "currency rate,7,1,51"),
+            "adjustment percent (byte 8) is 51; its range is 0..50, in percent",
         ),
         (row("7,0,0,0,0,0"), "class (byte 2) is 7; its range is 0..2 (forward, call, put)"),
         (row("forward,20260318,9,0,0,1"), "strike (bytes 8-11) is 9; its range is 0 for a forward"),
@@ -149,6 +162,48 @@ fn what_is_out_of_order() {
     assert_eq!(
         after_account(8, "interprompt spread,5,2,0,1,A,1,1,B,1\ninterprompt spread,3,2,0,2,A,1,2,B,1"),
         "contract (byte 1) is 3; the interprompt spread before has contract 5, and none below it may follow"
+    );
+}
+
+#[test]
+fn rates_rise_in_currency() {
+    assert_eq!(
+        said(8, "currency rate,3,1,0\ncurrency rate,3,2,0"),
+        "currency (byte 1) is 3; the currency rate before has 3, and a higher currency must follow"
+    );
+}
+
+/// The fault of the row after the account, for which it is refused with these rates.
+fn said_of_row(number: usize, row: &str, rates: &str) -> String {
+    let text = format!("{ACCOUNT}row,3,forward,20260318,0,{row}\n{rates}");
+    let file = write(text.as_bytes()).unwrap_or_else(|misread| panic!("{misread:?}")).file;
+    let independent = independent::check(&file).err().expect("a refused account");
+    assert_eq!((usize::from(independent.number), independent.record), (number, 4));
+    fault(number, 4, &file).expect("a fault")
+}
+
+#[test]
+fn a_currency_without_a_rate() {
+    let row = format!("1,0,1,{NO_LOSS},2");
+    assert_eq!(
+        said_of_row(14, &row, "currency rate,1,1000000,0\ncurrency rate,3,1000000,0"),
+        "currency (byte 3) is 2; the account has no currency rate, kind 6, of that currency"
+    );
+}
+
+#[test]
+fn a_conversion_beyond_its_limit() {
+    let losses = "1,-1,2,0,0,0,0,0,0,0,0,0,0,0,0,0";
+    let row = |losses: &str| format!("100000,0,10000,{losses},2");
+    assert_eq!(
+        said_of_row(15, &row(&losses.replace("2,", "100000,")), "currency rate,2,1000000,1"),
+        "currency (byte 3) is 2; its loss of 100000000000000 in scenario 3 is 101000000000000 in the margin \
+         currency, at 1000000 millionths raised by 1 percent; the most is 100000000000000, in hundredths"
+    );
+    assert_eq!(
+        said_of_row(15, &row(&losses.replace("-1,", "-100000,")), "currency rate,2,1020409,2"),
+        "currency (byte 3) is 2; its gain of 100000000000000 in scenario 2 is 100000082000000 in the margin \
+         currency, at 1020409 millionths lowered by 2 percent; the most is 100000000000000, in hundredths"
     );
 }
 

@@ -5,7 +5,7 @@ use account_text::write::write;
 
 const FORWARD_ROW: &str =
     "row,3,forward,20260318,0,2,9800,25,0,0,-4900,-4900,4900,4900,-9800,-9800,9800,9800,\
-     -14700,-14700,14700,14700,-10300,10300";
+     -14700,-14700,14700,14700,-10300,10300,0";
 
 /// What is said of the only line that cannot be written.
 fn message(text: &str) -> String {
@@ -43,6 +43,8 @@ fn every_kind_is_read_as_it_was_written() {
         "interprompt spread,3,3,700,1,A,1,2,B,2,3,A,1",
         "intercontract spread,3,4,85,48,5,whole",
         "intercontract spread,3,4,85,96,10,tenths",
+        "currency rate,1,1082500,3",
+        "currency rate,7,6514,50",
     ];
     assert_eq!(lines(&text.join("\n")), text);
 }
@@ -93,6 +95,8 @@ fn numbers_outside_their_range_are_written_as_far_as_the_bytes_hold_them() {
     assert_eq!(lines(&row), [row]);
     let spread = "interprompt spread,3,4,700,1,A,1,2,3,65535,0,0,0";
     assert_eq!(lines(spread), [spread]);
+    let rate = "currency rate,0,4294967295,255";
+    assert_eq!(lines(rate), [rate]);
 }
 
 #[test]
@@ -116,6 +120,14 @@ fn numbers_that_the_bytes_do_not_hold_are_not_written() {
             "contract,1,0,65536",
             "line 1, unit: found '65536', expected a whole number 0..1000, in hundredths",
         ),
+        (
+            "currency rate,256,1,0",
+            "line 1, currency: found '256', expected a whole number 1..7",
+        ),
+        (
+            "currency rate,1,4294967296,0",
+            "line 1, spot rate: found '4294967296', expected a whole number 1..100000000, in millionths",
+        ),
         ("contract,-1,0", "line 1, number: found '-1', expected a whole number 0..15"),
         (
             "contract,99999999999999999999,0",
@@ -126,7 +138,7 @@ fn numbers_that_the_bytes_do_not_hold_are_not_written() {
         assert_eq!(message(text), told);
     }
     assert_eq!(
-        message(&FORWARD_ROW.replace("10300", "2147483648")),
+        message(&FORWARD_ROW.replace("10300,0", "2147483648,0")),
         "line 1, loss 16: found '2147483648', expected a whole number -100000..100000, in ticks"
     );
 }
@@ -174,6 +186,12 @@ fn what_was_probably_meant_is_told() {
         (meant("contract\t1\t0"), "columns are separated by commas, and this line has tabs"),
         (meant("Contract,1,0"), "'contract' was probably meant"),
         (meant("rows,1"), "'row' was probably meant"),
+        (meant("rate,1,1082500,3"), "'currency rate' was probably meant"),
+        (meant("currency rate,1,1.0825,3"), "1.0825 is 1082500 in millionths"),
+        (
+            meant(&format!("{}EUR", FORWARD_ROW.trim_end_matches('0'))),
+            "a currency is a number: 0 is the margin currency, each other has its line 'currency rate'",
+        ),
         (meant("entry,1,2,50,1,1"), "'intercontract spread' was probably meant"),
         (meant("spread,3,2,700,1,A,1,2,B,3"), "'interprompt spread' was probably meant"),
         (
@@ -193,8 +211,9 @@ fn what_was_probably_meant_is_told() {
 
 #[test]
 fn an_unknown_word_is_not_written() {
-    let kinds = "contract, prompt, row, interprompt spread, intercontract spread or bytes";
-    assert_eq!(message("rate,3"), format!("line 1, kind: found 'rate', expected {kinds}"));
+    let kinds =
+        "contract, prompt, row, interprompt spread, intercontract spread, currency rate or bytes";
+    assert_eq!(message("leg,3"), format!("line 1, kind: found 'leg', expected {kinds}"));
     assert_eq!(message(",3"), format!("line 1, kind: found nothing, expected {kinds}"));
     assert_eq!(
         message(&FORWARD_ROW.replace("forward", "future")),
@@ -226,6 +245,18 @@ fn a_line_with_too_few_columns_is_not_written() {
 fn a_contract_whose_unit_is_left_out_has_hundredths() {
     assert_eq!(bytes(b"contract,3,500"), bytes(b"contract,3,500,0"));
     assert_ne!(bytes(b"contract,3,500"), bytes(b"contract,3,500,1"));
+}
+
+#[test]
+fn a_row_whose_currency_is_left_out_is_in_the_margin_currency() {
+    let row = FORWARD_ROW.strip_suffix(",0").expect("currency 0");
+    assert_eq!(bytes(row.as_bytes()), bytes(FORWARD_ROW.as_bytes()));
+    assert_ne!(bytes(row.as_bytes()), bytes(format!("{row},1").as_bytes()));
+    assert_eq!(bytes(format!("{row},7").as_bytes())[3], 7);
+    assert_eq!(
+        message("currency rate,,1,0"),
+        "line 1, currency: found nothing, expected a whole number 1..7"
+    );
 }
 
 #[test]

@@ -1,6 +1,8 @@
 //! The check: one walk over the records, with notes of those passed in place of looking back.
 
+use super::rates::Rates;
 use super::record::{get, losses, outside, set_from, Record};
+use independent::currency::MOST_CONVERTED;
 use independent::format::*;
 use independent::refusal::*;
 use independent::Refusal;
@@ -47,6 +49,9 @@ pub struct Notes {
     pub rows: [Part; CONTRACTS],
     pub spreads: [Part; CONTRACTS],
     pub entries: Part,
+    /// A bit for each currency that a row names.
+    currencies: u16,
+    pub rates: Rates,
 }
 
 impl Notes {
@@ -57,6 +62,11 @@ impl Notes {
     /// A bit for each contract number listed.
     pub fn listed(&self) -> u32 {
         self.listed
+    }
+
+    /// Whether some row is in another currency.
+    pub fn converts(&self) -> bool {
+        self.currencies > 1
     }
 
     /// The place of a listed contract in file order.
@@ -95,7 +105,25 @@ impl Places for [u8; MOST_RECORDS] {
 }
 
 /// The records of a file that is accepted.
+#[inline(always)]
 pub fn check<'a>(
+    file: &'a [u8],
+    notes: &mut Notes,
+    places: &mut impl Places,
+) -> Result<&'a [Record], Refusal> {
+    let records = records(file, notes, places)?;
+    if notes.converts() {
+        conversions(
+            records.iter().enumerate().filter(|(_, record)| record[0] == ROW),
+            &notes.rates,
+        )?;
+    }
+    Ok(records)
+}
+
+/// The records of a file that has none of 1 to 9.
+#[inline(always)]
+pub fn records<'a>(
     file: &'a [u8],
     notes: &mut Notes,
     places: &mut impl Places,
@@ -114,6 +142,27 @@ pub fn check<'a>(
     Ok(records)
 }
 
+/// Rows in file order: 14 for one whose currency has no rate, else 15 for one with a conversion beyond its limit.
+#[cold]
+pub fn conversions<'a>(
+    rows: impl Iterator<Item = (usize, &'a Record)>,
+    rates: &Rates,
+) -> Result<(), Refusal> {
+    for (record, row) in rows {
+        let currency = usize::from(row[CURRENCY.at]);
+        if currency != 0 {
+            let refusal = |number| Refusal { number, record };
+            let rate = rates.of(currency).ok_or(refusal(NO_RATE))?;
+            let a_tick = get(row, LOTS) * get(row, VALUE);
+            let converted = |ticks| rate.converted(a_tick * i64::from(ticks)).unsigned_abs();
+            if losses(row).into_iter().any(|ticks| converted(ticks) > MOST_CONVERTED as u64) {
+                return Err(refusal(CONVERSION_TOO_LARGE));
+            }
+        }
+    }
+    Ok(())
+}
+
 /// The last record of each kind, as far as order goes by it.
 struct Before {
     kind: u8,
@@ -124,6 +173,7 @@ struct Before {
     /// The days of the contract of the last row, and a number above every day beyond them.
     days: [i32; MOST_PROMPTS],
     spread: i64,
+    rate: i64,
 }
 
 impl Default for Before {
@@ -136,6 +186,7 @@ impl Default for Before {
             row: -1,
             days: [i32::MAX; MOST_PROMPTS],
             spread: -1,
+            rate: 0,
         }
     }
 }
@@ -164,7 +215,7 @@ impl Walk<'_, '_> {
     fn pass(&mut self, place: usize, places: &mut impl Places) -> Passed {
         let record = &self.records[place];
         let kind = record[0];
-        refuse(!(CONTRACT..=ENTRY).contains(&kind), UNKNOWN_KIND)?;
+        refuse(!(CONTRACT..=CURRENCY_RATE).contains(&kind), UNKNOWN_KIND)?;
         refuse(kind < self.before.kind, KIND_BELOW)?;
         self.before.kind = kind;
         match kind {
@@ -172,7 +223,8 @@ impl Walk<'_, '_> {
             PROMPT => self.prompt(record, place),
             ROW => self.row(record, place, places),
             SPREAD => self.spread(record, place),
-            _ => self.entry(record, place),
+            ENTRY => self.entry(record, place),
+            _ => self.rate(record),
         }
     }
 
@@ -210,7 +262,7 @@ impl Walk<'_, '_> {
 
     #[inline(always)]
     fn row(&mut self, row: &Record, place: usize, places: &mut impl Places) -> Passed {
-        refuse((row[3] != 0) | set_from::<88>(row), UNUSED_BYTE)?;
+        refuse(set_from::<88>(row), UNUSED_BYTE)?;
         refuse(row_outside(row), OUT_OF_RANGE)?;
         let contract = get(row, NUMBER);
         if contract != self.before.row {
@@ -224,6 +276,7 @@ impl Walk<'_, '_> {
         self.before.row = contract;
         self.notes.rows[contract as usize].add(place, MOST_ROWS)?;
         places.keep(place, prompt);
+        self.notes.currencies |= 1 << row[CURRENCY.at];
         Ok(())
     }
 
@@ -271,6 +324,18 @@ impl Walk<'_, '_> {
         refuse(first == second, ORDER_OR_CLASH)?;
         self.notes.entries.add(place, MOST_ENTRIES)
     }
+
+    fn rate(&mut self, rate: &Record) -> Passed {
+        refuse((rate[2] != 0) | (rate[3] != 0) | set_from::<9>(rate), UNUSED_BYTE)?;
+        let outside =
+            outside(rate, RATE_CURRENCY) | outside(rate, SPOT_RATE) | outside(rate, ADJUSTMENT);
+        refuse(outside, OUT_OF_RANGE)?;
+        let currency = get(rate, RATE_CURRENCY);
+        refuse(currency <= self.before.rate, ORDER_OR_CLASH)?;
+        self.before.rate = currency;
+        self.notes.rates.add(currency as usize, get(rate, SPOT_RATE), get(rate, ADJUSTMENT));
+        Ok(())
+    }
 }
 
 #[inline(always)]
@@ -281,6 +346,7 @@ fn row_outside(row: &Record) -> bool {
     let losses = losses(row).iter().fold(false, |any, loss| any | (*loss < least) | (*loss > most));
     outside(row, NUMBER)
         | outside(row, CLASS)
+        | outside(row, CURRENCY)
         | outside(row, DAY)
         | outside(row, strike(class))
         | outside(row, LOTS)

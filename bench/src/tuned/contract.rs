@@ -1,5 +1,6 @@
 //! A contract: what its rows come to, and what its spreads and prompts take and are charged.
 
+use super::rates::Rates;
 use super::record::{get, losses, Record};
 use super::steps::{both, pay, pool_of, Passing, Pools, POOLS, WHOLE};
 use independent::format::*;
@@ -13,6 +14,7 @@ pub struct Contract<'a> {
     pub rows: &'a [Record],
     pub places: &'a [u8],
     pub spreads: &'a [Record],
+    pub rates: &'a Rates,
 }
 
 /// Takes what the steps give for each spread and each prompt of a contract.
@@ -171,14 +173,16 @@ impl Contract<'_> {
         (totals, short_lots)
     }
 
-    /// The same where the unit is more than one hundredth: each product is rounded to it.
+    /// The same where the unit is more than one hundredth or there are rates: each product is converted, and rounded to the unit.
     fn rounded_totals(&self) -> ([i64; SCENARIOS], i64) {
-        let (mut totals, mut short_lots) = ([0; SCENARIOS], 0);
+        let (mut totals, mut short_lots, unit) = ([0; SCENARIOS], 0, self.unit());
         for row in self.rows {
             let lots = get(row, LOTS);
             let a_tick = lots * get(row, VALUE);
+            let rate = self.rates.of(usize::from(row[CURRENCY.at]));
             for (total, ticks) in totals.iter_mut().zip(losses(row)) {
-                *total += halves_away(a_tick * i64::from(ticks), self.unit());
+                let product = a_tick * i64::from(ticks);
+                *total += halves_away(rate.map_or(product, |rate| rate.converted(product)), unit);
             }
             short_lots += if get(row, CLASS) == FORWARD { 0 } else { -lots.min(0) };
         }
@@ -219,8 +223,8 @@ impl Contract<'_> {
     }
 
     pub fn risks(&self) -> Risks {
-        let (totals, short_lots) =
-            if self.unit() == 1 { self.totals() } else { self.rounded_totals() };
+        let plain = self.unit() == 1 && self.rates.none();
+        let (totals, short_lots) = if plain { self.totals() } else { self.rounded_totals() };
         let mut active = 0;
         for scenario in 1..SCENARIOS {
             active = if totals[scenario] > totals[active] { scenario } else { active };

@@ -1,13 +1,14 @@
 //! The report of an account: the figures, a regulator's two questions, each contract, and the intercontract spreads.
 
-use super::books::{self, delta, money, open_in_words, pairing, table_name};
+use super::books::{self, delta, money, money_in, open_in_words, pairing, table_name};
 use super::contract::of_contract;
 use super::document::{none, Document, Kind, Part, Table};
 use super::left::{open, Open};
 use super::subject::Subject;
 use super::working::{Differs, OfContract};
 use super::Answered;
-use crate::account::{Account, Book, Prompt};
+use crate::account::{adjusted, Account, Book, Prompt};
+use crate::numbers::{decimal, rate};
 use crate::page::FIGURES;
 use account_text::wording::counted;
 
@@ -39,6 +40,7 @@ pub fn report(subject: &Subject, answered: &Answered) -> Result<Document, Differ
     }
     document.say(PROVED);
     document.parts.push(Part::Table(figures(subject, account)));
+    rates(&mut document, subject, account);
     joined(&mut document, subject, answered);
     let contracts = account.contracts.iter().zip(&working.contracts);
     let open_of: Vec<Vec<Open>> = contracts.clone().map(|(contract, _)| open(&contract.book)).collect::<Result<_, _>>()?;
@@ -74,13 +76,29 @@ pub fn figures(subject: &Subject, account: &Account) -> Table {
     let mut table = Table::new("figures", caption, &names);
     for contract in &account.contracts {
         let [number, active, rest @ ..] = contract.figures;
-        let [scanning, interprompt, prompt, credit, minimum, margin] = rest.map(money);
+        let [scanning, interprompt, prompt, credit, minimum, margin] = rest.map(|amount| money_in(contract.unit, amount));
         let cells = [subject.contract(number), active.to_string(), scanning, interprompt, prompt, credit, minimum, margin];
         table.row(Kind::Plain, cells);
     }
     let total = money(account.total);
     table.row(Kind::Sum, ["total".to_string(), none(), none(), none(), none(), none(), none(), total]);
     table
+}
+
+/// The rate of each currency, where there are any.
+pub fn rates(document: &mut Document, subject: &Subject, account: &Account) {
+    if account.rates.is_empty() {
+        return;
+    }
+    let caption = format!("Currency rates: what 1 of the currency is in {}", subject.currency());
+    let columns = ["'currency", "spot rate", "adjustment percent", "rate for losses", "rate for gains"];
+    let mut table = Table::new("rates", caption, &columns);
+    for of in &account.rates {
+        let (spot, percent) = (decimal(of.spot.into(), 6), of.adjustment_percent.to_string());
+        let [losses, gains] = [true, false].map(|loss| rate(adjusted(of, loss)));
+        table.row(Kind::Plain, [subject.currency_of(of.currency), spot, percent, losses, gains]);
+    }
+    document.parts.push(Part::Table(table));
 }
 
 /// Which file supplied each contract, and the call.
@@ -114,9 +132,11 @@ fn answers(document: &mut Document, subject: &Subject, account: &Account, open_o
         felgotany::TABLE => "Between contracts".to_string(),
         contract => subject.heading(contract as i64),
     };
-    let charged = account.contracts.iter().map(|contract| contract.figures[3]);
-    let money = charged.chain([account.contracts.iter().map(|contract| contract.figures[5]).sum()]);
-    let paid = books.iter().zip(money).map(|((book, _), money)| format!("{}: {}.", named(book), paid_in_words(book, money)));
+    let charged = account.contracts.iter().map(|contract| money_in(contract.unit, contract.figures[3]));
+    let credited = money(account.contracts.iter().map(|contract| contract.figures[5]).sum());
+    let came = charged.chain([credited]);
+    let paid =
+        books.iter().zip(came).map(|((book, _), came)| format!("{}: {}.", named(book), paid_in_words(book, came.trim_end())));
     document.answer("Which prompt dates paid for each spread?", paid);
     let paired =
         books.iter().map(|(book, open)| format!("{}: {} {}.", named(book), pairing(book, open).short, open_in_words(open)));
@@ -125,7 +145,7 @@ fn answers(document: &mut Document, subject: &Subject, account: &Account, open_o
 }
 
 /// How many spreads were formed, how many paid, and the charges or the credits that came of it.
-fn paid_in_words(book: &Book, of_spreads: i64) -> String {
+fn paid_in_words(book: &Book, of_spreads: &str) -> String {
     let formed = book.spreads.iter().filter(|spread| spread.steps.iter().any(|step| step.formed != 0)).count();
     let paid = book.prompts.iter().filter(|prompt| prompt.used != 0).count();
     let (what, who, came) = match book.question {
@@ -137,7 +157,7 @@ fn paid_in_words(book: &Book, of_spreads: i64) -> String {
         (spreads, 0) => format!("0 of {} formed", counted(spreads, what)),
         (spreads, formed) => {
             let (spreads, who) = (counted(spreads, what), counted(paid, who));
-            format!("{formed} of {spreads} formed, paid by {who}, {} {came}", money(of_spreads))
+            format!("{formed} of {spreads} formed, paid by {who}, {of_spreads} {came}")
         }
     }
 }

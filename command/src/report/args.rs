@@ -1,6 +1,7 @@
 //! How a report and a statement are called.
 
 use clap::{Args, ValueEnum};
+use independent::format::MARGIN_CURRENCY;
 use std::path::PathBuf;
 
 #[derive(Args)]
@@ -58,9 +59,9 @@ pub struct Beside {
     /// The name of a contract, as in 1=Copper; once for each
     #[arg(long = "contract", value_name = "NUMBER=NAME", value_parser = named)]
     pub contracts: Vec<(i64, String)>,
-    /// The name of the margin currency
-    #[arg(long, value_name = "NAME", value_parser = name)]
-    pub currency: Option<String>,
+    /// The name of the margin currency, as in USD, or of another, as in 1=EUR; once for each
+    #[arg(long = "currency", value_name = "[NUMBER=]NAME", value_parser = currency)]
+    pub currencies: Vec<(i64, String)>,
 }
 
 fn name(text: &str) -> Result<String, String> {
@@ -74,4 +75,10 @@ fn named(text: &str) -> Result<(i64, String), String> {
     let (number, of_contract) = text.split_once('=').ok_or("a contract's number, =, and its name")?;
     let number = number.parse().map_err(|_| format!("'{number}' is no contract's number"))?;
     Ok((number, name(of_contract)?))
+}
+
+fn currency(text: &str) -> Result<(i64, String), String> {
+    let numbered = text.split_once('=').and_then(|(number, rest)| Some((number.parse().ok()?, rest)));
+    let (number, of_currency) = numbered.unwrap_or((MARGIN_CURRENCY, text));
+    Ok((number, name(of_currency)?))
 }

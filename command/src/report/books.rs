@@ -5,7 +5,7 @@ use super::left::{has_tenths, unlisted_pairs, Lacking, Open, Taker};
 use super::picture::{Bar, Picture, Piece};
 use super::working::OfContract;
 use crate::account::{Book, Leg, Prompt, Spread};
-use crate::numbers::{amount, decimal, grouped, lots, tenths};
+use crate::numbers::{amount, amount_in, decimal, grouped, lots, tenths};
 use felgotany::TABLE;
 use independent::format::SIDE_A;
 
@@ -16,9 +16,14 @@ pub const LEGS: &str = "A leg has a side, a tier and a ratio: A tier 1 x 2 pays 
     spread its legs A pay with long lots and its legs B with short ones, in the second the reverse; the earliest prompt date pays first. \
     The spreads are formed in the order of the file.";
 
-/// An amount as the report writes it.
+/// An amount of several contracts as the report writes it.
 pub fn money(hundredths: i64) -> String {
     grouped(&amount(hundredths))
+}
+
+/// An amount of a contract with this unit, for a column of amounts.
+pub fn money_in(unit: i64, hundredths: i64) -> String {
+    grouped(&amount_in(unit, hundredths))
 }
 
 /// Lots or spreads as the report writes them.
@@ -61,7 +66,7 @@ pub fn paid_by_prompts(book: &Book, working: &OfContract) -> Table {
     for (spread, charge) in book.spreads.iter().zip(&working.spread_charges) {
         let formed = spread.steps.iter().map(|step| step.formed).sum();
         let words = format!("spread {}: {}", spread.place, spread_in_words(book.question, spread));
-        table.row(Kind::Head, [words, none(), none(), none(), delta(formed), money(spread.rate), money(*charge)]);
+        table.row(Kind::Head, [words, none(), none(), none(), delta(formed), working.money(spread.rate), working.money(*charge)]);
         for (name, step) in DIRECTIONS.iter().zip(&spread.steps).filter(|(_, step)| step.formed != 0) {
             table.row(Kind::Plain, [name.to_string(), none(), none(), none(), delta(step.formed), none(), none()]);
             for (prompt, taken) in book.prompts.iter().zip(&step.taken).filter(|(_, taken)| **taken != 0) {
@@ -72,7 +77,7 @@ pub fn paid_by_prompts(book: &Book, working: &OfContract) -> Table {
         }
     }
     let sum = working.spread_charges.iter().sum();
-    table.row(Kind::Sum, ["interprompt charge".to_string(), none(), none(), none(), none(), none(), money(sum)]);
+    table.row(Kind::Sum, ["interprompt charge".to_string(), none(), none(), none(), none(), none(), working.money(sum)]);
     table
 }
 
@@ -80,7 +85,7 @@ pub fn paid_by_prompts(book: &Book, working: &OfContract) -> Table {
 pub fn paid_by_contracts(book: &Book, working: &[OfContract], named: &dyn Fn(i64) -> String) -> Table {
     let columns = ["'spread", "'paid by", "paid, lots", "formed, spreads", "percent", "credit"];
     let mut table = Table::new(table_name(book, "paid"), "Which contracts paid for each intercontract spread", &columns);
-    let credits = || working.iter().flat_map(|of| of.credits.iter().map(move |credit| (of.number, credit)));
+    let credits = || working.iter().flat_map(|of| of.credits.iter().map(move |credit| (of, credit)));
     for spread in &book.spreads {
         let earned = credits().filter(|(_, credit)| credit.spread == spread.place).map(|(_, credit)| credit.credit).sum();
         let formed = spread.steps.iter().map(|step| step.formed).sum();
@@ -89,8 +94,8 @@ pub fn paid_by_contracts(book: &Book, working: &[OfContract], named: &dyn Fn(i64
         for (name, step) in DIRECTIONS.iter().zip(&spread.steps).filter(|(_, step)| step.formed != 0) {
             table.row(Kind::Plain, [name.to_string(), none(), none(), delta(step.formed), none(), none()]);
             for (prompt, taken) in book.prompts.iter().zip(&step.taken).filter(|(_, taken)| **taken != 0) {
-                let of = credits().find(|(number, credit)| *number == prompt.tier && credit.spread == spread.place);
-                let earned = of.map_or(none(), |(_, credit)| money(credit.credit));
+                let of = credits().find(|(of, credit)| of.number == prompt.tier && credit.spread == spread.place);
+                let earned = of.map_or(none(), |(of, credit)| of.money(credit.credit));
                 table.row(Kind::Plain, [none(), named(prompt.tier), delta(*taken), none(), none(), earned]);
             }
         }
@@ -254,7 +259,8 @@ fn lacking_in_words(question: usize, lacking: &Lacking) -> String {
 /// How often some step took of some prompt, beside the most that a book with so many prompts and legs can cost.
 pub fn cost_table(book: &Book) -> Table {
     let columns = ["takes", "most for its prompts and legs"];
-    let mut table = Table::new(table_name(book, "touches"), "What the book costs to work out: how often a step took of a prompt", &columns);
+    let mut table =
+        Table::new(table_name(book, "touches"), "What the book costs to work out: how often a step took of a prompt", &columns);
     table.row(Kind::Plain, [book.touches.to_string(), book.most_touches().to_string()]);
     table
 }

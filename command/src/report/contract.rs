@@ -1,12 +1,12 @@
 //! The part of a report that is about one contract: its margin, who paid and what is still open, its rows, and its credit.
 
 use super::books::{self, delta, money, table_name};
-use super::document::{none, Document, Kind, Part, Table};
+use super::document::{self, none, Document, Kind, Part, Table};
 use super::left::Open;
 use super::subject::Subject;
 use super::working::{OfContract, Row};
 use crate::account::{Book, Contract, Prompt};
-use crate::numbers::{decimal, grouped};
+use crate::numbers::{decimal, grouped, rate};
 use account_text::columns::word;
 use account_text::wording::counted;
 use independent::format::{CALL, FORWARD, PUT};
@@ -18,7 +18,7 @@ pub fn of_contract(document: &mut Document, subject: &Subject, contract: &Contra
     document.parts.push(Part::Table(margin(contract, working)));
     who_paid(document, book, working, open);
     document.heading(3, "Rows and scanning risk");
-    rows(document, book, working);
+    rows(document, subject, book, working);
     document.parts.push(Part::Table(totals(book, working)));
     document.heading(3, "Price risk and credit");
     document.say(price_risk(working));
@@ -53,10 +53,11 @@ pub fn margin(contract: &Contract, working: &OfContract) -> Table {
     let name = table_name(&contract.book, "margin");
     let mut table = Table::new(name, "Margin", &["'figure", "amount", "'how it comes about"]);
     let scanned = match largest < 0 {
-        true => format!("the largest of the sixteen totals is below 0, {}: no scanning risk", money(largest)),
+        true => format!("the largest of the sixteen totals is below 0, {}: no scanning risk", working.said(largest)),
         false => format!("the largest of the sixteen totals, of scenario {}, the active one", working.active),
     };
-    let mut line = |kind: Kind, figure: &str, amount: i64, how: String| table.row(kind, [figure.to_string(), money(amount), how]);
+    let mut line =
+        |kind: Kind, figure: &str, amount: i64, how: String| table.row(kind, [figure.to_string(), working.money(amount), how]);
     line(Kind::Plain, "scanning risk", scanning, scanned);
     let spreads = counted(contract.book.spreads.len(), "interprompt spread");
     line(Kind::Plain, "interprompt charge", interprompt, format!("the charges of {spreads}"));
@@ -66,12 +67,12 @@ pub fn margin(contract: &Contract, working: &OfContract) -> Table {
     line(Kind::Plain, "credit", -credit, format!("the credits from {credits}, taken off"));
     let sum = scanning + interprompt + prompt - credit;
     let floored = match sum < 0 {
-        true => format!("these four added up are {}: not below 0", money(sum)),
+        true => format!("these four added up are {}: not below 0", working.said(sum)),
         false => "these four added up".to_string(),
     };
     line(Kind::Sum, "risk", working.risk, floored);
     let lots = grouped(&working.short_lots.to_string());
-    let short = format!("{lots} short lots of calls and puts x {}", money(working.short_option_rate));
+    let short = format!("{lots} short lots of calls and puts x {}", working.said(working.short_option_rate));
     line(Kind::Plain, "short option minimum", minimum, short);
     let larger = if minimum > working.risk {
         "the minimum, which is larger than the risk"
@@ -88,31 +89,47 @@ pub fn classes(rows: &[Row]) -> String {
     format!("{}, {}, {}", of(FORWARD, "forward"), of(CALL, "call"), of(PUT, "put"))
 }
 
-fn rows(document: &mut Document, book: &Book, working: &OfContract) {
+/// The columns of rows, and those that stand before the amount where a row is in another currency than the margin's.
+const ROWS: [&str; 9] =
+    ["row", "'class", "prompt date", "strike", "lots", "delta", "lots x delta", "value of a tick", "loss in ticks"];
+const CONVERTED: [&str; 3] = ["'currency", "in its currency", "rate"];
+
+fn rows(document: &mut Document, subject: &Subject, book: &Book, working: &OfContract) {
     let OfContract { rows, active, .. } = working;
     if rows.is_empty() {
         return document.say("0 of 0 rows counted: this contract has no rows.");
     }
     let count = rows.len();
+    let convert = rows.iter().any(|row| row.rate.is_some());
+    let (converted, of_currency) = if convert { (", converted at its currency's rate", &CONVERTED[..]) } else { ("", &[][..]) };
     let caption = format!(
-        "{count} of {count} rows counted ({}), with what each loses in scenario {active}: lots x value x loss",
+        "{count} of {count} rows counted ({}), with what each loses in scenario {active}: lots x value x loss{converted}",
         classes(rows)
     );
-    let columns =
-        ["row", "'class", "prompt date", "strike", "lots", "delta", "lots x delta", "value of a tick", "loss in ticks", "amount"];
+    let columns = [&ROWS[..], of_currency, &["amount"]].concat();
     let mut table = Table::new(table_name(book, "rows"), caption, &columns);
     for row in rows {
         let class = word("class", row.class).unwrap_or_default().to_string();
         let strike = if row.class == FORWARD { "-".to_string() } else { row.strike.to_string() };
         let per_lot = decimal(row.delta.into(), 4);
         let (lots, loss) = (grouped(&row.lots.to_string()), grouped(&row.loss.to_string()));
-        let (net, value, amount) = (delta(row.net()), money(row.value), money(row.amount));
+        let (net, amount) = (delta(row.net()), working.money(row.amount));
+        let value = if row.rate.is_some() { money(row.value) } else { working.money(row.value) };
         let (place, day) = (row.place.to_string(), row.day.to_string());
-        table.row(Kind::Plain, [place, class, day, strike, lots, per_lot, net, value, loss, amount]);
+        let mut cells = vec![place, class, day, strike, lots, per_lot, net, value, loss];
+        if convert {
+            let at = row.rate.map_or("-".to_string(), rate);
+            cells.extend([subject.currency_of(row.currency), money(row.own), at]);
+        }
+        cells.push(amount);
+        table.rows.push(document::Row { kind: Kind::Plain, cells });
     }
     let net = delta(rows.iter().map(Row::net).sum());
-    let total = money(rows.iter().map(|row| row.amount).sum());
-    table.row(Kind::Sum, [none(), "total".to_string(), none(), none(), none(), none(), net, none(), none(), total]);
+    let total = working.money(rows.iter().map(|row| row.amount).sum());
+    let mut cells = vec![none(), "total".to_string(), none(), none(), none(), none(), net];
+    cells.resize(columns.len() - 1, none());
+    cells.push(total);
+    table.rows.push(document::Row { kind: Kind::Sum, cells });
     document.parts.push(Part::Table(table));
 }
 
@@ -128,28 +145,30 @@ fn totals(book: &Book, working: &OfContract) -> Table {
             what.push(format!("paired with scenario {}", working.active));
         }
         let kind = if scenario == working.active { Kind::Marked } else { Kind::Plain };
-        table.row(kind, [scenario.to_string(), money(total), what.join("; ")]);
+        table.row(kind, [scenario.to_string(), working.money(total), what.join("; ")]);
     }
     table
 }
 
 /// Half of a number of hundredths, halves kept.
-fn half(twice: i64) -> String {
-    let (places, number) = if twice % 2 == 0 { (2, i128::from(twice) / 2) } else { (3, i128::from(twice) * 5) };
-    grouped(&decimal(number, places))
+fn half(working: &OfContract, twice: i64) -> String {
+    match twice % 2 {
+        0 => working.said(twice / 2),
+        _ => grouped(&decimal(i128::from(twice) * 5, 3)),
+    }
 }
 
 fn price_risk(working: &OfContract) -> String {
     let OfContract { totals, active, paired, twice_price_risk, .. } = working;
     let twice = totals[active - 1] + totals[paired - 1] - totals[0] - totals[1];
-    let below = if twice < 0 { format!("{}, which is below 0 and counts as ", half(twice)) } else { none() };
+    let below = if twice < 0 { format!("{}, which is below 0 and counts as ", half(working, twice)) } else { none() };
     format!(
         "Price risk: (active total {active} + its pair {paired}) / 2 - (total 1 + total 2) / 2 = ({} + {}) / 2 - ({} + {}) / 2 = {below}{}.",
-        money(totals[active - 1]),
-        money(totals[paired - 1]),
-        money(totals[0]),
-        money(totals[1]),
-        half(*twice_price_risk)
+        working.said(totals[active - 1]),
+        working.said(totals[paired - 1]),
+        working.said(totals[0]),
+        working.said(totals[1]),
+        half(working, *twice_price_risk)
     )
 }
 
@@ -160,7 +179,7 @@ fn credits(document: &mut Document, subject: &Subject, book: &Book, working: &Of
     document.say(match working.unit_price_risk {
         Some(unit) => format!(
             "Unit price risk: price risk / net delta = {} / {} = {} a lot, with four places. A credit is that x used x percent / 100.",
-            half(working.twice_price_risk),
+            half(working, working.twice_price_risk),
             delta(working.net.abs()),
             grouped(&decimal(unit, 4))
         ),
@@ -170,10 +189,11 @@ fn credits(document: &mut Document, subject: &Subject, book: &Book, working: &Of
     let mut table = Table::new(table_name(book, "credits"), "Credit from each intercontract spread", &columns);
     for credit in &working.credits {
         let (spread, percent) = (credit.spread.to_string(), credit.percent.to_string());
-        table.row(Kind::Plain, [spread, subject.contract(credit.with), delta(credit.used), percent, money(credit.credit)]);
+        table
+            .row(Kind::Plain, [spread, subject.contract(credit.with), delta(credit.used), percent, working.money(credit.credit)]);
     }
     let sum = working.credits.iter().map(|credit| credit.credit).sum();
-    table.row(Kind::Sum, [none(), "credit".to_string(), none(), none(), money(sum)]);
+    table.row(Kind::Sum, [none(), "credit".to_string(), none(), none(), working.money(sum)]);
     document.parts.push(Part::Table(table));
 }
 
@@ -185,14 +205,16 @@ pub fn prompts(book: &Book, working: &OfContract) -> Table {
     for (prompt, of) in book.prompts.iter().zip(&working.prompt_charges) {
         let Prompt { day, tier, net, used, unused, .. } = *prompt;
         let [net, used, unused] = [net, used, unused].map(delta);
-        let rates = [of.rate_in_spreads, of.rate_outright].map(money);
-        let [in_spreads, outright] = rates;
-        table.row(Kind::Plain, [day.to_string(), tier.to_string(), net, used, unused, in_spreads, outright, money(of.charge)]);
+        let [in_spreads, outright] = [of.rate_in_spreads, of.rate_outright].map(|rate| working.money(rate));
+        table.row(
+            Kind::Plain,
+            [day.to_string(), tier.to_string(), net, used, unused, in_spreads, outright, working.money(of.charge)],
+        );
     }
     let sum = |of: &dyn Fn(&Prompt) -> i64| delta(book.prompts.iter().map(of).sum());
     let sums = [sum(&|prompt| prompt.net), sum(&|prompt| prompt.used), sum(&|prompt| prompt.unused)];
     let [net, used, unused] = sums;
-    let charge = money(working.prompt_charges.iter().map(|of| of.charge).sum());
+    let charge = working.money(working.prompt_charges.iter().map(|of| of.charge).sum());
     table.row(Kind::Sum, ["prompt charge".to_string(), none(), net, used, unused, none(), none(), charge]);
     table
 }

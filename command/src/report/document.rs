@@ -1,6 +1,7 @@
 //! A report as a list of parts, of which the text and the page are both made, so that they say the same.
 
 use super::picture::Picture;
+use crate::numbers::PLACES;
 
 pub struct Document {
     pub title: String,
@@ -79,6 +80,20 @@ impl Table {
 
     pub fn row<const CELLS: usize>(&mut self, kind: Kind, cells: [String; CELLS]) {
         self.rows.push(Row { kind, cells: cells.to_vec() });
+    }
+
+    /// The rows with their cells. Nothing is left free after whole amounts in a column where no amount has places.
+    pub fn cells(&self) -> Vec<(Kind, Vec<&str>)> {
+        let column = |at: usize| self.rows.iter().map(move |row| row.cells[at].as_str());
+        let whole = |at: usize| column(at).all(|cell| cell.is_empty() || cell.ends_with(PLACES));
+        let whole: Vec<bool> = (0..self.columns.len()).map(whole).collect();
+        self.rows
+            .iter()
+            .map(|row| {
+                let cells = row.cells.iter().zip(&whole);
+                (row.kind, cells.map(|(cell, whole)| if *whole { cell.trim_end() } else { cell.as_str() }).collect())
+            })
+            .collect()
     }
 }
 

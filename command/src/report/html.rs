@@ -1,6 +1,7 @@
 //! A report as one page in HTML, with all that it needs in itself, for a screen and for paper.
 
-use super::document::{Document, Kind, Part, Row, Table};
+use super::document::{Document, Kind, Part, Table};
+use crate::numbers::PLACES;
 
 const STYLE: &str = include_str!("style.css");
 
@@ -50,21 +51,25 @@ fn of_table(table: &Table) -> String {
     let Table { name, caption, columns, rows } = table;
     let class = |at: usize| if columns[at].words { " class=\"words\"" } else { "" };
     let cells = |tag: &str, cells: &mut dyn Iterator<Item = &str>| -> String {
-        cells.enumerate().map(|(at, cell)| format!("<{tag}{}>{}</{tag}>", class(at), escaped(cell))).collect()
+        let cell = |(at, cell): (usize, &str)| match cell.strip_suffix(PLACES) {
+            Some(whole) => format!("<{tag} class=\"whole\">{}</{tag}>", escaped(whole)),
+            None => format!("<{tag}{}>{}</{tag}>", class(at), escaped(cell)),
+        };
+        cells.enumerate().map(cell).collect()
     };
     let names = cells("th", &mut columns.iter().map(|column| column.name));
     let short = if rows.len() <= SHORT { " short" } else { "" };
     let mut html = format!("<div class=\"scroll\">\n<table id=\"{name}\" class=\"{}{short}\">\n", size(table));
     html += &format!("<caption>{}</caption>\n", escaped(caption));
     html += &format!("<thead>\n<tr>{names}</tr>\n</thead>\n<tbody>\n");
-    for Row { kind, cells: of_row } in rows {
+    for (kind, of_row) in table.cells() {
         let kind = match kind {
             Kind::Plain => "",
             Kind::Head => " class=\"head\"",
             Kind::Marked => " class=\"marked\"",
             Kind::Sum => " class=\"sum\"",
         };
-        html += &format!("<tr{kind}>{}</tr>\n", cells("td", &mut of_row.iter().map(String::as_str)));
+        html += &format!("<tr{kind}>{}</tr>\n", cells("td", &mut of_row.into_iter()));
     }
     html + "</tbody>\n</table>\n</div>\n"
 }

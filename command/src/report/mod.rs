@@ -22,7 +22,7 @@ use crate::output;
 use args::{Beside, Refusal, Report, Statement};
 use document::Document;
 use felgotany::Pair;
-use independent::format::{records, Record};
+use independent::format::{records, Record, MARGIN_CURRENCY};
 use std::path::Path;
 use subject::Subject;
 use working::{Differs, Working};
@@ -130,6 +130,11 @@ impl Files {
         let numbers = || account.contracts.iter().map(|contract| contract.figures[0]);
         if let Some((number, _)) = beside.contracts.iter().find(|(named, _)| numbers().all(|number| number != *named)) {
             return Err(Failure::called_wrongly(format!("--contract {number}: the account has no contract {number}")));
+        }
+        let has_rate = |number: i64| account.rates.iter().any(|rate| rate.currency == number);
+        let named = beside.currencies.iter().map(|(named, _)| *named);
+        if let Some(number) = named.filter(|named| *named != MARGIN_CURRENCY).find(|named| !has_rate(*named)) {
+            return Err(Failure::called_wrongly(format!("--currency {number}: the account has no rate of currency {number}")));
         }
         let working = Working::of(&self.records(), &account).map_err(|differs| not_printed(&self.subject(beside), differs))?;
         let suppliers = self.pair().map(|pair| numbers().map(|number| noon::supplier(pair, number)).collect());

@@ -1,6 +1,6 @@
 //! A client's statement: the report in short, without the rows and the working.
 
-use super::account::{figures, joined};
+use super::account::{figures, joined, rates};
 use super::contract::{classes, margin, prompts};
 use super::document::{Document, Part};
 use super::subject::Subject;
@@ -12,6 +12,7 @@ pub fn of(subject: &Subject, answered: &Answered, contact: &str) -> Document {
     subject.opening(&mut document, answered);
     if account.records > 0 {
         document.parts.push(Part::Table(figures(subject, account)));
+        rates(&mut document, subject, account);
         joined(&mut document, subject, answered);
     }
     for (contract, working) in account.contracts.iter().zip(&working.contracts) {

@@ -4,6 +4,7 @@ use super::args::Beside;
 use super::document::Document;
 use super::Answered;
 use account_text::wording::counted;
+use independent::format::MARGIN_CURRENCY;
 
 pub struct Subject<'a> {
     pub beside: &'a Beside,
@@ -30,8 +31,18 @@ impl Subject<'_> {
         self.contract(number).replacen('c', "C", 1)
     }
 
+    /// The name of the margin currency.
     pub fn currency(&self) -> String {
-        self.beside.currency.clone().unwrap_or("the margin currency".to_string())
+        self.currency_named(MARGIN_CURRENCY).unwrap_or("the margin currency".to_string())
+    }
+
+    /// A currency by its name, or by its number where no name is given.
+    pub fn currency_of(&self, number: i64) -> String {
+        self.currency_named(number).unwrap_or(number.to_string())
+    }
+
+    fn currency_named(&self, number: i64) -> Option<String> {
+        self.beside.currencies.iter().rfind(|(of, _)| *of == number).map(|(_, name)| name.clone())
     }
 
     /// Where the account comes from, how much there is of it, and the units.

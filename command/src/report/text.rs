@@ -1,6 +1,6 @@
 //! A report as text.
 
-use super::document::{Column, Document, Kind, Part, Row, Table};
+use super::document::{Column, Document, Kind, Part, Table};
 
 /// How wide a line of words is.
 const WIDTH: usize = 100;
@@ -44,9 +44,11 @@ fn folded(words: &str, indent: &str) -> String {
 
 /// Columns as wide as their widest cell, numbers at the right; a line over each sum.
 fn of_table(table: &Table) -> String {
-    let Table { caption, columns, rows, .. } = table;
-    let widest =
-        |at: usize, column: &Column| rows.iter().map(|row| width(&row.cells[at])).chain([width(column.name)]).max().unwrap_or(0);
+    let Table { caption, columns, .. } = table;
+    let rows = table.cells();
+    let widest = |at: usize, column: &Column| {
+        rows.iter().map(|(_, cells)| width(cells[at])).chain([width(column.name)]).max().unwrap_or(0)
+    };
     let widths: Vec<usize> = columns.iter().enumerate().map(|(at, column)| widest(at, column)).collect();
     let line = |cells: &mut dyn Iterator<Item = &str>| {
         let mut line = String::new();
@@ -59,12 +61,12 @@ fn of_table(table: &Table) -> String {
         line.trim_end().to_string() + "\n"
     };
     let mut text = format!("{caption}\n\n{}", line(&mut columns.iter().map(|column| column.name)));
-    for Row { kind, cells } in rows {
+    for (kind, cells) in &rows {
         if *kind == Kind::Sum {
             let rules: Vec<String> = widths.iter().map(|width| "-".repeat(*width)).collect();
             text += &line(&mut rules.iter().map(String::as_str));
         }
-        text += &line(&mut cells.iter().map(String::as_str));
+        text += &line(&mut cells.iter().copied());
     }
     text
 }

@@ -1,7 +1,9 @@
 //! The working behind the figures. The figures, the delta books and who paid are the proved library's; the sixteen totals, the
 //! price risk and the single charges and credits are worked out here from the same records, and must add up to what is proved.
 
-use crate::account::{of_kind, records_of, Account, Book, Contract, Leg, Prompt};
+use super::books::money_in;
+use crate::account::{adjusted, of_kind, records_of, Account, Book, Contract, Leg, Prompt};
+use independent::currency::Rate;
 use independent::format::*;
 
 /// "Paired scenarios (000), for 1 to 16."
@@ -26,6 +28,8 @@ pub struct Working {
 
 pub struct OfContract {
     pub number: i64,
+    /// In hundredths.
+    pub unit: i64,
     pub rows: Vec<Row>,
     pub totals: [i64; SCENARIOS],
     pub active: usize,
@@ -55,6 +59,11 @@ pub struct Row {
     pub delta: i64,
     pub value: i64,
     pub loss: i64,
+    pub currency: i64,
+    /// In its own currency.
+    pub own: i64,
+    /// What it is converted at, in hundred-millionths; none in the margin currency.
+    pub rate: Option<i64>,
     pub amount: i64,
 }
 
@@ -79,11 +88,33 @@ pub struct Credit {
     pub credit: i64,
 }
 
-/// A row's loss in a scenario in money, the only place where it is worked out: "lots × value × loss", rounded to the contract's unit,
-/// "halves away from zero".
-fn product(row: Record, scenario: usize, unit: i64) -> i64 {
-    let product = row.get(LOTS) * row.get(VALUE) * row.get(loss(scenario));
-    product.signum() * rounded(product.abs().into(), 1, unit)
+/// How the products of a contract's rows become amounts: by the account's rates and the contract's unit.
+struct Money<'a> {
+    rates: &'a [Rate],
+    unit: i64,
+}
+
+impl Money<'_> {
+    /// A row's loss in a scenario in its own currency: "lots × value × loss".
+    fn own(&self, row: Record, scenario: usize) -> i64 {
+        row.get(LOTS) * row.get(VALUE) * row.get(loss(scenario))
+    }
+
+    /// What a row's loss or gain is converted at: "currency 0 is not converted".
+    fn rate(&self, row: Record, own: i64) -> Option<i64> {
+        let of = self.rates.iter().find(|rate| rate.currency == row.get(CURRENCY));
+        of.filter(|_| row.get(CURRENCY) != MARGIN_CURRENCY).map(|rate| adjusted(rate, own > 0))
+    }
+
+    /// A row's loss in a scenario as it counts: converted, "rounded to a hundredth, halves away from zero", then to the unit likewise.
+    fn product(&self, row: Record, scenario: usize) -> i64 {
+        let own = self.own(row, scenario);
+        let hundredths = match self.rate(row, own) {
+            Some(rate) => halves_up(i128::from(own.abs()) * i128::from(rate), 100_000_000),
+            None => own.abs().into(),
+        };
+        own.signum() * rounded(hundredths, 1, self.unit)
+    }
 }
 
 /// A charge or a credit, from its exact value in one rounding to the contract's unit, "halves up".
@@ -106,11 +137,8 @@ fn equal(what: impl FnOnce() -> String, worked_out: impl Into<i128>, proved: imp
 
 impl Working {
     pub fn of(records: &[Record], account: &Account) -> Result<Working, Differs> {
-        let contracts: Vec<OfContract> = account
-            .contracts
-            .iter()
-            .map(|contract| OfContract::of(records, contract, account.table.as_ref()))
-            .collect::<Result<_, _>>()?;
+        let contracts: Vec<OfContract> =
+            account.contracts.iter().map(|contract| OfContract::of(records, contract, account)).collect::<Result<_, _>>()?;
         let rows: usize = contracts.iter().map(|contract| contract.rows.len()).sum();
         equal(|| "rows counted".to_string(), rows as i128, of_kind(records, ROW).count() as i128)?;
         let margins: i128 = account.contracts.iter().map(|contract| i128::from(contract.figures[7])).sum();
@@ -121,21 +149,24 @@ impl Working {
 }
 
 impl OfContract {
-    fn of(records: &[Record], contract: &Contract, table: Option<&Book>) -> Result<OfContract, Differs> {
+    fn of(records: &[Record], contract: &Contract, account: &Account) -> Result<OfContract, Differs> {
+        let table = account.table.as_ref();
         let number = contract.figures[0];
         let of = |kind: u8| records_of(records, kind, number as usize);
         let row_records = of(ROW);
         let unit = contract.unit;
-        let totals = totals(&row_records, unit);
+        let money = Money { rates: &account.rates, unit };
+        let totals = totals(&row_records, &money);
         let active = active_scenario(&totals);
         let paired = PAIRED[active - 1];
         let twice_price_risk = (totals[active - 1] + totals[paired - 1] - totals[0] - totals[1]).max(0);
         let net: i64 = contract.book.prompts.iter().map(|prompt| prompt.net).sum();
         let unit_price_risk = unit_price_risk(twice_price_risk, net);
-        let rows = (1..).zip(&row_records).map(|(place, record)| row(place, *record, active, unit)).collect();
+        let rows = (1..).zip(&row_records).map(|(place, record)| row(place, *record, active, &money)).collect();
         let short_option_rate = of(CONTRACT).first().map_or(0, |record| record.get(SHORT_OPTION_RATE));
         let mut working = OfContract {
             number,
+            unit,
             rows,
             totals,
             active,
@@ -155,6 +186,16 @@ impl OfContract {
         working.risk = (scanning + interprompt + prompt - credit).max(0);
         working.adds_up(contract, table)?;
         Ok(working)
+    }
+
+    /// An amount of this contract, for a column of amounts.
+    pub fn money(&self, hundredths: i64) -> String {
+        money_in(self.unit, hundredths)
+    }
+
+    /// The same in a sentence.
+    pub fn said(&self, hundredths: i64) -> String {
+        self.money(hundredths).trim_end().to_string()
     }
 
     /// What is worked out against what is proved.
@@ -187,8 +228,8 @@ fn sum(numbers: impl Iterator<Item = i64>) -> i128 {
 }
 
 /// "For each scenario add lots × value × loss over the contract's rows."
-fn totals(rows: &[Record], unit: i64) -> [i64; SCENARIOS] {
-    std::array::from_fn(|scenario| rows.iter().map(|row| product(*row, scenario, unit)).sum())
+fn totals(rows: &[Record], money: &Money) -> [i64; SCENARIOS] {
+    std::array::from_fn(|scenario| rows.iter().map(|row| money.product(*row, scenario)).sum())
 }
 
 /// "The active scenario is the lowest number holding the largest total, even a negative one."
@@ -197,8 +238,9 @@ fn active_scenario(totals: &[i64; SCENARIOS]) -> usize {
     1 + totals.iter().position(|total| *total == largest).unwrap_or_default()
 }
 
-fn row(place: usize, record: Record, active: usize, unit: i64) -> Row {
+fn row(place: usize, record: Record, active: usize, money: &Money) -> Row {
     let class = record.get(CLASS);
+    let own = money.own(record, active - 1);
     Row {
         place,
         class,
@@ -208,7 +250,10 @@ fn row(place: usize, record: Record, active: usize, unit: i64) -> Row {
         delta: record.get(delta(class)),
         value: record.get(VALUE),
         loss: record.get(loss(active - 1)),
-        amount: product(record, active - 1, unit),
+        currency: record.get(CURRENCY),
+        own,
+        rate: money.rate(record, own),
+        amount: money.product(record, active - 1),
     }
 }
 
@@ -281,11 +326,12 @@ mod tests {
     use super::*;
     use crate::report::left;
 
-    const FILES: [&[u8]; 4] = [
+    const FILES: [&[u8]; 5] = [
         include_bytes!("../../../examples/copper-aluminium.account"),
         include_bytes!("../../../examples/case-three.account"),
         include_bytes!("../../../examples/aex-fef.account"),
         include_bytes!("../../../examples/yen.account"),
+        include_bytes!("../../../examples/four-currencies.account"),
     ];
 
     fn account(file: &[u8]) -> Account {
@@ -330,6 +376,31 @@ mod tests {
         for (at, other) in others.iter().enumerate() {
             assert!(differs(FILES[0], other).is_some(), "{at}");
         }
+    }
+
+    #[test]
+    fn another_rate_or_another_currency_is_told() {
+        let other_rate = |account: &mut Account| account.rates[0].spot += 1;
+        let other_percent = |account: &mut Account| account.rates[2].adjustment_percent = 0;
+        assert!(differs(FILES[4], other_rate).is_some() && differs(FILES[4], other_percent).is_some());
+        let mut other_currency = FILES[4].to_vec();
+        other_currency[(1 + 8 + 9) * RECORD_BYTES + CURRENCY.at] = 2;
+        assert!(Working::of(&records(&other_currency), &account(FILES[4])).is_err());
+    }
+
+    #[test]
+    fn a_loss_is_converted_at_the_raised_rate_and_a_gain_at_the_lowered_one() {
+        let rates = [Rate { currency: 1, spot: 1_500_000, adjustment_percent: 10 }];
+        let row = |lots: i32| {
+            let mut row = [0; RECORD_BYTES];
+            (row[0], row[CURRENCY.at], row[VALUE.at]) = (ROW, 1, 1);
+            row[LOTS.at..][..4].copy_from_slice(&lots.to_le_bytes());
+            row[loss(0).at..][..4].copy_from_slice(&1_000_i32.to_le_bytes());
+            row
+        };
+        let converted = |lots, unit| Money { rates: &rates, unit }.product(Record(&row(lots)), 0);
+        assert_eq!([converted(1, 1), converted(-1, 1)], [1_650, -1_350]);
+        assert_eq!([converted(1, 100), converted(-1, 100)], [1_700, -1_400]);
     }
 
     #[test]

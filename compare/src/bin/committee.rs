@@ -90,7 +90,7 @@ impl Seen {
         let equal = |contract: &&Figures| contract.short_option_minimum > Amount(0) && gap(contract) == Amount(0);
         self.sight("a minimum equal to the risk", contracts().any(|contract| equal(&contract)));
         self.sight("a minimum one below the risk", contracts().any(|contract| gap(contract) == Amount(-1)));
-        for number in 1..=9 {
+        for number in (1..=9).chain([14, 15]) {
             self.sight(format!("an account with refusal {number}"), of.refusals[number - 1] > 0);
         }
     }

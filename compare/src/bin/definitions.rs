@@ -32,7 +32,7 @@ use lib.IntN.{ℤ, pos, negsuc}
 use lib.ListN.{replicate}
 use Rattle.record.specs.Ranges.{unusedByte, fieldOutside}
 use Rattle.account.specs.Answers.{numberOf, recordOf}
-use Rattle.account.specs.Check.{checked}
+use Rattle.account.specs.Checked.{checked}
 use Rattle.account.specs.Noon.{joinedVerdict, promptPlace}
 use Rattle.account.specs.Records.{records}
 use Rattle.account.specs.Standing.{accountOf}

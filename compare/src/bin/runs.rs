@@ -61,7 +61,7 @@ impl Tally {
     fn nothing_missing(&self) -> bool {
         let of_runs = [0, usize::from(LENGTHS_DIFFER), usize::from(TOO_FEW_LENT)];
         let mut missing: Vec<usize> = of_runs.into_iter().filter(|number| !self.runs.contains_key(number)).collect();
-        missing.extend((0..=9).filter(|number| !self.accounts.contains_key(number)));
+        missing.extend((0..=9).chain([14, 15]).filter(|number| !self.accounts.contains_key(number)));
         if !missing.is_empty() {
             println!("never occurred: {missing:?}");
         }

@@ -1,7 +1,8 @@
 //! sweep: files with one fault each, or none, put to the proved library and to the independent program. Each must say of each
 //! file what the paper says: an unused byte that is not zero is refusal 5, a field one past an end of its range is refusal 6, and
-//! at the ends of the range the file is accepted; legs that clash are refusal 8. The bytes and the ranges below are written out
-//! from the paper's tables of the account file, by hand, and taken from nothing that is tested.
+//! at the ends of the range the file is accepted; legs that clash are refusal 8; a row without a rate is refusal 14, a conversion
+//! beyond its limit 15. The bytes and the ranges below are written out from the paper's tables of the account file, by hand, and
+//! taken from nothing that is tested.
 //!
 //! sweep write FOLDER: the records with these faults, and with none, each as FOLDER/sweep-NUMBER.record; an unused byte once.
 
@@ -65,12 +66,13 @@ fn prompts() -> Sort {
 }
 
 /// "1: contract; 2: 0 forward, 1 call, 2 put; 4-7: day; 8-11: strike; 12-15: lots, signed; 16-19: delta, signed; 20-23: value per
-/// tick per lot; 24-87: sixteen losses, signed, scenario 1 first"
+/// tick per lot; 24-87: sixteen losses, signed, scenario 1 first"; 2026-05: "Byte 3 of a row names currency 0..7"
 fn rows(name: &'static str, class: u8) -> Sort {
     let strike = if class == 0 { (0, 0) } else { (1, 4_294_967_295) };
     let delta = if class == 2 { (-10_000, 0) } else { (0, 10_000) };
     let mut fields = vec![
         field("contract", (1, 1), (0, 15)),
+        field("currency", (3, 3), (0, 7)),
         field("day", (4, 7), (1, 99_999_999)),
         field("strike", (8, 11), strike),
         field("lots", (12, 15), (-100_000, 100_000)),
@@ -90,7 +92,9 @@ fn rows(name: &'static str, class: u8) -> Sort {
     put(&mut row, (4, 7), 20_260_318);
     put(&mut row, (8, 11), i64::from(class != 0));
     put(&mut row, (20, 23), 25);
-    Sort { name, fields, unused: &[(3, 3), (88, 95)], file: [listed(), days(), vec![row]].concat(), turned: vec![] }
+    let file = [listed(), days(), vec![row]].concat();
+    let turned = [file.clone(), vec![rate(7, 1, 0)]].concat();
+    Sort { name, fields, unused: &[(88, 95)], file, turned }
 }
 
 /// "1: contract; 2: legs, 2 or 3; 4-7: rate per spread; legs at 8, 12, 16, each tier, side (1 = A, 2 = B), two-byte ratio"
@@ -146,6 +150,30 @@ fn entries(name: &'static str, tenths: u8) -> Sort {
     }
 }
 
+/// "Kind 6, after kind 5: byte 1 currency 1..7, ascending; bytes 4-7 spot rate in millionths, 1..100,000,000; byte 8 adjustment
+/// percent 0..50."
+fn rates() -> Sort {
+    Sort {
+        name: "currency rate",
+        fields: vec![
+            field("currency", (1, 1), (1, 7)),
+            field("spot rate", (4, 7), (1, 100_000_000)),
+            field("adjustment percent", (8, 8), (0, 50)),
+        ],
+        unused: &[(2, 3), (9, 95)],
+        file: [listed(), vec![rate(4, 1_000_000, 25)]].concat(),
+        turned: vec![],
+    }
+}
+
+fn rate(currency: u8, spot: i64, percent: u8) -> Record {
+    let mut record = [0; 96];
+    record[..2].copy_from_slice(&[6, currency]);
+    put(&mut record, (4, 7), spot);
+    record[8] = percent;
+    record
+}
+
 fn contract(number: u8) -> Record {
     let mut record = [0; 96];
     record[..2].copy_from_slice(&[1, number]);
@@ -180,20 +208,28 @@ fn put(record: &mut Record, (first, last): (usize, usize), number: i64) {
     record[first..=last].copy_from_slice(&number.to_le_bytes()[..=last - first]);
 }
 
-/// A file and what the paper says of it: 0, 5, 6 or 8, and the record that has the fault.
+/// A file and what the paper says of it: 0, 3 to 6, 8, 14 or 15, and the record that has the fault.
+#[derive(Clone)]
 struct Case {
     what: String,
     file: Vec<u8>,
     refusal: usize,
     record: usize,
+    /// The record that the case is about.
+    about: usize,
 }
 
-/// The file with the last record changed at some bytes.
-fn case(what: String, file: &[Record], bytes: (usize, usize), number: i64, refusal: usize) -> Case {
+/// The file with the record that the sort is about changed at some bytes.
+fn case(what: String, sort: &Sort, file: &[Record], bytes: (usize, usize), number: i64, refusal: usize) -> Case {
     let mut file = file.to_vec();
-    let record = file.len() - 1;
+    let record = sort.file.len() - 1;
     put(&mut file[record], bytes, number);
-    Case { what, file: file.concat(), refusal, record: if refusal == 0 { 0 } else { record } }
+    refused(what, file, refusal, record)
+}
+
+/// A file that is refused for the record at this place, or accepted.
+fn refused(what: String, file: Vec<Record>, refusal: usize, about: usize) -> Case {
+    Case { what, file: file.concat(), refusal, record: if refusal == 0 { 0 } else { about }, about }
 }
 
 /// Every unused byte, as the only fault of a file.
@@ -201,7 +237,9 @@ fn unused_bytes(sort: &Sort) -> Vec<Case> {
     let bytes = sort.unused.iter().flat_map(|&(first, last)| first..=last);
     bytes
         .flat_map(|byte| [1, 128].map(|number| (byte, number)))
-        .map(|(byte, number)| case(format!("{}: byte {byte} holds {number}", sort.name), &sort.file, (byte, byte), number, 5))
+        .map(|(byte, number)| {
+            case(format!("{}: byte {byte} holds {number}", sort.name), sort, &sort.file, (byte, byte), number, 5)
+        })
         .collect()
 }
 
@@ -213,7 +251,7 @@ fn ends(sort: &Sort) -> Vec<Case> {
         for number in [*least, *most] {
             let turned = !sort.turned.is_empty() && accepted_turned(sort, *bytes, number);
             let file = if turned { &sort.turned } else { &sort.file };
-            cases.push(case(what(number), file, *bytes, number, 0));
+            cases.push(case(what(number), sort, file, *bytes, number, 0));
         }
         let room = 1i64 << (8 * (bytes.1 - bytes.0 + 1));
         let mut past = vec![];
@@ -226,16 +264,17 @@ fn ends(sort: &Sort) -> Vec<Case> {
         // each byte above the lowest, by itself, where that is past the range
         past.extend((1..=bytes.1 - bytes.0).map(|byte| least.max(&0) + (1i64 << (8 * byte))).filter(|number| number > most));
         for number in past {
-            cases.push(case(what(number), &sort.file, *bytes, number, 6));
+            cases.push(case(what(number), sort, &sort.file, *bytes, number, 6));
         }
     }
     cases
 }
 
-/// Whether a side or a contract at the end of its range asks the other legs or the other contract to be turned.
+/// Whether a side or a contract at the end of its range asks the other legs or the other contract to be turned, or a currency its rate.
 fn accepted_turned(sort: &Sort, bytes: (usize, usize), number: i64) -> bool {
     let there = sort.file[sort.file.len() - 1][bytes.0];
     match sort.file[sort.file.len() - 1][0] {
+        3 => bytes.0 == 3 && number != 0,
         5 => bytes.0 == 2,
         _ => [9, 13, 17].contains(&bytes.0) && bytes.0 == bytes.1 && i64::from(there) != number,
     }
@@ -244,7 +283,7 @@ fn accepted_turned(sort: &Sort, bytes: (usize, usize), number: i64) -> bool {
 /// The number of legs has no end that the two sorts of spread do not have; past its ends it is 0, 1, 4 and 255, with two legs
 /// and with three: "Bytes 16-19 of kind 4 are unused only when byte 2 holds 2."
 fn legs(sort: &Sort) -> Vec<Case> {
-    [0, 1, 4, 255].map(|legs| case(format!("{}: byte 2 holds {legs}", sort.name), &sort.file, (2, 2), legs, 6)).into()
+    [0, 1, 4, 255].map(|legs| case(format!("{}: byte 2 holds {legs}", sort.name), sort, &sort.file, (2, 2), legs, 6)).into()
 }
 
 /// "Two legs with the same tier and side; no leg A or no leg B": each two of three legs, each side. Legs of one tier whose sides
@@ -267,16 +306,118 @@ fn clashes() -> Vec<Case> {
         for (leg, tier_and_side) in tiers_and_sides.iter().enumerate() {
             file[record][8 + 4 * leg..10 + 4 * leg].copy_from_slice(tier_and_side);
         }
-        cases.push(Case { what: what.to_string(), file: file.concat(), refusal, record: if refusal == 0 { 0 } else { record } });
+        cases.push(refused(what.to_string(), file, refusal, record));
     }
     let itself = entries("", 0);
-    cases.push(case("a contract with itself".to_string(), &itself.file, (2, 2), 7, 8));
+    cases.push(case("a contract with itself".to_string(), &itself, &itself.file, (2, 2), 7, 8));
+    cases
+}
+
+/// "Kind 6 is now allowed in 3", "its order under 8": what follows what.
+fn orders() -> Vec<Case> {
+    let after = |what: &str, records: &[Record], refusal: usize| {
+        let file = [listed(), records.to_vec()].concat();
+        let last = file.len() - 1;
+        refused(what.to_string(), file, refusal, last)
+    };
+    let entry = |first, second| {
+        let mut entry = [0; 96];
+        entry[..9].copy_from_slice(&[5, first, second, 50, 1, 0, 1, 0, 0]);
+        entry
+    };
+    let of_kind = |kind| {
+        let mut record = [0; 96];
+        record[0] = kind;
+        record
+    };
+    vec![
+        after("kind 0", &[of_kind(0)], 3),
+        after("kind 7", &[of_kind(7)], 3),
+        after("kind 255", &[of_kind(255)], 3),
+        after("a rate after an intercontract spread", &[entry(3, 7), rate(1, 1, 0)], 0),
+        after("an intercontract spread after a rate", &[rate(1, 1, 0), entry(3, 7)], 4),
+        after("currencies that rise", &[rate(1, 5, 0), rate(2, 5, 0), rate(7, 5, 0)], 0),
+        after("a currency twice", &[rate(2, 5, 0), rate(2, 6, 0)], 8),
+        after("a currency below the one before", &[rate(3, 5, 0), rate(2, 5, 0)], 8),
+        after("all seven currencies", &[1, 2, 3, 4, 5, 6, 7].map(|currency| rate(currency, 1, 0)), 0),
+    ]
+}
+
+/// A row of contract 3 in a currency, whose lots, value and loss in one scenario, counted from 1, are these.
+fn row(currency: u8, [lots, value, loss]: [i64; 3], scenario: usize) -> Record {
+    let mut row = [0; 96];
+    row[..4].copy_from_slice(&[3, 3, 0, currency]);
+    put(&mut row, (4, 7), 20_260_318);
+    put(&mut row, (12, 15), lots);
+    put(&mut row, (20, 23), value);
+    put(&mut row, (20 + 4 * scenario, 23 + 4 * scenario), loss);
+    row
+}
+
+/// "For rows in file order, 14 for a row whose currency has no rate, else 15 for one with a rounded conversion beyond
+/// ±100,000,000,000,000."
+fn conversions() -> Vec<Case> {
+    const ONE: i64 = 1_000_000;
+    const MOST: [i64; 3] = [100_000, 10_000, 100_000];
+    let first = listed().len() + days().len();
+    // the place of the faulty row among the rows; none where the file is accepted
+    let account = |what: String, rows: &[Record], rates: &[Record], fault: Option<(usize, usize)>| {
+        let file = [listed(), days(), rows.to_vec(), rates.to_vec()].concat();
+        let (refusal, place) = fault.map_or((0, 0), |(refusal, place)| (refusal, first + place));
+        refused(what, file, refusal, place)
+    };
+    let mut cases = vec![];
+    for currency in 1..=7 {
+        let rows = [row(0, [1, 1, 1], 1), row(currency, [0, 1, 0], 1)];
+        let others: Vec<Record> = (1..=7).filter(|other| *other != currency).map(|other| rate(other, ONE, 0)).collect();
+        let what = |rates: &str| format!("a row in currency {currency}, {rates}");
+        cases.push(account(what("no rates"), &rows, &[], Some((14, 1))));
+        cases.push(account(what("all other rates"), &rows, &others, Some((14, 1))));
+        cases.push(account(what("its rate"), &rows, &[rate(currency, ONE, 0)], None));
+    }
+    // 50,867 x 1,873 x 41,161 at 25.5 is 100,000,000,000,000.5
+    let half = [50_867, 1_873, 41_161];
+    // 80,702 x 84 x 98,353 at 99.990225 and 50 percent is 100,000,000,000,000.34, which is rounded to the limit
+    let third = [80_702, 84, 98_353];
+    for (what, product, spot, percent, loss, gain) in [
+        ("the most at 1", MOST, ONE, 0, 0, 0),
+        ("the most at 1.000001", MOST, ONE + 1, 0, 15, 15),
+        ("the most at 0.999999", MOST, ONE - 1, 0, 0, 0),
+        ("the most at 1, 1 percent", MOST, ONE, 1, 15, 0),
+        ("the most at 0.990099, 1 percent", MOST, 990_099, 1, 0, 0),
+        ("the most at 1.010101, 1 percent", MOST, 1_010_101, 1, 15, 0),
+        ("the most at 1.010102, 1 percent", MOST, 1_010_102, 1, 15, 15),
+        ("the most at 0.666666, 50 percent", MOST, 666_666, 50, 0, 0),
+        ("the most at 0.666667, 50 percent", MOST, 666_667, 50, 15, 0),
+        ("the most at 2, 50 percent", MOST, 2 * ONE, 50, 15, 0),
+        ("the most at 2.000001, 50 percent", MOST, 2 * ONE + 1, 50, 15, 15),
+        ("the most at 100, 50 percent", MOST, 100 * ONE, 50, 15, 15),
+        ("half a hundredth beyond", half, 25_500_000, 0, 15, 15),
+        ("a third of a hundredth beyond", third, 99_990_225, 50, 0, 0),
+        ("below the limit by less than a rate's step", half, 25_499_999, 0, 0, 0),
+    ] {
+        let [lots, value, ticks] = product;
+        for (scenario, sign, refusal) in [(1, 1, loss), (16, 1, loss), (1, -1, gain), (16, -1, gain)] {
+            let fault = (refusal != 0).then_some((refusal, 0));
+            let rates = [rate(5, spot, percent)];
+            let told =
+                |how: &str| format!("{what}, {how} in scenario {scenario}, {}", if sign > 0 { "a loss" } else { "a gain" });
+            cases.push(account(told("long"), &[row(5, [lots, value, sign * ticks], scenario)], &rates, fault));
+            cases.push(account(told("short"), &[row(5, [-lots, value, -sign * ticks], scenario)], &rates, fault));
+            // "currency 0 is not converted"
+            cases.push(account(told("currency 0"), &[row(0, [lots, value, sign * ticks], scenario)], &rates, None));
+        }
+    }
+    let (large, unrated, sound) = (row(5, MOST, 1), row(6, [1, 1, 1], 1), row(0, [1, 1, 1], 1));
+    let rates = [rate(5, 2 * ONE, 0)];
+    cases.push(account("15 before 14".to_string(), &[sound, large, unrated], &rates, Some((15, 1))));
+    cases.push(account("14 before 15".to_string(), &[sound, unrated, large], &rates, Some((14, 1))));
     cases
 }
 
 /// What is neither a forward nor a call nor a put.
 fn classes(sort: &Sort) -> Vec<Case> {
-    [3, 128, 255].map(|class| case(format!("{}: byte 2 holds {class}", sort.name), &sort.file, (2, 2), class, 6)).into()
+    [3, 128, 255].map(|class| case(format!("{}: byte 2 holds {class}", sort.name), sort, &sort.file, (2, 2), class, 6)).into()
 }
 
 /// Every byte of a sort is the kind, a field or unused, and only one of these.
@@ -295,12 +436,12 @@ fn written_once(sort: &Sort) -> bool {
 
 /// What the library, and the independent program, say of a file, alone and in both places of a pair.
 fn differences(case: &Case) -> Vec<String> {
-    let Case { what, file, refusal, record } = case;
+    let Case { what, file, refusal, record, .. } = case;
     let outcome = Outcome { refusal: *refusal, record: *record };
-    let entry = file.chunks(96).position(|record| record[0] == 5);
-    let in_pair = |place: usize| match (entry, *refusal, place) {
-        (Some(first), 0, 2) => PairOutcome { file: 2, refusal: 12, record: first },
-        (_, 0, _) => PairOutcome { file: 0, refusal: 0, record: 0 },
+    let mornings = file.chunks(96).position(|record| record[0] > 4);
+    let in_pair = |place: usize| match (mornings, *refusal, place) {
+        (Some(first), 0 | 14 | 15, 2) => PairOutcome { file: 2, refusal: 12, record: first },
+        (_, 0 | 14 | 15, _) => PairOutcome { file: 0, refusal: *refusal, record: *record },
         _ => PairOutcome { file: place, refusal: *refusal, record: *record },
     };
     let mut lent = [0; 129];
@@ -326,6 +467,7 @@ fn main() -> ExitCode {
         spreads("interprompt spread of 3 legs", 3),
         entries("intercontract spread", 0),
         entries("intercontract spread in tenths", 1),
+        rates(),
     ];
     if let Some(sort) = sorts.iter().find(|sort| !written_once(sort)) {
         println!("{}: a byte is in no field and not unused, or in two", sort.name);
@@ -339,18 +481,24 @@ fn main() -> ExitCode {
     ranges.extend(sorts.iter().filter(|sort| sort.name.ends_with("row")).flat_map(classes));
     let at_ends = ranges.iter().filter(|case| case.refusal == 0).count();
     let past_ends = ranges.len() - at_ends;
-    ranges.extend(clashes());
+    let legs_and_contracts = clashes();
+    let of_currencies = [orders(), conversions()].concat();
+    let counts = [legs_and_contracts.len(), of_currencies.len()];
+    ranges.extend([legs_and_contracts, of_currencies].concat());
     let words: Vec<String> = std::env::args().skip(1).collect();
     let cases = || unused.iter().chain(&ranges);
     if let [write, folder] = &words[..] {
-        return write_records(write, folder, unused.iter().step_by(2).chain(&ranges).collect());
+        let of_records = &ranges[..ranges.len() - counts[1]];
+        return write_records(write, folder, unused.iter().step_by(2).chain(of_records).collect());
     }
     let different: Vec<String> = cases().flat_map(differences).collect();
     different.iter().take(20).for_each(|line| println!("{line}"));
     println!(
-        "{} unused bytes, each with 2 values; {at_ends} ends of ranges and {past_ends} past them; {} of legs and contracts; {} differences",
+        "{} unused bytes, each with 2 values; {at_ends} ends of ranges and {past_ends} past them; {} of legs and contracts; \
+         {} of kinds, rates and conversions; {} differences",
         unused.len() / 2,
-        ranges.len() - at_ends - past_ends,
+        counts[0],
+        counts[1],
         different.len()
     );
     println!("cases: {}", cases().count());
@@ -363,7 +511,7 @@ fn main() -> ExitCode {
 
 fn write_records(word: &str, folder: &str, cases: Vec<&Case>) -> ExitCode {
     let write = |(number, case): (usize, &&Case)| {
-        std::fs::write(format!("{folder}/sweep-{number}.record"), &case.file[case.file.len() - 96..])
+        std::fs::write(format!("{folder}/sweep-{number}.record"), &case.file[96 * case.about..][..96])
     };
     match cases.iter().enumerate().try_for_each(write) {
         Ok(()) if word == "write" => ExitCode::SUCCESS,

@@ -6,8 +6,8 @@ use std::collections::BTreeMap;
 use std::io::{ErrorKind, Result, Write};
 use std::process::{Command, ExitCode, Stdio};
 
-/// Refusals 1 to 9 are the check's.
-const REFUSALS: usize = 9;
+/// Refusals 1 to 9, 14 and 15 are the check's.
+const REFUSALS: usize = 11;
 
 fn main() -> ExitCode {
     let words: Vec<String> = std::env::args().skip(1).collect();

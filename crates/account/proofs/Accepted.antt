@@ -1,22 +1,23 @@
 -- What is known of an accepted file.
 -- Assumes nothing.
-use Prim.Native.Nat.{ℕ, _≤_, _<_}
-use mathlib.Core.Path.{_≡_, sym, ap, subst, _∙_}
+use Prim.Native.Nat.{ℕ, zero, suc, _≤_, _<_}
+use mathlib.Core.Path.{_≡_, refl, sym, ap, subst, _∙_}
 use mathlib.Core.Bool.{Bool, true, not}
-use mathlib.Core.List.{List}
-use lib.ListN.{length, take, drop}
+use mathlib.Core.List.{List, []}
+use lib.ListN.{length, getD, take, drop}
 use lib.Dec.{leb}
 use native.Mathlib.Omega.{arith}
 use borrow.Author.Tests.{eqb-true, eqb-false, leb-false, ltb-false, not-false}
 use Rattle.exact.specs.Lists.{any, keep, count}
-use Rattle.record.specs.Layout.{Record, kind, contract, day}
-use Rattle.record.specs.Within.{ContractWithin, PromptWithin, RowWithin, SpreadWithin, EntryWithin}
-use Rattle.record.proofs.Within.{neither, contract-within, prompt-within, row-within, spread-within, entry-within}
-use Rattle.account.specs.Accepted.{partBytes, Ranges, Limits, OnePrompt, Accepts}
+use Rattle.record.specs.Layout.{Record, kind, contract, day, rateCurrency}
+use Rattle.record.specs.Within.{ContractWithin, PromptWithin, RowWithin, SpreadWithin, EntryWithin, RateWithin}
+use Rattle.record.proofs.Within.{neither, contract-within, prompt-within, row-within, spread-within, entry-within, rate-within}
+use Rattle.account.specs.Accepted.{Each, partBytes, Ranges, Limits, OnePrompt, Accepts}
 use Rattle.account.specs.Answers.{numberOf, recordOf}
-use Rattle.account.specs.Check.{checked, none, listsContract, listsDay, overLimit}
+use Rattle.account.specs.Check.{recordsChecked, none, listsContract, listsDay, overLimit}
 use Rattle.account.specs.Notes.{part, inPart}
-use Rattle.account.specs.Parts.{ofKind, ofContract, onDay, startOf, promptsOf}
+use Rattle.account.specs.Orders.{RatesRise}
+use Rattle.account.specs.Parts.{ofKind, ofContract, onDay, startOf, promptsOf, ratesOf}
 use Rattle.account.specs.Records.{recordAt, records, recordCount, stretch, earlier}
 use Rattle.account.specs.Surveyed.{contractCount, partCount}
 use Rattle.account.specs.declared.answers.Answer.the-variants.{Accepted}
@@ -30,11 +31,24 @@ use Rattle.account.proofs.Laid.{Faultless, laid, passed-at}
 use Rattle.account.proofs.Lists.{any-keep, none-counted}
 use Rattle.account.proofs.Named.{stays, kind-of, named}
 use Rattle.account.proofs.Noted.{part-is}
+use Rattle.account.proofs.Orders.{every-at, rates-rise}
 use Rattle.account.proofs.Own.{own}
 use Rattle.account.proofs.Passed.{Passed, known-of}
 use Rattle.account.proofs.Walk.{length-cut}
 
-module _ (file : List ℕ) (ok : checked file ≡ Accepted) where
+-- currencies that rise from 1 to 7 are seven at most
+few-rates : (rs : List Record) → RatesRise rs → Each RateWithin rs → length rs ≤ 7
+few-rates rs up within = go (length rs) refl
+  where
+    above : (k : ℕ) → k < length rs → suc k ≤ rateCurrency (getD rs k [])
+    above zero h = every-at RateWithin rs within 0 h .currencies .least
+    above (suc k) h = omega (arith, up k h, above k (omega arith))
+
+    go : (n : ℕ) → length rs ≡ n → length rs ≤ 7
+    go zero e = omega arith
+    go (suc n) e = omega (arith, above n (omega arith), every-at RateWithin rs within n (omega arith) .currencies .most)
+
+module _ (file : List ℕ) (ok : recordsChecked file ≡ Accepted) where
   fine : Faultless file (recordCount file)
   fine =
       let g = exactly file .accepted .forth (record { number = ap numberOf ok; place = ap recordOf ok }) in
@@ -50,15 +64,15 @@ module _ (file : List ℕ) (ok : checked file ≡ Accepted) where
   at k h = passed-at file (recordCount file) fine k h
 
   -- ---- the parts stand in one stretch each
-  stands : (v : ℕ) → v < 81 → records (partBytes file v) ≡ keep (inPart v) (records file)
+  stands : (v : ℕ) → v < 82 → records (partBytes file v) ≡ keep (inPart v) (records file)
   stands v h =
       let n = recordCount file in
       let s = laid file n fine .parts v h in
       let w = s .within in
       ap (λ (i : ℕ). records (stretch file i (partCount file v)))
-      (if-accepted (checked file) (startOf (inPart v) (records file)) ok)
+      (if-accepted (recordsChecked file) (startOf (inPart v) (records file)) ok)
       ∙ ap (λ (i : ℕ). records (stretch file (startOf (inPart v) (records file)) i))
-      (if-accepted (checked file) (count (inPart v) (records file)) ok)
+      (if-accepted (recordsChecked file) (count (inPart v) (records file)) ok)
       ∙ stretch-cut file (startOf (inPart v) (records file)) (count (inPart v) (records file)) n
       (omega (arith, length-cut n file)) (omega arith)
       ∙ sym (s .kept)
@@ -74,7 +88,7 @@ module _ (file : List ℕ) (ok : checked file ≡ Accepted) where
       let o = own file n fine in
       let w = o .one .within in
       let b = o .begins in
-      ap (λ (i : ℕ). records (stretch file 0 i)) (if-accepted (checked file) (count (ofKind 1) (records file)) ok)
+      ap (λ (i : ℕ). records (stretch file 0 i)) (if-accepted (recordsChecked file) (count (ofKind 1) (records file)) ok)
       ∙ stretch-cut file 0 (count (ofKind 1) (records file)) n (omega (arith, length-cut n file)) (omega arith)
       ∙ ap (λ (i : ℕ). take (count (ofKind 1) (records file)) (drop i (records file))) (sym b)
       ∙ sym (o .one .kept)
@@ -102,6 +116,9 @@ module _ (file : List ℕ) (ok : checked file ≡ Accepted) where
         entries =
             every-kept EntryWithin (ofKind 5) file n
             (λ k h e. entry-within (recordAt file k) (eqb-true _ _ e) (at k h .within));
+        rates =
+            every-kept RateWithin (ofKind 6) file n
+            (λ k h e. rate-within (recordAt file k) (eqb-true _ _ e) (at k h .within));
       }
 
   -- ---- limits
@@ -140,6 +157,7 @@ module _ (file : List ℕ) (ok : checked file ≡ Accepted) where
                   leb-false 32 (count (ofKind 5) (earlier file k))
                   (sym (over-5 (earlier file k) (recordAt file k) (eqb-true _ _ e)) ∙ at k h .room)),
             );
+        rates = few-rates (ratesOf (records file)) (rates-rise file ok) (ranges-hold .rates);
       }
 
   -- ---- every row has its prompt
@@ -174,6 +192,7 @@ module _ (file : List ℕ) (ok : checked file ≡ Accepted) where
               rows = λ c h. part-stands 3 c (omega arith) h;
               spreads = λ c h. part-stands 4 c (omega arith) h;
               entries = stands 80 (omega arith);
+              rates = stands 81 (omega arith);
             };
         ranges = ranges-hold;
         limits = limits-hold;

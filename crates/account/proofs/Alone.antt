@@ -6,18 +6,26 @@ use mathlib.Core.Path.{_≡_, refl, sym, ap, _∙_, subst, subst⁻¹}
 use mathlib.Core.Bool.{Bool, true, false, not, _&&_, cond}
 use mathlib.Core.List.{List, []}
 use lib.Dec.{eqb, ltb}
+use borrow.Author.Tests.{ne-eqb, eqb-true, eqb-false}
 use lib.ListN.{length, getD, replicate, length-replicate, getD-replicate}
 use Rattle.exact.specs.Lists.{sum}
-use Rattle.account.specs.Check.{checked, mostContracts}
+use Rattle.account.specs.Answers.{numberOf}
+use Rattle.account.specs.Check.{recordsChecked, mostContracts}
+use Rattle.account.specs.Checked.{ratesChecked, checked}
+use Rattle.account.specs.Lawful.{Recorded, Lawful}
+use Rattle.account.specs.declared.answers.Answer.{Answer}
 use Rattle.account.specs.Notes.{parts}
 use Rattle.account.specs.Records.{records, recordCount}
-use Rattle.account.specs.Standing.{lists, fromNoon, eitherNote, Filled, Flagged, JoinedBy, AloneBy, Stands, CheckedBy}
+use Rattle.account.specs.Standing.{lists, fromNoon, eitherNote, Filled, Flagged, JoinedBy, AloneBy, Places, Stands, CheckedBy, accountOf}
 use Rattle.account.specs.Surveyed.{Surveyed}
 use Rattle.account.specs.declared.answers.Answer.the-variants.{Accepted}
 use Rattle.account.specs.declared.check.Survey.{Survey}
 use Rattle.account.specs.declared.accounts.Account.{Account}
 use Rattle.account.proofs.Going.{same-survey}
-use Rattle.account.proofs.Places.{alone, alone-lawful, records-are, places}
+use Rattle.account.proofs.AcceptedOnly.{accepted-only}
+use Rattle.account.proofs.RateLaws.{lawful-of}
+use Rattle.account.proofs.Lawful.{recorded}
+use Rattle.account.proofs.Places.{alone, alone-recorded, records-are, places}
 use Rattle.account.proofs.Walk.{length-cut}
 
 abbrev zeros : List ℕ
@@ -70,7 +78,7 @@ module _ (file : List ℕ) (s : Survey) (k : ℕ) (j : Account) (sv : Surveyed f
         records = refl;
       }
 
-  module _ (ok : checked file ≡ Accepted) (e : k ≡ recordCount file) where
+  module _ (ok : recordsChecked file ≡ Accepted) (e : k ≡ recordCount file) where
     all-added : j .records ≡ sum (j .counts)
     unfolding added
     all-added =
@@ -84,17 +92,69 @@ module _ (file : List ℕ) (s : Survey) (k : ℕ) (j : Account) (sv : Surveyed f
     unfolding nothing added
     joined-by = record { first = added-by .first; counts = added-by .counts; noon = added-by .noon; numbers = by .numbers; records = all-added }
 
-    pub alone-stands : (none : List ℕ) → none ≡ [] → Stands file none j
-    alone-stands none z =
-        subst⁻¹ (λ (x : List ℕ). Stands file x j) z
-        (let law = alone-lawful file [] refl ok in
-        record { lawful = law; places = places file [] s nothing j sv nothing-surveyed ok refl joined-by law })
+    pub alone-places : (none : List ℕ) → none ≡ [] → Places file none j
+    alone-places none z =
+        subst⁻¹ (λ (x : List ℕ). Places file x j) z
+        (places file [] s nothing j sv nothing-surveyed ok refl joined-by (alone-recorded file [] refl ok))
+
+-- a file whose records are accepted: the rates decide
+pub records-decide : (file : List ℕ) → recordsChecked file ≡ Accepted → checked file ≡ ratesChecked (records file)
+records-decide file ok = ap (λ (a : Answer). cond (eqb (numberOf a) 0) (ratesChecked (records file)) a) ok
+
+pub records-refused : (file : List ℕ) → (numberOf (recordsChecked file) ≡ 0 → ⊥) → checked file ≡ recordsChecked file
+records-refused file h = ap (λ (t : Bool). cond t (ratesChecked (records file)) (recordsChecked file)) (ne-eqb (numberOf (recordsChecked file)) 0 h)
+
+-- what an accepted file passed
+pub record Passes (file : List ℕ) : Type 0 where
+  pub recorded : recordsChecked file ≡ Accepted
+  pub rated : ratesChecked (records file) ≡ Accepted
+
+pub passes : (file : List ℕ) → checked file ≡ Accepted → Passes file
+passes file ok = go (eqb (numberOf (recordsChecked file)) 0) refl
+  where
+    go : (t : Bool) → eqb (numberOf (recordsChecked file)) 0 ≡ t → Passes file
+    go true e =
+        let r = accepted-only (recordsChecked file) (eqb-true (numberOf (recordsChecked file)) 0 e) in
+        record { recorded = r; rated = sym (records-decide file r) ∙ ok }
+    go false e =
+        let d = eqb-false (numberOf (recordsChecked file)) 0 e in
+        absurd (d (ap numberOf (sym (records-refused file d) ∙ ok)))
+
+pub lawful : (file : List ℕ) → checked file ≡ Accepted → Lawful (records file)
+lawful file ok = let p = passes file ok in lawful-of (records file) (recorded file (p .recorded)) (p .rated)
 
 -- what the check of a file hands out
-pub checked-alone : (file : List ℕ) (s : Survey) (j : Account) → Surveyed file s → AloneBy s (recordCount file) j → CheckedBy file (record { answer = s .answer; account = j })
-checked-alone file s j sv by =
-    record {
-      answer-is = sv .answer;
-      alone-by = λ s′ sv′. subst (λ (x : Survey). AloneBy x (recordCount file) j) (same-survey file s s′ sv sv′) by;
-      stands = λ ok. alone-stands file s (recordCount file) j sv by ok refl;
-    }
+module _ (file : List ℕ) (s : Survey) (j : Account) (sv : Surveyed file s) (by : AloneBy s (recordCount file) j) where
+  alone-stands : checked file ≡ Accepted → (none : List ℕ) → none ≡ [] → Stands file none j
+  alone-stands ok none z =
+      let p = passes file ok in
+      record {
+        lawful = subst⁻¹ Lawful (alone file none z (p .recorded)) (lawful file ok);
+        places = alone-places file s (recordCount file) j sv by (p .recorded) refl none z;
+      }
+
+  checked-alone : (a : Answer) → a ≡ checked file → CheckedBy file (record { answer = a; account = j })
+  checked-alone a e =
+      record {
+        answer-is = e;
+        alone-by = λ s′ sv′. subst (λ (x : Survey). AloneBy x (recordCount file) j) (same-survey file s s′ sv sv′) by;
+        stands = alone-stands;
+      }
+
+  -- the records are refused
+  pub refused-alone : (numberOf (s .answer) ≡ 0 → ⊥) → CheckedBy file (record { answer = s .answer; account = j })
+  refused-alone d =
+      checked-alone (s .answer) (sv .answer ∙ sym (records-refused file (λ z. d (ap numberOf (sv .answer) ∙ z))))
+
+  -- they are accepted: the rates are looked at
+  module _ (z : numberOf (s .answer) ≡ 0) where
+    pub accepted-alone : recordsChecked file ≡ Accepted
+    accepted-alone = accepted-only (recordsChecked file) (ap numberOf (sym (sv .answer)) ∙ z)
+
+    pub rated-alone : (none : List ℕ) → none ≡ [] → Places file none j × Recorded (accountOf file none)
+    rated-alone none e =
+        (alone-places file s (recordCount file) j sv by accepted-alone refl none e, alone-recorded file none e accepted-alone)
+
+    pub all-alone : (none : List ℕ) → none ≡ [] → (a : Answer) → a ≡ ratesChecked (accountOf file none) → CheckedBy file (record { answer = a; account = j })
+    all-alone none e a is =
+        checked-alone a (is ∙ ap ratesChecked (alone file none e accepted-alone) ∙ sym (records-decide file accepted-alone))

@@ -8,15 +8,15 @@ use lib.Dec.{eqb, leb, ltb}
 use native.Mathlib.Omega.{arith}
 use borrow.Author.Tests.{eq-eqb, ne-eqb, eqb-true, eqb-false, ltb-false}
 use Rattle.exact.specs.Lists.{oneIf, count}
-use Rattle.record.specs.Layout.{Record, kind, contract, day, tier}
+use Rattle.record.specs.Layout.{Record, kind, contract, day, tier, rateCurrency}
 use Rattle.record.proofs.Tests.{both}
 use Rattle.record.proofs.Within.{neither, by-kind, kind-known, contract-known}
-use Rattle.account.specs.Check.{theOneBefore, numberNotAbove, dayNotAbove, tierFalls, contractFalls, legsClash, withItself, outOfOrder}
+use Rattle.account.specs.Check.{theOneBefore, numberNotAbove, dayNotAbove, tierFalls, contractFalls, legsClash, withItself, currencyNotAbove, outOfOrder}
 use Rattle.account.specs.Claims.{latest, outOfOrderByKind, ByKind}
 use Rattle.account.specs.Notes.{part, partOf, inPart, beforeAt}
 use Rattle.account.specs.Parts.{ofKind, ofContract}
 use Rattle.account.specs.Records.{cut, recordAt, earlier}
-use Rattle.account.proofs.Dispatch.{order-1, order-2, order-3, order-4, order-5}
+use Rattle.account.proofs.Dispatch.{order-1, order-2, order-3, order-4, order-5, order-6}
 use Rattle.account.proofs.Earlier.{count-earlier}
 use Rattle.account.proofs.Laid.{Faultless, laid, passed-at, before-known}
 use Rattle.account.proofs.Noted.{part-is}
@@ -100,7 +100,7 @@ module _ (file : List ℕ) where
               let some : 0 < count (inPart v) (cut k file) =
               subst⁻¹ (λ (t : Record → Bool). 0 < count t (cut k file)) is (omega arith) in
               let up = laid file k fine .upto v (omega arith) some in
-              let q = part-other (beforeAt file k) (λ l. omega arith) in
+              let q = part-other (beforeAt file k) (λ l. omega arith) (λ l. omega arith) in
               let c = before-known file k fine .1 in
               absurd (split up q c (eqb (kind (beforeAt file k)) 2) refl)
             where
@@ -148,6 +148,9 @@ module _ (es : List Record) (r : Record) where
   kinds-5 : kind r ≡ 5 → outOfOrderByKind es r ≡ withItself r
   kinds-5 e = rw e
 
+  kinds-6 : kind r ≡ 6 → outOfOrderByKind es r ≡ currencyNotAbove (latest (ofKind 6) es) r
+  kinds-6 e = rw e
+
 pub by-kinds : (file : List ℕ) → ByKind file
 by-kinds file k fine u f h =
     let r = recordAt file k in
@@ -160,7 +163,9 @@ by-kinds file k fine u f h =
     (λ e. order-2 b r e ∙ prompts e (dayNotAbove b r) refl ∙ sym (kinds-2 es r e))
     (λ e. order-3 b r e ∙ falls 3 (omega arith) e ∙ sym (kinds-3 es r e))
     (λ e. order-4 b r e ∙ both (falls 4 (omega arith) e) refl ∙ sym (kinds-4 es r e))
-    (λ e. order-5 b r e ∙ sym (kinds-5 es r e)) (kind r) (i .least) (i .most) refl
+    (λ e. order-5 b r e ∙ sym (kinds-5 es r e))
+    (λ e. order-6 b r e ∙ agree file k fine 6 (omega arith) (below e) (λ x. leb (rateCurrency r) (rateCurrency x)) ∙ sym
+    (kinds-6 es r e)) (kind r) (i .least) (i .most) refl
   where
     below : {n : ℕ} → kind (recordAt file k) ≡ n → kind (beforeAt file k) ≤ n
     below e = subst (λ (m : ℕ). kind (beforeAt file k) ≤ m) e

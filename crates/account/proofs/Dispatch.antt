@@ -1,23 +1,19 @@
 -- What a refusal tests, where the record's kind is known.
 -- Assumes nothing.
 use Prim.Native.Nat.{ℕ}
-use mathlib.Core.Path.{_≡_, refl}
-use mathlib.Core.Bool.{Bool, true, false, _||_, cond}
+use mathlib.Core.Path.{_≡_}
+use mathlib.Core.Bool.{false, _||_}
 use mathlib.Core.List.{List}
 use lib.ListN.{getD}
-use lib.Dec.{eqb, leb}
+use lib.Dec.{leb}
 use borrow.Author.Tests.{ne-eqb}
 use Rattle.exact.specs.Lists.{any}
 use Rattle.record.specs.Layout.{Record, kind, contract, day, legsOf, legTier, secondContract}
-use Rattle.account.specs.Check.{numberNotAbove, dayNotAbove, tierFalls, contractFalls, legsClash, withItself, outOfOrder}
+use Rattle.account.specs.Check.{numberNotAbove, dayNotAbove, tierFalls, contractFalls, legsClash, withItself, currencyNotAbove, outOfOrder}
 use Rattle.account.specs.Check.{none, listsContract, listsDay, legUnlisted, unlisted}
 use Rattle.account.specs.Check.{mostPrompts, mostRows, mostSpreads, mostEntries, reached, overLimit}
 use Rattle.account.specs.Parts.{ofKind, ofContract}
 use Rattle.account.specs.Notes.{partOf, noContract, noDay, noTier, unlistedBy, overLimitBy}
-
-either : (b : Bool) → cond b false false ≡ false
-either true = refl
-either false = refl
 
 module _ (before r : Record) where
   pub order-1 : kind r ≡ 1 → outOfOrder before r ≡ numberNotAbove before r
@@ -35,11 +31,14 @@ module _ (before r : Record) where
   pub order-5 : kind r ≡ 5 → outOfOrder before r ≡ withItself r
   order-5 e = rw e
 
+  pub order-6 : kind r ≡ 6 → outOfOrder before r ≡ currencyNotAbove before r
+  order-6 e = rw e
+
   pub order-none :
-      (kind r ≡ 1 → ⊥) → (kind r ≡ 2 → ⊥) → (kind r ≡ 3 → ⊥) → (kind r ≡ 4 → ⊥) → (kind r ≡ 5 → ⊥)
+      (kind r ≡ 1 → ⊥) → (kind r ≡ 2 → ⊥) → (kind r ≡ 3 → ⊥) → (kind r ≡ 4 → ⊥) → (kind r ≡ 5 → ⊥) → (kind r ≡ 6 → ⊥)
       → outOfOrder before r ≡ false
-  order-none a b c d e =
-      rw (ne-eqb (kind r) 1 a, ne-eqb (kind r) 2 b, ne-eqb (kind r) 3 c, ne-eqb (kind r) 4 d, ne-eqb (kind r) 5 e)
+  order-none a b c d e f =
+      rw (ne-eqb (kind r) 1 a, ne-eqb (kind r) 2 b, ne-eqb (kind r) 3 c, ne-eqb (kind r) 4 d, ne-eqb (kind r) 5 e, ne-eqb (kind r) 6 f)
 
 module _ (counts : List ℕ) (prompts : List Record) (r : Record) where
   pub listed-2 : kind r ≡ 2 → unlistedBy counts prompts r ≡ noContract counts (contract r)
@@ -65,7 +64,6 @@ module _ (counts : List ℕ) (prompts : List Record) (r : Record) where
       → unlistedBy counts prompts r ≡ false
   listed-none b c d e =
       rw (ne-eqb (kind r) 2 b, ne-eqb (kind r) 3 c, ne-eqb (kind r) 4 d, ne-eqb (kind r) 5 e)
-      (either (eqb (kind r) 1))
 
 module _ (counts : List ℕ) (r : Record) where
   pub limit-2 : kind r ≡ 2 → overLimitBy counts r ≡ leb mostPrompts (getD counts (partOf r) 0)
@@ -84,7 +82,6 @@ module _ (counts : List ℕ) (r : Record) where
       (kind r ≡ 2 → ⊥) → (kind r ≡ 3 → ⊥) → (kind r ≡ 4 → ⊥) → (kind r ≡ 5 → ⊥) → overLimitBy counts r ≡ false
   limit-none b c d e =
       rw (ne-eqb (kind r) 2 b, ne-eqb (kind r) 3 c, ne-eqb (kind r) 4 d, ne-eqb (kind r) 5 e)
-      (either (eqb (kind r) 1))
 
 -- ---- the definitions themselves
 module _ (earlier : List Record) (r : Record) where

@@ -12,8 +12,8 @@ use borrow.Author.Tests.{eq-eqb, ne-eqb, eqb-true, eqb-false, ltb-true, ltb-fals
 use Rattle.record.specs.Layout.{Record}
 use Rattle.record.proofs.Within.{never}
 use Rattle.account.specs.Answers.{numberOf, recordOf}
-use Rattle.account.specs.Check.{Refusal, firstOf, refusals, faultOf, tooLong, cutRecord, checked}
-use Rattle.account.specs.Claims.{Iff, givenIn, holdsAt, Gives, First, Clean, Exactly}
+use Rattle.account.specs.Check.{Refusal, firstOf, refusals, faultOf, tooLong, cutRecord, recordsChecked}
+use Rattle.account.specs.Claims.{Iff, givenIn, holdsAt, RecordsGive, First, Clean, RecordsExactly}
 use Rattle.account.specs.Records.{recordAt, recordCount, earlier}
 use Rattle.account.specs.declared.answers.Answer.{Answer}
 use Rattle.account.proofs.Firsts.{number-refusal, record-refusal}
@@ -21,7 +21,7 @@ use Rattle.account.proofs.Laid.{Faultless}
 use Rattle.account.proofs.Verdict.{stops, ends, too-long, cut-short, by-records, fault-number}
 
 -- ---- any table
-abbrev Rising : ℕ → List Refusal → Type 0
+abbrev pub Rising : ℕ → List Refusal → Type 0
 Rising low [] = Unit
 Rising low (x ∷ xs) = (low < x .number) × Rising (x .number) xs
 
@@ -49,7 +49,7 @@ first-pass x xs h = rw h
 first-here : (x : Refusal) (xs : List Refusal) → x .given ≡ true → firstOf (x ∷ xs) ≡ x .number
 first-here x xs h = rw h
 
-none-given : (low : ℕ) (rows : List Refusal) → Rising low rows → firstOf rows ≡ 0 → (m : ℕ) → givenIn rows m ≡ false
+pub none-given : (low : ℕ) (rows : List Refusal) → Rising low rows → firstOf rows ≡ 0 → (m : ℕ) → givenIn rows m ≡ false
 none-given low [] up z m = refl
 none-given low (x ∷ xs) up z m = go (x .given) refl (λ h. none-given (x .number) xs (up .1) h m)
   where
@@ -64,7 +64,7 @@ pub record Leads (rows : List Refusal) (n : ℕ) : Type 0 where
   pub holds : givenIn rows n ≡ true
   pub first : (m : ℕ) → m < n → givenIn rows m ≡ false
 
-leads : (low : ℕ) (rows : List Refusal) → Rising low rows → (n : ℕ) → firstOf rows ≡ n → (n ≡ 0 → ⊥) → Leads rows n
+pub leads : (low : ℕ) (rows : List Refusal) → Rising low rows → (n : ℕ) → firstOf rows ≡ n → (n ≡ 0 → ⊥) → Leads rows n
 leads low [] up n e nz = absurd (nz (sym e))
 leads low (x ∷ xs) up n e nz = go (x .given) refl (λ h. leads (x .number) xs (up .1) n h nz)
   where
@@ -79,7 +79,7 @@ leads low (x ∷ xs) up n e nz = go (x .given) refl (λ h. leads (x .number) xs 
         let l = f (sym (first-pass x xs g) ∙ e) in
         record { holds = pass x xs n g ∙ l .holds; first = λ m h. pass x xs m g ∙ l .first m h }
 
-clash : {b : Bool} → b ≡ true → b ≡ false → ⊥
+pub clash : {b : Bool} → b ≡ true → b ≡ false → ⊥
 clash p q = never (sym q ∙ p)
 
 which : {P : Type 0} (a b : ℕ) → (a ≡ b → P) → (a < b → P) → (b < a → P) → P
@@ -94,7 +94,7 @@ which {P} a b e l g = go (eqb a b) (ltb a b) refl refl
         g (omega arith)
 
 module _ (low : ℕ) (rows : List Refusal) (up : Rising low rows) where
-  leads-back : (n : ℕ) → givenIn rows n ≡ true → ((m : ℕ) → m < n → givenIn rows m ≡ false) → firstOf rows ≡ n
+  pub leads-back : (n : ℕ) → givenIn rows n ≡ true → ((m : ℕ) → m < n → givenIn rows m ≡ false) → firstOf rows ≡ n
   leads-back n h f = go (eqb (firstOf rows) 0) refl
     where
       go : (t : Bool) → eqb (firstOf rows) 0 ≡ t → firstOf rows ≡ n
@@ -104,7 +104,7 @@ module _ (low : ℕ) (rows : List Refusal) (up : Rising low rows) where
           which (firstOf rows) n (λ e. e) (λ a. absurd (clash (l .holds) (f (firstOf rows) a)))
           (λ b. absurd (clash h (l .first n b)))
 
-  clean-back : ((m : ℕ) → givenIn rows m ≡ false) → firstOf rows ≡ 0
+  pub clean-back : ((m : ℕ) → givenIn rows m ≡ false) → firstOf rows ≡ 0
   clean-back f = go (eqb (firstOf rows) 0) refl
     where
       go : (t : Bool) → eqb (firstOf rows) 0 ≡ t → firstOf rows ≡ 0
@@ -158,16 +158,16 @@ module _ (file : List ℕ) where
   -- ---- the verdict, case by case
   abbrev Told : Type 0 → Type 0
   Told P =
-      (tooLong file ≡ true → Gives file 1 0 → P)
-      → (tooLong file ≡ false → cutRecord file ≡ true → Gives file 2 0 → P)
-      → (tooLong file ≡ false → cutRecord file ≡ false → Faultless file (recordCount file) → Gives file 0 0 → P)
-      → (tooLong file ≡ false → cutRecord file ≡ false → (f : Fault) → Gives file (f .number) (f .place) → P)
+      (tooLong file ≡ true → RecordsGive file 1 0 → P)
+      → (tooLong file ≡ false → cutRecord file ≡ true → RecordsGive file 2 0 → P)
+      → (tooLong file ≡ false → cutRecord file ≡ false → Faultless file (recordCount file) → RecordsGive file 0 0 → P)
+      → (tooLong file ≡ false → cutRecord file ≡ false → (f : Fault) → RecordsGive file (f .number) (f .place) → P)
       → P
 
-  gives : {a : Answer} (n k : ℕ) → checked file ≡ a → numberOf a ≡ n → recordOf a ≡ k → Gives file n k
+  gives : {a : Answer} (n k : ℕ) → recordsChecked file ≡ a → numberOf a ≡ n → recordOf a ≡ k → RecordsGive file n k
   gives n k e p q = record { number = ap numberOf e ∙ p; place = ap recordOf e ∙ q }
 
-  fault-gives : tooLong file ≡ false → cutRecord file ≡ false → (f : Fault) → Gives file (f .number) (f .place)
+  fault-gives : tooLong file ≡ false → cutRecord file ≡ false → (f : Fault) → RecordsGive file (f .number) (f .place)
   fault-gives l w f =
       let i = fault-number (earlier file (f .place)) (recordAt file (f .place)) (f .number) (f .is) (f .some) in
       gives (f .number) (f .place)
@@ -188,7 +188,7 @@ module _ (file : List ℕ) where
   ranged : (f : Fault) → (3 ≤ f .number) × (f .number ≤ 9)
   ranged f = fault-number (earlier file (f .place)) (recordAt file (f .place)) (f .number) (f .is) (f .some)
 
-  differ : {P : Type 0} {n m j k : ℕ} → Gives file n j → Gives file m k → (n ≡ m → ⊥) → P
+  differ : {P : Type 0} {n m j k : ℕ} → RecordsGive file n j → RecordsGive file m k → (n ≡ m → ⊥) → P
   differ g h d = absurd (d (sym (g .number) ∙ h .number))
 
   first-of : tooLong file ≡ false → cutRecord file ≡ false → (f : Fault) → First file (f .number) (f .place)
@@ -217,7 +217,7 @@ module _ (file : List ℕ) where
         some = λ z. omega arith;
       }
 
-  one-is : Iff (Gives file 1 0) (tooLong file ≡ true)
+  one-is : Iff (RecordsGive file 1 0) (tooLong file ≡ true)
   one-is =
       record {
         forth =
@@ -227,7 +227,7 @@ module _ (file : List ℕ) where
         back = λ p. gives 1 0 (too-long file p) refl refl;
       }
 
-  two-is : Iff (Gives file 2 0) ((tooLong file ≡ false) × (cutRecord file ≡ true))
+  two-is : Iff (RecordsGive file 2 0) ((tooLong file ≡ false) × (cutRecord file ≡ true))
   two-is =
       record {
         forth =
@@ -238,7 +238,7 @@ module _ (file : List ℕ) where
         back = λ p. gives 2 0 (cut-short file (p .0) (p .1)) refl refl;
       }
 
-  others-are : (n k : ℕ) → 3 ≤ n → n ≤ 9 → Iff (Gives file n k) (First file n k)
+  others-are : (n k : ℕ) → 3 ≤ n → n ≤ 9 → Iff (RecordsGive file n k) (First file n k)
   others-are n k l u =
       record {
         forth =
@@ -251,7 +251,7 @@ module _ (file : List ℕ) where
         back = λ f. fault-gives (f .long) (f .whole) (fault-of n k l f);
       }
 
-  accepted-is : Iff (Gives file 0 0) (Clean file)
+  accepted-is : Iff (RecordsGive file 0 0) (Clean file)
   accepted-is =
       record {
         forth =
@@ -264,7 +264,7 @@ module _ (file : List ℕ) where
             (faultless (recordCount file) (c .none))) refl refl;
       }
 
-  pub exactly : Exactly file
+  pub exactly : RecordsExactly file
   exactly =
       record {
         one = one-is;

@@ -46,7 +46,7 @@ module _
   pub prompts-are : (c : ℕ) → c ≤ 15 → promptsNoted file first counts c ≡ keep (ofContract 2 c) (cut k file)
   prompts-are c hc =
       let v = part 2 c in
-      let h : v < 81 = omega arith in
+      let h : v < 82 = omega arith in
       let s = laid file k fine .parts v h in
       let w = s .within in
       ap (λ (i : ℕ). records (stretch file i (getD counts v 0))) (notes .started v h)
@@ -86,6 +86,7 @@ module _
       (λ e.
       listed-5 counts ps r e ∙ both c (none-listed (secondContract r) (entry-within r e h .seconds))
       ∙ sym (unlisted-5 es r e))
+      (λ e. rw e)
       (kind r) (i .least) (i .most) refl
 
   same-limit :
@@ -102,6 +103,7 @@ module _
       (λ e. limit-3 counts r e ∙ ap (leb 128) (counts-of 3 (omega arith) (omega arith) hc e) ∙ sym (over-3 es r e))
       (λ e. limit-4 counts r e ∙ ap (leb 32) (counts-of 4 (omega arith) (omega arith) hc e) ∙ sym (over-4 es r e))
       (λ e. limit-5 counts r e ∙ ap (leb 32) (entries e) ∙ sym (over-5 es r e))
+      (λ e. rw e)
       (kind r) (i .least) (i .most) refl
     where
       counts-of :
@@ -110,7 +112,7 @@ module _
           (earlier file k)
       counts-of n hn hs hc e =
           let r = recordAt file k in
-          ap (λ (v : ℕ). getD counts v 0) (part-other r (λ z. omega arith) ∙ ap (λ (m : ℕ). 16 * m + contract r) e)
+          ap (λ (v : ℕ). getD counts v 0) (part-other r (λ z. omega arith) (λ z. omega arith) ∙ ap (λ (m : ℕ). 16 * m + contract r) e)
           ∙ counted-part n (contract r) hn hc
 
       entries :

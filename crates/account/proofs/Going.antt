@@ -14,7 +14,7 @@ use Rattle.exact.specs.Lists.{oneIf, count}
 use Rattle.exact.proofs.Lists.{count-append}
 use Rattle.record.specs.Layout.{Record}
 use Rattle.account.specs.Answers.{numberOf, refusal}
-use Rattle.account.specs.Check.{faultOf, tooLong, cutRecord, checked}
+use Rattle.account.specs.Check.{faultOf, tooLong, cutRecord, recordsChecked}
 use Rattle.account.specs.Notes.{partOf, inPart, oneMore, startNoted, faultAt}
 use Rattle.account.specs.Parts.{ofKind, startOf}
 use Rattle.account.specs.Records.{cut, recordAt, recordCount, earlier}
@@ -49,7 +49,7 @@ pub record Going (file first counts : List ℕ) (contracts k : ℕ) : Type 0 whe
   pub notes : Noted first counts (cut k file)
   pub owned : contracts ≡ count (ofKind 1) (cut k file)
 
-pub going-start : (file : List ℕ) → Going file (replicate 81 0) (replicate 81 0) 0 0
+pub going-start : (file : List ℕ) → Going file (replicate 82 0) (replicate 82 0) 0 0
 going-start file = record {
   inside = omega arith;
   fine = λ j h. absurd (omega arith);
@@ -67,18 +67,18 @@ if-refused a n nz = ap (λ (b : Bool). cond b n 0) (ne-eqb (numberOf a) 0 nz)
 
 -- a refused file
 pub nothing :
-    (file : List ℕ) (a : Answer) (s : Survey) → checked file ≡ a → (numberOf a ≡ 0 → ⊥) → Empty a s
+    (file : List ℕ) (a : Answer) (s : Survey) → recordsChecked file ≡ a → (numberOf a ≡ 0 → ⊥) → Empty a s
     → Surveyed file s
 nothing file a s e nz h =
-    let none : (n : ℕ) → ofAccepted (checked file) n ≡ 0 =
+    let none : (n : ℕ) → ofAccepted (recordsChecked file) n ≡ 0 =
     λ n. ap (λ (b : Answer). ofAccepted b n) e ∙ if-refused a n nz in
     record {
       answer = h .answer ∙ sym e;
       contracts = h .contracts ∙ sym (none _);
-      firsts = ap length (h .first) ∙ length-replicate {A = ℕ} 81 0;
-      sizes = ap length (h .counts) ∙ length-replicate {A = ℕ} 81 0;
-      first = λ v l. ap (λ (xs : List ℕ). getD xs v 0) (h .first) ∙ getD-replicate {A = ℕ} 81 v 0 0 l ∙ sym (none _);
-      counts = λ v l. ap (λ (xs : List ℕ). getD xs v 0) (h .counts) ∙ getD-replicate {A = ℕ} 81 v 0 0 l ∙ sym
+      firsts = ap length (h .first) ∙ length-replicate {A = ℕ} 82 0;
+      sizes = ap length (h .counts) ∙ length-replicate {A = ℕ} 82 0;
+      first = λ v l. ap (λ (xs : List ℕ). getD xs v 0) (h .first) ∙ getD-replicate {A = ℕ} 82 v 0 0 l ∙ sym (none _);
+      counts = λ v l. ap (λ (xs : List ℕ). getD xs v 0) (h .counts) ∙ getD-replicate {A = ℕ} 82 v 0 0 l ∙ sym
           (none _);
     }
 
@@ -108,7 +108,7 @@ module _ {file first counts : List ℕ} {contracts k : ℕ} (g : Going file firs
     known : Known (recordAt file k)
     known = known-of (recordAt file k) (passed (earlier file k) (recordAt file k) no-fault)
 
-    pub part-in : partOf (recordAt file k) < 81
+    pub part-in : partOf (recordAt file k) < 82
     part-in = part-bound (recordAt file k) known
 
     pub count-small : getD counts (partOf (recordAt file k)) 0 ≤ k
@@ -160,11 +160,11 @@ module _ {file first counts : List ℕ} {contracts k : ℕ} (g : Going file firs
       let i = g .inside in
       omega arith
 
-  pub going-ends : tooLong file ≡ false → cutRecord file ≡ false → checked file ≡ Accepted
+  pub going-ends : tooLong file ≡ false → cutRecord file ≡ false → recordsChecked file ≡ Accepted
   going-ends a b = by-records file a b ∙ ends file (subst (Faultless file) at-end (g .fine))
 
   pub surveyed :
-      (s : Survey) → checked file ≡ Accepted → s .answer ≡ Accepted → s .contracts ≡ contracts → s .first ≡ first →
+      (s : Survey) → recordsChecked file ≡ Accepted → s .answer ≡ Accepted → s .contracts ≡ contracts → s .first ≡ first →
       s .counts ≡ counts
       → Surveyed file s
   surveyed s e a o f n =
@@ -172,17 +172,17 @@ module _ {file first counts : List ℕ} {contracts k : ℕ} (g : Going file firs
         answer = a ∙ sym e;
         contracts =
             o ∙ g .owned ∙ ap (λ (m : ℕ). count (ofKind 1) (cut m file)) at-end ∙ sym
-            (if-accepted (checked file) _ e);
+            (if-accepted (recordsChecked file) _ e);
         firsts = ap length f ∙ g .notes .firsts;
         sizes = ap length n ∙ g .notes .sizes;
         first =
             λ v h.
             ap (λ (l : List ℕ). getD l v 0) f ∙ g .notes .started v h
-            ∙ ap (λ (m : ℕ). startOf (inPart v) (cut m file)) at-end ∙ sym (if-accepted (checked file) _ e);
+            ∙ ap (λ (m : ℕ). startOf (inPart v) (cut m file)) at-end ∙ sym (if-accepted (recordsChecked file) _ e);
         counts =
             λ v h.
             ap (λ (l : List ℕ). getD l v 0) n ∙ g .notes .counted v h
-            ∙ ap (λ (m : ℕ). count (inPart v) (cut m file)) at-end ∙ sym (if-accepted (checked file) _ e);
+            ∙ ap (λ (m : ℕ). count (inPart v) (cut m file)) at-end ∙ sym (if-accepted (recordsChecked file) _ e);
       }
 
 -- the promise leaves one survey

@@ -1,8 +1,8 @@
--- The joined account: what its parts are, that it is lawful where both accounts are, and that with no noon file it is the
+-- The joined account: what its parts are, that its records are as the check leaves them where those of both files are, and that with no noon file it is the
 -- morning's.
 -- Assumes nothing.
 use Prim.Native.Nat.{ℕ, zero, suc, _+_, _*_, _/_, _%_, _≤_, _<_}
-use mathlib.Core.Path.{_≡_, refl, sym, ap, subst, subst⁻¹, subst₂, _∙_}
+use mathlib.Core.Path.{_≡_, refl, sym, ap, ap₂, subst, subst⁻¹, subst₂, _∙_}
 use mathlib.Core.Bool.{Bool, true, false, cond}
 use mathlib.Core.List.{List, [], _∷_, _++_, map, append-nil, append-assoc}
 use lib.ListN.{length, length-append}
@@ -13,15 +13,15 @@ use Rattle.exact.specs.Lists.{keep, any, oneIf, count, sum}
 use Rattle.exact.proofs.Lists.{sum-map-add, keep-append}
 use Rattle.record.specs.Bytes.{countFrom}
 use Rattle.record.specs.Layout.{Record, kind, contract, day, secondContract, mostContract}
-use Rattle.record.specs.Within.{ContractWithin, PromptWithin, RowWithin, SpreadWithin, EntryWithin}
+use Rattle.record.specs.Within.{ContractWithin, PromptWithin, RowWithin, SpreadWithin, EntryWithin, RateWithin}
 use Rattle.record.proofs.Within.{by-kind}
 use Rattle.account.specs.Accepted.{Each, OnePrompt, listed, EntryNamed}
-use Rattle.account.specs.Check.{checked, mostRecords, legsClash, withItself}
-use Rattle.account.specs.Joined.{supplier, inTurn, joinedOf, joined}
-use Rattle.account.specs.Lawful.{Lawful}
+use Rattle.account.specs.Check.{recordsChecked, mostRecords, legsClash, withItself}
+use Rattle.account.specs.Joined.{supplier, inTurn, joinedOf, fromMorning, joined}
+use Rattle.account.specs.Lawful.{Recorded}
 use Rattle.account.specs.Notes.{parts, partOf, inPart}
-use Rattle.account.specs.Orders.{Rising, Later}
-use Rattle.account.specs.Parts.{ofKind, ofContract, onDay, contractsOf, promptsOf, rowsOf, entriesOf}
+use Rattle.account.specs.Orders.{Rising, Later, RatesRise}
+use Rattle.account.specs.Parts.{ofKind, ofContract, onDay, contractsOf, promptsOf, rowsOf, entriesOf, ratesOf}
 use Rattle.account.specs.Records.{cut, recordAt, records, recordCount}
 use Rattle.account.specs.declared.answers.Answer.the-variants.{Accepted}
 use Rattle.account.proofs.Days.{none-kept}
@@ -36,7 +36,7 @@ use Rattle.account.proofs.Passed.{Known, known-of, part-cases, part-bou
 
 -- ---- lists one after the other
 module _ (f : ℕ → List Record) where
-  every-turn :
+  pub every-turn :
       (P : Record → Type 0) (a n : ℕ) → ((v : ℕ) → a ≤ v → v < a + n → Each P (f v)) → Each P (inTurn f a n)
   every-turn P a zero h = tt
   every-turn P a (suc n) h =
@@ -49,7 +49,7 @@ module _ (f : ℕ → List Record) where
       keep-append p (f a) (inTurn f (a + 1) n)
       ∙ ap (λ (rs : List Record). keep p (f a) ++ rs) (keep-turn p (a + 1) n)
 
-  none-turn : (a n : ℕ) → ((v : ℕ) → a ≤ v → v < a + n → f v ≡ []) → inTurn f a n ≡ []
+  pub none-turn : (a n : ℕ) → ((v : ℕ) → a ≤ v → v < a + n → f v ≡ []) → inTurn f a n ≡ []
   none-turn a zero h = refl
   none-turn a (suc n) h =
       rw (h a (omega arith) (omega arith)) (none-turn (a + 1) n (λ v l m. h v (omega arith) (omega arith)))
@@ -124,6 +124,9 @@ module _ (m n : List Record) where
   pub entries-kind : Each (λ r. kind r ≡ 5) (entriesOf m)
   entries-kind = every-weaker (entriesOf m) (λ r e. eqb-true (kind r) 5 e) (kept-pass (ofKind 5) m)
 
+  pub rates-kind : Each (λ r. kind r ≡ 6) (ratesOf m)
+  rates-kind = every-weaker (ratesOf m) (λ r e. eqb-true (kind r) 6 e) (kept-pass (ofKind 6) m)
+
   -- a test that records of one kind alone pass
   module _ (p : Record → Bool) where
     abbrev Alone : ℕ → Type 0
@@ -134,32 +137,40 @@ module _ (m n : List Record) where
         keep-none p (joinedOf m n j)
         (every-weaker (joinedOf m n j) (λ r e. only r (λ z. h (sym e ∙ z))) (joined-kind j))
 
-    pub no-entries : (k : ℕ) → Alone k → (5 ≡ k → ⊥) → keep p (entriesOf m) ≡ []
+    no-entries : (k : ℕ) → Alone k → (5 ≡ k → ⊥) → keep p (entriesOf m) ≡ []
     no-entries k only h =
         keep-none p (entriesOf m) (every-weaker (entriesOf m) (λ r e. only r (λ z. h (sym e ∙ z))) entries-kind)
+
+    no-rates : (k : ℕ) → Alone k → (6 ≡ k → ⊥) → keep p (ratesOf m) ≡ []
+    no-rates k only h =
+        keep-none p (ratesOf m) (every-weaker (ratesOf m) (λ r e. only r (λ z. h (sym e ∙ z))) rates-kind)
+
+    pub none-mornings : (k : ℕ) → Alone k → (5 ≡ k → ⊥) → (6 ≡ k → ⊥) → keep p (fromMorning m) ≡ []
+    none-mornings k only h i =
+        keep-append p (entriesOf m) (ratesOf m) ∙ ap₂ (λ (a b : List Record). a ++ b) (no-entries k only h) (no-rates k only i)
 
     abbrev kept : ℕ → List Record
     kept k = keep p (joinedOf m n k)
 
-    pub by-parts : keep p (joined m n) ≡ five (kept 1) (kept 2) (kept 3) (kept 4) (keep p (entriesOf m))
-    by-parts = keep-five (joinedOf m n 1) (joinedOf m n 2) (joinedOf m n 3) (joinedOf m n 4) (entriesOf m) p
+    pub by-parts : keep p (joined m n) ≡ five (kept 1) (kept 2) (kept 3) (kept 4) (keep p (fromMorning m))
+    by-parts = keep-five (joinedOf m n 1) (joinedOf m n 2) (joinedOf m n 3) (joinedOf m n 4) (fromMorning m) p
 
-    of-kind : (k : ℕ) → 1 ≤ k → k ≤ 5 → k ≤ 4 → Alone k → keep p (joined m n) ≡ kept k
+    of-kind : (k : ℕ) → 1 ≤ k → k ≤ 6 → k ≤ 4 → Alone k → keep p (joined m n) ≡ kept k
     of-kind =
         by-kind (λ k. k ≤ 4 → Alone k → keep p (joined m n) ≡ kept k)
-        (λ h only. by-parts ∙ only-1 (kept 1) (kept 2) (kept 3) (kept 4) (keep p (entriesOf m))
+        (λ h only. by-parts ∙ only-1 (kept 1) (kept 2) (kept 3) (kept 4) (keep p (fromMorning m))
         (others 1 2 only (λ z. omega arith)) (others 1 3 only (λ z. omega arith)) (others 1 4 only (λ z. omega arith))
-        (no-entries 1 only (λ z. omega arith)))
-        (λ h only. by-parts ∙ only-2 (kept 1) (kept 2) (kept 3) (kept 4) (keep p (entriesOf m))
+        (none-mornings 1 only (λ z. omega arith) (λ z. omega arith)))
+        (λ h only. by-parts ∙ only-2 (kept 1) (kept 2) (kept 3) (kept 4) (keep p (fromMorning m))
         (others 2 1 only (λ z. omega arith)) (others 2 3 only (λ z. omega arith)) (others 2 4 only (λ z. omega arith))
-        (no-entries 2 only (λ z. omega arith)))
-        (λ h only. by-parts ∙ only-3 (kept 1) (kept 2) (kept 3) (kept 4) (keep p (entriesOf m))
+        (none-mornings 2 only (λ z. omega arith) (λ z. omega arith)))
+        (λ h only. by-parts ∙ only-3 (kept 1) (kept 2) (kept 3) (kept 4) (keep p (fromMorning m))
         (others 3 1 only (λ z. omega arith)) (others 3 2 only (λ z. omega arith)) (others 3 4 only (λ z. omega arith))
-        (no-entries 3 only (λ z. omega arith)))
-        (λ h only. by-parts ∙ only-4 (kept 1) (kept 2) (kept 3) (kept 4) (keep p (entriesOf m))
+        (none-mornings 3 only (λ z. omega arith) (λ z. omega arith)))
+        (λ h only. by-parts ∙ only-4 (kept 1) (kept 2) (kept 3) (kept 4) (keep p (fromMorning m))
         (others 4 1 only (λ z. omega arith)) (others 4 2 only (λ z. omega arith)) (others 4 3 only (λ z. omega arith))
-        (no-entries 4 only (λ z. omega arith)))
-        (λ h only. absurd (omega arith))
+        (none-mornings 4 only (λ z. omega arith) (λ z. omega arith)))
+        (λ h only. absurd (omega arith)) (λ h only. absurd (omega arith))
 
   kept-turn :
       (k c : ℕ) → 1 ≤ k → k ≤ 4
@@ -204,9 +215,24 @@ module _ (m n : List Record) where
       λ j h. others (ofKind 5) 5 j (λ r d. ne-eqb (kind r) 5 d) h in
       by-parts (ofKind 5)
       ∙ only-5 (keep (ofKind 5) (joinedOf m n 1)) (keep (ofKind 5) (joinedOf m n 2)) (keep (ofKind 5) (joinedOf m n 3))
-      (keep (ofKind 5) (joinedOf m n 4)) (keep (ofKind 5) (entriesOf m)) (no 1 (λ z. omega arith))
+      (keep (ofKind 5) (joinedOf m n 4)) (keep (ofKind 5) (fromMorning m)) (no 1 (λ z. omega arith))
       (no 2 (λ z. omega arith)) (no 3 (λ z. omega arith)) (no 4 (λ z. omega arith))
-      ∙ keep-all (ofKind 5) (entriesOf m) (kept-pass (ofKind 5) m)
+      ∙ keep-append (ofKind 5) (entriesOf m) (ratesOf m)
+      ∙ ap₂ (λ (a b : List Record). a ++ b) (keep-all (ofKind 5) (entriesOf m) (kept-pass (ofKind 5) m))
+      (no-rates (ofKind 5) 5 (λ r d. ne-eqb (kind r) 5 d) (λ z. omega arith))
+      ∙ append-nil (entriesOf m)
+
+  pub rates-joined : ratesOf (joined m n) ≡ ratesOf m
+  rates-joined =
+      let no : (j : ℕ) → (j ≡ 6 → ⊥) → keep (ofKind 6) (joinedOf m n j) ≡ [] =
+      λ j h. others (ofKind 6) 6 j (λ r d. ne-eqb (kind r) 6 d) h in
+      by-parts (ofKind 6)
+      ∙ only-5 (keep (ofKind 6) (joinedOf m n 1)) (keep (ofKind 6) (joinedOf m n 2)) (keep (ofKind 6) (joinedOf m n 3))
+      (keep (ofKind 6) (joinedOf m n 4)) (keep (ofKind 6) (fromMorning m)) (no 1 (λ z. omega arith))
+      (no 2 (λ z. omega arith)) (no 3 (λ z. omega arith)) (no 4 (λ z. omega arith))
+      ∙ keep-append (ofKind 6) (entriesOf m) (ratesOf m)
+      ∙ ap₂ (λ (a b : List Record). a ++ b) (no-entries (ofKind 6) 6 (λ r d. ne-eqb (kind r) 6 d) (λ z. omega arith))
+      (keep-all (ofKind 6) (ratesOf m) (kept-pass (ofKind 6) m))
 
 -- ---- each record of the joined account is of one part
 counted-none : (f : ℕ → Bool) (a n : ℕ) → ((v : ℕ) → a ≤ v → v < a + n → f v ≡ false) → count f (countFrom a n) ≡ 0
@@ -232,24 +258,41 @@ counted-once f t a (suc n) l h is =
         rw (is a (omega arith) ∙ e) (omega (arith, rest (omega arith)))
 
 abbrev OnePart : Record → Type 0
-OnePart r = count (λ v. inPart v r) (countFrom 0 81) ≡ 1
+OnePart r = count (λ v. inPart v r) (countFrom 0 82) ≡ 1
 
 one-part : (r : Record) → Known r → OnePart r
 one-part r known =
-    counted-once (λ v. inPart v r) (partOf r) 0 81 (omega arith) (part-bound r known) (λ v h. mine r known v h)
+    counted-once (λ v. inPart v r) (partOf r) 0 82 (omega arith) (part-bound r known) (λ v h. mine r known v h)
 
 entry-part : (r : Record) → kind r ≡ 5 → OnePart r
-entry-part r k = counted-once (λ v. inPart v r) 80 0 81 (omega arith) (omega arith) (λ v h. go v h (eqb v 80) refl)
+entry-part r k = counted-once (λ v. inPart v r) 80 0 82 (omega arith) (omega arith) (λ v h. go v h (eqb v 80) refl (eqb v 81) refl)
   where
-    go : (v : ℕ) → v < 81 → (t : Bool) → eqb v 80 ≡ t → inPart v r ≡ eqb 80 v
-    go v h true e = rw e (eq-eqb (kind r) 5 k ∙ sym (eq-eqb 80 v (sym (eqb-true v 80 e))))
-    go v h false e =
+    go : (v : ℕ) → v < 82 → (s : Bool) → eqb v 80 ≡ s → (t : Bool) → eqb v 81 ≡ t → inPart v r ≡ eqb 80 v
+    go v h true e t f = rw e (eq-eqb (kind r) 5 k ∙ sym (eq-eqb 80 v (sym (eqb-true v 80 e))))
+    go v h false e true f =
         let d = eqb-false v 80 e in
-        rw e (other-kind (v / 16) (v % 16) r (λ z. omega arith) ∙ sym (ne-eqb 80 v (λ z. d (sym z))))
+        rw (e, f) (ne-eqb (kind r) 6 (λ z. omega arith) ∙ sym (ne-eqb 80 v (λ z. d (sym z))))
+    go v h false e false f =
+        let d = eqb-false v 80 e in
+        let i = eqb-false v 81 f in
+        rw (e, f) (other-kind (v / 16) (v % 16) r (λ z. omega arith) ∙ sym (ne-eqb 80 v (λ z. d (sym z))))
+
+rate-part : (r : Record) → kind r ≡ 6 → OnePart r
+rate-part r k = counted-once (λ v. inPart v r) 81 0 82 (omega arith) (omega arith) (λ v h. go v h (eqb v 80) refl (eqb v 81) refl)
+  where
+    go : (v : ℕ) → v < 82 → (s : Bool) → eqb v 80 ≡ s → (t : Bool) → eqb v 81 ≡ t → inPart v r ≡ eqb 81 v
+    go v h true e t f =
+        let d = eqb-true v 80 e in
+        rw e (ne-eqb (kind r) 5 (λ z. omega arith) ∙ sym (ne-eqb 81 v (λ z. omega arith)))
+    go v h false e true f = rw (e, f) (eq-eqb (kind r) 6 k ∙ sym (eq-eqb 81 v (sym (eqb-true v 81 f))))
+    go v h false e false f =
+        let d = eqb-false v 80 e in
+        let i = eqb-false v 81 f in
+        rw (e, f) (other-kind (v / 16) (v % 16) r (λ z. omega arith) ∙ sym (ne-eqb 81 v (λ z. i (sym z))))
 
 length-parts :
-    (xs : List Record) → Each OnePart xs → length xs ≡ sum (map (λ v. count (inPart v) xs) (countFrom 0 81))
-length-parts xs one = go (countFrom 0 81) xs one
+    (xs : List Record) → Each OnePart xs → length xs ≡ sum (map (λ v. count (inPart v) xs) (countFrom 0 82))
+length-parts xs one = go (countFrom 0 82) xs one
   where
     counts : (p : ℕ → Bool) (vs : List ℕ) → sum (map (λ v. oneIf (p v)) vs) ≡ count p vs
     counts p [] = refl
@@ -285,10 +328,11 @@ module _ (m n : List Record) where
   pub joined-length : length (joined m n) ≡ sum (map (λ v. count (inPart v) (joined m n)) (countFrom 0 parts))
   joined-length =
       length-parts (joined m n)
-      (every-five OnePart (joinedOf m n 1) (joinedOf m n 2) (joinedOf m n 3) (joinedOf m n 4) (entriesOf m)
+      (every-five OnePart (joinedOf m n 1) (joinedOf m n 2) (joinedOf m n 3) (joinedOf m n 4) (fromMorning m)
       (kind-one 1 (omega arith) (omega arith)) (kind-one 2 (omega arith) (omega arith))
       (kind-one 3 (omega arith) (omega arith)) (kind-one 4 (omega arith) (omega arith))
-      (every-weaker (entriesOf m) entry-part (entries-kind m n)))
+      (every-append OnePart (entriesOf m) (ratesOf m) (every-weaker (entriesOf m) entry-part (entries-kind m n))
+      (every-weaker (ratesOf m) rate-part (rates-kind m n))))
 
 -- ---- numbers that rise, list after list
 rising-cons :
@@ -323,11 +367,11 @@ module _
       omega (arith, length-append (f a) (inTurn f (a + 1) n), few a, short-turn (a + 1) n)
 
 -- ---- the joined account is lawful
-module _ (m n : List Record) (morning : Lawful m) (noon : Lawful n) where
-  supplied : (c : ℕ) → Lawful (supplier m n c)
+module _ (m n : List Record) (morning : Recorded m) (noon : Recorded n) where
+  supplied : (c : ℕ) → Recorded (supplier m n c)
   supplied c = go (listed c n)
     where
-      go : (t : Bool) → Lawful (cond t n m)
+      go : (t : Bool) → Recorded (cond t n m)
       go true = noon
       go false = morning
 
@@ -390,8 +434,8 @@ module _ (m n : List Record) (morning : Lawful m) (noon : Lawful n) where
       every-weaker (keep (ofContract 1 c) (supplier m n c)) (λ r e. kind-of 1 c r e .1)
       (kept-pass (ofContract 1 c) (supplier m n c))
 
-  pub joined-lawful : length (joined m n) ≤ mostRecords → Lawful (joined m n)
-  joined-lawful short =
+  pub joined-recorded : length (joined m n) ≤ mostRecords → Recorded (joined m n)
+  joined-recorded short =
       record {
         ranges =
             record {
@@ -404,6 +448,7 @@ module _ (m n : List Record) (morning : Lawful m) (noon : Lawful n) where
               rows = λ c. by-part (Each RowWithin) 3 c (omega arith) (omega arith) tt (supplied c .ranges .rows c);
               spreads = λ c. by-part (Each SpreadWithin) 4 c (omega arith) (omega arith) tt (supplied c .ranges .spreads c);
               entries = subst⁻¹ (Each EntryWithin) (entries-joined m n) (morning .ranges .entries);
+              rates = subst⁻¹ (Each RateWithin) (rates-joined m n) (morning .ranges .rates);
             };
         limits =
             record {
@@ -422,6 +467,7 @@ module _ (m n : List Record) (morning : Lawful m) (noon : Lawful n) where
                   (supplied c .limits .spreads c);
               entries =
                   subst⁻¹ (λ (rs : List Record). length rs ≤ 32) (entries-joined m n) (morning .limits .entries);
+              rates = subst⁻¹ (λ (rs : List Record). length rs ≤ 7) (rates-joined m n) (morning .limits .rates);
             };
         onePrompt = one-prompt;
         named =
@@ -454,11 +500,12 @@ module _ (m n : List Record) (morning : Lawful m) (noon : Lawful n) where
                   λ c. by-part (Each (λ s. legsClash s ≡ false)) 4 c (omega arith) (omega arith) tt
                   (supplied c .orders .spreads c);
               entries = subst⁻¹ (Each (λ e. withItself e ≡ false)) (entries-joined m n) (morning .orders .entries);
+              rates = subst⁻¹ RatesRise (rates-joined m n) (morning .orders .rates);
             };
       }
 
 -- ---- an account alone
-turn-join : (f : ℕ → List Record) (a i j : ℕ) → inTurn f a i ++ inTurn f (a + i) j ≡ inTurn f a (i + j)
+pub turn-join : (f : ℕ → List Record) (a i j : ℕ) → inTurn f a i ++ inTurn f (a + i) j ≡ inTurn f a (i + j)
 turn-join f a zero j =
     let e : a + 0 ≡ a = omega arith in
     let d : 0 + j ≡ j = omega arith in
@@ -512,33 +559,33 @@ none-some zero h = refl
 none-some (suc n) h = absurd (h (omega arith))
 
 -- the parts of records, in the order of their numbers
-abbrev partsOf : List Record → ℕ → List Record
+abbrev pub partsOf : List Record → ℕ → List Record
 partsOf rs v = keep (inPart v) rs
 
-in-parts : (file : List ℕ) (k : ℕ) → Faultless file k → inTurn (partsOf (cut k file)) 16 65 ≡ cut k file
-in-parts file zero fine = none-turn (partsOf []) 16 65 (λ v l h. refl)
+in-parts : (file : List ℕ) (k : ℕ) → Faultless file k → inTurn (partsOf (cut k file)) 16 66 ≡ cut k file
+in-parts file zero fine = none-turn (partsOf []) 16 66 (λ v l h. refl)
 in-parts file (suc k) fine =
     more (in-parts file k (λ j h. fine j (omega arith)))
     (known-of (recordAt file k) (passed-at file (suc k) fine k (omega arith)))
   where
     more :
-        inTurn (partsOf (cut k file)) 16 65 ≡ cut k file → Known (recordAt file k)
-        → inTurn (partsOf (cut (suc k) file)) 16 65 ≡ cut (suc k) file
+        inTurn (partsOf (cut k file)) 16 66 ≡ cut k file → Known (recordAt file k)
+        → inTurn (partsOf (cut (suc k) file)) 16 66 ≡ cut (suc k) file
     more old known =
         let r = recordAt file k in
         let t = partOf r in
         let bound = part-bound r known in
         let above : 16 ≤ t =
-        part-cases r known (16 ≤ t) (λ e i. omega arith) (λ l i. omega (arith, known .low)) in
+        part-cases r known (16 ≤ t) (λ e i. omega arith) (λ e i. omega arith) (λ l i. omega (arith, known .low)) in
         let grown : (v : ℕ) → keep (inPart v) (cut (suc k) file) ≡ keep (inPart v) (cut k file ++ r ∷ []) =
         λ v. ap (keep (inPart v)) (cut-more k file) in
-        turn-more (partsOf (cut k file)) (partsOf (cut (suc k) file)) r t 81
+        turn-more (partsOf (cut k file)) (partsOf (cut (suc k) file)) r t 82
         (grown t ∙ keeps-one (inPart t) (cut k file) r (mine r known t bound ∙ eq-eqb t t refl))
         (λ v h d. grown v ∙ keeps-not (inPart v) (cut k file) r (mine r known v h ∙ ne-eqb t v (λ e. d (sym e))))
         (λ v h l.
         none-kept (inPart v) (cut (suc k) file)
         (none-some (count (inPart v) (cut (suc k) file)) (λ some. omega (arith, laid file (suc k) fine .upto v h some))))
-        16 65 above (omega arith) (omega arith)
+        16 66 above (omega arith) (omega arith)
         ∙ ap (λ (rs : List Record). rs ++ r ∷ []) old
         ∙ sym (cut-more k file)
 
@@ -551,15 +598,15 @@ module _ (m : List Record) where
   abbrev turn : ℕ → ℕ → List Record
   turn = inTurn (partsOf m)
 
-  all-turn : five (turn 16 16) (turn 32 16) (turn 48 16) (turn 64 16) (entriesOf m) ≡ turn 16 65
+  all-turn : five (turn 16 16) (turn 32 16) (turn 48 16) (turn 64 16) (fromMorning m) ≡ turn 16 66
   all-turn =
-      ap (five (turn 16 16) (turn 32 16) (turn 48 16) (turn 64 16)) (sym (append-nil (entriesOf m)))
-      ∙ ap (λ (rs : List Record). turn 16 16 ++ (turn 32 16 ++ (turn 48 16 ++ rs))) (turn-join (partsOf m) 64 16 1)
-      ∙ ap (λ (rs : List Record). turn 16 16 ++ (turn 32 16 ++ rs)) (turn-join (partsOf m) 48 16 17)
-      ∙ ap (λ (rs : List Record). turn 16 16 ++ rs) (turn-join (partsOf m) 32 16 33)
-      ∙ turn-join (partsOf m) 16 16 49
+      ap (λ (rs : List Record). five (turn 16 16) (turn 32 16) (turn 48 16) (turn 64 16) (entriesOf m ++ rs)) (sym (append-nil (ratesOf m)))
+      ∙ ap (λ (rs : List Record). turn 16 16 ++ (turn 32 16 ++ (turn 48 16 ++ rs))) (turn-join (partsOf m) 64 16 2)
+      ∙ ap (λ (rs : List Record). turn 16 16 ++ (turn 32 16 ++ rs)) (turn-join (partsOf m) 48 16 18)
+      ∙ ap (λ (rs : List Record). turn 16 16 ++ rs) (turn-join (partsOf m) 32 16 34)
+      ∙ turn-join (partsOf m) 16 16 50
 
-  alone-turn : joined m [] ≡ inTurn (partsOf m) 16 65
+  alone-turn : joined m [] ≡ inTurn (partsOf m) 16 66
   alone-turn =
       rw (
         kind-turn 1 (omega arith),
@@ -568,6 +615,26 @@ module _ (m : List Record) where
         kind-turn 4 (omega arith),
       ) all-turn
 
+-- a joined account is its own parts in the order of their numbers
+module _ (m n : List Record) where
+  own-turn : (k : ℕ) → 1 ≤ k → k ≤ 4 → joinedOf m n k ≡ inTurn (partsOf (joined m n)) (16 * k + 0) 16
+  own-turn k l h =
+      turn-shift (λ c. keep (ofContract k c) (supplier m n c)) (partsOf (joined m n)) (16 * k) 0 16
+      (λ c i.
+      sym (part-joined m n k c l h (omega arith))
+      ∙ ap (λ (p : Record → Bool). keep p (joined m n)) (sym (part-is k c h (omega arith))))
+
+  mornings : fromMorning m ≡ fromMorning (joined m n)
+  mornings = ap₂ (λ (a b : List Record). a ++ b) (sym (entries-joined m n)) (sym (rates-joined m n))
+
+  pub joined-turn : joined m n ≡ inTurn (partsOf (joined m n)) 16 66
+  joined-turn =
+      let one = own-turn 1 (omega arith) (omega arith) in
+      let two = own-turn 2 (omega arith) (omega arith) in
+      let three = own-turn 3 (omega arith) (omega arith) in
+      let four = own-turn 4 (omega arith) (omega arith) in
+      (λ i. five (one i) (two i) (three i) (four i) (mornings i)) ∙ all-turn (joined m n)
+
 -- an account alone is the joined account with an empty noon file
-pub joined-alone : (file : List ℕ) → checked file ≡ Accepted → joined (records file) [] ≡ records file
+pub joined-alone : (file : List ℕ) → recordsChecked file ≡ Accepted → joined (records file) [] ≡ records file
 joined-alone file ok = alone-turn (records file) ∙ in-parts file (recordCount file) (fine file ok)

@@ -24,8 +24,8 @@ abbrev pub Faultless : List ℕ → ℕ → Type 0
 Faultless file k = (j : ℕ) → j < k → faultOf (earlier file j) (recordAt file j) ≡ 0
 
 pub record Laid (xs : List Record) (top : ℕ) : Type 0 where
-  pub parts : (v : ℕ) → v < 81 → Stretch (inPart v) xs
-  pub upto : (v : ℕ) → v < 81 → 0 < count (inPart v) xs → v ≤ top
+  pub parts : (v : ℕ) → v < 82 → Stretch (inPart v) xs
+  pub upto : (v : ℕ) → v < 82 → 0 < count (inPart v) xs → v ≤ top
   pub latest : 0 < count (inPart top) xs → startOf (inPart top) xs + count (inPart top) xs ≡ length xs
 
 laid-none : Laid [] 0
@@ -57,14 +57,14 @@ module _ (xs : List Record) (top : ℕ) (old : Laid xs top) (r : Record) (k : Kn
         latest = λ z. stretch-latest (inPart (partOf r)) xs r (old .parts (partOf r) (part-bound r k)) ours so-far;
       }
     where
-      part-of : (v : ℕ) → v < 81 → (t : Bool) → inPart v r ≡ t → Stretch (inPart v) (xs ++ r ∷ [])
+      part-of : (v : ℕ) → v < 82 → (t : Bool) → inPart v r ≡ t → Stretch (inPart v) (xs ++ r ∷ [])
       part-of v h true e =
           let same : partOf r ≡ v = eqb-true _ _ (sym (mine r k v h) ∙ e) in
           subst (λ (u : ℕ). Stretch (inPart u) (xs ++ r ∷ [])) same
           (stretch-grow (inPart (partOf r)) xs r (old .parts (partOf r) (part-bound r k)) ours so-far)
       part-of v h false e = stretch-skip (inPart v) xs r (old .parts v h) e
 
-      upto-of : (v : ℕ) → v < 81 → 0 < count (inPart v) (xs ++ r ∷ []) → (t : Bool) → inPart v r ≡ t → v ≤ partOf r
+      upto-of : (v : ℕ) → v < 82 → 0 < count (inPart v) (xs ++ r ∷ []) → (t : Bool) → inPart v r ≡ t → v ≤ partOf r
       upto-of v h z true e =
           let same : partOf r ≡ v = eqb-true _ _ (sym (mine r k v h) ∙ e) in
           omega arith
@@ -77,7 +77,7 @@ module _ (file : List ℕ) where
   passed-at k fine j h = passed (earlier file j) (recordAt file j) (fine j h)
 
   -- what the record before is known to be
-  pub before-known : (k : ℕ) → Faultless file k → (kind (beforeAt file k) ≤ 5) × (contract (beforeAt file k) ≤ 15)
+  pub before-known : (k : ℕ) → Faultless file k → (kind (beforeAt file k) ≤ 6) × (contract (beforeAt file k) ≤ 15)
   before-known zero fine = (omega arith, omega arith)
   before-known (suc k) fine =
       let b = known-of (recordAt file k) (passed-at (suc k) fine k (omega arith)) in

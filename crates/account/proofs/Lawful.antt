@@ -1,4 +1,4 @@
--- The records of an accepted file are lawful, and a lawful account's contract numbers are the listed ones, in rising order.
+-- What the check of the records leaves of a file, and that an account's contract numbers are the listed ones, in rising order.
 -- Assumes nothing.
 use Prim.Native.Nat.{ℕ, zero, suc, _+_, _≤_, _<_}
 use mathlib.Core.Path.{_≡_, refl, sym, ap, subst, _∙_}
@@ -11,8 +11,8 @@ use Rattle.exact.specs.Lists.{consIf, keep, any}
 use Rattle.record.specs.Bytes.{countFrom}
 use Rattle.record.specs.Layout.{Record, contract}
 use Rattle.account.specs.Accepted.{Each, listed}
-use Rattle.account.specs.Check.{checked, mostContracts}
-use Rattle.account.specs.Lawful.{Lawful}
+use Rattle.account.specs.Check.{recordsChecked, mostContracts}
+use Rattle.account.specs.Lawful.{Recorded}
 use Rattle.account.specs.Orders.{Rising}
 use Rattle.account.specs.Parts.{ofKind, contractsOf}
 use Rattle.account.specs.Records.{records}
@@ -22,8 +22,8 @@ use Rattle.account.proofs.Every.{every-weaker}
 use Rattle.account.proofs.Lists.{any-keep}
 use Rattle.account.proofs.Orders.{orders}
 
-pub lawful : (file : List ℕ) → checked file ≡ Accepted → Lawful (records file)
-lawful file ok =
+pub recorded : (file : List ℕ) → recordsChecked file ≡ Accepted → Recorded (records file)
+recorded file ok =
     let a = accepts file ok in
     record {
       ranges = a .ranges;
@@ -96,9 +96,9 @@ numbers-kept (suc n) a (r ∷ rs) up most =
         ∙ ap (λ (b : Bool). consIf b a (keep (has (r ∷ rs)) (countFrom (a + 1) n)))
         (sym (has-none a (a + 1) (r ∷ rs) (omega arith) f))
 
--- a lawful account's contract numbers are the listed ones, in rising order
+-- an account's contract numbers are the listed ones, in rising order
 pub numbered :
-    (rs : List Record) → Lawful rs
+    (rs : List Record) → Recorded rs
     → map contract (contractsOf rs) ≡ keep (λ c. listed c rs) (countFrom 0 mostContracts)
 numbered rs law =
     numbers-kept 16 0 (contractsOf rs) (all-from (contractsOf rs) (law .orders .contracts))

@@ -1,4 +1,6 @@
 pub mod Walk
+pub mod AcceptedOnly
+pub mod ProductLaws
 pub mod Dispatch
 pub mod Firsts
 pub mod Lists
@@ -16,13 +18,15 @@ pub mod Days
 pub mod Named
 pub mod Accepted
 pub mod ByKind
-pub mod Claimed
 pub mod Orders
 pub mod Filled
 pub mod Lawful
 pub mod JoinedLaws
 pub mod Places
+pub mod RateLaws
 pub mod Alone
+pub mod RatesExactly
+pub mod Claimed
 pub mod Standing
 pub mod NoonLaws
 pub mod PairClaimed

@@ -10,7 +10,7 @@ use native.Mathlib.Omega.{arith}
 use Rattle.exact.specs.Lists.{keep, sum}
 use Rattle.exact.proofs.Lists.{getD-map}
 use Rattle.record.specs.Bytes.{countFrom}
-use Rattle.account.specs.Check.{checked, mostContracts}
+use Rattle.account.specs.Check.{recordsChecked, mostContracts}
 use Rattle.account.specs.Determined.{Determined}
 use Rattle.account.specs.Noon.{PairBy}
 use Rattle.account.specs.Notes.{parts}
@@ -113,7 +113,7 @@ noted-at f v h =
     ∙ ap f (count-at 0 parts v h ∙ omega arith)
 
 taken : List ℕ → Survey
-taken file = record { answer = checked file; contracts = contractCount file; first = noted (partStart file); counts = noted (partCount file) }
+taken file = record { answer = recordsChecked file; contracts = contractCount file; first = noted (partStart file); counts = noted (partCount file) }
 
 surveyed : (file : List ℕ) → Surveyed file (taken file)
 unfolding taken

@@ -10,19 +10,19 @@ use borrow.Author.Tests.{eqb-true, eq-eqb, leb-false}
 use lib.Dec.{eqb}
 use lib.ListN.{length, getD, take, drop}
 use lib.Seq.{getD-take, getD-drop, drop-drop}
-use Rattle.exact.specs.Lists.{count}
-use Rattle.record.specs.Layout.{Record, kind, contract, tier, day}
+use Rattle.exact.specs.Lists.{count, keep}
+use Rattle.record.specs.Layout.{Record, kind, contract, tier, day, rateCurrency}
 use Rattle.record.proofs.Within.{both-true, neither}
 use Rattle.account.specs.Accepted.{Each}
 use Rattle.account.specs.Answers.{numberOf, recordOf}
-use Rattle.account.specs.Check.{checked, theOneBefore, contractFalls, legsClash, withItself, outOfOrder}
-use Rattle.account.specs.Orders.{Rising, Later, Orders}
-use Rattle.account.specs.Notes.{part}
-use Rattle.account.specs.Parts.{startOf, ofKind, ofContract, contractsOf, promptsOf}
+use Rattle.account.specs.Check.{recordsChecked, theOneBefore, contractFalls, legsClash, withItself, outOfOrder}
+use Rattle.account.specs.Orders.{Rising, Later, RatesRise, Orders}
+use Rattle.account.specs.Notes.{part, inPart}
+use Rattle.account.specs.Parts.{startOf, ofKind, ofContract, contractsOf, promptsOf, ratesOf}
 use Rattle.account.specs.Records.{cut, recordAt, records, recordCount, earlier}
 use Rattle.account.specs.declared.answers.Answer.the-variants.{Accepted}
 use Rattle.account.proofs.Days.{day-rises, tier-stays}
-use Rattle.account.proofs.Dispatch.{order-1, order-4, order-5}
+use Rattle.account.proofs.Dispatch.{order-1, order-4, order-5, order-6}
 use Rattle.account.proofs.Every.{every-kept, length-kept}
 use Rattle.account.proofs.Exactly.{exactly, faultless}
 use Rattle.account.proofs.Laid.{Faultless, laid, passed-at}
@@ -44,7 +44,7 @@ cut-at (suc n) (suc k) file h =
     let e : 96 + k * 96 ≡ suc k * 96 = omega arith in
     cut-at n k (drop 96 file) (le-of-suc-le-suc h) ∙ ap (take 96) (drop-drop (k * 96) 96 file ∙ ap (λ (m : ℕ). drop m file) e)
 
-module _ (file : List ℕ) (ok : checked file ≡ Accepted) where
+module _ (file : List ℕ) (ok : recordsChecked file ≡ Accepted) where
   pub fine : Faultless file (recordCount file)
   fine =
       let g = exactly file .accepted .forth (record { number = ap numberOf ok; place = ap recordOf ok }) in
@@ -77,47 +77,60 @@ module _ (file : List ℕ) (ok : checked file ≡ Accepted) where
       let above = leb-false (contract (recordAt file (suc k))) (contract (recordAt file k)) t in
       subst₂ (λ (x y : Record). contract x < contract y) (sym (a .0)) (sym (b .0)) above
 
-  -- the prompts of a contract follow each other
-  module _ (c : ℕ) (hc : c ≤ 15) where
+  -- the records of a part follow each other
+  module _ (p : Record → Bool) (stands : Stretch p (records file)) where
     ps : List Record
-    ps = promptsOf c (records file)
+    ps = keep p (records file)
 
     start : ℕ
-    start = startOf (ofContract 2 c) (records file)
+    start = startOf p (records file)
 
-    prompt-at : (k : ℕ) → k < length ps → (getD ps k [] ≡ recordAt file (start + k)) × (start + k < recordCount file)
+    one-at : (k : ℕ) → k < length ps → (getD ps k [] ≡ recordAt file (start + k)) × (start + k < recordCount file)
     unfolding ps start
-    prompt-at k h =
+    one-at k h =
         let n = recordCount file in
-        let s = subst (λ (p : Record → Bool). Stretch p (records file)) (part-is 2 c (omega arith) hc) (laid file n fine .parts (part 2 c) (omega arith)) in
-        let l = length-kept (ofContract 2 c) (records file) in
-        let w = s .within in
-        let m = length-cut n file in
-        (ap (λ (rs : List Record). getD rs k []) (s .kept) ∙ getD-take (count (ofContract 2 c) (records file)) (drop start (records file)) k [] (omega arith) ∙ getD-drop start (records file) k [] ∙ cut-at n (start + k) file (omega arith), omega arith)
+        let l = length-kept p (records file) in
+        let w = stands .within in
+        let m = length-cut n file in (
+          ap (λ (rs : List Record). getD rs k []) (stands .kept)
+              ∙ getD-take (count p (records file)) (drop start (records file)) k [] (omega arith)
+              ∙ getD-drop start (records file) k [] ∙ cut-at n (start + k) file (omega arith),
+          omega arith,
+        )
 
-    theirs : Each (λ r. ofContract 2 c r ≡ true) ps
+    theirs : Each (λ r. p r ≡ true) ps
     unfolding ps
-    theirs = every-kept (λ r. ofContract 2 c r ≡ true) (ofContract 2 c) file (recordCount file) (λ j l e. e)
+    theirs = every-kept (λ r. p r ≡ true) p file (recordCount file) (λ j l e. e)
 
     -- two that follow each other in the file, the second not out of order
-    next : (P : Record → Record → Type 0) → ((b r : Record) → ofContract 2 c b ≡ true → ofContract 2 c r ≡ true → outOfOrder b r ≡ false → P b r)
-        → (k : ℕ) → suc k < length ps → P (getD ps k []) (getD ps (suc k) [])
-    next P f k h =
-        let a = prompt-at k (omega arith) in
-        let e : start + suc k ≡ suc (start + k) = omega arith in
-        let b = prompt-at (suc k) h in
-        let r : getD ps (suc k) [] ≡ recordAt file (suc (start + k)) = b .0 ∙ ap (recordAt file) e in
-        let one : ofContract 2 c (recordAt file (start + k)) ≡ true = subst (λ (x : Record). ofContract 2 c x ≡ true) (a .0) (every-at (λ x. ofContract 2 c x ≡ true) ps theirs k (omega arith)) in
-        let two : ofContract 2 c (recordAt file (suc (start + k))) ≡ true = subst (λ (x : Record). ofContract 2 c x ≡ true) r (every-at (λ x. ofContract 2 c x ≡ true) ps theirs (suc k) h) in
-        subst₂ P (sym (a .0)) (sym r) (f (recordAt file (start + k)) (recordAt file (suc (start + k))) one two (at (suc (start + k)) (omega (arith, e, b .1)) .ordered))
-
-    later : Later (promptsOf c (records file))
+    next : (P : Record → Record → Type 0) → ((b r : Record) → p b ≡ true → p r ≡ true → outOfOrder b r ≡ false → P b r)
+        → (k : ℕ) → suc k < length (keep p (records file)) → P (getD (keep p (records file)) k []) (getD (keep p (records file)) (suc k) [])
     unfolding ps
-    later =
-        record {
-          days = next (λ b r. day b < day r) (λ b r. day-rises c [] b r);
-          tiers = next (λ b r. tier b ≤ tier r) (λ b r. tier-stays c [] b r);
-        }
+    next P f k h =
+        let a = one-at k (omega arith) in
+        let e : start + suc k ≡ suc (start + k) = omega arith in
+        let b = one-at (suc k) h in
+        let r : getD ps (suc k) [] ≡ recordAt file (suc (start + k)) = b .0 ∙ ap (recordAt file) e in
+        let one : p (recordAt file (start + k)) ≡ true = subst (λ (x : Record). p x ≡ true) (a .0) (every-at (λ x. p x ≡ true) ps theirs k (omega arith)) in
+        let two : p (recordAt file (suc (start + k))) ≡ true = subst (λ (x : Record). p x ≡ true) r (every-at (λ x. p x ≡ true) ps theirs (suc k) h) in
+        subst₂ P (sym (a .0)) (sym r)
+        (f (recordAt file (start + k)) (recordAt file (suc (start + k))) one two (at (suc (start + k)) (omega (arith, e, b .1)) .ordered))
+
+  part-laid : (v : ℕ) → v < 82 → Stretch (inPart v) (records file)
+  part-laid v h = laid file (recordCount file) fine .parts v h
+
+  later : (c : ℕ) → c ≤ 15 → Later (promptsOf c (records file))
+  later c hc =
+      let s = subst (λ (p : Record → Bool). Stretch p (records file)) (part-is 2 c (omega arith) hc) (part-laid (part 2 c) (omega arith)) in
+      record {
+        days = next (ofContract 2 c) s (λ b r. day b < day r) (λ b r. day-rises c [] b r);
+        tiers = next (ofContract 2 c) s (λ b r. tier b ≤ tier r) (λ b r. tier-stays c [] b r);
+      }
+
+  pub rates-rise : RatesRise (ratesOf (records file))
+  rates-rise =
+      next (ofKind 6) (part-laid 81 (omega arith)) (λ b r. rateCurrency b < rateCurrency r)
+      (λ b r p q off. leb-false (rateCurrency r) (rateCurrency b) (right-off p (sym (order-6 b r (eqb-true (kind r) 6 q)) ∙ off)))
 
   pub orders : Orders (records file)
   orders =
@@ -134,4 +147,5 @@ module _ (file : List ℕ) (ok : checked file ≡ Accepted) where
         entries =
             every-kept (λ e. withItself e ≡ false) (ofKind 5) file (recordCount file)
             (λ k h e. sym (order-5 (theOneBefore (earlier file k)) (recordAt file k) (eqb-true _ _ e)) ∙ at k h .ordered);
+        rates = rates-rise;
       }

@@ -5,7 +5,7 @@ use native.Mathlib.Omega.{arith}
 use mathlib.Core.Path.{_≡_, refl, sym, ap, subst, subst⁻¹, _∙_}
 use mathlib.Core.Bool.{Bool, true, false, not, _&&_, _||_, cond, false≢true}
 use mathlib.Core.List.{List, [], _∷_}
-use mathlib.Core.Logic.{_⊎_, inl, inr}
+use mathlib.Core.Logic.{_⊎_, inl, inr, ⊎-elim}
 use borrow.Author.Tests.{ne-eqb, eq-eqb, eqb-true, eqb-false, lt-ltb, le-ltb, ltb-true, ltb-false, leb-false}
 use lib.Dec.{eqb, leb, ltb}
 use lib.ListN.{length, getD}
@@ -14,12 +14,13 @@ use Rattle.exact.proofs.Lists.{any-at}
 use Rattle.record.specs.Layout.{Record, mostContract}
 use Rattle.account.specs.Accepted.{Each, listed, partBytes}
 use Rattle.account.specs.Answers.{numberOf, recordOf}
-use Rattle.account.specs.Check.{checked, mostRecords, mostContracts}
-use Rattle.account.specs.Claims.{Iff, Gives}
-use Rattle.account.specs.Noon.{ofJoined, ofMorning, ofNoon, clear, _then_, noSpread, fewJoined, joinedVerdict, nowhere, placeIn, promptPlace, joinedPrompts}
+use Rattle.account.specs.Check.{recordsChecked, mostRecords, mostContracts}
+use Rattle.account.specs.Claims.{Iff, Comes, RecordsGive}
+use Rattle.account.specs.Checked.{ratesChecked}
+use Rattle.account.specs.Noon.{ofJoined, ofMorning, ofNoon, clear, _then_, morningsOwn, noSpread, fewJoined, recordsVerdict, joinedVerdict, nowhere, placeIn, promptPlace, joinedPrompts}
 use Rattle.account.specs.Notes.{part}
 use Rattle.account.specs.PairClaims.{Says, BothPass, FirstSpread, NoSpread, PairExactly, OfMorning, OfNoon, OfJoined, PromptsHanded, PairClaims}
-use Rattle.account.specs.Parts.{ofKind, ofContract, placeOf, promptsOf}
+use Rattle.account.specs.Parts.{ofContract, placeOf, promptsOf}
 use Rattle.account.specs.Records.{records, recordAt, recordCount, stretch}
 use Rattle.account.specs.Standing.{accountOf}
 use Rattle.account.specs.declared.answers.Answer.{Answer}
@@ -29,8 +30,9 @@ use Rattle.account.specs.declared.noon.Verdict.{Verdict}
 use Rattle.account.proofs.Accepted.{part-stands}
 use Rattle.account.proofs.Exactly.{exactly}
 use Rattle.account.proofs.JoinedLaws.{part-joined}
-use Rattle.account.proofs.Lawful.{lawful}
-use Rattle.account.proofs.NoonLaws.{stops, goes, accepted-only, morning-accepted, noon-accepted}
+use Rattle.account.proofs.Lawful.{recorded}
+use Rattle.account.proofs.NoonLaws.{stops, goes, accepted-only, records-accepted, morning-accepted, noon-accepted}
+use Rattle.account.proofs.RatesExactly.{rates-exactly}
 use Rattle.account.proofs.Orders.{cut-at}
 use Rattle.account.proofs.Walk.{length-cut, none-place}
 
@@ -167,42 +169,42 @@ accepted-clear : (a : Answer) (f : ℕ) → a ≡ Accepted → clear (record { f
 accepted-clear a f e = ap (λ (x : Answer). eqb (numberOf x) 0) e
 
 module _ (noon : List ℕ) where
-  spread-if : (t : Bool) → any (ofKind 5) (records noon) ≡ t → noSpread noon ≡ cond t (NoonSpread (placeOf (ofKind 5) (records noon))) Accepted
-  spread-if t e = ap (λ (b : Bool). cond b (NoonSpread (placeOf (ofKind 5) (records noon))) Accepted) e
+  spread-if : (t : Bool) → any morningsOwn (records noon) ≡ t → noSpread noon ≡ cond t (NoonSpread (placeOf morningsOwn (records noon))) Accepted
+  spread-if t e = ap (λ (b : Bool). cond b (NoonSpread (placeOf morningsOwn (records noon))) Accepted) e
 
   spread-says : (k : ℕ) → Iff (Says (ofNoon (noSpread noon)) 2 12 k) (FirstSpread noon k)
   spread-says k =
       record {
-        forth = λ s. go (any (ofKind 5) (records noon)) refl s;
+        forth = λ s. go (any morningsOwn (records noon)) refl s;
         back =
             λ f.
-            let a = spread-if true (any-there (ofKind 5) noon k (f .there) (f .here)) in
-            record { of = refl; number = ap numberOf a; place = ap recordOf a ∙ placed (ofKind 5) noon k (f .there) (f .here) (f .before) };
+            let a = spread-if true (any-there morningsOwn noon k (f .there) (f .here)) in
+            record { of = refl; number = ap numberOf a; place = ap recordOf a ∙ placed morningsOwn noon k (f .there) (f .here) (f .before) };
       }
     where
-      go : (t : Bool) → any (ofKind 5) (records noon) ≡ t → Says (ofNoon (noSpread noon)) 2 12 k → FirstSpread noon k
+      go : (t : Bool) → any morningsOwn (records noon) ≡ t → Says (ofNoon (noSpread noon)) 2 12 k → FirstSpread noon k
       go true a s =
-          let e : placeOf (ofKind 5) (records noon) ≡ k = sym (ap recordOf (spread-if true a)) ∙ s .place in
+          let e : placeOf morningsOwn (records noon) ≡ k = sym (ap recordOf (spread-if true a)) ∙ s .place in
           subst (FirstSpread noon) e
-          (record { there = place-there (ofKind 5) noon a; here = place-is (ofKind 5) noon a; before = place-first (ofKind 5) noon a })
+          (record { there = place-there morningsOwn noon a; here = place-is morningsOwn noon a; before = place-first morningsOwn noon a })
       go false a s = absurd (apart {a = 0} {b = 12} (omega arith) (sym (ap numberOf (spread-if false a)) ∙ s .number))
 
   spread-number : (n : ℕ) → 1 ≤ n → n ≤ 9 → numberOf (noSpread noon) ≡ n → ⊥
-  spread-number n l h = go (any (ofKind 5) (records noon)) refl
+  spread-number n l h = go (any morningsOwn (records noon)) refl
     where
-      go : (t : Bool) → any (ofKind 5) (records noon) ≡ t → numberOf (noSpread noon) ≡ n → ⊥
+      go : (t : Bool) → any morningsOwn (records noon) ≡ t → numberOf (noSpread noon) ≡ n → ⊥
       go true a e = let d = sym (ap numberOf (spread-if true a)) ∙ e in omega arith
       go false a e = let d = sym (ap numberOf (spread-if false a)) ∙ e in omega arith
 
   spread-clear : clear (ofNoon (noSpread noon)) ≡ true → NoSpread noon
-  spread-clear c = go (any (ofKind 5) (records noon)) refl
+  spread-clear c = go (any morningsOwn (records noon)) refl
     where
-      go : (t : Bool) → any (ofKind 5) (records noon) ≡ t → NoSpread noon
+      go : (t : Bool) → any morningsOwn (records noon) ≡ t → NoSpread noon
       go true a = absurd (false≢true (ap (λ (x : Answer). eqb (numberOf x) 0) (sym (spread-if true a)) ∙ c))
-      go false a = record { none = none-of (ofKind 5) noon a }
+      go false a = record { none = none-of morningsOwn noon a }
 
   clear-spread : NoSpread noon → clear (ofNoon (noSpread noon)) ≡ true
-  clear-spread f = accepted-clear (noSpread noon) 2 (spread-if false (none-there (ofKind 5) noon (f .none)))
+  clear-spread f = accepted-clear (noSpread noon) 2 (spread-if false (none-there morningsOwn noon (f .none)))
 
 module _ (many : ℕ) where
   few-if : (t : Bool) → ltb mostRecords many ≡ t → fewJoined many ≡ cond t (TooManyJoined many) Accepted
@@ -222,6 +224,13 @@ module _ (many : ℕ) where
       go true a s = (ltb-true mostRecords many a, sym (ap recordOf (few-if true a)) ∙ s .place)
       go false a s = absurd (apart {a = 0} {b = 13} (omega arith) (sym (ap numberOf (few-if false a)) ∙ s .number))
 
+  few-past : (n : ℕ) → 14 ≤ n → numberOf (fewJoined many) ≡ n → ⊥
+  few-past n l = go (ltb mostRecords many) refl
+    where
+      go : (t : Bool) → ltb mostRecords many ≡ t → numberOf (fewJoined many) ≡ n → ⊥
+      go true a e = omega (arith, sym (ap numberOf (few-if true a)) ∙ e)
+      go false a e = omega (arith, sym (ap numberOf (few-if false a)) ∙ e)
+
   few-accepts : Iff (Says (ofJoined (fewJoined many)) 0 0 0) (many ≤ mostRecords)
   few-accepts =
       record {
@@ -233,9 +242,18 @@ module _ (many : ℕ) where
       go true a s = absurd (apart {a = 0} {b = 13} (omega arith) (sym (s .number) ∙ ap numberOf (few-if true a)))
       go false a s = ltb-false mostRecords many a
 
--- ---- the pair
+-- ---- the pair: its records
 
-says-gives : (file : List ℕ) (f n k : ℕ) → Iff (Says (record { file = f; answer = checked file }) f n k) (Gives file n k)
+record RecordsPair (morning noon : List ℕ) : Type 0 where
+  ofMorning : (n k : ℕ) → 1 ≤ n → n ≤ 9 → Iff (Says (recordsVerdict morning noon) 1 n k) (RecordsGive morning n k)
+  ofNoon : (n k : ℕ) → 1 ≤ n → n ≤ 9 → Iff (Says (recordsVerdict morning noon) 2 n k) ((recordsChecked morning ≡ Accepted) × RecordsGive noon n k)
+  twelve : (k : ℕ) → Iff (Says (recordsVerdict morning noon) 2 12 k) (BothPass morning noon × FirstSpread noon k)
+  thirteen : (k : ℕ) → Iff (Says (recordsVerdict morning noon) 0 13 k)
+      (BothPass morning noon × (NoSpread noon × ((mostRecords < length (accountOf morning noon)) × (length (accountOf morning noon) ≡ k))))
+  accepted : Iff (Says (recordsVerdict morning noon) 0 0 0)
+      (BothPass morning noon × (NoSpread noon × (length (accountOf morning noon) ≤ mostRecords)))
+
+says-gives : (file : List ℕ) (f n k : ℕ) → Iff (Says (record { file = f; answer = recordsChecked file }) f n k) (RecordsGive file n k)
 says-gives file f n k =
     record {
       forth = λ s. record { number = s .number; place = s .place };
@@ -244,10 +262,10 @@ says-gives file f n k =
 
 module _ (morning noon : List ℕ) where
   abbrev m : Verdict
-  m = ofMorning (checked morning)
+  m = ofMorning (recordsChecked morning)
 
   abbrev n : Verdict
-  n = ofNoon (checked noon)
+  n = ofNoon (recordsChecked noon)
 
   abbrev spread : Verdict
   spread = ofNoon (noSpread noon)
@@ -256,11 +274,11 @@ module _ (morning noon : List ℕ) where
   all = ofJoined (fewJoined (length (accountOf morning noon)))
 
   -- what is said of the noon file or the joined account is said where the morning's passes
-  past-morning : (f i k : ℕ) → (1 ≡ f → ⊥) → Iff (Says (joinedVerdict morning noon) f i k) ((clear m ≡ true) × Says (n then spread then all) f i k)
+  past-morning : (f i k : ℕ) → (1 ≡ f → ⊥) → Iff (Says (recordsVerdict morning noon) f i k) ((clear m ≡ true) × Says (n then spread then all) f i k)
   past-morning f i k d = next-says m (n then spread then all) f i k (λ s. absurd (d (s .of)))
 
-  -- what is said of the joined account is said where the noon file passes too and has no kind 5
-  of-joined : (i k : ℕ) → Iff (Says (joinedVerdict morning noon) 0 i k) (BothPass morning noon × (NoSpread noon × Says all 0 i k))
+  -- what is said of the joined account is said where the noon file passes too and has no kind 5 or 6
+  of-joined : (i k : ℕ) → Iff (Says (recordsVerdict morning noon) 0 i k) (BothPass morning noon × (NoSpread noon × Says all 0 i k))
   of-joined i k =
       let a = past-morning 0 i k (λ e. omega arith) in
       let b = next-says n (spread then all) 0 i k (λ s. absurd (apart {a = 0} {b = 2} (omega arith) (sym (s .of)))) in
@@ -271,14 +289,14 @@ module _ (morning noon : List ℕ) where
             let x = a .forth s in
             let y = b .forth (x .1) in
             let z = c .forth (y .1) in
-            (record { first = clear-accepted (checked morning) 1 (x .0); second = clear-accepted (checked noon) 2 (y .0) }, (spread-clear noon (z .0), z .1));
+            (record { first = clear-accepted (recordsChecked morning) 1 (x .0); second = clear-accepted (recordsChecked noon) 2 (y .0) }, (spread-clear noon (z .0), z .1));
         back =
             λ (p, (q, s)).
-            a .back (accepted-clear (checked morning) 1 (p .first), b .back (accepted-clear (checked noon) 2 (p .second), c .back (clear-spread noon q, s)));
+            a .back (accepted-clear (recordsChecked morning) 1 (p .first), b .back (accepted-clear (recordsChecked noon) 2 (p .second), c .back (clear-spread noon q, s)));
       }
 
-  pub pair-exactly : PairExactly morning noon
-  pair-exactly =
+  records-exactly : RecordsPair morning noon
+  records-exactly =
       record {
         ofMorning =
             λ i k l h.
@@ -291,8 +309,8 @@ module _ (morning noon : List ℕ) where
             let b = first-says n (spread then all) 2 i k l (not-spread i k l h) in
             let g = says-gives noon 2 i k in
             record {
-              forth = λ s. let x = a .forth s in (clear-accepted (checked morning) 1 (x .0), g .forth (b .forth (x .1)));
-              back = λ (p, s). a .back (accepted-clear (checked morning) 1 p, b .back (g .back s));
+              forth = λ s. let x = a .forth s in (clear-accepted (recordsChecked morning) 1 (x .0), g .forth (b .forth (x .1)));
+              back = λ (p, s). a .back (accepted-clear (recordsChecked morning) 1 p, b .back (g .back s));
             };
         twelve =
             λ k.
@@ -305,10 +323,10 @@ module _ (morning noon : List ℕ) where
                   λ s.
                   let x = a .forth s in
                   let y = b .forth (x .1) in
-                  (record { first = clear-accepted (checked morning) 1 (x .0); second = clear-accepted (checked noon) 2 (y .0) }, g .forth (c .forth (y .1)));
+                  (record { first = clear-accepted (recordsChecked morning) 1 (x .0); second = clear-accepted (recordsChecked noon) 2 (y .0) }, g .forth (c .forth (y .1)));
               back =
                   λ (p, f).
-                  a .back (accepted-clear (checked morning) 1 (p .first), b .back (accepted-clear (checked noon) 2 (p .second), c .back (g .back f)));
+                  a .back (accepted-clear (recordsChecked morning) 1 (p .first), b .back (accepted-clear (recordsChecked noon) 2 (p .second), c .back (g .back f)));
             };
         thirteen =
             λ k.
@@ -327,7 +345,7 @@ module _ (morning noon : List ℕ) where
             };
       }
     where
-      at-most-nine : numberOf (checked noon) ≡ 12 → ⊥
+      at-most-nine : numberOf (recordsChecked noon) ≡ 12 → ⊥
       at-most-nine e = omega (arith, exactly noon .most, e)
 
       not-morning : (n then spread then all) .file ≡ 1 → ⊥
@@ -343,49 +361,147 @@ module _ (morning noon : List ℕ) where
           go false e = spread-number noon i l h (as-first spread all 2 i k e s .number)
 
   -- ---- saying which
-  pub pair-saying : OfMorning (joinedVerdict morning noon) ⊎ (OfNoon (joinedVerdict morning noon) ⊎ OfJoined (joinedVerdict morning noon))
-  pair-saying = go (clear m) refl (clear n) refl (clear spread) refl
+  records-saying : OfMorning (recordsVerdict morning noon) ⊎ (OfNoon (recordsVerdict morning noon) ⊎ OfJoined (recordsVerdict morning noon))
+  records-saying = go (clear m) refl (clear n) refl (clear spread) refl
     where
       above : (a : Answer) → eqb (numberOf a) 0 ≡ false → 1 ≤ numberOf a
       above a e = let d = eqb-false (numberOf a) 0 e in omega (arith, d)
 
       twelve : clear spread ≡ false → numberOf (noSpread noon) ≡ 12
-      twelve e = by (any (ofKind 5) (records noon)) refl
+      twelve e = by (any morningsOwn (records noon)) refl
         where
-          by : (t : Bool) → any (ofKind 5) (records noon) ≡ t → numberOf (noSpread noon) ≡ 12
+          by : (t : Bool) → any morningsOwn (records noon) ≡ t → numberOf (noSpread noon) ≡ 12
           by true a = ap numberOf (spread-if noon true a)
           by false a = absurd (false≢true (sym e ∙ ap (λ (x : Answer). eqb (numberOf x) 0) (spread-if noon false a)))
 
-      last : (numberOf (fewJoined (length (accountOf morning noon))) ≡ 0) ⊎ (numberOf (fewJoined (length (accountOf morning noon))) ≡ 13)
+      last : (numberOf (fewJoined (length (accountOf morning noon))) ≡ 0) ⊎ ((13 ≤ numberOf (fewJoined (length (accountOf morning noon)))) × (numberOf (fewJoined (length (accountOf morning noon))) ≤ 15))
       last = by (ltb mostRecords (length (accountOf morning noon))) refl
         where
           by : (t : Bool) → ltb mostRecords (length (accountOf morning noon)) ≡ t
-              → (numberOf (fewJoined (length (accountOf morning noon))) ≡ 0) ⊎ (numberOf (fewJoined (length (accountOf morning noon))) ≡ 13)
-          by true a = inr (ap numberOf (few-if (length (accountOf morning noon)) true a))
+              → (numberOf (fewJoined (length (accountOf morning noon))) ≡ 0) ⊎ ((13 ≤ numberOf (fewJoined (length (accountOf morning noon)))) × (numberOf (fewJoined (length (accountOf morning noon))) ≤ 15))
+          by true a =
+              let e = ap numberOf (few-if (length (accountOf morning noon)) true a) in
+              inr (omega (arith, e), omega (arith, e))
           by false a = inl (ap numberOf (few-if (length (accountOf morning noon)) false a))
 
       go : (t : Bool) → clear m ≡ t → (u : Bool) → clear n ≡ u → (w : Bool) → clear spread ≡ w
-          → OfMorning (joinedVerdict morning noon) ⊎ (OfNoon (joinedVerdict morning noon) ⊎ OfJoined (joinedVerdict morning noon))
+          → OfMorning (recordsVerdict morning noon) ⊎ (OfNoon (recordsVerdict morning noon) ⊎ OfJoined (recordsVerdict morning noon))
       go false a u b w c =
-          inl (subst⁻¹ OfMorning (stops m (n then spread then all) (eqb-false (numberOf (checked morning)) 0 a))
-          (record { of = refl; least = above (checked morning) a; most = exactly morning .most }))
+          inl (subst⁻¹ OfMorning (stops m (n then spread then all) (eqb-false (numberOf (recordsChecked morning)) 0 a))
+          (record { of = refl; least = above (recordsChecked morning) a; most = exactly morning .most }))
       go true a false b w c =
           inr (inl (subst⁻¹ OfNoon
-          (goes m (n then spread then all) (eqb-true (numberOf (checked morning)) 0 a)
-          ∙ stops n (spread then all) (eqb-false (numberOf (checked noon)) 0 b))
-          (record { of = refl; number = inl (above (checked noon) b, exactly noon .most) })))
+          (goes m (n then spread then all) (eqb-true (numberOf (recordsChecked morning)) 0 a)
+          ∙ stops n (spread then all) (eqb-false (numberOf (recordsChecked noon)) 0 b))
+          (record { of = refl; number = inl (above (recordsChecked noon) b, exactly noon .most) })))
       go true a true b false c =
           inr (inl (subst⁻¹ OfNoon
-          (goes m (n then spread then all) (eqb-true (numberOf (checked morning)) 0 a)
-          ∙ goes n (spread then all) (eqb-true (numberOf (checked noon)) 0 b)
+          (goes m (n then spread then all) (eqb-true (numberOf (recordsChecked morning)) 0 a)
+          ∙ goes n (spread then all) (eqb-true (numberOf (recordsChecked noon)) 0 b)
           ∙ stops spread all (eqb-false (numberOf (noSpread noon)) 0 c))
           (record { of = refl; number = inr (twelve c) })))
       go true a true b true c =
           inr (inr (subst⁻¹ OfJoined
-          (goes m (n then spread then all) (eqb-true (numberOf (checked morning)) 0 a)
-          ∙ goes n (spread then all) (eqb-true (numberOf (checked noon)) 0 b)
+          (goes m (n then spread then all) (eqb-true (numberOf (recordsChecked morning)) 0 a)
+          ∙ goes n (spread then all) (eqb-true (numberOf (recordsChecked noon)) 0 b)
           ∙ goes spread all (eqb-true (numberOf (noSpread noon)) 0 c))
           (record { of = refl; number = last })))
+
+-- ---- the pair: its records, then its rates
+
+through : {A B C : Type 0} → Iff A B → Iff B C → Iff A C
+through p q = record { forth = λ a. q .forth (p .forth a); back = λ c. p .back (q .back c) }
+
+module _ (morning noon : List ℕ) where
+  abbrev first : Verdict
+  first = recordsVerdict morning noon
+
+  abbrev account : List Record
+  account = accountOf morning noon
+
+  abbrev rated : Verdict
+  rated = ofJoined (ratesChecked account)
+
+  -- what the rates do not say is said by the records
+  by-records : (f n k : ℕ) → 1 ≤ n → (Says rated f n k → ⊥) → Iff (Says (joinedVerdict morning noon) f n k) (Says first f n k)
+  by-records f n k l never = first-says first rated f n k l never
+
+  -- what the records do not say is said by the rates, where the records are clear
+  clear-both : Iff (clear first ≡ true) (BothPass morning noon × (NoSpread noon × (length account ≤ mostRecords)))
+  clear-both =
+      let a = records-exactly morning noon .accepted in
+      record {
+        forth =
+            λ c.
+            a .forth (let e = records-accepted morning noon c in
+            record {
+              of = ap (λ (v : Verdict). v .file) e;
+              number = ap (λ (v : Verdict). numberOf (v .answer)) e;
+              place = ap (λ (v : Verdict). recordOf (v .answer)) e;
+            });
+        back = λ p. eq-eqb (numberOf (first .answer)) 0 (a .back p .number);
+      }
+
+  of-rates : (n k : ℕ) → Iff (Says rated 0 n k) (Comes (ratesChecked account) n k)
+  of-rates n k =
+      record {
+        forth = λ s. record { number = s .number; place = s .place };
+        back = λ c. record { of = refl; number = c .number; place = c .place };
+      }
+
+  by-rates : {P : Type 0} (n k : ℕ) → (Says first 0 n k → clear first ≡ true) → Iff (Comes (ratesChecked account) n k) P
+      → Iff (Says (joinedVerdict morning noon) 0 n k) (BothPass morning noon × (NoSpread noon × ((length account ≤ mostRecords) × P)))
+  by-rates n k never is =
+      let a = next-says first rated 0 n k never in
+      let g = through (of-rates n k) is in
+      record {
+        forth =
+            λ s.
+            let x = a .forth s in
+            let y = clear-both .forth (x .0) in
+            (y .0, (y .1 .0, (y .1 .1, g .forth (x .1))));
+        back = λ (p, (q, (h, r))). a .back (clear-both .back (p, (q, h)), g .back r);
+      }
+
+  not-joined : (f n k : ℕ) → (0 ≡ f → ⊥) → Says rated f n k → ⊥
+  not-joined f n k d s = d (s .of)
+
+  rate-number : (n : ℕ) → numberOf (ratesChecked account) ≡ n → (n ≡ 0) ⊎ ((14 ≤ n) × (n ≤ 15))
+  rate-number n e = subst (λ (m : ℕ). (m ≡ 0) ⊎ ((14 ≤ m) × (m ≤ 15))) e (rates-exactly account .numbers)
+
+  -- the joined account has no number past 13 by its records
+  record-number : (n k : ℕ) → 14 ≤ n → Says first 0 n k → clear first ≡ true
+  record-number n k l s = absurd (few-past (length account) n l (of-joined morning noon n k .forth s .1 .1 .number))
+
+  pub pair-exactly : PairExactly morning noon
+  pair-exactly =
+      let old = records-exactly morning noon in
+      record {
+        ofMorning = λ n k l h. through (by-records 1 n k l (not-joined 1 n k (λ e. omega arith))) (old .ofMorning n k l h);
+        ofNoon = λ n k l h. through (by-records 2 n k l (not-joined 2 n k (λ e. omega arith))) (old .ofNoon n k l h);
+        twelve = λ k. through (by-records 2 12 k (omega arith) (not-joined 2 12 k (λ e. omega arith))) (old .twelve k);
+        thirteen =
+            λ k.
+            through
+            (by-records 0 13 k (omega arith)
+            (λ s. ⊎-elim (λ z. omega arith) (λ z. omega (arith, z .0)) (rate-number 13 (s .number)))) (old .thirteen k);
+        rates = λ n k l h. by-rates n k (record-number n k l) (rates-exactly account .refused n k l h);
+        accepted = by-rates 0 0 (λ s. eq-eqb (numberOf (first .answer)) 0 (s .number)) (rates-exactly account .accepted);
+      }
+
+  pub pair-saying : OfMorning (joinedVerdict morning noon) ⊎ (OfNoon (joinedVerdict morning noon) ⊎ OfJoined (joinedVerdict morning noon))
+  pair-saying = go (clear first) refl
+    where
+      go : (t : Bool) → clear first ≡ t → OfMorning (joinedVerdict morning noon) ⊎ (OfNoon (joinedVerdict morning noon) ⊎ OfJoined (joinedVerdict morning noon))
+      go true c =
+          inr (inr (subst⁻¹ OfJoined (goes first rated (eqb-true (numberOf (first .answer)) 0 c))
+          (record {
+            of = refl;
+            number = ⊎-elim (λ z. inl z) (λ z. inr (omega (arith, z .0), z .1)) (rates-exactly account .numbers);
+          })))
+      go false c =
+          subst⁻¹ (λ (v : Verdict). OfMorning v ⊎ (OfNoon v ⊎ OfJoined v)) (stops first rated (eqb-false (numberOf (first .answer)) 0 c))
+          (records-saying morning noon)
 
 -- ---- the prompts handed back
 
@@ -445,7 +561,7 @@ module _ (morning noon : List ℕ) (c : ℕ) where
             ∙ sym (supplied false e)
         go false e false f =
             ap records (none-either e f)
-            ∙ sym (none-listed (promptsOf c (records morning)) (listed c (records morning)) (lawful morning (morning-accepted morning noon o) .named .prompts c) f)
+            ∙ sym (none-listed (promptsOf c (records morning)) (listed c (records morning)) (recorded morning (morning-accepted morning noon o) .named .prompts c) f)
             ∙ sym (supplied false e)
 
   no-place : clear (joinedVerdict morning noon) && ltb c mostContracts ≡ false → joinedPrompts morning noon c ≡ []

@@ -56,7 +56,7 @@ passed earlier r h =
 -- ---- a record's part
 pub record Known (r : Record) : Type 0 where
   pub low : 1 ≤ kind r
-  pub high : kind r ≤ 5
+  pub high : kind r ≤ 6
   pub contracts : contract r ≤ 15
 
 pub known-of : {earlier : List Record} (r : Record) → Passed earlier r → Known r
@@ -67,8 +67,26 @@ known-of r p =
 pub part-entry : (r : Record) → kind r ≡ 5 → partOf r ≡ 80
 part-entry r e = rw e
 
-pub part-other : (r : Record) → (kind r ≡ 5 → ⊥) → partOf r ≡ 16 * kind r + contract r
-part-other r h = rw (ne-eqb (kind r) 5 h)
+pub part-rate : (r : Record) → kind r ≡ 6 → partOf r ≡ 81
+part-rate r e = rw e
+
+pub part-other : (r : Record) → (kind r ≡ 5 → ⊥) → (kind r ≡ 6 → ⊥) → partOf r ≡ 16 * kind r + contract r
+part-other r h i = rw (ne-eqb (kind r) 5 h, ne-eqb (kind r) 6 i)
+
+-- the part by the kind, of a known kind or of none
+pub kind-cases :
+    (r : Record) → kind r ≤ 6 → (P : Type 0)
+    → (kind r ≡ 5 → partOf r ≡ 80 → P) → (kind r ≡ 6 → partOf r ≡ 81 → P) → (kind r < 5 → partOf r ≡ 16 * kind r + contract r → P)
+    → P
+kind-cases r high P f g h = go (eqb (kind r) 5) refl (eqb (kind r) 6) refl
+  where
+    go : (s : Bool) → eqb (kind r) 5 ≡ s → (t : Bool) → eqb (kind r) 6 ≡ t → P
+    go true e t i = f (eqb-true _ _ e) (part-entry r (eqb-true _ _ e))
+    go false e true i = g (eqb-true _ _ i) (part-rate r (eqb-true _ _ i))
+    go false e false i =
+        let d = eqb-false (kind r) 5 e in
+        let j = eqb-false (kind r) 6 i in
+        h (omega arith) (part-other r d j)
 
 pub same-tests : (a b : Bool) → (a ≡ true → b ≡ true) → (b ≡ true → a ≡ true) → a ≡ b
 same-tests true b f g = sym (f refl)
@@ -80,23 +98,17 @@ both-hold p q = rw (p, q)
 
 module _ (r : Record) (k : Known r) where
   pub part-cases :
-      (P : Type 0) → (kind r ≡ 5 → partOf r ≡ 80 → P) → (kind r < 5 → partOf r ≡ 16 * kind r + contract r → P) → P
-  part-cases P f g = go (eqb (kind r) 5) refl
-    where
-      go : (t : Bool) → eqb (kind r) 5 ≡ t → P
-      go true e = f (eqb-true _ _ e) (part-entry r (eqb-true _ _ e))
-      go false e =
-          let d = eqb-false (kind r) 5 e in
-          let h = k .high in
-          g (omega arith) (part-other r d)
+      (P : Type 0) → (kind r ≡ 5 → partOf r ≡ 80 → P) → (kind r ≡ 6 → partOf r ≡ 81 → P)
+      → (kind r < 5 → partOf r ≡ 16 * kind r + contract r → P) → P
+  part-cases = kind-cases r (k .high)
 
-  pub part-bound : partOf r < 81
+  pub part-bound : partOf r < 82
   part-bound =
       let c = k .contracts in
-      part-cases (partOf r < 81) (λ e p. omega arith) (λ l p. omega arith)
+      part-cases (partOf r < 82) (λ e p. omega arith) (λ e p. omega arith) (λ l p. omega arith)
 
-  pub mine : (v : ℕ) → v < 81 → inPart v r ≡ eqb (partOf r) v
-  mine v h = go (eqb v 80) refl
+  pub mine : (v : ℕ) → v < 82 → inPart v r ≡ eqb (partOf r) v
+  mine v h = go (eqb v 80) refl (eqb v 81) refl
     where
       entries : v ≡ 80 → eqb (kind r) 5 ≡ eqb (partOf r) v
       entries e =
@@ -104,32 +116,41 @@ module _ (r : Record) (k : Known r) where
           (λ t.
           let p = eqb-true (partOf r) v t in
           let c = k .contracts in
-          part-cases (eqb (kind r) 5 ≡ true) (λ i q. eq-eqb _ _ i) (λ l q. absurd (omega arith)))
+          part-cases (eqb (kind r) 5 ≡ true) (λ i q. eq-eqb _ _ i) (λ i q. absurd (omega arith)) (λ l q. absurd (omega arith)))
 
-      others : (v ≡ 80 → ⊥) → ofContract (v / 16) (v % 16) r ≡ eqb (partOf r) v
-      others n =
+      rates : v ≡ 81 → eqb (kind r) 6 ≡ eqb (partOf r) v
+      rates e =
+          same-tests _ _ (λ t. eq-eqb _ _ (part-rate r (eqb-true _ _ t) ∙ sym e))
+          (λ t.
+          let p = eqb-true (partOf r) v t in
+          let c = k .contracts in
+          part-cases (eqb (kind r) 6 ≡ true) (λ i q. absurd (omega arith)) (λ i q. eq-eqb _ _ i) (λ l q. absurd (omega arith)))
+
+      others : (v ≡ 80 → ⊥) → (v ≡ 81 → ⊥) → ofContract (v / 16) (v % 16) r ≡ eqb (partOf r) v
+      others n m =
           let c = k .contracts in
           same-tests (ofContract (v / 16) (v % 16) r) (eqb (partOf r) v)
           (λ t.
           let b = both-true (eqb (kind r) (v / 16)) (eqb (contract r) (v % 16)) t in
           let i : kind r ≡ v / 16 = eqb-true (kind r) (v / 16) (b .0) in
           let j : contract r ≡ v % 16 = eqb-true (contract r) (v % 16) (b .1) in
-          eq-eqb _ _ (part-cases (partOf r ≡ v) (λ a q. absurd (omega arith)) (λ l q. omega arith)))
+          eq-eqb _ _ (part-cases (partOf r ≡ v) (λ a q. absurd (omega arith)) (λ a q. absurd (omega arith)) (λ l q. omega arith)))
           (λ t.
           let p = eqb-true (partOf r) v t in
-          part-cases (ofContract (v / 16) (v % 16) r ≡ true) (λ a q. absurd (omega arith))
+          part-cases (ofContract (v / 16) (v % 16) r ≡ true) (λ a q. absurd (omega arith)) (λ a q. absurd (omega arith))
           (λ l q. both-hold (eq-eqb (kind r) (v / 16) (omega arith)) (eq-eqb (contract r) (v % 16) (omega arith))))
 
-      go : (t : Bool) → eqb v 80 ≡ t → inPart v r ≡ eqb (partOf r) v
-      go true e = rw e (entries (eqb-true _ _ e))
-      go false e = rw e (others (eqb-false _ _ e))
+      go : (s : Bool) → eqb v 80 ≡ s → (t : Bool) → eqb v 81 ≡ t → inPart v r ≡ eqb (partOf r) v
+      go true e t f = rw e (entries (eqb-true _ _ e))
+      go false e true f = rw (e, f) (rates (eqb-true _ _ f))
+      go false e false f = rw (e, f) (others (eqb-false _ _ e) (eqb-false _ _ f))
 
 -- ---- the part does not fall
 pub right-off : {a b : Bool} → a ≡ true → a && b ≡ false → b ≡ false
 right-off {a} {b} t h = ap (λ (x : Bool). x && b) (sym t) ∙ h
 
 module _ (before r : Record) (off : outOfOrder before r ≡ false) where
-  contract-rises : (n : ℕ) → 1 ≤ n → n ≤ 5 → n < 5 → kind r ≡ n → kind before ≡ n → contract before ≤ contract r
+  contract-rises : (n : ℕ) → 1 ≤ n → n ≤ 6 → n < 5 → kind r ≡ n → kind before ≡ n → contract before ≤ contract r
   contract-rises n l h s e b =
       by-kind (λ m. m < 5 → kind r ≡ m → kind before ≡ m → contract before ≤ contract r)
       (λ _ e b.
@@ -144,13 +165,13 @@ module _ (before r : Record) (off : outOfOrder before r ≡ false) where
       (λ _ e b. falls (b ∙ sym e) (sym (order-3 before r e) ∙ off))
       (λ _ e b. falls (b ∙ sym e) (neither (contractFalls before r) (legsClash r)
       (sym (order-4 before r e) ∙ off) .0))
-      (λ s e b. absurd (omega arith)) n l h s e b
+      (λ s e b. absurd (omega arith)) (λ s e b. absurd (omega arith)) n l h s e b
     where
       falls : kind before ≡ kind r → contractFalls before r ≡ false → contract before ≤ contract r
       falls e t = ltb-false (contract r) (contract before) (right-off (eq-eqb _ _ e) t)
 
   pub part-rises :
-      Known r → kind before ≤ 5 → contract before ≤ 15 → kindFalls before r ≡ false → partOf before ≤ partOf r
+      Known r → kind before ≤ 6 → contract before ≤ 15 → kindFalls before r ≡ false → partOf before ≤ partOf r
   part-rises k hb cb f = go (eqb (kind before) (kind r)) refl
     where
       up : kind before ≤ kind r
@@ -159,8 +180,10 @@ module _ (before r : Record) (off : outOfOrder before r ≡ false) where
       less : kind before < kind r → partOf before ≤ partOf r
       less h =
           let top = k .high in
-          let p = part-other before (λ e. omega arith) in
-          part-cases r k (partOf before ≤ partOf r) (λ e q. omega arith) (λ l q. omega arith)
+          kind-cases before hb (partOf before ≤ partOf r)
+          (λ i p. part-cases r k (partOf before ≤ partOf r) (λ e q. absurd (omega arith)) (λ e q. omega arith) (λ l q. absurd (omega arith)))
+          (λ i p. absurd (omega arith))
+          (λ i p. part-cases r k (partOf before ≤ partOf r) (λ e q. omega arith) (λ e q. omega arith) (λ l q. omega arith))
 
       alike : kind before ≡ kind r → partOf before ≤ partOf r
       alike e =
@@ -169,8 +192,11 @@ module _ (before r : Record) (off : outOfOrder before r ≡ false) where
           (λ i q.
           let p = part-entry before (e ∙ i) in
           omega arith)
+          (λ i q.
+          let p = part-rate before (e ∙ i) in
+          omega arith)
           (λ l q.
-          let p = part-other before (λ i. omega arith) in
+          let p = part-other before (λ i. omega arith) (λ i. omega arith) in
           let c = contract-rises (kind r) (k .low) (k .high) l refl e in
           omega arith)
 

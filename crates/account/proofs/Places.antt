@@ -8,17 +8,17 @@ use lib.ListN.{length, getD, take, length-take, length-map}
 use lib.Seq.{getD-take}
 use lib.Dec.{eqb, ltb}
 use native.Mathlib.Omega.{arith}
-use borrow.Author.Tests.{ne-eqb, lt-ltb, ltb-true, ltb-false}
+use borrow.Author.Tests.{ne-eqb, eqb-true, eqb-false, lt-ltb, ltb-true, ltb-false}
 use Rattle.exact.specs.Lists.{keep, count, sum}
 use Rattle.exact.proofs.Lists.{getD-map}
 use Rattle.record.specs.Bytes.{countFrom}
 use Rattle.record.specs.Layout.{Record, kind, contract}
 use Rattle.account.specs.Accepted.{listed}
-use Rattle.account.specs.Check.{checked}
-use Rattle.account.specs.Joined.{supplier, joinedOf, joined}
-use Rattle.account.specs.Lawful.{Lawful}
+use Rattle.account.specs.Check.{recordsChecked}
+use Rattle.account.specs.Joined.{supplier, joinedOf, fromMorning, joined}
+use Rattle.account.specs.Lawful.{Recorded}
 use Rattle.account.specs.Notes.{part, parts, inPart}
-use Rattle.account.specs.Parts.{ofKind, ofContract, contractsOf, entriesOf}
+use Rattle.account.specs.Parts.{ofKind, ofContract, contractsOf, entriesOf, ratesOf}
 use Rattle.account.specs.Records.{records, stretch}
 use Rattle.account.specs.Standing.{lists, fromNoon, JoinedBy, accountOf, supplies, Places}
 use Rattle.account.specs.Surveyed.{Surveyed, partStart, partCount}
@@ -28,22 +28,22 @@ use Rattle.account.specs.declared.accounts.Account.{Account}
 use Rattle.account.proofs.Accepted.{accepts, part-stands}
 use Rattle.account.proofs.Every.{length-kept}
 use Rattle.account.proofs.Going.{if-accepted}
-use Rattle.account.proofs.JoinedLaws.{only-5, other-kind, others, no-entries, by-parts, part-joined, entries-joined, joined-length, joined-alone}
-use Rattle.account.proofs.Lawful.{lawful, numbered}
+use Rattle.account.proofs.JoinedLaws.{only-5, other-kind, others, none-mornings, by-parts, part-joined, entries-joined, rates-joined, joined-length, joined-alone}
+use Rattle.account.proofs.Lawful.{recorded, numbered}
 use Rattle.account.proofs.Lists.{none-counted}
 use Rattle.account.proofs.Noted.{part-is}
 
 -- ---- one file alone
-pub alone : (file none : List ℕ) → none ≡ [] → checked file ≡ Accepted → accountOf file none ≡ records file
+pub alone : (file none : List ℕ) → none ≡ [] → recordsChecked file ≡ Accepted → accountOf file none ≡ records file
 alone file none e ok = ap (λ (bytes : List ℕ). accountOf file bytes) e ∙ joined-alone file ok
 
-pub alone-lawful : (file none : List ℕ) → none ≡ [] → checked file ≡ Accepted → Lawful (accountOf file none)
-alone-lawful file none e ok = subst⁻¹ Lawful (alone file none e ok) (lawful file ok)
+pub alone-recorded : (file none : List ℕ) → none ≡ [] → recordsChecked file ≡ Accepted → Recorded (accountOf file none)
+alone-recorded file none e ok = subst⁻¹ Recorded (alone file none e ok) (recorded file ok)
 
 -- ---- no record is of kind 0
 module _ (v : ℕ) (low : v < 16) where
   not-low : (r : Record) → (kind r ≡ 0 → ⊥) → inPart v r ≡ false
-  not-low r d = rw (ne-eqb v 80 (λ z. omega arith)) (other-kind (v / 16) (v % 16) r (λ z. d (omega arith)))
+  not-low r d = rw (ne-eqb v 80 (λ z. omega arith), ne-eqb v 81 (λ z. omega arith)) (other-kind (v / 16) (v % 16) r (λ z. d (omega arith)))
 
   pub none-low : (m n : List Record) → keep (inPart v) (joined m n) ≡ []
   none-low m n =
@@ -51,19 +51,19 @@ module _ (v : ℕ) (low : v < 16) where
       let no : (k : ℕ) → (k ≡ 0 → ⊥) → keep p (joinedOf m n k) ≡ [] = λ k d. others m n p 0 k not-low d in
       by-parts m n p
       ∙ only-5 (keep p (joinedOf m n 1)) (keep p (joinedOf m n 2)) (keep p (joinedOf m n 3)) (keep p (joinedOf m n 4))
-      (keep p (entriesOf m)) (no 1 (λ z. omega arith)) (no 2 (λ z. omega arith)) (no 3 (λ z. omega arith))
+      (keep p (fromMorning m)) (no 1 (λ z. omega arith)) (no 2 (λ z. omega arith)) (no 3 (λ z. omega arith))
       (no 4 (λ z. omega arith))
-      ∙ no-entries m n p 0 not-low (λ z. omega arith)
+      ∙ none-mornings m n p 0 not-low (λ z. omega arith) (λ z. omega arith)
 
   count-low : (m n : List Record) → count (inPart v) (joined m n) ≡ 0
   count-low m n = sym (length-kept (inPart v) (joined m n)) ∙ ap length (none-low m n)
 
-  file-low : (file : List ℕ) → checked file ≡ Accepted → count (inPart v) (records file) ≡ 0
+  file-low : (file : List ℕ) → recordsChecked file ≡ Accepted → count (inPart v) (records file) ≡ 0
   file-low file ok = ap (count (inPart v)) (sym (joined-alone file ok)) ∙ count-low (records file) []
 
 -- ---- what is noted of an accepted file
-counted : (file : List ℕ) → checked file ≡ Accepted → (v : ℕ) → partCount file v ≡ count (inPart v) (records file)
-counted file ok v = if-accepted (checked file) (count (inPart v) (records file)) ok
+counted : (file : List ℕ) → recordsChecked file ≡ Accepted → (v : ℕ) → partCount file v ≡ count (inPart v) (records file)
+counted file ok v = if-accepted (recordsChecked file) (count (inPart v) (records file)) ok
 
 -- which contracts are listed, by the counts
 lists-is :
@@ -98,7 +98,7 @@ same-below p q a zero f = refl
 same-below p q a (suc n) f = rw (f a (omega arith), same-below p q (a + 1) n (λ c h. f c (omega arith)))
 
 -- ---- a part of either of two accepted files
-module _ (morning noon : List ℕ) (okm : checked morning ≡ Accepted) (okn : checked noon ≡ Accepted) where
+module _ (morning noon : List ℕ) (okm : recordsChecked morning ≡ Accepted) (okn : recordsChecked noon ≡ Accepted) where
   either-stands :
       (b : Bool) (k c : ℕ) → k ≤ 4 → c ≤ 15
       → records (stretch (cond b noon morning) (cond b (partStart noon (part k c)) (partStart morning (part k c)))
@@ -110,7 +110,7 @@ module _ (morning noon : List ℕ) (okm : checked morning ≡ Accepted) (okn : c
 -- ---- the joined account
 module _
     (morning noon : List ℕ) (m n : Survey) (j : Account) (sm : Surveyed morning m) (sn : Surveyed noon n)
-    (okm : checked morning ≡ Accepted) (okn : checked noon ≡ Accepted) (by : JoinedBy m n j) where
+    (okm : recordsChecked morning ≡ Accepted) (okn : recordsChecked noon ≡ Accepted) (by : JoinedBy m n j) where
   noon-lists : (c : ℕ) → c ≤ 15 → lists (n .counts) c ≡ listed c (records noon)
   noon-lists c h =
       lists-is (n .counts) (records noon) c h (sn .counts (part 1 c) (omega arith) ∙ counted noon okn (part 1 c))
@@ -122,14 +122,14 @@ module _
   flag-is c h = by .noon .each c (omega arith) ∙ noon-lists c h
 
   count-from :
-      (v : ℕ) → v < 81
+      (v : ℕ) → v < 82
       → getD (j .counts) v 0 ≡ cond (fromNoon (n .counts) v) (partCount noon v) (partCount morning v)
   count-from v h =
       by .counts .each v h
       ∙ ap₂ (λ (x y : ℕ). cond (fromNoon (n .counts) v) x y) (sn .counts v h) (sm .counts v h)
 
   first-from :
-      (v : ℕ) → v < 81
+      (v : ℕ) → v < 82
       → getD (j .first) v 0 ≡ cond (fromNoon (n .counts) v) (partStart noon v) (partStart morning v)
   first-from v h =
       by .first .each v h
@@ -142,7 +142,7 @@ module _
   each-stands k c low hk hc =
       let b = listed c (records noon) in
       let v = part k c in
-      let h : v < 81 = omega arith in
+      let h : v < 82 = omega arith in
       let e = part-from k c hk hc in
       ap (λ (t : Bool). records (stretch (cond t noon morning) (getD (j .first) v 0) (getD (j .counts) v 0)))
       (flag-is c hc)
@@ -170,7 +170,7 @@ module _
       ∙ length-kept p account
       ∙ ap (λ (q : Record → Bool). count q account) (sym (part-is k c hk hc))
     where
-      same : (file : List ℕ) → checked file ≡ Accepted → partCount file (part k c) ≡ count (ofContract k c) (records file)
+      same : (file : List ℕ) → recordsChecked file ≡ Accepted → partCount file (part k c) ≡ count (ofContract k c) (records file)
       same file ok =
           counted file ok (part k c) ∙ ap (λ (q : Record → Bool). count q (records file)) (part-is k c hk hc)
 
@@ -188,6 +188,14 @@ module _
       ∙ ap length (sym (entries-joined (records morning) (records noon)))
       ∙ length-kept (ofKind 5) account
 
+  count-rates : getD (j .counts) 81 0 ≡ count (inPart 81) account
+  count-rates =
+      count-from 81 (omega arith)
+      ∙ counted morning okm 81
+      ∙ sym (length-kept (ofKind 6) (records morning))
+      ∙ ap length (sym (rates-joined (records morning) (records noon)))
+      ∙ length-kept (ofKind 6) account
+
   count-none : (v : ℕ) → v < 16 → getD (j .counts) v 0 ≡ count (inPart v) account
   count-none v low =
       count-from v (omega arith)
@@ -195,7 +203,7 @@ module _
       ∙ either (fromNoon (n .counts) v)
       ∙ sym (count-low v low (records morning) (records noon))
     where
-      none : (file : List ℕ) → checked file ≡ Accepted → partCount file v ≡ 0
+      none : (file : List ℕ) → recordsChecked file ≡ Accepted → partCount file v ≡ 0
       none file ok = counted file ok v ∙ file-low v low file ok
 
       either : (t : Bool) → _≡_ {A = ℕ} (cond t 0 0) 0
@@ -212,9 +220,15 @@ module _
           subst (λ (i : ℕ). getD (j .counts) i 0 ≡ count (inPart i) account) d
           (count-part (v / 16) (v % 16) (omega arith) (omega arith) (omega arith))
       middle above false e =
-          let l = ltb-false v 80 e in
-          let d : 80 ≡ v = omega arith in
-          subst (λ (i : ℕ). getD (j .counts) i 0 ≡ count (inPart i) account) d count-entries
+          last (ltb-false v 80 e) (eqb v 80) refl
+        where
+          last : 80 ≤ v → (t : Bool) → eqb v 80 ≡ t → getD (j .counts) v 0 ≡ count (inPart v) account
+          last l true i =
+              subst (λ (i : ℕ). getD (j .counts) i 0 ≡ count (inPart i) account) (sym (eqb-true v 80 i)) count-entries
+          last l false i =
+              let n = eqb-false v 80 i in
+              let d : 81 ≡ v = omega arith in
+              subst (λ (i : ℕ). getD (j .counts) i 0 ≡ count (inPart i) account) d count-rates
 
       low : (t : Bool) → ltb v 16 ≡ t → getD (j .counts) v 0 ≡ count (inPart v) account
       low true e = count-none v (ltb-true v 16 e)
@@ -234,14 +248,14 @@ module _
       ∙ sym (joined-length (records morning) (records noon))
 
   -- ---- the contracts' numbers
-  numbers-are : Lawful account → take (j .contracts) (j .numbers) ≡ map contract (contractsOf account)
+  numbers-are : Recorded account → take (j .contracts) (j .numbers) ≡ map contract (contractsOf account)
   numbers-are law =
       by .numbers .those
       ∙ same-below (lists (j .counts)) (λ c. listed c account) 0 16
       (λ c h. lists-is (j .counts) account c (omega arith) (counts-are (part 1 c) (omega arith)))
       ∙ sym (numbered account law)
 
-  contracts-are : Lawful account → j .contracts ≡ length (contractsOf account)
+  contracts-are : Recorded account → j .contracts ≡ length (contractsOf account)
   contracts-are law =
       let l = by .numbers .long in
       let f = by .numbers .few in
@@ -253,7 +267,7 @@ module _
       )
 
   number-is :
-      Lawful account → (i : ℕ) → i < j .contracts → getD (j .numbers) i 0 ≡ contract (getD (contractsOf account) i [])
+      Recorded account → (i : ℕ) → i < j .contracts → getD (j .numbers) i 0 ≡ contract (getD (contractsOf account) i [])
   number-is law i h =
       sym (getD-take (j .contracts) (j .numbers) i 0 h)
       ∙ ap (λ (xs : List ℕ). getD xs i 0) (numbers-are law)
@@ -266,7 +280,14 @@ module _
       ∙ accepts morning okm .standing .entries
       ∙ sym (entries-joined (records morning) (records noon))
 
-  pub places : Lawful (accountOf morning noon) → Places morning noon j
+  rates-stand :
+      records (stretch morning (getD (j .first) 81 0) (getD (j .counts) 81 0)) ≡ ratesOf account
+  rates-stand =
+      ap₂ (λ (x y : ℕ). records (stretch morning x y)) (first-from 81 (omega arith)) (count-from 81 (omega arith))
+      ∙ accepts morning okm .standing .rates
+      ∙ sym (rates-joined (records morning) (records noon))
+
+  pub places : Recorded (accountOf morning noon) → Places morning noon j
   places law =
       record {
         all = records-are;
@@ -279,4 +300,5 @@ module _
         counts = counts-are;
         each = each-stands;
         entries = entries-stand;
+        rates = rates-stand;
       }

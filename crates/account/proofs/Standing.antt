@@ -5,16 +5,16 @@ use native.Mathlib.Omega.{arith}
 use mathlib.Core.Path.{_≡_, refl, sym, ap, ap₂, _∙_, subst}
 use mathlib.Core.Bool.{Bool, true, false, _&&_, cond}
 use mathlib.Core.List.{List, [], _∷_}
-use borrow.Author.Tests.{lt-ltb, le-ltb, ltb-true, ltb-false}
-use lib.Dec.{ltb}
+use borrow.Author.Tests.{eqb-true, eqb-false, lt-ltb, le-ltb, ltb-true, ltb-false}
+use lib.Dec.{eqb, ltb}
 use lib.ListN.{length, getD, drop, length-take}
 use lib.Seq.{take-all}
 use Rattle.exact.specs.Lists.{keep, count}
 use Rattle.record.specs.Layout.{Record}
-use Rattle.account.specs.Notes.{part, parts, entryPart, inPart, partRecords}
-use Rattle.account.specs.Parts.{ofContract}
+use Rattle.account.specs.Notes.{part, parts, entryPart, ratePart, inPart, partRecords}
+use Rattle.account.specs.Parts.{ofKind, ofContract}
 use Rattle.account.specs.Records.{cut, records, recordCount, stretch}
-use Rattle.account.specs.Standing.{accountOf, Stands, PartOf}
+use Rattle.account.specs.Standing.{accountOf, Places, PartOf}
 use Rattle.account.specs.declared.accounts.Account.{Account}
 use Rattle.account.proofs.Every.{length-kept}
 use Rattle.account.proofs.Noted.{part-is}
@@ -26,13 +26,20 @@ whole : (file : List ℕ) (k n : ℕ) → recordCount (stretch file k n) ≡ n �
 whole file k n e = omega (arith, e, length-take (n * 96) (drop (k * 96) file))
 
 -- the part of a number, where there is one
-within : (v : ℕ) → v ≤ entryPart → (account : List Record) → partRecords v account ≡ keep (inPart v) account
-within v h account = ap (λ (t : Bool). cond t [] (keep (inPart v) account)) (le-ltb entryPart v h)
+within : (v : ℕ) → v ≤ ratePart → (account : List Record) → partRecords v account ≡ keep (inPart v) account
+within v h account = ap (λ (t : Bool). cond t [] (keep (inPart v) account)) (le-ltb ratePart v h)
 
 -- a contract's part has its records of a kind
 pub contract-part : (k c : ℕ) → k ≤ 4 → c ≤ 15 → (account : List Record) → partRecords (part k c) account ≡ keep (ofContract k c) account
 contract-part k c hk hc account =
     within (part k c) (omega arith) account ∙ ap (λ (p : Record → Bool). keep p account) (part-is k c hk hc)
+
+-- the rows of contract c, and the rates
+pub row-part : (c : ℕ) → c < 16 → (account : List Record) → partRecords (48 + c) account ≡ keep (inPart (48 + c)) account
+row-part c h account = within (48 + c) (omega arith) account
+
+pub rate-part : (account : List Record) → partRecords 81 account ≡ keep (ofKind 6) account
+rate-part account = within 81 (omega arith) account
 
 -- the bytes of one record are that record
 pub one-record : (bytes : List ℕ) (r : Record) → records bytes ≡ r ∷ [] → length bytes ≡ 96 → bytes ≡ r
@@ -41,12 +48,12 @@ one-record bytes r e l =
     sym (take-all 96 bytes (omega (arith, l))) ∙ ap (λ (rs : List Record). getD rs 0 []) (sym (ap (λ (n : ℕ). cut n bytes) one) ∙ e)
 
 -- none past the last
-pub part-past : (account : List Record) (v : ℕ) → entryPart < v → PartOf account v []
+pub part-past : (account : List Record) (v : ℕ) → ratePart < v → PartOf account v []
 part-past account v h =
-    let e : partRecords v account ≡ [] = ap (λ (t : Bool). cond t [] (keep (inPart v) account)) (lt-ltb entryPart v h) in
+    let e : partRecords v account ≡ [] = ap (λ (t : Bool). cond t [] (keep (inPart v) account)) (lt-ltb ratePart v h) in
     record { are = sym e; whole = sym (ap (λ (rs : List Record). length rs * 96) e) }
 
-module _ (morning noon : List ℕ) (a : Account) (st : Stands morning noon a) (v : ℕ) (h : v ≤ entryPart) where
+module _ (morning noon : List ℕ) (a : Account) (st : Places morning noon a) (v : ℕ) (h : v ≤ ratePart) where
   abbrev account : List Record
   account = accountOf morning noon
 
@@ -57,7 +64,7 @@ module _ (morning noon : List ℕ) (a : Account) (st : Stands morning noon a) (v
   bytes late = stretch (file late) (getD (a .first) v 0) (getD (a .counts) v 0)
 
   counted : getD (a .counts) v 0 ≡ length (keep (inPart v) account)
-  counted = st .places .counts v (omega arith) ∙ sym (length-kept (inPart v) account)
+  counted = st .counts v (omega arith) ∙ sym (length-kept (inPart v) account)
 
   abbrev late : Bool
   late = ltb v entryPart && getD (a .noon) (v % 16) false
@@ -75,12 +82,19 @@ module _ (morning noon : List ℕ) (a : Account) (st : Stands morning noon a) (v
           let d : part (v / 16) (v % 16) ≡ v = omega arith in
           ap (λ (t : Bool). records (bytes (t && getD (a .noon) (v % 16) false))) f
           ∙ subst (λ (i : ℕ). records (stretch (file (getD (a .noon) (v % 16) false)) (getD (a .first) i 0) (getD (a .counts) i 0)) ≡ keep (inPart i) account) d
-          (st .places .each (v / 16) (v % 16) (omega arith) (omega arith) (omega arith)
+          (st .each (v / 16) (v % 16) (omega arith) (omega arith) (omega arith)
           ∙ ap (λ (p : Record → Bool). keep p account) (sym (part-is (v / 16) (v % 16) (omega arith) (omega arith))))
       go false e false f =
-          let d : 80 ≡ v = omega (arith, ltb-false v 80 f) in
-          ap (λ (t : Bool). records (bytes (t && getD (a .noon) (v % 16) false))) f
-          ∙ subst (λ (i : ℕ). records (stretch morning (getD (a .first) i 0) (getD (a .counts) i 0)) ≡ keep (inPart i) account) d (st .places .entries)
+          ap (λ (t : Bool). records (bytes (t && getD (a .noon) (v % 16) false))) f ∙ last (eqb v 80) refl
+        where
+          last : (t : Bool) → eqb v 80 ≡ t → records (stretch morning (getD (a .first) v 0) (getD (a .counts) v 0)) ≡ keep (inPart v) account
+          last true i =
+              subst (λ (i : ℕ). records (stretch morning (getD (a .first) i 0) (getD (a .counts) i 0)) ≡ keep (inPart i) account)
+              (sym (eqb-true v 80 i)) (st .entries)
+          last false i =
+              let n = eqb-false v 80 i in
+              let d : 81 ≡ v = omega (arith, ltb-false v 80 f) in
+              subst (λ (i : ℕ). records (stretch morning (getD (a .first) i 0) (getD (a .counts) i 0)) ≡ keep (inPart i) account) d (st .rates)
 
   pub part-stands : (b : Bool) → b ≡ late → (r : List ℕ) → r ≡ bytes b → PartOf account v r
   part-stands b eb r er =

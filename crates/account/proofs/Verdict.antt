@@ -11,7 +11,7 @@ use borrow.Author.Tests.{ne-eqb}
 use Rattle.record.specs.Layout.{Record}
 use Rattle.record.specs.Ranges.{unknownKind, unusedByte, fieldOutside}
 use Rattle.account.specs.Answers.{refusal}
-use Rattle.account.specs.Check.{theOneBefore, kindFalls, unlisted, outOfOrder, overLimit, faultOf, orElse, firstFault, tooLong, cutRecord, checked}
+use Rattle.account.specs.Check.{theOneBefore, kindFalls, unlisted, outOfOrder, overLimit, faultOf, orElse, firstFault, tooLong, cutRecord, recordsChecked}
 use Rattle.account.specs.Records.{cut, recordAt, records, recordCount, earlier}
 use Rattle.account.specs.declared.answers.Answer.{Answer}
 use Rattle.account.specs.declared.answers.Answer.the-variants.{Accepted, TooLong, CutRecord}
@@ -60,15 +60,15 @@ module _ (file : List ℕ) where
       reach n (omega arith) fine
       ∙ ap (λ (m : ℕ). firstFault n (earlier file n) (cut m (drop (n * 96) file))) e
 
-  pub too-long : tooLong file ≡ true → checked file ≡ TooLong
+  pub too-long : tooLong file ≡ true → recordsChecked file ≡ TooLong
   too-long e = ap (λ (b : Bool). cond b TooLong (cond (cutRecord file) CutRecord (firstFault 0 [] (records file)))) e
 
-  pub cut-short : tooLong file ≡ false → cutRecord file ≡ true → checked file ≡ CutRecord
+  pub cut-short : tooLong file ≡ false → cutRecord file ≡ true → recordsChecked file ≡ CutRecord
   cut-short e f =
       ap (λ (b : Bool). cond b TooLong (cond (cutRecord file) CutRecord (firstFault 0 [] (records file)))) e
       ∙ ap (λ (b : Bool). cond b CutRecord (firstFault 0 [] (records file))) f
 
-  pub by-records : tooLong file ≡ false → cutRecord file ≡ false → checked file ≡ firstFault 0 [] (records file)
+  pub by-records : tooLong file ≡ false → cutRecord file ≡ false → recordsChecked file ≡ firstFault 0 [] (records file)
   by-records e f =
       ap (λ (b : Bool). cond b TooLong (cond (cutRecord file) CutRecord (firstFault 0 [] (records file)))) e
       ∙ ap (λ (b : Bool). cond b CutRecord (firstFault 0 [] (records file))) f

@@ -1,47 +1,50 @@
 -- Each record of an account is in exactly one of its parts: of a joined account, and so of one file, which is joined with none.
 -- Assumes nothing.
 use Prim.Native.Nat.{ℕ, _+_, _≤_, _<_}
-use mathlib.Core.Path.{_≡_, refl, sym, ap, subst, _∙_}
+use mathlib.Core.Path.{_≡_, refl, sym, ap, ap₂, subst, _∙_}
 use mathlib.Core.Bool.{Bool, true, false, not, _&&_, _||_, or-true, false≢true}
 use mathlib.Core.List.{List, [], _∷_, map}
 use lib.ListN.{length}
-use lib.Dec.{eqb}
+use lib.Dec.{eqb, leb}
 use native.Mathlib.Omega.{arith}
-use borrow.Author.Tests.{eq-eqb, ne-eqb, eqb-true, eqb-false}
+use borrow.Author.Tests.{eq-eqb, ne-eqb, eqb-true, eqb-false, leb-true, leb-false}
 use Rattle.exact.specs.Lists.{consIf, keep, any, oneIf, count, sum}
 use Rattle.exact.proofs.Lists.{sum-map-add}
 use Rattle.record.specs.Layout.{Record, kind, contract}
 use Rattle.record.specs.Within.{Between}
 use Rattle.record.proofs.Within.{by-kind}
 use Rattle.account.specs.Accepted.{Each, listed}
-use Rattle.account.specs.Check.{checked}
-use Rattle.account.specs.Joined.{joined, joinedOf}
-use Rattle.account.specs.Lawful.{Lawful}
+use Rattle.account.specs.Checked.{checked}
+use Rattle.account.specs.Joined.{joined, joinedOf, fromMorning}
+use Rattle.account.specs.Lawful.{Recorded}
 use Rattle.account.specs.Noon.{clear, joinedVerdict}
-use Rattle.account.specs.Parts.{ofKind, ofContract, contractsOf, entriesOf}
+use Rattle.account.specs.Parts.{ofKind, ofContract, contractsOf, entriesOf, ratesOf}
 use Rattle.account.specs.Records.{records}
 use Rattle.account.specs.Standing.{accountOf}
 use Rattle.account.specs.Whole.{partsBy, inHowMany, Whole}
 use Rattle.account.specs.declared.answers.Answer.the-variants.{Accepted}
+use Rattle.account.proofs.Alone.{passes}
 use Rattle.account.proofs.Every.{every-append, every-weaker}
-use Rattle.account.proofs.JoinedLaws.{other-kind, joined-kind, entries-kind, joined-alone}
-use Rattle.account.proofs.Lawful.{lawful}
+use Rattle.account.proofs.JoinedLaws.{other-kind, joined-kind, entries-kind, rates-kind, joined-alone}
+use Rattle.account.proofs.Lawful.{recorded}
 use Rattle.account.proofs.Lists.{every-both, none-counted}
-use Rattle.account.proofs.NoonLaws.{pair-lawful}
+use Rattle.account.proofs.NoonLaws.{pair-recorded, pair-passed}
 
 -- ---- the kinds of a joined account's records
 abbrev pub KindWithin : Record → Type 0
-KindWithin r = Between 1 (kind r) 5
+KindWithin r = Between 1 (kind r) 6
 
 kinds : (m n : List Record) → Each KindWithin (joined m n)
 kinds m n =
-    let part : (k : ℕ) → 1 ≤ k → k ≤ 5 → Each KindWithin (joinedOf m n k) =
+    let part : (k : ℕ) → 1 ≤ k → k ≤ 6 → Each KindWithin (joinedOf m n k) =
     λ k l h. every-weaker (joinedOf m n k) (λ r e. record { least = omega (arith, e, l); most = omega (arith, e, h) }) (joined-kind m n k) in
     every-append KindWithin (joinedOf m n 1) _ (part 1 (omega arith) (omega arith))
     (every-append KindWithin (joinedOf m n 2) _ (part 2 (omega arith) (omega arith))
     (every-append KindWithin (joinedOf m n 3) _ (part 3 (omega arith) (omega arith))
-    (every-append KindWithin (joinedOf m n 4) (entriesOf m) (part 4 (omega arith) (omega arith))
-    (every-weaker (entriesOf m) (λ r e. record { least = omega (arith, e); most = omega (arith, e) }) (entries-kind m n)))))
+    (every-append KindWithin (joinedOf m n 4) (fromMorning m) (part 4 (omega arith) (omega arith))
+    (every-append KindWithin (entriesOf m) (ratesOf m)
+    (every-weaker (entriesOf m) (λ r e. record { least = omega (arith, e); most = omega (arith, e) }) (entries-kind m n))
+    (every-weaker (ratesOf m) (λ r e. record { least = omega (arith, e); most = omega (arith, e) }) (rates-kind m n))))))
 
 -- ---- what holds of the records of a kind, contract by contract, holds of each record of that kind
 first-kept : (P : Record → Type 0) (t : Bool) (x : Record) (xs : List Record) → Each P (consIf t x xs) → Each P xs
@@ -70,11 +73,20 @@ own-listed (x ∷ xs) = (
 )
 
 -- ---- in how many parts a record is
-in-entries : (owns : List Record) (r : Record) → kind r ≡ 5 → inHowMany owns r ≡ 1
-in-entries [] r e = ap (λ (t : Bool). oneIf t + 0) (eq-eqb (kind r) 5 e)
-in-entries (own ∷ owns) r e =
+-- of kinds 5 and 6, which name no contract of their own
+in-last : (owns : List Record) (r : Record) → 5 ≤ kind r → kind r ≤ 6 → inHowMany owns r ≡ 1
+in-last [] r l h = go (eqb (kind r) 5) refl
+  where
+    go : (t : Bool) → eqb (kind r) 5 ≡ t → oneIf (ofKind 5 r) + (oneIf (ofKind 6 r) + 0) ≡ 1
+    go true e =
+        let k = eqb-true (kind r) 5 e in
+        ap₂ (λ (x y : Bool). oneIf x + (oneIf y + 0)) e (ne-eqb (kind r) 6 (λ z. omega arith))
+    go false e =
+        let d = eqb-false (kind r) 5 e in
+        ap₂ (λ (x y : Bool). oneIf x + (oneIf y + 0)) e (eq-eqb (kind r) 6 (omega arith))
+in-last (own ∷ owns) r l h =
     let no : (k : ℕ) → k ≤ 4 → oneIf (ofContract k (contract own) r) ≡ 0 = λ k h. ap oneIf (other-kind k (contract own) r (λ z. omega arith)) in
-    omega (arith, no 1 (omega arith), no 2 (omega arith), no 3 (omega arith), no 4 (omega arith), in-entries owns r e)
+    omega (arith, no 1 (omega arith), no 2 (omega arith), no 3 (omega arith), no 4 (omega arith), in-last owns r l h)
 
 -- the listed contracts that have its number
 abbrev pub owners : Record → List Record → ℕ
@@ -99,23 +111,24 @@ module _ (r : Record) where
   other : (own : Record) (k : ℕ) → (kind r ≡ k → ⊥) → here own k ≡ 0
   other own k d = ap oneIf (other-kind k (contract own) r d)
 
-  of-four : (own : Record) → (k : ℕ) → 1 ≤ k → k ≤ 5 → (kind r ≡ k → (k ≡ 5 → ⊥)
+  of-four : (own : Record) → (k : ℕ) → 1 ≤ k → k ≤ 6 → (kind r ≡ k → k ≤ 4
       → here own 1 + (here own 2 + (here own 3 + here own 4)) ≡ oneIf (eqb (contract own) (contract r)))
   of-four own =
-      by-kind (λ k. kind r ≡ k → (k ≡ 5 → ⊥) → here own 1 + (here own 2 + (here own 3 + here own 4)) ≡ oneIf (eqb (contract own) (contract r)))
+      by-kind (λ k. kind r ≡ k → k ≤ 4 → here own 1 + (here own 2 + (here own 3 + here own 4)) ≡ oneIf (eqb (contract own) (contract r)))
       (λ e d. omega (arith, mine own 1 e, other own 2 (λ z. omega arith), other own 3 (λ z. omega arith), other own 4 (λ z. omega arith)))
       (λ e d. omega (arith, mine own 2 e, other own 1 (λ z. omega arith), other own 3 (λ z. omega arith), other own 4 (λ z. omega arith)))
       (λ e d. omega (arith, mine own 3 e, other own 1 (λ z. omega arith), other own 2 (λ z. omega arith), other own 4 (λ z. omega arith)))
       (λ e d. omega (arith, mine own 4 e, other own 1 (λ z. omega arith), other own 2 (λ z. omega arith), other own 3 (λ z. omega arith)))
-      (λ e d. absurd (d refl))
+      (λ e d. absurd (omega arith)) (λ e d. absurd (omega arith))
 
-  in-owners : KindWithin r → (kind r ≡ 5 → ⊥) → (owns : List Record) → inHowMany owns r ≡ owners r owns
-  in-owners w d [] = ap (λ (t : Bool). oneIf t + 0) (ne-eqb (kind r) 5 d)
+  in-owners : KindWithin r → kind r ≤ 4 → (owns : List Record) → inHowMany owns r ≡ owners r owns
+  in-owners w d [] =
+      ap₂ (λ (x y : Bool). oneIf x + (oneIf y + 0)) (ne-eqb (kind r) 5 (λ z. omega arith)) (ne-eqb (kind r) 6 (λ z. omega arith))
   in-owners w d (own ∷ owns) =
       omega (arith, of-four own (kind r) (w .least) (w .most) refl d, in-owners w d owns)
 
 -- ---- one contract has its number
-module _ (account : List Record) (law : Lawful account) where
+module _ (account : List Record) (law : Recorded account) where
   one-owner : (r : Record) → listed (contract r) account ≡ true → owners r (contractsOf account) ≡ 1
   one-owner r l = omega (arith, count-kept, law .named .once (contract r), some)
     where
@@ -140,16 +153,16 @@ module _ (account : List Record) (law : Lawful account) where
   abbrev Names : ℕ → Record → Type 0
   Names k r = kind r ≡ k → listed (contract r) account ≡ true
 
-  names : (k : ℕ) → 1 ≤ k → k ≤ 5 → (k ≡ 5 → ⊥) → Each (Names k) account
+  names : (k : ℕ) → 1 ≤ k → k ≤ 6 → k ≤ 4 → Each (Names k) account
   names =
-      by-kind (λ k. (k ≡ 5 → ⊥) → Each (Names k) account) (λ d. own-listed account)
+      by-kind (λ k. k ≤ 4 → Each (Names k) account) (λ d. own-listed account)
       (λ d. by-contract 2 (λ c. listed c account ≡ true) account (law .named .prompts))
       (λ d. by-contract 3 (λ c. listed c account ≡ true) account (law .named .rows))
       (λ d. by-contract 4 (λ c. listed c account ≡ true) account (law .named .spreads))
-      (λ d. absurd (d refl))
+      (λ d. absurd (omega arith)) (λ d. absurd (omega arith))
 
   named : (k : ℕ) → 1 ≤ k → k ≤ 4 → Each (Names k) account
-  named k l h = names k l (omega arith) (λ z. omega arith)
+  named k l h = names k l (omega arith) h
 
   all-named : Each (λ r. (Names 1 r × Names 2 r) × (Names 3 r × Names 4 r)) account
   all-named =
@@ -157,25 +170,25 @@ module _ (account : List Record) (law : Lawful account) where
       (every-both (Names 1) (Names 2) account (named 1 (omega arith) (omega arith)) (named 2 (omega arith) (omega arith)))
       (every-both (Names 3) (Names 4) account (named 3 (omega arith) (omega arith)) (named 4 (omega arith) (omega arith)))
 
-  -- a record that is no intercontract spread belongs to one listed contract
-  pub owned-once : Each KindWithin account → Each (λ r. (kind r ≡ 5 → ⊥) → owners r (contractsOf account) ≡ 1) account
+  -- a record of kinds 1 to 4 belongs to one listed contract
+  pub owned-once : Each KindWithin account → Each (λ r. kind r ≤ 4 → owners r (contractsOf account) ≡ 1) account
   owned-once within =
       every-weaker account
       (λ r f d.
       let n = f .1 in
       one-owner r
-      (by-kind (λ k. Names k r) (n .0 .0) (n .0 .1) (n .1 .0) (n .1 .1) (λ e. absurd (d e)) (kind r) (f .0 .least) (f .0 .most) refl))
+      (by-kind (λ k. Names k r) (n .0 .0) (n .0 .1) (n .1 .0) (n .1 .1) (λ e. absurd (omega arith)) (λ e. absurd (omega arith)) (kind r) (f .0 .least) (f .0 .most) refl))
       (every-both KindWithin (λ r. (Names 1 r × Names 2 r) × (Names 3 r × Names 4 r)) account within all-named)
 
   one-part : Each KindWithin account → Each (λ r. inHowMany (contractsOf account) r ≡ 1) account
   one-part within =
-      every-weaker account (λ r f. go r (f .0) (f .1) (eqb (kind r) 5) refl)
-      (every-both KindWithin (λ r. (kind r ≡ 5 → ⊥) → owners r (contractsOf account) ≡ 1) account within (owned-once within))
+      every-weaker account (λ r f. go r (f .0) (f .1) (leb (kind r) 4) refl)
+      (every-both KindWithin (λ r. kind r ≤ 4 → owners r (contractsOf account) ≡ 1) account within (owned-once within))
     where
-      go : (r : Record) → KindWithin r → ((kind r ≡ 5 → ⊥) → owners r (contractsOf account) ≡ 1) → (t : Bool) → eqb (kind r) 5 ≡ t
+      go : (r : Record) → KindWithin r → (kind r ≤ 4 → owners r (contractsOf account) ≡ 1) → (t : Bool) → leb (kind r) 4 ≡ t
           → inHowMany (contractsOf account) r ≡ 1
-      go r w f true e = in-entries (contractsOf account) r (eqb-true (kind r) 5 e)
-      go r w f false e = let d = eqb-false (kind r) 5 e in in-owners r w d (contractsOf account) ∙ f d
+      go r w f true e = let d = leb-true (kind r) 4 e in in-owners r w d (contractsOf account) ∙ f d
+      go r w f false e = in-last (contractsOf account) r (omega (arith, leb-false (kind r) 4 e)) (w .most)
 
 -- ---- counted part by part
 module _ (parts : List (Record → Bool)) where
@@ -198,20 +211,20 @@ module _ (parts : List (Record → Bool)) where
         sum-map-add (λ part. oneIf (part x)) (λ part. count part xs) parts,
       )
 
-whole : (account : List Record) → Lawful account → Each KindWithin account → Whole account
+whole : (account : List Record) → Recorded account → Each KindWithin account → Whole account
 whole account law within =
     let one = one-part account law within in
     record { onePart = one; together = all-counted (partsBy (contractsOf account)) account one }
 
 -- of an accepted file, and of a pair of files that is not refused
 pub file-kinds : (file : List ℕ) → checked file ≡ Accepted → Each KindWithin (records file)
-file-kinds file ok = subst (Each KindWithin) (joined-alone file ok) (kinds (records file) [])
+file-kinds file ok = subst (Each KindWithin) (joined-alone file (passes file ok .recorded)) (kinds (records file) [])
 
 pub whole-file : (file : List ℕ) → checked file ≡ Accepted → Whole (records file)
-whole-file file ok = whole (records file) (lawful file ok) (file-kinds file ok)
+whole-file file ok = whole (records file) (recorded file (passes file ok .recorded)) (file-kinds file ok)
 
 pub pair-kinds : (morning noon : List ℕ) → Each KindWithin (accountOf morning noon)
 pair-kinds morning noon = kinds (records morning) (records noon)
 
 pub whole-pair : (morning noon : List ℕ) → clear (joinedVerdict morning noon) ≡ true → Whole (accountOf morning noon)
-whole-pair morning noon c = whole (accountOf morning noon) (pair-lawful morning noon c) (pair-kinds morning noon)
+whole-pair morning noon c = whole (accountOf morning noon) (pair-recorded morning noon (pair-passed morning noon c)) (pair-kinds morning noon)

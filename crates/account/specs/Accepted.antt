@@ -7,11 +7,11 @@ use mathlib.Core.Bool.{Bool, true}
 use mathlib.Core.List.{List, [], _∷_}
 use lib.ListN.{length}
 use Rattle.exact.specs.Lists.{any, count}
-use Rattle.record.specs.Layout.{Record, contract, day, secondContract, mostContract}
-use Rattle.record.specs.Within.{ContractWithin, PromptWithin, RowWithin, SpreadWithin, EntryWithin}
+use Rattle.record.specs.Layout.{Record, contract, day, secondContract, mostContract, mostCurrency}
+use Rattle.record.specs.Within.{ContractWithin, PromptWithin, RowWithin, SpreadWithin, EntryWithin, RateWithin}
 use Rattle.account.specs.Check.{mostRecords, mostContracts, mostPrompts, mostRows, mostSpreads, mostEntries}
-use Rattle.account.specs.Notes.{part, entryPart}
-use Rattle.account.specs.Parts.{ofContract, onDay, contractsOf, promptsOf, rowsOf, spreadsOf, entriesOf}
+use Rattle.account.specs.Notes.{part, entryPart, ratePart}
+use Rattle.account.specs.Parts.{ofContract, onDay, contractsOf, promptsOf, rowsOf, spreadsOf, entriesOf, ratesOf}
 use Rattle.account.specs.Records.{records, stretch}
 use Rattle.account.specs.Surveyed.{contractCount, partStart, partCount}
 
@@ -29,6 +29,7 @@ pub record Standing (file : List ℕ) : Type 0 where
   pub rows : (c : ℕ) → c ≤ mostContract → records (partBytes file (part 3 c)) ≡ rowsOf c (records file)
   pub spreads : (c : ℕ) → c ≤ mostContract → records (partBytes file (part 4 c)) ≡ spreadsOf c (records file)
   pub entries : records (partBytes file entryPart) ≡ entriesOf (records file)
+  pub rates : records (partBytes file ratePart) ≡ ratesOf (records file)
 
 pub record Ranges (rs : List Record) : Type 0 where
   pub contracts : Each ContractWithin (contractsOf rs)
@@ -36,6 +37,7 @@ pub record Ranges (rs : List Record) : Type 0 where
   pub rows : (c : ℕ) → Each RowWithin (rowsOf c rs)
   pub spreads : (c : ℕ) → Each SpreadWithin (spreadsOf c rs)
   pub entries : Each EntryWithin (entriesOf rs)
+  pub rates : Each RateWithin (ratesOf rs)
 
 pub record Limits (rs : List Record) : Type 0 where
   pub all : length rs ≤ mostRecords
@@ -44,6 +46,7 @@ pub record Limits (rs : List Record) : Type 0 where
   pub rows : (c : ℕ) → length (rowsOf c rs) ≤ mostRows
   pub spreads : (c : ℕ) → length (spreadsOf c rs) ≤ mostSpreads
   pub entries : length (entriesOf rs) ≤ mostEntries
+  pub rates : length (ratesOf rs) ≤ mostCurrency
 
 -- no row is left out and none is taken twice
 abbrev pub OnePrompt : List Record → Type 0

@@ -1,11 +1,11 @@
--- The table of refusals of document 01, "What comes back", and of requests 2026-01, 2026-08, 2026-10 and 2026-12: the number of each and
--- the record that it names.
+-- The table of refusals of document 01, "What comes back", and of requests 2026-01, 2026-05, 2026-08, 2026-10 and 2026-12: the number of
+-- each and the record that it names.
 -- Assumes nothing.
 use Prim.Native.Nat.{ℕ}
 use mathlib.Core.Bool.{cond}
 use lib.Dec.{eqb}
 use Rattle.account.specs.declared.answers.Answer.{Answer}
-use Rattle.account.specs.declared.answers.Answer.the-variants.{Accepted, TooLong, CutRecord, UnknownKind, KindFalls, UnusedByte, FieldOutside, Unlisted, OutOfOrder, OverLimit, TooFewNumbers, NoSuchQuestion, NoonSpread, TooManyJoined, LengthsDiffer, OtherCounts, TooManyAccounts, AmountOutside}
+use Rattle.account.specs.declared.answers.Answer.the-variants.{Accepted, TooLong, CutRecord, UnknownKind, KindFalls, UnusedByte, FieldOutside, Unlisted, OutOfOrder, OverLimit, TooFewNumbers, NoSuchQuestion, NoonSpread, TooManyJoined, NoRate, ConversionBeyond, LengthsDiffer, OtherCounts, TooManyAccounts, AmountOutside}
 
 -- "No."; 0 where nothing is refused
 abbrev pub numberOf : Answer → ℕ
@@ -23,6 +23,8 @@ numberOf (TooFewNumbers n) = 10
 numberOf (NoSuchQuestion n) = 11
 numberOf (NoonSpread k) = 12
 numberOf (TooManyJoined n) = 13
+numberOf (NoRate k) = 14
+numberOf (ConversionBeyond k) = 15
 numberOf LengthsDiffer = 17
 numberOf OtherCounts = 18
 numberOf TooManyAccounts = 19
@@ -44,6 +46,8 @@ recordOf (TooFewNumbers n) = n
 recordOf (NoSuchQuestion n) = n
 recordOf (NoonSpread k) = k
 recordOf (TooManyJoined n) = n
+recordOf (NoRate k) = k
+recordOf (ConversionBeyond k) = k
 recordOf LengthsDiffer = 0
 recordOf OtherCounts = 0
 recordOf TooManyAccounts = 0
@@ -58,4 +62,6 @@ refusal number k =
     (cond (eqb number 6) (FieldOutside k)
     (cond (eqb number 7) (Unlisted k)
     (cond (eqb number 8) (OutOfOrder k)
-    (cond (eqb number 9) (OverLimit k) Accepted))))))
+    (cond (eqb number 9) (OverLimit k)
+    (cond (eqb number 14) (NoRate k)
+    (cond (eqb number 15) (ConversionBeyond k) Accepted))))))))

@@ -1,4 +1,4 @@
--- The check of an account file: the table of refusals of document 01, "What comes back", and its order.
+-- The check of an account file: the table of refusals of document 01, "What comes back", and its order, with request 2026-05.
 -- `earlier` are the records before the one looked at, the latest first.
 -- Assumes nothing.
 use Prim.Native.Nat.{ℕ, _+_, _*_, _%_}
@@ -7,7 +7,7 @@ use mathlib.Core.List.{List, [], _∷_}
 use lib.ListN.{length}
 use lib.Dec.{eqb, leb, ltb}
 use Rattle.exact.specs.Lists.{any, count}
-use Rattle.record.specs.Layout.{Record, recordBytes, byKind, kind, contract, tier, day, legsOf, legTier, legSide, secondContract}
+use Rattle.record.specs.Layout.{Record, recordBytes, _has_, byKind, kind, rateCurrency, contract, tier, day, legsOf, legTier, legSide, secondContract}
 use Rattle.record.specs.Ranges.{unknownKind, unusedByte, fieldOutside}
 use Rattle.account.specs.Answers.{refusal}
 use Rattle.account.specs.Parts.{ofKind, ofContract}
@@ -43,11 +43,11 @@ legUnlisted earlier r leg = none (listsTier (contract r) (legTier r leg)) earlie
 
 abbrev pub unlisted : List Record → Record → Bool
 unlisted earlier r =
-    byKind (kind r) false
-    (none (listsContract (contract r)) earlier)
-    (none (listsContract (contract r)) earlier || none (listsDay (contract r) (day r)) earlier)
-    (none (listsContract (contract r)) earlier || any (legUnlisted earlier r) (legsOf r))
-    (none (listsContract (contract r)) earlier || none (listsContract (secondContract r)) earlier)
+    byKind (kind r)
+    (2 has none (listsContract (contract r)) earlier
+    ∷ 3 has (none (listsContract (contract r)) earlier || none (listsDay (contract r) (day r)) earlier)
+    ∷ 4 has (none (listsContract (contract r)) earlier || any (legUnlisted earlier r) (legsOf r))
+    ∷ 5 has (none (listsContract (contract r)) earlier || none (listsContract (secondContract r)) earlier) ∷ [])
     false
 
 -- 8: "a contract number not above the one before; a prompt whose (contract, day) is not above the one before, or whose tier
@@ -85,14 +85,19 @@ legsClash r = alikeAmong r (legsOf r) || (noLegOn 1 r || noLegOn 2 r)
 abbrev pub withItself : Record → Bool
 withItself r = eqb (contract r) (secondContract r)
 
+-- 2026-05: "byte 1 currency 1..7, ascending"; "its order under 8"
+abbrev pub currencyNotAbove : Record → Record → Bool
+currencyNotAbove before r = ofKind 6 before && leb (rateCurrency r) (rateCurrency before)
+
 abbrev pub outOfOrder : Record → Record → Bool
 outOfOrder before r =
     byKind (kind r)
-    (numberNotAbove before r)
-    (dayNotAbove before r || tierFalls before r)
-    (contractFalls before r)
-    (contractFalls before r || legsClash r)
-    (withItself r)
+    (1 has numberNotAbove before r
+    ∷ 2 has (dayNotAbove before r || tierFalls before r)
+    ∷ 3 has contractFalls before r
+    ∷ 4 has (contractFalls before r || legsClash r)
+    ∷ 5 has withItself r
+    ∷ 6 has currencyNotAbove before r ∷ [])
     false
 
 -- contracts are numbered 0 to 15, each once; "per contract 32 prompts, 128 rows, 32 interprompt spreads; 32 intercontract
@@ -118,11 +123,11 @@ reached most p earlier = leb most (count p earlier)
 
 abbrev pub overLimit : List Record → Record → Bool
 overLimit earlier r =
-    byKind (kind r) false
-    (reached mostPrompts (ofContract 2 (contract r)) earlier)
-    (reached mostRows (ofContract 3 (contract r)) earlier)
-    (reached mostSpreads (ofContract 4 (contract r)) earlier)
-    (reached mostEntries (ofKind 5) earlier)
+    byKind (kind r)
+    (2 has reached mostPrompts (ofContract 2 (contract r)) earlier
+    ∷ 3 has reached mostRows (ofContract 3 (contract r)) earlier
+    ∷ 4 has reached mostSpreads (ofContract 4 (contract r)) earlier
+    ∷ 5 has reached mostEntries (ofKind 5) earlier ∷ [])
     false
 
 -- The table: a number, and whether what it is given for is so.
@@ -167,6 +172,6 @@ abbrev pub cutRecord : List ℕ → Bool
 cutRecord file = not (eqb (length file % recordBytes) 0)
 
 -- "Order: 1, 2; then records from 0 up"
-abbrev pub checked : List ℕ → Answer
-checked file =
+abbrev pub recordsChecked : List ℕ → Answer
+recordsChecked file =
     cond (tooLong file) TooLong (cond (cutRecord file) CutRecord (firstFault 0 [] (records file)))

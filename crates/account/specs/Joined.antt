@@ -1,4 +1,4 @@
--- Request 2026-01, "Noon against the morning": a noon file, shorter, joined to the morning's.
+-- Request 2026-01, "Noon against the morning": a noon file, shorter, joined to the morning's; with request 2026-05.
 -- Assumes nothing.
 use Prim.Native.Nat.{ℕ, zero, suc, _+_}
 use mathlib.Core.Bool.{cond}
@@ -7,7 +7,7 @@ use Rattle.exact.specs.Lists.{keep}
 use Rattle.record.specs.Layout.{Record}
 use Rattle.account.specs.Accepted.{listed}
 use Rattle.account.specs.Check.{mostContracts}
-use Rattle.account.specs.Parts.{ofContract, entriesOf}
+use Rattle.account.specs.Parts.{ofContract, entriesOf, ratesOf}
 
 -- "A contract's records of kinds 1 to 4 come from the noon file if that file lists the contract, else from the morning's"
 abbrev pub supplier : List Record → List Record → ℕ → List Record
@@ -22,8 +22,12 @@ inTurn f from (suc n) = f from ++ inTurn f (from + 1) n
 abbrev pub joinedOf : List Record → List Record → ℕ → List Record
 joinedOf morning noon kind = inTurn (λ c. keep (ofContract kind c) (supplier morning noon c)) 0 mostContracts
 
--- "kind 5 always from the morning"; "these records in 01's order"
+-- "kind 5 always from the morning"; 2026-05: "In a joined account kind 6 comes from the morning"
+abbrev pub fromMorning : List Record → List Record
+fromMorning morning = entriesOf morning ++ ratesOf morning
+
+-- "these records in 01's order"
 abbrev pub joined : List Record → List Record → List Record
 joined morning noon =
     joinedOf morning noon 1
-    ++ (joinedOf morning noon 2 ++ (joinedOf morning noon 3 ++ (joinedOf morning noon 4 ++ entriesOf morning)))
+    ++ (joinedOf morning noon 2 ++ (joinedOf morning noon 3 ++ (joinedOf morning noon 4 ++ fromMorning morning)))

@@ -5,9 +5,12 @@ pub mod Check
 pub mod Notes
 pub mod Surveyed
 pub mod Accepted
-pub mod Claims
+pub mod Products
+pub mod Checked
+pub mod Conversions
 pub mod Orders
 pub mod Lawful
+pub mod Claims
 pub mod Joined
 pub mod Standing
 pub mod Noon

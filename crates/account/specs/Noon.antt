@@ -2,15 +2,17 @@
 -- Assumes nothing.
 use Prim.Native.Nat.{ℕ}
 use mathlib.Core.Path.{_≡_}
-use mathlib.Core.Bool.{Bool, true, _&&_, cond}
+use mathlib.Core.Bool.{Bool, true, _&&_, _||_, cond}
 use mathlib.Core.List.{List}
+use Rattle.record.specs.Layout.{Record}
 use lib.Dec.{eqb, ltb}
 use lib.ListN.{length, getD}
 use Rattle.exact.specs.Lists.{any}
 use Rattle.account.specs.Accepted.{listed}
 use Rattle.account.specs.Answers.{numberOf}
-use Rattle.account.specs.Check.{checked, mostRecords, mostContracts}
-use Rattle.account.specs.Notes.{part, entryPart}
+use Rattle.account.specs.Check.{recordsChecked, mostRecords, mostContracts}
+use Rattle.account.specs.Checked.{ratesChecked}
+use Rattle.account.specs.Notes.{part, entryPart, ratePart}
 use Rattle.account.specs.Parts.{ofKind, placeOf}
 use Rattle.account.specs.Records.{records, stretch}
 use Rattle.account.specs.Standing.{accountOf, JoinedBy, Stands}
@@ -39,26 +41,39 @@ infixr 30 _then_
 abbrev pub _then_ : Verdict → Verdict → Verdict
 v then next = cond (clear v) next v
 
--- 12: "the noon file has kind 5, at its first such record"
+-- 12: "the noon file has kind 5, at its first such record"; 2026-05: "kind 6 comes from the morning, and in the noon file it is a
+-- 12"
+abbrev pub morningsOwn : Record → Bool
+morningsOwn r = ofKind 5 r || ofKind 6 r
+
 abbrev pub noSpread : List ℕ → Answer
-noSpread noon = cond (any (ofKind 5) (records noon)) (NoonSpread (placeOf (ofKind 5) (records noon))) Accepted
+noSpread noon = cond (any morningsOwn (records noon)) (NoonSpread (placeOf morningsOwn (records noon))) Accepted
 
 -- 13: "more than 640 records joined", "naming the joined record count"
 abbrev pub fewJoined : ℕ → Answer
 fewJoined n = cond (ltb mostRecords n) (TooManyJoined n) Accepted
 
 -- "Refusals: each file by 01's 1 to 9, morning first, saying which; then 12 ..; then .. 13"
-abbrev pub joinedVerdict : List ℕ → List ℕ → Verdict
-joinedVerdict morning noon =
-    ofMorning (checked morning) then ofNoon (checked noon) then ofNoon (noSpread noon)
+abbrev pub recordsVerdict : List ℕ → List ℕ → Verdict
+recordsVerdict morning noon =
+    ofMorning (recordsChecked morning) then ofNoon (recordsChecked noon) then ofNoon (noSpread noon)
     then ofJoined (fewJoined (length (accountOf morning noon)))
 
--- the same by what the check handed out of both files
+-- 2026-05: 14 and 15 "joined, between 13 and 21, naming the joined record"
+abbrev pub joinedVerdict : List ℕ → List ℕ → Verdict
+joinedVerdict morning noon = recordsVerdict morning noon then ofJoined (ratesChecked (accountOf morning noon))
+
+-- the records' verdict by what the check handed out of both files
+abbrev pub noonSpread : Survey → Answer
+noonSpread n =
+    cond (eqb (getD (n .counts) entryPart 0) 0)
+    (cond (eqb (getD (n .counts) ratePart 0) 0) Accepted (NoonSpread (getD (n .first) ratePart 0)))
+    (NoonSpread (getD (n .first) entryPart 0))
+
 abbrev pub verdictBy : Survey → Survey → ℕ → Verdict
 verdictBy m n records =
     ofMorning (m .answer) then ofNoon (n .answer)
-    then ofNoon (cond (eqb (getD (n .counts) entryPart 0) 0) Accepted (NoonSpread (getD (n .first) entryPart 0)))
-    then ofJoined (fewJoined records)
+    then ofNoon (noonSpread n) then ofJoined (fewJoined records)
 
 pub record PairBy (morning noon : List ℕ) (r : CheckedPair) : Type 0 where
   pub verdict-is : r .verdict ≡ joinedVerdict morning noon

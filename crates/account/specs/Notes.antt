@@ -1,6 +1,6 @@
 -- What the check notes of the records passed, so that it never searches back over the file: of each part how many records
 -- it has and where it begins. A part is the contract's own record, its prompts, its rows or its interprompt spreads, or all the
--- intercontract spreads.
+-- intercontract spreads, or all the currency rates.
 -- Assumes nothing.
 use Prim.Native.Nat.{ℕ, _+_, _*_, _/_, _%_}
 use mathlib.Core.Bool.{Bool, false, not, _||_, cond}
@@ -8,31 +8,39 @@ use mathlib.Core.List.{List, [], _∷_}
 use lib.ListN.{getD, set}
 use lib.Dec.{eqb, leb, ltb}
 use Rattle.exact.specs.Lists.{any, keep}
-use Rattle.record.specs.Layout.{Record, byKind, kind, contract, day, legsOf, legTier, secondContract}
+use Rattle.record.specs.Layout.{Record, _has_, byKind, kind, contract, day, legsOf, legTier, secondContract}
 use Rattle.record.specs.Ranges.{unknownKind, unusedByte, fieldOutside}
 use Rattle.account.specs.Check.{theOneBefore, kindFalls, outOfOrder, mostContracts, mostPrompts, mostRows, mostSpreads, mostEntries, _when_, firstOf}
 use Rattle.account.specs.Parts.{ofKind, ofContract, onDay, onTier}
 use Rattle.account.specs.Records.{recordAt, stretch, records, earlier}
 
--- the number of a part: by kind and contract, and one for all intercontract spreads
+-- the number of a part: by kind and contract, one for all intercontract spreads, and one for all currency rates
 abbrev pub part : ℕ → ℕ → ℕ
 part n c = mostContracts * n + c
+
+abbrev pub rowPart : ℕ
+rowPart = part 3 0
 
 abbrev pub entryPart : ℕ
 entryPart = part 5 0
 
+abbrev pub ratePart : ℕ
+ratePart = entryPart + 1
+
 abbrev pub parts : ℕ
-parts = entryPart + 1
+parts = ratePart + 1
 
 abbrev pub partOf : Record → ℕ
-partOf r = cond (eqb (kind r) 5) entryPart (part (kind r) (contract r))
+partOf r = byKind (kind r) (5 has entryPart ∷ 6 has ratePart ∷ []) (part (kind r) (contract r))
 
 abbrev pub inPart : ℕ → Record → Bool
-inPart v r = cond (eqb v entryPart) (ofKind 5 r) (ofContract (v / mostContracts) (v % mostContracts) r)
+inPart v r =
+    cond (eqb v entryPart) (ofKind 5 r)
+    (cond (eqb v ratePart) (ofKind 6 r) (ofContract (v / mostContracts) (v % mostContracts) r))
 
 -- the records of part v of an account, in order
 abbrev pub partRecords : ℕ → List Record → List Record
-partRecords v account = cond (ltb entryPart v) [] (keep (inPart v) account)
+partRecords v account = cond (ltb ratePart v) [] (keep (inPart v) account)
 
 -- the notes with one more record, the k-th
 abbrev pub oneMore : List ℕ → ℕ → List ℕ
@@ -53,20 +61,20 @@ noTier prompts t = not (any (onTier t) prompts)
 
 abbrev pub unlistedBy : List ℕ → List Record → Record → Bool
 unlistedBy counts prompts r =
-    byKind (kind r) false
-    (noContract counts (contract r))
-    (noContract counts (contract r) || noDay prompts (day r))
-    (noContract counts (contract r) || any (λ leg. noTier prompts (legTier r leg)) (legsOf r))
-    (noContract counts (contract r) || noContract counts (secondContract r))
+    byKind (kind r)
+    (2 has noContract counts (contract r)
+    ∷ 3 has (noContract counts (contract r) || noDay prompts (day r))
+    ∷ 4 has (noContract counts (contract r) || any (λ leg. noTier prompts (legTier r leg)) (legsOf r))
+    ∷ 5 has (noContract counts (contract r) || noContract counts (secondContract r)) ∷ [])
     false
 
 abbrev pub overLimitBy : List ℕ → Record → Bool
 overLimitBy counts r =
-    byKind (kind r) false
-    (leb mostPrompts (getD counts (partOf r) 0))
-    (leb mostRows (getD counts (partOf r) 0))
-    (leb mostSpreads (getD counts (partOf r) 0))
-    (leb mostEntries (getD counts (partOf r) 0))
+    byKind (kind r)
+    (2 has leb mostPrompts (getD counts (partOf r) 0)
+    ∷ 3 has leb mostRows (getD counts (partOf r) 0)
+    ∷ 4 has leb mostSpreads (getD counts (partOf r) 0)
+    ∷ 5 has leb mostEntries (getD counts (partOf r) 0) ∷ [])
     false
 
 abbrev pub faultBy : List ℕ → List Record → Record → Record → ℕ

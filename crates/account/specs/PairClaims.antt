@@ -10,11 +10,11 @@ use lib.ListN.{length}
 use Rattle.record.specs.Layout.{mostContract}
 use Rattle.account.specs.Accepted.{listed, partBytes}
 use Rattle.account.specs.Answers.{numberOf, recordOf}
-use Rattle.account.specs.Check.{checked, mostRecords}
-use Rattle.account.specs.Claims.{Iff, Gives}
-use Rattle.account.specs.Noon.{clear, joinedVerdict, joinedPrompts}
+use Rattle.account.specs.Check.{recordsChecked, mostRecords}
+use Rattle.account.specs.Claims.{Iff, RecordsGive, FirstRate, Rated}
+use Rattle.account.specs.Noon.{clear, morningsOwn, joinedVerdict, joinedPrompts}
 use Rattle.account.specs.Notes.{part}
-use Rattle.account.specs.Parts.{ofKind, promptsOf}
+use Rattle.account.specs.Parts.{promptsOf}
 use Rattle.account.specs.Records.{records, recordAt, recordCount}
 use Rattle.account.specs.Standing.{accountOf}
 use Rattle.account.specs.declared.answers.Answer.the-variants.{Accepted}
@@ -28,30 +28,33 @@ pub record Says (v : Verdict) (file n k : ℕ) : Type 0 where
 
 -- neither file is refused by 01
 pub record BothPass (morning noon : List ℕ) : Type 0 where
-  pub first : checked morning ≡ Accepted
-  pub second : checked noon ≡ Accepted
+  pub first : recordsChecked morning ≡ Accepted
+  pub second : recordsChecked noon ≡ Accepted
 
--- "the noon file has kind 5, at its first such record"
+-- "the noon file has kind 5, at its first such record"; or kind 6
 pub record FirstSpread (noon : List ℕ) (k : ℕ) : Type 0 where
   pub there : k < recordCount noon
-  pub here : ofKind 5 (recordAt noon k) ≡ true
-  pub before : (j : ℕ) → j < k → ofKind 5 (recordAt noon j) ≡ false
+  pub here : morningsOwn (recordAt noon k) ≡ true
+  pub before : (j : ℕ) → j < k → morningsOwn (recordAt noon j) ≡ false
 
 pub record NoSpread (noon : List ℕ) : Type 0 where
-  pub none : (j : ℕ) → j < recordCount noon → ofKind 5 (recordAt noon j) ≡ false
+  pub none : (j : ℕ) → j < recordCount noon → morningsOwn (recordAt noon j) ≡ false
 
 -- "Refusals: each file by 01's 1 to 9, morning first, saying which; then 12 ..; then, naming the joined record count, 13, more than
--- 640 records joined"
+-- 640 records joined"; 2026-05: then 14 and 15, "naming the joined record"
 pub record PairExactly (morning noon : List ℕ) : Type 0 where
-  pub ofMorning : (n k : ℕ) → 1 ≤ n → n ≤ 9 → Iff (Says (joinedVerdict morning noon) 1 n k) (Gives morning n k)
-  pub ofNoon : (n k : ℕ) → 1 ≤ n → n ≤ 9 → Iff (Says (joinedVerdict morning noon) 2 n k) ((checked morning ≡ Accepted) × Gives noon n k)
+  pub ofMorning : (n k : ℕ) → 1 ≤ n → n ≤ 9 → Iff (Says (joinedVerdict morning noon) 1 n k) (RecordsGive morning n k)
+  pub ofNoon : (n k : ℕ) → 1 ≤ n → n ≤ 9 → Iff (Says (joinedVerdict morning noon) 2 n k) ((recordsChecked morning ≡ Accepted) × RecordsGive noon n k)
   pub twelve : (k : ℕ) → Iff (Says (joinedVerdict morning noon) 2 12 k) (BothPass morning noon × FirstSpread noon k)
   pub thirteen : (k : ℕ) → Iff (Says (joinedVerdict morning noon) 0 13 k)
       (BothPass morning noon × (NoSpread noon × ((mostRecords < length (accountOf morning noon)) × (length (accountOf morning noon) ≡ k))))
+  pub rates : (n k : ℕ) → 14 ≤ n → n ≤ 15 → Iff (Says (joinedVerdict morning noon) 0 n k)
+      (BothPass morning noon × (NoSpread noon × ((length (accountOf morning noon) ≤ mostRecords) × FirstRate (accountOf morning noon) n k)))
   pub accepted : Iff (Says (joinedVerdict morning noon) 0 0 0)
-      (BothPass morning noon × (NoSpread noon × (length (accountOf morning noon) ≤ mostRecords)))
+      (BothPass morning noon × (NoSpread noon × ((length (accountOf morning noon) ≤ mostRecords) × Rated (accountOf morning noon))))
 
--- "saying which": a refusal of the morning's file is one of 1 to 9, of the noon file one of these or 12, of the joined account 13
+-- "saying which": a refusal of the morning's file is one of 1 to 9, of the noon file one of these or 12, of the joined account
+-- 13, 14 or 15
 pub record OfMorning (v : Verdict) : Type 0 where
   pub of : v .file ≡ 1
   pub least : 1 ≤ numberOf (v .answer)
@@ -63,7 +66,7 @@ pub record OfNoon (v : Verdict) : Type 0 where
 
 pub record OfJoined (v : Verdict) : Type 0 where
   pub of : v .file ≡ 0
-  pub number : (numberOf (v .answer) ≡ 0) ⊎ (numberOf (v .answer) ≡ 13)
+  pub number : (numberOf (v .answer) ≡ 0) ⊎ ((13 ≤ numberOf (v .answer)) × (numberOf (v .answer) ≤ 15))
 
 -- "hand back its prompt records as they stand in whichever file supplies them, an empty part if neither lists it or the pair's
 -- records are refused"

@@ -1,5 +1,5 @@
--- The parts of an account: its contracts, the prompts, rows and interprompt spreads of a contract, and its intercontract
--- spreads, each in file order.
+-- The parts of an account: its contracts, the prompts, rows and interprompt spreads of a contract, its intercontract spreads, and
+-- its currency rates, each in file order.
 -- Assumes nothing.
 use Prim.Native.Nat.{ℕ, _+_}
 use mathlib.Core.Bool.{Bool, _&&_, cond}
@@ -45,3 +45,6 @@ spreadsOf c = keep (ofContract 4 c)
 
 abbrev pub entriesOf : List Record → List Record
 entriesOf = keep (ofKind 5)
+
+abbrev pub ratesOf : List Record → List Record
+ratesOf = keep (ofKind 6)

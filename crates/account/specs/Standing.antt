@@ -9,11 +9,12 @@ use lib.ListN.{length, getD, take, drop, replicate}
 use Rattle.exact.specs.Lists.{keep, count, sum}
 use Rattle.record.specs.Layout.{Record, recordBytes, contract, mostContract}
 use Rattle.record.specs.Bytes.{countFrom}
-use Rattle.account.specs.Check.{checked, mostContracts}
+use Rattle.account.specs.Check.{mostContracts}
+use Rattle.account.specs.Checked.{checked}
 use Rattle.account.specs.Joined.{joined}
 use Rattle.account.specs.Lawful.{Lawful}
-use Rattle.account.specs.Notes.{part, parts, entryPart, inPart, partRecords, noContract}
-use Rattle.account.specs.Parts.{ofContract, contractsOf, entriesOf}
+use Rattle.account.specs.Notes.{part, parts, entryPart, ratePart, inPart, partRecords, noContract}
+use Rattle.account.specs.Parts.{ofContract, contractsOf, entriesOf, ratesOf}
 use Rattle.account.specs.Records.{records, recordCount, stretch}
 use Rattle.account.specs.Surveyed.{Surveyed}
 use Rattle.account.specs.declared.answers.Answer.the-variants.{Accepted}
@@ -25,7 +26,7 @@ use Rattle.account.specs.declared.accounts.Account.{Account}
 abbrev pub lists : List ℕ → ℕ → Bool
 lists counts c = not (noContract counts c)
 
--- "from the noon file if that file lists the contract, else from the morning's; kind 5 always from the morning"
+-- "from the noon file if that file lists the contract, else from the morning's; kind 5 always from the morning", and so kind 6
 abbrev pub fromNoon : List ℕ → ℕ → Bool
 fromNoon counts v = ltb v entryPart && lists counts (v % mostContracts)
 
@@ -83,6 +84,7 @@ pub record Places (morning noon : List ℕ) (j : Account) : Type 0 where
   pub each : (k c : ℕ) → 1 ≤ k → k ≤ 4 → c ≤ mostContract
       → records (stretch (supplies morning noon j c) (getD (j .first) (part k c) 0) (getD (j .counts) (part k c) 0)) ≡ keep (ofContract k c) (accountOf morning noon)
   pub entries : records (stretch morning (getD (j .first) entryPart 0) (getD (j .counts) entryPart 0)) ≡ entriesOf (accountOf morning noon)
+  pub rates : records (stretch morning (getD (j .first) ratePart 0) (getD (j .counts) ratePart 0)) ≡ ratesOf (accountOf morning noon)
 
 -- What everything above rests on: an account with what is known of its records and where they stand.
 pub record Stands (morning noon : List ℕ) (j : Account) : Type 0 where

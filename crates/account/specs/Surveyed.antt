@@ -9,7 +9,7 @@ use lib.ListN.{length, getD, replicate}
 use lib.Dec.{eqb}
 use Rattle.exact.specs.Lists.{count}
 use Rattle.account.specs.Answers.{numberOf}
-use Rattle.account.specs.Check.{checked}
+use Rattle.account.specs.Check.{recordsChecked}
 use Rattle.account.specs.Notes.{inPart, parts}
 use Rattle.account.specs.Parts.{ofKind, startOf}
 use Rattle.account.specs.Records.{records}
@@ -20,16 +20,16 @@ abbrev pub ofAccepted : Answer → ℕ → ℕ
 ofAccepted a n = cond (eqb (numberOf a) 0) n 0
 
 abbrev pub contractCount : List ℕ → ℕ
-contractCount file = ofAccepted (checked file) (count (ofKind 1) (records file))
+contractCount file = ofAccepted (recordsChecked file) (count (ofKind 1) (records file))
 
 abbrev pub partStart : List ℕ → ℕ → ℕ
-partStart file v = ofAccepted (checked file) (startOf (inPart v) (records file))
+partStart file v = ofAccepted (recordsChecked file) (startOf (inPart v) (records file))
 
 abbrev pub partCount : List ℕ → ℕ → ℕ
-partCount file v = ofAccepted (checked file) (count (inPart v) (records file))
+partCount file v = ofAccepted (recordsChecked file) (count (inPart v) (records file))
 
 pub record Surveyed (file : List ℕ) (s : Survey) : Type 0 where
-  pub answer : s .answer ≡ checked file
+  pub answer : s .answer ≡ recordsChecked file
   pub contracts : s .contracts ≡ contractCount file
   pub firsts : length (s .first) ≡ parts
   pub first : (v : ℕ) → v < parts → getD (s .first) v 0 ≡ partStart file v

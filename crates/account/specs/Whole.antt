@@ -11,9 +11,10 @@ use Rattle.record.specs.Layout.{Record, contract}
 use Rattle.account.specs.Accepted.{Each}
 use Rattle.account.specs.Parts.{ofKind, ofContract, contractsOf}
 
--- of each listed contract its own record, its prompts, its rows and its interprompt spreads; and all intercontract spreads
+-- of each listed contract its own record, its prompts, its rows and its interprompt spreads; all intercontract spreads; and all
+-- currency rates
 abbrev pub partsBy : List Record → List (Record → Bool)
-partsBy [] = ofKind 5 ∷ []
+partsBy [] = ofKind 5 ∷ ofKind 6 ∷ []
 partsBy (own ∷ owns) =
     ofContract 1 (contract own) ∷ ofContract 2 (contract own) ∷ ofContract 3 (contract own) ∷ ofContract 4 (contract own) ∷ partsBy owns
 

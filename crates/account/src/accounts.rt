@@ -1,8 +1,10 @@
 // An account as one thing: which contracts there are, and where the records of each kind of each contract stand, in one
 // file or in two. Nothing above this module knows files, surveys or offsets.
 use crate::answers::Answer;
+use crate::answers::number_of;
 use crate::check::Survey;
 use crate::check::take_survey;
+use crate::conversions::rows_answer;
 use crate::notes::note_at;
 use crate::notes::noted;
 use crate::notes::wide;
@@ -10,16 +12,21 @@ use crate::parts::CONTRACTS;
 use crate::parts::ENTRIES;
 use crate::parts::OWN;
 use crate::parts::PARTS;
+use crate::parts::RATES;
+use crate::parts::ROWS;
+use crate::rates::rates_of;
 use crate::stretches::record_count;
 use crate::stretches::stretch;
 ghost use mathlib.Core.Path.{_≡_};
 ghost use mathlib.Core.Bool.{cond};
 ghost use Prim.Native.Nat.{_≤_, _<_};
-ghost use lib.ListN.{length, getD, set};
+ghost use lib.ListN.{length, getD, set, take};
 ghost use Rattle.exact.specs.Lists.{oneIf, sum};
 ghost use Rattle.account.specs.Check.{mostContracts};
-ghost use Rattle.account.specs.Notes.{parts};
-ghost use Rattle.account.specs.Standing.{accountOf, Stands, PartOf, CheckedBy};
+ghost use Rattle.account.specs.Checked.{ratesChecked, checked};
+ghost use Rattle.account.specs.Lawful.{Recorded};
+ghost use Rattle.account.specs.Notes.{parts, rowPart};
+ghost use Rattle.account.specs.Standing.{accountOf, Places, Stands, PartOf, CheckedBy};
 ghost use Rattle.account.specs.Standing.{lists, fromNoon, eitherNote, Filled, Flagged, Numbered, JoinedBy, AloneBy};
 
 // An account: how many records it has, its contracts' numbers in order, which of them the noon file supplies, and of each
@@ -81,7 +88,20 @@ pub fn part<'a>(morning: &'a [u8], noon: &'a [u8], account: Account, v: usize) -
     requires { ⌜ Stands (now morning) (now noon) account ⌝ }
     ensures { λ r. ⌜ PartOf (accountOf (now (morning .entry)) (now (noon .entry))) v (now r) ⌝ }
 {
-    if ENTRIES < v {
+    placed_part(morning, noon, account, v)
+}
+
+// The same where the rates are still to be looked at.
+pub(crate) fn placed_part<'a>(
+    morning: &'a [u8],
+    noon: &'a [u8],
+    account: Account,
+    v: usize,
+) -> &'a [u8]
+    requires { ⌜ Places (now morning) (now noon) account ⌝ }
+    ensures { λ r. ⌜ PartOf (accountOf (now (morning .entry)) (now (noon .entry))) v (now r) ⌝ }
+{
+    if RATES < v {
         return &morning[..0];
     }
     let late = (v < ENTRIES) & account.noon[v % CONTRACTS];
@@ -248,6 +268,35 @@ fn in_one_file(survey: Survey, records: usize) -> Account
     }
 }
 
+// How many records stand before the rows.
+fn before_rows(account: Account) -> usize
+    requires { ⌜ length (account .counts) ≡ parts ⌝ }
+    ensures { λ n. ⌜ n ≡ sum (take rowPart (account .counts)) ⌝ }
+{
+    let counts = account.counts;
+    records_in(&counts[..ROWS])
+}
+
+// 14 and 15, "for rows in file order", of an account whose records are accepted.
+pub(crate) fn conversions_answer<'a>(morning: &'a [u8], noon: &'a [u8], account: Account) -> Answer
+    requires { ⌜ Places (now morning) (now noon) account × Recorded (accountOf (now morning) (now noon)) ⌝ }
+    ensures { λ a. ⌜ a ≡ ratesChecked (accountOf (now (morning .entry)) (now (noon .entry))) ⌝ }
+{
+    let t = rates_of(placed_part(morning, noon, account, RATES));
+    let mut k = before_rows(account);
+    let mut c = 0;
+    while c < CONTRACTS {
+        let rows = placed_part(morning, noon, account, ROWS + c);
+        let answer = rows_answer(t, rows, k);
+        if number_of(answer) != 0 {
+            return answer;
+        }
+        k += record_count(rows);
+        c += 1;
+    }
+    Answer::Accepted
+}
+
 // What the check of a file hands out: its answer, and of an accepted file the account.
 pub struct Checked {
     pub answer: Answer,
@@ -258,7 +307,22 @@ pub fn check_file(file: &[u8]) -> Checked
     ensures { λ r. ⌜ CheckedBy (now (file .entry)) r ⌝ }
 {
     let survey = take_survey(file);
-    let answer = survey.answer;
     let account = in_one_file(survey, record_count(file));
+    let first = survey.answer;
+    if number_of(first) != 0 {
+        return Checked {
+            answer: first,
+            account,
+        };
+    }
+    let answer = conversions_answer(file, &file[..0], account);
     Checked { answer, account }
+}
+
+// The verdict on any bytes.
+pub fn check(file: &[u8]) -> Answer
+    ensures { λ a. ⌜ a ≡ checked (now (file .entry)) ⌝ }
+{
+    let c = check_file(file);
+    c.answer
 }

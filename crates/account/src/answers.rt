@@ -18,6 +18,8 @@ pub enum Answer {
     NoSuchQuestion(usize),
     NoonSpread(usize),
     TooManyJoined(usize),
+    NoRate(usize),
+    ConversionBeyond(usize),
     LengthsDiffer,
     OtherCounts,
     TooManyAccounts,
@@ -43,6 +45,8 @@ pub fn number_of(a: Answer) -> usize
         Answer::NoSuchQuestion(_) => 11,
         Answer::NoonSpread(_) => 12,
         Answer::TooManyJoined(_) => 13,
+        Answer::NoRate(_) => 14,
+        Answer::ConversionBeyond(_) => 15,
         Answer::LengthsDiffer => 17,
         Answer::OtherCounts => 18,
         Answer::TooManyAccounts => 19,
@@ -69,6 +73,8 @@ pub fn record_of(a: Answer) -> usize
         Answer::NoSuchQuestion(n) => n,
         Answer::NoonSpread(k) => k,
         Answer::TooManyJoined(n) => n,
+        Answer::NoRate(k) => k,
+        Answer::ConversionBeyond(k) => k,
         Answer::LengthsDiffer => 0,
         Answer::OtherCounts => 0,
         Answer::TooManyAccounts => 0,
@@ -76,7 +82,7 @@ pub fn record_of(a: Answer) -> usize
     }
 }
 
-// The refusal of record `k` by its number, 3 to 9.
+// The refusal of record `k` by its number, 3 to 9, 14 or 15.
 pub(crate) fn refusal(number: usize, k: usize) -> Answer
     ensures { λ a. ⌜ a ≡ refusal number k ⌝ }
 {
@@ -100,6 +106,12 @@ pub(crate) fn refusal(number: usize, k: usize) -> Answer
     }
     if number == 9 {
         return Answer::OverLimit(k);
+    }
+    if number == 14 {
+        return Answer::NoRate(k);
+    }
+    if number == 15 {
+        return Answer::ConversionBeyond(k);
     }
     Answer::Accepted
 }

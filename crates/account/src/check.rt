@@ -1,9 +1,10 @@
-// The check of an account file, and what it hands out with its verdict: where the parts of an accepted file stand.
+// The check of the records of an account file, 1 to 9, and what it hands out with its verdict: where the parts of an accepted file
+// stand.
 ghost use mathlib.Core.Path.{_≡_};
 ghost use Prim.Native.Nat.{_<_};
 ghost use lib.ListN.{length, getD};
 ghost use Rattle.exact.specs.Lists.{oneIf};
-ghost use Rattle.account.specs.Check.{checked, mostRecords};
+ghost use Rattle.account.specs.Check.{mostRecords};
 ghost use Rattle.account.specs.Notes.{oneMore, startNoted};
 ghost use Rattle.account.specs.Parts.{ofKind};
 ghost use Rattle.account.specs.Surveyed.{Surveyed, Empty};
@@ -98,12 +99,4 @@ pub fn take_survey(file: &[u8]) -> Survey
         first,
         counts,
     }
-}
-
-// The verdict on any bytes.
-pub fn check(file: &[u8]) -> Answer
-    ensures { λ a. ⌜ a ≡ checked (now (file .entry)) ⌝ }
-{
-    let s = take_survey(file);
-    s.answer
 }

@@ -1,5 +1,6 @@
 // "Noon against the morning": the verdict on a pair of files, the joined account, and a contract's prompts.
 use crate::accounts::Account;
+use crate::accounts::conversions_answer;
 use crate::accounts::join;
 use crate::accounts::record_total;
 use crate::accounts::supplier;
@@ -12,11 +13,14 @@ use crate::parts::CONTRACTS;
 use crate::parts::ENTRIES;
 use crate::parts::OWN;
 use crate::parts::PROMPTS;
+use crate::parts::RATES;
 use crate::stretches::stretch;
 ghost use mathlib.Core.Path.{_≡_};
 ghost use Prim.Native.Nat.{_<_};
 ghost use Rattle.account.specs.Check.{mostContracts};
-ghost use Rattle.account.specs.Noon.{verdictBy, PairBy, placeBy, promptPlace, joinedPrompts};
+ghost use Rattle.account.specs.Standing.{JoinedBy};
+ghost use Rattle.account.specs.Surveyed.{Surveyed};
+ghost use Rattle.account.specs.Noon.{noonSpread, verdictBy, joinedVerdict, PairBy, placeBy, promptPlace, joinedPrompts};
 
 // Which file an answer is about.
 pub const JOINED: usize = 0;
@@ -28,6 +32,19 @@ pub const NOON: usize = 2;
 pub struct Verdict {
     pub file: usize,
     pub answer: Answer,
+}
+
+// 12: "the noon file has kind 5, at its first such record", or kind 6.
+fn noon_spread(noon: Survey) -> Answer
+    ensures { λ a. ⌜ a ≡ noonSpread noon ⌝ }
+{
+    if noon.counts[ENTRIES] != 0 {
+        return Answer::NoonSpread(noon.first[ENTRIES] as usize);
+    }
+    if noon.counts[RATES] != 0 {
+        return Answer::NoonSpread(noon.first[RATES] as usize);
+    }
+    Answer::Accepted
 }
 
 // "Each file by 01's 1 to 9, morning first, saying which; then 12 ..; then, naming the joined record count, 13".
@@ -48,10 +65,11 @@ fn verdict_of(morning: Survey, noon: Survey, records: usize) -> Verdict
             answer: second,
         };
     }
-    if noon.counts[ENTRIES] != 0 {
+    let third = noon_spread(noon);
+    if number_of(third) != 0 {
         return Verdict {
             file: NOON,
-            answer: Answer::NoonSpread(noon.first[ENTRIES] as usize),
+            answer: third,
         };
     }
     if MOST_RECORDS < records {
@@ -72,14 +90,36 @@ pub struct CheckedPair {
     pub account: Account,
 }
 
-pub fn check_pair(morning: &[u8], noon: &[u8]) -> CheckedPair
+// "Joined, between 13 and 21", 14 and 15 of the joined account.
+fn pair_verdict<'a>(
+    morning: &'a [u8],
+    noon: &'a [u8],
+    first: Survey,
+    second: Survey,
+    account: Account,
+) -> Verdict
+    requires { ⌜ Surveyed (now morning) first × (Surveyed (now noon) second × JoinedBy first second account) ⌝ }
+    ensures { λ v. ⌜ v ≡ joinedVerdict (now (morning .entry)) (now (noon .entry)) ⌝ }
+{
+    let verdict = verdict_of(first, second, record_total(account));
+    let answer = verdict.answer;
+    if number_of(answer) != 0 {
+        return verdict;
+    }
+    Verdict {
+        file: JOINED,
+        answer: conversions_answer(morning, noon, account),
+    }
+}
+
+pub fn check_pair<'a>(morning: &'a [u8], noon: &'a [u8]) -> CheckedPair
     ensures { λ r. ⌜ PairBy (now (morning .entry)) (now (noon .entry)) r ⌝ }
 {
     let first = take_survey(morning);
     let second = take_survey(noon);
     let account = join(first, second);
     CheckedPair {
-        verdict: verdict_of(first, second, record_total(account)),
+        verdict: pair_verdict(morning, noon, first, second, account),
         account,
     }
 }
@@ -113,13 +153,13 @@ fn nowhere() -> Place
 }
 
 // The place of a contract's prompts in whichever file supplies them; nowhere if neither lists it or the pair is refused.
-pub fn prompt_place(morning: &[u8], noon: &[u8], contract: usize) -> Place
+pub fn prompt_place<'a>(morning: &'a [u8], noon: &'a [u8], contract: usize) -> Place
     ensures { λ p. ⌜ p ≡ promptPlace (now (morning .entry)) (now (noon .entry)) contract ⌝ }
 {
     let first = take_survey(morning);
     let second = take_survey(noon);
     let account = join(first, second);
-    let verdict = verdict_of(first, second, record_total(account));
+    let verdict = pair_verdict(morning, noon, first, second, account);
     let answer = verdict.answer;
     if number_of(answer) != 0 {
         return nowhere();

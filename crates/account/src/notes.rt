@@ -5,6 +5,7 @@ ghost use lib.ListN.{getD};
 ghost use Rattle.account.specs.Notes.{partOf};
 use crate::parts::CONTRACTS;
 use crate::parts::ENTRIES;
+use crate::parts::RATES;
 use record::fields::contract;
 use record::fields::kind;
 
@@ -30,9 +31,12 @@ pub(crate) fn noted(notes: &[u16], v: usize) -> usize
 pub fn part_of(r: &[u8]) -> usize
     ensures { λ v. ⌜ v ≡ partOf (now (r .entry)) ⌝ }
 {
-    if kind(r) == 5 {
-        ENTRIES
-    } else {
-        CONTRACTS * kind(r) + contract(r)
+    let k = kind(r);
+    if k == 5 {
+        return ENTRIES;
     }
+    if k == 6 {
+        return RATES;
+    }
+    CONTRACTS * k + contract(r)
 }

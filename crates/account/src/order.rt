@@ -3,13 +3,14 @@ ghost use mathlib.Core.Path.{_≡_};
 ghost use lib.Dec.{eqb};
 ghost use Rattle.record.specs.Layout.{legsOf, legSide};
 ghost use Rattle.account.specs.Check.{kindFalls, numberNotAbove, dayNotAbove, tierFalls, contractFalls};
-ghost use Rattle.account.specs.Check.{sameLeg, alikeAmong, noLegOn, legsClash, withItself, outOfOrder};
+ghost use Rattle.account.specs.Check.{sameLeg, alikeAmong, noLegOn, legsClash, withItself, currencyNotAbove, outOfOrder};
 use record::fields::contract;
 use record::fields::day;
 use record::fields::kind;
 use record::fields::leg_count;
 use record::fields::leg_side;
 use record::fields::leg_tier;
+use record::fields::rate_currency;
 use record::fields::second_contract;
 use record::fields::tier;
 
@@ -89,6 +90,12 @@ fn with_itself(r: &[u8]) -> bool
     contract(r) == second_contract(r)
 }
 
+fn currency_not_above(before: &[u8], r: &[u8]) -> bool
+    ensures { λ b. ⌜ b ≡ currencyNotAbove (now (before .entry)) (now (r .entry)) ⌝ }
+{
+    (kind(before) == 6) & (rate_currency(r) <= rate_currency(before))
+}
+
 pub(crate) fn out_of_order(before: &[u8], r: &[u8]) -> bool
     ensures { λ b. ⌜ b ≡ outOfOrder (now (before .entry)) (now (r .entry)) ⌝ }
 {
@@ -107,6 +114,9 @@ pub(crate) fn out_of_order(before: &[u8], r: &[u8]) -> bool
     }
     if k == 5 {
         return with_itself(r);
+    }
+    if k == 6 {
+        return currency_not_above(before, r);
     }
     false
 }

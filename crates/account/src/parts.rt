@@ -1,5 +1,5 @@
 // A part of a file by its number: CONTRACTS * kind + contract for a contract's own record, its prompts, its rows and its
-// interprompt spreads, and one number for all intercontract spreads.
+// interprompt spreads, one number for all intercontract spreads, and one for all currency rates.
 ghost use mathlib.Core.Path.{_≡_};
 ghost use Rattle.account.specs.Notes.{partAt};
 use crate::notes::noted;
@@ -18,7 +18,9 @@ pub const SPREADS: usize = 4 * CONTRACTS;
 
 pub const ENTRIES: usize = 5 * CONTRACTS;
 
-pub const PARTS: usize = ENTRIES + 1;
+pub const RATES: usize = ENTRIES + 1;
+
+pub const PARTS: usize = RATES + 1;
 
 // The records of part `v` as they stand in the file, by where it begins and how many it has.
 pub(crate) fn part_at<'a>(file: &'a [u8], first: &[u16], counts: &[u16], v: usize) -> &'a [u8]

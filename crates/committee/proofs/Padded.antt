@@ -6,6 +6,7 @@ use native.Mathlib.Decide.{decLt}
 use native.Mathlib.Omega.{arith}
 use mathlib.Core.Path.{_≡_, refl, sym, ap, subst, subst⁻¹, _∙_}
 use mathlib.Core.Bool.{Bool, true, false, cond}
+use mathlib.Core.Logic.{⊎-elim}
 use mathlib.Core.List.{List, [], _∷_, _++_, map, map-map}
 use borrow.Author.Tests.{eqb-true}
 use lib.Dec.{ltb}
@@ -16,12 +17,12 @@ use Rattle.exact.specs.Lists.{oneIf, sum}
 use Rattle.exact.specs.Signed.{orZero}
 use Rattle.record.specs.Layout.{Record, contract}
 use Rattle.account.specs.Answers.{numberOf}
-use Rattle.account.specs.Check.{checked}
+use Rattle.account.specs.Checked.{checked}
 use Rattle.account.specs.Parts.{contractsOf, promptsOf, rowsOf, spreadsOf, entriesOf}
 use Rattle.account.specs.Records.{records}
 use Rattle.account.specs.declared.answers.Answer.the-variants.{Accepted}
 use Rattle.account.proofs.Claimed.{claimed}
-use Rattle.account.proofs.Lawful.{lawful}
+use Rattle.account.proofs.Alone.{lawful}
 use Rattle.account.proofs.NoonLaws.{accepted-only}
 use Rattle.spread.specs.Steps.{Open}
 use Rattle.margin.specs.Bounds.{longestFigures}
@@ -349,6 +350,5 @@ module _ (account : List ℕ) where
 
   pub refusal-most : answered account .refusal ≤ 15
   refusal-most =
-      let m = claimed account .exactly .most in
       let e = ap numberOf (verdict account) in
-      omega arith
+      ⊎-elim (λ m. omega (arith, e, m)) (λ m. omega (arith, e, m .1)) (claimed account .exactly .numbers)

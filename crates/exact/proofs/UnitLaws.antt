@@ -22,7 +22,7 @@ half-order n m zero h = omega (arith, half-zero n)
 half-order n m (suc e) h = le-div-iff-mul-le {k = 2 * suc e} {x = halfUp n (suc e)} {y = 2 * m + suc e} (omega arith) .1
     (omega (arith, div-mul-le-self (2 * n + suc e) (2 * suc e)))
 
-half-none : (d : ℕ) → halfUp 0 d ≡ 0
+pub half-none : (d : ℕ) → halfUp 0 d ≡ 0
 half-none zero = half-zero 0
 half-none (suc e) = half-down 0 (suc e) (omega arith)
 
@@ -66,11 +66,11 @@ module _ (unit d : ℕ) (hu : 0 < unit) (hd : 0 < d) where
 -- ---- halves away from zero
 
 -- of sizes, the negative ones the other way round
-neg-at-most : (m k : ℕ) → leZ (negℤ (pos m)) (pos k) ≡ true
+pub neg-at-most : (m k : ℕ) → leZ (negℤ (pos m)) (pos k) ≡ true
 neg-at-most zero k = le-leb 0 k (omega arith)
 neg-at-most (suc m) k = refl
 
-neg-order : (m k : ℕ) → k ≤ m → leZ (negℤ (pos m)) (negℤ (pos k)) ≡ true
+pub neg-order : (m k : ℕ) → k ≤ m → leZ (negℤ (pos m)) (negℤ (pos k)) ≡ true
 neg-order m zero h = neg-at-most m 0
 neg-order zero (suc k) h = absurd (omega arith)
 neg-order (suc m) (suc k) h = le-leb k m (omega arith)

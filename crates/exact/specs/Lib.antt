@@ -1,3 +1,4 @@
+pub mod Fractions
 pub mod Largest
 pub mod Lists
 pub mod Rounding

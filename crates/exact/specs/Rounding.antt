@@ -8,6 +8,10 @@ use Rattle.exact.specs.Signed.{withSignOf}
 abbrev pub halfUp : ℕ → ℕ → ℕ
 halfUp n d = (2 * n + d) / (2 * d)
 
+-- 2026-05: "rounded to a hundredth, halves away from zero": z × m / d in one rounding, the size halves up, the sign as it was
+abbrev pub halfAway : ℤ → ℕ → ℕ → ℤ
+halfAway z m d = withSignOf z (halfUp (natAbs z * m) d)
+
 -- 2026-09: "rounded to it, halves up": n / d to a multiple of the unit, from the exact value in one rounding
 abbrev pub halfUpTo : ℕ → ℕ → ℕ → ℕ
 halfUpTo n d unit = halfUp n (d * unit) * unit

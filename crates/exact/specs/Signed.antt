@@ -1,8 +1,9 @@
 -- Signed numbers: signs, the larger of two, and what goes towards zero.
 -- Assumes nothing.
-use Prim.Native.Nat.{ℕ, suc, _-_}
+use Prim.Native.Nat.{ℕ, suc, _-_, _≤_}
+use mathlib.Core.Path.{_≡_}
 use mathlib.Core.Bool.{Bool, true, false, cond}
-use lib.IntN.{ℤ, pos, negsuc, negℤ}
+use lib.IntN.{ℤ, pos, negsuc, negℤ, natAbs}
 use lib.Signed.{ltZ}
 
 abbrev pub negative : ℤ → Bool
@@ -26,3 +27,8 @@ withSignOf (negsuc n) m = negℤ (pos m)
 abbrev pub towardsZero : ℤ → ℕ → ℤ
 towardsZero (pos n) a = pos (n - a)
 towardsZero (negsuc n) a = negℤ (pos (suc n - a))
+
+-- a result, and how large it can be
+pub record Sized (most : ℕ) (z r : ℤ) : Type 0 where
+  pub is : r ≡ z
+  pub size : natAbs r ≤ most

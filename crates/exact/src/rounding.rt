@@ -4,7 +4,7 @@ use crate::signed::with_sign_of;
 ghost use mathlib.Core.Path.{_≡_};
 ghost use Prim.Native.Nat.{_*_, _^_, _<_};
 ghost use lib.IntN.{natAbs};
-ghost use Rattle.exact.specs.Rounding.{halfUp, halfUpTo, halfAwayTo};
+ghost use Rattle.exact.specs.Rounding.{halfUp, halfUpTo, halfAway, halfAwayTo};
 
 // n / d rounded once, a half going to the number above; 0 where d is 0.
 pub fn half_up(n: u64, d: u64) -> u64
@@ -26,6 +26,16 @@ pub fn half_up_to(n: u64, d: u64, unit: u64) -> u64
         return half_up(n, d);
     }
     half_up(n, d * unit) * unit
+}
+
+// z × m / d rounded once, halves away from zero. The product is never formed whole: each d in the size of z gives m, and only
+// what is left is multiplied and divided.
+pub fn half_away(z: i64, m: u64, d: u64) -> i64
+    requires { ⌜ (0 < d) × ((d * m < 2 ^ 64) × (halfUp (natAbs z * m) d < 2 ^ 63)) ⌝ }
+    ensures { λ r. ⌜ r ≡ halfAway z m d ⌝ }
+{
+    let size = magnitude(z);
+    with_sign_of(z, size / d * m + half_up(size % d * m, d))
 }
 
 // z rounded to a multiple of the unit, halves away from zero. At a unit of 1 it is z.

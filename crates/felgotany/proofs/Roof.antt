@@ -3,10 +3,12 @@
 use Prim.Native.Nat.{ℕ}
 use mathlib.Core.List.{List}
 use Rattle.exact.proofs.Determined.{one-result, one-outcome, one-largest}
+use Rattle.exact.proofs.FractionLaws.{fractions}
 use Rattle.exact.proofs.UnitLaws.{units}
 use Rattle.spread.proofs.Booking.{booked-one}
 use Rattle.spread.proofs.Stepping.{stepped-one}
 use Rattle.spread.proofs.Touching.{counted-one}
+use Rattle.account.proofs.ProductLaws.{one-table}
 use Rattle.account.proofs.Claimed.{claimed}
 use Rattle.account.proofs.OneJoined.{determined}
 use Rattle.account.proofs.PairClaimed.{pair-claimed}
@@ -61,6 +63,7 @@ one-outcomes =
       counted = counted-one;
       stepped = stepped-one;
       check = determined;
+      table = one-table;
       view = one-view;
       asked = one-asked;
       askedOfPair = one-asked-pair;
@@ -86,6 +89,7 @@ roof =
       reckoned = reckoned;
       printed = printed;
       pairTable = pair-table;
+      fractions = fractions;
       units = units;
       equations = record { result = λ x r s. one-result x r s; outcome = λ x r s y after after′. one-outcome x r s y after after′ };
       oneOutcome = one-outcomes;

@@ -10,9 +10,11 @@ use mathlib.Core.Bool.{Bool, true}
 use mathlib.Core.List.{List}
 use lib.IntN.{ℤ}
 use lib.ListN.{length}
+use Rattle.exact.specs.Fractions.{Fractions}
 use Rattle.exact.specs.Largest.{IsLargest}
 use Rattle.exact.specs.Units.{Units}
 use Rattle.exact.specs.declared.largest.Place.{Place as Largest}
+use Rattle.record.specs.Layout.{Record}
 use Rattle.spread.specs.Book.{Booked}
 use Rattle.spread.specs.Touches.{CountedBook}
 use Rattle.spread.specs.Uses.{Stepped}
@@ -22,17 +24,19 @@ use Rattle.spread.specs.declared.Table.{Table}
 use Rattle.spread.specs.declared.book.Book.{Book}
 use Rattle.spread.specs.declared.stepwise.Step.{Step}
 use Rattle.spread.specs.declared.touches.Counted.{Counted}
-use Rattle.account.specs.Check.{checked}
+use Rattle.account.specs.Checked.{checked}
 use Rattle.account.specs.Claims.{Claims}
 use Rattle.account.specs.Determined.{Determined}
 use Rattle.account.specs.Noon.{clear, ofJoined, _then_, joinedVerdict}
 use Rattle.account.specs.PairClaims.{PairClaims}
+use Rattle.account.specs.Products.{RatesOf}
 use Rattle.account.specs.Records.{records, recordCount}
 use Rattle.account.specs.Standing.{accountOf}
 use Rattle.account.specs.declared.answers.Answer.{Answer}
 use Rattle.account.specs.declared.answers.Answer.the-variants.{Accepted}
 use Rattle.account.specs.declared.noon.Place.{Place}
 use Rattle.account.specs.declared.noon.Verdict.{Verdict}
+use Rattle.account.specs.declared.rates.Rates.{Rates}
 use Rattle.questions.specs.Demands.{Demand1, Demand2, Demanded}
 use Rattle.questions.specs.Held.{FromCheck}
 use Rattle.questions.specs.Noon.{joinedAnswer, joinedNeed, afterJoined, joinedAll, afterJoinedAll}
@@ -124,6 +128,8 @@ pub record OneOutcome : Type 0 where
   pub stepped : (p : Prompts) (s : Spread) (second : Bool) (r q : Step) → Stepped p s second r → Stepped p s second q → r ≡ q
   -- the check, of one file and of two
   pub check : Determined
+  -- the table of rates
+  pub table : (rates : List Record) (r s : Rates) → RatesOf rates r → RatesOf rates s → r ≡ s
   -- the held file
   pub view : (file : RefT (List ℕ)) (h k : Held) → (h .file ≡ file) × FromCheck h → (k .file ≡ file) × FromCheck k → h ≡ k
   pub asked : (a b c : Answer) (r s : Asked) → (r .figures ≡ a) × ((r .books ≡ b) × (r .uses ≡ c))
@@ -156,6 +162,8 @@ pub record Roof : Type 1 where
   pub reckoned : Reckoned
   pub printed : Printed
   pub pairTable : PairTable
+  -- 2026-05: "rounded to a hundredth, halves away from zero", for every rate
+  pub fractions : Fractions
   -- 2026-09: "The rounding is to be proved once for all units."
   pub units : Units
   pub equations : Equations

@@ -3,7 +3,7 @@
 use account::answers::Answer;
 use account::answers::number_of;
 use account::answers::record_of;
-use account::check::check;
+use account::accounts::check;
 use account::noon::Verdict;
 use account::noon::prompt_place;
 use committee::answer_committee;
@@ -20,7 +20,7 @@ ghost use mathlib.Core.Path.{_≡_};
 ghost use mathlib.Core.Bool.{true, false};
 ghost use Prim.Native.Nat.{_≤_};
 ghost use lib.ListN.{length};
-ghost use Rattle.account.specs.Check.{checked};
+ghost use Rattle.account.specs.Checked.{checked};
 ghost use Rattle.margin.specs.Bounds.{longestFigures, longestBook, longestUses};
 ghost use Rattle.questions.specs.Questions.{figuresAnswer, afterFigures, bookAnswer, afterBook, usesAnswer, afterUses};
 ghost use Rattle.questions.specs.Questions.{figuresNeed, bookNeed, usesNeed};

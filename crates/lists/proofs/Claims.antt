@@ -11,7 +11,7 @@ use lib.IntN.{ℤ}
 use lib.ListN.{length, getD}
 use Rattle.record.specs.Layout.{Record}
 use Rattle.account.specs.Answers.{numberOf}
-use Rattle.account.specs.Check.{checked}
+use Rattle.account.specs.Checked.{checked}
 use Rattle.account.specs.Lawful.{Lawful}
 use Rattle.account.specs.Noon.{clear, joinedVerdict}
 use Rattle.account.specs.Parts.{spreadsOf, entriesOf}
@@ -19,7 +19,7 @@ use Rattle.account.specs.Records.{records}
 use Rattle.account.specs.Standing.{accountOf}
 use Rattle.account.specs.declared.answers.Answer.{Answer}
 use Rattle.account.specs.declared.answers.Answer.the-variants.{Accepted, NoSuchQuestion, OtherCounts}
-use Rattle.account.proofs.Lawful.{lawful}
+use Rattle.account.proofs.Alone.{lawful}
 use Rattle.account.proofs.NoonLaws.{pair-lawful}
 use Rattle.judging.specs.Claims as judging
 use Rattle.judging.specs.Judged.{judgedList}

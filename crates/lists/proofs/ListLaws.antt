@@ -8,7 +8,7 @@ use borrow.Author.Tests.{ne-eqb, eq-eqb}
 use lib.IntN.{ℤ}
 use Rattle.record.specs.Layout.{Record}
 use Rattle.account.specs.Answers.{numberOf}
-use Rattle.account.specs.Check.{checked}
+use Rattle.account.specs.Checked.{checked}
 use Rattle.account.specs.Noon.{clear, joinedVerdict, PairBy}
 use Rattle.account.specs.Records.{records}
 use Rattle.account.specs.Standing.{Stands, CheckedBy, accountOf}

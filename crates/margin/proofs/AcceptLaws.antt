@@ -9,17 +9,21 @@ use mathlib.Core.List.{List, []}
 use borrow.Author.Tests.{lt-ltb, eqb-true, eqb-false}
 use lib.Dec.{eqb, lit≤}
 use lib.ListN.{length, getD}
-use Rattle.record.specs.Layout.{Record, contract, secondContract, day, legCount, legsOf, legTier, legSide, legRatio}
+use Rattle.record.specs.Layout.{Record, contract, secondContract, day, legCount, legsOf, legTier, legSide, legRatio, currency}
 use Rattle.record.specs.Within as ranges
 use Rattle.record.proofs.Within.{neither}
 use Rattle.exact.specs.Lists.{count}
 use Rattle.account.specs.Check.{alikeAmong, noLegOn, legsClash, withItself, sameLeg}
+use Rattle.account.specs.Accepted.{Each}
 use Rattle.account.specs.Lawful.{Lawful}
-use Rattle.account.specs.Parts.{onDay, contractsOf, promptsOf, rowsOf, spreadsOf, entriesOf}
+use Rattle.account.specs.Parts.{onDay, contractsOf, promptsOf, rowsOf, spreadsOf, entriesOf, ratesOf}
+use Rattle.account.specs.Products.{RatesOf, Convertible}
+use Rattle.account.specs.declared.rates.Rates.{Rates}
 use Rattle.account.proofs.Orders.{every-at}
+use Rattle.account.proofs.ProductLaws.{factors-within, unrated-within}
 use Rattle.spread.specs.Accepted.{soundLeg, soundSpread}
 use Rattle.margin.specs.Deltas.{legOf, interprompt}
-use Rattle.margin.specs.Position.{RowFit}
+use Rattle.margin.specs.Position.{RowFit, RowRated, RatedBy}
 use Rattle.margin.specs.Within.{SpreadFit, ContractFit, EntriesFit}
 
 -- a leg within its ranges is one that the spread steps accept
@@ -78,6 +82,27 @@ row-within r w =
       loss-within = λ s l h. w .losses s (record { least = l; most = h });
     }
 
+-- a row that the check accepts, at the account's rates; and at none, where its amounts are not asked for
+module _ (row : Record) (w : ranges.RowWithin row) where
+  row-rated : (rates : List Record) → Each ranges.RateWithin rates → Convertible rates row → RowRated rates row
+  row-rated rates each c =
+      let f = factors-within rates (currency row) each in
+      record {
+        currency-within = w .currencies;
+        raised-within = f .up;
+        lowered-within = f .down;
+        conversion-within = λ s l h. c .within s (record { least = l; most = h });
+      }
+
+  row-unrated : RowRated [] row
+  row-unrated =
+      record {
+        currency-within = w .currencies;
+        raised-within = zero-le;
+        lowered-within = zero-le;
+        conversion-within = λ s l h. unrated-within row s w (record { least = l; most = h });
+      }
+
 -- a contract without a record of its own
 pub none-within : ranges.ContractWithin []
 none-within = record { contracts = zero-le; rates = zero-le; units = record { least = lit≤ tt; most = lit≤ tt } }
@@ -104,6 +129,24 @@ module _ (account : List Record) (ok : Lawful account) where
             spread-within (getD (spreadsOf c account) k []) (every-at ranges.SpreadWithin (spreadsOf c account) (ok .ranges .spreads c) k h)
             (every-at (λ s. legsClash s ≡ false) (spreadsOf c account) (ok .orders .spreads c) k h);
       }
+
+  its-row : (c k : ℕ) → k < length (rowsOf c account) → ranges.RowWithin (getD (rowsOf c account) k [])
+  its-row c k h = every-at ranges.RowWithin (rowsOf c account) (ok .ranges .rows c) k h
+
+  -- its rows at the rates of the account, and at none
+  pub rows-rated : (c : ℕ) (t : Rates) → RatesOf (ratesOf account) t → RatedBy t (rowsOf c account)
+  rows-rated c t held =
+      record {
+        rates = ratesOf account;
+        held = held;
+        each =
+            λ k h.
+            row-rated (getD (rowsOf c account) k []) (its-row c k h) (ratesOf account) (ok .ranges .rates)
+            (every-at (Convertible (ratesOf account)) (rowsOf c account) (ok .conversions c) k h);
+      }
+
+  pub rows-unrated : (c : ℕ) (t : Rates) → RatesOf [] t → RatedBy t (rowsOf c account)
+  rows-unrated c t held = record { rates = []; held = held; each = λ k h. row-unrated (getD (rowsOf c account) k []) (its-row c k h) }
 
   pub own-within : (k : ℕ) → k < length (contractsOf account) → ranges.ContractWithin (getD (contractsOf account) k [])
   own-within k h = every-at ranges.ContractWithin (contractsOf account) (ok .ranges .contracts) k h

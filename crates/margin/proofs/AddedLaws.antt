@@ -40,6 +40,15 @@ nothing-added n more xs z =
       others = λ k h. refl;
     }
 
+-- the same is added
+pub same-added : (n : ℕ) (f g : ℕ → ℤ) (xs ys : List ℤ) → ((k : ℕ) → f k ≡ g k) → Added n f xs ys → Added n g xs ys
+same-added n f g xs ys e a =
+    record {
+      as-many = a .as-many;
+      added = λ k h. a .added k h ∙ ap (λ (z : ℤ). getD xs k (pos 0) +ℤ z) (e k);
+      others = a .others;
+    }
+
 -- added once, and once more
 pub twice : (n : ℕ) (f g more : ℕ → ℤ) (xs ys zs : List ℤ) → ((k : ℕ) → k < n → f k +ℤ g k ≡ more k) → Added n f xs ys → Added n g ys zs → Added n more xs zs
 twice n f g more xs ys zs e a b =

@@ -33,9 +33,9 @@ threes-length (n ∷ nets) [] unused e f = absurd (omega arith)
 threes-length (n ∷ nets) (u ∷ used) [] e f = absurd (omega arith)
 threes-length (n ∷ nets) (u ∷ used) (o ∷ unused) e f = let h = threes-length nets used unused (omega arith) (omega arith) in omega arith
 
-parts-length : (own : Record) (prompts rows spreads : List Record) → length (contractParts (contractFrom own prompts rows spreads)) ≡ 3 * length prompts + 2 * length spreads
-parts-length own prompts rows spreads =
-    let k = contractFrom own prompts rows spreads in
+parts-length : (rates : List Record) (own : Record) (prompts rows spreads : List Record) → length (contractParts (contractFrom rates own prompts rows spreads)) ≡ 3 * length prompts + 2 * length spreads
+parts-length rates own prompts rows spreads =
+    let k = contractFrom rates own prompts rows spreads in
     let o : length (opensOf k) ≡ length prompts = opens-length prompts (netDeltas prompts rows) (length-map prompts _) in
     let t = threes-length (netDeltas prompts rows) (usedOf (stepsOf k) (opensOf k)) (unusedOf (stepsOf k) (opensOf k))
     (used-length (stepsOf k) (opensOf k) ∙ o ∙ sym (length-map prompts _)) (unused-length (stepsOf k) (opensOf k) ∙ o ∙ sym (length-map prompts _))
@@ -52,11 +52,11 @@ table-parts-length entries ks =
     length-append (threes (map contractNet ks) (usedOf ss ps) (unusedOf ss ps)) (map pos (numbers ss ps))
     ∙ ap₂ _+_ (t ∙ ap (λ (x : ℕ). 3 * x) (length-map ks contractNet)) (length-map (numbers ss ps) pos ∙ numbers-length intercontract entries ps)
 
-pub contract-length : (own : Record) (prompts rows spreads : List Record)
-    → length (contractBook (contractFrom own prompts rows spreads)) ≡ 3 * length prompts + 2 * length spreads + 1
-contract-length own prompts rows spreads =
-    length-append (contractParts (contractFrom own prompts rows spreads)) (pos (contractTouches (contractFrom own prompts rows spreads)) ∷ [])
-    ∙ ap (λ (n : ℕ). n + 1) (parts-length own prompts rows spreads)
+pub contract-length : (rates : List Record) (own : Record) (prompts rows spreads : List Record)
+    → length (contractBook (contractFrom rates own prompts rows spreads)) ≡ 3 * length prompts + 2 * length spreads + 1
+contract-length rates own prompts rows spreads =
+    length-append (contractParts (contractFrom rates own prompts rows spreads)) (pos (contractTouches (contractFrom rates own prompts rows spreads)) ∷ [])
+    ∙ ap (λ (n : ℕ). n + 1) (parts-length rates own prompts rows spreads)
 
 pub table-length : (entries : List Record) (ks : List Contract) → length (tableBook entries ks) ≡ 3 * length ks + 2 * length entries + 1
 table-length entries ks =
@@ -93,7 +93,7 @@ large q [] e h = refl
 large q (r ∷ rs) e h = ap₂ _||_ (ne-eqb (contract r) q (λ x. let w = e .0 .contracts in omega arith)) (large q rs (e .1) h)
 
 -- by how many records each part has it is known which questions are answered
-module _ (account : List Record) (ok : Lawful account) (counts : List ℕ) (are : (v : ℕ) → v < 81 → getD counts v 0 ≡ count (inPart v) account) where
+module _ (account : List Record) (ok : Lawful account) (counts : List ℕ) (are : (v : ℕ) → v < 82 → getD counts v 0 ≡ count (inPart v) account) where
   pub asked-is : (q : ℕ) → askedBy counts q ≡ answered account q
   asked-is q = go (eqb q 16) refl (ltb q 16) refl
     where

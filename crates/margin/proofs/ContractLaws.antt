@@ -48,12 +48,12 @@ everywhere n most zs e h k = go (decLt k n)
     go (yes l) = h k l
     go (no l) = subst⁻¹ (λ (z : ℤ). natAbs z ≤ most) (List·getD-eq-default zs (pos 0) (omega (arith, l))) zero-le
 
-module _ (own : Record) (prompts rows spreads : List Record) (w : ContractFit own prompts rows spreads) (q : Position) (is : PositionOf (unit own) prompts rows q) (most : Bounded 128 q) where
+module _ (rates : List Record) (own : Record) (prompts rows spreads : List Record) (w : ContractFit own prompts rows spreads) (q : Position) (is : PositionOf rates (unit own) prompts rows q) (most : Bounded 128 q) where
   abbrev nets : List ℤ
   nets = deltasIn (q .nets)
 
   abbrev k : Contract
-  k = contractFrom own prompts rows spreads
+  k = contractFrom rates own prompts rows spreads
 
   abbrev ps : List Open
   ps = opens prompts (deltasIn (q .nets))
@@ -157,9 +157,9 @@ module _ (own : Record) (prompts rows spreads : List Record) (w : ContractFit ow
     pub line-is : (l : Line) (rate : ℕ) → l .contract ≡ contract own → l .unit ≡ unit own → Scanned (q .totals .0) (l .active) (l .scanning .0) (l .«twice_price») → Charged (unit own) prompts spreads b (l .interprompt .0) (l .prompt .0)
         → rate ≡ shortOptionRate own → l .minimum .0 ≡ shortOptionMinimum (q .shorts) rate → l .minimum .0 ≤ mostLots * mostRate → l .net .0 ≡ sumℤ nets → LineOf k l
     line-is l rate ec eu sc ch er em hm en =
-        let active : l .active ≡ activeScenario (totals (unit own) rows) = sc .active-is ∙ ap activeScenario (is .totals-are) in
-        let sixteen : length (totals (unit own) rows) ≡ 16 = refl in
-        let few : activeScenario (totals (unit own) rows) ≤ 16 = first-holding (totals (unit own) rows) (omega arith) in
+        let active : l .active ≡ activeScenario (totals rates (unit own) rows) = sc .active-is ∙ ap activeScenario (is .totals-are) in
+        let sixteen : length (totals rates (unit own) rows) ≡ 16 = refl in
+        let few : activeScenario (totals rates (unit own) rows) ≤ 16 = first-holding (totals rates (unit own) rows) (omega arith) in
         record {
           contract-is = ec;
           unit-is = eu;

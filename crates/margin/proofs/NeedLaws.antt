@@ -65,11 +65,11 @@ module _ (morning noon : List ℕ) (a : Account) (st : Stands morning noon a) wh
       record {
         book-has =
             ap length (one-book account (st .lawful) q asked apart)
-            ∙ contract-length [] ps rs ss
+            ∙ contract-length [] [] ps rs ss
             ∙ ap₂ (λ (x y : ℕ). 3 * x + 2 * y + 1) (sym prompts) (sym spreads);
         uses-have =
             ap length (contract-asked account (st .lawful) contractUses tableUses (λ own. refl) q asked apart)
-            ∙ spread-uses (map interprompt ss) (opensOf (contractFrom [] ps rs ss))
+            ∙ spread-uses (map interprompt ss) (opensOf (contractFrom [] [] ps rs ss))
             ∙ ap₂ (λ (x y : ℕ). x * (2 * y)) (length-map ss interprompt ∙ sym spreads) (opens-length ps (netDeltas ps rs) (length-map ps _) ∙ sym prompts);
         prompts-few = omega (arith, prompts, limits .prompts q);
         spreads-few = omega (arith, spreads, limits .spreads q);

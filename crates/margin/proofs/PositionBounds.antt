@@ -7,30 +7,26 @@ use Prim.Native.Nat.{ℕ, suc, _+_, _*_, _≤_, _<_, zero-le}
 use native.Mathlib.Nat.{le-refl, le-trans, mul-le-mul-right}
 use native.Mathlib.Omega.{arith}
 use lib.Dec.{eqb, ltb}
-use lib.IntN.{ℤ, pos, negsuc, natAbs, _*ℤ_}
+use lib.IntN.{ℤ, pos, negsuc, natAbs}
 use Rattle.exact.proofs.UnitLaws.{away-above}
 use lib.ListN.{length, getD, take, length-take}
 use lib.Seq.{getD-take}
 use borrow.Author.Tests.{ltb-true, ltb-false}
 use Rattle.exact.specs.Lists.{consIf, keep, sumℤ}
-use Rattle.record.specs.Layout.{Record, day, lots, value, loss, delta, rowType}
+use Rattle.record.specs.Layout.{Record, day, lots, delta, rowType}
 use Rattle.margin.specs.declared.rows.Position.{Position}
 use Rattle.margin.specs.Bounds.{mostProduct}
 use Rattle.margin.specs.Scanning.{inHundredths, product, total}
 use Rattle.margin.specs.Deltas.{rowDelta, ofDay}
 use Rattle.margin.specs.Margin.{short, shortOptions, shortLots}
-use Rattle.margin.specs.Position.{RowFit, RowsFit, PositionOf, Bounded, deltasIn, netOn}
+use Rattle.margin.specs.Position.{RowFit, RowRated, RowsFit, PositionOf, Bounded, deltasIn, netOn}
 use Rattle.margin.proofs.SignedCalls.{abs-times, abs-plus}
 use Rattle.margin.proofs.PositionLaws.{totals-at, net-here}
 
 -- ---- of one row
 
-hundredths-most : (row : Record) → RowFit row → (s : ℕ) → 1 ≤ s → s ≤ 16 → natAbs (inHundredths s row) ≤ 100000000000000
-hundredths-most row w s l h =
-    abs-times (lots row *ℤ pos (value row)) (loss row s) (abs-times (lots row) (pos (value row)) (w .lots-within) (w .value-within)) (w .loss-within s l h)
-
-pub product-most : (unit : ℕ) → unit ≤ 1000 → (row : Record) → RowFit row → (s : ℕ) → 1 ≤ s → s ≤ 16 → natAbs (product unit s row) ≤ mostProduct
-product-most unit hu row w s l h = omega (arith, hundredths-most row w s l h, away-above unit (inHundredths s row))
+pub product-most : (rates : List Record) (unit : ℕ) → unit ≤ 1000 → (row : Record) → RowRated rates row → (s : ℕ) → 1 ≤ s → s ≤ 16 → natAbs (product rates unit s row) ≤ mostProduct
+product-most rates unit hu row w s l h = omega (arith, w .conversion-within s l h, away-above unit (inHundredths rates s row))
 
 pub delta-most : (row : Record) → RowFit row → natAbs (rowDelta row) ≤ 1000000000
 delta-most row w = abs-times (lots row) (delta row) (w .lots-within) (w .delta-within)
@@ -51,12 +47,16 @@ shorts-most row w = go (eqb (rowType row) 0)
 abbrev pub Each : List Record → Type 0
 Each rows = (k : ℕ) → k < length rows → RowFit (getD rows k [])
 
-pub total-most : (unit : ℕ) → unit ≤ 1000 → (rows : List Record) → Each rows → (s : ℕ) → 1 ≤ s → s ≤ 16 → natAbs (total unit rows s) ≤ length rows * mostProduct
-total-most unit hu [] e s l h = zero-le
-total-most unit hu (row ∷ rows) e s l h =
-    let one = product-most unit hu row (e 0 (omega arith)) s l h in
-    let rest = total-most unit hu rows (λ k l. e (suc k) (omega arith)) s l h in
-    let both = abs-plus (product unit s row) (total unit rows s) one rest in
+-- and each at its rate
+abbrev pub Rated : List Record → List Record → Type 0
+Rated rates rows = (k : ℕ) → k < length rows → RowRated rates (getD rows k [])
+
+pub total-most : (rates : List Record) (unit : ℕ) → unit ≤ 1000 → (rows : List Record) → Rated rates rows → (s : ℕ) → 1 ≤ s → s ≤ 16 → natAbs (total rates unit rows s) ≤ length rows * mostProduct
+total-most rates unit hu [] e s l h = zero-le
+total-most rates unit hu (row ∷ rows) e s l h =
+    let one = product-most rates unit hu row (e 0 (omega arith)) s l h in
+    let rest = total-most rates unit hu rows (λ k l. e (suc k) (omega arith)) s l h in
+    let both = abs-plus (product rates unit s row) (total rates unit rows s) one rest in
     omega arith
 
 pub net-most : (rows : List Record) → Each rows → (d : ℕ) → natAbs (netOn rows d) ≤ length rows * 1000000000
@@ -79,28 +79,28 @@ short-lots-most (row ∷ rows) e =
 -- ---- of a position
 
 -- the nets of the prompts and those past them
-net-place : (unit : ℕ) (prompts rows : List Record) (p : Position) → Each rows → PositionOf unit prompts rows p → (j : ℕ) → natAbs (getD (deltasIn (p .nets)) j (pos 0)) ≤ length rows * 1000000000
-net-place unit prompts rows p e is j = go (ltb j (length prompts)) refl
+net-place : (rates : List Record) (unit : ℕ) (prompts rows : List Record) (p : Position) → Each rows → PositionOf rates unit prompts rows p → (j : ℕ) → natAbs (getD (deltasIn (p .nets)) j (pos 0)) ≤ length rows * 1000000000
+net-place rates unit prompts rows p e is j = go (ltb j (length prompts)) refl
   where
     go : (t : Bool) → ltb j (length prompts) ≡ t → natAbs (getD (deltasIn (p .nets)) j (pos 0)) ≤ length rows * 1000000000
     go true h =
-        subst (λ (z : ℤ). natAbs z ≤ length rows * 1000000000) (sym (net-here unit prompts rows p is j (ltb-true j (length prompts) h)))
+        subst (λ (z : ℤ). natAbs z ≤ length rows * 1000000000) (sym (net-here rates unit prompts rows p is j (ltb-true j (length prompts) h)))
         (net-most rows e (day (getD prompts j [])))
     go false h =
         subst (λ (z : ℤ). natAbs z ≤ length rows * 1000000000) (sym (is .nets-beyond j (ltb-false j (length prompts) h))) zero-le
 
-pub bounded : (unit : ℕ) → unit ≤ 1000 → (prompts rows : List Record) (p : Position) → RowsFit rows → PositionOf unit prompts rows p → Bounded (length rows) p
-bounded unit hu prompts rows p w is =
+pub bounded : (rates : List Record) (unit : ℕ) → unit ≤ 1000 → (prompts rows : List Record) (p : Position) → RowsFit rows → Rated rates rows → PositionOf rates unit prompts rows p → Bounded (length rows) p
+bounded rates unit hu prompts rows p w rated is =
     record {
       totals-most =
           record {
             as-many = ap length (is .totals-are);
             size = λ k h.
                 subst (λ (z : ℤ). natAbs z ≤ length rows * mostProduct)
-                (sym (ap (λ (zs : List ℤ). getD zs k (pos 0)) (is .totals-are) ∙ totals-at unit rows k h))
-                (total-most unit hu rows (w .each) (k + 1) (omega arith) (omega arith));
+                (sym (ap (λ (zs : List ℤ). getD zs k (pos 0)) (is .totals-are) ∙ totals-at rates unit rows k h))
+                (total-most rates unit hu rows rated (k + 1) (omega arith) (omega arith));
           };
-      nets-most = record { as-many = is .places; size = λ j h. net-place unit prompts rows p (w .each) is j };
+      nets-most = record { as-many = is .places; size = λ j h. net-place rates unit prompts rows p (w .each) is j };
       shorts-most = subst (λ (n : ℕ). n ≤ length rows * 100000) (sym (is .shorts-are)) (short-lots-most rows (w .each));
     }
 
@@ -113,8 +113,8 @@ wider n m p h b =
       shorts-most = le-trans (b .shorts-most) (mul-le-mul-right 100000 h);
     }
 
-pub each-take : (rows : List Record) (n : ℕ) → Each rows → Each (take n rows)
-each-take rows n e k h =
+pub each-take : (P : Record → Type 0) (rows : List Record) (n : ℕ) → ((k : ℕ) → k < length rows → P (getD rows k [])) → (k : ℕ) → k < length (take n rows) → P (getD (take n rows) k [])
+each-take P rows n e k h =
     let n-above : k < n = omega (arith, length-take n rows) in
     let rows-above : k < length rows = omega (arith, length-take n rows) in
-    subst (λ (row : Record). RowFit row) (sym (getD-take n rows k [] n-above)) (e k rows-above)
+    subst P (sym (getD-take n rows k [] n-above)) (e k rows-above)

@@ -22,9 +22,9 @@ use Rattle.margin.specs.Position.{DaysOf, PositionOf, WithRows, netOn, d
 
 -- ---- rows before and rows after
 
-pub total-append : (unit : ℕ) (xs ys : List Record) (s : ℕ) → total unit (xs ++ ys) s ≡ total unit xs s +ℤ total unit ys s
-total-append unit xs ys s =
-    ap sumℤ (map-append (product unit s) xs ys) ∙ sumℤ-append (map (product unit s) xs) (map (product unit s) ys)
+pub total-append : (rates : List Record) (unit : ℕ) (xs ys : List Record) (s : ℕ) → total rates unit (xs ++ ys) s ≡ total rates unit xs s +ℤ total rates unit ys s
+total-append rates unit xs ys s =
+    ap sumℤ (map-append (product rates unit s) xs ys) ∙ sumℤ-append (map (product rates unit s) xs) (map (product rates unit s) ys)
 
 pub net-append : (xs ys : List Record) (d : ℕ) → netOn (xs ++ ys) d ≡ netOn xs d +ℤ netOn ys d
 net-append xs ys d =
@@ -37,8 +37,8 @@ shorts-append xs ys = ap sum (map-append shortOptions xs ys) ∙ sum-append (map
 
 -- ---- one row
 
-pub total-one : (unit : ℕ) (row : Record) (s : ℕ) → product unit s row ≡ total unit (row ∷ []) s
-total-one unit row s = sym (+ℤ-idr (product unit s row))
+pub total-one : (rates : List Record) (unit : ℕ) (row : Record) (s : ℕ) → product rates unit s row ≡ total rates unit (row ∷ []) s
+total-one rates unit row s = sym (+ℤ-idr (product rates unit s row))
 
 pub net-one : (row : Record) (d : ℕ) → cond (ofDay d row) (rowDelta row) (pos 0) ≡ netOn (row ∷ []) d
 net-one row d = go (ofDay d row)
@@ -56,15 +56,15 @@ scenario-at : (k : ℕ) → k < 16 → getD scenarios k 0 ≡ k + 1
 unfolding numbered
 scenario-at k h = eqb→eq (getD scenarios k 0) (k + 1) (at numbered scenarios tt k h)
 
-pub totals-at : (unit : ℕ) (rows : List Record) (k : ℕ) → k < 16 → getD (totals unit rows) k (pos 0) ≡ total unit rows (k + 1)
-totals-at unit rows k h = getD-map (total unit rows) scenarios k 0 (pos 0) h ∙ ap (total unit rows) (scenario-at k h)
+pub totals-at : (rates : List Record) (unit : ℕ) (rows : List Record) (k : ℕ) → k < 16 → getD (totals rates unit rows) k (pos 0) ≡ total rates unit rows (k + 1)
+totals-at rates unit rows k h = getD-map (total rates unit rows) scenarios k 0 (pos 0) h ∙ ap (total rates unit rows) (scenario-at k h)
 
 pub nets-at : (prompts rows : List Record) (j : ℕ) → j < length prompts → getD (netDeltas prompts rows) j (pos 0) ≡ netDelta rows (getD prompts j [])
 nets-at prompts rows j h = getD-map (netDelta rows) prompts j [] (pos 0) h
 
 -- a position's net at a place
-pub net-here : (unit : ℕ) (prompts rows : List Record) (p : Position) → PositionOf unit prompts rows p → (j : ℕ) → j < length prompts → getD (deltasIn (p .nets)) j (pos 0) ≡ netDelta rows (getD prompts j [])
-net-here unit prompts rows p is j h =
+pub net-here : (rates : List Record) (unit : ℕ) (prompts rows : List Record) (p : Position) → PositionOf rates unit prompts rows p → (j : ℕ) → j < length prompts → getD (deltasIn (p .nets)) j (pos 0) ≡ netDelta rows (getD prompts j [])
+net-here rates unit prompts rows p is j h =
     sym (getD-take (length prompts) (deltasIn (p .nets)) j (pos 0) h)
     ∙ ap (λ (zs : List ℤ). getD zs j (pos 0)) (is .nets-are)
     ∙ nets-at prompts rows j h
@@ -76,8 +76,8 @@ zeros zero j = refl
 zeros (suc n) zero = refl
 zeros (suc n) (suc j) = zeros n j
 
-pub nothing : (unit : ℕ) (prompts : List Record) (p : Position) → length prompts ≤ 32 → p .totals .0 ≡ replicate 16 (pos 0) → deltasIn (p .nets) ≡ replicate 32 (pos 0) → p .shorts ≡ 0 → PositionOf unit prompts [] p
-nothing unit prompts p few et en es =
+pub nothing : (rates : List Record) (unit : ℕ) (prompts : List Record) (p : Position) → length prompts ≤ 32 → p .totals .0 ≡ replicate 16 (pos 0) → deltasIn (p .nets) ≡ replicate 32 (pos 0) → p .shorts ≡ 0 → PositionOf rates unit prompts [] p
+nothing rates unit prompts p few et en es =
     let thirty-two : length (deltasIn (p .nets)) ≡ 32 = ap length en in
     let here : (j : ℕ) → getD (deltasIn (p .nets)) j (pos 0) ≡ pos 0 = λ j. ap (λ (zs : List ℤ). getD zs j (pos 0)) en ∙ zeros 32 j in
     let as-many : length (take (length prompts) (deltasIn (p .nets))) ≡ length prompts = length-take-le (length prompts) (deltasIn (p .nets)) (omega arith) in
@@ -95,19 +95,19 @@ nothing unit prompts p few et en es =
 
 -- ---- the position with more rows
 
-module _ (unit : ℕ) (prompts earlier rows : List Record) (days : Days) (p q : Position) (known : DaysOf prompts days) (is : PositionOf unit prompts earlier p) (w : WithRows unit days p rows q) where
-  same-totals : q .totals .0 ≡ totals unit (earlier ++ rows)
+module _ (rates : List Record) (unit : ℕ) (prompts earlier rows : List Record) (days : Days) (p q : Position) (known : DaysOf prompts days) (is : PositionOf rates unit prompts earlier p) (w : WithRows rates unit days p rows q) where
+  same-totals : q .totals .0 ≡ totals rates unit (earlier ++ rows)
   same-totals =
       let sixteen : length (q .totals .0) ≡ 16 = w .totals-added .as-many ∙ ap length (is .totals-are) in
-      ext-getD (pos 0) (q .totals .0) (totals unit (earlier ++ rows)) sixteen (λ k h. here k (omega arith))
+      ext-getD (pos 0) (q .totals .0) (totals rates unit (earlier ++ rows)) sixteen (λ k h. here k (omega arith))
     where
-      here : (k : ℕ) → k < 16 → getD (q .totals .0) k (pos 0) ≡ getD (totals unit (earlier ++ rows)) k (pos 0)
+      here : (k : ℕ) → k < 16 → getD (q .totals .0) k (pos 0) ≡ getD (totals rates unit (earlier ++ rows)) k (pos 0)
       here k h =
           w .totals-added .added k h
-          ∙ ap (λ (zs : List ℤ). getD zs k (pos 0) +ℤ total unit rows (k + 1)) (is .totals-are)
-          ∙ ap (λ (z : ℤ). z +ℤ total unit rows (k + 1)) (totals-at unit earlier k h)
-          ∙ sym (total-append unit earlier rows (k + 1))
-          ∙ sym (totals-at unit (earlier ++ rows) k h)
+          ∙ ap (λ (zs : List ℤ). getD zs k (pos 0) +ℤ total rates unit rows (k + 1)) (is .totals-are)
+          ∙ ap (λ (z : ℤ). z +ℤ total rates unit rows (k + 1)) (totals-at rates unit earlier k h)
+          ∙ sym (total-append rates unit earlier rows (k + 1))
+          ∙ sym (totals-at rates unit (earlier ++ rows) k h)
 
   same-nets : take (length prompts) (deltasIn (q .nets)) ≡ netDeltas prompts (earlier ++ rows)
   same-nets =
@@ -121,12 +121,12 @@ module _ (unit : ℕ) (prompts earlier rows : List Record) (days : Days) (p q : 
       here j h =
           getD-take (length prompts) (deltasIn (q .nets)) j (pos 0) h
           ∙ w .nets-added .added j (omega (arith, known .count-is))
-          ∙ ap₂ (λ (z : ℤ) (d : ℕ). z +ℤ netOn rows d) (net-here unit prompts earlier p is j h) (known .day-is j h)
+          ∙ ap₂ (λ (z : ℤ) (d : ℕ). z +ℤ netOn rows d) (net-here rates unit prompts earlier p is j h) (known .day-is j h)
           ∙ sym (net-append earlier rows (day (getD prompts j [])))
           ∙ sym (nets-at prompts (earlier ++ rows) j h)
 
   -- what the rows before and these come to
-  pub joined : PositionOf unit prompts (earlier ++ rows) q
+  pub joined : PositionOf rates unit prompts (earlier ++ rows) q
   joined =
       record {
         totals-are = same-totals;

@@ -13,15 +13,15 @@ use Rattle.exact.specs.Lists.{consIf, keep, count, oneIf, sum, sumℤ}
 use Rattle.exact.proofs.Lists.{map-same, sumℤ-map-add}
 use Rattle.record.specs.Layout.{Record, kind, contract, unit, ratePerSpread, spreadRate, outrightRate}
 use Rattle.account.specs.Accepted.{Each}
-use Rattle.account.specs.Check.{checked}
-use Rattle.account.specs.Lawful.{Lawful}
+use Rattle.account.specs.Checked.{checked}
+use Rattle.account.specs.Lawful.{Recorded, Lawful}
 use Rattle.account.specs.Noon.{clear, joinedVerdict}
-use Rattle.account.specs.Parts.{ofKind, ofContract, contractsOf, promptsOf, rowsOf, entriesOf}
+use Rattle.account.specs.Parts.{ofKind, ofContract, contractsOf, promptsOf, rowsOf, entriesOf, ratesOf}
 use Rattle.account.specs.Records.{records}
 use Rattle.account.specs.Standing.{accountOf}
 use Rattle.account.specs.Whole.{Whole}
 use Rattle.account.specs.declared.answers.Answer.the-variants.{Accepted}
-use Rattle.account.proofs.Lawful.{lawful}
+use Rattle.account.proofs.Alone.{lawful}
 use Rattle.account.proofs.NoonLaws.{pair-lawful}
 use Rattle.account.proofs.Whole.{KindWithin, owners, owned-once, file-kinds, pair-kinds, whole-file, whole-pair}
 use Rattle.spread.proofs.Gathering.{eqb-turned}
@@ -104,7 +104,7 @@ module _ (f : Record → Record → ℤ) where
     nothing-shared [] = refl
     nothing-shared (own ∷ owns) = ap (λ (z : ℤ). pos 0 +ℤ z) (nothing-shared owns)
 
-    pub all-shared : (xs : List Record) → Each (λ r. (kind r ≡ 5 → ⊥) → owners r owns ≡ 1) xs → sumℤ (map (ofRows xs) owns) ≡ sumℤ (map owned (allRows xs))
+    pub all-shared : (xs : List Record) → Each (λ r. kind r ≤ 4 → owners r owns ≡ 1) xs → sumℤ (map (ofRows xs) owns) ≡ sumℤ (map owned (allRows xs))
     all-shared [] h = nothing-shared owns
     all-shared (x ∷ xs) h =
         ap sumℤ (map-same (ofRows (x ∷ xs)) (λ own. share x own +ℤ ofRows xs own) (first-share x xs) owns)
@@ -115,7 +115,7 @@ module _ (f : Record → Record → ℤ) where
             → sumℤ (map (share x) owns) +ℤ sumℤ (map (ofRows xs) owns) ≡ sumℤ (map owned (consIf t x (allRows xs)))
         go true e rest =
             let k = eqb-true (kind x) 3 e in
-            ap₂ _+ℤ_ (once-shared x k owns (h .0 (λ z. omega (arith, k, z)))) rest
+            ap₂ _+ℤ_ (once-shared x k owns (h .0 (omega (arith, k)))) rest
         go false e rest =
             ap₂ _+ℤ_ (no-row x (eqb-false (kind x) 3 e) owns) rest ∙ +ℤ-idl (sumℤ (map owned (allRows xs)))
 
@@ -132,17 +132,20 @@ short-rows rows = ap sumℤ (sym (map-map pos shortOptions rows)) ∙ pos-sum (m
 
 -- ---- the sixteen totals
 
-total-at : (unit : ℕ) (rows : List Record) (scenario : ℕ) → 1 ≤ scenario → scenario ≤ 16 → totalOf (totals unit rows) scenario ≡ total unit rows scenario
-total-at unit rows scenario l h =
+total-at : (rates : List Record) (unit : ℕ) (rows : List Record) (scenario : ℕ) → 1 ≤ scenario → scenario ≤ 16 → totalOf (totals rates unit rows) scenario ≡ total rates unit rows scenario
+total-at rates unit rows scenario l h =
     let e : scenario - 1 + 1 ≡ scenario = omega arith in
-    totals-at unit rows (scenario - 1) (omega arith) ∙ ap (total unit rows) e
+    totals-at rates unit rows (scenario - 1) (omega arith) ∙ ap (total rates unit rows) e
 
 module _ (account : List Record) (law : Lawful account) (within : Each KindWithin account) where
   abbrev owns : List Record
   owns = contractsOf account
 
+  by-records : Recorded account
+  by-records = record { ranges = law .ranges; limits = law .limits; onePrompt = law .onePrompt; named = law .named; orders = law .orders }
+
   together : (f : Record → Record → ℤ) → sumℤ (map (ofRows f account) owns) ≡ sumℤ (map (λ x. f (ownerOf owns x) x) (allRows account))
-  together f = all-shared f owns account (owned-once account law within)
+  together f = all-shared f owns account (owned-once account by-records within)
 
   -- over the contracts as over their own records
   over-owns : (g : Contract → ℤ) (f : Record → Record → ℤ) → ((own : Record) → g (partsIn account own) ≡ ofRows f account own)
@@ -155,7 +158,7 @@ module _ (account : List Record) (law : Lawful account) (within : Each KindWithi
       record {
         totals =
             λ scenario l h.
-            over-owns (λ k. totalOf (k .totals) scenario) (λ own. product (unit own) scenario) (λ own. total-at (unit own) (rowsOf (contract own) account) scenario l h);
+            over-owns (λ k. totalOf (k .totals) scenario) (λ own. product (ratesOf account) (unit own) scenario) (λ own. total-at (ratesOf account) (unit own) (rowsOf (contract own) account) scenario l h);
         nets =
             over-owns contractNet (λ own. rowDelta)
             (λ own. all-rows (promptsOf (contract own) account) (rowsOf (contract own) account) (law .onePrompt (contract own)));
@@ -197,9 +200,9 @@ over-prompts unit (p ∷ ps) (u ∷ used) [] e g = absurd (omega arith)
 over-prompts unit (p ∷ ps) (u ∷ used) (n ∷ unused) e g =
     ap (λ (x : ℕ). promptCharge unit (spreadRate p) (outrightRate p) u n + x) (over-prompts unit ps used unused (omega arith) (omega arith))
 
-nothing-over : (own : Record) (prompts rows spreads : List Record) → NothingOver (contractFrom own prompts rows spreads)
-nothing-over own prompts rows spreads =
-    let k = contractFrom own prompts rows spreads in
+nothing-over : (rates : List Record) (own : Record) (prompts rows spreads : List Record) → NothingOver (contractFrom rates own prompts rows spreads)
+nothing-over rates own prompts rows spreads =
+    let k = contractFrom rates own prompts rows spreads in
     let nets : length (netDeltas prompts rows) ≡ length prompts = length-map prompts _ in
     let opened : length (opensOf k) ≡ length prompts = opens-length prompts (netDeltas prompts rows) nets in
     let used : length (usedDeltas k) ≡ length prompts = used-length (stepsOf k) (opensOf k) ∙ opened in
@@ -211,7 +214,7 @@ nothing-over own prompts rows spreads =
       used = used;
       unused = unused;
       formed = formed;
-      book = contract-length own prompts rows spreads;
+      book = contract-length rates own prompts rows spreads;
       interprompt = over-steps (λ s. spreadCharge (unit own) (ratePerSpread s)) spreads (numbersOf k) formed;
       prompt = over-prompts (unit own) prompts (usedDeltas k) (unusedDeltas k) used unused;
     }

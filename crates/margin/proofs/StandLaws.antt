@@ -15,10 +15,11 @@ use Rattle.record.specs.Layout.{Record, contract, unit}
 use Rattle.record.specs.Within as ranges
 use Rattle.account.specs.Lawful.{Lawful}
 use Rattle.account.specs.Notes.{part, entryPart}
-use Rattle.account.specs.Parts.{ofKind, ofContract, contractsOf, promptsOf, rowsOf, spreadsOf, entriesOf}
+use Rattle.account.specs.Parts.{ofKind, ofContract, contractsOf, promptsOf, rowsOf, spreadsOf, entriesOf, ratesOf}
 use Rattle.account.specs.Records.{records, recordCount}
 use Rattle.account.specs.Standing.{PartOf, Stands, accountOf}
 use Rattle.account.specs.declared.accounts.Account.{Account}
+use Rattle.account.specs.declared.rates.Rates.{Rates}
 use Rattle.account.proofs.Days.{none-kept}
 use Rattle.account.proofs.Every.{length-kept}
 use Rattle.account.proofs.Standing.{contract-part, one-record}
@@ -29,7 +30,7 @@ use Rattle.margin.specs.Books.{contractBook}
 use Rattle.margin.specs.Contract.{Contract, contractFrom, partsIn, partsOf}
 use Rattle.margin.specs.Lined.{PositionAt}
 use Rattle.margin.specs.Numbers.{BookNumbers}
-use Rattle.margin.specs.Position.{PositionOf, Bounded}
+use Rattle.margin.specs.Position.{RatedBy, PositionOf, Bounded}
 use Rattle.margin.specs.Promised.{LineOf, PositionFit, contractWith}
 use Rattle.margin.specs.Within.{ContractFit, EntriesFit}
 use Rattle.margin.proofs.AcceptLaws.{none-within, contract-within, own-within, entries-within}
@@ -37,12 +38,12 @@ use Rattle.margin.proofs.AskedLaws.{count-keep}
 use Rattle.margin.proofs.RecordLaws.{count-is}
 
 -- a contract known by its rows is the one known by what they come to
-pub contract-with : (own : Record) (prompts rows spreads : List Record) (p : Position) → PositionOf (unit own) prompts rows p → contractFrom own prompts rows spreads ≡ contractWith own prompts spreads p
-contract-with own prompts rows spreads p is =
+pub contract-with : (rates : List Record) (own : Record) (prompts rows spreads : List Record) (p : Position) → PositionOf rates (unit own) prompts rows p → contractFrom rates own prompts rows spreads ≡ contractWith own prompts spreads p
+contract-with rates own prompts rows spreads p is =
     λ i. record { own = own; prompts = prompts; spreads = spreads; totals = sym (is .totals-are) i; nets = sym (is .nets-are) i; shorts = sym (is .shorts-are) i }
 
-pub line-with : (own : Record) (prompts rows spreads : List Record) (p : Position) → PositionOf (unit own) prompts rows p → (l : Line) → LineOf (contractFrom own prompts rows spreads) l → LineOf (contractWith own prompts spreads p) l
-line-with own prompts rows spreads p is l = subst (λ (k : Contract). LineOf k l) (contract-with own prompts rows spreads p is)
+pub line-with : (rates : List Record) (own : Record) (prompts rows spreads : List Record) (p : Position) → PositionOf rates (unit own) prompts rows p → (l : Line) → LineOf (contractFrom rates own prompts rows spreads) l → LineOf (contractWith own prompts spreads p) l
+line-with rates own prompts rows spreads p is l = subst (λ (k : Contract). LineOf k l) (contract-with rates own prompts rows spreads p is)
 
 -- ---- the one record of a contract's own part
 
@@ -118,19 +119,22 @@ module _ (account : List Record) (law : Lawful account) where
       pub prompts-few : recordCount prompts ≤ 32
       prompts-few = omega (arith, count-is prompts, ap length (of-contract 2 (omega arith) prompts ep), law .limits .prompts c)
 
-      pub position-is : (u : ℕ) (p : Position) → PositionOf u (records prompts) (records rows) p → Bounded 128 p → PositionAt u account c p
-      position-is u p is most =
+      pub rows-rated-by : (t : Rates) → RatedBy t (rowsOf c account) → RatedBy t (records rows)
+      rows-rated-by t = subst⁻¹ (RatedBy t) (of-contract 3 (omega arith) rows er)
+
+      pub position-is : (rates : List Record) (u : ℕ) (p : Position) → PositionOf rates u (records prompts) (records rows) p → Bounded 128 p → PositionAt rates u account c p
+      position-is rates u p is most =
           record {
-            is = subst (λ (rs : List Record). PositionOf u (promptsOf c account) rs p) (of-contract 3 (omega arith) rows er) (subst (λ (ps : List Record). PositionOf u ps (records rows) p) (of-contract 2 (omega arith) prompts ep) is);
+            is = subst (λ (rs : List Record). PositionOf rates u (promptsOf c account) rs p) (of-contract 3 (omega arith) rows er) (subst (λ (ps : List Record). PositionOf rates u ps (records rows) p) (of-contract 2 (omega arith) prompts ep) is);
             most = most;
           }
 
-    module _ (prompts spreads : List ℕ) (ep : PartOf account (part 2 c) prompts) (es : PartOf account (part 4 c) spreads) (u : ℕ) (p : Position) (at : PositionAt u account c p) where
+    module _ (prompts spreads : List ℕ) (ep : PartOf account (part 2 c) prompts) (es : PartOf account (part 4 c) spreads) (rates : List Record) (u : ℕ) (p : Position) (at : PositionAt rates u account c p) where
       ps-are : records prompts ≡ promptsOf c account
       ps-are = of-contract 2 (omega arith) prompts ep
 
-      here : (own : Record) → u ≡ unit own → PositionOf (unit own) (promptsOf c account) (rowsOf c account) p
-      here own eu = subst (λ (n : ℕ). PositionOf n (promptsOf c account) (rowsOf c account) p) eu (at .is)
+      here : (own : Record) → u ≡ unit own → PositionOf rates (unit own) (promptsOf c account) (rowsOf c account) p
+      here own eu = subst (λ (n : ℕ). PositionOf rates n (promptsOf c account) (rowsOf c account) p) eu (at .is)
 
       ss-are : records spreads ≡ spreadsOf c account
       ss-are = of-contract 4 (omega arith) spreads es
@@ -138,30 +142,31 @@ module _ (account : List Record) (law : Lawful account) where
       fits : (own : Record) → u ≡ unit own → ranges.ContractWithin own → PositionFit own (records prompts) (records spreads) p
       fits own eu w =
           record {
+            rates = rates;
             rows = rowsOf c account;
             fit = rw (ps-are, ss-are) (contract-within account law own c w);
             is = rw ps-are (here own eu);
             most = at .most;
           }
 
-      with-is : (own : Record) → u ≡ unit own → contractWith own (records prompts) (records spreads) p ≡ contractFrom own (promptsOf c account) (rowsOf c account) (spreadsOf c account)
-      with-is own eu = ap₂ (λ (ps ss : List Record). contractWith own ps ss p) ps-are ss-are ∙ sym (contract-with own (promptsOf c account) (rowsOf c account) (spreadsOf c account) p (here own eu))
+      with-is : (own : Record) → u ≡ unit own → contractWith own (records prompts) (records spreads) p ≡ contractFrom rates own (promptsOf c account) (rowsOf c account) (spreadsOf c account)
+      with-is own eu = ap₂ (λ (ps ss : List Record). contractWith own ps ss p) ps-are ss-are ∙ sym (contract-with rates own (promptsOf c account) (rowsOf c account) (spreadsOf c account) p (here own eu))
 
       -- whatever its own record
       pub parts-room : u ≡ 1 → PositionFit [] (records prompts) (records spreads) p
       parts-room eu = fits [] eu none-within
 
-      pub parts-by-number : u ≡ 1 → contractWith [] (records prompts) (records spreads) p ≡ partsOf account c
-      parts-by-number eu = with-is [] eu
+      pub parts-by-number : rates ≡ [] → u ≡ 1 → contractWith [] (records prompts) (records spreads) p ≡ partsOf account c
+      parts-by-number none eu = with-is [] eu ∙ ap (λ (rs : List Record). contractFrom rs [] (promptsOf c account) (rowsOf c account) (spreadsOf c account)) none
 
       pub parts-numbers :
-          u ≡ 1 → (r : Numbers) → BookNumbers (contractBook (contractWith [] (records prompts) (records spreads) p)) (recordCount prompts) (recordCount spreads) r
+          rates ≡ [] → u ≡ 1 → (r : Numbers) → BookNumbers (contractBook (contractWith [] (records prompts) (records spreads) p)) (recordCount prompts) (recordCount spreads) r
           → BookNumbers (contractBook (partsOf account c)) (length (promptsOf c account)) (length (spreadsOf c account)) r
-      parts-numbers eu r is =
+      parts-numbers none eu r is =
           let a : recordCount prompts ≡ length (promptsOf c account) = sym (count-is prompts) ∙ ap length ps-are in
           let b : recordCount spreads ≡ length (spreadsOf c account) = sym (count-is spreads) ∙ ap length ss-are in
           record {
-            listed-is = is .listed-is ∙ ap contractBook (parts-by-number eu);
+            listed-is = is .listed-is ∙ ap contractBook (parts-by-number none eu);
             count-is = is .count-is ∙ ap₂ (λ (x y : ℕ). 3 * x + 2 * y + 1) a b;
             few = is .few;
           }
@@ -171,11 +176,12 @@ module _ (account : List Record) (law : Lawful account) where
         pub line-room : u ≡ unit own → PositionFit own (records prompts) (records spreads) p
         line-room eu = fits own eu (its-within i listed number own eo)
 
-        pub line-at : u ≡ unit own → (l : Line) → LineOf (contractWith own (records prompts) (records spreads) p) l → LineOf (partsIn account (getD (contractsOf account) i [])) l
-        line-at eu l is =
+        pub line-at : rates ≡ ratesOf account → u ≡ unit own → (l : Line) → LineOf (contractWith own (records prompts) (records spreads) p) l → LineOf (partsIn account (getD (contractsOf account) i [])) l
+        line-at all eu l is =
             subst (λ (k : Contract). LineOf k l)
-            (with-is own eu ∙ ap (λ (r : Record). contractFrom r (promptsOf c account) (rowsOf c account) (spreadsOf c account)) (own-is i listed number own eo)
-            ∙ ap (λ (n : ℕ). contractFrom (getD (contractsOf account) i []) (promptsOf n account) (rowsOf n account) (spreadsOf n account)) number)
+            (with-is own eu
+            ∙ ap₂ (λ (rs : List Record) (r : Record). contractFrom rs r (promptsOf c account) (rowsOf c account) (spreadsOf c account)) all (own-is i listed number own eo)
+            ∙ ap (λ (n : ℕ). contractFrom (ratesOf account) (getD (contractsOf account) i []) (promptsOf n account) (rowsOf n account) (spreadsOf n account)) number)
             is
 
   -- the number of a contract of the account

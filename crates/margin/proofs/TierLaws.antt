@@ -54,10 +54,10 @@ use Rattle.margin.proofs.StepBounds.{sizes, number-within}
 use Rattle.margin.proofs.TableLaws.{Tiered, tiered-next, tiered-all, entry-accepted}
 
 -- a contract's number and net delta, by what its rows come to
-module _ (account : List Record) (law : Lawful account) (c : ℕ) (q : Position) (at : PositionAt 1 account c q) where
+module _ (account : List Record) (law : Lawful account) (c : ℕ) (q : Position) (at : PositionAt [] 1 account c q) where
   pub tier-sizes : sum (map natAbs (deltasIn (q .nets))) ≤ mostDelta
   tier-sizes =
-      net-sizes [] (promptsOf c account) (rowsOf c account) (spreadsOf c account) (contract-within account law [] c none-within) q (at .is) (at .most)
+      net-sizes [] [] (promptsOf c account) (rowsOf c account) (spreadsOf c account) (contract-within account law [] c none-within) q (at .is) (at .most)
 
   pub tier-is : (own : Record) (z : ℤ) → c ≡ contract own → c ≤ 15 → z ≡ sumℤ (deltasIn (q .nets)) → TierIs (partsIn account own) c z
   tier-is own z ec few ez =
@@ -65,7 +65,7 @@ module _ (account : List Record) (law : Lawful account) (c : ℕ) (q : Position)
         number-is = ec;
         net-is =
             ez
-            ∙ net-is [] (promptsOf c account) (rowsOf c account) (spreadsOf c account) (contract-within account law [] c none-within) q (at .is) (at .most)
+            ∙ net-is [] [] (promptsOf c account) (rowsOf c account) (spreadsOf c account) (contract-within account law [] c none-within) q (at .is) (at .most)
             ∙ ap (λ (n : ℕ). sumℤ (netDeltas (promptsOf n account) (rowsOf n account))) ec;
         number-within = few;
         net-within = subst⁻¹ (λ (x : ℤ). natAbs x ≤ mostDelta) ez (le-trans (abs-sum (deltasIn (q .nets))) tier-sizes);

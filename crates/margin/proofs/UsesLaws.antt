@@ -218,7 +218,7 @@ pub contract-asks : (prompts spreads : List ℕ) (q : Position) → PositionFit 
     → Asks (stepsOf (contractWith [] (records prompts) (records spreads) q)) (opensOf (contractWith [] (records prompts) (records spreads) q)) (record { prompts = p; table = t })
 contract-asks prompts spreads q w p t tiers table =
     let ps = records prompts in
-    let room = book-room [] ps (w .rows) (records spreads) (w .fit) q (w .is) (w .most) in
+    let room = book-room (w .rates) [] ps (w .rows) (records spreads) (w .fit) q (w .is) (w .most) in
     let same = opens-first ps (deltasIn (q .nets)) in
     let few : length (take (length ps) (deltasIn (q .nets))) ≡ length ps = ap length (w .is .nets-are) ∙ length-map ps _ in
     asks p t (opens ps (take (length ps) (deltasIn (q .nets)))) (map interprompt (records spreads)) (opens-are prompts (q .nets) p tiers ∙ same) (table .spreads-are)

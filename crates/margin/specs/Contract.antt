@@ -5,7 +5,7 @@ use mathlib.Core.List.{List, [], map}
 use lib.IntN.{ℤ, natAbs}
 use Rattle.exact.specs.Lists.{sumℤ}
 use Rattle.record.specs.Layout.{Record, contract, shortOptionRate, unit}
-use Rattle.account.specs.Parts.{contractsOf, promptsOf, rowsOf, spreadsOf}
+use Rattle.account.specs.Parts.{contractsOf, promptsOf, rowsOf, spreadsOf, ratesOf}
 use Rattle.spread.specs.Steps.{Open, Taker, steps, numbers, usedOf, unusedOf}
 use Rattle.spread.specs.Touches.{touches}
 use Rattle.margin.specs.Scanning.{totals, scanningRisk, activeScenario}
@@ -23,13 +23,13 @@ pub record Contract : Type 0 where
   pub nets : List ℤ
   pub shorts : ℕ
 
-abbrev pub contractFrom : Record → List Record → List Record → List Record → Contract
-contractFrom own prompts rows spreads =
+abbrev pub contractFrom : List Record → Record → List Record → List Record → List Record → Contract
+contractFrom rates own prompts rows spreads =
     record {
       own = own;
       prompts = prompts;
       spreads = spreads;
-      totals = totals (unit own) rows;
+      totals = totals rates (unit own) rows;
       nets = netDeltas prompts rows;
       shorts = shortLots rows;
     }
@@ -37,11 +37,11 @@ contractFrom own prompts rows spreads =
 -- "for each contract in file order"
 abbrev pub partsIn : List Record → Record → Contract
 partsIn account own =
-    contractFrom own (promptsOf (contract own) account) (rowsOf (contract own) account) (spreadsOf (contract own) account)
+    contractFrom (ratesOf account) own (promptsOf (contract own) account) (rowsOf (contract own) account) (spreadsOf (contract own) account)
 
--- the parts of a contract number, whatever its own record
+-- the parts of a contract number, whatever its own record and the rates: net deltas are not converted
 abbrev pub partsOf : List Record → ℕ → Contract
-partsOf account c = contractFrom [] (promptsOf c account) (rowsOf c account) (spreadsOf c account)
+partsOf account c = contractFrom [] [] (promptsOf c account) (rowsOf c account) (spreadsOf c account)
 
 abbrev pub contracts : List Record → List Contract
 contracts account = map (partsIn account) (contractsOf account)

@@ -1,5 +1,5 @@
--- Records as a person enters them, for the reckoned examples: the table of fields of document 01 and of requests 2026-03 and
--- 2026-09, written out.
+-- Records as a person enters them, for the reckoned examples: the table of fields of document 01 and of requests 2026-03, 2026-05
+-- and 2026-09, written out.
 -- Assumes nothing.
 use Prim.Native.Nat.{ℕ, _-_, _/_, _%_}
 use mathlib.Core.List.{List, [], _∷_, _++_}
@@ -32,10 +32,14 @@ abbrev pub promptRecord : ℕ → ℕ → ℕ → ℕ → ℕ → Record
 promptRecord number tier day spreadRate outrightRate =
     filled (2 ∷ number ∷ tier ∷ 0 ∷ four day ++ four spreadRate ++ four outrightRate)
 
--- the row's kind is 0 forward, 1 call, 2 put
+-- a row in a currency; its kind is 0 forward, 1 call, 2 put
+abbrev pub rowIn : ℕ → ℕ → ℕ → ℕ → ℕ → ℤ → ℤ → ℕ → List ℤ → Record
+rowIn currency number rowType day strike lots delta value losses =
+    filled (3 ∷ number ∷ rowType ∷ currency ∷ four day ++ four strike ++ signed lots ++ signed delta ++ four value ++ allSigned losses)
+
+-- a row in the margin currency
 abbrev pub rowRecord : ℕ → ℕ → ℕ → ℕ → ℤ → ℤ → ℕ → List ℤ → Record
-rowRecord number rowType day strike lots delta value losses =
-    filled (3 ∷ number ∷ rowType ∷ 0 ∷ four day ++ four strike ++ signed lots ++ signed delta ++ four value ++ allSigned losses)
+rowRecord = rowIn 0
 
 -- a leg A of the first tier and ratio, a leg B of the second
 abbrev pub spreadRecord : ℕ → ℕ → ℕ → ℕ → ℕ → ℕ → Record
@@ -46,3 +50,7 @@ spreadRecord number rate tierA ratioA tierB ratioB =
 abbrev pub entryRecord : ℕ → ℕ → ℕ → ℕ → ℕ → ℕ → Record
 entryRecord first second percent firstRatio secondRatio tenths =
     filled (5 ∷ first ∷ second ∷ percent ∷ two firstRatio ++ two secondRatio ++ (tenths ∷ []))
+
+-- the spot rate in millionths, the adjustment in percent
+abbrev pub rateRecord : ℕ → ℕ → ℕ → Record
+rateRecord currency spotRate adjustment = filled (6 ∷ currency ∷ 0 ∷ 0 ∷ four spotRate ++ (adjustment ∷ []))

@@ -42,7 +42,7 @@ pub record TiersIn (account : List Record) (p : Prompts) : Type 0 where
   pub nets-are : take (p .count) (deltasIn (p .net)) ≡ map contractNet (contracts account)
   pub tiers-sound : every soundPrompt (map asTier (contracts account)) ≡ true
 
--- what the rows of a contract come to, by its number and its unit
-pub record PositionAt (unit : ℕ) (account : List Record) (c : ℕ) (p : Position) : Type 0 where
-  pub is : PositionOf unit (promptsOf c account) (rowsOf c account) p
+-- what the rows of a contract come to, by its number, at these rates and a unit
+pub record PositionAt (rates : List Record) (unit : ℕ) (account : List Record) (c : ℕ) (p : Position) : Type 0 where
+  pub is : PositionOf rates unit (promptsOf c account) (rowsOf c account) p
   pub most : Bounded mostRows p

@@ -8,10 +8,14 @@ use lib.Dec.{eqb}
 use lib.IntN.{ℤ, pos, natAbs, _+ℤ_}
 use lib.ListN.{length, getD, take}
 use Rattle.exact.specs.Lists.{keep, sumℤ}
-use Rattle.record.specs.Layout.{Record, lots, delta, value, loss, day, hundredThousand, oneLot, mostValue, scenarioCount}
+use Rattle.exact.specs.Rounding.{halfAwayTo}
+pub use Rattle.exact.specs.Signed.{Sized}
+use Rattle.record.specs.Layout.{Record, lots, delta, value, loss, day, currency, mostCurrency, hundredThousand, oneLot, mostValue, scenarioCount}
 use Rattle.account.specs.Check.{mostRows}
 use Rattle.exact.specs.Lists.{count}
 use Rattle.account.specs.Parts.{onDay}
+use Rattle.account.specs.Products.{inOwn, inHundredths, convertedAt, rateFor, raised, lowered, mostFactor, mostConversion, RatesOf}
+use Rattle.account.specs.declared.rates.Rates.{Rates}
 use Rattle.margin.specs.declared.rows.Days.{Days}
 use Rattle.margin.specs.declared.rows.Position.{Position}
 pub use Rattle.margin.specs.Sums.{deltasIn}
@@ -27,15 +31,23 @@ pub record RowFit (row : Record) : Type 0 where
   pub value-within : value row ≤ mostValue
   pub loss-within : (s : ℕ) → 1 ≤ s → s ≤ scenarioCount → natAbs (loss row s) ≤ hundredThousand
 
+-- 2026-05: neither a 14 nor a 15, at a rate within its range
+pub record RowRated (rates : List Record) (row : Record) : Type 0 where
+  pub currency-within : currency row ≤ mostCurrency
+  pub raised-within : raised (rateFor rates (currency row)) ≤ mostFactor
+  pub lowered-within : lowered (rateFor rates (currency row)) ≤ mostFactor
+  pub conversion-within : (s : ℕ) → 1 ≤ s → s ≤ scenarioCount → natAbs (inHundredths rates s row) ≤ mostConversion
+
+-- so each row at the rates that a table holds
+pub record RatedBy (t : Rates) (rows : List Record) : Type 0 where
+  pub rates : List Record
+  pub held : RatesOf rates t
+  pub each : (k : ℕ) → k < length rows → RowRated rates (getD rows k [])
+
 -- "per contract .. 128 rows", each within its ranges
 pub record RowsFit (rows : List Record) : Type 0 where
   pub few : length rows ≤ mostRows
   pub each : (k : ℕ) → k < length rows → RowFit (getD rows k [])
-
--- a result, and how large it can be
-pub record Sized (most : ℕ) (z r : ℤ) : Type 0 where
-  pub is : r ≡ z
-  pub size : natAbs r ≤ most
 
 -- n numbers, each of a size up to the most
 pub record AtMost (n most : ℕ) (zs : List ℤ) : Type 0 where
@@ -53,8 +65,20 @@ abbrev pub netOn : List Record → ℕ → ℤ
 netOn rows d = sumℤ (map rowDelta (keep (ofDay d) rows))
 
 -- what a row adds to each total, scenario 1 first
-abbrev pub products : ℕ → Record → ℕ → ℤ
-products unit row k = product unit (k + 1) row
+abbrev pub products : List Record → ℕ → Record → ℕ → ℤ
+products rates unit row k = product rates unit (k + 1) row
+
+-- the same of a row in the margin currency, and of one in another at its raised and its lowered rate
+abbrev pub ownProducts : ℕ → Record → ℕ → ℤ
+ownProducts unit row k = halfAwayTo (inOwn (k + 1) row) unit
+
+abbrev pub convertedProducts : ℕ → ℕ → ℕ → Record → ℕ → ℤ
+convertedProducts up down unit row k = halfAwayTo (convertedAt up down (inOwn (k + 1) row)) unit
+
+pub record FactorsFit (up down : ℕ) (row : Record) : Type 0 where
+  pub up-within : up ≤ mostFactor
+  pub down-within : down ≤ mostFactor
+  pub conversion-within : (s : ℕ) → 1 ≤ s → s ≤ scenarioCount → natAbs (convertedAt up down (inOwn s row)) ≤ mostConversion
 
 -- what a row of a day adds to the net delta of each prompt, by the prompts' days
 abbrev pub addsOn : List ℕ → ℕ → ℤ → ℕ → ℤ
@@ -66,9 +90,9 @@ pub record DaysOf (prompts : List Record) (d : Days) : Type 0 where
   pub few : d .count ≤ 32
   pub day-is : (j : ℕ) → j < length prompts → getD (d .day) j 0 ≡ day (getD prompts j [])
 
--- what rows come to, for a contract with this unit and these prompts; the nets past its prompts are 0
-pub record PositionOf (unit : ℕ) (prompts rows : List Record) (p : Position) : Type 0 where
-  pub totals-are : p .totals .0 ≡ totals unit rows
+-- what rows come to at these rates, for a contract with this unit and these prompts; the nets past its prompts are 0
+pub record PositionOf (rates : List Record) (unit : ℕ) (prompts rows : List Record) (p : Position) : Type 0 where
+  pub totals-are : p .totals .0 ≡ totals rates unit rows
   pub nets-are : take (length prompts) (deltasIn (p .nets)) ≡ netDeltas prompts rows
   pub nets-beyond : (j : ℕ) → length prompts ≤ j → getD (deltasIn (p .nets)) j (pos 0) ≡ pos 0
   pub places : length (deltasIn (p .nets)) ≡ 32
@@ -81,8 +105,8 @@ pub record Bounded (n : ℕ) (p : Position) : Type 0 where
   pub shorts-most : p .shorts ≤ n * 100000
 
 -- q is the position p with more rows
-pub record WithRows (unit : ℕ) (days : Days) (p : Position) (rows : List Record) (q : Position) : Type 0 where
-  pub totals-added : Added 16 (λ k. total unit rows (k + 1)) (p .totals .0) (q .totals .0)
+pub record WithRows (rates : List Record) (unit : ℕ) (days : Days) (p : Position) (rows : List Record) (q : Position) : Type 0 where
+  pub totals-added : Added 16 (λ k. total rates unit rows (k + 1)) (p .totals .0) (q .totals .0)
   pub nets-added : Added (days .count) (λ j. netOn rows (getD (days .day) j 0)) (deltasIn (p .nets)) (deltasIn (q .nets))
   pub shorts-added : q .shorts ≡ p .shorts + shortLots rows
 

@@ -39,11 +39,12 @@ contractWith own prompts spreads p =
       shorts = p .shorts;
     }
 
--- some rows within their ranges come to it
+-- some rows within their ranges come to it, at some rates
 pub record PositionFit (own : Record) (prompts spreads : List Record) (p : Position) : Type 0 where
+  pub rates : List Record
   pub rows : List Record
   pub fit : ContractFit own prompts rows spreads
-  pub is : PositionOf (unit own) prompts rows p
+  pub is : PositionOf rates (unit own) prompts rows p
   pub most : Bounded mostRows p
 
 -- the book of steps over prompts, place by place, and zeros beyond

@@ -1,16 +1,18 @@
--- "Reckoned examples" of document 01, P1 to P10, those of requests 2026-03, 2026-04 and 2026-11 with their corners, and where 2026-09
--- rounds, one claim. Deltas and numbers of spreads stand in ten-thousandths, amounts in hundredths.
+-- "Reckoned examples" of document 01, P1 to P10, those of requests 2026-03, 2026-04 and 2026-11 with their corners, where 2026-05
+-- converts and where 2026-09 rounds, one claim. Deltas and numbers of spreads stand in ten-thousandths, amounts in hundredths.
 -- Assumes nothing.
 use Prim.Native.Nat.{ℕ, _*_}
 use mathlib.Core.Path.{_≡_}
+use mathlib.Core.Bool.{true, false}
 use mathlib.Core.List.{List, [], _∷_, _++_, map}
 use lib.IntN.{ℤ, pos, negsuc, negℤ}
 use lib.ListN.{replicate}
 use Rattle.record.specs.Layout.{Record}
 use Rattle.account.specs.Records.{records}
-use Rattle.account.specs.Check.{checked}
+use Rattle.account.specs.Checked.{checked}
+use Rattle.account.specs.Products.{inHundredths, hasRate, conversionBeyond}
 use Rattle.account.specs.declared.answers.Answer.the-variants.{Accepted}
-use Rattle.margin.specs.Entered.{contractRecord, promptRecord, rowRecord, spreadRecord, entryRecord}
+use Rattle.margin.specs.Entered.{contractRecord, promptRecord, rowIn, rowRecord, spreadRecord, entryRecord, rateRecord}
 use Rattle.margin.specs.Scanning.{product, total, scanningRisk, activeScenario}
 use Rattle.margin.specs.Charges.{spreadCharge, promptCharge}
 use Rattle.margin.specs.Pairs.{pairOf}
@@ -92,18 +94,30 @@ gains = replicate 16 (negsuc 3)
 -- "P10: one short call, rate 500, nothing else above 0"
 abbrev pub shortCall : Contract
 shortCall =
-    contractFrom (contractRecord 0 500 0) (promptIn 1 1 ∷ [])
+    contractFrom [] (contractRecord 0 500 0) (promptIn 1 1 ∷ [])
     (rowRecord 0 1 1 1850 (negsuc 0) (pos 5200) 1 (replicate 16 (pos 0)) ∷ []) []
 
 -- 2026-09: the same at a rate of 549, in whole yen
 abbrev pub yenCall : Contract
 yenCall =
-    contractFrom (contractRecord 0 549 100) (promptIn 1 1 ∷ [])
+    contractFrom [] (contractRecord 0 549 100) (promptIn 1 1 ∷ [])
     (rowRecord 0 1 1 1850 (negsuc 0) (pos 5200) 1 (replicate 16 (pos 0)) ∷ []) []
 
 -- a forward of one lot that loses so many hundredths in scenario 1
 abbrev pub losing : ℤ → Record
 losing loss = rowRecord 0 0 1 0 (pos 1) (pos 0) 1 (loss ∷ replicate 15 (pos 0))
+
+-- 2026-05: a forward in currency 1 that loses, or gains, in scenario 1: lots, value and loss
+abbrev pub foreign : ℤ → ℕ → ℤ → Record
+foreign lots value loss = rowIn 1 0 0 1 0 lots (pos 0) value (loss ∷ replicate 15 (pos 0))
+
+-- the one rate of an account, in millionths, and its percent
+abbrev pub rateOf : ℕ → ℕ → List Record
+rateOf spotRate adjustment = rateRecord 1 spotRate adjustment ∷ []
+
+-- 15.00 at a rate of 1 and 33 percent: lowered and raised it is the 10 and 20 in whole units that 002 compares
+abbrev pub fifteen : ℤ → Record
+fifteen = foreign (pos 1) 1
 
 -- "Given contract 3 with short option rate 500; one prompt, tier 1, day 20260318, rates 0 and 1000; two rows at value 25,
 -- being 002's forward array for 2 lots (delta 9800) and its call array at strike 1850 for -3 lots (delta 5200)"
@@ -214,13 +228,43 @@ pub record Reckoned : Type 0 where
   -- and a leg that takes nothing touches nothing
   pub touch-of-nothing : touches (inTenths 1 10) (against (lotsLong 1) (negℤ (pos 4))) ≡ 1
   pub use-of-half : unusedOf (inTenths 1 10) (against (lotsLong 1) (negℤ (pos 5))) ≡ pos 9999 ∷ pos 0 ∷ []
+  -- 2026-05: at a rate of 1.25 and 10 percent a loss of 100.00 is 137.50, a gain of 100.00 is 112.50
+  pub converted-loss : product (rateOf 1250000 10) 1 1 (foreign (pos 1) 1 (pos 10000)) ≡ pos 13750
+  pub converted-gain : product (rateOf 1250000 10) 1 1 (foreign (pos 1) 1 (negℤ (pos 10000))) ≡ negℤ (pos 11250)
+  -- "goes by the sign of lots × value × loss": a short lot gains where a long one loses
+  pub converted-short : product (rateOf 1250000 10) 1 1 (foreign (negsuc 0) 1 (pos 10000)) ≡ negℤ (pos 11250)
+  -- "currency 0 is not converted"
+  pub not-converted : product (rateOf 1250000 10) 1 1 (losing (pos 10000)) ≡ pos 10000
+  -- half a hundredth goes away from zero, less than half does not
+  pub converted-half : product (rateOf 500000 0) 1 1 (foreign (pos 1) 1 (pos 1)) ≡ pos 1
+  pub converted-half-gained : product (rateOf 500000 0) 1 1 (foreign (pos 1) 1 (negsuc 0)) ≡ negsuc 0
+  pub converted-below : product (rateOf 499999 0) 1 1 (foreign (pos 1) 1 (pos 1)) ≡ pos 0
+  -- 002: "if -10 is compared to -20 then -10 is selected; .. if 10 is compared to 20 then 20 is selected"
+  pub fifteen-gained : product (rateOf 1000000 33) 1 1 (fifteen (negℤ (pos 1500))) ≡ negℤ (pos 1005)
+  pub fifteen-lost : product (rateOf 1000000 33) 1 1 (fifteen (pos 1500)) ≡ pos 1995
+  -- and (2026-09) "after conversion to hundredths" to whole units
+  pub fifteen-gained-whole : product (rateOf 1000000 33) 100 1 (fifteen (negℤ (pos 1500))) ≡ negℤ (pos 1000)
+  pub fifteen-lost-whole : product (rateOf 1000000 33) 100 1 (fifteen (pos 1500)) ≡ pos 2000
+  -- each row is converted, not what they come to: a lot long and one short leave 20.00 of 100.00 at 10 percent
+  pub not-netted : total (rateOf 1000000 10) 1 (foreign (pos 1) 1 (pos 10000) ∷ foreign (negsuc 0) 1 (pos 10000) ∷ []) 1 ≡ pos 2000
+  -- 14: no rate of its currency
+  pub unrated : hasRate (rateRecord 2 1000000 0 ∷ []) (foreign (pos 1) 1 (pos 1)) ≡ false
+  -- 15: 100,000,000,000,000 passes on either side of zero, also as what 100,000,000,000,000.34 rounds to; one hundredth more does not
+  pub largest-loss : inHundredths (rateOf 1000000 0) 1 (foreign (pos 100000) 10000 (pos 100000)) ≡ pos 100000000000000
+  pub largest-loss-passes : conversionBeyond (rateOf 1000000 0) (foreign (pos 100000) 10000 (pos 100000)) ≡ false
+  pub largest-gain-passes : conversionBeyond (rateOf 1000000 0) (foreign (negℤ (pos 100000)) 10000 (pos 100000)) ≡ false
+  pub rounded-passes : conversionBeyond (rateOf 99990225 50) (foreign (pos 80702) 84 (pos 98353)) ≡ false
+  pub one-more : inHundredths (rateOf 90130527 50) 1 (foreign (pos 80120) 117 (pos 78906)) ≡ pos 100000000000001
+  pub one-more-refused : conversionBeyond (rateOf 90130527 50) (foreign (pos 80120) 117 (pos 78906)) ≡ true
+  pub one-more-gained : inHundredths (rateOf 99050910 0) 1 (foreign (pos 96314) 112 (negℤ (pos 93591))) ≡ negℤ (pos 100000000000001)
+  pub one-more-gained-refused : conversionBeyond (rateOf 99050910 0) (foreign (pos 96314) 112 (negℤ (pos 93591))) ≡ true
   -- 2026-09: a product of 1.50 in whole yen, one hundredth less, and the same the other way
-  pub yen-half : product 100 1 (losing (pos 150)) ≡ pos 200
-  pub yen-below : product 100 1 (losing (pos 149)) ≡ pos 100
-  pub yen-half-gained : product 100 1 (losing (negℤ (pos 150))) ≡ negℤ (pos 200)
-  pub yen-below-gained : product 100 1 (losing (negℤ (pos 149))) ≡ negℤ (pos 100)
+  pub yen-half : product [] 100 1 (losing (pos 150)) ≡ pos 200
+  pub yen-below : product [] 100 1 (losing (pos 149)) ≡ pos 100
+  pub yen-half-gained : product [] 100 1 (losing (negℤ (pos 150))) ≡ negℤ (pos 200)
+  pub yen-below-gained : product [] 100 1 (losing (negℤ (pos 149))) ≡ negℤ (pos 100)
   -- each is rounded "before adding": two of 1.50 are 4 yen
-  pub yen-total : total 100 (losing (pos 150) ∷ losing (pos 150) ∷ []) 1 ≡ pos 400
+  pub yen-total : total [] 100 (losing (pos 150) ∷ losing (pos 150) ∷ []) 1 ≡ pos 400
   -- a charge of 1.49 and of 1.50; one of 1.495 in one rounding, which two would take to 2 yen
   pub yen-charge-below : spreadCharge 100 149 10000 0 ≡ 100
   pub yen-charge : spreadCharge 100 150 10000 0 ≡ 200

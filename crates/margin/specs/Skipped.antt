@@ -10,7 +10,7 @@ use lib.IntN.{ℤ, pos}
 use lib.ListN.{length, getD}
 use Rattle.exact.specs.Lists.{keep, sum, sumℤ}
 use Rattle.record.specs.Layout.{Record, contract, mostContract, unit, ratePerSpread, spreadRate, outrightRate}
-use Rattle.account.specs.Parts.{ofKind, contractsOf, promptsOf, rowsOf, entriesOf}
+use Rattle.account.specs.Parts.{ofKind, contractsOf, promptsOf, rowsOf, entriesOf, ratesOf}
 use Rattle.account.specs.Whole.{Whole}
 use Rattle.spread.specs.Steps.{numbers, usedOf, unusedOf}
 use Rattle.margin.specs.declared.amount.Amount.{Amount}
@@ -36,9 +36,9 @@ abbrev pub ownerOf : List Record → Record → Record
 ownerOf [] row = []
 ownerOf (own ∷ owns) row = cond (eqb (contract own) (contract row)) own (ownerOf owns row)
 
--- what a row loses in a scenario, rounded to the unit of its contract
+-- what a row loses in a scenario, converted at the account's rates and rounded to the unit of its contract
 abbrev pub lossIn : List Record → ℕ → Record → ℤ
-lossIn account scenario row = product (unit (ownerOf (contractsOf account) row)) scenario row
+lossIn account scenario row = product (ratesOf account) (unit (ownerOf (contractsOf account) row)) scenario row
 
 pub record RowsOnce (account : List Record) : Type 0 where
   -- the contracts' totals of a scenario together are what all rows lose in it
@@ -90,7 +90,7 @@ pub record NoneSkipped (account : List Record) : Type 0 where
   pub whole : Whole account
   pub rows : RowsOnce account
   -- of any contract of the account, and of its table
-  pub contract : (own : Record) (prompts rows spreads : List Record) → NothingOver (contractFrom own prompts rows spreads)
+  pub contract : (rates : List Record) (own : Record) (prompts rows spreads : List Record) → NothingOver (contractFrom rates own prompts rows spreads)
   pub table : TableOver (entriesOf account) (contracts account)
   -- eight numbers for each contract, and the total
   pub figures : length (figures account) ≡ 8 * length (contractsOf account) + 1

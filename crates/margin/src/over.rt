@@ -25,8 +25,12 @@ use account::parts::CONTRACTS;
 use account::parts::ENTRIES;
 use account::parts::OWN;
 use account::parts::PROMPTS;
+use account::parts::RATES;
 use account::parts::ROWS;
 use account::parts::SPREADS;
+use account::rates::Rates;
+use account::rates::no_rates;
+use account::rates::rates_of;
 use account::stretches::record_count;
 use exact::signed::magnitude;
 use record::fields::unit;
@@ -36,19 +40,21 @@ use spread::Prompts;
 use spread::touches::counted_book;
 ghost use mathlib.Core.Path.{_≡_};
 ghost use mathlib.Core.Bool.{true};
-ghost use mathlib.Core.List.{[], map};
+ghost use mathlib.Core.List.{List, [], map};
 ghost use Prim.Native.Nat.{_+_, _*_, _≤_, _<_};
 ghost use lib.ListN.{length, getD};
-ghost use Rattle.account.specs.Parts.{contractsOf, promptsOf, spreadsOf, entriesOf};
+ghost use Rattle.account.specs.Parts.{contractsOf, promptsOf, rowsOf, spreadsOf, entriesOf, ratesOf};
+ghost use Rattle.account.specs.Products.{RatesOf};
 ghost use Rattle.account.specs.Records.{records, recordCount};
 ghost use Rattle.account.specs.Standing.{Stands, accountOf};
-ghost use Rattle.record.specs.Layout.{mostContract, mostUnit};
+ghost use Rattle.record.specs.Layout.{Record, mostContract, mostUnit};
 ghost use Rattle.margin.specs.Books.{contractBook, tableBook, answered, askedBy, book};
 ghost use Rattle.margin.specs.Bounds.{longestBook};
 ghost use Rattle.margin.specs.Contract.{contracts, partsIn, partsOf, asTier, stepsOf, opensOf, tableSteps};
 ghost use Rattle.margin.specs.Figures.{figures, accountTotal};
 ghost use Rattle.margin.specs.Numbers.{written, BookNumbers};
 ghost use Rattle.margin.specs.Promised.{LineOf, PositionFit, contractWith};
+ghost use Rattle.margin.specs.Position.{RatedBy};
 ghost use Rattle.margin.specs.Lined.{LinesOf, TierIs, TiersIn, PositionAt};
 ghost use Rattle.margin.specs.Uses.{stepsFor, opensFor, Asks};
 
@@ -61,35 +67,36 @@ pub struct Lines {
     pub line: [Line; CONTRACTS],
 }
 
-// The unit where none is asked for: net deltas and short lots have none.
+// The unit where none is asked for: net deltas and short lots have none, and are not converted.
 const ONE_HUNDREDTH: u64 = 1;
 
-// What the rows of contract `c` come to at a unit.
+// What the rows of contract `c` come to at rates and a unit.
 fn position_at<'a>(
     morning: &'a [u8],
     noon: &'a [u8],
     account: Account,
     c: usize,
+    rates: Rates,
     unit: u64,
 ) -> Position
-    requires { ⌜ Stands (now morning) (now noon) account × ((c ≤ mostContract) × (unit ≤ mostUnit)) ⌝ }
-    ensures { λ p. ⌜ PositionAt unit (accountOf (now (morning .entry)) (now (noon .entry))) c p ⌝ }
+    requires { ⌜ Stands (now morning) (now noon) account × ((c ≤ mostContract) × ((unit ≤ mostUnit) × RatedBy rates (rowsOf c (accountOf (now morning) (now noon))))) ⌝ }
+    ensures { λ p. ⌜ ((held : List Record) → RatesOf held rates → PositionAt held unit (accountOf (now (morning .entry)) (now (noon .entry))) c p) ⌝ }
 {
     let prompts = part(morning, noon, account, PROMPTS + c);
     let rows = part(morning, noon, account, ROWS + c);
-    position_of(unit, prompts, rows)
+    position_of(rates, unit, prompts, rows)
 }
 
-// The line of the i-th contract.
-fn line_at<'a>(morning: &'a [u8], noon: &'a [u8], account: Account, i: usize) -> Line
-    requires { ⌜ Stands (now morning) (now noon) account × (i < account .contracts) ⌝ }
+// The line of the i-th contract, at the account's rates.
+fn line_at<'a>(morning: &'a [u8], noon: &'a [u8], account: Account, i: usize, rates: Rates) -> Line
+    requires { ⌜ Stands (now morning) (now noon) account × ((i < account .contracts) × RatesOf (ratesOf (accountOf (now morning) (now noon))) rates) ⌝ }
     ensures { λ r. ⌜ LineOf (partsIn (accountOf (now (morning .entry)) (now (noon .entry))) (getD (contractsOf (accountOf (now (morning .entry)) (now (noon .entry)))) i [])) r ⌝ }
 {
     let c = contract_number(account, i);
     let own = part(morning, noon, account, OWN + c);
     let prompts = part(morning, noon, account, PROMPTS + c);
     let spreads = part(morning, noon, account, SPREADS + c);
-    let p = position_at(morning, noon, account, c, unit(own) as u64);
+    let p = position_at(morning, noon, account, c, rates, unit(own) as u64);
     line_of(own, prompts, spreads, p)
 }
 
@@ -113,10 +120,11 @@ fn lines_of<'a>(morning: &'a [u8], noon: &'a [u8], account: Account) -> Lines
     ensures { λ r. ⌜ LinesOf (accountOf (now (morning .entry)) (now (noon .entry))) r ⌝ }
 {
     let count = contract_total(account);
+    let rates = rates_of(part(morning, noon, account, RATES));
     let mut lines = [no_line(); CONTRACTS];
     let mut i = 0;
     while i < count {
-        lines[i] = line_at(morning, noon, account, i);
+        lines[i] = line_at(morning, noon, account, i, rates);
         i += 1;
     }
     Lines {
@@ -183,7 +191,7 @@ fn contract_numbers<'a>(morning: &'a [u8], noon: &'a [u8], account: Account, c: 
     contract_answer(
         prompts,
         spreads,
-        position_at(morning, noon, account, c, ONE_HUNDREDTH),
+        position_at(morning, noon, account, c, no_rates(), ONE_HUNDREDTH),
     )
 }
 
@@ -199,7 +207,7 @@ fn tier_at<'a>(morning: &'a [u8], noon: &'a [u8], account: Account, i: usize) ->
     ensures { λ r. ⌜ TierIs (partsIn (accountOf (now (morning .entry)) (now (noon .entry))) (getD (contractsOf (accountOf (now (morning .entry)) (now (noon .entry)))) i [])) (r .contract) (r .net .0) ⌝ }
 {
     let c = contract_number(account, i);
-    let p = position_at(morning, noon, account, c, ONE_HUNDREDTH);
+    let p = position_at(morning, noon, account, c, no_rates(), ONE_HUNDREDTH);
     let nets = p.nets;
     let net = contract_net(nets);
     Tier {
@@ -296,7 +304,7 @@ fn asking_of<'a>(morning: &'a [u8], noon: &'a [u8], account: Account, c: usize) 
     contract_asking(
         prompts,
         spreads,
-        position_at(morning, noon, account, c, ONE_HUNDREDTH),
+        position_at(morning, noon, account, c, no_rates(), ONE_HUNDREDTH),
     )
 }
 

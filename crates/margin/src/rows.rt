@@ -1,33 +1,39 @@
 // What a contract's rows come to: its sixteen totals, its prompts' net deltas and its short lots.
 ghost use mathlib.Core.Path.{_≡_};
 ghost use mathlib.Core.Bool.{cond};
-ghost use mathlib.Core.List.{List, [], _++_};
+ghost use mathlib.Core.List.{List, [], _∷_, _++_};
 ghost use Prim.Native.Nat.{ℕ, _≤_, _-_, _*_};
 ghost use lib.IntN.{pos, natAbs, _+ℤ_, _*ℤ_};
 ghost use Rattle.exact.specs.Rounding.{halfAwayTo};
 ghost use lib.ListN.{length};
-ghost use Rattle.record.specs.Layout.{Record, lots, value, hundredThousand, mostUnit};
+ghost use Rattle.record.specs.Layout.{Record, hundredThousand, mostUnit};
 ghost use Rattle.account.specs.Check.{mostPrompts, mostRows};
+ghost use Rattle.account.specs.Products.{convertedAt, mostConversion, mostFactor, RatesOf};
 ghost use Rattle.account.specs.Records.{records, recordCount};
 ghost use Rattle.margin.specs.Bounds.{mostProduct};
 ghost use Rattle.margin.specs.Deltas.{rowDelta};
 ghost use Rattle.margin.specs.Margin.{short, shortOptions};
-ghost use Rattle.margin.specs.Position.{RowFit, RowsFit, Sized, AtMost, Added, products, DaysOf};
+ghost use Rattle.margin.specs.Position.{RowFit, RowsFit, RatedBy, FactorsFit, Sized, AtMost, Added, DaysOf};
+ghost use Rattle.margin.specs.Position.{products, ownProducts, convertedProducts};
 ghost use Rattle.margin.specs.Position.{PositionOf, Bounded, WithRows};
+use account::rates::Factors;
+use account::rates::Rates;
+use account::rates::converted;
+use account::rates::factors_of;
+use account::rates::per_tick;
 use exact::rounding::half_away_to;
-use exact::signed::as_signed;
 use exact::signed::is_negative;
 use exact::signed::magnitude;
 use exact::signed::plus;
 use exact::signed::times;
 use record::bytes::RECORD_BYTES;
 use record::fields::SCENARIOS;
+use record::fields::currency;
 use record::fields::day;
 use record::fields::delta;
 use record::fields::loss;
 use record::fields::lots;
 use record::fields::row_type;
-use record::fields::value;
 use spread::Delta;
 use spread::MOST_PROMPTS;
 
@@ -47,20 +53,20 @@ pub struct Days {
     pub day: [usize; MOST_PROMPTS],
 }
 
-// Lots × value: what a row loses for each tick.
-fn per_tick(row: &[u8]) -> i64
-    requires { ⌜ RowFit (now row) ⌝ }
-    ensures { λ r. ⌜ Sized 1000000000 (lots (now (row .entry)) *ℤ pos (value (now (row .entry)))) r ⌝ }
-{
-    times(lots(row), as_signed(value(row) as u64))
-}
-
 // Lots × value × loss, rounded to the contract's unit.
 fn product(each: i64, loss: i64, unit: u64) -> i64
     requires { ⌜ (natAbs each ≤ 1000000000) × (natAbs loss ≤ hundredThousand) × (unit ≤ mostUnit) ⌝ }
     ensures { λ r. ⌜ Sized mostProduct (halfAwayTo (each *ℤ loss) unit) r ⌝ }
 {
     half_away_to(times(each, loss), unit)
+}
+
+// The same in another currency, converted at its rate.
+fn converted_product(f: Factors, each: i64, loss: i64, unit: u64) -> i64
+    requires { ⌜ (natAbs each ≤ 1000000000) × ((natAbs loss ≤ hundredThousand) × ((unit ≤ mostUnit) × ((f .raised ≤ mostFactor) × ((f .lowered ≤ mostFactor) × (natAbs (convertedAt (f .raised) (f .lowered) (each *ℤ loss)) ≤ mostConversion))))) ⌝ }
+    ensures { λ r. ⌜ Sized mostProduct (halfAwayTo (convertedAt (f .raised) (f .lowered) (each *ℤ loss)) unit) r ⌝ }
+{
+    half_away_to(converted(f, times(each, loss)), unit)
 }
 
 // Lots × delta.
@@ -105,10 +111,10 @@ fn net_with(net: Delta, same: bool, more: Delta) -> Delta
     }
 }
 
-// Each total with one row more.
-fn totals_with(t: Totals, unit: u64, row: &[u8]) -> Totals
+// Each total with one row more in the margin currency.
+fn own_totals_with(t: Totals, unit: u64, row: &[u8]) -> Totals
     requires { ⌜ (unit ≤ mostUnit) × (RowFit (now row) × AtMost 16 (127 * mostProduct) (t .0)) ⌝ }
-    ensures { λ r. ⌜ Added 16 (products unit (now (row .entry))) (t .0) (r .0) ⌝ }
+    ensures { λ r. ⌜ Added 16 (ownProducts unit (now (row .entry))) (t .0) (r .0) ⌝ }
 {
     let each = per_tick(row);
     let mut totals = t.0;
@@ -119,6 +125,34 @@ fn totals_with(t: Totals, unit: u64, row: &[u8]) -> Totals
         s += 1;
     }
     Totals(totals)
+}
+
+// The same with a row in another currency.
+fn converted_totals_with(t: Totals, f: Factors, unit: u64, row: &[u8]) -> Totals
+    requires { ⌜ (unit ≤ mostUnit) × (RowFit (now row) × (FactorsFit (f .raised) (f .lowered) (now row) × AtMost 16 (127 * mostProduct) (t .0))) ⌝ }
+    ensures { λ r. ⌜ Added 16 (convertedProducts (f .raised) (f .lowered) unit (now (row .entry))) (t .0) (r .0) ⌝ }
+{
+    let each = per_tick(row);
+    let mut totals = t.0;
+    let mut s = 0;
+    while s < SCENARIOS {
+        let more = converted_product(f, each, loss(row, s + 1), unit);
+        totals[s] = plus(totals[s], more);
+        s += 1;
+    }
+    Totals(totals)
+}
+
+// Each total with one row more: whether it is converted is decided once.
+fn totals_with(t: Totals, rates: Rates, unit: u64, row: &[u8]) -> Totals
+    requires { ⌜ (unit ≤ mostUnit) × (RowFit (now row) × (RatedBy rates (now row ∷ []) × AtMost 16 (127 * mostProduct) (t .0))) ⌝ }
+    ensures { λ r. ⌜ ((held : List Record) → RatesOf held rates → Added 16 (products held unit (now (row .entry))) (t .0) (r .0)) ⌝ }
+{
+    let c = currency(row);
+    if c == 0 {
+        return own_totals_with(t, unit, row);
+    }
+    converted_totals_with(t, factors_of(rates, c), unit, row)
 }
 
 // The days of a contract's prompts.
@@ -139,7 +173,7 @@ pub(crate) fn days_of(prompts: &[u8]) -> Days
 
 // What no rows come to.
 pub(crate) fn flat() -> Position
-    ensures { λ p. ⌜ ((unit : ℕ) (prompts : List Record) → length prompts ≤ mostPrompts → PositionOf unit prompts [] p) ⌝ }
+    ensures { λ p. ⌜ ((rates : List Record) (unit : ℕ) (prompts : List Record) → length prompts ≤ mostPrompts → PositionOf rates unit prompts [] p) ⌝ }
 {
     let totals = [0i64; SCENARIOS];
     let none = Delta(0);
@@ -152,10 +186,10 @@ pub(crate) fn flat() -> Position
 }
 
 // What rows come to with more rows, in one walk over these. A ticket is one row more.
-pub(crate) fn with_rows(p: Position, days: Days, unit: u64, rows: &[u8]) -> Position
-    requires { ⌜ (unit ≤ mostUnit) × ((days .count ≤ mostPrompts) × (RowsFit (records (now rows)) × Bounded (mostRows - length (records (now rows))) p)) ⌝ }
-    ensures added { λ q. ⌜ WithRows unit days p (records (now (rows .entry))) q ⌝ }
-    ensures more { λ q. ⌜ ((prompts earlier : List Record) → DaysOf prompts days → PositionOf unit prompts earlier p → PositionOf unit prompts (earlier ++ records (now (rows .entry))) q) ⌝ }
+pub(crate) fn with_rows(p: Position, days: Days, rates: Rates, unit: u64, rows: &[u8]) -> Position
+    requires { ⌜ (unit ≤ mostUnit) × ((days .count ≤ mostPrompts) × (RowsFit (records (now rows)) × (RatedBy rates (records (now rows)) × Bounded (mostRows - length (records (now rows))) p))) ⌝ }
+    ensures added { λ q. ⌜ ((held : List Record) → RatesOf held rates → WithRows held unit days p (records (now (rows .entry))) q) ⌝ }
+    ensures more { λ q. ⌜ ((held prompts earlier : List Record) → RatesOf held rates → DaysOf prompts days → PositionOf held unit prompts earlier p → PositionOf held unit prompts (earlier ++ records (now (rows .entry))) q) ⌝ }
     ensures most { λ q. ⌜ Bounded mostRows q ⌝ }
 {
     let count = rows.len() / RECORD_BYTES;
@@ -167,7 +201,7 @@ pub(crate) fn with_rows(p: Position, days: Days, unit: u64, rows: &[u8]) -> Posi
     while i < count {
         let at = i * RECORD_BYTES;
         let row = &rows[at..at + RECORD_BYTES];
-        let sums = totals_with(totals, unit, row);
+        let sums = totals_with(totals, rates, unit, row);
         totals = sums;
         shorts = shorts + short_options(row);
         let row_day = day(row);
@@ -187,11 +221,11 @@ pub(crate) fn with_rows(p: Position, days: Days, unit: u64, rows: &[u8]) -> Posi
     }
 }
 
-// What a contract's rows come to, by its unit and its prompts' days.
-pub(crate) fn position_of(unit: u64, prompts: &[u8], rows: &[u8]) -> Position
-    requires { ⌜ (unit ≤ mostUnit) × ((recordCount (now prompts) ≤ mostPrompts) × RowsFit (records (now rows))) ⌝ }
-    ensures is { λ p. ⌜ PositionOf unit (records (now (prompts .entry))) (records (now (rows .entry))) p ⌝ }
+// What a contract's rows come to, at the account's rates, by its unit and its prompts' days.
+pub(crate) fn position_of(rates: Rates, unit: u64, prompts: &[u8], rows: &[u8]) -> Position
+    requires { ⌜ (unit ≤ mostUnit) × ((recordCount (now prompts) ≤ mostPrompts) × (RowsFit (records (now rows)) × RatedBy rates (records (now rows)))) ⌝ }
+    ensures is { λ p. ⌜ ((held : List Record) → RatesOf held rates → PositionOf held unit (records (now (prompts .entry))) (records (now (rows .entry))) p) ⌝ }
     ensures most { λ p. ⌜ Bounded mostRows p ⌝ }
 {
-    with_rows(flat(), days_of(prompts), unit, rows)
+    with_rows(flat(), days_of(prompts), rates, unit, rows)
 }

@@ -9,7 +9,7 @@ use lib.IntN.{ℤ}
 use lib.ListN.{length}
 use Rattle.record.specs.Layout.{Record}
 use Rattle.account.specs.Answers.{numberOf}
-use Rattle.account.specs.Check.{checked}
+use Rattle.account.specs.Checked.{checked}
 use Rattle.account.specs.Records.{records}
 use Rattle.account.specs.Standing.{Stands, CheckedBy, accountOf}
 use Rattle.account.specs.declared.accounts.Checked.{Checked}

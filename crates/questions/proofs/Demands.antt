@@ -6,10 +6,11 @@ use native.Mathlib.Omega.{arith}
 use mathlib.Core.Path.{_≡_, refl, sym, ap, _∙_}
 use mathlib.Core.Bool.{true, false}
 use mathlib.Core.List.{List, [], map}
+use mathlib.Core.Logic.{⊎-elim}
 use lib.ListN.{length, getD}
 use Rattle.record.specs.Layout.{Record}
 use Rattle.account.specs.Answers.{numberOf, recordOf}
-use Rattle.account.specs.Check.{checked}
+use Rattle.account.specs.Checked.{checked}
 use Rattle.account.specs.Claims.{Iff}
 use Rattle.account.specs.Lawful.{Lawful}
 use Rattle.account.specs.Noon.{clear, joinedVerdict}
@@ -19,7 +20,7 @@ use Rattle.account.specs.Records.{records, recordCount}
 use Rattle.account.specs.declared.answers.Answer.{Answer}
 use Rattle.account.specs.declared.answers.Answer.the-variants.{Accepted}
 use Rattle.account.proofs.Claimed.{claimed}
-use Rattle.account.proofs.Lawful.{lawful}
+use Rattle.account.proofs.Alone.{lawful}
 use Rattle.account.proofs.NoonLaws.{accepted-only, pair-lawful}
 use Rattle.account.proofs.Walk.{length-cut}
 use Rattle.spread.specs.Accepted.{every, soundSpread}
@@ -68,30 +69,37 @@ module _ (file : List ℕ) (question : Question) (lent : ℕ) where
           let h : numberOf (checked file) ≡ 0 → ⊥ = λ y. let m : suc k ≡ 0 = sym z ∙ y in omega arith in
           absurd (other h (ap numberOf (sym (if-refused (checked file) next h)) ∙ e))
 
-  late : (n : ℕ) → 10 ≤ n → (numberOf (checked file) ≡ 0 → ⊥) → numberOf (checked file) ≡ n → ⊥
-  late n l h e = omega (arith, claimed file .exactly .most, e, l)
+  -- a refused file gives neither 10 nor 11
+  neither : 10 ≤ numberOf (checked file) → numberOf (checked file) ≤ 11 → ⊥
+  neither l h =
+      ⊎-elim (λ m. omega (arith, l, m)) (λ m. omega (arith, h, m .0)) (claimed file .exactly .numbers)
+
+  late : (n : ℕ) → 10 ≤ n → n ≤ 11 → (numberOf (checked file) ≡ 0 → ⊥) → numberOf (checked file) ≡ n → ⊥
+  late n l m h e = neither (omega (arith, e, l)) (omega (arith, e, m))
 
   file-asked : FileAsked file question lent
   file-asked =
       let over = asking (records file) question lent in
-      let a = gives 11 (late 11 (omega arith)) in
-      let b = gives 10 (late 10 (omega arith)) in
+      let a = gives 11 (late 11 (omega arith) (omega arith)) in
+      let b = gives 10 (late 10 (omega arith) (omega arith)) in
       let c = gives 0 (λ h. h) in
       record {
         refused = if-refused (checked file) next;
         eleven = record { forth = λ e. let x = a .forth e in (x .0, over .eleven .forth (x .1)); back = λ (ok, h). a .back (ok, over .eleven .back h) };
         ten = record { forth = λ e. let x = b .forth e in (x .0, over .ten .forth (x .1)); back = λ (ok, h). b .back (ok, over .ten .back h) };
         accepted = record { forth = λ e. let x = c .forth e in (x .0, over .accepted .forth (x .1)); back = λ (ok, h). c .back (ok, over .accepted .back h) };
-        named = λ l. name (numberOf (checked file)) refl l;
+        named = λ l m. name (numberOf (checked file)) refl l m;
       }
     where
-      name : (k : ℕ) → numberOf (checked file) ≡ k → 10 ≤ numberOf (answerTo file question lent) → recordOf (answerTo file question lent) ≡ recordCount file
-      name zero z l =
+      name : (k : ℕ) → numberOf (checked file) ≡ k → 10 ≤ numberOf (answerTo file question lent) → numberOf (answerTo file question lent) ≤ 11
+          → recordOf (answerTo file question lent) ≡ recordCount file
+      name zero z l m =
           let is = if-accepted (checked file) next (accepted-only (checked file) z) in
           ap recordOf is ∙ asking (records file) question lent .named (omega (arith, l, ap numberOf is)) ∙ length-cut (recordCount file) file
-      name (suc k) z l =
-          let h : numberOf (checked file) ≡ 0 → ⊥ = λ y. let m : suc k ≡ 0 = sym z ∙ y in omega arith in
-          absurd (omega (arith, l, ap numberOf (if-refused (checked file) next h), claimed file .exactly .most))
+      name (suc k) z l m =
+          let h : numberOf (checked file) ≡ 0 → ⊥ = λ y. let n : suc k ≡ 0 = sym z ∙ y in omega arith in
+          let e = ap numberOf (if-refused (checked file) next h) in
+          absurd (neither (omega (arith, l, e)) (omega (arith, m, e)))
 
 figures-asked : (file : List ℕ) (lent : ℕ) → FiguresAsked file lent
 figures-asked file lent =

@@ -9,7 +9,7 @@ use borrow.Author.Tests.{eqb-true, eqb-false, ne-eqb}
 use lib.ListN.{length}
 use Rattle.record.specs.Layout.{Record}
 use Rattle.account.specs.Answers.{numberOf}
-use Rattle.account.specs.Check.{checked}
+use Rattle.account.specs.Checked.{checked}
 use Rattle.account.specs.Noon.{ofJoined, clear, _then_, joinedVerdict}
 use Rattle.account.specs.Records.{records, recordCount}
 use Rattle.account.specs.Standing.{accountOf}

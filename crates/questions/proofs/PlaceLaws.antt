@@ -8,7 +8,7 @@ use borrow.Author.Tests.{eqb-true, eqb-false}
 use lib.IntN.{ℤ}
 use lib.ListN.{length, drop}
 use Rattle.account.specs.Answers.{numberOf}
-use Rattle.account.specs.Check.{checked}
+use Rattle.account.specs.Checked.{checked}
 use Rattle.account.specs.Noon.{ofJoined, clear, joinedVerdict}
 use Rattle.account.specs.Records.{records}
 use Rattle.account.specs.Standing.{accountOf}

@@ -9,7 +9,7 @@ use lib.IntN.{ℤ, pos}
 use lib.ListN.{length, drop}
 use Rattle.account.specs.Answers.{numberOf, recordOf}
 use Rattle.record.specs.Layout.{Record, mostContract}
-use Rattle.account.specs.Check.{checked}
+use Rattle.account.specs.Checked.{checked}
 use Rattle.account.specs.Claims.{Iff, Claims}
 use Rattle.account.specs.Orders.{Later}
 use Rattle.account.specs.Parts.{promptsOf, entriesOf}
@@ -50,14 +50,14 @@ pub record FileAsked (file : List ℕ) (question : Question) (lent : ℕ) : Type
       ((checked file ≡ Accepted) × ((answers (records file) question ≡ true) × (lent < length (numbersFor (records file) question))))
   pub accepted : Iff (numberOf (answerTo file question lent) ≡ 0)
       ((checked file ≡ Accepted) × ((answers (records file) question ≡ true) × (length (numbersFor (records file) question) ≤ lent)))
-  pub named : 10 ≤ numberOf (answerTo file question lent) → recordOf (answerTo file question lent) ≡ recordCount file
+  pub named : 10 ≤ numberOf (answerTo file question lent) → numberOf (answerTo file question lent) ≤ 11 → recordOf (answerTo file question lent) ≡ recordCount file
 
 -- the figures, which ask no question that could be another
 pub record FiguresAsked (file : List ℕ) (lent : ℕ) : Type 0 where
   pub refused : (numberOf (checked file) ≡ 0 → ⊥) → figuresAnswer file lent ≡ checked file
   pub ten : Iff (numberOf (figuresAnswer file lent) ≡ 10) ((checked file ≡ Accepted) × (lent < length (figures (records file))))
   pub accepted : Iff (numberOf (figuresAnswer file lent) ≡ 0) ((checked file ≡ Accepted) × (length (figures (records file)) ≤ lent))
-  pub named : 10 ≤ numberOf (figuresAnswer file lent) → recordOf (figuresAnswer file lent) ≡ recordCount file
+  pub named : 10 ≤ numberOf (figuresAnswer file lent) → numberOf (figuresAnswer file lent) ≤ 11 → recordOf (figuresAnswer file lent) ≡ recordCount file
 
 -- "lent memory then stays untouched"; "Success writes the answer at the front and nothing after it."
 pub record Lent (a : Answer) (answer lent after : List ℤ) : Type 0 where
@@ -65,7 +65,7 @@ pub record Lent (a : Answer) (answer lent after : List ℤ) : Type 0 where
   pub written : numberOf a ≡ 0 → after ≡ answer ++ drop (length answer) lent
 
 pub record Demand1 (file : List ℕ) : Type 0 where
-  -- 1 to 9
+  -- 1 to 9, 14 and 15
   pub check : Claims file
   -- 10 and 11, of the figures, a book or who paid in it
   pub question : (question : Question) (lent : ℕ) → FileAsked file question lent

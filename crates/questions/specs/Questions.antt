@@ -6,7 +6,7 @@ use mathlib.Core.Bool.{Bool, true, false, cond}
 use mathlib.Core.List.{List}
 use lib.ListN.{length}
 use lib.IntN.{ℤ}
-use Rattle.account.specs.Check.{checked}
+use Rattle.account.specs.Checked.{checked}
 use Rattle.account.specs.Records.{records}
 use Rattle.account.specs.declared.answers.Answer.{Answer}
 use Rattle.account.specs.declared.answers.Answer.the-variants.{TooFewNumbers}

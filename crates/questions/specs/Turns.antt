@@ -14,7 +14,7 @@ use Rattle.questions.specs.Noon.{coverCall}
 -- rate 500; two calls long, three short, a put short, four forwards short
 abbrev pub mixed : Contract
 mixed =
-    contractFrom (contractRecord 0 500 0) (promptRecord 0 1 1 0 0 ∷ [])
+    contractFrom [] (contractRecord 0 500 0) (promptRecord 0 1 1 0 0 ∷ [])
     (rowRecord 0 1 1 1850 (pos 2) (pos 5200) 1 (replicate 16 (pos 0))
     ∷ rowRecord 0 1 1 1850 (negsuc 2) (pos 5200) 1 (replicate 16 (pos 0))
     ∷ rowRecord 0 2 1 1850 (negsuc 0) (negsuc 4799) 1 (replicate 16 (pos 0))

@@ -11,13 +11,14 @@ use native.Mathlib.Omega.{arith}
 use borrow.Author.Tests.{leb-true, not-false, eqb-true, eqb-false}
 use mathlib.Core.Logic.{_⊎_, inl, inr, ⊎-elim}
 use Rattle.record.specs.Bytes.{Record, Field, countFrom, numberIn, plain, signed, twosComplement}
-use Rattle.record.specs.Layout.{kind, contract, shortOptionRate, unitField, unitOf, unit, tier, day, spreadRate, outrightRate, rowType, value, put}
+use Rattle.record.specs.Layout.{kind, contract, shortOptionRate, unitField, unitOf, unit, tier, day, spreadRate, outrightRate, rowType, currency, value, put}
 use Rattle.record.specs.Layout.{legCount, ratePerSpread, legTier, legSide, legRatio, secondContract, percent, firstRatio, secondRatio, tenths, mostEntryRatio}
-use Rattle.record.specs.Layout.{fieldsOf, contractFields, promptFields, rowFields, spreadFields, entryFields, legFields, thirdLeg}
+use Rattle.record.specs.Layout.{fieldsOf, contractFields, promptFields, rowFields, spreadFields, entryFields, rateFields, legFields, thirdLeg}
+use Rattle.record.specs.Layout.{rateCurrency, spotRate, adjustment}
 use Rattle.record.specs.Layout.{lotsField, deltaField, lossField, hundredThousands}
 use Rattle.record.specs.Ranges.{unknownKind, fieldOutside, beyond, outside, outsideAmong}
-use Rattle.record.specs.Within.{Between, ContractWithin, PromptWithin, RowWithin, LegWithin, SpreadWithin, EntryWithin}
-use Rattle.record.proofs.Dispatch.{of-contract, of-prompt, of-row, of-spread, of-entry}
+use Rattle.record.specs.Within.{Between, ContractWithin, PromptWithin, RowWithin, LegWithin, SpreadWithin, EntryWithin, RateWithin}
+use Rattle.record.proofs.Dispatch.{of-contract, of-prompt, of-row, of-spread, of-entry, of-rate}
 
 -- ---- tests that fail together
 pub never : false ≡ true → ⊥
@@ -122,14 +123,15 @@ module _ (r : Record) where
       record {
         contracts = most 0 15 (contract r) (a .0);
         types = most 0 2 (rowType r) (a .1 .0);
-        days = between 1 99999999 (day r) (a .1 .1 .0);
-        lotss = sized 100000 100000 100000 (numberIn lotsField r) (lit≤ tt) (lit≤ tt) (a .1 .1 .1 .1 .0);
-        deltas = delta-in (put r) (a .1 .1 .1 .1 .1 .0);
-        values = between 1 10000 (value r) (a .1 .1 .1 .1 .1 .1 .0);
+        currencies = most 0 7 (currency r) (a .1 .1 .0);
+        days = between 1 99999999 (day r) (a .1 .1 .1 .0);
+        lotss = sized 100000 100000 100000 (numberIn lotsField r) (lit≤ tt) (lit≤ tt) (a .1 .1 .1 .1 .1 .0);
+        deltas = delta-in (put r) (a .1 .1 .1 .1 .1 .1 .0);
+        values = between 1 10000 (value r) (a .1 .1 .1 .1 .1 .1 .1 .0);
         losses =
             λ s b.
             sized 100000 100000 100000 (numberIn (lossField s) r) (lit≤ tt) (lit≤ tt)
-            (loss-in 1 16 s (a .1 .1 .1 .1 .1 .1 .1) (b .least) (omega arith));
+            (loss-in 1 16 s (a .1 .1 .1 .1 .1 .1 .1 .1) (b .least) (omega arith));
       }
     where
       delta-in :
@@ -174,25 +176,35 @@ module _ (r : Record) where
         secondRatios = between 1 (mostEntryRatio (tenths r)) (secondRatio r) (a .1 .1 .1 .1 .0);
       }
 
+  pub rate-within : kind r ≡ 6 → fieldOutside r ≡ false → RateWithin r
+  rate-within k h =
+      let a = by rateFields (of-rate r k) h in
+      record {
+        currencies = between 1 7 (rateCurrency r) (a .0);
+        spotRates = between 1 100000000 (spotRate r) (a .1 .0);
+        adjustments = most 0 50 (adjustment r) (a .1 .1 .0);
+      }
+
 -- ---- the kinds
 pub by-kind :
-    (P : ℕ → Type 0) → P 1 → P 2 → P 3 → P 4 → P 5 → (k : ℕ) → 1 ≤ k → k ≤ 5 → P k
-by-kind P a b c d e zero l h = absurd (omega arith)
-by-kind P a b c d e (suc zero) l h = a
-by-kind P a b c d e (suc (suc zero)) l h = b
-by-kind P a b c d e (suc (suc (suc zero))) l h = c
-by-kind P a b c d e (suc (suc (suc (suc zero)))) l h = d
-by-kind P a b c d e (suc (suc (suc (suc (suc zero))))) l h = e
-by-kind P a b c d e (suc (suc (suc (suc (suc (suc k)))))) l h = absurd (omega arith)
+    (P : ℕ → Type 0) → P 1 → P 2 → P 3 → P 4 → P 5 → P 6 → (k : ℕ) → 1 ≤ k → k ≤ 6 → P k
+by-kind P a b c d e f zero l h = absurd (omega arith)
+by-kind P a b c d e f (suc zero) l h = a
+by-kind P a b c d e f (suc (suc zero)) l h = b
+by-kind P a b c d e f (suc (suc (suc zero))) l h = c
+by-kind P a b c d e f (suc (suc (suc (suc zero)))) l h = d
+by-kind P a b c d e f (suc (suc (suc (suc (suc zero))))) l h = e
+by-kind P a b c d e f (suc (suc (suc (suc (suc (suc zero)))))) l h = f
+by-kind P a b c d e f (suc (suc (suc (suc (suc (suc (suc k))))))) l h = absurd (omega arith)
 
 module _ (r : Record) where
-  pub kind-known : unknownKind r ≡ false → Between 1 (kind r) 5
-  kind-known h = between 1 5 (kind r) h
+  pub kind-known : unknownKind r ≡ false → Between 1 (kind r) 6
+  kind-known h = between 1 6 (kind r) h
 
-  -- of every kind, the contract is within its range
+  -- of every kind, byte 1 is within the range of a contract
   pub contract-known : unknownKind r ≡ false → fieldOutside r ≡ false → contract r ≤ 15
   contract-known u h =
       let k = kind-known u in
       by-kind (λ n. kind r ≡ n → contract r ≤ 15) (λ e. contract-within r e h .contracts)
       (λ e. prompt-within r e h .contracts) (λ e. row-within r e h .contracts) (λ e. spread-within r e h .contracts)
-      (λ e. entry-within r e h .contracts) (kind r) (k .least) (k .most) refl
+      (λ e. entry-within r e h .contracts) (λ e. let w = rate-within r e h .currencies .most in omega arith) (kind r) (k .least) (k .most) refl

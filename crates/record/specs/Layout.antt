@@ -1,5 +1,5 @@
--- The table of kinds and fields of document 01, "The account file", and of requests 2026-03 and 2026-09 of document 02, with its
--- ranges.
+-- The table of kinds and fields of document 01, "The account file", and of requests 2026-03, 2026-05 and 2026-09 of document 02,
+-- with its ranges.
 -- Every offset, width and range of the definitions is said here.
 -- Assumes nothing.
 use Prim.Native.Nat.{ℕ, _+_, _-_, _*_}
@@ -58,7 +58,7 @@ valueRange = plain 1 mostValue
 abbrev pub kind : Record → ℕ
 kind r = byteAt r 0
 
--- "1 contract | 1: number 0..15; 4-7: short option rate"; in every kind byte 1 names a contract
+-- "1 contract | 1: number 0..15; 4-7: short option rate"; in kinds 1 to 5 byte 1 names a contract
 abbrev pub contractField : Field
 contractField = field 1 one contractRange
 
@@ -96,7 +96,8 @@ abbrev pub promptFields : List Field
 promptFields = contractField ∷ tierField ∷ dayField ∷ spreadRateField ∷ outrightRateField ∷ []
 
 -- "3 row | 1: contract; 2: 0 forward, 1 call, 2 put; 4-7: day; 8-11: strike; 12-15: lots, signed; 16-19: delta, signed;
--- 20-23: value per tick per lot; 24-87: sixteen losses, signed, scenario 1 first"
+-- 20-23: value per tick per lot; 24-87: sixteen losses, signed, scenario 1 first"; and (2026-05) "Byte 3 of a row names currency
+-- 0..7, 0 being the margin currency."
 abbrev pub mostRowType : ℕ
 mostRowType = 2
 
@@ -111,6 +112,12 @@ forward r = eqb (rowType r) 0
 
 abbrev pub put : Record → Bool
 put r = eqb (rowType r) 2
+
+abbrev pub mostCurrency : ℕ
+mostCurrency = 7
+
+abbrev pub currencyField : Field
+currencyField = field 3 one (plain 0 mostCurrency)
 
 -- "strike 0 for a forward, 1..4,294,967,295 otherwise"
 abbrev pub strikeField : Bool → Field
@@ -137,8 +144,8 @@ lossField scenario = field (24 + 4 * (scenario - 1)) four hundredThousands
 
 abbrev pub rowFields : Record → List Field
 rowFields r =
-    contractField ∷ rowTypeField ∷ dayField ∷ strikeField (forward r) ∷ lotsField ∷ deltaField (put r) ∷ valueField
-    ∷ map lossField (countFrom 1 scenarioCount)
+    contractField ∷ rowTypeField ∷ currencyField ∷ dayField ∷ strikeField (forward r) ∷ lotsField ∷ deltaField (put r)
+    ∷ valueField ∷ map lossField (countFrom 1 scenarioCount)
 
 -- "4 interprompt spread | 1: contract; 2: legs, 2 or 3; 4-7: rate per spread; legs at 8, 12, 16, each tier, side (1 = A, 2 =
 -- B), two-byte ratio"
@@ -215,14 +222,44 @@ entryFields r =
     contractField ∷ secondContractField ∷ percentField ∷ firstRatioField (tenths r) ∷ secondRatioField (tenths r)
     ∷ tenthsField ∷ []
 
--- What goes with each kind of record, and with any other kind.
-abbrev pub byKind : {A : Type 0} → ℕ → A → A → A → A → A → A → A
-byKind k contract prompt row spread entry other =
-    cond (eqb k 1) contract
-    (cond (eqb k 2) prompt (cond (eqb k 3) row (cond (eqb k 4) spread (cond (eqb k 5) entry other))))
+-- 2026-05: "Kind 6, after kind 5: byte 1 currency 1..7, ascending; bytes 4-7 spot rate in millionths, 1..100,000,000; byte 8
+-- adjustment percent 0..50."
+abbrev pub rateCurrencyField : Field
+rateCurrencyField = field 1 one (plain 1 mostCurrency)
+
+abbrev pub mostSpotRate : ℕ
+mostSpotRate = 100000000
+
+abbrev pub spotRateField : Field
+spotRateField = field 4 four (plain 1 mostSpotRate)
+
+abbrev pub mostAdjustment : ℕ
+mostAdjustment = 50
+
+abbrev pub adjustmentField : Field
+adjustmentField = field 8 one (plain 0 mostAdjustment)
+
+abbrev pub rateFields : List Field
+rateFields = rateCurrencyField ∷ spotRateField ∷ adjustmentField ∷ []
+
+-- What goes with a kind is looked up in a table of one line a kind; a kind without a line has the `other`.
+pub record Line (A : Type 0) : Type 0 where
+  pub ofTheKind : ℕ
+  pub what : A
+
+infixl 70 _has_
+abbrev pub _has_ : {A : Type 0} → ℕ → A → Line A
+k has x = record { ofTheKind = k; what = x }
+
+abbrev pub byKind : {A : Type 0} → ℕ → List (Line A) → A → A
+byKind k [] other = other
+byKind k (line ∷ lines) other = cond (eqb k (line .ofTheKind)) (line .what) (byKind k lines other)
 
 abbrev pub fieldsOf : Record → List Field
-fieldsOf r = byKind (kind r) contractFields promptFields (rowFields r) (spreadFields r) (entryFields r) []
+fieldsOf r =
+    byKind (kind r)
+    (1 has contractFields ∷ 2 has promptFields ∷ 3 has rowFields r ∷ 4 has spreadFields r ∷ 5 has entryFields r ∷ 6 has rateFields ∷ [])
+    []
 
 -- What stands in the fields.
 abbrev pub contract : Record → ℕ
@@ -246,6 +283,10 @@ spreadRate = numberIn spreadRateField
 
 abbrev pub outrightRate : Record → ℕ
 outrightRate = numberIn outrightRateField
+
+-- the currency of a row
+abbrev pub currency : Record → ℕ
+currency = numberIn currencyField
 
 abbrev pub strike : Record → ℕ
 strike r = numberIn (strikeField (forward r)) r
@@ -287,3 +328,13 @@ firstRatio r = numberIn (firstRatioField (tenths r)) r
 
 abbrev pub secondRatio : Record → ℕ
 secondRatio r = numberIn (secondRatioField (tenths r)) r
+
+-- of a currency rate
+abbrev pub rateCurrency : Record → ℕ
+rateCurrency = numberIn rateCurrencyField
+
+abbrev pub spotRate : Record → ℕ
+spotRate = numberIn spotRateField
+
+abbrev pub adjustment : Record → ℕ
+adjustment = numberIn adjustmentField

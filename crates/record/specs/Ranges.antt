@@ -9,9 +9,12 @@ use Rattle.exact.specs.Lists.{any}
 use Rattle.record.specs.Bytes.{Record, recordBytes, byteAt, bytesOf, twosComplement, Range, plain, signed, Field, numberIn, countFrom}
 use Rattle.record.specs.Layout.{kind, fieldsOf}
 
--- 3: "kind not 1..5"
+-- 3: "kind not 1..5"; 2026-05: "kind 6 is now allowed in 3"
+abbrev pub mostKind : ℕ
+mostKind = 6
+
 abbrev pub unknownKind : Record → Bool
-unknownKind r = not (leb 1 (kind r) && leb (kind r) 5)
+unknownKind r = not (leb 1 (kind r) && leb (kind r) mostKind)
 
 -- "Bytes not named are zero."
 abbrev pub covers : ℕ → Field → Bool

@@ -4,10 +4,11 @@ use Prim.Native.Nat.{ℕ, _≤_}
 use mathlib.Core.Path.{_≡_}
 use lib.IntN.{natAbs}
 use Rattle.record.specs.Layout.{Record, contract, shortOptionRate, unit, mostUnit, tier, day, spreadRate, outrightRate}
-use Rattle.record.specs.Layout.{rowType, lots, delta, value, loss}
+use Rattle.record.specs.Layout.{rowType, currency, lots, delta, value, loss}
 use Rattle.record.specs.Layout.{legCount, ratePerSpread, legTier, legSide, legRatio}
 use Rattle.record.specs.Layout.{secondContract, percent, firstRatio, secondRatio, tenths, mostEntryRatio}
 use Rattle.record.specs.Layout.{mostContract, mostDay, mostTier, mostRate, mostRatio, hundredThousand, mostValue, mostRowType, oneLot, scenarioCount, mostPercent}
+use Rattle.record.specs.Layout.{mostCurrency, rateCurrency, spotRate, mostSpotRate, adjustment, mostAdjustment}
 
 pub record Between (low x high : ℕ) : Type 0 where
   pub least : low ≤ x
@@ -28,6 +29,7 @@ pub record PromptWithin (r : Record) : Type 0 where
 pub record RowWithin (r : Record) : Type 0 where
   pub contracts : contract r ≤ mostContract
   pub types : rowType r ≤ mostRowType
+  pub currencies : currency r ≤ mostCurrency
   pub days : Between 1 (day r) mostDay
   pub lotss : natAbs (lots r) ≤ hundredThousand
   pub deltas : natAbs (delta r) ≤ oneLot
@@ -53,3 +55,8 @@ pub record EntryWithin (r : Record) : Type 0 where
   pub percents : percent r ≤ mostPercent
   pub firstRatios : Between 1 (firstRatio r) (mostEntryRatio (tenths r))
   pub secondRatios : Between 1 (secondRatio r) (mostEntryRatio (tenths r))
+
+pub record RateWithin (r : Record) : Type 0 where
+  pub currencies : Between 1 (rateCurrency r) mostCurrency
+  pub spotRates : Between 1 (spotRate r) mostSpotRate
+  pub adjustments : adjustment r ≤ mostAdjustment

@@ -2,9 +2,10 @@
 ghost use mathlib.Core.Path.{_≡_};
 ghost use Prim.Native.Nat.{_<_};
 ghost use Rattle.record.specs.Layout.{kind, contract, shortOptionRate, unitField, unit, tier, day, spreadRate, outrightRate};
-ghost use Rattle.record.specs.Layout.{rowType, strike, lots, delta, value, loss};
+ghost use Rattle.record.specs.Layout.{rowType, currency, strike, lots, delta, value, loss};
 ghost use Rattle.record.specs.Layout.{legCount, ratePerSpread, legTier, legSide, legRatio};
 ghost use Rattle.record.specs.Layout.{secondContract, percent, firstRatio, secondRatio, tenthsField, tenths};
+ghost use Rattle.record.specs.Layout.{rateCurrency, spotRate, adjustment};
 ghost use Rattle.record.specs.Bytes.{numberIn};
 use crate::bytes::byte_at;
 use crate::bytes::i32_at;
@@ -79,6 +80,13 @@ pub fn row_type(r: &[u8]) -> usize
     ensures { λ n. ⌜ (n ≡ rowType (now (r .entry))) × (n < 256) ⌝ }
 {
     byte_at(r, layout::ROW_TYPE)
+}
+
+// 0 is the margin currency.
+pub fn currency(r: &[u8]) -> usize
+    ensures { λ n. ⌜ (n ≡ currency (now (r .entry))) × (n < 256) ⌝ }
+{
+    byte_at(r, layout::CURRENCY)
 }
 
 pub fn strike(r: &[u8]) -> usize
@@ -199,4 +207,23 @@ pub fn tenths(r: &[u8]) -> bool
     ensures { λ b. ⌜ b ≡ tenths (now (r .entry)) ⌝ }
 {
     tenths_byte(r) == 1
+}
+
+// Of a currency rate; the spot rate is in millionths, the adjustment in percent.
+pub fn rate_currency(r: &[u8]) -> usize
+    ensures { λ n. ⌜ (n ≡ rateCurrency (now (r .entry))) × (n < 256) ⌝ }
+{
+    byte_at(r, layout::RATE_CURRENCY)
+}
+
+pub fn spot_rate(r: &[u8]) -> usize
+    ensures { λ n. ⌜ (n ≡ spotRate (now (r .entry))) × (n < 4294967296) ⌝ }
+{
+    u32_at(r, layout::SPOT_RATE)
+}
+
+pub fn adjustment(r: &[u8]) -> usize
+    ensures { λ n. ⌜ (n ≡ adjustment (now (r .entry))) × (n < 256) ⌝ }
+{
+    byte_at(r, layout::ADJUSTMENT)
 }

@@ -1,7 +1,7 @@
 use crate::fields::SCENARIOS;
 
-// Document 01's table of kinds: the byte at which each field starts. "Byte 0 is the kind", and byte 1 names a contract in
-// every kind.
+// Document 01's table of kinds, as amended: the byte at which each field starts. "Byte 0 is the kind", and byte 1 names a
+// contract in kinds 1 to 5.
 pub(crate) const KIND: usize = 0;
 
 pub(crate) const CONTRACT: usize = 1;
@@ -22,6 +22,8 @@ pub(crate) const OUTRIGHT_RATE: usize = 12;
 
 // Of a row.
 pub(crate) const ROW_TYPE: usize = 2;
+
+pub(crate) const CURRENCY: usize = 3;
 
 pub(crate) const STRIKE: usize = 8;
 
@@ -55,9 +57,16 @@ pub(crate) const SECOND_RATIO: usize = 6;
 
 pub(crate) const TENTHS: usize = 8;
 
-// Bytes that no field covers: before the first field of four bytes, byte 2 in a contract, and byte 3 in every kind that has
-// no percent.
-pub(crate) const CONTRACT_GAP: usize = 2;
+// Of a currency rate.
+pub(crate) const RATE_CURRENCY: usize = 1;
+
+pub(crate) const SPOT_RATE: usize = 4;
+
+pub(crate) const ADJUSTMENT: usize = 8;
+
+// Bytes that no field covers: before the first field of four bytes, byte 2 in a contract and a currency rate, and byte 3 in
+// every kind that has neither percent nor currency there.
+pub(crate) const EARLY_GAP: usize = 2;
 
 pub(crate) const GAP: usize = 3;
 
@@ -73,3 +82,5 @@ pub(crate) const TWO_LEGS_END: usize = LEG_TIER + 4 * 2;
 pub(crate) const THREE_LEGS_END: usize = LEG_TIER + 4 * 3;
 
 pub(crate) const ENTRY_END: usize = TENTHS + 1;
+
+pub(crate) const RATE_END: usize = ADJUSTMENT + 1;

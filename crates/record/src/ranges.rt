@@ -5,13 +5,15 @@ ghost use Prim.Native.Nat.{_<_, _≤_};
 ghost use lib.IntN.{pos, negℤ};
 ghost use Rattle.record.specs.Bytes.{plain, signed, countFrom};
 ghost use Rattle.record.specs.Layout.{contractRange, dayRange, tierRange, rateRange, ratioRange, entryRatioRange, hundredThousands};
-ghost use Rattle.record.specs.Layout.{contractFields, promptFields, rowFields, spreadFields, entryFields};
+ghost use Rattle.record.specs.Layout.{contractFields, promptFields, rowFields, spreadFields, entryFields, rateFields};
 ghost use Rattle.record.specs.Layout.{strikeField, deltaField, forward, put, lossField, legFields, thirdLeg};
 ghost use Rattle.record.specs.Ranges.{beyond, outside, outsideAmong};
 use crate::bytes::RECORD_BYTES;
 use crate::bytes::u32_at;
 use crate::fields::SCENARIOS;
+use crate::fields::adjustment;
 use crate::fields::contract;
+use crate::fields::currency;
 use crate::fields::day;
 use crate::fields::first_ratio;
 use crate::fields::leg_count;
@@ -20,11 +22,13 @@ use crate::fields::leg_side;
 use crate::fields::leg_tier;
 use crate::fields::outright_rate;
 use crate::fields::percent;
+use crate::fields::rate_currency;
 use crate::fields::rate_per_spread;
 use crate::fields::row_type;
 use crate::fields::second_contract;
 use crate::fields::second_ratio;
 use crate::fields::short_option_rate;
+use crate::fields::spot_rate;
 use crate::fields::spread_rate;
 use crate::fields::strike;
 use crate::fields::tenths;
@@ -151,10 +155,11 @@ pub(crate) fn in_row(r: &[u8]) -> bool
 {
     no_contract(contract(r))
         | (beyond(row_type(r), 0, 2)
-            | (no_day(day(r))
-                | (no_strike(r)
-                    | (too_many(u32_at(r, layout::LOTS))
-                        | (no_delta(r) | (beyond(value(r), 1, 10000) | no_losses(r)))))))
+            | (beyond(currency(r), 0, 7)
+                | (no_day(day(r))
+                    | (no_strike(r)
+                        | (too_many(u32_at(r, layout::LOTS))
+                            | (no_delta(r) | (beyond(value(r), 1, 10000) | no_losses(r))))))))
 }
 
 fn no_leg(r: &[u8], leg: usize) -> bool
@@ -202,4 +207,11 @@ pub(crate) fn in_entry(r: &[u8]) -> bool
             | (beyond(percent(r), 0, 100)
                 | (no_entry_ratio(first_ratio(r), in_tenths)
                     | (no_entry_ratio(second_ratio(r), in_tenths) | beyond(tenths_byte(r), 0, 1)))))
+}
+
+pub(crate) fn in_rate(r: &[u8]) -> bool
+    ensures { λ b. ⌜ b ≡ outsideAmong rateFields (now (r .entry)) ⌝ }
+{
+    beyond(rate_currency(r), 1, 7)
+        | (beyond(spot_rate(r), 1, 100000000) | beyond(adjustment(r), 0, 50))
 }

@@ -5,12 +5,12 @@ use crate::fields::kind;
 use crate::ranges;
 use crate::unused;
 
-// 3: a kind that is not 1 to 5.
+// 3: a kind that is not 1 to 6.
 pub fn unknown_kind(r: &[u8]) -> bool
     ensures { λ b. ⌜ b ≡ unknownKind (now (r .entry)) ⌝ }
 {
     let k = kind(r);
-    !((1 <= k) & (k <= 5))
+    !((1 <= k) & (k <= 6))
 }
 
 // 5: an unused byte is not zero. Of an unknown kind every byte is unused.
@@ -32,6 +32,9 @@ pub fn unused_byte(r: &[u8]) -> bool
     }
     if k == 5 {
         return unused::beside_entry(r);
+    }
+    if k == 6 {
+        return unused::beside_rate(r);
     }
     unused::beside_none(r)
 }
@@ -55,6 +58,9 @@ pub fn field_outside(r: &[u8]) -> bool
     }
     if k == 5 {
         return ranges::in_entry(r);
+    }
+    if k == 6 {
+        return ranges::in_rate(r);
     }
     false
 }

@@ -5,7 +5,7 @@ ghost use Prim.Native.Nat.{_-_, _≤_};
 ghost use lib.ListN.{length};
 ghost use Rattle.exact.specs.Lists.{any};
 ghost use Rattle.record.specs.Bytes.{countFrom};
-ghost use Rattle.record.specs.Layout.{recordBytes, contractFields, promptFields, rowFields, spreadFields, entryFields};
+ghost use Rattle.record.specs.Layout.{recordBytes, contractFields, promptFields, rowFields, spreadFields, entryFields, rateFields};
 ghost use Rattle.record.specs.Ranges.{notZero, unusedBeside};
 use crate::bytes::RECORD_BYTES;
 use crate::bytes::byte_at;
@@ -47,7 +47,7 @@ fn set_from(r: &[u8], o: usize) -> bool
 pub(crate) fn beside_contract(r: &[u8]) -> bool
     ensures { λ b. ⌜ b ≡ unusedBeside contractFields (now (r .entry)) ⌝ }
 {
-    is_set(r, layout::CONTRACT_GAP) | (is_set(r, layout::GAP) | set_from(r, layout::CONTRACT_END))
+    is_set(r, layout::EARLY_GAP) | (is_set(r, layout::GAP) | set_from(r, layout::CONTRACT_END))
 }
 
 pub(crate) fn beside_prompt(r: &[u8]) -> bool
@@ -59,7 +59,7 @@ pub(crate) fn beside_prompt(r: &[u8]) -> bool
 pub(crate) fn beside_row(r: &[u8]) -> bool
     ensures { λ b. ⌜ b ≡ unusedBeside (rowFields (now (r .entry))) (now (r .entry)) ⌝ }
 {
-    is_set(r, layout::GAP) | set_from(r, layout::ROW_END)
+    set_from(r, layout::ROW_END)
 }
 
 pub(crate) fn beside_spread(r: &[u8]) -> bool
@@ -78,8 +78,14 @@ pub(crate) fn beside_entry(r: &[u8]) -> bool
     set_from(r, layout::ENTRY_END)
 }
 
+pub(crate) fn beside_rate(r: &[u8]) -> bool
+    ensures { λ b. ⌜ b ≡ unusedBeside rateFields (now (r .entry)) ⌝ }
+{
+    is_set(r, layout::EARLY_GAP) | (is_set(r, layout::GAP) | set_from(r, layout::RATE_END))
+}
+
 pub(crate) fn beside_none(r: &[u8]) -> bool
     ensures { λ b. ⌜ b ≡ unusedBeside [] (now (r .entry)) ⌝ }
 {
-    set_from(r, layout::CONTRACT)
+    set_from(r, layout::KIND + 1)
 }

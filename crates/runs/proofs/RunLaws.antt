@@ -13,11 +13,11 @@ use lib.ListN.{length, length-append, length-drop, getD, take, drop, drop-of-len
 use lib.Seq.{drop-cons, drop-drop}
 use Rattle.exact.specs.Lists.{sum}
 use Rattle.account.specs.Answers.{numberOf}
-use Rattle.account.specs.Check.{checked}
+use Rattle.account.specs.Checked.{checked}
 use Rattle.account.specs.Records.{records}
 use Rattle.account.specs.declared.answers.Answer.{Answer}
 use Rattle.account.specs.declared.answers.Answer.the-variants.{Accepted, TooFewNumbers, LengthsDiffer}
-use Rattle.account.proofs.Lawful.{lawful}
+use Rattle.account.proofs.Alone.{lawful}
 use Rattle.account.proofs.NoonLaws.{accepted-only}
 use Rattle.margin.specs.Bounds.{longestFigures}
 use Rattle.margin.specs.Figures.{figures}

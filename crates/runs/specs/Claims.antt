@@ -8,7 +8,7 @@ use lib.IntN.{ℤ}
 use lib.ListN.{length, getD, take, drop}
 use Rattle.exact.specs.Lists.{sum}
 use Rattle.account.specs.Answers.{numberOf, recordOf}
-use Rattle.account.specs.Check.{checked}
+use Rattle.account.specs.Checked.{checked}
 use Rattle.account.specs.Claims.{Iff}
 use Rattle.margin.specs.Bounds.{longestFigures}
 use Rattle.questions.specs.Questions.{figuresAnswer, afterFigures}

@@ -7,7 +7,7 @@ use crate::format::*;
 
 /// Damages one record, or several, or one record in several ways.
 pub fn records(random: &mut Random, records: &mut Vec<Bytes>) {
-    if random.one_in(8) {
+    if random.one_in(6) {
         return one_of_request(random, records);
     }
     let times = random.pick(&[1, 1, 1, 2, 2, 3]);
@@ -23,7 +23,7 @@ pub fn records(random: &mut Random, records: &mut Vec<Bytes>) {
 
 /// Damages one record whose kind has a field that a request of document 02 brought, if there is one.
 fn one_of_request(random: &mut Random, records: &mut [Bytes]) {
-    let kind = random.pick(&[ENTRY, CONTRACT]);
+    let kind = random.pick(&[ENTRY, ROW, CURRENCY_RATE, CONTRACT]);
     let of_kind = of_kind(records, kind);
     if !of_kind.is_empty() {
         let place = random.pick(&of_kind);
@@ -37,7 +37,7 @@ fn of_kind(records: &[Bytes], kind: u8) -> Vec<usize> {
 
 /// Any record, or any of one kind, so that kinds with few records are damaged too.
 fn some_place(random: &mut Random, records: &[Bytes]) -> usize {
-    let kind = random.between(1, i64::from(ENTRY)) as u8;
+    let kind = random.between(1, i64::from(CURRENCY_RATE)) as u8;
     let of_kind = of_kind(records, kind);
     if of_kind.is_empty() || random.one_in(2) {
         random.place(records.len().max(1))
@@ -49,13 +49,13 @@ fn some_place(random: &mut Random, records: &[Bytes]) -> usize {
 /// One damage at a record; gives the place of the record damaged.
 fn at(random: &mut Random, records: &mut Vec<Bytes>, place: usize) -> usize {
     if place >= records.len() {
-        records.push(record(random.between(0, 6) as u8, &[]));
+        records.push(record(random.between(0, 7) as u8, &[]));
         return records.len() - 1;
     }
-    match random.below(22) {
+    match random.below(24) {
         20..=21 => field_of_request(random, &mut records[place]),
-        0 => records[place][0] = random.pick(&[0, 6, 7, 128, 255]),
-        1 => records[place][0] = random.between(1, 5) as u8,
+        0 => records[place][0] = random.pick(&[0, 7, 8, 128, 255]),
+        1 => records[place][0] = random.between(1, 6) as u8,
         2 | 3 => unused_byte(random, &mut records[place]),
         4..=6 => field_at_its_end(random, &mut records[place]),
         7 => renumber(random, &mut records[place]),
@@ -78,6 +78,22 @@ fn at(random: &mut Random, records: &mut Vec<Bytes>, place: usize) -> usize {
         _ => return overfill(random, records, place),
     }
     place
+}
+
+/// One damage to a row that is not in a file yet.
+pub fn row(random: &mut Random, row: &mut Bytes, records: &[Bytes]) {
+    match random.below(6) {
+        0 | 1 => unused_byte(random, row),
+        2 => field_at_its_end(random, row),
+        3 => renumber(random, row),
+        4 => flip(random, row),
+        _ => {
+            let mut with_row = records.to_vec();
+            with_row.push(*row);
+            misname(random, &mut with_row, records.len());
+            *row = with_row[records.len()];
+        }
+    }
 }
 
 /// Sets a byte that the record does not use.
@@ -110,8 +126,11 @@ fn field_at_its_end(random: &mut Random, record: &mut Bytes) {
 }
 
 fn renumber(random: &mut Random, record: &mut Bytes) {
-    let field = if record[0] == ENTRY { random.pick(&[NUMBER, SECOND_NUMBER]) } else { NUMBER };
-    put(record, field, random.between(0, 15));
+    match record[0] {
+        CURRENCY_RATE => put(record, RATE_CURRENCY, random.between(1, 7)),
+        ENTRY => put(record, random.pick(&[NUMBER, SECOND_NUMBER]), random.between(0, 15)),
+        _ => put(record, NUMBER, random.between(0, 15)),
+    }
 }
 
 /// Makes a record name another day or tier: near, like it in part, or another contract's.
@@ -164,6 +183,8 @@ fn clash(random: &mut Random, record: &mut Bytes) {
 fn field_of_request(random: &mut Random, record: &mut Bytes) {
     match record[0] {
         ENTRY => other_parts(random, record),
+        ROW => put(record, CURRENCY, random.pick(&[1, 2, 3, 4, 5, 6, 7, 7, 8, 255])),
+        CURRENCY_RATE => other_rate(random, record),
         CONTRACT => put(record, UNIT, random.pick(&[0, 1, 2, 256, 1_000, 1_001, 1_001, 65_535])),
         _ => field_at_its_end(random, record),
     }
@@ -204,6 +225,17 @@ fn legs(random: &mut Random, records: &mut [Bytes], place: usize) -> usize {
         put(record, field, random.pick(&ends));
     }
     place
+}
+
+/// Moves a rate about an end of one of its ranges, or puts it so high that conversions pass their limit.
+fn other_rate(random: &mut Random, rate: &mut Bytes) {
+    match random.below(8) {
+        0 | 1 => put(rate, RATE_CURRENCY, random.pick(&[0, 7, 8, 255])),
+        2 => put(rate, SPOT_RATE, random.pick(&[0, 1, 100_000_001, 1 << 31])),
+        3..=5 => put(rate, ADJUSTMENT, random.pick(&[0, 50, 51, 51, 100, 255])),
+        6 => put(rate, RATE_CURRENCY, random.between(1, 7)),
+        _ => put(rate, SPOT_RATE, SPOT_RATE.most),
+    }
 }
 
 fn flip(random: &mut Random, record: &mut Bytes) {

@@ -1,7 +1,9 @@
 //! Pairs of a morning and a noon file: mostly noon has contracts of the morning as they stood, changed
 //! or closed, and new ones; some pairs are unrelated, empty, crowded, damaged, or noise.
 
+use super::converted;
 use super::random::Random;
+use super::rates;
 use super::values::{lots, rate, taste};
 use super::write::{put, Bytes};
 use super::{any, damaged, sound};
@@ -9,19 +11,25 @@ use crate::format::*;
 
 /// The bytes of a morning and of a noon file.
 pub fn files(random: &mut Random) -> (Vec<u8>, Vec<u8>) {
-    let (morning, mut noon) = match random.below(100) {
+    let sort = random.below(100);
+    let converted = (33..=36).contains(&sort);
+    let (morning, mut noon) = match sort {
         0..=5 => return (any(random), any(random)),
-        6..=10 => (sound::account(random), without_entries(sound::account(random))),
-        11..=13 => (vec![], without_entries(sound::account(random))),
+        6..=10 => (sound::account(random), of_contracts(sound::account(random))),
+        11..=13 => (vec![], of_contracts(sound::account(random))),
         14..=16 => (sound::account(random), vec![]),
         17 => (vec![], vec![]),
         18..=32 => crowded(random),
+        33..=36 => converted_at_noon(random),
         _ => {
             let morning = sound::account(random);
             let noon = traded(random, &morning);
             (morning, noon)
         }
     };
+    if !converted && !random.one_in(6) {
+        rates::repair(&mut noon, &rates::listed(&morning));
+    }
     match random.below(100) {
         0..=14 => (damaged(random, morning), noon.concat()),
         15..=35 => (morning.concat(), damaged(random, noon)),
@@ -31,12 +39,17 @@ pub fn files(random: &mut Random) -> (Vec<u8>, Vec<u8>) {
             noon.extend(morning.iter().filter(|record| record[0] == ENTRY));
             (morning.concat(), noon.concat())
         }
+        47..=50 => {
+            noon.extend(morning.iter().filter(|record| record[0] == CURRENCY_RATE));
+            (morning.concat(), noon.concat())
+        }
         _ => (morning.concat(), noon.concat()),
     }
 }
 
-fn without_entries(mut records: Vec<Bytes>) -> Vec<Bytes> {
-    records.retain(|record| record[0] != ENTRY);
+/// Without entries and currency rates.
+fn of_contracts(mut records: Vec<Bytes>) -> Vec<Bytes> {
+    records.retain(|record| record[0] < ENTRY);
     records
 }
 
@@ -60,14 +73,14 @@ fn traded(random: &mut Random, morning: &[Bytes]) -> Vec<Bytes> {
 
 /// The records of kinds 1 to 4 of a contract.
 fn contract(records: &[Bytes], number: u8) -> Vec<Bytes> {
-    let of_it = |record: &&Bytes| record[0] != ENTRY && record[NUMBER.at] == number;
+    let of_it = |record: &&Bytes| record[0] < ENTRY && record[NUMBER.at] == number;
     records.iter().filter(of_it).copied().collect()
 }
 
 /// Records by kind, those of kinds 1 to 4 by contract, otherwise as they stood.
 fn in_order(records: &mut [Bytes]) {
     records
-        .sort_by_key(|record| (record[0], if record[0] == ENTRY { 0 } else { record[NUMBER.at] }));
+        .sort_by_key(|record| (record[0], if record[0] < ENTRY { record[NUMBER.at] } else { 0 }));
 }
 
 /// A contract with rows added, closed or of other lots, and with other rates.
@@ -91,6 +104,14 @@ fn changed(random: &mut Random, mut records: Vec<Bytes>) -> Vec<Bytes> {
     records
 }
 
+/// A noon file whose rows are converted at the morning's rates; some pass the limit or have no rate.
+fn converted_at_noon(random: &mut Random) -> (Vec<Bytes>, Vec<Bytes>) {
+    let mut records = converted::account(random);
+    let rates = records.iter().position(|record| record[0] == CURRENCY_RATE);
+    let rates = records.split_off(rates.unwrap_or(records.len()));
+    (rates, records)
+}
+
 /// Two files with 640 records joined, or about so many, or up to 1,280; sometimes noon has entries.
 fn crowded(random: &mut Random) -> (Vec<Bytes>, Vec<Bytes>) {
     let target = match random.below(8) {
@@ -103,7 +124,7 @@ fn crowded(random: &mut Random) -> (Vec<Bytes>, Vec<Bytes>) {
     let size = random.between((target / 2) as i64, MOST_RECORDS as i64) as usize;
     let morning = sound::of_size(random, size, &[0, 3, 4, 7, 9, 10, 13, 14], true);
     let mut noon = if random.one_in(2) { traded(random, &morning) } else { vec![] };
-    let from_morning = |record: &&Bytes| record[0] == ENTRY || !lists(&noon, record[NUMBER.at]);
+    let from_morning = |record: &&Bytes| record[0] >= ENTRY || !lists(&noon, record[NUMBER.at]);
     let joined = morning.iter().filter(from_morning).count() + noon.len();
     let lacking = target.saturating_sub(joined).min(MOST_RECORDS.saturating_sub(noon.len()));
     let in_neither = |number: &u8| !lists(&morning, *number) && !lists(&noon, *number);

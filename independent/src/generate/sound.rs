@@ -3,6 +3,7 @@
 use super::charged;
 use super::priced;
 use super::random::Random;
+use super::rates;
 use super::values::*;
 use super::write::{put, record, Bytes};
 use crate::format::*;
@@ -11,7 +12,11 @@ use crate::format::*;
 struct Plan {
     contracts: Vec<Share>,
     entries: usize,
+    rates: usize,
 }
+
+/// The most currency rates.
+const MOST_RATES: usize = 7;
 
 /// How many records of each kind name one contract.
 #[derive(Clone, Copy, Default)]
@@ -42,6 +47,7 @@ pub fn account(random: &mut Random) -> Vec<Bytes> {
         0 => full(random),
         1 => no_prompts(random),
         2 => sixteen_contracts(random),
+        3 => Plan { contracts: vec![], entries: 0, rates: random.place(MOST_RATES + 1) },
         _ => {
             let size = size(random);
             plan(random, size, NUMBERS.len(), true)
@@ -51,7 +57,7 @@ pub fn account(random: &mut Random) -> Vec<Bytes> {
 }
 
 /// An account of so many records, or as many as it can have, whose contracts have some of these
-/// numbers; with entries or without.
+/// numbers; with entries and currency rates or without.
 pub fn of_size(random: &mut Random, size: usize, numbers: &[i64], entries: bool) -> Vec<Bytes> {
     let size = size.min(room(numbers.len(), entries));
     let plan = plan(random, size, numbers.len(), entries);
@@ -69,12 +75,15 @@ fn size(random: &mut Random) -> usize {
 
 /// Rows and rates at their limits: 630 rows in 5 contracts, or fewer with spreads and entries.
 fn extreme(random: &mut Random) -> Vec<Bytes> {
-    let crowded = Share { prompts: 1, rows: 126, spreads: 0 };
+    let crowded = |rows| Share { prompts: 1, rows, spreads: 0 };
     let spread = Share { prompts: 2, rows: MOST_ROWS, spreads: 4 };
-    let plan = if random.one_in(2) {
-        Plan { contracts: vec![crowded; 5], entries: 0 }
-    } else {
-        Plan { contracts: vec![spread; 4], entries: MOST_ENTRIES }
+    let plan = match random.below(4) {
+        0 => Plan { contracts: vec![crowded(126); 5], entries: 0, rates: 0 },
+        1 => Plan { contracts: vec![crowded(125); 5], entries: 0, rates: 5 },
+        _ => {
+            let rates = random.pick(&[0, MOST_RATES]);
+            Plan { contracts: vec![spread; 4], entries: MOST_ENTRIES, rates }
+        }
     };
     let mut records = fill(random, &plan, &NUMBERS);
     let one_sided = random.one_in(2);
@@ -89,7 +98,11 @@ fn extreme(random: &mut Random) -> Vec<Bytes> {
             }
             ROW => row_at_limits(random, record, one_sided, gain_at_rest),
             SPREAD => put(record, SPREAD_RATE, SPREAD_RATE.most),
-            _ => put(record, PERCENT, PERCENT.most),
+            ENTRY => put(record, PERCENT, PERCENT.most),
+            _ => {
+                put(record, SPOT_RATE, 1_000_000);
+                put(record, ADJUSTMENT, 0);
+            }
         }
     }
     if thin {
@@ -133,13 +146,23 @@ fn row_at_limits(random: &mut Random, row: &mut Bytes, one_sided: bool, gain_at_
 fn full(random: &mut Random) -> Plan {
     let share = Share { prompts: MOST_PROMPTS, rows: MOST_ROWS, spreads: MOST_SPREADS };
     let contracts = random.between(2, 3) as usize;
-    Plan { contracts: vec![share; contracts], entries: MOST_ENTRIES }
+    let rates = random.pick(&[0, MOST_RATES]);
+    Plan { contracts: vec![share; contracts], entries: MOST_ENTRIES, rates }
+}
+
+/// Contracts with as many rows as they can have, in 640 records or next to so many.
+pub fn crammed(random: &mut Random) -> Vec<Bytes> {
+    let rows = MOST_ROWS - random.place(2);
+    let share = Share { prompts: 3, rows, spreads: 20 };
+    let entries = random.between(30, 32) as usize;
+    fill(random, &Plan { contracts: vec![share; 4], entries, rates: 0 }, &NUMBERS)
 }
 
 /// Contracts without prompts, and entries between them.
 fn no_prompts(random: &mut Random) -> Plan {
     let contracts = random.between(2, 16) as usize;
-    Plan { contracts: vec![Share::default(); contracts], entries: random.place(MOST_ENTRIES + 1) }
+    let entries = random.place(MOST_ENTRIES + 1);
+    Plan { contracts: vec![Share::default(); contracts], entries, rates: 0 }
 }
 
 /// All sixteen contracts, with a few records each.
@@ -150,10 +173,11 @@ fn sixteen_contracts(random: &mut Random) -> Plan {
         Share { prompts, rows, spreads: prompts.min(2) }
     };
     let contracts = NUMBERS.iter().map(|_| share()).collect();
-    Plan { contracts, entries: random.place(MOST_ENTRIES + 1) }
+    Plan { contracts, entries: random.place(MOST_ENTRIES + 1), rates: random.place(3) }
 }
 
-/// A plan with exactly so many records in so many contracts at most; with entries or without.
+/// A plan with exactly so many records in so many contracts at most; with entries and currency rates
+/// or without. Half of the accounts have no rates.
 fn plan(random: &mut Random, size: usize, most: usize, entries: bool) -> Plan {
     let least = (0..).find(|contracts| room(*contracts, entries) >= size).unwrap_or(0);
     let least = least.max(usize::from(size > 0));
@@ -162,13 +186,16 @@ fn plan(random: &mut Random, size: usize, most: usize, entries: bool) -> Plan {
         0 => random.between(least as i64, most as i64) as usize,
         _ => random.between(least as i64, most.min(least + 3) as i64) as usize,
     };
-    let mut plan = Plan { contracts: vec![Share::default(); contracts], entries: 0 };
+    let mut left = size - contracts;
+    let rates =
+        if entries && random.one_in(2) { random.place(MOST_RATES + 1).min(left) } else { 0 };
+    left -= rates;
+    let mut plan = Plan { contracts: vec![Share::default(); contracts], entries: 0, rates };
     let mut leaning =
         random.pick(&[(3, 8, 3, 2), (6, 8, 6, 1), (1, 12, 1, 1), (4, 6, 8, 4), (3, 6, 1, 6)]);
     if !entries {
         leaning.3 = 0;
     }
-    let mut left = size - contracts;
     while left > 0 {
         if grow(random, &mut plan, leaning) {
             left -= 1;
@@ -223,13 +250,18 @@ fn fill(random: &mut Random, plan: &Plan, numbers: &[i64]) -> Vec<Bytes> {
     for draft in &drafts {
         records.extend(prompts(random, draft));
     }
+    let rates = rates::of_account(random, plan.rates);
     for draft in &drafts {
-        records.extend(rows(random, draft));
+        let mut rows = rows(random, draft);
+        rates::put_currencies(random, &mut rows, &rates);
+        rates::repair(&mut rows, &rates::listed(&rates));
+        records.extend(rows);
     }
     for draft in &drafts {
         records.extend((0..draft.share.spreads).map(|_| spread(random, draft)));
     }
     records.extend(entries(random, &drafts, plan.entries));
+    records.extend(rates);
     records
 }
 

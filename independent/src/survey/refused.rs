@@ -1,8 +1,8 @@
 //! Which fields of document 02's requests a refused file has outside their range.
 
 use super::sights::Sight;
-use independent::format::{entry_ratios, records, Field, Record, CONTRACT, ENTRY, TENTHS, UNIT};
-use independent::refusal::OUT_OF_RANGE;
+use independent::format::*;
+use independent::refusal::{ORDER_OR_CLASH, OUT_OF_RANGE};
 use independent::Refusal;
 
 pub fn refused(file: &[u8], refusal: Refusal) -> Vec<Sight> {
@@ -11,8 +11,18 @@ pub fn refused(file: &[u8], refusal: Refusal) -> Vec<Sight> {
     let entry = six.filter(|record| record.kind() == ENTRY);
     let entry = |seen: fn(Record) -> bool| entry.is_some_and(seen);
     let contract = six.filter(|record| record.kind() == CONTRACT);
+    let rate = six.filter(|record| record.kind() == CURRENCY_RATE);
+    let rate = |field| rate.is_some_and(|record| outside(record, field));
+    let row = six.filter(|record| record.kind() == ROW);
+    let falls = refusal.number == ORDER_OR_CLASH
+        && record.is_some_and(|record| record.kind() == CURRENCY_RATE);
     vec![
         ("a unit above 1,000", contract.is_some_and(|record| outside(record, UNIT))),
+        ("a row's currency above 7", row.is_some_and(|record| outside(record, CURRENCY))),
+        ("a rate of currency 0 or above 7", rate(RATE_CURRENCY)),
+        ("a spot rate of 0 or above its most", rate(SPOT_RATE)),
+        ("an adjustment above 50", rate(ADJUSTMENT)),
+        ("a rate of a currency not above the one before", falls),
         ("byte 8 of an entry above 1", entry(|of| of.get(TENTHS) > TENTHS.most)),
         ("a ratio in tenths of 0 or above 1,000", entry(|of| of.get(TENTHS) == 1 && ratio(of))),
         ("a whole ratio that would pass in tenths", entry(passes_in_tenths)),

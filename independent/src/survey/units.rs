@@ -3,6 +3,7 @@
 use super::sights::Sight;
 use independent::account::{Contract, Row};
 use independent::book::interprompt;
+use independent::currency::conversion;
 use independent::margin::{prompt_charge, short_option_minimum, spread_charge};
 use independent::units::{Quotient, Unit};
 use independent::Account;
@@ -12,7 +13,7 @@ pub fn units(account: &Account) -> Vec<Sight> {
     let contracts = || account.contracts.iter();
     let half = |contract: &Contract, of: &Quotient| contract.unit.of(*of).is_half();
     let halves = |contract: &Contract, gain: bool| {
-        let products = contract.rows.iter().flat_map(hundredths);
+        let products = contract.rows.iter().flat_map(|row| hundredths(account, row));
         products.filter(|of| (of.dividend < 0) == gain).any(|of| half(contract, &of))
     };
     vec![
@@ -45,8 +46,15 @@ pub fn units(account: &Account) -> Vec<Sight> {
 }
 
 /// A row's products in hundredths, before they are rounded to the unit.
-fn hundredths(row: &Row) -> Vec<Quotient> {
-    row.losses.iter().map(|ticks| Quotient::whole(row.lots * row.value.0 * ticks)).collect()
+fn hundredths(account: &Account, row: &Row) -> Vec<Quotient> {
+    let rate = account.rates.iter().find(|rate| rate.currency == row.currency);
+    let hundredths = |ticks: &i64| {
+        let product = row.lots * row.value.0 * ticks;
+        let whole =
+            rate.map_or(i128::from(product), |rate| conversion(product, *rate).halves_away());
+        Quotient { dividend: whole, divisor: 1 }
+    };
+    row.losses.iter().map(hundredths).collect()
 }
 
 fn spread_charges(contract: &Contract) -> Vec<Quotient> {

@@ -125,6 +125,19 @@ pub fn in_units(unit: u16, contract: Record) -> Record {
     record
 }
 
+/// A currency rate: spot rate in millionths and adjustment percent.
+pub fn rate(currency: u8, spot: u32, percent: u8) -> Record {
+    let mut record = start(6, currency, 0);
+    put(&mut record, 4, spot.to_le_bytes());
+    record[8] = percent;
+    record
+}
+
+/// A row in this currency.
+pub fn in_currency(currency: u8, row: Record) -> Record {
+    with(row, 3, currency)
+}
+
 /// The record with one byte changed.
 pub fn with(record: Record, at: usize, byte: u8) -> Record {
     let mut changed = record;

@@ -242,33 +242,33 @@ fn about_half_of_the_pairs_are_joined_and_every_refusal_of_a_pair_occurs() {
     assert!(answers.iter().flatten().any(|file| file.is_empty()));
 }
 
+/// The records of a file for which this holds.
+fn some(file: &[u8], wanted: impl Fn(&[u8]) -> bool) -> Vec<u8> {
+    file.chunks(96).filter(|record| wanted(record)).flatten().copied().collect()
+}
+
 #[test]
 fn a_joined_account_has_of_each_contract_what_its_file_has() {
     for (files, joined) in joinable(1_500) {
-        let [morning, noon] = [&files[0], &files[1]].map(|file| check(file).ok().unwrap());
-        let account = check(&joined).expect("01 accepts a joined file");
-        let figures = figures_of(&account);
-        let numbers: Vec<i64> = account.contracts.iter().map(|contract| contract.number).collect();
-        let listed =
-            |number: &i64| morning.contract(*number).is_some() || noon.contract(*number).is_some();
-        assert_eq!(numbers, (0..16).filter(listed).collect::<Vec<i64>>());
-        for (place, number) in numbers.into_iter().enumerate() {
-            let (file, supplier) =
-                if noon.contract(number).is_some() { (1, &noon) } else { (0, &morning) };
-            let question = number as u64;
-            assert_eq!(book_of(&joined, question), book_of(&files[file], question));
-            let mut alone =
-                *figures_of(supplier).iter().find(|figures| figures.contract == number).unwrap();
+        let account = check(&joined).expect("an accepted account");
+        let numbers: Vec<u8> = account.contracts.iter().map(|of| of.number as u8).collect();
+        let lists = |file: &[u8], number| file.chunks(96).any(|record| record[..2] == [1, number]);
+        let listed = |number: &u8| files.iter().any(|file| lists(file, *number));
+        assert_eq!(numbers, (0..16).filter(listed).collect::<Vec<u8>>());
+        for (figures, number) in figures_of(&account).iter().zip(numbers) {
+            let supplier = &files[usize::from(lists(&files[1], number))];
+            let own = some(supplier, |record| record[0] < 5 && record[1] == number);
+            let alone = [own, some(&files[0], |record| record[0] == 6)].concat();
+            let question = u64::from(number);
+            assert_eq!(book_of(&joined, question), book_of(&alone, question));
             // Credit, and with it the margin, also goes by the other contracts.
-            alone.credit = figures[place].credit;
-            alone.margin = figures[place].margin;
-            assert_eq!(figures[place], alone);
+            let mut of_alone = figures_of(&check(&alone).expect("an accepted account"))[0];
+            of_alone.credit = figures.credit;
+            of_alone.margin = figures.margin;
+            assert_eq!(*figures, of_alone);
         }
-        let entries = |file: &[u8]| {
-            let records = file.chunks(96).filter(|record| record[0] == 5);
-            records.map(<[u8]>::to_vec).collect::<Vec<_>>()
-        };
-        assert_eq!(entries(&joined), entries(&files[0]));
+        let from_morning = |file| some(file, |record| record[0] >= 5);
+        assert_eq!(from_morning(&joined), from_morning(&files[0]));
     }
 }
 

@@ -94,7 +94,7 @@ fn faulty() -> Vec<(Vec<u8>, u8, usize)> {
     let files = vec![
         (vec![0; 61_441], 1, 0),
         (vec![0; 95], 2, 0),
-        (third([6; 96]), 3, 2),
+        (third([7; 96]), 3, 2),
         (third(contract(2, 0)), 4, 2),
         (third(with(sound[2], 95, 1)), 5, 2),
         (third(with(sound[2], 20, 0)), 6, 2),

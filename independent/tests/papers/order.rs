@@ -64,7 +64,7 @@ fn an_unknown_kind_answers_before_a_lower_kind_and_before_its_bytes() {
 fn entry_with(fault: u8) -> Record {
     let sound = entry(50, (1, 1), (2, 1));
     match fault {
-        3 => with(sound, 0, 6),
+        3 => with(sound, 0, 7),
         4 => contract(3, 0),
         5 => with(sound, 9, 1),
         6 => with(sound, 3, 101),

@@ -166,7 +166,15 @@ fn a_survey_of_pairs_counts_every_refusal() {
 
 #[test]
 fn the_other_surveys_count_all_that_they_look_for() {
-    for survey in ["survey-runs", "survey-committee", "survey-lists"] {
+    for survey in [
+        "survey-runs",
+        "survey-lists",
+        "survey-committee",
+        "survey-tickets",
+        "survey-screen",
+        "survey-entries",
+        "survey-statements",
+    ] {
         let told = lines(&[survey, "5", "2000"], &[]);
         assert!(!told.contains(": 0\n"), "{told}");
     }

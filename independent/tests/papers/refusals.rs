@@ -62,8 +62,8 @@ fn refusal_2_is_for_lengths_that_are_no_multiple_of_96() {
 }
 
 #[test]
-fn refusal_3_is_for_kinds_other_than_1_to_5() {
-    for kind in [0, 6, 7, 129, 255] {
+fn refusal_3_is_for_kinds_other_than_1_to_6() {
+    for kind in [0, 7, 8, 129, 255] {
         assert_eq!(changed(ENTRY, |record| record[0] = kind), Some((3, ENTRY)));
     }
 }
@@ -83,7 +83,7 @@ fn refusal_5_is_for_every_unused_byte_of_every_kind() {
     let used: [(usize, &[std::ops::RangeInclusive<usize>]); 6] = [
         (CONTRACT, &[0..=1, 4..=9]),
         (PROMPT, &[0..=2, 4..=15]),
-        (FORWARD, &[0..=2, 4..=87]),
+        (FORWARD, &[0..=87]),
         (TWO_LEGS, &[0..=2, 4..=15]),
         (THREE_LEGS, &[0..=2, 4..=19]),
         (ENTRY, &[0..=8]),
@@ -133,6 +133,7 @@ fn refusal_6_is_for_one_past_each_end_of_each_field() {
         (PROMPT, 8, 4, 0, 10_000_000),
         (PROMPT, 12, 4, 0, 10_000_000),
         (FORWARD, 1, 1, 0, 15),
+        (FORWARD, 3, 1, 0, 7),
         (FORWARD, 4, 4, 1, 99_999_999),
         (FORWARD, 8, 4, 0, 0),
         (FORWARD, 12, 4, -100_000, 100_000),

@@ -44,6 +44,24 @@ fn the_active_scenario_goes_by_the_rounded_products() {
     assert_eq!(figures_of(&account(100, &rows))[1..3], [1, 100]);
 }
 
+#[test]
+fn a_product_is_first_converted_to_hundredths_and_then_rounded_to_the_unit() {
+    // 99 at 0.5 is 49.5, in hundredths 50, and 50 is half of the unit. From 49.5 at once it would be 0.
+    let rows = [in_currency(1, row(99))];
+    let with_rate = |unit| [account(unit, &rows), file(&[&[rate(1, 500_000, 0)]])].concat();
+    assert_eq!(figures_of(&with_rate(0))[2], 50);
+    assert_eq!(figures_of(&with_rate(100))[2], 100);
+}
+
+#[test]
+fn refusal_15_looks_at_the_hundredths() {
+    let most = in_currency(1, forward(1, 1, (100_000, 0, 10_000, &[100_000; 16])));
+    let with_rate = |spot| [account(999, &[most]), file(&[&[rate(1, spot, 0)]])].concat();
+    // 1e14 is rounded to 999 × 100,100,100,100 = 99,999,999,999,900 of its unit.
+    assert_eq!(figures_of(&with_rate(1_000_000))[2], 99_999_999_999_900);
+    assert_eq!(refused(&with_rate(1_000_001)), Some((15, 2)));
+}
+
 /// Long 1.5 and short 1.5 in one tier, which form 1.5 spreads at this rate.
 fn charged(unit: u16, rate: u32, in_spreads: u32) -> Vec<i64> {
     figures_of(&file(&[

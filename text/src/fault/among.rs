@@ -64,6 +64,10 @@ fn order(record: Record, before: Record) -> Option<String> {
             let (tier, before) = (record.get(PROMPT_TIER), before.get(PROMPT_TIER));
             Some(say(TIER_BELOW, &[&place(record, PROMPT_TIER), &tier, &contract, &before]))
         }
+        CURRENCY_RATE if record.get(RATE_CURRENCY) <= before.get(RATE_CURRENCY) => {
+            let (currency, before) = (record.get(RATE_CURRENCY), before.get(RATE_CURRENCY));
+            Some(say(CURRENCY_NOT_ABOVE, &[&place(record, RATE_CURRENCY), &currency, &before]))
+        }
         _ => None,
     }
 }

@@ -1,6 +1,6 @@
 //! The lines that a page says: its tables, as `felgotany book --lines` would print them.
 
-use crate::tables::{number, Tables};
+use crate::tables::{amount, number, Tables};
 
 const TABLE: i128 = 16;
 
@@ -9,12 +9,12 @@ pub fn of(tables: &Tables) -> Result<String, String> {
     let mut total = String::new();
     for row in tables.rows("figures") {
         if row[0] == "total" {
-            total = line("T", &[number(&row[7])?]);
+            total = line("T", &[amount(&row[7])?]);
             continue;
         }
         let contract = contract(&row[0])?;
-        let figures: Vec<i128> = row[1..].iter().map(|cell| number(cell)).collect::<Result<_, _>>()?;
-        lines += &line("C", &[&[contract][..], &figures].concat());
+        let figures: Vec<i128> = row[2..].iter().map(|cell| amount(cell)).collect::<Result<_, _>>()?;
+        lines += &line("C", &[&[contract, number(&row[1])?][..], &figures].concat());
         lines += &book(tables, contract, &format!("contract-{contract}"))?;
     }
     if !tables.rows("intercontract-prompts").is_empty() {
@@ -94,7 +94,7 @@ impl Spread {
             };
             numbers.extend([number(tier)?, if side == "A" { 1 } else { 2 }, number(ratio)?]);
         }
-        let rate = number(&row[if question == TABLE { 4 } else { 5 }])?;
+        let rate = if question == TABLE { number(&row[4])? } else { amount(&row[5])? };
         Ok(Spread { place: number(place)?, legs: numbers, rate, step: 0, formed: [0; 2], paid: vec![] })
     }
 

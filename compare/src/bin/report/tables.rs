@@ -65,3 +65,12 @@ pub fn number(cell: &str) -> Result<i128, String> {
     let digits: String = cell.chars().filter(|mark| !matches!(mark, ',' | '.')).collect();
     digits.parse().map_err(|_| format!("'{cell}' is no number"))
 }
+
+/// The hundredths of a cell with an amount, which has two places, or none where it is whole and so is its contract's unit.
+pub fn amount(cell: &str) -> Result<i128, String> {
+    match cell.split_once('.') {
+        Some((_, places)) if places.len() != 2 => Err(format!("'{cell}' is no amount")),
+        Some(_) => number(cell),
+        None => Ok(100 * number(cell)?),
+    }
+}

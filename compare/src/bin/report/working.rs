@@ -1,13 +1,14 @@
 //! The working of a page against the independent program: the rows, the sixteen totals, single charges and credits, the sums over
 //! each column, and what is said of what is still open.
 
-use crate::tables::{number, Tables};
+use crate::tables::{amount, number, Tables};
 use independent::account::{Account, Contract};
 use independent::book::{book_of, intercontract, interprompt, Book, INTERCONTRACT};
+use independent::currency::Rate;
 use independent::format::*;
 use independent::margin::{self, figures_of, Figures};
 use independent::steps::{steps, Leg, Net, Side};
-use independent::units::{Amount, Delta, Quotient};
+use independent::units::{Amount, Delta};
 
 fn equal(what: &str, found: i128, wanted: i128) -> Result<(), String> {
     if found == wanted {
@@ -16,15 +17,18 @@ fn equal(what: &str, found: i128, wanted: i128) -> Result<(), String> {
     Err(format!("{what}: the page has {found}, the independent program {wanted}"))
 }
 
+/// How a cell is read: as a number or as an amount.
+type Reads = fn(&str) -> Result<i128, String>;
+
 /// The numbers of a column, but for the last row, must be these; the last row must be their sum.
-fn column(what: &str, rows: &[&[String]], at: usize, wanted: &[i64]) -> Result<(), String> {
+fn column(what: &str, rows: &[&[String]], at: usize, read: Reads, wanted: &[i64]) -> Result<(), String> {
     equal(&format!("rows of {what}"), rows.len() as i128, wanted.len() as i128 + 1)?;
     let mut sum = 0;
     for (row, wanted) in rows.iter().zip(wanted) {
-        equal(what, number(&row[at])?, (*wanted).into())?;
-        sum += number(&row[at])?;
+        equal(what, read(&row[at])?, (*wanted).into())?;
+        sum += read(&row[at])?;
     }
-    equal(&format!("sum of {what}"), number(&rows[wanted.len()][at])?, sum)
+    equal(&format!("sum of {what}"), read(&rows[wanted.len()][at])?, sum)
 }
 
 pub fn compare(tables: &Tables, account: &Account, file: &[u8]) -> Result<(), String> {
@@ -36,18 +40,19 @@ pub fn compare(tables: &Tables, account: &Account, file: &[u8]) -> Result<(), St
         let totals = margin::totals(contract);
         compare_margin(&rows("margin"), contract, &figures).map_err(told)?;
         compare_totals(&rows("totals"), &totals.map(|total| total.0), figures.active_scenario).map_err(told)?;
-        compare_rows(&rows("rows"), file, contract, figures.active_scenario).map_err(told)?;
+        compare_rows(&rows("rows"), file, account, contract, figures.active_scenario).map_err(told)?;
         let book = interprompt(contract);
         compare_charges(&rows("paid"), &rows("prompts"), contract, &book, &figures).map_err(told)?;
         let of_contract = credits(account, &table, place, margin::twice_price_risk(&totals));
         if !of_contract.is_empty() {
-            column("credit", &rows("credits"), 4, &of_contract).map_err(told)?;
+            column("credit", &rows("credits"), 4, amount, &of_contract).map_err(told)?;
         }
         equal("credits", of_contract.iter().map(|credit| i128::from(*credit)).sum(), figures.credit.0.into()).map_err(told)?;
         let legs = contract.spreads.iter().map(|spread| spread.legs.clone()).collect();
         let prompts = contract.prompts.iter().map(|prompt| (vec![prompt.day.to_string(), prompt.tier.to_string()], prompt.tier));
         Left { of: "tier", legs, prompts: prompts.collect(), unused: unused(&book) }.compare(&rows("open")).map_err(told)?;
     }
+    compare_rates(&tables.rows("rates"), &account.rates)?;
     let legs = account.entries.iter().map(|entry| entry.legs()).collect();
     let contracts = account.contracts.iter().map(|contract| (vec![format!("contract {}", contract.number)], contract.number));
     let left = Left { of: "contract", legs, prompts: contracts.collect(), unused: unused(&table) };
@@ -56,7 +61,7 @@ pub fn compare(tables: &Tables, account: &Account, file: &[u8]) -> Result<(), St
 
 /// Scanning risk, charges and credit add up to the risk, and the larger of risk and minimum is the margin.
 fn compare_margin(rows: &[&[String]], contract: &Contract, figures: &Figures) -> Result<(), String> {
-    let amounts: Vec<i128> = rows.iter().map(|row| number(&row[1])).collect::<Result<_, _>>()?;
+    let amounts: Vec<i128> = rows.iter().map(|row| amount(&row[1])).collect::<Result<_, _>>()?;
     let [scanning, interprompt, prompt, credit, risk, minimum, margin] = amounts[..] else {
         return Err("not seven amounts".to_string());
     };
@@ -67,6 +72,10 @@ fn compare_margin(rows: &[&[String]], contract: &Contract, figures: &Figures) ->
     }
     equal("the risk", risk, (scanning + interprompt + prompt + credit).max(0))?;
     equal("the margin", margin, risk.max(minimum))?;
+    for (row, amount) in rows.iter().zip(&amounts) {
+        let whole = contract.unit.0 % 100 == 0 && amount % 100 == 0;
+        equal("whole amounts without places", (!row[1].contains('.')).into(), whole.into())?;
+    }
     equal("the minimum", minimum, margin::short_option_minimum(contract).0.into())
 }
 
@@ -74,7 +83,7 @@ fn compare_totals(rows: &[&[String]], totals: &[i64; SCENARIOS], active: usize) 
     equal("scenarios", rows.len() as i128, SCENARIOS as i128)?;
     for (scenario, (row, total)) in (1..).zip(rows.iter().zip(totals)) {
         equal("scenario", number(&row[0])?, scenario as i128)?;
-        equal("total", number(&row[1])?, (*total).into())?;
+        equal("total", amount(&row[1])?, (*total).into())?;
         equal("active", row[2].starts_with("active").into(), (scenario == active).into())?;
         let paired = margin::PAIRED_SCENARIOS[active - 1] == scenario;
         equal("paired", row[2].contains("paired with").into(), paired.into())?;
@@ -82,8 +91,23 @@ fn compare_totals(rows: &[&[String]], totals: &[i64; SCENARIOS], active: usize) 
     Ok(())
 }
 
-/// Every row of the file with its fields, and its amount in the active scenario.
-fn compare_rows(rows: &[&[String]], file: &[u8], contract: &Contract, active: usize) -> Result<(), String> {
+/// The rate of each currency as it stands, and raised and lowered by its percent.
+fn compare_rates(rows: &[&[String]], rates: &[Rate]) -> Result<(), String> {
+    equal("rates", rows.len() as i128, rates.len() as i128)?;
+    for (row, rate) in rows.iter().zip(rates) {
+        let Rate { currency, spot, adjustment_percent } = *rate;
+        let adjusted = [spot * (100 + adjustment_percent), spot * (100 - adjustment_percent)];
+        let wanted = [currency, spot, adjustment_percent, adjusted[0], adjusted[1]];
+        for (cell, wanted) in row.iter().zip(wanted) {
+            equal("a rate", number(cell)?, wanted.into())?;
+        }
+    }
+    Ok(())
+}
+
+/// Every row of the file with its fields, and its amount in the active scenario; where a row is in another currency than the margin's,
+/// also each row's currency, its amount in it, and the rate that it is converted at.
+fn compare_rows(rows: &[&[String]], file: &[u8], account: &Account, contract: &Contract, active: usize) -> Result<(), String> {
     let all = records(file);
     let of_contract: Vec<&Record> = all.iter().filter(|row| row.kind() == ROW && row.get(NUMBER) == contract.number).collect();
     if of_contract.is_empty() {
@@ -92,9 +116,10 @@ fn compare_rows(rows: &[&[String]], file: &[u8], contract: &Contract, active: us
     let numbers = |of: &dyn Fn(&Record) -> i64| -> Vec<i64> { of_contract.iter().map(|record| of(record)).collect() };
     let net = |record: &Record| record.get(LOTS) * record.get(delta(record.get(CLASS)));
     let product = |record: &Record| record.get(LOTS) * record.get(VALUE) * record.get(loss(active - 1));
-    let amount = |record: &Record| contract.unit.halves_away(Quotient::whole(product(record))).0;
-    column("lots x delta", rows, 6, &numbers(&net))?;
-    column("amount", rows, 9, &numbers(&amount))?;
+    let amounts: Vec<i64> = contract.rows.iter().map(|row| row.products[active - 1].0).collect();
+    let converted = of_contract.iter().any(|record| record.get(CURRENCY) != MARGIN_CURRENCY);
+    column("lots x delta", rows, 6, number, &numbers(&net))?;
+    column("amount", rows, if converted { 12 } else { 9 }, amount, &amounts)?;
     for (place, (row, record)) in (1..).zip(rows.iter().zip(&of_contract)) {
         let class = record.get(CLASS);
         let word = ["forward", "call", "put"][class as usize];
@@ -102,10 +127,21 @@ fn compare_rows(rows: &[&[String]], file: &[u8], contract: &Contract, active: us
         if row[1] != word || row[3] != of_strike {
             return Err(format!("row {place} is a {word} with strike {of_strike}"));
         }
-        let fields =
-            [place, record.get(DAY), record.get(LOTS), record.get(delta(class)), record.get(VALUE), record.get(loss(active - 1))];
-        for (cell, wanted) in [0, 2, 4, 5, 7, 8].into_iter().zip(fields) {
+        let fields = [place, record.get(DAY), record.get(LOTS), record.get(delta(class)), record.get(loss(active - 1))];
+        for (cell, wanted) in [0, 2, 4, 5, 8].into_iter().zip(fields) {
             equal(&format!("row {place}"), number(&row[cell])?, wanted.into())?;
+        }
+        equal(&format!("value of row {place}"), amount(&row[7])?, record.get(VALUE).into())?;
+        if converted {
+            let currency = record.get(CURRENCY);
+            equal(&format!("currency of row {place}"), number(&row[9])?, currency.into())?;
+            equal(&format!("row {place} in its currency"), amount(&row[10])?, product(record).into())?;
+            let rate = account.rates.iter().find(|rate| rate.currency == currency);
+            let percent = |rate: &Rate| rate.adjustment_percent * if product(record) > 0 { 1 } else { -1 };
+            let at = rate.map_or("-".to_string(), |rate| places(rate.spot * (100 + percent(rate)), 8));
+            if row[11] != at {
+                return Err(format!("row {place} is converted at {} in place of {at}", row[11]));
+            }
         }
     }
     Ok(())
@@ -118,26 +154,35 @@ fn compare_charges(
     book: &Book,
     figures: &Figures,
 ) -> Result<(), String> {
-    let of_spreads: Vec<i64> =
-        contract.spreads.iter().enumerate().map(|(at, spread)| contract.unit.halves_up(margin::spread_charge(book.formed(at), spread.rate)).0).collect();
+    let of_spreads: Vec<i64> = contract
+        .spreads
+        .iter()
+        .enumerate()
+        .map(|(at, spread)| contract.unit.halves_up(margin::spread_charge(book.formed(at), spread.rate)).0)
+        .collect();
     if !of_spreads.is_empty() {
         let charged: Vec<&[String]> = paid.iter().copied().filter(|row| !row[6].is_empty()).collect();
-        column("charge of a spread", &charged, 6, &of_spreads)?;
+        column("charge of a spread", &charged, 6, amount, &of_spreads)?;
     }
     equal("interprompt charge", of_spreads.iter().map(|charge| i128::from(*charge)).sum(), figures.interprompt_charge.0.into())?;
-    let of_prompts: Vec<i64> =
-        contract.prompts.iter().zip(&book.lines).map(|(prompt, line)| contract.unit.halves_up(margin::prompt_charge(prompt, line)).0).collect();
+    let of_prompts: Vec<i64> = contract
+        .prompts
+        .iter()
+        .zip(&book.lines)
+        .map(|(prompt, line)| contract.unit.halves_up(margin::prompt_charge(prompt, line)).0)
+        .collect();
     if of_prompts.is_empty() {
         return equal("prompts", prompts.len() as i128, 0);
     }
-    column("charge of a prompt", prompts, 7, &of_prompts)
+    column("charge of a prompt", prompts, 7, amount, &of_prompts)
 }
 
 /// A contract's credit from each intercontract spread that names it.
 fn credits(account: &Account, table: &Book, place: usize, twice: Amount) -> Vec<i64> {
     let number = account.contracts[place].number;
     let naming = account.entries.iter().zip(&table.steps).filter(|(entry, _)| [entry.first, entry.second].contains(&number));
-    let credit = |used: Delta, percent: i64| margin::credit(twice, used, table.lines[place].net, percent, account.contracts[place].unit).0;
+    let credit =
+        |used: Delta, percent: i64| margin::credit(twice, used, table.lines[place].net, percent, account.contracts[place].unit).0;
     naming.map(|(entry, [first, second])| credit(first.given[place] + second.given[place], entry.percent)).collect()
 }
 

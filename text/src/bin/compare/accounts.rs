@@ -11,13 +11,14 @@ use independent::generate::{self, Random};
 use std::collections::BTreeSet;
 use std::fmt;
 
-/// The refusals of the check are 1 to 9.
-const CHECKED: usize = 9;
+/// The refusals of the check.
+const CHECKED: [usize; 11] = [1, 2, 3, 4, 5, 6, 7, 8, 9, 14, 15];
+const LAST: usize = CHECKED[CHECKED.len() - 1];
 
 /// How many accounts and texts were held, and which wordings occurred.
 #[derive(Default)]
 pub struct Tally {
-    verdicts: [u64; CHECKED + 1],
+    verdicts: [u64; LAST + 1],
     damaged_written: u64,
     damaged_misread: u64,
     wordings: BTreeSet<&'static str>,
@@ -45,8 +46,12 @@ impl Tally {
         let unsaid: Vec<&&str> =
             wordings.filter(|wording| !self.wordings.contains(*wording)).collect();
         let missing: Vec<usize> =
-            (0..=CHECKED).filter(|number| self.verdicts[*number] == 0).collect();
-        if unsaid.is_empty() && missing.is_empty() && self.damaged_misread > 0 {
+            CHECKED.into_iter().filter(|number| self.verdicts[*number] == 0).collect();
+        if unsaid.is_empty()
+            && missing.is_empty()
+            && self.verdicts[0] > 0
+            && self.damaged_misread > 0
+        {
             return Ok(());
         }
         Err(format!("never said: {unsaid:?}; refusals that never occurred: {missing:?}"))

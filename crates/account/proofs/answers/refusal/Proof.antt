@@ -25,22 +25,27 @@ returns-7 : tie.Need-returns-7
 returns-7 c = rw (c .if7 .taken)
 
 returns-8 : tie.Need-returns-8
-returns-8 c =
-    let n = c .before .before .before .before .before .before .before .args .number in
+returns-8 c = rw (c .if8 .taken)
+
+returns-9 : tie.Need-returns-9
+returns-9 c = rw (c .if9 .taken)
+
+returns-10 : tie.Need-returns-10
+returns-10 c =
+    let n = c .before .before .before .before .before .before .before .before .before .args .number in
     rw (
-      ne-eqb n 3 (c .before .before .before .before .before .before .if1 .left),
-      ne-eqb n 4
-          (c .before .before .before .before .before .if2 .left),
-      ne-eqb n 5
-          (c .before .before .before .before .if3 .left),
-      ne-eqb n 6 (c .before .before .before .if4 .left),
-      ne-eqb n 7
-          (c .before .before .if5 .left),
-      ne-eqb n 8 (c .before .if6 .left),
-      ne-eqb n 9 (c .if7 .left),
+      ne-eqb n 3 (c .before .before .before .before .before .before .before .before .if1 .left),
+      ne-eqb n 4 (c .before .before .before .before .before .before .before .if2 .left),
+      ne-eqb n 5 (c .before .before .before .before .before .before .if3 .left),
+      ne-eqb n 6 (c .before .before .before .before .before .if4 .left),
+      ne-eqb n 7 (c .before .before .before .before .if5 .left),
+      ne-eqb n 8 (c .before .before .before .if6 .left),
+      ne-eqb n 9 (c .before .before .if7 .left),
+      ne-eqb n 14 (c .before .if8 .left),
+      ne-eqb n 15 (c .if9 .left),
     )
 
 pub refusal-spec : {M : Type 1} → statement M
 refusal-spec =
     tie.close
-    (tie.spec returns returns-2 returns-3 returns-4 returns-5 returns-6 returns-7 returns-8)
+    (tie.spec returns returns-2 returns-3 returns-4 returns-5 returns-6 returns-7 returns-8 returns-9 returns-10)

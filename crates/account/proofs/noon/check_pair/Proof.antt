@@ -1,8 +1,6 @@
 -- Both files are checked, and joined by what the check hands out.
 -- Assumes nothing.
 use borrow.Author.Needs.{needs}
-use mathlib.Core.Path.{ap, _∙_}
-use Rattle.account.specs.Noon.{verdictBy}
 use Rattle.account.proofs.NoonLaws.{checked-by}
 use Rattle.account.proofs.noon.check_pair.Statement.{statement}
 use Rattle.account.proofs.noon.check_pair.Tie as tie
@@ -16,28 +14,19 @@ take-survey-requires-2 c κs = search needs
 join-requires : tie.Need-join-requires
 join-requires c κs = search needs
 
-record-total-requires : tie.Need-record-total-requires
-record-total-requires c κs = search needs
-
-verdict-of-requires : tie.Need-verdict-of-requires
-verdict-of-requires c κs = search needs
+pair-verdict-requires : tie.Need-pair-verdict-requires
+pair-verdict-requires c κs = (c .before .before .take-survey .ensures, (c .before .take-survey2 .ensures, c .join .ensures))
 
 returns : tie.Need-returns
 returns c =
-    let s = c .before .before .before .before .before .before .before .args in
-    let m = c .before .before .before .before .take-survey in
-    let n = c .before .before .before .take-survey2 in
-    let j = c .before .before .join in
-    checked-by (s .morning .now) (s .noon .now) (m .result) (n .result) (j .result) (m .ensures) (n .ensures) (j .ensures) (c .verdict-of .result)
-    (c .verdict-of .ensures ∙ ap (verdictBy (m .result) (n .result)) (c .before .record-total .ensures))
+    let s = c .before .before .before .before .before .before .args in
+    let m = c .before .before .before .take-survey in
+    let n = c .before .before .take-survey2 in
+    let j = c .before .join in
+    checked-by (s .morning .now) (s .noon .now) (m .result) (n .result) (j .result) (m .ensures) (n .ensures) (j .ensures) (c .pair-verdict .result)
+    (c .pair-verdict .ensures)
 
 pub check-pair-spec : {M : Type 1} → statement M
 check-pair-spec =
     tie.close
-    (tie.spec
-    take-survey-requires
-    take-survey-requires-2
-    join-requires
-    record-total-requires
-    verdict-of-requires
-    returns)
+    (tie.spec take-survey-requires take-survey-requires-2 join-requires pair-verdict-requires returns)

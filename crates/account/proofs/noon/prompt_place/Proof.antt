@@ -1,10 +1,9 @@
 -- The place by what the check hands out of both files.
 -- Assumes nothing.
-use mathlib.Core.Path.{_≡_, sym, ap, _∙_}
+use mathlib.Core.Path.{_≡_, sym, _∙_}
 use native.Mathlib.Omega.{arith}
 use borrow.Author.Needs.{needs}
 use Rattle.account.specs.Answers.{numberOf}
-use Rattle.account.specs.Noon.{verdictBy}
 use Rattle.account.proofs.NoonLaws.{Joining, place-refused, place-beyond, place-noon, place-morning, place-nowhere}
 use Rattle.account.proofs.noon.prompt_place.Statement.{statement}
 use Rattle.account.proofs.noon.prompt_place.Tie as tie
@@ -18,18 +17,15 @@ take-survey-requires-2 c κs = search needs
 join-requires : tie.Need-join-requires
 join-requires c κs = search needs
 
-record-total-requires : tie.Need-record-total-requires
-record-total-requires c κs = search needs
-
-verdict-of-requires : tie.Need-verdict-of-requires
-verdict-of-requires c κs = search needs
+pair-verdict-requires : tie.Need-pair-verdict-requires
+pair-verdict-requires c κs = (c .before .before .take-survey .ensures, (c .before .take-survey2 .ensures, c .join .ensures))
 
 -- both files checked and joined, with the verdict
-abbrev known : (c : tie.After-verdict-of) → Joining (c .before .before .before .before .before .before .before .args .morning .now) (c .before .before .before .before .before .before .before .args .noon .now)
+abbrev known : (c : tie.After-pair-verdict) → Joining (c .before .before .before .before .before .before .args .morning .now) (c .before .before .before .before .before .before .args .noon .now)
 known c =
-    let m = c .before .before .before .before .take-survey in
-    let n = c .before .before .before .take-survey2 in
-    let j = c .before .before .join in
+    let m = c .before .before .before .take-survey in
+    let n = c .before .before .take-survey2 in
+    let j = c .before .join in
     record {
       first = m .result;
       second = n .result;
@@ -37,8 +33,8 @@ known c =
       first-is = m .ensures;
       second-is = n .ensures;
       joined-by = j .ensures;
-      verdict = c .verdict-of .result;
-      verdict-is = c .verdict-of .ensures ∙ ap (verdictBy (m .result) (n .result)) (c .before .record-total .ensures);
+      verdict = c .pair-verdict .result;
+      verdict-is = c .pair-verdict .ensures;
     }
 
 number-of-requires : tie.Need-number-of-requires
@@ -50,7 +46,7 @@ nowhere-requires c κs = search needs
 returns : tie.Need-returns
 returns c =
     let k = c .before .before .before in
-    let s = k .before .before .before .before .before .before .before .args in
+    let s = k .before .before .before .before .before .before .args in
     c .nowhere .ensures
     ∙ sym (place-refused (s .morning .now) (s .noon .now) (known k) (s .contract) (λ z. c .before .if1 .taken (c .before .before .number-of .ensures ∙ z)))
 
@@ -60,11 +56,11 @@ nowhere-requires-2 c κs = search needs
 returns-2 : tie.Need-returns-2
 returns-2 c =
     let k = c .before .before .before .before in
-    let s = k .before .before .before .before .before .before .before .args in
+    let s = k .before .before .before .before .before .before .args in
     c .nowhere2 .ensures ∙ sym (place-beyond (s .morning .now) (s .noon .now) (known k) (s .contract) (c .before .if2 .taken))
 
 -- nothing is refused, and the number is a contract's
-clear : (c : tie.Else2) → numberOf (c .before .before .before .verdict-of .result .answer) ≡ 0
+clear : (c : tie.Else2) → numberOf (c .before .before .before .pair-verdict .result .answer) ≡ 0
 clear c = sym (c .before .before .number-of .ensures) ∙ omega (arith, c .before .if1 .left)
 
 add-if3 : tie.Need-add-if3
@@ -83,7 +79,7 @@ returns-3 : tie.Need-returns-3
 returns-3 c =
     let e = c .before .before .before in
     let k = e .before .before .before in
-    let s = k .before .before .before .before .before .before .before .args in
+    let s = k .before .before .before .before .before .before .args in
     c .place-in .ensures
     ∙ place-noon (s .morning .now) (s .noon .now) (known k) (s .contract) (clear e) (omega (arith, e .if2 .left)) (c .before .if3 .taken)
 
@@ -103,7 +99,7 @@ returns-4 : tie.Need-returns-4
 returns-4 c =
     let e = c .before .before .before .before .before in
     let k = e .before .before .before in
-    let s = k .before .before .before .before .before .before .before .args in
+    let s = k .before .before .before .before .before .before .args in
     c .place-in2 .ensures
     ∙ place-morning (s .morning .now) (s .noon .now) (known k) (s .contract) (clear e) (omega (arith, e .if2 .left))
     (omega (arith, c .before .before .before .if3 .left)) (c .before .if4 .taken)
@@ -115,7 +111,7 @@ returns-5 : tie.Need-returns-5
 returns-5 c =
     let e = c .before .before .before .before .before in
     let k = e .before .before .before in
-    let s = k .before .before .before .before .before .before .before .args in
+    let s = k .before .before .before .before .before .before .args in
     c .nowhere3 .ensures
     ∙ sym (place-nowhere (s .morning .now) (s .noon .now) (known k) (s .contract) (clear e) (omega (arith, e .if2 .left))
     (omega (arith, c .before .before .before .if3 .left)) (omega (arith, c .before .if4 .left)))
@@ -127,8 +123,7 @@ prompt-place-spec =
     take-survey-requires
     take-survey-requires-2
     join-requires
-    record-total-requires
-    verdict-of-requires
+    pair-verdict-requires
     number-of-requires
     nowhere-requires
     returns

@@ -3,11 +3,10 @@
 use mathlib.Core.Path.{_≡_, sym, ap, _∙_}
 use mathlib.Core.Bool.{Bool, cond}
 use native.Mathlib.Omega.{arith}
-use borrow.Author.Tests.{ne-eqb, eq-eqb, lt-ltb, le-ltb}
-use lib.ListN.{getD}
+use borrow.Author.Tests.{lt-ltb, le-ltb}
 use Rattle.account.specs.Answers.{numberOf}
-use Rattle.account.specs.Noon.{ofJoined, ofMorning, ofNoon, _then_, fewJoined}
-use Rattle.account.specs.declared.answers.Answer.the-variants.{Accepted, NoonSpread, TooManyJoined}
+use Rattle.account.specs.Noon.{ofJoined, ofMorning, ofNoon, fewJoined, noonSpread, verdictBy}
+use Rattle.account.specs.declared.answers.Answer.the-variants.{Accepted, TooManyJoined}
 use Rattle.account.proofs.NoonLaws.{stops, goes}
 use borrow.Author.Needs.{needs}
 use Rattle.account.proofs.noon.verdict_of.Statement.{statement}
@@ -17,7 +16,7 @@ use Rattle.account.proofs.noon.verdict_of.Tie as tie
 first : (c : tie.Else1) → numberOf (c .before .before .args .morning .answer) ≡ 0
 first c = sym (c .before .number-of .ensures) ∙ omega (arith, c .if1 .left)
 
-second : (c : tie.Else2) → numberOf (c .before .before .before .before .args .t2 .answer) ≡ 0
+second : (c : tie.Else2) → numberOf (c .before .before .before .before .args .noon .answer) ≡ 0
 second c = sym (c .before .number-of2 .ensures) ∙ omega (arith, c .if2 .left)
 
 number-of-requires : tie.Need-number-of-requires
@@ -36,42 +35,51 @@ returns-2 c =
     let s = c .before .before .before .before in
     sym
     (goes (ofMorning (s .args .morning .answer)) _ (first (c .before .before))
-    ∙ stops (ofNoon (s .args .t2 .answer)) _ (λ z. c .if2 .taken (c .before .number-of2 .ensures ∙ z)))
+    ∙ stops (ofNoon (s .args .noon .answer)) _ (λ z. c .if2 .taken (c .before .number-of2 .ensures ∙ z)))
 
-element-copy-out-if3 : tie.Need-element-copy-out-if3
-element-copy-out-if3 c = search needs
+noon-spread-requires : tie.Need-noon-spread-requires
+noon-spread-requires c κs = search needs
 
-element-copy-out-t14 : tie.Need-element-copy-out-t14
-element-copy-out-t14 c = search needs
-
-cast-t15 : tie.Need-cast-t15
-cast-t15 c = search needs
+number-of-requires-3 : tie.Need-number-of-requires-3
+number-of-requires-3 c κs = search needs
 
 returns-3 : tie.Need-returns-3
 returns-3 c =
-    let s = c .before .before .before .before .before .before .before in
-    sym
-    (goes (ofMorning (s .args .morning .answer)) _ (first (c .before .before .before .before .before))
-    ∙ goes (ofNoon (s .args .t2 .answer)) _ (second (c .before .before .before))
-    ∙ ap (λ (t : Bool). ofNoon (cond t Accepted (NoonSpread (getD (s .args .t2 .first) 80 0))) then ofJoined (fewJoined (s .args .records))) (ne-eqb (getD (s .args .t2 .counts) 80 0) 0 (c .before .if3 .taken)))
+    let e = c .before .before .before in
+    let s = e .before .before .before .before in
+    let third = c .before .before .noon-spread .ensures in
+    ap ofNoon third
+    ∙ sym
+    (goes (ofMorning (s .args .morning .answer)) _ (first (e .before .before))
+    ∙ goes (ofNoon (s .args .noon .answer)) _ (second e)
+    ∙ stops (ofNoon (noonSpread (s .args .noon))) _ (λ z. c .if3 .taken (c .before .number-of3 .ensures ∙ ap numberOf third ∙ z)))
+
+-- no kind 5 or 6 either
+third : (c : tie.Else3) → numberOf (noonSpread (c .before .before .before .before .before .before .before .args .noon)) ≡ 0
+third c = sym (c .before .number-of3 .ensures ∙ ap numberOf (c .before .before .noon-spread .ensures)) ∙ omega (arith, c .if3 .left)
+
+-- so that only how many records are joined is left
+joined : (c : tie.Else3)
+    → verdictBy (c .before .before .before .before .before .before .before .args .morning)
+    (c .before .before .before .before .before .before .before .args .noon)
+    (c .before .before .before .before .before .before .before .args .records)
+    ≡ ofJoined (fewJoined (c .before .before .before .before .before .before .before .args .records))
+joined c =
+    let e = c .before .before .before in
+    let s = e .before .before .before .before in
+    goes (ofMorning (s .args .morning .answer)) _ (first (e .before .before))
+    ∙ goes (ofNoon (s .args .noon .answer)) _ (second e)
+    ∙ goes (ofNoon (noonSpread (s .args .noon))) _ (third c)
 
 returns-4 : tie.Need-returns-4
 returns-4 c =
-    let s = c .before .before .before .before .before .before .before in
-    sym
-    (goes (ofMorning (s .args .morning .answer)) _ (first (c .before .before .before .before .before))
-    ∙ goes (ofNoon (s .args .t2 .answer)) _ (second (c .before .before .before))
-    ∙ ap (λ (t : Bool). ofNoon (cond t Accepted (NoonSpread (getD (s .args .t2 .first) 80 0))) then ofJoined (fewJoined (s .args .records))) (eq-eqb (getD (s .args .t2 .counts) 80 0) 0 (omega (arith, c .before .if3 .left)))
-    ∙ ap (λ (t : Bool). ofJoined (cond t (TooManyJoined (s .args .records)) Accepted)) (lt-ltb 640 (s .args .records) (c .if4 .taken)))
+    let n = c .before .before .before .before .before .before .before .before .args .records in
+    sym (joined (c .before) ∙ ap (λ (t : Bool). ofJoined (cond t (TooManyJoined n) Accepted)) (lt-ltb 640 n (c .if4 .taken)))
 
 returns-5 : tie.Need-returns-5
 returns-5 c =
-    let s = c .before .before .before .before .before .before .before in
-    sym
-    (goes (ofMorning (s .args .morning .answer)) _ (first (c .before .before .before .before .before))
-    ∙ goes (ofNoon (s .args .t2 .answer)) _ (second (c .before .before .before))
-    ∙ ap (λ (t : Bool). ofNoon (cond t Accepted (NoonSpread (getD (s .args .t2 .first) 80 0))) then ofJoined (fewJoined (s .args .records))) (eq-eqb (getD (s .args .t2 .counts) 80 0) 0 (omega (arith, c .before .if3 .left)))
-    ∙ ap (λ (t : Bool). ofJoined (cond t (TooManyJoined (s .args .records)) Accepted)) (le-ltb 640 (s .args .records) (omega (arith, c .if4 .left))))
+    let n = c .before .before .before .before .before .before .before .before .args .records in
+    sym (joined (c .before) ∙ ap (λ (t : Bool). ofJoined (cond t (TooManyJoined n) Accepted)) (le-ltb 640 n (omega (arith, c .if4 .left))))
 
 pub verdict-of-spec : {M : Type 1} → statement M
 verdict-of-spec =
@@ -81,9 +89,8 @@ verdict-of-spec =
     returns
     number-of-requires-2
     returns-2
-    element-copy-out-if3
-    element-copy-out-t14
-    cast-t15
+    noon-spread-requires
+    number-of-requires-3
     returns-3
     returns-4
     returns-5)

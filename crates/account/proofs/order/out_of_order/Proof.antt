@@ -1,7 +1,7 @@
 -- `account::order::out_of_order` meets its contract. Assumes nothing.
 use mathlib.Core.Path.{sym, _∙_}
 use Rattle.record.proofs.Tests.{both}
-use Rattle.account.proofs.Dispatch.{order-1, order-2, order-3, order-4, order-5, order-none}
+use Rattle.account.proofs.Dispatch.{order-1, order-2, order-3, order-4, order-5, order-6, order-none}
 use Rattle.account.proofs.order.out_of_order.Statement.{statement}
 use Rattle.account.proofs.order.out_of_order.Tie as tie
 
@@ -61,15 +61,21 @@ returns-5 c =
     c .with-itself .ensures ∙ sym (order-5 (args .before .now) (args .r .now)
     (sym (c .before .before .before .before .before .before .kind .ensures .0) ∙ c .before .if5 .taken))
 
+currency-not-above-requires : tie.Need-currency-not-above-requires
+currency-not-above-requires c κs = tt
+
 returns-6 : tie.Need-returns-6
 returns-6 c =
-    let args = c .before .before .before .before .before .before .before .before .args in
-    sym (order-none (args .before .now) (args .r .now) (λ e. c .before .before .before .before .if1 .left
-    (c .before .before .before .before .before .kind .ensures .0 ∙ e))
-    (λ e. c .before .before .before .if2 .left (c .before .before .before .before .before .kind .ensures .0 ∙ e))
-    (λ e. c .before .before .if3 .left (c .before .before .before .before .before .kind .ensures .0 ∙ e))
-    (λ e. c .before .if4 .left (c .before .before .before .before .before .kind .ensures .0 ∙ e))
-    (λ e. c .if5 .left (c .before .before .before .before .before .kind .ensures .0 ∙ e)))
+    let args = c .before .before .before .before .before .before .before .before .before .before .args in
+    c .currency-not-above .ensures ∙ sym (order-6 (args .before .now) (args .r .now)
+    (sym (c .before .before .before .before .before .before .before .kind .ensures .0) ∙ c .before .if6 .taken))
+
+returns-7 : tie.Need-returns-7
+returns-7 c =
+    let args = c .before .before .before .before .before .before .before .before .before .args in
+    let kind = c .before .before .before .before .before .before .kind .ensures .0 in
+    sym (order-none (args .before .now) (args .r .now) (λ e. c .before .before .before .before .before .if1 .left (kind ∙ e)) (λ e. c .before .before .before .before .if2 .left (kind ∙ e))
+    (λ e. c .before .before .before .if3 .left (kind ∙ e)) (λ e. c .before .before .if4 .left (kind ∙ e)) (λ e. c .before .if5 .left (kind ∙ e)) (λ e. c .if6 .left (kind ∙ e)))
 
 pub out-of-order-spec : {M : Type 1} → statement M
 out-of-order-spec =
@@ -88,4 +94,6 @@ out-of-order-spec =
     returns-4
     with-itself-requires
     returns-5
-    returns-6)
+    currency-not-above-requires
+    returns-6
+    returns-7)

@@ -16,7 +16,7 @@ scanned-requires : tie.Need-scanned-requires
 scanned-requires c κs =
     let s = c .before .before .before .before .before .before in
     let w = s .pre in
-    totals-room (s .args .own .now) (records (s .args .prompts .now)) (w .rows) (records (s .args .spreads .now)) (w .fit) (s .args .p) (w .is) (w .most)
+    totals-room (w .rates) (s .args .own .now) (records (s .args .prompts .now)) (w .rows) (records (s .args .spreads .now)) (w .fit) (s .args .p) (w .is) (w .most)
 
 unit-requires : tie.Need-unit-requires
 unit-requires c κs = search needs
@@ -25,7 +25,7 @@ contract-book-requires : tie.Need-contract-book-requires
 contract-book-requires c κs =
     let s = c .before .before .before .before .before .before .before .before in
     let w = s .pre in
-    book-room (s .args .own .now) (records (s .args .prompts .now)) (w .rows) (records (s .args .spreads .now)) (w .fit) (s .args .p) (w .is) (w .most)
+    book-room (w .rates) (s .args .own .now) (records (s .args .prompts .now)) (w .rows) (records (s .args .spreads .now)) (w .fit) (s .args .p) (w .is) (w .most)
 
 charges-of-requires : tie.Need-charges-of-requires
 charges-of-requires c κs =
@@ -37,9 +37,9 @@ charges-of-requires c κs =
     let prompts = records (s .args .prompts .now) in
     let spreads = records (s .args .spreads .now) in (
       subst⁻¹ (λ (n : ℕ). SpreadsWithin n spreads (b .result .first) (b .result .second)) (u .ensures .0)
-          (spreads-room own prompts (w .rows) spreads (w .fit) (s .args .p) (w .is) (w .most) (b .result) (b .ensures)),
+          (spreads-room (w .rates) own prompts (w .rows) spreads (w .fit) (s .args .p) (w .is) (w .most) (b .result) (b .ensures)),
       subst⁻¹ (λ (n : ℕ). PromptsWithin n prompts (b .result .used) (b .result .unused)) (u .ensures .0)
-          (prompts-room own prompts (w .rows) spreads (w .fit) (s .args .p) (w .is) (w .most) (b .result) (b .ensures)),
+          (prompts-room (w .rates) own prompts (w .rows) spreads (w .fit) (s .args .p) (w .is) (w .most) (b .result) (b .ensures)),
     )
 
 short-option-rate-requires : tie.Need-short-option-rate-requires
@@ -54,7 +54,7 @@ contract-net-requires : tie.Need-contract-net-requires
 contract-net-requires c κs =
     let s = c .before .before .before .before .before .before .before .before .before .before .before .before in
     let w = s .pre in
-    net-sizes (s .args .own .now) (records (s .args .prompts .now)) (w .rows) (records (s .args .spreads .now)) (w .fit) (s .args .p) (w .is) (w .most)
+    net-sizes (w .rates) (s .args .own .now) (records (s .args .prompts .now)) (w .rows) (records (s .args .spreads .now)) (w .fit) (s .args .p) (w .is) (w .most)
 
 contract-requires : tie.Need-contract-requires
 contract-requires c κs = search needs
@@ -74,8 +74,8 @@ returns c =
     let b = c .before .before .before .before .before .before .before .before .contract-book in
     let u = c .before .before .before .before .before .before .before .before .before .unit in
     let charged = c .before .before .before .before .before .before .before .charges-of in
-    line-with own prompts (w .rows) spreads (s .args .p) (w .is) _
-    (line-is own prompts (w .rows) spreads (w .fit) (s .args .p) (w .is) (w .most) (b .result) (b .ensures) _ (rate .result)
+    line-with (w .rates) own prompts (w .rows) spreads (s .args .p) (w .is) _
+    (line-is (w .rates) own prompts (w .rows) spreads (w .fit) (s .args .p) (w .is) (w .most) (b .result) (b .ensures) _ (rate .result)
     (c .contract .ensures .0) (u .ensures .0) (c .before .before .before .before .before .before .before .before .before .before .scanned .ensures)
     (subst (λ (n : ℕ). Charged n prompts spreads (b .result) (charged .result .interprompt .0) (charged .result .prompt .0)) (u .ensures .0) (charged .ensures))
     (rate .ensures .0) (least .ensures .0) (least .ensures .1) (c .before .before .before .before .contract-net .ensures))

@@ -38,7 +38,7 @@ returns-2 c =
     let q = s .args .question in
     let t = one-book a (s .pre .0 .lawful) q (s .pre .1) (c .before .if1 .left) in
     let n = c .contract-numbers .ensures in
-    (n .listed-is ∙ sym t, ap length t ∙ contract-length [] (promptsOf q a) (rowsOf q a) (spreadsOf q a) ∙ sym (n .count-is), n .few)
+    (n .listed-is ∙ sym t, ap length t ∙ contract-length [] [] (promptsOf q a) (rowsOf q a) (spreadsOf q a) ∙ sym (n .count-is), n .few)
 
 pub book-over-spec : {M : Type 1} → statement M
 book-over-spec =

@@ -19,7 +19,7 @@ counted-contract-requires : tie.Need-counted-contract-requires
 counted-contract-requires c κs =
     let s = c .before .before .before in
     let w = s .pre in
-    book-room [] (records (s .args .prompts .now)) (w .rows) (records (s .args .spreads .now)) (w .fit) (s .args .p) (w .is) (w .most)
+    book-room (w .rates) [] (records (s .args .prompts .now)) (w .rows) (records (s .args .spreads .now)) (w .fit) (s .args .p) (w .is) (w .most)
 
 record-count-requires : tie.Need-record-count-requires
 record-count-requires c κs = search needs
@@ -34,7 +34,7 @@ book-numbers-requires c κs =
     let b = c .before .before .before .before .before .before .before .counted-contract in
     let n = c .record-count2 in (
       omega (arith, w .fit .few-prompts, count-is (s .args .prompts .now), c .before .record-count .ensures),
-      spreads-signed [] (records (s .args .prompts .now)) (w .rows) (records (s .args .spreads .now)) (w .fit) (s .args .p) (w .is) (w .most) (b .result .book) (b .ensures .book-is) (n .result)
+      spreads-signed (w .rates) [] (records (s .args .prompts .now)) (w .rows) (records (s .args .spreads .now)) (w .fit) (s .args .p) (w .is) (w .most) (b .result .book) (b .ensures .book-is) (n .result)
           (omega (arith, count-is (s .args .spreads .now), n .ensures)),
     )
 
@@ -42,7 +42,7 @@ book-numbers-requires c κs =
 parts : (c : tie.After-book-numbers)
     → let s = c .before .before .before .before .before .before .before .before .before .before .before .before in
     let w = s .pre in
-    PartNumbers (contractParts (contractFrom [] (records (s .args .prompts .now)) (w .rows) (records (s .args .spreads .now)))) (recordCount (s .args .prompts .now)) (recordCount (s .args .spreads .now)) (c .book-numbers .result)
+    PartNumbers (contractParts (contractFrom (w .rates) [] (records (s .args .prompts .now)) (w .rows) (records (s .args .spreads .now)))) (recordCount (s .args .prompts .now)) (recordCount (s .args .spreads .now)) (c .book-numbers .result)
 parts c =
     let s = c .before .before .before .before .before .before .before .before .before .before .before .before in
     let w = s .pre in
@@ -52,7 +52,7 @@ parts c =
     let m = c .before .before .record-count in
     let n = c .before .record-count2 in
     let r = c .book-numbers in
-    contract-book-listed [] (records prompts) (w .rows) (records spreads) (w .fit) (s .args .p) (w .is) (w .most) (b .result .book) (b .ensures .book-is) (r .result) (m .result) (n .result)
+    contract-book-listed (w .rates) [] (records prompts) (w .rows) (records spreads) (w .fit) (s .args .p) (w .is) (w .most) (b .result .book) (b .ensures .book-is) (r .result) (m .result) (n .result)
     (recordCount prompts) (recordCount spreads) (m .ensures) (n .ensures) (count-is prompts) (count-is spreads) (r .ensures .0) (r .ensures .1)
 
 with-last-requires : tie.Need-with-last-requires
@@ -64,12 +64,12 @@ returns c =
     let w = s .pre in
     let prompts = s .args .prompts .now in
     let spreads = s .args .spreads .now in
-    let k = contractFrom [] (records prompts) (w .rows) (records spreads) in
+    let k = contractFrom (w .rates) [] (records prompts) (w .rows) (records spreads) in
     let r = c .with-last in
     subst (λ (k : Contract). BookNumbers (contractBook k) (recordCount prompts) (recordCount spreads) (r .result))
-    (contract-with [] (records prompts) (w .rows) (records spreads) (s .args .p) (w .is))
+    (contract-with (w .rates) [] (records prompts) (w .rows) (records spreads) (s .args .p) (w .is))
     (with-last (contractParts k) (recordCount prompts) (recordCount spreads) (c .before .book-numbers .result) (r .result) _ (contractTouches k) (parts (c .before)) (r .ensures .0) (r .ensures .1)
-    (c .before .before .before .before .before .before .before .before .before .counted-contract .ensures .touches-are ∙ touches-are [] (records prompts) (w .rows) (records spreads) (w .fit) (s .args .p) (w .is) (w .most)))
+    (c .before .before .before .before .before .before .before .before .before .counted-contract .ensures .touches-are ∙ touches-are (w .rates) [] (records prompts) (w .rows) (records spreads) (w .fit) (s .args .p) (w .is) (w .most)))
 
 pub contract-answer-spec : {M : Type 1} → statement M
 contract-answer-spec =

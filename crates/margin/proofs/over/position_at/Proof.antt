@@ -2,7 +2,7 @@
 -- Assumes nothing.
 use borrow.Author.Needs.{needs}
 use Rattle.account.specs.Standing.{accountOf}
-use Rattle.margin.proofs.StandLaws.{rows-room, prompts-few, position-is}
+use Rattle.margin.proofs.StandLaws.{rows-room, rows-rated-by, prompts-few, position-is}
 use Rattle.margin.proofs.over.position_at.Statement.{statement}
 use Rattle.margin.proofs.over.position_at.Tie as tie
 
@@ -24,10 +24,13 @@ position-of-requires c κs =
     let a = accountOf (s .args .morning .now) (s .args .noon .now) in
     let ps = c .before .part in
     let rs = c .part2 in (
-      s .pre .1 .1,
+      s .pre .1 .1 .0,
       (
         prompts-few a (s .pre .0 .lawful) (s .args .c) (s .pre .1 .0) (ps .result .now) (rs .result .now) (ps .ensures) (rs .ensures),
-        rows-room a (s .pre .0 .lawful) (s .args .c) (s .pre .1 .0) (ps .result .now) (rs .result .now) (ps .ensures) (rs .ensures) .rows-within,
+        (
+          rows-room a (s .pre .0 .lawful) (s .args .c) (s .pre .1 .0) (ps .result .now) (rs .result .now) (ps .ensures) (rs .ensures) .rows-within,
+          rows-rated-by a (s .pre .0 .lawful) (s .args .c) (s .pre .1 .0) (ps .result .now) (rs .result .now) (ps .ensures) (rs .ensures) (s .args .rates) (s .pre .1 .1 .1),
+        ),
       ),
     )
 
@@ -38,7 +41,8 @@ returns c =
     let ps = c .before .before .part in
     let rs = c .before .part2 in
     let p = c .position-of in
-    position-is a (s .pre .0 .lawful) (s .args .c) (s .pre .1 .0) (ps .result .now) (rs .result .now) (ps .ensures) (rs .ensures) (s .args .unit) (p .result) (p .ensures .0) (p .ensures .1)
+    λ held is.
+    position-is a (s .pre .0 .lawful) (s .args .c) (s .pre .1 .0) (ps .result .now) (rs .result .now) (ps .ensures) (rs .ensures) held (s .args .unit) (p .result) (p .ensures .0 held is) (p .ensures .1)
 
 pub position-at-spec : {M : Type 1} → statement M
 position-at-spec =

@@ -9,6 +9,7 @@ use lib.Dec.{lit≤}
 use lib.ListN.{getD}
 use Rattle.account.specs.Parts.{contractsOf}
 use Rattle.account.specs.Standing.{accountOf}
+use Rattle.margin.proofs.AcceptLaws.{rows-unrated}
 use Rattle.margin.proofs.StandLaws.{number-at, listed-at, own-number}
 use Rattle.margin.proofs.TierLaws.{tier-sizes, tier-is}
 use Rattle.margin.proofs.over.tier_at.Statement.{statement}
@@ -29,28 +30,36 @@ small c =
       own-number (accountOf m n) (s .pre .0 .lawful) (s .args .i) (listed-at m n (s .args .account) (s .pre .0) (s .args .i) (s .pre .1)),
     )
 
+no-rates-requires : tie.Need-no-rates-requires
+no-rates-requires c κs = search needs
+
 position-at-requires : tie.Need-position-at-requires
-position-at-requires c κs = (c .before .before .before .pre .0, (small c, lit≤ tt))
+position-at-requires c κs =
+    let s = c .before .before .before .before in
+    let k = c .before .contract-number .result in
+    let all = accountOf (s .args .morning .now) (s .args .noon .now) in
+    (s .pre .0, (small (c .before), (lit≤ tt, rows-unrated all (s .pre .0 .lawful) k (c .no-rates .result) (c .no-rates .ensures))))
 
 contract-net-requires : tie.Need-contract-net-requires
 contract-net-requires c κs =
-    let s = c .before .before .before .before .before in
+    let s = c .before .before .before .before .before .before in
     let p = c .before .position-at in
-    tier-sizes (accountOf (s .args .morning .now) (s .args .noon .now)) (s .pre .0 .lawful) (c .before .before .contract-number .result) (p .result) (p .ensures)
+    tier-sizes (accountOf (s .args .morning .now) (s .args .noon .now)) (s .pre .0 .lawful) (c .before .before .before .contract-number .result) (p .result)
+    (p .ensures [] (c .before .before .no-rates .ensures))
 
-cast-t9 : tie.Need-cast-t9
-cast-t9 c = omega (arith, small (c .before .before .before))
+cast-t10 : tie.Need-cast-t10
+cast-t10 c = omega (arith, small (c .before .before .before .before))
 
 returns : tie.Need-returns
 returns c =
-    let s = c .before .before .before .before .before .before in
+    let s = c .before .before .before .before .before .before .before in
     let m = s .args .morning .now in
     let n = s .args .noon .now in
-    let k = c .before .before .before .contract-number in
+    let k = c .before .before .before .before .contract-number in
     let p = c .before .before .position-at in
-    tier-is (accountOf m n) (s .pre .0 .lawful) (k .result) (p .result) (p .ensures) (getD (contractsOf (accountOf m n)) (s .args .i) []) (c .contract-net .result .0)
-    (number-at m n (s .args .account) (s .pre .0) (s .args .i) (s .pre .1) (k .result) (k .ensures)) (small (c .before .before .before)) (c .contract-net .ensures)
+    tier-is (accountOf m n) (s .pre .0 .lawful) (k .result) (p .result) (p .ensures [] (c .before .before .before .no-rates .ensures)) (getD (contractsOf (accountOf m n)) (s .args .i) []) (c .contract-net .result .0)
+    (number-at m n (s .args .account) (s .pre .0) (s .args .i) (s .pre .1) (k .result) (k .ensures)) (small (c .before .before .before .before)) (c .contract-net .ensures)
 
 pub tier-at-spec : {M : Type 1} → statement M
 tier-at-spec =
-    tie.close (tie.spec contract-number-requires position-at-requires contract-net-requires cast-t9 returns)
+    tie.close (tie.spec contract-number-requires no-rates-requires position-at-requires contract-net-requires cast-t10 returns)

@@ -6,7 +6,7 @@ use Rattle.margin.proofs.rows.flat.Statement.{statement}
 use Rattle.margin.proofs.rows.flat.Tie as tie
 
 returns : tie.Need-returns
-returns c = λ unit prompts few. nothing unit prompts _ few refl refl refl
+returns c = λ rates unit prompts few. nothing rates unit prompts _ few refl refl refl
 
 pub flat-spec : {M : Type 1} → statement M
 flat-spec = tie.close (tie.spec returns)

@@ -32,9 +32,12 @@ with-rows-requires c κs =
       (
         c .days-of .ensures .few,
         (
-          s .pre .1 .1,
-          wider 0 (128 - length (records (now (s .args .rows)))) (c .before .flat .result) (omega arith)
-              (bounded (s .args .unit) (s .pre .0) prompts [] (c .before .flat .result) no-rows (c .before .flat .ensures (s .args .unit) prompts few)),
+          s .pre .1 .1 .0,
+          (
+            s .pre .1 .1 .1,
+            wider 0 (128 - length (records (now (s .args .rows)))) (c .before .flat .result) (omega arith)
+                (bounded [] (s .args .unit) (s .pre .0) prompts [] (c .before .flat .result) no-rows (λ k h. absurd (not-suc-le-zero h)) (c .before .flat .ensures [] (s .args .unit) prompts few)),
+          ),
         ),
       ),
     )
@@ -45,7 +48,7 @@ returns c =
     let prompts = records (now (s .args .prompts)) in
     let known = c .before .days-of .ensures in
     let few : length prompts ≤ 32 = omega (arith, known .few, known .count-is) in (
-      c .with-rows .ensures .1 .0 prompts [] known (c .before .before .flat .ensures (s .args .unit) prompts few),
+      λ held is. c .with-rows .ensures .1 .0 held prompts [] is known (c .before .before .flat .ensures held (s .args .unit) prompts few),
       c .with-rows .ensures .1 .1,
     )
 

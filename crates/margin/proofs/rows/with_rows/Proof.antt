@@ -1,18 +1,20 @@
 -- `with_rows`: before row i, what is added by the rows before it; within a row, by the prompts before j.
 -- Assumes nothing.
 use mathlib.Core.Path.{_≡_, sym, _∙_, ap, subst}
-use mathlib.Core.List.{List}
-use Prim.Native.Nat.{ℕ, _+_, _-_, _*_, _/_, _≤_, _<_}
+use mathlib.Core.List.{List, [], _∷_}
+use Prim.Native.Nat.{ℕ, zero, suc, _+_, _-_, _*_, _/_, _≤_, _<_}
 use native.Mathlib.Omega.{arith}
 use lib.IntN.{ℤ, pos, natAbs, _+ℤ_}
 use lib.ListN.{length, getD, take, drop}
 use denote.Ref.{now}
 use borrow.Author.Needs.{needs}
 use Rattle.record.specs.Layout.{Record, day}
+use Rattle.account.specs.Products.{RatesOf}
 use Rattle.account.specs.Records.{records}
+use Rattle.account.specs.declared.rates.Rates.{Rates}
 use Rattle.margin.specs.declared.rows.Position.{Position}
 use Rattle.margin.specs.Deltas.{rowDelta}
-use Rattle.margin.specs.Position.{RowFit, Added, WithRows, Bounded, addsOn, deltasIn}
+use Rattle.margin.specs.Position.{RowFit, RowRated, RatedBy, Added, WithRows, Bounded, addsOn, deltasIn}
 use Rattle.margin.proofs.AddedLaws as adding
 use Rattle.margin.proofs.RecordLaws.{count-is, record-at}
 use Rattle.margin.proofs.PositionLaws.{joined}
@@ -24,24 +26,33 @@ use Rattle.margin.proofs.rows.with_rows.Tie as tie
 most : {n : ℕ} (p : Position) → Bounded n p → Most n (p .totals .0) (deltasIn (p .nets)) (p .shorts)
 most p b = record { totals-most = b .totals-most; nets-most = b .nets-most; shorts-most = b .shorts-most }
 
+-- the one row of a list
+one-rated : (t : Rates) (rates : List Record) (row : Record) → RatesOf rates t → RowRated rates row → RatedBy t (row ∷ [])
+one-rated t rates row held is = record { rates = rates; held = held; each = λ k h. only k h }
+  where
+    only : (k : ℕ) → k < 1 → RowRated rates (getD (row ∷ []) k [])
+    only zero h = is
+    only (suc k) h = absurd (omega arith)
+
 abbrev Inv-loop2 : tie.InvT-loop2
-Inv-loop2 unit rows days count prompts totals nets₀ shorts i at of-row more j₀ nets j =
+Inv-loop2 rates unit rows days count prompts totals nets₀ shorts i at of-row more j₀ nets j =
     (j ≤ days .count) × Added j (addsOn (days .day) of-row (more .0)) (deltasIn nets₀) (deltasIn nets)
 
 abbrev μ-loop2 : tie.MeasureT-loop2
-μ-loop2 unit rows days count prompts totals nets₀ shorts i at of-row more j₀ nets j = days .count - j
+μ-loop2 rates unit rows days count prompts totals nets₀ shorts i at of-row more j₀ nets j = days .count - j
 
 abbrev Inv-loop : tie.InvT-loop
-Inv-loop unit rows days count prompts totals₀ nets₀ shorts₀ i₀ totals nets shorts i =
-    SoFar unit (records rows) (days .count) (days .day) (totals₀ .0) (deltasIn nets₀) shorts₀ i (totals .0) (deltasIn nets) shorts
+Inv-loop rates unit rows days count prompts totals₀ nets₀ shorts₀ i₀ totals nets shorts i =
+    (held : List Record) → RatesOf held rates
+    → SoFar held unit (records rows) (days .count) (days .day) (totals₀ .0) (deltasIn nets₀) shorts₀ i (totals .0) (deltasIn nets) shorts
 
 abbrev μ-loop : tie.MeasureT-loop
-μ-loop unit rows days count prompts totals₀ nets₀ shorts₀ i₀ totals nets shorts i = length rows / 96 - i
+μ-loop rates unit rows days count prompts totals₀ nets₀ shorts₀ i₀ totals nets shorts i = length rows / 96 - i
 
 loop-holds : tie.Need-loop-holds Inv-loop2 μ-loop2 Inv-loop μ-loop
 loop-holds c =
     let s = c .before .before .before in
-    start (s .args .unit) (records (now (s .args .rows))) (s .args .t2 .count) (s .args .t2 .day) (s .args .p .totals .0) (deltasIn (s .args .p .nets)) (s .args .p .shorts)
+    λ held is. start held (s .args .unit) (records (now (s .args .rows))) (s .args .t2 .count) (s .args .t2 .day) (s .args .p .totals .0) (deltasIn (s .args .p .nets)) (s .args .p .shorts)
 
 -- at the head of a turn: the row is within its ranges, and there is room for it
 row-within : (c : tie.In-loop Inv-loop2 μ-loop2 Inv-loop μ-loop) → RowFit (take (c .before .loop .i * 96 + 96 - c .before .loop .i * 96) (drop (c .before .loop .i * 96) (now (c .before .before .before .before .before .args .rows))))
@@ -51,14 +62,26 @@ row-within c =
     let more : c .before .loop .i < length file / 96 = c .loop-test .taken in
     subst (λ (row : Record). RowFit row) (record-at file (c .before .loop .i) more) (s .pre .1 .1 .0 .each (c .before .loop .i) (omega (arith, count-is file)))
 
+row-rated : (c : tie.In-loop Inv-loop2 μ-loop2 Inv-loop μ-loop)
+    → RatedBy (c .before .before .before .before .before .args .rates) (take (c .before .loop .i * 96 + 96 - c .before .loop .i * 96) (drop (c .before .loop .i * 96) (now (c .before .before .before .before .before .args .rows))) ∷ [])
+row-rated c =
+    let s = c .before .before .before .before .before in
+    let file = now (s .args .rows) in
+    let by = s .pre .1 .1 .1 .0 in
+    let more : c .before .loop .i < length file / 96 = c .loop-test .taken in
+    one-rated (s .args .rates) (by .rates) _ (by .held)
+    (subst (λ (row : Record). RowRated (by .rates) row) (record-at file (c .before .loop .i) more) (by .each (c .before .loop .i) (omega (arith, count-is file))))
+
 has-room : (c : tie.In-loop Inv-loop2 μ-loop2 Inv-loop μ-loop) → Most 127 (c .before .loop .totals .0) (deltasIn (c .before .loop .nets)) (c .before .loop .shorts)
 has-room c =
     let s = c .before .before .before .before .before in
     let i = c .before .loop in
     let file = now (s .args .rows) in
     let more : i .i < length file / 96 = c .loop-test .taken in
-    room (s .args .unit) (s .pre .0) (records file) (s .args .t2 .count) (s .args .t2 .day) (s .args .p .totals .0) (deltasIn (s .args .p .nets)) (s .args .p .shorts)
-    (s .pre .1 .1 .0) (most (s .args .p) (s .pre .1 .1 .1)) (i .i) 127 (i .totals .0) (deltasIn (i .nets)) (i .shorts) (i .inv) (omega (arith, count-is file, s .pre .1 .1 .0 .few))
+    let by = s .pre .1 .1 .1 .0 in
+    room (by .rates) (s .args .unit) (s .pre .0) (records file) (s .args .t2 .count) (s .args .t2 .day) (s .args .p .totals .0) (deltasIn (s .args .p .nets)) (s .args .p .shorts)
+    (s .pre .1 .1 .0) (by .each) (most (s .args .p) (s .pre .1 .1 .1 .1)) (i .i) 127 (i .totals .0) (deltasIn (i .nets)) (i .shorts) (i .inv (by .rates) (by .held))
+    (omega (arith, count-is file, s .pre .1 .1 .0 .few))
 
 mul-at : tie.Need-mul-at Inv-loop2 μ-loop2 Inv-loop μ-loop
 mul-at c = omega arith
@@ -77,7 +100,7 @@ part-row-end c = search needs
 
 totals-with-requires : tie.Need-totals-with-requires Inv-loop2 μ-loop2 Inv-loop μ-loop
 totals-with-requires c κs =
-    (c .before .before .before .before .before .before .pre .0, (row-within (c .before), has-room (c .before) .totals-most))
+    (c .before .before .before .before .before .before .pre .0, (row-within (c .before), (row-rated (c .before), has-room (c .before) .totals-most)))
 
 short-options-requires : tie.Need-short-options-requires Inv-loop2 μ-loop2 Inv-loop μ-loop
 short-options-requires c κs = tt
@@ -162,10 +185,11 @@ loop-again c =
     let turn : i .i < length file / 96 = c .before .before .before .before .before .before .before .loop-test .taken in
     let row = take (i .i * 96 + 96 - i .i * 96) (drop (i .i * 96) file) in
     let all : k .j ≡ s .args .t2 .count = omega arith in
-    next (s .args .unit) (records file) (s .args .t2 .count) days (s .args .p .totals .0) (deltasIn (s .args .p .nets)) (s .args .p .shorts)
+    λ held is.
+    next held (s .args .unit) (records file) (s .args .t2 .count) days (s .args .p .totals .0) (deltasIn (s .args .p .nets)) (s .args .p .shorts)
     (i .i) (i .totals .0) (deltasIn (i .nets)) (c .before .before .before .before .before .totals-with .result .0) (deltasIn (k .nets)) (i .shorts) _ row
-    (i .inv) (omega (arith, count-is file)) (record-at file (i .i) turn)
-    (c .before .before .before .before .before .totals-with .ensures)
+    (i .inv held is) (omega (arith, count-is file)) (record-at file (i .i) turn)
+    (c .before .before .before .before .before .totals-with .ensures held is)
     (subst (λ (n : ℕ). Added n (addsOn days (day row) (rowDelta row)) (deltasIn (i .nets)) (deltasIn (k .nets))) all
     (subst (λ (d : ℕ). Added (k .j) (addsOn days d (rowDelta row)) (deltasIn (i .nets)) (deltasIn (k .nets))) (c .before .before .before .day .ensures .0)
     (subst (λ (z : ℤ). Added (k .j) (addsOn days (c .before .before .before .day .result) z) (deltasIn (i .nets)) (deltasIn (k .nets))) (c .before .before .row-delta .ensures .is)
@@ -179,15 +203,20 @@ returns c =
     let file = now (s .args .rows) in
     let count = s .args .t2 .count in
     let days = s .args .t2 .day in
-    let all = finish (s .args .unit) (records file) count days (s .args .p .totals .0) (deltasIn (s .args .p .nets)) (s .args .p .shorts) (i .i) (i .totals .0) (deltasIn (i .nets)) (i .shorts) (omega (arith, count-is file, c .loop-test .left)) (i .inv) in
+    let by = s .pre .1 .1 .1 .0 in
+    let q : Position = record { totals = i .totals; nets = i .nets; shorts = i .shorts } in
     let last =
-    room (s .args .unit) (s .pre .0) (records file) count days (s .args .p .totals .0) (deltasIn (s .args .p .nets)) (s .args .p .shorts)
-    (s .pre .1 .1 .0) (most (s .args .p) (s .pre .1 .1 .1)) (i .i) 128 (i .totals .0) (deltasIn (i .nets)) (i .shorts) (i .inv) (omega (arith, i .inv .passed, s .pre .1 .1 .0 .few)) in
-    let added : WithRows (s .args .unit) (s .args .t2) (s .args .p) (records file) (record { totals = i .totals; nets = i .nets; shorts = i .shorts }) =
+    room (by .rates) (s .args .unit) (s .pre .0) (records file) count days (s .args .p .totals .0) (deltasIn (s .args .p .nets)) (s .args .p .shorts)
+    (s .pre .1 .1 .0) (by .each) (most (s .args .p) (s .pre .1 .1 .1 .1)) (i .i) 128 (i .totals .0) (deltasIn (i .nets)) (i .shorts) (i .inv (by .rates) (by .held))
+    (omega (arith, i .inv (by .rates) (by .held) .passed, s .pre .1 .1 .0 .few)) in
+    let added : (held : List Record) → RatesOf held (s .args .rates) → WithRows held (s .args .unit) (s .args .t2) (s .args .p) (records file) q =
+    λ held is.
+    let all = finish held (s .args .unit) (records file) count days (s .args .p .totals .0) (deltasIn (s .args .p .nets)) (s .args .p .shorts) (i .i) (i .totals .0) (deltasIn (i .nets)) (i .shorts)
+    (omega (arith, count-is file, c .loop-test .left)) (i .inv held is) in
     record { totals-added = all .0; nets-added = all .1 .0; shorts-added = all .1 .1 } in (
       added,
       (
-        λ prompts earlier known is. joined (s .args .unit) prompts earlier (records file) (s .args .t2) (s .args .p) (record { totals = i .totals; nets = i .nets; shorts = i .shorts }) known is added,
+        λ held prompts earlier rated known is. joined held (s .args .unit) prompts earlier (records file) (s .args .t2) (s .args .p) q known is (added held rated),
         record { totals-most = last .totals-most; nets-most = last .nets-most; shorts-most = last .shorts-most },
       ),
     )

@@ -20,6 +20,12 @@ row-type-requires c κs = tt
 beyond-requires : tie.Need-beyond-requires
 beyond-requires c κs = tt
 
+currency-requires : tie.Need-currency-requires
+currency-requires c κs = tt
+
+beyond-requires-2 : tie.Need-beyond-requires-2
+beyond-requires-2 c κs = tt
+
 day-requires : tie.Need-day-requires
 day-requires c κs = tt
 
@@ -41,17 +47,27 @@ no-delta-requires c κs = tt
 value-requires : tie.Need-value-requires
 value-requires c κs = tt
 
-beyond-requires-2 : tie.Need-beyond-requires-2
-beyond-requires-2 c κs = tt
+beyond-requires-3 : tie.Need-beyond-requires-3
+beyond-requires-3 c κs = tt
 
 no-losses-requires : tie.Need-no-losses-requires
 no-losses-requires c κs = tt
 
 returns : tie.Need-returns
-returns c = both
-    (c .before .before .before .before .before .before .before .before .before .before .before .no-contract .ensures
-    ∙ ap (beyond contractRange)
-    (c .before .before .before .before .before .before .before .before .before .before .before .before .contract .ensures .0)) (both (c .before .before .before .before .before .before .before .before .before .beyond .ensures ∙ ap (beyond (plain 0 2)) (c .before .before .before .before .before .before .before .before .before .before .row-type .ensures .0)) (both (c .before .before .before .before .before .before .before .no-day .ensures ∙ ap (beyond dayRange) (c .before .before .before .before .before .before .before .before .day .ensures .0)) (both (c .before .before .before .before .before .before .no-strike .ensures) (both (c .before .before .before .before .too-many .ensures ∙ ap (beyond hundredThousands) (c .before .before .before .before .before .u32-at .ensures .0)) (both (c .before .before .before .no-delta .ensures) (both (c .before .beyond2 .ensures ∙ ap (beyond valueRange) (c .before .before .value .ensures .0)) (c .no-losses .ensures)))))))
+returns c =
+    let lots = c .before .before .before .before in
+    let day = c .before .before .before .before .before .before .before in
+    let currency = c .before .before .before .before .before .before .before .before .before in
+    let type = currency .before .before in
+    let contract = type .before .before in
+    both (contract .no-contract .ensures ∙ ap (beyond contractRange) (contract .before .contract .ensures .0))
+    (both (type .beyond .ensures ∙ ap (beyond (plain 0 2)) (type .before .row-type .ensures .0))
+    (both (currency .beyond2 .ensures ∙ ap (beyond (plain 0 7)) (currency .before .currency .ensures .0))
+    (both (day .no-day .ensures ∙ ap (beyond dayRange) (day .before .day .ensures .0))
+    (both (c .before .before .before .before .before .before .no-strike .ensures)
+    (both (lots .too-many .ensures ∙ ap (beyond hundredThousands) (lots .before .u32-at .ensures .0))
+    (both (c .before .before .before .no-delta .ensures)
+    (both (c .before .beyond3 .ensures ∙ ap (beyond valueRange) (c .before .before .value .ensures .0)) (c .no-losses .ensures))))))))
 
 pub in-row-spec : {M : Type 1} → statement M
 in-row-spec =
@@ -61,6 +77,8 @@ in-row-spec =
     no-contract-requires
     row-type-requires
     beyond-requires
+    currency-requires
+    beyond-requires-2
     day-requires
     no-day-requires
     no-strike-requires
@@ -68,6 +86,6 @@ in-row-spec =
     too-many-requires
     no-delta-requires
     value-requires
-    beyond-requires-2
+    beyond-requires-3
     no-losses-requires
     returns)

@@ -3,7 +3,7 @@ use mathlib.Core.Path.{sym, ap, _∙_}
 use mathlib.Core.List.{List}
 use Rattle.record.specs.Bytes.{Field}
 use Rattle.record.specs.Ranges.{outsideAmong}
-use Rattle.record.proofs.Dispatch.{of-contract, of-prompt, of-row, of-spread, of-entry, of-none}
+use Rattle.record.proofs.Dispatch.{of-contract, of-prompt, of-row, of-spread, of-entry, of-rate, of-none}
 use Rattle.record.proofs.refusals.field_outside.Statement.{statement}
 use Rattle.record.proofs.refusals.field_outside.Tie as tie
 
@@ -61,16 +61,24 @@ returns-5 c =
     (of-entry r (sym (c .before .before .before .before .before .before .kind .ensures .0)
     ∙ c .before .if5 .taken)))
 
+in-rate-requires : tie.Need-in-rate-requires
+in-rate-requires c κs = tt
+
 returns-6 : tie.Need-returns-6
 returns-6 c =
-    let r = c .before .before .before .before .before .before .before .args .r .now in
-    ap (λ (fs : List Field). outsideAmong fs r) (sym
-    (of-none r (λ e. c .before .before .before .before .if1 .left
-    (c .before .before .before .before .before .kind .ensures .0 ∙ e))
-    (λ e. c .before .before .before .if2 .left (c .before .before .before .before .before .kind .ensures .0 ∙ e))
-    (λ e. c .before .before .if3 .left (c .before .before .before .before .before .kind .ensures .0 ∙ e))
-    (λ e. c .before .if4 .left (c .before .before .before .before .before .kind .ensures .0 ∙ e))
-    (λ e. c .if5 .left (c .before .before .before .before .before .kind .ensures .0 ∙ e))))
+    let r = c .before .before .before .before .before .before .before .before .before .args .r .now in
+    c .in-rate .ensures
+    ∙ ap (λ (fs : List Field). outsideAmong fs r) (sym
+    (of-rate r (sym (c .before .before .before .before .before .before .before .kind .ensures .0) ∙ c .before .if6 .taken)))
+
+returns-7 : tie.Need-returns-7
+returns-7 c =
+    let r = c .before .before .before .before .before .before .before .before .args .r .now in
+    let kind = c .before .before .before .before .before .before .kind .ensures .0 in
+    ap (λ (fs : List Field). outsideAmong fs r)
+    (sym (of-none r (λ e. c .before .before .before .before .before .if1 .left (kind ∙ e)) (λ e. c .before .before .before .before .if2 .left (kind ∙ e))
+    (λ e. c .before .before .before .if3 .left (kind ∙ e)) (λ e. c .before .before .if4 .left (kind ∙ e))
+    (λ e. c .before .if5 .left (kind ∙ e)) (λ e. c .if6 .left (kind ∙ e))))
 
 pub field-outside-spec : {M : Type 1} → statement M
 field-outside-spec =
@@ -87,4 +95,6 @@ field-outside-spec =
     returns-4
     in-entry-requires
     returns-5
-    returns-6)
+    in-rate-requires
+    returns-6
+    returns-7)

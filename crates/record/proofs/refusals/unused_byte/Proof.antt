@@ -3,7 +3,7 @@ use mathlib.Core.Path.{sym, ap, _∙_}
 use mathlib.Core.List.{List}
 use Rattle.record.specs.Bytes.{Field}
 use Rattle.record.specs.Ranges.{unusedBeside}
-use Rattle.record.proofs.Dispatch.{of-contract, of-prompt, of-row, of-spread, of-entry, of-none}
+use Rattle.record.proofs.Dispatch.{of-contract, of-prompt, of-row, of-spread, of-entry, of-rate, of-none}
 use Rattle.record.proofs.refusals.unused_byte.Statement.{statement}
 use Rattle.record.proofs.refusals.unused_byte.Tie as tie
 
@@ -61,21 +61,27 @@ returns-5 c =
     (of-entry r (sym (c .before .before .before .before .before .before .kind .ensures .0)
     ∙ c .before .if5 .taken)))
 
-beside-none-requires : tie.Need-beside-none-requires
-beside-none-requires c κs = tt
+beside-rate-requires : tie.Need-beside-rate-requires
+beside-rate-requires c κs = tt
 
 returns-6 : tie.Need-returns-6
 returns-6 c =
-    let r = c .before .before .before .before .before .before .before .before .args .r .now in
+    let r = c .before .before .before .before .before .before .before .before .before .args .r .now in
+    c .beside-rate .ensures
+    ∙ ap (λ (fs : List Field). unusedBeside fs r) (sym
+    (of-rate r (sym (c .before .before .before .before .before .before .before .kind .ensures .0) ∙ c .before .if6 .taken)))
+
+beside-none-requires : tie.Need-beside-none-requires
+beside-none-requires c κs = tt
+
+returns-7 : tie.Need-returns-7
+returns-7 c =
+    let r = c .before .before .before .before .before .before .before .before .before .args .r .now in
+    let kind = c .before .before .before .before .before .before .before .kind .ensures .0 in
     c .beside-none .ensures ∙ ap (λ (fs : List Field). unusedBeside fs r)
-    (sym (of-none r (λ e. c .before .before .before .before .before .if1 .left
-    (c .before .before .before .before .before .before .kind .ensures .0 ∙ e))
-    (λ e. c .before .before .before .before .if2 .left
-    (c .before .before .before .before .before .before .kind .ensures .0 ∙ e))
-    (λ e. c .before .before .before .if3 .left
-    (c .before .before .before .before .before .before .kind .ensures .0 ∙ e))
-    (λ e. c .before .before .if4 .left (c .before .before .before .before .before .before .kind .ensures .0 ∙ e))
-    (λ e. c .before .if5 .left (c .before .before .before .before .before .before .kind .ensures .0 ∙ e))))
+    (sym (of-none r (λ e. c .before .before .before .before .before .before .if1 .left (kind ∙ e)) (λ e. c .before .before .before .before .before .if2 .left (kind ∙ e))
+    (λ e. c .before .before .before .before .if3 .left (kind ∙ e)) (λ e. c .before .before .before .if4 .left (kind ∙ e))
+    (λ e. c .before .before .if5 .left (kind ∙ e)) (λ e. c .before .if6 .left (kind ∙ e))))
 
 pub unused-byte-spec : {M : Type 1} → statement M
 unused-byte-spec =
@@ -92,5 +98,7 @@ unused-byte-spec =
     returns-4
     beside-entry-requires
     returns-5
+    beside-rate-requires
+    returns-6
     beside-none-requires
-    returns-6)
+    returns-7)

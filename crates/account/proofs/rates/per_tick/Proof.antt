@@ -5,10 +5,10 @@ use native.Mathlib.Omega.{arith}
 use lib.IntN.{pos}
 use denote.Ref.{now}
 use borrow.Author.Needs.{needs}
+use Rattle.exact.proofs.SignedCalls.{times-fits, times-is, sized-back}
 use Rattle.record.specs.Layout.{lots, value}
-use Rattle.margin.proofs.SignedCalls.{times-fits, times-is, sized-back}
-use Rattle.margin.proofs.rows.per_tick.Statement.{statement}
-use Rattle.margin.proofs.rows.per_tick.Tie as tie
+use Rattle.account.proofs.rates.per_tick.Statement.{statement}
+use Rattle.account.proofs.rates.per_tick.Tie as tie
 
 lots-requires : tie.Need-lots-requires
 lots-requires c κs = search needs
@@ -25,7 +25,7 @@ times-requires c κs =
     times-fits (c .before .before .lots .result) (c .as-signed .result) (lots (now (s .args .row))) (pos (value (now (s .args .row)))) 100000 10000
     (record { sfits = c .before .before .lots .ok }) (record { sfits = c .as-signed .ok })
     (c .before .before .lots .ensures) (c .as-signed .ensures ∙ ap pos (c .before .value .ensures .0))
-    (s .pre .lots-within) (s .pre .value-within) (omega arith)
+    (s .pre .0) (s .pre .1) (omega arith)
 
 returns : tie.Need-returns
 returns c =
@@ -34,7 +34,7 @@ returns c =
     (times-is (c .before .before .before .lots .result) (c .before .as-signed .result) (lots (now (s .args .row))) (pos (value (now (s .args .row)))) 100000 10000
     (record { sfits = c .before .before .before .lots .ok }) (record { sfits = c .before .as-signed .ok })
     (c .before .before .before .lots .ensures) (c .before .as-signed .ensures ∙ ap pos (c .before .before .value .ensures .0))
-    (s .pre .lots-within) (s .pre .value-within) (c .times .result) (c .times .ensures))
+    (s .pre .0) (s .pre .1) (c .times .result) (c .times .ensures))
 
 pub per-tick-spec : {M : Type 1} → statement M
 per-tick-spec =

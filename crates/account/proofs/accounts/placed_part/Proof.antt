@@ -7,8 +7,8 @@ use borrow.Author.Needs.{needs}
 use Rattle.account.specs.Records.{stretch}
 use Rattle.account.specs.Standing.{accountOf}
 use Rattle.account.proofs.Standing.{part-past, part-stands}
-use Rattle.account.proofs.accounts.part.Statement.{statement}
-use Rattle.account.proofs.accounts.part.Tie as tie
+use Rattle.account.proofs.accounts.placed_part.Statement.{statement}
+use Rattle.account.proofs.accounts.placed_part.Tie as tie
 
 slice-aggregate-result : tie.Need-slice-aggregate-result
 slice-aggregate-result c = search needs
@@ -52,8 +52,8 @@ returns-2 c =
     _ refl (c .stretch .result .now)
     (c .stretch .ensures ∙ ap (λ f. stretch f (getD (s .args .t3 .first) (s .args .v) 0) (getD (s .args .t3 .counts) (s .args .v) 0)) (c .before .before .before .supplier .ensures))
 
-pub part-spec : {M : Type 1} → statement M
-part-spec =
+pub placed-part-spec : {M : Type 1} → statement M
+placed-part-spec =
     tie.close
     (tie.spec
     slice-aggregate-result

@@ -1,0 +1,139 @@
+-- `own_totals_with`: each turn adds one product.
+-- Assumes nothing.
+use mathlib.Core.Path.{_≡_, refl, _∙_, ap, ap₂, subst}
+use Prim.Native.Nat.{ℕ, _+_, _-_, _*_, _≤_}
+use native.Mathlib.Omega.{arith}
+use lib.IntN.{ℤ, pos, natAbs, _*ℤ_}
+use lib.ListN.{getD}
+use denote.Ref.{now}
+use borrow.Author.Needs.{needs}
+use Rattle.record.specs.Layout.{lots, value, loss}
+use mir.Syntax.{w64}
+use mir.Val.{toZ, ofZ}
+use Rattle.exact.specs.Rounding.{halfAwayTo}
+use Rattle.exact.proofs.Integers.{back, sfits-abs}
+use Rattle.margin.specs.Bounds.{mostProduct}
+use Rattle.margin.specs.Position.{Sized, Added, ownProducts}
+use Rattle.margin.proofs.SignedCalls.{plus-fits, plus-is}
+use Rattle.margin.proofs.AddedLaws.{start, next}
+use Rattle.margin.proofs.rows.own_totals_with.Statement.{statement}
+use Rattle.margin.proofs.rows.own_totals_with.Tie as tie
+
+abbrev Inv-loop : tie.InvT-loop
+Inv-loop unit row each totals₀ s₀ totals s = (s ≤ 16) × Added s (ownProducts unit row) totals₀ totals
+
+abbrev μ-loop : tie.MeasureT-loop
+μ-loop unit row each totals₀ s₀ totals s = 16 - s
+
+per-tick-requires : tie.Need-per-tick-requires Inv-loop μ-loop
+per-tick-requires c κs = let w = c .before .pre .1 .0 in (w .lots-within, w .value-within)
+
+loop-holds : tie.Need-loop-holds Inv-loop μ-loop
+loop-holds c = let s = c .before .before .before in (omega arith, start (ownProducts (s .args .unit) (now (s .args .row))) (s .args .t .0))
+
+add-loss : tie.Need-add-loss Inv-loop μ-loop
+add-loss c = omega arith
+
+loss-requires : tie.Need-loss-requires Inv-loop μ-loop
+loss-requires c κs = search needs
+
+-- what the row loses for each tick, and in the scenario
+tick-is : (c : tie.After-loss Inv-loop μ-loop) →
+    let row = now (c .before .before .before .before .before .before .args .row) in
+    toZ w64 (ofZ w64 (c .before .before .before .before .per-tick .result)) ≡ lots row *ℤ pos (value row)
+tick-is c = let tick = c .before .before .before .before .per-tick in back (tick .result) (record { sfits = tick .ok }) ∙ tick .ensures .is
+
+loss-is : (c : tie.After-loss Inv-loop μ-loop) →
+    let row = now (c .before .before .before .before .before .before .args .row) in
+    toZ w64 (ofZ w64 (c .loss .result)) ≡ loss row (c .before .before .loop .s + 1)
+loss-is c = back (c .loss .result) (record { sfits = c .loss .ok }) ∙ c .loss .ensures
+
+product-requires : tie.Need-product-requires Inv-loop μ-loop
+product-requires c κs =
+    let s = c .before .before .before .before .before .before in
+    let tick = c .before .before .before .before .per-tick in (
+      omega (arith, ap natAbs (back (tick .result) (record { sfits = tick .ok })), tick .ensures .size),
+      omega (arith, ap natAbs (loss-is c), s .pre .1 .0 .loss-within (c .before .before .loop .s + 1) (omega arith) (omega arith)),
+      s .pre .0,
+    )
+
+-- what the call of `product` left
+multiplied : (c : tie.After-product Inv-loop μ-loop) →
+    let s = c .before .before .before .before .before .before .before in
+    Sized mostProduct (ownProducts (s .args .unit) (now (s .args .row)) (c .before .before .before .loop .s)) (c .product .result)
+multiplied c =
+    let s = c .before .before .before .before .before .before .before in
+    let e = c .product .ensures in
+    record {
+      is = e .is ∙ ap₂ (λ (x y : ℤ). halfAwayTo (x *ℤ y) (s .args .unit)) (tick-is (c .before)) (loss-is (c .before));
+      size = e .size;
+    }
+
+mul-plus : tie.Need-mul-plus Inv-loop μ-loop
+mul-plus c = omega arith
+
+array-copy-out-plus : tie.Need-array-copy-out-plus Inv-loop μ-loop
+array-copy-out-plus c = omega arith
+
+plus-requires : tie.Need-plus-requires Inv-loop μ-loop
+plus-requires c κs =
+    let i = c .before .before .before .before .loop in
+    let ts = c .before .before .before .before .before .before .before .before .args .t .0 in
+    let here : natAbs (getD ts (i .s) (pos 0)) ≤ 127 * mostProduct = c .before .before .before .before .before .before .before .before .pre .1 .1 .size (i .s) (omega arith) in
+    let by = multiplied (c .before) in
+    let same : getD (i .totals) (i .s) (pos 0) ≡ getD ts (i .s) (pos 0) = i .inv .1 .others (i .s) (omega arith) in
+    plus-fits (getD (i .totals) (i .s) (pos 0)) (c .before .product .result) (getD ts (i .s) (pos 0)) (c .before .product .result) (127 * mostProduct) mostProduct
+    (sfits-abs (getD (i .totals) (i .s) (pos 0)) (omega (arith, ap natAbs same))) (record { sfits = c .before .product .ok })
+    same refl here (by .size) (omega arith)
+
+mul-totals : tie.Need-mul-totals Inv-loop μ-loop
+mul-totals c = omega arith
+
+array-set-from-totals : tie.Need-array-set-from-totals Inv-loop μ-loop
+array-set-from-totals c = omega arith
+
+add-s : tie.Need-add-s Inv-loop μ-loop
+add-s c = omega arith
+
+loop-less : tie.Need-loop-less Inv-loop μ-loop
+loop-less c = omega arith
+
+loop-again : tie.Need-loop-again Inv-loop μ-loop
+loop-again c =
+    let i = c .before .before .before .before .before .loop in
+    let s = c .before .before .before .before .before .before .before .before .before in
+    let ts = s .args .t .0 in
+    let here : natAbs (getD ts (i .s) (pos 0)) ≤ 127 * mostProduct = s .pre .1 .1 .size (i .s) (omega arith) in
+    let by = multiplied (c .before .before) in
+    let same : getD (i .totals) (i .s) (pos 0) ≡ getD ts (i .s) (pos 0) = i .inv .1 .others (i .s) (omega arith) in
+    let sum = plus-is (getD (i .totals) (i .s) (pos 0)) (c .before .before .product .result) (getD ts (i .s) (pos 0)) (ownProducts (s .args .unit) (now (s .args .row)) (i .s)) (127 * mostProduct) mostProduct
+    (sfits-abs (getD (i .totals) (i .s) (pos 0)) (omega (arith, ap natAbs same))) (record { sfits = c .before .before .product .ok })
+    same (by .is) here (subst (λ (z : ℤ). natAbs z ≤ mostProduct) (by .is) (by .size)) (c .plus .result) (c .plus .ensures) in
+    (omega arith, next (i .s) (ownProducts (s .args .unit) (now (s .args .row))) ts (i .totals) (toZ w64 (ofZ w64 (c .plus .result))) (i .inv .1) (omega (arith, s .pre .1 .1 .as-many)) (back (c .plus .result) (record { sfits = c .plus .ok }) ∙ sum .is))
+
+returns : tie.Need-returns Inv-loop μ-loop
+returns c =
+    let i = c .before .loop in
+    let s = c .before .before .before .before .before in
+    subst (λ (n : ℕ). Added n (ownProducts (s .args .unit) (now (s .args .row))) (s .args .t .0) (i .totals)) (omega arith) (i .inv .1)
+
+pub own-totals-with-spec : {M : Type 1} → statement M
+own-totals-with-spec =
+    tie.close
+    (tie.spec
+    Inv-loop
+    μ-loop
+    per-tick-requires
+    loop-holds
+    add-loss
+    loss-requires
+    product-requires
+    mul-plus
+    array-copy-out-plus
+    plus-requires
+    mul-totals
+    array-set-from-totals
+    add-s
+    loop-less
+    loop-again
+    returns)

@@ -26,6 +26,8 @@ use Rattle.margin.proofs.Touched.{file-touched, pair-touched}
 use Rattle.margin.proofs.Unpaired.{file-unpaired, pair-unpaired}
 use Rattle.runs.proofs.Claims.{claims as run-claims}
 use Rattle.committee.proofs.Claims.{claims as committee-claims}
+use Rattle.statements.proofs.Apart.{can-be-met, not-the-margin}
+use Rattle.statements.proofs.Stated.{statements}
 use Rattle.felgotany.specs.Roof.{OneFile, TwoFiles, Equations, OneOutcome, Roof}
 use Rattle.felgotany.proofs.Told.{one-told, all-told, one-told-of, all-told-of, one-call, one-place, one-list, one-pair-list}
 
@@ -91,6 +93,9 @@ roof =
       pairTable = pair-table;
       fractions = fractions;
       units = units;
+      statements = statements;
+      canBeMet = can-be-met;
+      notTheMargin = not-the-margin;
       equations = record { result = λ x r s. one-result x r s; outcome = λ x r s y after after′. one-outcome x r s y after after′ };
       oneOutcome = one-outcomes;
     }

@@ -59,6 +59,8 @@ use Rattle.questions.specs.declared.noon.AskedPair.{AskedPair}
 use Rattle.questions.specs.declared.noon.Call.{Call}
 use Rattle.runs.specs.Claims.{Claims as RunClaims}
 use Rattle.committee.specs.Claims.{Claims as CommitteeClaims}
+use Rattle.statements.specs.Apart.{CanBeMet, NotTheMargin}
+use Rattle.statements.specs.Statements.{Statements}
 use Rattle.felgotany.specs.Outcomes.{Tells, TellsOf, TellsCall, TellsPlace, TellsList, TellsPairList}
 use Rattle.felgotany.specs.declared.CallOutcome.{CallOutcome}
 use Rattle.felgotany.specs.declared.ListOutcome.{ListOutcome}
@@ -166,5 +168,9 @@ pub record Roof : Type 1 where
   pub fractions : Fractions
   -- 2026-09: "The rounding is to be proved once for all units."
   pub units : Units
+  -- 2026-13: "Two things clients ask us to state."
+  pub statements : Statements
+  pub canBeMet : CanBeMet
+  pub notTheMargin : NotTheMargin
   pub equations : Equations
   pub oneOutcome : OneOutcome

@@ -1,0 +1,4 @@
+pub mod Orders
+pub mod Risks
+pub mod Stated
+pub mod Apart

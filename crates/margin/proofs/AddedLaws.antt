@@ -8,8 +8,8 @@ use native.Mathlib.Nat.{not-suc-le-zero, le-trans}
 use native.Mathlib.Omega.{arith}
 use lib.Dec.{ltb}
 use lib.IntN.{ℤ, pos, natAbs, _+ℤ_, +ℤ-idr, +ℤ-assoc}
-use lib.ListN.{length, getD, set, length-set, List·getD-map}
-use lib.Seq.{getD-set-same, getD-set-other}
+use lib.ListN.{length, getD, set, length-set, length-map, List·getD-map}
+use lib.Seq.{ext-getD, getD-set-same, getD-set-other}
 use borrow.Author.Count.{below-more}
 use borrow.Author.Tests.{ltb-true, ltb-false}
 use Rattle.spread.specs.declared.Delta.{Delta}
@@ -85,3 +85,12 @@ deltas-set (x ∷ xs) (suc i) d = ap (λ (zs : List ℤ). x .0 ∷ zs) (deltas-s
 
 pub delta-at : (ds : List Delta) (j : ℕ) → getD (deltasIn ds) j (pos 0) ≡ getD ds j (record { 0 = pos 0 }) .0
 delta-at ds j = List·getD-map (λ (d : Delta). d .0) ds j (record { 0 = pos 0 })
+
+-- deltas by their numbers
+pub same-deltas : (xs ys : List Delta) → deltasIn xs ≡ deltasIn ys → xs ≡ ys
+same-deltas xs ys e =
+    ext-getD (record { 0 = pos 0 }) xs ys (sym (length-map xs (λ d. d .0)) ∙ ap length e ∙ length-map ys (λ d. d .0))
+    (λ j h. one (sym (delta-at xs j) ∙ ap (λ (zs : List ℤ). getD zs j (pos 0)) e ∙ delta-at ys j))
+  where
+    one : {x y : Delta} → x .0 ≡ y .0 → x ≡ y
+    one q = λ i. record { 0 = q i }

@@ -1,6 +1,6 @@
 -- Which questions a lawful account answers, and the book of each.
 -- Assumes nothing.
-use Prim.Native.Nat.{ℕ, _+_, _-_, _*_, _≤_, _<_}
+use Prim.Native.Nat.{ℕ, _+_, _*_, _≤_, _<_}
 use native.Mathlib.Omega.{arith}
 use mathlib.Core.Path.{_≡_, refl, sym, ap, ap₂, _∙_}
 use mathlib.Core.Bool.{Bool, true, false, cond, not, _&&_, _||_, false≢true, Bool·not-not}
@@ -27,7 +27,7 @@ use Rattle.margin.proofs.LineLaws.{numbers-length, used-length, unused-
 
 -- ---- how many numbers a book has
 
-threes-length : (nets used unused : List ℤ) → length used ≡ length nets → length unused ≡ length nets → length (threes nets used unused) ≡ 3 * length nets
+pub threes-length : (nets used unused : List ℤ) → length used ≡ length nets → length unused ≡ length nets → length (threes nets used unused) ≡ 3 * length nets
 threes-length [] used unused e f = refl
 threes-length (n ∷ nets) [] unused e f = absurd (omega arith)
 threes-length (n ∷ nets) (u ∷ used) [] e f = absurd (omega arith)

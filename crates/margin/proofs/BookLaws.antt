@@ -1,6 +1,6 @@
 -- The delta book that the spread steps hand out, read as the definitions of the charges read it.
 -- Assumes nothing.
-use Prim.Native.Nat.{ℕ, zero, suc, _+_, _-_, _*_, _≤_, _<_}
+use Prim.Native.Nat.{ℕ, zero, suc, _+_, _*_, _≤_, _<_}
 use native.Mathlib.Nat.{le-of-suc-le-suc, not-suc-le-zero}
 use native.Mathlib.Omega.{arith}
 use mathlib.Core.Path.{_≡_, refl, ap, ap₂, _∙_}
@@ -18,9 +18,8 @@ use Rattle.spread.specs.Steps.{Open, Taker, steps, numbers, usedOf, unusedOf}
 use Rattle.spread.specs.declared.Spread.{Spread}
 use Rattle.spread.specs.declared.Table.{Table}
 use Rattle.spread.specs.declared.Prompts.{Prompts}
-use Rattle.spread.specs.Touches.{touches, touchesOf, CountedBook}
+use Rattle.spread.specs.Touches.{touches, touchesOf}
 use Rattle.spread.specs.declared.book.Book.{Book}
-use Rattle.spread.specs.declared.touches.Counted.{Counted}
 use Rattle.spread.proofs.Both.{and-both}
 use Rattle.spread.proofs.Filling.{entries-at}
 use Rattle.spread.specs.Book.{entries, spreadsEntry, deltaEntry, Booked, numbersOf, usedIn, unusedIn}
@@ -29,7 +28,7 @@ use Rattle.spread.specs.declared.Delta.{Delta}
 use Rattle.margin.specs.Books.{threes}
 use Rattle.margin.specs.Charges.{overSteps, promptCharge, promptCharges}
 use Rattle.margin.specs.Deltas.{opens, interprompt}
-use Rattle.margin.specs.Promised.{BookOf, CountedOf, BookRoom}
+use Rattle.margin.specs.Promised.{BookOf, BookRoom}
 use Rattle.margin.specs.Sums.{interleaved, deltasIn, spreadsAt}
 use Rattle.margin.specs.Tables.{TiersOf, TableOf}
 use Rattle.margin.proofs.RecordLaws.{count-is}
@@ -140,19 +139,6 @@ contract-book-is part spreads ds p t b tiers table room is =
 pub touches-accepted : (ss : List (List Taker)) (ps : List Open) (p : Prompts) (t : Table) → given.openOf p ≡ ps → given.stepsOf t ≡ ss → given.sound p t ≡ true
     → touchesOf p t ≡ touches ss ps
 touches-accepted ss ps p t eo es sound = ap (λ (x : Bool). cond x (touches (given.stepsOf t) (given.openOf p)) 0) sound ∙ ap₂ touches es eo
-
-pub contract-counted-is : (part spreads : List ℕ) (ds : List Delta) (p : Prompts) (t : Table) (c : Counted) → TiersOf part ds p → TableOf interprompt spreads t
-    → BookRoom (records part) (deltasIn ds) (records spreads) → CountedBook p t c
-    → CountedOf (steps (map interprompt (records spreads))) (opens (records part) (deltasIn ds)) c
-contract-counted-is part spreads ds p t c tiers table room is =
-    record {
-      book-is = contract-book-is part spreads ds p t (c .book) tiers table room (is .book);
-      touches-are =
-          is .touches
-          ∙ touches-accepted (steps (map interprompt (records spreads))) (opens (records part) (deltasIn ds)) p t (opens-are part ds p tiers)
-          (ap steps (table .spreads-are)) (contract-sound part spreads ds p t tiers table room);
-      few = is .few;
-    }
 
 -- ---- a book's arrays, cut to its prompts and spreads
 

@@ -5,27 +5,23 @@ use Prim.Native.Nat.{ℕ, _+_, _-_, _*_, _≤_, _<_, zero-le}
 use native.Mathlib.Nat.{le-trans}
 use native.Mathlib.Decide.{decLt}
 use native.Mathlib.Omega.{arith}
-use mathlib.Core.Path.{_≡_, refl, sym, ap, ap₂, _∙_, subst⁻¹}
-use mathlib.Core.List.{List, _++_, map}
+use mathlib.Core.Path.{_≡_, refl, ap, ap₂, _∙_, subst⁻¹}
+use mathlib.Core.List.{List, map}
 use lib.IntN.{ℤ, pos, natAbs}
-use lib.ListN.{length, getD, take, length-map, List·getD-eq-default}
+use lib.ListN.{length, getD, length-map, List·getD-eq-default}
 use Rattle.exact.specs.Lists.{sum, sumℤ}
 use Rattle.exact.proofs.Lists.{abs-sum}
 use Rattle.exact.proofs.Totals.{first-within as first-holding}
 use Rattle.record.specs.Layout.{Record, contract, shortOptionRate, unit, ratePerSpread}
 use Rattle.spread.specs.Steps.{Open, Taker, steps, numbers, usedOf, unusedOf}
-use Rattle.spread.specs.Touches.{touches}
 use Rattle.spread.specs.declared.Spreads.{Spreads}
 use Rattle.spread.specs.declared.Delta.{Delta}
 use Rattle.spread.specs.declared.book.Book.{Book}
 use Rattle.margin.specs.declared.rows.Position.{Position}
 use Rattle.margin.specs.declared.line.Line.{Line}
 use Rattle.margin.specs.Bounds.{mostDelta, mostRisk, mostLots, mostRate}
-use Rattle.margin.specs.declared.numbers.Numbers.{Numbers}
-use Rattle.margin.specs.Books.{threes, contractParts}
-use Rattle.margin.specs.Numbers.{written, SpreadsSigned, PartNumbers}
 use Rattle.margin.specs.Charges.{spreadCharge, interpromptCharge, promptCharges}
-use Rattle.margin.specs.Contract.{Contract, contractFrom, interpromptOf, promptOf, contractNet, contractTouches}
+use Rattle.margin.specs.Contract.{Contract, contractFrom, interpromptOf, promptOf, contractNet}
 use Rattle.margin.specs.Credit.{twicePriceRisk}
 use Rattle.margin.specs.Margin.{shortOptionMinimum}
 use Rattle.margin.specs.Scanning.{totals, scanningRisk, activeScenario}
@@ -35,7 +31,7 @@ use Rattle.margin.specs.Promised.{BookOf, BookRoom, Charged, LineOf}
 use Rattle.margin.specs.Risks.{TotalsWithin, Scanned}
 use Rattle.margin.specs.Sums.{interleaved, deltasIn, SpreadsWithin, PromptsWithin}
 use Rattle.margin.specs.Within.{ContractFit}
-use Rattle.margin.proofs.BookLaws.{over-arrays, prompts-arrays, book-listed}
+use Rattle.margin.proofs.BookLaws.{over-arrays, prompts-arrays}
 use Rattle.margin.proofs.LineLaws.{opens-first, opens-length, opens-sizes, opens-sound, spreads-sound, interprompt-whole, numbers-length, used-length, unused-length, sum-zeros, size-zeros, first-within, delta-within}
 use Rattle.margin.proofs.NetLaws.{net-sizes-most}
 use Rattle.margin.proofs.StepBounds.{sizes, whole-number-within, used-within, unused-within, size-at}
@@ -79,9 +75,6 @@ module _ (rates : List Record) (own : Record) (prompts rows spreads : List Recor
 
   pub nets-are : opens prompts nets ≡ opens prompts (netDeltas prompts rows)
   nets-are = opens-first prompts nets ∙ ap (opens prompts) (is .nets-are)
-
-  pub touches-are : touches ss ps ≡ contractTouches k
-  touches-are = ap (touches ss) nets-are
 
   sizes-within : sizes ps ≤ mostDelta
   sizes-within =
@@ -182,32 +175,4 @@ module _ (rates : List Record) (own : Record) (prompts rows spreads : List Recor
           unit-within = record { least = omega (arith, eu, w .unit-within .least); most = omega (arith, eu, w .unit-within .most) };
           price-within = sc .price-within;
           net-within = subst⁻¹ (λ (z : ℤ). natAbs z ≤ mostDelta) en (le-trans (abs-sum nets) net-sizes);
-        }
-
-    -- the numbers formed can be written signed
-    pub spreads-signed : (m : ℕ) → m ≡ length spreads → SpreadsSigned m (b .first) (b .second)
-    spreads-signed m e =
-        let few = w .few-spreads in
-        record {
-          most = omega arith;
-          first-within = λ j h. let x = spreads-room .each j (omega arith) .first-within in omega arith;
-          second-within = λ j h. let x = spreads-room .each j (omega arith) .second-within in omega arith;
-        }
-
-    -- the numbers of the contract's book
-    pub contract-book-listed : (r : Numbers) (n m np nm : ℕ) → n ≡ np → m ≡ nm → length prompts ≡ np → length spreads ≡ nm → r .count ≡ 3 * n + 2 * m
-        → written r ≡ threes (take n nets) (take n (deltasIn (b .used))) (take n (deltasIn (b .unused))) ++ map pos (interleaved (take m (b .first)) (take m (b .second)))
-        → PartNumbers (contractParts k) np nm r
-    contract-book-listed r n m np nm en em ep es ec el =
-        let fp = w .few-prompts in
-        let fs = w .few-spreads in
-        let a : n ≡ length prompts = en ∙ sym ep in
-        let c : m ≡ length spreads = em ∙ sym es in
-        record {
-          listed-is =
-              book-listed ss ps b (take n nets) n m (written r) bk (prompts-open ∙ sym a) (omega arith) (numbers-length interprompt spreads ps ∙ ap (λ (x : ℕ). 2 * x) (sym c)) (omega arith)
-              (used-length ss ps ∙ prompts-open ∙ sym a) (unused-length ss ps ∙ prompts-open ∙ sym a) el
-              ∙ ap₂ (λ (zs : List ℤ) (qs : List Open). threes zs (usedOf ss qs) (unusedOf ss qs) ++ map pos (numbers ss qs)) (ap (λ (x : ℕ). take x nets) a ∙ is .nets-are) nets-are;
-          count-is = omega arith;
-          few = omega arith;
         }

@@ -33,3 +33,7 @@ pub mod NeedLaws
 pub mod Skipped
 pub mod Unpaired
 pub mod Touched
+pub mod AnswerLaws
+pub mod BesideLaws
+pub mod PositionsLaws
+pub mod WithdrawLaws

@@ -15,7 +15,7 @@ use Rattle.margin.specs.declared.amount.Amount.{Amount}
 use Rattle.margin.specs.declared.line.Line.{Line}
 use Rattle.margin.specs.Books.{threes}
 use Rattle.margin.specs.Lines.{marginWith, eightOf, eightsFrom, totalFrom, figuresFrom, noLine}
-use Rattle.margin.specs.Numbers.{amountAt, written, PartNumbers, BookNumbers}
+use Rattle.margin.specs.Numbers.{amountAt, written}
 use Rattle.margin.specs.declared.numbers.Numbers.{Numbers}
 use Rattle.margin.specs.Sums.{interleaved, deltasIn, spreadsAt, deltaAt}
 use Rattle.margin.proofs.AddedLaws.{delta-at}
@@ -198,11 +198,6 @@ book-listed prompts spreads none number number′ threes twos lt ls h e f =
 pub last-listed : (count : ℕ) (number : List ℤ) (z : ℤ) → count < length number → take (count + 1) (set number count z) ≡ take count number ++ (z ∷ [])
 last-listed count number z h = ap (λ (n : ℕ). take n (set number count z)) (add-one count) ∙ take-suc-set number count z h
 
-pub with-last : (parts : List ℤ) (prompts spreads : ℕ) (n r : Numbers) (last touches : ℕ) → PartNumbers parts prompts spreads n
-    → r .count ≡ n .count + 1 → written r ≡ written n ++ (pos last ∷ []) → last ≡ touches → BookNumbers (parts ++ (pos touches ∷ [])) prompts spreads r
-with-last parts prompts spreads n r last touches is count listed same =
-    record {
-      listed-is = listed ∙ ap₂ (λ (zs : List ℤ) (t : ℕ). zs ++ (pos t ∷ [])) (is .listed-is) same;
-      count-is = count ∙ ap (λ (k : ℕ). k + 1) (is .count-is);
-      few = omega (arith, count, is .few);
-    }
+-- one number more, at the end
+pub with-last : (parts written with : List ℤ) (last touches : ℕ) → written ≡ parts → with ≡ written ++ (pos last ∷ []) → last ≡ touches → with ≡ parts ++ (pos touches ∷ [])
+with-last parts written with last touches is listed same = listed ∙ ap₂ (λ (zs : List ℤ) (t : ℕ). zs ++ (pos t ∷ [])) is same

@@ -17,6 +17,7 @@ use Rattle.record.specs.Layout.{Record}
 use Rattle.account.specs.Answers.{numberOf}
 use Rattle.account.specs.declared.answers.Answer.{Answer}
 use Rattle.account.specs.declared.answers.Answer.the-variants.{Accepted, TooFewNumbers}
+use Rattle.margin.specs.Books.{answered}
 use Rattle.margin.specs.Places.{questions, atPlace, afterEach, eachOver, afterEachOver, questionOf, widthOf, allOver, afterAllOver, place, EachPlace}
 use Rattle.margin.specs.Questions.{accepted, answers, numbersFor, answerOver, afterOver}
 use Rattle.margin.specs.declared.asking.Question.{Question}
@@ -97,6 +98,11 @@ module _ (account : List Record) (question : Question) (lent : List ℤ) where
           let w = within (eqb-true (numberOf answer) 0 e) in
           length-append numbers (drop (length numbers) lent) ∙ (let d = length-drop (length numbers) lent in omega arith)
       go false e = refl
+
+-- a book is answered where who paid in it is
+pub answers-of : (account : List Record) (paid : Bool) (question : ℕ) → answers account (questionOf paid question) ≡ answered account question
+answers-of account true question = refl
+answers-of account false question = refl
 
 -- a place ends before a later one begins
 pub ends-within : (width n m : ℕ) → n < m → width * n + width ≤ width * m

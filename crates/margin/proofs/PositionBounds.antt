@@ -4,7 +4,7 @@ use mathlib.Core.Path.{_≡_, refl, sym, _∙_, ap, subst}
 use mathlib.Core.Bool.{Bool, true, false, cond}
 use mathlib.Core.List.{List, [], _∷_, map}
 use Prim.Native.Nat.{ℕ, suc, _+_, _*_, _≤_, _<_, zero-le}
-use native.Mathlib.Nat.{le-refl, le-trans, mul-le-mul-right}
+use native.Mathlib.Nat.{le-refl, le-trans, mul-le-mul-right, not-suc-le-zero}
 use native.Mathlib.Omega.{arith}
 use lib.Dec.{eqb, ltb}
 use lib.IntN.{ℤ, pos, negsuc, natAbs}
@@ -103,6 +103,9 @@ bounded rates unit hu prompts rows p w rated is =
       nets-most = record { as-many = is .places; size = λ j h. net-place rates unit prompts rows p (w .each) is j };
       shorts-most = subst (λ (n : ℕ). n ≤ length rows * 100000) (sym (is .shorts-are)) (short-lots-most rows (w .each));
     }
+
+pub no-rows : RowsFit []
+no-rows = record { few = zero-le; each = λ k h. absurd (not-suc-le-zero h) }
 
 -- what n rows cannot go past, m rows cannot either
 pub wider : (n m : ℕ) (p : Position) → n ≤ m → Bounded n p → Bounded m p

@@ -5,7 +5,8 @@ use mathlib.Core.Bool.{Bool, true, false, cond}
 use mathlib.Core.List.{List, [], _∷_, _++_, map, map-append}
 use Prim.Native.Nat.{ℕ, zero, suc, _+_, _≤_, _<_}
 use native.Mathlib.Omega.{arith}
-use lib.Dec.{eqb, eqb→eq}
+use borrow.Author.Tests.{ltb-true, ltb-false}
+use lib.Dec.{eqb, eqb→eq, ltb}
 use lib.IntN.{ℤ, pos, _+ℤ_, +ℤ-idr}
 use lib.ListN.{length, getD, take, replicate, length-map}
 use lib.Seq.{ext-getD, getD-take, length-take-le}
@@ -19,6 +20,7 @@ use Rattle.margin.specs.Scanning.{product, total, scenarios, totals}
 use Rattle.margin.specs.Deltas.{rowDelta, ofDay, netDelta, netDeltas}
 use Rattle.margin.specs.Margin.{shortOptions, shortLots}
 use Rattle.margin.specs.Position.{DaysOf, PositionOf, WithRows, netOn, deltasIn}
+use Rattle.margin.proofs.AddedLaws.{same-deltas}
 
 -- ---- rows before and rows after
 
@@ -71,7 +73,7 @@ net-here rates unit prompts rows p is j h =
 
 -- ---- no rows
 
-zeros : (n j : ℕ) → getD (replicate n (pos 0)) j (pos 0) ≡ pos 0
+pub zeros : (n j : ℕ) → getD (replicate n (pos 0)) j (pos 0) ≡ pos 0
 zeros zero j = refl
 zeros (suc n) zero = refl
 zeros (suc n) (suc j) = zeros n j
@@ -92,6 +94,24 @@ nothing rates unit prompts p few et en es =
       places = thirty-two;
       shorts-are = es;
     }
+
+-- ---- rows come to one position
+
+pub one-position : (rates : List Record) (unit : ℕ) (prompts rows : List Record) (p q : Position) → PositionOf rates unit prompts rows p → PositionOf rates unit prompts rows q → p ≡ q
+one-position rates unit prompts rows p q a b =
+    λ i.
+    record {
+      totals = record { 0 = (a .totals-are ∙ sym (b .totals-are)) i };
+      nets = same-deltas (p .nets) (q .nets) nets-same i;
+      shorts = (a .shorts-are ∙ sym (b .shorts-are)) i;
+    }
+  where
+    here : (j : ℕ) (t : Bool) → ltb j (length prompts) ≡ t → getD (deltasIn (p .nets)) j (pos 0) ≡ getD (deltasIn (q .nets)) j (pos 0)
+    here j true e = let h = ltb-true j (length prompts) e in net-here rates unit prompts rows p a j h ∙ sym (net-here rates unit prompts rows q b j h)
+    here j false e = let h = ltb-false j (length prompts) e in a .nets-beyond j h ∙ sym (b .nets-beyond j h)
+
+    nets-same : deltasIn (p .nets) ≡ deltasIn (q .nets)
+    nets-same = ext-getD (pos 0) (deltasIn (p .nets)) (deltasIn (q .nets)) (a .places ∙ sym (b .places)) (λ j h. here j (ltb j (length prompts)) refl)
 
 -- ---- the position with more rows
 

@@ -1,21 +1,18 @@
 -- The parts of an account, as the code has them, are the account's own records, and a contract's are within their ranges.
 -- Assumes nothing.
-use Prim.Native.Nat.{ℕ, zero, suc, _+_, _*_, _≤_, _<_, zero-le}
+use Prim.Native.Nat.{ℕ, zero, suc, _+_, _*_, _≤_, _<_}
 use native.Mathlib.Nat.{le-of-suc-le-suc, not-suc-le-zero}
 use native.Mathlib.Omega.{arith}
-use mathlib.Core.Path.{_≡_, refl, sym, ap, ap₂, _∙_, subst, subst⁻¹}
+use mathlib.Core.Path.{_≡_, refl, sym, ap, _∙_, subst, subst⁻¹}
 use mathlib.Core.Bool.{Bool, true, false, _&&_}
 use mathlib.Core.List.{List, [], _∷_}
-use borrow.Author.Tests.{eq-eqb}
-use lib.Dec.{eqb}
-use lib.IntN.{ℤ, natAbs}
 use lib.ListN.{length, getD}
 use Rattle.exact.specs.Lists.{consIf, keep, count, oneIf}
 use Rattle.record.specs.Layout.{Record, contract, unit}
 use Rattle.record.specs.Within as ranges
 use Rattle.account.specs.Lawful.{Lawful}
 use Rattle.account.specs.Notes.{part, entryPart}
-use Rattle.account.specs.Parts.{ofKind, ofContract, contractsOf, promptsOf, rowsOf, spreadsOf, entriesOf, ratesOf}
+use Rattle.account.specs.Parts.{ofKind, ofContract, contractsOf, promptsOf, rowsOf, spreadsOf, entriesOf}
 use Rattle.account.specs.Records.{records, recordCount}
 use Rattle.account.specs.Standing.{PartOf, Stands, accountOf}
 use Rattle.account.specs.declared.accounts.Account.{Account}
@@ -24,17 +21,15 @@ use Rattle.account.proofs.Days.{none-kept}
 use Rattle.account.proofs.Every.{length-kept}
 use Rattle.account.proofs.Standing.{contract-part, one-record}
 use Rattle.margin.specs.declared.line.Line.{Line}
-use Rattle.margin.specs.declared.numbers.Numbers.{Numbers}
 use Rattle.margin.specs.declared.rows.Position.{Position}
-use Rattle.margin.specs.Books.{contractBook}
-use Rattle.margin.specs.Contract.{Contract, contractFrom, partsIn, partsOf}
+use Rattle.margin.specs.Beside.{ownOf}
+use Rattle.margin.specs.Books.{asks}
+use Rattle.margin.specs.Contract.{Contract, contractFrom, partsOf}
 use Rattle.margin.specs.Lined.{PositionAt}
-use Rattle.margin.specs.Numbers.{BookNumbers}
 use Rattle.margin.specs.Position.{RatedBy, PositionOf, Bounded}
-use Rattle.margin.specs.Promised.{LineOf, PositionFit, contractWith}
+use Rattle.margin.specs.Promised.{LineOf, BookFit, contractWith}
 use Rattle.margin.specs.Within.{ContractFit, EntriesFit}
 use Rattle.margin.proofs.AcceptLaws.{none-within, contract-within, own-within, entries-within}
-use Rattle.margin.proofs.AskedLaws.{count-keep}
 use Rattle.margin.proofs.RecordLaws.{count-is}
 
 -- a contract known by its rows is the one known by what they come to
@@ -55,7 +50,7 @@ keep-keep p q (x ∷ xs) = go (p x) (keep-keep p q xs)
     go true h = ap (consIf (q x) x) h
     go false h = h
 
-kept-at : (p : Record → Bool) (xs : List Record) (i : ℕ) → i < length xs → p (getD xs i []) ≡ true → count p xs ≤ 1 → keep p xs ≡ getD xs i [] ∷ []
+pub kept-at : (p : Record → Bool) (xs : List Record) (i : ℕ) → i < length xs → p (getD xs i []) ≡ true → count p xs ≤ 1 → keep p xs ≡ getD xs i [] ∷ []
 kept-at p [] i h e few = absurd (not-suc-le-zero h)
 kept-at p (x ∷ xs) zero h e few =
     ap (λ (t : Bool). consIf t x (keep p xs)) e
@@ -93,23 +88,26 @@ module _ (account : List Record) (law : Lawful account) where
     of-contract k hk bytes is = is .are ∙ contract-part k c hk h account
 
     -- its own record
-    module _ (i : ℕ) (listed : i < length (contractsOf account)) (number : c ≡ contract (getD (contractsOf account) i [])) (own : List ℕ) (eo : PartOf account (part 1 c) own) where
-      abbrev its : Record
-      its = getD (contractsOf account) i []
+    module _ (own : List ℕ) (eo : PartOf account (part 1 c) own) where
+      own-long : length own ≡ length (keep (ofContract 1 c) account) * 96
+      own-long = eo .whole ∙ ap (λ (rs : List Record). length rs * 96) (contract-part 1 c (omega arith) h account)
 
-      own-kept : keep (ofContract 1 c) account ≡ its ∷ []
-      own-kept =
-          sym (keep-keep (ofKind 1) (λ r. eqb (contract r) c) account)
-          ∙ kept-at (λ r. eqb (contract r) c) (contractsOf account) i listed (eq-eqb (contract its) c (sym number))
-          (omega (arith, count-keep (ofKind 1) (λ r. eqb (contract r) c) account, law .named .once c))
+      pub own-by : own ≡ ownOf c account
+      own-by =
+          go (keep (ofContract 1 c) account) refl (omega (arith, length-kept (ofContract 1 c) account, law .named .once c))
+          ∙ ap (λ (rs : List Record). getD rs 0 []) (sym (keep-keep (ofKind 1) (asks c) account))
+        where
+          nil : (bytes : List ℕ) → length bytes ≡ 0 → bytes ≡ []
+          nil [] e = refl
+          nil (x ∷ bytes) e = absurd (omega arith)
 
-      own-is : own ≡ its
-      own-is =
-          one-record own its (of-contract 1 (omega arith) own eo ∙ own-kept)
-          (eo .whole ∙ ap (λ (rs : List Record). length rs * 96) (contract-part 1 c (omega arith) h account ∙ own-kept))
-
-      pub its-within : ranges.ContractWithin own
-      its-within = subst⁻¹ ranges.ContractWithin own-is (own-within account law i listed)
+          go : (xs : List Record) → keep (ofContract 1 c) account ≡ xs → length xs ≤ 1 → own ≡ getD (keep (ofContract 1 c) account) 0 []
+          go [] e few =
+              nil own (own-long ∙ ap (λ (rs : List Record). length rs * 96) e) ∙ ap (λ (rs : List Record). getD rs 0 []) (sym e)
+          go (x ∷ []) e few =
+              one-record own x (of-contract 1 (omega arith) own eo ∙ e) (own-long ∙ ap (λ (rs : List Record). length rs * 96) e)
+              ∙ ap (λ (rs : List Record). getD rs 0 []) (sym e)
+          go (x ∷ y ∷ xs) e few = absurd (omega arith)
 
     -- what its rows come to
     module _ (prompts rows : List ℕ) (ep : PartOf account (part 2 c) prompts) (er : PartOf account (part 3 c) rows) where
@@ -129,60 +127,25 @@ module _ (account : List Record) (law : Lawful account) where
             most = most;
           }
 
-    module _ (prompts spreads : List ℕ) (ep : PartOf account (part 2 c) prompts) (es : PartOf account (part 4 c) spreads) (rates : List Record) (u : ℕ) (p : Position) (at : PositionAt rates u account c p) where
-      ps-are : records prompts ≡ promptsOf c account
-      ps-are = of-contract 2 (omega arith) prompts ep
+    -- its prompts and interprompt spreads
+    module _ (prompts spreads : List ℕ) (ep : PartOf account (part 2 c) prompts) (es : PartOf account (part 4 c) spreads) (P : List Record → List Record → Type 0) where
+      pub parts-read : P (promptsOf c account) (spreadsOf c account) → P (records prompts) (records spreads)
+      parts-read x =
+          subst⁻¹ (λ (ps : List Record). P ps (records spreads)) (of-contract 2 (omega arith) prompts ep)
+          (subst⁻¹ (λ (ss : List Record). P (promptsOf c account) ss) (of-contract 4 (omega arith) spreads es) x)
 
-      here : (own : Record) → u ≡ unit own → PositionOf rates (unit own) (promptsOf c account) (rowsOf c account) p
-      here own eu = subst (λ (n : ℕ). PositionOf rates n (promptsOf c account) (rowsOf c account) p) eu (at .is)
+      pub parts-told : P (records prompts) (records spreads) → P (promptsOf c account) (spreadsOf c account)
+      parts-told x =
+          subst (λ (ps : List Record). P ps (spreadsOf c account)) (of-contract 2 (omega arith) prompts ep)
+          (subst (λ (ss : List Record). P (records prompts) ss) (of-contract 4 (omega arith) spreads es) x)
 
-      ss-are : records spreads ≡ spreadsOf c account
-      ss-are = of-contract 4 (omega arith) spreads es
+    -- a contract without a record of its own
+    module _ (p : Position) (at : PositionAt [] 1 account c p) where
+      pub book-fits : BookFit (promptsOf c account) (spreadsOf c account) p
+      book-fits = record { own = []; fits = record { rates = []; rows = rowsOf c account; fit = contract-within account law [] c none-within; is = at .is; most = at .most } }
 
-      fits : (own : Record) → u ≡ unit own → ranges.ContractWithin own → PositionFit own (records prompts) (records spreads) p
-      fits own eu w =
-          record {
-            rates = rates;
-            rows = rowsOf c account;
-            fit = rw (ps-are, ss-are) (contract-within account law own c w);
-            is = rw ps-are (here own eu);
-            most = at .most;
-          }
-
-      with-is : (own : Record) → u ≡ unit own → contractWith own (records prompts) (records spreads) p ≡ contractFrom rates own (promptsOf c account) (rowsOf c account) (spreadsOf c account)
-      with-is own eu = ap₂ (λ (ps ss : List Record). contractWith own ps ss p) ps-are ss-are ∙ sym (contract-with rates own (promptsOf c account) (rowsOf c account) (spreadsOf c account) p (here own eu))
-
-      -- whatever its own record
-      pub parts-room : u ≡ 1 → PositionFit [] (records prompts) (records spreads) p
-      parts-room eu = fits [] eu none-within
-
-      pub parts-by-number : rates ≡ [] → u ≡ 1 → contractWith [] (records prompts) (records spreads) p ≡ partsOf account c
-      parts-by-number none eu = with-is [] eu ∙ ap (λ (rs : List Record). contractFrom rs [] (promptsOf c account) (rowsOf c account) (spreadsOf c account)) none
-
-      pub parts-numbers :
-          rates ≡ [] → u ≡ 1 → (r : Numbers) → BookNumbers (contractBook (contractWith [] (records prompts) (records spreads) p)) (recordCount prompts) (recordCount spreads) r
-          → BookNumbers (contractBook (partsOf account c)) (length (promptsOf c account)) (length (spreadsOf c account)) r
-      parts-numbers none eu r is =
-          let a : recordCount prompts ≡ length (promptsOf c account) = sym (count-is prompts) ∙ ap length ps-are in
-          let b : recordCount spreads ≡ length (spreadsOf c account) = sym (count-is spreads) ∙ ap length ss-are in
-          record {
-            listed-is = is .listed-is ∙ ap contractBook (parts-by-number none eu);
-            count-is = is .count-is ∙ ap₂ (λ (x y : ℕ). 3 * x + 2 * y + 1) a b;
-            few = is .few;
-          }
-
-      -- with its own record
-      module _ (i : ℕ) (listed : i < length (contractsOf account)) (number : c ≡ contract (getD (contractsOf account) i [])) (own : List ℕ) (eo : PartOf account (part 1 c) own) where
-        pub line-room : u ≡ unit own → PositionFit own (records prompts) (records spreads) p
-        line-room eu = fits own eu (its-within i listed number own eo)
-
-        pub line-at : rates ≡ ratesOf account → u ≡ unit own → (l : Line) → LineOf (contractWith own (records prompts) (records spreads) p) l → LineOf (partsIn account (getD (contractsOf account) i [])) l
-        line-at all eu l is =
-            subst (λ (k : Contract). LineOf k l)
-            (with-is own eu
-            ∙ ap₂ (λ (rs : List Record) (r : Record). contractFrom rs r (promptsOf c account) (rowsOf c account) (spreadsOf c account)) all (own-is i listed number own eo)
-            ∙ ap (λ (n : ℕ). contractFrom (ratesOf account) (getD (contractsOf account) i []) (promptsOf n account) (rowsOf n account) (spreadsOf n account)) number)
-            is
+      pub by-number : contractWith [] (promptsOf c account) (spreadsOf c account) p ≡ partsOf account c
+      by-number = sym (contract-with [] [] (promptsOf c account) (rowsOf c account) (spreadsOf c account) p (at .is))
 
   -- the number of a contract of the account
   pub own-number : (i : ℕ) → i < length (contractsOf account) → contract (getD (contractsOf account) i []) ≤ 15

@@ -1,71 +1,65 @@
 -- The contracts of an account as tiers, and the book of the intercontract table over them.
 -- Assumes nothing.
 use Prim.Native.Nat.{ℕ, suc, _+_, _*_, _≤_, _<_, zero-le, suc-le-suc}
-use native.Mathlib.Nat.{le-trans, not-suc-le-zero, mul-le-mul-right}
+use native.Mathlib.Nat.{le-trans, not-suc-le-zero}
 use native.Mathlib.Decide.{ℕ-discrete}
 use native.Mathlib.Omega.{arith}
 use mathlib.Core.Path.{_≡_, refl, sym, ap, _∙_, subst, subst⁻¹}
 use mathlib.Core.Bool.{true}
-use mathlib.Core.List.{List, [], _∷_, _++_, map}
+use mathlib.Core.List.{List, [], _∷_, map}
 use borrow.Author.Tests.{lt-ltb, le-leb, leb-true}
 use lib.Dec.{leb, ltb}
-use lib.IntN.{ℤ, pos, natAbs}
+use lib.IntN.{ℤ, natAbs}
 use lib.ListN.{length, getD, take, set, length-map}
 use lib.Seq.{take-all}
 use Rattle.exact.specs.Lists.{sum, sumℤ}
 use Rattle.exact.proofs.Lists.{getD-map, abs-sum}
-use Rattle.record.specs.Layout.{Record, contract}
-use Rattle.account.specs.Parts.{contractsOf, promptsOf, rowsOf, spreadsOf, entriesOf}
+use Rattle.record.specs.Layout.{Record, contract, unit}
+use Rattle.record.specs.Within as ranges
+use Rattle.account.specs.Parts.{contractsOf, promptsOf, rowsOf, spreadsOf}
 use Rattle.account.specs.Records.{records, recordCount}
 use Rattle.account.specs.Lawful.{Lawful}
 use Rattle.account.specs.Notes.{entryPart}
 use Rattle.account.specs.Standing.{PartOf}
 use Rattle.spread.specs.Accepted as given
 use Rattle.spread.specs.Accepted.{every, soundPrompt}
-use Rattle.spread.specs.Book.{Booked}
-use Rattle.spread.specs.Steps.{Open, steps, numbers, usedOf, unusedOf}
-use Rattle.spread.specs.Touches.{touchesOf}
+use Rattle.spread.specs.Steps.{Open, steps}
 use Rattle.spread.specs.declared.Delta.{Delta}
 use Rattle.spread.specs.declared.Prompts.{Prompts}
 use Rattle.spread.specs.declared.Table.{Table}
-use Rattle.spread.specs.declared.book.Book.{Book}
 use Rattle.spread.proofs.Both.{and-left, and-right, and-both}
 use Rattle.margin.specs.declared.line.Line.{Line}
-use Rattle.margin.specs.declared.numbers.Numbers.{Numbers}
 use Rattle.margin.specs.declared.rows.Position.{Position}
-use Rattle.margin.specs.Books.{threes, tableParts}
-use Rattle.margin.specs.Bounds.{mostDelta, mostFormed}
-use Rattle.margin.specs.Contract.{Contract, contracts, partsIn, asTier, contractNet, tableTouches}
+use Rattle.margin.specs.Bounds.{mostDelta}
+use Rattle.margin.specs.Contract.{Contract, contracts, partsIn, asTier, contractNet}
 use Rattle.margin.specs.Deltas.{netDeltas, intercontract}
 use Rattle.margin.specs.Lines.{noLine}
-use Rattle.margin.specs.Numbers.{written, SpreadsSigned, PartNumbers}
-use Rattle.margin.specs.Promised.{BookOf}
 use Rattle.margin.specs.Lined.{TierIs, TiersIn, PositionAt}
-use Rattle.margin.specs.Sums.{interleaved, deltasIn}
+use Rattle.margin.specs.Sums.{deltasIn}
 use Rattle.margin.specs.Table.{tierOf}
 use Rattle.margin.specs.Tables.{TableOf}
-use Rattle.margin.proofs.AcceptLaws.{none-within, contract-within}
-use Rattle.margin.proofs.BookLaws.{first-at, second-at, book-accepted, touches-accepted, handed-sound, book-listed}
+use Rattle.margin.proofs.AcceptLaws.{contract-within}
+use Rattle.margin.proofs.BookLaws.{handed-sound}
 use Rattle.margin.proofs.ContractLaws.{net-is, net-sizes}
-use Rattle.margin.proofs.LineLaws.{spreads-sound, numbers-length, used-length, unused-length}
+use Rattle.margin.proofs.LineLaws.{spreads-sound}
 use Rattle.margin.proofs.RecordLaws.{count-is}
-use Rattle.margin.proofs.StandLaws.{entries-part, entries-fit}
+use Rattle.margin.proofs.StandLaws.{entries-fit}
 use Rattle.margin.proofs.StepBounds.{sizes, number-within}
 use Rattle.margin.proofs.TableLaws.{Tiered, tiered-next, tiered-all, entry-accepted}
 
 -- a contract's number and net delta, by what its rows come to
-module _ (account : List Record) (law : Lawful account) (c : ℕ) (q : Position) (at : PositionAt [] 1 account c q) where
+module _ (account : List Record) (law : Lawful account) (rates : List Record) (own : Record) (w : ranges.ContractWithin own) (c : ℕ) (q : Position) (at : PositionAt rates (unit own) account c q) where
   pub tier-sizes : sum (map natAbs (deltasIn (q .nets))) ≤ mostDelta
   tier-sizes =
-      net-sizes [] [] (promptsOf c account) (rowsOf c account) (spreadsOf c account) (contract-within account law [] c none-within) q (at .is) (at .most)
+      net-sizes rates own (promptsOf c account) (rowsOf c account) (spreadsOf c account) (contract-within account law own c w) q (at .is) (at .most)
 
-  pub tier-is : (own : Record) (z : ℤ) → c ≡ contract own → c ≤ 15 → z ≡ sumℤ (deltasIn (q .nets)) → TierIs (partsIn account own) c z
-  tier-is own z ec few ez =
+  pub tier-is : (its : Record) (z : ℤ) → c ≡ contract its → c ≤ 15 → z ≡ sumℤ (deltasIn (q .nets)) → TierIs (partsIn account its) c z
+  tier-is its z ec few ez =
       record {
         number-is = ec;
         net-is =
             ez
-            ∙ net-is [] [] (promptsOf c account) (rowsOf c account) (spreadsOf c account) (contract-within account law [] c none-within) q (at .is) (at .most)
+            ∙ net-is rates own (promptsOf c account) (rowsOf c account) (spreadsOf c account) (contract-within account law own c w) q (at .is) (at .most)
             ∙ ap (λ (n : ℕ). sumℤ (netDeltas (promptsOf n account) (rowsOf n account))) ec;
         number-within = few;
         net-within = subst⁻¹ (λ (x : ℤ). natAbs x ≤ mostDelta) ez (le-trans (abs-sum (deltasIn (q .nets))) tier-sizes);
@@ -97,7 +91,7 @@ all-sound [] d h = refl
 all-sound (k ∷ ks) d h =
     and-both (soundPrompt (asTier k)) (every soundPrompt (map asTier ks)) (h 0 (suc-le-suc zero-le)) (all-sound ks d (λ i l. h (suc i) (suc-le-suc l)))
 
-sound-sizes : (ps : List Open) → every soundPrompt ps ≡ true → sizes ps ≤ length ps * mostDelta
+pub sound-sizes : (ps : List Open) → every soundPrompt ps ≡ true → sizes ps ≤ length ps * mostDelta
 sound-sizes [] e = zero-le
 sound-sizes (p ∷ ps) e =
     let a = leb-true (natAbs (p .unused)) mostDelta (and-right (ltb (p .tier) 16) (leb (natAbs (p .unused)) mostDelta) (and-left (soundPrompt p) (every soundPrompt ps) e)) in
@@ -151,7 +145,7 @@ module _ (account : List Record) where
         tiers-sound = all-sound ks kd (λ j h. is .sound j (omega (arith, ks-length)));
       }
 
--- ---- the book of the table
+-- ---- the table
 
 module _ (account : List Record) (law : Lawful account) (p : Prompts) (is : TiersIn account p) (part : List ℕ) (ep : PartOf account entryPart part) where
   pub entries-few : recordCount part ≤ 32
@@ -166,56 +160,3 @@ module _ (account : List Record) (law : Lawful account) (p : Prompts) (is : Tier
       handed-sound p t (map asTier (contracts account)) (map intercontract (records part)) (is .opens-are) (table .spreads-are)
       (omega (arith, is .few)) (omega (arith, table .count-is, entries-few)) (is .tiers-sound)
       (spreads-sound intercontract (records part) (λ k h. entry-accepted (getD (records part) k []) ((entries-fit account law part ep) .each k h)))
-
-  pub tiers-touches : (t : Table) → TableOf intercontract part t → touchesOf p t ≡ tableTouches (entriesOf account) (contracts account)
-  tiers-touches t table =
-      touches-accepted (steps (map intercontract (records part))) (map asTier (contracts account)) p t (is .opens-are) (ap steps (table .spreads-are))
-      (tiers-accepted t table)
-      ∙ ap (λ (x : List Record). tableTouches x (contracts account)) (entries-part account law part ep)
-
-  module _ (t : Table) (table : TableOf intercontract part t) (b : Book) (booked : Booked p t b) where
-    book-is : BookOf (steps (map intercontract (records part))) (map asTier (contracts account)) b
-    book-is =
-        book-accepted (steps (map intercontract (records part))) (map asTier (contracts account)) p t b (is .opens-are) (ap steps (table .spreads-are))
-        (tiers-accepted t table) booked
-
-    abbrev ns : List ℕ
-    ns = numbers (steps (map intercontract (records part))) (map asTier (contracts account))
-
-    formed-most : (j : ℕ) → getD ns j 0 ≤ mostFormed
-    formed-most j =
-        let z = sound-sizes (map asTier (contracts account)) (is .tiers-sound) in
-        let m = mul-le-mul-right mostDelta (is .few) in
-        le-trans (number-within (steps (map intercontract (records part))) (map asTier (contracts account)) j) (omega (arith, ap (λ (x : ℕ). x * mostDelta) ps-length))
-
-    -- the numbers formed can be written signed
-    pub tiers-signed : (m : ℕ) → m ≡ recordCount part → SpreadsSigned m (b .first) (b .second)
-    tiers-signed m e =
-        let f = entries-few in
-        record {
-          most = omega arith;
-          first-within = λ k h. let x = first-at book-is k (omega arith) in let y = formed-most (2 * k) in omega arith;
-          second-within = λ k h. let x = second-at book-is k (omega arith) in let y = formed-most (2 * k + 1) in omega arith;
-        }
-
-    -- the numbers of the table's book
-    pub tiers-listed : (r : Numbers) (m : ℕ) → m ≡ recordCount part → r .count ≡ 3 * p .count + 2 * m
-        → written r ≡ threes (take (p .count) (deltasIn (p .net))) (take (p .count) (deltasIn (b .used))) (take (p .count) (deltasIn (b .unused))) ++ map pos (interleaved (take m (b .first)) (take m (b .second)))
-        → PartNumbers (tableParts (entriesOf account) (contracts account)) (length (contractsOf account)) (length (entriesOf account)) r
-    tiers-listed r m em ec el =
-        let ss = steps (map intercontract (records part)) in
-        let ps = map asTier (contracts account) in
-        let few = is .few in
-        let fe = entries-few in
-        let d = ap length (entries-part account law part ep) in
-        let e = is .count-is in
-        let g = count-is part in
-        record {
-          listed-is =
-              book-listed ss ps b (take (p .count) (deltasIn (p .net))) (p .count) m (written r) book-is ps-length (omega arith) (numbers-length intercontract (records part) ps ∙ ap (λ (x : ℕ). 2 * x) (g ∙ sym em)) (omega arith)
-              (used-length ss ps ∙ ps-length) (unused-length ss ps ∙ ps-length) el
-              ∙ ap (λ (zs : List ℤ). threes zs (usedOf ss ps) (unusedOf ss ps) ++ map pos (numbers ss ps)) (is .nets-are)
-              ∙ ap (λ (x : List Record). tableParts x (contracts account)) (entries-part account law part ep);
-          count-is = omega arith;
-          few = omega arith;
-        }

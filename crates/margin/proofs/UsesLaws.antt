@@ -36,7 +36,7 @@ use Rattle.margin.specs.declared.rows.Position.{Position}
 use Rattle.margin.specs.Books.{answered}
 use Rattle.margin.specs.Contract.{contracts, partsOf, asTier, stepsOf, opensOf, tableSteps}
 use Rattle.margin.specs.Deltas.{opens, interprompt, intercontract}
-use Rattle.margin.specs.Promised.{PositionFit, contractWith}
+use Rattle.margin.specs.Promised.{BookFit, contractWith}
 use Rattle.margin.specs.Lined.{TiersIn}
 use Rattle.margin.specs.Sums.{deltasIn}
 use Rattle.margin.specs.Tables.{TiersOf, TableOf}
@@ -213,14 +213,15 @@ asks p t ps spreads eo es ok np nt =
       many = spread-uses spreads ps ∙ ap₂ (λ (x y : ℕ). x * (2 * y)) (sym nt) (sym np);
     }
 
-pub contract-asks : (prompts spreads : List ℕ) (q : Position) → PositionFit [] (records prompts) (records spreads) q
+pub contract-asks : (prompts spreads : List ℕ) (q : Position) → BookFit (records prompts) (records spreads) q
     → (p : Prompts) (t : Table) → TiersOf prompts (q .nets) p → TableOf interprompt spreads t
     → Asks (stepsOf (contractWith [] (records prompts) (records spreads) q)) (opensOf (contractWith [] (records prompts) (records spreads) q)) (record { prompts = p; table = t })
 contract-asks prompts spreads q w p t tiers table =
     let ps = records prompts in
-    let room = book-room (w .rates) [] ps (w .rows) (records spreads) (w .fit) q (w .is) (w .most) in
+    let f = w .fits in
+    let room = book-room (f .rates) (w .own) ps (f .rows) (records spreads) (f .fit) q (f .is) (f .most) in
     let same = opens-first ps (deltasIn (q .nets)) in
-    let few : length (take (length ps) (deltasIn (q .nets))) ≡ length ps = ap length (w .is .nets-are) ∙ length-map ps _ in
+    let few : length (take (length ps) (deltasIn (q .nets))) ≡ length ps = ap length (f .is .nets-are) ∙ length-map ps _ in
     asks p t (opens ps (take (length ps) (deltasIn (q .nets)))) (map interprompt (records spreads)) (opens-are prompts (q .nets) p tiers ∙ same) (table .spreads-are)
     (contract-sound prompts spreads (q .nets) p t tiers table room)
     (tiers .count-is ∙ sym (count-is prompts) ∙ sym (opens-length ps (take (length ps) (deltasIn (q .nets))) few))

@@ -14,7 +14,8 @@ use Rattle.record.specs.Layout.{Record, contract}
 use Rattle.account.specs.Check.{mostContracts}
 use Rattle.account.specs.Notes.{part}
 use Rattle.account.specs.Parts.{contractsOf, entriesOf}
-use Rattle.spread.specs.Steps.{numbers, usedOf, unusedOf}
+use Rattle.spread.specs.Steps.{Open, Taker, numbers, usedOf, unusedOf}
+use Rattle.spread.specs.Touches.{touches}
 use Rattle.margin.specs.Contract.{Contract, contracts, partsIn, contractNet, asTier, numbersOf, usedDeltas, unusedDeltas, contractTouches, tableSteps, tableTouches}
 
 -- net, used and unused of each
@@ -38,6 +39,11 @@ contractBook k = contractParts k ++ (pos (contractTouches k) ∷ [])
 
 abbrev pub tableBook : List Record → List Contract → List ℤ
 tableBook entries ks = tableParts entries ks ++ (pos (tableTouches entries ks) ∷ [])
+
+-- the same by the steps and what they go over
+abbrev pub bookBy : List (List Taker) → List Open → List ℤ
+bookBy ss ps =
+    (threes (map (λ p. p .unused) ps) (usedOf ss ps) (unusedOf ss ps) ++ map pos (numbers ss ps)) ++ (pos (touches ss ps) ∷ [])
 
 -- the table of intercontract spreads is question 16
 abbrev pub tableQuestion : ℕ

@@ -22,6 +22,8 @@ pub mod Promised
 pub mod Table
 pub mod Numbers
 pub mod Lined
+pub mod Beside
+pub mod Positions
 pub mod Uses
 pub mod Skipped
 pub mod Unpaired

@@ -1,9 +1,9 @@
 -- Answers as lists of numbers, and the bounds within which they are made.
 -- Assumes nothing.
-use Prim.Native.Nat.{ℕ, _+_, _*_, _^_, _≤_, _<_}
+use Prim.Native.Nat.{ℕ, _^_, _≤_, _<_}
 use mathlib.Core.Path.{_≡_}
 use mathlib.Core.List.{List}
-use lib.ListN.{getD, take}
+use lib.ListN.{length, getD, take}
 use lib.IntN.{ℤ}
 use Rattle.account.specs.Check.{mostContracts, mostSpreads}
 use Rattle.spread.specs.declared.Spreads.{Spreads}
@@ -33,14 +33,8 @@ pub record SpreadsSigned (count : ℕ) (firsts seconds : List Spreads) : Type 0 
   pub first-within : (k : ℕ) → k < count → spreadsAt firsts k < 2 ^ 63
   pub second-within : (k : ℕ) → k < count → spreadsAt seconds k < 2 ^ 63
 
--- the numbers of a book with so many prompts and spreads, without the last
-pub record PartNumbers (parts : List ℤ) (prompts spreads : ℕ) (n : Numbers) : Type 0 where
-  pub listed-is : written n ≡ parts
-  pub count-is : n .count ≡ 3 * prompts + 2 * spreads
-  pub few : n .count < longestBook
-
--- and with it
-pub record BookNumbers (book : List ℤ) (prompts spreads : ℕ) (n : Numbers) : Type 0 where
-  pub listed-is : written n ≡ book
-  pub count-is : n .count ≡ 3 * prompts + 2 * spreads + 1
+-- the numbers of an answer, all of them
+pub record AllOf (numbers : List ℤ) (n : Numbers) : Type 0 where
+  pub listed-is : written n ≡ numbers
+  pub count-is : n .count ≡ length numbers
   pub few : n .count ≤ longestBook

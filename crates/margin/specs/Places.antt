@@ -2,7 +2,7 @@
 -- Assumes nothing.
 use Prim.Native.Nat.{ℕ, zero, suc, _+_, _*_, _<_}
 use mathlib.Core.Path.{_≡_}
-use mathlib.Core.Bool.{Bool, cond}
+use mathlib.Core.Bool.{Bool, true, false, cond}
 use mathlib.Core.List.{List, _++_}
 use lib.Dec.{ltb}
 use lib.IntN.{ℤ}
@@ -11,10 +11,11 @@ use Rattle.record.specs.Layout.{Record}
 use Rattle.account.specs.declared.answers.Answer.{Answer}
 use Rattle.account.specs.declared.answers.Answer.the-variants.{Accepted, TooFewNumbers}
 use Rattle.margin.specs.declared.asking.Question.{Question}
-use Rattle.margin.specs.declared.asking.Question.the-variants.{Book, Uses}
+use Rattle.margin.specs.declared.asking.Everything.{Everything}
+use Rattle.margin.specs.declared.asking.Question.the-variants.{Figures, Book, Uses}
 use Rattle.margin.specs.Books.{tableQuestion}
 use Rattle.margin.specs.Bounds.{longestBook, longestUses}
-use Rattle.margin.specs.Questions.{accepted, afterOver}
+use Rattle.margin.specs.Questions.{accepted, answerOver, afterOver}
 
 -- places in lent numbers, all of one width, one after the other
 module _ {ℓ} {A : Type ℓ} where
@@ -55,6 +56,15 @@ allOver paid = eachOver (widthOf paid)
 
 abbrev pub afterAllOver : Bool → List Record → List ℤ → List ℤ
 afterAllOver paid account = afterEachOver (widthOf paid) (λ q. afterOver account (questionOf paid q)) account
+
+-- the figures, and the books and uses of all questions
+pub record EverythingOf (account : List Record) (figures books uses : List ℤ) (r : Everything) (figures′ books′ uses′ : List ℤ) : Type 0 where
+  pub figures-answer : r .figures ≡ answerOver account Figures (length figures)
+  pub figures-after : figures′ ≡ afterOver account Figures figures
+  pub books-answer : r .books ≡ allOver false account (length books)
+  pub books-after : books′ ≡ afterAllOver false account books
+  pub uses-answer : r .uses ≡ allOver true account (length uses)
+  pub uses-after : uses′ ≡ afterAllOver true account uses
 
 -- ---- what this says of each question by itself
 

@@ -110,6 +110,13 @@ pub record WithRows (rates : List Record) (unit : ℕ) (days : Days) (p : Positi
   pub nets-added : Added (days .count) (λ j. netOn rows (getD (days .day) j 0)) (deltasIn (p .nets)) (deltasIn (q .nets))
   pub shorts-added : q .shorts ≡ p .shorts + shortLots rows
 
+-- p has these rows among those that it is of
+pub record HasRows (t : Rates) (unit : ℕ) (days : Days) (rows : List Record) (p : Position) : Type 0 where
+  pub rates : List Record
+  pub held : RatesOf rates t
+  pub before : Position
+  pub added : WithRows rates unit days before rows p
+
 -- each row is of the day of one prompt at most
 abbrev pub OneDay : List Record → List Record → Type 0
 OneDay prompts rows = (k : ℕ) → k < length rows → count (onDay (day (getD rows k []))) prompts ≤ 1

@@ -12,9 +12,7 @@ use Rattle.account.specs.Check.{mostPrompts, mostRows, mostSpreads}
 use Rattle.spread.specs.Steps.{Open, Taker, numbers, usedOf, unusedOf}
 use Rattle.spread.specs.Accepted.{every, soundPrompt, soundSpread}
 use Rattle.spread.specs.Book.{entries, spreadsEntry, deltaEntry}
-use Rattle.spread.specs.Touches.{touches, mostTouches}
 use Rattle.spread.specs.declared.book.Book.{Book}
-use Rattle.spread.specs.declared.touches.Counted.{Counted}
 use Rattle.margin.specs.declared.line.Line.{Line}
 use Rattle.margin.specs.declared.rows.Position.{Position}
 use Rattle.margin.specs.Bounds.{mostDelta, mostCharge, mostRisk}
@@ -47,18 +45,17 @@ pub record PositionFit (own : Record) (prompts spreads : List Record) (p : Posit
   pub is : PositionOf rates (unit own) prompts rows p
   pub most : Bounded mostRows p
 
+-- the same, whatever the contract's own record: its book does not go by it
+pub record BookFit (prompts spreads : List Record) (p : Position) : Type 0 where
+  pub own : Record
+  pub fits : PositionFit own prompts spreads p
+
 -- the book of steps over prompts, place by place, and zeros beyond
 pub record BookOf (ss : List (List Taker)) (ps : List Open) (b : Book) : Type 0 where
   pub first-is : b .first ≡ entries 32 (λ k. spreadsEntry (numbers ss ps) (2 * k))
   pub second-is : b .second ≡ entries 32 (λ k. spreadsEntry (numbers ss ps) (2 * k + 1))
   pub used-is : b .used ≡ entries 32 (deltaEntry (usedOf ss ps))
   pub unused-is : b .unused ≡ entries 32 (deltaEntry (unusedOf ss ps))
-
--- the book, and how often its steps touch a prompt
-pub record CountedOf (ss : List (List Taker)) (ps : List Open) (c : Counted) : Type 0 where
-  pub book-is : BookOf ss ps (c .book)
-  pub touches-are : c .touches ≡ touches ss ps
-  pub few : c .touches ≤ mostTouches
 
 -- prompts and spreads that the spread steps accept; the net deltas past the prompts are 0
 pub record BookRoom (prompts : List Record) (nets : List ℤ) (spreads : List Record) : Type 0 where

@@ -1,13 +1,23 @@
 // The questions that an account answers. What comes after an account's records is said here once, for one file and for two: 11,
 // then 10, and the answer in lent memory.
+use crate::books::book_of;
 use crate::numbers::LONGEST_BOOK;
 use crate::numbers::LONGEST_USES;
+use crate::numbers::Numbers;
 use crate::numbers::lend;
 use crate::over::TABLE;
 use crate::over::asking_over;
-use crate::over::book_over;
+use crate::over::asking_with;
 use crate::over::figures_over;
 use crate::over::is_asked;
+use crate::over::table_asking;
+use crate::positions::Positions;
+use crate::positions::asking_from;
+use crate::positions::figures_from;
+use crate::positions::positions_over;
+use crate::positions::tiers_from;
+use crate::rows::Position;
+use crate::uses::Asking;
 use crate::uses::put_uses;
 use crate::uses::uses_count;
 use account::accounts::Account;
@@ -15,19 +25,30 @@ use account::accounts::contract_total;
 use account::accounts::part_total;
 use account::accounts::record_total;
 use account::answers::Answer;
+use account::parts::CONTRACTS;
 use account::parts::ENTRIES;
 use account::parts::PROMPTS;
 use account::parts::SPREADS;
+use spread::Prompts;
 ghost use mathlib.Core.Path.{_≡_};
 ghost use mathlib.Core.Bool.{true};
-ghost use Prim.Native.Nat.{_+_, _*_, _≤_, _<_};
+ghost use mathlib.Core.List.{List};
+ghost use Prim.Native.Nat.{ℕ, _+_, _*_, _≤_};
 ghost use lib.ListN.{length};
+ghost use Rattle.record.specs.Layout.{Record, mostContract};
 ghost use Rattle.account.specs.Check.{mostContracts};
+ghost use Rattle.account.specs.Parts.{promptsOf, spreadsOf};
 ghost use Rattle.account.specs.Standing.{Stands, accountOf};
-ghost use Rattle.margin.specs.Books.{answered};
+ghost use Rattle.spread.specs.Accepted.{sound};
+ghost use Rattle.margin.specs.Beside.{Besides, TiersKnown};
+ghost use Rattle.margin.specs.Books.{answered, tableQuestion};
 ghost use Rattle.margin.specs.Bounds.{longestBook, longestUses};
-ghost use Rattle.margin.specs.Questions.{answerOver, afterOver, needOver, mostFor, SizesOf};
-ghost use Rattle.margin.specs.Places.{questions, atPlace, questionOf, widthOf, allOver, afterAllOver};
+ghost use Rattle.margin.specs.Lined.{TiersIn};
+ghost use Rattle.margin.specs.Positions.{Told, Known, ToldOf};
+ghost use Rattle.margin.specs.Promised.{BookFit};
+ghost use Rattle.margin.specs.Questions.{answerOver, afterOver, needOver, mostFor, SizesOf, Holds, AskedBy};
+ghost use Rattle.margin.specs.Places.{questions, atPlace, questionOf, widthOf, allOver, afterAllOver, EverythingOf};
+ghost use Rattle.margin.specs.declared.asking.Question.{Question};
 ghost use Rattle.margin.specs.declared.asking.Question.the-variants.{Figures, Book, Uses};
 
 // The figures; the delta book of a question, 0 to 15 for that contract or 16 for the intercontract table; or who paid for what
@@ -46,6 +67,43 @@ pub const ALL_BOOKS: usize = LONGEST_BOOK * QUESTIONS;
 
 pub const ALL_USES: usize = LONGEST_USES * QUESTIONS;
 
+// The numbers of an answer at the front of `out`, for an account of so many records. A refusal writes nothing.
+fn put_numbers(records: usize, numbers: Numbers, out: &mut [i64]) -> Answer
+    requires { ⌜ numbers .count ≤ longestBook ⌝ }
+    ensures { λ r. ⌜ ((whole : List Record) (question : Question) → Holds whole question records numbers → (r ≡ answerOver whole question (length (now (out .entry)))) × (now (out .exit) ≡ afterOver whole question (now (out .entry)))) ⌝ }
+{
+    if out.len() < numbers.count {
+        return Answer::TooFewNumbers(records);
+    }
+    lend(out, numbers);
+    Answer::Accepted
+}
+
+// What each step takes of each prompt, at the front of `out`, likewise.
+fn answer_uses(records: usize, asking: Asking, out: &mut [i64]) -> Answer
+    requires { ⌜ sound (asking .prompts) (asking .table) ≡ true ⌝ }
+    ensures { λ r. ⌜ ((whole : List Record) (question : ℕ) → AskedBy whole question records asking → (r ≡ answerOver whole (Uses question) (length (now (out .entry)))) × (now (out .exit) ≡ afterOver whole (Uses question) (now (out .entry)))) ⌝ }
+{
+    let prompts = asking.prompts;
+    let table = asking.table;
+    if out.len() < uses_count(prompts, table) {
+        return Answer::TooFewNumbers(records);
+    }
+    put_uses(out, prompts, table);
+    Answer::Accepted
+}
+
+// A question's book, or who paid for what in it, by what it asks about.
+fn answer_asking(records: usize, asking: Asking, paid: bool, out: &mut [i64]) -> Answer
+    requires { ⌜ sound (asking .prompts) (asking .table) ≡ true ⌝ }
+    ensures { λ r. ⌜ ((whole : List Record) (question : ℕ) → AskedBy whole question records asking → (r ≡ answerOver whole (questionOf paid question) (length (now (out .entry)))) × (now (out .exit) ≡ afterOver whole (questionOf paid question) (now (out .entry)))) ⌝ }
+{
+    if paid {
+        return answer_uses(records, asking, out);
+    }
+    put_numbers(records, book_of(asking), out)
+}
+
 fn answer_figures<'a>(
     morning: &'a [u8],
     noon: &'a [u8],
@@ -55,56 +113,26 @@ fn answer_figures<'a>(
     requires { ⌜ Stands (now morning) (now noon) account ⌝ }
     ensures { λ r. ⌜ (r ≡ answerOver (accountOf (now (morning .entry)) (now (noon .entry))) Figures (length (now (out .entry)))) × (now (out .exit) ≡ afterOver (accountOf (now (morning .entry)) (now (noon .entry))) Figures (now (out .entry))) ⌝ }
 {
-    if out.len() < figures_count(account) {
-        return Answer::TooFewNumbers(record_total(account));
-    }
     let numbers = figures_over(morning, noon, account);
-    lend(out, numbers);
-    Answer::Accepted
+    put_numbers(record_total(account), numbers, out)
 }
 
-fn answer_book<'a>(
+fn answer_question<'a>(
     morning: &'a [u8],
     noon: &'a [u8],
     account: Account,
+    paid: bool,
     question: usize,
     out: &mut [i64],
 ) -> Answer
     requires { ⌜ Stands (now morning) (now noon) account ⌝ }
-    ensures { λ r. ⌜ (r ≡ answerOver (accountOf (now (morning .entry)) (now (noon .entry))) (Book question) (length (now (out .entry)))) × (now (out .exit) ≡ afterOver (accountOf (now (morning .entry)) (now (noon .entry))) (Book question) (now (out .entry))) ⌝ }
-{
-    if !is_asked(account, question) {
-        return Answer::NoSuchQuestion(record_total(account));
-    }
-    let numbers = book_over(morning, noon, account, question);
-    if out.len() < numbers.count {
-        return Answer::TooFewNumbers(record_total(account));
-    }
-    lend(out, numbers);
-    Answer::Accepted
-}
-
-fn answer_uses<'a>(
-    morning: &'a [u8],
-    noon: &'a [u8],
-    account: Account,
-    question: usize,
-    out: &mut [i64],
-) -> Answer
-    requires { ⌜ Stands (now morning) (now noon) account ⌝ }
-    ensures { λ r. ⌜ (r ≡ answerOver (accountOf (now (morning .entry)) (now (noon .entry))) (Uses question) (length (now (out .entry)))) × (now (out .exit) ≡ afterOver (accountOf (now (morning .entry)) (now (noon .entry))) (Uses question) (now (out .entry))) ⌝ }
+    ensures { λ r. ⌜ (r ≡ answerOver (accountOf (now (morning .entry)) (now (noon .entry))) (questionOf paid question) (length (now (out .entry)))) × (now (out .exit) ≡ afterOver (accountOf (now (morning .entry)) (now (noon .entry))) (questionOf paid question) (now (out .entry))) ⌝ }
 {
     if !is_asked(account, question) {
         return Answer::NoSuchQuestion(record_total(account));
     }
     let asking = asking_over(morning, noon, account, question);
-    let prompts = asking.prompts;
-    let table = asking.table;
-    if out.len() < uses_count(prompts, table) {
-        return Answer::TooFewNumbers(record_total(account));
-    }
-    put_uses(out, prompts, table);
-    Answer::Accepted
+    answer_asking(record_total(account), asking, paid, out)
 }
 
 // A question's answer, at the front of `out`. A refusal writes nothing.
@@ -120,8 +148,60 @@ pub fn answer_over<'a>(
 {
     match question {
         Question::Figures => answer_figures(morning, noon, account, out),
-        Question::Book(q) => answer_book(morning, noon, account, q, out),
-        Question::Uses(q) => answer_uses(morning, noon, account, q, out),
+        Question::Book(q) => answer_question(morning, noon, account, false, q, out),
+        Question::Uses(q) => answer_question(morning, noon, account, true, q, out),
+    }
+}
+
+fn figures_answer<'a>(
+    morning: &'a [u8],
+    noon: &'a [u8],
+    account: Account,
+    positions: Positions,
+    out: &mut [i64],
+) -> Answer
+    requires { ⌜ Stands (now morning) (now noon) account × Known (accountOf (now morning) (now noon)) positions ⌝ }
+    ensures { λ r. ⌜ ((whole : List Record) → Told (accountOf (now (morning .entry)) (now (noon .entry))) positions whole → (r ≡ answerOver whole Figures (length (now (out .entry)))) × (now (out .exit) ≡ afterOver whole Figures (now (out .entry)))) ⌝ }
+{
+    let numbers = figures_from(morning, noon, account, positions);
+    put_numbers(positions.records, numbers, out)
+}
+
+fn question_answer<'a>(
+    morning: &'a [u8],
+    noon: &'a [u8],
+    account: Account,
+    positions: Positions,
+    paid: bool,
+    question: usize,
+    out: &mut [i64],
+) -> Answer
+    requires { ⌜ Stands (now morning) (now noon) account × Known (accountOf (now morning) (now noon)) positions ⌝ }
+    ensures { λ r. ⌜ ((whole : List Record) → Told (accountOf (now (morning .entry)) (now (noon .entry))) positions whole → (r ≡ answerOver whole (questionOf paid question) (length (now (out .entry)))) × (now (out .exit) ≡ afterOver whole (questionOf paid question) (now (out .entry)))) ⌝ }
+{
+    if !is_asked(account, question) {
+        return Answer::NoSuchQuestion(positions.records);
+    }
+    let asking = asking_from(morning, noon, account, positions, question);
+    answer_asking(positions.records, asking, paid, out)
+}
+
+// The same by positions, of an account that but for its rows stands in the files.
+pub fn answer_from<'a>(
+    morning: &'a [u8],
+    noon: &'a [u8],
+    account: Account,
+    positions: Positions,
+    question: Question,
+    out: &mut [i64],
+) -> Answer
+    requires { ⌜ Stands (now morning) (now noon) account × Known (accountOf (now morning) (now noon)) positions ⌝ }
+    ensures { λ r. ⌜ ((whole : List Record) → Told (accountOf (now (morning .entry)) (now (noon .entry))) positions whole → (r ≡ answerOver whole question (length (now (out .entry)))) × (now (out .exit) ≡ afterOver whole question (now (out .entry)))) ⌝ }
+{
+    match question {
+        Question::Figures => figures_answer(morning, noon, account, positions, out),
+        Question::Book(q) => question_answer(morning, noon, account, positions, false, q, out),
+        Question::Uses(q) => question_answer(morning, noon, account, positions, true, q, out),
     }
 }
 
@@ -194,16 +274,6 @@ pub fn needed_over<'a>(
     }
 }
 
-// The book of a question, or who paid for what in it.
-fn question_of(paid: bool, question: usize) -> Question
-    ensures { λ r. ⌜ r ≡ questionOf paid question ⌝ }
-{
-    if paid {
-        return Question::Uses(question);
-    }
-    Question::Book(question)
-}
-
 fn width_of(paid: bool) -> usize
     ensures { λ r. ⌜ (r ≡ widthOf paid) × (r ≤ longestUses) ⌝ }
 {
@@ -213,43 +283,150 @@ fn width_of(paid: bool) -> usize
     LONGEST_BOOK
 }
 
-// The answer of a question, in its place among all.
-fn place_answer<'a>(
+// The book of a contract, or who paid for what in it, by what its rows come to.
+fn answer_contract<'a>(
     morning: &'a [u8],
     noon: &'a [u8],
     account: Account,
+    records: usize,
     paid: bool,
-    question: usize,
+    c: usize,
+    p: Position,
+    out: &mut [i64],
+) -> Answer
+    requires { ⌜ Stands (now morning) (now noon) account × ((c ≤ mostContract) × BookFit (promptsOf c (accountOf (now morning) (now noon))) (spreadsOf c (accountOf (now morning) (now noon))) p) ⌝ }
+    ensures { λ r. ⌜ ((whole : List Record) → ToldOf (accountOf (now (morning .entry)) (now (noon .entry))) records c p whole → (r ≡ answerOver whole (questionOf paid c) (length (now (out .entry)))) × (now (out .exit) ≡ afterOver whole (questionOf paid c) (now (out .entry)))) ⌝ }
+{
+    if !is_asked(account, c) {
+        return Answer::NoSuchQuestion(records);
+    }
+    let asking = asking_with(morning, noon, account, c, p);
+    answer_asking(records, asking, paid, out)
+}
+
+// The same in its place among all.
+fn place_contract<'a>(
+    morning: &'a [u8],
+    noon: &'a [u8],
+    account: Account,
+    records: usize,
+    paid: bool,
+    c: usize,
+    p: Position,
     out: &mut [i64],
 )
-    requires { ⌜ Stands (now morning) (now noon) account × ((question < questions) × (widthOf paid * question + widthOf paid ≤ length (now out))) ⌝ }
-    ensures { λ r. ⌜ now (out .exit) ≡ atPlace (widthOf paid) (widthOf paid * question) (afterOver (accountOf (now (morning .entry)) (now (noon .entry))) (questionOf paid question)) (now (out .entry)) ⌝ }
+    requires { ⌜ Stands (now morning) (now noon) account × ((c ≤ mostContract) × (BookFit (promptsOf c (accountOf (now morning) (now noon))) (spreadsOf c (accountOf (now morning) (now noon))) p × (widthOf paid * c + widthOf paid ≤ length (now out)))) ⌝ }
+    ensures { λ r. ⌜ ((whole : List Record) → ToldOf (accountOf (now (morning .entry)) (now (noon .entry))) records c p whole → now (out .exit) ≡ atPlace (widthOf paid) (widthOf paid * c) (afterOver whole (questionOf paid c)) (now (out .entry))) ⌝ }
 {
     let width = width_of(paid);
-    let start = width * question;
+    let start = width * c;
     let end = start + width;
-    let asked = question_of(paid, question);
-    answer_over(morning, noon, account, asked, &mut out[start..end]);
+    answer_contract(
+        morning,
+        noon,
+        account,
+        records,
+        paid,
+        c,
+        p,
+        &mut out[start..end],
+    );
+}
+
+// The book of the intercontract table, or who paid for what in it, in its place among all.
+fn place_table<'a>(
+    morning: &'a [u8],
+    noon: &'a [u8],
+    account: Account,
+    records: usize,
+    paid: bool,
+    tiers: Prompts,
+    out: &mut [i64],
+)
+    requires { ⌜ Stands (now morning) (now noon) account × (TiersKnown (accountOf (now morning) (now noon)) tiers × (widthOf paid * questions ≤ length (now out))) ⌝ }
+    ensures { λ r. ⌜ ((whole : List Record) → Besides (accountOf (now (morning .entry)) (now (noon .entry))) whole → TiersIn whole tiers → records ≡ length whole → now (out .exit) ≡ atPlace (widthOf paid) (widthOf paid * tableQuestion) (afterOver whole (questionOf paid tableQuestion)) (now (out .entry))) ⌝ }
+{
+    let width = width_of(paid);
+    let start = width * TABLE;
+    let end = start + width;
+    let asking = table_asking(morning, noon, account, tiers);
+    answer_asking(records, asking, paid, &mut out[start..end]);
 }
 
 // The books of all questions, or who paid for what in them, each in its place. A refusal writes nothing.
-pub fn all_over<'a>(
+pub fn all_from<'a>(
     morning: &'a [u8],
     noon: &'a [u8],
     account: Account,
+    positions: Positions,
     paid: bool,
     out: &mut [i64],
 ) -> Answer
-    requires { ⌜ Stands (now morning) (now noon) account ⌝ }
-    ensures { λ r. ⌜ (r ≡ allOver paid (accountOf (now (morning .entry)) (now (noon .entry))) (length (now (out .entry)))) × (now (out .exit) ≡ afterAllOver paid (accountOf (now (morning .entry)) (now (noon .entry))) (now (out .entry))) ⌝ }
+    requires { ⌜ Stands (now morning) (now noon) account × Known (accountOf (now morning) (now noon)) positions ⌝ }
+    ensures { λ r. ⌜ ((whole : List Record) → Told (accountOf (now (morning .entry)) (now (noon .entry))) positions whole → (r ≡ allOver paid whole (length (now (out .entry)))) × (now (out .exit) ≡ afterAllOver paid whole (now (out .entry)))) ⌝ }
 {
+    let records = positions.records;
     if out.len() < width_of(paid) * QUESTIONS {
-        return Answer::TooFewNumbers(record_total(account));
+        return Answer::TooFewNumbers(records);
     }
-    let mut q = 0;
-    while q < QUESTIONS {
-        place_answer(morning, noon, account, paid, q, out);
-        q += 1;
+    let mut c = 0;
+    while c < CONTRACTS {
+        place_contract(
+            morning,
+            noon,
+            account,
+            records,
+            paid,
+            c,
+            positions.at[c],
+            out,
+        );
+        c += 1;
     }
+    let tiers = tiers_from(morning, noon, account, positions);
+    place_table(morning, noon, account, records, paid, tiers, out);
     Answer::Accepted
+}
+
+// What an account is answered that is asked for everything.
+pub struct Everything {
+    pub figures: Answer,
+    pub books: Answer,
+    pub uses: Answer,
+}
+
+// The figures, and the books and uses of all questions.
+pub fn everything_from<'a>(
+    morning: &'a [u8],
+    noon: &'a [u8],
+    account: Account,
+    positions: Positions,
+    figures: &mut [i64],
+    books: &mut [i64],
+    uses: &mut [i64],
+) -> Everything
+    requires { ⌜ Stands (now morning) (now noon) account × Known (accountOf (now morning) (now noon)) positions ⌝ }
+    ensures { λ r. ⌜ ((whole : List Record) → Told (accountOf (now (morning .entry)) (now (noon .entry))) positions whole → EverythingOf whole (now (figures .entry)) (now (books .entry)) (now (uses .entry)) r (now (figures .exit)) (now (books .exit)) (now (uses .exit))) ⌝ }
+{
+    Everything {
+        figures: figures_answer(morning, noon, account, positions, figures),
+        books: all_from(morning, noon, account, positions, false, books),
+        uses: all_from(morning, noon, account, positions, true, uses),
+    }
+}
+
+// The same of an account that stands in the files, its positions worked out once.
+pub fn everything_over<'a>(
+    morning: &'a [u8],
+    noon: &'a [u8],
+    account: Account,
+    figures: &mut [i64],
+    books: &mut [i64],
+    uses: &mut [i64],
+) -> Everything
+    requires { ⌜ Stands (now morning) (now noon) account ⌝ }
+    ensures { λ r. ⌜ EverythingOf (accountOf (now (morning .entry)) (now (noon .entry))) (now (figures .entry)) (now (books .entry)) (now (uses .entry)) r (now (figures .exit)) (now (books .exit)) (now (uses .exit)) ⌝ }
+{
+    let positions = positions_over(morning, noon, account);
+    everything_from(morning, noon, account, positions, figures, books, uses)
 }

@@ -1,6 +1,10 @@
-// The delta book of a contract, and of the intercontract table, by the spread steps.
+// The delta book of a contract, and the numbers of a question's book, by the spread steps.
+use crate::numbers::Numbers;
+use crate::numbers::book_numbers;
+use crate::numbers::with_last;
 use crate::tables::interprompt_table;
 use crate::tables::prompts_with;
+use crate::uses::Asking;
 use record::bytes::RECORD_BYTES;
 use spread::Delta;
 use spread::MOST_PROMPTS;
@@ -8,14 +12,18 @@ use spread::MOST_SPREADS;
 use spread::Spreads;
 use spread::book::Book;
 use spread::book::delta_book;
-use spread::touches::Counted;
 use spread::touches::counted_book;
+ghost use mathlib.Core.Path.{_≡_};
+ghost use mathlib.Core.Bool.{true};
 ghost use mathlib.Core.List.{map};
 ghost use Rattle.account.specs.Records.{records};
+ghost use Rattle.spread.specs.Accepted.{openOf, stepsOf, sound};
 ghost use Rattle.spread.specs.Steps.{steps};
+ghost use Rattle.margin.specs.Books.{bookBy};
 ghost use Rattle.margin.specs.Deltas.{opens, interprompt};
 ghost use Rattle.margin.specs.Sums.{deltasIn};
-ghost use Rattle.margin.specs.Promised.{BookOf, CountedOf, BookRoom};
+ghost use Rattle.margin.specs.Numbers.{AllOf};
+ghost use Rattle.margin.specs.Promised.{BookOf, BookRoom};
 
 // The book of a contract's interprompt spreads, over its prompts and their net deltas. Without spreads nothing is used.
 pub(crate) fn contract_book(prompts: &[u8], nets: [Delta; MOST_PROMPTS], spreads: &[u8]) -> Book
@@ -34,14 +42,28 @@ pub(crate) fn contract_book(prompts: &[u8], nets: [Delta; MOST_PROMPTS], spreads
     delta_book(prompts_with(prompts, nets), interprompt_table(spreads))
 }
 
-// The same book, with how often its steps touch a prompt.
-pub(crate) fn counted_contract(
-    prompts: &[u8],
-    nets: [Delta; MOST_PROMPTS],
-    spreads: &[u8],
-) -> Counted
-    requires { ⌜ BookRoom (records (now prompts)) (deltasIn nets) (records (now spreads)) ⌝ }
-    ensures { λ r. ⌜ CountedOf (steps (map interprompt (records (now (spreads .entry))))) (opens (records (now (prompts .entry))) (deltasIn nets)) r ⌝ }
+// The numbers of a question's book, by what it asks about.
+pub(crate) fn book_of(asking: Asking) -> Numbers
+    requires { ⌜ sound (asking .prompts) (asking .table) ≡ true ⌝ }
+    ensures { λ r. ⌜ AllOf (bookBy (stepsOf (asking .table)) (openOf (asking .prompts))) r ⌝ }
 {
-    counted_book(prompts_with(prompts, nets), interprompt_table(spreads))
+    let prompts = asking.prompts;
+    let table = asking.table;
+    let nets = prompts.net;
+    let counted = counted_book(prompts, table);
+    let book = counted.book;
+    let used = book.used;
+    let unused = book.unused;
+    let first = book.first;
+    let second = book.second;
+    let numbers = book_numbers(
+        prompts.count,
+        nets,
+        used,
+        unused,
+        table.count,
+        first,
+        second,
+    );
+    with_last(numbers, counted.touches)
 }

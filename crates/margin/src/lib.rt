@@ -9,6 +9,7 @@ pub mod lists;
 pub mod numbers;
 pub mod over;
 pub mod pairs;
+pub mod positions;
 mod risk;
 pub mod rows;
 mod tables;

@@ -1,15 +1,12 @@
 // What an account's answers are made of: the lines of its contracts, the numbers of its figures and books, and what is asked
 // about by a question.
 use crate::amount::Amount;
-use crate::books::counted_contract;
 use crate::intercontract::table_credits;
 use crate::line::Line;
 use crate::line::contract_net;
 use crate::line::line_of;
 use crate::numbers::Numbers;
-use crate::numbers::book_numbers;
 use crate::numbers::figures_numbers;
-use crate::numbers::with_last;
 use crate::rows::Position;
 use crate::rows::position_of;
 use crate::tables::intercontract_table;
@@ -31,30 +28,29 @@ use account::parts::SPREADS;
 use account::rates::Rates;
 use account::rates::no_rates;
 use account::rates::rates_of;
-use account::stretches::record_count;
 use exact::signed::magnitude;
 use record::fields::unit;
 use spread::Delta;
 use spread::MOST_PROMPTS;
 use spread::Prompts;
-use spread::touches::counted_book;
 ghost use mathlib.Core.Path.{_≡_};
 ghost use mathlib.Core.Bool.{true};
 ghost use mathlib.Core.List.{List, [], map};
 ghost use Prim.Native.Nat.{_+_, _*_, _≤_, _<_};
-ghost use lib.ListN.{length, getD};
+ghost use lib.ListN.{getD};
 ghost use Rattle.account.specs.Parts.{contractsOf, promptsOf, rowsOf, spreadsOf, entriesOf, ratesOf};
 ghost use Rattle.account.specs.Products.{RatesOf};
-ghost use Rattle.account.specs.Records.{records, recordCount};
+ghost use Rattle.account.specs.Records.{records};
 ghost use Rattle.account.specs.Standing.{Stands, accountOf};
 ghost use Rattle.record.specs.Layout.{Record, mostContract, mostUnit};
-ghost use Rattle.margin.specs.Books.{contractBook, tableBook, answered, askedBy, book};
+ghost use Rattle.margin.specs.Books.{answered, askedBy};
 ghost use Rattle.margin.specs.Bounds.{longestBook};
 ghost use Rattle.margin.specs.Contract.{contracts, partsIn, partsOf, asTier, stepsOf, opensOf, tableSteps};
 ghost use Rattle.margin.specs.Figures.{figures, accountTotal};
-ghost use Rattle.margin.specs.Numbers.{written, BookNumbers};
-ghost use Rattle.margin.specs.Promised.{LineOf, PositionFit, contractWith};
+ghost use Rattle.margin.specs.Numbers.{written};
 ghost use Rattle.margin.specs.Position.{RatedBy};
+ghost use Rattle.margin.specs.Promised.{LineOf, PositionFit, BookFit, contractWith};
+ghost use Rattle.margin.specs.Beside.{ownOf, unitOf, Besides, LinesKnown, TiersKnown};
 ghost use Rattle.margin.specs.Lined.{LinesOf, TierIs, TiersIn, PositionAt};
 ghost use Rattle.margin.specs.Uses.{stepsFor, opensFor, Asks};
 
@@ -87,20 +83,49 @@ fn position_at<'a>(
     position_of(rates, unit, prompts, rows)
 }
 
+// The same at the account's rates and by the unit of the contract.
+pub(crate) fn position_in<'a>(
+    morning: &'a [u8],
+    noon: &'a [u8],
+    account: Account,
+    c: usize,
+    rates: Rates,
+) -> Position
+    requires { ⌜ Stands (now morning) (now noon) account × ((c ≤ mostContract) × RatesOf (ratesOf (accountOf (now morning) (now noon))) rates) ⌝ }
+    ensures { λ p. ⌜ PositionAt (ratesOf (accountOf (now (morning .entry)) (now (noon .entry)))) (unitOf c (accountOf (now (morning .entry)) (now (noon .entry)))) (accountOf (now (morning .entry)) (now (noon .entry))) c p ⌝ }
+{
+    let own = part(morning, noon, account, OWN + c);
+    position_at(morning, noon, account, c, rates, unit(own) as u64)
+}
+
+// The line of contract `c`, by what its rows come to.
+pub(crate) fn line_with<'a>(
+    morning: &'a [u8],
+    noon: &'a [u8],
+    account: Account,
+    c: usize,
+    p: Position,
+) -> Line
+    requires { ⌜ Stands (now morning) (now noon) account × ((c ≤ mostContract) × PositionFit (ownOf c (accountOf (now morning) (now noon))) (promptsOf c (accountOf (now morning) (now noon))) (spreadsOf c (accountOf (now morning) (now noon))) p) ⌝ }
+    ensures { λ r. ⌜ LineOf (contractWith (ownOf c (accountOf (now (morning .entry)) (now (noon .entry)))) (promptsOf c (accountOf (now (morning .entry)) (now (noon .entry)))) (spreadsOf c (accountOf (now (morning .entry)) (now (noon .entry)))) p) r ⌝ }
+{
+    let own = part(morning, noon, account, OWN + c);
+    let prompts = part(morning, noon, account, PROMPTS + c);
+    let spreads = part(morning, noon, account, SPREADS + c);
+    line_of(own, prompts, spreads, p)
+}
+
 // The line of the i-th contract, at the account's rates.
 fn line_at<'a>(morning: &'a [u8], noon: &'a [u8], account: Account, i: usize, rates: Rates) -> Line
     requires { ⌜ Stands (now morning) (now noon) account × ((i < account .contracts) × RatesOf (ratesOf (accountOf (now morning) (now noon))) rates) ⌝ }
     ensures { λ r. ⌜ LineOf (partsIn (accountOf (now (morning .entry)) (now (noon .entry))) (getD (contractsOf (accountOf (now (morning .entry)) (now (noon .entry)))) i [])) r ⌝ }
 {
     let c = contract_number(account, i);
-    let own = part(morning, noon, account, OWN + c);
-    let prompts = part(morning, noon, account, PROMPTS + c);
-    let spreads = part(morning, noon, account, SPREADS + c);
-    let p = position_at(morning, noon, account, c, rates, unit(own) as u64);
-    line_of(own, prompts, spreads, p)
+    let p = position_in(morning, noon, account, c, rates);
+    line_with(morning, noon, account, c, p)
 }
 
-fn no_line() -> Line {
+pub(crate) fn no_line() -> Line {
     Line {
         contract: 0,
         unit: 0,
@@ -133,17 +158,30 @@ fn lines_of<'a>(morning: &'a [u8], noon: &'a [u8], account: Account) -> Lines
     }
 }
 
-// The numbers of the figures.
-pub(crate) fn figures_over<'a>(morning: &'a [u8], noon: &'a [u8], account: Account) -> Numbers
-    requires { ⌜ Stands (now morning) (now noon) account ⌝ }
-    ensures { λ r. ⌜ (written r ≡ figures (accountOf (now (morning .entry)) (now (noon .entry)))) × (r .count ≡ 8 * account .contracts + 1) × (r .count ≤ longestBook) ⌝ }
+// The numbers of the figures, from the lines of the contracts.
+pub(crate) fn figures_of<'a>(
+    morning: &'a [u8],
+    noon: &'a [u8],
+    account: Account,
+    all: Lines,
+) -> Numbers
+    requires { ⌜ Stands (now morning) (now noon) account × LinesKnown (accountOf (now morning) (now noon)) all ⌝ }
+    ensures are { λ r. ⌜ ((whole : List Record) → Besides (accountOf (now (morning .entry)) (now (noon .entry))) whole → LinesOf whole all → written r ≡ figures whole) ⌝ }
+    ensures many { λ r. ⌜ (r .count ≡ 8 * account .contracts + 1) × (r .count ≤ longestBook) ⌝ }
 {
-    let all = lines_of(morning, noon, account);
     let count = all.count;
     let lines = all.line;
     let entries = part(morning, noon, account, ENTRIES);
     let credits = table_credits(count, lines, entries);
     figures_numbers(count, lines, credits)
+}
+
+// The same of an account that stands in the files.
+pub(crate) fn figures_over<'a>(morning: &'a [u8], noon: &'a [u8], account: Account) -> Numbers
+    requires { ⌜ Stands (now morning) (now noon) account ⌝ }
+    ensures { λ r. ⌜ (written r ≡ figures (accountOf (now (morning .entry)) (now (noon .entry)))) × (r .count ≡ 8 * account .contracts + 1) × (r .count ≤ longestBook) ⌝ }
+{
+    figures_of(morning, noon, account, lines_of(morning, noon, account))
 }
 
 // The total of the margins, which stands last in the figures.
@@ -157,48 +195,10 @@ pub fn total_over<'a>(morning: &'a [u8], noon: &'a [u8], account: Account) -> Am
     Amount(magnitude(number[count - 1]))
 }
 
-// The numbers of a contract's book, from its prompts and interprompt spreads and what its rows come to.
-fn contract_answer(prompts: &[u8], spreads: &[u8], p: Position) -> Numbers
-    requires { ⌜ PositionFit [] (records (now prompts)) (records (now spreads)) p ⌝ }
-    ensures { λ r. ⌜ BookNumbers (contractBook (contractWith [] (records (now (prompts .entry))) (records (now (spreads .entry))) p)) (recordCount (now (prompts .entry))) (recordCount (now (spreads .entry))) r ⌝ }
-{
-    let nets = p.nets;
-    let counted = counted_contract(prompts, nets, spreads);
-    let book = counted.book;
-    let used = book.used;
-    let unused = book.unused;
-    let first = book.first;
-    let second = book.second;
-    let numbers = book_numbers(
-        record_count(prompts),
-        nets,
-        used,
-        unused,
-        record_count(spreads),
-        first,
-        second,
-    );
-    with_last(numbers, counted.touches)
-}
-
-// The numbers of the book of contract `c`.
-fn contract_numbers<'a>(morning: &'a [u8], noon: &'a [u8], account: Account, c: usize) -> Numbers
-    requires { ⌜ Stands (now morning) (now noon) account × (c ≤ mostContract) ⌝ }
-    ensures { λ r. ⌜ BookNumbers (contractBook (partsOf (accountOf (now (morning .entry)) (now (noon .entry))) c)) (length (promptsOf c (accountOf (now (morning .entry)) (now (noon .entry))))) (length (spreadsOf c (accountOf (now (morning .entry)) (now (noon .entry))))) r ⌝ }
-{
-    let prompts = part(morning, noon, account, PROMPTS + c);
-    let spreads = part(morning, noon, account, SPREADS + c);
-    contract_answer(
-        prompts,
-        spreads,
-        position_at(morning, noon, account, c, no_rates(), ONE_HUNDREDTH),
-    )
-}
-
 // A contract as a tier of the intercontract table.
-struct Tier {
-    contract: u8,
-    net: Delta,
+pub struct Tier {
+    pub contract: u8,
+    pub net: Delta,
 }
 
 // The i-th contract as a tier: its net delta, without its book and its charges.
@@ -239,52 +239,9 @@ fn tiers_over<'a>(morning: &'a [u8], noon: &'a [u8], account: Account) -> Prompt
     }
 }
 
-// The numbers of the book of the intercontract table.
-fn table_numbers<'a>(morning: &'a [u8], noon: &'a [u8], account: Account) -> Numbers
-    requires { ⌜ Stands (now morning) (now noon) account ⌝ }
-    ensures { λ r. ⌜ BookNumbers (tableBook (entriesOf (accountOf (now (morning .entry)) (now (noon .entry)))) (contracts (accountOf (now (morning .entry)) (now (noon .entry))))) (account .contracts) (length (entriesOf (accountOf (now (morning .entry)) (now (noon .entry))))) r ⌝ }
-{
-    let tiers = tiers_over(morning, noon, account);
-    let count = tiers.count;
-    let nets = tiers.net;
-    let entries = part(morning, noon, account, ENTRIES);
-    let counted = counted_book(tiers, intercontract_table(entries));
-    let book = counted.book;
-    let used = book.used;
-    let unused = book.unused;
-    let first = book.first;
-    let second = book.second;
-    let numbers = book_numbers(
-        count,
-        nets,
-        used,
-        unused,
-        record_count(entries),
-        first,
-        second,
-    );
-    with_last(numbers, counted.touches)
-}
-
-// The numbers of the delta book that a question asks for.
-pub(crate) fn book_over<'a>(
-    morning: &'a [u8],
-    noon: &'a [u8],
-    account: Account,
-    question: usize,
-) -> Numbers
-    requires { ⌜ Stands (now morning) (now noon) account × (answered (accountOf (now morning) (now noon)) question ≡ true) ⌝ }
-    ensures { λ r. ⌜ (written r ≡ book (accountOf (now (morning .entry)) (now (noon .entry))) question) × (length (book (accountOf (now (morning .entry)) (now (noon .entry))) question) ≡ r .count) × (r .count ≤ longestBook) ⌝ }
-{
-    if question == TABLE {
-        return table_numbers(morning, noon, account);
-    }
-    contract_numbers(morning, noon, account, question)
-}
-
 // A contract's prompts with their net deltas, and its interprompt spreads.
 fn contract_asking(prompts: &[u8], spreads: &[u8], p: Position) -> Asking
-    requires { ⌜ PositionFit [] (records (now prompts)) (records (now spreads)) p ⌝ }
+    requires { ⌜ BookFit (records (now prompts)) (records (now spreads)) p ⌝ }
     ensures { λ r. ⌜ Asks (stepsOf (contractWith [] (records (now (prompts .entry))) (records (now (spreads .entry))) p)) (opensOf (contractWith [] (records (now (prompts .entry))) (records (now (spreads .entry))) p)) r ⌝ }
 {
     let nets = p.nets;
@@ -295,27 +252,43 @@ fn contract_asking(prompts: &[u8], spreads: &[u8], p: Position) -> Asking
 }
 
 // The same by the contract's number.
+pub(crate) fn asking_with<'a>(
+    morning: &'a [u8],
+    noon: &'a [u8],
+    account: Account,
+    c: usize,
+    p: Position,
+) -> Asking
+    requires { ⌜ Stands (now morning) (now noon) account × ((c ≤ mostContract) × BookFit (promptsOf c (accountOf (now morning) (now noon))) (spreadsOf c (accountOf (now morning) (now noon))) p) ⌝ }
+    ensures { λ r. ⌜ Asks (stepsOf (contractWith [] (promptsOf c (accountOf (now (morning .entry)) (now (noon .entry)))) (spreadsOf c (accountOf (now (morning .entry)) (now (noon .entry)))) p)) (opensOf (contractWith [] (promptsOf c (accountOf (now (morning .entry)) (now (noon .entry)))) (spreadsOf c (accountOf (now (morning .entry)) (now (noon .entry)))) p)) r ⌝ }
+{
+    let prompts = part(morning, noon, account, PROMPTS + c);
+    let spreads = part(morning, noon, account, SPREADS + c);
+    contract_asking(prompts, spreads, p)
+}
+
+// The same of a contract that stands in the files.
 fn asking_of<'a>(morning: &'a [u8], noon: &'a [u8], account: Account, c: usize) -> Asking
     requires { ⌜ Stands (now morning) (now noon) account × (c ≤ mostContract) ⌝ }
     ensures { λ r. ⌜ Asks (stepsOf (partsOf (accountOf (now (morning .entry)) (now (noon .entry))) c)) (opensOf (partsOf (accountOf (now (morning .entry)) (now (noon .entry))) c)) r ⌝ }
 {
-    let prompts = part(morning, noon, account, PROMPTS + c);
-    let spreads = part(morning, noon, account, SPREADS + c);
-    contract_asking(
-        prompts,
-        spreads,
-        position_at(morning, noon, account, c, no_rates(), ONE_HUNDREDTH),
-    )
+    let p = position_at(morning, noon, account, c, no_rates(), ONE_HUNDREDTH);
+    asking_with(morning, noon, account, c, p)
 }
 
 // The contracts as tiers, and the intercontract spreads.
-fn table_asking<'a>(morning: &'a [u8], noon: &'a [u8], account: Account) -> Asking
-    requires { ⌜ Stands (now morning) (now noon) account ⌝ }
-    ensures { λ r. ⌜ Asks (tableSteps (entriesOf (accountOf (now (morning .entry)) (now (noon .entry))))) (map asTier (contracts (accountOf (now (morning .entry)) (now (noon .entry))))) r ⌝ }
+pub(crate) fn table_asking<'a>(
+    morning: &'a [u8],
+    noon: &'a [u8],
+    account: Account,
+    tiers: Prompts,
+) -> Asking
+    requires { ⌜ Stands (now morning) (now noon) account × TiersKnown (accountOf (now morning) (now noon)) tiers ⌝ }
+    ensures { λ r. ⌜ ((whole : List Record) → Besides (accountOf (now (morning .entry)) (now (noon .entry))) whole → TiersIn whole tiers → Asks (tableSteps (entriesOf whole)) (map asTier (contracts whole)) r) ⌝ }
 {
     let entries = part(morning, noon, account, ENTRIES);
     Asking {
-        prompts: tiers_over(morning, noon, account),
+        prompts: tiers,
         table: intercontract_table(entries),
     }
 }
@@ -331,7 +304,8 @@ pub(crate) fn asking_over<'a>(
     ensures { λ r. ⌜ Asks (stepsFor (accountOf (now (morning .entry)) (now (noon .entry))) question) (opensFor (accountOf (now (morning .entry)) (now (noon .entry))) question) r ⌝ }
 {
     if question == TABLE {
-        return table_asking(morning, noon, account);
+        let tiers = tiers_over(morning, noon, account);
+        return table_asking(morning, noon, account, tiers);
     }
     asking_of(morning, noon, account, question)
 }

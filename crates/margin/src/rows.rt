@@ -3,19 +3,20 @@ ghost use mathlib.Core.Path.{_≡_};
 ghost use mathlib.Core.Bool.{cond};
 ghost use mathlib.Core.List.{List, [], _∷_, _++_};
 ghost use Prim.Native.Nat.{ℕ, _≤_, _-_, _*_};
-ghost use lib.IntN.{pos, natAbs, _+ℤ_, _*ℤ_};
+ghost use lib.IntN.{pos, natAbs, negℤ, _+ℤ_, _-ℤ_, _*ℤ_};
 ghost use Rattle.exact.specs.Rounding.{halfAwayTo};
-ghost use lib.ListN.{length};
+ghost use lib.ListN.{length, getD};
 ghost use Rattle.record.specs.Layout.{Record, hundredThousand, mostUnit};
 ghost use Rattle.account.specs.Check.{mostPrompts, mostRows};
 ghost use Rattle.account.specs.Products.{convertedAt, mostConversion, mostFactor, RatesOf};
 ghost use Rattle.account.specs.Records.{records, recordCount};
-ghost use Rattle.margin.specs.Bounds.{mostProduct};
+ghost use Rattle.margin.specs.Bounds.{mostDelta, mostProduct};
 ghost use Rattle.margin.specs.Deltas.{rowDelta};
 ghost use Rattle.margin.specs.Margin.{short, shortOptions};
 ghost use Rattle.margin.specs.Position.{RowFit, RowsFit, RatedBy, FactorsFit, Sized, AtMost, Added, DaysOf};
 ghost use Rattle.margin.specs.Position.{products, ownProducts, convertedProducts};
-ghost use Rattle.margin.specs.Position.{PositionOf, Bounded, WithRows};
+ghost use Rattle.margin.specs.Position.{PositionOf, Bounded, WithRows, HasRows, deltasIn};
+ghost use Rattle.margin.specs.declared.rows.Position.{Position};
 use account::rates::Factors;
 use account::rates::Rates;
 use account::rates::converted;
@@ -24,6 +25,7 @@ use account::rates::per_tick;
 use exact::rounding::half_away_to;
 use exact::signed::is_negative;
 use exact::signed::magnitude;
+use exact::signed::minus;
 use exact::signed::plus;
 use exact::signed::times;
 use record::bytes::RECORD_BYTES;
@@ -156,7 +158,7 @@ fn totals_with(t: Totals, rates: Rates, unit: u64, row: &[u8]) -> Totals
 }
 
 // The days of a contract's prompts.
-pub(crate) fn days_of(prompts: &[u8]) -> Days
+pub fn days_of(prompts: &[u8]) -> Days
     requires { ⌜ recordCount (now prompts) ≤ mostPrompts ⌝ }
     ensures { λ d. ⌜ DaysOf (records (now (prompts .entry))) d ⌝ }
 {
@@ -186,7 +188,7 @@ pub(crate) fn flat() -> Position
 }
 
 // What rows come to with more rows, in one walk over these. A ticket is one row more.
-pub(crate) fn with_rows(p: Position, days: Days, rates: Rates, unit: u64, rows: &[u8]) -> Position
+pub fn with_rows(p: Position, days: Days, rates: Rates, unit: u64, rows: &[u8]) -> Position
     requires { ⌜ (unit ≤ mostUnit) × ((days .count ≤ mostPrompts) × (RowsFit (records (now rows)) × (RatedBy rates (records (now rows)) × Bounded (mostRows - length (records (now rows))) p))) ⌝ }
     ensures added { λ q. ⌜ ((held : List Record) → RatesOf held rates → WithRows held unit days p (records (now (rows .entry))) q) ⌝ }
     ensures more { λ q. ⌜ ((held prompts earlier : List Record) → RatesOf held rates → DaysOf prompts days → PositionOf held unit prompts earlier p → PositionOf held unit prompts (earlier ++ records (now (rows .entry))) q) ⌝ }
@@ -218,6 +220,60 @@ pub(crate) fn with_rows(p: Position, days: Days, rates: Rates, unit: u64, rows: 
         totals,
         nets,
         shorts,
+    }
+}
+
+// Totals with others taken away, one by one.
+fn totals_without(t: Totals, gone: Totals) -> Totals
+    requires { ⌜ AtMost 16 (mostRows * mostProduct) (t .0) × AtMost 16 (mostRows * mostProduct) (gone .0) ⌝ }
+    ensures { λ r. ⌜ Added 16 (λ k. negℤ (getD (gone .0) k (pos 0))) (t .0) (r .0) ⌝ }
+{
+    let gone_from = gone.0;
+    let mut totals = t.0;
+    let mut s = 0;
+    while s < SCENARIOS {
+        totals[s] = minus(totals[s], gone_from[s]);
+        s += 1;
+    }
+    Totals(totals)
+}
+
+fn net_without(net: Delta, gone: Delta) -> Delta
+    requires { ⌜ (natAbs (net .0) ≤ mostDelta) × (natAbs (gone .0) ≤ mostDelta) ⌝ }
+    ensures { λ r. ⌜ r .0 ≡ net .0 -ℤ gone .0 ⌝ }
+{
+    Delta(minus(net.0, gone.0))
+}
+
+// Net deltas with others taken away, one by one.
+fn nets_without(nets: [Delta; MOST_PROMPTS], gone: [Delta; MOST_PROMPTS]) -> [Delta; MOST_PROMPTS]
+    requires { ⌜ AtMost 32 mostDelta (deltasIn nets) × AtMost 32 mostDelta (deltasIn gone) ⌝ }
+    ensures { λ r. ⌜ Added 32 (λ j. negℤ (getD (deltasIn gone) j (pos 0))) (deltasIn nets) (deltasIn r) ⌝ }
+{
+    let mut left = nets;
+    let mut j = 0;
+    while j < MOST_PROMPTS {
+        let net = net_without(left[j], gone[j]);
+        left[j] = net;
+        j += 1;
+    }
+    left
+}
+
+// What rows come to without the last of them, which it has: the position before these rows, in every number.
+pub fn without_rows(p: Position, days: Days, rates: Rates, unit: u64, rows: &[u8]) -> Position
+    requires { ⌜ (unit ≤ mostUnit) × ((days .count ≤ mostPrompts) × (RowsFit (records (now rows)) × (RatedBy rates (records (now rows)) × (Bounded mostRows p × HasRows rates unit days (records (now rows)) p)))) ⌝ }
+    ensures { λ q. ⌜ ((held : List Record) (before : Position) → RatesOf held rates → WithRows held unit days before (records (now (rows .entry))) p → q ≡ before) ⌝ }
+{
+    let gone = with_rows(flat(), days, rates, unit, rows);
+    let its_totals = p.totals;
+    let gone_totals = gone.totals;
+    let its_nets = p.nets;
+    let gone_nets = gone.nets;
+    Position {
+        totals: totals_without(its_totals, gone_totals),
+        nets: nets_without(its_nets, gone_nets),
+        shorts: p.shorts - gone.shorts,
     }
 }
 

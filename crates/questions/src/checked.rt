@@ -3,7 +3,6 @@ use account::accounts::Checked;
 use account::answers::Answer;
 use account::answers::number_of;
 use margin::asking::Question;
-use margin::asking::all_over;
 use margin::asking::answer_over;
 use margin::asking::needed_over;
 ghost use mathlib.Core.Path.{_≡_};
@@ -12,10 +11,10 @@ ghost use Prim.Native.Nat.{_≤_};
 ghost use lib.ListN.{length};
 ghost use Rattle.account.specs.Standing.{CheckedBy};
 ghost use Rattle.margin.specs.Questions.{mostFor};
-ghost use Rattle.questions.specs.Questions.{answerTo, afterTo, needTo, allTo, afterAllTo};
+ghost use Rattle.questions.specs.Questions.{answerTo, afterTo, needTo};
 
 // No records: the noon file of an account that stands in one file.
-fn nothing_of(file: &[u8]) -> &[u8]
+pub(crate) fn nothing_of(file: &[u8]) -> &[u8]
     ensures { λ r. ⌜ now r ≡ [] ⌝ }
 {
     &file[0..0]
@@ -50,17 +49,4 @@ pub(crate) fn needed_checked(file: &[u8], checked: Checked, question: Question) 
     }
     let account = checked.account;
     needed_over(file, nothing_of(file), account, question)
-}
-
-// The books of all questions, or who paid for what in them, each in its place. A refusal writes nothing.
-pub(crate) fn all_checked(file: &[u8], checked: Checked, paid: bool, out: &mut [i64]) -> Answer
-    requires { ⌜ CheckedBy (now file) checked ⌝ }
-    ensures { λ r. ⌜ (r ≡ allTo paid (now (file .entry)) (length (now (out .entry)))) × (now (out .exit) ≡ afterAllTo paid (now (file .entry)) (now (out .entry))) ⌝ }
-{
-    let answer = checked.answer;
-    if number_of(answer) != 0 {
-        return answer;
-    }
-    let account = checked.account;
-    all_over(file, nothing_of(file), account, paid, out)
 }

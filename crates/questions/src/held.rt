@@ -1,11 +1,13 @@
 // "One accepted file is held while several questions are put to it, without checking it again."
-use crate::checked::all_checked;
 use crate::checked::answer_checked;
 use crate::checked::needed_checked;
+use crate::checked::nothing_of;
 use account::accounts::Checked;
 use account::accounts::check_file;
 use account::answers::Answer;
+use account::answers::number_of;
 use margin::asking::Question;
+use margin::asking::everything_over;
 ghost use mathlib.Core.Path.{_≡_};
 ghost use Prim.Native.Nat.{_≤_};
 ghost use lib.ListN.{length};
@@ -36,7 +38,7 @@ pub struct Asked {
     pub uses: Answer,
 }
 
-// Everything that a checked file is asked for.
+// Everything that a checked file is asked for, its positions worked out once.
 fn everything(
     file: &[u8],
     checked: Checked,
@@ -47,10 +49,23 @@ fn everything(
     requires { ⌜ CheckedBy (now file) checked ⌝ }
     ensures { λ r. ⌜ AllAnswered (now (file .entry)) (now (figures .entry)) (now (books .entry)) (now (uses .entry)) r (now (figures .exit)) (now (books .exit)) (now (uses .exit)) ⌝ }
 {
+    let answer = checked.answer;
+    if number_of(answer) != 0 {
+        return Asked {
+            figures: answer,
+            books: answer,
+            uses: answer,
+        };
+    }
+    let account = checked.account;
+    let all = everything_over(file, nothing_of(file), account, figures, books, uses);
+    let of_figures = all.figures;
+    let of_books = all.books;
+    let of_uses = all.uses;
     Asked {
-        figures: answer_checked(file, checked, Question::Figures, figures),
-        books: all_checked(file, checked, false, books),
-        uses: all_checked(file, checked, true, uses),
+        figures: of_figures,
+        books: of_books,
+        uses: of_uses,
     }
 }
 

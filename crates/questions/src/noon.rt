@@ -10,8 +10,8 @@ use exact::signed::below;
 use exact::signed::magnitude;
 use margin::amount::Amount;
 use margin::asking::Question;
-use margin::asking::all_over;
 use margin::asking::answer_over;
+use margin::asking::everything_over;
 use margin::asking::needed_over;
 use margin::over::total_over;
 ghost use mathlib.Core.Path.{_≡_};
@@ -19,7 +19,7 @@ ghost use Prim.Native.Nat.{_≤_};
 ghost use lib.ListN.{length};
 ghost use Rattle.account.specs.Noon.{ofJoined, PairBy};
 ghost use Rattle.margin.specs.Questions.{mostFor};
-ghost use Rattle.questions.specs.Noon.{joinedAnswer, afterJoined, joinedNeed, joinedAll, afterJoinedAll, PairAllAnswered, coverCall, mostAmount, beyondAmount, joinedCall};
+ghost use Rattle.questions.specs.Noon.{joinedAnswer, afterJoined, joinedNeed, PairAllAnswered, coverCall, mostAmount, beyondAmount, joinedCall};
 
 // An answer about the joined account.
 fn of_joined(answer: Answer) -> Verdict
@@ -73,27 +73,6 @@ pub fn needed<'a>(morning: &'a [u8], noon: &'a [u8], question: Question) -> usiz
     needed_over(morning, noon, account, question)
 }
 
-// The books of all questions, or who paid for what in them, each in its place, of a pair that is checked. A refusal writes
-// nothing.
-fn all_pair<'a>(
-    morning: &'a [u8],
-    noon: &'a [u8],
-    checked: CheckedPair,
-    paid: bool,
-    out: &mut [i64],
-) -> Verdict
-    requires { ⌜ PairBy (now morning) (now noon) checked ⌝ }
-    ensures { λ v. ⌜ (v ≡ joinedAll paid (now (morning .entry)) (now (noon .entry)) (length (now (out .entry)))) × (now (out .exit) ≡ afterJoinedAll paid (now (morning .entry)) (now (noon .entry)) (now (out .entry))) ⌝ }
-{
-    let verdict = checked.verdict;
-    let refusal = verdict.answer;
-    if number_of(refusal) != 0 {
-        return verdict;
-    }
-    let account = checked.account;
-    of_joined(all_over(morning, noon, account, paid, out))
-}
-
 // What a pair of files is answered that is asked for everything: its figures, the books of all questions, and their uses.
 pub struct AskedPair {
     pub figures: Verdict,
@@ -112,10 +91,24 @@ pub fn ask_all<'a>(
     ensures { λ r. ⌜ PairAllAnswered (now (morning .entry)) (now (noon .entry)) (now (figures .entry)) (now (books .entry)) (now (uses .entry)) r (now (figures .exit)) (now (books .exit)) (now (uses .exit)) ⌝ }
 {
     let checked = check_pair(morning, noon);
+    let verdict = checked.verdict;
+    let refusal = verdict.answer;
+    if number_of(refusal) != 0 {
+        return AskedPair {
+            figures: verdict,
+            books: verdict,
+            uses: verdict,
+        };
+    }
+    let account = checked.account;
+    let all = everything_over(morning, noon, account, figures, books, uses);
+    let of_figures = all.figures;
+    let of_books = all.books;
+    let of_uses = all.uses;
     AskedPair {
-        figures: answer_pair(morning, noon, checked, Question::Figures, figures),
-        books: all_pair(morning, noon, checked, false, books),
-        uses: all_pair(morning, noon, checked, true, uses),
+        figures: of_joined(of_figures),
+        books: of_joined(of_books),
+        uses: of_joined(of_uses),
     }
 }
 

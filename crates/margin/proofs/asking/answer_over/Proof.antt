@@ -27,14 +27,14 @@ answer-figures-requires c κs = search needs
 enum-known-question : tie.Need-enum-known-question
 enum-known-question c = search needs
 
-answer-book-requires : tie.Need-answer-book-requires
-answer-book-requires c κs = search needs
+answer-question-requires : tie.Need-answer-question-requires
+answer-question-requires c κs = search needs
 
 enum-known-question-2 : tie.Need-enum-known-question-2
 enum-known-question-2 c = search needs
 
-answer-uses-requires : tie.Need-answer-uses-requires
-answer-uses-requires c κs = search needs
+answer-question-requires-2 : tie.Need-answer-question-requires-2
+answer-question-requires-2 c κs = search needs
 
 same-length : tie.Need-same-length
 same-length c = search needs
@@ -51,8 +51,8 @@ same-length-2 c = search needs
 returns-2 : tie.Need-returns-2
 returns-2 c =
     let s = c .before .before .before .before .before .before .before .before in
-    let r = c .before .answer-book in
-    answered (accountOf (s .args .morning .now) (s .args .noon .now)) (r .result) (r .last .1 .1 .1 .1 .0) (s .args .out .now) _ _ (c .before .before .before .before .question .given .1) (r .ensures)
+    let r = c .before .answer-question in
+    answered (accountOf (s .args .morning .now) (s .args .noon .now)) (r .result) (r .last .1 .1 .1 .1 .1 .0) (s .args .out .now) _ _ (c .before .before .before .before .question .given .1) (r .ensures)
 
 same-length-3 : tie.Need-same-length-3
 same-length-3 c = search needs
@@ -60,8 +60,8 @@ same-length-3 c = search needs
 returns-3 : tie.Need-returns-3
 returns-3 c =
     let s = c .before .before .before .before .before .before .before .before in
-    let r = c .before .answer-uses in
-    answered (accountOf (s .args .morning .now) (s .args .noon .now)) (r .result) (r .last .1 .1 .1 .1 .0) (s .args .out .now) _ _ (c .before .before .before .before .question2 .given .1) (r .ensures)
+    let r = c .before .answer-question2 in
+    answered (accountOf (s .args .morning .now) (s .args .noon .now)) (r .result) (r .last .1 .1 .1 .1 .1 .0) (s .args .out .now) _ _ (c .before .before .before .before .question2 .given .1) (r .ensures)
 
 pub answer-over-spec : {M : Type 1} → statement M
 answer-over-spec =
@@ -70,9 +70,9 @@ answer-over-spec =
     enum-told
     answer-figures-requires
     enum-known-question
-    answer-book-requires
+    answer-question-requires
     enum-known-question-2
-    answer-uses-requires
+    answer-question-requires-2
     same-length
     returns
     same-length-2

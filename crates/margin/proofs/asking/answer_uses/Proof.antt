@@ -1,116 +1,57 @@
--- What each step takes of each prompt: not to be asked, too few numbers lent, or written at the front.
+-- What each step takes of each prompt: too few numbers lent, or written at the front.
 -- Assumes nothing.
-use mathlib.Core.Path.{_≡_, refl, sym, ap, ap₂, _∙_}
-use mathlib.Core.List.{List}
-use mathlib.Core.Bool.{true, false}
-use Prim.Native.Nat.{_*_, _≤_}
+use mathlib.Core.Path.{refl, sym, ap, _∙_}
+use Prim.Native.Nat.{_≤_}
 use native.Mathlib.Omega.{arith}
 use borrow.Author.Needs.{needs}
-use borrow.Author.Tests.{not-true, not-false}
 use lib.ListN.{length}
 use lib.Seq.{sets}
-use Rattle.account.specs.Standing.{accountOf}
-use Rattle.account.specs.declared.answers.Answer.the-variants.{TooFewNumbers, NoSuchQuestion}
-use Rattle.spread.specs.Accepted as given
-use Rattle.spread.specs.Accepted.{openOf}
-use Rattle.spread.specs.Steps.{Open, Taker}
-use Rattle.spread.specs.Uses.{usesOf}
-use Rattle.margin.specs.Books.{answered}
+use Rattle.account.specs.declared.answers.Answer.the-variants.{TooFewNumbers}
 use Rattle.margin.specs.Uses.{uses}
 use Rattle.margin.specs.declared.asking.Question.the-variants.{Uses}
-use Rattle.margin.proofs.AskedLaws.{asked-is}
+use Rattle.margin.proofs.AnswerLaws.{uses-same, uses-many}
 use Rattle.margin.proofs.NumberLaws.{sets-front}
-use Rattle.margin.proofs.UsesLaws.{uses-by-steps}
-use Rattle.margin.proofs.QuestionLaws.{not-asked, asked-few, asked-many, refused-with, accepted-with}
+use Rattle.margin.proofs.QuestionLaws.{asked-few, asked-many, refused-with, accepted-with}
 use Rattle.margin.proofs.asking.answer_uses.Statement.{statement}
 use Rattle.margin.proofs.asking.answer_uses.Tie as tie
 
-is-asked-requires : tie.Need-is-asked-requires
-is-asked-requires c κs = search needs
-
--- whether the account answers the question
-asked : (c : tie.After-is-asked)
-    → let s = c .before .before .before in
-    answered (accountOf (s .args .morning .now) (s .args .noon .now)) (s .args .question) ≡ c .is-asked .result
-asked c =
-    let s = c .before .before .before in
-    sym (c .is-asked .ensures ∙ asked-is (accountOf (s .args .morning .now) (s .args .noon .now)) (s .pre .lawful) (s .args .account .counts) (s .pre .places .counts) (s .args .question))
-
-record-total-requires : tie.Need-record-total-requires
-record-total-requires c κs = search needs
+uses-count-requires : tie.Need-uses-count-requires
+uses-count-requires c κs = search needs
 
 returns : tie.Need-returns
 returns c =
-    let s = c .before .before .before .before .before in
-    let a = accountOf (s .args .morning .now) (s .args .noon .now) in
-    let q = s .args .question in
-    refused-with (NoSuchQuestion (c .record-total .result)) _ (uses a q) (s .args .out .now)
-    (not-asked a (Uses q) (length (s .args .out .now)) (asked (c .before .before) ∙ not-true (c .before .before .is-asked .result) (c .before .if1 .taken)) ∙ ap NoSuchQuestion (sym (c .record-total .ensures ∙ s .pre .places .all))) (λ e. omega arith)
-
-asking-over-requires : tie.Need-asking-over-requires
-asking-over-requires c κs = (c .before .before .before .before .pre, asked (c .before) ∙ not-false (c .before .is-asked .result) (c .if1 .left))
-
--- what the steps take is who paid for what
-paid : (c : tie.After-asking-over)
-    → let s = c .before .before .before .before .before in
-    usesOf (given.stepsOf (c .asking-over .result .table)) (openOf (c .asking-over .result .prompts)) ≡ uses (accountOf (s .args .morning .now) (s .args .noon .now)) (s .args .question)
-paid c =
-    let s = c .before .before .before .before .before in
-    let o = c .asking-over .ensures in
-    ap₂ usesOf (o .steps) (o .opens)
-    ∙ sym (uses-by-steps (accountOf (s .args .morning .now) (s .args .noon .now)) (s .pre .lawful) (s .args .question) (asked (c .before .before) ∙ not-false (c .before .before .is-asked .result) (c .before .if1 .left)))
-
-many : (c : tie.After-asking-over)
-    → let s = c .before .before .before .before .before in
-    length (uses (accountOf (s .args .morning .now) (s .args .noon .now)) (s .args .question)) ≡ c .asking-over .result .table .count * (2 * c .asking-over .result .prompts .count)
-many c =
-    let o = c .asking-over .ensures in
-    ap length (sym (paid c)) ∙ ap₂ (λ (ss : List (List Taker)) (ps : List Open). length (usesOf ss ps)) (o .steps) (o .opens) ∙ o .many
-
-uses-count-requires : tie.Need-uses-count-requires
-uses-count-requires c κs = c .before .before .asking-over .ensures .accepted
-
-record-total-requires-2 : tie.Need-record-total-requires-2
-record-total-requires-2 c κs = search needs
-
-returns-2 : tie.Need-returns-2
-returns-2 c =
-    let s = c .before .before .before .before .before .before .before .before .before .before in
-    let a = accountOf (s .args .morning .now) (s .args .noon .now) in
-    let q = s .args .question in
-    refused-with (TooFewNumbers (c .record-total2 .result)) _ (uses a q) (s .args .out .now)
-    (asked-few a (Uses q) (length (s .args .out .now)) (asked (c .before .before .before .before .before .before .before) ∙ not-false (c .before .before .before .before .before .before .before .is-asked .result) (c .before .before .before .before .before .before .if1 .left))
-    (omega (arith, many (c .before .before .before .before .before), c .before .before .uses-count .ensures, c .before .if2 .taken))
-    ∙ ap TooFewNumbers (sym (c .record-total2 .ensures ∙ s .pre .places .all))) (λ e. omega arith)
+    let s = c .before .before .before .before in
+    let out = s .args .out .now in
+    λ whole question h.
+    refused-with (TooFewNumbers (s .args .records)) _ (uses whole question) out
+    (asked-few whole (Uses question) (length out) (h .asked-is)
+    (omega (arith, uses-many whole question (s .args .records) (s .args .asking) h, c .before .uses-count .ensures, c .if1 .taken))
+    ∙ ap TooFewNumbers (sym (h .records-are))) (λ e. omega arith)
 
 put-uses-requires : tie.Need-put-uses-requires
-put-uses-requires c κs = (c .before .before .before .before .before .asking-over .ensures .accepted, omega (arith, c .before .before .uses-count .ensures))
+put-uses-requires c κs = (c .before .before .before .before .before .pre, omega (arith, c .before .before .uses-count .ensures, c .before .if1 .left))
 
 same-length : tie.Need-same-length
 same-length c = search needs
 
-returns-3 : tie.Need-returns-3
-returns-3 c =
-    let s = c .before .before .before .before .before .before .before .before .before .before .before .before in
-    let a = accountOf (s .args .morning .now) (s .args .noon .now) in
-    let q = s .args .question in
-    let o = c .before .before .before .before .before .before .before in
-    let enough : length (uses a q) ≤ length (s .args .out .now) = omega (arith, many o, c .before .before .before .before .uses-count .ensures) in
-    accepted-with _ (uses a q) (s .args .out .now) (c .before .put-uses .last .0) (length (uses a q))
-    (asked-many a (Uses q) (length (s .args .out .now)) (asked (c .before .before .before .before .before .before .before .before .before) ∙ not-false (c .before .before .before .before .before .before .before .before .before .is-asked .result) (c .before .before .before .before .before .before .before .before .if1 .left)) enough)
-    refl (c .before .put-uses .ensures ∙ ap (sets (s .args .out .now) 0) (paid o) ∙ sets-front (uses a q) (s .args .out .now) enough)
+returns-2 : tie.Need-returns-2
+returns-2 c =
+    let s = c .before .before .before .before .before .before .before in
+    let out = s .args .out .now in
+    λ whole question h.
+    let enough : length (uses whole question) ≤ length out =
+    omega (arith, uses-many whole question (s .args .records) (s .args .asking) h, c .before .before .before .before .uses-count .ensures, c .before .before .before .if1 .left)
+    in
+    accepted-with _ (uses whole question) out (c .before .put-uses .last .0) (length (uses whole question))
+    (asked-many whole (Uses question) (length out) (h .asked-is) enough) refl
+    (c .before .put-uses .ensures ∙ ap (sets out 0) (uses-same whole question (s .args .records) (s .args .asking) h) ∙ sets-front (uses whole question) out enough)
 
 pub answer-uses-spec : {M : Type 1} → statement M
 answer-uses-spec =
     tie.close
     (tie.spec
-    is-asked-requires
-    record-total-requires
-    returns
-    asking-over-requires
     uses-count-requires
-    record-total-requires-2
-    returns-2
+    returns
     put-uses-requires
     same-length
-    returns-3)
+    returns-2)

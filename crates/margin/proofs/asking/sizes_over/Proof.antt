@@ -1,7 +1,7 @@
 -- The account knows how many contracts, prompts and spreads there are.
 -- Assumes nothing.
-use mathlib.Core.Path.{sym, ap₂, subst₂}
-use Prim.Native.Nat.{ℕ, _≤_}
+use mathlib.Core.Path.{sym, subst₂}
+use Prim.Native.Nat.{_≤_}
 use native.Mathlib.Omega.{arith}
 use borrow.Author.Needs.{needs}
 use Rattle.account.specs.Standing.{accountOf}
@@ -21,7 +21,7 @@ returns : tie.Need-returns
 returns c =
     let s = c .before .before .before .before .before in
     subst₂ (SizesOf (accountOf (s .args .morning .now) (s .args .noon .now)) (s .args .question)) (sym (c .before .contract-total .ensures)) (sym (c .part-total .ensures))
-    (table-sizes (s .args .morning .now) (s .args .noon .now) (s .args .account) (s .pre .0) (s .args .question) (c .before .before .if1 .taken))
+    (table-sizes (s .args .morning .now) (s .args .noon .now) (s .args .account) (s .pre .0) (s .args .question) (s .pre .1) (c .before .before .if1 .taken))
 
 -- the question is a contract's number
 small : (c : tie.Else1) → c .before .before .before .args .question ≤ 15

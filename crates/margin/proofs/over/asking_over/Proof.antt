@@ -10,20 +10,30 @@ use Rattle.account.specs.Parts.{entriesOf}
 use Rattle.margin.specs.Contract.{contracts, partsOf, asTier, stepsOf, opensOf, tableSteps}
 use Rattle.margin.specs.Uses.{Asks}
 use Rattle.margin.proofs.AskedLaws.{asked-small}
+use Rattle.margin.proofs.BesideLaws.{alone}
 use Rattle.margin.proofs.over.asking_over.Statement.{statement}
 use Rattle.margin.proofs.over.asking_over.Tie as tie
 
+tiers-over-requires : tie.Need-tiers-over-requires
+tiers-over-requires c κs = search needs
+
 table-asking-requires : tie.Need-table-asking-requires
-table-asking-requires c κs = search needs
+table-asking-requires c κs =
+    let s = c .before .before .before .before in
+    let m = s .args .morning .now in
+    let n = s .args .noon .now in
+    (s .pre .0, record { whole = accountOf m n; beside = alone m n (s .args .account) (s .pre .0); is = c .tiers-over .ensures })
 
 returns : tie.Need-returns
 returns c =
-    let s = c .before .before .before .before in
-    let a = accountOf (s .args .morning .now) (s .args .noon .now) in
+    let s = c .before .before .before .before .before in
+    let m = s .args .morning .now in
+    let n = s .args .noon .now in
+    let a = accountOf m n in
     let q = s .args .question in
     subst
     (λ (t : Bool). Asks (cond t (tableSteps (entriesOf a)) (stepsOf (partsOf a q))) (cond t (map asTier (contracts a)) (opensOf (partsOf a q))) (c .table-asking .result))
-    (sym (eq-eqb q 16 (c .before .if1 .taken))) (c .table-asking .ensures)
+    (sym (eq-eqb q 16 (c .before .before .if1 .taken))) (c .table-asking .ensures a (alone m n (s .args .account) (s .pre .0)) (c .before .tiers-over .ensures))
 
 asking-of-requires : tie.Need-asking-of-requires
 asking-of-requires c κs =
@@ -40,4 +50,11 @@ returns-2 c =
     (sym (ne-eqb q 16 (c .before .if1 .left))) (c .asking-of .ensures)
 
 pub asking-over-spec : {M : Type 1} → statement M
-asking-over-spec = tie.close (tie.spec table-asking-requires returns asking-of-requires returns-2)
+asking-over-spec =
+    tie.close
+    (tie.spec
+    tiers-over-requires
+    table-asking-requires
+    returns
+    asking-of-requires
+    returns-2)

@@ -7,10 +7,10 @@ use Rattle.margin.proofs.over.contract_asking.Statement.{statement}
 use Rattle.margin.proofs.over.contract_asking.Tie as tie
 
 prompts-with-requires : tie.Need-prompts-with-requires
-prompts-with-requires c κs = let s = c .before .before .before in omega (arith, s .pre .fit .few-prompts, count-is (s .args .prompts .now))
+prompts-with-requires c κs = let s = c .before .before .before in omega (arith, s .pre .fits .fit .few-prompts, count-is (s .args .prompts .now))
 
 interprompt-table-requires : tie.Need-interprompt-table-requires
-interprompt-table-requires c κs = let s = c .before .before .before .before in omega (arith, s .pre .fit .few-spreads, count-is (s .args .spreads .now))
+interprompt-table-requires c κs = let s = c .before .before .before .before in omega (arith, s .pre .fits .fit .few-spreads, count-is (s .args .spreads .now))
 
 returns : tie.Need-returns
 returns c =

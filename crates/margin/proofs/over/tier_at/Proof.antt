@@ -9,7 +9,7 @@ use lib.Dec.{lit≤}
 use lib.ListN.{getD}
 use Rattle.account.specs.Parts.{contractsOf}
 use Rattle.account.specs.Standing.{accountOf}
-use Rattle.margin.proofs.AcceptLaws.{rows-unrated}
+use Rattle.margin.proofs.AcceptLaws.{none-within, rows-unrated}
 use Rattle.margin.proofs.StandLaws.{number-at, listed-at, own-number}
 use Rattle.margin.proofs.TierLaws.{tier-sizes, tier-is}
 use Rattle.margin.proofs.over.tier_at.Statement.{statement}
@@ -44,7 +44,7 @@ contract-net-requires : tie.Need-contract-net-requires
 contract-net-requires c κs =
     let s = c .before .before .before .before .before .before in
     let p = c .before .position-at in
-    tier-sizes (accountOf (s .args .morning .now) (s .args .noon .now)) (s .pre .0 .lawful) (c .before .before .before .contract-number .result) (p .result)
+    tier-sizes (accountOf (s .args .morning .now) (s .args .noon .now)) (s .pre .0 .lawful) [] [] none-within (c .before .before .before .contract-number .result) (p .result)
     (p .ensures [] (c .before .before .no-rates .ensures))
 
 cast-t10 : tie.Need-cast-t10
@@ -57,7 +57,7 @@ returns c =
     let n = s .args .noon .now in
     let k = c .before .before .before .before .contract-number in
     let p = c .before .before .position-at in
-    tier-is (accountOf m n) (s .pre .0 .lawful) (k .result) (p .result) (p .ensures [] (c .before .before .before .no-rates .ensures)) (getD (contractsOf (accountOf m n)) (s .args .i) []) (c .contract-net .result .0)
+    tier-is (accountOf m n) (s .pre .0 .lawful) [] [] none-within (k .result) (p .result) (p .ensures [] (c .before .before .before .no-rates .ensures)) (getD (contractsOf (accountOf m n)) (s .args .i) []) (c .contract-net .result .0)
     (number-at m n (s .args .account) (s .pre .0) (s .args .i) (s .pre .1) (k .result) (k .ensures)) (small (c .before .before .before .before)) (c .contract-net .ensures)
 
 pub tier-at-spec : {M : Type 1} → statement M

@@ -8,14 +8,10 @@ use lib.ListN.{length}
 use denote.Ref.{now}
 use borrow.Author.Needs.{needs}
 use Rattle.account.specs.Records.{records}
-use Rattle.margin.specs.Position.{RowsFit}
 use Rattle.margin.proofs.RecordLaws.{count-is}
-use Rattle.margin.proofs.PositionBounds.{bounded, wider}
+use Rattle.margin.proofs.PositionBounds.{no-rows, bounded, wider}
 use Rattle.margin.proofs.rows.position_of.Statement.{statement}
 use Rattle.margin.proofs.rows.position_of.Tie as tie
-
-no-rows : RowsFit []
-no-rows = record { few = omega arith; each = λ k h. absurd (not-suc-le-zero h) }
 
 flat-requires : tie.Need-flat-requires
 flat-requires c κs = search needs

@@ -1,20 +1,50 @@
--- The three answers, one after the other, of a pair that is checked once.
+-- Everything that a pair of files is asked for: its refusal three times, or what the joined account answers.
 -- Assumes nothing.
+use mathlib.Core.Path.{_≡_, sym, _∙_}
+use mathlib.Core.Bool.{true, false}
+use native.Mathlib.Omega.{arith}
 use borrow.Author.Needs.{needs}
+use Rattle.account.specs.Answers.{numberOf}
+use Rattle.margin.specs.declared.asking.Question.the-variants.{Figures}
+use Rattle.questions.proofs.NoonLaws.{pair-stands, answer-refused, answer-accepted, all-refused, all-accepted}
 use Rattle.questions.proofs.noon.ask_all.Statement.{statement}
 use Rattle.questions.proofs.noon.ask_all.Tie as tie
 
 check-pair-requires : tie.Need-check-pair-requires
 check-pair-requires c κs = search needs
 
-answer-pair-requires : tie.Need-answer-pair-requires
-answer-pair-requires c κs = search needs
+number-of-requires : tie.Need-number-of-requires
+number-of-requires c κs = search needs
 
-all-pair-requires : tie.Need-all-pair-requires
-all-pair-requires c κs = search needs
+-- nothing is refused
+clear : (c : tie.Else1) → numberOf (c .before .before .before .check-pair .result .verdict .answer) ≡ 0
+clear c = sym (c .before .number-of .ensures) ∙ omega (arith, c .if1 .left)
 
-all-pair-requires-2 : tie.Need-all-pair-requires-2
-all-pair-requires-2 c κs = search needs
+returns : tie.Need-returns
+returns c =
+    let s = c .before .before .before .before .before .before in
+    let m = s .args .morning .now in
+    let n = s .args .noon .now in
+    let k = c .before .before .before .check-pair in
+    let f = answer-refused m n (k .result) (k .ensures) (λ e. c .if1 .taken (c .before .number-of .ensures ∙ e)) Figures (s .args .figures .now) in
+    let b = all-refused m n (k .result) (k .ensures) (λ e. c .if1 .taken (c .before .number-of .ensures ∙ e)) false (s .args .books .now) in
+    let u = all-refused m n (k .result) (k .ensures) (λ e. c .if1 .taken (c .before .number-of .ensures ∙ e)) true (s .args .uses .now) in
+    record { figures-answer = f .0; figures-after = f .1; books-answer = b .0; books-after = b .1; uses-answer = u .0; uses-after = u .1 }
+
+everything-over-requires : tie.Need-everything-over-requires
+everything-over-requires c κs =
+    let s = c .before .before .before .before .before .before .before .before .before .before in
+    let k = c .before .before .before .before .before .before .before .check-pair in
+    pair-stands (s .args .morning .now) (s .args .noon .now) (k .result) (k .ensures) (clear (c .before .before .before .before))
+
+of-joined-requires : tie.Need-of-joined-requires
+of-joined-requires c κs = search needs
+
+of-joined-requires-2 : tie.Need-of-joined-requires-2
+of-joined-requires-2 c κs = search needs
+
+of-joined-requires-3 : tie.Need-of-joined-requires-3
+of-joined-requires-3 c κs = search needs
 
 same-length : tie.Need-same-length
 same-length c = search needs
@@ -25,29 +55,32 @@ same-length-2 c = search needs
 same-length-3 : tie.Need-same-length-3
 same-length-3 c = search needs
 
-returns : tie.Need-returns
-returns c =
-    let f = c .before .before .before .before .before .before .before .answer-pair .ensures in
-    let b = c .before .before .before .before .all-pair .ensures in
-    let u = c .before .all-pair2 .ensures in
-    record {
-      figures-answer = f .0;
-      figures-after = f .1;
-      books-answer = b .0;
-      books-after = b .1;
-      uses-answer = u .0;
-      uses-after = u .1;
-    }
+returns-2 : tie.Need-returns-2
+returns-2 c =
+    let s = c .before .before .before .before .before .before .before .before .before .before .before .before .before .before .before .before .before in
+    let m = s .args .morning .now in
+    let n = s .args .noon .now in
+    let k = c .before .before .before .before .before .before .before .before .before .before .before .before .before .before .check-pair in
+    let z = clear (c .before .before .before .before .before .before .before .before .before .before .before) in
+    let r = c .before .before .before .before .before .before .everything-over in
+    let x = r .ensures in
+    let f = answer-accepted m n (k .result) (k .ensures) z Figures (s .args .figures .now) _ (r .result .figures) (c .before .before .of-joined .result) (c .before .before .of-joined .ensures) (x .figures-answer, x .figures-after) in
+    let b = all-accepted m n (k .result) (k .ensures) z false (s .args .books .now) _ (r .result .books) (c .before .of-joined2 .result) (c .before .of-joined2 .ensures) (x .books-answer, x .books-after) in
+    let u = all-accepted m n (k .result) (k .ensures) z true (s .args .uses .now) _ (r .result .uses) (c .of-joined3 .result) (c .of-joined3 .ensures) (x .uses-answer, x .uses-after) in
+    record { figures-answer = f .0; figures-after = f .1; books-answer = b .0; books-after = b .1; uses-answer = u .0; uses-after = u .1 }
 
 pub ask-all-spec : {M : Type 1} → statement M
 ask-all-spec =
     tie.close
     (tie.spec
     check-pair-requires
-    answer-pair-requires
-    all-pair-requires
-    all-pair-requires-2
+    number-of-requires
+    returns
+    everything-over-requires
+    of-joined-requires
+    of-joined-requires-2
+    of-joined-requires-3
     same-length
     same-length-2
     same-length-3
-    returns)
+    returns-2)

@@ -1,0 +1,203 @@
+-- A question's book and uses go by its steps and by what they go over: the numbers that are made of them answer it.
+-- Assumes nothing.
+use Prim.Native.Nat.{ℕ, zero, suc, _+_, _*_, _≤_, _<_}
+use native.Mathlib.Nat.{le-trans, mul-le-mul-right}
+use native.Mathlib.Omega.{arith}
+use mathlib.Core.Path.{_≡_, refl, sym, ap, ap₂, _∙_}
+use mathlib.Core.Bool.{Bool, true, false, cond}
+use mathlib.Core.List.{List, [], _∷_, _++_, map}
+use borrow.Author.Tests.{eqb-true, eqb-false}
+use lib.Dec.{eqb}
+use lib.IntN.{ℤ, pos}
+use lib.ListN.{length, getD, take, length-append, length-map}
+use lib.Seq.{length-take-le}
+use Rattle.record.specs.Layout.{Record, tier}
+use Rattle.account.specs.Lawful.{Lawful}
+use Rattle.account.specs.Parts.{promptsOf, rowsOf, entriesOf}
+use Rattle.spread.specs.Accepted as given
+use Rattle.spread.specs.Accepted.{openOf, spreadsOf, soundPrompts, soundTable, sound}
+use Rattle.spread.specs.Steps.{Open, Taker, steps, numbers, usedOf, unusedOf}
+use Rattle.spread.specs.Touches.{touches, CountedBook}
+use Rattle.spread.specs.Uses.{usesOf}
+use Rattle.spread.specs.declared.Delta.{Delta}
+use Rattle.spread.specs.declared.Prompts.{Prompts}
+use Rattle.spread.specs.declared.Spread.{Spread}
+use Rattle.spread.specs.declared.Table.{Table}
+use Rattle.spread.specs.declared.touches.Counted.{Counted}
+use Rattle.spread.proofs.Both.{and-left, and-right}
+use Rattle.spread.proofs.Demand3.{one-per-step}
+use Rattle.spread.proofs.Every.{open-length}
+use Rattle.spread.proofs.Gathering.{few, all-sound}
+use Rattle.margin.specs.declared.asking.Question.the-variants.{Book}
+use Rattle.margin.specs.declared.numbers.Numbers.{Numbers}
+use Rattle.margin.specs.declared.uses.Asking.{Asking}
+use Rattle.margin.specs.Books.{threes, bookBy, contractBook, tableBook, answered, book}
+use Rattle.margin.specs.Bounds.{mostDelta, longestBook}
+use Rattle.margin.specs.Contract.{Contract, contracts, partsOf, asTier, contractNet, stepsOf, opensOf, tableSteps}
+use Rattle.margin.specs.Deltas.{opens, netDeltas}
+use Rattle.margin.specs.Numbers.{written, SpreadsSigned, AllOf}
+use Rattle.margin.specs.Promised.{BookOf}
+use Rattle.margin.specs.Questions.{Holds, AskedBy}
+use Rattle.margin.specs.Sums.{deltasIn, interleaved}
+use Rattle.margin.specs.Uses.{uses, stepsFor, opensFor}
+use Rattle.margin.proofs.AskedLaws.{contract-asked, table-asked, threes-length}
+use Rattle.margin.proofs.BookLaws.{first-at, second-at, book-accepted, touches-accepted, book-listed}
+use Rattle.margin.proofs.LineLaws.{steps-length, used-length, unused-length}
+use Rattle.margin.proofs.NumberLaws.{with-last}
+use Rattle.margin.proofs.StepBounds.{number-within}
+use Rattle.margin.proofs.TierLaws.{sound-sizes}
+use Rattle.margin.proofs.UsesLaws.{few-in-table, uses-by-steps}
+
+-- ---- what is unused at first is the net delta
+
+unused-nets : (rs : List Record) (ns : List ℤ) → length ns ≡ length rs → map (λ p. p .unused) (opens rs ns) ≡ ns
+unused-nets [] [] e = refl
+unused-nets [] (n ∷ ns) e = absurd (omega arith)
+unused-nets (r ∷ rs) [] e = absurd (omega arith)
+unused-nets (r ∷ rs) (n ∷ ns) e = ap (λ (xs : List ℤ). n ∷ xs) (unused-nets rs ns (omega arith))
+
+unused-tiers : (ks : List Contract) → map (λ p. p .unused) (map asTier ks) ≡ map contractNet ks
+unused-tiers [] = refl
+unused-tiers (k ∷ ks) = ap (λ (xs : List ℤ). contractNet k ∷ xs) (unused-tiers ks)
+
+unused-given : (n : ℕ) (ts : List ℕ) (ds : List Delta) → length ds ≤ length ts → map (λ p. p .unused) (take n (given.opens ts ds)) ≡ take n (deltasIn ds)
+unused-given zero ts ds h = refl
+unused-given (suc n) [] [] h = refl
+unused-given (suc n) [] (d ∷ ds) h = absurd (omega arith)
+unused-given (suc n) (t ∷ ts) [] h = refl
+unused-given (suc n) (t ∷ ts) (d ∷ ds) h = ap (λ (xs : List ℤ). d .0 ∷ xs) (unused-given n ts ds (omega arith))
+
+-- ---- the book by its steps
+
+pub book-by-steps : (account : List Record) → Lawful account → (question : ℕ) → answered account question ≡ true
+    → book account question ≡ bookBy (stepsFor account question) (opensFor account question)
+book-by-steps account law question a = go (eqb question 16) refl
+  where
+    ps : List Record
+    ps = promptsOf question account
+
+    ns : List ℤ
+    ns = netDeltas ps (rowsOf question account)
+
+    go : (t : Bool) → eqb question 16 ≡ t → book account question ≡ bookBy
+        (cond t (tableSteps (entriesOf account)) (stepsOf (partsOf account question))) (cond t (map asTier (contracts account)) (opensOf (partsOf account question)))
+    go true e =
+        let ss = tableSteps (entriesOf account) in
+        let os = map asTier (contracts account) in
+        table-asked account law contractBook tableBook (λ own. refl) question (eqb-true question 16 e)
+        ∙ ap (λ (xs : List ℤ). (threes xs (usedOf ss os) (unusedOf ss os) ++ map pos (numbers ss os)) ++ (pos (touches ss os) ∷ [])) (sym (unused-tiers (contracts account)))
+    go false e =
+        let ss = stepsOf (partsOf account question) in
+        let os = opensOf (partsOf account question) in
+        contract-asked account law contractBook tableBook (λ own. refl) question a (eqb-false question 16 e)
+        ∙ ap (λ (xs : List ℤ). (threes xs (usedOf ss os) (unusedOf ss os) ++ map pos (numbers ss os)) ++ (pos (touches ss os) ∷ []))
+        (sym (unused-nets (promptsOf question account) (netDeltas (promptsOf question account) (rowsOf question account)) (length-map (promptsOf question account) _)))
+
+by-length : (spreads : List Spread) (ps : List Open) → length (bookBy (steps spreads) ps) ≡ 3 * length ps + 2 * length spreads + 1
+by-length spreads ps =
+    let ss = steps spreads in
+    let n : length (map (λ p. p .unused) ps) ≡ length ps = length-map ps (λ p. p .unused) in
+    let t = threes-length (map (λ p. p .unused) ps) (usedOf ss ps) (unusedOf ss ps) (used-length ss ps ∙ sym n) (unused-length ss ps ∙ sym n) in
+    let m : length (map pos (numbers ss ps)) ≡ 2 * length spreads = length-map (numbers ss ps) pos ∙ one-per-step ss ps ∙ steps-length spreads in
+    let a = length-append (threes (map (λ p. p .unused) ps) (usedOf ss ps) (unusedOf ss ps)) (map pos (numbers ss ps)) in
+    length-append (threes (map (λ p. p .unused) ps) (usedOf ss ps) (unusedOf ss ps) ++ map pos (numbers ss ps)) (pos (touches ss ps) ∷ [])
+    ∙ ap (λ (k : ℕ). k + 1) (a ∙ ap₂ _+_ (t ∙ ap (λ (k : ℕ). 3 * k) n) m)
+
+-- ---- the numbers of a book, as the code makes them
+
+-- with so many prompts and spreads, without the last
+pub record PartNumbers (parts : List ℤ) (prompts spreads : ℕ) (n : Numbers) : Type 0 where
+  pub listed-is : written n ≡ parts
+  pub count-is : n .count ≡ 3 * prompts + 2 * spreads
+  pub few : n .count < longestBook
+
+module _ (p : Prompts) (t : Table) (lt : length (p .tier) ≡ 32) (ln : length (p .net) ≡ 32) (ls : length (t .spread) ≡ 32) (ok : sound p t ≡ true) where
+  abbrev ss : List (List Taker)
+  ss = given.stepsOf t
+
+  abbrev ps : List Open
+  ps = openOf p
+
+  prompts-ok : soundPrompts p ≡ true
+  prompts-ok = and-left (soundPrompts p) (soundTable t) ok
+
+  pub few-prompts : p .count ≤ 32
+  few-prompts = few p prompts-ok
+
+  pub few-spreads : t .count ≤ 32
+  few-spreads = few-in-table t (and-right (soundPrompts p) (soundTable t) ok)
+
+  ps-long : length ps ≡ p .count
+  ps-long = open-length p lt ln few-prompts
+
+  spreads-long : length (spreadsOf t) ≡ t .count
+  spreads-long = length-take-le (t .count) (t .spread) (omega (arith, ls, few-spreads))
+
+  formed-most : (j : ℕ) → getD (numbers ss ps) j 0 ≤ 40960000000000
+  formed-most j =
+      let z = sound-sizes ps (all-sound p prompts-ok) in
+      let m = mul-le-mul-right mostDelta few-prompts in
+      le-trans (number-within ss ps j) (omega (arith, ap (λ (x : ℕ). x * mostDelta) ps-long))
+
+  module _ (c : Counted) (is : CountedBook p t c) where
+    book-is : BookOf ss ps (c .book)
+    book-is = book-accepted ss ps p t (c .book) refl refl ok (is .book)
+
+    -- the numbers formed can be written signed
+    pub signed : SpreadsSigned (t .count) (c .book .first) (c .book .second)
+    signed =
+        let f = few-spreads in
+        record {
+          most = omega arith;
+          first-within = λ k h. let x = first-at book-is k (omega arith) in let y = formed-most (2 * k) in omega arith;
+          second-within = λ k h. let x = second-at book-is k (omega arith) in let y = formed-most (2 * k + 1) in omega arith;
+        }
+
+    -- the numbers but for the last
+    pub listed : (r : Numbers) → r .count ≡ 3 * p .count + 2 * t .count
+        → written r ≡ threes (take (p .count) (deltasIn (p .net))) (take (p .count) (deltasIn (c .book .used))) (take (p .count) (deltasIn (c .book .unused))) ++ map pos (interleaved (take (t .count) (c .book .first)) (take (t .count) (c .book .second)))
+        → PartNumbers (threes (map (λ p. p .unused) ps) (usedOf ss ps) (unusedOf ss ps) ++ map pos (numbers ss ps)) (p .count) (t .count) r
+    listed r ec el =
+        let fp = few-prompts in
+        let fs = few-spreads in
+        record {
+          listed-is =
+              book-listed ss ps (c .book) (take (p .count) (deltasIn (p .net))) (p .count) (t .count) (written r) book-is ps-long fp
+              (one-per-step ss ps ∙ steps-length (spreadsOf t) ∙ ap (λ (x : ℕ). 2 * x) spreads-long) fs (used-length ss ps ∙ ps-long) (unused-length ss ps ∙ ps-long) el
+              ∙ ap (λ (zs : List ℤ). threes zs (usedOf ss ps) (unusedOf ss ps) ++ map pos (numbers ss ps)) (sym (unused-given (p .count) (p .tier) (p .net) (omega (arith, lt, ln))));
+          count-is = ec;
+          few = omega arith;
+        }
+
+    pub finished : (n r : Numbers) → PartNumbers (threes (map (λ p. p .unused) ps) (usedOf ss ps) (unusedOf ss ps) ++ map pos (numbers ss ps)) (p .count) (t .count) n
+        → r .count ≡ n .count + 1 → written r ≡ written n ++ (pos (c .touches) ∷ []) → AllOf (bookBy ss ps) r
+    finished n r parts ec el =
+        record {
+          listed-is =
+              with-last (threes (map (λ p. p .unused) ps) (usedOf ss ps) (unusedOf ss ps) ++ map pos (numbers ss ps)) (written n) (written r) (c .touches) (touches ss ps) (parts .listed-is) el
+              (is .touches ∙ touches-accepted ss ps p t refl refl ok);
+          count-is = ec ∙ ap (λ (k : ℕ). k + 1) (parts .count-is) ∙ sym (by-length (spreadsOf t) ps ∙ ap₂ (λ (x y : ℕ). 3 * x + 2 * y + 1) ps-long spreads-long);
+          few = omega (arith, ec, parts .few);
+        }
+
+-- ---- an account's answers
+
+module _ (account : List Record) (question records : ℕ) (a : Asking) (is : AskedBy account question records a) where
+  book-same : bookBy (given.stepsOf (a .table)) (openOf (a .prompts)) ≡ book account question
+  book-same = ap₂ bookBy (is .asks .steps) (is .asks .opens) ∙ sym (book-by-steps account (is .lawful) question (is .asked-is))
+
+  pub holds-book : (n : Numbers) → AllOf (bookBy (given.stepsOf (a .table)) (openOf (a .prompts))) n → Holds account (Book question) records n
+  holds-book n b =
+      record {
+        asked-is = is .asked-is;
+        records-are = is .records-are;
+        listed-is = b .listed-is ∙ book-same;
+        count-is = b .count-is ∙ ap length book-same;
+      }
+
+  pub uses-same : usesOf (given.stepsOf (a .table)) (openOf (a .prompts)) ≡ uses account question
+  uses-same = ap₂ usesOf (is .asks .steps) (is .asks .opens) ∙ sym (uses-by-steps account (is .lawful) question (is .asked-is))
+
+  pub uses-many : length (uses account question) ≡ a .table .count * (2 * a .prompts .count)
+  uses-many =
+      ap length (sym uses-same) ∙ ap₂ (λ (xs : List (List Taker)) (os : List Open). length (usesOf xs os)) (is .asks .steps) (is .asks .opens) ∙ is .asks .many

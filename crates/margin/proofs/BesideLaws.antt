@@ -1,0 +1,123 @@
+-- An account that but for its rows stands in the files: its lines, its tiers and what is asked about, by what each contract's rows
+-- come to.
+-- Assumes nothing.
+use Prim.Native.Nat.{ℕ, _*_, _≤_, _<_}
+use native.Mathlib.Omega.{arith}
+use mathlib.Core.Path.{_≡_, refl, sym, ap, _∙_, subst}
+use mathlib.Core.Bool.{Bool, true, false, _||_}
+use mathlib.Core.List.{List, [], _∷_, map}
+use borrow.Author.Tests.{eq-eqb}
+use lib.IntN.{ℤ, natAbs}
+use lib.ListN.{length, getD}
+use lib.Dec.{eqb}
+use Rattle.exact.specs.Lists.{any, consIf, keep, sum, sumℤ}
+use Rattle.record.specs.Layout.{Record, contract}
+use Rattle.record.specs.Within as ranges
+use Rattle.account.specs.Accepted.{Each}
+use Rattle.account.specs.Lawful.{Lawful}
+use Rattle.account.specs.Notes.{entryPart}
+use Rattle.account.specs.Parts.{ofKind, contractsOf, promptsOf, rowsOf, spreadsOf, ratesOf}
+use Rattle.account.specs.Standing.{PartOf, Stands, accountOf}
+use Rattle.account.specs.declared.accounts.Account.{Account}
+use Rattle.margin.specs.declared.line.Line.{Line}
+use Rattle.margin.specs.declared.rows.Position.{Position}
+use Rattle.margin.specs.declared.uses.Asking.{Asking}
+use Rattle.margin.specs.Beside.{ownOf, unitOf, Besides}
+use Rattle.margin.specs.Books.{asks, answered}
+use Rattle.margin.specs.Bounds.{mostDelta}
+use Rattle.margin.specs.Contract.{Contract, contractFrom, partsIn, partsOf, stepsOf, opensOf}
+use Rattle.margin.specs.Lined.{PositionAt, TierIs}
+use Rattle.margin.specs.Promised.{LineOf, PositionFit, BookFit, contractWith}
+use Rattle.margin.specs.Sums.{deltasIn}
+use Rattle.margin.specs.Uses.{Asks}
+use Rattle.margin.proofs.AcceptLaws.{none-within, contract-within}
+use Rattle.margin.proofs.AskedLaws.{count-keep}
+use Rattle.margin.proofs.StandLaws.{kept-at, contract-with}
+use Rattle.margin.proofs.TierLaws as tiers
+
+-- ---- the own record of a contract
+
+first-within : (q : Record → Bool) (xs : List Record) → Each ranges.ContractWithin xs → ranges.ContractWithin (getD (keep q xs) 0 [])
+first-within q [] e = none-within
+first-within q (x ∷ xs) e = go (q x) (first-within q xs (e .1))
+  where
+    go : (t : Bool) → ranges.ContractWithin (getD (keep q xs) 0 []) → ranges.ContractWithin (getD (consIf t x (keep q xs)) 0 [])
+    go true rest = e .0
+    go false rest = rest
+
+module _ (whole : List Record) (law : Lawful whole) where
+  pub own-fit : (c : ℕ) → ranges.ContractWithin (ownOf c whole)
+  own-fit c = first-within (asks c) (contractsOf whole) (law .ranges .contracts)
+
+  pub own-here : (i : ℕ) → i < length (contractsOf whole) → ownOf (contract (getD (contractsOf whole) i [])) whole ≡ getD (contractsOf whole) i []
+  own-here i h =
+      let c = contract (getD (contractsOf whole) i []) in
+      ap (λ (rs : List Record). getD rs 0 [])
+      (kept-at (asks c) (contractsOf whole) i h (eq-eqb c c refl) (omega (arith, count-keep (ofKind 1) (asks c) whole, law .named .once c)))
+
+-- ---- beside the records that stand in the files
+
+-- that account itself
+pub alone : (morning noon : List ℕ) (a : Account) → Stands morning noon a → Besides (accountOf morning noon) (accountOf morning noon)
+alone morning noon a st = record { lawful = st .lawful; contracts = refl; prompts = λ c. refl; spreads = λ c. refl; entries = refl; rates = refl }
+
+module _ (standing whole : List Record) (b : Besides standing whole) where
+  pub entries-beside : (bytes : List ℕ) → PartOf standing entryPart bytes → PartOf whole entryPart bytes
+  entries-beside bytes ep =
+      record { are = ep .are ∙ sym (b .entries); whole = ep .whole ∙ ap (λ (rs : List Record). length rs * 96) (sym (b .entries)) }
+
+  -- the same questions are answered
+  pub answered-beside : (q : ℕ) → answered whole q ≡ answered standing q
+  answered-beside q = ap (λ (rs : List Record). eqb q 16 || any (asks q) rs) (b .contracts)
+
+  own-same : (c : ℕ) → ownOf c whole ≡ ownOf c standing
+  own-same c = ap (λ (rs : List Record). getD (keep (asks c) rs) 0 []) (b .contracts)
+
+  -- the parts of a contract, one account's for the other's
+  parts-beside : (c : ℕ) (P : Record → List Record → List Record → Type 0) → P (ownOf c whole) (promptsOf c whole) (spreadsOf c whole)
+      → P (ownOf c standing) (promptsOf c standing) (spreadsOf c standing)
+  parts-beside c P x =
+      subst (λ (o : Record). P o (promptsOf c standing) (spreadsOf c standing)) (own-same c)
+      (subst (λ (ps : List Record). P (ownOf c whole) ps (spreadsOf c standing)) (b .prompts c)
+      (subst (λ (ss : List Record). P (ownOf c whole) (promptsOf c whole) ss) (b .spreads c) x))
+
+  module _ (c : ℕ) (p : Position) (at : PositionAt (ratesOf whole) (unitOf c whole) whole c p) where
+    abbrev k : Contract
+    k = contractFrom (ratesOf whole) (ownOf c whole) (promptsOf c whole) (rowsOf c whole) (spreadsOf c whole)
+
+    pub fits : PositionFit (ownOf c standing) (promptsOf c standing) (spreadsOf c standing) p
+    fits =
+        parts-beside c (λ own ps ss. PositionFit own ps ss p)
+        (record { rates = ratesOf whole; rows = rowsOf c whole; fit = contract-within whole (b .lawful) (ownOf c whole) c (own-fit whole (b .lawful) c); is = at .is; most = at .most })
+
+    pub fits-book : BookFit (promptsOf c standing) (spreadsOf c standing) p
+    fits-book = record { own = ownOf c standing; fits = fits }
+
+    contract-is : contractWith (ownOf c standing) (promptsOf c standing) (spreadsOf c standing) p ≡ k
+    contract-is =
+        parts-beside c (λ own ps ss. contractWith own ps ss p ≡ k)
+        (sym (contract-with (ratesOf whole) (ownOf c whole) (promptsOf c whole) (rowsOf c whole) (spreadsOf c whole) p (at .is)))
+
+    -- what is asked about
+    pub asks-beside : (a : Asking)
+        → Asks (stepsOf (contractWith [] (promptsOf c standing) (spreadsOf c standing) p)) (opensOf (contractWith [] (promptsOf c standing) (spreadsOf c standing) p)) a
+        → Asks (stepsOf (partsOf whole c)) (opensOf (partsOf whole c)) a
+    asks-beside a = subst (λ (x : Contract). Asks (stepsOf x) (opensOf x) a) contract-is
+
+    -- the i-th contract
+    module _ (i : ℕ) (listed : i < length (contractsOf whole)) (number : c ≡ contract (getD (contractsOf whole) i [])) where
+      abbrev its : Record
+      its = getD (contractsOf whole) i []
+
+      pub line-is : (l : Line) → LineOf (contractWith (ownOf c standing) (promptsOf c standing) (spreadsOf c standing) p) l → LineOf (partsIn whole its) l
+      line-is l =
+          subst (λ (x : Contract). LineOf x l)
+          (contract-is
+          ∙ ap (λ (n : ℕ). contractFrom (ratesOf whole) (ownOf n whole) (promptsOf n whole) (rowsOf n whole) (spreadsOf n whole)) number
+          ∙ ap (λ (r : Record). contractFrom (ratesOf whole) r (promptsOf (contract its) whole) (rowsOf (contract its) whole) (spreadsOf (contract its) whole)) (own-here whole (b .lawful) i listed))
+
+      pub tier-is : (z : ℤ) → c ≤ 15 → z ≡ sumℤ (deltasIn (p .nets)) → TierIs (partsIn whole its) c z
+      tier-is z few e = tiers.tier-is whole (b .lawful) (ratesOf whole) (ownOf c whole) (own-fit whole (b .lawful) c) c p at its z number few e
+
+    pub tier-sizes : sum (map natAbs (deltasIn (p .nets))) ≤ mostDelta
+    tier-sizes = tiers.tier-sizes whole (b .lawful) (ratesOf whole) (ownOf c whole) (own-fit whole (b .lawful) c) c p at

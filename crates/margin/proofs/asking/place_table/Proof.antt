@@ -1,0 +1,74 @@
+-- What the intercontract table is answered, in its place among the lent numbers.
+-- Assumes nothing.
+use mathlib.Core.Path.{refl, ap, _∙_}
+use Prim.Native.Nat.{ℕ, _+_, _*_, _≤_}
+use native.Mathlib.Omega.{arith}
+use borrow.Author.Needs.{needs}
+use lib.ListN.{length}
+use Rattle.margin.specs.Places.{atPlace, questionOf}
+use Rattle.margin.specs.Questions.{afterOver}
+use Rattle.margin.proofs.PlaceLaws.{put-place}
+use Rattle.margin.proofs.asking.place_table.Statement.{statement}
+use Rattle.margin.proofs.asking.place_table.Tie as tie
+
+width-of-requires : tie.Need-width-of-requires
+width-of-requires c κs = search needs
+
+-- the place ends within the lent numbers
+room : (c : tie.After-width-of) → c .width-of .result * 16 + c .width-of .result ≤ length (c .before .before .before .args .out .now)
+room c = let s = c .before .before .before in omega (arith, c .width-of .ensures .0, s .pre .1 .1)
+
+mul-start : tie.Need-mul-start
+mul-start c = omega (arith, c .width-of .ensures .1)
+
+add-end : tie.Need-add-end
+add-end c = omega (arith, c .width-of .ensures .1)
+
+table-asking-requires : tie.Need-table-asking-requires
+table-asking-requires c κs = let s = c .before .before .before in (s .pre .0, s .pre .1 .0)
+
+mul-answer-asking : tie.Need-mul-answer-asking
+mul-answer-asking c = omega (arith, c .before .width-of .ensures .1)
+
+sub-answer-asking : tie.Need-sub-answer-asking
+sub-answer-asking c = omega (arith, room (c .before))
+
+part-answer-asking-start : tie.Need-part-answer-asking-start
+part-answer-asking-start c = omega (arith, room (c .before))
+
+part-answer-asking-end : tie.Need-part-answer-asking-end
+part-answer-asking-end c = omega (arith, room (c .before))
+
+answer-asking-requires : tie.Need-answer-asking-requires
+answer-asking-requires c κs = let x = c .before .before .before .before .before .pre .1 .0 in c .before .table-asking .ensures (x .whole) (x .beside) (x .is) .accepted
+
+same-length : tie.Need-same-length
+same-length c = search needs
+
+returns : tie.Need-returns
+returns c =
+    let s = c .before .before .before .before .before .before .before in
+    let o = s .args .out .now in
+    let w = c .before .before .before .before .width-of in
+    let r = c .before .answer-asking in
+    let a = c .before .before .before .table-asking in
+    λ whole beside is n.
+    put-place (w .result) (w .result * 16) o (r .last .1 .1 .1 .0) (afterOver whole (questionOf (s .args .paid) 16))
+    (r .ensures whole 16 (record { lawful = beside .lawful; asked-is = refl; records-are = n; asks = a .ensures whole beside is }) .1)
+    ∙ ap (λ (k : ℕ). atPlace k (k * 16) (afterOver whole (questionOf (s .args .paid) 16)) o) (w .ensures .0)
+
+pub place-table-spec : {M : Type 1} → statement M
+place-table-spec =
+    tie.close
+    (tie.spec
+    width-of-requires
+    mul-start
+    add-end
+    table-asking-requires
+    mul-answer-asking
+    sub-answer-asking
+    part-answer-asking-start
+    part-answer-asking-end
+    answer-asking-requires
+    same-length
+    returns)

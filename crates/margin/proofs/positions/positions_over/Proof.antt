@@ -1,0 +1,127 @@
+-- Each listed contract's position is put in its place, one after the other.
+-- Assumes nothing.
+use mathlib.Core.Path.{_≡_, _∙_, subst}
+use mathlib.Core.List.{List, []}
+use lib.ListN.{getD}
+use Prim.Native.Nat.{_-_, _≤_, _<_}
+use native.Mathlib.Omega.{arith}
+use borrow.Author.Needs.{needs}
+use Rattle.record.specs.Layout.{Record, contract}
+use Rattle.account.specs.Parts.{contractsOf, ratesOf}
+use Rattle.account.specs.Products.{RatesOf}
+use Rattle.account.specs.Standing.{accountOf}
+use Rattle.margin.proofs.PositionsLaws.{Placed, placed-none, placed-next, placed-all}
+use Rattle.margin.proofs.StandLaws.{few-contracts, number-at, listed-at, own-number}
+use Rattle.margin.proofs.positions.positions_over.Statement.{statement}
+use Rattle.margin.proofs.positions.positions_over.Tie as tie
+
+abbrev Inv-loop : tie.InvT-loop
+Inv-loop morning noon account count rates at₀ i₀ at i = Placed (accountOf morning noon) i at × (i ≤ count)
+
+abbrev μ-loop : tie.MeasureT-loop
+μ-loop morning noon account count rates at₀ i₀ at i = count - i
+
+-- an account has at most sixteen contracts
+few : (c : tie.After-contract-total Inv-loop μ-loop) → c .contract-total .result ≤ 16
+few c =
+    let s = c .before .before .before in
+    omega (arith, c .contract-total .ensures, few-contracts (s .args .morning .now) (s .args .noon .now) (s .args .account) (s .pre))
+
+-- the turn's contract is listed, and has this number
+within : (c : tie.After-contract-number Inv-loop μ-loop) → c .before .before .loop .i < c .before .before .before .before .before .before .before .before .before .args .account .contracts
+within c = omega (arith, c .before .loop-test .taken, c .before .before .before .before .before .before .contract-total .ensures)
+
+number : (c : tie.After-contract-number Inv-loop μ-loop)
+    → let s = c .before .before .before .before .before .before .before .before .before in
+    c .contract-number .result ≡ contract (getD (contractsOf (accountOf (s .args .morning .now) (s .args .noon .now))) (c .before .before .loop .i) [])
+number c =
+    let s = c .before .before .before .before .before .before .before .before .before in
+    number-at (s .args .morning .now) (s .args .noon .now) (s .args .account) (s .pre) (c .before .before .loop .i) (within c) (c .contract-number .result) (c .contract-number .ensures)
+
+small : (c : tie.After-contract-number Inv-loop μ-loop) → c .contract-number .result ≤ 15
+small c =
+    let s = c .before .before .before .before .before .before .before .before .before in
+    let m = s .args .morning .now in
+    let n = s .args .noon .now in
+    omega (arith, number c, own-number (accountOf m n) (s .pre .lawful) (c .before .before .loop .i) (listed-at m n (s .args .account) (s .pre) (c .before .before .loop .i) (within c)))
+
+contract-total-requires : tie.Need-contract-total-requires Inv-loop μ-loop
+contract-total-requires c κs = search needs
+
+part-requires : tie.Need-part-requires Inv-loop μ-loop
+part-requires c κs = search needs
+
+rates-of-requires : tie.Need-rates-of-requires Inv-loop μ-loop
+rates-of-requires c κs = search needs
+
+-- the table of the account's rates
+table : (c : tie.After-rates-of Inv-loop μ-loop) →
+    let s = c .before .before .before .before .before in
+    RatesOf (ratesOf (accountOf (s .args .morning .now) (s .args .noon .now))) (c .rates-of .result)
+table c = subst (λ (rs : List Record). RatesOf rs (c .rates-of .result)) (c .before .part .ensures .are) (c .rates-of .ensures)
+
+flat-requires : tie.Need-flat-requires Inv-loop μ-loop
+flat-requires c κs = search needs
+
+loop-holds : tie.Need-loop-holds Inv-loop μ-loop
+loop-holds c =
+    let s = c .before .before .before .before .before .before in
+    (placed-none (accountOf (s .args .morning .now) (s .args .noon .now)) (c .flat .result) (c .flat .ensures), omega arith)
+
+contract-number-requires : tie.Need-contract-number-requires Inv-loop μ-loop
+contract-number-requires c κs = search needs
+
+position-in-requires : tie.Need-position-in-requires Inv-loop μ-loop
+position-in-requires c κs = (c .before .before .before .before .before .before .before .before .before .pre, (small c, table (c .before .before .before .before)))
+
+mul-at : tie.Need-mul-at Inv-loop μ-loop
+mul-at c = let h = small (c .before) in omega arith
+
+array-set-from-at : tie.Need-array-set-from-at Inv-loop μ-loop
+array-set-from-at c = let h = small (c .before) in omega arith
+
+add-i : tie.Need-add-i Inv-loop μ-loop
+add-i c = let h = few (c .before .before .before .before .before .before .before) in omega (arith, c .before .before .loop-test .taken)
+
+loop-less : tie.Need-loop-less Inv-loop μ-loop
+loop-less c = omega (arith, c .before .before .loop-test .taken)
+
+loop-again : tie.Need-loop-again Inv-loop μ-loop
+loop-again c =
+    let s = c .before .before .before .before .before .before .before .before .before .before in
+    let l = c .before .before .before .loop in
+    let k = c .before .contract-number in (
+      placed-next (accountOf (s .args .morning .now) (s .args .noon .now)) (l .i) (l .at) (k .result) (c .position-in .result) (l .inv .0) (small (c .before)) (number (c .before)) (c .position-in .ensures),
+      omega (arith, c .before .before .loop-test .taken),
+    )
+
+record-total-requires : tie.Need-record-total-requires Inv-loop μ-loop
+record-total-requires c κs = search needs
+
+returns : tie.Need-returns Inv-loop μ-loop
+returns c =
+    let s = c .before .before .before .before .before .before .before .before .before in
+    let l = c .before .before .loop in
+    placed-all (accountOf (s .args .morning .now) (s .args .noon .now)) (s .pre .lawful) (l .i) _
+    (omega (arith, c .before .loop-test .left, l .inv .1, c .before .before .before .before .before .before .contract-total .ensures, s .pre .places .contracts)) (l .inv .0) (c .record-total .ensures ∙ s .pre .places .all)
+
+pub positions-over-spec : {M : Type 1} → statement M
+positions-over-spec =
+    tie.close
+    (tie.spec
+    Inv-loop
+    μ-loop
+    contract-total-requires
+    part-requires
+    rates-of-requires
+    flat-requires
+    loop-holds
+    contract-number-requires
+    position-in-requires
+    mul-at
+    array-set-from-at
+    add-i
+    loop-less
+    loop-again
+    record-total-requires
+    returns)

@@ -1,0 +1,189 @@
+// What the rows of each contract come to, worked out once for an account; and its lines, tiers and figures from there.
+use crate::amount::Amount;
+use crate::line::contract_net;
+use crate::numbers::Numbers;
+use crate::over::Lines;
+use crate::over::TABLE;
+use crate::over::Tier;
+use crate::over::asking_with;
+use crate::over::figures_of;
+use crate::over::line_with;
+use crate::over::no_line;
+use crate::over::position_in;
+use crate::over::table_asking;
+use crate::rows::Position;
+use crate::rows::flat;
+use crate::uses::Asking;
+use account::accounts::Account;
+use account::accounts::contract_number;
+use account::accounts::contract_total;
+use account::accounts::part;
+use account::accounts::record_total;
+use account::parts::CONTRACTS;
+use account::parts::RATES;
+use account::rates::rates_of;
+use exact::signed::magnitude;
+use spread::Delta;
+use spread::MOST_PROMPTS;
+use spread::Prompts;
+ghost use mathlib.Core.Path.{_≡_};
+ghost use mathlib.Core.Bool.{true};
+ghost use mathlib.Core.List.{List, map};
+ghost use Prim.Native.Nat.{_+_, _*_, _≤_, _<_};
+ghost use lib.IntN.{natAbs};
+ghost use Rattle.exact.specs.Lists.{sum, sumℤ};
+ghost use Rattle.account.specs.Standing.{Stands, accountOf};
+ghost use Rattle.record.specs.Layout.{Record, mostContract};
+ghost use Rattle.margin.specs.Books.{answered};
+ghost use Rattle.margin.specs.Bounds.{mostDelta, longestBook};
+ghost use Rattle.margin.specs.Figures.{figures, accountTotal};
+ghost use Rattle.margin.specs.Lined.{LinesOf, TiersIn};
+ghost use Rattle.margin.specs.Numbers.{written};
+ghost use Rattle.margin.specs.Positions.{PositionsOf, Told, Known};
+ghost use Rattle.margin.specs.Sums.{deltasIn};
+ghost use Rattle.margin.specs.Uses.{stepsFor, opensFor, Asks};
+
+// How many records an account has, and what the rows of each contract number come to; nothing where it is not listed.
+pub struct Positions {
+    pub records: usize,
+    pub at: [Position; CONTRACTS],
+}
+
+// The positions of an account, each row walked once.
+pub fn positions_over<'a>(morning: &'a [u8], noon: &'a [u8], account: Account) -> Positions
+    requires { ⌜ Stands (now morning) (now noon) account ⌝ }
+    ensures { λ r. ⌜ PositionsOf (accountOf (now (morning .entry)) (now (noon .entry))) r ⌝ }
+{
+    let count = contract_total(account);
+    let rates = rates_of(part(morning, noon, account, RATES));
+    let mut at = [flat(); CONTRACTS];
+    let mut i = 0;
+    while i < count {
+        let c = contract_number(account, i);
+        at[c] = position_in(morning, noon, account, c, rates);
+        i += 1;
+    }
+    Positions {
+        records: record_total(account),
+        at,
+    }
+}
+
+// The lines of all contracts, in file order.
+fn lines_from<'a>(
+    morning: &'a [u8],
+    noon: &'a [u8],
+    account: Account,
+    positions: Positions,
+) -> Lines
+    requires { ⌜ Stands (now morning) (now noon) account × Known (accountOf (now morning) (now noon)) positions ⌝ }
+    ensures { λ r. ⌜ ((whole : List Record) → Told (accountOf (now (morning .entry)) (now (noon .entry))) positions whole → LinesOf whole r) ⌝ }
+{
+    let count = contract_total(account);
+    let mut lines = [no_line(); CONTRACTS];
+    let mut i = 0;
+    while i < count {
+        let c = contract_number(account, i);
+        lines[i] = line_with(morning, noon, account, c, positions.at[c]);
+        i += 1;
+    }
+    Lines {
+        count: count,
+        line: lines,
+    }
+}
+
+// The numbers of the figures.
+pub(crate) fn figures_from<'a>(
+    morning: &'a [u8],
+    noon: &'a [u8],
+    account: Account,
+    positions: Positions,
+) -> Numbers
+    requires { ⌜ Stands (now morning) (now noon) account × Known (accountOf (now morning) (now noon)) positions ⌝ }
+    ensures are { λ r. ⌜ ((whole : List Record) → Told (accountOf (now (morning .entry)) (now (noon .entry))) positions whole → written r ≡ figures whole) ⌝ }
+    ensures many { λ r. ⌜ (r .count ≡ 8 * account .contracts + 1) × (r .count ≤ longestBook) ⌝ }
+{
+    figures_of(
+        morning,
+        noon,
+        account,
+        lines_from(morning, noon, account, positions),
+    )
+}
+
+// The total of the margins, which stands last in the figures.
+pub fn total_from<'a>(
+    morning: &'a [u8],
+    noon: &'a [u8],
+    account: Account,
+    positions: Positions,
+) -> Amount
+    requires { ⌜ Stands (now morning) (now noon) account × Known (accountOf (now morning) (now noon)) positions ⌝ }
+    ensures { λ r. ⌜ ((whole : List Record) → Told (accountOf (now (morning .entry)) (now (noon .entry))) positions whole → r .0 ≡ accountTotal whole) ⌝ }
+{
+    let numbers = figures_from(morning, noon, account, positions);
+    let count = numbers.count;
+    let number = numbers.number;
+    Amount(magnitude(number[count - 1]))
+}
+
+// A contract as a tier, by what its rows come to.
+fn tier_with(c: usize, p: Position) -> Tier
+    requires { ⌜ (c ≤ mostContract) × (sum (map natAbs (deltasIn (p .nets))) ≤ mostDelta) ⌝ }
+    ensures { λ r. ⌜ (r .contract ≡ c) × (r .net .0 ≡ sumℤ (deltasIn (p .nets))) ⌝ }
+{
+    let nets = p.nets;
+    let net = contract_net(nets);
+    Tier {
+        contract: c as u8,
+        net: net,
+    }
+}
+
+// The contracts as tiers, in file order.
+pub(crate) fn tiers_from<'a>(
+    morning: &'a [u8],
+    noon: &'a [u8],
+    account: Account,
+    positions: Positions,
+) -> Prompts
+    requires { ⌜ Stands (now morning) (now noon) account × Known (accountOf (now morning) (now noon)) positions ⌝ }
+    ensures { λ r. ⌜ ((whole : List Record) → Told (accountOf (now (morning .entry)) (now (noon .entry))) positions whole → TiersIn whole r) ⌝ }
+{
+    let count = contract_total(account);
+    let mut tiers = [0u8; MOST_PROMPTS];
+    let mut nets = [Delta(0); MOST_PROMPTS];
+    let mut i = 0;
+    while i < count {
+        let c = contract_number(account, i);
+        let one = tier_with(c, positions.at[c]);
+        tiers[i] = one.contract;
+        let net = one.net;
+        nets[i] = net;
+        i += 1;
+    }
+    Prompts {
+        count: count,
+        tier: tiers,
+        net: nets,
+    }
+}
+
+// What a question asks about.
+pub(crate) fn asking_from<'a>(
+    morning: &'a [u8],
+    noon: &'a [u8],
+    account: Account,
+    positions: Positions,
+    question: usize,
+) -> Asking
+    requires { ⌜ Stands (now morning) (now noon) account × (Known (accountOf (now morning) (now noon)) positions × (answered (accountOf (now morning) (now noon)) question ≡ true)) ⌝ }
+    ensures { λ r. ⌜ ((whole : List Record) → Told (accountOf (now (morning .entry)) (now (noon .entry))) positions whole → Asks (stepsFor whole question) (opensFor whole question) r) ⌝ }
+{
+    if question == TABLE {
+        let tiers = tiers_from(morning, noon, account, positions);
+        return table_asking(morning, noon, account, tiers);
+    }
+    asking_with(morning, noon, account, question, positions.at[question])
+}

@@ -19,7 +19,7 @@ ghost use Rattle.account.specs.Products.{RatesOf, HoldsRates};
 ghost use Rattle.account.specs.Records.{records};
 
 // Of the row that is record `k`. A row in the margin currency gets neither.
-fn row_answer(t: Rates, row: &[u8], k: usize) -> Answer
+pub fn row_answer(t: Rates, row: &[u8], k: usize) -> Answer
     requires { ⌜ Row (now row) × HoldsRates t ⌝ }
     ensures { λ a. ⌜ ((rates : List Record) → RatesOf rates t → Each RateWithin rates → a ≡ rowAnswer rates k (now (row .entry))) ⌝ }
 {

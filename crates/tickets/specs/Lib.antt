@@ -1,0 +1,4 @@
+pub mod Ticket
+pub mod Claims
+pub mod Counts
+pub mod Kept

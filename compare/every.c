@@ -231,6 +231,33 @@ static void ask_lists(const uint8_t *file, size_t bytes, const uint8_t *noon, si
     }
 }
 
+/* The order screen's calls: the file's first row as a ticket, or 96 bytes that are 0, with so much room after the file; every lent byte
+ * afterwards. */
+static void ask_screen(const uint8_t *file, size_t bytes, size_t room, size_t named)
+{
+    const int64_t limits[] = {INT64_MIN, -1, 0, 383650, INT64_MAX};
+    uint8_t *held = before_the_end(bytes + room), *ticket = before_the_end(96);
+    memcpy(held, file, bytes);
+    memset(held + bytes, 7, room);
+    memset(ticket, 0, 96);
+    for (size_t at = bytes / 96 * 96; at >= 96; at -= 96)
+        if (file[at - 96] == 3)
+            memcpy(ticket, file + at - 96, 96);
+    print_outcome("screen load", room, felgotany_screen_load(held, bytes + room, named));
+    felgotany_total_outcome read = felgotany_screen_total(held, bytes + room, named);
+    printf("screen total refusal %zu record %zu total %" PRIu64 "\n", read.refusal, read.record, read.total);
+    for (size_t i = 0; i < sizeof limits / sizeof limits[0]; ++i) {
+        felgotany_limit_outcome asked = felgotany_screen_limit(held, bytes + room, named, ticket, 96, limits[i]);
+        printf("screen limit %zu refusal %zu record %zu answer %zu total %" PRIu64 "\n", i, asked.refusal, asked.record, asked.answer,
+               asked.total);
+    }
+    felgotany_add_outcome added = felgotany_screen_add(held, bytes + room, named, ticket, 96);
+    printf("screen add refusal %zu record %zu named %zu:", added.refusal, added.record, added.named);
+    for (size_t i = 0; i < bytes + room; ++i)
+        printf(" %u", (unsigned)held[i]);
+    putchar('\n');
+}
+
 int main(int argc, char **argv)
 {
     size_t bytes, noon_bytes;
@@ -252,5 +279,8 @@ int main(int argc, char **argv)
     ask_run(file, bytes, noon, noon_bytes);
     ask_committee(file, bytes, noon, noon_bytes);
     ask_lists(file, bytes, noon, noon_bytes);
+    ask_screen(file, bytes, 96, bytes);
+    ask_screen(file, bytes, 95, bytes);
+    ask_screen(file, bytes, 192, bytes + 193);
     return 0;
 }

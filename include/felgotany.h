@@ -78,7 +78,12 @@ extern "C" {
  *
  * Of the risk committee's figures of a run, one thing more is refused, before these.
  *
- *   19  more than 100 accounts                                              record 0 */
+ *   19  more than 100 accounts                                              record 0
+ *
+ * The order screen's calls have two refusals of their own; felgotany_screen_load and the calls after it have the order.
+ *
+ *   16  more bytes named than lent; no room for a ticket                    record 0
+ *   20  a limit below zero                                                  record 0 */
 typedef struct {
     size_t refusal;
     size_t record;
@@ -296,6 +301,72 @@ felgotany_pair_list_outcome felgotany_joined_judge(const uint8_t *morning, size_
  * Then no account is read and nothing is written. A run of no accounts is answered. */
 felgotany_outcome felgotany_committee(const uint8_t *accounts, size_t bytes, const size_t *lengths, size_t count, int64_t *out,
                                       size_t numbers);
+
+/* The order screen: an account file held in memory that the screen lends, tickets added to it, its total, and whether an order keeps
+ * the total within a client's limit.
+ *
+ * The screen owns the memory. It lends `bytes` bytes at `lent`, and says that the first `named` of them are the account file, with the
+ * tickets added so far among its rows. Every call checks those bytes again and rests on nothing of the call before: the screen may
+ * copy them, move them, change them or drop them between calls as it likes. Nothing is kept between calls, and there is nothing to
+ * free. `ticket` points to `ticket_bytes` bytes of a record, which nothing writes during the call; it does not overlap the lent bytes.
+ * With a length of 0 a pointer is not followed and may be null.
+ *
+ * Loading, reading the total and asking about a limit write nothing: several threads may do so on the same bytes at the same time.
+ * Adding writes the lent bytes, so that no other thread may read or write them during that call. Calls on memory of their own do not
+ * meet.
+ *
+ * Each call is refused for 16 where more bytes are named than lent, then for what felgotany_check refuses the named bytes for. A ticket
+ * is then refused for these, in this order: 2, it does not have 96 bytes; 3, it is not of kind 3; 5 to 9 and then 14 and 15, what a row
+ * is refused for; 1, the file has 640 records without it. 3 to 15 name the place at which it would stand, counted from 0: after the
+ * records of kinds 1 and 2 and every row whose byte 1 is not above its own. 1, 2, 16 and 20 name record 0. */
+
+/* Whether the named bytes are an accepted account file. To load an account, the screen reads its file to the front of the memory that it
+ * lends, and names as many bytes as the file has. */
+felgotany_outcome felgotany_screen_load(const uint8_t *lent, size_t bytes, size_t named);
+
+/* The refusal of a ticket and the record that it names, both 0 where it is added; and how many bytes are to be named from then on, 96 more
+ * than before. The last is 0 where the ticket is refused. */
+typedef struct {
+    size_t refusal;
+    size_t record;
+    size_t named;
+} felgotany_add_outcome;
+
+/* Adds a ticket: the record is put last among its contract's rows, and the bytes after it are moved up by 96. After all other refusals, 16
+ * is given where fewer than 96 bytes are lent after the named ones. The bytes after the new record's room are left alone; a refusal
+ * changes no byte. */
+felgotany_add_outcome felgotany_screen_add(uint8_t *lent, size_t bytes, size_t named, const uint8_t *ticket, size_t ticket_bytes);
+
+/* The refusal of the named bytes and its record, both 0 where they are accepted; and the total of the margins, in hundredths of the margin
+ * currency, 0 where they are refused. */
+typedef struct {
+    size_t refusal;
+    size_t record;
+    uint64_t total;
+} felgotany_total_outcome;
+
+/* The total of the account held, with the tickets added to it: the last of the numbers that felgotany_figures gives for the named bytes. */
+felgotany_total_outcome felgotany_screen_total(const uint8_t *lent, size_t bytes, size_t named);
+
+/* What is answered to the question about a limit. */
+#define FELGOTANY_NOT_ASKED 0    /* it is refused */
+#define FELGOTANY_WITHIN_LIMIT 1 /* yes: the total with the ticket is at or below the limit */
+#define FELGOTANY_ABOVE_LIMIT 2  /* no: it is over the limit */
+
+/* The refusal and its record, both 0 where the question is answered; the answer; and the total with the ticket, in hundredths of the
+ * margin currency, 0 where it is refused. */
+typedef struct {
+    size_t refusal;
+    size_t record;
+    size_t answer;
+    uint64_t total;
+} felgotany_limit_outcome;
+
+/* Whether the total with a ticket stays at or below the client's limit, in hundredths of the margin currency. The ticket is not added, and
+ * needs no room. 20 is given where the limit is below zero, before all other refusals. The total that is told is the one that
+ * felgotany_screen_total reads once the ticket is added. */
+felgotany_limit_outcome felgotany_screen_limit(const uint8_t *lent, size_t bytes, size_t named, const uint8_t *ticket,
+                                               size_t ticket_bytes, int64_t limit);
 
 #ifdef __cplusplus
 }

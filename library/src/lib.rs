@@ -109,6 +109,41 @@ pub struct PairListOutcome {
     pub list: ListOutcome,
 }
 
+/// What is said of a ticket that is to be added: the refusal and its record, both 0 where it is added; and how many of the lent bytes hold the
+/// account file then, 0 where it is refused.
+#[repr(C)]
+#[derive(Clone, Copy, Debug, PartialEq, Eq)]
+pub struct AddOutcome {
+    pub refusal: usize,
+    pub record: usize,
+    pub named: usize,
+}
+
+/// The refusal and its record, both 0 where there is none; and the total in hundredths, 0 where there is one.
+#[repr(C)]
+#[derive(Clone, Copy, Debug, PartialEq, Eq)]
+pub struct TotalOutcome {
+    pub refusal: usize,
+    pub record: usize,
+    pub total: u64,
+}
+
+/// What is answered to the question about a limit.
+pub const NOT_ASKED: usize = 0;
+pub const WITHIN_LIMIT: usize = 1;
+pub const ABOVE_LIMIT: usize = 2;
+
+/// The refusal and its record, both 0 where the question is answered; the answer; and the total with the ticket in hundredths, 0 where it is
+/// refused.
+#[repr(C)]
+#[derive(Clone, Copy, Debug, PartialEq, Eq)]
+pub struct LimitOutcome {
+    pub refusal: usize,
+    pub record: usize,
+    pub answer: usize,
+    pub total: u64,
+}
+
 /// A morning and a noon file.
 #[derive(Clone, Copy)]
 pub struct Pair<'a> {
@@ -231,6 +266,17 @@ extern "C" {
         uses: *const i64,
         use_count: usize,
     ) -> ListOutcome;
+    fn felgotany_screen_load(lent: *const u8, bytes: usize, named: usize) -> Outcome;
+    fn felgotany_screen_add(lent: *mut u8, bytes: usize, named: usize, ticket: *const u8, ticket_bytes: usize) -> AddOutcome;
+    fn felgotany_screen_total(lent: *const u8, bytes: usize, named: usize) -> TotalOutcome;
+    fn felgotany_screen_limit(
+        lent: *const u8,
+        bytes: usize,
+        named: usize,
+        ticket: *const u8,
+        ticket_bytes: usize,
+        limit: i64,
+    ) -> LimitOutcome;
     fn felgotany_joined_judge(
         morning: *const u8,
         morning_bytes: usize,
@@ -315,6 +361,26 @@ pub fn judge(file: &[u8], question: usize, List { prompts, numbers, uses }: List
     unsafe {
         felgotany_judge(file.as_ptr(), file.len(), question, prompts, numbers.as_ptr(), numbers.len(), uses.as_ptr(), uses.len())
     }
+}
+
+/// Whether the first `named` of the bytes that an order screen lends are an accepted account file.
+pub fn screen_load(lent: &[u8], named: usize) -> Outcome {
+    unsafe { felgotany_screen_load(lent.as_ptr(), lent.len(), named) }
+}
+
+/// Adds a ticket to the account that the lent bytes hold, last among its contract's rows.
+pub fn screen_add(lent: &mut [u8], named: usize, ticket: &[u8]) -> AddOutcome {
+    unsafe { felgotany_screen_add(lent.as_mut_ptr(), lent.len(), named, ticket.as_ptr(), ticket.len()) }
+}
+
+/// The total of the account that the lent bytes hold.
+pub fn screen_total(lent: &[u8], named: usize) -> TotalOutcome {
+    unsafe { felgotany_screen_total(lent.as_ptr(), lent.len(), named) }
+}
+
+/// Whether the total with a ticket stays at or below a limit.
+pub fn screen_limit(lent: &[u8], named: usize, ticket: &[u8], limit: i64) -> LimitOutcome {
+    unsafe { felgotany_screen_limit(lent.as_ptr(), lent.len(), named, ticket.as_ptr(), ticket.len(), limit) }
 }
 
 impl Pair<'_> {

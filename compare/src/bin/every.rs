@@ -7,6 +7,7 @@ use felgotany::Outcome;
 use independent::committee::{self, NUMBERS};
 use independent::joined::{self, Cover};
 use independent::list::{judge, judge_joined, List, Verdict};
+use independent::screen::{self, Limit};
 use independent::units::Amount;
 use independent::{held_book, held_figures, Account, PairRefusal, Refusal};
 use std::fmt::Write;
@@ -35,6 +36,9 @@ fn main() -> Result<(), Box<dyn std::error::Error>> {
     ask_run(&mut out, &file, &noon, figures);
     ask_committee(&mut out, &file, &noon);
     ask_lists(&mut out, &file, &noon);
+    for (room, more) in [(96, 0), (95, 0), (192, 193)] {
+        ask_screen(&mut out, &file, room, file.len() as u64 + more);
+    }
     print!("{out}");
     Ok(())
 }
@@ -264,4 +268,33 @@ fn say_list(out: &mut String, word: &str, question: u64, said: Result<Verdict, P
         said.as_ref().map_or_else(|told| [told.file.into(), told.number.into(), told.record], |_| [0; 3]);
     let [verdict, step] = said.map_or([0; 2], numbered);
     writeln!(out, "{word} {question} file {file} refusal {refusal} record {record} verdict {verdict} step {step}").unwrap();
+}
+
+fn ask_screen(out: &mut String, file: &[u8], room: usize, held: u64) {
+    let mut lent = [file, &vec![BEFORE as u8; room]].concat();
+    let row = file.chunks_exact(96).find(|record| record[0] == 3);
+    let ticket = row.map_or(vec![0; 96], <[u8]>::to_vec);
+    let told = |refusal: Option<Refusal>| refusal.map_or([0, 0], |refusal| [refusal.number.into(), refusal.record]);
+    let [refusal, record] = told(screen::load(&lent, held).err());
+    writeln!(out, "screen load {room} refusal {refusal} record {record}").unwrap();
+    let read = screen::read_total(&lent, held);
+    let [refusal, record] = told(read.as_ref().err().copied());
+    writeln!(out, "screen total refusal {refusal} record {record} total {}", read.map_or(0, |total| total.0)).unwrap();
+    let mut after = lent.clone();
+    after.resize(after.len() + 96, 0);
+    let with = screen::add(&mut after, held, &ticket).and_then(|held| screen::read_total(&after, held)).map_or(0, |total| total.0);
+    for (place, limit) in [i64::MIN, -1, 0, 383650, i64::MAX].into_iter().enumerate() {
+        let asked = screen::ask(&lent, held, &ticket, limit);
+        let [refusal, record] = told(asked.as_ref().err().copied());
+        let (answer, total) = match asked {
+            Err(_) => (0, 0),
+            Ok(Limit::Within) => (1, with),
+            Ok(Limit::Over { total }) => (2, total.0),
+        };
+        writeln!(out, "screen limit {place} refusal {refusal} record {record} answer {answer} total {total}").unwrap();
+    }
+    let added = screen::add(&mut lent, held, &ticket);
+    let [refusal, record] = told(added.as_ref().err().copied());
+    let bytes: String = lent.iter().map(|byte| format!(" {byte}")).collect();
+    writeln!(out, "screen add refusal {refusal} record {record} named {}:{bytes}", added.unwrap_or(0)).unwrap();
 }

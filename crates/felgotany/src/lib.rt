@@ -1,5 +1,6 @@
 // Felgotany as C sees it: the check, the figures and the delta book over any bytes, the same of a morning's file with a noon file,
-// the figures of a run of accounts, and the risk committee's of it. include/felgotany.h says the same in C's words.
+// the figures of a run of accounts, the risk committee's of it, and the order screen's calls. include/felgotany.h says the same in C's
+// words.
 use account::accounts::check;
 use account::answers::Answer;
 use account::answers::number_of;
@@ -16,6 +17,9 @@ use questions::noon::cover_call;
 use questions::plain::answer;
 use questions::plain::needed;
 use runs::answer_run;
+use screen::Added;
+use screen::Limited;
+use screen::Told;
 ghost use mathlib.Core.Path.{_≡_};
 ghost use mathlib.Core.Bool.{true, false};
 ghost use Prim.Native.Nat.{_≤_};
@@ -32,6 +36,9 @@ ghost use Rattle.questions.specs.Noon.{joinedNeed, joinedAll, afterJoinedAll};
 ghost use Rattle.margin.specs.declared.asking.Question.the-variants.{Figures, Book, Uses};
 ghost use Rattle.runs.specs.Runs.{runAnswer, runFigures, runOutcomes};
 ghost use Rattle.committee.specs.Committee.{committeeAnswer, afterCommittee};
+ghost use Rattle.screen.specs.Screen.{loadAnswer, added, afterAdd, totalRead, limited};
+ghost use Rattle.screen.specs.Screen.{addRefusal, bytesHeld, totalRefusal, totalTold, limitRefusal, limitNumber, limitTotal};
+ghost use Rattle.felgotany.specs.Outcomes.{TellsAdded, TellsTotal, TellsLimit};
 ghost use Rattle.felgotany.specs.Outcomes.{Tells, TellsOf, TellsCall, TellsPlace, TellsList, TellsPairList};
 
 // The number of a refusal, 0 where nothing is refused, and the record that it names.
@@ -443,4 +450,172 @@ pub extern "C" fn felgotany_joined_judge<'a>(
         file: said.file,
         list: tell_list(judged),
     }
+}
+
+// Whether the first `named` of the bytes that an order screen lends are an accepted account file. Nothing is written.
+#[no_mangle]
+pub extern "C" fn felgotany_screen_load(lent: &[u8], named: usize) -> Outcome
+    ensures { λ r. ⌜ Tells (loadAnswer (now (lent .entry)) named) r ⌝ }
+{
+    tell(screen::load(lent, named))
+}
+
+// The refusal of a ticket that is to be added and its record, both 0 where it is added; and how many of the lent bytes hold the
+// account file then, 0 where it is refused.
+#[repr(C)]
+pub struct AddOutcome {
+    pub refusal: usize,
+    pub record: usize,
+    pub named: usize,
+}
+
+fn add_refusal(added: Added) -> Answer
+    ensures { λ r. ⌜ r ≡ addRefusal added ⌝ }
+{
+    match added {
+        Added::Refused(answer) => answer,
+        Added::Holds(_) => Answer::Accepted,
+    }
+}
+
+fn bytes_held(added: Added) -> usize
+    ensures { λ n. ⌜ n ≡ bytesHeld added ⌝ }
+{
+    match added {
+        Added::Refused(_) => 0,
+        Added::Holds(bytes) => bytes,
+    }
+}
+
+fn tell_added(added: Added) -> AddOutcome
+    ensures { λ r. ⌜ TellsAdded added r ⌝ }
+{
+    let answer = add_refusal(added);
+    let told = tell(answer);
+    AddOutcome {
+        refusal: told.refusal,
+        record: told.record,
+        named: bytes_held(added),
+    }
+}
+
+// A ticket put last among its contract's rows, in the lent bytes. A refusal changes none of them.
+#[no_mangle]
+pub extern "C" fn felgotany_screen_add(lent: &mut [u8], named: usize, ticket: &[u8]) -> AddOutcome
+    ensures { λ r. ⌜ TellsAdded (added (now (lent .entry)) named (now (ticket .entry))) r × (now (lent .exit) ≡ afterAdd (now (lent .entry)) named (now (ticket .entry))) ⌝ }
+{
+    tell_added(screen::add(lent, named, ticket))
+}
+
+// The refusal of an account whose total is read and its record, both 0 where there is none; and the total, in hundredths, 0 where it
+// is refused.
+#[repr(C)]
+pub struct TotalOutcome {
+    pub refusal: usize,
+    pub record: usize,
+    pub total: u64,
+}
+
+fn total_refusal(told: Told) -> Answer
+    ensures { λ r. ⌜ r ≡ totalRefusal told ⌝ }
+{
+    match told {
+        Told::Refused(answer) => answer,
+        Told::Total(_) => Answer::Accepted,
+    }
+}
+
+fn total_told(told: Told) -> u64
+    ensures { λ n. ⌜ n ≡ totalTold told ⌝ }
+{
+    match told {
+        Told::Refused(_) => 0,
+        Told::Total(amount) => amount.0,
+    }
+}
+
+fn tell_total(total: Told) -> TotalOutcome
+    ensures { λ r. ⌜ TellsTotal total r ⌝ }
+{
+    let answer = total_refusal(total);
+    let told = tell(answer);
+    TotalOutcome {
+        refusal: told.refusal,
+        record: told.record,
+        total: total_told(total),
+    }
+}
+
+// The total of the account that the lent bytes hold. Nothing is written.
+#[no_mangle]
+pub extern "C" fn felgotany_screen_total(lent: &[u8], named: usize) -> TotalOutcome
+    ensures { λ r. ⌜ TellsTotal (totalRead (now (lent .entry)) named) r ⌝ }
+{
+    tell_total(screen::total(lent, named))
+}
+
+// The refusal of a ticket that is asked about and its record, both 0 where there is none; the answer, 0 where it is refused, 1 for a yes,
+// 2 where the total with the ticket is over the limit; and that total, in hundredths.
+#[repr(C)]
+pub struct LimitOutcome {
+    pub refusal: usize,
+    pub record: usize,
+    pub answer: usize,
+    pub total: u64,
+}
+
+fn limit_refusal(limited: Limited) -> Answer
+    ensures { λ r. ⌜ r ≡ limitRefusal limited ⌝ }
+{
+    match limited {
+        Limited::Refused(answer) => answer,
+        Limited::Within(_) => Answer::Accepted,
+        Limited::Over(_) => Answer::Accepted,
+    }
+}
+
+fn limit_number(limited: Limited) -> usize
+    ensures { λ n. ⌜ n ≡ limitNumber limited ⌝ }
+{
+    match limited {
+        Limited::Refused(_) => 0,
+        Limited::Within(_) => 1,
+        Limited::Over(_) => 2,
+    }
+}
+
+fn limit_total(limited: Limited) -> u64
+    ensures { λ n. ⌜ n ≡ limitTotal limited ⌝ }
+{
+    match limited {
+        Limited::Refused(_) => 0,
+        Limited::Within(total) => total.0,
+        Limited::Over(total) => total.0,
+    }
+}
+
+fn tell_limit(limited: Limited) -> LimitOutcome
+    ensures { λ r. ⌜ TellsLimit limited r ⌝ }
+{
+    let answer = limit_refusal(limited);
+    let told = tell(answer);
+    LimitOutcome {
+        refusal: told.refusal,
+        record: told.record,
+        answer: limit_number(limited),
+        total: limit_total(limited),
+    }
+}
+
+// Whether the total with a ticket stays at or below a limit. Nothing is written.
+#[no_mangle]
+pub extern "C" fn felgotany_screen_limit(
+    lent: &[u8],
+    named: usize,
+    ticket: &[u8],
+    limit: i64,
+) -> LimitOutcome
+    ensures { λ r. ⌜ TellsLimit (limited (now (lent .entry)) named (now (ticket .entry)) limit) r ⌝ }
+{
+    tell_limit(screen::limit(lent, named, ticket, limit))
 }

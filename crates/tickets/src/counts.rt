@@ -34,10 +34,11 @@ ghost use Rattle.record.specs.Layout.{Record, kind, contract, day, mostContract
 ghost use Rattle.account.specs.Check.{mostContracts, mostRecords};
 ghost use Rattle.account.specs.Notes.{noContract, noDay};
 ghost use Rattle.account.specs.Parts.{promptsOf};
+ghost use Rattle.account.specs.Records.{records};
 ghost use Rattle.account.specs.Standing.{Stands, accountOf, Filled, CheckedBy};
 ghost use Rattle.account.specs.declared.answers.Answer.the-variants.{Accepted};
 ghost use Rattle.tickets.specs.Counts.{CountsOf, Counted, Small, rowFaultBy, OneMore, OneLess};
-ghost use Rattle.tickets.specs.Ticket.{withTickets, ticketChecked};
+ghost use Rattle.tickets.specs.Ticket.{place, withTickets, ticketChecked};
 
 // The account of the file, how many of its records are of kinds 1 and 2, how many rows each contract has, and how many tickets there
 // are. Its fields are of this module alone.
@@ -97,7 +98,7 @@ fn sum_of(numbers: &[usize], n: usize) -> usize
 }
 
 // The counts of a file without tickets.
-pub(crate) fn counts_of<'a>(file: &'a [u8], none: &'a [u8], account: Account) -> Counts
+pub fn counts_of<'a>(file: &'a [u8], none: &'a [u8], account: Account) -> Counts
     requires { ⌜ (now none ≡ []) × CheckedBy (now file) (record { answer = Accepted; account = account }) ⌝ }
     ensures { λ r. ⌜ CountsOf (now (file .entry)) [] r ⌝ }
 {
@@ -151,12 +152,7 @@ fn row_fault<'a>(file: &'a [u8], none: &'a [u8], account: Account, rows: usize, 
 }
 
 // What a ticket is told.
-pub(crate) fn check_ticket<'a>(
-    file: &'a [u8],
-    none: &'a [u8],
-    counts: Counts,
-    ticket: &[u8],
-) -> Answer
+pub fn check_ticket<'a>(file: &'a [u8], none: &'a [u8], counts: Counts, ticket: &[u8]) -> Answer
     requires { ⌜ (now none ≡ []) × Counted (now file) counts ⌝ }
     ensures { λ a. ⌜ ((tickets : List Record) → CountsOf (now (file .entry)) tickets counts → a ≡ ticketChecked (withTickets (now (file .entry)) tickets) (now (ticket .entry))) ⌝ }
 {
@@ -183,6 +179,14 @@ pub(crate) fn check_ticket<'a>(
         return Answer::TooLong;
     }
     Answer::Accepted
+}
+
+// The place at which a ticket would stand.
+pub fn ticket_place(file: &[u8], counts: Counts, ticket: &[u8]) -> usize
+    requires { ⌜ Counted (now file) counts ⌝ }
+    ensures { λ n. ⌜ ((tickets : List Record) → CountsOf (now (file .entry)) tickets counts → n ≡ place (now (ticket .entry)) (records (withTickets (now (file .entry)) tickets))) ⌝ }
+{
+    place_of(counts, contract(ticket))
 }
 
 // The counts with one row more of contract `c`.

@@ -275,9 +275,9 @@ pub struct PromptPlace {
 }
 
 #[no_mangle]
-pub extern "C" fn felgotany_joined_prompts(
-    morning: &[u8],
-    noon: &[u8],
+pub extern "C" fn felgotany_joined_prompts<'a>(
+    morning: &'a [u8],
+    noon: &'a [u8],
     contract: usize,
 ) -> PromptPlace
     ensures { λ r. ⌜ TellsPlace (promptPlace (now (morning .entry)) (now (noon .entry)) contract) r ⌝ }

@@ -1,6 +1,6 @@
 // Reads an account file on standard input and writes `A` where it is accepted, or `R`, the refusal and the record.
-use account::answers::Answer;
 use account::accounts::check;
+use account::answers::Answer;
 use libc::STDOUT_FILENO;
 use reading::input::called_alone;
 use reading::input::read_input;

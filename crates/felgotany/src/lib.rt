@@ -1,9 +1,9 @@
 // Felgotany as C sees it: the check, the figures and the delta book over any bytes, the same of a morning's file with a noon file,
 // the figures of a run of accounts, and the risk committee's of it. include/felgotany.h says the same in C's words.
+use account::accounts::check;
 use account::answers::Answer;
 use account::answers::number_of;
 use account::answers::record_of;
-use account::accounts::check;
 use account::noon::Verdict;
 use account::noon::prompt_place;
 use committee::answer_committee;

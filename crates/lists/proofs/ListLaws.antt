@@ -17,6 +17,7 @@ use Rattle.account.specs.declared.answers.Answer.{Answer}
 use Rattle.account.specs.declared.answers.Answer.the-variants.{Accepted}
 use Rattle.account.specs.declared.noon.CheckedPair.{CheckedPair}
 use Rattle.account.specs.declared.noon.Verdict.{Verdict}
+use Rattle.account.proofs.Alone.{passes}
 use Rattle.account.proofs.Places.{alone}
 use Rattle.margin.specs.Lists.{judgedOver}
 use Rattle.margin.specs.Questions.{accepted}
@@ -44,7 +45,7 @@ module _ (question sent : ℕ) (xs us : List ℤ) where
 
       pub list-accepted : (v : Judged) → v ≡ judgedOver (accountOf file none) question sent xs us → v ≡ judgedTo file question sent xs us
       list-accepted v e =
-          e ∙ ap (λ (a : List Record). judgedOver a question sent xs us) (alone file none nothing ok)
+          e ∙ ap (λ (a : List Record). judgedOver a question sent xs us) (alone file none nothing (passes file ok .recorded))
           ∙ sym (ap (λ (a : Answer). of (accepted a)) ok)
 
   module _ (morning noon : List ℕ) (r : CheckedPair) (by : PairBy morning noon r) where

@@ -15,6 +15,7 @@ use Rattle.account.specs.Standing.{Stands, CheckedBy, accountOf}
 use Rattle.account.specs.declared.accounts.Checked.{Checked}
 use Rattle.account.specs.declared.answers.Answer.{Answer}
 use Rattle.account.specs.declared.answers.Answer.the-variants.{Accepted}
+use Rattle.account.proofs.Alone.{passes}
 use Rattle.account.proofs.Places.{alone}
 use Rattle.margin.specs.declared.asking.Question.{Question}
 use Rattle.margin.specs.Places.{allOver, afterAllOver}
@@ -57,7 +58,7 @@ module _ (file : List ℕ) (r : Checked) (by : CheckedBy file r) where
     file-stands = by .stands ok none nothing
 
     same : accountOf file none ≡ records file
-    same = alone file none nothing ok
+    same = alone file none nothing (passes file ok .recorded)
 
     pub answer-accepted : (question : Question) (lent : List ℤ) (a : Answer) (left : List ℤ)
         → (a ≡ answerOver (accountOf file none) question (length lent)) × (left ≡ afterOver (accountOf file none) question lent)

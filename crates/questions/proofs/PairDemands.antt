@@ -5,7 +5,7 @@ use native.Mathlib.Omega.{arith}
 use mathlib.Core.Path.{_≡_, refl, sym, ap, subst⁻¹, _∙_}
 use mathlib.Core.Bool.{Bool, true, false, _||_, cond, false≢true}
 use mathlib.Core.List.{List}
-use mathlib.Core.Logic.{⊎-elim}
+use mathlib.Core.Logic.{_⊎_, ⊎-elim}
 use borrow.Author.Tests.{eqb-true, eqb-false, ne-eqb, eq-eqb, ltb-false, le-ltb}
 use lib.Dec.{ltb}
 use lib.IntN.{ℤ, pos, negsuc, natAbs}
@@ -15,6 +15,7 @@ use Rattle.record.proofs.Within.{neither}
 use Rattle.account.specs.Answers.{numberOf, recordOf}
 use Rattle.account.specs.Claims.{Iff}
 use Rattle.account.specs.Noon.{ofJoined, clear, _then_, joinedVerdict}
+use Rattle.account.specs.PairClaims.{OfMorning, OfNoon, OfJoined}
 use Rattle.account.specs.Standing.{accountOf}
 use Rattle.account.specs.declared.answers.Answer.{Answer}
 use Rattle.account.specs.declared.answers.Answer.the-variants.{Accepted, AmountOutside}
@@ -30,6 +31,13 @@ use Rattle.questions.proofs.AskingLaws.{asking, lent-after}
 
 -- ---- the verdict on a pair, and what is asked next where it is clear
 
+late-number : (v : Verdict) → OfMorning v ⊎ (OfNoon v ⊎ OfJoined v) → (n : ℕ) → (n ≡ 0 → ⊥) → 10 ≤ n → (n ≡ 12 → ⊥) → (13 ≤ n → n ≤ 15 → ⊥) → numberOf (v .answer) ≡ n → ⊥
+late-number v said n z l a b e =
+    ⊎-elim (λ m. omega (arith, m .most, e))
+    (⊎-elim (λ w. ⊎-elim (λ (i, h). omega (arith, h, e)) (λ i. a (sym e ∙ i)) (w .number))
+    (λ j. ⊎-elim (λ i. z (sym e ∙ i)) (λ (i, h). b (omega (arith, i, e)) (omega (arith, h, e))) (j .number)))
+    said
+
 module _ (morning noon : List ℕ) where
   abbrev verdict : Verdict
   verdict = joinedVerdict morning noon
@@ -38,12 +46,8 @@ module _ (morning noon : List ℕ) where
   account = accountOf morning noon
 
   -- a refused pair gives none of 10, 11 and 21, and is not accepted
-  never : clear verdict ≡ false → (n : ℕ) → (n ≡ 0 → ⊥) → 10 ≤ n → (n ≡ 12 → ⊥) → (n ≡ 13 → ⊥) → numberOf (verdict .answer) ≡ n → ⊥
-  never c n z l a b e =
-      ⊎-elim (λ m. omega (arith, m .most, e))
-      (⊎-elim (λ w. ⊎-elim (λ (i, h). omega (arith, h, e)) (λ i. a (sym e ∙ i)) (w .number))
-      (λ j. ⊎-elim (λ i. z (sym e ∙ i)) (λ i. b (sym e ∙ i)) (j .number)))
-      (pair-saying morning noon)
+  never : clear verdict ≡ false → (n : ℕ) → (n ≡ 0 → ⊥) → 10 ≤ n → (n ≡ 12 → ⊥) → (13 ≤ n → n ≤ 15 → ⊥) → numberOf (verdict .answer) ≡ n → ⊥
+  never c n = late-number verdict (pair-saying morning noon) n
 
   some-number : clear verdict ≡ false → numberOf (verdict .answer) ≡ 0 → ⊥
   some-number c = eqb-false (numberOf (verdict .answer)) 0 c
@@ -72,7 +76,7 @@ module _ (morning noon : List ℕ) where
         go true c e = (c, ap (λ (v : Verdict). numberOf (v .answer)) (sym (if-clear c)) ∙ e)
         go false c e = absurd (other c (ap (λ (v : Verdict). numberOf (v .answer)) (sym (if-refused c)) ∙ e))
 
-    gives-late : (n : ℕ) → 10 ≤ n → (n ≡ 12 → ⊥) → (n ≡ 13 → ⊥) → Iff (numberOf (given .answer) ≡ n) ((clear verdict ≡ true) × (numberOf next ≡ n))
+    gives-late : (n : ℕ) → 10 ≤ n → (n ≡ 12 → ⊥) → (13 ≤ n → n ≤ 15 → ⊥) → Iff (numberOf (given .answer) ≡ n) ((clear verdict ≡ true) × (numberOf next ≡ n))
     gives-late n l a b = gives n (λ c. never c n (λ e. omega arith) l a b)
 
     names : (1 ≤ numberOf next → recordOf next ≡ length account) → clear verdict ≡ true → 1 ≤ numberOf (given .answer) → NamesAll morning noon given
@@ -85,8 +89,8 @@ module _ (morning noon : List ℕ) where
   pair-question question lent =
       let next = answerOver account question lent in
       let over = asking account question lent in
-      let a = gives-late next 11 (omega arith) (λ e. omega arith) (λ e. omega arith) in
-      let b = gives-late next 10 (omega arith) (λ e. omega arith) (λ e. omega arith) in
+      let a = gives-late next 11 (omega arith) (λ e. omega arith) (λ l h. omega arith) in
+      let b = gives-late next 10 (omega arith) (λ e. omega arith) (λ l h. omega arith) in
       let z = gives next 0 some-number in
       record {
         refused = if-refused next;
@@ -140,7 +144,7 @@ module _ (morning noon : List ℕ) where
 
     pub pair-call : PairCall morning noon last threshold collateral
     pair-call =
-        let a = gives-late amounts 21 (omega arith) (λ e. omega arith) (λ e. omega arith) in
+        let a = gives-late amounts 21 (omega arith) (λ e. omega arith) (λ l h. omega arith) in
         let z = gives amounts 0 some-number in
         let due = coverCall (requirement account) (natAbs last) (natAbs threshold) (natAbs collateral) in
         record {

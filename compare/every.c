@@ -231,6 +231,74 @@ static void ask_lists(const uint8_t *file, size_t bytes, const uint8_t *noon, si
     }
 }
 
+/* The order screen's calls: the file's first row as a ticket, or 96 bytes that are 0, with so much room after the file; every lent byte
+ * afterwards. */
+static void ask_screen(const uint8_t *file, size_t bytes, size_t room, size_t named)
+{
+    const int64_t limits[] = {INT64_MIN, -1, 0, 383650, INT64_MAX};
+    uint8_t *held = before_the_end(bytes + room), *ticket = before_the_end(96);
+    memcpy(held, file, bytes);
+    memset(held + bytes, 7, room);
+    memset(ticket, 0, 96);
+    for (size_t at = bytes / 96 * 96; at >= 96; at -= 96)
+        if (file[at - 96] == 3)
+            memcpy(ticket, file + at - 96, 96);
+    print_outcome("screen load", room, felgotany_screen_load(held, bytes + room, named));
+    felgotany_total_outcome read = felgotany_screen_total(held, bytes + room, named);
+    printf("screen total refusal %zu record %zu total %" PRIu64 "\n", read.refusal, read.record, read.total);
+    for (size_t i = 0; i < sizeof limits / sizeof limits[0]; ++i) {
+        felgotany_limit_outcome asked = felgotany_screen_limit(held, bytes + room, named, ticket, 96, limits[i]);
+        printf("screen limit %zu refusal %zu record %zu answer %zu total %" PRIu64 "\n", i, asked.refusal, asked.record, asked.answer,
+               asked.total);
+    }
+    felgotany_add_outcome added = felgotany_screen_add(held, bytes + room, named, ticket, 96);
+    printf("screen add refusal %zu record %zu named %zu:", added.refusal, added.record, added.named);
+    for (size_t i = 0; i < bytes + room; ++i)
+        printf(" %u", (unsigned)held[i]);
+    putchar('\n');
+}
+
+static void print_ticket(const char *word, size_t held, felgotany_ticket_outcome told)
+{
+    printf("%s %zu ticket %zu refusal %zu record %zu before %" PRIu64 " after %" PRIu64 "\n", word, held, told.ticket, told.refusal,
+           told.record, told.before, told.after);
+}
+
+/* The file's last row, or 96 bytes that are 0, as a ticket, put in none, one and two times before, and with a byte missing; each time the
+ * latest withdrawn. */
+static void ask_tickets(const uint8_t *file, size_t bytes)
+{
+    uint8_t row[96] = {0};
+    for (size_t at = 0; at + 96 <= bytes; at += 96)
+        if (file[at] == 3)
+            memcpy(row, file + at, 96);
+    for (size_t held = 0; held < 3; ++held) {
+        uint8_t *tickets = before_the_end(96 * held), *ticket = before_the_end(96), *cut = before_the_end(95);
+        for (size_t i = 0; i < held; ++i)
+            memcpy(tickets + 96 * i, row, 96);
+        memcpy(ticket, row, 96);
+        memcpy(cut, row, 95);
+        print_ticket("ticket", held, felgotany_ticket(file, bytes, tickets, 96 * held, ticket, 96));
+        print_ticket("cut ticket", held, felgotany_ticket(file, bytes, tickets, 96 * held, cut, 95));
+        print_ticket("withdrawal", held, felgotany_withdraw(file, bytes, tickets, 96 * held));
+    }
+}
+
+/* The file's records from the last to the first as entries, with so many bytes lent more or fewer; every lent byte afterwards. */
+static void ask_write(const uint8_t *file, size_t bytes, size_t room)
+{
+    uint8_t *entries = before_the_end(bytes), *out = before_the_end(room);
+    for (size_t at = 0; at + 96 <= bytes; at += 96)
+        memcpy(entries + bytes - at - 96, file + at, 96);
+    memcpy(entries, file, bytes % 96);
+    memset(out, 7, room);
+    felgotany_write_outcome written = felgotany_write(entries, bytes, out, room);
+    printf("write %zu refusal %zu entry %zu written %zu:", room, written.refusal, written.entry, written.written);
+    for (size_t i = 0; i < room; ++i)
+        printf(" %u", (unsigned)out[i]);
+    putchar('\n');
+}
+
 int main(int argc, char **argv)
 {
     size_t bytes, noon_bytes;
@@ -252,5 +320,13 @@ int main(int argc, char **argv)
     ask_run(file, bytes, noon, noon_bytes);
     ask_committee(file, bytes, noon, noon_bytes);
     ask_lists(file, bytes, noon, noon_bytes);
+    ask_screen(file, bytes, 96, bytes);
+    ask_screen(file, bytes, 95, bytes);
+    ask_screen(file, bytes, 192, bytes + 193);
+    ask_tickets(file, bytes);
+    if (bytes % 96 == 0) {
+        ask_write(file, bytes, bytes + 5);
+        ask_write(file, bytes, bytes > 0 ? bytes - 1 : 0);
+    }
     return 0;
 }

@@ -10,7 +10,7 @@
  * each with its length, where a question is put to two files.
  *
  * The library keeps nothing between calls, allocates nothing and calls nothing of the host's but memcpy and memset. Threads
- * may call it at the same time with memory of their own. A call takes less than 64 kB of stack.
+ * may call it at the same time with memory of their own. A call takes less than 64 kB of stack, felgotany_write less than 96 kB.
  */
 #ifndef FELGOTANY_H
 #define FELGOTANY_H
@@ -78,7 +78,17 @@ extern "C" {
  *
  * Of the risk committee's figures of a run, one thing more is refused, before these.
  *
- *   19  more than 100 accounts                                              record 0 */
+ *   19  more than 100 accounts                                              record 0
+ *
+ * The order screen's calls have two refusals of their own; felgotany_screen_load and the calls after it have the order.
+ *
+ *   16  more bytes named than lent; no room for a ticket                    record 0
+ *   20  a limit below zero                                                  record 0
+ *
+ * A list of entries that is written as a file gets 16, too, last, where fewer bytes are lent than the file takes. A withdrawal has one
+ * refusal of its own.
+ *
+ *   22  a withdrawal with no ticket left                                    record 0 */
 typedef struct {
     size_t refusal;
     size_t record;
@@ -296,6 +306,111 @@ felgotany_pair_list_outcome felgotany_joined_judge(const uint8_t *morning, size_
  * Then no account is read and nothing is written. A run of no accounts is answered. */
 felgotany_outcome felgotany_committee(const uint8_t *accounts, size_t bytes, const size_t *lengths, size_t count, int64_t *out,
                                       size_t numbers);
+
+/* Tickets: what one more row does to an account. `tickets` are the tickets put in so far, 96 bytes each, rows as the file has them, one
+ * after the other; each is put last among its contract's rows, with those before it, and the margins are those of the file with these rows.
+ * The memory is the caller's and is only read; nothing is kept between calls.
+ *
+ * What is told: the ticket that it is about, counted from 1, or 0 for the file; the refusal, 0 where nothing is refused, and its record; and
+ * the total of the margins before and after, in hundredths, both 0 where something is refused. The order: the file's own refusals; then the
+ * tickets in turn, each for 2 (not 96 bytes, record 0), 3 (not kind 3), 5 to 9, 14 and 15, naming the place that it would have in the file,
+ * and then 1 (the file would pass 640 records, record 0). Bytes after the last whole ticket are a ticket, too, and so get 2. */
+typedef struct {
+    size_t ticket;
+    size_t refusal;
+    size_t record;
+    uint64_t before;
+    uint64_t after;
+} felgotany_ticket_outcome;
+
+/* One ticket more: it is told of as the one after those put in so far. */
+felgotany_ticket_outcome felgotany_ticket(const uint8_t *file, size_t bytes, const uint8_t *tickets, size_t tickets_bytes,
+                                          const uint8_t *ticket, size_t ticket_bytes);
+
+/* The latest of the tickets withdrawn: the total with all of them, and with all but the latest; 22 where there is none. */
+felgotany_ticket_outcome felgotany_withdraw(const uint8_t *file, size_t bytes, const uint8_t *tickets, size_t tickets_bytes);
+
+/* What comes of a list of entries: the refusal, 0 where the file is written, the place of the entry at fault as entered, counted from 0,
+ * and how many bytes are written. */
+typedef struct {
+    size_t refusal;
+    size_t entry;
+    size_t written;
+} felgotany_write_outcome;
+
+/* The account file of entries in any order. An entry is a record as the file has it, 96 bytes, and the entries stand one after the other.
+ * The file has them by kind, contracts by number, prompts by contract and day, rows and interprompt spreads by contract, currency rates by
+ * currency; what is alike there, and intercontract spreads, stay in the order of entry. It is checked as felgotany_check does; a refusal
+ * writes nothing and names the entry at fault, entry 0 for a 1 and for a 2, which bytes after the last whole entry get. Last comes 16: fewer
+ * bytes lent than the file takes, which are as many as the entries'. The file stands at the front of `out`, and nothing after it is changed.
+ * `out` does not overlap the entries. The call takes less than 96 kB of stack, since the file is checked before it is written. */
+felgotany_write_outcome felgotany_write(const uint8_t *entries, size_t entry_bytes, uint8_t *out, size_t bytes);
+
+/* The order screen: an account file held in memory that the screen lends, tickets added to it, its total, and whether an order keeps
+ * the total within a client's limit.
+ *
+ * The screen owns the memory. It lends `bytes` bytes at `lent`, and says that the first `named` of them are the account file, with the
+ * tickets added so far among its rows. Every call checks those bytes again and rests on nothing of the call before: the screen may
+ * copy them, move them, change them or drop them between calls as it likes. Nothing is kept between calls, and there is nothing to
+ * free. `ticket` points to `ticket_bytes` bytes of a record, which nothing writes during the call; it does not overlap the lent bytes.
+ * With a length of 0 a pointer is not followed and may be null.
+ *
+ * Loading, reading the total and asking about a limit write nothing: several threads may do so on the same bytes at the same time.
+ * Adding writes the lent bytes, so that no other thread may read or write them during that call. Calls on memory of their own do not
+ * meet.
+ *
+ * Each call is refused for 16 where more bytes are named than lent, then for what felgotany_check refuses the named bytes for. A ticket
+ * is then refused for these, in this order: 2, it does not have 96 bytes; 3, it is not of kind 3; 5 to 9 and then 14 and 15, what a row
+ * is refused for; 1, the file has 640 records without it. 3 to 15 name the place at which it would stand, counted from 0: after the
+ * records of kinds 1 and 2 and every row whose byte 1 is not above its own. 1, 2, 16 and 20 name record 0. */
+
+/* Whether the named bytes are an accepted account file. To load an account, the screen reads its file to the front of the memory that it
+ * lends, and names as many bytes as the file has. */
+felgotany_outcome felgotany_screen_load(const uint8_t *lent, size_t bytes, size_t named);
+
+/* The refusal of a ticket and the record that it names, both 0 where it is added; and how many bytes are to be named from then on, 96 more
+ * than before. The last is 0 where the ticket is refused. */
+typedef struct {
+    size_t refusal;
+    size_t record;
+    size_t named;
+} felgotany_add_outcome;
+
+/* Adds a ticket: the record is put last among its contract's rows, and the bytes after it are moved up by 96. After all other refusals, 16
+ * is given where fewer than 96 bytes are lent after the named ones. The bytes after the new record's room are left alone; a refusal
+ * changes no byte. */
+felgotany_add_outcome felgotany_screen_add(uint8_t *lent, size_t bytes, size_t named, const uint8_t *ticket, size_t ticket_bytes);
+
+/* The refusal of the named bytes and its record, both 0 where they are accepted; and the total of the margins, in hundredths of the margin
+ * currency, 0 where they are refused. */
+typedef struct {
+    size_t refusal;
+    size_t record;
+    uint64_t total;
+} felgotany_total_outcome;
+
+/* The total of the account held, with the tickets added to it: the last of the numbers that felgotany_figures gives for the named bytes. */
+felgotany_total_outcome felgotany_screen_total(const uint8_t *lent, size_t bytes, size_t named);
+
+/* What is answered to the question about a limit. */
+#define FELGOTANY_NOT_ASKED 0    /* it is refused */
+#define FELGOTANY_WITHIN_LIMIT 1 /* yes: the total with the ticket is at or below the limit */
+#define FELGOTANY_ABOVE_LIMIT 2  /* no: it is over the limit */
+
+/* The refusal and its record, both 0 where the question is answered; the answer; and the total with the ticket, in hundredths of the
+ * margin currency, 0 where it is refused. */
+typedef struct {
+    size_t refusal;
+    size_t record;
+    size_t answer;
+    uint64_t total;
+} felgotany_limit_outcome;
+
+/* Whether the total with a ticket stays at or below the client's limit, in hundredths of the margin currency. The ticket is not added, and
+ * needs no room. 20 is given where the limit is below zero, before all other refusals. The total that is told is the one that
+ * felgotany_screen_total reads once the ticket is added. */
+felgotany_limit_outcome felgotany_screen_limit(const uint8_t *lent, size_t bytes, size_t named, const uint8_t *ticket,
+                                               size_t ticket_bytes, int64_t limit);
 
 #ifdef __cplusplus
 }

@@ -21,10 +21,13 @@
 #define FELGOTANY_TOO_MANY_JOINED 13
 #define FELGOTANY_NO_RATE 14
 #define FELGOTANY_CONVERSION_BEYOND 15
+#define FELGOTANY_TOO_FEW_BYTES 16
 #define FELGOTANY_LENGTHS_DIFFER 17
 #define FELGOTANY_OTHER_COUNTS 18
 #define FELGOTANY_TOO_MANY_ACCOUNTS 19
+#define FELGOTANY_LIMIT_BELOW_ZERO 20
 #define FELGOTANY_AMOUNT_OUTSIDE_RANGE 21
+#define FELGOTANY_NO_TICKET_LEFT 22
 
 /* The rule of a refusal in words; for any other number "no such refusal". The text is constant and is not freed. */
 static inline const char *felgotany_refusal_text(size_t refusal)
@@ -62,14 +65,20 @@ static inline const char *felgotany_refusal_text(size_t refusal)
         return "a row whose currency has no rate";
     case FELGOTANY_CONVERSION_BEYOND:
         return "a row with a rounded conversion beyond 100,000,000,000,000 hundredths";
+    case FELGOTANY_TOO_FEW_BYTES:
+        return "fewer bytes provided than are named or needed";
     case FELGOTANY_LENGTHS_DIFFER:
         return "the lengths of a run do not add up to what was lent";
     case FELGOTANY_OTHER_COUNTS:
         return "step count or prompt count differs from the account's";
     case FELGOTANY_TOO_MANY_ACCOUNTS:
         return "more than 100 accounts for the risk committee";
+    case FELGOTANY_LIMIT_BELOW_ZERO:
+        return "a limit below zero";
     case FELGOTANY_AMOUNT_OUTSIDE_RANGE:
         return "an amount outside 0 to 1,000,000,000,000,000 hundredths";
+    case FELGOTANY_NO_TICKET_LEFT:
+        return "a withdrawal with no ticket left";
     default:
         return "no such refusal";
     }

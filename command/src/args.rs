@@ -109,6 +109,8 @@ pub enum Asked {
         #[command(flatten)]
         judging: Judging,
     },
+    /// What tickets do to the margin of an account, line by line: rows in the text form, or withdraw
+    Tickets(Tickets),
     /// Say in words why an account is refused, and show the record
     Explain {
         /// An account file or its text form; - is standard input
@@ -130,13 +132,13 @@ pub enum Asked {
         #[command(flatten)]
         empty: Empty,
     },
-    /// Write an account file from its text form
+    /// Write an account file from its text form, whose lines may stand in any order
     Write {
         /// The text, or - for standard input
         text: PathBuf,
         /// The name of the account file, which is written whole or not at all
         output: PathBuf,
-        /// Write an account that is refused, too
+        /// Write the lines as they stand, and an account that is refused, too
         #[arg(long)]
         refused: bool,
         #[command(flatten)]
@@ -164,6 +166,25 @@ pub struct Night {
     /// Tell each tenth of the way on standard error where that is no terminal; on a terminal a bar is shown
     #[arg(long)]
     pub progress: bool,
+    #[command(flatten)]
+    pub empty: Empty,
+}
+
+const TICKET_NOTES: &str = "\
+Each line of standard input is a ticket, one row in the text form (felgotany read prints rows), and is answered as it comes: the
+margin before, after, and the change, or the refusal in words. The ticket is put last among its contract's rows, with the tickets
+before it. A line that says withdraw takes the latest ticket back, then the one before it. A refused ticket changes nothing.
+
+Exit status: 0 all answered, 1 some refused, 2 called wrongly, 3 something could not be read or written.";
+
+#[derive(Args)]
+#[command(after_help = TICKET_NOTES)]
+pub struct Tickets {
+    /// An account file or its text form
+    pub account: PathBuf,
+    /// Print lines for other programs, in whole hundredths: A or W with the ticket, before, after and change; an R line
+    #[arg(long)]
+    pub lines: bool,
     #[command(flatten)]
     pub empty: Empty,
 }

@@ -4,7 +4,7 @@ use crate::account::{Account, Book};
 use crate::args::{Asked, Form};
 use crate::failure::{Failure, Status};
 use crate::input::Input;
-use crate::{committee, judge, lines, night, noon, output, page, report, sheet, table};
+use crate::{committee, judge, lines, night, noon, output, page, report, sheet, table, tickets};
 use account_text::explain::{accepted, explain};
 use account_text::{read, wording};
 use felgotany::refusals::{rule, TOO_LONG};
@@ -66,6 +66,10 @@ pub fn ask(asked: Asked) -> Result<Answer, Failure> {
             Ok(Answer::of_result(form, noon::ask(&inputs.0, &inputs.1, call.as_deref(), form)))
         }
         Asked::Night(asked) => night::answer(&asked).map(Answer::ended),
+        Asked::Tickets(asked) => {
+            let form = Form { lines: asked.lines, csv: false };
+            tickets::answer(&asked).map(Answer::ended).or_else(|failure| Ok(Answer::of_result(form, Err(failure))))
+        }
         Asked::Report(asked) => report::report(&asked),
         Asked::Statement(asked) => report::statement(&asked),
         Asked::Committee { accounts, form, empty } => Ok(committee::ask(&accounts, form, empty.empty)),
@@ -88,8 +92,8 @@ pub fn ask(asked: Asked) -> Result<Answer, Failure> {
         }
         Asked::Write { text, output, refused, empty } => {
             let input = Input::load(&text, empty.empty)?;
-            let input = if refused { input } else { input.accepted()? };
-            output::to_file(&output, &input.file)?;
+            let file = if refused { input.file } else { input.entered()? };
+            output::to_file(&output, &file)?;
             Ok(Answer::default())
         }
     }

@@ -4,8 +4,8 @@ use crate::failure::Failure;
 use account_text::explain::{others, refused};
 use account_text::write::{write, Misread, Written};
 use felgotany::refusals::{NOT_WHOLE_RECORDS, TOO_LONG};
-use felgotany::Outcome;
-use independent::format::MOST_BYTES;
+use felgotany::{Outcome, WriteOutcome};
+use independent::format::{Record, DAY, ENTRY, MOST_BYTES, PROMPT, RECORD_BYTES};
 use std::fs::File;
 use std::io::{self, IsTerminal, Read};
 use std::path::Path;
@@ -77,6 +77,26 @@ impl Input {
         }
     }
 
+    /// The account file of the records as entries, in any order, as the library writes it.
+    pub fn entered(self) -> Result<Vec<u8>, Failure> {
+        let mut file = vec![0; self.file.len()];
+        match felgotany::write(&self.file, &mut file) {
+            WriteOutcome { refusal: 0, written, .. } => {
+                file.truncate(written);
+                Ok(file)
+            }
+            WriteOutcome { refusal, entry, .. } => {
+                let (sorted, record) = in_file_order(&self.file, entry);
+                let words = refused(&sorted, Outcome { refusal, record }).unwrap_or_default();
+                let at = match refusal {
+                    TOO_LONG | NOT_WHOLE_RECORDS => String::new(),
+                    _ => format!(", {}", self.place(entry).replacen("record", "entry", 1)),
+                };
+                Err(Failure::refused(format!("{}: refusal {refusal}{at}{words}", self.name), format!("R {refusal} {entry}")))
+            }
+        }
+    }
+
     /// What is told of a refusal of the check.
     pub fn refusal(&self, verdict: Outcome) -> Failure {
         let Outcome { refusal, record } = verdict;
@@ -109,6 +129,20 @@ impl Input {
             None => format!("record {record}"),
         }
     }
+}
+
+/// The entries in the file's order, to tell a fault of one, and its record there.
+fn in_file_order(entries: &[u8], entry: usize) -> (Vec<u8>, usize) {
+    let (records, cut) = entries.as_chunks::<RECORD_BYTES>();
+    let key = |record: &[u8; RECORD_BYTES]| match record[0] {
+        PROMPT => (PROMPT, record[1], Record(record).get(DAY)),
+        ENTRY => (ENTRY, 0, 0),
+        kind => (kind, record[1], 0),
+    };
+    let mut order: Vec<usize> = (0..records.len()).collect();
+    order.sort_by_key(|&place| key(&records[place]));
+    let sorted = order.iter().flat_map(|&place| records[place]).chain(cut.iter().copied()).collect();
+    (sorted, order.iter().position(|&place| place == entry).unwrap_or(0))
 }
 
 fn opened(path: &Path) -> Result<(String, Box<dyn Read>), Failure> {

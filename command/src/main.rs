@@ -21,6 +21,7 @@ mod report;
 mod sheet;
 mod summary;
 mod table;
+mod tickets;
 
 use args::Call;
 use clap::Parser;

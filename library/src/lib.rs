@@ -109,6 +109,63 @@ pub struct PairListOutcome {
     pub list: ListOutcome,
 }
 
+/// What is said of a ticket that is to be added: the refusal and its record, both 0 where it is added; and how many of the lent bytes hold the
+/// account file then, 0 where it is refused.
+#[repr(C)]
+#[derive(Clone, Copy, Debug, PartialEq, Eq)]
+pub struct AddOutcome {
+    pub refusal: usize,
+    pub record: usize,
+    pub named: usize,
+}
+
+/// The refusal and its record, both 0 where there is none; and the total in hundredths, 0 where there is one.
+#[repr(C)]
+#[derive(Clone, Copy, Debug, PartialEq, Eq)]
+pub struct TotalOutcome {
+    pub refusal: usize,
+    pub record: usize,
+    pub total: u64,
+}
+
+/// What is answered to the question about a limit.
+pub const NOT_ASKED: usize = 0;
+pub const WITHIN_LIMIT: usize = 1;
+pub const ABOVE_LIMIT: usize = 2;
+
+/// The refusal and its record, both 0 where the question is answered; the answer; and the total with the ticket in hundredths, 0 where it is
+/// refused.
+#[repr(C)]
+#[derive(Clone, Copy, Debug, PartialEq, Eq)]
+pub struct LimitOutcome {
+    pub refusal: usize,
+    pub record: usize,
+    pub answer: usize,
+    pub total: u64,
+}
+
+/// What a ticket or a withdrawal is told: the ticket that is refused or asked about, from 1, 0 where it is the file; the refusal, 0 where
+/// nothing is refused, and the record that it names; and the total of the margins before and after, both 0 where something is refused.
+#[repr(C)]
+#[derive(Clone, Copy, Debug, PartialEq, Eq)]
+pub struct Ticketed {
+    pub ticket: usize,
+    pub refusal: usize,
+    pub record: usize,
+    pub before: u64,
+    pub after: u64,
+}
+
+/// Of entries that are written: the refusal, 0 where the file is written, the place of the entry at fault as entered, and how many
+/// bytes are written.
+#[repr(C)]
+#[derive(Clone, Copy, Debug, PartialEq, Eq)]
+pub struct WriteOutcome {
+    pub refusal: usize,
+    pub entry: usize,
+    pub written: usize,
+}
+
 /// A morning and a noon file.
 #[derive(Clone, Copy)]
 pub struct Pair<'a> {
@@ -221,6 +278,16 @@ extern "C" {
         out: *mut i64,
         numbers: usize,
     ) -> Outcome;
+    fn felgotany_write(entries: *const u8, entry_bytes: usize, out: *mut u8, bytes: usize) -> WriteOutcome;
+    fn felgotany_ticket(
+        file: *const u8,
+        bytes: usize,
+        tickets: *const u8,
+        ticket_bytes: usize,
+        ticket: *const u8,
+        bytes_of_ticket: usize,
+    ) -> Ticketed;
+    fn felgotany_withdraw(file: *const u8, bytes: usize, tickets: *const u8, ticket_bytes: usize) -> Ticketed;
     fn felgotany_judge(
         file: *const u8,
         bytes: usize,
@@ -231,6 +298,17 @@ extern "C" {
         uses: *const i64,
         use_count: usize,
     ) -> ListOutcome;
+    fn felgotany_screen_load(lent: *const u8, bytes: usize, named: usize) -> Outcome;
+    fn felgotany_screen_add(lent: *mut u8, bytes: usize, named: usize, ticket: *const u8, ticket_bytes: usize) -> AddOutcome;
+    fn felgotany_screen_total(lent: *const u8, bytes: usize, named: usize) -> TotalOutcome;
+    fn felgotany_screen_limit(
+        lent: *const u8,
+        bytes: usize,
+        named: usize,
+        ticket: *const u8,
+        ticket_bytes: usize,
+        limit: i64,
+    ) -> LimitOutcome;
     fn felgotany_joined_judge(
         morning: *const u8,
         morning_bytes: usize,
@@ -310,11 +388,48 @@ pub fn committee(accounts: &[u8], lengths: &[usize], lent: &mut [i64]) -> Outcom
     }
 }
 
+/// The account file of entries in any order, at the front of what is lent.
+pub fn write(entries: &[u8], lent: &mut [u8]) -> WriteOutcome {
+    unsafe { felgotany_write(entries.as_ptr(), entries.len(), lent.as_mut_ptr(), lent.len()) }
+}
+
+/// What one more ticket does to an account with the tickets put in so far.
+pub fn ticket(file: &[u8], tickets: &[u8], ticket: &[u8]) -> Ticketed {
+    unsafe {
+        felgotany_ticket(file.as_ptr(), file.len(), tickets.as_ptr(), tickets.len(), ticket.as_ptr(), ticket.len())
+    }
+}
+
+/// What it does to take the latest ticket back.
+pub fn withdraw(file: &[u8], tickets: &[u8]) -> Ticketed {
+    unsafe { felgotany_withdraw(file.as_ptr(), file.len(), tickets.as_ptr(), tickets.len()) }
+}
+
 /// What is said of a list of spreads that is sent for a question.
 pub fn judge(file: &[u8], question: usize, List { prompts, numbers, uses }: List) -> ListOutcome {
     unsafe {
         felgotany_judge(file.as_ptr(), file.len(), question, prompts, numbers.as_ptr(), numbers.len(), uses.as_ptr(), uses.len())
     }
+}
+
+/// Whether the first `named` of the bytes that an order screen lends are an accepted account file.
+pub fn screen_load(lent: &[u8], named: usize) -> Outcome {
+    unsafe { felgotany_screen_load(lent.as_ptr(), lent.len(), named) }
+}
+
+/// Adds a ticket to the account that the lent bytes hold, last among its contract's rows.
+pub fn screen_add(lent: &mut [u8], named: usize, ticket: &[u8]) -> AddOutcome {
+    unsafe { felgotany_screen_add(lent.as_mut_ptr(), lent.len(), named, ticket.as_ptr(), ticket.len()) }
+}
+
+/// The total of the account that the lent bytes hold.
+pub fn screen_total(lent: &[u8], named: usize) -> TotalOutcome {
+    unsafe { felgotany_screen_total(lent.as_ptr(), lent.len(), named) }
+}
+
+/// Whether the total with a ticket stays at or below a limit.
+pub fn screen_limit(lent: &[u8], named: usize, ticket: &[u8], limit: i64) -> LimitOutcome {
+    unsafe { felgotany_screen_limit(lent.as_ptr(), lent.len(), named, ticket.as_ptr(), ticket.len(), limit) }
 }
 
 impl Pair<'_> {

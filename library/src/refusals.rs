@@ -16,10 +16,13 @@ pub const NOON_INTERCONTRACT: usize = 12;
 pub const TOO_MANY_JOINED: usize = 13;
 pub const NO_RATE: usize = 14;
 pub const CONVERSION_BEYOND: usize = 15;
+pub const TOO_FEW_BYTES: usize = 16;
 pub const LENGTHS_DIFFER: usize = 17;
 pub const OTHER_COUNTS: usize = 18;
 pub const TOO_MANY_ACCOUNTS: usize = 19;
+pub const LIMIT_BELOW_ZERO: usize = 20;
 pub const AMOUNT_OUTSIDE_RANGE: usize = 21;
+pub const NO_TICKET_LEFT: usize = 22;
 
 /// A refusal: its number, its rule, and the record that it names.
 pub struct Refusal {
@@ -37,7 +40,7 @@ const fn refusal(number: usize, rule: &'static str, names: &'static str) -> Refu
 }
 
 /// Every refusal, by its number.
-pub const REFUSALS: [Refusal; 19] = [
+pub const REFUSALS: [Refusal; 22] = [
     refusal(TOO_LONG, "file longer than 61,440 bytes", "0"),
     refusal(NOT_WHOLE_RECORDS, "length not a multiple of 96", "0"),
     refusal(UNKNOWN_KIND, "kind not 1..6", THAT_ONE),
@@ -53,10 +56,13 @@ pub const REFUSALS: [Refusal; 19] = [
     refusal(TOO_MANY_JOINED, "more than 640 records joined", JOINED_COUNT),
     refusal(NO_RATE, "a row whose currency has no rate", THAT_ONE),
     refusal(CONVERSION_BEYOND, "a row with a rounded conversion beyond 100,000,000,000,000 hundredths", THAT_ONE),
+    refusal(TOO_FEW_BYTES, "fewer bytes provided than are named or needed", "0"),
     refusal(LENGTHS_DIFFER, "the lengths of a run do not add up to what was lent", "0"),
     refusal(OTHER_COUNTS, "step count or prompt count differs from the account's", "0"),
     refusal(TOO_MANY_ACCOUNTS, "more than 100 accounts for the risk committee", "0"),
+    refusal(LIMIT_BELOW_ZERO, "a limit below zero", "0"),
     refusal(AMOUNT_OUTSIDE_RANGE, "an amount outside 0 to 1,000,000,000,000,000 hundredths", JOINED_COUNT),
+    refusal(NO_TICKET_LEFT, "a withdrawal with no ticket left", "0"),
 ];
 
 /// The rule of a refusal by its number.

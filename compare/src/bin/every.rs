@@ -7,6 +7,10 @@ use felgotany::Outcome;
 use independent::committee::{self, NUMBERS};
 use independent::joined::{self, Cover};
 use independent::list::{judge, judge_joined, List, Verdict};
+use independent::entered::{self, Entered};
+use independent::margin;
+use independent::screen::{self, Limit};
+use independent::ticket::Kept;
 use independent::units::Amount;
 use independent::{held_book, held_figures, Account, PairRefusal, Refusal};
 use std::fmt::Write;
@@ -35,6 +39,14 @@ fn main() -> Result<(), Box<dyn std::error::Error>> {
     ask_run(&mut out, &file, &noon, figures);
     ask_committee(&mut out, &file, &noon);
     ask_lists(&mut out, &file, &noon);
+    for (room, more) in [(96, 0), (95, 0), (192, 193)] {
+        ask_screen(&mut out, &file, room, file.len() as u64 + more);
+    }
+    ask_tickets(&mut out, &file);
+    if file.len() % 96 == 0 {
+        ask_write(&mut out, &file, file.len() + 5);
+        ask_write(&mut out, &file, file.len().saturating_sub(1));
+    }
     print!("{out}");
     Ok(())
 }
@@ -264,4 +276,99 @@ fn say_list(out: &mut String, word: &str, question: u64, said: Result<Verdict, P
         said.as_ref().map_or_else(|told| [told.file.into(), told.number.into(), told.record], |_| [0; 3]);
     let [verdict, step] = said.map_or([0; 2], numbered);
     writeln!(out, "{word} {question} file {file} refusal {refusal} record {record} verdict {verdict} step {step}").unwrap();
+}
+
+fn ask_screen(out: &mut String, file: &[u8], room: usize, held: u64) {
+    let mut lent = [file, &vec![BEFORE as u8; room]].concat();
+    let row = file.chunks_exact(96).find(|record| record[0] == 3);
+    let ticket = row.map_or(vec![0; 96], <[u8]>::to_vec);
+    let told = |refusal: Option<Refusal>| refusal.map_or([0, 0], |refusal| [refusal.number.into(), refusal.record]);
+    let [refusal, record] = told(screen::load(&lent, held).err());
+    writeln!(out, "screen load {room} refusal {refusal} record {record}").unwrap();
+    let read = screen::read_total(&lent, held);
+    let [refusal, record] = told(read.as_ref().err().copied());
+    writeln!(out, "screen total refusal {refusal} record {record} total {}", read.map_or(0, |total| total.0)).unwrap();
+    let mut after = lent.clone();
+    after.resize(after.len() + 96, 0);
+    let with = screen::add(&mut after, held, &ticket).and_then(|held| screen::read_total(&after, held)).map_or(0, |total| total.0);
+    for (place, limit) in [i64::MIN, -1, 0, 383650, i64::MAX].into_iter().enumerate() {
+        let asked = screen::ask(&lent, held, &ticket, limit);
+        let [refusal, record] = told(asked.as_ref().err().copied());
+        let (answer, total) = match asked {
+            Err(_) => (0, 0),
+            Ok(Limit::Within) => (1, with),
+            Ok(Limit::Over { total }) => (2, total.0),
+        };
+        writeln!(out, "screen limit {place} refusal {refusal} record {record} answer {answer} total {total}").unwrap();
+    }
+    let added = screen::add(&mut lent, held, &ticket);
+    let [refusal, record] = told(added.as_ref().err().copied());
+    let bytes: String = lent.iter().map(|byte| format!(" {byte}")).collect();
+    writeln!(out, "screen add refusal {refusal} record {record} named {}:{bytes}", added.unwrap_or(0)).unwrap();
+}
+
+fn ask_tickets(out: &mut String, file: &[u8]) {
+    let row = file.chunks_exact(96).filter(|record| record[0] == 3).next_back();
+    let ticket = row.map_or(vec![0; 96], <[u8]>::to_vec);
+    for held in 0..3 {
+        let put_in = |number: usize| {
+            let mut kept = Kept::load(file).map_err(|refusal| (0, refusal))?;
+            (1..=number).try_for_each(|place| kept.add(&ticket).map_err(|refusal| (place, refusal)))?;
+            Ok(kept)
+        };
+        let mut print = |word: &str, told: Result<(usize, Kept, Kept), (usize, Refusal)>| {
+            let total = |kept: &Kept| margin::total(&margin::figures_of(&kept.account())).0;
+            let [ticket, refusal, record, before, after] = match &told {
+                Ok((ticket, before, after)) => [*ticket as i64, 0, 0, total(before), total(after)],
+                Err((ticket, refusal)) => [*ticket as i64, refusal.number.into(), refusal.record as i64, 0, 0],
+            };
+            writeln!(out, "{word} {held} ticket {ticket} refusal {refusal} record {record} before {before} after {after}").unwrap();
+        };
+        let with = |ticket: &[u8]| {
+            let kept: Kept = put_in(held)?;
+            let after = kept.with(ticket).map_err(|refusal| (held + 1, refusal))?;
+            Ok((held + 1, kept, after))
+        };
+        print("ticket", with(&ticket));
+        print("cut ticket", with(&ticket[..95]));
+        let withdrawn = put_in(held).and_then(|kept: Kept| {
+            let mut after = kept.clone();
+            after.withdraw().map_err(|refusal| (held, refusal))?;
+            Ok((held, kept, after))
+        });
+        print("withdrawal", withdrawn);
+    }
+}
+
+fn ask_write(out: &mut String, file: &[u8], room: usize) {
+    let of_a_kind = |record: &[u8]| entered::entered(record.try_into().expect("96 bytes"));
+    let entries: Vec<Entered> = file.chunks_exact(96).rev().map(of_a_kind).collect();
+    let said = entries.iter().flat_map(entered::record).eq(file.chunks_exact(96).rev().flatten().copied());
+    let mut lent = vec![BEFORE as u8; room];
+    let [refusal, entry, written] = match said {
+        true => match entered::write(&entries, &mut lent) {
+            Ok(written) => [0, 0, written],
+            Err(refusal) => [refusal.number.into(), refusal.record, 0],
+        },
+        false => by_the_check(file),
+    };
+    let bytes: String = lent.iter().map(|byte| format!(" {byte}")).collect();
+    writeln!(out, "write {room} refusal {refusal} entry {entry} written {written}:{bytes}").unwrap();
+}
+
+/// What the written file gets where an entry is of no kind or an unused byte is set, which an entry cannot say: the records sorted.
+fn by_the_check(file: &[u8]) -> [usize; 3] {
+    let entries: Vec<&[u8]> = file.chunks_exact(96).rev().collect();
+    let key = |record: &[u8]| match record[0] {
+        2 => (2, record[1], u32::from_le_bytes([record[4], record[5], record[6], record[7]])),
+        5 => (5, 0, 0),
+        kind => (kind, record[1], 0),
+    };
+    let mut order: Vec<usize> = (0..entries.len()).collect();
+    order.sort_by_key(|&place| key(entries[place]));
+    let sorted: Vec<u8> = order.iter().flat_map(|&place| entries[place]).copied().collect();
+    match independent::check(&sorted) {
+        Err(Refusal { number, record }) => [number.into(), if number < 3 { 0 } else { order[record] }, 0],
+        Ok(_) => unreachable!("what an entry cannot say is refused"),
+    }
 }

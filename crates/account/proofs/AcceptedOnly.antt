@@ -5,7 +5,7 @@ use native.Mathlib.Omega.{arith}
 use mathlib.Core.Path.{_≡_, refl}
 use Rattle.account.specs.Answers.{numberOf}
 use Rattle.account.specs.declared.answers.Answer.{Answer}
-use Rattle.account.specs.declared.answers.Answer.the-variants.{Accepted, TooLong, CutRecord, UnknownKind, KindFalls, UnusedByte, FieldOutside, Unlisted, OutOfOrder, OverLimit, TooFewNumbers, NoSuchQuestion, NoonSpread, TooManyJoined, NoRate, ConversionBeyond, LengthsDiffer, OtherCounts, TooManyAccounts, AmountOutside}
+use Rattle.account.specs.declared.answers.Answer.the-variants.{Accepted, TooLong, CutRecord, UnknownKind, KindFalls, UnusedByte, FieldOutside, Unlisted, OutOfOrder, OverLimit, TooFewNumbers, NoSuchQuestion, NoonSpread, TooManyJoined, NoRate, ConversionBeyond, TooFewBytes, LengthsDiffer, OtherCounts, TooManyAccounts, LimitBelowZero, AmountOutside, NoTicketLeft}
 
 pub some : {n : ℕ} → suc n ≡ 0 → ⊥
 some e = omega arith
@@ -28,7 +28,10 @@ accepted-only (NoonSpread k) e = absurd (some e)
 accepted-only (TooManyJoined k) e = absurd (some e)
 accepted-only (NoRate k) e = absurd (some e)
 accepted-only (ConversionBeyond k) e = absurd (some e)
+accepted-only TooFewBytes e = absurd (some e)
 accepted-only LengthsDiffer e = absurd (some e)
 accepted-only OtherCounts e = absurd (some e)
 accepted-only TooManyAccounts e = absurd (some e)
+accepted-only LimitBelowZero e = absurd (some e)
 accepted-only (AmountOutside k) e = absurd (some e)
+accepted-only NoTicketLeft e = absurd (some e)

@@ -4,26 +4,28 @@ use Prim.Native.Nat.{ℕ, zero, suc, _+_, _-_, _*_, _/_, _%_, _≤_, _<_}
 use native.Mathlib.Omega.{arith}
 use native.Mathlib.Nat.{zero-add}
 use mathlib.Core.Path.{_≡_, refl, sym, ap, ap₂, subst, subst⁻¹, _∙_}
-use mathlib.Core.Bool.{Bool, true, false, not, _&&_, cond}
+use mathlib.Core.Bool.{Bool, true, false, not, _&&_, _||_, cond}
 use mathlib.Core.List.{List, [], _∷_, _++_, append-nil}
 use borrow.Author.Tests.{eq-eqb, ne-eqb, eqb-true, eqb-false, not-false}
 use lib.Dec.{eqb}
 use lib.ListN.{length, getD, take, drop, length-append}
 use lib.Seq.{getD-take, length-take-le}
-use Rattle.exact.specs.Lists.{consIf, keep, count, sum}
-use Rattle.record.specs.Layout.{Record, kind}
+use Rattle.exact.specs.Lists.{any, consIf, keep, count, sum}
+use Rattle.record.specs.Bytes.{countFrom}
+use Rattle.record.specs.Layout.{Record, kind, currency, scenarioCount}
 use Rattle.record.specs.Within.{RowWithin}
-use Rattle.record.proofs.Within.{never}
+use Rattle.record.proofs.Tests.{or-false}
+use Rattle.record.proofs.Within.{never, neither}
 use Rattle.account.specs.Accepted.{Each}
 use Rattle.account.specs.Answers.{numberOf, refusal}
 use Rattle.account.specs.Check.{orElse}
 use Rattle.account.specs.Checked.{rateFaultOf, firstRateFault, ratesChecked}
-use Rattle.account.specs.Conversions.{rowAnswer, Row}
+use Rattle.account.specs.Conversions.{inAnother, rowAnswer, Row}
 use Rattle.account.specs.Joined.{inTurn, joined}
 use Rattle.account.specs.Lawful.{Recorded, Lawful}
 use Rattle.account.specs.Notes.{part, inPart}
 use Rattle.account.specs.Parts.{ofKind, ofContract, rowsOf, ratesOf}
-use Rattle.account.specs.Products.{hasRate, conversionBeyond, Convertible}
+use Rattle.account.specs.Products.{ofCurrency, hasRate, beyondIn, conversionBeyond, Convertible}
 use Rattle.account.specs.Records.{cut, recordAt, records, recordCount}
 use Rattle.account.specs.declared.answers.Answer.{Answer}
 use Rattle.account.specs.declared.answers.Answer.the-variants.{Accepted, NoRate, ConversionBeyond}
@@ -94,6 +96,20 @@ module _ (rates : List Record) where
   no-rows k [] h = refl
   no-rows k (r ∷ xs) h = rw (ne-eqb (kind r) 3 (h .0)) (no-rows (k + 1) xs (h .1))
 
+  -- no row in another currency
+  pub no-other : (k : ℕ) (xs : List Record) → any inAnother xs ≡ false → firstRateFault k rates xs ≡ Accepted
+  no-other k [] h = refl
+  no-other k (r ∷ xs) h =
+      let t = neither (inAnother r) (any inAnother xs) h in
+      let own = not-false (eqb (currency r) 0) (t .0) in
+      fault-on k r xs (none (ofKind 3 r) (eqb (currency r) 0) own) ∙ no-other (k + 1) xs (t .1)
+    where
+      none : (i e : Bool) → e ≡ true
+          → two (i && not (e || any (ofCurrency (currency r)) rates)) (i && (not e && any (beyondIn rates r) (countFrom 1 scenarioCount))) ≡ 0
+      none true true e = refl
+      none false true e = refl
+      none i false e = absurd (never e)
+
   -- what no fault says of each row
   pub each-row : (k : ℕ) (xs : List Record) → firstRateFault k rates xs ≡ Accepted
       → Each (λ r. kind r ≡ 3 → (hasRate rates r ≡ true) × (conversionBeyond rates r ≡ false)) xs
@@ -155,6 +171,28 @@ module _ (rates : List Record) where
     rows-end i h =
         let e : recordCount rows - i ≡ 0 = omega arith in
         ap (λ (n : ℕ). firstRateFault (k + i) rates (cut n (drop (i * 96) rows))) e
+
+-- ---- a test of each row, from row i on
+module _ (p : Record → Bool) (rows : List ℕ) where
+  abbrev pub anyFrom : ℕ → Bool
+  anyFrom i = any p (cut (recordCount rows - i) (drop (i * 96) rows))
+
+  pub any-start : any p (records rows) ≡ false || anyFrom 0
+  any-start =
+      let e : recordCount rows ≡ recordCount rows - 0 = omega arith in
+      ap (λ (n : ℕ). any p (cut n rows)) e
+
+  pub any-next : (b : Bool) (i : ℕ) → i < recordCount rows → b || anyFrom i ≡ (b || p (recordAt rows i)) || anyFrom (i + 1)
+  any-next b i h = ap (λ (rs : List Record). b || any p rs) (cut-on rows (recordCount rows) i h) ∙ assoc b (p (recordAt rows i)) (anyFrom (i + 1))
+    where
+      assoc : (a b c : Bool) → a || (b || c) ≡ (a || b) || c
+      assoc true b c = refl
+      assoc false b c = refl
+
+  pub any-end : (b : Bool) (i : ℕ) → recordCount rows ≤ i → b || anyFrom i ≡ b
+  any-end b i h =
+      let e : recordCount rows - i ≡ 0 = omega arith in
+      ap (λ (n : ℕ). b || any p (cut n (drop (i * 96) rows))) e ∙ or-false b
 
 -- ---- an account part by part
 every-of-kept : (P : Record → Type 0) (p : Record → Bool) (xs : List Record) → Each P xs → Each P (keep p xs)

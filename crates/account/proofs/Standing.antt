@@ -26,7 +26,7 @@ whole : (file : List ℕ) (k n : ℕ) → recordCount (stretch file k n) ≡ n �
 whole file k n e = omega (arith, e, length-take (n * 96) (drop (k * 96) file))
 
 -- the part of a number, where there is one
-within : (v : ℕ) → v ≤ ratePart → (account : List Record) → partRecords v account ≡ keep (inPart v) account
+pub within : (v : ℕ) → v ≤ ratePart → (account : List Record) → partRecords v account ≡ keep (inPart v) account
 within v h account = ap (λ (t : Bool). cond t [] (keep (inPart v) account)) (le-ltb ratePart v h)
 
 -- a contract's part has its records of a kind

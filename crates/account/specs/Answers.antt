@@ -1,11 +1,11 @@
--- The table of refusals of document 01, "What comes back", and of requests 2026-01, 2026-05, 2026-08, 2026-10 and 2026-12: the number of
--- each and the record that it names.
+-- The table of refusals of document 01, "What comes back", and of requests 2026-01, 2026-05, 2026-07, 2026-08, 2026-10, 2026-12 and
+-- 2026-14: the number of each and the record that it names.
 -- Assumes nothing.
 use Prim.Native.Nat.{ℕ}
 use mathlib.Core.Bool.{cond}
 use lib.Dec.{eqb}
 use Rattle.account.specs.declared.answers.Answer.{Answer}
-use Rattle.account.specs.declared.answers.Answer.the-variants.{Accepted, TooLong, CutRecord, UnknownKind, KindFalls, UnusedByte, FieldOutside, Unlisted, OutOfOrder, OverLimit, TooFewNumbers, NoSuchQuestion, NoonSpread, TooManyJoined, NoRate, ConversionBeyond, LengthsDiffer, OtherCounts, TooManyAccounts, AmountOutside}
+use Rattle.account.specs.declared.answers.Answer.the-variants.{Accepted, TooLong, CutRecord, UnknownKind, KindFalls, UnusedByte, FieldOutside, Unlisted, OutOfOrder, OverLimit, TooFewNumbers, NoSuchQuestion, NoonSpread, TooManyJoined, NoRate, ConversionBeyond, TooFewBytes, LengthsDiffer, OtherCounts, TooManyAccounts, LimitBelowZero, AmountOutside, NoTicketLeft}
 
 -- "No."; 0 where nothing is refused
 abbrev pub numberOf : Answer → ℕ
@@ -25,10 +25,13 @@ numberOf (NoonSpread k) = 12
 numberOf (TooManyJoined n) = 13
 numberOf (NoRate k) = 14
 numberOf (ConversionBeyond k) = 15
+numberOf TooFewBytes = 16
 numberOf LengthsDiffer = 17
 numberOf OtherCounts = 18
 numberOf TooManyAccounts = 19
+numberOf LimitBelowZero = 20
 numberOf (AmountOutside n) = 21
+numberOf NoTicketLeft = 22
 
 -- "Record named"; 0 where none is
 abbrev pub recordOf : Answer → ℕ
@@ -48,10 +51,13 @@ recordOf (NoonSpread k) = k
 recordOf (TooManyJoined n) = n
 recordOf (NoRate k) = k
 recordOf (ConversionBeyond k) = k
+recordOf TooFewBytes = 0
 recordOf LengthsDiffer = 0
 recordOf OtherCounts = 0
 recordOf TooManyAccounts = 0
+recordOf LimitBelowZero = 0
 recordOf (AmountOutside n) = n
+recordOf NoTicketLeft = 0
 
 -- the refusal of a record, by its number
 abbrev pub refusal : ℕ → ℕ → Answer

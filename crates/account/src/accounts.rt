@@ -4,6 +4,7 @@ use crate::answers::Answer;
 use crate::answers::number_of;
 use crate::check::Survey;
 use crate::check::take_survey;
+use crate::conversions::any_in_another;
 use crate::conversions::rows_answer;
 use crate::notes::note_at;
 use crate::notes::noted;
@@ -21,11 +22,12 @@ ghost use mathlib.Core.Path.{_≡_};
 ghost use mathlib.Core.Bool.{cond};
 ghost use Prim.Native.Nat.{_≤_, _<_};
 ghost use lib.ListN.{length, getD, set, take};
-ghost use Rattle.exact.specs.Lists.{oneIf, sum};
+ghost use Rattle.exact.specs.Lists.{any, keep, oneIf, sum};
 ghost use Rattle.account.specs.Check.{mostContracts};
 ghost use Rattle.account.specs.Checked.{ratesChecked, checked};
+ghost use Rattle.account.specs.Conversions.{inAnother};
 ghost use Rattle.account.specs.Lawful.{Recorded};
-ghost use Rattle.account.specs.Notes.{parts, rowPart};
+ghost use Rattle.account.specs.Notes.{inPart, parts, rowPart};
 ghost use Rattle.account.specs.Standing.{accountOf, Places, Stands, PartOf, CheckedBy};
 ghost use Rattle.account.specs.Standing.{lists, fromNoon, eitherNote, Filled, Flagged, Numbered, JoinedBy, AloneBy};
 
@@ -278,7 +280,7 @@ fn before_rows(account: Account) -> usize
 }
 
 // 14 and 15, "for rows in file order", of an account whose records are accepted.
-pub(crate) fn conversions_answer<'a>(morning: &'a [u8], noon: &'a [u8], account: Account) -> Answer
+fn conversions_answer<'a>(morning: &'a [u8], noon: &'a [u8], account: Account) -> Answer
     requires { ⌜ Places (now morning) (now noon) account × Recorded (accountOf (now morning) (now noon)) ⌝ }
     ensures { λ a. ⌜ a ≡ ratesChecked (accountOf (now (morning .entry)) (now (noon .entry))) ⌝ }
 {
@@ -292,6 +294,33 @@ pub(crate) fn conversions_answer<'a>(morning: &'a [u8], noon: &'a [u8], account:
             return answer;
         }
         k += record_count(rows);
+        c += 1;
+    }
+    Answer::Accepted
+}
+
+// Whether part `v`, of `count` records, has a row in another currency than the margin's.
+fn converts<'a>(morning: &'a [u8], noon: &'a [u8], account: Account, v: usize, count: usize) -> bool
+    requires { ⌜ Places (now morning) (now noon) account × ((count ≡ getD (account .counts) v 0) × (v < parts)) ⌝ }
+    ensures { λ b. ⌜ b ≡ any inAnother (keep (inPart v) (accountOf (now (morning .entry)) (now (noon .entry)))) ⌝ }
+{
+    if count == 0 {
+        return false;
+    }
+    any_in_another(placed_part(morning, noon, account, v))
+}
+
+// The same as above. An account whose rows are all in the margin currency needs no table of rates and no count of places.
+pub(crate) fn conversions_checked<'a>(morning: &'a [u8], noon: &'a [u8], account: Account) -> Answer
+    requires { ⌜ Places (now morning) (now noon) account × Recorded (accountOf (now morning) (now noon)) ⌝ }
+    ensures { λ a. ⌜ a ≡ ratesChecked (accountOf (now (morning .entry)) (now (noon .entry))) ⌝ }
+{
+    let counts = account.counts;
+    let mut c = 0;
+    while c < CONTRACTS {
+        if converts(morning, noon, account, ROWS + c, noted(&counts, ROWS + c)) {
+            return conversions_answer(morning, noon, account);
+        }
         c += 1;
     }
     Answer::Accepted
@@ -315,7 +344,7 @@ pub fn check_file(file: &[u8]) -> Checked
             account,
         };
     }
-    let answer = conversions_answer(file, &file[..0], account);
+    let answer = conversions_checked(file, &file[..0], account);
     Checked { answer, account }
 }
 

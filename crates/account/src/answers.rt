@@ -20,10 +20,13 @@ pub enum Answer {
     TooManyJoined(usize),
     NoRate(usize),
     ConversionBeyond(usize),
+    TooFewBytes,
     LengthsDiffer,
     OtherCounts,
     TooManyAccounts,
+    LimitBelowZero,
     AmountOutside(usize),
+    NoTicketLeft,
 }
 
 // The paper's number of an answer, 0 where nothing is refused.
@@ -47,10 +50,13 @@ pub fn number_of(a: Answer) -> usize
         Answer::TooManyJoined(_) => 13,
         Answer::NoRate(_) => 14,
         Answer::ConversionBeyond(_) => 15,
+        Answer::TooFewBytes => 16,
         Answer::LengthsDiffer => 17,
         Answer::OtherCounts => 18,
         Answer::TooManyAccounts => 19,
+        Answer::LimitBelowZero => 20,
         Answer::AmountOutside(_) => 21,
+        Answer::NoTicketLeft => 22,
     }
 }
 
@@ -75,15 +81,18 @@ pub fn record_of(a: Answer) -> usize
         Answer::TooManyJoined(n) => n,
         Answer::NoRate(k) => k,
         Answer::ConversionBeyond(k) => k,
+        Answer::TooFewBytes => 0,
         Answer::LengthsDiffer => 0,
         Answer::OtherCounts => 0,
         Answer::TooManyAccounts => 0,
+        Answer::LimitBelowZero => 0,
         Answer::AmountOutside(n) => n,
+        Answer::NoTicketLeft => 0,
     }
 }
 
 // The refusal of record `k` by its number, 3 to 9, 14 or 15.
-pub(crate) fn refusal(number: usize, k: usize) -> Answer
+pub fn refusal(number: usize, k: usize) -> Answer
     ensures { λ a. ⌜ a ≡ refusal number k ⌝ }
 {
     if number == 3 {

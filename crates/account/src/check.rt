@@ -20,7 +20,7 @@ use record::bytes::RECORD_BYTES;
 use record::fields::kind;
 
 // "At most 640 records".
-pub(crate) const MOST_RECORDS: usize = 640;
+pub const MOST_RECORDS: usize = 640;
 
 const MOST_BYTES: usize = MOST_RECORDS * RECORD_BYTES;
 

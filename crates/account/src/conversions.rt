@@ -14,12 +14,33 @@ ghost use Rattle.record.specs.Layout.{Record};
 ghost use Rattle.record.specs.Within.{RateWithin};
 ghost use Rattle.account.specs.Accepted.{Each};
 ghost use Rattle.account.specs.Checked.{firstRateFault};
-ghost use Rattle.account.specs.Conversions.{rowAnswer, Row};
+ghost use Rattle.exact.specs.Lists.{any};
+ghost use Rattle.account.specs.Conversions.{inAnother, rowAnswer, Row};
 ghost use Rattle.account.specs.Products.{RatesOf, HoldsRates};
 ghost use Rattle.account.specs.Records.{records};
 
+fn in_another(row: &[u8]) -> bool
+    ensures { λ b. ⌜ b ≡ inAnother (now (row .entry)) ⌝ }
+{
+    currency(row) != 0
+}
+
+// Whether any of the rows is in another currency than the margin's.
+pub(crate) fn any_in_another(rows: &[u8]) -> bool
+    ensures { λ b. ⌜ b ≡ any inAnother (records (now (rows .entry))) ⌝ }
+{
+    let count = record_count(rows);
+    let mut found = false;
+    let mut i = 0;
+    while i < count {
+        found = found | in_another(whole_at(rows, i));
+        i += 1;
+    }
+    found
+}
+
 // Of the row that is record `k`. A row in the margin currency gets neither.
-fn row_answer(t: Rates, row: &[u8], k: usize) -> Answer
+pub fn row_answer(t: Rates, row: &[u8], k: usize) -> Answer
     requires { ⌜ Row (now row) × HoldsRates t ⌝ }
     ensures { λ a. ⌜ ((rates : List Record) → RatesOf rates t → Each RateWithin rates → a ≡ rowAnswer rates k (now (row .entry))) ⌝ }
 {

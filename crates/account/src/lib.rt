@@ -6,11 +6,11 @@ pub mod rates; // rates.rt: the rates as a table, and what a row comes to by it
 mod prompts; // prompts.rt: a prompt by its day or its tier
 pub mod parts; // parts.rt: the parts of a file
 pub mod notes; // notes.rt: what the check notes of the records passed
-mod listed; // listed.rt: refusal 7
+pub mod listed; // listed.rt: refusal 7
 mod order; // order.rt: refusals 4 and 8
-mod limits; // limits.rt: refusal 9
+pub mod limits; // limits.rt: refusal 9
 mod fault; // fault.rt: the first refusal of a record
-mod conversions; // conversions.rt: refusals 14 and 15
+pub mod conversions; // conversions.rt: refusals 14 and 15
 pub mod check; // check.rt: the check of a file
 pub mod accounts; // accounts.rt: an account, in one file or in two
 pub mod noon; // noon.rt: the verdict on a noon file and the morning's, and a contract's prompts

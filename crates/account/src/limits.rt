@@ -7,7 +7,8 @@ use record::fields::kind;
 
 const MOST_PROMPTS: usize = 32;
 
-const MOST_ROWS: usize = 128;
+// "per contract .. 128 rows"
+pub const MOST_ROWS: usize = 128;
 
 const MOST_SPREADS: usize = 32;
 

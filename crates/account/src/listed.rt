@@ -24,7 +24,8 @@ fn no_contract(counts: &[u16], c: usize) -> bool
     noted(counts, OWN + c) == 0
 }
 
-fn no_day(prompts: &[u8], d: usize) -> bool
+// Whether none of a contract's prompts is on a day.
+pub fn no_day(prompts: &[u8], d: usize) -> bool
     ensures { λ b. ⌜ b ≡ noDay (records (now (prompts .entry))) d ⌝ }
 {
     record_count(prompts) <= place_of_day(prompts, d)

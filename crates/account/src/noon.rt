@@ -1,6 +1,6 @@
 // "Noon against the morning": the verdict on a pair of files, the joined account, and a contract's prompts.
 use crate::accounts::Account;
-use crate::accounts::conversions_answer;
+use crate::accounts::conversions_checked;
 use crate::accounts::join;
 use crate::accounts::record_total;
 use crate::accounts::supplier;
@@ -108,7 +108,7 @@ fn pair_verdict<'a>(
     }
     Verdict {
         file: JOINED,
-        answer: conversions_answer(morning, noon, account),
+        answer: conversions_checked(morning, noon, account),
     }
 }
 

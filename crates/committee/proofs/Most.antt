@@ -14,12 +14,15 @@ use Rattle.exact.specs.Signed.{orZero}
 use Rattle.exact.proofs.Lists.{length-keep}
 use Rattle.exact.proofs.Totals.{largest-held}
 use Rattle.exact.proofs.UnitLaws.{up-above}
-use Rattle.record.specs.Layout.{Record, contract, shortOptionRate, unit, ratePerSpread, spreadRate, outrightRate, mostRate}
-use Rattle.record.specs.Within.{ContractWithin}
+use Rattle.record.specs.Layout.{Record, contract, currency, shortOptionRate, unit, ratePerSpread, spreadRate, outrightRate, mostRate}
+use Rattle.record.specs.Within.{ContractWithin, RowWithin}
 use Rattle.account.specs.Accepted.{Each}
 use Rattle.account.specs.Lawful.{Lawful}
-use Rattle.account.specs.Parts.{ofContract, contractsOf, promptsOf, rowsOf, spreadsOf, entriesOf}
+use Rattle.account.specs.Parts.{ofContract, contractsOf, promptsOf, rowsOf, spreadsOf, entriesOf, ratesOf}
+use Rattle.account.specs.Products.{Convertible}
 use Rattle.account.specs.Whole.{partsBy, Whole}
+use Rattle.account.proofs.Orders.{every-at}
+use Rattle.account.proofs.ProductLaws.{factors-within}
 use Rattle.spread.specs.Steps.{Open, Taker}
 use Rattle.margin.specs.Charges.{charged, promptCharge, promptCharges}
 use Rattle.margin.specs.Contract.{Contract, contractFrom, partsIn, contracts, stepsOf, opensOf, numbersOf, usedDeltas, unusedDeltas}
@@ -32,7 +35,7 @@ use Rattle.margin.specs.Within.{PromptFit, ContractFit}
 use Rattle.margin.proofs.AcceptLaws.{contract-within}
 use Rattle.margin.proofs.LineLaws.{opens-sizes, interprompt-whole}
 use Rattle.margin.proofs.NetLaws.{sizes-sum}
-use Rattle.margin.proofs.PositionBounds.{total-most, short-lots-most}
+use Rattle.margin.proofs.PositionBounds.{Rated, total-most, short-lots-most}
 use Rattle.margin.proofs.PositionLaws.{totals-at}
 use Rattle.margin.proofs.StepBounds.{sizes, whole-number-within, used-within, unused-within}
 use Rattle.committee.specs.Sums.{mostTotal}
@@ -94,19 +97,19 @@ larger-most : (p r s minimum risk credit : ℕ) → minimum ≤ r * 100000000000
     → max minimum (risk - credit) ≤ (p + r + s) * 134000000001000
 larger-most p r s minimum risk credit hm hr = omega arith
 
-module _ (own : Record) (prompts rows spreads : List Record) (w : ContractFit own prompts rows spreads)
-    (over : NothingOver (contractFrom own prompts rows spreads)) where
+module _ (rates : List Record) (own : Record) (prompts rows spreads : List Record) (w : ContractFit own prompts rows spreads) (rated : Rated rates rows)
+    (over : NothingOver (contractFrom rates own prompts rows spreads)) where
   abbrev k : Contract
-  k = contractFrom own prompts rows spreads
+  k = contractFrom rates own prompts rows spreads
 
   pub scanning-most : scanningOf k ≤ length rows * 100000000000500
   scanning-most =
-      let held = largest-held (totals (unit own) rows) (omega arith) in
-      let here : natAbs (getD (totals (unit own) rows) (held .place) (pos 0)) ≤ length rows * 100000000000500 =
-      subst (λ (z : ℤ). natAbs z ≤ length rows * 100000000000500) (sym (totals-at (unit own) rows (held .place) (held .within)))
-      (total-most (unit own) (w .unit-within .most) rows (w .rows-within .each) (held .place + 1) (omega arith) (let l = held .within in omega arith))
+      let held = largest-held (totals rates (unit own) rows) (omega arith) in
+      let here : natAbs (getD (totals rates (unit own) rows) (held .place) (pos 0)) ≤ length rows * 100000000000500 =
+      subst (λ (z : ℤ). natAbs z ≤ length rows * 100000000000500) (sym (totals-at rates (unit own) rows (held .place) (held .within)))
+      (total-most rates (unit own) (w .unit-within .most) rows rated (held .place + 1) (omega arith) (let l = held .within in omega arith))
       in
-      le-trans (or-zero-most (largest (totals (unit own) rows)))
+      le-trans (or-zero-most (largest (totals rates (unit own) rows)))
       (subst (λ (z : ℤ). natAbs z ≤ length rows * 100000000000500) (held .holds) here)
 
   -- all deltas of its prompts together
@@ -182,6 +185,19 @@ all-parts account (own ∷ owns) =
     let s = length-keep (ofContract 4 (contract own)) account in
     omega arith
 
+-- the rows of a contract at the account's rates
+pub its-rated : (account : List Record) → Lawful account → (c : ℕ) → Rated (ratesOf account) (rowsOf c account)
+its-rated account law c k h =
+    let w = every-at RowWithin (rowsOf c account) (law .ranges .rows c) k h in
+    let f = factors-within (ratesOf account) (currency (getD (rowsOf c account) k [])) (law .ranges .rates) in
+    let converts = every-at (Convertible (ratesOf account)) (rowsOf c account) (law .conversions c) k h in
+    record {
+      currency-within = w .currencies;
+      raised-within = f .up;
+      lowered-within = f .down;
+      conversion-within = λ s l m. converts .within s (record { least = l; most = m });
+    }
+
 module _ (account : List Record) (law : Lawful account) (over : (own : Record) → NothingOver (partsIn account own)) (entries : List Record) (table : List Open) where
   margins-most : (owns : List Record) → Each ContractWithin owns
       → totalMargin entries table (map (partsIn account) owns) ≤ sum (map (records-of account) owns) * 134000000001000
@@ -189,7 +205,7 @@ module _ (account : List Record) (law : Lawful account) (over : (own : Record) �
   margins-most (own ∷ owns) e =
       let c = contract own in
       let first =
-      margin-most own (promptsOf c account) (rowsOf c account) (spreadsOf c account) (contract-within account law own c (e .0)) (over own) entries table
+      margin-most (ratesOf account) own (promptsOf c account) (rowsOf c account) (spreadsOf c account) (contract-within account law own c (e .0)) (its-rated account law c) (over own) entries table
       in
       let rest = margins-most owns (e .1) in
       omega arith

@@ -18,7 +18,7 @@ use Rattle.exact.specs.Signed.{orZero}
 use Rattle.record.specs.Layout.{Record, contract}
 use Rattle.account.specs.Answers.{numberOf}
 use Rattle.account.specs.Checked.{checked}
-use Rattle.account.specs.Parts.{contractsOf, promptsOf, rowsOf, spreadsOf, entriesOf}
+use Rattle.account.specs.Parts.{contractsOf, promptsOf, rowsOf, spreadsOf, entriesOf, ratesOf}
 use Rattle.account.specs.Records.{records}
 use Rattle.account.specs.declared.answers.Answer.the-variants.{Accepted}
 use Rattle.account.proofs.Claimed.{claimed}
@@ -42,7 +42,7 @@ use Rattle.committee.specs.Sums.{mostTotal, Fit, FoundIn, AccountOf}
 use Rattle.committee.specs.declared.contracts.Found.{Found}
 use Rattle.committee.specs.declared.figures.Account.{Account}
 use Rattle.committee.proofs.Adding.{none-of, all-of}
-use Rattle.committee.proofs.Most.{margin-within, scanning-most, interprompt-most, prompt-most}
+use Rattle.committee.proofs.Most.{its-rated, margin-within, scanning-most, interprompt-most, prompt-most}
 use Rattle.committee.proofs.OverContracts.{one-most, over-at, same-over, over-padded, over-none, over-list}
 
 -- ---- numbers as the figures have them: those of n contracts, then the total, which is their margins together
@@ -231,10 +231,12 @@ module _ (account : List ℕ) (ok : checked account ≡ Accepted) where
       let c = contract own in
       let law = lawful account ok in
       let w = contract-within rs law own c (own-within rs law i h) in
-      let over = skipped .contract own (promptsOf c rs) (rowsOf c rs) (spreadsOf c rs) in
-      let s = scanning-most own (promptsOf c rs) (rowsOf c rs) (spreadsOf c rs) w over in
-      let t = interprompt-most own (promptsOf c rs) (rowsOf c rs) (spreadsOf c rs) w over in
-      let p = prompt-most own (promptsOf c rs) (rowsOf c rs) (spreadsOf c rs) w over in
+      let rates = ratesOf rs in
+      let rated = its-rated rs law c in
+      let over = skipped .contract rates own (promptsOf c rs) (rowsOf c rs) (spreadsOf c rs) in
+      let s = scanning-most rates own (promptsOf c rs) (rowsOf c rs) (spreadsOf c rs) w rated over in
+      let t = interprompt-most rates own (promptsOf c rs) (rowsOf c rs) (spreadsOf c rs) w rated over in
+      let p = prompt-most rates own (promptsOf c rs) (rowsOf c rs) (spreadsOf c rs) w rated over in
       let a = place-is i 2 h (omega arith) in
       let b = place-is i 3 h (omega arith) in
       let d = place-is i 4 h (omega arith) in
@@ -259,7 +261,7 @@ module _ (account : List ℕ) (ok : checked account ≡ Accepted) where
             ∙ sym total;
         risks = fits;
         most =
-            let m = margin-within rs law (λ own. skipped .contract own (promptsOf (contract own) rs) (rowsOf (contract own) rs) (spreadsOf (contract own) rs)) es table (skipped .whole) in
+            let m = margin-within rs law (λ own. skipped .contract (ratesOf rs) own (promptsOf (contract own) rs) (rowsOf (contract own) rs) (spreadsOf (contract own) rs)) es table (skipped .whole) in
             omega arith;
       }
 

@@ -28,8 +28,12 @@ use Rattle.runs.proofs.Claims.{claims as run-claims}
 use Rattle.committee.proofs.Claims.{claims as committee-claims}
 use Rattle.statements.proofs.Apart.{can-be-met, not-the-margin}
 use Rattle.statements.proofs.Stated.{statements}
+use Rattle.tickets.proofs.Claims.{claims as ticket-claims}
+use Rattle.tickets.proofs.KeptClaimed.{kept-claims}
+use Rattle.writing.proofs.Claimed.{claimed as writing-claims}
+use Rattle.screen.proofs.Claims.{claims as screen-claims}
 use Rattle.felgotany.specs.Roof.{OneFile, TwoFiles, Equations, OneOutcome, Roof}
-use Rattle.felgotany.proofs.Told.{one-told, all-told, one-told-of, all-told-of, one-call, one-place, one-list, one-pair-list}
+use Rattle.felgotany.proofs.Told.{one-told, all-told, one-told-of, all-told-of, one-call, one-place, one-list, one-pair-list, one-added, one-total, one-limit, one-asked as one-ticket, one-written}
 
 one-file : (file : List ℕ) → OneFile file
 one-file file =
@@ -76,6 +80,11 @@ one-outcomes =
       called = one-call;
       placed = one-place;
       listTold = one-list;
+      ticketTold = one-ticket;
+      writeTold = one-written;
+      addTold = one-added;
+      totalTold = one-total;
+      limitTold = one-limit;
       pairListTold = one-pair-list;
     }
 
@@ -86,6 +95,10 @@ roof =
       twoFiles = two-files;
       run = run-claims;
       committee = committee-claims;
+      ticket = ticket-claims;
+      kept = kept-claims;
+      writing = writing-claims;
+      screen = screen-claims;
       sentLists = record { oneFile = list-claims; twoFiles = pair-claims };
       demand2 = demand2;
       reckoned = reckoned;

@@ -1,14 +1,23 @@
 -- What C is told leaves no choice: two outcomes of an answer are the same, and so are those of all questions at once.
 -- Assumes nothing.
+use Prim.Native.Nat.{ℕ}
 use mathlib.Core.Path.{_≡_, sym, _∙_}
+use mathlib.Core.List.{List}
 use Rattle.account.specs.declared.answers.Answer.{Answer}
 use Rattle.account.specs.declared.noon.Place.{Place}
 use Rattle.account.specs.declared.noon.Verdict.{Verdict}
 use Rattle.lists.specs.declared.JudgedPair.{JudgedPair}
 use Rattle.margin.specs.declared.lists.Judged.{Judged}
 use Rattle.questions.specs.declared.noon.Call.{Call}
-use Rattle.felgotany.specs.Outcomes.{Tells, TellsOf, TellsCall, TellsPlace, TellsList, TellsPairList}
+use Rattle.screen.specs.declared.Added.{Added}
+use Rattle.screen.specs.declared.Limited.{Limited}
+use Rattle.screen.specs.declared.Told.{Told}
+use Rattle.felgotany.specs.Outcomes.{TellsAdded, TellsTotal, TellsLimit}
+use Rattle.felgotany.specs.declared.AddOutcome.{AddOutcome}
+use Rattle.tickets.specs.declared.ask.Asked.{Asked}
+use Rattle.felgotany.specs.Outcomes.{Tells, TellsOf, TellsCall, TellsPlace, TellsList, TellsPairList, TellsAsked, TellsWritten}
 use Rattle.felgotany.specs.declared.CallOutcome.{CallOutcome}
+use Rattle.felgotany.specs.declared.LimitOutcome.{LimitOutcome}
 use Rattle.felgotany.specs.declared.ListOutcome.{ListOutcome}
 use Rattle.felgotany.specs.declared.Outcome.{Outcome}
 use Rattle.felgotany.specs.declared.Outcomes.{Outcomes}
@@ -16,6 +25,9 @@ use Rattle.felgotany.specs.declared.PairListOutcome.{PairListOutcome}
 use Rattle.felgotany.specs.declared.PairOutcome.{PairOutcome}
 use Rattle.felgotany.specs.declared.PairOutcomes.{PairOutcomes}
 use Rattle.felgotany.specs.declared.PromptPlace.{PromptPlace}
+use Rattle.felgotany.specs.declared.TotalOutcome.{TotalOutcome}
+use Rattle.felgotany.specs.declared.TicketOutcome.{TicketOutcome}
+use Rattle.felgotany.specs.declared.WriteOutcome.{WriteOutcome}
 
 pub one-told : (a : Answer) (r s : Outcome) → Tells a r → Tells a s → r ≡ s
 one-told a r s x y =
@@ -55,3 +67,52 @@ one-list j r s x y =
 pub one-pair-list : (j : JudgedPair) (r s : PairListOutcome) → TellsPairList j r → TellsPairList j s → r ≡ s
 one-pair-list j r s x y =
     λ i. record { file = (x .file-is ∙ sym (y .file-is)) i; list = one-list (j .judged) (r .list) (s .list) (x .list-is) (y .list-is) i }
+
+pub one-added : (a : Added) (r s : AddOutcome) → TellsAdded a r → TellsAdded a s → r ≡ s
+one-added a r s x y =
+    λ i.
+    record {
+      refusal = (x .refusal ∙ sym (y .refusal)) i;
+      «record» = (x .record-named ∙ sym (y .record-named)) i;
+      named = (x .named-are ∙ sym (y .named-are)) i;
+    }
+
+pub one-total : (t : Told) (r s : TotalOutcome) → TellsTotal t r → TellsTotal t s → r ≡ s
+one-total t r s x y =
+    λ i.
+    record {
+      refusal = (x .refusal ∙ sym (y .refusal)) i;
+      «record» = (x .record-named ∙ sym (y .record-named)) i;
+      total = (x .total-is ∙ sym (y .total-is)) i;
+    }
+
+pub one-limit : (l : Limited) (r s : LimitOutcome) → TellsLimit l r → TellsLimit l s → r ≡ s
+one-limit l r s x y =
+    λ i.
+    record {
+      refusal = (x .refusal ∙ sym (y .refusal)) i;
+      «record» = (x .record-named ∙ sym (y .record-named)) i;
+      answer = (x .answer-is ∙ sym (y .answer-is)) i;
+      total = (x .total-is ∙ sym (y .total-is)) i;
+    }
+
+pub one-asked : (a : Asked) (r s : TicketOutcome) → TellsAsked a r → TellsAsked a s → r ≡ s
+one-asked a r s x y =
+    λ i.
+    record {
+      ticket = (x .ticket-is ∙ sym (y .ticket-is)) i;
+      refusal = (x .refusal ∙ sym (y .refusal)) i;
+      «record» = (x .record-named ∙ sym (y .record-named)) i;
+      before = (x .before-is ∙ sym (y .before-is)) i;
+      after = (x .after-is ∙ sym (y .after-is)) i;
+    }
+
+pub one-written : (entries lent after : List ℕ) (r s : WriteOutcome)
+    → TellsWritten entries lent r after → TellsWritten entries lent s after → r ≡ s
+one-written entries lent after r s x y =
+    λ i.
+    record {
+      refusal = (x .refusal ∙ sym (y .refusal)) i;
+      entry = (x .entry-named ∙ sym (y .entry-named)) i;
+      written = (x .written-is ∙ sym (y .written-is)) i;
+    }

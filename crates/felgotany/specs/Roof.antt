@@ -1,7 +1,7 @@
 -- All that is promised, under one roof: the three demands over one file and over a pair of files, the table of reckoned examples, the
 -- exactness of the check, that no accepted line is skipped, that nothing still open could have been paired, how often a prompt is
--- touched, the table of paired scenarios, what holds of a run of accounts and of the committee's figures of it, and that no promise
--- leaves a choice. proofs/Roof.antt proves it of any bytes.
+-- touched, the table of paired scenarios, what holds of a run of accounts, of the committee's figures of it, of tickets, of a file of
+-- entries and of the order screen's calls, and that no promise leaves a choice. proofs/Roof.antt proves it of any bytes.
 -- Assumes nothing.
 use Prim.Native.Nat.{ℕ}
 use denote.Ref.{RefT}
@@ -61,6 +61,20 @@ use Rattle.runs.specs.Claims.{Claims as RunClaims}
 use Rattle.committee.specs.Claims.{Claims as CommitteeClaims}
 use Rattle.statements.specs.Apart.{CanBeMet, NotTheMargin}
 use Rattle.statements.specs.Statements.{Statements}
+use Rattle.tickets.specs.Claims.{Claims as TicketClaims}
+use Rattle.tickets.specs.KeptClaims.{KeptClaims}
+use Rattle.tickets.specs.declared.ask.Asked.{Asked as AskedTicket}
+use Rattle.writing.specs.Claims.{Claims as WritingClaims}
+use Rattle.screen.specs.Claims.{Claims as ScreenClaims}
+use Rattle.screen.specs.declared.Added.{Added}
+use Rattle.screen.specs.declared.Limited.{Limited}
+use Rattle.screen.specs.declared.Told.{Told}
+use Rattle.felgotany.specs.Outcomes.{TellsAdded, TellsTotal, TellsLimit, TellsAsked, TellsWritten}
+use Rattle.felgotany.specs.declared.AddOutcome.{AddOutcome}
+use Rattle.felgotany.specs.declared.LimitOutcome.{LimitOutcome}
+use Rattle.felgotany.specs.declared.TicketOutcome.{TicketOutcome}
+use Rattle.felgotany.specs.declared.TotalOutcome.{TotalOutcome}
+use Rattle.felgotany.specs.declared.WriteOutcome.{WriteOutcome}
 use Rattle.felgotany.specs.Outcomes.{Tells, TellsOf, TellsCall, TellsPlace, TellsList, TellsPairList}
 use Rattle.felgotany.specs.declared.CallOutcome.{CallOutcome}
 use Rattle.felgotany.specs.declared.ListOutcome.{ListOutcome}
@@ -148,6 +162,12 @@ pub record OneOutcome : Type 0 where
   pub called : (c : Call) (r s : CallOutcome) → TellsCall c r → TellsCall c s → r ≡ s
   pub placed : (p : Place) (r s : PromptPlace) → TellsPlace p r → TellsPlace p s → r ≡ s
   pub listTold : (j : Judged) (r s : ListOutcome) → TellsList j r → TellsList j s → r ≡ s
+  pub ticketTold : (a : AskedTicket) (r s : TicketOutcome) → TellsAsked a r → TellsAsked a s → r ≡ s
+  pub writeTold : (entries lent after : List ℕ) (r s : WriteOutcome)
+      → TellsWritten entries lent r after → TellsWritten entries lent s after → r ≡ s
+  pub addTold : (a : Added) (r s : AddOutcome) → TellsAdded a r → TellsAdded a s → r ≡ s
+  pub totalTold : (t : Told) (r s : TotalOutcome) → TellsTotal t r → TellsTotal t s → r ≡ s
+  pub limitTold : (l : Limited) (r s : LimitOutcome) → TellsLimit l r → TellsLimit l s → r ≡ s
   pub pairListTold : (j : JudgedPair) (r s : PairListOutcome) → TellsPairList j r → TellsPairList j s → r ≡ s
 
 -- ---- all of it
@@ -159,6 +179,13 @@ pub record Roof : Type 1 where
   pub run : (bytes lengths : List ℕ) (figures : List ℤ) (outcomes : List ℕ) → RunClaims bytes lengths figures outcomes
   pub committee : (bytes lengths : List ℕ) (lent : List ℤ) → CommitteeClaims bytes lengths lent
   pub sentLists : SentLists
+  -- "The figures equal those of the file with that row put last among its contract's rows", request 2026-07
+  pub ticket : (file : List ℕ) (ticket : Record) → TicketClaims file ticket
+  pub kept : KeptClaims
+  -- "From entered contracts, prompts, rows, spreads and currency rates, write the account file", request 2026-06
+  pub writing : WritingClaims
+  -- "The screen lends bytes, says how many hold the account file with its tickets", request 2026-14
+  pub screen : (lent : List ℕ) (named : ℕ) (ticket : Record) (limit : ℤ) → ScreenClaims lent named ticket limit
   -- "Every figure equals SPAN as published", and P1 to P10 "as a single table under one claim"
   pub demand2 : Demand2
   pub reckoned : Reckoned

@@ -1,5 +1,6 @@
 // Felgotany as C sees it: the check, the figures and the delta book over any bytes, the same of a morning's file with a noon file,
-// the figures of a run of accounts, and the risk committee's of it. include/felgotany.h says the same in C's words.
+// the figures of a run of accounts, the risk committee's of it, tickets, a file of entries, and the order screen's calls.
+// include/felgotany.h says the same in C's words.
 use account::accounts::check;
 use account::answers::Answer;
 use account::answers::number_of;
@@ -16,6 +17,13 @@ use questions::noon::cover_call;
 use questions::plain::answer;
 use questions::plain::needed;
 use runs::answer_run;
+use screen::Added;
+use screen::Limited;
+use screen::Told;
+use tickets::ask::Asked;
+use tickets::ask::ask;
+use tickets::ask::ask_withdrawn;
+use writing::write;
 ghost use mathlib.Core.Path.{_≡_};
 ghost use mathlib.Core.Bool.{true, false};
 ghost use Prim.Native.Nat.{_≤_};
@@ -32,7 +40,11 @@ ghost use Rattle.questions.specs.Noon.{joinedNeed, joinedAll, afterJoinedAll};
 ghost use Rattle.margin.specs.declared.asking.Question.the-variants.{Figures, Book, Uses};
 ghost use Rattle.runs.specs.Runs.{runAnswer, runFigures, runOutcomes};
 ghost use Rattle.committee.specs.Committee.{committeeAnswer, afterCommittee};
-ghost use Rattle.felgotany.specs.Outcomes.{Tells, TellsOf, TellsCall, TellsPlace, TellsList, TellsPairList};
+ghost use Rattle.screen.specs.Screen.{loadAnswer, added, afterAdd, totalRead, limited};
+ghost use Rattle.screen.specs.Screen.{addRefusal, bytesHeld, totalRefusal, totalTold, limitRefusal, limitNumber, limitTotal};
+ghost use Rattle.felgotany.specs.Outcomes.{TellsAdded, TellsTotal, TellsLimit};
+ghost use Rattle.tickets.specs.Asked.{ticketsIn, askedAbout, withdrawnFrom};
+ghost use Rattle.felgotany.specs.Outcomes.{Tells, TellsOf, TellsCall, TellsPlace, TellsList, TellsPairList, TellsAsked, TellsWritten};
 
 // The number of a refusal, 0 where nothing is refused, and the record that it names.
 #[repr(C)]
@@ -275,9 +287,9 @@ pub struct PromptPlace {
 }
 
 #[no_mangle]
-pub extern "C" fn felgotany_joined_prompts(
-    morning: &[u8],
-    noon: &[u8],
+pub extern "C" fn felgotany_joined_prompts<'a>(
+    morning: &'a [u8],
+    noon: &'a [u8],
     contract: usize,
 ) -> PromptPlace
     ensures { λ r. ⌜ TellsPlace (promptPlace (now (morning .entry)) (now (noon .entry)) contract) r ⌝ }
@@ -442,5 +454,239 @@ pub extern "C" fn felgotany_joined_judge<'a>(
     PairListOutcome {
         file: said.file,
         list: tell_list(judged),
+    }
+}
+
+// Whether the first `named` of the bytes that an order screen lends are an accepted account file. Nothing is written.
+#[no_mangle]
+pub extern "C" fn felgotany_screen_load(lent: &[u8], named: usize) -> Outcome
+    ensures { λ r. ⌜ Tells (loadAnswer (now (lent .entry)) named) r ⌝ }
+{
+    tell(screen::load(lent, named))
+}
+
+// The refusal of a ticket that is to be added and its record, both 0 where it is added; and how many of the lent bytes hold the
+// account file then, 0 where it is refused.
+#[repr(C)]
+pub struct AddOutcome {
+    pub refusal: usize,
+    pub record: usize,
+    pub named: usize,
+}
+
+fn add_refusal(added: Added) -> Answer
+    ensures { λ r. ⌜ r ≡ addRefusal added ⌝ }
+{
+    match added {
+        Added::Refused(answer) => answer,
+        Added::Holds(_) => Answer::Accepted,
+    }
+}
+
+fn bytes_held(added: Added) -> usize
+    ensures { λ n. ⌜ n ≡ bytesHeld added ⌝ }
+{
+    match added {
+        Added::Refused(_) => 0,
+        Added::Holds(bytes) => bytes,
+    }
+}
+
+fn tell_added(added: Added) -> AddOutcome
+    ensures { λ r. ⌜ TellsAdded added r ⌝ }
+{
+    let answer = add_refusal(added);
+    let told = tell(answer);
+    AddOutcome {
+        refusal: told.refusal,
+        record: told.record,
+        named: bytes_held(added),
+    }
+}
+
+// A ticket put last among its contract's rows, in the lent bytes. A refusal changes none of them.
+#[no_mangle]
+pub extern "C" fn felgotany_screen_add(lent: &mut [u8], named: usize, ticket: &[u8]) -> AddOutcome
+    ensures { λ r. ⌜ TellsAdded (added (now (lent .entry)) named (now (ticket .entry))) r × (now (lent .exit) ≡ afterAdd (now (lent .entry)) named (now (ticket .entry))) ⌝ }
+{
+    tell_added(screen::add(lent, named, ticket))
+}
+
+// The refusal of an account whose total is read and its record, both 0 where there is none; and the total, in hundredths, 0 where it
+// is refused.
+#[repr(C)]
+pub struct TotalOutcome {
+    pub refusal: usize,
+    pub record: usize,
+    pub total: u64,
+}
+
+fn total_refusal(told: Told) -> Answer
+    ensures { λ r. ⌜ r ≡ totalRefusal told ⌝ }
+{
+    match told {
+        Told::Refused(answer) => answer,
+        Told::Total(_) => Answer::Accepted,
+    }
+}
+
+fn total_told(told: Told) -> u64
+    ensures { λ n. ⌜ n ≡ totalTold told ⌝ }
+{
+    match told {
+        Told::Refused(_) => 0,
+        Told::Total(amount) => amount.0,
+    }
+}
+
+fn tell_total(total: Told) -> TotalOutcome
+    ensures { λ r. ⌜ TellsTotal total r ⌝ }
+{
+    let answer = total_refusal(total);
+    let told = tell(answer);
+    TotalOutcome {
+        refusal: told.refusal,
+        record: told.record,
+        total: total_told(total),
+    }
+}
+
+// The total of the account that the lent bytes hold. Nothing is written.
+#[no_mangle]
+pub extern "C" fn felgotany_screen_total(lent: &[u8], named: usize) -> TotalOutcome
+    ensures { λ r. ⌜ TellsTotal (totalRead (now (lent .entry)) named) r ⌝ }
+{
+    tell_total(screen::total(lent, named))
+}
+
+// The refusal of a ticket that is asked about and its record, both 0 where there is none; the answer, 0 where it is refused, 1 for a yes,
+// 2 where the total with the ticket is over the limit; and that total, in hundredths.
+#[repr(C)]
+pub struct LimitOutcome {
+    pub refusal: usize,
+    pub record: usize,
+    pub answer: usize,
+    pub total: u64,
+}
+
+fn limit_refusal(limited: Limited) -> Answer
+    ensures { λ r. ⌜ r ≡ limitRefusal limited ⌝ }
+{
+    match limited {
+        Limited::Refused(answer) => answer,
+        Limited::Within(_) => Answer::Accepted,
+        Limited::Over(_) => Answer::Accepted,
+    }
+}
+
+fn limit_number(limited: Limited) -> usize
+    ensures { λ n. ⌜ n ≡ limitNumber limited ⌝ }
+{
+    match limited {
+        Limited::Refused(_) => 0,
+        Limited::Within(_) => 1,
+        Limited::Over(_) => 2,
+    }
+}
+
+fn limit_total(limited: Limited) -> u64
+    ensures { λ n. ⌜ n ≡ limitTotal limited ⌝ }
+{
+    match limited {
+        Limited::Refused(_) => 0,
+        Limited::Within(total) => total.0,
+        Limited::Over(total) => total.0,
+    }
+}
+
+fn tell_limit(limited: Limited) -> LimitOutcome
+    ensures { λ r. ⌜ TellsLimit limited r ⌝ }
+{
+    let answer = limit_refusal(limited);
+    let told = tell(answer);
+    LimitOutcome {
+        refusal: told.refusal,
+        record: told.record,
+        answer: limit_number(limited),
+        total: limit_total(limited),
+    }
+}
+
+// Whether the total with a ticket stays at or below a limit. Nothing is written.
+#[no_mangle]
+pub extern "C" fn felgotany_screen_limit(
+    lent: &[u8],
+    named: usize,
+    ticket: &[u8],
+    limit: i64,
+) -> LimitOutcome
+    ensures { λ r. ⌜ TellsLimit (limited (now (lent .entry)) named (now (ticket .entry)) limit) r ⌝ }
+{
+    tell_limit(screen::limit(lent, named, ticket, limit))
+}
+
+// What a ticket or a withdrawal is told: of which ticket, from 1, or 0 for the file; the refusal and its record; and the total of the
+// margins before and after, in hundredths, both 0 where something is refused.
+#[repr(C)]
+pub struct TicketOutcome {
+    pub ticket: usize,
+    pub refusal: usize,
+    pub record: usize,
+    pub before: u64,
+    pub after: u64,
+}
+
+fn tell_asked(asked: Asked) -> TicketOutcome
+    ensures { λ r. ⌜ TellsAsked asked r ⌝ }
+{
+    let answer = asked.answer;
+    let before = asked.before;
+    let after = asked.after;
+    let told = tell(answer);
+    TicketOutcome {
+        ticket: asked.ticket,
+        refusal: told.refusal,
+        record: told.record,
+        before: before.0,
+        after: after.0,
+    }
+}
+
+// What one more ticket does to an account with the tickets put in so far, 96 bytes each.
+#[no_mangle]
+pub extern "C" fn felgotany_ticket(file: &[u8], tickets: &[u8], ticket: &[u8]) -> TicketOutcome
+    ensures { λ r. ⌜ TellsAsked (askedAbout (now (file .entry)) (ticketsIn (now (tickets .entry))) (now (ticket .entry))) r ⌝ }
+{
+    tell_asked(ask(file, tickets, ticket))
+}
+
+// What it does to take the latest ticket back.
+#[no_mangle]
+pub extern "C" fn felgotany_withdraw(file: &[u8], tickets: &[u8]) -> TicketOutcome
+    ensures { λ r. ⌜ TellsAsked (withdrawnFrom (now (file .entry)) (ticketsIn (now (tickets .entry)))) r ⌝ }
+{
+    tell_asked(ask_withdrawn(file, tickets))
+}
+
+// The refusal of a list of entries, the place of the entry at fault, and how many bytes are written.
+#[repr(C)]
+pub struct WriteOutcome {
+    pub refusal: usize,
+    pub entry: usize,
+    pub written: usize,
+}
+
+// The account file of entries in any order, 96 bytes each, at the front of `out`. A refusal writes nothing.
+#[no_mangle]
+pub extern "C" fn felgotany_write(entries: &[u8], out: &mut [u8]) -> WriteOutcome
+    ensures { λ r. ⌜ TellsWritten (now (entries .entry)) (now (out .entry)) r (now (out .exit)) ⌝ }
+{
+    let written = write(entries, out);
+    let answer = written.answer;
+    let told = tell(answer);
+    WriteOutcome {
+        refusal: told.refusal,
+        entry: told.record,
+        written: written.bytes,
     }
 }

@@ -35,14 +35,14 @@ returns c =
     refused-alone (a .before .before .before .before .args .file .now) (s .result) (a .in-one-file .result) (s .ensures) (by a)
     (λ z. c .if1 .taken (c .before .number-of .ensures ∙ z))
 
-slice-aggregate-conversions-answer : tie.Need-slice-aggregate-conversions-answer
-slice-aggregate-conversions-answer c = search needs
+slice-aggregate-conversions-checked : tie.Need-slice-aggregate-conversions-checked
+slice-aggregate-conversions-checked c = search needs
 
 none : (c : tie.Else1) → numberOf (c .before .before .before .before .take-survey .result .answer) ≡ 0
 none c = sym (c .before .number-of .ensures) ∙ omega (arith, c .if1 .left)
 
-conversions-answer-requires : tie.Need-conversions-answer-requires
-conversions-answer-requires c κs =
+conversions-checked-requires : tie.Need-conversions-checked-requires
+conversions-checked-requires c κs =
     let a = c .before .before .before in
     let s = a .before .before .take-survey in
     rated-alone (a .before .before .before .before .args .file .now) (s .result) (a .in-one-file .result) (s .ensures) (by a) (none (c .before)) _ refl
@@ -52,7 +52,7 @@ returns-2 c =
     let a = c .before .before .before .before in
     let s = a .before .before .take-survey in
     all-alone (a .before .before .before .before .args .file .now) (s .result) (a .in-one-file .result) (s .ensures) (by a) (none (c .before .before)) _ refl
-    (c .conversions-answer .result) (c .conversions-answer .ensures)
+    (c .conversions-checked .result) (c .conversions-checked .ensures)
 
 pub check-file-spec : {M : Type 1} → statement M
 check-file-spec =
@@ -63,6 +63,6 @@ check-file-spec =
     in-one-file-requires
     number-of-requires
     returns
-    slice-aggregate-conversions-answer
-    conversions-answer-requires
+    slice-aggregate-conversions-checked
+    conversions-checked-requires
     returns-2)

@@ -1,8 +1,8 @@
--- Case by case of the answer.
+-- Each case has its number.
 -- Assumes nothing.
 use mathlib.Core.Path.{sym, ap}
-use Rattle.account.specs.Answers.{numberOf}
 use borrow.Author.Needs.{needs}
+use Rattle.account.specs.Answers.{numberOf}
 use Rattle.account.proofs.answers.number_of.Statement.{statement}
 use Rattle.account.proofs.answers.number_of.Tie as tie
 
@@ -66,6 +66,15 @@ enum-told-19 c = search needs
 enum-told-20 : tie.Need-enum-told-20
 enum-told-20 c = search needs
 
+enum-told-21 : tie.Need-enum-told-21
+enum-told-21 c = search needs
+
+enum-told-22 : tie.Need-enum-told-22
+enum-told-22 c = search needs
+
+enum-told-23 : tie.Need-enum-told-23
+enum-told-23 c = search needs
+
 returns : tie.Need-returns
 returns c = sym (ap numberOf (c .enum-told .given .1))
 
@@ -126,6 +135,15 @@ returns-19 c = sym (ap numberOf (c .enum-told19 .given .1))
 returns-20 : tie.Need-returns-20
 returns-20 c = sym (ap numberOf (c .enum-told20 .given .1))
 
+returns-21 : tie.Need-returns-21
+returns-21 c = sym (ap numberOf (c .enum-told21 .given .1))
+
+returns-22 : tie.Need-returns-22
+returns-22 c = sym (ap numberOf (c .enum-told22 .given .1))
+
+returns-23 : tie.Need-returns-23
+returns-23 c = sym (ap numberOf (c .enum-told23 .given .1))
+
 pub number-of-spec : {M : Type 1} → statement M
 number-of-spec =
     tie.close
@@ -150,6 +168,9 @@ number-of-spec =
     enum-told-18
     enum-told-19
     enum-told-20
+    enum-told-21
+    enum-told-22
+    enum-told-23
     returns
     returns-2
     returns-3
@@ -169,4 +190,7 @@ number-of-spec =
     returns-17
     returns-18
     returns-19
-    returns-20)
+    returns-20
+    returns-21
+    returns-22
+    returns-23)

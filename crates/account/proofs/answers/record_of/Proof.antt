@@ -1,8 +1,8 @@
--- Case by case of the answer.
+-- Each case names its record, or none.
 -- Assumes nothing.
 use mathlib.Core.Path.{sym, ap}
-use Rattle.account.specs.Answers.{recordOf}
 use borrow.Author.Needs.{needs}
+use Rattle.account.specs.Answers.{recordOf}
 use Rattle.account.proofs.answers.record_of.Statement.{statement}
 use Rattle.account.proofs.answers.record_of.Tie as tie
 
@@ -63,8 +63,17 @@ enum-told-5 c = search needs
 enum-told-6 : tie.Need-enum-told-6
 enum-told-6 c = search needs
 
+enum-told-7 : tie.Need-enum-told-7
+enum-told-7 c = search needs
+
+enum-told-8 : tie.Need-enum-told-8
+enum-told-8 c = search needs
+
 enum-known-a-14 : tie.Need-enum-known-a-14
 enum-known-a-14 c = search needs
+
+enum-told-9 : tie.Need-enum-told-9
+enum-told-9 c = search needs
 
 returns : tie.Need-returns
 returns c = sym (ap recordOf (c .enum-told .given .1))
@@ -124,7 +133,16 @@ returns-19 : tie.Need-returns-19
 returns-19 c = sym (ap recordOf (c .enum-told6 .given .1))
 
 returns-20 : tie.Need-returns-20
-returns-20 c = sym (ap recordOf (c .before .a14 .given .1))
+returns-20 c = sym (ap recordOf (c .enum-told7 .given .1))
+
+returns-21 : tie.Need-returns-21
+returns-21 c = sym (ap recordOf (c .enum-told8 .given .1))
+
+returns-22 : tie.Need-returns-22
+returns-22 c = sym (ap recordOf (c .before .a14 .given .1))
+
+returns-23 : tie.Need-returns-23
+returns-23 c = sym (ap recordOf (c .enum-told9 .given .1))
 
 pub record-of-spec : {M : Type 1} → statement M
 record-of-spec =
@@ -149,7 +167,10 @@ record-of-spec =
     enum-told-4
     enum-told-5
     enum-told-6
+    enum-told-7
+    enum-told-8
     enum-known-a-14
+    enum-told-9
     returns
     returns-2
     returns-3
@@ -169,4 +190,7 @@ record-of-spec =
     returns-17
     returns-18
     returns-19
-    returns-20)
+    returns-20
+    returns-21
+    returns-22
+    returns-23)

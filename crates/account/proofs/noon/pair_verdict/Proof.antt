@@ -36,8 +36,8 @@ returns c =
 none : (c : tie.Else1) → numberOf (c .before .before .verdict-of .result .answer) ≡ 0
 none c = sym (c .before .number-of .ensures) ∙ omega (arith, c .if1 .left)
 
-conversions-answer-requires : tie.Need-conversions-answer-requires
-conversions-answer-requires c κs =
+conversions-checked-requires : tie.Need-conversions-checked-requires
+conversions-checked-requires c κs =
     let v = c .before .before in
     let s = v .before .before .before .before in
     verdict-clear (s .args .morning .now) (s .args .noon .now) (s .args .first) (s .args .second) (s .args .account) (s .pre .0) (s .pre .1 .0) (s .pre .1 .1)
@@ -48,9 +48,9 @@ returns-2 c =
     let v = c .before .before .before in
     let s = v .before .before .before .before in
     verdict-goes (s .args .morning .now) (s .args .noon .now) (s .args .first) (s .args .second) (s .args .account) (s .pre .0) (s .pre .1 .0) (s .pre .1 .1)
-    (v .verdict-of .result) (by v) (none (c .before)) (c .conversions-answer .result) (c .conversions-answer .ensures)
+    (v .verdict-of .result) (by v) (none (c .before)) (c .conversions-checked .result) (c .conversions-checked .ensures)
 
 pub pair-verdict-spec : {M : Type 1} → statement M
 pair-verdict-spec =
     tie.close
-    (tie.spec record-total-requires verdict-of-requires number-of-requires returns conversions-answer-requires returns-2)
+    (tie.spec record-total-requires verdict-of-requires number-of-requires returns conversions-checked-requires returns-2)

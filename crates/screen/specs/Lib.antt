@@ -1,0 +1,4 @@
+pub mod Claims
+pub mod Held
+pub mod Inserting
+pub mod Screen

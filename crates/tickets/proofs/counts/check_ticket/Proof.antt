@@ -1,0 +1,191 @@
+-- The refusals in their order, each as the counts tell it.
+-- Assumes nothing.
+use borrow.Author.Needs.{needs}
+use mathlib.Core.Path.{_≡_, sym, ap, _∙_, subst}
+use mathlib.Core.List.{List}
+use Prim.Native.Nat.{ℕ, _+_, _<_}
+use native.Mathlib.Omega.{arith}
+use lib.ListN.{getD, take}
+use Rattle.exact.specs.Lists.{sum}
+use Rattle.record.specs.Layout.{Record, contract}
+use Rattle.account.specs.Parts.{ratesOf}
+use Rattle.account.specs.Products.{RatesOf}
+use Rattle.account.specs.Records.{records}
+use Rattle.tickets.specs.Ticket.{withTickets}
+use Rattle.tickets.specs.Counts.{Small}
+use Rattle.tickets.specs.declared.counts.Counts.{Counts}
+use Rattle.tickets.proofs.CountLaws.{small, stands-in, many-few, by-counts, row-within-here, rates-read, rates-fit, told-by, tell-2, tell-3, tell-row, tell-rate, tell-1, tell-0}
+use Rattle.tickets.proofs.counts.check_ticket.Statement.{statement}
+use Rattle.tickets.proofs.counts.check_ticket.Tie as tie
+
+returns : tie.Need-returns
+returns c =
+    let a = c .before .before .before .before .args in
+    λ ts co. tell-2 (a .file .now) ts (a .counts) co (a .ticket .now) (c .if1 .taken)
+
+contract-requires : tie.Need-contract-requires
+contract-requires c κs = search needs
+
+place-of-requires : tie.Need-place-of-requires
+place-of-requires c κs =
+    let s = c .before .before .before .before .before in
+    let p = s .pre .1 in
+    (small (s .args .file .now) (p .tickets) (s .args .counts) (p .counts), c .contract .ensures .1)
+
+kind-requires : tie.Need-kind-requires
+kind-requires c κs = search needs
+
+-- the place, by the ticket's own byte
+at : (k : Counts) (t : Record) (p n : ℕ) → n ≡ contract t → p ≡ k .above + sum (take (n + 1) (k .rows)) → p ≡ k .above + sum (take (contract t + 1) (k .rows))
+at k t p n e f = f ∙ ap (λ (i : ℕ). k .above + sum (take (i + 1) (k .rows))) e
+
+returns-2 : tie.Need-returns-2
+returns-2 c =
+    let a = c .before .before .before .before .before .before .before .before .args in
+    λ ts co.
+    tell-3 (a .file .now) ts (a .counts) co (a .ticket .now) (c .before .before .place-of .result)
+    (at (a .counts) (a .ticket .now) (c .before .before .place-of .result) (c .before .before .before .contract .result) (c .before .before .before .contract .ensures .0) (c .before .before .place-of .ensures))
+    (c .before .before .before .before .if1 .left) (λ e. c .if2 .taken (c .before .kind .ensures .0 ∙ e))
+
+slice-aggregate-number-at : tie.Need-slice-aggregate-number-at
+slice-aggregate-number-at c = search needs
+
+number-at-requires : tie.Need-number-at-requires
+number-at-requires c κs = search needs
+
+row-fault-requires : tie.Need-row-fault-requires
+row-fault-requires c κs =
+    let s = c .before .before .before .before .before .before .before .before .before .before .before .before in
+    let p = s .pre .1 in
+    (stands-in (s .args .file .now) (s .args .counts .account) (p .counts .from-check) (s .args .none .now) (s .pre .0), sym (c .before .before .before .before .before .kind .ensures .0) ∙ c .before .before .before .before .if2 .left)
+
+refusal-requires : tie.Need-refusal-requires
+refusal-requires c κs = search needs
+
+returns-3 : tie.Need-returns-3
+returns-3 c =
+    let s = c .before .before .before .before .before .before .before .before .before .before .before .before .before .before .before in
+    let a = s .args in
+    let t = a .ticket .now in
+    λ ts co.
+    c .refusal .ensures
+    ∙ tell-row (a .file .now) ts (a .counts) co t (a .none .now) (s .pre .0) (c .before .before .before .before .before .before .before .before .before .before .before .if1 .left) (sym (c .before .before .before .before .before .before .before .before .kind .ensures .0) ∙ c .before .before .before .before .before .before .before .if2 .left)
+    (c .before .before .before .before .before .before .before .before .before .place-of .result) (c .before .before .row-fault .result)
+    (at (a .counts) t (c .before .before .before .before .before .before .before .before .before .place-of .result) (c .before .before .before .before .before .before .before .before .before .before .contract .result) (c .before .before .before .before .before .before .before .before .before .before .contract .ensures .0) (c .before .before .before .before .before .before .before .before .before .place-of .ensures))
+    (by-counts (a .file .now) ts (a .counts) co t (a .none .now) (c .before .before .row-fault .result) (c .before .before .before .number-at .result) (c .before .before .before .before .before .before .before .before .before .before .contract .result)
+    (c .before .before .row-fault .ensures) (c .before .before .before .number-at .ensures) (c .before .before .before .before .before .before .before .before .before .before .contract .ensures .0))
+    (c .before .if3 .taken)
+
+part-requires : tie.Need-part-requires
+part-requires c κs =
+    let s = c .before .before .before .before .before .before .before .before .before .before .before .before .before .before in
+    let p = s .pre .1 in
+    stands-in (s .args .file .now) (s .args .counts .account) (p .counts .from-check) (s .args .none .now) (s .pre .0)
+
+rates-of-requires : tie.Need-rates-of-requires
+rates-of-requires c κs = search needs
+
+row-answer-requires : tie.Need-row-answer-requires
+row-answer-requires c κs =
+    let s = c .before .before .before .before .before .before .before .before .before .before .before .before .before .before .before .before in
+    let a = s .args in
+    let t = a .ticket .now in
+    let x = s .pre .1 in
+    let co = x .counts in
+    let row = sym (c .before .before .before .before .before .before .before .before .before .kind .ensures .0) ∙ c .before .before .before .before .before .before .before .before .if2 .left in
+    let e = rates-read (a .file .now) (x .tickets) (a .counts) co (a .none .now) (s .pre .0) (c .before .part .result .now) (c .before .part .ensures) in (
+      record {
+        isRow = row;
+        within =
+            row-within-here (a .file .now) (x .tickets) (a .counts) co t (a .none .now) (s .pre .0) (c .before .before .before .before .before .before .before .before .before .before .before .before .if1 .left) row (c .before .before .before .row-fault .result)
+            (by-counts (a .file .now) (x .tickets) (a .counts) co t (a .none .now) (c .before .before .before .row-fault .result) (c .before .before .before .before .number-at .result) (c .before .before .before .before .before .before .before .before .before .before .before .contract .result)
+            (c .before .before .before .row-fault .ensures) (c .before .before .before .before .number-at .ensures) (c .before .before .before .before .before .before .before .before .before .before .before .contract .ensures .0)) (c .before .before .if3 .left);
+      },
+      record {
+        rates = ratesOf (records (withTickets (a .file .now) (x .tickets)));
+        held = subst (λ (rs : List Record). RatesOf rs (c .rates-of .result)) e (c .rates-of .ensures);
+        within = rates-fit (a .file .now) (x .tickets) (a .counts) co;
+      },
+    )
+
+number-of-requires : tie.Need-number-of-requires
+number-of-requires c κs = search needs
+
+returns-4 : tie.Need-returns-4
+returns-4 c =
+    let s = c .before .before .before .before .before .before .before .before .before .before .before .before .before .before .before .before .before .before .before in
+    let a = s .args in
+    let t = a .ticket .now in
+    λ ts co.
+    tell-rate (a .file .now) ts (a .counts) co t (a .none .now) (s .pre .0) (c .before .before .before .before .before .before .before .before .before .before .before .before .before .before .before .if1 .left) (sym (c .before .before .before .before .before .before .before .before .before .before .before .before .kind .ensures .0) ∙ c .before .before .before .before .before .before .before .before .before .before .before .if2 .left)
+    (c .before .before .before .before .before .before .row-fault .result)
+    (by-counts (a .file .now) ts (a .counts) co t (a .none .now) (c .before .before .before .before .before .before .row-fault .result) (c .before .before .before .before .before .before .before .number-at .result) (c .before .before .before .before .before .before .before .before .before .before .before .before .before .before .contract .result)
+    (c .before .before .before .before .before .before .row-fault .ensures) (c .before .before .before .before .before .before .before .number-at .ensures) (c .before .before .before .before .before .before .before .before .before .before .before .before .before .before .contract .ensures .0))
+    (c .before .before .before .before .before .if3 .left) (c .before .before .before .before .before .before .before .before .before .before .before .before .before .place-of .result)
+    (at (a .counts) t (c .before .before .before .before .before .before .before .before .before .before .before .before .before .place-of .result) (c .before .before .before .before .before .before .before .before .before .before .before .before .before .before .contract .result) (c .before .before .before .before .before .before .before .before .before .before .before .before .before .before .contract .ensures .0) (c .before .before .before .before .before .before .before .before .before .before .before .before .before .place-of .ensures))
+    (c .before .before .row-answer .result)
+    (told-by (a .file .now) ts (a .counts) co t (a .none .now) (s .pre .0) (c .before .before .before .before .part .result .now) (c .before .before .before .before .part .ensures) (c .before .before .before .rates-of .result) (c .before .before .before .rates-of .ensures) (c .before .before .before .before .before .before .before .before .before .before .before .before .before .place-of .result) (c .before .before .row-answer .result) (c .before .before .row-answer .ensures))
+    (λ z. c .if4 .taken (c .before .number-of .ensures ∙ z))
+
+record-total-requires : tie.Need-record-total-requires
+record-total-requires c κs = search needs
+
+add-if5 : tie.Need-add-if5
+add-if5 c =
+    let s = c .before .before .before .before .before .before .before .before .before .before .before .before .before .before .before .before .before .before .before .before .before in
+    let p = s .pre .1 in
+    omega (arith, c .before .record-total .ensures, many-few (s .args .file .now) (p .tickets) (s .args .counts) (p .counts))
+
+returns-5 : tie.Need-returns-5
+returns-5 c =
+    let s = c .before .before .before .before .before .before .before .before .before .before .before .before .before .before .before .before .before .before .before .before .before .before in
+    let a = s .args in
+    let t = a .ticket .now in
+    λ ts co.
+    tell-1 (a .file .now) ts (a .counts) co t (a .none .now) (s .pre .0) (c .before .before .before .before .before .before .before .before .before .before .before .before .before .before .before .before .before .before .if1 .left) (sym (c .before .before .before .before .before .before .before .before .before .before .before .before .before .before .before .kind .ensures .0) ∙ c .before .before .before .before .before .before .before .before .before .before .before .before .before .before .if2 .left)
+    (c .before .before .before .before .before .before .before .before .before .row-fault .result)
+    (by-counts (a .file .now) ts (a .counts) co t (a .none .now) (c .before .before .before .before .before .before .before .before .before .row-fault .result) (c .before .before .before .before .before .before .before .before .before .before .number-at .result) (c .before .before .before .before .before .before .before .before .before .before .before .before .before .before .before .before .before .contract .result)
+    (c .before .before .before .before .before .before .before .before .before .row-fault .ensures) (c .before .before .before .before .before .before .before .before .before .before .number-at .ensures) (c .before .before .before .before .before .before .before .before .before .before .before .before .before .before .before .before .before .contract .ensures .0))
+    (c .before .before .before .before .before .before .before .before .if3 .left) (c .before .before .before .before .before .before .before .before .before .before .before .before .before .before .before .before .place-of .result) (c .before .before .before .before .before .row-answer .result)
+    (told-by (a .file .now) ts (a .counts) co t (a .none .now) (s .pre .0) (c .before .before .before .before .before .before .before .part .result .now) (c .before .before .before .before .before .before .before .part .ensures) (c .before .before .before .before .before .before .rates-of .result) (c .before .before .before .before .before .before .rates-of .ensures) (c .before .before .before .before .before .before .before .before .before .before .before .before .before .before .before .before .place-of .result) (c .before .before .before .before .before .row-answer .result) (c .before .before .before .before .before .row-answer .ensures))
+    (sym (c .before .before .before .before .number-of .ensures) ∙ c .before .before .before .if4 .left)
+    (omega (arith, c .if5 .taken, c .before .before .record-total .ensures))
+
+returns-6 : tie.Need-returns-6
+returns-6 c =
+    let s = c .before .before .before .before .before .before .before .before .before .before .before .before .before .before .before .before .before .before .before .before .before .before in
+    let a = s .args in
+    let t = a .ticket .now in
+    λ ts co.
+    tell-0 (a .file .now) ts (a .counts) co t (a .none .now) (s .pre .0) (c .before .before .before .before .before .before .before .before .before .before .before .before .before .before .before .before .before .before .if1 .left) (sym (c .before .before .before .before .before .before .before .before .before .before .before .before .before .before .before .kind .ensures .0) ∙ c .before .before .before .before .before .before .before .before .before .before .before .before .before .before .if2 .left)
+    (c .before .before .before .before .before .before .before .before .before .row-fault .result)
+    (by-counts (a .file .now) ts (a .counts) co t (a .none .now) (c .before .before .before .before .before .before .before .before .before .row-fault .result) (c .before .before .before .before .before .before .before .before .before .before .number-at .result) (c .before .before .before .before .before .before .before .before .before .before .before .before .before .before .before .before .before .contract .result)
+    (c .before .before .before .before .before .before .before .before .before .row-fault .ensures) (c .before .before .before .before .before .before .before .before .before .before .number-at .ensures) (c .before .before .before .before .before .before .before .before .before .before .before .before .before .before .before .before .before .contract .ensures .0))
+    (c .before .before .before .before .before .before .before .before .if3 .left) (c .before .before .before .before .before .before .before .before .before .before .before .before .before .before .before .before .place-of .result) (c .before .before .before .before .before .row-answer .result)
+    (told-by (a .file .now) ts (a .counts) co t (a .none .now) (s .pre .0) (c .before .before .before .before .before .before .before .part .result .now) (c .before .before .before .before .before .before .before .part .ensures) (c .before .before .before .before .before .before .rates-of .result) (c .before .before .before .before .before .before .rates-of .ensures) (c .before .before .before .before .before .before .before .before .before .before .before .before .before .before .before .before .place-of .result) (c .before .before .before .before .before .row-answer .result) (c .before .before .before .before .before .row-answer .ensures))
+    (sym (c .before .before .before .before .number-of .ensures) ∙ c .before .before .before .if4 .left)
+    (omega (arith, c .if5 .left, c .before .before .record-total .ensures))
+
+pub check-ticket-spec : {M : Type 1} → statement M
+check-ticket-spec =
+    tie.close
+    (tie.spec
+    returns
+    contract-requires
+    place-of-requires
+    kind-requires
+    returns-2
+    slice-aggregate-number-at
+    number-at-requires
+    row-fault-requires
+    refusal-requires
+    returns-3
+    part-requires
+    rates-of-requires
+    row-answer-requires
+    number-of-requires
+    returns-4
+    record-total-requires
+    add-if5
+    returns-5
+    returns-6)

@@ -1,0 +1,162 @@
+-- The row is taken from what the rows of its contract come to.
+-- Assumes nothing.
+use borrow.Author.Needs.{needs}
+use mathlib.Core.Path.{_≡_, refl, sym, ap, ap₂, _∙_, subst, subst⁻¹}
+use mathlib.Core.List.{List, [], _∷_, _++_}
+use Prim.Native.Nat.{ℕ, _+_, _-_, _≤_, _<_}
+use native.Mathlib.Omega.{arith}
+use lib.ListN.{length, getD, set}
+use Rattle.record.specs.Layout.{Record, contract, unit}
+use Rattle.account.specs.Products.{RatesOf}
+use Rattle.account.specs.Records.{records, recordCount, cut}
+use Rattle.account.specs.Standing.{Stands, accountOf, PartOf}
+use Rattle.account.specs.declared.accounts.Account.{Account}
+use Rattle.margin.specs.Position.{RowsFit, RatedBy, Bounded, WithRows, HasRows}
+use Rattle.margin.specs.Positions.{noPosition, PositionsOf}
+use Rattle.margin.specs.declared.rows.Position.{Position}
+use Rattle.tickets.specs.Ticket.{withTickets}
+use Rattle.tickets.proofs.CountLaws.{before-ok, taken-here}
+use Rattle.tickets.proofs.KeptLaws.{stands-kept, low-kept, days-asked, less-asks, row-taken, beside-less, some-kept}
+use Rattle.tickets.proofs.kept.without_row.Statement.{statement}
+use Rattle.tickets.proofs.kept.without_row.Tie as tie
+
+account-of-requires : tie.Need-account-of-requires
+account-of-requires c κs = search needs
+
+contract-requires : tie.Need-contract-requires
+contract-requires c κs = search needs
+
+add-part : tie.Need-add-part
+add-part c = search needs
+
+part-requires : tie.Need-part-requires
+part-requires c κs =
+    let s = c .before .before .before .before .before .before .before in
+    let x = s .pre .1 in
+    subst⁻¹ (λ (a : Account). Stands (s .args .file .now) (s .args .none .now) a) (c .before .account-of .ensures)
+    (stands-kept (s .args .file .now) (x .tickets ++ s .args .row .now ∷ []) (s .args .kept) (x .kept) (s .args .none .now) (s .pre .0))
+
+add-part-2 : tie.Need-add-part-2
+add-part-2 c = search needs
+
+part-requires-2 : tie.Need-part-requires-2
+part-requires-2 c κs =
+    let s = c .before .before .before .before .before .before .before .before in
+    let x = s .pre .1 in
+    subst⁻¹ (λ (a : Account). Stands (s .args .file .now) (s .args .none .now) a) (c .before .before .account-of .ensures)
+    (stands-kept (s .args .file .now) (x .tickets ++ s .args .row .now ∷ []) (s .args .kept) (x .kept) (s .args .none .now) (s .pre .0))
+
+part-requires-3 : tie.Need-part-requires-3
+part-requires-3 c κs =
+    let s = c .before .before .before .before .before .before .before .before .before in
+    let x = s .pre .1 in
+    subst⁻¹ (λ (a : Account). Stands (s .args .file .now) (s .args .none .now) a) (c .before .before .before .account-of .ensures)
+    (stands-kept (s .args .file .now) (x .tickets ++ s .args .row .now ∷ []) (s .args .kept) (x .kept) (s .args .none .now) (s .pre .0))
+
+rates-of-requires : tie.Need-rates-of-requires
+rates-of-requires c κs = search needs
+
+mul-without-rows : tie.Need-mul-without-rows
+mul-without-rows c = search needs
+
+array-copy-out-without-rows : tie.Need-array-copy-out-without-rows
+array-copy-out-without-rows c =
+    let s = c .before .before .before .before .before .before .before .before .before .before .before .before in
+    let x = s .pre .1 in
+    let l = low-kept (s .args .file .now) (x .tickets) (s .args .row .now) (before-ok (s .args .file .now) (x .tickets) (s .args .row .now) (s .args .kept .counts) (x .kept .counts)) (taken-here (s .args .file .now) (x .tickets) (s .args .row .now) (s .args .kept .counts) (x .kept .counts)) in
+    omega (arith, c .before .before .before .before .before .contract .ensures .0)
+
+days-of-requires : tie.Need-days-of-requires
+days-of-requires c κs =
+    let s = c .before .before .before .before .before .before .before .before .before .before .before .before .before in
+    let x = s .pre .1 in
+    let a = accountOf (s .args .file .now) (s .args .none .now) in
+    let bytes = c .before .before .before .before .part2 .result .now in
+    days-asked (s .args .file .now) (s .args .kept .counts .account) (s .args .none .now)
+    (stands-kept (s .args .file .now) (x .tickets ++ s .args .row .now ∷ []) (s .args .kept) (x .kept) (s .args .none .now) (s .pre .0))
+    (x .tickets) (s .args .row .now) (before-ok (s .args .file .now) (x .tickets) (s .args .row .now) (s .args .kept .counts) (x .kept .counts)) (taken-here (s .args .file .now) (x .tickets) (s .args .row .now) (s .args .kept .counts) (x .kept .counts)) (beside-less (s .args .file .now) (x .tickets) (s .args .row .now) (s .args .kept) (x .kept) (s .args .none .now) (s .pre .0))
+    bytes (subst (λ (n : ℕ). PartOf a (32 + n) bytes) (c .before .before .before .before .before .before .contract .ensures .0) (c .before .before .before .before .part2 .ensures))
+
+unit-requires : tie.Need-unit-requires
+unit-requires c κs = search needs
+
+without-rows-requires : tie.Need-without-rows-requires
+without-rows-requires c κs =
+    let s = c .before .before .before .before .before .before .before .before .before .before .before .before .before .before .before in
+    let x = s .pre .1 in
+    let a = accountOf (s .args .file .now) (s .args .none .now) in
+    let own = c .before .before .before .before .before .before .before .part .result .now in
+    let prompts = c .before .before .before .before .before .before .part2 .result .now in
+    let rates = c .before .before .before .before .before .part3 .result .now in
+    let e = c .before .before .before .before .before .before .before .before .contract .ensures .0 in
+    subst⁻¹ (λ (n : ℕ). (c .unit .result ≤ 1000) × ((c .before .days-of .result .count ≤ 32) × (RowsFit (records (s .args .row .now)) × (RatedBy (c .before .before .before .before .rates-of .result) (records (s .args .row .now)) × (Bounded 128 (getD (s .args .kept .positions .at) n noPosition) × HasRows (c .before .before .before .before .rates-of .result) (c .unit .result) (c .before .days-of .result) (records (s .args .row .now)) (getD (s .args .kept .positions .at) n noPosition))))))
+    e
+    (less-asks (s .args .file .now) (s .args .kept .counts .account) (s .args .none .now)
+    (stands-kept (s .args .file .now) (x .tickets ++ s .args .row .now ∷ []) (s .args .kept) (x .kept) (s .args .none .now) (s .pre .0))
+    (x .tickets) (s .args .row .now) (before-ok (s .args .file .now) (x .tickets) (s .args .row .now) (s .args .kept .counts) (x .kept .counts)) (taken-here (s .args .file .now) (x .tickets) (s .args .row .now) (s .args .kept .counts) (x .kept .counts)) (beside-less (s .args .file .now) (x .tickets) (s .args .row .now) (s .args .kept) (x .kept) (s .args .none .now) (s .pre .0))
+    own prompts rates (subst (λ (n : ℕ). PartOf a (16 + n) own) e (c .before .before .before .before .before .before .before .part .ensures)) (subst (λ (n : ℕ). PartOf a (32 + n) prompts) e (c .before .before .before .before .before .before .part2 .ensures))
+    (c .before .before .before .before .before .part3 .ensures) (c .before .before .before .before .rates-of .result) (c .before .before .before .before .rates-of .ensures)
+    (c .before .days-of .result) (c .before .days-of .ensures) (c .unit .result) (c .unit .ensures .0) (s .args .kept .positions) (x .kept .positions))
+
+mul-at : tie.Need-mul-at
+mul-at c = search needs
+
+array-set-from-at : tie.Need-array-set-from-at
+array-set-from-at c =
+    let s = c .before .before .before .before .before .before .before .before .before .before .before .before .before .before .before .before in
+    let x = s .pre .1 in
+    let l = low-kept (s .args .file .now) (x .tickets) (s .args .row .now) (before-ok (s .args .file .now) (x .tickets) (s .args .row .now) (s .args .kept .counts) (x .kept .counts)) (taken-here (s .args .file .now) (x .tickets) (s .args .row .now) (s .args .kept .counts) (x .kept .counts)) in
+    omega (arith, c .before .before .before .before .before .before .before .before .before .contract .ensures .0)
+
+sub-t13 : tie.Need-sub-t13
+sub-t13 c =
+    let s = c .before .before .before .before .before .before .before .before .before .before .before .before .before .before .before .before .before in
+    some-kept (s .args .file .now) (s .pre .1 .tickets) (s .args .row .now) (s .args .kept) (s .pre .1 .kept)
+
+returns : tie.Need-returns
+returns c =
+    let s = c .before .before .before .before .before .before .before .before .before .before .before .before .before .before .before .before .before in
+    let x = s .pre .1 in
+    let a = accountOf (s .args .file .now) (s .args .none .now) in
+    let own = c .before .before .before .before .before .before .before .before .before .part .result .now in
+    let prompts = c .before .before .before .before .before .before .before .before .part2 .result .now in
+    let rates = c .before .before .before .before .before .before .before .part3 .result .now in
+    let table = c .before .before .before .before .before .before .rates-of .result in
+    let e = c .before .before .before .before .before .before .before .before .before .before .contract .ensures .0 in
+    let q = c .before .without-rows .result in
+    λ ts kb.
+    subst⁻¹
+    (λ (n : ℕ). PositionsOf (records (withTickets (s .args .file .now) (ts))) (record { records = s .args .kept .positions .records - 1; at = set (s .args .kept .positions .at) n q }))
+    e
+    (row-taken (s .args .file .now) (s .args .kept .counts .account) (s .args .none .now)
+    (stands-kept (s .args .file .now) (ts ++ s .args .row .now ∷ []) (s .args .kept) kb (s .args .none .now) (s .pre .0))
+    ts (s .args .row .now) (before-ok (s .args .file .now) ts (s .args .row .now) (s .args .kept .counts) (kb .counts)) (taken-here (s .args .file .now) ts (s .args .row .now) (s .args .kept .counts) (kb .counts)) (beside-less (s .args .file .now) ts (s .args .row .now) (s .args .kept) kb (s .args .none .now) (s .pre .0))
+    own prompts rates (subst (λ (n : ℕ). PartOf a (16 + n) own) e (c .before .before .before .before .before .before .before .before .before .part .ensures)) (subst (λ (n : ℕ). PartOf a (32 + n) prompts) e (c .before .before .before .before .before .before .before .before .part2 .ensures))
+    (c .before .before .before .before .before .before .before .part3 .ensures) table (c .before .before .before .before .before .before .rates-of .ensures)
+    (c .before .before .before .days-of .result) (c .before .before .before .days-of .ensures) (c .before .before .unit .result) (c .before .before .unit .ensures .0) (s .args .kept .positions) (kb .positions)
+    q
+    (subst
+    (λ (n : ℕ). (held : List Record) (before : Position) → RatesOf held table → WithRows held (c .before .before .unit .result) (c .before .before .before .days-of .result) before (records (s .args .row .now)) (getD (s .args .kept .positions .at) n noPosition) → q ≡ before)
+    e (c .before .without-rows .ensures)))
+
+pub without-row-spec : {M : Type 1} → statement M
+without-row-spec =
+    tie.close
+    (tie.spec
+    account-of-requires
+    contract-requires
+    add-part
+    part-requires
+    add-part-2
+    part-requires-2
+    part-requires-3
+    rates-of-requires
+    mul-without-rows
+    array-copy-out-without-rows
+    days-of-requires
+    unit-requires
+    without-rows-requires
+    mul-at
+    array-set-from-at
+    sub-t13
+    returns)

@@ -1,0 +1,48 @@
+-- 3 and higher name a record.
+-- Assumes nothing.
+use borrow.Author.Needs.{needs}
+use Prim.Native.Nat.{ℕ, _-_, _+_, _*_, _≤_, _<_}
+use mathlib.Core.Path.{_≡_, refl, sym, ap, _∙_}
+use native.Mathlib.Omega.{arith}
+use Rattle.writing.proofs.Answered.{entered-early, entered-late}
+use Rattle.writing.proofs.verdict.as_entered.Statement.{statement}
+use Rattle.writing.proofs.verdict.as_entered.Tie as tie
+
+number-of-requires : tie.Need-number-of-requires
+number-of-requires c κs = tt
+
+returns : tie.Need-returns
+returns c = entered-early (c .before .before .args .t1) (c .before .before .args .answer) (c .before .number-of .ensures) (c .if1 .taken)
+
+slice-aggregate-place-at : tie.Need-slice-aggregate-place-at
+slice-aggregate-place-at c = search needs
+
+record-of-requires : tie.Need-record-of-requires
+record-of-requires c κs = tt
+
+place-at-requires : tie.Need-place-at-requires
+place-at-requires c κs = tt
+
+wide-requires : tie.Need-wide-requires
+wide-requires c κs = tt
+
+refusal-requires : tie.Need-refusal-requires
+refusal-requires c κs = tt
+
+returns-2 : tie.Need-returns-2
+returns-2 c =
+    entered-late (c .before .before .before .before .before .before .before .args .t1) (c .before .before .before .before .before .before .before .args .answer) (c .before .before .before .before .before .before .number-of .ensures) (c .before .before .before .before .before .if1 .left)
+    (c .before .before .before .record-of .ensures) (c .before .before .place-at .ensures) (c .before .wide .ensures) (c .refusal .ensures)
+
+pub as-entered-spec : {M : Type 1} → statement M
+as-entered-spec =
+    tie.close
+    (tie.spec
+    number-of-requires
+    returns
+    slice-aggregate-place-at
+    record-of-requires
+    place-at-requires
+    wide-requires
+    refusal-requires
+    returns-2)

@@ -1,0 +1,104 @@
+-- Each way that the code ends.
+-- Assumes nothing.
+use borrow.Author.Needs.{needs}
+use Prim.Native.Nat.{ℕ, _-_, _+_, _*_, _≤_, _<_}
+use mathlib.Core.Path.{_≡_, refl, sym, ap, _∙_}
+use native.Mathlib.Omega.{arith}
+use Prim.Native.Nat.{_%_}
+use mathlib.Core.Bool.{not}
+use lib.ListN.{length}
+use borrow.Author.Tests.{lt-ltb, le-ltb, eq-eqb, ne-eqb}
+use Rattle.account.specs.Answers.{numberOf}
+use Rattle.account.specs.declared.answers.Answer.{Answer}
+use Rattle.account.specs.Records.{recordCount}
+use Rattle.writing.proofs.Answered.{refuses, refuses-long, refuses-cut, refuses-room, writes}
+use Rattle.writing.proofs.write.Statement.{statement}
+use Rattle.writing.proofs.write.Tie as tie
+
+refused-requires : tie.Need-refused-requires
+refused-requires c κs = tt
+
+returns : tie.Need-returns
+returns c =
+    let a = c .before .before .before .before .args in
+    refuses-long (a .entries .now) (a .out .now) (a .out .now) (c .refused .result) refl
+    (lt-ltb 61440 (length (a .entries .now)) (c .before .if1 .taken)) (c .refused .ensures)
+
+refused-requires-2 : tie.Need-refused-requires-2
+refused-requires-2 c κs = tt
+
+returns-2 : tie.Need-returns-2
+returns-2 c =
+    let a = c .before .before .before .before .before .args in
+    refuses-cut (a .entries .now) (a .out .now) (a .out .now) (c .refused2 .result) refl
+    (le-ltb 61440 (length (a .entries .now)) (c .before .before .if1 .left))
+    (ap not (ne-eqb (length (a .entries .now) % 96) 0 (c .before .if2 .taken))) (c .refused2 .ensures)
+
+order-of-requires : tie.Need-order-of-requires
+order-of-requires c κs = omega (arith, c .before .if1 .left)
+
+verdict-on-requires : tie.Need-verdict-on-requires
+verdict-on-requires c κs =
+    let a = c .before .before .before .before .before .args in
+    (c .order-of .ensures, (le-ltb 61440 (length (a .entries .now)) (c .before .before .if1 .left), ap not (eq-eqb (length (a .entries .now) % 96) 0 (c .before .if2 .left))))
+
+number-of-requires : tie.Need-number-of-requires
+number-of-requires c κs = tt
+
+refused-requires-3 : tie.Need-refused-requires-3
+refused-requires-3 c κs = tt
+
+returns-3 : tie.Need-returns-3
+returns-3 c =
+    let a = c .before .before .before .before .before .before .before .before .before .args in
+    let v = c .before .before .before .verdict-on in
+    refuses (a .entries .now) (a .out .now) (a .out .now) (c .refused3 .result) refl (v .result) (sym (v .ensures))
+    (λ z. c .before .if3 .taken (c .before .before .number-of .ensures ∙ z)) (c .refused3 .ensures)
+
+refused-requires-4 : tie.Need-refused-requires-4
+refused-requires-4 c κs = tt
+
+returns-4 : tie.Need-returns-4
+returns-4 c =
+    let a = c .before .before .before .before .before .before .before .before .before .before .args in
+    let v = c .before .before .before .before .verdict-on in
+    refuses-room (a .entries .now) (a .out .now) (a .out .now) (c .refused4 .result) refl
+    (ap numberOf (sym (v .ensures)) ∙ sym (c .before .before .before .number-of .ensures) ∙ c .before .before .if3 .left) (c .before .if4 .taken) (c .refused4 .ensures)
+
+slice-aggregate-fill : tie.Need-slice-aggregate-fill
+slice-aggregate-fill c = sym (c .before .before .before .before .before .order-of .ensures .long)
+
+fill-requires : tie.Need-fill-requires
+fill-requires c κs = (c .before .before .before .before .before .before .order-of .ensures, omega (arith, c .before .before .if4 .left))
+
+same-length : tie.Need-same-length
+same-length c = c .before .before .fill .kept .1 .1 .0
+
+returns-5 : tie.Need-returns-5
+returns-5 c =
+    let a = c .before .before .before .before .before .before .before .before .before .before .before .before .before .before .args in
+    let v = c .before .before .before .before .before .before .before .before .verdict-on in
+    writes (a .entries .now) (c .before .before .before .before .before .before .before .before .before .order-of .result) (a .out .now) _ _ (c .before .before .before .before .before .before .before .before .before .order-of .ensures)
+    (ap not (eq-eqb (length (a .entries .now) % 96) 0 (c .before .before .before .before .before .before .before .before .before .before .if2 .left)))
+    (ap numberOf (sym (v .ensures)) ∙ sym (c .before .before .before .before .before .before .before .number-of .ensures) ∙ c .before .before .before .before .before .before .if3 .left) (c .before .before .before .before .before .if4 .left)
+    (c .before .before .fill .ensures) refl refl
+
+pub write-spec : {M : Type 1} → statement M
+write-spec =
+    tie.close
+    (tie.spec
+    refused-requires
+    returns
+    refused-requires-2
+    returns-2
+    order-of-requires
+    verdict-on-requires
+    number-of-requires
+    refused-requires-3
+    returns-3
+    refused-requires-4
+    returns-4
+    slice-aggregate-fill
+    fill-requires
+    same-length
+    returns-5)

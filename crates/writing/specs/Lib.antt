@@ -1,0 +1,4 @@
+pub mod Sorting
+pub mod Order
+pub mod Written
+pub mod Claims

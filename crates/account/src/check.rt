@@ -14,6 +14,7 @@ use crate::fault::fault_at;
 use crate::notes::noted;
 use crate::notes::part_of;
 use crate::parts::PARTS;
+use crate::passing::passes_to;
 use crate::stretches::record_count;
 use crate::stretches::whole_at;
 use record::bytes::RECORD_BYTES;
@@ -60,6 +61,10 @@ fn note_one(counts: &mut [u16], v: usize)
     counts[v] = counts[v] + 1;
 }
 
+fn note_more(counts: &mut [u16], v: usize, n: usize) {
+    counts[v] = counts[v] + n as u16;
+}
+
 fn one_if_contract(r: &[u8]) -> usize
     ensures { λ n. ⌜ n ≡ oneIf (ofKind 1 (now (r .entry))) ⌝ }
 {
@@ -91,7 +96,9 @@ pub fn take_survey(file: &[u8]) -> Survey
         note_first(&mut first, &counts, v, k);
         note_one(&mut counts, v);
         contracts += one_if_contract(r);
-        k += 1;
+        let next = passes_to(file, &first, &counts, k);
+        note_more(&mut counts, v, next - (k + 1));
+        k = next;
     }
     Survey {
         answer: Answer::Accepted,

@@ -5,12 +5,12 @@ use crate::notes::noted;
 use crate::notes::part_of;
 use record::fields::kind;
 
-const MOST_PROMPTS: usize = 32;
+pub(crate) const MOST_PROMPTS: usize = 32;
 
 // "per contract .. 128 rows"
 pub const MOST_ROWS: usize = 128;
 
-const MOST_SPREADS: usize = 32;
+pub(crate) const MOST_SPREADS: usize = 32;
 
 const MOST_ENTRIES: usize = 32;
 

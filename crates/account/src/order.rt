@@ -26,7 +26,7 @@ fn number_not_above(before: &[u8], r: &[u8]) -> bool
     (kind(before) == 1) & (contract(r) <= contract(before))
 }
 
-fn day_not_above(before: &[u8], r: &[u8]) -> bool
+pub(crate) fn day_not_above(before: &[u8], r: &[u8]) -> bool
     ensures { λ b. ⌜ b ≡ dayNotAbove (now (before .entry)) (now (r .entry)) ⌝ }
 {
     let c = contract(r);
@@ -34,7 +34,7 @@ fn day_not_above(before: &[u8], r: &[u8]) -> bool
     (kind(before) == 2) & ((c < last) | ((c == last) & (day(r) <= day(before))))
 }
 
-fn tier_falls(before: &[u8], r: &[u8]) -> bool
+pub(crate) fn tier_falls(before: &[u8], r: &[u8]) -> bool
     ensures { λ b. ⌜ b ≡ tierFalls (now (before .entry)) (now (r .entry)) ⌝ }
 {
     ((kind(before) == 2) & (contract(before) == contract(r))) & (tier(r) < tier(before))
@@ -78,7 +78,7 @@ fn no_leg_on(r: &[u8], side: usize) -> bool
     }
 }
 
-fn legs_clash(r: &[u8]) -> bool
+pub(crate) fn legs_clash(r: &[u8]) -> bool
     ensures { λ b. ⌜ b ≡ legsClash (now (r .entry)) ⌝ }
 {
     some_alike(r) | (no_leg_on(r, 1) | no_leg_on(r, 2))

@@ -3,3 +3,5 @@ pub mod Tests
 pub mod Dispatch
 pub mod TwosComplement
 pub mod Within
+pub mod Padding
+pub mod Sound

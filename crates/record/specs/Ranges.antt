@@ -3,11 +3,12 @@
 use Prim.Native.Nat.{ℕ, _+_}
 use mathlib.Core.Bool.{Bool, not, _&&_, _||_}
 use mathlib.Core.List.{List}
+use lib.ListN.{length}
 use lib.Dec.{eqb, leb, ltb}
 use lib.Signed.{leZ}
 use Rattle.exact.specs.Lists.{any}
 use Rattle.record.specs.Bytes.{Record, recordBytes, byteAt, bytesOf, twosComplement, Range, plain, signed, Field, numberIn, countFrom}
-use Rattle.record.specs.Layout.{kind, fieldsOf}
+use Rattle.record.specs.Layout.{kind, contract, fieldsOf}
 
 -- 3: "kind not 1..5"; 2026-05: "kind 6 is now allowed in 3"
 abbrev pub mostKind : ℕ
@@ -46,3 +47,11 @@ outsideAmong fs r = any (outside r) fs
 
 abbrev pub fieldOutside : Record → Bool
 fieldOutside r = outsideAmong (fieldsOf r) r
+
+-- A whole record of a kind and a contract that gets neither 5 nor 6.
+abbrev pub ofKindAndContract : ℕ → ℕ → Record → Bool
+ofKindAndContract n c r = eqb (kind r) n && eqb (contract r) c
+
+abbrev pub sound : ℕ → ℕ → Record → Bool
+sound n c r =
+    leb recordBytes (length r) && (ofKindAndContract n c r && not (unusedByte r || fieldOutside r))

@@ -1,6 +1,7 @@
 // Numbers in a record: little-endian, two's complement where signed. Past the record's end a byte counts as 0.
 ghost use mathlib.Core.Path.{_≡_};
-ghost use Prim.Native.Nat.{_<_};
+ghost use Prim.Native.Nat.{_+_, _<_};
+ghost use lib.ListN.{length};
 ghost use Rattle.record.specs.Bytes.{byteAt, u16At, u32At, i32At, twosComplement};
 
 pub const RECORD_BYTES: usize = 96;
@@ -33,13 +34,34 @@ pub(crate) fn u32_at(r: &[u8], o: usize) -> usize
 {
     if o < r.len() {
         if 3 < r.len() - o {
-            let p = o + 2;
-            return wide(r[o]) + 256 * wide(r[o + 1]) + 65536 * (wide(r[p]) + 256 * wide(r[p + 1]));
+            return u32_in(r, o);
         }
         u16_at(r, o) + 65536 * u16_at(r, o + 2)
     } else {
         0
     }
+}
+
+// The same of bytes that are there.
+pub(crate) fn byte_in(r: &[u8], o: usize) -> usize
+    requires { ⌜ o < length (now r) ⌝ }
+    ensures { λ n. ⌜ (n ≡ byteAt (now (r .entry)) o) × (n < 256) ⌝ }
+{
+    wide(r[o])
+}
+
+pub(crate) fn u16_in(r: &[u8], o: usize) -> usize
+    requires { ⌜ o + 1 < length (now r) ⌝ }
+    ensures { λ n. ⌜ (n ≡ u16At (now (r .entry)) o) × (n < 65536) ⌝ }
+{
+    byte_in(r, o) + 256 * byte_in(r, o + 1)
+}
+
+pub(crate) fn u32_in(r: &[u8], o: usize) -> usize
+    requires { ⌜ o + 3 < length (now r) ⌝ }
+    ensures { λ n. ⌜ (n ≡ u32At (now (r .entry)) o) × (n < 4294967296) ⌝ }
+{
+    u16_in(r, o) + 65536 * u16_in(r, o + 2)
 }
 
 // The signed number that 32 bits stand for.

@@ -1,7 +1,13 @@
-// The refusals that a record gets by itself: 3, 5 and 6.
+// The refusals that a record gets by itself: 3, 5 and 6; and whole records that get none of them.
 ghost use mathlib.Core.Path.{_≡_};
-ghost use Rattle.record.specs.Ranges.{unknownKind, unusedByte, fieldOutside};
+ghost use Prim.Native.Nat.{ℕ, _≤_, _<_};
+ghost use lib.ListN.{length};
+ghost use Rattle.record.specs.Bytes.{recordBytes, byteAt};
+ghost use Rattle.record.specs.Ranges.{unknownKind, unusedByte, fieldOutside, ofKindAndContract, sound};
+use crate::bytes::RECORD_BYTES;
+use crate::bytes::byte_in;
 use crate::fields::kind;
+use crate::layout;
 use crate::ranges;
 use crate::unused;
 
@@ -13,11 +19,25 @@ pub fn unknown_kind(r: &[u8]) -> bool
     !((1 <= k) & (k <= 6))
 }
 
-// 5: an unused byte is not zero. Of an unknown kind every byte is unused.
-pub fn unused_byte(r: &[u8]) -> bool
+// The bytes of a shorter record, and zeros.
+fn padded(r: &[u8]) -> [u8; RECORD_BYTES]
+    requires { ⌜ length (now r) < recordBytes ⌝ }
+    ensures { λ whole. ⌜ (length whole ≡ recordBytes) × ((o : ℕ) → byteAt whole o ≡ byteAt (now (r .entry)) o) ⌝ }
+{
+    let mut whole = [0u8; RECORD_BYTES];
+    let mut i = 0;
+    while i < r.len() {
+        whole[i] = r[i];
+        i += 1;
+    }
+    whole
+}
+
+fn whole_unused_byte(r: &[u8]) -> bool
+    requires { ⌜ recordBytes ≤ length (now r) ⌝ }
     ensures { λ b. ⌜ b ≡ unusedByte (now (r .entry)) ⌝ }
 {
-    let k = kind(r);
+    let k = byte_in(r, layout::KIND);
     if k == 1 {
         return unused::beside_contract(r);
     }
@@ -39,28 +59,84 @@ pub fn unused_byte(r: &[u8]) -> bool
     unused::beside_none(r)
 }
 
+// 5: an unused byte is not zero. Of an unknown kind every byte is unused.
+pub fn unused_byte(r: &[u8]) -> bool
+    ensures { λ b. ⌜ b ≡ unusedByte (now (r .entry)) ⌝ }
+{
+    if RECORD_BYTES <= r.len() {
+        return whole_unused_byte(r);
+    }
+    whole_unused_byte(&padded(r))
+}
+
+fn whole_field_outside(r: &[u8]) -> bool
+    requires { ⌜ recordBytes ≤ length (now r) ⌝ }
+    ensures { λ b. ⌜ b ≡ fieldOutside (now (r .entry)) ⌝ }
+{
+    let k = byte_in(r, layout::KIND);
+    if k == 1 {
+        return ranges::contract_outside(r);
+    }
+    if k == 2 {
+        return ranges::prompt_outside(r);
+    }
+    if k == 3 {
+        return ranges::row_outside(r);
+    }
+    if k == 4 {
+        return ranges::spread_outside(r);
+    }
+    if k == 5 {
+        return ranges::entry_outside(r);
+    }
+    if k == 6 {
+        return ranges::rate_outside(r);
+    }
+    false
+}
+
 // 6: a field outside its range.
 pub fn field_outside(r: &[u8]) -> bool
     ensures { λ b. ⌜ b ≡ fieldOutside (now (r .entry)) ⌝ }
 {
-    let k = kind(r);
-    if k == 1 {
-        return ranges::in_contract(r);
+    if RECORD_BYTES <= r.len() {
+        return whole_field_outside(r);
     }
-    if k == 2 {
-        return ranges::in_prompt(r);
+    whole_field_outside(&padded(r))
+}
+
+// Whether a whole record is of a kind and a contract.
+fn is_of(r: &[u8], kind: usize, c: usize) -> bool
+    requires { ⌜ recordBytes ≤ length (now r) ⌝ }
+    ensures { λ b. ⌜ b ≡ ofKindAndContract kind c (now (r .entry)) ⌝ }
+{
+    (byte_in(r, layout::KIND) == kind) & (byte_in(r, layout::CONTRACT) == c)
+}
+
+// A prompt of contract `c`, whole and with neither 5 nor 6. Here and below there is no way out before the end, so that much is tested at once.
+pub fn sound_prompt(r: &[u8], c: usize) -> bool
+    ensures { λ b. ⌜ b ≡ sound 2 c (now (r .entry)) ⌝ }
+{
+    if r.len() < RECORD_BYTES {
+        return false;
     }
-    if k == 3 {
-        return ranges::in_row(r);
+    is_of(r, 2, c) & !(unused::beside_prompt(r) | ranges::prompt_outside(r))
+}
+
+pub fn sound_row(r: &[u8], c: usize) -> bool
+    ensures { λ b. ⌜ b ≡ sound 3 c (now (r .entry)) ⌝ }
+{
+    if r.len() < RECORD_BYTES {
+        return false;
     }
-    if k == 4 {
-        return ranges::in_spread(r);
+    is_of(r, 3, c) & !(unused::beside_row(r) | ranges::row_outside(r))
+}
+
+pub fn sound_spread(r: &[u8], c: usize) -> bool
+    ensures { λ b. ⌜ b ≡ sound 4 c (now (r .entry)) ⌝ }
+{
+    if r.len() < RECORD_BYTES {
+        return false;
     }
-    if k == 5 {
-        return ranges::in_entry(r);
-    }
-    if k == 6 {
-        return ranges::in_rate(r);
-    }
-    false
+    is_of(r, 4, c) & !(unused::beside_spread(r) | ranges::spread_outside(r))
 }

@@ -1,21 +1,21 @@
-// The bytes that no field of a kind covers.
+// The bytes of a whole record that no field of its kind covers.
 ghost use mathlib.Core.Path.{_≡_};
 ghost use mathlib.Core.List.{[]};
-ghost use Prim.Native.Nat.{_-_, _≤_};
+ghost use Prim.Native.Nat.{_-_, _≤_, _<_};
 ghost use lib.ListN.{length};
 ghost use Rattle.exact.specs.Lists.{any};
 ghost use Rattle.record.specs.Bytes.{countFrom};
 ghost use Rattle.record.specs.Layout.{recordBytes, contractFields, promptFields, rowFields, spreadFields, entryFields, rateFields};
 ghost use Rattle.record.specs.Ranges.{notZero, unusedBeside};
 use crate::bytes::RECORD_BYTES;
-use crate::bytes::byte_at;
-use crate::fields::leg_count;
+use crate::bytes::byte_in;
 use crate::layout;
 
 fn is_set(r: &[u8], o: usize) -> bool
+    requires { ⌜ o < length (now r) ⌝ }
     ensures { λ b. ⌜ b ≡ notZero (now (r .entry)) o ⌝ }
 {
-    byte_at(r, o) != 0
+    byte_in(r, o) != 0
 }
 
 // Whether any byte from `o` up to `end` is set. The loop has no way out, so that many bytes are tested at once.
@@ -32,60 +32,57 @@ fn set_between(r: &[u8], o: usize, end: usize) -> bool
     set
 }
 
-// Whether any byte from `o` to the record's end is set.
-fn set_from(r: &[u8], o: usize) -> bool
-    ensures { λ b. ⌜ b ≡ any (notZero (now (r .entry))) (countFrom o (recordBytes - o)) ⌝ }
-{
-    let n = r.len();
-    if RECORD_BYTES <= n {
-        set_between(r, o, RECORD_BYTES)
-    } else {
-        set_between(r, o, n)
-    }
-}
-
 pub(crate) fn beside_contract(r: &[u8]) -> bool
+    requires { ⌜ recordBytes ≤ length (now r) ⌝ }
     ensures { λ b. ⌜ b ≡ unusedBeside contractFields (now (r .entry)) ⌝ }
 {
-    is_set(r, layout::EARLY_GAP) | (is_set(r, layout::GAP) | set_from(r, layout::CONTRACT_END))
+    is_set(r, layout::EARLY_GAP)
+        | (is_set(r, layout::GAP) | set_between(r, layout::CONTRACT_END, RECORD_BYTES))
 }
 
 pub(crate) fn beside_prompt(r: &[u8]) -> bool
+    requires { ⌜ recordBytes ≤ length (now r) ⌝ }
     ensures { λ b. ⌜ b ≡ unusedBeside promptFields (now (r .entry)) ⌝ }
 {
-    is_set(r, layout::GAP) | set_from(r, layout::PROMPT_END)
+    is_set(r, layout::GAP) | set_between(r, layout::PROMPT_END, RECORD_BYTES)
 }
 
 pub(crate) fn beside_row(r: &[u8]) -> bool
+    requires { ⌜ recordBytes ≤ length (now r) ⌝ }
     ensures { λ b. ⌜ b ≡ unusedBeside (rowFields (now (r .entry))) (now (r .entry)) ⌝ }
 {
-    set_from(r, layout::ROW_END)
+    set_between(r, layout::ROW_END, RECORD_BYTES)
 }
 
 pub(crate) fn beside_spread(r: &[u8]) -> bool
+    requires { ⌜ recordBytes ≤ length (now r) ⌝ }
     ensures { λ b. ⌜ b ≡ unusedBeside (spreadFields (now (r .entry))) (now (r .entry)) ⌝ }
 {
-    if leg_count(r) == 2 {
-        is_set(r, layout::GAP) | set_from(r, layout::TWO_LEGS_END)
+    if byte_in(r, layout::LEG_COUNT) == 2 {
+        is_set(r, layout::GAP) | set_between(r, layout::TWO_LEGS_END, RECORD_BYTES)
     } else {
-        is_set(r, layout::GAP) | set_from(r, layout::THREE_LEGS_END)
+        is_set(r, layout::GAP) | set_between(r, layout::THREE_LEGS_END, RECORD_BYTES)
     }
 }
 
 pub(crate) fn beside_entry(r: &[u8]) -> bool
+    requires { ⌜ recordBytes ≤ length (now r) ⌝ }
     ensures { λ b. ⌜ b ≡ unusedBeside (entryFields (now (r .entry))) (now (r .entry)) ⌝ }
 {
-    set_from(r, layout::ENTRY_END)
+    set_between(r, layout::ENTRY_END, RECORD_BYTES)
 }
 
 pub(crate) fn beside_rate(r: &[u8]) -> bool
+    requires { ⌜ recordBytes ≤ length (now r) ⌝ }
     ensures { λ b. ⌜ b ≡ unusedBeside rateFields (now (r .entry)) ⌝ }
 {
-    is_set(r, layout::EARLY_GAP) | (is_set(r, layout::GAP) | set_from(r, layout::RATE_END))
+    is_set(r, layout::EARLY_GAP)
+        | (is_set(r, layout::GAP) | set_between(r, layout::RATE_END, RECORD_BYTES))
 }
 
 pub(crate) fn beside_none(r: &[u8]) -> bool
+    requires { ⌜ recordBytes ≤ length (now r) ⌝ }
     ensures { λ b. ⌜ b ≡ unusedBeside [] (now (r .entry)) ⌝ }
 {
-    set_from(r, layout::KIND + 1)
+    set_between(r, layout::KIND + 1, RECORD_BYTES)
 }

@@ -31,14 +31,14 @@ told r k e t = t ∙ ap (beyond hundredThousands) (e ∙ ap (u32At r) (omega ari
 loop-holds : tie.Need-loop-holds Inv-loop μ-loop
 loop-holds c = refl
 
-mul-u32-at : tie.Need-mul-u32-at Inv-loop μ-loop
-mul-u32-at c = omega arith
+mul-u32-in : tie.Need-mul-u32-in Inv-loop μ-loop
+mul-u32-in c = omega arith
 
-add-u32-at : tie.Need-add-u32-at Inv-loop μ-loop
-add-u32-at c = omega arith
+add-u32-in : tie.Need-add-u32-in Inv-loop μ-loop
+add-u32-in c = omega arith
 
-u32-at-requires : tie.Need-u32-at-requires Inv-loop μ-loop
-u32-at-requires c κs = tt
+u32-in-requires : tie.Need-u32-in-requires Inv-loop μ-loop
+u32-in-requires c κs = omega arith
 
 too-many-requires : tie.Need-too-many-requires Inv-loop μ-loop
 too-many-requires c κs = search needs
@@ -55,7 +55,7 @@ loop-again c =
     let r = c .before .before .before .before .before .args .r .now in
     l .inv ∙ any-next (wrong r) 17 (l .k + 1) (l .outside) (omega arith)
     ∙ ap (λ b. (l .outside || b) || any (wrong r) (countFrom (l .k + 1 + 1) (17 - (l .k + 1 + 1))))
-    (sym (told r (l .k) (c .before .u32-at .ensures .0) (c .too-many .ensures)))
+    (sym (told r (l .k) (c .before .u32-in .ensures .0) (c .too-many .ensures)))
 
 returns : tie.Need-returns Inv-loop μ-loop
 returns c =
@@ -69,9 +69,9 @@ losses-beyond-spec =
     Inv-loop
     μ-loop
     loop-holds
-    mul-u32-at
-    add-u32-at
-    u32-at-requires
+    mul-u32-in
+    add-u32-in
+    u32-in-requires
     too-many-requires
     add-k
     loop-less

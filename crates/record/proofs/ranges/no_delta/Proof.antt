@@ -10,17 +10,17 @@ use Rattle.record.specs.Ranges.{beyond}
 use Rattle.record.proofs.ranges.no_delta.Statement.{statement}
 use Rattle.record.proofs.ranges.no_delta.Tie as tie
 
-row-type-requires : tie.Need-row-type-requires
-row-type-requires c κs = tt
+byte-in-requires : tie.Need-byte-in-requires
+byte-in-requires c κs = search needs
 
-u32-at-requires : tie.Need-u32-at-requires
-u32-at-requires c κs = tt
+u32-in-requires : tie.Need-u32-in-requires
+u32-in-requires c κs = search needs
 
 signed-beyond-requires : tie.Need-signed-beyond-requires
 signed-beyond-requires c κs = search needs
 
-u32-at-requires-2 : tie.Need-u32-at-requires-2
-u32-at-requires-2 c κs = tt
+u32-in-requires-2 : tie.Need-u32-in-requires-2
+u32-in-requires-2 c κs = search needs
 
 signed-beyond-requires-2 : tie.Need-signed-beyond-requires-2
 signed-beyond-requires-2 c κs = search needs
@@ -28,24 +28,24 @@ signed-beyond-requires-2 c κs = search needs
 returns : tie.Need-returns
 returns c =
     let picked : put (c .before .before .before .before .before .args .r .now) ≡ true = eq-eqb _ _
-    (sym (c .before .before .before .row-type .ensures .0) ∙ c .before .before .if1 .taken) in
+    (sym (c .before .before .before .byte-in .ensures .0) ∙ c .before .before .if1 .taken) in
     rw picked (c .signed-beyond .ensures ∙ ap (beyond (signed (negℤ (pos 10000)) (pos 0)))
-    (c .before .u32-at .ensures .0))
+    (c .before .u32-in .ensures .0))
 
 returns-2 : tie.Need-returns-2
 returns-2 c =
     let picked : put (c .before .before .before .before .before .args .r .now) ≡ false = ne-eqb _ _
-    (λ e. c .before .before .if1 .left (c .before .before .before .row-type .ensures .0 ∙ e)) in
-    rw picked (c .signed-beyond2 .ensures ∙ ap (beyond (signed (pos 0) (pos 10000))) (c .before .u32-at2 .ensures .0))
+    (λ e. c .before .before .if1 .left (c .before .before .before .byte-in .ensures .0 ∙ e)) in
+    rw picked (c .signed-beyond2 .ensures ∙ ap (beyond (signed (pos 0) (pos 10000))) (c .before .u32-in2 .ensures .0))
 
 pub no-delta-spec : {M : Type 1} → statement M
 no-delta-spec =
     tie.close
     (tie.spec
-    row-type-requires
-    u32-at-requires
+    byte-in-requires
+    u32-in-requires
     signed-beyond-requires
-    u32-at-requires-2
+    u32-in-requires-2
     signed-beyond-requires-2
     returns
     returns-2)

@@ -1,104 +1,37 @@
 -- `record::refusals::unused_byte` meets its contract. Assumes nothing.
-use mathlib.Core.Path.{sym, ap, _∙_}
-use mathlib.Core.List.{List}
-use Rattle.record.specs.Bytes.{Field}
-use Rattle.record.specs.Ranges.{unusedBeside}
-use Rattle.record.proofs.Dispatch.{of-contract, of-prompt, of-row, of-spread, of-entry, of-rate, of-none}
+use borrow.Author.Needs.{needs}
+use mathlib.Core.Path.{_∙_}
+use Rattle.record.proofs.Padding.{same-unused}
 use Rattle.record.proofs.refusals.unused_byte.Statement.{statement}
 use Rattle.record.proofs.refusals.unused_byte.Tie as tie
 
-kind-requires : tie.Need-kind-requires
-kind-requires c κs = tt
-
-beside-contract-requires : tie.Need-beside-contract-requires
-beside-contract-requires c κs = tt
+whole-unused-byte-requires : tie.Need-whole-unused-byte-requires
+whole-unused-byte-requires c κs = search needs
 
 returns : tie.Need-returns
-returns c =
-    let r = c .before .before .before .before .args .r .now in
-    c .beside-contract .ensures
-    ∙ ap (λ (fs : List Field). unusedBeside fs r) (sym
-    (of-contract r (sym (c .before .before .kind .ensures .0) ∙ c .before .if1 .taken)))
+returns c = search needs
 
-beside-prompt-requires : tie.Need-beside-prompt-requires
-beside-prompt-requires c κs = tt
+padded-requires : tie.Need-padded-requires
+padded-requires c κs = search needs
+
+slice-aggregate-whole-unused-byte : tie.Need-slice-aggregate-whole-unused-byte
+slice-aggregate-whole-unused-byte c = search needs
+
+whole-unused-byte-requires-2 : tie.Need-whole-unused-byte-requires-2
+whole-unused-byte-requires-2 c κs = search needs
 
 returns-2 : tie.Need-returns-2
 returns-2 c =
-    let r = c .before .before .before .before .before .args .r .now in
-    c .beside-prompt .ensures
-    ∙ ap (λ (fs : List Field). unusedBeside fs r) (sym
-    (of-prompt r (sym (c .before .before .before .kind .ensures .0) ∙ c .before .if2 .taken)))
-
-beside-row-requires : tie.Need-beside-row-requires
-beside-row-requires c κs = tt
-
-returns-3 : tie.Need-returns-3
-returns-3 c =
-    let r = c .before .before .before .before .before .before .args .r .now in
-    c .beside-row .ensures
-    ∙ ap (λ (fs : List Field). unusedBeside fs r) (sym
-    (of-row r (sym (c .before .before .before .before .kind .ensures .0) ∙ c .before .if3 .taken)))
-
-beside-spread-requires : tie.Need-beside-spread-requires
-beside-spread-requires c κs = tt
-
-returns-4 : tie.Need-returns-4
-returns-4 c =
-    let r = c .before .before .before .before .before .before .before .args .r .now in
-    c .beside-spread .ensures
-    ∙ ap (λ (fs : List Field). unusedBeside fs r) (sym
-    (of-spread r (sym (c .before .before .before .before .before .kind .ensures .0) ∙ c .before .if4 .taken)))
-
-beside-entry-requires : tie.Need-beside-entry-requires
-beside-entry-requires c κs = tt
-
-returns-5 : tie.Need-returns-5
-returns-5 c =
-    let r = c .before .before .before .before .before .before .before .before .args .r .now in
-    c .beside-entry .ensures
-    ∙ ap (λ (fs : List Field). unusedBeside fs r) (sym
-    (of-entry r (sym (c .before .before .before .before .before .before .kind .ensures .0)
-    ∙ c .before .if5 .taken)))
-
-beside-rate-requires : tie.Need-beside-rate-requires
-beside-rate-requires c κs = tt
-
-returns-6 : tie.Need-returns-6
-returns-6 c =
-    let r = c .before .before .before .before .before .before .before .before .before .args .r .now in
-    c .beside-rate .ensures
-    ∙ ap (λ (fs : List Field). unusedBeside fs r) (sym
-    (of-rate r (sym (c .before .before .before .before .before .before .before .kind .ensures .0) ∙ c .before .if6 .taken)))
-
-beside-none-requires : tie.Need-beside-none-requires
-beside-none-requires c κs = tt
-
-returns-7 : tie.Need-returns-7
-returns-7 c =
-    let r = c .before .before .before .before .before .before .before .before .before .args .r .now in
-    let kind = c .before .before .before .before .before .before .before .kind .ensures .0 in
-    c .beside-none .ensures ∙ ap (λ (fs : List Field). unusedBeside fs r)
-    (sym (of-none r (λ e. c .before .before .before .before .before .before .if1 .left (kind ∙ e)) (λ e. c .before .before .before .before .before .if2 .left (kind ∙ e))
-    (λ e. c .before .before .before .before .if3 .left (kind ∙ e)) (λ e. c .before .before .before .if4 .left (kind ∙ e))
-    (λ e. c .before .before .if5 .left (kind ∙ e)) (λ e. c .before .if6 .left (kind ∙ e))))
+    let padded = c .before .before .padded in
+    c .whole-unused-byte2 .ensures ∙ same-unused (padded .result) (c .before .before .before .before .before .args .r .now) (padded .ensures .1)
 
 pub unused-byte-spec : {M : Type 1} → statement M
 unused-byte-spec =
     tie.close
     (tie.spec
-    kind-requires
-    beside-contract-requires
+    whole-unused-byte-requires
     returns
-    beside-prompt-requires
-    returns-2
-    beside-row-requires
-    returns-3
-    beside-spread-requires
-    returns-4
-    beside-entry-requires
-    returns-5
-    beside-rate-requires
-    returns-6
-    beside-none-requires
-    returns-7)
+    padded-requires
+    slice-aggregate-whole-unused-byte
+    whole-unused-byte-requires-2
+    returns-2)

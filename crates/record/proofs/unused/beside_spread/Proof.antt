@@ -1,4 +1,5 @@
 -- `record::unused::beside_spread` meets its contract. Assumes nothing.
+use borrow.Author.Needs.{needs}
 use mathlib.Core.Path.{_≡_, sym, _∙_}
 use borrow.Author.Tests.{eq-eqb, ne-eqb}
 use mathlib.Core.Bool.{true, false}
@@ -7,41 +8,41 @@ use Rattle.record.proofs.Tests.{both}
 use Rattle.record.proofs.unused.beside_spread.Statement.{statement}
 use Rattle.record.proofs.unused.beside_spread.Tie as tie
 
-leg-count-requires : tie.Need-leg-count-requires
-leg-count-requires c κs = tt
+byte-in-requires : tie.Need-byte-in-requires
+byte-in-requires c κs = search needs
 
 is-set-requires : tie.Need-is-set-requires
-is-set-requires c κs = tt
+is-set-requires c κs = search needs
 
-set-from-requires : tie.Need-set-from-requires
-set-from-requires c κs = tt
+set-between-requires : tie.Need-set-between-requires
+set-between-requires c κs = search needs
 
 is-set-requires-2 : tie.Need-is-set-requires-2
-is-set-requires-2 c κs = tt
+is-set-requires-2 c κs = search needs
 
-set-from-requires-2 : tie.Need-set-from-requires-2
-set-from-requires-2 c κs = tt
+set-between-requires-2 : tie.Need-set-between-requires-2
+set-between-requires-2 c κs = search needs
 
 returns : tie.Need-returns
 returns c =
     let two : twoLegs (c .before .before .before .before .before .args .r .now) ≡ true =
-    eq-eqb _ _ (sym (c .before .before .before .leg-count .ensures .0) ∙ c .before .before .if1 .taken) in
-    rw two (both (c .before .is-set .ensures) (c .set-from .ensures))
+    eq-eqb _ _ (sym (c .before .before .before .byte-in .ensures .0) ∙ c .before .before .if1 .taken) in
+    rw two (both (c .before .is-set .ensures) (c .set-between .ensures))
 
 returns-2 : tie.Need-returns-2
 returns-2 c =
     let two : twoLegs (c .before .before .before .before .before .args .r .now) ≡ false =
-    ne-eqb _ _ (λ e. c .before .before .if1 .left (c .before .before .before .leg-count .ensures .0 ∙ e)) in
-    rw two (both (c .before .is-set2 .ensures) (c .set-from2 .ensures))
+    ne-eqb _ _ (λ e. c .before .before .if1 .left (c .before .before .before .byte-in .ensures .0 ∙ e)) in
+    rw two (both (c .before .is-set2 .ensures) (c .set-between2 .ensures))
 
 pub beside-spread-spec : {M : Type 1} → statement M
 beside-spread-spec =
     tie.close
     (tie.spec
-    leg-count-requires
+    byte-in-requires
     is-set-requires
-    set-from-requires
+    set-between-requires
     is-set-requires-2
-    set-from-requires-2
+    set-between-requires-2
     returns
     returns-2)

@@ -1,0 +1,55 @@
+-- A whole record of a kind and a contract, by what its own kind covers and allows.
+-- Assumes nothing.
+use Prim.Native.Nat.{ℕ, _≤_, _<_}
+use mathlib.Core.Path.{_≡_, refl, sym, ap, _∙_}
+use mathlib.Core.Bool.{Bool, true, false, not, _&&_, _||_}
+use mathlib.Core.List.{List}
+use lib.ListN.{length}
+use lib.Dec.{eqb, leb}
+use borrow.Author.Tests.{eqb-true, leb-true}
+use Rattle.record.specs.Bytes.{Record, Field}
+use Rattle.record.specs.Layout.{kind, contract, fieldsOf}
+use Rattle.record.specs.Ranges.{unusedBeside, outsideAmong, unusedByte, fieldOutside, ofKindAndContract, sound}
+use Rattle.record.proofs.Within.{both-true, neither}
+
+module _ (n c : ℕ) (r : Record) where
+  pub sound-short : leb 96 (length r) ≡ false → false ≡ sound n c r
+  sound-short h = rw h
+
+  pub sound-whole :
+      (fs : List Field) → (kind r ≡ n → fieldsOf r ≡ fs) → leb 96 (length r) ≡ true → {b u o : Bool}
+      → b ≡ ofKindAndContract n c r → u ≡ unusedBeside fs r → o ≡ outsideAmong fs r → b && not (u || o) ≡ sound n c r
+  sound-whole fs f h {b} {u} {o} eb eu eo =
+      λ i. go (ofKindAndContract n c r) refl i
+    where
+      go : (t : Bool) → ofKindAndContract n c r ≡ t → b && not (u || o) ≡ sound n c r
+      go true e =
+          let k = f (eqb-true (kind r) n (both-true (eqb (kind r) n) (eqb (contract r) c) e .0)) in
+          let v : unusedByte r ≡ u = ap (λ (gs : List Field). unusedBeside gs r) k ∙ sym eu in
+          let w : fieldOutside r ≡ o = ap (λ (gs : List Field). outsideAmong gs r) k ∙ sym eo in
+          rw (h, eb, e, v, w)
+      go false e = rw (h, eb, e)
+
+  -- what is known of a sound record
+  pub record Sound : Type 0 where
+    pub kinds : kind r ≡ n
+    pub contracts : contract r ≡ c
+    pub unused : unusedByte r ≡ false
+    pub within : fieldOutside r ≡ false
+
+  off : (b : Bool) → not b ≡ true → b ≡ false
+  off true h = sym h
+  off false h = refl
+
+  pub sound-known : sound n c r ≡ true → Sound
+  sound-known h =
+      let a = both-true (leb 96 (length r)) _ h .1 in
+      let b = both-true (ofKindAndContract n c r) _ a in
+      let k = both-true (eqb (kind r) n) _ (b .0) in
+      let z = neither (unusedByte r) (fieldOutside r) (off (unusedByte r || fieldOutside r) (b .1)) in
+      record {
+        kinds = eqb-true (kind r) n (k .0);
+        contracts = eqb-true (contract r) c (k .1);
+        unused = z .0;
+        within = z .1;
+      }

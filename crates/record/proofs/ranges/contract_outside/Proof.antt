@@ -1,0 +1,45 @@
+-- `record::ranges::contract_outside` meets its contract. Assumes nothing.
+use borrow.Author.Needs.{needs}
+use mathlib.Core.Path.{ap, _∙_}
+use Rattle.record.specs.Ranges.{beyond}
+use Rattle.record.proofs.Tests.{both, last}
+use Rattle.record.specs.Bytes.{plain}
+use Rattle.record.specs.Layout.{contractRange, rateRange}
+use Rattle.record.proofs.ranges.contract_outside.Statement.{statement}
+use Rattle.record.proofs.ranges.contract_outside.Tie as tie
+
+byte-in-requires : tie.Need-byte-in-requires
+byte-in-requires c κs = search needs
+
+no-contract-requires : tie.Need-no-contract-requires
+no-contract-requires c κs = search needs
+
+u32-in-requires : tie.Need-u32-in-requires
+u32-in-requires c κs = search needs
+
+no-rate-requires : tie.Need-no-rate-requires
+no-rate-requires c κs = search needs
+
+u16-in-requires : tie.Need-u16-in-requires
+u16-in-requires c κs = search needs
+
+beyond-requires : tie.Need-beyond-requires
+beyond-requires c κs = search needs
+
+returns : tie.Need-returns
+returns c =
+    both (c .before .before .before .before .no-contract .ensures ∙ ap (beyond contractRange) (c .before .before .before .before .before .byte-in .ensures .0))
+    (both (c .before .before .no-rate .ensures ∙ ap (beyond rateRange) (c .before .before .before .u32-in .ensures .0))
+    (last (c .beyond .ensures ∙ ap (beyond (plain 0 1000)) (c .before .u16-in .ensures .0))))
+
+pub contract-outside-spec : {M : Type 1} → statement M
+contract-outside-spec =
+    tie.close
+    (tie.spec
+    byte-in-requires
+    no-contract-requires
+    u32-in-requires
+    no-rate-requires
+    u16-in-requires
+    beyond-requires
+    returns)

@@ -1,0 +1,91 @@
+-- `record::ranges::row_outside` meets its contract. Assumes nothing.
+use borrow.Author.Needs.{needs}
+use mathlib.Core.Path.{ap, _∙_}
+use Rattle.record.specs.Bytes.{plain}
+use Rattle.record.specs.Layout.{contractRange, dayRange, hundredThousands, valueRange}
+use Rattle.record.specs.Ranges.{beyond}
+use Rattle.record.proofs.Tests.{both}
+use Rattle.record.proofs.ranges.row_outside.Statement.{statement}
+use Rattle.record.proofs.ranges.row_outside.Tie as tie
+
+byte-in-requires : tie.Need-byte-in-requires
+byte-in-requires c κs = search needs
+
+no-contract-requires : tie.Need-no-contract-requires
+no-contract-requires c κs = search needs
+
+byte-in-requires-2 : tie.Need-byte-in-requires-2
+byte-in-requires-2 c κs = search needs
+
+beyond-requires : tie.Need-beyond-requires
+beyond-requires c κs = search needs
+
+byte-in-requires-3 : tie.Need-byte-in-requires-3
+byte-in-requires-3 c κs = search needs
+
+beyond-requires-2 : tie.Need-beyond-requires-2
+beyond-requires-2 c κs = search needs
+
+u32-in-requires : tie.Need-u32-in-requires
+u32-in-requires c κs = search needs
+
+no-day-requires : tie.Need-no-day-requires
+no-day-requires c κs = search needs
+
+no-strike-requires : tie.Need-no-strike-requires
+no-strike-requires c κs = search needs
+
+u32-in-requires-2 : tie.Need-u32-in-requires-2
+u32-in-requires-2 c κs = search needs
+
+too-many-requires : tie.Need-too-many-requires
+too-many-requires c κs = search needs
+
+no-delta-requires : tie.Need-no-delta-requires
+no-delta-requires c κs = search needs
+
+u32-in-requires-3 : tie.Need-u32-in-requires-3
+u32-in-requires-3 c κs = search needs
+
+beyond-requires-3 : tie.Need-beyond-requires-3
+beyond-requires-3 c κs = search needs
+
+losses-beyond-requires : tie.Need-losses-beyond-requires
+losses-beyond-requires c κs = search needs
+
+returns : tie.Need-returns
+returns c =
+    let lots = c .before .before .before .before in
+    let day = c .before .before .before .before .before .before .before in
+    let currency = c .before .before .before .before .before .before .before .before .before in
+    let type = currency .before .before in
+    let contract = type .before .before in
+    both (contract .no-contract .ensures ∙ ap (beyond contractRange) (contract .before .byte-in .ensures .0))
+    (both (type .beyond .ensures ∙ ap (beyond (plain 0 2)) (type .before .byte-in2 .ensures .0))
+    (both (currency .beyond2 .ensures ∙ ap (beyond (plain 0 7)) (currency .before .byte-in3 .ensures .0))
+    (both (day .no-day .ensures ∙ ap (beyond dayRange) (day .before .u32-in .ensures .0))
+    (both (c .before .before .before .before .before .before .no-strike .ensures)
+    (both (lots .too-many .ensures ∙ ap (beyond hundredThousands) (lots .before .u32-in2 .ensures .0))
+    (both (c .before .before .before .no-delta .ensures)
+    (both (c .before .beyond3 .ensures ∙ ap (beyond valueRange) (c .before .before .u32-in3 .ensures .0)) (c .losses-beyond .ensures))))))))
+
+pub row-outside-spec : {M : Type 1} → statement M
+row-outside-spec =
+    tie.close
+    (tie.spec
+    byte-in-requires
+    no-contract-requires
+    byte-in-requires-2
+    beyond-requires
+    byte-in-requires-3
+    beyond-requires-2
+    u32-in-requires
+    no-day-requires
+    no-strike-requires
+    u32-in-requires-2
+    too-many-requires
+    no-delta-requires
+    u32-in-requires-3
+    beyond-requires-3
+    losses-beyond-requires
+    returns)

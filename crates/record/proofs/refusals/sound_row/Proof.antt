@@ -1,0 +1,34 @@
+-- `record::refusals::sound_row` meets its contract. Assumes nothing.
+use borrow.Author.Needs.{needs}
+use lib.ListN.{length}
+use borrow.Author.Tests.{lt-leb, le-leb}
+use Rattle.record.specs.Layout.{rowFields}
+use Rattle.record.proofs.Dispatch.{of-row}
+use Rattle.record.proofs.Sound.{sound-short, sound-whole}
+use Rattle.record.proofs.refusals.sound_row.Statement.{statement}
+use Rattle.record.proofs.refusals.sound_row.Tie as tie
+
+returns : tie.Need-returns
+returns c =
+    let r = c .before .before .args .r .now in
+    sound-short 3 (c .before .before .args .c) r (lt-leb 96 (length r) (c .if1 .taken))
+
+is-of-requires : tie.Need-is-of-requires
+is-of-requires c κs = search needs
+
+beside-row-requires : tie.Need-beside-row-requires
+beside-row-requires c κs = search needs
+
+row-outside-requires : tie.Need-row-outside-requires
+row-outside-requires c κs = search needs
+
+returns-2 : tie.Need-returns-2
+returns-2 c =
+    let start = c .before .before .before .before .before in
+    let r = start .args .r .now in
+    sound-whole 3 (start .args .c) r (rowFields r) (of-row r) (le-leb 96 (length r) (c .before .before .before .if1 .left))
+    (c .before .before .is-of .ensures) (c .before .beside-row .ensures) (c .row-outside .ensures)
+
+pub sound-row-spec : {M : Type 1} → statement M
+sound-row-spec =
+    tie.close (tie.spec returns is-of-requires beside-row-requires row-outside-requires returns-2)

@@ -1,0 +1,35 @@
+-- `record::refusals::sound_spread` meets its contract. Assumes nothing.
+use borrow.Author.Needs.{needs}
+use lib.ListN.{length}
+use borrow.Author.Tests.{lt-leb, le-leb}
+use Rattle.record.specs.Layout.{spreadFields}
+use Rattle.record.proofs.Dispatch.{of-spread}
+use Rattle.record.proofs.Sound.{sound-short, sound-whole}
+use Rattle.record.proofs.refusals.sound_spread.Statement.{statement}
+use Rattle.record.proofs.refusals.sound_spread.Tie as tie
+
+returns : tie.Need-returns
+returns c =
+    let r = c .before .before .args .r .now in
+    sound-short 4 (c .before .before .args .c) r (lt-leb 96 (length r) (c .if1 .taken))
+
+is-of-requires : tie.Need-is-of-requires
+is-of-requires c κs = search needs
+
+beside-spread-requires : tie.Need-beside-spread-requires
+beside-spread-requires c κs = search needs
+
+spread-outside-requires : tie.Need-spread-outside-requires
+spread-outside-requires c κs = search needs
+
+returns-2 : tie.Need-returns-2
+returns-2 c =
+    let start = c .before .before .before .before .before in
+    let r = start .args .r .now in
+    sound-whole 4 (start .args .c) r (spreadFields r) (of-spread r) (le-leb 96 (length r) (c .before .before .before .if1 .left))
+    (c .before .before .is-of .ensures) (c .before .beside-spread .ensures) (c .spread-outside .ensures)
+
+pub sound-spread-spec : {M : Type 1} → statement M
+sound-spread-spec =
+    tie.close
+    (tie.spec returns is-of-requires beside-spread-requires spread-outside-requires returns-2)

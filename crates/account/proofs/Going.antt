@@ -1,11 +1,11 @@
 -- The check on its way: no fault before record k, and the notes are those of the records before it.
 -- Assumes nothing.
-use Prim.Native.Nat.{ℕ, _+_, _≤_, _<_}
+use Prim.Native.Nat.{ℕ, zero, suc, _+_, _-_, _≤_, _<_}
 use mathlib.Core.Path.{_≡_, refl, sym, ap, subst, subst⁻¹, _∙_}
 use mathlib.Core.Bool.{Bool, true, false, cond}
 use mathlib.Core.List.{List, [], _∷_, _++_}
-use lib.ListN.{length, getD, replicate, length-replicate, getD-replicate}
-use lib.Seq.{ext-getD}
+use lib.ListN.{length, getD, set, length-set, replicate, length-replicate, getD-replicate}
+use lib.Seq.{ext-getD, getD-set-same, set-getD, set-set}
 use native.Mathlib.Omega.{arith}
 use native.Mathlib.Numerals.{add-one}
 use borrow.Author.Count.{below-more}
@@ -17,6 +17,7 @@ use Rattle.account.specs.Answers.{numberOf, refusal}
 use Rattle.account.specs.Check.{faultOf, tooLong, cutRecord, recordsChecked}
 use Rattle.account.specs.Notes.{partOf, inPart, oneMore, startNoted, faultAt}
 use Rattle.account.specs.Parts.{ofKind, startOf}
+use Rattle.account.specs.Passing.{partAtRecord, countedTo, Passes, Notable, RunNoted}
 use Rattle.account.specs.Records.{cut, recordAt, recordCount, earlier}
 use Rattle.account.specs.Surveyed.{ofAccepted, Surveyed, Empty}
 use Rattle.account.specs.declared.answers.Answer.{Answer}
@@ -151,6 +152,76 @@ module _ {file first counts : List ℕ} {contracts k : ℕ} (g : Going file firs
         (hc ∙ ap (oneMore counts) hv)
         (subst⁻¹ (λ (n : ℕ). Going file (startNoted first counts v₀ k) (oneMore counts v₀) (contracts + n) (k + 1))
         (ho ∙ ap (λ (x : Record). oneIf (ofKind 1 x)) hr) going-next))
+
+-- ---- a run of records that pass one after another
+module _ {file first counts : List ℕ} {contracts k next : ℕ} (g : Going file first counts contracts (k + 1))
+    (some : 0 < getD counts (partAtRecord file k) 0) (p : Passes file first counts k next) where
+  abbrev v : ℕ
+  v = partAtRecord file k
+
+  abbrev counted : ℕ → List ℕ
+  counted = countedTo file counts k
+
+  run-start : counted (k + 1) ≡ counts
+  run-start =
+      let z : getD counts v 0 + (k + 1 - (k + 1)) ≡ getD counts v 0 = omega arith in
+      ap (set counts v) z ∙ set-getD counts v 0
+
+  run-step : (j : ℕ) → k < j → j < next → Going file first (counted j) contracts j → Going file first (counted (j + 1)) contracts (j + 1)
+  run-step j l h g′ =
+      let more : j < recordCount file = omega (arith, p .high) in
+      let at = p .each j l h in
+      let inside = part-in g′ more (at .fine) in
+      let same = at .alike in
+      let long = length-set counts v (getD counts v 0 + (j - (k + 1))) in
+      let here = getD-set-same counts v (getD counts v 0 + (j - (k + 1))) 0 (omega (arith, g′ .notes .sizes)) in
+      let sum : getD counts v 0 + (j + 1 - (k + 1)) ≡ getD (counted j) v 0 + 1 = omega arith in
+      let none : contracts + 0 ≡ contracts = omega arith in
+      subst (λ (n : ℕ). Going file first (counted (j + 1)) n (j + 1)) none
+      (going-on g′ more (at .fine) {first′ = first} {counts′ = counted (j + 1)} {r = recordAt file j} {v = v} {one = 0}
+      (sym (ap (λ (b : Bool). cond b (set first v j) first) (ne-eqb (getD (counted j) v 0) 0 (λ z. omega arith))))
+      (ap (set counts v) sum ∙ sym (set-set counts v (getD counts v 0 + (j - (k + 1))) (getD (counted j) v 0 + 1)))
+      (sym same) (ap oneIf (sym (at .other))) refl)
+
+  run-going : (n : ℕ) → k + 1 + n ≤ next → Going file first (counted (k + 1 + n)) contracts (k + 1 + n)
+  run-going zero h =
+      let z : k + 1 + 0 ≡ k + 1 = omega arith in
+      subst (λ (m : ℕ). Going file first (counted m) contracts m) (sym z)
+      (subst (λ (l : List ℕ). Going file first l contracts (k + 1)) (sym run-start) g)
+  run-going (suc n) h =
+      let e : k + 1 + n + 1 ≡ k + 1 + suc n = omega arith in
+      subst (λ (m : ℕ). Going file first (counted m) contracts m) e
+      (run-step (k + 1 + n) (omega arith) (omega arith) (run-going n (omega arith)))
+
+  pub going-run : Going file first (counted next) contracts next
+  going-run =
+      let l = p .low in
+      let e : k + 1 + (next - (k + 1)) ≡ next = omega arith in
+      subst (λ (m : ℕ). Going file first (counted m) contracts m) e (run-going (next - (k + 1)) (omega arith))
+
+-- ---- one turn: a record without a fault, and the run after it
+pub going-over :
+    {file first counts first′ counts′ r : List ℕ} {contracts k next one : ℕ} (g : Going file first counts contracts k)
+    → k < recordCount file → faultAt file first counts k ≡ 0 → RunNoted file first counts k next first′ counts′
+    → one ≡ oneIf (ofKind 1 r) → r ≡ recordAt file k → Going file first′ counts′ (contracts + one) next
+going-over {file} {first} {counts} {first′} {counts′} {r} {contracts} {k} {next} {one} g more none n ho hr =
+    let v = partAtRecord file k in
+    let g′ = going-on g more none {first′ = first′} {counts′ = oneMore counts v} {r = r} {v = v} {one = one} (n .started) refl refl ho hr in
+    let here = getD-set-same counts v (getD counts v 0 + 1) 0 (omega (arith, part-in g more none, g .notes .sizes)) in
+    subst⁻¹ (λ (l : List ℕ). Going file first′ l (contracts + one) next) (n .counted) (going-run g′ (omega arith) (n .passes))
+
+pub notable :
+    {file first counts : List ℕ} {contracts k : ℕ} (g : Going file first counts contracts k) → k < recordCount file
+    → faultAt file first counts k ≡ 0 → recordCount file ≤ 640 → Notable file first counts k
+notable g more none few =
+    record {
+      inside = more;
+      few = few;
+      firsts = g .notes .firsts;
+      sizes = g .notes .sizes;
+      known = part-in g more none;
+      room = count-small g more none;
+    }
 
 -- ---- the end
 module _ {file first counts : List ℕ} {contracts k : ℕ} (g : Going file first counts contracts k)

@@ -3,6 +3,7 @@ pub mod Records
 pub mod Parts
 pub mod Check
 pub mod Notes
+pub mod Passing
 pub mod Surveyed
 pub mod Accepted
 pub mod Products

@@ -1,12 +1,13 @@
 // The check of the records of an account file, 1 to 9, and what it hands out with its verdict: where the parts of an accepted file
 // stand.
 ghost use mathlib.Core.Path.{_≡_};
-ghost use Prim.Native.Nat.{_<_};
-ghost use lib.ListN.{length, getD};
+ghost use Prim.Native.Nat.{_+_, _≤_, _<_};
+ghost use lib.ListN.{length, getD, set};
 ghost use Rattle.exact.specs.Lists.{oneIf};
 ghost use Rattle.account.specs.Check.{mostRecords};
 ghost use Rattle.account.specs.Notes.{oneMore, startNoted};
 ghost use Rattle.account.specs.Parts.{ofKind};
+ghost use Rattle.account.specs.Passing.{Notable, RunNoted};
 ghost use Rattle.account.specs.Surveyed.{Surveyed, Empty};
 use crate::answers::Answer;
 use crate::answers::refusal;
@@ -61,8 +62,24 @@ fn note_one(counts: &mut [u16], v: usize)
     counts[v] = counts[v] + 1;
 }
 
-fn note_more(counts: &mut [u16], v: usize, n: usize) {
+fn note_more(counts: &mut [u16], v: usize, n: usize)
+    requires { ⌜ (v < length (now counts)) × ((getD (now counts) v 0 ≤ mostRecords) × (n ≤ mostRecords)) ⌝ }
+    ensures { λ _. ⌜ now (counts .exit) ≡ set (now (counts .entry)) v (getD (now (counts .entry)) v 0 + n) ⌝ }
+{
     counts[v] = counts[v] + n as u16;
+}
+
+// Record `k`, which has no fault, noted with the records after it that pass as it does: the record after these.
+fn note_run(file: &[u8], first: &mut [u16], counts: &mut [u16], k: usize) -> usize
+    requires { ⌜ Notable (now file) (now first) (now counts) k ⌝ }
+    ensures { λ next. ⌜ RunNoted (now (file .entry)) (now (first .entry)) (now (counts .entry)) k next (now (first .exit)) (now (counts .exit)) ⌝ }
+{
+    let v = part_of(whole_at(file, k));
+    note_first(first, counts, v, k);
+    note_one(counts, v);
+    let next = passes_to(file, first, counts, k);
+    note_more(counts, v, next - (k + 1));
+    next
 }
 
 fn one_if_contract(r: &[u8]) -> usize
@@ -91,13 +108,8 @@ pub fn take_survey(file: &[u8]) -> Survey
         if number != 0 {
             return refused(refusal(number, k));
         }
-        let r = whole_at(file, k);
-        let v = part_of(r);
-        note_first(&mut first, &counts, v, k);
-        note_one(&mut counts, v);
-        contracts += one_if_contract(r);
-        let next = passes_to(file, &first, &counts, k);
-        note_more(&mut counts, v, next - (k + 1));
+        contracts += one_if_contract(whole_at(file, k));
+        let next = note_run(file, &mut first, &mut counts, k);
         k = next;
     }
     Survey {

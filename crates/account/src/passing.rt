@@ -1,17 +1,13 @@
-// Runs of sound records: the prompts, rows or interprompt spreads of a contract that follow one that has passed. A record that stops a
-// run is asked about by itself.
+// Runs of sound records: the prompts, rows or interprompt spreads of a contract after one that has passed. A record that stops a run is
+// asked about by itself.
 ghost use mathlib.Core.Path.{_≡_};
-ghost use mathlib.Core.Bool.{Bool};
 ghost use mathlib.Core.List.{List};
-ghost use Prim.Native.Nat.{ℕ, _+_, _≤_, _<_};
-ghost use lib.ListN.{length, getD};
-ghost use lib.Dec.{eqb};
+ghost use Prim.Native.Nat.{ℕ, _+_, _≤_, _<_, _-_, min};
+ghost use lib.ListN.{length};
 ghost use Rattle.exact.specs.Lists.{any};
-ghost use Rattle.record.specs.Layout.{legsOf, legTier};
-ghost use Rattle.account.specs.Check.{mostPrompts};
-ghost use Rattle.account.specs.Notes.{partOf};
-ghost use Rattle.account.specs.Parts.{onTier};
-ghost use Rattle.account.specs.Passing.{DaysOf, TiersOf, Follows, Passes};
+ghost use Rattle.record.specs.Layout.{day, legsOf};
+ghost use Rattle.account.specs.Notes.{parts};
+ghost use Rattle.account.specs.Passing.{DaysOf, hasDay, tierBytes, TiersOf, legUnlistedIn, promptPasses, rowPasses, spreadPasses, RunTo, After, Passes};
 ghost use Rattle.account.specs.Records.{recordAt, recordCount, records};
 use crate::limits::MOST_PROMPTS;
 use crate::limits::MOST_ROWS;
@@ -20,7 +16,6 @@ use crate::notes::noted;
 use crate::order::day_not_above;
 use crate::order::legs_clash;
 use crate::order::tier_falls;
-use crate::parts::CONTRACTS;
 use crate::parts::OWN;
 use crate::parts::PROMPTS;
 use crate::parts::ROWS;
@@ -38,20 +33,39 @@ use record::refusals::sound_prompt;
 use record::refusals::sound_row;
 use record::refusals::sound_spread;
 
+// A tier is a byte.
+const TIER_BYTES: usize = 256;
+
+fn lesser(a: usize, b: usize) -> usize
+    ensures { λ r. ⌜ r ≡ min a b ⌝ }
+{
+    if a < b { a } else { b }
+}
+
+fn short_day(r: &[u8]) -> u32
+    ensures { λ d. ⌜ d ≡ day (now (r .entry)) ⌝ }
+{
+    day(r) as u32
+}
+
 // The days of a contract's prompts, and 0 beyond them.
-fn days_of(prompts: &[u8]) -> [u32; MOST_PROMPTS] {
-    let count = record_count(prompts);
+fn days_of(prompts: &[u8]) -> [u32; MOST_PROMPTS]
+    ensures { λ days. ⌜ DaysOf (records (now (prompts .entry))) days ⌝ }
+{
+    let end = lesser(record_count(prompts), MOST_PROMPTS);
     let mut days = [0u32; MOST_PROMPTS];
     let mut j = 0;
-    while (j < count) & (j < MOST_PROMPTS) {
-        days[j] = day(whole_at(prompts, j)) as u32;
+    while j < end {
+        days[j] = short_day(whole_at(prompts, j));
         j += 1;
     }
     days
 }
 
 // Whether a day is among them. The loop has no way out, so that many days are compared at once.
-fn has_day(days: &[u32], d: u32) -> bool {
+fn has_day(days: &[u32; MOST_PROMPTS], d: u32) -> bool
+    ensures { λ b. ⌜ b ≡ hasDay (now (days .entry)) d ⌝ }
+{
     let mut found = false;
     let mut j = 0;
     while j < MOST_PROMPTS {
@@ -61,38 +75,61 @@ fn has_day(days: &[u32], d: u32) -> bool {
     found
 }
 
-// Which tiers have a prompt, by their number.
-fn tiers_of(prompts: &[u8]) -> [bool; 256] {
+// Which tiers have a prompt.
+fn tiers_of(prompts: &[u8]) -> [bool; TIER_BYTES]
+    ensures { λ listed. ⌜ TiersOf (records (now (prompts .entry))) listed ⌝ }
+{
     let count = record_count(prompts);
-    let mut listed = [false; 256];
+    let mut listed = [false; TIER_BYTES];
     let mut j = 0;
     while j < count {
-        listed[tier(whole_at(prompts, j))] = true;
+        let t = tier(whole_at(prompts, j));
+        listed[t] = true;
         j += 1;
     }
     listed
 }
 
-fn tiers_listed(listed: &[bool], r: &[u8]) -> bool {
-    if leg_count(r) == 2 {
-        return listed[leg_tier(r, 0)] & listed[leg_tier(r, 1)];
-    }
-    listed[leg_tier(r, 0)] & (listed[leg_tier(r, 1)] & listed[leg_tier(r, 2)])
+fn leg_unlisted(listed: &[bool; TIER_BYTES], r: &[u8], leg: usize) -> bool
+    ensures { λ b. ⌜ b ≡ legUnlistedIn (now (listed .entry)) (now (r .entry)) leg ⌝ }
+{
+    let t = leg_tier(r, leg);
+    !listed[t]
 }
 
-fn prompt_passes(before: &[u8], r: &[u8], c: usize) -> bool {
+fn some_leg_unlisted(listed: &[bool; TIER_BYTES], r: &[u8]) -> bool
+    ensures { λ b. ⌜ b ≡ any (legUnlistedIn (now (listed .entry)) (now (r .entry))) (legsOf (now (r .entry))) ⌝ }
+{
+    if leg_count(r) == 2 {
+        leg_unlisted(listed, r, 0) | leg_unlisted(listed, r, 1)
+    } else {
+        leg_unlisted(listed, r, 0) | (leg_unlisted(listed, r, 1) | leg_unlisted(listed, r, 2))
+    }
+}
+
+fn prompt_passes(before: &[u8], r: &[u8], c: usize) -> bool
+    ensures { λ b. ⌜ b ≡ promptPasses c (now (before .entry)) (now (r .entry)) ⌝ }
+{
     sound_prompt(r, c) & !(day_not_above(before, r) | tier_falls(before, r))
 }
 
-fn row_passes(days: &[u32], r: &[u8], c: usize) -> bool {
-    sound_row(r, c) & has_day(days, day(r) as u32)
+fn row_passes(days: &[u32; MOST_PROMPTS], r: &[u8], c: usize) -> bool
+    ensures { λ b. ⌜ b ≡ rowPasses c (now (days .entry)) (now (r .entry)) ⌝ }
+{
+    sound_row(r, c) & has_day(days, short_day(r))
 }
 
-fn spread_passes(listed: &[bool], r: &[u8], c: usize) -> bool {
-    sound_spread(r, c) & (!legs_clash(r) & tiers_listed(listed, r))
+fn spread_passes(listed: &[bool; TIER_BYTES], r: &[u8], c: usize) -> bool
+    ensures { λ b. ⌜ b ≡ spreadPasses c (now (listed .entry)) (now (r .entry)) ⌝ }
+{
+    sound_spread(r, c) & !(legs_clash(r) | some_leg_unlisted(listed, r))
 }
 
-fn prompts_from(file: &[u8], c: usize, k: usize, end: usize) -> usize {
+// The first record from `k` on that does not pass as a prompt of contract `c`, or `end`.
+fn prompts_to(file: &[u8], c: usize, k: usize, end: usize) -> usize
+    requires { ⌜ (1 ≤ k) × ((k ≤ end) × (end ≤ recordCount (now file))) ⌝ }
+    ensures { λ i. ⌜ RunTo (λ j. promptPasses c (recordAt (now (file .entry)) (j - 1)) (recordAt (now (file .entry)) j)) k end i ⌝ }
+{
     let mut i = k;
     while i < end {
         if !prompt_passes(whole_at(file, i - 1), whole_at(file, i), c) {
@@ -103,7 +140,11 @@ fn prompts_from(file: &[u8], c: usize, k: usize, end: usize) -> usize {
     i
 }
 
-fn rows_from(file: &[u8], days: &[u32], c: usize, k: usize, end: usize) -> usize {
+// The same of a row.
+fn rows_to(file: &[u8], days: &[u32; MOST_PROMPTS], c: usize, k: usize, end: usize) -> usize
+    requires { ⌜ (k ≤ end) × (end ≤ recordCount (now file)) ⌝ }
+    ensures { λ i. ⌜ RunTo (λ j. rowPasses c (now (days .entry)) (recordAt (now (file .entry)) j)) k end i ⌝ }
+{
     let mut i = k;
     while i < end {
         if !row_passes(days, whole_at(file, i), c) {
@@ -114,7 +155,11 @@ fn rows_from(file: &[u8], days: &[u32], c: usize, k: usize, end: usize) -> usize
     i
 }
 
-fn spreads_from(file: &[u8], listed: &[bool], c: usize, k: usize, end: usize) -> usize {
+// The same of an interprompt spread.
+fn spreads_to(file: &[u8], listed: &[bool; TIER_BYTES], c: usize, k: usize, end: usize) -> usize
+    requires { ⌜ (k ≤ end) × (end ≤ recordCount (now file)) ⌝ }
+    ensures { λ i. ⌜ RunTo (λ j. spreadPasses c (now (listed .entry)) (recordAt (now (file .entry)) j)) k end i ⌝ }
+{
     let mut i = k;
     while i < end {
         if !spread_passes(listed, whole_at(file, i), c) {
@@ -125,52 +170,78 @@ fn spreads_from(file: &[u8], listed: &[bool], c: usize, k: usize, end: usize) ->
     i
 }
 
-// Up to where records from `k` on may be of a part that has `n`, where it has at most `most`.
-fn room_to(k: usize, count: usize, n: usize, most: usize) -> usize {
+// Up to where records from `k` on may be of a part that has `n` records and may have `most`.
+fn room_to(k: usize, count: usize, n: usize, most: usize) -> usize
+    requires { ⌜ (k ≤ count) × (most ≤ 128) ⌝ }
+    ensures { λ r. ⌜ r ≡ min (k + (most - n)) count ⌝ }
+{
     if most <= n {
         return k;
     }
-    let end = k + (most - n);
-    if end < count { end } else { count }
+    if count - k < most - n {
+        return count;
+    }
+    k + (most - n)
 }
 
-// The record up to which the records after `k`, which has passed, pass as it did.
-pub(crate) fn passes_to(file: &[u8], first: &[u16], counts: &[u16], k: usize) -> usize {
-    let r = whole_at(file, k);
-    let c = contract(r);
+fn prompts_after(file: &[u8], counts: &[u16], k: usize, c: usize) -> usize
+    requires { ⌜ After 2 (now file) (now counts) k c ⌝ }
+    ensures { λ next. ⌜ ((first : List ℕ) → Passes (now (file .entry)) first (now (counts .entry)) k next) ⌝ }
+{
     let next = k + 1;
+    let end = room_to(
+        next,
+        record_count(file),
+        noted(counts, PROMPTS + c),
+        MOST_PROMPTS,
+    );
+    prompts_to(file, c, next, end)
+}
+
+fn rows_after(file: &[u8], first: &[u16], counts: &[u16], k: usize, c: usize) -> usize
+    requires { ⌜ After 3 (now file) (now counts) k c ⌝ }
+    ensures { λ next. ⌜ Passes (now (file .entry)) (now (first .entry)) (now (counts .entry)) k next ⌝ }
+{
+    let next = k + 1;
+    let end = room_to(next, record_count(file), noted(counts, ROWS + c), MOST_ROWS);
+    let days = days_of(part_at(file, first, counts, PROMPTS + c));
+    rows_to(file, &days, c, next, end)
+}
+
+fn spreads_after(file: &[u8], first: &[u16], counts: &[u16], k: usize, c: usize) -> usize
+    requires { ⌜ After 4 (now file) (now counts) k c ⌝ }
+    ensures { λ next. ⌜ Passes (now (file .entry)) (now (first .entry)) (now (counts .entry)) k next ⌝ }
+{
+    let next = k + 1;
+    let end = room_to(
+        next,
+        record_count(file),
+        noted(counts, SPREADS + c),
+        MOST_SPREADS,
+    );
+    let listed = tiers_of(part_at(file, first, counts, PROMPTS + c));
+    spreads_to(file, &listed, c, next, end)
+}
+
+// The record up to which the records after record `k`, which has passed, pass as it did.
+pub(crate) fn passes_to(file: &[u8], first: &[u16], counts: &[u16], k: usize) -> usize
+    requires { ⌜ (k < recordCount (now file)) × (length (now counts) ≡ parts) ⌝ }
+    ensures { λ next. ⌜ Passes (now (file .entry)) (now (first .entry)) (now (counts .entry)) k next ⌝ }
+{
+    let r = whole_at(file, k);
     let n = kind(r);
+    let c = contract(r);
     if noted(counts, OWN + c) == 0 {
-        return next;
+        return k + 1;
     }
-    let count = record_count(file);
     if n == 2 {
-        return prompts_from(
-            file,
-            c,
-            next,
-            room_to(next, count, noted(counts, PROMPTS + c), MOST_PROMPTS),
-        );
+        return prompts_after(file, counts, k, c);
     }
     if n == 3 {
-        let days = days_of(part_at(file, first, counts, PROMPTS + c));
-        return rows_from(
-            file,
-            &days,
-            c,
-            next,
-            room_to(next, count, noted(counts, ROWS + c), MOST_ROWS),
-        );
+        return rows_after(file, first, counts, k, c);
     }
     if n == 4 {
-        let listed = tiers_of(part_at(file, first, counts, PROMPTS + c));
-        return spreads_from(
-            file,
-            &listed,
-            c,
-            next,
-            room_to(next, count, noted(counts, SPREADS + c), MOST_SPREADS),
-        );
+        return spreads_after(file, first, counts, k, c);
     }
-    next
+    k + 1
 }

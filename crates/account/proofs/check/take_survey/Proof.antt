@@ -3,15 +3,15 @@ use Prim.Native.Nat.{ℕ, _-_, _%_, _≤_, _<_}
 use mathlib.Core.Path.{_≡_, refl, sym, ap, subst, _∙_}
 use mathlib.Core.Bool.{not}
 use native.Mathlib.Omega.{arith}
-use lib.ListN.{length, getD}
+use lib.ListN.{length}
 use borrow.Author.Tests.{lt-ltb, le-ltb, eq-eqb, ne-eqb}
 use Rattle.account.specs.Parts.{ofKind}
 use Rattle.account.specs.Surveyed.{Empty}
 use Rattle.account.specs.declared.answers.Answer.{Answer}
-use Rattle.account.specs.Notes.{partOf, faultAt}
-use Rattle.account.specs.Records.{recordAt, recordCount}
+use Rattle.account.specs.Notes.{faultAt}
+use Rattle.account.specs.Records.{recordCount}
 use Rattle.account.specs.declared.answers.Answer.the-variants.{TooLong, CutRecord}
-use Rattle.account.proofs.Going.{Going, going-start, going-stops, owned-small, one-at-most, part-in, count-small, going-on, going-ends, surveyed, nothing}
+use Rattle.account.proofs.Going.{Going, going-start, going-stops, owned-small, one-at-most, notable, going-over, going-ends, surveyed, nothing}
 use Rattle.account.proofs.Verdict.{too-long, cut-short}
 use Rattle.account.proofs.check.take_survey.Statement.{statement}
 use Rattle.account.proofs.check.take_survey.Tie as tie
@@ -79,114 +79,43 @@ returns-3 c =
 whole-at-requires : tie.Need-whole-at-requires Inv-loop μ-loop
 whole-at-requires c κs = omega arith
 
-part-of-requires : tie.Need-part-of-requires Inv-loop μ-loop
-part-of-requires c κs = tt
-
-slice-aggregate-note-first : tie.Need-slice-aggregate-note-first Inv-loop μ-loop
-slice-aggregate-note-first c = sym
-    (c .before .before .before .before .before .before .before .before .loop .inv .notes .firsts)
-
-slice-aggregate-note-first-2 : tie.Need-slice-aggregate-note-first-2 Inv-loop μ-loop
-slice-aggregate-note-first-2 c = sym
-    (c .before .before .before .before .before .before .before .before .before .loop .inv .notes .sizes)
-
-note-first-requires : tie.Need-note-first-requires Inv-loop μ-loop
-note-first-requires c κs =
-    let file =
-    c .before .before .before .before .before .before .before .before .before .before .before .before .before .before .args .file .now in
-    let g = c .before .before .before .before .before .before .before .before .before .loop .inv in
-    let k = c .before .before .before .before .before .before .before .before .before .loop .k in
-    let more : k < recordCount file = omega arith in
-    let none : faultAt file (c .before .before .before .before .before .before .before .before .before .loop .first)
-    (c .before .before .before .before .before .before .before .before .before .loop .counts) k ≡ 0 = sym
-    (c .before .before .before .before .before .fault-at .ensures)
-    ∙ c .before .before .before .before .if3 .left in
-    let v : c .before .before .part-of .result ≡ partOf (recordAt file k) = c .before .before .part-of .ensures
-    ∙ ap partOf (c .before .before .before .whole-at .ensures) in
-    let l =
-    c .before .before .before .before .before .before .before .before .before .before .before .before .if1 .left in (
-      omega (arith, part-in g more none, g .notes .firsts),
-      omega (arith, c .before .before .before .before .before .before .before .before .before .before .record-count .ensures),
-    )
-
-slice-aggregate-note-one : tie.Need-slice-aggregate-note-one Inv-loop μ-loop
-slice-aggregate-note-one c = sym
-    (c .before .before .before .before .before .before .before .before .before .before .before .before .loop .inv .notes .sizes)
-
-note-one-requires : tie.Need-note-one-requires Inv-loop μ-loop
-note-one-requires c κs =
-    let file =
-    c .before .before .before .before .before .before .before .before .before .before .before .before .before .before .before .before .before .args .file .now in
-    let g =
-    c .before .before .before .before .before .before .before .before .before .before .before .before .loop .inv
-    in
-    let k =
-    c .before .before .before .before .before .before .before .before .before .before .before .before .loop .k in
-    let more : k < recordCount file = omega arith in
-    let none : faultAt file
-    (c .before .before .before .before .before .before .before .before .before .before .before .before .loop .first)
-    (c .before .before .before .before .before .before .before .before .before .before .before .before .loop .counts)
-    k ≡ 0 = sym (c .before .before .before .before .before .before .before .before .fault-at .ensures)
-    ∙ c .before .before .before .before .before .before .before .if3 .left in
-    let v : c .before .before .before .before .before .part-of .result ≡ partOf (recordAt file k) =
-    c .before .before .before .before .before .part-of .ensures ∙ ap partOf
-    (c .before .before .before .before .before .before .whole-at .ensures) in
-    let n = ap (λ (u : ℕ). getD
-    (c .before .before .before .before .before .before .before .before .before .before .before .before .loop .counts)
-    u 0) v in
-    let l =
-    c .before .before .before .before .before .before .before .before .before .before .before .before .before .before .before .if1 .left in (
-      omega (arith, part-in g more none, g .notes .sizes),
-      omega (
-        arith,
-        count-small g more none,
-        c .before .before .before .before .before .before .before .before .before .before .before .before .before .record-count .ensures,
-      ),
-    )
-
 one-if-contract-requires : tie.Need-one-if-contract-requires Inv-loop μ-loop
 one-if-contract-requires c κs = tt
 
 add-contracts : tie.Need-add-contracts Inv-loop μ-loop
 add-contracts c =
-    let file =
-    c .before .before .before .before .before .before .before .before .before .before .before .before .before .before .before .before .before .before .before .before .args .file .now in
-    let g =
-    c .before .before .before .before .before .before .before .before .before .before .before .before .before .before .before .loop .inv in
-    let k =
-    c .before .before .before .before .before .before .before .before .before .before .before .before .before .before .before .loop .k in
-    let more : k < recordCount file = omega arith in
-    omega (
-      arith,
-      owned-small g more,
-      one-at-most (ofKind 1
-          (c .before .before .before .before .before .before .before .before .before .whole-at .result .now)),
-      c .one-if-contract .ensures,
-    )
+    let file = c .before .before .before .before .before .before .before .before .before .before .before .before .args .file .now in
+    let loop = c .before .before .before .before .before .before .before .loop in
+    let more : loop .k < recordCount file = omega arith in
+    omega (arith, owned-small (loop .inv) more, one-at-most (ofKind 1 (c .before .whole-at .result .now)), c .one-if-contract .ensures)
 
-add-k : tie.Need-add-k Inv-loop μ-loop
-add-k c = omega arith
+slice-aggregate-note-run : tie.Need-slice-aggregate-note-run Inv-loop μ-loop
+slice-aggregate-note-run c = sym (c .before .before .before .before .before .before .before .before .loop .inv .notes .firsts)
+
+slice-aggregate-note-run-2 : tie.Need-slice-aggregate-note-run-2 Inv-loop μ-loop
+slice-aggregate-note-run-2 c = sym (c .before .before .before .before .before .before .before .before .before .loop .inv .notes .sizes)
+
+note-run-requires : tie.Need-note-run-requires Inv-loop μ-loop
+note-run-requires c κs =
+    let file = c .before .before .before .before .before .before .before .before .before .before .before .before .before .before .args .file .now in
+    let loop = c .before .before .before .before .before .before .before .before .before .loop in
+    let more : loop .k < recordCount file = omega arith in
+    let none : faultAt file (loop .first) (loop .counts) (loop .k) ≡ 0 = sym (c .before .before .before .before .before .fault-at .ensures) ∙ c .before .before .before .before .if3 .left in
+    let few : recordCount file ≤ 640 = omega (arith, c .before .before .before .before .before .before .before .before .before .before .before .before .if1 .left) in
+    notable (loop .inv) more none few
 
 loop-less : tie.Need-loop-less Inv-loop μ-loop
-loop-less c = omega arith
+loop-less c =
+    let next = c .before .before .note-run .ensures .passes .low in
+    omega arith
 
 loop-again : tie.Need-loop-again Inv-loop μ-loop
 loop-again c =
-    let file =
-    c .before .before .before .before .before .before .before .before .before .before .before .before .before .before .before .before .before .before .before .before .args .file .now in
-    let g =
-    c .before .before .before .before .before .before .before .before .before .before .before .before .before .before .before .loop .inv in
-    let k =
-    c .before .before .before .before .before .before .before .before .before .before .before .before .before .before .before .loop .k in
-    let more : k < recordCount file = omega arith in
-    let none : faultAt file
-    (c .before .before .before .before .before .before .before .before .before .before .before .before .before .before .before .loop .first) (c .before .before .before .before .before .before .before .before .before .before .before .before .before .before .before .loop .counts) k ≡ 0 = sym (c .before .before .before .before .before .before .before .before .before .before .before .fault-at .ensures) ∙ c .before .before .before .before .before .before .before .before .before .before .if3 .left in
-    going-on g more none (c .before .before .before .before .before .note-first .ensures)
-    (c .before .before .note-one .ensures)
-    (c .before .before .before .before .before .before .before .before .part-of .ensures ∙ ap partOf
-    (c .before .before .before .before .before .before .before .before .before .whole-at .ensures))
-    (c .one-if-contract .ensures)
-    (c .before .before .before .before .before .before .before .before .before .whole-at .ensures)
+    let file = c .before .before .before .before .before .before .before .before .before .before .before .before .before .before .before .before .before .args .file .now in
+    let loop = c .before .before .before .before .before .before .before .before .before .before .before .before .loop in
+    let more : loop .k < recordCount file = omega arith in
+    let none : faultAt file (loop .first) (loop .counts) (loop .k) ≡ 0 = sym (c .before .before .before .before .before .before .before .before .fault-at .ensures) ∙ c .before .before .before .before .before .before .before .if3 .left in
+    going-over (loop .inv) more none (c .before .before .note-run .ensures) (c .before .before .before .before .before .one-if-contract .ensures) (c .before .before .before .before .before .before .whole-at .ensures)
 
 returns-4 : tie.Need-returns-4 Inv-loop μ-loop
 returns-4 c =
@@ -215,15 +144,11 @@ take-survey-spec =
     refused-requires-3
     returns-3
     whole-at-requires
-    part-of-requires
-    slice-aggregate-note-first
-    slice-aggregate-note-first-2
-    note-first-requires
-    slice-aggregate-note-one
-    note-one-requires
     one-if-contract-requires
     add-contracts
-    add-k
+    slice-aggregate-note-run
+    slice-aggregate-note-run-2
+    note-run-requires
     loop-less
     loop-again
     returns-4)

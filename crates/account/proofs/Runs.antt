@@ -1,0 +1,460 @@
+-- Runs of sound records: a record that passes its test gets no fault, and the check goes on past all of them at once.
+-- Assumes nothing.
+use Prim.Native.Nat.{ℕ, zero, suc, _+_, _-_, _*_, _≤_, _<_, min}
+use mathlib.Core.Path.{_≡_, refl, sym, ap, subst, _∙_}
+use mathlib.Core.Bool.{Bool, true, false, not, _&&_, _||_}
+use mathlib.Core.List.{List, [], _∷_, _++_, map}
+use lib.ListN.{length, getD, set, length-set, replicate, length-replicate, getD-replicate, length-map}
+use lib.Seq.{getD-set-same, getD-set-other, set-set, set-getD}
+use lib.Dec.{eqb, leb, ltb}
+use native.Mathlib.Omega.{arith}
+use native.Mathlib.Numerals.{add-one}
+use borrow.Author.Tests.{ltb-true, ltb-false, eqb-true, eqb-false, eq-eqb, ne-eqb, le-ltb, le-leb, lt-leb, not-true}
+use Rattle.exact.specs.Lists.{any}
+use Rattle.exact.proofs.Lists.{any-at, any-true, getD-map}
+use Rattle.record.specs.Bytes.{countFrom}
+use Rattle.record.specs.Layout.{Record, kind, contract, tier, day, legCount, twoLegs, legsOf, legTier}
+use Rattle.record.specs.Ranges.{unknownKind, unusedByte, fieldOutside, sound}
+use Rattle.record.specs.Within.{SpreadWithin}
+use Rattle.record.proofs.Reading.{byte-past}
+use Rattle.record.proofs.Sound.{Sound, sound-known}
+use Rattle.record.proofs.Tests.{any-append, or-false, both}
+use Rattle.record.proofs.Within.{both-true, neither, row-within, spread-within, contract-known}
+use Rattle.account.specs.Check.{mostPrompts, kindFalls, dayNotAbove, tierFalls, contractFalls, legsClash, outOfOrder}
+use Rattle.account.specs.Notes.{part, partOf, oneMore, startNoted, noContract, noDay, noTier, unlistedBy, overLimitBy, faultBy, promptsNoted, beforeAt, faultAt}
+use Rattle.account.specs.Parts.{ofKind, onDay, onTier}
+use Rattle.account.specs.Passing.{DaysOf, hasDay, TiersOf, legUnlistedIn, promptPasses, rowPasses, spreadPasses, RunTo, partAtRecord, countedTo, PassesAt, Passes, After, RunNoted}
+use Rattle.account.specs.Records.{cut, recordAt, recordCount, records, stretch}
+use Rattle.account.proofs.Dispatch.{order-2, order-3, order-4, listed-2, listed-3, listed-4, limit-2, limit-3, limit-4}
+use Rattle.account.proofs.Earlier.{cut-more}
+use Rattle.account.proofs.Firsts.{is-0}
+use Rattle.account.proofs.Orders.{cut-at}
+use Rattle.account.proofs.Passed.{part-other}
+use Rattle.account.proofs.Walk.{before-is, length-cut}
+
+-- ---- the days of prompts, the first j of them so far
+pub record DaysTo (prompts days : List ℕ) (j : ℕ) : Type 0 where
+  pub long : length days ≡ 32
+  pub noted : (i : ℕ) → i < j → getD days i 0 ≡ day (recordAt prompts i)
+  pub zeros : (i : ℕ) → j ≤ i → getD days i 0 ≡ 0
+
+pub days-start : (prompts : List ℕ) → DaysTo prompts (replicate 32 0) 0
+days-start prompts =
+    record {
+      long = length-replicate {A = ℕ} 32 0;
+      noted = λ i h. absurd (omega arith);
+      zeros = λ i h. go i (ltb i 32) refl;
+    }
+  where
+    go : (i : ℕ) (t : Bool) → ltb i 32 ≡ t → _≡_ {A = ℕ} (getD (replicate 32 0) i 0) 0
+    go i true e = getD-replicate {A = ℕ} 32 i 0 0 (ltb-true i 32 e)
+    go i false e =
+        let l : length (replicate {A = ℕ} 32 0) ≤ i = omega (arith, ltb-false i 32 e, length-replicate {A = ℕ} 32 0) in
+        byte-past (replicate 32 0) i l
+
+module _ {prompts days : List ℕ} {j : ℕ} (t : DaysTo prompts days j) where
+  pub days-next : (d : ℕ) → d ≡ day (recordAt prompts j) → j < 32 → DaysTo prompts (set days j d) (j + 1)
+  days-next d e h =
+      record {
+        long = length-set days j d ∙ t .long;
+        noted = λ i l. here i l (eqb i j) refl;
+        zeros = λ i l. getD-set-other days j i d 0 (λ z. omega arith) ∙ t .zeros i (omega arith);
+      }
+    where
+      here : (i : ℕ) → i < j + 1 → (b : Bool) → eqb i j ≡ b → getD (set days j d) i 0 ≡ day (recordAt prompts i)
+      here i l true b =
+          let s = eqb-true i j b in
+          ap (λ (n : ℕ). getD (set days j d) n 0) s ∙ getD-set-same days j d 0 (omega (arith, t .long)) ∙ e
+          ∙ ap (λ (n : ℕ). day (recordAt prompts n)) (sym s)
+      here i l false b =
+          let n = eqb-false i j b in
+          getD-set-other days j i d 0 n ∙ t .noted i (omega arith)
+
+  pub days-end : j ≡ min (recordCount prompts) 32 → DaysOf (records prompts) days
+  days-end e = record { long = t .long; each = λ i h. go i h (ltb i j) refl }
+    where
+      many : length (records prompts) ≡ recordCount prompts
+      many = length-cut (recordCount prompts) prompts
+
+      go : (i : ℕ) → i < 32 → (b : Bool) → ltb i j ≡ b → getD days i 0 ≡ getD (map day (records prompts)) i 0
+      go i h true b =
+          let l = ltb-true i j b in
+          let m : i < recordCount prompts = omega arith in
+          t .noted i l ∙ ap day (sym (cut-at (recordCount prompts) i prompts m))
+          ∙ sym (getD-map day (records prompts) i [] 0 (omega (arith, many)))
+      go i h false b =
+          let l = ltb-false i j b in
+          let m : length (map day (records prompts)) ≤ i = omega (arith, length-map (records prompts) day, many) in
+          t .zeros i l ∙ sym (byte-past (map day (records prompts)) i m)
+
+-- a day above 0 that is noted is the day of a prompt
+pub day-listed : (prompts : List Record) (days : List ℕ) (d : ℕ) → DaysOf prompts days → 1 ≤ d → hasDay days d ≡ true → noDay prompts d ≡ false
+day-listed prompts days d t low h =
+    let p = any-true (λ j. eqb (getD days j 0) d) (countFrom 0 32) 0 h in
+    let j = getD (countFrom 0 32) (p .place) 0 in
+    let e : getD days j 0 ≡ d = eqb-true _ _ (p .passes) in
+    found j e (ltb j 32) refl (ltb j (length prompts)) refl
+  where
+    found :
+        (j : ℕ) → getD days j 0 ≡ d → (b : Bool) → ltb j 32 ≡ b → (l : Bool) → ltb j (length prompts) ≡ l
+        → noDay prompts d ≡ false
+    found j e true b true l =
+        let m = ltb-true j (length prompts) l in
+        let s : day (getD prompts j []) ≡ d = sym (getD-map day prompts j [] 0 m) ∙ sym (t .each j (ltb-true j 32 b)) ∙ e in
+        ap not (any-at (onDay d) prompts j [] m (eq-eqb _ _ s))
+    found j e true b false l =
+        let m = ltb-false j (length prompts) l in
+        let z = byte-past (map day prompts) j (omega (arith, length-map prompts day)) in
+        let s = t .each j (ltb-true j 32 b) in
+        absurd (omega arith)
+    found j e false b w l =
+        let z = byte-past days j (omega (arith, ltb-false j 32 b, t .long)) in
+        absurd (omega arith)
+
+-- ---- the tiers of prompts, of the first j so far
+pub record TiersTo (prompts : List ℕ) (listed : List Bool) (j : ℕ) : Type 0 where
+  pub long : length listed ≡ 256
+  pub each : (t : ℕ) → t < 256 → getD listed t false ≡ any (onTier t) (cut j prompts)
+
+pub tiers-start : (prompts : List ℕ) → TiersTo prompts (replicate 256 false) 0
+tiers-start prompts =
+    record { long = length-replicate {A = Bool} 256 false; each = λ t h. getD-replicate {A = Bool} 256 t false false h }
+
+or-true : (a : Bool) → a || true ≡ true
+or-true true = refl
+or-true false = refl
+
+pub tiers-next :
+    {prompts : List ℕ} {listed : List Bool} {j : ℕ} → TiersTo prompts listed j → (u : ℕ) → u ≡ tier (recordAt prompts j)
+    → u < 256 → TiersTo prompts (set listed u true) (j + 1)
+tiers-next {prompts} {listed} {j} s u e h =
+    record { long = length-set listed u true ∙ s .long; each = λ t l. here t l (eqb u t) refl }
+  where
+    r : Record
+    r = recordAt prompts j
+
+    grown : (t : ℕ) → any (onTier t) (cut (j + 1) prompts) ≡ any (onTier t) (cut j prompts) || onTier t r
+    grown t =
+        ap (λ (n : ℕ). any (onTier t) (cut n prompts)) (add-one j) ∙ ap (any (onTier t)) (cut-more j prompts)
+        ∙ any-append (onTier t) (cut j prompts) (r ∷ [])
+        ∙ ap (λ (b : Bool). any (onTier t) (cut j prompts) || b) (or-false (onTier t r))
+
+    here : (t : ℕ) → t < 256 → (b : Bool) → eqb u t ≡ b → getD (set listed u true) t false ≡ any (onTier t) (cut (j + 1) prompts)
+    here t l true b =
+        let m = eqb-true u t b in
+        ap (λ (n : ℕ). getD (set listed n true) t false) m ∙ getD-set-same listed t true false (omega (arith, s .long))
+        ∙ sym (grown t ∙ ap (λ (x : Bool). any (onTier t) (cut j prompts) || x) (eq-eqb _ _ (sym e ∙ m))
+        ∙ or-true (any (onTier t) (cut j prompts)))
+    here t l false b =
+        let m = eqb-false u t b in
+        getD-set-other listed u t true false (λ z. m (sym z)) ∙ s .each t l
+        ∙ sym (grown t ∙ ap (λ (x : Bool). any (onTier t) (cut j prompts) || x) (ne-eqb _ _ (λ z. m (e ∙ z)))
+        ∙ or-false (any (onTier t) (cut j prompts)))
+
+pub tiers-end :
+    {prompts : List ℕ} {listed : List Bool} {j : ℕ} → TiersTo prompts listed j → j ≡ recordCount prompts
+    → TiersOf (records prompts) listed
+tiers-end {prompts} {listed} s e =
+    record { long = s .long; each = λ t h. s .each t h ∙ ap (λ (n : ℕ). any (onTier t) (cut n prompts)) e }
+
+-- ---- a run
+pub run-start : (passes : ℕ → Bool) {k end : ℕ} → k ≤ end → RunTo passes k end k
+run-start passes h = record { low = omega arith; high = h; each = λ j l m. absurd (omega arith) }
+
+pub run-next : (passes : ℕ → Bool) {k end i : ℕ} → RunTo passes k end i → i < end → passes i ≡ true → RunTo passes k end (i + 1)
+run-next passes {k} {end} {i} s h e =
+    record { low = omega (arith, s .low); high = omega arith; each = λ j l m. go j l m (eqb j i) refl }
+  where
+    go : (j : ℕ) → k ≤ j → j < i + 1 → (b : Bool) → eqb j i ≡ b → passes j ≡ true
+    go j l m true b = ap passes (eqb-true j i b) ∙ e
+    go j l m false b =
+        let n = eqb-false j i b in
+        s .each j l (omega arith)
+
+-- ---- a record that passes gets no fault
+or-off : {a b : Bool} → a ≡ false → b ≡ false → a || b ≡ false
+or-off p q = rw (p, q)
+
+and-off : (a : Bool) {b : Bool} → b ≡ false → a && b ≡ false
+and-off true q = q
+and-off false q = refl
+
+part-of-sound : (n c : ℕ) (r : Record) → 2 ≤ n → n ≤ 4 → kind r ≡ n → contract r ≡ c → partOf r ≡ part n c
+part-of-sound n c r low high k e =
+    part-other r (λ z. omega arith) (λ z. omega arith) ∙ (λ i. 16 * k i + e i)
+
+no-fault :
+    (n c : ℕ) (counts : List ℕ) (prompts : List Record) (before r : Record) → 2 ≤ n → n ≤ 4 → Sound n c r → kind before ≡ n
+    → unlistedBy counts prompts r ≡ false → outOfOrder before r ≡ false → overLimitBy counts r ≡ false
+    → faultBy counts prompts before r ≡ 0
+no-fault n c counts prompts before r low high s b l o m =
+    let k = s .kinds in
+    let u : unknownKind r ≡ false = rw (le-leb 1 (kind r) (omega arith), le-leb (kind r) 6 (omega arith)) in
+    sym
+    (is-0 (unknownKind r) (kindFalls before r) (unusedByte r) (fieldOutside r) (unlistedBy counts prompts r) (outOfOrder before r)
+    (overLimitBy counts r) u (le-ltb (kind r) (kind before) (omega arith)) (s .unused) (s .within) l o m)
+
+-- the records after record k, of its kind and contract, as far as each is sound
+pub record Following (n most : ℕ) (file counts : List ℕ) (k c : ℕ) (passes : ℕ → Bool) (i : ℕ) : Type 0 where
+  pub low : 2 ≤ n
+  pub high : n ≤ 4
+  pub after : After n file counts k c
+  pub soundAt : (j : ℕ) → passes j ≡ true → Sound n c (recordAt file j)
+  pub run : RunTo passes (k + 1) (min (k + 1 + (most - getD counts (part n c) 0)) (recordCount file)) i
+
+module _ {n most : ℕ} {file counts : List ℕ} {k c : ℕ} {passes : ℕ → Bool} {i : ℕ} (f : Following n most file counts k c passes i)
+    (first : List ℕ) where
+  abbrev countsAt : ℕ → List ℕ
+  countsAt j = countedTo file counts k j
+
+  abbrev promptsAt : ℕ → List Record
+  promptsAt j = promptsNoted file first (countsAt j) (contract (recordAt file j))
+
+  part-here : partAtRecord file k ≡ part n c
+  part-here = part-of-sound n c (recordAt file k) (f .low) (f .high) (f .after .kinds) (f .after .contracts)
+
+  counts-are : (j : ℕ) → countsAt j ≡ set counts (part n c) (getD counts (part n c) 0 + (j - (k + 1)))
+  counts-are j = ap (λ (v : ℕ). set counts v (getD counts v 0 + (j - (k + 1)))) part-here
+
+  module _ (j : ℕ) (after : k < j) (before : j < i) where
+    its : Sound n c (recordAt file j)
+    its = f .soundAt j (f .run .each j (omega arith) before)
+
+    small : c ≤ 15
+    small =
+        let lo = f .low in
+        let hi = f .high in
+        let s = its in
+        let e = s .kinds in
+        let u : unknownKind (recordAt file j) ≡ false =
+        rw (le-leb 1 (kind (recordAt file j)) (omega arith), le-leb (kind (recordAt file j)) 6 (omega arith)) in
+        let h = contract-known (recordAt file j) u (s .within) in
+        let x = s .contracts in
+        omega arith
+
+    -- the notes of the other parts stand
+    kept : (m : ℕ) → m < n → getD (countsAt j) (part m c) 0 ≡ getD counts (part m c) 0
+    kept m h =
+        let l = small in
+        let hi = f .high in
+        ap (λ (l : List ℕ). getD l (part m c) 0) (counts-are j)
+        ∙ getD-set-other counts (part n c) (part m c) (getD counts (part n c) 0 + (j - (k + 1))) 0 (λ z. omega arith)
+
+    counted : getD (countsAt j) (part n c) 0 ≡ getD counts (part n c) 0 + (j - (k + 1))
+    counted =
+        let l = small in
+        let hi = f .high in
+        ap (λ (l : List ℕ). getD l (part n c) 0) (counts-are j)
+        ∙ getD-set-same counts (part n c) (getD counts (part n c) 0 + (j - (k + 1))) 0 (omega (arith, f .after .sizes))
+
+    below : getD (countsAt j) (partOf (recordAt file j)) 0 < most
+    below =
+        let e = ap (λ (v : ℕ). getD (countsAt j) v 0) (part-of-sound n c (recordAt file j) (f .low) (f .high) (its .kinds) (its .contracts)) in
+        let h = f .run .high in
+        omega (arith, counted)
+
+    pub unfilled : leb most (getD (countsAt j) (partOf (recordAt file j)) 0) ≡ false
+    unfilled = lt-leb most _ below
+
+    pub contract-listed : noContract (countsAt j) (contract (recordAt file j)) ≡ false
+    contract-listed =
+        ap (noContract (countsAt j)) (its .contracts) ∙ ap (λ (m : ℕ). eqb m 0) (kept 1 (omega (arith, f .low))) ∙ f .after .listed
+
+    pub prompts-kept : 2 < n → promptsAt j ≡ promptsNoted file first counts c
+    prompts-kept h =
+        ap (promptsNoted file first (countsAt j)) (its .contracts)
+        ∙ ap (λ (m : ℕ). records (stretch file (getD first (part 2 c) 0) m)) (kept 2 h)
+
+    pub before-is-at : recordAt file (j - 1) ≡ beforeAt file j
+    before-is-at = before-is file j (λ z. omega arith)
+
+    pub its-before : (kind (beforeAt file j) ≡ n) × (contract (beforeAt file j) ≡ c)
+    its-before =
+        subst (λ (r : Record). (kind r ≡ n) × (contract r ≡ c)) before-is-at (go (eqb (j - 1) k) refl)
+      where
+        go : (b : Bool) → eqb (j - 1) k ≡ b → (kind (recordAt file (j - 1)) ≡ n) × (contract (recordAt file (j - 1)) ≡ c)
+        go true b =
+            let e = ap (recordAt file) (eqb-true (j - 1) k b) in
+            (ap kind e ∙ f .after .kinds, ap contract e ∙ f .after .contracts)
+        go false b =
+            let d = eqb-false (j - 1) k b in
+            let s = f .soundAt (j - 1) (f .run .each (j - 1) (omega arith) (omega arith)) in
+            (s .kinds, s .contracts)
+
+    pub passes-at :
+        unlistedBy (countsAt j) (promptsAt j) (recordAt file j) ≡ false → outOfOrder (beforeAt file j) (recordAt file j) ≡ false
+        → overLimitBy (countsAt j) (recordAt file j) ≡ false → PassesAt file first counts k j
+    passes-at l o m =
+        record {
+          fine = no-fault n c (countsAt j) (promptsAt j) (beforeAt file j) (recordAt file j) (f .low) (f .high) its (its-before .0) l o m;
+          alike = part-of-sound n c (recordAt file j) (f .low) (f .high) (its .kinds) (its .contracts) ∙ sym part-here;
+          other =
+              let e = its .kinds in
+              let lo = f .low in
+              ne-eqb (kind (recordAt file j)) 1 (λ z. omega arith);
+        }
+
+    -- a row or an interprompt spread is not below the one before
+    pub contract-stays : contractFalls (beforeAt file j) (recordAt file j) ≡ false
+    contract-stays =
+        let x = its .contracts in
+        let y = its-before .1 in
+        and-off (ofKind (kind (recordAt file j)) (beforeAt file j))
+        (le-ltb (contract (recordAt file j)) (contract (beforeAt file j)) (omega arith))
+
+  pub run-passes : ((j : ℕ) → k < j → j < i → PassesAt file first counts k j) → Passes file first counts k i
+  run-passes each =
+      let l = f .run .low in
+      let h = f .run .high in
+      record { low = omega arith; high = omega arith; each = each }
+
+-- ---- prompts, rows and interprompt spreads
+module _ (file first counts : List ℕ) (k c : ℕ) {i : ℕ} where
+  pub prompts-pass :
+      After 2 file counts k c
+      → RunTo (λ j. promptPasses c (recordAt file (j - 1)) (recordAt file j)) (k + 1)
+      (min (k + 1 + (32 - getD counts (part 2 c) 0)) (recordCount file)) i
+      → Passes file first counts k i
+  prompts-pass a run = run-passes following first each
+    where
+      passes : ℕ → Bool
+      passes j = promptPasses c (recordAt file (j - 1)) (recordAt file j)
+
+      soundAt : (j : ℕ) → passes j ≡ true → Sound 2 c (recordAt file j)
+      soundAt j e = sound-known 2 c (recordAt file j) (both-true (sound 2 c (recordAt file j)) _ e .0)
+
+      following : Following 2 32 file counts k c passes i
+      following = record { low = omega arith; high = omega arith; after = a; soundAt = soundAt; run = run }
+
+      each : (j : ℕ) → k < j → j < i → PassesAt file first counts k j
+      each j l h =
+          let r = recordAt file j in
+          let e = soundAt j (run .each j (omega arith) h) .kinds in
+          let o = not-true _ (both-true (sound 2 c r) _ (run .each j (omega arith) h) .1) in
+          passes-at following first j l h
+          (listed-2 (countedTo file counts k j) (promptsNoted file first (countedTo file counts k j) (contract r)) r e ∙ contract-listed following first j l h)
+          (order-2 (beforeAt file j) r e
+          ∙ ap (λ (b : Record). dayNotAbove b r || tierFalls b r)
+          (sym (before-is-at following first j l h))
+          ∙ o)
+          (limit-2 (countedTo file counts k j) r e ∙ unfilled following first j l h)
+
+  pub rows-pass :
+      After 3 file counts k c → (days : List ℕ) → DaysOf (promptsNoted file first counts c) days
+      → RunTo (λ j. rowPasses c days (recordAt file j)) (k + 1) (min (k + 1 + (128 - getD counts (part 3 c) 0)) (recordCount file)) i
+      → Passes file first counts k i
+  rows-pass a days t run = run-passes following first each
+    where
+      passes : ℕ → Bool
+      passes j = rowPasses c days (recordAt file j)
+
+      soundAt : (j : ℕ) → passes j ≡ true → Sound 3 c (recordAt file j)
+      soundAt j e = sound-known 3 c (recordAt file j) (both-true (sound 3 c (recordAt file j)) _ e .0)
+
+      following : Following 3 128 file counts k c passes i
+      following = record { low = omega arith; high = omega arith; after = a; soundAt = soundAt; run = run }
+
+      each : (j : ℕ) → k < j → j < i → PassesAt file first counts k j
+      each j l h =
+          let r = recordAt file j in
+          let s = soundAt j (run .each j (omega arith) h) in
+          let e = s .kinds in
+          let d = both-true (sound 3 c r) _ (run .each j (omega arith) h) .1 in
+          passes-at following first j l h
+          (listed-3 (countedTo file counts k j) (promptsNoted file first (countedTo file counts k j) (contract r)) r e
+          ∙ or-off (contract-listed following first j l h)
+          (ap (λ (ps : List Record). noDay ps (day r))
+          (prompts-kept following first j l h (omega arith))
+          ∙ day-listed (promptsNoted file first counts c) days (day r) t (row-within r e (s .within) .days .least) d))
+          (order-3 (beforeAt file j) r e ∙ contract-stays following first j l h)
+          (limit-3 (countedTo file counts k j) r e ∙ unfilled following first j l h)
+
+  pub spreads-pass :
+      After 4 file counts k c → (listed : List Bool) → TiersOf (promptsNoted file first counts c) listed
+      → RunTo (λ j. spreadPasses c listed (recordAt file j)) (k + 1) (min (k + 1 + (32 - getD counts (part 4 c) 0)) (recordCount file)) i
+      → Passes file first counts k i
+  spreads-pass a listed t run = run-passes following first each
+    where
+      passes : ℕ → Bool
+      passes j = spreadPasses c listed (recordAt file j)
+
+      soundAt : (j : ℕ) → passes j ≡ true → Sound 4 c (recordAt file j)
+      soundAt j e = sound-known 4 c (recordAt file j) (both-true (sound 4 c (recordAt file j)) _ e .0)
+
+      prompts : List Record
+      prompts = promptsNoted file first counts c
+
+      leg-same : (r : Record) (leg : ℕ) → legTier r leg ≤ 8 → noTier prompts (legTier r leg) ≡ legUnlistedIn listed r leg
+      leg-same r leg h = ap not (sym (t .each (legTier r leg) (omega arith)))
+
+      legs-same :
+          (r : Record) → kind r ≡ 4 → fieldOutside r ≡ false
+          → any (λ leg. noTier prompts (legTier r leg)) (legsOf r) ≡ any (legUnlistedIn listed r) (legsOf r)
+      legs-same r e w = go (twoLegs r) refl
+        where
+          s : SpreadWithin r
+          s = spread-within r e w
+
+          go : (b : Bool) → twoLegs r ≡ b → any (λ leg. noTier prompts (legTier r leg)) (legsOf r) ≡ any (legUnlistedIn listed r) (legsOf r)
+          go true b =
+              rw b (both (leg-same r 0 (s .firstLeg .tiers .most)) (both (leg-same r 1 (s .secondLeg .tiers .most)) refl))
+          go false b =
+              let d = eqb-false (legCount r) 2 b in
+              let m = s .legCounts .least in
+              let n = s .legCounts .most in
+              let third = s .thirdLeg (omega arith) in
+              rw b
+              (both (leg-same r 0 (s .firstLeg .tiers .most))
+              (both (leg-same r 1 (s .secondLeg .tiers .most)) (both (leg-same r 2 (third .tiers .most)) refl)))
+
+      following : Following 4 32 file counts k c passes i
+      following = record { low = omega arith; high = omega arith; after = a; soundAt = soundAt; run = run }
+
+      each : (j : ℕ) → k < j → j < i → PassesAt file first counts k j
+      each j l h =
+          let r = recordAt file j in
+          let s = soundAt j (run .each j (omega arith) h) in
+          let e = s .kinds in
+          let o = neither (legsClash r) _ (not-true _ (both-true (sound 4 c r) _ (run .each j (omega arith) h) .1)) in
+          passes-at following first j l h
+          (listed-4 (countedTo file counts k j) (promptsNoted file first (countedTo file counts k j) (contract r)) r e
+          ∙ or-off (contract-listed following first j l h)
+          (ap (λ (ps : List Record). any (λ leg. noTier ps (legTier r leg)) (legsOf r))
+          (prompts-kept following first j l h (omega arith))
+          ∙ legs-same r e (s .within) ∙ o .1))
+          (order-4 (beforeAt file j) r e
+          ∙ or-off (contract-stays following first j l h) (o .0))
+          (limit-4 (countedTo file counts k j) r e ∙ unfilled following first j l h)
+
+-- a record after which nothing is looked at
+pub none-pass : (file first counts : List ℕ) (k : ℕ) → k < recordCount file → Passes file first counts k (k + 1)
+none-pass file first counts k h = record { low = omega arith; high = omega arith; each = λ j l m. absurd (omega arith) }
+
+-- what is asked of the records after record k, from what is read of it
+pub after-read :
+    {file counts : List ℕ} {k : ℕ} {r : Record} (n m c w : ℕ) → k < recordCount file → length counts ≡ 82 → r ≡ recordAt file k
+    → m ≡ kind r → c ≡ contract r → c < 256 → w ≡ getD counts (part 1 c) 0 → (w ≡ 0 → ⊥) → m ≡ n → After n file counts k c
+after-read {file} {counts} {k} {r} n m c w inside sizes e km cc byte ew nz mn =
+    record {
+      inside = inside;
+      sizes = sizes;
+      kinds = ap kind (sym e) ∙ sym km ∙ mn;
+      contracts = ap contract (sym e) ∙ sym cc;
+      listed = ne-eqb (getD counts (part 1 c) 0) 0 (λ z. nz (ew ∙ z));
+      byte = byte;
+    }
+
+-- record k noted, and the run after it
+pub run-noted :
+    {file first counts first′ counts₁ counts′ : List ℕ} {k next v : ℕ} → v ≡ partAtRecord file k → first′ ≡ startNoted first counts v k
+    → counts₁ ≡ oneMore counts v → Passes file first′ counts₁ k next → counts′ ≡ set counts₁ v (getD counts₁ v 0 + (next - (k + 1)))
+    → RunNoted file first counts k next first′ counts′
+run-noted {file} {first} {counts} {first′} {counts₁} {counts′} {k} {next} {v} hv hf hc p hm =
+    let one = hc ∙ ap (oneMore counts) hv in
+    record {
+      started = hf ∙ ap (λ (u : ℕ). startNoted first counts u k) hv;
+      passes = subst (λ (l : List ℕ). Passes file first′ l k next) one p;
+      counted =
+          hm ∙ ap (λ (u : ℕ). set counts₁ u (getD counts₁ u 0 + (next - (k + 1)))) hv
+          ∙ ap (λ (l : List ℕ). countedTo file l k next) one;
+    }

@@ -1,0 +1,67 @@
+-- `account::passing::rows_after` meets its contract. Assumes nothing.
+use Prim.Native.Nat.{ℕ, _+_, _-_, min}
+use mathlib.Core.Path.{subst, _∙_}
+use mathlib.Core.List.{List}
+use borrow.Author.Needs.{needs}
+use native.Mathlib.Omega.{arith}
+use Rattle.account.specs.Passing.{DaysOf, rowPasses, RunTo}
+use Rattle.account.specs.Records.{recordAt, records}
+use Rattle.account.proofs.Runs.{rows-pass}
+use Rattle.account.proofs.passing.rows_after.Statement.{statement}
+use Rattle.account.proofs.passing.rows_after.Tie as tie
+
+add-next : tie.Need-add-next
+add-next c = search needs
+
+record-count-requires : tie.Need-record-count-requires
+record-count-requires c κs = search needs
+
+add-noted : tie.Need-add-noted
+add-noted c = omega (arith, c .before .before .before .before .pre .byte)
+
+noted-requires : tie.Need-noted-requires
+noted-requires c κs = search needs
+
+room-to-requires : tie.Need-room-to-requires
+room-to-requires c κs = search needs
+
+add-part-at : tie.Need-add-part-at
+add-part-at c = omega (arith, c .before .before .before .before .before .before .pre .byte)
+
+part-at-requires : tie.Need-part-at-requires
+part-at-requires c κs = search needs
+
+days-of-requires : tie.Need-days-of-requires
+days-of-requires c κs = search needs
+
+rows-to-requires : tie.Need-rows-to-requires
+rows-to-requires c κs = search needs
+
+returns : tie.Need-returns
+returns c =
+    let start = c .before .before .before .before .before .before .before .before .before .before in
+    let args = start .args in
+    let file = args .file .now in
+    let days = c .before .before .days-of in
+    let end = c .before .before .before .before .room-to .ensures
+    ∙ (λ i. min (args .k + 1 + (128 - c .before .before .before .before .before .noted .ensures i))
+    (c .before .before .before .before .before .before .record-count .ensures i)) in
+    rows-pass file (args .first .now) (args .counts .now) (args .k) (args .c) (start .pre) (days .result)
+    (subst (λ (part : List ℕ). DaysOf (records part) (days .result)) (c .before .before .before .part-at .ensures) (days .ensures))
+    (subst (λ (end : ℕ). RunTo (λ j. rowPasses (args .c) (days .result) (recordAt file j)) (args .k + 1) end (c .rows-to .result))
+    end (c .rows-to .ensures))
+
+pub rows-after-spec : {M : Type 1} → statement M
+rows-after-spec =
+    tie.close
+    (tie.spec
+    add-next
+    record-count-requires
+    add-noted
+    noted-requires
+    room-to-requires
+    add-part-at
+    part-at-requires
+    days-of-requires
+    rows-to-requires
+    returns)

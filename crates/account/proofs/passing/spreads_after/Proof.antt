@@ -1,0 +1,67 @@
+-- `account::passing::spreads_after` meets its contract. Assumes nothing.
+use Prim.Native.Nat.{ℕ, _+_, _-_, min}
+use mathlib.Core.Path.{subst, _∙_}
+use mathlib.Core.List.{List}
+use borrow.Author.Needs.{needs}
+use native.Mathlib.Omega.{arith}
+use Rattle.account.specs.Passing.{TiersOf, spreadPasses, RunTo}
+use Rattle.account.specs.Records.{recordAt, records}
+use Rattle.account.proofs.Runs.{spreads-pass}
+use Rattle.account.proofs.passing.spreads_after.Statement.{statement}
+use Rattle.account.proofs.passing.spreads_after.Tie as tie
+
+add-next : tie.Need-add-next
+add-next c = search needs
+
+record-count-requires : tie.Need-record-count-requires
+record-count-requires c κs = search needs
+
+add-noted : tie.Need-add-noted
+add-noted c = omega (arith, c .before .before .before .before .pre .byte)
+
+noted-requires : tie.Need-noted-requires
+noted-requires c κs = search needs
+
+room-to-requires : tie.Need-room-to-requires
+room-to-requires c κs = search needs
+
+add-part-at : tie.Need-add-part-at
+add-part-at c = omega (arith, c .before .before .before .before .before .before .pre .byte)
+
+part-at-requires : tie.Need-part-at-requires
+part-at-requires c κs = search needs
+
+tiers-of-requires : tie.Need-tiers-of-requires
+tiers-of-requires c κs = search needs
+
+spreads-to-requires : tie.Need-spreads-to-requires
+spreads-to-requires c κs = search needs
+
+returns : tie.Need-returns
+returns c =
+    let start = c .before .before .before .before .before .before .before .before .before .before in
+    let args = start .args in
+    let file = args .file .now in
+    let tiers = c .before .before .tiers-of in
+    let end = c .before .before .before .before .room-to .ensures
+    ∙ (λ i. min (args .k + 1 + (32 - c .before .before .before .before .before .noted .ensures i))
+    (c .before .before .before .before .before .before .record-count .ensures i)) in
+    spreads-pass file (args .first .now) (args .counts .now) (args .k) (args .c) (start .pre) (tiers .result)
+    (subst (λ (part : List ℕ). TiersOf (records part) (tiers .result)) (c .before .before .before .part-at .ensures) (tiers .ensures))
+    (subst (λ (end : ℕ). RunTo (λ j. spreadPasses (args .c) (tiers .result) (recordAt file j)) (args .k + 1) end (c .spreads-to .result))
+    end (c .spreads-to .ensures))
+
+pub spreads-after-spec : {M : Type 1} → statement M
+spreads-after-spec =
+    tie.close
+    (tie.spec
+    add-next
+    record-count-requires
+    add-noted
+    noted-requires
+    room-to-requires
+    add-part-at
+    part-at-requires
+    tiers-of-requires
+    spreads-to-requires
+    returns)

@@ -142,10 +142,12 @@ scenarioCount = 16
 abbrev pub lossField : ℕ → Field
 lossField scenario = field (24 + 4 * (scenario - 1)) four hundredThousands
 
+abbrev pub rowHead : Record → List Field
+rowHead r =
+    contractField ∷ rowTypeField ∷ currencyField ∷ dayField ∷ strikeField (forward r) ∷ lotsField ∷ deltaField (put r) ∷ valueField ∷ []
+
 abbrev pub rowFields : Record → List Field
-rowFields r =
-    contractField ∷ rowTypeField ∷ currencyField ∷ dayField ∷ strikeField (forward r) ∷ lotsField ∷ deltaField (put r)
-    ∷ valueField ∷ map lossField (countFrom 1 scenarioCount)
+rowFields r = rowHead r ++ map lossField (countFrom 1 scenarioCount)
 
 -- "4 interprompt spread | 1: contract; 2: legs, 2 or 3; 4-7: rate per spread; legs at 8, 12, 16, each tier, side (1 = A, 2 =
 -- B), two-byte ratio"

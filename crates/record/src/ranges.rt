@@ -6,7 +6,7 @@ ghost use lib.IntN.{pos, negℤ};
 ghost use Rattle.record.specs.Bytes.{plain, signed, countFrom};
 ghost use lib.ListN.{length};
 ghost use Rattle.record.specs.Layout.{recordBytes, contractRange, dayRange, tierRange, rateRange, ratioRange, entryRatioRange, hundredThousands};
-ghost use Rattle.record.specs.Layout.{contractFields, promptFields, rowFields, spreadFields, entryFields, rateFields};
+ghost use Rattle.record.specs.Layout.{contractFields, promptFields, rowHead, spreadFields, entryFields, rateFields};
 ghost use Rattle.record.specs.Layout.{strikeField, deltaField, forward, put, lossField, legFields, thirdLeg};
 ghost use Rattle.record.specs.Ranges.{beyond, outside, outsideAmong};
 use crate::bytes::byte_in;
@@ -111,7 +111,7 @@ fn no_delta(r: &[u8]) -> bool
 }
 
 // The loop has no way out, so that many losses are tested at once.
-fn losses_beyond(r: &[u8]) -> bool
+pub(crate) fn losses_beyond(r: &[u8]) -> bool
     requires { ⌜ recordBytes ≤ length (now r) ⌝ }
     ensures { λ b. ⌜ b ≡ outsideAmong (map lossField (countFrom 1 16)) (now (r .entry)) ⌝ }
 {
@@ -124,9 +124,10 @@ fn losses_beyond(r: &[u8]) -> bool
     outside
 }
 
-pub(crate) fn row_outside(r: &[u8]) -> bool
+// The fields of a row before its losses.
+pub(crate) fn row_head_outside(r: &[u8]) -> bool
     requires { ⌜ recordBytes ≤ length (now r) ⌝ }
-    ensures { λ b. ⌜ b ≡ outsideAmong (rowFields (now (r .entry))) (now (r .entry)) ⌝ }
+    ensures { λ b. ⌜ b ≡ outsideAmong (rowHead (now (r .entry))) (now (r .entry)) ⌝ }
 {
     no_contract(byte_in(r, layout::CONTRACT))
         | (beyond(byte_in(r, layout::ROW_TYPE), 0, 2)
@@ -134,9 +135,7 @@ pub(crate) fn row_outside(r: &[u8]) -> bool
                 | (no_day(u32_in(r, layout::DAY))
                     | (no_strike(r)
                         | (too_many(u32_in(r, layout::LOTS))
-                            | (no_delta(r)
-                                | (beyond(u32_in(r, layout::VALUE), 1, 10000)
-                                    | losses_beyond(r))))))))
+                            | (no_delta(r) | beyond(u32_in(r, layout::VALUE), 1, 10000)))))))
 }
 
 fn no_leg(r: &[u8], leg: usize) -> bool

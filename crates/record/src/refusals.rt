@@ -81,7 +81,7 @@ fn whole_field_outside(r: &[u8]) -> bool
         return ranges::prompt_outside(r);
     }
     if k == 3 {
-        return ranges::row_outside(r);
+        return ranges::row_head_outside(r) | ranges::losses_beyond(r);
     }
     if k == 4 {
         return ranges::spread_outside(r);
@@ -129,7 +129,8 @@ pub fn sound_row(r: &[u8], c: usize) -> bool
     if r.len() < RECORD_BYTES {
         return false;
     }
-    is_of(r, 3, c) & !(unused::beside_row(r) | ranges::row_outside(r))
+    is_of(r, 3, c)
+        & !(unused::beside_row(r) | (ranges::row_head_outside(r) | ranges::losses_beyond(r)))
 }
 
 pub fn sound_spread(r: &[u8], c: usize) -> bool

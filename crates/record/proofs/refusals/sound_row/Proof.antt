@@ -3,7 +3,7 @@ use borrow.Author.Needs.{needs}
 use lib.ListN.{length}
 use borrow.Author.Tests.{lt-leb, le-leb}
 use Rattle.record.specs.Layout.{rowFields}
-use Rattle.record.proofs.Dispatch.{of-row}
+use Rattle.record.proofs.Dispatch.{of-row, row-fields-outside}
 use Rattle.record.proofs.Sound.{sound-short, sound-whole}
 use Rattle.record.proofs.refusals.sound_row.Statement.{statement}
 use Rattle.record.proofs.refusals.sound_row.Tie as tie
@@ -19,16 +19,20 @@ is-of-requires c κs = search needs
 beside-row-requires : tie.Need-beside-row-requires
 beside-row-requires c κs = search needs
 
-row-outside-requires : tie.Need-row-outside-requires
-row-outside-requires c κs = search needs
+row-head-outside-requires : tie.Need-row-head-outside-requires
+row-head-outside-requires c κs = search needs
+
+losses-beyond-requires : tie.Need-losses-beyond-requires
+losses-beyond-requires c κs = search needs
 
 returns-2 : tie.Need-returns-2
 returns-2 c =
-    let start = c .before .before .before .before .before in
+    let start = c .before .before .before .before .before .before in
     let r = start .args .r .now in
-    sound-whole 3 (start .args .c) r (rowFields r) (of-row r) (le-leb 96 (length r) (c .before .before .before .if1 .left))
-    (c .before .before .is-of .ensures) (c .before .beside-row .ensures) (c .row-outside .ensures)
+    sound-whole 3 (start .args .c) r (rowFields r) (of-row r) (le-leb 96 (length r) (c .before .before .before .before .if1 .left))
+    (c .before .before .before .is-of .ensures) (c .before .before .beside-row .ensures)
+    (row-fields-outside r (c .before .row-head-outside .ensures) (c .losses-beyond .ensures))
 
 pub sound-row-spec : {M : Type 1} → statement M
 sound-row-spec =
-    tie.close (tie.spec returns is-of-requires beside-row-requires row-outside-requires returns-2)
+    tie.close (tie.spec returns is-of-requires beside-row-requires row-head-outside-requires losses-beyond-requires returns-2)

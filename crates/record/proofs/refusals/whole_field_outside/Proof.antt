@@ -4,7 +4,7 @@ use mathlib.Core.Path.{sym, ap, _∙_}
 use mathlib.Core.List.{List}
 use Rattle.record.specs.Bytes.{Field}
 use Rattle.record.specs.Ranges.{outsideAmong}
-use Rattle.record.proofs.Dispatch.{of-contract, of-prompt, of-row, of-spread, of-entry, of-rate, of-none}
+use Rattle.record.proofs.Dispatch.{row-fields-outside, of-contract, of-prompt, of-row, of-spread, of-entry, of-rate, of-none}
 use Rattle.record.proofs.refusals.whole_field_outside.Statement.{statement}
 use Rattle.record.proofs.refusals.whole_field_outside.Tie as tie
 
@@ -31,15 +31,18 @@ returns-2 c =
     ∙ ap (λ (fs : List Field). outsideAmong fs r) (sym
     (of-prompt r (sym (c .before .before .before .byte-in .ensures .0) ∙ c .before .if2 .taken)))
 
-row-outside-requires : tie.Need-row-outside-requires
-row-outside-requires c κs = search needs
+row-head-outside-requires : tie.Need-row-head-outside-requires
+row-head-outside-requires c κs = search needs
+
+losses-beyond-requires : tie.Need-losses-beyond-requires
+losses-beyond-requires c κs = search needs
 
 returns-3 : tie.Need-returns-3
 returns-3 c =
-    let r = c .before .before .before .before .before .before .args .r .now in
-    c .row-outside .ensures
+    let r = c .before .before .before .before .before .before .before .args .r .now in
+    row-fields-outside r (c .before .row-head-outside .ensures) (c .losses-beyond .ensures)
     ∙ ap (λ (fs : List Field). outsideAmong fs r) (sym
-    (of-row r (sym (c .before .before .before .before .byte-in .ensures .0) ∙ c .before .if3 .taken)))
+    (of-row r (sym (c .before .before .before .before .before .byte-in .ensures .0) ∙ c .before .before .if3 .taken)))
 
 spread-outside-requires : tie.Need-spread-outside-requires
 spread-outside-requires c κs = search needs
@@ -90,7 +93,8 @@ whole-field-outside-spec =
     returns
     prompt-outside-requires
     returns-2
-    row-outside-requires
+    row-head-outside-requires
+    losses-beyond-requires
     returns-3
     spread-outside-requires
     returns-4

@@ -1,12 +1,12 @@
--- `record::ranges::row_outside` meets its contract. Assumes nothing.
+-- `record::ranges::row_head_outside` meets its contract. Assumes nothing.
 use borrow.Author.Needs.{needs}
 use mathlib.Core.Path.{ap, _∙_}
 use Rattle.record.specs.Bytes.{plain}
 use Rattle.record.specs.Layout.{contractRange, dayRange, hundredThousands, valueRange}
 use Rattle.record.specs.Ranges.{beyond}
-use Rattle.record.proofs.Tests.{both}
-use Rattle.record.proofs.ranges.row_outside.Statement.{statement}
-use Rattle.record.proofs.ranges.row_outside.Tie as tie
+use Rattle.record.proofs.Tests.{both, last}
+use Rattle.record.proofs.ranges.row_head_outside.Statement.{statement}
+use Rattle.record.proofs.ranges.row_head_outside.Tie as tie
 
 byte-in-requires : tie.Need-byte-in-requires
 byte-in-requires c κs = search needs
@@ -50,27 +50,23 @@ u32-in-requires-3 c κs = search needs
 beyond-requires-3 : tie.Need-beyond-requires-3
 beyond-requires-3 c κs = search needs
 
-losses-beyond-requires : tie.Need-losses-beyond-requires
-losses-beyond-requires c κs = search needs
-
 returns : tie.Need-returns
 returns c =
-    let lots = c .before .before .before .before in
-    let day = c .before .before .before .before .before .before .before in
-    let currency = c .before .before .before .before .before .before .before .before .before in
+    let lots = c .before .before .before in
+    let day = lots .before .before .before in
+    let currency = day .before .before in
     let type = currency .before .before in
     let contract = type .before .before in
     both (contract .no-contract .ensures ∙ ap (beyond contractRange) (contract .before .byte-in .ensures .0))
     (both (type .beyond .ensures ∙ ap (beyond (plain 0 2)) (type .before .byte-in2 .ensures .0))
     (both (currency .beyond2 .ensures ∙ ap (beyond (plain 0 7)) (currency .before .byte-in3 .ensures .0))
     (both (day .no-day .ensures ∙ ap (beyond dayRange) (day .before .u32-in .ensures .0))
-    (both (c .before .before .before .before .before .before .no-strike .ensures)
+    (both (lots .before .before .no-strike .ensures)
     (both (lots .too-many .ensures ∙ ap (beyond hundredThousands) (lots .before .u32-in2 .ensures .0))
-    (both (c .before .before .before .no-delta .ensures)
-    (both (c .before .beyond3 .ensures ∙ ap (beyond valueRange) (c .before .before .u32-in3 .ensures .0)) (c .losses-beyond .ensures))))))))
+    (both (c .before .before .no-delta .ensures) (last (c .beyond3 .ensures ∙ ap (beyond valueRange) (c .before .u32-in3 .ensures .0)))))))))
 
-pub row-outside-spec : {M : Type 1} → statement M
-row-outside-spec =
+pub row-head-outside-spec : {M : Type 1} → statement M
+row-head-outside-spec =
     tie.close
     (tie.spec
     byte-in-requires
@@ -87,5 +83,4 @@ row-outside-spec =
     no-delta-requires
     u32-in-requires-3
     beyond-requires-3
-    losses-beyond-requires
     returns)

@@ -5,8 +5,7 @@ use mathlib.Core.Path.{_≡_, refl, ap, _∙_}
 use mathlib.Core.Bool.{Bool, true, false}
 use lib.Dec.{ltb}
 use lib.IntN.{ℤ, pos, negsuc, subℕ, _-ℤ_}
-use lib.ListN.{length, take, List·getD-eq-default}
-use lib.Seq.{getD-take}
+use lib.ListN.{length, List·getD-eq-default}
 use native.Mathlib.Omega.{arith}
 use borrow.Author.Tests.{lt-ltb, le-ltb, ltb-true, ltb-false}
 use lib.Signed.{mag}
@@ -26,15 +25,6 @@ u32-past r o h = omega (arith, u16-past r o h, u16-past r (o + 2) (omega arith))
 
 pub i32-past : (r : Record) (o : ℕ) → length r ≤ o → i32At r o ≡ pos 0
 i32-past r o h = rw (u32-past r o h)
-
--- the first bytes of a record hold what stands in them
-byte-in : (n : ℕ) (r : Record) (o : ℕ) → o < n → byteAt (take n r) o ≡ byteAt r o
-byte-in n r o h = getD-take n r o 0 h
-
-pub u32-in : (n : ℕ) (r : Record) (o : ℕ) → o + 3 < n → u32At (take n r) o ≡ u32At r o
-u32-in n r o h =
-    omega
-    (arith, byte-in n r o (omega arith), byte-in n r (o + 1) (omega arith), byte-in n r (o + 2) (omega arith), byte-in n r (o + 2 + 1) (omega arith))
 
 -- a signed number is what the machine reads back from its bits
 pub back : (z : ℤ) → mag z < 2 ^ 63 → toZ w64 (ofZ w64 z) ≡ z

@@ -41,16 +41,6 @@ module _ (p : ℕ → Bool) (e i : ℕ) (b : Bool) where
       let s : e - i ≡ 0 = omega arith in
       rw s (or-false b)
 
--- numbers that do not pass may be left out at the end
-pub any-fewer : (p : ℕ → Bool) (n m i : ℕ) → n ≤ m → ((k : ℕ) → i + n ≤ k → p k ≡ false)
-    → any p (countFrom i m) ≡ any p (countFrom i n)
-any-fewer p zero zero i h none = refl
-any-fewer p zero (suc m) i h none =
-    rw (none i (omega arith)) (any-fewer p zero m (i + 1) (omega arith) (λ k g. none k (omega arith)))
-any-fewer p (suc n) zero i h none = absurd (omega arith)
-any-fewer p (suc n) (suc m) i h none =
-    ap (λ b. p i || b) (any-fewer p n m (i + 1) (omega arith) (λ k g. none k (omega arith)))
-
 -- tests that agree on the numbers
 pub any-same : (p q : ℕ → Bool) (n i : ℕ) → ((k : ℕ) → i ≤ k → k < i + n → p k ≡ q k)
     → any p (countFrom i n) ≡ any q (countFrom i n)

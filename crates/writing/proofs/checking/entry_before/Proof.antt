@@ -1,0 +1,42 @@
+-- The entry before it in the order, or none.
+-- Assumes nothing.
+use borrow.Author.Needs.{needs}
+use Prim.Native.Nat.{_-_, _<_}
+use mathlib.Core.Path.{sym, ap, _∙_}
+use native.Mathlib.Omega.{arith}
+use Rattle.account.specs.Notes.{beforeAt}
+use Rattle.account.specs.Records.{recordCount}
+use Rattle.account.proofs.Walk.{before-is}
+use Rattle.writing.specs.Written.{written}
+use Rattle.writing.proofs.Placed.{entered-at}
+use Rattle.writing.proofs.checking.entry_before.Statement.{statement}
+use Rattle.writing.proofs.checking.entry_before.Tie as tie
+
+slice-aggregate-result : tie.Need-slice-aggregate-result
+slice-aggregate-result c = search needs
+
+returns : tie.Need-returns
+returns c = ap (beforeAt (written (c .before .before .before .before .args .entries .now))) (sym (c .before .if1 .taken))
+
+sub-entry-at : tie.Need-sub-entry-at
+sub-entry-at c = search needs
+
+entry-at-requires : tie.Need-entry-at-requires
+entry-at-requires c κs = search needs
+
+returns-2 : tie.Need-returns-2
+returns-2 c =
+    let s = c .before .before .before .before in
+    let e = s .args .entries .now in
+    let h : s .args .k - 1 < recordCount e = omega (arith, s .pre .1, c .before .if1 .left) in
+    c .entry-at .ensures ∙ entered-at e (s .args .order .now) (s .pre .0) (s .args .k - 1) h ∙ before-is (written e) (s .args .k) (c .before .if1 .left)
+
+pub entry-before-spec : {M : Type 1} → statement M
+entry-before-spec =
+    tie.close
+    (tie.spec
+    slice-aggregate-result
+    returns
+    sub-entry-at
+    entry-at-requires
+    returns-2)

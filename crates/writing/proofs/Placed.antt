@@ -244,7 +244,9 @@ filling-ends entries k n out₀ out i f past =
     f .done ∙ ap (λ (m : ℕ). filled entries k m out₀) e
 
 -- what is put at the front is there
-pub front-filled : (entries : List ℕ) (k n : ℕ) (out : List ℕ) → k + n ≤ recordCount entries → take (n * 96) (filled entries k n out) ≡ stretch (written entries) k n
+pub front-filled :
+    (entries : List ℕ) (k n : ℕ) (out : List ℕ) → k + n ≤ recordCount entries
+    → take (n * 96) (filled entries k n out) ≡ stretch (written entries) k n
 front-filled entries k n out h =
     take-at (stretch (written entries) k n) (drop (n * 96) out) (n * 96) (stretch-long (written entries) k n (omega (arith, count-same entries)))
 

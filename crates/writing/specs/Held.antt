@@ -38,6 +38,11 @@ pub record Holdable (file first counts : List ℕ) (c : ℕ) : Type 0 where
   pub few : getD counts (part 2 c) 0 ≤ mostPrompts
   pub within : getD first (part 2 c) 0 + getD counts (part 2 c) 0 ≤ recordCount file
 
+-- those of contract held are there, and those of contract c can take their place
+pub record CanChange (file first counts prompts : List ℕ) (held c : ℕ) : Type 0 where
+  pub holds : Holds file first counts prompts held
+  pub holdable : Holdable file first counts c
+
 -- the fault of a record by what is held
 abbrev pub faultHeld : List ℕ → List ℕ → ℕ → Record → Record → ℕ
 faultHeld counts prompts c before r = faultBy counts (records (heldPrompts counts prompts c)) before r

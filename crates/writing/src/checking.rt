@@ -37,7 +37,7 @@ ghost use Rattle.account.specs.Conversions.{rowAnswer, Row};
 ghost use Rattle.account.specs.Notes.{part, parts, beforeAt};
 ghost use Rattle.account.specs.Products.{RatesOf, HoldsRates};
 ghost use Rattle.account.specs.Records.{records, stretch, recordCount};
-ghost use Rattle.writing.specs.Held.{namesPrompts, askedOf, Holds, Holdable, faultHeld, Rated};
+ghost use Rattle.writing.specs.Held.{namesPrompts, askedOf, Holds, CanChange, faultHeld, Rated};
 ghost use Rattle.writing.specs.Order.{Ordered};
 ghost use Rattle.writing.specs.Written.{written};
 
@@ -86,7 +86,7 @@ fn hold(
     c: usize,
     prompts: &mut [u8],
 )
-    requires { ⌜ Ordered (now entries) (now order) × (Holds (written (now entries)) (now first) (now counts) (now prompts) held × Holdable (written (now entries)) (now first) (now counts) c) ⌝ }
+    requires { ⌜ Ordered (now entries) (now order) × CanChange (written (now entries)) (now first) (now counts) (now prompts) held c ⌝ }
     ensures { λ _. ⌜ Holds (written (now (entries .entry))) (now (first .entry)) (now (counts .entry)) (now (prompts .exit)) c ⌝ }
 {
     if c == held {

@@ -33,35 +33,43 @@ loop-holds c = let w = written (c .before .before .before .args .entries .now) i
 entry-at-requires : tie.Need-entry-at-requires Inv-loop μ-loop
 entry-at-requires c κs = tt
 
+-- the record is one of the file
+within : (c : tie.In-loop Inv-loop μ-loop) → c .before .loop .k < recordCount (written (c .before .before .before .before .before .args .entries .now))
+within c =
+    let e = c .before .before .before .before .before .args .entries .now in
+    omega (arith, c .loop-test .taken, c .before .before .record-count .ensures, count-same e)
+
+here : (c : tie.After-entry-at Inv-loop μ-loop)
+    → c .entry-at .result .now ≡ recordAt (written (c .before .before .before .before .before .before .args .entries .now)) (c .before .before .loop .k)
+here c =
+    let s = c .before .before .before .before .before .before in
+    let e = s .args .entries .now in
+    let k = c .before .before .loop .k in
+    c .entry-at .ensures ∙ entered-at e (s .args .order .now) (s .pre .0) k (omega (arith, within (c .before), count-same e))
+
 answer-at-requires : tie.Need-answer-at-requires Inv-loop μ-loop
 answer-at-requires c κs =
     let s = c .before .before .before .before .before .before in
     let w = written (s .args .entries .now) in
-    let h : c .before .before .loop .k < recordCount (s .args .entries .now) = omega (arith, c .before .loop-test .taken, c .before .before .before .record-count .ensures) in
-    let e = c .entry-at .ensures ∙ entered-at (s .args .entries .now) (s .args .order .now) (s .pre .0) (c .before .before .loop .k) h in (
-      subst (λ (r : Record). kind r ≡ 3 → Row r) (sym e) (row-at w (s .pre .1 .accepted) (c .before .before .loop .k) (omega (arith, h, count-same (s .args .entries .now)))),
+    let row = row-at w (s .pre .1 .accepted) (c .before .before .loop .k) (within (c .before)) in (
+      subst (λ (r : Record). kind r ≡ 3 → Row r) (sym (here c)) row,
       record { rates = ratesOf (records w); held = s .pre .1 .rates; within = recorded w (s .pre .1 .accepted) .ranges .rates },
     )
-
--- the record is one of the file
-within : (c : tie.In-loop Inv-loop μ-loop) → c .before .loop .k < recordCount (written (c .before .before .before .before .before .args .entries .now))
-within c = omega (arith, c .loop-test .taken, c .before .before .record-count .ensures, count-same (c .before .before .before .before .before .args .entries .now))
 
 -- what it answers
 answered : (c : tie.After-answer-at Inv-loop μ-loop)
     → c .answer-at .result
-    ≡ rowAnswer (ratesOf (records (written (c .before .before .before .before .before .before .before .args .entries .now)))) (0 + c .before .before .before .loop .k)
+    ≡ rowAnswer (ratesOf (records (written (c .before .before .before .before .before .before .before .args .entries .now))))
+    (0 + c .before .before .before .loop .k)
     (recordAt (written (c .before .before .before .before .before .before .before .args .entries .now)) (c .before .before .before .loop .k))
 answered c =
     let s = c .before .before .before .before .before .before .before in
-    let l = c .before .before .before .loop in
-    let e = s .args .entries .now in
-    let w = written e in
+    let k = c .before .before .before .loop .k in
+    let w = written (s .args .entries .now) in
     let rates = ratesOf (records w) in
-    let h : l .k < recordCount e = omega (arith, within (c .before .before), count-same e) in
     c .answer-at .ensures rates (s .pre .1 .rates) (recorded w (s .pre .1 .accepted) .ranges .rates)
-    ∙ ap (rowAnswer rates (l .k)) (c .before .entry-at .ensures ∙ entered-at e (s .args .order .now) (s .pre .0) (l .k) h)
-    ∙ ap (λ (k : ℕ). rowAnswer rates k (recordAt w (l .k))) (sym (zero-add (l .k)))
+    ∙ ap (rowAnswer rates k) (here (c .before))
+    ∙ ap (λ (n : ℕ). rowAnswer rates n (recordAt w k)) (sym (zero-add k))
 
 number-of-requires : tie.Need-number-of-requires Inv-loop μ-loop
 number-of-requires c κs = tt

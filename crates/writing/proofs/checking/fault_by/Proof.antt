@@ -31,8 +31,9 @@ fault-requires c κs = search needs
 returns : tie.Need-returns
 returns c =
     let s = c .before .before .before .before .before .before .before in
-    c .fault .ensures
-    ∙ ap (λ (n : ℕ). faultBy (s .args .counts .now) (records (take (n * 96) (s .args .prompts .now))) (s .args .before .now) (s .args .r .now)) (c .before .before .noted .ensures)
+    let a = s .args in
+    let same = c .before .before .noted .ensures in
+    c .fault .ensures ∙ ap (λ (n : ℕ). faultBy (a .counts .now) (records (take (n * 96) (a .prompts .now))) (a .before .now) (a .r .now)) same
 
 pub fault-by-spec : {M : Type 1} → statement M
 fault-by-spec =

@@ -15,10 +15,10 @@ returns : tie.Need-returns
 returns c =
     let s = c .before .before .before .before .before .before in
     subst (λ (n : ℕ). Holds (written (s .args .entries .now)) (s .args .first .now) (s .args .counts .now) (s .args .prompts .now) n) (sym (c .if1 .taken))
-    (s .pre .1 .0)
+    (s .pre .1 .holds)
 
 add-v : tie.Need-add-v
-add-v c = omega (arith, c .before .before .before .before .before .before .pre .1 .1 .number)
+add-v c = omega (arith, c .before .before .before .before .before .before .pre .1 .holdable .number)
 
 noted-requires : tie.Need-noted-requires
 noted-requires c κs = search needs
@@ -31,8 +31,8 @@ fill-requires c κs =
     let s = c .before .before .before .before .before .before .before .before .before in (
       s .pre .0,
       (
-        omega (arith, c .before .before .noted .ensures, c .before .noted2 .ensures, s .pre .1 .1 .within, count-same (s .args .entries .now)),
-        omega (arith, c .before .noted2 .ensures, s .pre .1 .1 .few, s .pre .1 .0 .long),
+        omega (arith, c .before .before .noted .ensures, c .before .noted2 .ensures, s .pre .1 .holdable .within, count-same (s .args .entries .now)),
+        omega (arith, c .before .noted2 .ensures, s .pre .1 .holdable .few, s .pre .1 .holds .long),
       ),
     )
 
@@ -42,8 +42,8 @@ same-length c = c .before .before .fill .kept .1 .1 .1 .1 .0
 returns-2 : tie.Need-returns-2
 returns-2 c =
     let s = c .before .before .before .before .before .before .before .before .before .before .before .before in
-    held-now (s .args .entries .now) (s .args .first .now) (s .args .counts .now) (s .args .prompts .now) (s .args .c) (c .before .before .before .before .before .noted .ensures) (c .before .before .before .before .noted2 .ensures)
-    (s .pre .1 .1 .within) (c .before .before .fill .ensures) (c .before .before .fill .kept .1 .1 .1 .1 .0 ∙ s .pre .1 .0 .long)
+    held-now (s .args .entries .now) (s .args .first .now) (s .args .counts .now) (s .args .prompts .now) (s .args .c)
+    (c .before .before .before .before .before .noted .ensures) (c .before .before .before .before .noted2 .ensures) (s .pre .1 .holdable .within) (c .before .before .fill .ensures) (c .before .before .fill .kept .1 .1 .1 .1 .0 ∙ s .pre .1 .holds .long)
 
 pub hold-spec : {M : Type 1} → statement M
 hold-spec =

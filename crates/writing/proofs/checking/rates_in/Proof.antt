@@ -28,7 +28,8 @@ array-share-prefix-rates c = search needs
 slice-aggregate-rates-of : tie.Need-slice-aggregate-rates-of
 slice-aggregate-rates-of c =
     let s = c .before .before .before .before .before .before in
-    sym (length-take-le (s .args .n * 96) (c .before .before .fill .last .1 .1 .1 .1 .0) (omega (arith, s .pre .1 .0, c .before .before .fill .kept .1 .1 .1 .1 .0)))
+    let f = c .before .before .fill in
+    sym (length-take-le (s .args .n * 96) (f .last .1 .1 .1 .1 .0) (omega (arith, s .pre .1 .0, f .kept .1 .1 .1 .1 .0)))
 
 rates-of-requires : tie.Need-rates-of-requires
 rates-of-requires c κs = search needs
@@ -36,8 +37,9 @@ rates-of-requires c κs = search needs
 returns : tie.Need-returns
 returns c =
     let s = c .before .before .before .before .before .before .before in
+    let a = s .args in
     subst (λ (bytes : List ℕ). RatesOf (records bytes) (c .rates-of .result))
-    (ap (take (s .args .n * 96)) (c .before .before .before .fill .ensures) ∙ front-filled (s .args .entries .now) (s .args .k) (s .args .n) _ (s .pre .1 .1)) (c .rates-of .ensures)
+    (ap (take (a .n * 96)) (c .before .before .before .fill .ensures) ∙ front-filled (a .entries .now) (a .k) (a .n) _ (s .pre .1 .1)) (c .rates-of .ensures)
 
 pub rates-in-spec : {M : Type 1} → statement M
 rates-in-spec =

@@ -39,7 +39,8 @@ part-copy-bytes-start : tie.Need-part-copy-bytes-start Inv-loop μ-loop
 part-copy-bytes-start c = search needs
 
 part-copy-bytes-end : tie.Need-part-copy-bytes-end Inv-loop μ-loop
-part-copy-bytes-end c = omega (arith, c .before .before .before .before .before .before .pre .1 .1, c .before .loop-test .taken, c .before .before .loop .inv .long)
+part-copy-bytes-end c =
+    omega (arith, c .before .before .before .before .before .before .pre .1 .1, c .before .loop-test .taken, c .before .before .loop .inv .long)
 
 copy-bytes-requires : tie.Need-copy-bytes-requires Inv-loop μ-loop
 copy-bytes-requires c κs =
@@ -68,7 +69,8 @@ loop-again c =
     let more = c .before .before .before .before .before .loop-test .taken in
     let h : s .args .k + l .i < recordCount e = omega (arith, more, s .pre .1 .0) in
     filling-next e (s .args .k) (s .args .n) (s .args .out .now) (l .out) (l .i) (l .inv) more (s .pre .1 .0) (s .pre .1 .1)
-    (c .before .before .before .before .entry-at .ensures ∙ entered-at e (s .args .order .now) (s .pre .0) (s .args .k + l .i) h) (c .before .before .copy-bytes .ensures)
+    (c .before .before .before .before .entry-at .ensures ∙ entered-at e (s .args .order .now) (s .pre .0) (s .args .k + l .i) h)
+    (c .before .before .copy-bytes .ensures)
 
 same-length : tie.Need-same-length Inv-loop μ-loop
 same-length c = c .before .loop .inv .long

@@ -168,6 +168,11 @@ module _ (entries order : List ℕ) (o : Ordered entries order) where
   pub at-place : (k : ℕ) → k < recordCount entries → getD order k 0 ≡ getD (places entries) k 0
   at-place k h = sym (getD-take (recordCount entries) order k 0 h) ∙ ap (λ (xs : List ℕ). getD xs k 0) (o .first)
 
+  pub place-within : (k : ℕ) → k < recordCount entries → getD order k 0 < recordCount entries
+  place-within k h =
+      subst⁻¹ (λ (j : ℕ). j < recordCount entries) (at-place k h)
+      (all-at (λ (j : ℕ). j < recordCount entries) 0 (places entries) (places-all entries) k (omega (arith, places-long entries)))
+
   -- record k of the file, where it was entered
   pub entered-at : (k : ℕ) → k < recordCount entries → recordAt entries (getD order k 0) ≡ recordAt (written entries) k
   entered-at k h = ap (recordAt entries) (at-place k h) ∙ sym (record-is entries k h)

@@ -1,13 +1,13 @@
 // Entries put one after the other.
 use crate::merging::place_at;
-use account::stretches::record_at;
+use account::stretches::whole_at;
 use record::bytes::RECORD_BYTES;
 ghost use mathlib.Core.Path.{_≡_};
-ghost use Prim.Native.Nat.{_+_, _*_, _≤_};
-ghost use lib.ListN.{length, getD, take};
+ghost use Prim.Native.Nat.{_+_, _*_, _≤_, _<_};
+ghost use lib.ListN.{length, take};
 ghost use Rattle.account.specs.Records.{recordAt, recordCount};
 ghost use Rattle.writing.specs.Order.{Ordered};
-ghost use Rattle.writing.specs.Written.{filled};
+ghost use Rattle.writing.specs.Written.{written, filled};
 
 pub(crate) fn wide(x: u16) -> usize
     ensures { λ n. ⌜ n ≡ x ⌝ }
@@ -26,11 +26,12 @@ fn copy_bytes(from: &[u8], to: &mut [u8])
     }
 }
 
-// The entry that is record `k` of the file.
+// Record `k` of the file, where it was entered.
 pub(crate) fn entry_at<'a>(entries: &'a [u8], order: &[u16], k: usize) -> &'a [u8]
-    ensures { λ r. ⌜ now r ≡ recordAt (now (entries .entry)) (getD (now (order .entry)) k 0) ⌝ }
+    requires { ⌜ Ordered (now entries) (now order) × (k < recordCount (now entries)) ⌝ }
+    ensures { λ r. ⌜ now r ≡ recordAt (written (now (entries .entry))) k ⌝ }
 {
-    record_at(entries, wide(place_at(order, k)))
+    whole_at(entries, wide(place_at(order, k)))
 }
 
 // `n` records of the file, from record `k` on, at the front of `out`.

@@ -1,18 +1,18 @@
 -- The loop of the check, with the prompts at hand; then the rates.
 -- Assumes nothing.
 use Prim.Native.Nat.{ℕ, _-_, _≤_, _<_}
-use mathlib.Core.Path.{_≡_, sym, ap, ap₂, subst, _∙_}
+use mathlib.Core.Path.{sym, ap, ap₂, subst, _∙_}
 use mathlib.Core.List.{List}
 use native.Mathlib.Omega.{arith}
 use lib.ListN.{length, getD}
 use borrow.Author.Tests.{ltb-false}
 use Rattle.record.specs.Layout.{Record}
 use Rattle.account.specs.Products.{RatesOf}
-use Rattle.account.specs.Records.{records, stretch, recordAt, recordCount}
+use Rattle.account.specs.Records.{records, stretch, recordCount}
 use Rattle.writing.specs.Held.{Holdable}
 use Rattle.writing.specs.Written.{written}
 use Rattle.writing.proofs.Held.{Reading, reading-start, Turned, turn-holdable, turn-stops, turned, Ended, reading-ends, rates-decide}
-use Rattle.writing.proofs.Placed.{entered-at, long-same, cut-same, count-same}
+use Rattle.writing.proofs.Placed.{long-same, cut-same, count-same}
 use Rattle.writing.proofs.checking.check_written.Statement.{statement}
 use Rattle.writing.proofs.checking.check_written.Tie as tie
 
@@ -28,8 +28,16 @@ record-count-requires c κs = tt
 loop-holds : tie.Need-loop-holds Inv-loop μ-loop
 loop-holds c = reading-start (written (c .before .before .before .args .entries .now))
 
+-- the record is one of the file
+inside : (c : tie.In-loop Inv-loop μ-loop) → c .before .loop .k < recordCount (written (c .before .before .before .before .before .args .entries .now))
+inside c =
+    let e = c .before .before .before .before .before .args .entries .now in
+    omega (arith, c .loop-test .taken, c .before .before .record-count .ensures, count-same e)
+
 entry-at-requires : tie.Need-entry-at-requires Inv-loop μ-loop
-entry-at-requires c κs = tt
+entry-at-requires c κs =
+    let s = c .before .before .before .before .before in
+    (s .pre .0, omega (arith, inside c, count-same (s .args .entries .now)))
 
 asked-of-requires : tie.Need-asked-of-requires Inv-loop μ-loop
 asked-of-requires c κs = tt
@@ -43,24 +51,10 @@ slice-aggregate-hold-2 c = sym (c .before .before .before .before .before .loop 
 slice-aggregate-hold-3 : tie.Need-slice-aggregate-hold-3 Inv-loop μ-loop
 slice-aggregate-hold-3 c = sym (c .before .before .before .before .before .before .loop .inv .holds .long)
 
--- the record is one of the file
-inside : (c : tie.In-loop Inv-loop μ-loop) → c .before .loop .k < recordCount (written (c .before .before .before .before .before .args .entries .now))
-inside c =
-    let e = c .before .before .before .before .before .args .entries .now in
-    omega (arith, c .loop-test .taken, c .before .before .record-count .ensures, count-same e)
-
-here : (c : tie.After-entry-at Inv-loop μ-loop)
-    → c .entry-at .result .now ≡ recordAt (written (c .before .before .before .before .before .before .args .entries .now)) (c .before .before .loop .k)
-here c =
-    let s = c .before .before .before .before .before .before in
-    let e = s .args .entries .now in
-    let k = c .before .before .loop .k in
-    c .entry-at .ensures ∙ entered-at e (s .args .order .now) (s .pre .0) k (omega (arith, inside (c .before), count-same e))
-
 room-for : (c : tie.After-asked-of Inv-loop μ-loop)
     → Holdable (written (c .before .before .before .before .before .before .before .args .entries .now)) (c .before .before .before .loop .first) (c .before .before .before .loop .counts)
     (c .asked-of .result)
-room-for c = turn-holdable (c .before .before .before .loop .inv) (inside (c .before .before)) (here (c .before)) (c .asked-of .ensures)
+room-for c = turn-holdable (c .before .before .before .loop .inv) (inside (c .before .before)) (c .before .entry-at .ensures) (c .asked-of .ensures)
 
 hold-requires : tie.Need-hold-requires Inv-loop μ-loop
 hold-requires c κs =
@@ -97,7 +91,7 @@ returns c =
     let s = l .before .before .before .before in
     let e = s .args .entries .now in
     c .refusal .ensures
-    ∙ turn-stops (l .loop .inv) (inside (a .before .before)) (here (a .before)) (a .asked-of .ensures) (h .hold .ensures) (f .before .entry-before .ensures)
+    ∙ turn-stops (l .loop .inv) (inside (a .before .before)) (a .before .entry-at .ensures) (a .asked-of .ensures) (h .hold .ensures) (f .before .entry-before .ensures)
     (f .fault-by .ensures) (c .before .if1 .taken) (long-same e ∙ s .pre .1 .0) (cut-same e ∙ s .pre .1 .1)
 
 -- a record without a fault
@@ -114,7 +108,7 @@ passed c =
     let f = c .before in
     let h = f .before .before .before .before .before in
     let a = h .before .before .before .before in
-    turned (a .before .before .before .loop .inv) (inside (a .before .before)) (here (a .before)) (a .asked-of .ensures) (h .hold .ensures)
+    turned (a .before .before .before .loop .inv) (inside (a .before .before)) (a .before .entry-at .ensures) (a .asked-of .ensures) (h .hold .ensures)
     (f .before .entry-before .ensures) (f .fault-by .ensures) (c .if1 .left)
 
 part-of-requires : tie.Need-part-of-requires Inv-loop μ-loop

@@ -14,7 +14,7 @@ use Rattle.account.proofs.Lawful.{recorded}
 use Rattle.account.proofs.RateLaws.{rowsFrom, rows-start, rows-next, rows-stop, rows-end}
 use Rattle.writing.specs.Written.{written}
 use Rattle.writing.proofs.Held.{row-at}
-use Rattle.writing.proofs.Placed.{entered-at, count-same}
+use Rattle.writing.proofs.Placed.{count-same}
 use Rattle.writing.proofs.checking.conversions_written.Statement.{statement}
 use Rattle.writing.proofs.checking.conversions_written.Tie as tie
 
@@ -30,29 +30,23 @@ record-count-requires c κs = tt
 loop-holds : tie.Need-loop-holds Inv-loop μ-loop
 loop-holds c = let w = written (c .before .before .before .args .entries .now) in rows-start (ratesOf (records w)) 0 w
 
-entry-at-requires : tie.Need-entry-at-requires Inv-loop μ-loop
-entry-at-requires c κs = tt
-
 -- the record is one of the file
 within : (c : tie.In-loop Inv-loop μ-loop) → c .before .loop .k < recordCount (written (c .before .before .before .before .before .args .entries .now))
 within c =
     let e = c .before .before .before .before .before .args .entries .now in
     omega (arith, c .loop-test .taken, c .before .before .record-count .ensures, count-same e)
 
-here : (c : tie.After-entry-at Inv-loop μ-loop)
-    → c .entry-at .result .now ≡ recordAt (written (c .before .before .before .before .before .before .args .entries .now)) (c .before .before .loop .k)
-here c =
-    let s = c .before .before .before .before .before .before in
-    let e = s .args .entries .now in
-    let k = c .before .before .loop .k in
-    c .entry-at .ensures ∙ entered-at e (s .args .order .now) (s .pre .0) k (omega (arith, within (c .before), count-same e))
+entry-at-requires : tie.Need-entry-at-requires Inv-loop μ-loop
+entry-at-requires c κs =
+    let s = c .before .before .before .before .before in
+    (s .pre .0, omega (arith, within c, count-same (s .args .entries .now)))
 
 answer-at-requires : tie.Need-answer-at-requires Inv-loop μ-loop
 answer-at-requires c κs =
     let s = c .before .before .before .before .before .before in
     let w = written (s .args .entries .now) in
     let row = row-at w (s .pre .1 .accepted) (c .before .before .loop .k) (within (c .before)) in (
-      subst (λ (r : Record). kind r ≡ 3 → Row r) (sym (here c)) row,
+      subst (λ (r : Record). kind r ≡ 3 → Row r) (sym (c .entry-at .ensures)) row,
       record { rates = ratesOf (records w); held = s .pre .1 .rates; within = recorded w (s .pre .1 .accepted) .ranges .rates },
     )
 
@@ -68,7 +62,7 @@ answered c =
     let w = written (s .args .entries .now) in
     let rates = ratesOf (records w) in
     c .answer-at .ensures rates (s .pre .1 .rates) (recorded w (s .pre .1 .accepted) .ranges .rates)
-    ∙ ap (rowAnswer rates k) (here (c .before))
+    ∙ ap (rowAnswer rates k) (c .before .entry-at .ensures)
     ∙ ap (λ (n : ℕ). rowAnswer rates n (recordAt w k)) (sym (zero-add k))
 
 number-of-requires : tie.Need-number-of-requires Inv-loop μ-loop

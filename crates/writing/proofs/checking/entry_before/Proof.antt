@@ -1,14 +1,12 @@
 -- The entry before it in the order, or none.
 -- Assumes nothing.
 use borrow.Author.Needs.{needs}
-use Prim.Native.Nat.{_-_, _<_}
+use Prim.Native.Nat.{_-_}
 use mathlib.Core.Path.{sym, ap, _∙_}
 use native.Mathlib.Omega.{arith}
 use Rattle.account.specs.Notes.{beforeAt}
-use Rattle.account.specs.Records.{recordCount}
 use Rattle.account.proofs.Walk.{before-is}
 use Rattle.writing.specs.Written.{written}
-use Rattle.writing.proofs.Placed.{entered-at}
 use Rattle.writing.proofs.checking.entry_before.Statement.{statement}
 use Rattle.writing.proofs.checking.entry_before.Tie as tie
 
@@ -22,14 +20,12 @@ sub-entry-at : tie.Need-sub-entry-at
 sub-entry-at c = search needs
 
 entry-at-requires : tie.Need-entry-at-requires
-entry-at-requires c κs = search needs
+entry-at-requires c κs = let s = c .before .before .before in (s .pre .0, omega (arith, s .pre .1))
 
 returns-2 : tie.Need-returns-2
 returns-2 c =
-    let s = c .before .before .before .before in
-    let e = s .args .entries .now in
-    let h : s .args .k - 1 < recordCount e = omega (arith, s .pre .1, c .before .if1 .left) in
-    c .entry-at .ensures ∙ entered-at e (s .args .order .now) (s .pre .0) (s .args .k - 1) h ∙ before-is (written e) (s .args .k) (c .before .if1 .left)
+    let a = c .before .before .before .before .args in
+    c .entry-at .ensures ∙ before-is (written (a .entries .now)) (a .k) (c .before .if1 .left)
 
 pub entry-before-spec : {M : Type 1} → statement M
 entry-before-spec =

@@ -1,22 +1,30 @@
--- The record at the place that the order has.
+-- The entry at the place that the order has.
 -- Assumes nothing.
-use borrow.Author.Needs.{needs}
 use mathlib.Core.Path.{ap, _∙_}
+use native.Mathlib.Omega.{arith}
 use Rattle.account.specs.Records.{recordAt}
+use Rattle.writing.proofs.Placed.{place-within, entered-at}
 use Rattle.writing.proofs.filling.entry_at.Statement.{statement}
 use Rattle.writing.proofs.filling.entry_at.Tie as tie
 
 place-at-requires : tie.Need-place-at-requires
-place-at-requires c κs = search needs
+place-at-requires c κs = tt
 
 wide-requires : tie.Need-wide-requires
-wide-requires c κs = search needs
+wide-requires c κs = tt
 
-record-at-requires : tie.Need-record-at-requires
-record-at-requires c κs = search needs
+whole-at-requires : tie.Need-whole-at-requires
+whole-at-requires c κs =
+    let s = c .before .before .before .before in
+    let p = place-within (s .args .entries .now) (s .args .order .now) (s .pre .0) (s .args .k) (s .pre .1) in
+    omega (arith, c .wide .ensures, c .before .place-at .ensures, p)
 
 returns : tie.Need-returns
-returns c = c .record-at .ensures ∙ ap (recordAt (c .before .before .before .before .before .args .entries .now)) (c .before .wide .ensures ∙ c .before .before .place-at .ensures)
+returns c =
+    let s = c .before .before .before .before .before in
+    let e = s .args .entries .now in
+    c .whole-at .ensures ∙ ap (recordAt e) (c .before .wide .ensures ∙ c .before .before .place-at .ensures)
+    ∙ entered-at e (s .args .order .now) (s .pre .0) (s .args .k) (s .pre .1)
 
 pub entry-at-spec : {M : Type 1} → statement M
 entry-at-spec =
@@ -24,5 +32,5 @@ entry-at-spec =
     (tie.spec
     place-at-requires
     wide-requires
-    record-at-requires
+    whole-at-requires
     returns)

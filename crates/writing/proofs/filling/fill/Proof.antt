@@ -1,13 +1,12 @@
 -- One record after the other.
 -- Assumes nothing.
 use borrow.Author.Needs.{needs}
-use Prim.Native.Nat.{_-_, _+_, _<_}
+use Prim.Native.Nat.{_-_, _+_}
 use mathlib.Core.Path.{ap, _∙_}
 use native.Mathlib.Omega.{arith}
 use lib.ListN.{length}
-use Rattle.account.specs.Records.{recordCount}
 use Rattle.writing.specs.Written.{written}
-use Rattle.writing.proofs.Placed.{Filling, filling-start, filling-next, filling-ends, part-long, entered-at, record-long, count-same}
+use Rattle.writing.proofs.Placed.{Filling, filling-start, filling-next, filling-ends, part-long, record-long, count-same}
 use Rattle.writing.proofs.filling.fill.Statement.{statement}
 use Rattle.writing.proofs.filling.fill.Tie as tie
 
@@ -24,7 +23,9 @@ add-entry-at : tie.Need-add-entry-at Inv-loop μ-loop
 add-entry-at c = omega (arith, c .before .before .before .before .before .pre .1 .0, c .loop-test .taken)
 
 entry-at-requires : tie.Need-entry-at-requires Inv-loop μ-loop
-entry-at-requires c κs = tt
+entry-at-requires c κs =
+    let s = c .before .before .before .before .before in
+    (s .pre .0, omega (arith, s .pre .1 .0, c .loop-test .taken))
 
 mul-start : tie.Need-mul-start Inv-loop μ-loop
 mul-start c = omega (arith, c .before .before .before .before .before .before .pre .1 .0, c .before .loop-test .taken)
@@ -49,10 +50,7 @@ copy-bytes-requires c κs =
     let e = s .args .entries .now in
     let more = c .before .before .loop-test .taken in
     let p = part-long e (s .args .k) (s .args .n) (s .args .out .now) (l .out) (l .i) (l .inv) more (s .pre .1 .0) (s .pre .1 .1) in
-    let h : s .args .k + l .i < recordCount e = omega (arith, more, s .pre .1 .0) in
-    let r =
-    ap length (c .before .entry-at .ensures ∙ entered-at e (s .args .order .now) (s .pre .0) (s .args .k + l .i) h)
-    ∙ record-long (written e) (s .args .k + l .i) (omega (arith, h, count-same e)) in
+    let r = ap length (c .before .entry-at .ensures) ∙ record-long (written e) (s .args .k + l .i) (omega (arith, more, s .pre .1 .0, count-same e)) in
     omega (arith, p, r)
 
 add-i : tie.Need-add-i Inv-loop μ-loop
@@ -67,9 +65,8 @@ loop-again c =
     let l = c .before .before .before .before .before .before .loop in
     let e = s .args .entries .now in
     let more = c .before .before .before .before .before .loop-test .taken in
-    let h : s .args .k + l .i < recordCount e = omega (arith, more, s .pre .1 .0) in
     filling-next e (s .args .k) (s .args .n) (s .args .out .now) (l .out) (l .i) (l .inv) more (s .pre .1 .0) (s .pre .1 .1)
-    (c .before .before .before .before .entry-at .ensures ∙ entered-at e (s .args .order .now) (s .pre .0) (s .args .k + l .i) h)
+    (c .before .before .before .before .entry-at .ensures)
     (c .before .before .copy-bytes .ensures)
 
 same-length : tie.Need-same-length Inv-loop μ-loop

@@ -18,7 +18,7 @@ use Rattle.account.specs.Check.{recordsChecked, none, listsContract, lis
 use Rattle.account.specs.Notes.{part, inPart}
 use Rattle.account.specs.Orders.{RatesRise}
 use Rattle.account.specs.Parts.{ofKind, ofContract, onDay, startOf, promptsOf, ratesOf}
-use Rattle.account.specs.Records.{recordAt, records, recordCount, stretch, earlier}
+use Rattle.account.specs.Records.{cut, recordAt, records, recordCount, stretch, earlier}
 use Rattle.account.specs.Surveyed.{contractCount, partCount}
 use Rattle.account.specs.declared.answers.Answer.the-variants.{Accepted}
 use Rattle.account.proofs.Days.{days}
@@ -47,6 +47,19 @@ few-rates rs up within = go (length rs) refl
     go : (n : ℕ) → length rs ≡ n → length rs ≤ 7
     go zero e = omega arith
     go (suc n) e = omega (arith, above n (omega arith), every-at RateWithin rs within n (omega arith) .currencies .most)
+
+-- a limit holds of the records before record k
+pub part-few :
+    (file : List ℕ) (k : ℕ) → Faultless file k → (n c most : ℕ)
+    → ((es : List Record) (r : Record) → kind r ≡ n → overLimit es r ≡ leb most (count (ofContract n (contract r)) es))
+    → count (ofContract n c) (cut k file) ≤ most
+part-few file k fine n c most law =
+    few (ofContract n c) file most k (λ j h e.
+    let r = recordAt file j in
+    let i = kind-of n c r e in
+    let room = leb-false most (count (ofContract n (contract r)) (earlier file j))
+    (sym (law (earlier file j) r (i .0)) ∙ passed-at file k fine j h .room) in
+    subst (λ (d : ℕ). count (ofContract n d) (earlier file j) < most) (i .1) room)
 
 module _ (file : List ℕ) (ok : recordsChecked file ≡ Accepted) where
   fine : Faultless file (recordCount file)
@@ -122,33 +135,15 @@ module _ (file : List ℕ) (ok : recordsChecked file ≡ Accepted) where
       }
 
   -- ---- limits
-  part-few :
-      (n c most : ℕ)
-      → ((es : List Record) (r : Record) → kind r ≡ n → overLimit es r ≡ leb most
-      (count (ofContract n (contract r)) es))
-      → length (keep (ofContract n c) (records file)) ≤ most
-  part-few n c most law =
-      let m = recordCount file in
-      omega (
-        arith,
-        length-kept (ofContract n c) (records file),
-        few (ofContract n c) file most m (λ k h e.
-            let r = recordAt file k in
-            let i = kind-of n c r e in
-            let room = leb-false most (count (ofContract n (contract r)) (earlier file k))
-            (sym (law (earlier file k) r (i .0)) ∙ at k h .room) in
-            subst (λ (d : ℕ). count (ofContract n d) (earlier file k) < most) (i .1) room),
-      )
-
   limits-hold : Limits (records file)
   limits-hold =
       let m = recordCount file in
       record {
         all = short;
         contracts = omega (arith, length-kept (ofKind 1) (records file), own file m fine .most);
-        prompts = λ c. part-few 2 c 32 over-2;
-        rows = λ c. part-few 3 c 128 over-3;
-        spreads = λ c. part-few 4 c 32 over-4;
+        prompts = λ c. omega (arith, length-kept (ofContract 2 c) (records file), part-few file m fine 2 c 32 over-2);
+        rows = λ c. omega (arith, length-kept (ofContract 3 c) (records file), part-few file m fine 3 c 128 over-3);
+        spreads = λ c. omega (arith, length-kept (ofContract 4 c) (records file), part-few file m fine 4 c 32 over-4);
         entries =
             omega (
               arith,

@@ -46,7 +46,7 @@ fn refused(answer: Answer) -> Survey
     }
 }
 
-fn note_first(first: &mut [u16], counts: &[u16], v: usize, k: usize)
+pub fn note_first(first: &mut [u16], counts: &[u16], v: usize, k: usize)
     requires { ⌜ (v < length (now first)) × (k < mostRecords) ⌝ }
     ensures { λ _. ⌜ now (first .exit) ≡ startNoted (now (first .entry)) (now (counts .entry)) v k ⌝ }
 {
@@ -55,7 +55,7 @@ fn note_first(first: &mut [u16], counts: &[u16], v: usize, k: usize)
     }
 }
 
-fn note_one(counts: &mut [u16], v: usize)
+pub fn note_one(counts: &mut [u16], v: usize)
     requires { ⌜ (v < length (now counts)) × (getD (now counts) v 0 < mostRecords) ⌝ }
     ensures { λ _. ⌜ now (counts .exit) ≡ oneMore (now (counts .entry)) v ⌝ }
 {

@@ -17,7 +17,7 @@ use record::refusals::unknown_kind;
 use record::refusals::unused_byte;
 
 // `prompts` are those of the record's contract, `before` is the record before.
-fn fault(counts: &[u16], prompts: &[u8], before: &[u8], r: &[u8]) -> usize
+pub fn fault(counts: &[u16], prompts: &[u8], before: &[u8], r: &[u8]) -> usize
     ensures { λ n. ⌜ n ≡ faultBy (now (counts .entry)) (records (now (prompts .entry))) (now (before .entry)) (now (r .entry)) ⌝ }
 {
     if unknown_kind(r) {

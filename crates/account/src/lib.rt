@@ -10,7 +10,7 @@ pub mod listed; // listed.rt: refusal 7
 mod order; // order.rt: refusals 4 and 8
 pub mod limits; // limits.rt: refusal 9
 mod passing; // passing.rt: runs of sound records
-mod fault; // fault.rt: the first refusal of a record
+pub mod fault; // fault.rt: the first refusal of a record
 pub mod conversions; // conversions.rt: refusals 14 and 15
 pub mod check; // check.rt: the check of a file
 pub mod accounts; // accounts.rt: an account, in one file or in two

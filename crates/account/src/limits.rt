@@ -5,7 +5,7 @@ use crate::notes::noted;
 use crate::notes::part_of;
 use record::fields::kind;
 
-pub(crate) const MOST_PROMPTS: usize = 32;
+pub const MOST_PROMPTS: usize = 32;
 
 // "per contract .. 128 rows"
 pub const MOST_ROWS: usize = 128;

@@ -21,7 +21,7 @@ pub(crate) fn note_at(notes: &[u16], v: usize) -> u16
     if v < notes.len() { notes[v] } else { 0 }
 }
 
-pub(crate) fn noted(notes: &[u16], v: usize) -> usize
+pub fn noted(notes: &[u16], v: usize) -> usize
     ensures { λ n. ⌜ n ≡ getD (now (notes .entry)) v 0 ⌝ }
 {
     wide(note_at(notes, v))

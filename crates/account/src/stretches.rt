@@ -35,7 +35,7 @@ pub fn record_at(file: &[u8], k: usize) -> &[u8]
 }
 
 // Record `k` where the file has it, read at its known length.
-pub(crate) fn whole_at(file: &[u8], k: usize) -> &[u8]
+pub fn whole_at(file: &[u8], k: usize) -> &[u8]
     requires { ⌜ k < recordCount (now file) ⌝ }
     ensures { λ r. ⌜ now r ≡ recordAt (now (file .entry)) k ⌝ }
 {

@@ -1,12 +1,12 @@
 -- What comes back from the verdict on the written file and the bytes lent.
 -- Assumes nothing.
-use Prim.Native.Nat.{ℕ, _+_, _*_, _%_, _≤_, _<_}
+use Prim.Native.Nat.{ℕ, _*_, _≤_, _<_}
 use mathlib.Core.Path.{_≡_, refl, sym, ap, _∙_}
-use mathlib.Core.Bool.{Bool, true, false, not, cond, _&&_}
+use mathlib.Core.Bool.{Bool, true, false, cond, _&&_}
 use mathlib.Core.List.{List, [], _++_}
 use lib.Dec.{eqb, ltb}
-use lib.ListN.{length, getD, take, drop}
-use lib.Seq.{take-at}
+use lib.ListN.{length, getD, drop}
+use lib.Seq.{take-all}
 use native.Mathlib.Omega.{arith}
 use borrow.Author.Tests.{ne-eqb, eq-eqb, lt-ltb, le-ltb}
 use Rattle.account.specs.Answers.{numberOf, recordOf, refusal}
@@ -17,10 +17,10 @@ use Rattle.account.specs.declared.answers.Answer.{Answer}
 use Rattle.account.specs.declared.answers.Answer.the-variants.{Accepted, TooLong, CutRecord, TooFewBytes}
 use Rattle.account.proofs.NoonLaws.{accepted-only}
 use Rattle.account.proofs.Verdict.{too-long, cut-short}
-use Rattle.writing.specs.Order.{Ordered, places}
-use Rattle.writing.specs.Written.{written, inPlaces, asEntered, verdictOn, fine, answerTo, bytesFor, afterwards, WrittenBy}
+use Rattle.writing.specs.Order.{places}
+use Rattle.writing.specs.Written.{written, filled, asEntered, verdictOn, fine, answerTo, bytesFor, afterwards, WrittenBy}
 use Rattle.writing.specs.declared.Written.{Written}
-use Rattle.writing.proofs.Placed.{written-long, nothing-over, whole-written, in-order}
+use Rattle.writing.proofs.Placed.{written-long, nothing-over, long-same, cut-same}
 
 -- ---- too long, and cut: as the list itself
 checked-long : (file : List ℕ) → tooLong file ≡ true → checked file ≡ TooLong
@@ -32,13 +32,12 @@ checked-cut file e f = ap (λ (a : Answer). cond (eqb (numberOf a) 0) (ratesChec
 long-verdict : (entries : List ℕ) → tooLong entries ≡ true → verdictOn entries ≡ TooLong
 long-verdict entries e =
     ap (asEntered (places entries))
-    (checked-long (written entries) (ap (λ (n : ℕ). ltb 61440 n) (written-long entries) ∙ e))
+    (checked-long (written entries) (long-same entries ∙ e))
 
 cut-verdict : (entries : List ℕ) → tooLong entries ≡ false → cutRecord entries ≡ true → verdictOn entries ≡ CutRecord
 cut-verdict entries e f =
     ap (asEntered (places entries))
-    (checked-cut (written entries) (ap (λ (n : ℕ). ltb 61440 n) (written-long entries) ∙ e)
-    (ap (λ (n : ℕ). not (eqb (n % 96) 0)) (written-long entries) ∙ f))
+    (checked-cut (written entries) (long-same entries ∙ e) (cut-same entries ∙ f))
 
 module _ (entries lent after : List ℕ) (w : Written) (same : after ≡ lent) where
   -- a refusal of the written file
@@ -82,11 +81,10 @@ module _ (entries lent after : List ℕ) (w : Written) (same : after ≡ lent) w
       }
 
 pub writes :
-    (entries order lent after : List ℕ) (w : Written) → Ordered entries order → cutRecord entries ≡ false → numberOf (verdictOn entries) ≡ 0
-    → length entries ≤ length lent
-    → after ≡ inPlaces entries (take (recordCount entries) order) ++ drop (recordCount entries * 96) lent
+    (entries lent after : List ℕ) (w : Written) → cutRecord entries ≡ false → numberOf (verdictOn entries) ≡ 0
+    → length entries ≤ length lent → after ≡ filled entries 0 (recordCount entries) lent
     → w .answer ≡ Accepted → w .bytes ≡ length entries → WrittenBy entries lent w after
-writes entries order lent after w o whole z l h ha hb =
+writes entries lent after w whole z l h ha hb =
     let f : fine (verdictOn entries) ≡ true = eq-eqb (numberOf (verdictOn entries)) 0 z in
     let s : ltb (length lent) (length (written entries)) ≡ false =
     le-ltb (length lent) (length (written entries)) (omega (arith, written-long entries)) in
@@ -94,12 +92,12 @@ writes entries order lent after w o whole z l h ha hb =
     ap (λ (b : Bool). cond (b && ltb (length lent) (length (written entries))) TooFewBytes (verdictOn entries)) f
     ∙ ap (λ (b : Bool). cond b TooFewBytes (verdictOn entries)) s ∙ accepted-only (verdictOn entries) z in
     let on : fine (answerTo entries (length lent)) ≡ true = ap fine is in
-    let n : recordCount entries * 96 ≡ length (written entries) = nothing-over entries whole .0 ∙ sym (written-long entries) in
+    let n : recordCount entries * 96 ≡ length (written entries) = nothing-over entries whole ∙ sym (written-long entries) in
     record {
       answer = ha ∙ sym is;
       bytes = hb ∙ sym (written-long entries) ∙ sym (ap (λ (b : Bool). cond b (length (written entries)) 0) on);
       out =
-          h ∙ ap (λ (xs : List ℕ). xs ++ drop (recordCount entries * 96) lent) (in-order entries order o ∙ sym (whole-written entries whole))
+          h ∙ ap (λ (xs : List ℕ). xs ++ drop (recordCount entries * 96) lent) (take-all (recordCount entries * 96) (written entries) (omega arith))
           ∙ ap (λ (m : ℕ). written entries ++ drop m lent) n
           ∙ sym (ap (λ (b : Bool). cond b (written entries ++ drop (length (written entries)) lent) lent) on);
     }
@@ -119,12 +117,3 @@ entered-late order a {n} {k} {p} {x} {r} hn h hk hp hx hr =
     hr ∙ ap (λ (m : ℕ). refusal m x) hn
     ∙ ap (refusal (numberOf a)) (hx ∙ hp ∙ ap (λ (i : ℕ). getD order i 0) hk)
     ∙ sym (ap (λ (b : Bool). cond b a (refusal (numberOf a) (getD order (recordOf a) 0))) t)
-
--- ---- the file put in order by itself
-pub front-written :
-    (entries order file after : List ℕ) → Ordered entries order → cutRecord entries ≡ false
-    → file ≡ inPlaces entries (take (recordCount entries) order) ++ after → take (length entries) file ≡ written entries
-front-written entries order file after o whole h =
-    let is : inPlaces entries (take (recordCount entries) order) ≡ written entries = in-order entries order o ∙ sym (whole-written entries whole) in
-    ap (take (length entries)) (h ∙ ap (λ (xs : List ℕ). xs ++ after) is)
-    ∙ take-at (written entries) after (length entries) (written-long entries)

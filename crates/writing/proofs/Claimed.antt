@@ -1,22 +1,21 @@
 -- The claims of the writer.
 -- Assumes nothing.
-use Prim.Native.Nat.{ℕ, zero, suc, _+_, _*_, _/_, _%_, _≤_, _<_}
+use Prim.Native.Nat.{ℕ, zero, suc, _+_, _*_, _≤_, _<_}
 use mathlib.Core.Logic.{_⊎_, ⊎-elim}
 use mathlib.Core.Path.{_≡_, refl, sym, ap, subst, subst⁻¹, _∙_}
-use mathlib.Core.Bool.{Bool, true, false, not, cond, _&&_, _||_, false≢true}
-use mathlib.Core.List.{List, [], _∷_, map}
-use lib.Dec.{eqb, ltb}
-use lib.ListN.{length, getD, take, drop, length-map, length-drop}
+use mathlib.Core.Bool.{Bool, true, false, cond, _&&_, _||_, false≢true}
+use mathlib.Core.List.{List}
+use lib.Dec.{ltb}
+use lib.ListN.{length, getD, drop}
 use lib.Seq.{getD-take, getD-drop}
 use native.Mathlib.Decide.{ℕ-discrete}
 use native.Mathlib.Omega.{arith}
 use borrow.Author.Tests.{eq-eqb, ne-eqb, lt-ltb, le-ltb, ltb-true, ltb-false}
-use Rattle.exact.proofs.Lists.{getD-map}
 use Rattle.record.specs.Bytes.{byteAt}
 use Rattle.record.specs.Layout.{Record, kind, contract, day}
 use Rattle.record.specs.Ranges.{unknownKind}
 use Rattle.account.specs.Answers.{numberOf, recordOf, refusal}
-use Rattle.account.specs.Check.{tooLong, cutRecord, kindFalls, theOneBefore}
+use Rattle.account.specs.Check.{kindFalls, theOneBefore}
 use Rattle.account.specs.Checked.{checked}
 use Rattle.account.specs.Claims.{Iff, Gives, First, Exactly}
 use Rattle.account.specs.Records.{records, recordAt, recordCount, earlier}
@@ -25,11 +24,10 @@ use Rattle.account.specs.declared.answers.Answer.the-variants.{Accepted, TooFew
 use Rattle.account.proofs.Claimed as account
 use Rattle.account.proofs.Firsts.{number-refusal, record-refusal}
 use Rattle.account.proofs.NoonLaws.{accepted-only}
-use Rattle.account.proofs.Orders.{cut-at}
 use Rattle.writing.specs.Claims.{Bytes, Answers, FirstEntered, RateEntered, Refuses, Never, RoundTrips, Claims}
 use Rattle.writing.specs.Order.{ofItsKind, rank, rankAt, places}
 use Rattle.writing.specs.Written.{written, asEntered, verdictOn, fine, answerTo}
-use Rattle.writing.proofs.Placed.{written-long, read-back, through, places-long, places-all, all-at}
+use Rattle.writing.proofs.Placed.{written-long, long-same, cut-same, count-same, record-is, read-back, through, places-long, places-all, all-at}
 use Rattle.writing.proofs.Same.{same-bytes, its-small}
 use Rattle.writing.proofs.Stable.{sorts}
 
@@ -62,16 +60,6 @@ module _ (entries : List ℕ) where
 
   abbrev exactly : Exactly W
   exactly = account.claimed W .exactly
-
-  -- the written file is as long as the list
-  long-same : tooLong W ≡ tooLong entries
-  long-same = ap (λ (n : ℕ). ltb 61440 n) (written-long entries)
-
-  cut-same : cutRecord W ≡ cutRecord entries
-  cut-same = ap (λ (n : ℕ). not (eqb (n % 96) 0)) (written-long entries)
-
-  count-same : recordCount W ≡ recordCount entries
-  count-same = ap (λ (n : ℕ). n / 96) (written-long entries)
 
   -- ---- the verdict at the entry's place
   early : numberOf told < 3 → verdictOn entries ≡ told
@@ -148,16 +136,16 @@ module _ (entries : List ℕ) where
         record {
           one =
               record {
-                forth = λ a. sym long-same ∙ exactly .one .forth (early-gives 1 (λ z. omega arith) (omega arith) a);
-                back = λ e. early-answers 1 (λ z. omega arith) (omega arith) (exactly .one .back (long-same ∙ e));
+                forth = λ a. sym (long-same entries) ∙ exactly .one .forth (early-gives 1 (λ z. omega arith) (omega arith) a);
+                back = λ e. early-answers 1 (λ z. omega arith) (omega arith) (exactly .one .back (long-same entries ∙ e));
               };
           two =
               record {
                 forth =
                     λ a.
                     let t = exactly .two .forth (early-gives 2 (λ z. omega arith) (omega arith) a) in
-                    (sym long-same ∙ t .0, sym cut-same ∙ t .1);
-                back = λ e. early-answers 2 (λ z. omega arith) (omega arith) (exactly .two .back (long-same ∙ e .0, cut-same ∙ e .1));
+                    (sym (long-same entries) ∙ t .0, sym (cut-same entries) ∙ t .1);
+                back = λ e. early-answers 2 (λ z. omega arith) (omega arith) (exactly .two .back (long-same entries ∙ e .0, cut-same entries ∙ e .1));
               };
           others = λ n p l u. record { forth = other-forth n p l u; back = other-back n p l u };
           rates = λ n p l u. record { forth = rate-forth n p l u; back = rate-back n p l u };
@@ -233,13 +221,6 @@ module _ (entries : List ℕ) where
               place = ap recordOf same ∙ late-record (omega arith) ∙ ap (λ (k : ℕ). getD (places entries) k 0) (g .place) ∙ f .entered;
             }
 
-  -- ---- a record of the written file is the entry at its place
-  pub record-is : (k : ℕ) → k < recordCount entries → recordAt W k ≡ recordAt entries (getD (places entries) k 0)
-  record-is k h =
-      sym (cut-at (recordCount W) k W (omega (arith, count-same)))
-      ∙ ap (λ (rs : List Record). getD rs k []) (read-back entries ∙ sym (through entries))
-      ∙ getD-map (recordAt entries) (places entries) k 0 [] (omega (arith, places-long entries))
-
   place-in : (k : ℕ) → k < recordCount entries → getD (places entries) k 0 < recordCount entries
   place-in k h = all-at (λ (j : ℕ). j < recordCount entries) 0 (places entries) (places-all entries) k (omega (arith, places-long entries))
 
@@ -250,9 +231,9 @@ module _ (entries : List ℕ) where
 
   three-not : ((k : ℕ) → k < recordCount entries → unknownKind (recordAt entries k) ≡ false) → (k : ℕ) → First W 3 k → ⊥
   three-not known k f =
-      let h : k < recordCount entries = omega (arith, count-same, f .there) in
+      let h : k < recordCount entries = omega (arith, count-same entries, f .there) in
       let u : unknownKind (recordAt W k) ≡ true = third _ true true true true true true (f .holds) in
-      false≢true (sym (known (getD (places entries) k 0) (place-in k h)) ∙ ap unknownKind (sym (record-is k h)) ∙ u)
+      false≢true (sym (known (getD (places entries) k 0) (place-in k h)) ∙ ap unknownKind (sym (record-is entries k h)) ∙ u)
 
   -- bytes of a record
   byte-small : Bytes entries → (p i : ℕ) → i < 96 → byteAt (recordAt entries p) i < 256
@@ -288,11 +269,11 @@ module _ (entries : List ℕ) where
       let u : kindFalls (theOneBefore (earlier W 0)) (recordAt W 0) ≡ true = fourth _ (f .holds) in
       omega (arith, ltb-true (kind (recordAt W 0)) 0 u)
   four-not b (suc k) f =
-      let h : suc k < recordCount entries = omega (arith, count-same, f .there) in
+      let h : suc k < recordCount entries = omega (arith, count-same entries, f .there) in
       let u : kindFalls (theOneBefore (earlier W (suc k))) (recordAt W (suc k)) ≡ true = fourth _ (f .holds) in
       let l = ltb-true (kind (recordAt W (suc k))) (kind (recordAt W k)) u in
-      let a = ap kind (record-is k (omega arith)) in
-      let c = ap kind (record-is (suc k) h) in
+      let a = ap kind (record-is entries k (omega arith)) in
+      let c = ap kind (record-is entries (suc k) h) in
       omega (arith, l, a, c, kinds-rise b k (suc k) (omega arith) h)
 
   pub never : (lent : ℕ) → Never entries lent

@@ -3,6 +3,7 @@ pub mod Halves
 pub mod Placed
 pub mod Ranks
 pub mod Answered
+pub mod Held
 pub mod Stable
 pub mod Same
 pub mod Claimed

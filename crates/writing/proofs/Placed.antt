@@ -4,26 +4,26 @@ use Prim.Native.Nat.{ℕ, zero, suc, _+_, _-_, _*_, _/_, _%_, _≤_, _<_}
 use mathlib.Core.Logic.{_⊎_, ⊎-elim}
 use mathlib.Core.Path.{_≡_, refl, sym, ap, subst, subst⁻¹, _∙_}
 use mathlib.Core.Bool.{Bool, true, false, not, cond}
-use mathlib.Core.List.{List, [], _∷_, _++_, map, append-assoc, append-nil, map-append}
+use mathlib.Core.List.{List, [], _∷_, _++_, map, append-assoc, map-append}
 use lib.Dec.{eqb, leb, ltb}
-use lib.ListN.{length, getD, take, drop, length-append, length-drop, length-map, drop-of-length-le, take-append-drop}
-use lib.Seq.{length-take-le, take-add, take-at, drop-at, take-suc, take-take, take-all, getD-take, drop-drop}
+use lib.ListN.{length, getD, take, drop, length-append, length-drop, length-map}
+use lib.Seq.{length-take-le, take-add, take-at, drop-at, take-all, getD-take, drop-drop}
 use native.Mathlib.Omega.{arith}
-use native.Mathlib.Numerals.{add-one}
-use borrow.Author.Tests.{eqb-true, not-false, ltb-false, le-ltb}
+use borrow.Author.Tests.{eqb-true, not-false, ltb-false}
+use Rattle.exact.proofs.Lists.{getD-map}
 use Rattle.record.specs.Bytes.{countFrom}
 use Rattle.record.specs.Layout.{Record}
 use Rattle.account.specs.Answers.{numberOf, recordOf, refusal}
 use Rattle.account.specs.Check.{tooLong, cutRecord}
 use Rattle.account.specs.Checked.{checked}
-use Rattle.account.specs.Records.{cut, records, recordAt, recordCount}
-use Rattle.account.specs.declared.answers.Answer.{Answer}
+use Rattle.account.specs.Records.{cut, stretch, records, recordAt, recordCount}
 use Rattle.account.proofs.Claimed.{claimed}
 use Rattle.account.proofs.Earlier.{cut-more}
+use Rattle.account.proofs.Orders.{cut-at}
 use Rattle.account.proofs.Walk.{length-cut}
-use Rattle.writing.specs.Order.{rank, rankAt, places, Keyed, Ordered}
-use Rattle.writing.specs.Sorting.{keyAt, putIn, sorted}
-use Rattle.writing.specs.Written.{together, inPlaces, leftOver, written, asEntered, verdictOn}
+use Rattle.writing.specs.Order.{rank, rankAt, places, Ordered}
+use Rattle.writing.specs.Sorting.{putIn, sorted}
+use Rattle.writing.specs.Written.{together, leftOver, written, filled, asEntered, verdictOn}
 use Rattle.writing.proofs.Halves.{count-more, length-count}
 use Rattle.writing.proofs.Sorting.{sorted-map, length-sorted}
 
@@ -33,11 +33,6 @@ All P [] = Unit
 All P (x ∷ xs) = P x × All P xs
 
 module _ {A : Type 0} (P : A → Type 0) where
-  pub all-take : (k : ℕ) (xs : List A) → All P xs → All P (take k xs)
-  all-take zero xs h = tt
-  all-take (suc k) [] h = tt
-  all-take (suc k) (x ∷ xs) h = (h .0, all-take k xs (h .1))
-
   pub all-at : (d : A) (xs : List A) → All P xs → (i : ℕ) → i < length xs → P (getD xs i d)
   all-at d [] h i l = absurd (omega arith)
   all-at d (x ∷ xs) h zero l = h .0
@@ -110,11 +105,6 @@ pub together-long : (rs : List Record) → All (λ (r : Record). length r ≡ 96
 together-long [] h = refl
 together-long (r ∷ rs) h = omega (arith, length-append r (together rs), together-long rs (h .1), h .0)
 
-together-append : (rs ss : List Record) → together (rs ++ ss) ≡ together rs ++ together ss
-together-append [] ss = refl
-together-append (r ∷ rs) ss =
-    ap (λ (xs : List ℕ). r ++ xs) (together-append rs ss) ∙ sym (append-assoc r (together rs) (together ss))
-
 pub together-cut : (n : ℕ) (file : List ℕ) → together (cut n file) ≡ take (n * 96) file
 together-cut zero file = refl
 together-cut (suc n) file =
@@ -132,20 +122,21 @@ written-long entries =
     let d : length (leftOver entries) ≡ length entries - n * 96 = length-drop (n * 96) entries in
     omega (arith, length-append (together rs) (leftOver entries))
 
-pub nothing-over : (entries : List ℕ) → cutRecord entries ≡ false → (recordCount entries * 96 ≡ length entries) × (leftOver entries ≡ [])
+pub nothing-over : (entries : List ℕ) → cutRecord entries ≡ false → recordCount entries * 96 ≡ length entries
 nothing-over entries e =
     let z : length entries % 96 ≡ 0 = eqb-true (length entries % 96) 0 (not-false (eqb (length entries % 96) 0) e) in
-    (omega arith, drop-of-length-le entries {i = recordCount entries * 96} (omega arith))
+    omega arith
 
-pub whole-written : (entries : List ℕ) → cutRecord entries ≡ false → written entries ≡ together (sorted rank (records entries))
-whole-written entries e =
-    ap (λ (xs : List ℕ). together (sorted rank (records entries)) ++ xs) (nothing-over entries e .1)
-    ∙ append-nil (together (sorted rank (records entries)))
+-- so it gets 1 and 2 as the list itself would
+module _ (entries : List ℕ) where
+  pub long-same : tooLong (written entries) ≡ tooLong entries
+  long-same = ap (λ (n : ℕ). ltb 61440 n) (written-long entries)
 
-pub in-order :
-    (entries order : List ℕ) → Ordered entries order
-    → inPlaces entries (take (recordCount entries) order) ≡ together (sorted rank (records entries))
-in-order entries order o = ap (inPlaces entries) (o .first) ∙ ap together (through entries)
+  pub cut-same : cutRecord (written entries) ≡ cutRecord entries
+  cut-same = ap (λ (n : ℕ). not (eqb (n % 96) 0)) (written-long entries)
+
+  pub count-same : recordCount (written entries) ≡ recordCount entries
+  count-same = ap (λ (n : ℕ). n / 96) (written-long entries)
 
 -- ---- read back
 pub cut-together :
@@ -163,26 +154,17 @@ read-back entries =
     let rs = sorted rank (records entries) in
     let m : length rs ≡ recordCount entries =
     ap length (sym (through entries)) ∙ length-map (places entries) (recordAt entries) ∙ places-long entries in
-    let c : recordCount (written entries) ≡ length rs = ap (λ (n : ℕ). n / 96) (written-long entries) ∙ sym m in
+    let c : recordCount (written entries) ≡ length rs = count-same entries ∙ sym m in
     ap (λ (n : ℕ). cut n (written entries)) c ∙ cut-together rs (leftOver entries) (records-long entries)
 
--- ---- the loop that fills
-pub record Filling (entries order out₀ out : List ℕ) (k : ℕ) : Type 0 where
-  pub long : length out ≡ length out₀
-  pub inside : k ≤ recordCount entries
-  pub done : out ≡ inPlaces entries (take k order) ++ drop (k * 96) out₀
+-- a record of the written file is the entry at its place
+pub record-is : (entries : List ℕ) (k : ℕ) → k < recordCount entries → recordAt (written entries) k ≡ recordAt entries (getD (places entries) k 0)
+record-is entries k h =
+    sym (cut-at (recordCount (written entries)) k (written entries) (omega (arith, count-same entries)))
+    ∙ ap (λ (rs : List Record). getD rs k []) (read-back entries ∙ sym (through entries))
+    ∙ getD-map (recordAt entries) (places entries) k 0 [] (omega (arith, places-long entries))
 
 module _ (entries order : List ℕ) (o : Ordered entries order) where
-  order-within : recordCount entries ≤ length order
-  order-within =
-      let l : length (take (recordCount entries) order) ≡ recordCount entries = ap length (o .first) ∙ places-long entries in
-      subst (λ (n : ℕ). n ≤ length order) l (take-short (recordCount entries) order)
-    where
-      take-short : (n : ℕ) (xs : List ℕ) → length (take n xs) ≤ length xs
-      take-short zero xs = omega arith
-      take-short (suc n) [] = omega arith
-      take-short (suc n) (x ∷ xs) = omega (arith, take-short n xs)
-
   pub at-place : (k : ℕ) → k < recordCount entries → getD order k 0 ≡ getD (places entries) k 0
   at-place k h = sym (getD-take (recordCount entries) order k 0 h) ∙ ap (λ (xs : List ℕ). getD xs k 0) (o .first)
 
@@ -191,89 +173,87 @@ module _ (entries order : List ℕ) (o : Ordered entries order) where
       subst⁻¹ (λ (j : ℕ). j < recordCount entries) (at-place k h)
       (all-at (λ (j : ℕ). j < recordCount entries) 0 (places entries) (places-all entries) k (omega (arith, places-long entries)))
 
-  first-few : (k : ℕ) → k ≤ recordCount entries → take k order ≡ take k (places entries)
-  first-few k h = sym (take-take k (recordCount entries) order h) ∙ ap (take k) (o .first)
+  -- record k of the file, where it was entered
+  pub entered-at : (k : ℕ) → k < recordCount entries → recordAt entries (getD order k 0) ≡ recordAt (written entries) k
+  entered-at k h = ap (recordAt entries) (at-place k h) ∙ sym (record-is entries k h)
 
-  filled-long : (k : ℕ) → k ≤ recordCount entries → length (inPlaces entries (take k order)) ≡ k * 96
-  filled-long k h =
-      let ks = take k (places entries) in
-      let n : length ks ≡ k = length-take-le k (places entries) (omega (arith, places-long entries)) in
-      ap (λ (xs : List ℕ). length (inPlaces entries xs)) (first-few k h)
-      ∙ together-long (map (recordAt entries) ks)
-      (all-map (λ (r : Record). length r ≡ 96) (recordAt entries) ks
-      (all-weaker (λ (j : ℕ). j < recordCount entries) (λ (j : ℕ). length (recordAt entries j) ≡ 96) (record-long entries) ks
-      (all-take (λ (j : ℕ). j < recordCount entries) k (places entries) (places-all entries))))
-      ∙ ap (λ (m : ℕ). m * 96) (length-map ks (recordAt entries) ∙ n)
+-- ---- the loop that fills
+module _ (file : List ℕ) (k i : ℕ) where
+  stretch-long : k + i ≤ recordCount file → length (stretch file k i) ≡ i * 96
+  stretch-long h =
+      let d : length (drop (k * 96) file) ≡ length file - k * 96 = length-drop (k * 96) file in
+      length-take-le (i * 96) (drop (k * 96) file) (omega arith)
 
-  filled-more :
-      (k : ℕ) → k < recordCount entries
-      → inPlaces entries (take (k + 1) order) ≡ inPlaces entries (take k order) ++ recordAt entries (getD order k 0)
-  filled-more k h =
-      let r = recordAt entries (getD order k 0) in
-      ap (λ (n : ℕ). inPlaces entries (take n order)) (add-one k)
-      ∙ ap (inPlaces entries) (take-suc order k 0 (omega (arith, order-within)))
-      ∙ ap together (map-append (recordAt entries) (take k order) (getD order k 0 ∷ []))
-      ∙ together-append (map (recordAt entries) (take k order)) (r ∷ [])
-      ∙ ap (λ (xs : List ℕ). inPlaces entries (take k order) ++ xs) (append-nil r)
+  stretch-more : stretch file k (i + 1) ≡ stretch file k i ++ recordAt file (k + i)
+  stretch-more =
+      let e : (i + 1) * 96 ≡ i * 96 + 96 = omega arith in
+      let f : k * 96 + i * 96 ≡ (k + i) * 96 = omega arith in
+      ap (λ (m : ℕ). take m (drop (k * 96) file)) e ∙ take-add (i * 96) 96 (drop (k * 96) file)
+      ∙ ap (λ (xs : List ℕ). stretch file k i ++ take 96 xs) (drop-drop (i * 96) (k * 96) file ∙ ap (λ (m : ℕ). drop m file) f)
 
-  pub filling-start : (out : List ℕ) → Filling entries order out out 0
-  filling-start out = record { long = refl; inside = omega arith; done = refl }
+pub record Filling (entries : List ℕ) (k n : ℕ) (out₀ out : List ℕ) (i : ℕ) : Type 0 where
+  pub long : length out ≡ length out₀
+  pub inside : i ≤ n
+  pub done : out ≡ filled entries k i out₀
 
-  module _ (out₀ out : List ℕ) (k : ℕ) (f : Filling entries order out₀ out k) (more : k < recordCount entries)
-      (room : recordCount entries * 96 ≤ length out₀) where
-    -- the part that one record takes
-    abbrev pub partFor : List ℕ
-    partFor = take (k * 96 + 96 - k * 96) (drop (k * 96) out)
+pub filling-start : (entries : List ℕ) (k n : ℕ) (out : List ℕ) → Filling entries k n out out 0
+filling-start entries k n out = record { long = refl; inside = omega arith; done = refl }
 
-    pub part-long : length partFor ≡ 96
-    part-long =
-        let d : length (drop (k * 96) out) ≡ length out - k * 96 = length-drop (k * 96) out in
-        let e : k * 96 + 96 - k * 96 ≡ 96 = omega arith in
-        length-take-le (k * 96 + 96 - k * 96) (drop (k * 96) out) (omega (arith, f .long)) ∙ e
+module _ (entries : List ℕ) (k n : ℕ) (out₀ out : List ℕ) (i : ℕ) (f : Filling entries k n out₀ out i) (more : i < n)
+    (within : k + n ≤ recordCount entries) (room : n * 96 ≤ length out₀) where
+  abbrev W : List ℕ
+  W = written entries
 
-    pub filling-next :
-        {Y r : List ℕ} {p : ℕ} → p ≡ getD order k 0 → r ≡ recordAt entries p → Y ≡ take (length partFor) r
-        → Filling entries order out₀ (take (k * 96) out ++ (Y ++ drop (k * 96 + 96 - k * 96) (drop (k * 96) out))) (k + 1)
-    filling-next {Y} {r} {p} hp hr hY =
-        let e : k * 96 + 96 - k * 96 ≡ 96 = omega arith in
-        let i = f .inside in
-        let here : r ≡ recordAt entries (getD order k 0) = hr ∙ ap (recordAt entries) hp in
-        let rl : length r ≡ 96 = ap length here ∙ record-long entries (getD order k 0) (place-within k more) in
-        let whole : Y ≡ recordAt entries (getD order k 0) =
-        hY ∙ ap (λ (n : ℕ). take n r) part-long ∙ take-all 96 r (omega arith) ∙ here in
-        let fl = filled-long k i in
-        let front : take (k * 96) out ≡ inPlaces entries (take k order) =
-        ap (take (k * 96)) (f .done) ∙ take-at (inPlaces entries (take k order)) (drop (k * 96) out₀) (k * 96) fl in
-        let back : drop (k * 96) out ≡ drop (k * 96) out₀ =
-        ap (drop (k * 96)) (f .done) ∙ drop-at (inPlaces entries (take k order)) (drop (k * 96) out₀) (k * 96) fl in
-        let n : k * 96 + 96 ≡ (k + 1) * 96 = omega arith in
-        let after : drop (k * 96 + 96 - k * 96) (drop (k * 96) out) ≡ drop ((k + 1) * 96) out₀ =
-        ap (λ (m : ℕ). drop m (drop (k * 96) out)) e ∙ ap (drop 96) back ∙ drop-drop 96 (k * 96) out₀
-        ∙ ap (λ (m : ℕ). drop m out₀) n in
-        let is :
-        take (k * 96) out ++ (Y ++ drop (k * 96 + 96 - k * 96) (drop (k * 96) out))
-        ≡ inPlaces entries (take (k + 1) order) ++ drop ((k + 1) * 96) out₀ =
-        ap (λ (xs : List ℕ). xs ++ (Y ++ drop (k * 96 + 96 - k * 96) (drop (k * 96) out))) front
-        ∙ ap (λ (xs : List ℕ). inPlaces entries (take k order) ++ (xs ++ drop (k * 96 + 96 - k * 96) (drop (k * 96) out))) whole
-        ∙ ap (λ (xs : List ℕ). inPlaces entries (take k order) ++ (recordAt entries (getD order k 0) ++ xs)) after
-        ∙ sym (append-assoc (inPlaces entries (take k order)) (recordAt entries (getD order k 0)) (drop ((k + 1) * 96) out₀))
-        ∙ ap (λ (xs : List ℕ). xs ++ drop ((k + 1) * 96) out₀) (sym (filled-more k more)) in
-        let l : length (inPlaces entries (take (k + 1) order)) ≡ (k + 1) * 96 = filled-long (k + 1) (omega arith) in
-        let d : length (drop ((k + 1) * 96) out₀) ≡ length out₀ - (k + 1) * 96 = length-drop ((k + 1) * 96) out₀ in
-        record {
-          long =
-              ap length is
-              ∙ omega (arith, length-append (inPlaces entries (take (k + 1) order)) (drop ((k + 1) * 96) out₀));
-          inside = omega arith;
-          done = is;
-        }
+  -- the part that one record takes
+  abbrev pub partFor : List ℕ
+  partFor = take (i * 96 + 96 - i * 96) (drop (i * 96) out)
 
-  pub filling-ends :
-      (out₀ out : List ℕ) (k : ℕ) → Filling entries order out₀ out k → recordCount entries ≤ k
-      → out ≡ inPlaces entries (take (recordCount entries) order) ++ drop (recordCount entries * 96) out₀
-  filling-ends out₀ out k f past =
-      let n : k ≡ recordCount entries = omega (arith, f .inside) in
-      f .done ∙ ap (λ (m : ℕ). inPlaces entries (take m order) ++ drop (m * 96) out₀) n
+  pub part-long : length partFor ≡ 96
+  part-long =
+      let d : length (drop (i * 96) out) ≡ length out - i * 96 = length-drop (i * 96) out in
+      let e : i * 96 + 96 - i * 96 ≡ 96 = omega arith in
+      length-take-le (i * 96 + 96 - i * 96) (drop (i * 96) out) (omega (arith, f .long)) ∙ e
+
+  pub filling-next :
+      {Y r : List ℕ} → r ≡ recordAt W (k + i) → Y ≡ take (length partFor) r
+      → Filling entries k n out₀ (take (i * 96) out ++ (Y ++ drop (i * 96 + 96 - i * 96) (drop (i * 96) out))) (i + 1)
+  filling-next {Y} {r} hr hY =
+      let e : i * 96 + 96 - i * 96 ≡ 96 = omega arith in
+      let s = count-same entries in
+      let rl : length r ≡ 96 = ap length hr ∙ record-long W (k + i) (omega arith) in
+      let whole : Y ≡ recordAt W (k + i) = hY ∙ ap (λ (m : ℕ). take m r) part-long ∙ take-all 96 r (omega arith) ∙ hr in
+      let fl = stretch-long W k i (omega arith) in
+      let front : take (i * 96) out ≡ stretch W k i = ap (take (i * 96)) (f .done) ∙ take-at (stretch W k i) (drop (i * 96) out₀) (i * 96) fl in
+      let back : drop (i * 96) out ≡ drop (i * 96) out₀ = ap (drop (i * 96)) (f .done) ∙ drop-at (stretch W k i) (drop (i * 96) out₀) (i * 96) fl in
+      let m : i * 96 + 96 ≡ (i + 1) * 96 = omega arith in
+      let after : drop (i * 96 + 96 - i * 96) (drop (i * 96) out) ≡ drop ((i + 1) * 96) out₀ =
+      ap (λ (m : ℕ). drop m (drop (i * 96) out)) e ∙ ap (drop 96) back ∙ drop-drop 96 (i * 96) out₀ ∙ ap (λ (m : ℕ). drop m out₀) m in
+      let is : take (i * 96) out ++ (Y ++ drop (i * 96 + 96 - i * 96) (drop (i * 96) out)) ≡ filled entries k (i + 1) out₀ =
+      ap (λ (xs : List ℕ). xs ++ (Y ++ drop (i * 96 + 96 - i * 96) (drop (i * 96) out))) front
+      ∙ ap (λ (xs : List ℕ). stretch W k i ++ (xs ++ drop (i * 96 + 96 - i * 96) (drop (i * 96) out))) whole
+      ∙ ap (λ (xs : List ℕ). stretch W k i ++ (recordAt W (k + i) ++ xs)) after
+      ∙ sym (append-assoc (stretch W k i) (recordAt W (k + i)) (drop ((i + 1) * 96) out₀))
+      ∙ ap (λ (xs : List ℕ). xs ++ drop ((i + 1) * 96) out₀) (sym (stretch-more W k i)) in
+      let l = stretch-long W k (i + 1) (omega arith) in
+      let d : length (drop ((i + 1) * 96) out₀) ≡ length out₀ - (i + 1) * 96 = length-drop ((i + 1) * 96) out₀ in
+      record {
+        long = ap length is ∙ omega (arith, length-append (stretch W k (i + 1)) (drop ((i + 1) * 96) out₀));
+        inside = omega arith;
+        done = is;
+      }
+
+pub filling-ends :
+    (entries : List ℕ) (k n : ℕ) (out₀ out : List ℕ) (i : ℕ) → Filling entries k n out₀ out i → n ≤ i → out ≡ filled entries k n out₀
+filling-ends entries k n out₀ out i f past =
+    let e : i ≡ n = omega (arith, f .inside) in
+    f .done ∙ ap (λ (m : ℕ). filled entries k m out₀) e
+
+-- what is put at the front is there
+pub front-filled :
+    (entries : List ℕ) (k n : ℕ) (out : List ℕ) → k + n ≤ recordCount entries
+    → take (n * 96) (filled entries k n out) ≡ stretch (written entries) k n
+front-filled entries k n out h =
+    take-at (stretch (written entries) k n) (drop (n * 96) out) (n * 96) (stretch-long (written entries) k n (omega (arith, count-same entries)))
 
 -- ---- the record at fault
 pub named-within : (file : List ℕ) → 3 ≤ numberOf (checked file) → recordOf (checked file) < recordCount file
@@ -297,6 +277,6 @@ same-places entries order o = go (ltb (numberOf (checked (written entries))) 3) 
     go false e =
         let w : recordOf (checked (written entries)) < recordCount (written entries) =
         named-within (written entries) (ltb-false (numberOf (checked (written entries))) 3 e) in
-        let c : recordCount (written entries) ≡ recordCount entries = ap (λ (n : ℕ). n / 96) (written-long entries) in
+        let c = count-same entries in
         ap (λ (k : ℕ). cond (ltb (numberOf (checked (written entries))) 3) (checked (written entries)) (refusal (numberOf (checked (written entries))) k))
         (at-place entries order o (recordOf (checked (written entries))) (omega arith))

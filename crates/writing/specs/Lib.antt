@@ -1,4 +1,5 @@
 pub mod Sorting
 pub mod Order
 pub mod Written
+pub mod Held
 pub mod Claims

@@ -3,13 +3,13 @@
 use Prim.Native.Nat.{ℕ, _*_}
 use mathlib.Core.Path.{_≡_}
 use mathlib.Core.Bool.{Bool, _&&_, cond}
-use mathlib.Core.List.{List, [], _∷_, _++_, map}
+use mathlib.Core.List.{List, [], _∷_, _++_}
 use lib.Dec.{eqb, ltb}
-use lib.ListN.{length, getD, take, drop}
+use lib.ListN.{length, getD, drop}
 use Rattle.record.specs.Layout.{Record, recordBytes}
 use Rattle.account.specs.Answers.{numberOf, recordOf, refusal}
 use Rattle.account.specs.Checked.{checked}
-use Rattle.account.specs.Records.{records, recordAt, recordCount}
+use Rattle.account.specs.Records.{records, stretch, recordCount}
 use Rattle.account.specs.declared.answers.Answer.{Answer}
 use Rattle.account.specs.declared.answers.Answer.the-variants.{TooFewBytes}
 use Rattle.writing.specs.Order.{rank, places}
@@ -20,15 +20,6 @@ abbrev pub together : List Record → List ℕ
 together [] = []
 together (r ∷ rs) = r ++ together rs
 
--- the records at these places, one after the other
-abbrev pub inPlaces : List ℕ → List ℕ → List ℕ
-inPlaces entries ks = together (map (recordAt entries) ks)
-
--- the entries in their order, at the front of what was there
-abbrev pub filled : List ℕ → List ℕ → List ℕ → List ℕ
-filled entries order out =
-    inPlaces entries (take (recordCount entries) order) ++ drop (recordCount entries * recordBytes) out
-
 -- bytes after the last whole entry
 abbrev pub leftOver : List ℕ → List ℕ
 leftOver entries = drop (recordCount entries * recordBytes) entries
@@ -36,6 +27,10 @@ leftOver entries = drop (recordCount entries * recordBytes) entries
 -- the entries in the file's order; what is no whole entry stays at the end, so that it is a 2
 abbrev pub written : List ℕ → List ℕ
 written entries = together (sorted rank (records entries)) ++ leftOver entries
+
+-- n records of it, from record k on, at the front of what was there
+abbrev pub filled : List ℕ → ℕ → ℕ → List ℕ → List ℕ
+filled entries k n out = stretch (written entries) k n ++ drop (n * recordBytes) out
 
 -- "naming the entry's place as entered (0 for a 1)": 3 and higher name a record
 abbrev pub asEntered : List ℕ → Answer → Answer

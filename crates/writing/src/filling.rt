@@ -1,14 +1,13 @@
 // Entries put one after the other.
 use crate::merging::place_at;
-use account::stretches::record_at;
-use account::stretches::record_count;
+use account::stretches::whole_at;
 use record::bytes::RECORD_BYTES;
 ghost use mathlib.Core.Path.{_≡_};
-ghost use Prim.Native.Nat.{_≤_, _<_, _*_};
+ghost use Prim.Native.Nat.{_+_, _*_, _≤_, _<_};
 ghost use lib.ListN.{length, take};
-ghost use Rattle.account.specs.Records.{recordCount};
+ghost use Rattle.account.specs.Records.{recordAt, recordCount};
 ghost use Rattle.writing.specs.Order.{Ordered};
-ghost use Rattle.writing.specs.Written.{filled};
+ghost use Rattle.writing.specs.Written.{written, filled};
 
 pub(crate) fn wide(x: u16) -> usize
     ensures { λ n. ⌜ n ≡ x ⌝ }
@@ -27,18 +26,25 @@ fn copy_bytes(from: &[u8], to: &mut [u8])
     }
 }
 
-// The entries in their order, at the front of `out`.
-pub(crate) fn fill(entries: &[u8], order: &[u16], out: &mut [u8])
-    requires { ⌜ Ordered (now entries) (now order) × (recordCount (now entries) * 96 ≤ length (now out)) ⌝ }
-    ensures { λ _. ⌜ now (out .exit) ≡ filled (now (entries .entry)) (now (order .entry)) (now (out .entry)) ⌝ }
+// Record `k` of the file, where it was entered.
+pub(crate) fn entry_at<'a>(entries: &'a [u8], order: &[u16], k: usize) -> &'a [u8]
+    requires { ⌜ Ordered (now entries) (now order) × (k < recordCount (now entries)) ⌝ }
+    ensures { λ r. ⌜ now r ≡ recordAt (written (now (entries .entry))) k ⌝ }
 {
-    let count = record_count(entries);
-    let mut k = 0;
-    while k < count {
-        let r = record_at(entries, wide(place_at(order, k)));
-        let start = k * RECORD_BYTES;
+    whole_at(entries, wide(place_at(order, k)))
+}
+
+// `n` records of the file, from record `k` on, at the front of `out`.
+pub(crate) fn fill(entries: &[u8], order: &[u16], k: usize, n: usize, out: &mut [u8])
+    requires { ⌜ Ordered (now entries) (now order) × ((k + n ≤ recordCount (now entries)) × (n * 96 ≤ length (now out))) ⌝ }
+    ensures { λ _. ⌜ now (out .exit) ≡ filled (now (entries .entry)) k n (now (out .entry)) ⌝ }
+{
+    let mut i = 0;
+    while i < n {
+        let r = entry_at(entries, order, k + i);
+        let start = i * RECORD_BYTES;
         let end = start + RECORD_BYTES;
         copy_bytes(r, &mut out[start..end]);
-        k += 1;
+        i += 1;
     }
 }

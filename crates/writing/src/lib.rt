@@ -12,6 +12,7 @@ ghost use Rattle.writing.specs.Written.{WrittenBy};
 mod merging; // merging.rt: a stable sort of places by their keys
 mod order; // order.rt: the file's order of entries
 mod filling; // filling.rt: the entries put in that order
+mod checking; // checking.rt: the check of the written file, through the order
 mod verdict; // verdict.rt: what the written file would get
 
 // What comes back: the answer, and how many bytes were written.
@@ -38,14 +39,14 @@ pub fn write(entries: &[u8], out: &mut [u8]) -> Written
         return refused(Answer::CutRecord);
     }
     let order = order_of(entries);
-    let answer = verdict_on(entries, order);
+    let answer = verdict_on(entries, &order);
     if number_of(answer) != 0 {
         return refused(answer);
     }
     if out.len() < entries.len() {
         return refused(Answer::TooFewBytes);
     }
-    fill(entries, &order, out);
+    fill(entries, &order, 0, entries.len() / RECORD_BYTES, out);
     Written {
         answer: Answer::Accepted,
         bytes: entries.len(),

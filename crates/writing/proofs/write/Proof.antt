@@ -1,16 +1,12 @@
 -- Each way that the code ends.
 -- Assumes nothing.
-use borrow.Author.Needs.{needs}
-use Prim.Native.Nat.{ℕ, _-_, _+_, _*_, _≤_, _<_}
-use mathlib.Core.Path.{_≡_, refl, sym, ap, _∙_}
+use mathlib.Core.Path.{refl, sym, ap, _∙_}
 use native.Mathlib.Omega.{arith}
 use Prim.Native.Nat.{_%_}
 use mathlib.Core.Bool.{not}
 use lib.ListN.{length}
 use borrow.Author.Tests.{lt-ltb, le-ltb, eq-eqb, ne-eqb}
 use Rattle.account.specs.Answers.{numberOf}
-use Rattle.account.specs.declared.answers.Answer.{Answer}
-use Rattle.account.specs.Records.{recordCount}
 use Rattle.writing.proofs.Answered.{refuses, refuses-long, refuses-cut, refuses-room, writes}
 use Rattle.writing.proofs.write.Statement.{statement}
 use Rattle.writing.proofs.write.Tie as tie
@@ -37,10 +33,14 @@ returns-2 c =
 order-of-requires : tie.Need-order-of-requires
 order-of-requires c κs = omega (arith, c .before .if1 .left)
 
+slice-aggregate-verdict-on : tie.Need-slice-aggregate-verdict-on
+slice-aggregate-verdict-on c = sym (c .before .order-of .ensures .long)
+
 verdict-on-requires : tie.Need-verdict-on-requires
 verdict-on-requires c κs =
-    let a = c .before .before .before .before .before .args in
-    (c .order-of .ensures, (le-ltb 61440 (length (a .entries .now)) (c .before .before .if1 .left), ap not (eq-eqb (length (a .entries .now) % 96) 0 (c .before .if2 .left))))
+    let a = c .before .before .before .before .before .before .args in
+    let n = length (a .entries .now) in
+    (c .before .order-of .ensures, (le-ltb 61440 n (c .before .before .before .if1 .left), ap not (eq-eqb (n % 96) 0 (c .before .before .if2 .left))))
 
 number-of-requires : tie.Need-number-of-requires
 number-of-requires c κs = tt
@@ -50,7 +50,7 @@ refused-requires-3 c κs = tt
 
 returns-3 : tie.Need-returns-3
 returns-3 c =
-    let a = c .before .before .before .before .before .before .before .before .before .args in
+    let a = c .before .before .before .before .before .before .before .before .before .before .args in
     let v = c .before .before .before .verdict-on in
     refuses (a .entries .now) (a .out .now) (a .out .now) (c .refused3 .result) refl (v .result) (sym (v .ensures))
     (λ z. c .before .if3 .taken (c .before .before .number-of .ensures ∙ z)) (c .refused3 .ensures)
@@ -60,28 +60,28 @@ refused-requires-4 c κs = tt
 
 returns-4 : tie.Need-returns-4
 returns-4 c =
-    let a = c .before .before .before .before .before .before .before .before .before .before .args in
+    let a = c .before .before .before .before .before .before .before .before .before .before .before .args in
     let v = c .before .before .before .before .verdict-on in
     refuses-room (a .entries .now) (a .out .now) (a .out .now) (c .refused4 .result) refl
-    (ap numberOf (sym (v .ensures)) ∙ sym (c .before .before .before .number-of .ensures) ∙ c .before .before .if3 .left) (c .before .if4 .taken) (c .refused4 .ensures)
+    (ap numberOf (sym (v .ensures)) ∙ sym (c .before .before .before .number-of .ensures) ∙ c .before .before .if3 .left)
+    (c .before .if4 .taken) (c .refused4 .ensures)
 
 slice-aggregate-fill : tie.Need-slice-aggregate-fill
-slice-aggregate-fill c = sym (c .before .before .before .before .before .order-of .ensures .long)
+slice-aggregate-fill c = sym (c .before .before .before .before .before .before .order-of .ensures .long)
 
 fill-requires : tie.Need-fill-requires
-fill-requires c κs = (c .before .before .before .before .before .before .order-of .ensures, omega (arith, c .before .before .if4 .left))
+fill-requires c κs = (c .before .before .before .before .before .before .before .order-of .ensures, (omega arith, omega (arith, c .before .before .if4 .left)))
 
 same-length : tie.Need-same-length
-same-length c = c .before .before .fill .kept .1 .1 .0
+same-length c = c .before .before .fill .kept .1 .1 .1 .1 .0
 
 returns-5 : tie.Need-returns-5
 returns-5 c =
-    let a = c .before .before .before .before .before .before .before .before .before .before .before .before .before .before .args in
-    let v = c .before .before .before .before .before .before .before .before .verdict-on in
-    writes (a .entries .now) (c .before .before .before .before .before .before .before .before .before .order-of .result) (a .out .now) _ _ (c .before .before .before .before .before .before .before .before .before .order-of .ensures)
-    (ap not (eq-eqb (length (a .entries .now) % 96) 0 (c .before .before .before .before .before .before .before .before .before .before .if2 .left)))
-    (ap numberOf (sym (v .ensures)) ∙ sym (c .before .before .before .before .before .before .before .number-of .ensures) ∙ c .before .before .before .before .before .before .if3 .left) (c .before .before .before .before .before .if4 .left)
-    (c .before .before .fill .ensures) refl refl
+    let a = c .before .before .before .before .before .before .before .before .before .before .before .before .before .before .before .args in
+    let v = c .before .before .before .before .before .before .before .before in
+    let whole = ap not (eq-eqb (length (a .entries .now) % 96) 0 (v .before .before .before .if2 .left)) in
+    let accepted = ap numberOf (sym (v .verdict-on .ensures)) ∙ sym (c .before .before .before .before .before .before .before .number-of .ensures) ∙ c .before .before .before .before .before .before .if3 .left in
+    writes (a .entries .now) (a .out .now) _ _ whole accepted (c .before .before .before .before .before .if4 .left) (c .before .before .fill .ensures) refl refl
 
 pub write-spec : {M : Type 1} → statement M
 write-spec =
@@ -92,6 +92,7 @@ write-spec =
     refused-requires-2
     returns-2
     order-of-requires
+    slice-aggregate-verdict-on
     verdict-on-requires
     number-of-requires
     refused-requires-3

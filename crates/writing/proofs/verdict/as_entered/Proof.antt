@@ -1,9 +1,5 @@
 -- 3 and higher name a record.
 -- Assumes nothing.
-use borrow.Author.Needs.{needs}
-use Prim.Native.Nat.{ℕ, _-_, _+_, _*_, _≤_, _<_}
-use mathlib.Core.Path.{_≡_, refl, sym, ap, _∙_}
-use native.Mathlib.Omega.{arith}
 use Rattle.writing.proofs.Answered.{entered-early, entered-late}
 use Rattle.writing.proofs.verdict.as_entered.Statement.{statement}
 use Rattle.writing.proofs.verdict.as_entered.Tie as tie
@@ -12,10 +8,7 @@ number-of-requires : tie.Need-number-of-requires
 number-of-requires c κs = tt
 
 returns : tie.Need-returns
-returns c = entered-early (c .before .before .args .t1) (c .before .before .args .answer) (c .before .number-of .ensures) (c .if1 .taken)
-
-slice-aggregate-place-at : tie.Need-slice-aggregate-place-at
-slice-aggregate-place-at c = search needs
+returns c = let a = c .before .before .before .args in entered-early (a .order .now) (a .answer) (c .before .number-of .ensures) (c .if1 .taken)
 
 record-of-requires : tie.Need-record-of-requires
 record-of-requires c κs = tt
@@ -31,8 +24,9 @@ refusal-requires c κs = tt
 
 returns-2 : tie.Need-returns-2
 returns-2 c =
-    entered-late (c .before .before .before .before .before .before .before .args .t1) (c .before .before .before .before .before .before .before .args .answer) (c .before .before .before .before .before .before .number-of .ensures) (c .before .before .before .before .before .if1 .left)
-    (c .before .before .before .record-of .ensures) (c .before .before .place-at .ensures) (c .before .wide .ensures) (c .refusal .ensures)
+    let a = c .before .before .before .before .before .before .before .args in
+    entered-late (a .order .now) (a .answer) (c .before .before .before .before .before .number-of .ensures) (c .before .before .before .before .if1 .left) (c .before .before .before .record-of .ensures) (c .before .before .place-at .ensures)
+    (c .before .wide .ensures) (c .refusal .ensures)
 
 pub as-entered-spec : {M : Type 1} → statement M
 as-entered-spec =
@@ -40,7 +34,6 @@ as-entered-spec =
     (tie.spec
     number-of-requires
     returns
-    slice-aggregate-place-at
     record-of-requires
     place-at-requires
     wide-requires

@@ -10,6 +10,7 @@ use crate::pools::CELLS;
 use crate::pools::Pools;
 use crate::pools::beyond;
 use crate::pools::cell_of;
+use crate::pools::has_room;
 use exact::signed::minus;
 use exact::signed::towards_zero;
 ghost use mathlib.Core.Path.{_≡_};
@@ -87,14 +88,20 @@ fn run(pools: Pools, table: Table) -> Ran
     let mut i = 0;
     while i < n {
         let spread = table.spread[i];
-        let one = left.take(spread, false);
-        let between = one.left;
-        let two = between.take(spread, true);
-        let formed = one.number;
-        let reverse = two.number;
+        let mut formed = Spreads(0);
+        if has_room(&left.cell, spread, false) {
+            let one = left.take(spread, false);
+            formed = one.number;
+            left = one.left;
+        }
+        let mut reverse = Spreads(0);
+        if has_room(&left.cell, spread, true) {
+            let two = left.take(spread, true);
+            reverse = two.number;
+            left = two.left;
+        }
         first[i] = formed;
         second[i] = reverse;
-        left = two.left;
         i += 1;
     }
     Ran {

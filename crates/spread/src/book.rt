@@ -83,8 +83,11 @@ fn run(pools: Pools, table: Table) -> Ran
 {
     let n = table.count;
     let mut left = pools;
-    let mut first = [Spreads(0); MOST_SPREADS];
-    let mut second = [Spreads(0); MOST_SPREADS];
+    let mut ran = Ran {
+        left: pools,
+        first: [Spreads(0); MOST_SPREADS],
+        second: [Spreads(0); MOST_SPREADS],
+    };
     let mut i = 0;
     while i < n {
         let spread = table.spread[i];
@@ -100,15 +103,12 @@ fn run(pools: Pools, table: Table) -> Ran
             reverse = two.number;
             left = two.left;
         }
-        first[i] = formed;
-        second[i] = reverse;
+        ran.first[i] = formed;
+        ran.second[i] = reverse;
         i += 1;
     }
-    Ran {
-        left: left,
-        first: first,
-        second: second,
-    }
+    ran.left = left;
+    ran
 }
 
 // What the steps used of each pool.
@@ -145,8 +145,10 @@ pub(crate) fn paid_by(prompts: Prompts, wanted: Pools) -> Paid
 {
     let n = prompts.count;
     let mut left = wanted.cell;
-    let mut used = [Delta(0); MOST_PROMPTS];
-    let mut unused = [Delta(0); MOST_PROMPTS];
+    let mut paid = Paid {
+        used: [Delta(0); MOST_PROMPTS],
+        unused: [Delta(0); MOST_PROMPTS],
+    };
     let mut k = 0;
     while k < n {
         let net = prompts.net[k];
@@ -155,15 +157,12 @@ pub(crate) fn paid_by(prompts: Prompts, wanted: Pools) -> Paid
         let parts = parts_of(net, due);
         let taken = parts.used;
         let kept = parts.unused;
-        used[k] = taken;
-        unused[k] = kept;
+        paid.used[k] = taken;
+        paid.unused[k] = kept;
         left[cell] = beyond(due, net.size());
         k += 1;
     }
-    Paid {
-        used: used,
-        unused: unused,
-    }
+    paid
 }
 
 // Nothing is accepted, and nothing formed or used.

@@ -19,10 +19,10 @@ use Rattle.spread.proofs.book.run.Statement.{statement}
 use Rattle.spread.proofs.book.run.Tie as tie
 
 abbrev Inv-loop : tie.InvT-loop
-Inv-loop table n left₀ first₀ second₀ i₀ left first second i = (i ≤ n) × Small (left .cell) × Running (left₀ .cell) (spreadsOf table) i (left .cell) first second
+Inv-loop table n left₀ ran₀ i₀ left ran i = (i ≤ n) × Small (left .cell) × Running (left₀ .cell) (spreadsOf table) i (left .cell) (ran .first) (ran .second)
 
 abbrev μ-loop : tie.MeasureT-loop
-μ-loop table n left₀ first₀ second₀ i₀ left first second i = n - i
+μ-loop table n left₀ ran₀ i₀ left ran i = n - i
 
 abbrev spread-at : Table → ℕ → Spread
 spread-at t i = getD (t .spread) i (record { legs = 0; leg = []; tenths = false })
@@ -73,17 +73,17 @@ has-room-requires-2 c κs = search needs
 take-requires-2 : tie.Need-take-requires-2 Inv-loop μ-loop
 take-requires-2 c κs = between (c .before .before .before .before .before)
 
-mul-first : tie.Need-mul-first Inv-loop μ-loop
-mul-first c = omega arith
+mul-formed : tie.Need-mul-formed Inv-loop μ-loop
+mul-formed c = omega arith
 
-array-set-from-first : tie.Need-array-set-from-first Inv-loop μ-loop
-array-set-from-first c = omega arith
+element-set-from-formed : tie.Need-element-set-from-formed Inv-loop μ-loop
+element-set-from-formed c = omega arith
 
-mul-second : tie.Need-mul-second Inv-loop μ-loop
-mul-second c = omega arith
+mul-reverse : tie.Need-mul-reverse Inv-loop μ-loop
+mul-reverse c = omega arith
 
-array-set-from-second : tie.Need-array-set-from-second Inv-loop μ-loop
-array-set-from-second c = omega arith
+element-set-from-reverse : tie.Need-element-set-from-reverse Inv-loop μ-loop
+element-set-from-reverse c = omega arith
 
 add-i : tie.Need-add-i Inv-loop μ-loop
 add-i c = omega arith
@@ -99,7 +99,7 @@ loop-again c = let j = c .before .before .before .before .before in
     let len : length (t .spread) ≡ 32 = sym (length-map (t .spread) _) ∙ s .good .1 .0 .1 .1 .1 .0 .1 .0 .1 in (
       omega arith,
       small-taken _ _ _ _ (second-step c) (between j),
-      table-next t (s .args .pools .cell) (l .i) (l .left .cell) _ _ (l .first) (l .second) _ _ _ len (s .pre .0) (j .before .before .before .before .before .before .loop-test .taken)
+      table-next t (s .args .pools .cell) (l .i) (l .left .cell) _ _ (l .ran .first) (l .ran .second) _ _ _ len (s .pre .0) (j .before .before .before .before .before .before .loop-test .taken)
           (first-step j) (second-step c) (l .inv .2),
     )
 
@@ -109,7 +109,7 @@ returns c = let s = c .before .before in
     let l = c .before .loop in
     let len : length (t .spread) ≡ 32 = sym (length-map (t .spread) _) ∙ s .good .1 .0 .1 .1 .1 .0 .1 .0 .1 in
     let n = table-length t len (s .pre .0) in
-    running-all (s .args .pools .cell) (spreadsOf t) (l .i) (l .left .cell) (l .first) (l .second) (omega arith) (l .inv .2)
+    running-all (s .args .pools .cell) (spreadsOf t) (l .i) (l .left .cell) (l .ran .first) (l .ran .second) (omega arith) (l .inv .2)
 
 pub run-spec : {M : Type 1} → statement M
 run-spec =
@@ -124,10 +124,10 @@ run-spec =
     take-requires
     has-room-requires-2
     take-requires-2
-    mul-first
-    array-set-from-first
-    mul-second
-    array-set-from-second
+    mul-formed
+    element-set-from-formed
+    mul-reverse
+    element-set-from-reverse
     add-i
     loop-less
     loop-again

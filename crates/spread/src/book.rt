@@ -18,7 +18,7 @@ ghost use mathlib.Core.Bool.{true};
 ghost use Prim.Native.Nat.{_-_, _≤_};
 ghost use lib.IntN.{_-ℤ_};
 ghost use Rattle.spread.specs.Steps.{towardsZero};
-ghost use Rattle.spread.specs.Accepted.{openOf, spreadsOf, soundPrompts};
+ghost use Rattle.spread.specs.Accepted.{openOf, spreadsOf, soundPrompts, sound};
 ghost use Rattle.spread.specs.Spend.{marketOf};
 ghost use Rattle.spread.specs.Cells.{cellOf, Pooled, Small};
 ghost use Rattle.spread.specs.Book.{Booked, Refused, Run, Wanted, Spent};
@@ -178,15 +178,11 @@ fn refused() -> Book
     }
 }
 
-// The delta book of prompts, the earliest of a tier first, under a table of spreads in order of priority: what each spread
-// forms in its two steps, and what of each prompt's net delta is used and what is not. Prompts or spreads that are not
-// accepted get zeros.
-pub fn delta_book(prompts: Prompts, table: Table) -> Book
+// The delta book of prompts and spreads that are accepted: they are not tested again.
+pub fn book_of_accepted(prompts: Prompts, table: Table) -> Book
+    requires { ⌜ sound prompts table ≡ true ⌝ }
     ensures { λ r. ⌜ Booked prompts table r ⌝ }
 {
-    if !accepted(prompts, table) {
-        return refused();
-    }
     let pools = pools_of(prompts);
     let ran = run(pools, table);
     let left = ran.left;
@@ -202,4 +198,16 @@ pub fn delta_book(prompts: Prompts, table: Table) -> Book
         used: used,
         unused: unused,
     }
+}
+
+// The delta book of prompts, the earliest of a tier first, under a table of spreads in order of priority: what each spread
+// forms in its two steps, and what of each prompt's net delta is used and what is not. Prompts or spreads that are not
+// accepted get zeros.
+pub fn delta_book(prompts: Prompts, table: Table) -> Book
+    ensures { λ r. ⌜ Booked prompts table r ⌝ }
+{
+    if !accepted(prompts, table) {
+        return refused();
+    }
+    book_of_accepted(prompts, table)
 }

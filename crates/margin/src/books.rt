@@ -11,7 +11,7 @@ use spread::MOST_PROMPTS;
 use spread::MOST_SPREADS;
 use spread::Spreads;
 use spread::book::Book;
-use spread::book::delta_book;
+use spread::book::book_of_accepted;
 use spread::touches::counted_book;
 ghost use mathlib.Core.Path.{_≡_};
 ghost use mathlib.Core.Bool.{true};
@@ -39,7 +39,7 @@ pub(crate) fn contract_book(prompts: &[u8], nets: [Delta; MOST_PROMPTS], spreads
             unused: nets,
         };
     }
-    delta_book(prompts_with(prompts, nets), interprompt_table(spreads))
+    book_of_accepted(prompts_with(prompts, nets), interprompt_table(spreads))
 }
 
 // The numbers of a question's book, by what it asks about.

@@ -135,11 +135,15 @@ pub struct Earner {
     pub net: u64,
 }
 
+// Nothing is earned where nothing is used.
 fn credit_from(e: &[u8], earner: Earner, first: Spreads, second: Spreads) -> Amount
     requires { ⌜ CreditRoom (earner .unit) (earner .contract) (earner .«twice_price») (earner .net) (now e) (first .0) (second .0) ⌝ }
     ensures { λ r. ⌜ (r .0 ≡ credit (earner .unit) (earner .«twice_price») (entryUse (earner .contract) (now (e .entry)) (first .0) (second .0)) (percent (now (e .entry))) (earner .net)) × (r .0 ≤ mostCredit) ⌝ }
 {
     let used = entry_use(earner.contract, e, first, second);
+    if used == 0 {
+        return Amount(0);
+    }
     credit(
         earner.unit,
         earner.twice_price,

@@ -11,7 +11,7 @@ use spread::Delta;
 use spread::MOST_PROMPTS;
 use spread::Prompts;
 use spread::book::Book;
-use spread::book::delta_book;
+use spread::book::book_of_accepted;
 ghost use mathlib.Core.List.{map};
 ghost use Prim.Native.Nat.{_≤_};
 ghost use lib.ListN.{take};
@@ -49,7 +49,7 @@ fn table_book(count: usize, lines: [Line; CONTRACTS], entries: &[u8]) -> Book
     requires { ⌜ TableRoom count lines (records (now entries)) ⌝ }
     ensures { λ r. ⌜ BookOf (steps (map intercontract (records (now (entries .entry))))) (map tierOf (take count lines)) r ⌝ }
 {
-    delta_book(tiers_of(count, lines), intercontract_table(entries))
+    book_of_accepted(tiers_of(count, lines), intercontract_table(entries))
 }
 
 fn earner_of(line: Line) -> Earner

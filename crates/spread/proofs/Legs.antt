@@ -11,7 +11,7 @@ use lib.Seq.{take-nil}
 use borrow.Author.Tests.{lt-ltb}
 use Rattle.exact.proofs.Lists.{map-take}
 use Rattle.exact.specs.Lists.{least}
-use Rattle.spread.specs.Cells.{marketIn, stepOf, roomIn, formedIn, lessIn, afterIn}
+use Rattle.spread.specs.Cells.{marketIn, stepOf, lessIn, afterIn}
 use Rattle.spread.specs.Steps.{Taker, taker}
 use Rattle.spread.specs.declared.Leg.{Leg}
 use Rattle.spread.specs.declared.Spread.{Spread}
@@ -30,18 +30,19 @@ least-three (suc zero) a b c h = absurd (omega arith)
 least-three (suc (suc zero)) a b c h = absurd (omega arith)
 least-three (suc (suc (suc n))) a b c h = ap (λ l. least (a ∷ b ∷ c ∷ l)) (take-nil n)
 
-pub formed-legs : (second : Bool) (s : Spread) (x y z : Leg) → s .leg ≡ x ∷ y ∷ z ∷ [] → (cells : List ℕ) (a b c number : ℕ)
-    → a ≡ roomIn cells (taker (s .tenths) (marketIn second) x)
-    → b ≡ roomIn cells (taker (s .tenths) (marketIn second) y)
-    → c ≡ roomIn cells (taker (s .tenths) (marketIn second) z)
-    → number ≡ least (take (s .legs) (a ∷ b ∷ c ∷ []))
-    → number ≡ formedIn (stepOf second s) cells
-formed-legs second s x y z legs cells a b c number ea eb ec e =
+-- the least over the legs of a step
+pub least-legs : (second : Bool) (s : Spread) (x y z : Leg) → s .leg ≡ x ∷ y ∷ z ∷ [] → (f : Taker → ℕ) (a b c n : ℕ)
+    → a ≡ f (taker (s .tenths) (marketIn second) x)
+    → b ≡ f (taker (s .tenths) (marketIn second) y)
+    → c ≡ f (taker (s .tenths) (marketIn second) z)
+    → n ≡ least (take (s .legs) (a ∷ b ∷ c ∷ []))
+    → n ≡ least (map f (stepOf second s))
+least-legs second s x y z legs f a b c n ea eb ec e =
     e
     ∙ (λ i. least (take (s .legs) (ea i ∷ eb i ∷ ec i ∷ [])))
-    ∙ sym (ap least (map-take (roomIn cells) (s .legs) (map (taker (s .tenths) (marketIn second)) (x ∷ y ∷ z ∷ []))))
-    ∙ sym (ap (λ l. least (map (roomIn cells) l)) (map-take (taker (s .tenths) (marketIn second)) (s .legs) (x ∷ y ∷ z ∷ [])))
-    ∙ sym (ap (λ l. least (map (roomIn cells) (map (taker (s .tenths) (marketIn second)) (take (s .legs) l)))) legs)
+    ∙ sym (ap least (map-take f (s .legs) (map (taker (s .tenths) (marketIn second)) (x ∷ y ∷ z ∷ []))))
+    ∙ sym (ap (λ l. least (map f l)) (map-take (taker (s .tenths) (marketIn second)) (s .legs) (x ∷ y ∷ z ∷ [])))
+    ∙ sym (ap (λ l. least (map f (map (taker (s .tenths) (marketIn second)) (take (s .legs) l)))) legs)
 
 after-three : (f : Leg → Taker) (number : ℕ) (x y z : Leg) (legs : ℕ) (c₀ c₁ c₂ c₃ : List ℕ)
     → c₁ ≡ cond (ltb 0 legs) (lessIn number (f x) c₀) c₀

@@ -7,6 +7,7 @@ pub mod Every
 pub mod Filling
 pub mod Gathering
 pub mod Legs
+pub mod Nothing
 pub mod Parts
 pub mod Paying
 pub mod Pooling

@@ -22,6 +22,7 @@ use Rattle.spread.specs.Touches.{legTouches, stepTouches}
 use Rattle.spread.specs.declared.Leg.{Leg}
 use Rattle.spread.specs.declared.Spread.{Spread}
 use Rattle.spread.proofs.Gathering.{nothing}
+use Rattle.spread.proofs.Nothing.{use-none}
 use Rattle.spread.proofs.Pooling.{cell-small, out-of-range, same-cells}
 use Rattle.spread.proofs.Spending.{draws-tier, tier-less, wants}
 
@@ -336,6 +337,34 @@ module _ (f : Leg → Taker) (number : ℕ) (cs : List ℕ) where
       let v = g₃ .1 ∙ ap (λ (l : List ℕ). touchesIn (cellOf (f z .market) (f z .tier)) (legTakes number (f z)) cs l) e₂ in
       subst (λ (l : List Leg). All (map f (x ∷ y ∷ z ∷ l)) x₀ x₃ (a + b + c)) (sym (take-nil n))
       (g₃ .0 ∙ ap (sizesIn (cellOf (f z .market) (f z .tier)) (legTakes number (f z)) cs) e₂, omega (arith, t, u, v))
+
+-- a step that forms nothing
+
+idle-sizes : (ks : List Taker) (cs xs : List ℕ) → sizesAfter ks 0 cs xs ≡ xs
+idle-sizes [] cs xs = refl
+idle-sizes (k ∷ ks) cs xs =
+    let cell = cellOf (k .market) (k .tier) in
+    ap (λ (w : ℕ). sizesAfter ks 0 cs (sizesIn cell w cs xs)) (use-none (k .tenths) (k .ratio))
+    ∙ ap (sizesAfter ks 0 cs) (idle-none cell cs xs .sizes)
+    ∙ idle-sizes ks cs xs
+
+idle-touches : (ks : List Taker) (cs xs : List ℕ) → stepTouchesIn ks 0 cs xs ≡ 0
+idle-touches [] cs xs = refl
+idle-touches (k ∷ ks) cs xs =
+    let cell = cellOf (k .market) (k .tier) in
+    ap (λ (w : ℕ). touchesIn cell w cs xs + stepTouchesIn ks 0 cs (sizesIn cell w cs xs)) (use-none (k .tenths) (k .ratio))
+    ∙ ap₂ (λ (a : ℕ) (l : List ℕ). a + stepTouchesIn ks 0 cs l) (idle-none cell cs xs .touched) (idle-none cell cs xs .sizes)
+    ∙ zero-add (stepTouchesIn ks 0 cs xs)
+    ∙ idle-touches ks cs xs
+
+pub step-idle : (ks : List Taker) (number : ℕ) (cs xs at : List ℕ) → number ≡ 0 → Ready at cs xs → StepTaken ks number cs xs xs at 0
+step-idle ks number cs xs at e ready =
+    record {
+      sizes = sym (ap (λ (n : ℕ). sizesAfter ks n cs xs) e ∙ idle-sizes ks cs xs);
+      touched = sym (ap (λ (n : ℕ). stepTouchesIn ks n cs xs) e ∙ idle-touches ks cs xs);
+      few = omega arith;
+      ready = ready;
+    }
 
 -- a step's promise, from its legs
 pub step-taken : (second : Bool) (s : Spread) (x y z : Leg) → s .leg ≡ x ∷ y ∷ z ∷ [] → (number : ℕ) (cs x₀ x₁ x₂ x₃ a₁ a₂ a₃ : List ℕ) (t₁ t₂ t₃ w₁ w₂ w₃ : ℕ)

@@ -52,6 +52,10 @@ Small cells = (m : Market) (t : ℕ) → cellAt cells m t ≤ mostPool
 abbrev pub poolIn : List ℕ → Taker → ℕ
 poolIn cells k = cellAt cells (k .market) (k .tier)
 
+-- the lowest pool that a step takes from
+abbrev pub lowestIn : List ℕ → List Taker → ℕ
+lowestIn cells ks = least (map (poolIn cells) ks)
+
 abbrev pub roomIn : List ℕ → Taker → ℕ
 roomIn cells k = room (k .tenths) (poolIn cells k) (k .ratio)
 

@@ -10,6 +10,7 @@ use crate::pools::CELLS;
 use crate::pools::Pools;
 use crate::pools::beyond;
 use crate::pools::cell_of;
+use crate::pools::has_room;
 use exact::signed::minus;
 use exact::signed::towards_zero;
 ghost use mathlib.Core.Path.{_≡_};
@@ -17,7 +18,7 @@ ghost use mathlib.Core.Bool.{true};
 ghost use Prim.Native.Nat.{_-_, _≤_};
 ghost use lib.IntN.{_-ℤ_};
 ghost use Rattle.spread.specs.Steps.{towardsZero};
-ghost use Rattle.spread.specs.Accepted.{openOf, spreadsOf, soundPrompts};
+ghost use Rattle.spread.specs.Accepted.{openOf, spreadsOf, soundPrompts, sound};
 ghost use Rattle.spread.specs.Spend.{marketOf};
 ghost use Rattle.spread.specs.Cells.{cellOf, Pooled, Small};
 ghost use Rattle.spread.specs.Book.{Booked, Refused, Run, Wanted, Spent};
@@ -82,26 +83,32 @@ fn run(pools: Pools, table: Table) -> Ran
 {
     let n = table.count;
     let mut left = pools;
-    let mut first = [Spreads(0); MOST_SPREADS];
-    let mut second = [Spreads(0); MOST_SPREADS];
+    let mut ran = Ran {
+        left: pools,
+        first: [Spreads(0); MOST_SPREADS],
+        second: [Spreads(0); MOST_SPREADS],
+    };
     let mut i = 0;
     while i < n {
         let spread = table.spread[i];
-        let one = left.take(spread, false);
-        let between = one.left;
-        let two = between.take(spread, true);
-        let formed = one.number;
-        let reverse = two.number;
-        first[i] = formed;
-        second[i] = reverse;
-        left = two.left;
+        let mut formed = Spreads(0);
+        if has_room(&left.cell, spread, false) {
+            let one = left.take(spread, false);
+            formed = one.number;
+            left = one.left;
+        }
+        let mut reverse = Spreads(0);
+        if has_room(&left.cell, spread, true) {
+            let two = left.take(spread, true);
+            reverse = two.number;
+            left = two.left;
+        }
+        ran.first[i] = formed;
+        ran.second[i] = reverse;
         i += 1;
     }
-    Ran {
-        left: left,
-        first: first,
-        second: second,
-    }
+    ran.left = left;
+    ran
 }
 
 // What the steps used of each pool.
@@ -138,8 +145,10 @@ pub(crate) fn paid_by(prompts: Prompts, wanted: Pools) -> Paid
 {
     let n = prompts.count;
     let mut left = wanted.cell;
-    let mut used = [Delta(0); MOST_PROMPTS];
-    let mut unused = [Delta(0); MOST_PROMPTS];
+    let mut paid = Paid {
+        used: [Delta(0); MOST_PROMPTS],
+        unused: [Delta(0); MOST_PROMPTS],
+    };
     let mut k = 0;
     while k < n {
         let net = prompts.net[k];
@@ -148,15 +157,12 @@ pub(crate) fn paid_by(prompts: Prompts, wanted: Pools) -> Paid
         let parts = parts_of(net, due);
         let taken = parts.used;
         let kept = parts.unused;
-        used[k] = taken;
-        unused[k] = kept;
+        paid.used[k] = taken;
+        paid.unused[k] = kept;
         left[cell] = beyond(due, net.size());
         k += 1;
     }
-    Paid {
-        used: used,
-        unused: unused,
-    }
+    paid
 }
 
 // Nothing is accepted, and nothing formed or used.
@@ -172,15 +178,11 @@ fn refused() -> Book
     }
 }
 
-// The delta book of prompts, the earliest of a tier first, under a table of spreads in order of priority: what each spread
-// forms in its two steps, and what of each prompt's net delta is used and what is not. Prompts or spreads that are not
-// accepted get zeros.
-pub fn delta_book(prompts: Prompts, table: Table) -> Book
+// The delta book of prompts and spreads that are accepted: they are not tested again.
+pub fn book_of_accepted(prompts: Prompts, table: Table) -> Book
+    requires { ⌜ sound prompts table ≡ true ⌝ }
     ensures { λ r. ⌜ Booked prompts table r ⌝ }
 {
-    if !accepted(prompts, table) {
-        return refused();
-    }
     let pools = pools_of(prompts);
     let ran = run(pools, table);
     let left = ran.left;
@@ -196,4 +198,16 @@ pub fn delta_book(prompts: Prompts, table: Table) -> Book
         used: used,
         unused: unused,
     }
+}
+
+// The delta book of prompts, the earliest of a tier first, under a table of spreads in order of priority: what each spread
+// forms in its two steps, and what of each prompt's net delta is used and what is not. Prompts or spreads that are not
+// accepted get zeros.
+pub fn delta_book(prompts: Prompts, table: Table) -> Book
+    ensures { λ r. ⌜ Booked prompts table r ⌝ }
+{
+    if !accepted(prompts, table) {
+        return refused();
+    }
+    book_of_accepted(prompts, table)
 }

@@ -7,11 +7,12 @@ ghost use mathlib.Core.Path.{_≡_};
 ghost use mathlib.Core.Bool.{cond};
 ghost use mathlib.Core.List.{[], _∷_};
 ghost use Prim.Native.Nat.{_-_, _≤_, min};
+ghost use lib.Dec.{ltb};
 ghost use lib.ListN.{getD, take};
 ghost use Rattle.exact.specs.Lists.{least};
 ghost use Rattle.spread.specs.Steps.{room, useOf, taker};
 ghost use Rattle.spread.specs.Cells.{cellOf, shortIf, marketIn, stepOf, roomIn, lessIn, formedIn, afterIn, Taken};
-ghost use Rattle.spread.specs.Cells.{mostPool, mostNumber, Small};
+ghost use Rattle.spread.specs.Cells.{cellAt, lowestIn, mostPool, mostNumber, Small};
 
 pub const TIERS: usize = 16;
 
@@ -114,15 +115,27 @@ fn pool_at(cells: &[u64], cell: usize) -> u64
     if cell < cells.len() { cells[cell] } else { 0 }
 }
 
+fn pool_for(cells: &[u64], leg: Leg, second: bool) -> u64
+    ensures { λ r. ⌜ r ≡ cellAt (now (cells .entry)) (marketIn second (leg .side)) (leg .tier) ⌝ }
+{
+    pool_at(cells, cell_for(leg, second))
+}
+
+// Whether no pool is empty that its legs take from: where one is, nothing is formed.
+pub(crate) fn has_room(cells: &[u64], spread: Spread, second: bool) -> bool
+    ensures { λ r. ⌜ r ≡ ltb 0 (lowestIn (now (cells .entry)) (stepOf second spread)) ⌝ }
+{
+    let a = pool_for(cells, spread.leg[0], second);
+    let b = pool_for(cells, spread.leg[1], second);
+    let c = pool_for(cells, spread.leg[2], second);
+    0 < smallest(spread.legs, a, b, c)
+}
+
 fn room_for(cells: &[u64], leg: Leg, tenths: bool, second: bool) -> u64
     requires { ⌜ Small (now cells) ⌝ }
     ensures { λ r. ⌜ r ≡ roomIn (now (cells .entry)) (taker tenths (marketIn second) leg) ⌝ }
 {
-    room(
-        pool_at(cells, cell_for(leg, second)),
-        leg.ratio as u64,
-        tenths,
-    )
+    room(pool_for(cells, leg, second), leg.ratio as u64, tenths)
 }
 
 // "The number formed is the smallest over its legs".

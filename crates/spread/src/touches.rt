@@ -153,7 +153,7 @@ fn wanted_by(there: bool, leg: Leg, tenths: bool, number: u64) -> u64
     }
 }
 
-// A step that forms a number: how often its legs take of a prompt.
+// A step that forms a number: how often its legs take of a prompt. One that forms nothing takes of none.
 fn step_touches(
     size: &mut [u64],
     at: &mut [usize],
@@ -165,6 +165,9 @@ fn step_touches(
     requires { ⌜ Ready (now at) (now pool) (now size) × (number ≤ mostNumber) ⌝ }
     ensures { λ r. ⌜ StepTaken (stepOf second spread) number (now (pool .entry)) (now (size .entry)) (now (size .exit)) (now (at .exit)) r ⌝ }
 {
+    if number == 0 {
+        return 0;
+    }
     let legs = spread.legs;
     let tenths = spread.tenths;
     let one = spread.leg[0];

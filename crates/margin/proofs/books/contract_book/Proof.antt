@@ -5,7 +5,7 @@ use native.Mathlib.Omega.{arith}
 use borrow.Author.Needs.{needs}
 use lib.ListN.{length}
 use Rattle.account.specs.Records.{records}
-use Rattle.margin.proofs.BookLaws.{contract-book-is}
+use Rattle.margin.proofs.BookLaws.{contract-sound, contract-book-is}
 use Rattle.margin.proofs.RecordLaws.{count-is}
 use Rattle.margin.proofs.UnspreadLaws.{unspread}
 use Rattle.margin.proofs.books.contract_book.Statement.{statement}
@@ -23,16 +23,19 @@ prompts-with-requires c κs = let s = c .before .before .before in omega (arith,
 interprompt-table-requires : tie.Need-interprompt-table-requires
 interprompt-table-requires c κs = let s = c .before .before .before .before in omega (arith, s .pre .few-spreads, count-is (s .args .spreads .now))
 
-delta-book-requires : tie.Need-delta-book-requires
-delta-book-requires c κs = search needs
+book-of-accepted-requires : tie.Need-book-of-accepted-requires
+book-of-accepted-requires c κs =
+    let s = c .before .before .before .before .before in
+    contract-sound (s .args .prompts .now) (s .args .spreads .now) (s .args .nets) (c .before .prompts-with .result) (c .interprompt-table .result)
+    (c .before .prompts-with .ensures) (c .interprompt-table .ensures) (s .pre)
 
 returns-2 : tie.Need-returns-2
 returns-2 c =
     let s = c .before .before .before .before .before .before in
-    contract-book-is (s .args .prompts .now) (s .args .spreads .now) (s .args .nets) (c .before .before .prompts-with .result) (c .before .interprompt-table .result) (c .delta-book .result)
-    (c .before .before .prompts-with .ensures) (c .before .interprompt-table .ensures) (s .pre) (c .delta-book .ensures)
+    contract-book-is (s .args .prompts .now) (s .args .spreads .now) (s .args .nets) (c .before .before .prompts-with .result) (c .before .interprompt-table .result) (c .book-of-accepted .result)
+    (c .before .before .prompts-with .ensures) (c .before .interprompt-table .ensures) (s .pre) (c .book-of-accepted .ensures)
 
 pub contract-book-spec : {M : Type 1} → statement M
 contract-book-spec =
     tie.close
-    (tie.spec returns prompts-with-requires interprompt-table-requires delta-book-requires returns-2)
+    (tie.spec returns prompts-with-requires interprompt-table-requires book-of-accepted-requires returns-2)

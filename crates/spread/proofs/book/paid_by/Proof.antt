@@ -13,10 +13,10 @@ use Rattle.spread.proofs.book.paid_by.Statement.{statement}
 use Rattle.spread.proofs.book.paid_by.Tie as tie
 
 abbrev Inv-loop : tie.InvT-loop
-Inv-loop prompts n left₀ used₀ unused₀ k₀ left used unused k = (k ≤ n) × (n ≤ 32) × Paying left₀ (openOf prompts) k left used unused
+Inv-loop prompts n left₀ paid₀ k₀ left paid k = (k ≤ n) × (n ≤ 32) × Paying left₀ (openOf prompts) k left (paid .used) (paid .unused)
 
 abbrev μ-loop : tie.MeasureT-loop
-μ-loop prompts n left₀ used₀ unused₀ k₀ left used unused k = n - k
+μ-loop prompts n left₀ paid₀ k₀ left paid k = n - k
 
 tiers : (s : tie.Start Inv-loop μ-loop) → length (s .args .t1 .tier) ≡ 32
 tiers s = sym (length-map (s .args .t1 .tier) _) ∙ s .good .0 .1 .1 .1 .0 .1 .0 .1
@@ -59,17 +59,17 @@ array-read-due c = within c
 parts-of-requires : tie.Need-parts-of-requires Inv-loop μ-loop
 parts-of-requires c κs = search needs
 
-mul-used : tie.Need-mul-used Inv-loop μ-loop
-mul-used c = omega arith
+mul-taken : tie.Need-mul-taken Inv-loop μ-loop
+mul-taken c = omega arith
 
-array-set-from-used : tie.Need-array-set-from-used Inv-loop μ-loop
-array-set-from-used c = omega arith
+element-set-from-taken : tie.Need-element-set-from-taken Inv-loop μ-loop
+element-set-from-taken c = omega arith
 
-mul-unused : tie.Need-mul-unused Inv-loop μ-loop
-mul-unused c = omega arith
+mul-kept : tie.Need-mul-kept Inv-loop μ-loop
+mul-kept c = omega arith
 
-array-set-from-unused : tie.Need-array-set-from-unused Inv-loop μ-loop
-array-set-from-unused c = omega arith
+element-set-from-kept : tie.Need-element-set-from-kept Inv-loop μ-loop
+element-set-from-kept c = omega arith
 
 size-requires : tie.Need-size-requires Inv-loop μ-loop
 size-requires c κs = search needs
@@ -97,7 +97,7 @@ loop-again c = let p = c .before .before .before .before .before in
     let parts = c .before .before .before .before .parts-of in (
       omega arith,
       l .inv .1,
-      pay-next (s .args .wanted .cell) (openOf (s .args .t1)) (l .k) (l .left) _ (l .used) (l .unused) _ cell (parts .result .used) (parts .result .unused) (omega arith)
+      pay-next (s .args .wanted .cell) (openOf (s .args .t1)) (l .k) (l .left) _ (l .paid .used) (l .paid .unused) _ cell (parts .result .used) (parts .result .unused) (omega arith)
           (here p) (parts .ensures .0) (parts .ensures .1)
           (ap (set (l .left) cell) (c .beyond .ensures ∙ ap (λ (a : ℕ). getD (l .left) cell 0 - a) (c .before .size .ensures)))
           (l .inv .2),
@@ -108,7 +108,7 @@ returns c = let s = c .before .before .before in
     let p = s .args .t1 in
     let l = c .before .loop in
     let n = open-length p (tiers s) (nets s) (l .inv .1) in
-    paying-all (s .args .wanted .cell) (openOf p) (l .k) (l .left) (l .used) (l .unused) (omega arith) (l .inv .2)
+    paying-all (s .args .wanted .cell) (openOf p) (l .k) (l .left) (l .paid .used) (l .paid .unused) (omega arith) (l .inv .2)
 
 pub paid-by-spec : {M : Type 1} → statement M
 paid-by-spec =
@@ -124,10 +124,10 @@ paid-by-spec =
     mul-due
     array-read-due
     parts-of-requires
-    mul-used
-    array-set-from-used
-    mul-unused
-    array-set-from-unused
+    mul-taken
+    element-set-from-taken
+    mul-kept
+    element-set-from-kept
     size-requires
     beyond-requires
     mul-left

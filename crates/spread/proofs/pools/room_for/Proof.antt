@@ -1,40 +1,28 @@
--- `room_for`: the room of the leg's cell.
+-- `room_for`: the room of the leg's pool.
 -- Assumes nothing.
 use Prim.Native.Nat.{ℕ, _≤_}
-use mathlib.Core.List.{List}
-use mathlib.Core.Path.{_≡_, sym, _∙_, ap, subst}
-use lib.ListN.{getD}
+use mathlib.Core.Path.{_∙_, ap, subst⁻¹}
 use borrow.Author.Needs.{needs}
-use Rattle.spread.specs.Cells.{cellOf, mostPool, Small, marketIn}
-use Rattle.spread.specs.Steps.{Market, room}
+use Rattle.spread.specs.Cells.{mostPool, marketIn}
+use Rattle.spread.specs.Steps.{room}
 use Rattle.spread.proofs.pools.room_for.Statement.{statement}
 use Rattle.spread.proofs.pools.room_for.Tie as tie
 
-small-pool : (cells : List ℕ) (m : Market) (t pool cell : ℕ) → Small cells → pool ≡ getD cells cell 0 → cell ≡ cellOf m t → pool ≤ mostPool
-small-pool cells m t pool cell h e f = subst (λ (p : ℕ). p ≤ mostPool) (sym (e ∙ ap (λ (k : ℕ). getD cells k 0) f)) (h m t)
-
-cell-for-requires : tie.Need-cell-for-requires
-cell-for-requires c κs = search needs
-
-pool-at-requires : tie.Need-pool-at-requires
-pool-at-requires c κs = search needs
+pool-for-requires : tie.Need-pool-for-requires
+pool-for-requires c κs = search needs
 
 cast-room : tie.Need-cast-room
 cast-room c = search needs
 
 room-requires : tie.Need-room-requires
 room-requires c κs =
-    let s = c .before .before .before .before in
-    small-pool (s .args .cells .now) (marketIn (s .args .second) (s .args .leg .side)) (s .args .leg .tier) _ _ (s .pre)
-    (c .before .pool-at .ensures) (c .before .before .cell-for .ensures)
+    let s = c .before .before .before in
+    subst⁻¹ (λ (p : ℕ). p ≤ mostPool) (c .before .pool-for .ensures) (s .pre (marketIn (s .args .second) (s .args .leg .side)) (s .args .leg .tier))
 
 returns : tie.Need-returns
 returns c =
-    let s = c .before .before .before .before .before in
-    c .room .ensures
-    ∙ ap (λ (p : ℕ). room (s .args .tenths) p (s .args .leg .ratio))
-    (c .before .before .pool-at .ensures ∙ ap (λ (k : ℕ). getD (s .args .cells .now) k 0) (c .before .before .before .cell-for .ensures))
+    let s = c .before .before .before .before in
+    c .room .ensures ∙ ap (λ (p : ℕ). room (s .args .tenths) p (s .args .leg .ratio)) (c .before .before .pool-for .ensures)
 
 pub room-for-spec : {M : Type 1} → statement M
-room-for-spec =
-    tie.close (tie.spec cell-for-requires pool-at-requires cast-room room-requires returns)
+room-for-spec = tie.close (tie.spec pool-for-requires cast-room room-requires returns)

@@ -4,9 +4,12 @@ use mathlib.Core.Path.{_≡_, sym, _∙_}
 use lib.ListN.{length, length-map}
 use borrow.Author.Needs.{needs}
 use Rattle.spread.proofs.Legs.{three}
-use Rattle.spread.proofs.Passing.{step-taken}
+use Rattle.spread.proofs.Passing.{step-taken, step-idle}
 use Rattle.spread.proofs.touches.step_touches.Statement.{statement}
 use Rattle.spread.proofs.touches.step_touches.Tie as tie
+
+returns : tie.Need-returns
+returns c = step-idle _ _ _ _ _ (c .if1 .taken) (c .before .before .before .before .pre .0)
 
 element-copy-out-one : tie.Need-element-copy-out-one
 element-copy-out-one c = search needs
@@ -47,12 +50,12 @@ same-length c = search needs
 same-length-2 : tie.Need-same-length-2
 same-length-2 c = search needs
 
-returns : tie.Need-returns
-returns c =
+returns-2 : tie.Need-returns-2
+returns-2 c =
     let third = c .before .before .before .before in
     let second = third .before .before .before .before .before .before .before .before in
     let first = second .before .before .before .before .before .before .before .before in
-    let s = first .before .before .before .before .before .before .before .before .before .before in
+    let s = first .before .before .before .before .before .before .before .before .before .before .before in
     let l : length (s .args .t4 .leg) ≡ 3 = sym (length-map (s .args .t4 .leg) _) ∙ s .good .1 .1 .1 .0 .1 .1 .1 .0 .1 .0 .1 in
     step-taken (s .args .second) (s .args .t4) _ _ _ (three _ (s .args .t4 .leg) l) (s .args .number) (s .args .pool .now)
     (s .args .size .now) _ _ _ _ _ _ _ _ _ _ _ _
@@ -63,6 +66,7 @@ pub step-touches-spec : {M : Type 1} → statement M
 step-touches-spec =
     tie.close
     (tie.spec
+    returns
     element-copy-out-one
     element-copy-out-two
     element-copy-out-three
@@ -76,4 +80,4 @@ step-touches-spec =
     add-result-2
     same-length
     same-length-2
-    returns)
+    returns-2)

@@ -90,6 +90,15 @@ pub record DaysOf (prompts : List Record) (d : Days) : Type 0 where
   pub few : d .count ≤ 32
   pub day-is : (j : ℕ) → j < length prompts → getD (d .day) j 0 ≡ day (getD prompts j [])
 
+-- each day is later than those before it
+abbrev pub Rising : ℕ → List ℕ → Type 0
+Rising n days = (j k : ℕ) → j < k → k < n → getD days j 0 < getD days k 0
+
+-- a place of a day among the first n, and past them where it is none of theirs
+pub record PlaceOf (days : List ℕ) (n d r : ℕ) : Type 0 where
+  pub here : r < n → getD days r 0 ≡ d
+  pub none : n ≤ r → (j : ℕ) → j < n → getD days j 0 ≡ d → ⊥
+
 -- what rows come to at these rates, for a contract with this unit and these prompts; the nets past its prompts are 0
 pub record PositionOf (rates : List Record) (unit : ℕ) (prompts rows : List Record) (p : Position) : Type 0 where
   pub totals-are : p .totals .0 ≡ totals rates unit rows

@@ -1,20 +1,21 @@
 // What a contract's rows come to: its sixteen totals, its prompts' net deltas and its short lots.
 ghost use mathlib.Core.Path.{_≡_};
-ghost use mathlib.Core.Bool.{cond};
+ghost use mathlib.Core.Bool.{true};
 ghost use mathlib.Core.List.{List, [], _∷_, _++_};
-ghost use Prim.Native.Nat.{ℕ, _≤_, _-_, _*_};
+ghost use Prim.Native.Nat.{ℕ, _≤_, _+_, _-_, _*_};
 ghost use lib.IntN.{pos, natAbs, negℤ, _+ℤ_, _-ℤ_, _*ℤ_};
 ghost use Rattle.exact.specs.Rounding.{halfAwayTo};
 ghost use lib.ListN.{length, getD};
-ghost use Rattle.record.specs.Layout.{Record, hundredThousand, mostUnit};
+ghost use Rattle.record.specs.Layout.{Record, day, hundredThousand, mostUnit};
 ghost use Rattle.account.specs.Check.{mostPrompts, mostRows};
 ghost use Rattle.account.specs.Products.{convertedAt, mostConversion, mostFactor, RatesOf};
 ghost use Rattle.account.specs.Records.{records, recordCount};
 ghost use Rattle.margin.specs.Bounds.{mostDelta, mostProduct};
 ghost use Rattle.margin.specs.Deltas.{rowDelta};
-ghost use Rattle.margin.specs.Margin.{short, shortOptions};
+ghost use Rattle.margin.specs.Margin.{short, shortOptions, shortLots};
 ghost use Rattle.margin.specs.Position.{RowFit, RowsFit, RatedBy, FactorsFit, Sized, AtMost, Added, DaysOf};
-ghost use Rattle.margin.specs.Position.{products, ownProducts, convertedProducts};
+ghost use Rattle.margin.specs.Position.{products, ownProducts, convertedProducts, netOn, PlaceOf, Rising};
+ghost use Rattle.margin.specs.Scanning.{total};
 ghost use Rattle.margin.specs.Position.{PositionOf, Bounded, WithRows, HasRows, deltasIn};
 ghost use Rattle.margin.specs.declared.rows.Position.{Position};
 use account::rates::Factors;
@@ -49,11 +50,14 @@ pub struct Position {
     pub shorts: u64,
 }
 
-// The days of a contract's prompts, the first `count`.
+// The days of a contract's prompts, the first `count`. Beyond them stands the latest day of all.
 pub struct Days {
     pub count: usize,
-    pub day: [usize; MOST_PROMPTS],
+    pub day: [u32; MOST_PROMPTS],
 }
+
+// Every day is as early, or earlier.
+const LATEST: u32 = 4_294_967_295;
 
 // Lots × value × loss, rounded to the contract's unit.
 fn product(each: i64, loss: i64, unit: u64) -> i64
@@ -94,67 +98,80 @@ fn short(lots: i64) -> u64
 fn short_options(row: &[u8]) -> u64
     ensures { λ r. ⌜ r ≡ shortOptions (now (row .entry)) ⌝ }
 {
-    if row_type(row) == 0 {
-        0
-    } else {
-        short(lots(row))
-    }
+    let lots_short = short(lots(row));
+    if row_type(row) == 0 { 0 } else { lots_short }
 }
 
-// A prompt's net delta with one row more, which counts where it is of the prompt's day.
-fn net_with(net: Delta, same: bool, more: Delta) -> Delta
-    requires { ⌜ (natAbs (net .0) ≤ 127000000000) × (natAbs (more .0) ≤ 1000000000) ⌝ }
-    ensures { λ r. ⌜ r .0 ≡ net .0 +ℤ cond same (more .0) (pos 0) ⌝ }
+// A prompt's net delta with more added to it.
+fn net_with(net: Delta, more: Delta) -> Delta
+    requires { ⌜ (natAbs (net .0) ≤ mostDelta) × (natAbs (more .0) ≤ mostDelta) ⌝ }
+    ensures { λ r. ⌜ r .0 ≡ net .0 +ℤ more .0 ⌝ }
 {
-    if same {
-        Delta(plus(net.0, more.0))
-    } else {
-        net
-    }
+    Delta(plus(net.0, more.0))
 }
 
-// Each total with one row more in the margin currency.
-fn own_totals_with(t: Totals, unit: u64, row: &[u8]) -> Totals
-    requires { ⌜ (unit ≤ mostUnit) × (RowFit (now row) × AtMost 16 (127 * mostProduct) (t .0)) ⌝ }
-    ensures { λ r. ⌜ Added 16 (ownProducts unit (now (row .entry))) (t .0) (r .0) ⌝ }
+// One row more in the margin currency, added to each total.
+fn add_own(totals: &mut [i64; SCENARIOS], unit: u64, row: &[u8])
+    requires { ⌜ (unit ≤ mostUnit) × (RowFit (now row) × AtMost 16 (127 * mostProduct) (now totals)) ⌝ }
+    ensures { λ r. ⌜ Added 16 (ownProducts unit (now (row .entry))) (now (totals .entry)) (now (totals .exit)) ⌝ }
 {
     let each = per_tick(row);
-    let mut totals = t.0;
     let mut s = 0;
     while s < SCENARIOS {
         let more = product(each, loss(row, s + 1), unit);
         totals[s] = plus(totals[s], more);
         s += 1;
     }
-    Totals(totals)
 }
 
 // The same with a row in another currency.
-fn converted_totals_with(t: Totals, f: Factors, unit: u64, row: &[u8]) -> Totals
-    requires { ⌜ (unit ≤ mostUnit) × (RowFit (now row) × (FactorsFit (f .raised) (f .lowered) (now row) × AtMost 16 (127 * mostProduct) (t .0))) ⌝ }
-    ensures { λ r. ⌜ Added 16 (convertedProducts (f .raised) (f .lowered) unit (now (row .entry))) (t .0) (r .0) ⌝ }
+fn add_converted(totals: &mut [i64; SCENARIOS], f: Factors, unit: u64, row: &[u8])
+    requires { ⌜ (unit ≤ mostUnit) × (RowFit (now row) × (FactorsFit (f .raised) (f .lowered) (now row) × AtMost 16 (127 * mostProduct) (now totals))) ⌝ }
+    ensures { λ r. ⌜ Added 16 (convertedProducts (f .raised) (f .lowered) unit (now (row .entry))) (now (totals .entry)) (now (totals .exit)) ⌝ }
 {
     let each = per_tick(row);
-    let mut totals = t.0;
     let mut s = 0;
     while s < SCENARIOS {
         let more = converted_product(f, each, loss(row, s + 1), unit);
         totals[s] = plus(totals[s], more);
         s += 1;
     }
-    Totals(totals)
 }
 
 // Each total with one row more: whether it is converted is decided once.
-fn totals_with(t: Totals, rates: Rates, unit: u64, row: &[u8]) -> Totals
-    requires { ⌜ (unit ≤ mostUnit) × (RowFit (now row) × (RatedBy rates (now row ∷ []) × AtMost 16 (127 * mostProduct) (t .0))) ⌝ }
-    ensures { λ r. ⌜ ((held : List Record) → RatesOf held rates → Added 16 (products held unit (now (row .entry))) (t .0) (r .0)) ⌝ }
+fn add_row(totals: &mut [i64; SCENARIOS], rates: Rates, unit: u64, row: &[u8])
+    requires { ⌜ (unit ≤ mostUnit) × (RowFit (now row) × (RatedBy rates (now row ∷ []) × AtMost 16 (127 * mostProduct) (now totals))) ⌝ }
+    ensures { λ r. ⌜ ((held : List Record) → RatesOf held rates → Added 16 (products held unit (now (row .entry))) (now (totals .entry)) (now (totals .exit))) ⌝ }
 {
     let c = currency(row);
     if c == 0 {
-        return own_totals_with(t, unit, row);
+        add_own(totals, unit, row);
+    } else {
+        add_converted(totals, factors_of(rates, c), unit, row);
     }
-    converted_totals_with(t, factors_of(rates, c), unit, row)
+}
+
+// The totals with more rows, in one walk over these.
+fn totals_with(t: Totals, rates: Rates, unit: u64, rows: &[u8]) -> Totals
+    requires { ⌜ (unit ≤ mostUnit) × (RowsFit (records (now rows)) × (RatedBy rates (records (now rows)) × AtMost 16 ((mostRows - length (records (now rows))) * mostProduct) (t .0))) ⌝ }
+    ensures { λ r. ⌜ ((held : List Record) → RatesOf held rates → Added 16 (λ k. total held unit (records (now (rows .entry))) (k + 1)) (t .0) (r .0)) ⌝ }
+{
+    let count = rows.len() / RECORD_BYTES;
+    let mut totals = t.0;
+    let mut i = 0;
+    while i < count {
+        let at = i * RECORD_BYTES;
+        add_row(&mut totals, rates, unit, &rows[at..at + RECORD_BYTES]);
+        i += 1;
+    }
+    Totals(totals)
+}
+
+// The day of a row or of a prompt.
+fn day_of(r: &[u8]) -> u32
+    ensures { λ d. ⌜ d ≡ day (now (r .entry)) ⌝ }
+{
+    day(r) as u32
 }
 
 // The days of a contract's prompts.
@@ -163,11 +180,11 @@ pub fn days_of(prompts: &[u8]) -> Days
     ensures { λ d. ⌜ DaysOf (records (now (prompts .entry))) d ⌝ }
 {
     let count = prompts.len() / RECORD_BYTES;
-    let mut days = [0usize; MOST_PROMPTS];
+    let mut days = [LATEST; MOST_PROMPTS];
     let mut j = 0;
     while j < count {
         let at = j * RECORD_BYTES;
-        days[j] = day(&prompts[at..at + RECORD_BYTES]);
+        days[j] = day_of(&prompts[at..at + RECORD_BYTES]);
         j += 1;
     }
     Days { count, day: days }
@@ -187,39 +204,167 @@ pub(crate) fn flat() -> Position
     }
 }
 
-// What rows come to with more rows, in one walk over these. A ticket is one row more.
+// How many days are earlier: where a day stands if they rise.
+fn earlier(days: &[u32; MOST_PROMPTS], d: u32) -> u32
+    ensures { λ n. ⌜ n ≤ 32 ⌝ }
+{
+    let mut n: u32 = 0;
+    let mut j = 0;
+    while j < MOST_PROMPTS {
+        if days[j] < d {
+            n += 1;
+        }
+        j += 1;
+    }
+    n
+}
+
+// The first place of a day from the first to the last, and past them where there is none.
+fn first_place(days: &[u32; MOST_PROMPTS], count: usize, d: u32) -> usize
+    requires { ⌜ count ≤ mostPrompts ⌝ }
+    ensures { λ r. ⌜ PlaceOf (now (days .entry)) count d r ⌝ }
+{
+    let mut j = 0;
+    while j < count {
+        if days[j] == d {
+            return j;
+        }
+        j += 1;
+    }
+    j
+}
+
+// A place of a day, looked for first where it stands if the days rise.
+fn place_of(days: &[u32; MOST_PROMPTS], count: usize, d: u32) -> usize
+    requires { ⌜ count ≤ mostPrompts ⌝ }
+    ensures { λ r. ⌜ PlaceOf (now (days .entry)) count d r ⌝ }
+{
+    let place = earlier(days, d) as usize;
+    if place < count {
+        if days[place] == d {
+            return place;
+        }
+    }
+    first_place(days, count, d)
+}
+
+// Whether days rise.
+fn rise(days: &[u32; MOST_PROMPTS], count: usize) -> bool
+    requires { ⌜ count ≤ mostPrompts ⌝ }
+    ensures { λ r. ⌜ (r ≡ true → Rising count (now (days .entry))) ⌝ }
+{
+    let mut j = 1;
+    while j < count {
+        if days[j] <= days[j - 1] {
+            return false;
+        }
+        j += 1;
+    }
+    true
+}
+
+// The net deltas with more rows, each added at the one prompt of its day.
+fn nets_by_place(nets: [Delta; MOST_PROMPTS], days: Days, rows: &[u8]) -> [Delta; MOST_PROMPTS]
+    requires { ⌜ (days .count ≤ mostPrompts) × (Rising (days .count) (days .day) × (RowsFit (records (now rows)) × AtMost 32 ((mostRows - length (records (now rows))) * 1000000000) (deltasIn nets))) ⌝ }
+    ensures { λ r. ⌜ Added (days .count) (λ j. netOn (records (now (rows .entry))) (getD (days .day) j 0)) (deltasIn nets) (deltasIn r) ⌝ }
+{
+    let count = rows.len() / RECORD_BYTES;
+    let prompts = days.count;
+    let its_days = days.day;
+    let mut sums = nets;
+    let mut i = 0;
+    while i < count {
+        let at = i * RECORD_BYTES;
+        let row = &rows[at..at + RECORD_BYTES];
+        let place = place_of(&its_days, prompts, day_of(row));
+        if place < prompts {
+            let net = net_with(sums[place], row_delta(row));
+            sums[place] = net;
+        }
+        i += 1;
+    }
+    sums
+}
+
+// The net delta of a day's rows.
+fn net_on(rows: &[u8], d: u32) -> Delta
+    requires { ⌜ RowsFit (records (now rows)) ⌝ }
+    ensures { λ r. ⌜ Sized (length (records (now (rows .entry))) * 1000000000) (netOn (records (now (rows .entry))) d) (r .0) ⌝ }
+{
+    let count = rows.len() / RECORD_BYTES;
+    let mut net = Delta(0);
+    let mut i = 0;
+    while i < count {
+        let at = i * RECORD_BYTES;
+        let row = &rows[at..at + RECORD_BYTES];
+        if day_of(row) == d {
+            let sum = net_with(net, row_delta(row));
+            net = sum;
+        }
+        i += 1;
+    }
+    net
+}
+
+// The net deltas with more rows, prompt by prompt, whatever the days.
+fn nets_by_day(nets: [Delta; MOST_PROMPTS], days: Days, rows: &[u8]) -> [Delta; MOST_PROMPTS]
+    requires { ⌜ (days .count ≤ mostPrompts) × (RowsFit (records (now rows)) × AtMost 32 ((mostRows - length (records (now rows))) * 1000000000) (deltasIn nets)) ⌝ }
+    ensures { λ r. ⌜ Added (days .count) (λ j. netOn (records (now (rows .entry))) (getD (days .day) j 0)) (deltasIn nets) (deltasIn r) ⌝ }
+{
+    let prompts = days.count;
+    let its_days = days.day;
+    let mut sums = nets;
+    let mut j = 0;
+    while j < prompts {
+        let net = net_with(sums[j], net_on(rows, its_days[j]));
+        sums[j] = net;
+        j += 1;
+    }
+    sums
+}
+
+// The net deltas with more rows.
+fn nets_with(nets: [Delta; MOST_PROMPTS], days: Days, rows: &[u8]) -> [Delta; MOST_PROMPTS]
+    requires { ⌜ (days .count ≤ mostPrompts) × (RowsFit (records (now rows)) × AtMost 32 ((mostRows - length (records (now rows))) * 1000000000) (deltasIn nets)) ⌝ }
+    ensures { λ r. ⌜ Added (days .count) (λ j. netOn (records (now (rows .entry))) (getD (days .day) j 0)) (deltasIn nets) (deltasIn r) ⌝ }
+{
+    let its_days = days.day;
+    if rise(&its_days, days.count) {
+        return nets_by_place(nets, days, rows);
+    }
+    nets_by_day(nets, days, rows)
+}
+
+// The short lots with more rows.
+fn shorts_with(shorts: u64, rows: &[u8]) -> u64
+    requires { ⌜ RowsFit (records (now rows)) × (shorts ≤ (mostRows - length (records (now rows))) * 100000) ⌝ }
+    ensures { λ r. ⌜ r ≡ shorts + shortLots (records (now (rows .entry))) ⌝ }
+{
+    let count = rows.len() / RECORD_BYTES;
+    let mut sum = shorts;
+    let mut i = 0;
+    while i < count {
+        let at = i * RECORD_BYTES;
+        sum = sum + short_options(&rows[at..at + RECORD_BYTES]);
+        i += 1;
+    }
+    sum
+}
+
+// What rows come to with more rows: the totals in one walk, the net deltas and the short lots beside. A ticket is one row more.
 pub fn with_rows(p: Position, days: Days, rates: Rates, unit: u64, rows: &[u8]) -> Position
     requires { ⌜ (unit ≤ mostUnit) × ((days .count ≤ mostPrompts) × (RowsFit (records (now rows)) × (RatedBy rates (records (now rows)) × Bounded (mostRows - length (records (now rows))) p))) ⌝ }
     ensures added { λ q. ⌜ ((held : List Record) → RatesOf held rates → WithRows held unit days p (records (now (rows .entry))) q) ⌝ }
     ensures more { λ q. ⌜ ((held prompts earlier : List Record) → RatesOf held rates → DaysOf prompts days → PositionOf held unit prompts earlier p → PositionOf held unit prompts (earlier ++ records (now (rows .entry))) q) ⌝ }
     ensures most { λ q. ⌜ Bounded mostRows q ⌝ }
 {
-    let count = rows.len() / RECORD_BYTES;
-    let prompts = days.count;
-    let mut totals = p.totals;
-    let mut nets = p.nets;
-    let mut shorts = p.shorts;
-    let mut i = 0;
-    while i < count {
-        let at = i * RECORD_BYTES;
-        let row = &rows[at..at + RECORD_BYTES];
-        let sums = totals_with(totals, rates, unit, row);
-        totals = sums;
-        shorts = shorts + short_options(row);
-        let row_day = day(row);
-        let more = row_delta(row);
-        let mut j = 0;
-        while j < prompts {
-            let net = net_with(nets[j], row_day == days.day[j], more);
-            nets[j] = net;
-            j += 1;
-        }
-        i += 1;
-    }
+    let its_totals = p.totals;
+    let its_nets = p.nets;
+    let shorts = p.shorts;
     Position {
-        totals,
-        nets,
-        shorts,
+        totals: totals_with(its_totals, rates, unit, rows),
+        nets: nets_with(its_nets, days, rows),
+        shorts: shorts_with(shorts, rows),
     }
 }
 

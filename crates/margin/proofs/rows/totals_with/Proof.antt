@@ -1,115 +1,108 @@
--- `totals_with`: by the row's currency.
+-- `totals_with`: before row i, what is added by the rows before it.
 -- Assumes nothing.
-use mathlib.Core.Path.{_≡_, refl, sym, _∙_, ap, ap₂, subst}
-use mathlib.Core.Bool.{Bool, true, false, cond}
-use mathlib.Core.List.{List}
-use Prim.Native.Nat.{ℕ, _+_, _≤_}
+use mathlib.Core.Path.{_≡_, refl, sym, _∙_, ap, subst}
+use mathlib.Core.List.{List, []}
+use Prim.Native.Nat.{ℕ, _+_, _-_, _*_, _/_, _≤_, _<_}
 use native.Mathlib.Omega.{arith}
-use lib.Dec.{eqb}
-use lib.IntN.{ℤ, natAbs}
-use lib.ListN.{getD}
+use lib.IntN.{ℤ}
+use lib.ListN.{length, getD, take, drop}
+use lib.Seq.{take-all}
 use denote.Ref.{now}
 use borrow.Author.Needs.{needs}
-use borrow.Author.Tests.{eq-eqb, ne-eqb}
-use Rattle.exact.specs.Rounding.{halfAwayTo}
-use Rattle.record.specs.Layout.{Record, currency, mostCurrency}
-use Rattle.account.specs.Products.{inOwn, inHundredths, rateFor, raised, lowered, converted, convertedAt, mostConversion, mostFactor, RatesOf}
-use Rattle.margin.specs.Position.{FactorsFit, RowRated, Added, products, ownProducts, convertedProducts}
-use Rattle.margin.proofs.AddedLaws.{same-added}
+use Rattle.record.specs.Layout.{Record}
+use Rattle.account.specs.Products.{RatesOf}
+use Rattle.account.specs.Records.{records}
+use Rattle.margin.specs.Bounds.{mostProduct}
+use Rattle.margin.specs.Scanning.{total}
+use Rattle.margin.specs.Position.{RowRated, Added, AtMost}
+use Rattle.margin.proofs.AddedLaws.{nothing-added}
+use Rattle.margin.proofs.PositionBounds.{each-take}
+use Rattle.margin.proofs.RecordLaws.{count-is, record-at}
+use Rattle.margin.proofs.WalkLaws.{in-rows, row-fits, row-rated, few, total-next, totals-room}
 use Rattle.margin.proofs.rows.totals_with.Statement.{statement}
 use Rattle.margin.proofs.rows.totals_with.Tie as tie
 
--- what a row comes to, by whether it is in the margin currency
-abbrev by-currency : List Record → Record → ℕ → Bool → ℤ
-by-currency rates row s own = cond own (inOwn s row) (converted (rateFor rates (currency row)) (inOwn s row))
+abbrev Inv-loop : tie.InvT-loop
+Inv-loop rates unit rows count totals₀ i₀ totals i =
+    (i ≤ length rows / 96) × ((held : List Record) → RatesOf held rates → Added 16 (λ k. total held unit (take i (records rows)) (k + 1)) totals₀ totals)
 
-currency-requires : tie.Need-currency-requires
-currency-requires c κs = search needs
+abbrev μ-loop : tie.MeasureT-loop
+μ-loop rates unit rows count totals₀ i₀ totals i = length rows / 96 - i
 
-own-totals-with-requires : tie.Need-own-totals-with-requires
-own-totals-with-requires c κs = let s = c .before .before .before in (s .pre .0, (s .pre .1 .0, s .pre .1 .1 .1))
+loop-holds : tie.Need-loop-holds Inv-loop μ-loop
+loop-holds c =
+    let s = c .before .before in
+    (omega arith, λ held is. nothing-added 16 (λ k. total held (s .args .unit) [] (k + 1)) (s .args .t .0) (λ k. refl))
 
-returns : tie.Need-returns
+mul-at : tie.Need-mul-at Inv-loop μ-loop
+mul-at c = omega arith
+
+add-add-row : tie.Need-add-add-row Inv-loop μ-loop
+add-add-row c = omega arith
+
+sub-add-row : tie.Need-sub-add-row Inv-loop μ-loop
+sub-add-row c = omega arith
+
+part-add-row-start : tie.Need-part-add-row-start Inv-loop μ-loop
+part-add-row-start c = search needs
+
+part-add-row-end : tie.Need-part-add-row-end Inv-loop μ-loop
+part-add-row-end c = search needs
+
+add-row-requires : tie.Need-add-row-requires Inv-loop μ-loop
+add-row-requires c κs =
+    let s = c .before .before .before .before .before .before in
+    let i = c .before .before .before .loop in
+    let file = now (s .args .rows) in
+    let rows = records file in
+    let turn : i .i < length file / 96 = c .before .before .loop-test .taken in
+    let by = s .pre .1 .1 .0 in (
+      s .pre .0,
+      (
+        row-fits file (i .i) turn (s .pre .1 .0),
+        (
+          row-rated file (i .i) turn (s .args .rates) by,
+          totals-room (take (i .i) rows) (128 - length rows) 127 (omega (arith, few rows (i .i), count-is file, s .pre .1 .0 .few)) (by .rates) (s .args .unit) (s .args .t .0) (i .totals) (s .pre .0) (each-take (RowRated (by .rates)) rows (i .i) (by .each)) (s .pre .1 .1 .1) (i .inv .1 (by .rates) (by .held)),
+        ),
+      ),
+    )
+
+add-i : tie.Need-add-i Inv-loop μ-loop
+add-i c = omega arith
+
+loop-less : tie.Need-loop-less Inv-loop μ-loop
+loop-less c = omega arith
+
+loop-again : tie.Need-loop-again Inv-loop μ-loop
+loop-again c =
+    let s = c .before .before .before .before .before .before .before in
+    let i = c .before .before .before .before .loop in
+    let file = now (s .args .rows) in
+    let turn : i .i < length file / 96 = c .before .before .before .loop-test .taken in
+    (omega arith, λ held is. total-next (records file) (i .i) _ (in-rows file (i .i) turn) (record-at file (i .i) turn) held (s .args .unit) (s .args .t .0) (i .totals) (c .add-row .last .0) (i .inv .1 held is) (c .add-row .ensures held is))
+
+returns : tie.Need-returns Inv-loop μ-loop
 returns c =
     let s = c .before .before .before .before in
-    let row = now (s .args .row) in
-    let own : eqb (currency row) 0 ≡ true = eq-eqb (currency row) 0 (sym (c .before .before .currency .ensures .0) ∙ c .before .if1 .taken) in
+    let i = c .before .loop in
+    let rows = records (now (s .args .rows)) in
     λ held is.
-    same-added 16 (ownProducts (s .args .unit) row) (products held (s .args .unit) row) (s .args .t .0) (c .own-totals-with .result .0)
-    (λ k. ap (λ (t : Bool). halfAwayTo (by-currency held row (k + 1) t) (s .args .unit)) (sym own)) (c .own-totals-with .ensures)
-
-factors-of-requires : tie.Need-factors-of-requires
-factors-of-requires c κs =
-    let s = c .before .before .before in
-    omega (arith, c .before .currency .ensures .0, s .pre .1 .1 .0 .each 0 (omega arith) .currency-within)
-
--- the factors are those of the row's currency
-module _ (c : tie.After-factors-of) where
-  abbrev row : Record
-  row = now (c .before .before .before .before .args .row)
-
-  number : c .before .before .currency .result ≡ currency row
-  number = c .before .before .currency .ensures .0
-
-  other : eqb (currency row) 0 ≡ false
-  other = ne-eqb (currency row) 0 (λ e. c .before .if1 .left (number ∙ e))
-
-  raised-is : (rates : List Record) → RatesOf rates (c .before .before .before .before .args .rates) → currency row ≤ mostCurrency
-      → c .factors-of .result .raised ≡ raised (rateFor rates (currency row))
-  raised-is rates held small =
-      c .factors-of .ensures .0
-      ∙ ap (λ (k : ℕ). getD (c .before .before .before .before .args .rates .raised) k 0) number
-      ∙ held .raised-are (currency row) small
-
-  lowered-is : (rates : List Record) → RatesOf rates (c .before .before .before .before .args .rates) → currency row ≤ mostCurrency
-      → c .factors-of .result .lowered ≡ lowered (rateFor rates (currency row))
-  lowered-is rates held small =
-      c .factors-of .ensures .1
-      ∙ ap (λ (k : ℕ). getD (c .before .before .before .before .args .rates .lowered) k 0) number
-      ∙ held .lowered-are (currency row) small
-
-  factors-fit : FactorsFit (c .factors-of .result .raised) (c .factors-of .result .lowered) row
-  factors-fit =
-      let rated = c .before .before .before .before .pre .1 .1 .0 in
-      let here = rated .each 0 (omega arith) in
-      let up = raised-is (rated .rates) (rated .held) (here .currency-within) in
-      let down = lowered-is (rated .rates) (rated .held) (here .currency-within) in
-      record {
-        up-within = subst (λ (n : ℕ). n ≤ mostFactor) (sym up) (here .raised-within);
-        down-within = subst (λ (n : ℕ). n ≤ mostFactor) (sym down) (here .lowered-within);
-        conversion-within =
-            λ s l h.
-            subst (λ (z : ℤ). natAbs z ≤ mostConversion)
-            (ap (by-currency (rated .rates) row s) other ∙ sym (ap₂ (λ (x y : ℕ). convertedAt x y (inOwn s row)) up down))
-            (here .conversion-within s l h);
-      }
-
-converted-totals-with-requires : tie.Need-converted-totals-with-requires
-converted-totals-with-requires c κs =
-    let s = c .before .before .before .before in
-    (s .pre .0, (s .pre .1 .0, (factors-fit c, s .pre .1 .1 .1)))
-
-returns-2 : tie.Need-returns-2
-returns-2 c =
-    let s = c .before .before .before .before .before in
-    let row = now (s .args .row) in
-    let f = c .before .factors-of .result in
-    let unit = s .args .unit in
-    let small = s .pre .1 .1 .0 .each 0 (omega arith) .currency-within in
-    λ held is.
-    same-added 16 (convertedProducts (f .raised) (f .lowered) unit row) (products held unit row) (s .args .t .0) (c .converted-totals-with .result .0)
-    (λ k.
-    ap₂ (λ (up down : ℕ). halfAwayTo (convertedAt up down (inOwn (k + 1) row)) unit) (raised-is (c .before) held is small) (lowered-is (c .before) held is small)
-    ∙ ap (λ (t : Bool). halfAwayTo (by-currency held row (k + 1) t) unit) (sym (other (c .before))))
-    (c .converted-totals-with .ensures)
+    subst (λ (rs : List Record). Added 16 (λ k. total held (s .args .unit) rs (k + 1)) (s .args .t .0) (i .totals)) (take-all (i .i) rows (omega (arith, count-is (now (s .args .rows))))) (i .inv .1 held is)
 
 pub totals-with-spec : {M : Type 1} → statement M
 totals-with-spec =
     tie.close
     (tie.spec
-    currency-requires
-    own-totals-with-requires
-    returns
-    factors-of-requires
-    converted-totals-with-requires
-    returns-2)
+    Inv-loop
+    μ-loop
+    loop-holds
+    mul-at
+    add-add-row
+    sub-add-row
+    part-add-row-start
+    part-add-row-end
+    add-row-requires
+    add-i
+    loop-less
+    loop-again
+    returns)

@@ -1,18 +1,16 @@
--- Days that rise: a row is added at the one prompt of its day.
+-- Days that rise, and where a row's delta is added.
 -- Assumes nothing.
-use mathlib.Core.Path.{_≡_, refl, sym, _∙_, ap, subst}
+use mathlib.Core.Path.{_≡_, refl, sym, _∙_, ap}
 use mathlib.Core.Bool.{Bool, true, false, cond}
 use mathlib.Core.List.{List}
 use Prim.Native.Nat.{ℕ, _+_, _-_, _≤_, _<_}
 use native.Mathlib.Omega.{arith}
-use lib.Dec.{eqb, ltb}
+use lib.Dec.{ltb}
 use lib.IntN.{ℤ, pos, _+ℤ_, +ℤ-idr}
-use lib.ListN.{length, getD, set, length-set}
-use lib.Seq.{getD-set-same, getD-set-other}
-use borrow.Author.Tests.{eqb-true, eqb-false, eq-eqb, ne-eqb, ltb-true, ltb-false}
-use Rattle.spread.specs.declared.Delta.{Delta}
-use Rattle.margin.specs.Position.{Added, Rising, PlaceOf, addsOn, deltasIn}
-use Rattle.margin.proofs.AddedLaws.{deltas-set, delta-at}
+use lib.ListN.{length, getD, set}
+use borrow.Author.Tests.{eq-eqb, ne-eqb, ltb-true, ltb-false}
+use Rattle.margin.specs.Position.{Added, Rising, FirstPlace, addsOn}
+use Rattle.margin.proofs.AddedLaws.{next}
 
 pub rising-one : (n : ℕ) (days : List ℕ) → n ≤ 1 → Rising n days
 rising-one n days h j k l m = absurd (omega arith)
@@ -37,47 +35,60 @@ rising-more n days h r later j k l m = go (ltb k n) refl
         let same : getD days k 0 ≡ getD days n 0 = ap (λ (i : ℕ). getD days i 0) at in
         omega arith
 
-module _ (n : ℕ) (days : List ℕ) (d : ℕ) (more : ℤ) (xs : List ℤ) where
-  -- a row of another day adds nothing
-  nothing : (k : ℕ) → (getD days k 0 ≡ d → ⊥) → getD xs k (pos 0) ≡ getD xs k (pos 0) +ℤ addsOn days d more k
-  nothing k other =
-      sym (+ℤ-idr (getD xs k (pos 0)))
-      ∙ ap (λ (t : Bool). getD xs k (pos 0) +ℤ cond t more (pos 0)) (sym (ne-eqb d (getD days k 0) (λ e. other (sym e))))
+-- one day more that is another
+pub passed-one : (days : List ℕ) (start j d : ℕ) → ((k : ℕ) → start ≤ k → k < j → getD days k 0 ≡ d → ⊥) → (getD days j 0 ≡ d → ⊥) → (k : ℕ) → start ≤ k → k < j + 1 → getD days k 0 ≡ d → ⊥
+passed-one days start j d earlier here k l h = go (ltb k j) refl
+  where
+    go : (t : Bool) → ltb k j ≡ t → getD days k 0 ≡ d → ⊥
+    go true e = λ same. earlier k l (ltb-true k j e) same
+    go false e =
+        λ same.
+        let at : k ≡ j = let far = ltb-false k j e in omega arith in
+        here (ap (λ (i : ℕ). getD days i 0) (sym at) ∙ same)
 
-  pub at-none : (r : ℕ) → PlaceOf days n d r → n ≤ r → Added n (addsOn days d more) xs xs
-  at-none r p h = record { as-many = refl; added = λ k l. nothing k (p .none h k l); others = λ k l. refl }
-
-  at-place : (r : ℕ) (z : ℤ) → Rising n days → PlaceOf days n d r → r < n → r < length xs → z ≡ getD xs r (pos 0) +ℤ more → Added n (addsOn days d more) xs (set xs r z)
-  at-place r z rising p h room e =
+-- of days that rise a day has one place
+module _ (n : ℕ) (days : List ℕ) (rising : Rising n days) where
+  pub the-first : (d r : ℕ) → r < n → getD days r 0 ≡ d → FirstPlace days 0 n d r
+  the-first d r h e =
       record {
-        as-many = length-set xs r z;
-        added = λ k l. each k l (eqb k r) refl;
-        others = λ k l. getD-set-other xs r k z (pos 0) (λ q. omega arith);
+        low = omega arith;
+        high = omega arith;
+        here = λ l. e;
+        others = λ j l m same. let up = rising j r m h in omega arith;
+      }
+
+  pub the-last : (r : ℕ) → r < n → FirstPlace days (r + 1) n (getD days r 0) n
+  the-last r h =
+      record {
+        low = omega arith;
+        high = omega arith;
+        here = λ l. absurd (omega arith);
+        others = λ j l m same. let up = rising r j (omega arith) m in omega arith;
+      }
+
+-- what is added of a row of day d up to a place
+module _ (days : List ℕ) (n d : ℕ) (more : ℤ) (xs : List ℤ) where
+  -- up to the first place of the day from there on
+  pub passed-by : (a b : ℕ) (ys : List ℤ) → FirstPlace days a n d b → Added a (addsOn days d more) xs ys → Added b (addsOn days d more) xs ys
+  passed-by a b ys f added =
+      record {
+        as-many = added .as-many;
+        added = λ k h. each k h (ltb k a) refl;
+        others = λ k h. added .others k (omega (arith, f .low));
       }
     where
-      each : (k : ℕ) → k < n → (t : Bool) → eqb k r ≡ t → getD (set xs r z) k (pos 0) ≡ getD xs k (pos 0) +ℤ addsOn days d more k
-      each k l true q =
-          let at : k ≡ r = eqb-true k r q in
-          let day-at : d ≡ getD days k 0 = sym (p .here h) ∙ ap (λ (i : ℕ). getD days i 0) (sym at) in
-          ap (λ (i : ℕ). getD (set xs r z) i (pos 0)) at
-          ∙ getD-set-same xs r z (pos 0) room
-          ∙ e
-          ∙ ap (λ (i : ℕ). getD xs i (pos 0) +ℤ more) (sym at)
-          ∙ ap (λ (t : Bool). getD xs k (pos 0) +ℤ cond t more (pos 0)) (sym (eq-eqb d (getD days k 0) day-at))
-      each k l false q =
-          let off : k ≡ r → ⊥ = eqb-false k r q in
-          getD-set-other xs r k z (pos 0) off
-          ∙ nothing k (λ same. apart k l off same (ltb k r) refl)
-        where
-          apart : (k : ℕ) → k < n → (k ≡ r → ⊥) → getD days k 0 ≡ d → (t : Bool) → ltb k r ≡ t → ⊥
-          apart k l off same true q = let here = p .here h in let up = rising k r (ltb-true k r q) h in omega arith
-          apart k l off same false q =
-              let here = p .here h in
-              let up = rising r k (let far = ltb-false k r q in let not-at : k ≡ r → ⊥ = off in omega arith) l in
-              omega arith
+      each : (k : ℕ) → k < b → (t : Bool) → ltb k a ≡ t → getD ys k (pos 0) ≡ getD xs k (pos 0) +ℤ addsOn days d more k
+      each k h true e = added .added k (ltb-true k a e)
+      each k h false e =
+          let far : a ≤ k = ltb-false k a e in
+          added .others k far
+          ∙ sym (+ℤ-idr (getD xs k (pos 0)))
+          ∙ ap (λ (t : Bool). getD xs k (pos 0) +ℤ cond t more (pos 0)) (sym (ne-eqb d (getD days k 0) (λ q. f .others k far h (sym q))))
 
--- the same of deltas
-pub placed : (n : ℕ) (days : List ℕ) (d : ℕ) (more : ℤ) (ds : List Delta) (r : ℕ) (x : Delta) → Rising n days → PlaceOf days n d r → r < n → r < length (deltasIn ds) → x .0 ≡ getD ds r (record { 0 = pos 0 }) .0 +ℤ more → Added n (addsOn days d more) (deltasIn ds) (deltasIn (set ds r x))
-placed n days d more ds r x rising p h room e =
-    subst (λ (zs : List ℤ). Added n (addsOn days d more) (deltasIn ds) zs) (sym (deltas-set ds r x))
-    (at-place n days d more (deltasIn ds) r (x .0) rising p h room (e ∙ ap (λ (z : ℤ). z +ℤ more) (sym (delta-at ds r))))
+  -- at a place of the day
+  pub added-at : (j : ℕ) (ys : List ℤ) (z : ℤ) → j < length xs → getD days j 0 ≡ d → Added j (addsOn days d more) xs ys → z ≡ getD ys j (pos 0) +ℤ more → Added (j + 1) (addsOn days d more) xs (set ys j z)
+  added-at j ys z h same a e =
+      next j (addsOn days d more) xs ys z a h
+      (e
+      ∙ ap (λ (x : ℤ). x +ℤ more) (a .others j (omega arith))
+      ∙ ap (λ (t : Bool). getD xs j (pos 0) +ℤ cond t more (pos 0)) (sym (eq-eqb d (getD days j 0) (sym same))))

@@ -2,7 +2,7 @@
 ghost use mathlib.Core.Path.{_≡_};
 ghost use mathlib.Core.Bool.{true};
 ghost use mathlib.Core.List.{List, [], _∷_, _++_};
-ghost use Prim.Native.Nat.{ℕ, _≤_, _+_, _-_, _*_};
+ghost use Prim.Native.Nat.{ℕ, _<_, _≤_, _+_, _-_, _*_};
 ghost use lib.IntN.{pos, natAbs, negℤ, _+ℤ_, _-ℤ_, _*ℤ_};
 ghost use Rattle.exact.specs.Rounding.{halfAwayTo};
 ghost use lib.ListN.{length, getD};
@@ -12,10 +12,9 @@ ghost use Rattle.account.specs.Products.{convertedAt, mostConversion, mostFacto
 ghost use Rattle.account.specs.Records.{records, recordCount};
 ghost use Rattle.margin.specs.Bounds.{mostDelta, mostProduct};
 ghost use Rattle.margin.specs.Deltas.{rowDelta};
-ghost use Rattle.margin.specs.Margin.{short, shortOptions, shortLots};
+ghost use Rattle.margin.specs.Margin.{short, shortOptions};
 ghost use Rattle.margin.specs.Position.{RowFit, RowsFit, RatedBy, FactorsFit, Sized, AtMost, Added, DaysOf};
-ghost use Rattle.margin.specs.Position.{products, ownProducts, convertedProducts, netOn, PlaceOf, Rising};
-ghost use Rattle.margin.specs.Scanning.{total};
+ghost use Rattle.margin.specs.Position.{products, ownProducts, convertedProducts, netOn, withNets, FirstPlace, Rising};
 ghost use Rattle.margin.specs.Position.{PositionOf, Bounded, WithRows, HasRows, deltasIn};
 ghost use Rattle.margin.specs.declared.rows.Position.{Position};
 use account::rates::Factors;
@@ -151,22 +150,6 @@ fn add_row(totals: &mut [i64; SCENARIOS], rates: Rates, unit: u64, row: &[u8])
     }
 }
 
-// The totals with more rows, in one walk over these.
-fn totals_with(t: Totals, rates: Rates, unit: u64, rows: &[u8]) -> Totals
-    requires { ⌜ (unit ≤ mostUnit) × (RowsFit (records (now rows)) × (RatedBy rates (records (now rows)) × AtMost 16 ((mostRows - length (records (now rows))) * mostProduct) (t .0))) ⌝ }
-    ensures { λ r. ⌜ ((held : List Record) → RatesOf held rates → Added 16 (λ k. total held unit (records (now (rows .entry))) (k + 1)) (t .0) (r .0)) ⌝ }
-{
-    let count = rows.len() / RECORD_BYTES;
-    let mut totals = t.0;
-    let mut i = 0;
-    while i < count {
-        let at = i * RECORD_BYTES;
-        add_row(&mut totals, rates, unit, &rows[at..at + RECORD_BYTES]);
-        i += 1;
-    }
-    Totals(totals)
-}
-
 // The day of a row or of a prompt.
 fn day_of(r: &[u8]) -> u32
     ensures { λ d. ⌜ d ≡ day (now (r .entry)) ⌝ }
@@ -219,35 +202,6 @@ fn earlier(days: &[u32; MOST_PROMPTS], d: u32) -> u32
     n
 }
 
-// The first place of a day from the first to the last, and past them where there is none.
-fn first_place(days: &[u32; MOST_PROMPTS], count: usize, d: u32) -> usize
-    requires { ⌜ count ≤ mostPrompts ⌝ }
-    ensures { λ r. ⌜ PlaceOf (now (days .entry)) count d r ⌝ }
-{
-    let mut j = 0;
-    while j < count {
-        if days[j] == d {
-            return j;
-        }
-        j += 1;
-    }
-    j
-}
-
-// A place of a day, looked for first where it stands if the days rise.
-fn place_of(days: &[u32; MOST_PROMPTS], count: usize, d: u32) -> usize
-    requires { ⌜ count ≤ mostPrompts ⌝ }
-    ensures { λ r. ⌜ PlaceOf (now (days .entry)) count d r ⌝ }
-{
-    let place = earlier(days, d) as usize;
-    if place < count {
-        if days[place] == d {
-            return place;
-        }
-    }
-    first_place(days, count, d)
-}
-
 // Whether days rise.
 fn rise(days: &[u32; MOST_PROMPTS], count: usize) -> bool
     requires { ⌜ count ≤ mostPrompts ⌝ }
@@ -263,109 +217,121 @@ fn rise(days: &[u32; MOST_PROMPTS], count: usize) -> bool
     true
 }
 
-// The net deltas with more rows, each added at the one prompt of its day.
-fn nets_by_place(nets: [Delta; MOST_PROMPTS], days: Days, rows: &[u8]) -> [Delta; MOST_PROMPTS]
-    requires { ⌜ (days .count ≤ mostPrompts) × (Rising (days .count) (days .day) × (RowsFit (records (now rows)) × AtMost 32 ((mostRows - length (records (now rows))) * 1000000000) (deltasIn nets))) ⌝ }
-    ensures { λ r. ⌜ Added (days .count) (λ j. netOn (records (now (rows .entry))) (getD (days .day) j 0)) (deltasIn nets) (deltasIn r) ⌝ }
+// The first place of a day from a place on, and the number of days where there is none.
+fn first_place(days: &[u32; MOST_PROMPTS], start: usize, count: usize, d: u32) -> usize
+    requires { ⌜ (start ≤ count) × (count ≤ mostPrompts) ⌝ }
+    ensures { λ r. ⌜ FirstPlace (now (days .entry)) start count d r ⌝ }
 {
-    let count = rows.len() / RECORD_BYTES;
-    let prompts = days.count;
-    let its_days = days.day;
-    let mut sums = nets;
-    let mut i = 0;
-    while i < count {
-        let at = i * RECORD_BYTES;
-        let row = &rows[at..at + RECORD_BYTES];
-        let place = place_of(&its_days, prompts, day_of(row));
-        if place < prompts {
-            let net = net_with(sums[place], row_delta(row));
-            sums[place] = net;
+    let mut j = start;
+    while j < count {
+        if days[j] == d {
+            return j;
         }
-        i += 1;
-    }
-    sums
-}
-
-// The net delta of a day's rows.
-fn net_on(rows: &[u8], d: u32) -> Delta
-    requires { ⌜ RowsFit (records (now rows)) ⌝ }
-    ensures { λ r. ⌜ Sized (length (records (now (rows .entry))) * 1000000000) (netOn (records (now (rows .entry))) d) (r .0) ⌝ }
-{
-    let count = rows.len() / RECORD_BYTES;
-    let mut net = Delta(0);
-    let mut i = 0;
-    while i < count {
-        let at = i * RECORD_BYTES;
-        let row = &rows[at..at + RECORD_BYTES];
-        if day_of(row) == d {
-            let sum = net_with(net, row_delta(row));
-            net = sum;
-        }
-        i += 1;
-    }
-    net
-}
-
-// The net deltas with more rows, prompt by prompt, whatever the days.
-fn nets_by_day(nets: [Delta; MOST_PROMPTS], days: Days, rows: &[u8]) -> [Delta; MOST_PROMPTS]
-    requires { ⌜ (days .count ≤ mostPrompts) × (RowsFit (records (now rows)) × AtMost 32 ((mostRows - length (records (now rows))) * 1000000000) (deltasIn nets)) ⌝ }
-    ensures { λ r. ⌜ Added (days .count) (λ j. netOn (records (now (rows .entry))) (getD (days .day) j 0)) (deltasIn nets) (deltasIn r) ⌝ }
-{
-    let prompts = days.count;
-    let its_days = days.day;
-    let mut sums = nets;
-    let mut j = 0;
-    while j < prompts {
-        let net = net_with(sums[j], net_on(rows, its_days[j]));
-        sums[j] = net;
         j += 1;
     }
-    sums
+    j
 }
 
-// The net deltas with more rows.
-fn nets_with(nets: [Delta; MOST_PROMPTS], days: Days, rows: &[u8]) -> [Delta; MOST_PROMPTS]
-    requires { ⌜ (days .count ≤ mostPrompts) × (RowsFit (records (now rows)) × AtMost 32 ((mostRows - length (records (now rows))) * 1000000000) (deltasIn nets)) ⌝ }
-    ensures { λ r. ⌜ Added (days .count) (λ j. netOn (records (now (rows .entry))) (getD (days .day) j 0)) (deltasIn nets) (deltasIn r) ⌝ }
+// The first place of a day. Where the days rise it is looked for at once where it must stand.
+fn place_of(days: &[u32; MOST_PROMPTS], count: usize, rising: bool, d: u32) -> usize
+    requires { ⌜ (count ≤ mostPrompts) × (rising ≡ true → Rising count (now days)) ⌝ }
+    ensures { λ r. ⌜ FirstPlace (now (days .entry)) 0 count d r ⌝ }
 {
-    let its_days = days.day;
-    if rise(&its_days, days.count) {
-        return nets_by_place(nets, days, rows);
+    if rising {
+        let place = earlier(days, d) as usize;
+        if place < count {
+            if days[place] == d {
+                return place;
+            }
+        }
     }
-    nets_by_day(nets, days, rows)
+    first_place(days, 0, count, d)
 }
 
-// The short lots with more rows.
-fn shorts_with(shorts: u64, rows: &[u8]) -> u64
-    requires { ⌜ RowsFit (records (now rows)) × (shorts ≤ (mostRows - length (records (now rows))) * 100000) ⌝ }
-    ensures { λ r. ⌜ r ≡ shorts + shortLots (records (now (rows .entry))) ⌝ }
+// The next place of the same day: there is none where the days rise.
+fn next_place(days: &[u32; MOST_PROMPTS], count: usize, rising: bool, j: usize) -> usize
+    requires { ⌜ (j < count) × ((count ≤ mostPrompts) × (rising ≡ true → Rising count (now days))) ⌝ }
+    ensures { λ r. ⌜ FirstPlace (now (days .entry)) (j + 1) count (getD (now (days .entry)) j 0) r ⌝ }
 {
-    let count = rows.len() / RECORD_BYTES;
-    let mut sum = shorts;
-    let mut i = 0;
-    while i < count {
-        let at = i * RECORD_BYTES;
-        sum = sum + short_options(&rows[at..at + RECORD_BYTES]);
-        i += 1;
+    if rising {
+        return count;
     }
-    sum
+    first_place(days, j + 1, count, days[j])
 }
 
-// What rows come to with more rows: the totals in one walk, the net deltas and the short lots beside. A ticket is one row more.
+// What rows come to with more rows, in one walk over these. A ticket is one row more.
 pub fn with_rows(p: Position, days: Days, rates: Rates, unit: u64, rows: &[u8]) -> Position
     requires { ⌜ (unit ≤ mostUnit) × ((days .count ≤ mostPrompts) × (RowsFit (records (now rows)) × (RatedBy rates (records (now rows)) × Bounded (mostRows - length (records (now rows))) p))) ⌝ }
     ensures added { λ q. ⌜ ((held : List Record) → RatesOf held rates → WithRows held unit days p (records (now (rows .entry))) q) ⌝ }
     ensures more { λ q. ⌜ ((held prompts earlier : List Record) → RatesOf held rates → DaysOf prompts days → PositionOf held unit prompts earlier p → PositionOf held unit prompts (earlier ++ records (now (rows .entry))) q) ⌝ }
     ensures most { λ q. ⌜ Bounded mostRows q ⌝ }
 {
+    let count = rows.len() / RECORD_BYTES;
+    let prompts = days.count;
+    let its_days = days.day;
+    let rising = rise(&its_days, prompts);
     let its_totals = p.totals;
-    let its_nets = p.nets;
-    let shorts = p.shorts;
-    Position {
-        totals: totals_with(its_totals, rates, unit, rows),
-        nets: nets_with(its_nets, days, rows),
-        shorts: shorts_with(shorts, rows),
+    let mut totals = its_totals.0;
+    let mut nets = p.nets;
+    let mut shorts = p.shorts;
+    let mut i = 0;
+    while i < count {
+        let at = i * RECORD_BYTES;
+        let row = &rows[at..at + RECORD_BYTES];
+        let row_day = day_of(row);
+        let more = row_delta(row);
+        let mut j = place_of(&its_days, prompts, rising, row_day);
+        while j < prompts {
+            let net = net_with(nets[j], more);
+            nets[j] = net;
+            j = next_place(&its_days, prompts, rising, j);
+        }
+        add_row(&mut totals, rates, unit, row);
+        shorts = shorts + short_options(row);
+        i += 1;
     }
+    Position {
+        totals: Totals(totals),
+        nets,
+        shorts,
+    }
+}
+
+// Net deltas with more rows, in one walk over these: where nothing but they are asked for.
+fn nets_with(before: [Delta; MOST_PROMPTS], days: Days, rows: &[u8]) -> [Delta; MOST_PROMPTS]
+    requires { ⌜ (days .count ≤ mostPrompts) × (RowsFit (records (now rows)) × AtMost 32 ((mostRows - length (records (now rows))) * 1000000000) (deltasIn before)) ⌝ }
+    ensures { λ r. ⌜ Added (days .count) (λ j. netOn (records (now (rows .entry))) (getD (days .day) j 0)) (deltasIn before) (deltasIn r) ⌝ }
+{
+    let count = rows.len() / RECORD_BYTES;
+    let prompts = days.count;
+    let its_days = days.day;
+    let rising = rise(&its_days, prompts);
+    let mut nets = before;
+    let mut i = 0;
+    while i < count {
+        let at = i * RECORD_BYTES;
+        let row = &rows[at..at + RECORD_BYTES];
+        let row_day = day_of(row);
+        let more = row_delta(row);
+        let mut j = place_of(&its_days, prompts, rising, row_day);
+        while j < prompts {
+            let net = net_with(nets[j], more);
+            nets[j] = net;
+            j = next_place(&its_days, prompts, rising, j);
+        }
+        i += 1;
+    }
+    nets
+}
+
+// The net deltas alone of what a contract's rows come to.
+pub(crate) fn nets_of(prompts: &[u8], rows: &[u8]) -> [Delta; MOST_PROMPTS]
+    requires { ⌜ (recordCount (now prompts) ≤ mostPrompts) × RowsFit (records (now rows)) ⌝ }
+    ensures { λ r. ⌜ ((rates : List Record) (unit : ℕ) → PositionOf rates unit (records (now (prompts .entry))) (records (now (rows .entry))) (withNets rates unit (records (now (rows .entry))) r)) ⌝ }
+{
+    let none = flat();
+    let no_nets = none.nets;
+    nets_with(no_nets, days_of(prompts), rows)
 }
 
 // Totals with others taken away, one by one.

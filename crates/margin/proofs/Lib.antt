@@ -8,6 +8,7 @@ pub mod CreditLaws
 pub mod SumLaws
 pub mod SignedCalls
 pub mod AddedLaws
+pub mod PlacedLaws
 pub mod PositionLaws
 pub mod PositionBounds
 pub mod NetLaws

@@ -1,25 +1,26 @@
 -- What one row more does to totals, net deltas and short lots, and how large they can be.
 -- Assumes nothing.
-use mathlib.Core.Path.{_≡_, refl, sym, _∙_, ap, ap₂}
+use mathlib.Core.Path.{_≡_, refl, sym, _∙_, ap, ap₂, subst}
 use mathlib.Core.Bool.{Bool, true, false, cond}
 use mathlib.Core.List.{List, [], _∷_, _++_, map, map-append}
 use Prim.Native.Nat.{ℕ, zero, suc, _+_, _≤_, _<_}
 use native.Mathlib.Omega.{arith}
 use borrow.Author.Tests.{ltb-true, ltb-false}
 use lib.Dec.{eqb, eqb→eq, ltb}
-use lib.IntN.{ℤ, pos, _+ℤ_, +ℤ-idr}
-use lib.ListN.{length, getD, take, replicate, length-map}
+use lib.IntN.{ℤ, pos, _+ℤ_, +ℤ-idl, +ℤ-idr}
+use lib.ListN.{length, getD, take, replicate, length-map, List·getD-eq-default}
 use lib.Seq.{ext-getD, getD-take, length-take-le}
 use Rattle.exact.specs.Lists.{consIf, keep, sum, sumℤ}
 use Rattle.exact.proofs.Table.{at}
 use Rattle.exact.proofs.Lists.{keep-append, sum-append, sumℤ-append, getD-map}
 use Rattle.record.specs.Layout.{Record, day}
+use Rattle.spread.specs.declared.Delta.{Delta}
 use Rattle.margin.specs.declared.rows.Days.{Days}
 use Rattle.margin.specs.declared.rows.Position.{Position}
 use Rattle.margin.specs.Scanning.{product, total, scenarios, totals}
 use Rattle.margin.specs.Deltas.{rowDelta, ofDay, netDelta, netDeltas}
 use Rattle.margin.specs.Margin.{shortOptions, shortLots}
-use Rattle.margin.specs.Position.{DaysOf, PositionOf, WithRows, netOn, deltasIn}
+use Rattle.margin.specs.Position.{Added, DaysOf, PositionOf, WithRows, netOn, withNets, deltasIn}
 use Rattle.margin.proofs.AddedLaws.{same-deltas}
 
 -- ---- rows before and rows after
@@ -155,3 +156,26 @@ module _ (rates : List Record) (unit : ℕ) (prompts earlier rows : List Record)
         places = w .nets-added .as-many ∙ is .places;
         shorts-are = w .shorts-added ∙ ap (λ (k : ℕ). k + shortLots rows) (is .shorts-are) ∙ sym (shorts-append earlier rows);
       }
+
+-- ---- net deltas alone
+
+module _ (rates : List Record) (unit : ℕ) (prompts rows : List Record) (days : Days) (p : Position) (nets : List Delta) (known : DaysOf prompts days) (is : PositionOf rates unit prompts [] p) (added : Added (days .count) (λ j. netOn rows (getD (days .day) j 0)) (deltasIn (p .nets)) (deltasIn nets)) where
+  its-totals : Added 16 (λ k. total rates unit rows (k + 1)) (totals rates unit []) (totals rates unit rows)
+  its-totals =
+      record {
+        as-many = refl;
+        added = λ k h.
+            totals-at rates unit rows k h
+            ∙ sym (+ℤ-idl (total rates unit rows (k + 1)))
+            ∙ ap (λ (z : ℤ). z +ℤ total rates unit rows (k + 1)) (sym (totals-at rates unit [] k h));
+        others = λ k h. List·getD-eq-default (totals rates unit rows) (pos 0) h ∙ sym (List·getD-eq-default (totals rates unit []) (pos 0) h);
+      }
+
+  pub nets-alone : PositionOf rates unit prompts rows (withNets rates unit rows nets)
+  nets-alone =
+      joined rates unit prompts [] rows days p (withNets rates unit rows nets) known is
+      (record {
+        totals-added = subst (λ (ts : List ℤ). Added 16 (λ k. total rates unit rows (k + 1)) ts (totals rates unit rows)) (sym (is .totals-are)) its-totals;
+        nets-added = added;
+        shorts-added = omega (arith, is .shorts-are);
+      })

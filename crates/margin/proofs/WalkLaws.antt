@@ -18,6 +18,27 @@ use Rattle.margin.proofs.AddedLaws.{nothing-added, twice, at-most-added
 use Rattle.margin.proofs.PositionLaws.{total-append, total-one, net-append, net-one, shorts-append}
 use Rattle.margin.proofs.PositionBounds.{Rated, total-most, net-most, short-lots-most, each-take}
 
+-- one row more
+passed-row : (rows : List Record) (i : ℕ) (row : Record) → i < length rows → getD rows i [] ≡ row → take i rows ++ row ∷ [] ≡ take (i + 1) rows
+passed-row rows i row h e =
+    ap (λ (r : Record). take i rows ++ r ∷ []) (sym e) ∙ sym (take-suc rows i [] h) ∙ ap (λ (m : ℕ). take m rows) (sym (add-one i))
+
+-- the net deltas with it, and that there is room for it
+pub nets-next : (rows : List Record) (count : ℕ) (days : List ℕ) (i : ℕ) (ns ms ms′ : List ℤ) (row : Record) → i < length rows → getD rows i [] ≡ row → Added count (λ j. netOn (take i rows) (getD days j 0)) ns ms → Added count (addsOn days (day row) (rowDelta row)) ms ms′ → Added count (λ j. netOn (take (i + 1) rows) (getD days j 0)) ns ms′
+nets-next rows count days i ns ms ms′ row h e =
+    twice count (λ j. netOn (take i rows) (getD days j 0)) (addsOn days (day row) (rowDelta row)) (λ j. netOn (take (i + 1) rows) (getD days j 0)) ns ms ms′
+    (λ j l.
+    ap (λ (z : ℤ). netOn (take i rows) (getD days j 0) +ℤ z) (net-one row (getD days j 0))
+    ∙ sym (net-append (take i rows) (row ∷ []) (getD days j 0))
+    ∙ ap (λ (rs : List Record). netOn rs (getD days j 0)) (passed-row rows i row h e))
+
+pub nets-room : (rows : List Record) (count : ℕ) (days : List ℕ) (ns : List ℤ) → RowsFit rows → AtMost 32 ((128 - length rows) * 1000000000) ns → (i n : ℕ) (ms : List ℤ) → Added count (λ j. netOn (take i rows) (getD days j 0)) ns ms → 128 - length rows + i ≤ n → AtMost 32 (n * 1000000000) ms
+nets-room rows count days ns w most i n ms a h =
+    let few : length (take i rows) ≤ i = omega (arith, length-take i rows) in
+    at-most-wider 32 ((128 - length rows) * 1000000000 + length (take i rows) * 1000000000) (n * 1000000000) ms (omega arith)
+    (at-most-added 32 count ((128 - length rows) * 1000000000) (length (take i rows) * 1000000000) (λ j. netOn (take i rows) (getD days j 0)) ns ms
+    most a (λ j l. net-most (take i rows) (each-take RowFit rows i (w .each)) (getD days j 0)))
+
 -- totals us, nets ms and short lots v are ts, ns and u with the first i rows
 pub record SoFar (rates : List Record) (unit : ℕ) (rows : List Record) (count : ℕ) (days : List ℕ) (ts ns : List ℤ) (u i : ℕ) (us ms : List ℤ) (v : ℕ) : Type 0 where
   pub passed : i ≤ length rows
@@ -37,8 +58,7 @@ module _ (rates : List Record) (unit : ℕ) (rows : List Record) (count : ℕ) (
 
   pub next : (i : ℕ) (us ms us′ ms′ : List ℤ) (v v′ : ℕ) (row : Record) → SoFar rates unit rows count days ts ns u i us ms v → i < length rows → getD rows i [] ≡ row → Added 16 (products rates unit row) us us′ → Added count (addsOn days (day row) (rowDelta row)) ms ms′ → v′ ≡ v + shortOptions row → SoFar rates unit rows count days ts ns u (i + 1) us′ ms′ v′
   next i us ms us′ ms′ v v′ row s h e t n o =
-      let passed : take i rows ++ row ∷ [] ≡ take (i + 1) rows =
-      ap (λ (r : Record). take i rows ++ r ∷ []) (sym e) ∙ sym (take-suc rows i [] h) ∙ ap (λ (m : ℕ). take m rows) (sym (add-one i)) in
+      let passed = passed-row rows i row h e in
       record {
         passed = omega arith;
         totals-so-far =
@@ -48,13 +68,7 @@ module _ (rates : List Record) (unit : ℕ) (rows : List Record) (count : ℕ) (
             ∙ sym (total-append rates unit (take i rows) (row ∷ []) (k + 1))
             ∙ ap (λ (rs : List Record). total rates unit rs (k + 1)) passed)
             (s .totals-so-far) t;
-        nets-so-far =
-            twice count (λ j. netOn (take i rows) (getD days j 0)) (addsOn days (day row) (rowDelta row)) (λ j. netOn (take (i + 1) rows) (getD days j 0)) ns ms ms′
-            (λ j l.
-            ap (λ (z : ℤ). netOn (take i rows) (getD days j 0) +ℤ z) (net-one row (getD days j 0))
-            ∙ sym (net-append (take i rows) (row ∷ []) (getD days j 0))
-            ∙ ap (λ (rs : List Record). netOn rs (getD days j 0)) passed)
-            (s .nets-so-far) n;
+        nets-so-far = nets-next rows count days i ns ms ms′ row h e (s .nets-so-far) n;
         shorts-so-far =
             let one : shortLots (take i rows ++ row ∷ []) ≡ shortLots (take i rows) + (shortOptions row + 0) = shorts-append (take i rows) (row ∷ []) in
             let all : shortLots (take i rows ++ row ∷ []) ≡ shortLots (take (i + 1) rows) = ap shortLots passed in
@@ -79,10 +93,7 @@ module _ (rates : List Record) (unit : ℕ) (hu : unit ≤ 1000) (rows : List Re
             at-most-wider 16 ((128 - length rows) * mostProduct + length (take i rows) * mostProduct) (n * mostProduct) us (omega arith)
             (at-most-added 16 16 ((128 - length rows) * mostProduct) (length (take i rows) * mostProduct) (λ k. total rates unit (take i rows) (k + 1)) ts us
             (m .totals-most) (s .totals-so-far) (λ k l. total-most rates unit hu (take i rows) each-rated (k + 1) (omega arith) (omega arith)));
-        nets-most =
-            at-most-wider 32 ((128 - length rows) * 1000000000 + length (take i rows) * 1000000000) (n * 1000000000) ms (omega arith)
-            (at-most-added 32 count ((128 - length rows) * 1000000000) (length (take i rows) * 1000000000) (λ j. netOn (take i rows) (getD days j 0)) ns ms
-            (m .nets-most) (s .nets-so-far) (λ j l. net-most (take i rows) each (getD days j 0)));
+        nets-most = nets-room rows count days ns w (m .nets-most) i n ms (s .nets-so-far) h;
         shorts-most = omega (arith, s .shorts-so-far, m .shorts-most, short-lots-most (take i rows) each);
       }
 

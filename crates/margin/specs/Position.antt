@@ -16,6 +16,7 @@ use Rattle.exact.specs.Lists.{count}
 use Rattle.account.specs.Parts.{onDay}
 use Rattle.account.specs.Products.{inOwn, inHundredths, convertedAt, rateFor, raised, lowered, mostFactor, mostConversion, RatesOf}
 use Rattle.account.specs.declared.rates.Rates.{Rates}
+use Rattle.spread.specs.declared.Delta.{Delta}
 use Rattle.margin.specs.declared.rows.Days.{Days}
 use Rattle.margin.specs.declared.rows.Position.{Position}
 pub use Rattle.margin.specs.Sums.{deltasIn}
@@ -90,6 +91,17 @@ pub record DaysOf (prompts : List Record) (d : Days) : Type 0 where
   pub few : d .count ≤ 32
   pub day-is : (j : ℕ) → j < length prompts → getD (d .day) j 0 ≡ day (getD prompts j [])
 
+-- each day is later than those before it
+abbrev pub Rising : ℕ → List ℕ → Type 0
+Rising n days = (j k : ℕ) → j < k → k < n → getD days j 0 < getD days k 0
+
+-- the first place of a day from a place on, among the first n days, and n where there is none
+pub record FirstPlace (days : List ℕ) (start n d r : ℕ) : Type 0 where
+  pub low : start ≤ r
+  pub high : r ≤ n
+  pub here : r < n → getD days r 0 ≡ d
+  pub others : (j : ℕ) → start ≤ j → j < r → getD days j 0 ≡ d → ⊥
+
 -- what rows come to at these rates, for a contract with this unit and these prompts; the nets past its prompts are 0
 pub record PositionOf (rates : List Record) (unit : ℕ) (prompts rows : List Record) (p : Position) : Type 0 where
   pub totals-are : p .totals .0 ≡ totals rates unit rows
@@ -97,6 +109,10 @@ pub record PositionOf (rates : List Record) (unit : ℕ) (prompts rows : List Re
   pub nets-beyond : (j : ℕ) → length prompts ≤ j → getD (deltasIn (p .nets)) j (pos 0) ≡ pos 0
   pub places : length (deltasIn (p .nets)) ≡ 32
   pub shorts-are : p .shorts ≡ shortLots rows
+
+-- the position of rows that has these net deltas
+abbrev pub withNets : List Record → ℕ → List Record → List Delta → Position
+withNets rates unit rows nets = record { totals = record { 0 = totals rates unit rows }; nets = nets; shorts = shortLots rows }
 
 -- no more than what n rows within their ranges can come to
 pub record Bounded (n : ℕ) (p : Position) : Type 0 where

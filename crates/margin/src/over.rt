@@ -8,6 +8,7 @@ use crate::line::line_of;
 use crate::numbers::Numbers;
 use crate::numbers::figures_numbers;
 use crate::rows::Position;
+use crate::rows::nets_of;
 use crate::rows::position_of;
 use crate::tables::intercontract_table;
 use crate::tables::interprompt_table;
@@ -48,7 +49,7 @@ ghost use Rattle.margin.specs.Bounds.{longestBook};
 ghost use Rattle.margin.specs.Contract.{contracts, partsIn, partsOf, asTier, stepsOf, opensOf, tableSteps};
 ghost use Rattle.margin.specs.Figures.{figures, accountTotal};
 ghost use Rattle.margin.specs.Numbers.{written};
-ghost use Rattle.margin.specs.Position.{RatedBy};
+ghost use Rattle.margin.specs.Position.{RatedBy, withNets};
 ghost use Rattle.margin.specs.Promised.{LineOf, PositionFit, BookFit, contractWith};
 ghost use Rattle.margin.specs.Beside.{ownOf, unitOf, Besides, LinesKnown, TiersKnown};
 ghost use Rattle.margin.specs.Lined.{LinesOf, TierIs, TiersIn, PositionAt};
@@ -195,6 +196,21 @@ pub fn total_over<'a>(morning: &'a [u8], noon: &'a [u8], account: Account) -> Am
     Amount(magnitude(number[count - 1]))
 }
 
+// The net deltas alone of contract `c`, which no rate and no unit changes.
+fn nets_at<'a>(
+    morning: &'a [u8],
+    noon: &'a [u8],
+    account: Account,
+    c: usize,
+) -> [Delta; MOST_PROMPTS]
+    requires { ⌜ Stands (now morning) (now noon) account × (c ≤ mostContract) ⌝ }
+    ensures { λ r. ⌜ PositionAt [] 1 (accountOf (now (morning .entry)) (now (noon .entry))) c (withNets [] 1 (rowsOf c (accountOf (now (morning .entry)) (now (noon .entry)))) r) ⌝ }
+{
+    let prompts = part(morning, noon, account, PROMPTS + c);
+    let rows = part(morning, noon, account, ROWS + c);
+    nets_of(prompts, rows)
+}
+
 // A contract as a tier of the intercontract table.
 pub struct Tier {
     pub contract: u8,
@@ -207,9 +223,7 @@ fn tier_at<'a>(morning: &'a [u8], noon: &'a [u8], account: Account, i: usize) ->
     ensures { λ r. ⌜ TierIs (partsIn (accountOf (now (morning .entry)) (now (noon .entry))) (getD (contractsOf (accountOf (now (morning .entry)) (now (noon .entry)))) i [])) (r .contract) (r .net .0) ⌝ }
 {
     let c = contract_number(account, i);
-    let p = position_at(morning, noon, account, c, no_rates(), ONE_HUNDREDTH);
-    let nets = p.nets;
-    let net = contract_net(nets);
+    let net = contract_net(nets_at(morning, noon, account, c));
     Tier {
         contract: c as u8,
         net: net,

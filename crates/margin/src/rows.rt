@@ -1,12 +1,12 @@
 // What a contract's rows come to: its sixteen totals, its prompts' net deltas and its short lots.
 ghost use mathlib.Core.Path.{_≡_};
-ghost use mathlib.Core.Bool.{cond};
+ghost use mathlib.Core.Bool.{true};
 ghost use mathlib.Core.List.{List, [], _∷_, _++_};
-ghost use Prim.Native.Nat.{ℕ, _≤_, _-_, _*_};
+ghost use Prim.Native.Nat.{ℕ, _<_, _≤_, _+_, _-_, _*_};
 ghost use lib.IntN.{pos, natAbs, negℤ, _+ℤ_, _-ℤ_, _*ℤ_};
 ghost use Rattle.exact.specs.Rounding.{halfAwayTo};
 ghost use lib.ListN.{length, getD};
-ghost use Rattle.record.specs.Layout.{Record, hundredThousand, mostUnit};
+ghost use Rattle.record.specs.Layout.{Record, day, hundredThousand, mostUnit};
 ghost use Rattle.account.specs.Check.{mostPrompts, mostRows};
 ghost use Rattle.account.specs.Products.{convertedAt, mostConversion, mostFactor, RatesOf};
 ghost use Rattle.account.specs.Records.{records, recordCount};
@@ -14,7 +14,7 @@ ghost use Rattle.margin.specs.Bounds.{mostDelta, mostProduct};
 ghost use Rattle.margin.specs.Deltas.{rowDelta};
 ghost use Rattle.margin.specs.Margin.{short, shortOptions};
 ghost use Rattle.margin.specs.Position.{RowFit, RowsFit, RatedBy, FactorsFit, Sized, AtMost, Added, DaysOf};
-ghost use Rattle.margin.specs.Position.{products, ownProducts, convertedProducts};
+ghost use Rattle.margin.specs.Position.{products, ownProducts, convertedProducts, netOn, withNets, FirstPlace, Rising};
 ghost use Rattle.margin.specs.Position.{PositionOf, Bounded, WithRows, HasRows, deltasIn};
 ghost use Rattle.margin.specs.declared.rows.Position.{Position};
 use account::rates::Factors;
@@ -49,11 +49,14 @@ pub struct Position {
     pub shorts: u64,
 }
 
-// The days of a contract's prompts, the first `count`.
+// The days of a contract's prompts, the first `count`. Beyond them stands the latest day of all.
 pub struct Days {
     pub count: usize,
-    pub day: [usize; MOST_PROMPTS],
+    pub day: [u32; MOST_PROMPTS],
 }
+
+// Every day is as early, or earlier.
+const LATEST: u32 = 4_294_967_295;
 
 // Lots × value × loss, rounded to the contract's unit.
 fn product(each: i64, loss: i64, unit: u64) -> i64
@@ -94,67 +97,64 @@ fn short(lots: i64) -> u64
 fn short_options(row: &[u8]) -> u64
     ensures { λ r. ⌜ r ≡ shortOptions (now (row .entry)) ⌝ }
 {
-    if row_type(row) == 0 {
-        0
-    } else {
-        short(lots(row))
-    }
+    let lots_short = short(lots(row));
+    if row_type(row) == 0 { 0 } else { lots_short }
 }
 
-// A prompt's net delta with one row more, which counts where it is of the prompt's day.
-fn net_with(net: Delta, same: bool, more: Delta) -> Delta
-    requires { ⌜ (natAbs (net .0) ≤ 127000000000) × (natAbs (more .0) ≤ 1000000000) ⌝ }
-    ensures { λ r. ⌜ r .0 ≡ net .0 +ℤ cond same (more .0) (pos 0) ⌝ }
+// A prompt's net delta with more added to it.
+fn net_with(net: Delta, more: Delta) -> Delta
+    requires { ⌜ (natAbs (net .0) ≤ mostDelta) × (natAbs (more .0) ≤ mostDelta) ⌝ }
+    ensures { λ r. ⌜ r .0 ≡ net .0 +ℤ more .0 ⌝ }
 {
-    if same {
-        Delta(plus(net.0, more.0))
-    } else {
-        net
-    }
+    Delta(plus(net.0, more.0))
 }
 
-// Each total with one row more in the margin currency.
-fn own_totals_with(t: Totals, unit: u64, row: &[u8]) -> Totals
-    requires { ⌜ (unit ≤ mostUnit) × (RowFit (now row) × AtMost 16 (127 * mostProduct) (t .0)) ⌝ }
-    ensures { λ r. ⌜ Added 16 (ownProducts unit (now (row .entry))) (t .0) (r .0) ⌝ }
+// One row more in the margin currency, added to each total.
+fn add_own(totals: &mut [i64; SCENARIOS], unit: u64, row: &[u8])
+    requires { ⌜ (unit ≤ mostUnit) × (RowFit (now row) × AtMost 16 (127 * mostProduct) (now totals)) ⌝ }
+    ensures { λ r. ⌜ Added 16 (ownProducts unit (now (row .entry))) (now (totals .entry)) (now (totals .exit)) ⌝ }
 {
     let each = per_tick(row);
-    let mut totals = t.0;
     let mut s = 0;
     while s < SCENARIOS {
         let more = product(each, loss(row, s + 1), unit);
         totals[s] = plus(totals[s], more);
         s += 1;
     }
-    Totals(totals)
 }
 
 // The same with a row in another currency.
-fn converted_totals_with(t: Totals, f: Factors, unit: u64, row: &[u8]) -> Totals
-    requires { ⌜ (unit ≤ mostUnit) × (RowFit (now row) × (FactorsFit (f .raised) (f .lowered) (now row) × AtMost 16 (127 * mostProduct) (t .0))) ⌝ }
-    ensures { λ r. ⌜ Added 16 (convertedProducts (f .raised) (f .lowered) unit (now (row .entry))) (t .0) (r .0) ⌝ }
+fn add_converted(totals: &mut [i64; SCENARIOS], f: Factors, unit: u64, row: &[u8])
+    requires { ⌜ (unit ≤ mostUnit) × (RowFit (now row) × (FactorsFit (f .raised) (f .lowered) (now row) × AtMost 16 (127 * mostProduct) (now totals))) ⌝ }
+    ensures { λ r. ⌜ Added 16 (convertedProducts (f .raised) (f .lowered) unit (now (row .entry))) (now (totals .entry)) (now (totals .exit)) ⌝ }
 {
     let each = per_tick(row);
-    let mut totals = t.0;
     let mut s = 0;
     while s < SCENARIOS {
         let more = converted_product(f, each, loss(row, s + 1), unit);
         totals[s] = plus(totals[s], more);
         s += 1;
     }
-    Totals(totals)
 }
 
 // Each total with one row more: whether it is converted is decided once.
-fn totals_with(t: Totals, rates: Rates, unit: u64, row: &[u8]) -> Totals
-    requires { ⌜ (unit ≤ mostUnit) × (RowFit (now row) × (RatedBy rates (now row ∷ []) × AtMost 16 (127 * mostProduct) (t .0))) ⌝ }
-    ensures { λ r. ⌜ ((held : List Record) → RatesOf held rates → Added 16 (products held unit (now (row .entry))) (t .0) (r .0)) ⌝ }
+fn add_row(totals: &mut [i64; SCENARIOS], rates: Rates, unit: u64, row: &[u8])
+    requires { ⌜ (unit ≤ mostUnit) × (RowFit (now row) × (RatedBy rates (now row ∷ []) × AtMost 16 (127 * mostProduct) (now totals))) ⌝ }
+    ensures { λ r. ⌜ ((held : List Record) → RatesOf held rates → Added 16 (products held unit (now (row .entry))) (now (totals .entry)) (now (totals .exit))) ⌝ }
 {
     let c = currency(row);
     if c == 0 {
-        return own_totals_with(t, unit, row);
+        add_own(totals, unit, row);
+    } else {
+        add_converted(totals, factors_of(rates, c), unit, row);
     }
-    converted_totals_with(t, factors_of(rates, c), unit, row)
+}
+
+// The day of a row or of a prompt.
+fn day_of(r: &[u8]) -> u32
+    ensures { λ d. ⌜ d ≡ day (now (r .entry)) ⌝ }
+{
+    day(r) as u32
 }
 
 // The days of a contract's prompts.
@@ -163,11 +163,11 @@ pub fn days_of(prompts: &[u8]) -> Days
     ensures { λ d. ⌜ DaysOf (records (now (prompts .entry))) d ⌝ }
 {
     let count = prompts.len() / RECORD_BYTES;
-    let mut days = [0usize; MOST_PROMPTS];
+    let mut days = [LATEST; MOST_PROMPTS];
     let mut j = 0;
     while j < count {
         let at = j * RECORD_BYTES;
-        days[j] = day(&prompts[at..at + RECORD_BYTES]);
+        days[j] = day_of(&prompts[at..at + RECORD_BYTES]);
         j += 1;
     }
     Days { count, day: days }
@@ -187,6 +187,78 @@ pub(crate) fn flat() -> Position
     }
 }
 
+// How many days are earlier: where a day stands if they rise.
+fn earlier(days: &[u32; MOST_PROMPTS], d: u32) -> u32
+    ensures { λ n. ⌜ n ≤ 32 ⌝ }
+{
+    let mut n: u32 = 0;
+    let mut j = 0;
+    while j < MOST_PROMPTS {
+        if days[j] < d {
+            n += 1;
+        }
+        j += 1;
+    }
+    n
+}
+
+// Whether days rise.
+fn rise(days: &[u32; MOST_PROMPTS], count: usize) -> bool
+    requires { ⌜ count ≤ mostPrompts ⌝ }
+    ensures { λ r. ⌜ (r ≡ true → Rising count (now (days .entry))) ⌝ }
+{
+    let mut j = 1;
+    while j < count {
+        if days[j] <= days[j - 1] {
+            return false;
+        }
+        j += 1;
+    }
+    true
+}
+
+// The first place of a day from a place on, and the number of days where there is none.
+fn first_place(days: &[u32; MOST_PROMPTS], start: usize, count: usize, d: u32) -> usize
+    requires { ⌜ (start ≤ count) × (count ≤ mostPrompts) ⌝ }
+    ensures { λ r. ⌜ FirstPlace (now (days .entry)) start count d r ⌝ }
+{
+    let mut j = start;
+    while j < count {
+        if days[j] == d {
+            return j;
+        }
+        j += 1;
+    }
+    j
+}
+
+// The first place of a day. Where the days rise it is looked for at once where it must stand.
+fn place_of(days: &[u32; MOST_PROMPTS], count: usize, rising: bool, d: u32) -> usize
+    requires { ⌜ (count ≤ mostPrompts) × (rising ≡ true → Rising count (now days)) ⌝ }
+    ensures { λ r. ⌜ FirstPlace (now (days .entry)) 0 count d r ⌝ }
+{
+    if rising {
+        let place = earlier(days, d) as usize;
+        if place < count {
+            if days[place] == d {
+                return place;
+            }
+        }
+    }
+    first_place(days, 0, count, d)
+}
+
+// The next place of the same day: there is none where the days rise.
+fn next_place(days: &[u32; MOST_PROMPTS], count: usize, rising: bool, j: usize) -> usize
+    requires { ⌜ (j < count) × ((count ≤ mostPrompts) × (rising ≡ true → Rising count (now days))) ⌝ }
+    ensures { λ r. ⌜ FirstPlace (now (days .entry)) (j + 1) count (getD (now (days .entry)) j 0) r ⌝ }
+{
+    if rising {
+        return count;
+    }
+    first_place(days, j + 1, count, days[j])
+}
+
 // What rows come to with more rows, in one walk over these. A ticket is one row more.
 pub fn with_rows(p: Position, days: Days, rates: Rates, unit: u64, rows: &[u8]) -> Position
     requires { ⌜ (unit ≤ mostUnit) × ((days .count ≤ mostPrompts) × (RowsFit (records (now rows)) × (RatedBy rates (records (now rows)) × Bounded (mostRows - length (records (now rows))) p))) ⌝ }
@@ -196,31 +268,70 @@ pub fn with_rows(p: Position, days: Days, rates: Rates, unit: u64, rows: &[u8]) 
 {
     let count = rows.len() / RECORD_BYTES;
     let prompts = days.count;
-    let mut totals = p.totals;
+    let its_days = days.day;
+    let rising = rise(&its_days, prompts);
+    let its_totals = p.totals;
+    let mut totals = its_totals.0;
     let mut nets = p.nets;
     let mut shorts = p.shorts;
     let mut i = 0;
     while i < count {
         let at = i * RECORD_BYTES;
         let row = &rows[at..at + RECORD_BYTES];
-        let sums = totals_with(totals, rates, unit, row);
-        totals = sums;
-        shorts = shorts + short_options(row);
-        let row_day = day(row);
+        let row_day = day_of(row);
         let more = row_delta(row);
-        let mut j = 0;
+        let mut j = place_of(&its_days, prompts, rising, row_day);
         while j < prompts {
-            let net = net_with(nets[j], row_day == days.day[j], more);
+            let net = net_with(nets[j], more);
             nets[j] = net;
-            j += 1;
+            j = next_place(&its_days, prompts, rising, j);
         }
+        add_row(&mut totals, rates, unit, row);
+        shorts = shorts + short_options(row);
         i += 1;
     }
     Position {
-        totals,
+        totals: Totals(totals),
         nets,
         shorts,
     }
+}
+
+// Net deltas with more rows, in one walk over these: where nothing but they are asked for.
+fn nets_with(before: [Delta; MOST_PROMPTS], days: Days, rows: &[u8]) -> [Delta; MOST_PROMPTS]
+    requires { ⌜ (days .count ≤ mostPrompts) × (RowsFit (records (now rows)) × AtMost 32 ((mostRows - length (records (now rows))) * 1000000000) (deltasIn before)) ⌝ }
+    ensures { λ r. ⌜ Added (days .count) (λ j. netOn (records (now (rows .entry))) (getD (days .day) j 0)) (deltasIn before) (deltasIn r) ⌝ }
+{
+    let count = rows.len() / RECORD_BYTES;
+    let prompts = days.count;
+    let its_days = days.day;
+    let rising = rise(&its_days, prompts);
+    let mut nets = before;
+    let mut i = 0;
+    while i < count {
+        let at = i * RECORD_BYTES;
+        let row = &rows[at..at + RECORD_BYTES];
+        let row_day = day_of(row);
+        let more = row_delta(row);
+        let mut j = place_of(&its_days, prompts, rising, row_day);
+        while j < prompts {
+            let net = net_with(nets[j], more);
+            nets[j] = net;
+            j = next_place(&its_days, prompts, rising, j);
+        }
+        i += 1;
+    }
+    nets
+}
+
+// The net deltas alone of what a contract's rows come to.
+pub(crate) fn nets_of(prompts: &[u8], rows: &[u8]) -> [Delta; MOST_PROMPTS]
+    requires { ⌜ (recordCount (now prompts) ≤ mostPrompts) × RowsFit (records (now rows)) ⌝ }
+    ensures { λ r. ⌜ ((rates : List Record) (unit : ℕ) → PositionOf rates unit (records (now (prompts .entry))) (records (now (rows .entry))) (withNets rates unit (records (now (rows .entry))) r)) ⌝ }
+{
+    let none = flat();
+    let no_nets = none.nets;
+    nets_with(no_nets, days_of(prompts), rows)
 }
 
 // Totals with others taken away, one by one.

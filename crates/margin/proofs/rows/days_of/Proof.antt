@@ -43,20 +43,20 @@ loop-holds c = (omega arith, record { as-many = refl; noted = λ k h. absurd (no
 mul-at : tie.Need-mul-at Inv-loop μ-loop
 mul-at c = omega arith
 
-add-day : tie.Need-add-day Inv-loop μ-loop
-add-day c = omega arith
+add-day-of : tie.Need-add-day-of Inv-loop μ-loop
+add-day-of c = omega arith
 
-sub-day : tie.Need-sub-day Inv-loop μ-loop
-sub-day c = omega arith
+sub-day-of : tie.Need-sub-day-of Inv-loop μ-loop
+sub-day-of c = omega arith
 
-part-day-start : tie.Need-part-day-start Inv-loop μ-loop
-part-day-start c = search needs
+part-day-of-start : tie.Need-part-day-of-start Inv-loop μ-loop
+part-day-of-start c = search needs
 
-part-day-end : tie.Need-part-day-end Inv-loop μ-loop
-part-day-end c = search needs
+part-day-of-end : tie.Need-part-day-of-end Inv-loop μ-loop
+part-day-of-end c = search needs
 
-day-requires : tie.Need-day-requires Inv-loop μ-loop
-day-requires c κs = tt
+day-of-requires : tie.Need-day-of-requires Inv-loop μ-loop
+day-of-requires c κs = tt
 
 mul-days : tie.Need-mul-days Inv-loop μ-loop
 mul-days c = omega arith
@@ -75,8 +75,8 @@ loop-again c =
     let i = c .before .before .before .loop in
     let file = now (c .before .before .before .before .before .args .prompts) in (
       omega arith,
-      next (records file) (i .days) (i .j) (c .day .result) (omega arith)
-          (c .day .ensures .0 ∙ ap day (sym (record-at file (i .j) (omega arith)))) (i .inv .1),
+      next (records file) (i .days) (i .j) (c .day-of .result) (omega arith)
+          (c .day-of .ensures ∙ ap day (sym (record-at file (i .j) (omega arith)))) (i .inv .1),
     )
 
 returns : tie.Need-returns Inv-loop μ-loop
@@ -97,11 +97,11 @@ days-of-spec =
     μ-loop
     loop-holds
     mul-at
-    add-day
-    sub-day
-    part-day-start
-    part-day-end
-    day-requires
+    add-day-of
+    sub-day-of
+    part-day-of-start
+    part-day-of-end
+    day-of-requires
     mul-days
     array-write-days
     add-j

@@ -17,27 +17,28 @@ of-forward row h = ap (λ (t : Bool). cond t 0 (short (lots row))) (sym (eq-eqb 
 of-option : (row : Record) → (rowType row ≡ 0 → ⊥) → short (lots row) ≡ shortOptions row
 of-option row h = ap (λ (t : Bool). cond t 0 (short (lots row))) (sym (ne-eqb (rowType row) 0 h))
 
-row-type-requires : tie.Need-row-type-requires
-row-type-requires c κs = search needs
-
 lots-requires : tie.Need-lots-requires
 lots-requires c κs = search needs
 
 short-requires : tie.Need-short-requires
 short-requires c κs = search needs
 
+row-type-requires : tie.Need-row-type-requires
+row-type-requires c κs = search needs
+
 returns : tie.Need-returns
 returns c =
-    let s = c .before .before .before in
+    let s = c .before .before .before .before .before in
     of-forward (now (s .args .row)) (sym (c .before .row-type .ensures .0) ∙ c .if1 .taken)
 
 returns-2 : tie.Need-returns-2
 returns-2 c =
     let s = c .before .before .before .before .before in
-    seen short (c .before .lots .result) (record { sfits = c .before .lots .ok }) (c .short .ensures)
-    ∙ ap short (c .before .lots .ensures)
-    ∙ of-option (now (s .args .row)) (λ e. c .before .before .if1 .left (c .before .before .before .row-type .ensures .0 ∙ e))
+    let lots-read = c .before .before .before .lots in
+    seen short (lots-read .result) (record { sfits = lots-read .ok }) (c .before .before .short .ensures)
+    ∙ ap short (lots-read .ensures)
+    ∙ of-option (now (s .args .row)) (λ e. c .if1 .left (c .before .row-type .ensures .0 ∙ e))
 
 pub short-options-spec : {M : Type 1} → statement M
 short-options-spec =
-    tie.close (tie.spec row-type-requires lots-requires short-requires returns returns-2)
+    tie.close (tie.spec lots-requires short-requires row-type-requires returns returns-2)

@@ -1,4 +1,4 @@
--- `totals_with`: by the row's currency.
+-- `add_row`: by the row's currency.
 -- Assumes nothing.
 use mathlib.Core.Path.{_≡_, refl, sym, _∙_, ap, ap₂, subst}
 use mathlib.Core.Bool.{Bool, true, false, cond}
@@ -16,8 +16,8 @@ use Rattle.record.specs.Layout.{Record, currency, mostCurrency}
 use Rattle.account.specs.Products.{inOwn, inHundredths, rateFor, raised, lowered, converted, convertedAt, mostConversion, mostFactor, RatesOf}
 use Rattle.margin.specs.Position.{FactorsFit, RowRated, Added, products, ownProducts, convertedProducts}
 use Rattle.margin.proofs.AddedLaws.{same-added}
-use Rattle.margin.proofs.rows.totals_with.Statement.{statement}
-use Rattle.margin.proofs.rows.totals_with.Tie as tie
+use Rattle.margin.proofs.rows.add_row.Statement.{statement}
+use Rattle.margin.proofs.rows.add_row.Tie as tie
 
 -- what a row comes to, by whether it is in the margin currency
 abbrev by-currency : List Record → Record → ℕ → Bool → ℤ
@@ -26,51 +26,42 @@ by-currency rates row s own = cond own (inOwn s row) (converted (rateFor rates (
 currency-requires : tie.Need-currency-requires
 currency-requires c κs = search needs
 
-own-totals-with-requires : tie.Need-own-totals-with-requires
-own-totals-with-requires c κs = let s = c .before .before .before in (s .pre .0, (s .pre .1 .0, s .pre .1 .1 .1))
-
-returns : tie.Need-returns
-returns c =
-    let s = c .before .before .before .before in
-    let row = now (s .args .row) in
-    let own : eqb (currency row) 0 ≡ true = eq-eqb (currency row) 0 (sym (c .before .before .currency .ensures .0) ∙ c .before .if1 .taken) in
-    λ held is.
-    same-added 16 (ownProducts (s .args .unit) row) (products held (s .args .unit) row) (s .args .t .0) (c .own-totals-with .result .0)
-    (λ k. ap (λ (t : Bool). halfAwayTo (by-currency held row (k + 1) t) (s .args .unit)) (sym own)) (c .own-totals-with .ensures)
+add-own-requires : tie.Need-add-own-requires
+add-own-requires c κs = search needs
 
 factors-of-requires : tie.Need-factors-of-requires
 factors-of-requires c κs =
-    let s = c .before .before .before in
-    omega (arith, c .before .currency .ensures .0, s .pre .1 .1 .0 .each 0 (omega arith) .currency-within)
+    let s = c .before .before .before .before in
+    omega (arith, c .before .before .currency .ensures .0, s .pre .1 .1 .0 .each 0 (omega arith) .currency-within)
 
 -- the factors are those of the row's currency
 module _ (c : tie.After-factors-of) where
   abbrev row : Record
-  row = now (c .before .before .before .before .args .row)
+  row = now (c .before .before .before .before .before .args .row)
 
-  number : c .before .before .currency .result ≡ currency row
-  number = c .before .before .currency .ensures .0
+  number : c .before .before .before .currency .result ≡ currency row
+  number = c .before .before .before .currency .ensures .0
 
   other : eqb (currency row) 0 ≡ false
-  other = ne-eqb (currency row) 0 (λ e. c .before .if1 .left (number ∙ e))
+  other = ne-eqb (currency row) 0 (λ e. c .before .before .if1 .left (number ∙ e))
 
-  raised-is : (rates : List Record) → RatesOf rates (c .before .before .before .before .args .rates) → currency row ≤ mostCurrency
+  raised-is : (rates : List Record) → RatesOf rates (c .before .before .before .before .before .args .rates) → currency row ≤ mostCurrency
       → c .factors-of .result .raised ≡ raised (rateFor rates (currency row))
   raised-is rates held small =
       c .factors-of .ensures .0
-      ∙ ap (λ (k : ℕ). getD (c .before .before .before .before .args .rates .raised) k 0) number
+      ∙ ap (λ (k : ℕ). getD (c .before .before .before .before .before .args .rates .raised) k 0) number
       ∙ held .raised-are (currency row) small
 
-  lowered-is : (rates : List Record) → RatesOf rates (c .before .before .before .before .args .rates) → currency row ≤ mostCurrency
+  lowered-is : (rates : List Record) → RatesOf rates (c .before .before .before .before .before .args .rates) → currency row ≤ mostCurrency
       → c .factors-of .result .lowered ≡ lowered (rateFor rates (currency row))
   lowered-is rates held small =
       c .factors-of .ensures .1
-      ∙ ap (λ (k : ℕ). getD (c .before .before .before .before .args .rates .lowered) k 0) number
+      ∙ ap (λ (k : ℕ). getD (c .before .before .before .before .before .args .rates .lowered) k 0) number
       ∙ held .lowered-are (currency row) small
 
   factors-fit : FactorsFit (c .factors-of .result .raised) (c .factors-of .result .lowered) row
   factors-fit =
-      let rated = c .before .before .before .before .pre .1 .1 .0 in
+      let rated = c .before .before .before .before .before .pre .1 .1 .0 in
       let here = rated .each 0 (omega arith) in
       let up = raised-is (rated .rates) (rated .held) (here .currency-within) in
       let down = lowered-is (rated .rates) (rated .held) (here .currency-within) in
@@ -84,32 +75,41 @@ module _ (c : tie.After-factors-of) where
             (here .conversion-within s l h);
       }
 
-converted-totals-with-requires : tie.Need-converted-totals-with-requires
-converted-totals-with-requires c κs =
-    let s = c .before .before .before .before in
+add-converted-requires : tie.Need-add-converted-requires
+add-converted-requires c κs =
+    let s = c .before .before .before .before .before in
     (s .pre .0, (s .pre .1 .0, (factors-fit c, s .pre .1 .1 .1)))
+
+returns : tie.Need-returns
+returns c =
+    let s = c .before .before .before .before .before in
+    let row = now (s .args .row) in
+    let own : eqb (currency row) 0 ≡ true = eq-eqb (currency row) 0 (sym (c .before .before .before .currency .ensures .0) ∙ c .before .before .if1 .taken) in
+    λ held is.
+    same-added 16 (ownProducts (s .args .unit) row) (products held (s .args .unit) row) (now (s .args .totals)) (c .add-own .last .0)
+    (λ k. ap (λ (t : Bool). halfAwayTo (by-currency held row (k + 1) t) (s .args .unit)) (sym own)) (c .add-own .ensures)
 
 returns-2 : tie.Need-returns-2
 returns-2 c =
-    let s = c .before .before .before .before .before in
+    let s = c .before .before .before .before .before .before in
     let row = now (s .args .row) in
     let f = c .before .factors-of .result in
     let unit = s .args .unit in
     let small = s .pre .1 .1 .0 .each 0 (omega arith) .currency-within in
     λ held is.
-    same-added 16 (convertedProducts (f .raised) (f .lowered) unit row) (products held unit row) (s .args .t .0) (c .converted-totals-with .result .0)
+    same-added 16 (convertedProducts (f .raised) (f .lowered) unit row) (products held unit row) (now (s .args .totals)) (c .add-converted .last .0)
     (λ k.
     ap₂ (λ (up down : ℕ). halfAwayTo (convertedAt up down (inOwn (k + 1) row)) unit) (raised-is (c .before) held is small) (lowered-is (c .before) held is small)
     ∙ ap (λ (t : Bool). halfAwayTo (by-currency held row (k + 1) t) unit) (sym (other (c .before))))
-    (c .converted-totals-with .ensures)
+    (c .add-converted .ensures)
 
-pub totals-with-spec : {M : Type 1} → statement M
-totals-with-spec =
+pub add-row-spec : {M : Type 1} → statement M
+add-row-spec =
     tie.close
     (tie.spec
     currency-requires
-    own-totals-with-requires
-    returns
+    add-own-requires
     factors-of-requires
-    converted-totals-with-requires
+    add-converted-requires
+    returns
     returns-2)

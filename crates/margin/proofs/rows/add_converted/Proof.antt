@@ -1,4 +1,4 @@
--- `converted_totals_with`: each turn adds one product, converted.
+-- `add_converted`: each turn adds one product, converted.
 -- Assumes nothing.
 use mathlib.Core.Path.{_≡_, refl, sym, _∙_, ap, ap₂, subst}
 use Prim.Native.Nat.{ℕ, _+_, _-_, _*_, _≤_}
@@ -17,20 +17,20 @@ use Rattle.margin.specs.Bounds.{mostProduct}
 use Rattle.margin.specs.Position.{Sized, Added, convertedProducts}
 use Rattle.margin.proofs.SignedCalls.{plus-fits, plus-is}
 use Rattle.margin.proofs.AddedLaws.{start, next}
-use Rattle.margin.proofs.rows.converted_totals_with.Statement.{statement}
-use Rattle.margin.proofs.rows.converted_totals_with.Tie as tie
+use Rattle.margin.proofs.rows.add_converted.Statement.{statement}
+use Rattle.margin.proofs.rows.add_converted.Tie as tie
 
 abbrev Inv-loop : tie.InvT-loop
-Inv-loop f unit row each totals₀ s₀ totals s = (s ≤ 16) × Added s (convertedProducts (f .raised) (f .lowered) unit row) totals₀ totals
+Inv-loop totals₀ f unit row each s₀ totals s = (s ≤ 16) × Added s (convertedProducts (f .raised) (f .lowered) unit row) totals₀ totals
 
 abbrev μ-loop : tie.MeasureT-loop
-μ-loop f unit row each totals₀ s₀ totals s = 16 - s
+μ-loop totals₀ f unit row each s₀ totals s = 16 - s
 
 per-tick-requires : tie.Need-per-tick-requires Inv-loop μ-loop
 per-tick-requires c κs = let w = c .before .pre .1 .0 in (w .lots-within, w .value-within)
 
 loop-holds : tie.Need-loop-holds Inv-loop μ-loop
-loop-holds c = let s = c .before .before .before in (omega arith, start (convertedProducts (s .args .f .raised) (s .args .f .lowered) (s .args .unit) (now (s .args .row))) (s .args .t .0))
+loop-holds c = let s = c .before .before in (omega arith, start (convertedProducts (s .args .f .raised) (s .args .f .lowered) (s .args .unit) (now (s .args .row))) (now (s .args .totals)))
 
 add-loss : tie.Need-add-loss Inv-loop μ-loop
 add-loss c = omega arith
@@ -40,19 +40,19 @@ loss-requires c κs = search needs
 
 -- what the row loses for each tick, and in the scenario
 tick-is : (c : tie.After-loss Inv-loop μ-loop) →
-    let row = now (c .before .before .before .before .before .before .args .row) in
-    toZ w64 (ofZ w64 (c .before .before .before .before .per-tick .result)) ≡ lots row *ℤ pos (value row)
-tick-is c = let tick = c .before .before .before .before .per-tick in back (tick .result) (record { sfits = tick .ok }) ∙ tick .ensures .is
+    let row = now (c .before .before .before .before .before .args .row) in
+    toZ w64 (ofZ w64 (c .before .before .before .per-tick .result)) ≡ lots row *ℤ pos (value row)
+tick-is c = let tick = c .before .before .before .per-tick in back (tick .result) (record { sfits = tick .ok }) ∙ tick .ensures .is
 
 loss-is : (c : tie.After-loss Inv-loop μ-loop) →
-    let row = now (c .before .before .before .before .before .before .args .row) in
+    let row = now (c .before .before .before .before .before .args .row) in
     toZ w64 (ofZ w64 (c .loss .result)) ≡ loss row (c .before .before .loop .s + 1)
 loss-is c = back (c .loss .result) (record { sfits = c .loss .ok }) ∙ c .loss .ensures
 
 converted-product-requires : tie.Need-converted-product-requires Inv-loop μ-loop
 converted-product-requires c κs =
-    let s = c .before .before .before .before .before .before in
-    let tick = c .before .before .before .before .per-tick in (
+    let s = c .before .before .before .before .before in
+    let tick = c .before .before .before .per-tick in (
       omega (arith, ap natAbs (back (tick .result) (record { sfits = tick .ok })), tick .ensures .size),
       (
         omega (arith, ap natAbs (loss-is c), s .pre .1 .0 .loss-within (c .before .before .loop .s + 1) (omega arith) (omega arith)),
@@ -72,10 +72,10 @@ converted-product-requires c κs =
 
 -- what the call of `converted_product` left
 multiplied : (c : tie.After-converted-product Inv-loop μ-loop) →
-    let s = c .before .before .before .before .before .before .before in
+    let s = c .before .before .before .before .before .before in
     Sized mostProduct (convertedProducts (s .args .f .raised) (s .args .f .lowered) (s .args .unit) (now (s .args .row)) (c .before .before .before .loop .s)) (c .converted-product .result)
 multiplied c =
-    let s = c .before .before .before .before .before .before .before in
+    let s = c .before .before .before .before .before .before in
     let e = c .converted-product .ensures in
     record {
       is = e .is ∙ ap₂ (λ (x y : ℤ). halfAwayTo (convertedAt (s .args .f .raised) (s .args .f .lowered) (x *ℤ y)) (s .args .unit)) (tick-is (c .before)) (loss-is (c .before));
@@ -85,25 +85,25 @@ multiplied c =
 mul-plus : tie.Need-mul-plus Inv-loop μ-loop
 mul-plus c = omega arith
 
-array-copy-out-plus : tie.Need-array-copy-out-plus Inv-loop μ-loop
-array-copy-out-plus c = omega arith
+element-copy-out-plus : tie.Need-element-copy-out-plus Inv-loop μ-loop
+element-copy-out-plus c = omega arith
 
 plus-requires : tie.Need-plus-requires Inv-loop μ-loop
 plus-requires c κs =
     let i = c .before .before .before .before .loop in
-    let ts = c .before .before .before .before .before .before .before .before .args .t .0 in
-    let here : natAbs (getD ts (i .s) (pos 0)) ≤ 127 * mostProduct = c .before .before .before .before .before .before .before .before .pre .1 .1 .1 .size (i .s) (omega arith) in
+    let ts = now (c .before .before .before .before .before .before .before .args .totals) in
+    let here : natAbs (getD ts (i .s) (pos 0)) ≤ 127 * mostProduct = c .before .before .before .before .before .before .before .pre .1 .1 .1 .size (i .s) (omega arith) in
     let by = multiplied (c .before) in
     let same : getD (i .totals) (i .s) (pos 0) ≡ getD ts (i .s) (pos 0) = i .inv .1 .others (i .s) (omega arith) in
     plus-fits (getD (i .totals) (i .s) (pos 0)) (c .before .converted-product .result) (getD ts (i .s) (pos 0)) (c .before .converted-product .result) (127 * mostProduct) mostProduct
     (sfits-abs (getD (i .totals) (i .s) (pos 0)) (omega (arith, ap natAbs same))) (record { sfits = c .before .converted-product .ok })
     same refl here (by .size) (omega arith)
 
-mul-totals : tie.Need-mul-totals Inv-loop μ-loop
-mul-totals c = omega arith
+mul-t14 : tie.Need-mul-t14 Inv-loop μ-loop
+mul-t14 c = omega arith
 
-array-set-from-totals : tie.Need-array-set-from-totals Inv-loop μ-loop
-array-set-from-totals c = omega arith
+element-set-from-totals : tie.Need-element-set-from-totals Inv-loop μ-loop
+element-set-from-totals c = omega arith
 
 add-s : tie.Need-add-s Inv-loop μ-loop
 add-s c = omega arith
@@ -114,8 +114,8 @@ loop-less c = omega arith
 loop-again : tie.Need-loop-again Inv-loop μ-loop
 loop-again c =
     let i = c .before .before .before .before .before .loop in
-    let s = c .before .before .before .before .before .before .before .before .before in
-    let ts = s .args .t .0 in
+    let s = c .before .before .before .before .before .before .before .before in
+    let ts = now (s .args .totals) in
     let here : natAbs (getD ts (i .s) (pos 0)) ≤ 127 * mostProduct = s .pre .1 .1 .1 .size (i .s) (omega arith) in
     let by = multiplied (c .before .before) in
     let same : getD (i .totals) (i .s) (pos 0) ≡ getD ts (i .s) (pos 0) = i .inv .1 .others (i .s) (omega arith) in
@@ -127,11 +127,11 @@ loop-again c =
 returns : tie.Need-returns Inv-loop μ-loop
 returns c =
     let i = c .before .loop in
-    let s = c .before .before .before .before .before in
-    subst (λ (n : ℕ). Added n (convertedProducts (s .args .f .raised) (s .args .f .lowered) (s .args .unit) (now (s .args .row))) (s .args .t .0) (i .totals)) (omega arith) (i .inv .1)
+    let s = c .before .before .before .before in
+    subst (λ (n : ℕ). Added n (convertedProducts (s .args .f .raised) (s .args .f .lowered) (s .args .unit) (now (s .args .row))) (now (s .args .totals)) (i .totals)) (omega arith) (i .inv .1)
 
-pub converted-totals-with-spec : {M : Type 1} → statement M
-converted-totals-with-spec =
+pub add-converted-spec : {M : Type 1} → statement M
+add-converted-spec =
     tie.close
     (tie.spec
     Inv-loop
@@ -142,10 +142,10 @@ converted-totals-with-spec =
     loss-requires
     converted-product-requires
     mul-plus
-    array-copy-out-plus
+    element-copy-out-plus
     plus-requires
-    mul-totals
-    array-set-from-totals
+    mul-t14
+    element-set-from-totals
     add-s
     loop-less
     loop-again

@@ -10,7 +10,7 @@
  * each with its length, where a question is put to two files.
  *
  * The library keeps nothing between calls, allocates nothing and calls nothing of the host's but memcpy and memset. Threads
- * may call it at the same time with memory of their own. A call takes less than 64 kB of stack, felgotany_write less than 96 kB.
+ * may call it at the same time with memory of their own. A call takes less than 64 kB of stack.
  */
 #ifndef FELGOTANY_H
 #define FELGOTANY_H
@@ -343,7 +343,7 @@ typedef struct {
  * currency; what is alike there, and intercontract spreads, stay in the order of entry. It is checked as felgotany_check does; a refusal
  * writes nothing and names the entry at fault, entry 0 for a 1 and for a 2, which bytes after the last whole entry get. Last comes 16: fewer
  * bytes lent than the file takes, which are as many as the entries'. The file stands at the front of `out`, and nothing after it is changed.
- * `out` does not overlap the entries. The call takes less than 96 kB of stack, since the file is checked before it is written. */
+ * `out` does not overlap the entries. The file is checked where the entries stand, before it is written: no copy of it is kept. */
 felgotany_write_outcome felgotany_write(const uint8_t *entries, size_t entry_bytes, uint8_t *out, size_t bytes);
 
 /* The order screen: an account file held in memory that the screen lends, tickets added to it, its total, and whether an order keeps

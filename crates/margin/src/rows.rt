@@ -187,17 +187,18 @@ pub(crate) fn flat() -> Position
     }
 }
 
-// How many days are earlier: where a day stands if they rise.
+// Where a day stands if they rise: by halves, how many are earlier.
 fn earlier(days: &[u32; MOST_PROMPTS], d: u32) -> u32
-    ensures { λ n. ⌜ n ≤ 32 ⌝ }
+    ensures { λ n. ⌜ n ≤ mostPrompts ⌝ }
 {
     let mut n: u32 = 0;
-    let mut j = 0;
-    while j < MOST_PROMPTS {
-        if days[j] < d {
-            n += 1;
+    let mut half: u32 = 16;
+    while 0 < half {
+        let more = n + half;
+        if days[(more - 1) as usize] < d {
+            n = more;
         }
-        j += 1;
+        half = half / 2;
     }
     n
 }

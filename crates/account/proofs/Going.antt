@@ -17,7 +17,7 @@ use Rattle.account.specs.Answers.{numberOf, refusal}
 use Rattle.account.specs.Check.{faultOf, tooLong, cutRecord, recordsChecked}
 use Rattle.account.specs.Notes.{partOf, inPart, oneMore, startNoted, faultAt}
 use Rattle.account.specs.Parts.{ofKind, startOf}
-use Rattle.account.specs.Passing.{partAtRecord, countedTo, Passes, Notable, RunNoted}
+use Rattle.account.specs.Passing.{partAtRecord, countedTo, Passes, Notable, Advances}
 use Rattle.account.specs.Records.{cut, recordAt, recordCount, earlier}
 use Rattle.account.specs.Surveyed.{ofAccepted, Surveyed, Empty}
 use Rattle.account.specs.declared.answers.Answer.{Answer}
@@ -201,26 +201,27 @@ module _ {file first counts : List ℕ} {contracts k next : ℕ} (g : Going file
 
 -- ---- one turn: a record without a fault, and the run after it
 pub going-over :
-    {file first counts first′ counts′ r : List ℕ} {contracts k next one : ℕ} (g : Going file first counts contracts k)
-    → k < recordCount file → faultAt file first counts k ≡ 0 → RunNoted file first counts k next first′ counts′
-    → one ≡ oneIf (ofKind 1 r) → r ≡ recordAt file k → Going file first′ counts′ (contracts + one) next
-going-over {file} {first} {counts} {first′} {counts′} {r} {contracts} {k} {next} {one} g more none n ho hr =
+    {file first counts first′ counts′ : List ℕ} {contracts k next one : ℕ} (g : Going file first counts contracts k)
+    → k < recordCount file → Advances file first counts k next one first′ counts′ → Going file first′ counts′ (contracts + one) next
+going-over {file} {first} {counts} {first′} {counts′} {contracts} {k} {next} {one} g more a =
     let v = partAtRecord file k in
-    let g′ = going-on g more none {first′ = first′} {counts′ = oneMore counts v} {r = r} {v = v} {one = one} (n .started) refl refl ho hr in
-    let here = getD-set-same counts v (getD counts v 0 + 1) 0 (omega (arith, part-in g more none, g .notes .sizes)) in
-    subst⁻¹ (λ (l : List ℕ). Going file first′ l (contracts + one) next) (n .counted) (going-run g′ (omega arith) (n .passes))
+    let n = a .noted in
+    let g′ =
+    going-on g more (a .fine) {first′ = first′} {counts′ = oneMore counts v} {r = recordAt file k} {v = v} {one = one} (n .started) refl refl (a .own) refl in
+    let here = getD-set-same counts v (getD counts v 0 + 1) 0 (omega (arith, part-in g more (a .fine), g .notes .sizes)) in
+    subst⁻¹ (λ (l : List ℕ). Going file first′ l (contracts + one) next) (n .counted) (going-run g′ (omega arith) (a .later))
 
 pub notable :
     {file first counts : List ℕ} {contracts k : ℕ} (g : Going file first counts contracts k) → k < recordCount file
-    → faultAt file first counts k ≡ 0 → recordCount file ≤ 640 → Notable file first counts k
-notable g more none few =
+    → recordCount file ≤ 640 → Notable file first counts k
+notable g more few =
     record {
       inside = more;
       few = few;
       firsts = g .notes .firsts;
       sizes = g .notes .sizes;
-      known = part-in g more none;
-      room = count-small g more none;
+      known = λ none. part-in g more none;
+      room = λ none. count-small g more none;
     }
 
 -- ---- the end

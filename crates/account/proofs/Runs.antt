@@ -2,7 +2,7 @@
 -- Assumes nothing.
 use Prim.Native.Nat.{ℕ, zero, suc, _+_, _-_, _*_, _≤_, _<_, min}
 use mathlib.Core.Path.{_≡_, refl, sym, ap, subst, _∙_}
-use mathlib.Core.Bool.{Bool, true, false, not, _&&_, _||_}
+use mathlib.Core.Bool.{Bool, true, false, not, cond, _&&_, _||_}
 use mathlib.Core.List.{List, [], _∷_, _++_, map}
 use lib.ListN.{length, getD, set, length-set, replicate, length-replicate, getD-replicate, length-map}
 use lib.Seq.{getD-set-same, getD-set-other, set-set, set-getD}
@@ -10,7 +10,7 @@ use lib.Dec.{eqb, leb, ltb}
 use native.Mathlib.Omega.{arith}
 use native.Mathlib.Numerals.{add-one}
 use borrow.Author.Tests.{ltb-true, ltb-false, eqb-true, eqb-false, eq-eqb, ne-eqb, le-ltb, le-leb, lt-leb, not-true}
-use Rattle.exact.specs.Lists.{any}
+use Rattle.exact.specs.Lists.{any, oneIf}
 use Rattle.exact.proofs.Lists.{any-at, any-true, getD-map}
 use Rattle.record.specs.Bytes.{countFrom}
 use Rattle.record.specs.Layout.{Record, kind, contract, tier, day, legCount, twoLegs, legsOf, legTier}
@@ -23,7 +23,7 @@ use Rattle.record.proofs.Within.{both-true, neither, row-within, spread-within,
 use Rattle.account.specs.Check.{mostPrompts, kindFalls, dayNotAbove, tierFalls, contractFalls, legsClash, outOfOrder}
 use Rattle.account.specs.Notes.{part, partOf, oneMore, startNoted, noContract, noDay, noTier, unlistedBy, overLimitBy, faultBy, promptsNoted, beforeAt, faultAt}
 use Rattle.account.specs.Parts.{ofKind, onDay, onTier}
-use Rattle.account.specs.Passing.{DaysOf, hasDay, TiersOf, legUnlistedIn, promptPasses, rowPasses, spreadPasses, RunTo, partAtRecord, countedTo, PassesAt, Passes, After, RunNoted}
+use Rattle.account.specs.Passing.{DaysOf, hasDay, TiersOf, legUnlistedIn, promptPasses, rowPasses, spreadPasses, RunTo, partAtRecord, countedTo, PassesAt, Passes, After, Begins, Runs, NotedTo, StepBy}
 use Rattle.account.specs.Records.{cut, recordAt, recordCount, records, stretch}
 use Rattle.account.proofs.Dispatch.{order-2, order-3, order-4, listed-2, listed-3, listed-4, limit-2, limit-3, limit-4}
 use Rattle.account.proofs.Earlier.{cut-more}
@@ -183,16 +183,24 @@ part-of-sound : (n c : ℕ) (r : Record) → 2 ≤ n → n ≤ 4 → kind r ≡ 
 part-of-sound n c r low high k e =
     part-other r (λ z. omega arith) (λ z. omega arith) ∙ (λ i. 16 * k i + e i)
 
+known-kind : (n : ℕ) (r : Record) → 2 ≤ n → n ≤ 4 → kind r ≡ n → unknownKind r ≡ false
+known-kind n r low high k = rw (le-leb 1 (kind r) (omega arith), le-leb (kind r) 6 (omega arith))
+
+contract-small : (n c : ℕ) (r : Record) → 2 ≤ n → n ≤ 4 → Sound n c r → c ≤ 15
+contract-small n c r low high s =
+    let h = contract-known r (known-kind n r low high (s .kinds)) (s .within) in
+    let x = s .contracts in
+    omega arith
+
 no-fault :
-    (n c : ℕ) (counts : List ℕ) (prompts : List Record) (before r : Record) → 2 ≤ n → n ≤ 4 → Sound n c r → kind before ≡ n
-    → unlistedBy counts prompts r ≡ false → outOfOrder before r ≡ false → overLimitBy counts r ≡ false
+    (n c : ℕ) (counts : List ℕ) (prompts : List Record) (before r : Record) → 2 ≤ n → n ≤ 4 → Sound n c r
+    → kindFalls before r ≡ false → unlistedBy counts prompts r ≡ false → outOfOrder before r ≡ false → overLimitBy counts r ≡ false
     → faultBy counts prompts before r ≡ 0
 no-fault n c counts prompts before r low high s b l o m =
-    let k = s .kinds in
-    let u : unknownKind r ≡ false = rw (le-leb 1 (kind r) (omega arith), le-leb (kind r) 6 (omega arith)) in
+    let u = known-kind n r low high (s .kinds) in
     sym
     (is-0 (unknownKind r) (kindFalls before r) (unusedByte r) (fieldOutside r) (unlistedBy counts prompts r) (outOfOrder before r)
-    (overLimitBy counts r) u (le-ltb (kind r) (kind before) (omega arith)) (s .unused) (s .within) l o m)
+    (overLimitBy counts r) u b (s .unused) (s .within) l o m)
 
 -- the records after record k, of its kind and contract, as far as each is sound
 pub record Following (n most : ℕ) (file counts : List ℕ) (k c : ℕ) (passes : ℕ → Bool) (i : ℕ) : Type 0 where
@@ -221,16 +229,7 @@ module _ {n most : ℕ} {file counts : List ℕ} {k c : ℕ} {passes : ℕ → B
     its = f .soundAt j (f .run .each j (omega arith) before)
 
     small : c ≤ 15
-    small =
-        let lo = f .low in
-        let hi = f .high in
-        let s = its in
-        let e = s .kinds in
-        let u : unknownKind (recordAt file j) ≡ false =
-        rw (le-leb 1 (kind (recordAt file j)) (omega arith), le-leb (kind (recordAt file j)) 6 (omega arith)) in
-        let h = contract-known (recordAt file j) u (s .within) in
-        let x = s .contracts in
-        omega arith
+    small = contract-small n c (recordAt file j) (f .low) (f .high) its
 
     -- the notes of the other parts stand
     kept : (m : ℕ) → m < n → getD (countsAt j) (part m c) 0 ≡ getD counts (part m c) 0
@@ -281,12 +280,18 @@ module _ {n most : ℕ} {file counts : List ℕ} {k c : ℕ} {passes : ℕ → B
             let s = f .soundAt (j - 1) (f .run .each (j - 1) (omega arith) (omega arith)) in
             (s .kinds, s .contracts)
 
+    rises : kindFalls (beforeAt file j) (recordAt file j) ≡ false
+    rises =
+        let x = its .kinds in
+        let y = its-before .0 in
+        le-ltb (kind (recordAt file j)) (kind (beforeAt file j)) (omega arith)
+
     pub passes-at :
         unlistedBy (countsAt j) (promptsAt j) (recordAt file j) ≡ false → outOfOrder (beforeAt file j) (recordAt file j) ≡ false
         → overLimitBy (countsAt j) (recordAt file j) ≡ false → PassesAt file first counts k j
     passes-at l o m =
         record {
-          fine = no-fault n c (countsAt j) (promptsAt j) (beforeAt file j) (recordAt file j) (f .low) (f .high) its (its-before .0) l o m;
+          fine = no-fault n c (countsAt j) (promptsAt j) (beforeAt file j) (recordAt file j) (f .low) (f .high) its rises l o m;
           alike = part-of-sound n c (recordAt file j) (f .low) (f .high) (its .kinds) (its .contracts) ∙ sym part-here;
           other =
               let e = its .kinds in
@@ -307,6 +312,30 @@ module _ {n most : ℕ} {file counts : List ℕ} {k c : ℕ} {passes : ℕ → B
       let l = f .run .low in
       let h = f .run .high in
       record { low = omega arith; high = omega arith; each = each }
+
+-- the legs whose tier has no prompt, by the prompts and by the tiers noted of them
+module _ (prompts : List Record) (listed : List Bool) (t : TiersOf prompts listed) (r : Record) where
+  leg-same : (leg : ℕ) → legTier r leg ≤ 8 → noTier prompts (legTier r leg) ≡ legUnlistedIn listed r leg
+  leg-same leg h = ap not (sym (t .each (legTier r leg) (omega arith)))
+
+  legs-same :
+      kind r ≡ 4 → fieldOutside r ≡ false
+      → any (λ leg. noTier prompts (legTier r leg)) (legsOf r) ≡ any (legUnlistedIn listed r) (legsOf r)
+  legs-same e w = go (twoLegs r) refl
+    where
+      s : SpreadWithin r
+      s = spread-within r e w
+
+      go : (b : Bool) → twoLegs r ≡ b → any (λ leg. noTier prompts (legTier r leg)) (legsOf r) ≡ any (legUnlistedIn listed r) (legsOf r)
+      go true b = rw b (both (leg-same 0 (s .firstLeg .tiers .most)) (both (leg-same 1 (s .secondLeg .tiers .most)) refl))
+      go false b =
+          let d = eqb-false (legCount r) 2 b in
+          let m = s .legCounts .least in
+          let n = s .legCounts .most in
+          let third = s .thirdLeg (omega arith) in
+          rw b
+          (both (leg-same 0 (s .firstLeg .tiers .most))
+          (both (leg-same 1 (s .secondLeg .tiers .most)) (both (leg-same 2 (third .tiers .most)) refl)))
 
 -- ---- prompts, rows and interprompt spreads
 module _ (file first counts : List ℕ) (k c : ℕ) {i : ℕ} where
@@ -381,32 +410,6 @@ module _ (file first counts : List ℕ) (k c : ℕ) {i : ℕ} where
       soundAt : (j : ℕ) → passes j ≡ true → Sound 4 c (recordAt file j)
       soundAt j e = sound-known 4 c (recordAt file j) (both-true (sound 4 c (recordAt file j)) _ e .0)
 
-      prompts : List Record
-      prompts = promptsNoted file first counts c
-
-      leg-same : (r : Record) (leg : ℕ) → legTier r leg ≤ 8 → noTier prompts (legTier r leg) ≡ legUnlistedIn listed r leg
-      leg-same r leg h = ap not (sym (t .each (legTier r leg) (omega arith)))
-
-      legs-same :
-          (r : Record) → kind r ≡ 4 → fieldOutside r ≡ false
-          → any (λ leg. noTier prompts (legTier r leg)) (legsOf r) ≡ any (legUnlistedIn listed r) (legsOf r)
-      legs-same r e w = go (twoLegs r) refl
-        where
-          s : SpreadWithin r
-          s = spread-within r e w
-
-          go : (b : Bool) → twoLegs r ≡ b → any (λ leg. noTier prompts (legTier r leg)) (legsOf r) ≡ any (legUnlistedIn listed r) (legsOf r)
-          go true b =
-              rw b (both (leg-same r 0 (s .firstLeg .tiers .most)) (both (leg-same r 1 (s .secondLeg .tiers .most)) refl))
-          go false b =
-              let d = eqb-false (legCount r) 2 b in
-              let m = s .legCounts .least in
-              let n = s .legCounts .most in
-              let third = s .thirdLeg (omega arith) in
-              rw b
-              (both (leg-same r 0 (s .firstLeg .tiers .most))
-              (both (leg-same r 1 (s .secondLeg .tiers .most)) (both (leg-same r 2 (third .tiers .most)) refl)))
-
       following : Following 4 32 file counts k c passes i
       following = record { low = omega arith; high = omega arith; after = a; soundAt = soundAt; run = run }
 
@@ -421,40 +424,316 @@ module _ (file first counts : List ℕ) (k c : ℕ) {i : ℕ} where
           ∙ or-off (contract-listed following first j l h)
           (ap (λ (ps : List Record). any (λ leg. noTier ps (legTier r leg)) (legsOf r))
           (prompts-kept following first j l h (omega arith))
-          ∙ legs-same r e (s .within) ∙ o .1))
+          ∙ legs-same (promptsNoted file first counts c) listed t r e (s .within) ∙ o .1))
           (order-4 (beforeAt file j) r e
           ∙ or-off (contract-stays following first j l h) (o .0))
           (limit-4 (countedTo file counts k j) r e ∙ unfilled following first j l h)
 
--- a record after which nothing is looked at
-pub none-pass : (file first counts : List ℕ) (k : ℕ) → k < recordCount file → Passes file first counts k (k + 1)
-none-pass file first counts k h = record { low = omega arith; high = omega arith; each = λ j l m. absurd (omega arith) }
+-- ---- a run from record k on: the first by itself, then those after it
+pub record Beginning (n most : ℕ) (file counts : List ℕ) (k c : ℕ) (passes : ℕ → Bool) (i : ℕ) : Type 0 where
+  pub low : 2 ≤ n
+  pub high : n ≤ 4
+  pub begins : Begins n file counts k c
+  pub soundAt : (j : ℕ) → passes j ≡ true → Sound n c (recordAt file j)
+  pub run : RunTo passes k (min (k + (most - getD counts (part n c) 0)) (recordCount file)) i
+  pub some : k < i
 
--- what is asked of the records after record k, from what is read of it
-pub after-read :
-    {file counts : List ℕ} {k : ℕ} {r : Record} (n m c w : ℕ) → k < recordCount file → length counts ≡ 82 → r ≡ recordAt file k
-    → m ≡ kind r → c ≡ contract r → c < 256 → w ≡ getD counts (part 1 c) 0 → (w ≡ 0 → ⊥) → m ≡ n → After n file counts k c
-after-read {file} {counts} {k} {r} n m c w inside sizes e km cc byte ew nz mn =
+module _ {n most : ℕ} {file counts : List ℕ} {k c : ℕ} {passes : ℕ → Bool} {i : ℕ} (f : Beginning n most file counts k c passes i)
+    (first : List ℕ) where
+  abbrev v : ℕ
+  v = partAtRecord file k
+
+  abbrev first₁ : List ℕ
+  first₁ = startNoted first counts v k
+
+  abbrev counts₁ : List ℕ
+  counts₁ = oneMore counts v
+
+  it-passes : passes k ≡ true
+  it-passes =
+      let h = f .some in
+      f .run .each k (omega arith) h
+
+  it : Sound n c (recordAt file k)
+  it = f .soundAt k it-passes
+
+  part-it : v ≡ part n c
+  part-it = part-of-sound n c (recordAt file k) (f .low) (f .high) (f .begins .after .kinds) (f .begins .after .contracts)
+
+  small-it : c ≤ 15
+  small-it = contract-small n c (recordAt file k) (f .low) (f .high) it
+
+  room-it : getD counts (part n c) 0 < most
+  room-it =
+      let h = f .run .high in
+      let s = f .some in
+      omega arith
+
+  one-more : getD counts₁ (part n c) 0 ≡ getD counts (part n c) 0 + 1
+  one-more =
+      let l = small-it in
+      let hi = f .high in
+      ap (λ (u : ℕ). getD (oneMore counts u) (part n c) 0) part-it
+      ∙ getD-set-same counts (part n c) (getD counts (part n c) 0 + 1) 0 (omega (arith, f .begins .after .sizes))
+
+  others : (m : ℕ) → m < n → getD counts₁ (part m c) 0 ≡ getD counts (part m c) 0
+  others m h =
+      let l = small-it in
+      let hi = f .high in
+      ap (λ (u : ℕ). getD (oneMore counts u) (part m c) 0) part-it
+      ∙ getD-set-other counts (part n c) (part m c) (getD counts (part n c) 0 + 1) 0 (λ z. omega arith)
+
+  first-kept : (m : ℕ) → m < n → getD first₁ (part m c) 0 ≡ getD first (part m c) 0
+  first-kept m h = go (eqb (getD counts v 0) 0)
+    where
+      apart : part m c ≡ v → ⊥
+      apart z =
+          let l = small-it in
+          let hi = f .high in
+          let e = part-it in
+          omega arith
+
+      go : (b : Bool) → getD (cond b (set first v k) first) (part m c) 0 ≡ getD first (part m c) 0
+      go true = getD-set-other first v (part m c) k 0 apart
+      go false = refl
+
+  pub prompts-same : 2 < n → promptsNoted file first₁ counts₁ c ≡ promptsNoted file first counts c
+  prompts-same h =
+      (λ i. records (stretch file (first-kept 2 h i) (others 2 h i)))
+
+  pub after-it : After n file counts₁ k c
+  after-it =
+      let a = f .begins .after in
+      record {
+        inside = a .inside;
+        sizes = length-set counts v (getD counts v 0 + 1) ∙ a .sizes;
+        kinds = a .kinds;
+        contracts = a .contracts;
+        listed = ap (λ (m : ℕ). eqb m 0) (others 1 (omega (arith, f .low))) ∙ a .listed;
+      }
+
+  pub run-after : RunTo passes (k + 1) (min (k + 1 + (most - getD counts₁ (part n c) 0)) (recordCount file)) i
+  run-after =
+      let s = f .some in
+      let h = f .run .high in
+      let r = room-it in
+      let e = one-more in
+      record { low = omega arith; high = omega arith; each = λ j l m. f .run .each j (omega arith) m }
+
+  pub contract-here : noContract counts (contract (recordAt file k)) ≡ false
+  contract-here = ap (noContract counts) (it .contracts) ∙ f .begins .after .listed
+
+  pub unfilled-here : leb most (getD counts (partOf (recordAt file k)) 0) ≡ false
+  unfilled-here =
+      lt-leb most _ (subst (λ (u : ℕ). getD counts u 0 < most)
+      (sym (part-of-sound n c (recordAt file k) (f .low) (f .high) (it .kinds) (it .contracts))) room-it)
+
+  pub prompts-here : promptsNoted file first counts (contract (recordAt file k)) ≡ promptsNoted file first counts c
+  prompts-here = ap (promptsNoted file first counts) (it .contracts)
+
+  pub runs-from :
+      unlistedBy counts (promptsNoted file first counts (contract (recordAt file k))) (recordAt file k) ≡ false
+      → outOfOrder (beforeAt file k) (recordAt file k) ≡ false → overLimitBy counts (recordAt file k) ≡ false
+      → Passes file first₁ counts₁ k i → Runs file first counts k i
+  runs-from l o m p =
+      let h = f .run .high in
+      let s = f .some in
+      record {
+        low = omega arith;
+        high = omega arith;
+        fine = λ z.
+            no-fault n c counts (promptsNoted file first counts (contract (recordAt file k))) (beforeAt file k) (recordAt file k) (f .low)
+            (f .high) it (f .begins .rises) l o m;
+        other = λ z.
+            let e = it .kinds in
+            let lo = f .low in
+            ne-eqb (kind (recordAt file k)) 1 (λ y. omega arith);
+        later = λ z. p;
+      }
+
+-- nothing is passed over
+pub none-run : (file first counts : List ℕ) (k : ℕ) → k ≤ recordCount file → Runs file first counts k k
+none-run file first counts k h =
     record {
-      inside = inside;
-      sizes = sizes;
-      kinds = ap kind (sym e) ∙ sym km ∙ mn;
-      contracts = ap contract (sym e) ∙ sym cc;
-      listed = ne-eqb (getD counts (part 1 c) 0) 0 (λ z. nz (ew ∙ z));
+      low = omega arith;
+      high = h;
+      fine = λ z. absurd (omega arith);
+      other = λ z. absurd (omega arith);
+      later = λ z. absurd (omega arith);
+    }
+
+or-none : {k i : ℕ} {file first counts : List ℕ} → k ≤ recordCount file → k ≤ i → (k < i → Runs file first counts k i) → Runs file first counts k i
+or-none {k} {i} {file} {first} {counts} h l some = go (ltb k i) refl
+  where
+    go : (b : Bool) → ltb k i ≡ b → Runs file first counts k i
+    go true e = some (ltb-true k i e)
+    go false e =
+        let g = ltb-false k i e in
+        let s : k ≡ i = omega arith in
+        subst (Runs file first counts k) s (none-run file first counts k h)
+
+module _ (file first counts : List ℕ) (k c : ℕ) {i : ℕ} where
+  pub prompts-run :
+      Begins 2 file counts k c
+      → RunTo (λ j. promptPasses c (recordAt file (j - 1)) (recordAt file j)) k
+      (min (k + (32 - getD counts (part 2 c) 0)) (recordCount file)) i
+      → Runs file first counts k i
+  prompts-run b run = or-none (omega (arith, b .after .inside)) (run .low) go
+    where
+      passes : ℕ → Bool
+      passes j = promptPasses c (recordAt file (j - 1)) (recordAt file j)
+
+      soundAt : (j : ℕ) → passes j ≡ true → Sound 2 c (recordAt file j)
+      soundAt j e = sound-known 2 c (recordAt file j) (both-true (sound 2 c (recordAt file j)) _ e .0)
+
+      go : k < i → Runs file first counts k i
+      go h =
+          let f : Beginning 2 32 file counts k c passes i =
+          record { low = omega arith; high = omega arith; begins = b; soundAt = soundAt; run = run; some = h } in
+          let r = recordAt file k in
+          let e = b .after .kinds in
+          let o = not-true _ (both-true (sound 2 c r) _ (run .each k (omega arith) h) .1) in
+          runs-from f first
+          (listed-2 counts (promptsNoted file first counts (contract r)) r e ∙ contract-here f first)
+          (order-2 (beforeAt file k) r e
+          ∙ ap (λ (q : Record). dayNotAbove q r || tierFalls q r) (sym (before-is file k (λ z. omega (arith, b .later)))) ∙ o)
+          (limit-2 counts r e ∙ unfilled-here f first)
+          (prompts-pass file (startNoted first counts (partAtRecord file k) k) (oneMore counts (partAtRecord file k)) k c
+          (after-it f first) (run-after f first))
+
+  pub rows-run :
+      Begins 3 file counts k c → (days : List ℕ) → DaysOf (promptsNoted file first counts c) days
+      → RunTo (λ j. rowPasses c days (recordAt file j)) k (min (k + (128 - getD counts (part 3 c) 0)) (recordCount file)) i
+      → Runs file first counts k i
+  rows-run b days t run = or-none (omega (arith, b .after .inside)) (run .low) go
+    where
+      passes : ℕ → Bool
+      passes j = rowPasses c days (recordAt file j)
+
+      soundAt : (j : ℕ) → passes j ≡ true → Sound 3 c (recordAt file j)
+      soundAt j e = sound-known 3 c (recordAt file j) (both-true (sound 3 c (recordAt file j)) _ e .0)
+
+      go : k < i → Runs file first counts k i
+      go h =
+          let f : Beginning 3 128 file counts k c passes i =
+          record { low = omega arith; high = omega arith; begins = b; soundAt = soundAt; run = run; some = h } in
+          let r = recordAt file k in
+          let e = b .after .kinds in
+          let s = soundAt k (run .each k (omega arith) h) in
+          let d = both-true (sound 3 c r) _ (run .each k (omega arith) h) .1 in
+          runs-from f first
+          (listed-3 counts (promptsNoted file first counts (contract r)) r e
+          ∙ or-off (contract-here f first)
+          (ap (λ (ps : List Record). noDay ps (day r)) (prompts-here f first)
+          ∙ day-listed (promptsNoted file first counts c) days (day r) t (row-within r e (s .within) .days .least) d))
+          (order-3 (beforeAt file k) r e ∙ b .stays)
+          (limit-3 counts r e ∙ unfilled-here f first)
+          (rows-pass file (startNoted first counts (partAtRecord file k) k) (oneMore counts (partAtRecord file k)) k c
+          (after-it f first) days
+          (subst (λ (ps : List Record). DaysOf ps days) (sym (prompts-same f first (omega arith))) t) (run-after f first))
+
+  pub spreads-run :
+      Begins 4 file counts k c → (listed : List Bool) → TiersOf (promptsNoted file first counts c) listed
+      → RunTo (λ j. spreadPasses c listed (recordAt file j)) k (min (k + (32 - getD counts (part 4 c) 0)) (recordCount file)) i
+      → Runs file first counts k i
+  spreads-run b listed t run = or-none (omega (arith, b .after .inside)) (run .low) go
+    where
+      passes : ℕ → Bool
+      passes j = spreadPasses c listed (recordAt file j)
+
+      soundAt : (j : ℕ) → passes j ≡ true → Sound 4 c (recordAt file j)
+      soundAt j e = sound-known 4 c (recordAt file j) (both-true (sound 4 c (recordAt file j)) _ e .0)
+
+      go : k < i → Runs file first counts k i
+      go h =
+          let f : Beginning 4 32 file counts k c passes i =
+          record { low = omega arith; high = omega arith; begins = b; soundAt = soundAt; run = run; some = h } in
+          let r = recordAt file k in
+          let e = b .after .kinds in
+          let s = soundAt k (run .each k (omega arith) h) in
+          let o = neither (legsClash r) _ (not-true _ (both-true (sound 4 c r) _ (run .each k (omega arith) h) .1)) in
+          runs-from f first
+          (listed-4 counts (promptsNoted file first counts (contract r)) r e
+          ∙ or-off (contract-here f first)
+          (ap (λ (ps : List Record). any (λ leg. noTier ps (legTier r leg)) (legsOf r)) (prompts-here f first)
+          ∙ legs-same (promptsNoted file first counts c) listed t r e (s .within) ∙ o .1))
+          (order-4 (beforeAt file k) r e ∙ or-off (b .stays) (o .0))
+          (limit-4 counts r e ∙ unfilled-here f first)
+          (spreads-pass file (startNoted first counts (partAtRecord file k) k) (oneMore counts (partAtRecord file k)) k c
+          (after-it f first) listed
+          (subst (λ (ps : List Record). TiersOf ps listed) (sym (prompts-same f first (omega arith))) t) (run-after f first))
+
+-- a run may begin at record k, from what is read of it
+pub begins-read :
+    {file counts : List ℕ} {k : ℕ} {r before : Record} (n m c : ℕ) → k < recordCount file → length counts ≡ 82 → (k ≡ 0 → ⊥)
+    → r ≡ recordAt file k → before ≡ recordAt file (k - 1) → m ≡ kind r → c ≡ contract r → c < 256
+    → not (noContract counts c || (kindFalls before r || contractFalls before r)) ≡ true → m ≡ n → Begins n file counts k c
+begins-read {file} {counts} {k} {r} {before} n m c inside sizes nz e eb km cc byte may mn =
+    let x = neither (noContract counts c) _ (not-true _ may) in
+    let y = neither (kindFalls before r) _ (x .1) in
+    let b : before ≡ beforeAt file k = eb ∙ before-is file k nz in
+    record {
+      after =
+          record {
+            inside = inside;
+            sizes = sizes;
+            kinds = ap kind (sym e) ∙ sym km ∙ mn;
+            contracts = ap contract (sym e) ∙ sym cc;
+            listed = x .0;
+          };
+      rises = sym (λ i. kindFalls (b i) (e i)) ∙ y .0;
+      stays = sym (λ i. contractFalls (b i) (e i)) ∙ y .1;
+      later = omega (arith, nz);
       byte = byte;
     }
 
--- record k noted, and the run after it
-pub run-noted :
+-- record k noted with those after it
+pub noted-to :
     {file first counts first′ counts₁ counts′ : List ℕ} {k next v : ℕ} → v ≡ partAtRecord file k → first′ ≡ startNoted first counts v k
-    → counts₁ ≡ oneMore counts v → Passes file first′ counts₁ k next → counts′ ≡ set counts₁ v (getD counts₁ v 0 + (next - (k + 1)))
-    → RunNoted file first counts k next first′ counts′
-run-noted {file} {first} {counts} {first′} {counts₁} {counts′} {k} {next} {v} hv hf hc p hm =
+    → counts₁ ≡ oneMore counts v → counts′ ≡ set counts₁ v (getD counts₁ v 0 + (next - (k + 1)))
+    → NotedTo file first counts k next first′ counts′
+noted-to {file} {first} {counts} {first′} {counts₁} {counts′} {k} {next} {v} hv hf hc hm =
     let one = hc ∙ ap (oneMore counts) hv in
     record {
       started = hf ∙ ap (λ (u : ℕ). startNoted first counts u k) hv;
-      passes = subst (λ (l : List ℕ). Passes file first′ l k next) one p;
       counted =
           hm ∙ ap (λ (u : ℕ). set counts₁ u (getD counts₁ u 0 + (next - (k + 1)))) hv
           ∙ ap (λ (l : List ℕ). countedTo file l k next) one;
     }
+
+-- ---- one step
+module _ {file first counts first′ counts′ : List ℕ} {k : ℕ} where
+  pub step-runs :
+      {next : ℕ} → Runs file first counts k next → k < next → NotedTo file first counts k next first′ counts′
+      → StepBy file first counts k 0 next 0 first′ counts′
+  step-runs {next} r h n =
+      record {
+        stops = λ nz. absurd (nz refl);
+        goes = λ z.
+            record {
+              fine = r .fine h;
+              noted = n;
+              later = subst (λ (l : List ℕ). Passes file l (oneMore counts (partAtRecord file k)) k next) (sym (n .started)) (r .later h);
+              own = ap oneIf (sym (r .other h));
+            };
+      }
+
+  pub step-stops : {number next contracts : ℕ} → number ≡ faultAt file first counts k → (number ≡ 0 → ⊥)
+      → StepBy file first counts k number next contracts first′ counts′
+  step-stops e nz = record { stops = λ z. e; goes = λ z. absurd (nz z) }
+
+  pub step-alone :
+      {number contracts : ℕ} {r : Record} → number ≡ faultAt file first counts k → number ≡ 0 → k < recordCount file
+      → NotedTo file first counts k (k + 1) first′ counts′ → contracts ≡ oneIf (ofKind 1 r) → r ≡ recordAt file k
+      → StepBy file first counts k number (k + 1) contracts first′ counts′
+  step-alone e z h n o er =
+      record {
+        stops = λ nz. absurd (nz z);
+        goes = λ y.
+            record {
+              fine = sym e ∙ z;
+              noted = n;
+              later = record { low = omega arith; high = omega arith; each = λ j l m. absurd (omega arith) };
+              own = o ∙ ap (λ (x : Record). oneIf (ofKind 1 x)) er;
+            };
+      }

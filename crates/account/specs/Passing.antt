@@ -6,12 +6,12 @@ use mathlib.Core.Bool.{Bool, true, false, not, _&&_, _||_}
 use mathlib.Core.List.{List, map}
 use lib.ListN.{length, getD, set}
 use lib.Dec.{eqb}
-use Rattle.exact.specs.Lists.{any}
+use Rattle.exact.specs.Lists.{any, oneIf}
 use Rattle.record.specs.Bytes.{countFrom}
 use Rattle.record.specs.Layout.{Record, kind, contract, day, legsOf, legTier}
 use Rattle.record.specs.Ranges.{sound}
-use Rattle.account.specs.Check.{mostRecords, mostPrompts, dayNotAbove, tierFalls, legsClash}
-use Rattle.account.specs.Notes.{parts, partOf, oneMore, startNoted, noContract, faultAt}
+use Rattle.account.specs.Check.{mostRecords, mostPrompts, kindFalls, contractFalls, dayNotAbove, tierFalls, legsClash}
+use Rattle.account.specs.Notes.{parts, partOf, oneMore, startNoted, noContract, beforeAt, faultAt}
 use Rattle.account.specs.Parts.{ofKind, onTier}
 use Rattle.account.specs.Records.{recordAt, recordCount}
 
@@ -76,18 +76,45 @@ pub record After (n : ℕ) (file counts : List ℕ) (k c : ℕ) : Type 0 where
   pub kinds : kind (recordAt file k) ≡ n
   pub contracts : contract (recordAt file k) ≡ c
   pub listed : noContract counts c ≡ false
+
+-- and stands in order after the record before it
+pub record Begins (n : ℕ) (file counts : List ℕ) (k c : ℕ) : Type 0 where
+  pub after : After n file counts k c
+  pub rises : kindFalls (beforeAt file k) (recordAt file k) ≡ false
+  pub stays : contractFalls (beforeAt file k) (recordAt file k) ≡ false
+  pub later : 0 < k
   pub byte : c < 256
 
--- what is asked where a record is noted, and the notes with it and the records after it that pass as it does
+-- records from record k on that pass one after another, the first of them by the notes as they are
+pub record Runs (file first counts : List ℕ) (k next : ℕ) : Type 0 where
+  pub low : k ≤ next
+  pub high : next ≤ recordCount file
+  pub fine : k < next → faultAt file first counts k ≡ 0
+  pub other : k < next → ofKind 1 (recordAt file k) ≡ false
+  pub later : k < next
+      → Passes file (startNoted first counts (partAtRecord file k) k) (oneMore counts (partAtRecord file k)) k next
+
+-- what is asked where records are noted: a record without a fault has a part, and room in it
 pub record Notable (file first counts : List ℕ) (k : ℕ) : Type 0 where
   pub inside : k < recordCount file
   pub few : recordCount file ≤ mostRecords
   pub firsts : length first ≡ parts
   pub sizes : length counts ≡ parts
-  pub known : partAtRecord file k < parts
-  pub room : getD counts (partAtRecord file k) 0 ≤ k
+  pub known : faultAt file first counts k ≡ 0 → partAtRecord file k < parts
+  pub room : faultAt file first counts k ≡ 0 → getD counts (partAtRecord file k) 0 ≤ k
 
-pub record RunNoted (file first counts : List ℕ) (k next : ℕ) (first′ counts′ : List ℕ) : Type 0 where
+-- the notes with record k and those after it up to another, all of its part
+pub record NotedTo (file first counts : List ℕ) (k next : ℕ) (first′ counts′ : List ℕ) : Type 0 where
   pub started : first′ ≡ startNoted first counts (partAtRecord file k) k
-  pub passes : Passes file first′ (oneMore counts (partAtRecord file k)) k next
   pub counted : counts′ ≡ countedTo file (oneMore counts (partAtRecord file k)) k next
+
+-- a step of the check: record k has a fault, or the check goes on past it
+pub record Advances (file first counts : List ℕ) (k next contracts : ℕ) (first′ counts′ : List ℕ) : Type 0 where
+  pub fine : faultAt file first counts k ≡ 0
+  pub noted : NotedTo file first counts k next first′ counts′
+  pub later : Passes file first′ (oneMore counts (partAtRecord file k)) k next
+  pub own : contracts ≡ oneIf (ofKind 1 (recordAt file k))
+
+pub record StepBy (file first counts : List ℕ) (k number next contracts : ℕ) (first′ counts′ : List ℕ) : Type 0 where
+  pub stops : (number ≡ 0 → ⊥) → number ≡ faultAt file first counts k
+  pub goes : number ≡ 0 → Advances file first counts k next contracts first′ counts′

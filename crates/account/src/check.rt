@@ -5,9 +5,10 @@ ghost use Prim.Native.Nat.{_+_, _≤_, _<_};
 ghost use lib.ListN.{length, getD, set};
 ghost use Rattle.exact.specs.Lists.{oneIf};
 ghost use Rattle.account.specs.Check.{mostRecords};
-ghost use Rattle.account.specs.Notes.{oneMore, startNoted};
+ghost use Rattle.account.specs.Notes.{oneMore, startNoted, faultAt};
+ghost use Rattle.account.specs.Records.{recordCount};
 ghost use Rattle.account.specs.Parts.{ofKind};
-ghost use Rattle.account.specs.Passing.{Notable, RunNoted};
+ghost use Rattle.account.specs.Passing.{Notable, NotedTo, StepBy};
 ghost use Rattle.account.specs.Surveyed.{Surveyed, Empty};
 use crate::answers::Answer;
 use crate::answers::refusal;
@@ -15,7 +16,7 @@ use crate::fault::fault_at;
 use crate::notes::noted;
 use crate::notes::part_of;
 use crate::parts::PARTS;
-use crate::passing::passes_to;
+use crate::passing::passes_from;
 use crate::stretches::record_count;
 use crate::stretches::whole_at;
 use record::bytes::RECORD_BYTES;
@@ -69,23 +70,58 @@ fn note_more(counts: &mut [u16], v: usize, n: usize)
     counts[v] = counts[v] + n as u16;
 }
 
-// Record `k`, which has no fault, noted with the records after it that pass as it does: the record after these.
-fn note_run(file: &[u8], first: &mut [u16], counts: &mut [u16], k: usize) -> usize
-    requires { ⌜ Notable (now file) (now first) (now counts) k ⌝ }
-    ensures { λ next. ⌜ RunNoted (now (file .entry)) (now (first .entry)) (now (counts .entry)) k next (now (first .exit)) (now (counts .exit)) ⌝ }
+// Record `k` noted with the records after it up to record `next`, all of its part.
+fn note_to(file: &[u8], first: &mut [u16], counts: &mut [u16], k: usize, next: usize)
+    requires { ⌜ Notable (now file) (now first) (now counts) k × ((faultAt (now file) (now first) (now counts) k ≡ 0) × ((k < next) × (next ≤ recordCount (now file)))) ⌝ }
+    ensures { λ _. ⌜ NotedTo (now (file .entry)) (now (first .entry)) (now (counts .entry)) k next (now (first .exit)) (now (counts .exit)) ⌝ }
 {
     let v = part_of(whole_at(file, k));
     note_first(first, counts, v, k);
     note_one(counts, v);
-    let next = passes_to(file, first, counts, k);
     note_more(counts, v, next - (k + 1));
-    next
 }
 
 fn one_if_contract(r: &[u8]) -> usize
     ensures { λ n. ⌜ n ≡ oneIf (ofKind 1 (now (r .entry))) ⌝ }
 {
     if kind(r) == 1 { 1 } else { 0 }
+}
+
+// A step of the check: the fault of a record, or the record to go on at and how many contracts were passed.
+struct Step {
+    number: usize,
+    next: usize,
+    contracts: usize,
+}
+
+// Past record `k`: a run of sound records from it on, or it alone.
+fn go_on(file: &[u8], first: &mut [u16], counts: &mut [u16], k: usize) -> Step
+    requires { ⌜ Notable (now file) (now first) (now counts) k ⌝ }
+    ensures { λ s. ⌜ StepBy (now (file .entry)) (now (first .entry)) (now (counts .entry)) k (s .number) (s .next) (s .contracts) (now (first .exit)) (now (counts .exit)) ⌝ }
+{
+    let next = passes_from(file, first, counts, k);
+    if k < next {
+        note_to(file, first, counts, k, next);
+        return Step {
+            number: 0,
+            next,
+            contracts: 0,
+        };
+    }
+    let number = fault_at(file, first, counts, k);
+    if number != 0 {
+        return Step {
+            number,
+            next: k,
+            contracts: 0,
+        };
+    }
+    note_to(file, first, counts, k, k + 1);
+    Step {
+        number,
+        next: k + 1,
+        contracts: one_if_contract(whole_at(file, k)),
+    }
 }
 
 // The verdict on any bytes, with the parts of an accepted file.
@@ -104,13 +140,12 @@ pub fn take_survey(file: &[u8]) -> Survey
     let mut counts = [0u16; PARTS];
     let mut k = 0;
     while k < count {
-        let number = fault_at(file, &first, &counts, k);
-        if number != 0 {
-            return refused(refusal(number, k));
+        let passed = go_on(file, &mut first, &mut counts, k);
+        if passed.number != 0 {
+            return refused(refusal(passed.number, k));
         }
-        contracts += one_if_contract(whole_at(file, k));
-        let next = note_run(file, &mut first, &mut counts, k);
-        k = next;
+        contracts += passed.contracts;
+        k = passed.next;
     }
     Survey {
         answer: Answer::Accepted,

@@ -17,7 +17,7 @@ use record::fields::leg_count;
 use record::fields::leg_tier;
 use record::fields::second_contract;
 
-fn no_contract(counts: &[u16], c: usize) -> bool
+pub(crate) fn no_contract(counts: &[u16], c: usize) -> bool
     requires { ⌜ c < 256 ⌝ }
     ensures { λ b. ⌜ b ≡ noContract (now (counts .entry)) c ⌝ }
 {

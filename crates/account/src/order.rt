@@ -40,7 +40,7 @@ pub(crate) fn tier_falls(before: &[u8], r: &[u8]) -> bool
     ((kind(before) == 2) & (contract(before) == contract(r))) & (tier(r) < tier(before))
 }
 
-fn contract_falls(before: &[u8], r: &[u8]) -> bool
+pub(crate) fn contract_falls(before: &[u8], r: &[u8]) -> bool
     ensures { λ b. ⌜ b ≡ contractFalls (now (before .entry)) (now (r .entry)) ⌝ }
 {
     (kind(before) == kind(r)) & (contract(r) < contract(before))

@@ -1,22 +1,25 @@
-// Runs of sound records: the prompts, rows or interprompt spreads of a contract after one that has passed. A record that stops a run is
-// asked about by itself.
+// Runs of sound records: the prompts, rows or interprompt spreads of a contract that get no refusal. A record that stops a run is asked
+// about by itself.
 ghost use mathlib.Core.Path.{_≡_};
-ghost use mathlib.Core.List.{List};
+ghost use mathlib.Core.Bool.{not, _||_};
 ghost use Prim.Native.Nat.{ℕ, _+_, _≤_, _<_, _-_, min};
 ghost use lib.ListN.{length};
 ghost use Rattle.exact.specs.Lists.{any};
 ghost use Rattle.record.specs.Layout.{day, legsOf};
-ghost use Rattle.account.specs.Notes.{parts};
-ghost use Rattle.account.specs.Passing.{DaysOf, hasDay, tierBytes, TiersOf, legUnlistedIn, promptPasses, rowPasses, spreadPasses, RunTo, After, Passes};
+ghost use Rattle.account.specs.Check.{kindFalls, contractFalls};
+ghost use Rattle.account.specs.Notes.{parts, noContract};
+ghost use Rattle.account.specs.Passing.{DaysOf, hasDay, tierBytes, TiersOf, legUnlistedIn, promptPasses, rowPasses, spreadPasses, RunTo, Begins, Runs};
 ghost use Rattle.account.specs.Records.{recordAt, recordCount, records};
 use crate::limits::MOST_PROMPTS;
 use crate::limits::MOST_ROWS;
 use crate::limits::MOST_SPREADS;
+use crate::listed::no_contract;
 use crate::notes::noted;
+use crate::order::contract_falls;
 use crate::order::day_not_above;
+use crate::order::kind_falls;
 use crate::order::legs_clash;
 use crate::order::tier_falls;
-use crate::parts::OWN;
 use crate::parts::PROMPTS;
 use crate::parts::ROWS;
 use crate::parts::SPREADS;
@@ -184,64 +187,73 @@ fn room_to(k: usize, count: usize, n: usize, most: usize) -> usize
     k + (most - n)
 }
 
-fn prompts_after(file: &[u8], counts: &[u16], k: usize, c: usize) -> usize
-    requires { ⌜ After 2 (now file) (now counts) k c ⌝ }
-    ensures { λ next. ⌜ ((first : List ℕ) → Passes (now (file .entry)) first (now (counts .entry)) k next) ⌝ }
+fn prompts_from(file: &[u8], first: &[u16], counts: &[u16], k: usize, c: usize) -> usize
+    requires { ⌜ Begins 2 (now file) (now counts) k c ⌝ }
+    ensures { λ next. ⌜ Runs (now (file .entry)) (now (first .entry)) (now (counts .entry)) k next ⌝ }
 {
-    let next = k + 1;
     let end = room_to(
-        next,
+        k,
         record_count(file),
         noted(counts, PROMPTS + c),
         MOST_PROMPTS,
     );
-    prompts_to(file, c, next, end)
+    prompts_to(file, c, k, end)
 }
 
-fn rows_after(file: &[u8], first: &[u16], counts: &[u16], k: usize, c: usize) -> usize
-    requires { ⌜ After 3 (now file) (now counts) k c ⌝ }
-    ensures { λ next. ⌜ Passes (now (file .entry)) (now (first .entry)) (now (counts .entry)) k next ⌝ }
+fn rows_from(file: &[u8], first: &[u16], counts: &[u16], k: usize, c: usize) -> usize
+    requires { ⌜ Begins 3 (now file) (now counts) k c ⌝ }
+    ensures { λ next. ⌜ Runs (now (file .entry)) (now (first .entry)) (now (counts .entry)) k next ⌝ }
 {
-    let next = k + 1;
-    let end = room_to(next, record_count(file), noted(counts, ROWS + c), MOST_ROWS);
+    let end = room_to(k, record_count(file), noted(counts, ROWS + c), MOST_ROWS);
     let days = days_of(part_at(file, first, counts, PROMPTS + c));
-    rows_to(file, &days, c, next, end)
+    rows_to(file, &days, c, k, end)
 }
 
-fn spreads_after(file: &[u8], first: &[u16], counts: &[u16], k: usize, c: usize) -> usize
-    requires { ⌜ After 4 (now file) (now counts) k c ⌝ }
-    ensures { λ next. ⌜ Passes (now (file .entry)) (now (first .entry)) (now (counts .entry)) k next ⌝ }
+fn spreads_from(file: &[u8], first: &[u16], counts: &[u16], k: usize, c: usize) -> usize
+    requires { ⌜ Begins 4 (now file) (now counts) k c ⌝ }
+    ensures { λ next. ⌜ Runs (now (file .entry)) (now (first .entry)) (now (counts .entry)) k next ⌝ }
 {
-    let next = k + 1;
     let end = room_to(
-        next,
+        k,
         record_count(file),
         noted(counts, SPREADS + c),
         MOST_SPREADS,
     );
     let listed = tiers_of(part_at(file, first, counts, PROMPTS + c));
-    spreads_to(file, &listed, c, next, end)
+    spreads_to(file, &listed, c, k, end)
 }
 
-// The record up to which the records after record `k`, which has passed, pass as it did.
-pub(crate) fn passes_to(file: &[u8], first: &[u16], counts: &[u16], k: usize) -> usize
-    requires { ⌜ (k < recordCount (now file)) × (length (now counts) ≡ parts) ⌝ }
-    ensures { λ next. ⌜ Passes (now (file .entry)) (now (first .entry)) (now (counts .entry)) k next ⌝ }
+// Whether a record of contract `c` may begin or go on a run.
+fn may_run(counts: &[u16], before: &[u8], r: &[u8], c: usize) -> bool
+    requires { ⌜ c < 256 ⌝ }
+    ensures { λ b. ⌜ b ≡ not (noContract (now (counts .entry)) c || (kindFalls (now (before .entry)) (now (r .entry)) || contractFalls (now (before .entry)) (now (r .entry)))) ⌝ }
 {
+    !(no_contract(counts, c) | (kind_falls(before, r) | contract_falls(before, r)))
+}
+
+// The first record from record `k` on that does not pass as a prompt, a row or an interprompt spread of record `k`'s contract: `k` itself
+// where it is none of these.
+pub(crate) fn passes_from(file: &[u8], first: &[u16], counts: &[u16], k: usize) -> usize
+    requires { ⌜ (k < recordCount (now file)) × (length (now counts) ≡ parts) ⌝ }
+    ensures { λ next. ⌜ Runs (now (file .entry)) (now (first .entry)) (now (counts .entry)) k next ⌝ }
+{
+    if k == 0 {
+        return k;
+    }
     let r = whole_at(file, k);
     let n = kind(r);
     let c = contract(r);
-    if noted(counts, OWN + c) == 0 {
-        return k + 1;
+    if !may_run(counts, whole_at(file, k - 1), r, c) {
+        return k;
     }
     if n == 2 {
-        return prompts_after(file, counts, k, c);
+        return prompts_from(file, first, counts, k, c);
     }
     if n == 3 {
-        return rows_after(file, first, counts, k, c);
+        return rows_from(file, first, counts, k, c);
     }
     if n == 4 {
-        return spreads_after(file, first, counts, k, c);
+        return spreads_from(file, first, counts, k, c);
     }
-    k + 1
+    k
 }

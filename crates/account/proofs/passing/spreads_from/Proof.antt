@@ -1,23 +1,19 @@
--- `account::passing::spreads_after` meets its contract. Assumes nothing.
+-- `account::passing::spreads_from` meets its contract. Assumes nothing.
 use Prim.Native.Nat.{ℕ, _+_, _-_, min}
 use mathlib.Core.Path.{subst, _∙_}
 use mathlib.Core.List.{List}
 use borrow.Author.Needs.{needs}
-use native.Mathlib.Omega.{arith}
 use Rattle.account.specs.Passing.{TiersOf, spreadPasses, RunTo}
 use Rattle.account.specs.Records.{recordAt, records}
-use Rattle.account.proofs.Runs.{spreads-pass}
-use Rattle.account.proofs.passing.spreads_after.Statement.{statement}
-use Rattle.account.proofs.passing.spreads_after.Tie as tie
-
-add-next : tie.Need-add-next
-add-next c = search needs
+use Rattle.account.proofs.Runs.{spreads-run}
+use Rattle.account.proofs.passing.spreads_from.Statement.{statement}
+use Rattle.account.proofs.passing.spreads_from.Tie as tie
 
 record-count-requires : tie.Need-record-count-requires
 record-count-requires c κs = search needs
 
 add-noted : tie.Need-add-noted
-add-noted c = omega (arith, c .before .before .before .before .pre .byte)
+add-noted c = search needs
 
 noted-requires : tie.Need-noted-requires
 noted-requires c κs = search needs
@@ -26,7 +22,7 @@ room-to-requires : tie.Need-room-to-requires
 room-to-requires c κs = search needs
 
 add-part-at : tie.Need-add-part-at
-add-part-at c = omega (arith, c .before .before .before .before .before .before .pre .byte)
+add-part-at c = search needs
 
 part-at-requires : tie.Need-part-at-requires
 part-at-requires c κs = search needs
@@ -44,18 +40,17 @@ returns c =
     let file = args .file .now in
     let tiers = c .before .before .tiers-of in
     let end = c .before .before .before .before .room-to .ensures
-    ∙ (λ i. min (args .k + 1 + (32 - c .before .before .before .before .before .noted .ensures i))
+    ∙ (λ i. min (args .k + (32 - c .before .before .before .before .before .noted .ensures i))
     (c .before .before .before .before .before .before .record-count .ensures i)) in
-    spreads-pass file (args .first .now) (args .counts .now) (args .k) (args .c) (start .pre) (tiers .result)
+    spreads-run file (args .first .now) (args .counts .now) (args .k) (args .c) (start .pre) (tiers .result)
     (subst (λ (part : List ℕ). TiersOf (records part) (tiers .result)) (c .before .before .before .part-at .ensures) (tiers .ensures))
-    (subst (λ (end : ℕ). RunTo (λ j. spreadPasses (args .c) (tiers .result) (recordAt file j)) (args .k + 1) end (c .spreads-to .result))
+    (subst (λ (end : ℕ). RunTo (λ j. spreadPasses (args .c) (tiers .result) (recordAt file j)) (args .k) end (c .spreads-to .result))
     end (c .spreads-to .ensures))
 
-pub spreads-after-spec : {M : Type 1} → statement M
-spreads-after-spec =
+pub spreads-from-spec : {M : Type 1} → statement M
+spreads-from-spec =
     tie.close
     (tie.spec
-    add-next
     record-count-requires
     add-noted
     noted-requires

@@ -1,23 +1,19 @@
--- `account::passing::rows_after` meets its contract. Assumes nothing.
+-- `account::passing::rows_from` meets its contract. Assumes nothing.
 use Prim.Native.Nat.{ℕ, _+_, _-_, min}
 use mathlib.Core.Path.{subst, _∙_}
 use mathlib.Core.List.{List}
 use borrow.Author.Needs.{needs}
-use native.Mathlib.Omega.{arith}
 use Rattle.account.specs.Passing.{DaysOf, rowPasses, RunTo}
 use Rattle.account.specs.Records.{recordAt, records}
-use Rattle.account.proofs.Runs.{rows-pass}
-use Rattle.account.proofs.passing.rows_after.Statement.{statement}
-use Rattle.account.proofs.passing.rows_after.Tie as tie
-
-add-next : tie.Need-add-next
-add-next c = search needs
+use Rattle.account.proofs.Runs.{rows-run}
+use Rattle.account.proofs.passing.rows_from.Statement.{statement}
+use Rattle.account.proofs.passing.rows_from.Tie as tie
 
 record-count-requires : tie.Need-record-count-requires
 record-count-requires c κs = search needs
 
 add-noted : tie.Need-add-noted
-add-noted c = omega (arith, c .before .before .before .before .pre .byte)
+add-noted c = search needs
 
 noted-requires : tie.Need-noted-requires
 noted-requires c κs = search needs
@@ -26,7 +22,7 @@ room-to-requires : tie.Need-room-to-requires
 room-to-requires c κs = search needs
 
 add-part-at : tie.Need-add-part-at
-add-part-at c = omega (arith, c .before .before .before .before .before .before .pre .byte)
+add-part-at c = search needs
 
 part-at-requires : tie.Need-part-at-requires
 part-at-requires c κs = search needs
@@ -44,18 +40,17 @@ returns c =
     let file = args .file .now in
     let days = c .before .before .days-of in
     let end = c .before .before .before .before .room-to .ensures
-    ∙ (λ i. min (args .k + 1 + (128 - c .before .before .before .before .before .noted .ensures i))
+    ∙ (λ i. min (args .k + (128 - c .before .before .before .before .before .noted .ensures i))
     (c .before .before .before .before .before .before .record-count .ensures i)) in
-    rows-pass file (args .first .now) (args .counts .now) (args .k) (args .c) (start .pre) (days .result)
+    rows-run file (args .first .now) (args .counts .now) (args .k) (args .c) (start .pre) (days .result)
     (subst (λ (part : List ℕ). DaysOf (records part) (days .result)) (c .before .before .before .part-at .ensures) (days .ensures))
-    (subst (λ (end : ℕ). RunTo (λ j. rowPasses (args .c) (days .result) (recordAt file j)) (args .k + 1) end (c .rows-to .result))
+    (subst (λ (end : ℕ). RunTo (λ j. rowPasses (args .c) (days .result) (recordAt file j)) (args .k) end (c .rows-to .result))
     end (c .rows-to .ensures))
 
-pub rows-after-spec : {M : Type 1} → statement M
-rows-after-spec =
+pub rows-from-spec : {M : Type 1} → statement M
+rows-from-spec =
     tie.close
     (tie.spec
-    add-next
     record-count-requires
     add-noted
     noted-requires

@@ -1,0 +1,89 @@
+-- `account::check::go_on` meets its contract. Assumes nothing.
+use mathlib.Core.Path.{sym, _∙_}
+use borrow.Author.Needs.{needs}
+use native.Mathlib.Omega.{arith}
+use Rattle.account.proofs.Runs.{step-runs, step-stops, step-alone}
+use Rattle.account.proofs.check.go_on.Statement.{statement}
+use Rattle.account.proofs.check.go_on.Tie as tie
+
+passes-from-requires : tie.Need-passes-from-requires
+passes-from-requires c κs =
+    let pre = c .before .before .before .before .before .pre in
+    (pre .inside, pre .sizes)
+
+note-to-requires : tie.Need-note-to-requires
+note-to-requires c κs =
+    let runs = c .before .before .before .passes-from .ensures in
+    let some = c .before .before .if1 .taken in
+    (c .before .before .before .before .before .before .before .before .before .pre, (runs .fine some, (some, runs .high)))
+
+same-length : tie.Need-same-length
+same-length c = search needs
+
+same-length-2 : tie.Need-same-length-2
+same-length-2 c = search needs
+
+returns : tie.Need-returns
+returns c = step-runs (c .before .before .before .before .before .before .before .before .passes-from .ensures) (c .before .before .before .before .before .before .before .if1 .taken) (c .before .before .before .before .note-to .ensures)
+
+fault-at-requires : tie.Need-fault-at-requires
+fault-at-requires c κs = search needs
+
+same-length-3 : tie.Need-same-length-3
+same-length-3 c = search needs
+
+same-length-4 : tie.Need-same-length-4
+same-length-4 c = search needs
+
+returns-2 : tie.Need-returns-2
+returns-2 c = step-stops (c .before .fault-at .ensures) (c .if2 .taken)
+
+add-note-to : tie.Need-add-note-to
+add-note-to c = search needs
+
+note-to-requires-2 : tie.Need-note-to-requires-2
+note-to-requires-2 c κs =
+    let pre = c .before .before .before .before .before .before .before .before .before .before .before .before .before .pre in
+    (pre, (sym (c .before .before .before .fault-at .ensures) ∙ c .before .before .if2 .left, (omega arith, omega (arith, pre .inside))))
+
+add-t26 : tie.Need-add-t26
+add-t26 c = search needs
+
+whole-at-requires : tie.Need-whole-at-requires
+whole-at-requires c κs = search needs
+
+one-if-contract-requires : tie.Need-one-if-contract-requires
+one-if-contract-requires c κs = search needs
+
+same-length-5 : tie.Need-same-length-5
+same-length-5 c = search needs
+
+same-length-6 : tie.Need-same-length-6
+same-length-6 c = search needs
+
+returns-3 : tie.Need-returns-3
+returns-3 c =
+    step-alone (c .before .before .before .before .before .before .before .before .before .before .fault-at .ensures) (c .before .before .before .before .before .before .before .before .before .if2 .left) (c .before .before .before .before .before .before .before .before .before .before .before .before .before .before .before .before .before .before .before .before .pre .inside) (c .before .before .before .before .before .before .note-to2 .ensures)
+    (c .one-if-contract .ensures) (c .before .whole-at .ensures)
+
+pub go-on-spec : {M : Type 1} → statement M
+go-on-spec =
+    tie.close
+    (tie.spec
+    passes-from-requires
+    note-to-requires
+    same-length
+    same-length-2
+    returns
+    fault-at-requires
+    same-length-3
+    same-length-4
+    returns-2
+    add-note-to
+    note-to-requires-2
+    add-t26
+    whole-at-requires
+    one-if-contract-requires
+    same-length-5
+    same-length-6
+    returns-3)

@@ -5,7 +5,10 @@ use native.Mathlib.Omega.{arith}
 use mathlib.Core.Path.{_≡_, refl}
 use Rattle.account.specs.Answers.{numberOf}
 use Rattle.account.specs.declared.answers.Answer.{Answer}
-use Rattle.account.specs.declared.answers.Answer.the-variants.{Accepted, TooLong, CutRecord, UnknownKind, KindFalls, UnusedByte, FieldOutside, Unlisted, OutOfOrder, OverLimit, TooFewNumbers, NoSuchQuestion, NoonSpread, TooManyJoined, NoRate, ConversionBeyond, TooFewBytes, LengthsDiffer, OtherCounts, TooManyAccounts, LimitBelowZero, AmountOutside, NoTicketLeft}
+use Rattle.account.specs.declared.answers.Answer.the-variants.{Accepted, TooLong, CutRecord, UnknownKind, KindFalls, UnusedByte, FieldOutside}
+use Rattle.account.specs.declared.answers.Answer.the-variants.{Unlisted, OutOfOrder, OverLimit, TooFewNumbers, NoSuchQuestion, NoonSpread}
+use Rattle.account.specs.declared.answers.Answer.the-variants.{TooManyJoined, NoRate, ConversionBeyond, TooFewBytes, LengthsDiffer, OtherCounts}
+use Rattle.account.specs.declared.answers.Answer.the-variants.{TooManyAccounts, LimitBelowZero, AmountOutside, NoTicketLeft}
 
 pub some : {n : ℕ} → suc n ≡ 0 → ⊥
 some e = omega arith

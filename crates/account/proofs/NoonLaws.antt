@@ -16,7 +16,8 @@ use Rattle.account.specs.Check.{recordsChecked, mostRecords, mostContrac
 use Rattle.account.specs.Checked.{ratesChecked}
 use Rattle.account.specs.Joined.{joinedOf, fromMorning}
 use Rattle.account.specs.Lawful.{Recorded, Lawful}
-use Rattle.account.specs.Noon.{ofJoined, ofMorning, ofNoon, clear, _then_, morningsOwn, noSpread, fewJoined, recordsVerdict, joinedVerdict, noonSpread, verdictBy, PairBy, nowhere, placeIn, placeBy, promptPlace}
+use Rattle.account.specs.Noon.{ofJoined, ofMorning, ofNoon, clear, _then_, morningsOwn, noSpread, fewJoined, recordsVerdict, joinedVerdict}
+use Rattle.account.specs.Noon.{noonSpread, verdictBy, PairBy, nowhere, placeIn, placeBy, promptPlace}
 use Rattle.account.specs.Notes.{part, inPart}
 use Rattle.account.specs.Parts.{ofKind, ofContract, placeOf, startOf, entriesOf, ratesOf}
 use Rattle.account.specs.Records.{records}
@@ -249,17 +250,21 @@ module _ (morning noon : List ℕ) (m n : Survey) (j : Account) (sm : Surveyed m
       ap₂ (λ (a b : Answer). ofMorning a then ofNoon b then restBy) (sm .answer) (sn .answer)
       ∙ first (numberOf (recordsChecked morning)) refl
     where
-      second : (k : ℕ) → numberOf (recordsChecked noon) ≡ k → recordsChecked morning ≡ Accepted → ofNoon (recordsChecked noon) then restBy ≡ ofNoon (recordsChecked noon) then rest
+      second : (k : ℕ) → numberOf (recordsChecked noon) ≡ k → recordsChecked morning ≡ Accepted → ofNoon (recordsChecked noon) then restBy ≡ ofNoon
+          (recordsChecked noon) then rest
       second zero e okm = ap (λ (v : Verdict). ofNoon (recordsChecked noon) then v) (rest-is okm (accepted-only (recordsChecked noon) e))
       second (suc k) e okm =
           let h : numberOf (recordsChecked noon) ≡ 0 → ⊥ = λ z. some (sym e ∙ z) in
           stops (ofNoon (recordsChecked noon)) restBy h ∙ sym (stops (ofNoon (recordsChecked noon)) rest h)
 
-      first : (k : ℕ) → numberOf (recordsChecked morning) ≡ k → ofMorning (recordsChecked morning) then ofNoon (recordsChecked noon) then restBy ≡ ofMorning (recordsChecked morning) then ofNoon (recordsChecked noon) then rest
-      first zero e = ap (λ (v : Verdict). ofMorning (recordsChecked morning) then v) (second (numberOf (recordsChecked noon)) refl (accepted-only (recordsChecked morning) e))
+      first : (k : ℕ) → numberOf (recordsChecked morning) ≡ k → ofMorning (recordsChecked morning) then ofNoon
+          (recordsChecked noon) then restBy ≡ ofMorning (recordsChecked morning) then ofNoon (recordsChecked noon) then rest
+      first zero e = ap (λ (v : Verdict). ofMorning (recordsChecked morning) then v)
+          (second (numberOf (recordsChecked noon)) refl (accepted-only (recordsChecked morning) e))
       first (suc k) e =
           let h : numberOf (recordsChecked morning) ≡ 0 → ⊥ = λ z. some (sym e ∙ z) in
-          stops (ofMorning (recordsChecked morning)) (ofNoon (recordsChecked noon) then restBy) h ∙ sym (stops (ofMorning (recordsChecked morning)) (ofNoon (recordsChecked noon) then rest) h)
+          stops (ofMorning (recordsChecked morning)) (ofNoon (recordsChecked noon) then restBy) h
+          ∙ sym (stops (ofMorning (recordsChecked morning)) (ofNoon (recordsChecked noon) then rest) h)
 
   pair-places : clear (recordsVerdict morning noon) ≡ true → Places morning noon j
   pair-places c =
@@ -302,7 +307,8 @@ by-survey k file s c sv h =
     λ i. record { file = k; first = sv .first (part 2 c) (omega arith) i; records = sv .counts (part 2 c) (omega arith) i }
 
 -- whether a file lists a contract, by its survey
-own-listed : (file : List ℕ) (s : Survey) (c : ℕ) → Surveyed file s → recordsChecked file ≡ Accepted → c < mostContracts → not (eqb (getD (s .counts) (16 + c) 0) 0) ≡ listed c (records file)
+own-listed : (file : List ℕ) (s : Survey) (c : ℕ) → Surveyed file s → recordsChecked file ≡ Accepted → c < mostContracts
+    → not (eqb (getD (s .counts) (16 + c) 0) 0) ≡ listed c (records file)
 own-listed file s c sv ok h =
     ap (λ (x : ℕ). not (eqb x 0))
     (sv .counts (16 + c) (omega arith)

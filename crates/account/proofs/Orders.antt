@@ -71,8 +71,10 @@ module _ (file : List ℕ) (ok : recordsChecked file ≡ Accepted) where
       let a = contract-at k (omega arith) in
       let b = contract-at (suc k) h in
       let kinds = every-kept (λ r. kind r ≡ 1) (ofKind 1) file (recordCount file) (λ j l e. eqb-true _ _ e) in
-      let one : kind (recordAt file k) ≡ 1 = subst (λ (r : Record). kind r ≡ 1) (a .0) (every-at (λ r. kind r ≡ 1) (contractsOf (records file)) kinds k (omega arith)) in
-      let two : kind (recordAt file (suc k)) ≡ 1 = subst (λ (r : Record). kind r ≡ 1) (b .0) (every-at (λ r. kind r ≡ 1) (contractsOf (records file)) kinds (suc k) h) in
+      let one : kind (recordAt file k) ≡ 1 = subst (λ (r : Record). kind r ≡ 1) (a .0)
+      (every-at (λ r. kind r ≡ 1) (contractsOf (records file)) kinds k (omega arith)) in
+      let two : kind (recordAt file (suc k)) ≡ 1 = subst (λ (r : Record). kind r ≡ 1) (b .0)
+      (every-at (λ r. kind r ≡ 1) (contractsOf (records file)) kinds (suc k) h) in
       let t = right-off (eq-eqb (kind (recordAt file k)) 1 one) (sym (order-1 (recordAt file k) (recordAt file (suc k)) two) ∙ at (suc k) (b .1) .ordered) in
       let above = leb-false (contract (recordAt file (suc k))) (contract (recordAt file k)) t in
       subst₂ (λ (x y : Record). contract x < contract y) (sym (a .0)) (sym (b .0)) above
@@ -143,7 +145,8 @@ module _ (file : List ℕ) (ok : recordsChecked file ≡ Accepted) where
             (λ k h e.
             let r = recordAt file k in
             let four = eqb-true (kind r) 4 (both-true (eqb (kind r) 4) (eqb (contract r) c) e .0) in
-            neither (contractFalls (theOneBefore (earlier file k)) r) (legsClash r) (sym (order-4 (theOneBefore (earlier file k)) r four) ∙ at k h .ordered) .1);
+            neither (contractFalls (theOneBefore (earlier file k)) r) (legsClash r)
+            (sym (order-4 (theOneBefore (earlier file k)) r four) ∙ at k h .ordered) .1);
         entries =
             every-kept (λ e. withItself e ≡ false) (ofKind 5) file (recordCount file)
             (λ k h e. sym (order-5 (theOneBefore (earlier file k)) (recordAt file k) (eqb-true _ _ e)) ∙ at k h .ordered);

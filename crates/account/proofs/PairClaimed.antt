@@ -17,7 +17,8 @@ use Rattle.account.specs.Answers.{numberOf, recordOf}
 use Rattle.account.specs.Check.{recordsChecked, mostRecords, mostContracts}
 use Rattle.account.specs.Claims.{Iff, Comes, RecordsGive}
 use Rattle.account.specs.Checked.{ratesChecked}
-use Rattle.account.specs.Noon.{ofJoined, ofMorning, ofNoon, clear, _then_, morningsOwn, noSpread, fewJoined, recordsVerdict, joinedVerdict, nowhere, placeIn, promptPlace, joinedPrompts}
+use Rattle.account.specs.Noon.{ofJoined, ofMorning, ofNoon, clear, _then_, morningsOwn, noSpread, fewJoined, recordsVerdict, joinedVerdict}
+use Rattle.account.specs.Noon.{nowhere, placeIn, promptPlace, joinedPrompts}
 use Rattle.account.specs.Notes.{part}
 use Rattle.account.specs.PairClaims.{Says, BothPass, FirstSpread, NoSpread, PairExactly, OfMorning, OfNoon, OfJoined, PromptsHanded, PairClaims}
 use Rattle.account.specs.Parts.{ofContract, placeOf, promptsOf}
@@ -288,11 +289,17 @@ module _ (morning noon : List ℕ) where
             λ s.
             let x = a .forth s in
             let y = b .forth (x .1) in
-            let z = c .forth (y .1) in
-            (record { first = clear-accepted (recordsChecked morning) 1 (x .0); second = clear-accepted (recordsChecked noon) 2 (y .0) }, (spread-clear noon (z .0), z .1));
+            let z = c .forth (y .1) in (
+              record { first = clear-accepted (recordsChecked morning) 1 (x .0); second = clear-accepted (recordsChecked noon) 2 (y .0) },
+              (spread-clear noon (z .0), z .1),
+            );
         back =
             λ (p, (q, s)).
-            a .back (accepted-clear (recordsChecked morning) 1 (p .first), b .back (accepted-clear (recordsChecked noon) 2 (p .second), c .back (clear-spread noon q, s)));
+            a .back (
+              accepted-clear (recordsChecked morning) 1 (p .first),
+              b .back
+                  (accepted-clear (recordsChecked noon) 2 (p .second), c .back (clear-spread noon q, s)),
+            );
       }
 
   records-exactly : RecordsPair morning noon
@@ -322,11 +329,17 @@ module _ (morning noon : List ℕ) where
               forth =
                   λ s.
                   let x = a .forth s in
-                  let y = b .forth (x .1) in
-                  (record { first = clear-accepted (recordsChecked morning) 1 (x .0); second = clear-accepted (recordsChecked noon) 2 (y .0) }, g .forth (c .forth (y .1)));
+                  let y = b .forth (x .1) in (
+                    record { first = clear-accepted (recordsChecked morning) 1 (x .0); second = clear-accepted (recordsChecked noon) 2 (y .0) },
+                    g .forth (c .forth (y .1)),
+                  );
               back =
                   λ (p, f).
-                  a .back (accepted-clear (recordsChecked morning) 1 (p .first), b .back (accepted-clear (recordsChecked noon) 2 (p .second), c .back (g .back f)));
+                  a .back (
+                    accepted-clear (recordsChecked morning) 1 (p .first),
+                    b .back
+                        (accepted-clear (recordsChecked noon) 2 (p .second), c .back (g .back f)),
+                  );
             };
         thirteen =
             λ k.
@@ -374,11 +387,13 @@ module _ (morning noon : List ℕ) where
           by true a = ap numberOf (spread-if noon true a)
           by false a = absurd (false≢true (sym e ∙ ap (λ (x : Answer). eqb (numberOf x) 0) (spread-if noon false a)))
 
-      last : (numberOf (fewJoined (length (accountOf morning noon))) ≡ 0) ⊎ ((13 ≤ numberOf (fewJoined (length (accountOf morning noon)))) × (numberOf (fewJoined (length (accountOf morning noon))) ≤ 15))
+      last : (numberOf (fewJoined (length (accountOf morning noon))) ≡ 0) ⊎
+          ((13 ≤ numberOf (fewJoined (length (accountOf morning noon)))) × (numberOf (fewJoined (length (accountOf morning noon))) ≤ 15))
       last = by (ltb mostRecords (length (accountOf morning noon))) refl
         where
           by : (t : Bool) → ltb mostRecords (length (accountOf morning noon)) ≡ t
-              → (numberOf (fewJoined (length (accountOf morning noon))) ≡ 0) ⊎ ((13 ≤ numberOf (fewJoined (length (accountOf morning noon)))) × (numberOf (fewJoined (length (accountOf morning noon))) ≤ 15))
+              → (numberOf (fewJoined (length (accountOf morning noon))) ≡ 0) ⊎
+              ((13 ≤ numberOf (fewJoined (length (accountOf morning noon)))) × (numberOf (fewJoined (length (accountOf morning noon))) ≤ 15))
           by true a =
               let e = ap numberOf (few-if (length (accountOf morning noon)) true a) in
               inr (omega (arith, e), omega (arith, e))
@@ -561,7 +576,8 @@ module _ (morning noon : List ℕ) (c : ℕ) where
             ∙ sym (supplied false e)
         go false e false f =
             ap records (none-either e f)
-            ∙ sym (none-listed (promptsOf c (records morning)) (listed c (records morning)) (recorded morning (morning-accepted morning noon o) .named .prompts c) f)
+            ∙ sym (none-listed (promptsOf c (records morning)) (listed c (records morning))
+            (recorded morning (morning-accepted morning noon o) .named .prompts c) f)
             ∙ sym (supplied false e)
 
   no-place : clear (joinedVerdict morning noon) && ltb c mostContracts ≡ false → joinedPrompts morning noon c ≡ []

@@ -28,7 +28,8 @@ use Rattle.account.specs.declared.accounts.Account.{Account}
 use Rattle.account.proofs.Accepted.{accepts, part-stands}
 use Rattle.account.proofs.Every.{length-kept}
 use Rattle.account.proofs.Going.{if-accepted}
-use Rattle.account.proofs.JoinedLaws.{only-5, other-kind, others, none-mornings, by-parts, part-joined, entries-joined, rates-joined, joined-length, joined-alone}
+use Rattle.account.proofs.JoinedLaws.{only-5, other-kind, others, none-mornings, by-parts, part-joined, entries-joined, rates-joined}
+use Rattle.account.proofs.JoinedLaws.{joined-length, joined-alone}
 use Rattle.account.proofs.Lawful.{recorded, numbered}
 use Rattle.account.proofs.Lists.{none-counted}
 use Rattle.account.proofs.Noted.{part-is}

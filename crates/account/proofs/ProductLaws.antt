@@ -19,7 +19,8 @@ use Rattle.record.specs.Bytes.{countFrom}
 use Rattle.record.specs.Layout.{Record, lots, value, loss, currency, mostCurrency, rateCurrency, spotRate, adjustment, scenarioCount}
 use Rattle.record.specs.Within.{Between, RowWithin, RateWithin}
 use Rattle.account.specs.Accepted.{Each}
-use Rattle.account.specs.Products.{inOwn, ofCurrency, rateFor, raised, lowered, mostFactor, hundredMillion, converted, inHundredths, hasRate, mostConversion, beyondIn, conversionBeyond, Convertible, RatesOf}
+use Rattle.account.specs.Products.{inOwn, ofCurrency, rateFor, raised, lowered, mostFactor, hundredMillion, converted, inHundredths, hasRate}
+use Rattle.account.specs.Products.{mostConversion, beyondIn, conversionBeyond, Convertible, RatesOf}
 use Rattle.account.specs.declared.rates.Rates.{Rates}
 
 -- ---- the table, one rate at a time

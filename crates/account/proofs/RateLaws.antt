@@ -154,7 +154,8 @@ module _ (rates : List Record) where
     step i h =
         let e : k + i + 1 ≡ k + (i + 1) = omega arith in
         ap (firstRateFault (k + i) rates) (cut-on rows (recordCount rows) i h)
-        ∙ ap (λ (n : ℕ). orElse (rateFaultOf rates (recordAt rows i)) (k + i) (firstRateFault n rates (cut (recordCount rows - (i + 1)) (drop ((i + 1) * 96) rows)))) e
+        ∙ ap (λ (n : ℕ). orElse (rateFaultOf rates (recordAt rows i)) (k + i)
+        (firstRateFault n rates (cut (recordCount rows - (i + 1)) (drop ((i + 1) * 96) rows)))) e
 
     pub rows-next : (i : ℕ) → i < recordCount rows → numberOf (rowAnswer rates (k + i) (recordAt rows i)) ≡ 0 → rowsFrom i ≡ rowsFrom (i + 1)
     rows-next i h e =
@@ -207,11 +208,13 @@ pub conversions-hold : (rs : List Record) → Recorded rs → ratesChecked rs �
 conversions-hold rs known e c =
     every-weaker (rowsOf c rs)
     (λ r f. let t = f .1 .1 (kind-of 3 c r (f .1 .0) .0) in convertible (ratesOf rs) r (f .0) (t .0) (t .1))
-    (every-both RowWithin (λ r. (ofContract 3 c r ≡ true) × (kind r ≡ 3 → (hasRate (ratesOf rs) r ≡ true) × (conversionBeyond (ratesOf rs) r ≡ false))) (rowsOf c rs)
+    (every-both RowWithin
+    (λ r. (ofContract 3 c r ≡ true) × (kind r ≡ 3 → (hasRate (ratesOf rs) r ≡ true) × (conversionBeyond (ratesOf rs) r ≡ false))) (rowsOf c rs)
     (known .ranges .rows c)
     (every-both (λ r. ofContract 3 c r ≡ true) (λ r. kind r ≡ 3 → (hasRate (ratesOf rs) r ≡ true) × (conversionBeyond (ratesOf rs) r ≡ false)) (rowsOf c rs)
     (kept-pass (ofContract 3 c) rs)
-    (every-of-kept (λ r. kind r ≡ 3 → (hasRate (ratesOf rs) r ≡ true) × (conversionBeyond (ratesOf rs) r ≡ false)) (ofContract 3 c) rs (each-row (ratesOf rs) 0 rs e))))
+    (every-of-kept (λ r. kind r ≡ 3 → (hasRate (ratesOf rs) r ≡ true) × (conversionBeyond (ratesOf rs) r ≡ false)) (ofContract 3 c) rs
+    (each-row (ratesOf rs) 0 rs e))))
 
 pub lawful-of : (rs : List Record) → Recorded rs → ratesChecked rs ≡ Accepted → Lawful rs
 lawful-of rs r e =

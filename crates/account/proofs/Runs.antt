@@ -21,9 +21,11 @@ use Rattle.record.proofs.Sound.{Sound, sound-known}
 use Rattle.record.proofs.Tests.{any-append, or-false, both}
 use Rattle.record.proofs.Within.{both-true, neither, row-within, spread-within, contract-known}
 use Rattle.account.specs.Check.{mostPrompts, kindFalls, dayNotAbove, tierFalls, contractFalls, legsClash, outOfOrder}
-use Rattle.account.specs.Notes.{part, partOf, oneMore, startNoted, noContract, noDay, noTier, unlistedBy, overLimitBy, faultBy, promptsNoted, beforeAt, faultAt}
+use Rattle.account.specs.Notes.{part, partOf, oneMore, startNoted, noContract, noDay, noTier, unlistedBy, overLimitBy, faultBy, promptsNoted}
+use Rattle.account.specs.Notes.{beforeAt, faultAt}
 use Rattle.account.specs.Parts.{ofKind, onDay, onTier}
-use Rattle.account.specs.Passing.{DaysOf, hasDay, TiersOf, legUnlistedIn, promptPasses, rowPasses, spreadPasses, RunTo, partAtRecord, countedTo, PassesAt, Passes, After, Begins, Runs, NotedTo, StepBy}
+use Rattle.account.specs.Passing.{DaysOf, hasDay, TiersOf, legUnlistedIn, promptPasses, rowPasses, spreadPasses, RunTo, partAtRecord, countedTo}
+use Rattle.account.specs.Passing.{PassesAt, Passes, After, Begins, Runs, NotedTo, StepBy}
 use Rattle.account.specs.Records.{cut, recordAt, recordCount, records, stretch}
 use Rattle.account.proofs.Dispatch.{order-2, order-3, order-4, listed-2, listed-3, listed-4, limit-2, limit-3, limit-4}
 use Rattle.account.proofs.Earlier.{cut-more}

@@ -100,8 +100,10 @@ module _ (morning noon : List ℕ) (a : Account) (st : Places morning noon a) (v
   part-stands b eb r er =
       let is : records r ≡ keep (inPart v) account = ap records (er ∙ ap bytes eb) ∙ are in
       let n = getD (a .counts) v 0 in
-      let many : recordCount (bytes b) ≡ n = sym (length-cut (recordCount (bytes b)) (bytes b)) ∙ ap (λ (x : List ℕ). length (records x)) (sym er) ∙ ap length is ∙ sym counted in
+      let many : recordCount (bytes b) ≡ n = sym (length-cut (recordCount (bytes b)) (bytes b)) ∙ ap (λ (x : List ℕ). length (records x)) (sym er)
+      ∙ ap length is ∙ sym counted in
       record {
         are = is ∙ sym (within v h account);
-        whole = ap length er ∙ whole (file b) (getD (a .first) v 0) n many ∙ ap (λ (k : ℕ). k * 96) counted ∙ ap (λ (rs : List Record). length rs * 96) (sym (within v h account));
+        whole = ap length er ∙ whole (file b) (getD (a .first) v 0) n many ∙ ap (λ (k : ℕ). k * 96) counted
+            ∙ ap (λ (rs : List Record). length rs * 96) (sym (within v h account));
       }

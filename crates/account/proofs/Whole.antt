@@ -177,7 +177,8 @@ module _ (account : List Record) (law : Recorded account) where
       (λ r f d.
       let n = f .1 in
       one-owner r
-      (by-kind (λ k. Names k r) (n .0 .0) (n .0 .1) (n .1 .0) (n .1 .1) (λ e. absurd (omega arith)) (λ e. absurd (omega arith)) (kind r) (f .0 .least) (f .0 .most) refl))
+      (by-kind (λ k. Names k r) (n .0 .0) (n .0 .1) (n .1 .0) (n .1 .1) (λ e. absurd (omega arith)) (λ e. absurd (omega arith)) (kind r) (f .0 .least)
+      (f .0 .most) refl))
       (every-both KindWithin (λ r. (Names 1 r × Names 2 r) × (Names 3 r × Names 4 r)) account within all-named)
 
   one-part : Each KindWithin account → Each (λ r. inHowMany (contractsOf account) r ≡ 1) account

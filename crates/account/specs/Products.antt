@@ -11,7 +11,8 @@ use Rattle.exact.specs.Lists.{any}
 use Rattle.exact.specs.Rounding.{halfAway}
 use Rattle.exact.specs.Signed.{negative}
 use Rattle.record.specs.Bytes.{countFrom}
-use Rattle.record.specs.Layout.{Record, lots, value, loss, scenarioCount, currency, mostCurrency, rateCurrency, spotRate, adjustment, mostSpotRate, mostAdjustment}
+use Rattle.record.specs.Layout.{Record, lots, value, loss, scenarioCount, currency, mostCurrency, rateCurrency, spotRate, adjustment, mostSpotRate}
+use Rattle.record.specs.Layout.{mostAdjustment}
 use Rattle.record.specs.Within.{Between, RateWithin}
 use Rattle.account.specs.Accepted.{Each}
 use Rattle.account.specs.declared.rates.Rates.{Rates}

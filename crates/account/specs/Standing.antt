@@ -82,7 +82,8 @@ pub record Places (morning noon : List ℕ) (j : Account) : Type 0 where
   pub sizes : length (j .counts) ≡ parts
   pub counts : (v : ℕ) → v < parts → getD (j .counts) v 0 ≡ count (inPart v) (accountOf morning noon)
   pub each : (k c : ℕ) → 1 ≤ k → k ≤ 4 → c ≤ mostContract
-      → records (stretch (supplies morning noon j c) (getD (j .first) (part k c) 0) (getD (j .counts) (part k c) 0)) ≡ keep (ofContract k c) (accountOf morning noon)
+      → records (stretch (supplies morning noon j c) (getD (j .first) (part k c) 0) (getD (j .counts) (part k c) 0)) ≡ keep (ofContract k c)
+      (accountOf morning noon)
   pub entries : records (stretch morning (getD (j .first) entryPart 0) (getD (j .counts) entryPart 0)) ≡ entriesOf (accountOf morning noon)
   pub rates : records (stretch morning (getD (j .first) ratePart 0) (getD (j .counts) ratePart 0)) ≡ ratesOf (accountOf morning noon)
 

@@ -72,7 +72,8 @@ fn note_more(counts: &mut [u16], v: usize, n: usize)
 
 // Record `k` noted with the records after it up to record `next`, all of its part.
 fn note_to(file: &[u8], first: &mut [u16], counts: &mut [u16], k: usize, next: usize)
-    requires { ⌜ Notable (now file) (now first) (now counts) k × ((faultAt (now file) (now first) (now counts) k ≡ 0) × ((k < next) × (next ≤ recordCount (now file)))) ⌝ }
+    requires { ⌜ Notable (now file) (now first) (now counts) k
+        × ((faultAt (now file) (now first) (now counts) k ≡ 0) × ((k < next) × (next ≤ recordCount (now file)))) ⌝ }
     ensures { λ _. ⌜ NotedTo (now (file .entry)) (now (first .entry)) (now (counts .entry)) k next (now (first .exit)) (now (counts .exit)) ⌝ }
 {
     let v = part_of(whole_at(file, k));
@@ -97,7 +98,8 @@ struct Step {
 // Past record `k`: a run of sound records from it on, or it alone.
 fn go_on(file: &[u8], first: &mut [u16], counts: &mut [u16], k: usize) -> Step
     requires { ⌜ Notable (now file) (now first) (now counts) k ⌝ }
-    ensures { λ s. ⌜ StepBy (now (file .entry)) (now (first .entry)) (now (counts .entry)) k (s .number) (s .next) (s .contracts) (now (first .exit)) (now (counts .exit)) ⌝ }
+    ensures { λ s. ⌜ StepBy (now (file .entry)) (now (first .entry)) (now (counts .entry)) k (s .number) (s .next) (s .contracts) (now (first .exit))
+        (now (counts .exit)) ⌝ }
 {
     let next = passes_from(file, first, counts, k);
     if k < next {

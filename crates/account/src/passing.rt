@@ -226,7 +226,8 @@ fn spreads_from(file: &[u8], first: &[u16], counts: &[u16], k: usize, c: usize) 
 // Whether a record of contract `c` may begin or go on a run.
 fn may_run(counts: &[u16], before: &[u8], r: &[u8], c: usize) -> bool
     requires { ⌜ c < 256 ⌝ }
-    ensures { λ b. ⌜ b ≡ not (noContract (now (counts .entry)) c || (kindFalls (now (before .entry)) (now (r .entry)) || contractFalls (now (before .entry)) (now (r .entry)))) ⌝ }
+    ensures { λ b. ⌜ b ≡ not
+        (noContract (now (counts .entry)) c || (kindFalls (now (before .entry)) (now (r .entry)) || contractFalls (now (before .entry)) (now (r .entry)))) ⌝ }
 {
     !(no_contract(counts, c) | (kind_falls(before, r) | contract_falls(before, r)))
 }

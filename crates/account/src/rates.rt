@@ -170,7 +170,8 @@ fn beyond_in(f: Factors, each: i64, loss: i64) -> bool
 // Whether it is in any.
 fn beyond_in_any(f: Factors, each: i64, row: &[u8]) -> bool
     requires { ⌜ (natAbs each ≤ 1000000000) × (RowWithin (now row) × ((f .raised ≤ mostFactor) × (f .lowered ≤ mostFactor))) ⌝ }
-    ensures { λ r. ⌜ r ≡ any (λ s. ltb mostConversion (natAbs (convertedAt (f .raised) (f .lowered) (each *ℤ loss (now (row .entry)) s)))) (countFrom 1 scenarioCount) ⌝ }
+    ensures { λ r. ⌜ r ≡ any (λ s. ltb mostConversion (natAbs (convertedAt (f .raised) (f .lowered) (each *ℤ loss (now (row .entry)) s))))
+        (countFrom 1 scenarioCount) ⌝ }
 {
     let mut found = false;
     let mut s = 0;

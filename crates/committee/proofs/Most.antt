@@ -124,7 +124,8 @@ module _ (rates : List Record) (own : Record) (prompts rows spreads : List Recor
   prompt-most =
       let nets = map (λ (p : Open). p .unused) (opensOf k) in
       let all =
-      prompts-most (unit own) (w .unit-within .most) prompts (usedDeltas k) (unusedDeltas k) nets (w .each-prompt) (used-within (stepsOf k) (opensOf k)) (unused-within (stepsOf k) (opensOf k))
+      prompts-most (unit own) (w .unit-within .most) prompts (usedDeltas k) (unusedDeltas k) nets (w .each-prompt)
+      (used-within (stepsOf k) (opensOf k)) (unused-within (stepsOf k) (opensOf k))
       in
       let e = ap sum (map-map natAbs (λ (p : Open). p .unused) (opensOf k)) in
       let s = sizes-most in
@@ -198,14 +199,16 @@ its-rated account law c k h =
       conversion-within = λ s l m. converts .within s (record { least = l; most = m });
     }
 
-module _ (account : List Record) (law : Lawful account) (over : (own : Record) → NothingOver (partsIn account own)) (entries : List Record) (table : List Open) where
+module _ (account : List Record) (law : Lawful account) (over : (own : Record) → NothingOver (partsIn account own)) (entries : List Record)
+    (table : List Open) where
   margins-most : (owns : List Record) → Each ContractWithin owns
       → totalMargin entries table (map (partsIn account) owns) ≤ sum (map (records-of account) owns) * 134000000001000
   margins-most [] e = zero-le
   margins-most (own ∷ owns) e =
       let c = contract own in
       let first =
-      margin-most (ratesOf account) own (promptsOf c account) (rowsOf c account) (spreadsOf c account) (contract-within account law own c (e .0)) (its-rated account law c) (over own) entries table
+      margin-most (ratesOf account) own (promptsOf c account) (rowsOf c account) (spreadsOf c account) (contract-within account law own c (e .0))
+      (its-rated account law c) (over own) entries table
       in
       let rest = margins-most owns (e .1) in
       omega arith

@@ -11,7 +11,8 @@ use mathlib.Core.List.{List, [], _∷_, _++_, map, map-map}
 use borrow.Author.Tests.{eqb-true}
 use lib.Dec.{ltb}
 use lib.IntN.{ℤ, pos}
-use lib.ListN.{length, length-append, length-drop, length-map, length-replicate, getD, drop, replicate, getD-replicate, List·getD-append, List·getD-eq-default, List·getD-map}
+use lib.ListN.{length, length-append, length-drop, length-map, length-replicate, getD, drop, replicate, getD-replicate, List·getD-append}
+use lib.ListN.{List·getD-eq-default, List·getD-map}
 use lib.Seq.{getD-append-add, getD-drop, getD-at}
 use Rattle.exact.specs.Lists.{oneIf, sum}
 use Rattle.exact.specs.Signed.{orZero}
@@ -261,7 +262,9 @@ module _ (account : List ℕ) (ok : checked account ≡ Accepted) where
             ∙ sym total;
         risks = fits;
         most =
-            let m = margin-within rs law (λ own. skipped .contract (ratesOf rs) own (promptsOf (contract own) rs) (rowsOf (contract own) rs) (spreadsOf (contract own) rs)) es table (skipped .whole) in
+            let m = margin-within rs law
+            (λ own. skipped .contract (ratesOf rs) own (promptsOf (contract own) rs) (rowsOf (contract own) rs) (spreadsOf (contract own) rs)) es
+            table (skipped .whole) in
             omega arith;
       }
 

@@ -10,7 +10,8 @@ use lib.ListN.{length, getD}
 use Rattle.exact.specs.Lists.{oneIf}
 use Rattle.margin.specs.Bounds.{longestFigures}
 use Rattle.committee.specs.Answered.{Answered}
-use Rattle.committee.specs.Committee.{scanningAt, interpromptAt, promptAt, marginAt, totalOf, overContracts, hasCredit, hadCredit, isAbove, aboveRisk, ofAccepted}
+use Rattle.committee.specs.Committee.{scanningAt, interpromptAt, promptAt, marginAt, totalOf, overContracts, hasCredit, hadCredit, isAbove}
+use Rattle.committee.specs.Committee.{aboveRisk, ofAccepted}
 use Rattle.committee.specs.Committee.{acceptedCount, refusedCount, refusalCount, marginSummed, largestMargin, largestPlace, creditCount, aboveCount}
 use Rattle.committee.specs.declared.contracts.Found.{Found}
 use Rattle.committee.specs.declared.figures.Account.{Account}

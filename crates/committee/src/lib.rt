@@ -25,7 +25,8 @@ const NUMBERS: usize = 24;
 // mean margin and its remainder. The run is refused as a whole with 19 where there are more than 100 accounts, then with 17 where the
 // lengths do not add up to what is lent, then with 10 where numbers are lacking: then nothing is written.
 pub fn answer_committee(accounts: &[u8], lengths: &[usize], out: &mut [i64]) -> Answer
-    ensures { λ r. ⌜ (r ≡ committeeAnswer (now (accounts .entry)) (now (lengths .entry)) (length (now (out .entry)))) × (now (out .exit) ≡ afterCommittee (now (accounts .entry)) (now (lengths .entry)) (now (out .entry))) ⌝ }
+    ensures { λ r. ⌜ (r ≡ committeeAnswer (now (accounts .entry)) (now (lengths .entry)) (length (now (out .entry))))
+        × (now (out .exit) ≡ afterCommittee (now (accounts .entry)) (now (lengths .entry)) (now (out .entry))) ⌝ }
 {
     let count = lengths.len();
     if MOST_ACCOUNTS < count {

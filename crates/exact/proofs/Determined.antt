@@ -10,7 +10,8 @@ use Rattle.exact.specs.declared.largest.Place.{Place}
 pub one-result {ℓ} : {A : Type ℓ} (x r s : A) → r ≡ x → s ≡ x → r ≡ s
 one-result x r s e f = e ∙ sym f
 
-pub one-outcome {ℓ ℓ'} : {A : Type ℓ} {B : Type ℓ'} (x r s : A) (y after after′ : B) → (r ≡ x) × (after ≡ y) → (s ≡ x) × (after′ ≡ y) → (r ≡ s) × (after ≡ after′)
+pub one-outcome {ℓ ℓ'} : {A : Type ℓ} {B : Type ℓ'} (x r s : A) (y after after′ : B) → (r ≡ x) × (after ≡ y) → (s ≡ x) × (after′ ≡ y) → (r ≡ s)
+    × (after ≡ after′)
 one-outcome x r s y after after′ (e, f) (g, h) = (one-result x r s e g, one-result y after after′ f h)
 
 -- records of equations, field by field

@@ -56,7 +56,8 @@ earlier ts j v v′ n n′ s ev en =
       sixteen = s .sixteen;
       within = omega (arith, s .within);
       value-is = ev ∙ ap (larger x) v-is ∙ ap largest (sym all);
-      number-is = en ∙ ap (λ (w : ℤ). cond (ltZ x w) n (j + 1)) v-is ∙ number-earlier j x y ys n n-is ∙ ap (λ (zs : List ℤ). j + firstAt (largest zs) zs) (sym all);
+      number-is = en ∙ ap (λ (w : ℤ). cond (ltZ x w) n (j + 1)) v-is ∙ number-earlier j x y ys n n-is
+          ∙ ap (λ (zs : List ℤ). j + firstAt (largest zs) zs) (sym all);
     }
 
 pub next : (ts : List ℤ) (i : ℕ) (v v′ : ℤ) (n n′ : ℕ) → 0 < i → Seen ts i v n

@@ -75,7 +75,13 @@ module _ (m d : ℕ) (h : 0 < d) where
         halves = λ z k e. ap (withSignOf z) (nearest (natAbs z * m) (suc k) (omega (arith, e, as-half k)) (omega (arith, e, as-half k, h)));
         turned = turned;
         order = order;
-        more = λ z n k. omega (arith, abs-sign z (halfUp (natAbs z * m) d), abs-sign z (halfUp (natAbs z * n) d), half-order (natAbs z * m) (natAbs z * n) d (mul-le-mul-left (natAbs z) k));
+        more = λ z n k. omega (
+          arith,
+          abs-sign z (halfUp (natAbs z * m) d),
+          abs-sign z (halfUp (natAbs z * n) d),
+          half-order (natAbs z * m) (natAbs z * n) d
+              (mul-le-mul-left (natAbs z) k),
+        );
       }
     where
       as-times : (k : ℕ) → d * k ≡ k * d

@@ -82,7 +82,8 @@ first-none-before z (x ∷ xs) zero h = go (same x z) h
     go false h = refl
 first-none-before z (x ∷ xs) (suc k) h = go (same x z) h (first-none-before z xs k)
   where
-    go : (t : Bool) → suc (suc k) < cond t 1 (suc (firstAt z xs)) → (suc k < firstAt z xs → same (getD xs k (pos 0)) z ≡ false) → same (getD xs k (pos 0)) z ≡ false
+    go : (t : Bool) → suc (suc k) < cond t 1 (suc (firstAt z xs)) → (suc k < firstAt z xs → same (getD xs k (pos 0)) z ≡ false)
+        → same (getD xs k (pos 0)) z ≡ false
     go true h rest = absurd (omega arith)
     go false h rest = rest (omega arith)
 
@@ -101,7 +102,8 @@ first-within xs h =
     omega (arith, r .within, first-at-most (largest xs) xs (r .place) (r .within) (r .holds))
 
 -- one total more in front
-pub first-earlier : (x y : ℤ) (ys : List ℤ) → firstAt (largest (x ∷ y ∷ ys)) (x ∷ y ∷ ys) ≡ cond (ltZ x (largest (y ∷ ys))) (suc (firstAt (largest (y ∷ ys)) (y ∷ ys))) 1
+pub first-earlier : (x y : ℤ) (ys : List ℤ) → firstAt (largest (x ∷ y ∷ ys)) (x ∷ y ∷ ys) ≡ cond (ltZ x (largest (y ∷ ys)))
+    (suc (firstAt (largest (y ∷ ys)) (y ∷ ys))) 1
 first-earlier x y ys = go (ltZ x (largest (y ∷ ys))) refl
   where
     go : (t : Bool) → ltZ x (largest (y ∷ ys)) ≡ t → firstAt (cond t (largest (y ∷ ys)) x) (x ∷ y ∷ ys) ≡ cond t (suc (firstAt (largest (y ∷ ys)) (y ∷ ys))) 1

@@ -3,7 +3,8 @@
 use mathlib.Core.Path.{_≡_, refl, sym, _∙_, ap, subst}
 use mathlib.Core.Bool.{true, false≢true}
 use Prim.Native.Nat.{ℕ, zero, suc, _+_, _*_, _/_, _%_, _≤_, _<_}
-use native.Mathlib.Nat.{zero-mul, mul-one, one-mul, mul-pos, mul-left-comm, mul-mod-left, mul-le-mul-right, div-mul-le-self, lt-div-mul-add, le-div-iff-mul-le, div-eq-of-lt-le}
+use native.Mathlib.Nat.{zero-mul, mul-one, one-mul, mul-pos, mul-left-comm, mul-mod-left, mul-le-mul-right, div-mul-le-self, lt-div-mul-add}
+use native.Mathlib.Nat.{le-div-iff-mul-le, div-eq-of-lt-le}
 use native.Mathlib.Omega.{arith}
 use lib.Dec.{leb}
 use lib.IntN.{ℤ, pos, negsuc, negℤ, natAbs, negℤ-negℤ}

@@ -33,7 +33,8 @@ use Rattle.tickets.proofs.KeptClaimed.{kept-claims}
 use Rattle.writing.proofs.Claimed.{claimed as writing-claims}
 use Rattle.screen.proofs.Claims.{claims as screen-claims}
 use Rattle.felgotany.specs.Roof.{OneFile, TwoFiles, Equations, OneOutcome, Roof}
-use Rattle.felgotany.proofs.Told.{one-told, all-told, one-told-of, all-told-of, one-call, one-place, one-list, one-pair-list, one-added, one-total, one-limit, one-asked as one-ticket, one-written}
+use Rattle.felgotany.proofs.Told.{one-told, all-told, one-told-of, all-told-of, one-call, one-place, one-list, one-pair-list, one-added}
+use Rattle.felgotany.proofs.Told.{one-total, one-limit, one-asked as one-ticket, one-written}
 
 one-file : (file : List ℕ) → OneFile file
 one-file file =

@@ -81,7 +81,8 @@ pub extern "C" fn felgotany_figures_needed(file: &[u8]) -> usize
 // The figures, at the front of `out`. A refusal writes nothing.
 #[no_mangle]
 pub extern "C" fn felgotany_figures(file: &[u8], out: &mut [i64]) -> Outcome
-    ensures { λ r. ⌜ Tells (figuresAnswer (now (file .entry)) (length (now (out .entry)))) r × (now (out .exit) ≡ afterFigures (now (file .entry)) (now (out .entry))) ⌝ }
+    ensures { λ r. ⌜ Tells (figuresAnswer (now (file .entry)) (length (now (out .entry)))) r
+        × (now (out .exit) ≡ afterFigures (now (file .entry)) (now (out .entry))) ⌝ }
 {
     tell(answer(file, Question::Figures, out))
 }
@@ -98,7 +99,8 @@ pub extern "C" fn felgotany_book_needed(file: &[u8], question: usize) -> usize
 // refusal writes nothing.
 #[no_mangle]
 pub extern "C" fn felgotany_book(file: &[u8], question: usize, out: &mut [i64]) -> Outcome
-    ensures { λ r. ⌜ Tells (bookAnswer (now (file .entry)) question (length (now (out .entry)))) r × (now (out .exit) ≡ afterBook (now (file .entry)) question (now (out .entry))) ⌝ }
+    ensures { λ r. ⌜ Tells (bookAnswer (now (file .entry)) question (length (now (out .entry)))) r
+        × (now (out .exit) ≡ afterBook (now (file .entry)) question (now (out .entry))) ⌝ }
 {
     tell(answer(file, Question::Book(question), out))
 }
@@ -115,7 +117,8 @@ pub extern "C" fn felgotany_uses_needed(file: &[u8], question: usize) -> usize
 // of `out`. A refusal writes nothing.
 #[no_mangle]
 pub extern "C" fn felgotany_uses(file: &[u8], question: usize, out: &mut [i64]) -> Outcome
-    ensures { λ r. ⌜ Tells (usesAnswer (now (file .entry)) question (length (now (out .entry)))) r × (now (out .exit) ≡ afterUses (now (file .entry)) question (now (out .entry))) ⌝ }
+    ensures { λ r. ⌜ Tells (usesAnswer (now (file .entry)) question (length (now (out .entry)))) r
+        × (now (out .exit) ≡ afterUses (now (file .entry)) question (now (out .entry))) ⌝ }
 {
     tell(answer(file, Question::Uses(question), out))
 }
@@ -137,7 +140,12 @@ pub extern "C" fn felgotany_all(
     books: &mut [i64],
     uses: &mut [i64],
 ) -> Outcomes
-    ensures { λ r. ⌜ (Tells (figuresAnswer (now (file .entry)) (length (now (figures .entry)))) (r .figures) × (now (figures .exit) ≡ afterFigures (now (file .entry)) (now (figures .entry)))) × ((Tells (booksAnswer (now (file .entry)) (length (now (books .entry)))) (r .books) × (now (books .exit) ≡ booksAfter (now (file .entry)) (now (books .entry)))) × (Tells (allUsesAnswer (now (file .entry)) (length (now (uses .entry)))) (r .uses) × (now (uses .exit) ≡ allUsesAfter (now (file .entry)) (now (uses .entry))))) ⌝ }
+    ensures { λ r. ⌜ (Tells (figuresAnswer (now (file .entry)) (length (now (figures .entry)))) (r .figures)
+        × (now (figures .exit) ≡ afterFigures (now (file .entry)) (now (figures .entry))))
+        × ((Tells (booksAnswer (now (file .entry)) (length (now (books .entry)))) (r .books)
+        × (now (books .exit) ≡ booksAfter (now (file .entry)) (now (books .entry))))
+        × (Tells (allUsesAnswer (now (file .entry)) (length (now (uses .entry)))) (r .uses)
+        × (now (uses .exit) ≡ allUsesAfter (now (file .entry)) (now (uses .entry))))) ⌝ }
 {
     let asked = ask_all(file, figures, books, uses);
     let of_figures = asked.figures;
@@ -180,7 +188,8 @@ pub extern "C" fn felgotany_joined_figures<'a>(
     noon: &'a [u8],
     out: &mut [i64],
 ) -> PairOutcome
-    ensures { λ r. ⌜ TellsOf (joinedFigures (now (morning .entry)) (now (noon .entry)) (length (now (out .entry)))) r × (now (out .exit) ≡ afterJoinedFigures (now (morning .entry)) (now (noon .entry)) (now (out .entry))) ⌝ }
+    ensures { λ r. ⌜ TellsOf (joinedFigures (now (morning .entry)) (now (noon .entry)) (length (now (out .entry)))) r
+        × (now (out .exit) ≡ afterJoinedFigures (now (morning .entry)) (now (noon .entry)) (now (out .entry))) ⌝ }
 {
     tell_of(questions::noon::answer(morning, noon, Question::Figures, out))
 }
@@ -193,7 +202,8 @@ pub extern "C" fn felgotany_joined_book<'a>(
     question: usize,
     out: &mut [i64],
 ) -> PairOutcome
-    ensures { λ r. ⌜ TellsOf (joinedBook (now (morning .entry)) (now (noon .entry)) question (length (now (out .entry)))) r × (now (out .exit) ≡ afterJoinedBook (now (morning .entry)) (now (noon .entry)) question (now (out .entry))) ⌝ }
+    ensures { λ r. ⌜ TellsOf (joinedBook (now (morning .entry)) (now (noon .entry)) question (length (now (out .entry)))) r
+        × (now (out .exit) ≡ afterJoinedBook (now (morning .entry)) (now (noon .entry)) question (now (out .entry))) ⌝ }
 {
     tell_of(questions::noon::answer(morning, noon, Question::Book(question), out))
 }
@@ -206,7 +216,8 @@ pub extern "C" fn felgotany_joined_uses<'a>(
     question: usize,
     out: &mut [i64],
 ) -> PairOutcome
-    ensures { λ r. ⌜ TellsOf (joinedUses (now (morning .entry)) (now (noon .entry)) question (length (now (out .entry)))) r × (now (out .exit) ≡ afterJoinedUses (now (morning .entry)) (now (noon .entry)) question (now (out .entry))) ⌝ }
+    ensures { λ r. ⌜ TellsOf (joinedUses (now (morning .entry)) (now (noon .entry)) question (length (now (out .entry)))) r
+        × (now (out .exit) ≡ afterJoinedUses (now (morning .entry)) (now (noon .entry)) question (now (out .entry))) ⌝ }
 {
     tell_of(questions::noon::answer(morning, noon, Question::Uses(question), out))
 }
@@ -260,9 +271,12 @@ pub extern "C" fn felgotany_joined_all<'a>(
     books: &mut [i64],
     uses: &mut [i64],
 ) -> PairOutcomes
-    ensures { λ r. ⌜ TellsOf (joinedFigures (now (morning .entry)) (now (noon .entry)) (length (now (figures .entry)))) (r .figures) × (now (figures .exit) ≡ afterJoinedFigures (now (morning .entry)) (now (noon .entry)) (now (figures .entry))) ⌝ }
-    ensures { λ r. ⌜ TellsOf (joinedAll false (now (morning .entry)) (now (noon .entry)) (length (now (books .entry)))) (r .books) × (now (books .exit) ≡ afterJoinedAll false (now (morning .entry)) (now (noon .entry)) (now (books .entry))) ⌝ }
-    ensures { λ r. ⌜ TellsOf (joinedAll true (now (morning .entry)) (now (noon .entry)) (length (now (uses .entry)))) (r .uses) × (now (uses .exit) ≡ afterJoinedAll true (now (morning .entry)) (now (noon .entry)) (now (uses .entry))) ⌝ }
+    ensures { λ r. ⌜ TellsOf (joinedFigures (now (morning .entry)) (now (noon .entry)) (length (now (figures .entry)))) (r .figures)
+        × (now (figures .exit) ≡ afterJoinedFigures (now (morning .entry)) (now (noon .entry)) (now (figures .entry))) ⌝ }
+    ensures { λ r. ⌜ TellsOf (joinedAll false (now (morning .entry)) (now (noon .entry)) (length (now (books .entry)))) (r .books)
+        × (now (books .exit) ≡ afterJoinedAll false (now (morning .entry)) (now (noon .entry)) (now (books .entry))) ⌝ }
+    ensures { λ r. ⌜ TellsOf (joinedAll true (now (morning .entry)) (now (noon .entry)) (length (now (uses .entry)))) (r .uses)
+        × (now (uses .exit) ≡ afterJoinedAll true (now (morning .entry)) (now (noon .entry)) (now (uses .entry))) ⌝ }
 {
     let asked = questions::noon::ask_all(morning, noon, figures, books, uses);
     let of_figures = asked.figures;
@@ -339,7 +353,8 @@ pub extern "C" fn felgotany_run(
 ) -> Outcome
     ensures { λ r. ⌜ Tells (runAnswer (now (accounts .entry)) (now (lengths .entry)) (length (now (figures .entry))) (length (now (outcomes .entry)))) r ⌝ }
     ensures { λ r. ⌜ now (figures .exit) ≡ runFigures (now (accounts .entry)) (now (lengths .entry)) (length (now (outcomes .entry))) (now (figures .entry)) ⌝ }
-    ensures { λ r. ⌜ now (outcomes .exit) ≡ runOutcomes (now (accounts .entry)) (now (lengths .entry)) (length (now (figures .entry))) (now (outcomes .entry)) ⌝ }
+    ensures { λ r. ⌜ now (outcomes .exit) ≡ runOutcomes (now (accounts .entry)) (now (lengths .entry)) (length (now (figures .entry)))
+        (now (outcomes .entry)) ⌝ }
 {
     tell(answer_run(accounts, lengths, figures, outcomes))
 }
@@ -351,7 +366,8 @@ pub extern "C" fn felgotany_committee(
     lengths: &[usize],
     out: &mut [i64],
 ) -> Outcome
-    ensures { λ r. ⌜ Tells (committeeAnswer (now (accounts .entry)) (now (lengths .entry)) (length (now (out .entry)))) r × (now (out .exit) ≡ afterCommittee (now (accounts .entry)) (now (lengths .entry)) (now (out .entry))) ⌝ }
+    ensures { λ r. ⌜ Tells (committeeAnswer (now (accounts .entry)) (now (lengths .entry)) (length (now (out .entry)))) r
+        × (now (out .exit) ≡ afterCommittee (now (accounts .entry)) (now (lengths .entry)) (now (out .entry))) ⌝ }
 {
     tell(answer_committee(accounts, lengths, out))
 }
@@ -507,7 +523,8 @@ fn tell_added(added: Added) -> AddOutcome
 // A ticket put last among its contract's rows, in the lent bytes. A refusal changes none of them.
 #[no_mangle]
 pub extern "C" fn felgotany_screen_add(lent: &mut [u8], named: usize, ticket: &[u8]) -> AddOutcome
-    ensures { λ r. ⌜ TellsAdded (added (now (lent .entry)) named (now (ticket .entry))) r × (now (lent .exit) ≡ afterAdd (now (lent .entry)) named (now (ticket .entry))) ⌝ }
+    ensures { λ r. ⌜ TellsAdded (added (now (lent .entry)) named (now (ticket .entry))) r
+        × (now (lent .exit) ≡ afterAdd (now (lent .entry)) named (now (ticket .entry))) ⌝ }
 {
     tell_added(screen::add(lent, named, ticket))
 }

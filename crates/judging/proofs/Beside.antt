@@ -204,7 +204,8 @@ first-wrong (x ∷ xs) (u ∷ us) (t ∷ ts) eu et =
         → AllRight (x ∷ xs) (u ∷ us) (t ∷ ts) ⊎ Wrong (x ∷ xs) (u ∷ us) (t ∷ ts)
     here w = inr (record { step = 0; there = omega arith; before = record { numbers = refl; uses = refl }; why = w })
 
-    go : AllRight xs us ts ⊎ Wrong xs us ts → (m : Bool) → ltZ (pos x) (t .number) ≡ m → (l : Bool) → ltZ (t .number) (pos x) ≡ l → (b : Bool) → alike (t .used) u ≡ b
+    go : AllRight xs us ts ⊎ Wrong xs us ts → (m : Bool) → ltZ (pos x) (t .number) ≡ m → (l : Bool) → ltZ (t .number) (pos x) ≡ l → (b : Bool)
+        → alike (t .used) u ≡ b
         → AllRight (x ∷ xs) (u ∷ us) (t ∷ ts) ⊎ Wrong (x ∷ xs) (u ∷ us) (t ∷ ts)
     go r true em l el b eb = here (inl em)
     go r false em true el b eb = here (inr (inl el))

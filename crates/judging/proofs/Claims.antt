@@ -23,11 +23,13 @@ use Rattle.spread.specs.declared.Table.{Table}
 use Rattle.spread.proofs.Both.{and-left, and-right, and-both}
 use Rattle.spread.proofs.Demand3.{demand3, one-per-step}
 use Rattle.spread.proofs.Soundness.{table-sound}
-use Rattle.judging.specs.Claims.{Iff, usesTold, numberTold, useTold, Picked, Reached, IsRight, IsMore, IsLess, IsWrongUse, Says, SameCounts, TheList, Claims}
+use Rattle.judging.specs.Claims.{Iff, usesTold, numberTold, useTold, Picked, Reached, IsRight, IsMore, IsLess, IsWrongUse, Says, SameCounts}
+use Rattle.judging.specs.Claims.{TheList, Claims}
 use Rattle.judging.specs.Judged.{Told, toldOf, alike, verdictOf, judgedFrom, sameCounts, judgedList}
 use Rattle.judging.specs.declared.Verdict.{Verdict}
 use Rattle.judging.specs.declared.Verdict.the-variants.{Right, MoreThanFormed, LessThanFormed, WrongUse, OtherCounts}
-use Rattle.judging.proofs.Beside.{same-alike, alike-same, told-length, numbers-told, told-whole, uses-length, takings-told, judged-beside, takings-length, Before, reaches, all-right, Wrong, AllRight, first-wrong}
+use Rattle.judging.proofs.Beside.{same-alike, alike-same, told-length, numbers-told, told-whole, uses-length, takings-told, judged-beside}
+use Rattle.judging.proofs.Beside.{takings-length, Before, reaches, all-right, Wrong, AllRight, first-wrong}
 use Rattle.judging.proofs.Comparing.{says-more, says-less, says-use}
 
 -- ---- order
@@ -163,7 +165,8 @@ module _ (ss : List (List Taker)) (ps : List Open) (ok : soundSteps ss ≡ true)
           go (pos n) l = turned (ltb (getD ours j 0) n) refl
             where
               turned : (b : Bool) → ltb (getD ours j 0) n ≡ b → b ≡ false
-              turned true e = absurd (let a = ltb-true (getD ours j 0) n e in let b = ltb-true n (getD ours j 0) (passed (ltb n (getD ours j 0)) (l .lt)) in omega arith)
+              turned true e = absurd
+                  (let a = ltb-true (getD ours j 0) n e in let b = ltb-true n (getD ours j 0) (passed (ltb n (getD ours j 0)) (l .lt)) in omega arith)
               turned false e = refl
           go (negsuc n) l = refl
 
@@ -236,7 +239,8 @@ module _ (ss : List (List Taker)) (ps : List Open) (ok : soundSteps ss ≡ true)
     counted c =
         ap (λ (b : Bool). cond b (judgedFrom 0 ss ps ts) OtherCounts)
         (and-both (eqb (length xs) (length ss)) (eqb sent (length ps) && eqb (length us) (length ss * length ps)) (eq-eqb (length xs) (length ss) (c .steps))
-        (and-both (eqb sent (length ps)) (eqb (length us) (length ss * length ps)) (eq-eqb sent (length ps) (c .prompts)) (eq-eqb (length us) (length ss * length ps) (c .uses))))
+        (and-both (eqb sent (length ps)) (eqb (length us) (length ss * length ps)) (eq-eqb sent (length ps) (c .prompts))
+        (eq-eqb (length us) (length ss * length ps) (c .uses))))
 
     told-many : SameCounts ss ps sent xs us → length ts ≡ length ss
     told-many c = told-length sent xs us ∙ c .steps

@@ -190,7 +190,8 @@ module _ (t : Table) (len : length (t .spread) ≡ 32) (ok : soundTable t ≡ tr
             sym (is .whole)
             ∙ ap (λ (ss : List (List Taker)). judgedFrom step ss (openOf left) (toldOf n (drop step xs) (drop at us))) (table-at t len ok step d (omega arith))
             ∙ ap (λ (ts : List Told). judgedFrom step (stepOf second s ∷ drop (suc step) (stepsOf t)) (openOf left) ts) (told-at n xs us step at h)
-            ∙ goes-on step (formed (stepOf second s) (openOf left)) (getD xs step (pos 0)) (alike (take n (drop at us)) (takenOf (stepOf second s) (openOf left)))
+            ∙ goes-on step (formed (stepOf second s) (openOf left)) (getD xs step (pos 0))
+            (alike (take n (drop at us)) (takenOf (stepOf second s) (openOf left)))
             (rest (after (stepOf second s) (formed (stepOf second s) (openOf left)) (openOf left)))
             ∙ ap₂ (λ (v : Verdict) (ps : List Open). cond (isRight v) (rest ps) v) (sym (c .verdict)) (sym (c .opens))
 
@@ -224,7 +225,8 @@ begins p t xs us ok many =
       whole = refl;
       sound = and-left (soundPrompts p) (soundTable t) ok;
       count = refl;
-      room = let e : length xs - 0 ≡ length xs = omega arith in ap (λ (k : ℕ). 0 + k * p .count) e ∙ (let z : 0 + length xs * p .count ≡ length xs * p .count = omega arith in z) ∙ sym many;
+      room = let e : length xs - 0 ≡ length xs = omega arith in ap (λ (k : ℕ). 0 + k * p .count) e
+          ∙ (let z : 0 + length xs * p .count ≡ length xs * p .count = omega arith in z) ∙ sym many;
       within = omega arith;
     }
 
@@ -253,7 +255,8 @@ module _ (p : Prompts) (t : Table) (sent : ℕ) (xs us : List ℤ) where
 
     module _ (e : tested ≡ true) where
       pub steps-are : length xs ≡ 2 * t .count
-      steps-are = eqb-true (length xs) (2 * t .count) (and-left (eqb (length xs) (2 * t .count)) (eqb sent (p .count) && eqb (length us) (2 * t .count * p .count)) e)
+      steps-are = eqb-true (length xs) (2 * t .count)
+          (and-left (eqb (length xs) (2 * t .count)) (eqb sent (p .count) && eqb (length us) (2 * t .count * p .count)) e)
 
       others : eqb sent (p .count) && eqb (length us) (2 * t .count * p .count) ≡ true
       others = and-right (eqb (length xs) (2 * t .count)) (eqb sent (p .count) && eqb (length us) (2 * t .count * p .count)) e

@@ -54,7 +54,8 @@ module _ (question sent : ℕ) (xs us : List ℤ) where
         cond t (ofPair 0 (judgedOver (accountOf morning noon) question sent xs us))
         (ofPair (joinedVerdict morning noon .file) (Refused (joinedVerdict morning noon .answer)))
 
-    pub pair-refused : (numberOf (r .verdict .answer) ≡ 0 → ⊥) → ofPair (r .verdict .file) (Refused (r .verdict .answer)) ≡ joinedJudged morning noon question sent xs us
+    pub pair-refused : (numberOf (r .verdict .answer) ≡ 0 → ⊥)
+        → ofPair (r .verdict .file) (Refused (r .verdict .answer)) ≡ joinedJudged morning noon question sent xs us
     pair-refused h =
         ap (λ (v : Verdict). ofPair (v .file) (Refused (v .answer))) (by .verdict-is)
         ∙ sym (ap ofTwo (ap clear (sym (by .verdict-is)) ∙ ne-eqb (numberOf (r .verdict .answer)) 0 h))
@@ -66,5 +67,6 @@ module _ (question sent : ℕ) (xs us : List ℤ) where
       pub pair-stands : Stands morning noon (r .account)
       pair-stands = by .stands unrefused
 
-      pub pair-accepted : (v : Judged) → v ≡ judgedOver (accountOf morning noon) question sent xs us → ofPair 0 v ≡ joinedJudged morning noon question sent xs us
+      pub pair-accepted : (v : Judged) → v ≡ judgedOver (accountOf morning noon) question sent xs us
+          → ofPair 0 v ≡ joinedJudged morning noon question sent xs us
       pair-accepted v e = ap (ofPair 0) e ∙ sym (ap ofTwo unrefused)

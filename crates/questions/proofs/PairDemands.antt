@@ -31,7 +31,8 @@ use Rattle.questions.proofs.AskingLaws.{asking, lent-after}
 
 -- ---- the verdict on a pair, and what is asked next where it is clear
 
-late-number : (v : Verdict) → OfMorning v ⊎ (OfNoon v ⊎ OfJoined v) → (n : ℕ) → (n ≡ 0 → ⊥) → 10 ≤ n → (n ≡ 12 → ⊥) → (13 ≤ n → n ≤ 15 → ⊥) → numberOf (v .answer) ≡ n → ⊥
+late-number : (v : Verdict) → OfMorning v ⊎ (OfNoon v ⊎ OfJoined v) → (n : ℕ) → (n ≡ 0 → ⊥) → 10 ≤ n → (n ≡ 12 → ⊥) → (13 ≤ n → n ≤ 15 → ⊥)
+    → numberOf (v .answer) ≡ n → ⊥
 late-number v said n z l a b e =
     ⊎-elim (λ m. omega (arith, m .most, e))
     (⊎-elim (λ w. ⊎-elim (λ (i, h). omega (arith, h, e)) (λ i. a (sym e ∙ i)) (w .number))

@@ -50,7 +50,8 @@ pub record FileAsked (file : List ℕ) (question : Question) (lent : ℕ) : Type
       ((checked file ≡ Accepted) × ((answers (records file) question ≡ true) × (lent < length (numbersFor (records file) question))))
   pub accepted : Iff (numberOf (answerTo file question lent) ≡ 0)
       ((checked file ≡ Accepted) × ((answers (records file) question ≡ true) × (length (numbersFor (records file) question) ≤ lent)))
-  pub named : 10 ≤ numberOf (answerTo file question lent) → numberOf (answerTo file question lent) ≤ 11 → recordOf (answerTo file question lent) ≡ recordCount file
+  pub named : 10 ≤ numberOf (answerTo file question lent) → numberOf (answerTo file question lent) ≤ 11
+      → recordOf (answerTo file question lent) ≡ recordCount file
 
 -- the figures, which ask no question that could be another
 pub record FiguresAsked (file : List ℕ) (lent : ℕ) : Type 0 where

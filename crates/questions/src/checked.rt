@@ -28,7 +28,8 @@ pub(crate) fn answer_checked(
     out: &mut [i64],
 ) -> Answer
     requires { ⌜ CheckedBy (now file) checked ⌝ }
-    ensures { λ r. ⌜ (r ≡ answerTo (now (file .entry)) question (length (now (out .entry)))) × (now (out .exit) ≡ afterTo (now (file .entry)) question (now (out .entry))) ⌝ }
+    ensures { λ r. ⌜ (r ≡ answerTo (now (file .entry)) question (length (now (out .entry))))
+        × (now (out .exit) ≡ afterTo (now (file .entry)) question (now (out .entry))) ⌝ }
 {
     let answer = checked.answer;
     if number_of(answer) != 0 {

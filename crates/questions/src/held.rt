@@ -47,7 +47,8 @@ fn everything(
     uses: &mut [i64],
 ) -> Asked
     requires { ⌜ CheckedBy (now file) checked ⌝ }
-    ensures { λ r. ⌜ AllAnswered (now (file .entry)) (now (figures .entry)) (now (books .entry)) (now (uses .entry)) r (now (figures .exit)) (now (books .exit)) (now (uses .exit)) ⌝ }
+    ensures { λ r. ⌜ AllAnswered (now (file .entry)) (now (figures .entry)) (now (books .entry)) (now (uses .entry)) r (now (figures .exit))
+        (now (books .exit)) (now (uses .exit)) ⌝ }
 {
     let answer = checked.answer;
     if number_of(answer) != 0 {
@@ -72,7 +73,8 @@ fn everything(
 // A question's answer, of a held file.
 pub fn held_answer<'a>(h: Held<'a>, question: Question, out: &mut [i64]) -> Answer
     requires { ⌜ FromCheck h ⌝ }
-    ensures { λ r. ⌜ (r ≡ answerTo (now (h .entry .file)) question (length (now (out .entry)))) × (now (out .exit) ≡ afterTo (now (h .entry .file)) question (now (out .entry))) ⌝ }
+    ensures { λ r. ⌜ (r ≡ answerTo (now (h .entry .file)) question (length (now (out .entry))))
+        × (now (out .exit) ≡ afterTo (now (h .entry .file)) question (now (out .entry))) ⌝ }
 {
     answer_checked(h.file, h.checked, question, out)
 }
@@ -88,14 +90,16 @@ pub fn held_needed<'a>(h: Held<'a>, question: Question) -> usize
 // Everything that a held file is asked for.
 pub fn held_all<'a>(h: Held<'a>, figures: &mut [i64], books: &mut [i64], uses: &mut [i64]) -> Asked
     requires { ⌜ FromCheck h ⌝ }
-    ensures { λ r. ⌜ AllAnswered (now (h .entry .file)) (now (figures .entry)) (now (books .entry)) (now (uses .entry)) r (now (figures .exit)) (now (books .exit)) (now (uses .exit)) ⌝ }
+    ensures { λ r. ⌜ AllAnswered (now (h .entry .file)) (now (figures .entry)) (now (books .entry)) (now (uses .entry)) r (now (figures .exit))
+        (now (books .exit)) (now (uses .exit)) ⌝ }
 {
     everything(h.file, h.checked, figures, books, uses)
 }
 
 // The figures, and the books and uses of all questions, over plain bytes, of a file that is checked and held once.
 pub fn ask_all(file: &[u8], figures: &mut [i64], books: &mut [i64], uses: &mut [i64]) -> Asked
-    ensures { λ r. ⌜ AllAnswered (now (file .entry)) (now (figures .entry)) (now (books .entry)) (now (uses .entry)) r (now (figures .exit)) (now (books .exit)) (now (uses .exit)) ⌝ }
+    ensures { λ r. ⌜ AllAnswered (now (file .entry)) (now (figures .entry)) (now (books .entry)) (now (uses .entry)) r (now (figures .exit))
+        (now (books .exit)) (now (uses .exit)) ⌝ }
 {
     held_all(hold(file), figures, books, uses)
 }

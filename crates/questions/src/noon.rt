@@ -40,7 +40,8 @@ fn answer_pair<'a>(
     out: &mut [i64],
 ) -> Verdict
     requires { ⌜ PairBy (now morning) (now noon) checked ⌝ }
-    ensures { λ v. ⌜ (v ≡ joinedAnswer (now (morning .entry)) (now (noon .entry)) question (length (now (out .entry)))) × (now (out .exit) ≡ afterJoined (now (morning .entry)) (now (noon .entry)) question (now (out .entry))) ⌝ }
+    ensures { λ v. ⌜ (v ≡ joinedAnswer (now (morning .entry)) (now (noon .entry)) question (length (now (out .entry))))
+        × (now (out .exit) ≡ afterJoined (now (morning .entry)) (now (noon .entry)) question (now (out .entry))) ⌝ }
 {
     let verdict = checked.verdict;
     let refusal = verdict.answer;
@@ -53,7 +54,8 @@ fn answer_pair<'a>(
 
 // A question's answer over the joined account, at the front of `out`. A refusal writes nothing.
 pub fn answer<'a>(morning: &'a [u8], noon: &'a [u8], question: Question, out: &mut [i64]) -> Verdict
-    ensures { λ v. ⌜ (v ≡ joinedAnswer (now (morning .entry)) (now (noon .entry)) question (length (now (out .entry)))) × (now (out .exit) ≡ afterJoined (now (morning .entry)) (now (noon .entry)) question (now (out .entry))) ⌝ }
+    ensures { λ v. ⌜ (v ≡ joinedAnswer (now (morning .entry)) (now (noon .entry)) question (length (now (out .entry))))
+        × (now (out .exit) ≡ afterJoined (now (morning .entry)) (now (noon .entry)) question (now (out .entry))) ⌝ }
 {
     let checked = check_pair(morning, noon);
     answer_pair(morning, noon, checked, question, out)
@@ -88,7 +90,8 @@ pub fn ask_all<'a>(
     books: &mut [i64],
     uses: &mut [i64],
 ) -> AskedPair
-    ensures { λ r. ⌜ PairAllAnswered (now (morning .entry)) (now (noon .entry)) (now (figures .entry)) (now (books .entry)) (now (uses .entry)) r (now (figures .exit)) (now (books .exit)) (now (uses .exit)) ⌝ }
+    ensures { λ r. ⌜ PairAllAnswered (now (morning .entry)) (now (noon .entry)) (now (figures .entry)) (now (books .entry)) (now (uses .entry)) r
+        (now (figures .exit)) (now (books .exit)) (now (uses .exit)) ⌝ }
 {
     let checked = check_pair(morning, noon);
     let verdict = checked.verdict;

@@ -12,7 +12,8 @@ ghost use Rattle.questions.specs.Questions.{answerTo, afterTo, needTo};
 
 // A question's answer, at the front of `out`. A refusal writes nothing.
 pub fn answer(file: &[u8], question: Question, out: &mut [i64]) -> Answer
-    ensures { λ r. ⌜ (r ≡ answerTo (now (file .entry)) question (length (now (out .entry)))) × (now (out .exit) ≡ afterTo (now (file .entry)) question (now (out .entry))) ⌝ }
+    ensures { λ r. ⌜ (r ≡ answerTo (now (file .entry)) question (length (now (out .entry))))
+        × (now (out .exit) ≡ afterTo (now (file .entry)) question (now (out .entry))) ⌝ }
 {
     let checked = check_file(file);
     answer_checked(file, checked, question, out)

@@ -7,7 +7,8 @@ use Rattle.record.specs.Layout.{Record, contract, shortOptionRate, unit,
 use Rattle.record.specs.Layout.{rowType, currency, lots, delta, value, loss}
 use Rattle.record.specs.Layout.{legCount, ratePerSpread, legTier, legSide, legRatio}
 use Rattle.record.specs.Layout.{secondContract, percent, firstRatio, secondRatio, tenths, mostEntryRatio}
-use Rattle.record.specs.Layout.{mostContract, mostDay, mostTier, mostRate, mostRatio, hundredThousand, mostValue, mostRowType, oneLot, scenarioCount, mostPercent}
+use Rattle.record.specs.Layout.{mostContract, mostDay, mostTier, mostRate, mostRatio, hundredThousand, mostValue, mostRowType, oneLot}
+use Rattle.record.specs.Layout.{scenarioCount, mostPercent}
 use Rattle.record.specs.Layout.{mostCurrency, rateCurrency, spotRate, mostSpotRate, adjustment, mostAdjustment}
 
 pub record Between (low x high : ℕ) : Type 0 where

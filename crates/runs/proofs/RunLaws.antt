@@ -132,13 +132,15 @@ module _ (bytes lengths : List ℕ) (out : List ℤ) (outcomes : List ℕ) where
     pub few-figures : length out < longestFigures * length lengths → Answered (TooFewNumbers 0) out outcomes
     few-figures h =
         refused (TooFewNumbers 0)
-        (then-enough true (ap (λ (t : Bool). t || ltb (length outcomes) (outcomeNumbers * length lengths)) (lt-ltb (length out) (longestFigures * length lengths) h))) refl
+        (then-enough true
+        (ap (λ (t : Bool). t || ltb (length outcomes) (outcomeNumbers * length lengths)) (lt-ltb (length out) (longestFigures * length lengths) h))) refl
 
     pub few-outcomes : longestFigures * length lengths ≤ length out
         → length outcomes < outcomeNumbers * length lengths → Answered (TooFewNumbers 0) out outcomes
     few-outcomes g h =
         refused (TooFewNumbers 0)
-        (then-enough true (ap₂ _||_ (le-ltb (length out) (longestFigures * length lengths) g) (lt-ltb (length outcomes) (outcomeNumbers * length lengths) h))) refl
+        (then-enough true
+        (ap₂ _||_ (le-ltb (length out) (longestFigures * length lengths) g) (lt-ltb (length outcomes) (outcomeNumbers * length lengths) h))) refl
 
     pub all : longestFigures * length lengths ≤ length out → outcomeNumbers * length lengths ≤ length outcomes → (out′ : List ℤ) (outcomes′ : List ℕ) →
         out′ ≡ eachFigures (accountsOf lengths bytes) out
@@ -234,5 +236,6 @@ module _ (bytes lengths : List ℕ) (out₀ : List ℤ) (outcomes₀ : List ℕ)
       let wholeᶠ = eachFigures (accountsOf lengths bytes) out₀ in
       let wholeᵒ = eachOutcome (accountsOf lengths bytes) outcomes₀ in (
         finish longestFigures afterFigures keeps-figures wholeᶠ i out (subst (λ (these : List (List ℕ)). FiguresToGo wholeᶠ these i out) none (g .figures-go)),
-        finish outcomeNumbers afterOutcome keeps-outcome wholeᵒ i outcomes (subst (λ (these : List (List ℕ)). OutcomesToGo wholeᵒ these i outcomes) none (g .outcomes-go)),
+        finish outcomeNumbers afterOutcome keeps-outcome wholeᵒ i outcomes
+            (subst (λ (these : List (List ℕ)). OutcomesToGo wholeᵒ these i outcomes) none (g .outcomes-go)),
       )

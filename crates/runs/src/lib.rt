@@ -40,7 +40,8 @@ pub fn add_up(lengths: &[usize], whole: usize) -> bool
 // The figures of an account, in its place.
 fn place_figures(account: &[u8], place: usize, out: &mut [i64]) -> Answer
     requires { ⌜ longestFigures * place + longestFigures ≤ length (now out) ⌝ }
-    ensures { λ r. ⌜ (r ≡ figuresAnswer (now (account .entry)) longestFigures) × (now (out .exit) ≡ atPlace longestFigures (longestFigures * place) (afterFigures (now (account .entry))) (now (out .entry))) ⌝ }
+    ensures { λ r. ⌜ (r ≡ figuresAnswer (now (account .entry)) longestFigures)
+        × (now (out .exit) ≡ atPlace longestFigures (longestFigures * place) (afterFigures (now (account .entry))) (now (out .entry))) ⌝ }
 {
     let start = FIGURES * place;
     answer(account, Question::Figures, &mut out[start..start + FIGURES])

@@ -25,12 +25,14 @@ use Rattle.margin.specs.declared.amount.Amount.{Amount}
 use Rattle.margin.proofs.QuestionLaws.{accepted-only, if-accepted, if-refused}
 use Rattle.tickets.specs.Ticket.{place, withTicket, ticketChecked}
 use Rattle.screen.specs.Claims.{Says, LoadExactly, OrderExactly, AddExactly, LimitExactly, AfterAdding, Adding, Agree, Claims}
-use Rattle.screen.specs.Screen.{held, loadAnswer, orderAnswer, noRoom, addAnswer, afterAdd, amountOf, totalHeld, totalRead, totalWith, limitAnswer, weighed, limited, limitNumber, limitTotal}
+use Rattle.screen.specs.Screen.{held, loadAnswer, orderAnswer, noRoom, addAnswer, afterAdd, amountOf, totalHeld, totalRead, totalWith}
+use Rattle.screen.specs.Screen.{limitAnswer, weighed, limited, limitNumber, limitTotal}
 use Rattle.screen.specs.declared.Limited.{Limited}
 use Rattle.screen.specs.declared.Limited.the-variants.{Refused, Within, Over}
 use Rattle.screen.specs.declared.Told.{Told}
 use Rattle.screen.specs.declared.Told.the-variants.{Refused as NoTotal, Total}
-use Rattle.screen.proofs.ScreenLaws.{both, lacking, all-lent, order-lacking, limit-below, limit-stands, put-long, Comes, not-added, when-added, add-refused, add-no-room, add-room}
+use Rattle.screen.proofs.ScreenLaws.{both, lacking, all-lent, order-lacking, limit-below, limit-stands, put-long, Comes, not-added, when-added}
+use Rattle.screen.proofs.ScreenLaws.{add-refused, add-no-room, add-room}
 use Rattle.screen.proofs.TicketLaws.{check-low, ticket-low, ticket-long, accepted-with, stands-within}
 
 -- ---- one answer, then the next

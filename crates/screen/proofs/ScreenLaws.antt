@@ -29,7 +29,8 @@ use Rattle.margin.proofs.QuestionLaws.{accepted-only, if-accepted, if-refused}
 use Rattle.tickets.specs.Ticket.{place, withTicket, ticketChecked}
 use Rattle.screen.specs.Held.{orderIn, totalIn, putAt}
 use Rattle.screen.specs.Inserting.{inserted}
-use Rattle.screen.specs.Screen.{held, loadAnswer, orderAnswer, noRoom, addAnswer, afterAdd, added, amountOf, totalHeld, totalRead, totalWith, limitAnswer, weighed, limited}
+use Rattle.screen.specs.Screen.{held, loadAnswer, orderAnswer, noRoom, addAnswer, afterAdd, added, amountOf, totalHeld, totalRead, totalWith}
+use Rattle.screen.specs.Screen.{limitAnswer, weighed, limited}
 use Rattle.screen.specs.declared.Added.{Added}
 use Rattle.screen.specs.declared.Added.the-variants.{Refused as NotAdded, Holds}
 use Rattle.screen.specs.declared.Limited.{Limited}

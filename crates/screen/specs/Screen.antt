@@ -81,7 +81,8 @@ weighed limit total = cond (leb total limit) (Within (amountOf total)) (Over (am
 
 abbrev pub limited : List ℕ → ℕ → Record → ℤ → Limited
 limited lent named ticket limit =
-    cond (accepted (limitAnswer lent named ticket limit)) (weighed (natAbs limit) (totalWith lent named ticket)) (NotAsked (limitAnswer lent named ticket limit))
+    cond (accepted (limitAnswer lent named ticket limit)) (weighed (natAbs limit) (totalWith lent named ticket))
+    (NotAsked (limitAnswer lent named ticket limit))
 
 -- ---- in numbers: the refusal, Accepted where there is none, and what comes back, 0 where it is refused
 

@@ -83,7 +83,8 @@ fn place_order(file: &[u8], ticket: &[u8]) -> Order
 
 // A ticket put last among its contract's rows, in the lent bytes: the later ones are moved up. A refusal changes none of them.
 pub fn add(lent: &mut [u8], named: usize, ticket: &[u8]) -> Added
-    ensures { λ r. ⌜ (r ≡ added (now (lent .entry)) named (now (ticket .entry))) × (now (lent .exit) ≡ afterAdd (now (lent .entry)) named (now (ticket .entry))) ⌝ }
+    ensures { λ r. ⌜ (r ≡ added (now (lent .entry)) named (now (ticket .entry)))
+        × (now (lent .exit) ≡ afterAdd (now (lent .entry)) named (now (ticket .entry))) ⌝ }
 {
     if lent.len() < named {
         return Added::Refused(Answer::TooFewBytes);

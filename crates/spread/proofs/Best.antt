@@ -204,7 +204,8 @@ within-stepwise (s ∷ ss) [] ps l h = omega arith
 within-stepwise (s ∷ ss) (x ∷ xs) ps l h = (
   legs-within x s ps (λ m t. first-part 0 (h m t 0 (omega arith))),
   within-stepwise ss xs (after s x ps) (omega arith)
-      (λ m t j g. rest (pool m t ps) (stepUse m t s x) (totalUse m t (take j ss) xs) (stepUnrounded m t (getD ss j []) (getD xs j 0)) (pool-after m t s x ps) (h m t (suc j) (omega arith))),
+      (λ m t j g. rest (pool m t ps) (stepUse m t s x) (totalUse m t (take j ss) xs) (stepUnrounded m t (getD ss j []) (getD xs j 0))
+      (pool-after m t s x ps) (h m t (suc j) (omega arith))),
 )
   where
     rest : (p a b u : ℕ) {q : ℕ} → q ≡ p - a → u + 10 * (a + b) ≤ 10 * p → u + 10 * b ≤ 10 * q

@@ -101,7 +101,8 @@ pub paying-all : (wanted : List ℕ) (ps : List Open) (i : ℕ) (now : List ℕ)
 paying-all wanted ps i now used unused h r =
     record {
       useds = filled-all noDelta (deltaEntry (usedBy (cellAt wanted) ps)) i used (r .useds) (λ k g. ap (λ (z : ℤ). record { 0 = z }) (none-used k g));
-      unuseds = filled-all noDelta (deltaEntry (deltas (spend (cellAt wanted) ps))) i unused (r .unuseds) (λ k g. ap (λ (z : ℤ). record { 0 = z }) (none-left k g));
+      unuseds = filled-all noDelta (deltaEntry (deltas (spend (cellAt wanted) ps))) i unused (r .unuseds)
+          (λ k g. ap (λ (z : ℤ). record { 0 = z }) (none-left k g));
     }
   where
     split : (k : ℕ) → i ≤ k → k ≡ i + (k - i)

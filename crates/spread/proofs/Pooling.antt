@@ -125,7 +125,8 @@ pooled-formed ks cells ps h =
 
 pooled-step : (ks : List Taker) (cells : List ℕ) (ps : List Open) → Pooled cells ps → Pooled (afterIn ks (formedIn ks cells) cells) (after ks (formed ks ps) ps)
 pooled-step ks cells ps h =
-    subst (λ (n : ℕ). Pooled (afterIn ks (formedIn ks cells) cells) (after ks n ps)) (pooled-formed ks cells ps h) (pooled-after ks (formedIn ks cells) cells ps h)
+    subst (λ (n : ℕ). Pooled (afterIn ks (formedIn ks cells) cells) (after ks n ps)) (pooled-formed ks cells ps h)
+    (pooled-after ks (formedIn ks cells) cells ps h)
 
 pub pooled-numbers : (ss : List (List Taker)) (cells : List ℕ) (ps : List Open) → Pooled cells ps → numbersIn ss cells ≡ numbers ss ps
 pooled-numbers [] cells ps h = refl

@@ -67,7 +67,8 @@ running-next cells ss i now l₁ l₂ first second d n₁ n₂ h g a b r =
       place = omega arith;
       firsts = filled-next noSpreads (firstOf cells ss) i first n₁ (r .firsts) g (ap (λ (n : ℕ). record { 0 = n }) own);
       seconds = filled-next noSpreads (secondOf cells ss) i second n₂ (r .seconds) g (ap (λ (n : ℕ). record { 0 = n }) reverse);
-      toGo = λ j. ap (λ (k : ℕ). getD (numbersIn (steps ss) cells) k 0) (shift j) ∙ at (suc (suc j)) ∙ ap (λ (k : ℕ). getD (numbersIn (steps (drop k ss)) l₂) j 0) (sym (add-one i));
+      toGo = λ j. ap (λ (k : ℕ). getD (numbersIn (steps ss) cells) k 0) (shift j) ∙ at (suc (suc j))
+          ∙ ap (λ (k : ℕ). getD (numbersIn (steps (drop k ss)) l₂) j 0) (sym (add-one i));
       leaves =
           r .leaves
           ∙ ap (λ (l : List Spread). leftIn (steps l) now) (drop-cons ss i d h)

@@ -76,7 +76,8 @@ neither true b e f = absurd (true≢false e)
 neither false b e f = f
 
 module _ (tenths second : Bool) where
-  leg-apart : (l k : Leg) → soundLeg l ≡ true → soundLeg k ≡ true → sameLeg l k ≡ false → draws (marketIn second (l .side)) (l .tier) (taker tenths (marketIn second) k) ≡ false
+  leg-apart : (l k : Leg) → soundLeg l ≡ true → soundLeg k ≡ true → sameLeg l k ≡ false → draws (marketIn second (l .side)) (l .tier)
+      (taker tenths (marketIn second) k) ≡ false
   leg-apart l k sl sk h = go (eqb (l .tier) (k .tier)) h
     where
       none : (b : Bool) → b && false ≡ false

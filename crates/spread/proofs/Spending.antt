@@ -12,7 +12,8 @@ use borrow.Author.Tests.{eqb-true}
 use Rattle.exact.proofs.Integers.{towards-zero-none}
 use Rattle.spread.specs.Demand.{sameMarket, draws, legUse, stepUse, totalUse}
 use Rattle.spread.specs.Spend.{marketOf, spend}
-use Rattle.spread.specs.Steps.{Market, long, short, Open, Taker, onSide, inTier, pool, legTakes, towardsZero, less, gives, takeFrom, formed, after, numbers, left}
+use Rattle.spread.specs.Steps.{Market, long, short, Open, Taker, onSide, inTier, pool, legTakes, towardsZero, less, gives, takeFrom, formed}
+use Rattle.spread.specs.Steps.{after, numbers, left}
 use Rattle.spread.proofs.Both.{and-left, and-right}
 
 -- a delta moved towards zero
@@ -42,7 +43,8 @@ module _ (f g : Market → ℕ) where
       suc-eq : (a b n k : ℕ) → suc n - a ≡ suc k → suc k - b ≡ suc n - (a + b)
       suc-eq a b n k e = omega arith
 
-  towards-towards : (z : ℤ) → towardsZero (towardsZero z (f (marketOf z))) (g (marketOf (towardsZero z (f (marketOf z))))) ≡ towardsZero z (f (marketOf z) + g (marketOf z))
+  towards-towards : (z : ℤ) → towardsZero (towardsZero z (f (marketOf z))) (g (marketOf (towardsZero z (f (marketOf z))))) ≡ towardsZero z
+      (f (marketOf z) + g (marketOf z))
   towards-towards (pos n) = ap pos (both (f long) (g long))
     where
       both : (a b : ℕ) → n - a - b ≡ n - (a + b)
@@ -55,7 +57,8 @@ module _ (w : Market → ℕ → ℕ) where
   pub tier-less : (m : Market) (t : ℕ) (p : Open) → inTier m t (less p (w (marketOf (p .unused)) (p .tier))) ≡ inTier m t p - w m t
   tier-less m t p = go (eqb (p .tier) t) refl
     where
-      go : (b : Bool) → eqb (p .tier) t ≡ b → cond b (onSide m (towardsZero (p .unused) (w (marketOf (p .unused)) (p .tier)))) 0 ≡ cond b (onSide m (p .unused)) 0 - w m t
+      go : (b : Bool) → eqb (p .tier) t ≡ b → cond b (onSide m (towardsZero (p .unused) (w (marketOf (p .unused)) (p .tier)))) 0 ≡ cond b
+          (onSide m (p .unused)) 0 - w m t
       go true e = rw (eqb-true (p .tier) t e) (side-towards (λ m. w m t) m (p .unused))
       go false e = sym (zero-sub (w m t))
 

@@ -40,10 +40,12 @@ stepped-refused p s second r e h =
     record {
       accepted = h .accepted ∙ sym e;
       number = h .number ∙ sym (ap (λ (b : Bool). cond b (formed (stepOf second s) (openOf p)) 0) e);
-      taken = h .taken ∙ all-none noDelta (deltaEntry (cond (soundFor p s) (takenOf (stepOf second s) (openOf p)) [])) (λ k. ap (λ (b : Bool). deltaEntry (cond b (takenOf (stepOf second s) (openOf p)) []) k) e);
+      taken = h .taken ∙ all-none noDelta (deltaEntry (cond (soundFor p s) (takenOf (stepOf second s) (openOf p)) []))
+          (λ k. ap (λ (b : Bool). deltaEntry (cond b (takenOf (stepOf second s) (openOf p)) []) k) e);
       count = ap (λ (q : Prompts). q .count) (h .left);
       tiers = ap (λ (q : Prompts). q .tier) (h .left);
-      nets = ap (λ (q : Prompts). q .net) (h .left) ∙ sym (ap (λ (b : Bool). cond b (entries 32 (deltaEntry (unusedOf (stepOf second s ∷ []) (openOf p)))) (p .net)) e);
+      nets = ap (λ (q : Prompts). q .net) (h .left)
+          ∙ sym (ap (λ (b : Bool). cond b (entries 32 (deltaEntry (unusedOf (stepOf second s ∷ []) (openOf p)))) (p .net)) e);
       leaves = ap openOf (h .left) ∙ sym (ap (λ (b : Bool). cond b (after (stepOf second s) (formed (stepOf second s) (openOf p)) (openOf p)) (openOf p)) e);
       sound = ap soundPrompts (h .left);
     }
@@ -92,7 +94,8 @@ opens-tiers (suc n) (t ∷ ts) [] h g = absurd (omega arith)
 opens-tiers (suc n) (t ∷ ts) (d ∷ ds) h g = ap (λ (us : List ℕ). t ∷ us) (opens-tiers n ts ds (omega arith) (omega arith))
 
 -- prompts made again of their tiers and deltas
-again : (m : ℕ) (qs : List Open) (ts : List ℕ) → tiers qs ≡ take (length qs) ts → length qs ≤ m → take (length qs) (opens ts (entries m (deltaEntry (deltas qs)))) ≡ qs
+again : (m : ℕ) (qs : List Open) (ts : List ℕ) → tiers qs ≡ take (length qs) ts → length qs ≤ m
+    → take (length qs) (opens ts (entries m (deltaEntry (deltas qs)))) ≡ qs
 unfolding tiers entries
 again m [] ts e h = refl
 again m (q ∷ qs) [] e h = absurd (let l : suc (length (tiers qs)) ≡ 0 = ap length e in omega arith)
@@ -167,7 +170,8 @@ module _ (p : Prompts) (s : Spread) (second : Bool) (e : soundFor p s ≡ true) 
   stepped-accepted cells l wanted number used unused pools taken w spent =
       record {
         accepted = sym e;
-        number = taken .formed ∙ ap first-of (pooled-numbers one cells (openOf p) pools) ∙ sym (ap (λ (b : Bool). cond b (formed (stepOf second s) (openOf p)) 0) e);
+        number = taken .formed ∙ ap first-of (pooled-numbers one cells (openOf p) pools)
+            ∙ sym (ap (λ (b : Bool). cond b (formed (stepOf second s) (openOf p)) 0) e);
         taken =
             spent .useds
             ∙ ap (λ (ps : List Open). entries 32 (deltaEntry (minus (deltas (openOf p)) (deltas ps)))) paid

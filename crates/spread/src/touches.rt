@@ -132,7 +132,8 @@ fn leg_touches(
     wanted: u64,
 ) -> u64
     requires { ⌜ Ready (now at) (now pool) (now size) ⌝ }
-    ensures { λ r. ⌜ LegTaken (cellOf (marketIn second (leg .side)) (leg .tier)) wanted (now (pool .entry)) (now (size .entry)) (now (size .exit)) (now (at .exit)) r ⌝ }
+    ensures { λ r. ⌜ LegTaken (cellOf (marketIn second (leg .side)) (leg .tier)) wanted (now (pool .entry)) (now (size .entry)) (now (size .exit))
+        (now (at .exit)) r ⌝ }
 {
     let cell = cell_for(leg, second);
     let start = at[cell];

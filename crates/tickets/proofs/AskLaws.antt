@@ -87,7 +87,8 @@ module _ (file : List ℕ) (ts : List Record) where
   abbrev askBy : Record → Ticketed → Asked
   askBy t v =
       cond (accepted (v .answer))
-      (cond (accepted (ticketChecked held t)) (answeredBy (v .ticket + 1) (total held) (total (withTicket held t))) (refusedBy (of (v .ticket + 1) (ticketChecked held t))))
+      (cond (accepted (ticketChecked held t)) (answeredBy (v .ticket + 1) (total held) (total (withTicket held t)))
+      (refusedBy (of (v .ticket + 1) (ticketChecked held t))))
       (refusedBy v)
 
   abbrev withdrawBy : Ticketed → Asked
@@ -121,7 +122,8 @@ module _ (file : List ℕ) (ts : List Record) where
     module _ (z : numberOf a ≡ 0) where
       module _ (t : Record) (b : Answer) (i : b ≡ ticketChecked held t) where
         here : askedAbout file ts t
-            ≡ cond (accepted (ticketChecked held t)) (answeredBy (n + 1) (total held) (total (withTicket held t))) (refusedBy (of (n + 1) (ticketChecked held t)))
+            ≡ cond (accepted (ticketChecked held t)) (answeredBy (n + 1) (total held) (total (withTicket held t)))
+            (refusedBy (of (n + 1) (ticketChecked held t)))
         here = ap (askBy t) (sym its) ∙ if-yes a _ _ z
 
         pub ask-refused : (numberOf b ≡ 0 → ⊥) → refusedBy (of (n + 1) b) ≡ askedAbout file ts t
@@ -134,20 +136,25 @@ module _ (file : List ℕ) (ts : List Record) where
             (λ j. record { ticket = e j; answer = (f ∙ accepted-only b y) j; before = record { 0 = g j }; after = record { 0 = h j } })
             ∙ sym (here ∙ if-yes (ticketChecked held t) _ _ (ap numberOf (sym i) ∙ y))
 
-      there : withdrawnFrom file ts ≡ cond (eqb n 0) (refusedBy (of 0 NoTicketLeft)) (answeredBy n (total held) (total (withTickets file (take (length ts - 1) ts))))
+      there : withdrawnFrom file ts ≡ cond (eqb n 0) (refusedBy (of 0 NoTicketLeft))
+          (answeredBy n (total held) (total (withTickets file (take (length ts - 1) ts))))
       there = ap withdrawBy (sym its) ∙ if-yes a _ _ z
 
       pub withdraw-none : (b : Answer) → n ≡ 0 → b ≡ NoTicketLeft → refusedBy (of n b) ≡ withdrawnFrom file ts
       withdraw-none b e f =
           ap₂ (λ (m : ℕ) (x : Answer). refusedBy (of m x)) e f
-          ∙ sym (there ∙ ap (λ (t : Bool). cond t (refusedBy (of 0 NoTicketLeft)) (answeredBy n (total held) (total (withTickets file (take (length ts - 1) ts))))) (eq-eqb n 0 e))
+          ∙ sym (there
+          ∙ ap (λ (t : Bool). cond t (refusedBy (of 0 NoTicketLeft))
+          (answeredBy n (total held) (total (withTickets file (take (length ts - 1) ts))))) (eq-eqb n 0 e))
 
       pub withdraw-answered :
           (n ≡ 0 → ⊥) → (r : Asked) → r .ticket ≡ n → r .answer ≡ Accepted → r .before .0 ≡ total held
           → r .after .0 ≡ total (withTickets file (take (length ts - 1) ts)) → r ≡ withdrawnFrom file ts
       withdraw-answered nz r e f g h =
           (λ j. record { ticket = e j; answer = f j; before = record { 0 = g j }; after = record { 0 = h j } })
-          ∙ sym (there ∙ ap (λ (t : Bool). cond t (refusedBy (of 0 NoTicketLeft)) (answeredBy n (total held) (total (withTickets file (take (length ts - 1) ts))))) (ne-eqb n 0 nz))
+          ∙ sym (there
+          ∙ ap (λ (t : Bool). cond t (refusedBy (of 0 NoTicketLeft))
+          (answeredBy n (total held) (total (withTickets file (take (length ts - 1) ts))))) (ne-eqb n 0 nz))
 
 -- ---- the tickets that are kept
 none-left : (m : ℕ) → (numberOf (withdrawal m) ≡ 0 → ⊥) → m ≡ 0

@@ -65,7 +65,8 @@ module _ (rates : List Record) (unit : ℕ) (prompts earlier rows : List Record)
   sixteen : (rs : List Record) (q : Position) → PositionOf rates unit prompts rs q → length (q .totals .0) ≡ 16
   sixteen rs q w = ap length (w .totals-are) ∙ length-map scenarios (total rates unit rs)
 
-  total-here : (rs : List Record) (q : Position) → PositionOf rates unit prompts rs q → (k : ℕ) → k < 16 → getD (q .totals .0) k (pos 0) ≡ total rates unit rs (k + 1)
+  total-here : (rs : List Record) (q : Position) → PositionOf rates unit prompts rs q → (k : ℕ) → k < 16
+      → getD (q .totals .0) k (pos 0) ≡ total rates unit rs (k + 1)
   total-here rs q w k h = ap (λ (zs : List ℤ). getD zs k (pos 0)) (w .totals-are) ∙ totals-at rates unit rs k h
 
   pub added-again : WithRows rates unit days b rows p

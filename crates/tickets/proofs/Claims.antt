@@ -22,7 +22,8 @@ use Rattle.account.specs.declared.answers.Answer.the-variants.{Accepted, TooLon
 use Rattle.account.proofs.Exactly.{Rising, none-given, leads, leads-back, clean-back}
 use Rattle.tickets.specs.Claims.{OneRowMore, PutIn, Gives, Row, FirstFor, NoneFor, Exactly, Claims}
 use Rattle.tickets.specs.Ticket.{place, withTicket, ahead, cutTicket, notRow, rowRefusals, rowFault, fullWith, ticketChecked}
-use Rattle.tickets.proofs.Inserted.{rows-with, rows-without, contracts-same, prompts-same, spreads-same, entries-same, rates-same, never-4, never-8, no-fault}
+use Rattle.tickets.proofs.Inserted.{rows-with, rows-without, contracts-same, prompts-same, spreads-same, entries-same, rates-same, never-4}
+use Rattle.tickets.proofs.Inserted.{never-8, no-fault}
 use Rattle.tickets.proofs.Placed.{plain, place-within, records-with, apart-at, before-at, checked-with, full-with, told-full}
 
 -- ---- the row put in
@@ -45,11 +46,16 @@ numbered :
     → firstOf (5 when a ∷ 6 when b ∷ 7 when c ∷ 8 when d ∷ 9 when e ∷ 14 when f ∷ 15 when g ∷ []) ≡ n → (n ≡ 0 → ⊥) → Numbered n k
 numbered true b c d e f g n k h nz = subst (λ (m : ℕ). Numbered m k) h (record { low = omega arith; high = omega arith; number = refl; record-is = refl })
 numbered false true c d e f g n k h nz = subst (λ (m : ℕ). Numbered m k) h (record { low = omega arith; high = omega arith; number = refl; record-is = refl })
-numbered false false true d e f g n k h nz = subst (λ (m : ℕ). Numbered m k) h (record { low = omega arith; high = omega arith; number = refl; record-is = refl })
-numbered false false false true e f g n k h nz = subst (λ (m : ℕ). Numbered m k) h (record { low = omega arith; high = omega arith; number = refl; record-is = refl })
-numbered false false false false true f g n k h nz = subst (λ (m : ℕ). Numbered m k) h (record { low = omega arith; high = omega arith; number = refl; record-is = refl })
-numbered false false false false false true g n k h nz = subst (λ (m : ℕ). Numbered m k) h (record { low = omega arith; high = omega arith; number = refl; record-is = refl })
-numbered false false false false false false true n k h nz = subst (λ (m : ℕ). Numbered m k) h (record { low = omega arith; high = omega arith; number = refl; record-is = refl })
+numbered false false true d e f g n k h nz = subst (λ (m : ℕ). Numbered m k) h
+    (record { low = omega arith; high = omega arith; number = refl; record-is = refl })
+numbered false false false true e f g n k h nz = subst (λ (m : ℕ). Numbered m k) h
+    (record { low = omega arith; high = omega arith; number = refl; record-is = refl })
+numbered false false false false true f g n k h nz = subst (λ (m : ℕ). Numbered m k) h
+    (record { low = omega arith; high = omega arith; number = refl; record-is = refl })
+numbered false false false false false true g n k h nz = subst (λ (m : ℕ). Numbered m k) h
+    (record { low = omega arith; high = omega arith; number = refl; record-is = refl })
+numbered false false false false false false true n k h nz = subst (λ (m : ℕ). Numbered m k) h
+    (record { low = omega arith; high = omega arith; number = refl; record-is = refl })
 numbered false false false false false false false n k h nz = absurd (nz (sym h))
 
 module _ (file : List ℕ) (t : Record) where

@@ -146,7 +146,17 @@ module _ (file : List ℕ) (ts : List Record) (k : Counts) (co : CountsOf file t
     where
       above-most : k .above ≤ 640
       above-most =
-          omega (arith, place-by [] (records G) (k .rows) (co .rows-are), contracts-same, prompts-same, co .above-is, count-le (λ r. ofKind 1 r || (ofKind 2 r || (ofKind 3 r && leb (contract r) (contract [])))) (records G), length-cut (recordCount G) G, few)
+          omega (
+            arith,
+            place-by [] (records G) (k .rows) (co .rows-are),
+            contracts-same,
+            prompts-same,
+            co .above-is,
+            count-le
+                (λ r. ofKind 1 r || (ofKind 2 r || (ofKind 3 r && leb (contract r) (contract [])))) (records G),
+            length-cut (recordCount G) G,
+            few,
+          )
 
   -- ---- what is missing
   contract-missing : (c : ℕ) → c ≤ 15 → noContract (k .account .counts) c ≡ not (any (ofContract 1 c) (records G))
@@ -175,7 +185,8 @@ module _ (file : List ℕ) (ts : List Record) (k : Counts) (co : CountsOf file t
 
     abbrev by-parts : List ℕ → ℕ
     by-parts none =
-        rowFaultBy (noContract (k .account .counts) (contract t) || noDay (promptsOf (contract t) (accountOf file none)) (day t)) (getD (k .rows) (contract t) 0) t
+        rowFaultBy (noContract (k .account .counts) (contract t) || noDay (promptsOf (contract t) (accountOf file none)) (day t))
+        (getD (k .rows) (contract t) 0) t
 
     pub by-counts :
         (none : List ℕ) (n m x : ℕ)
@@ -192,7 +203,8 @@ module _ (file : List ℕ) (ts : List Record) (k : Counts) (co : CountsOf file t
     parts-fault :
         (none : List ℕ) → none ≡ [] → Row t
         → by-parts none
-        ≡ rowFaultBy (not (any (ofContract 1 (contract t)) (records G)) || noDay (promptsOf (contract t) (records G)) (day t)) (count (ofContract 3 (contract t)) (records G)) t
+        ≡ rowFaultBy (not (any (ofContract 1 (contract t)) (records G)) || noDay (promptsOf (contract t) (records G)) (day t))
+        (count (ofContract 3 (contract t)) (records G)) t
     parts-fault none e r =
         let c = contract t in
         alike (noContract (k .account .counts) c || noDay (promptsOf c (accountOf file none)) (day t))
@@ -233,7 +245,8 @@ module _ (file : List ℕ) (ts : List Record) (k : Counts) (co : CountsOf file t
         pub row-within-here : RowWithin t
         row-within-here =
             row-within t row
-            (four-within (unusedByte t) (fieldOutside t) (noContract (k .account .counts) (contract t) || noDay (promptsOf (contract t) (accountOf file none)) (day t))
+            (four-within (unusedByte t) (fieldOutside t)
+            (noContract (k .account .counts) (contract t) || noDay (promptsOf (contract t) (accountOf file none)) (day t))
             (leb 128 (getD (k .rows) (contract t) 0)) (sym f ∙ z))
 
         by-rates : rowFault G t ≡ rateFaultOf rates t
@@ -300,7 +313,8 @@ none-beyond n c (r ∷ rs) h e =
 
 module _ (file : List ℕ) (account : Account) (by : CheckedBy file (record { answer = Accepted; account = account })) where
   -- how many records of a kind each contract has
-  totals-are : (n : ℕ) → n ≤ 4 → (xs : List ℕ) → Filled 16 (λ c. getD (account .counts) (part n c) 0) xs → (c : ℕ) → getD xs c 0 ≡ count (ofContract n c) (records file)
+  totals-are : (n : ℕ) → n ≤ 4 → (xs : List ℕ) → Filled 16 (λ c. getD (account .counts) (part n c) 0) xs → (c : ℕ)
+      → getD xs c 0 ≡ count (ofContract n c) (records file)
   totals-are n h xs filled c = go (leb 16 c) refl
     where
       go : (b : Bool) → leb 16 c ≡ b → getD xs c 0 ≡ count (ofContract n c) (records file)
@@ -313,11 +327,25 @@ module _ (file : List ℕ) (account : Account) (by : CheckedBy file (record { an
 
   pub totals-few : (n : ℕ) → n ≤ 4 → (xs : List ℕ) → Filled 16 (λ c. getD (account .counts) (part n c) 0) xs → (c : ℕ) → getD xs c 0 ≤ 640
   totals-few n h xs filled c =
-      omega (arith, totals-are n h xs filled c, count-le (ofContract n c) (records file), length-cut (recordCount file) file, plain file (file-ok file account by) .few)
+      omega (
+        arith,
+        totals-are n h xs filled c,
+        count-le (ofContract n c) (records file),
+        length-cut (recordCount file) file,
+        plain file
+            (file-ok file account by) .few,
+      )
 
   pub contracts-few : account .contracts ≤ 640
   contracts-few =
-      omega (arith, contracts-in file account by, count-le (ofKind 1) (records file), length-cut (recordCount file) file, plain file (file-ok file account by) .few)
+      omega (
+        arith,
+        contracts-in file account by,
+        count-le (ofKind 1) (records file),
+        length-cut (recordCount file) file,
+        plain file
+            (file-ok file account by) .few,
+      )
 
   pub prompts-few : (xs : List ℕ) → Filled 16 (λ c. getD (account .counts) (part 2 c) 0) xs → sum (take 16 xs) ≤ 640
   prompts-few xs filled =
@@ -355,7 +383,8 @@ taken-passed file t ok h =
     let es = ahead file t in
     passed es t
     (placed.fault-is file ok t (r .whole) (r .row)
-    ∙ five-none (unusedByte t) (fieldOutside t) (unlisted es t) (outOfOrder (theOneBefore es) t) (overLimit es t) (rateRefusals (ratesOf (records file)) t) (none-told file t h))
+    ∙ five-none (unusedByte t) (fieldOutside t) (unlisted es t) (outOfOrder (theOneBefore es) t) (overLimit es t)
+    (rateRefusals (ratesOf (records file)) t) (none-told file t h))
 
 count-rows : (c : ℕ) (rs : List Record) → count (ofContract 3 c) rs ≡ length (rowsOf c rs)
 count-rows c rs = sym (length-keep (ofContract 3 c) rs)
@@ -406,7 +435,8 @@ counts-more file ts t k m co h more =
         → getD (set (k .rows) (contract t) (getD (k .rows) (contract t) 0 + 1)) c 0 ≡ count (ofContract 3 c) (records (withTickets file (ts ++ t ∷ [])))
     go c true e =
         let i = eqb-true (contract t) c e in
-        subst (λ (d : ℕ). getD (set (k .rows) (contract t) (getD (k .rows) (contract t) 0 + 1)) d 0 ≡ count (ofContract 3 d) (records (withTickets file (ts ++ t ∷ [])))) i
+        subst (λ (d : ℕ). getD (set (k .rows) (contract t) (getD (k .rows) (contract t) 0 + 1)) d 0 ≡ count (ofContract 3 d)
+        (records (withTickets file (ts ++ t ∷ [])))) i
         (getD-set-same (k .rows) (contract t) (getD (k .rows) (contract t) 0 + 1) 0 (omega (arith, co .places, low file ts t fine h))
         ∙ ap (λ (n : ℕ). n + 1) (co .rows-are (contract t)) ∙ sym (rows-one file ts t fine h))
     go c false e =
@@ -447,7 +477,8 @@ module _ (file : List ℕ) (ts : List Record) (t : Record) (k : Counts) (co : Co
           → getD (set (k .rows) (contract t) (getD (k .rows) (contract t) 0 - 1)) c 0 ≡ count (ofContract 3 c) (records (withTickets file ts))
       go c true e =
           let i = eqb-true (contract t) c e in
-          subst (λ (d : ℕ). getD (set (k .rows) (contract t) (getD (k .rows) (contract t) 0 - 1)) d 0 ≡ count (ofContract 3 d) (records (withTickets file ts))) i
+          subst (λ (d : ℕ). getD (set (k .rows) (contract t) (getD (k .rows) (contract t) 0 - 1)) d 0 ≡ count (ofContract 3 d)
+          (records (withTickets file ts))) i
           (getD-set-same (k .rows) (contract t) (getD (k .rows) (contract t) 0 - 1) 0 (omega (arith, co .places, known-low))
           ∙ omega (arith, co .rows-are (contract t), rows-one file ts t before-ok taken-here))
       go c false e =

@@ -239,9 +239,11 @@ staged false false false false rest = refl
 pub fault-by :
     (file : List ℕ) (ok : checked file ≡ Accepted) (t : Record) (r : Row t)
     → rowFault file t
-    ≡ cond (eqb (rowFaultBy (not (any (ofContract 1 (contract t)) (records file)) || noDay (promptsOf (contract t) (records file)) (day t)) (count (ofContract 3 (contract t)) (records file)) t) 0)
+    ≡ cond (eqb (rowFaultBy (not (any (ofContract 1 (contract t)) (records file)) || noDay (promptsOf (contract t) (records file)) (day t))
+    (count (ofContract 3 (contract t)) (records file)) t) 0)
     (rateFaultOf (ratesOf (records file)) t)
-    (rowFaultBy (not (any (ofContract 1 (contract t)) (records file)) || noDay (promptsOf (contract t) (records file)) (day t)) (count (ofContract 3 (contract t)) (records file)) t)
+    (rowFaultBy (not (any (ofContract 1 (contract t)) (records file)) || noDay (promptsOf (contract t) (records file)) (day t))
+    (count (ofContract 3 (contract t)) (records file)) t)
 fault-by file ok t r =
     let es = ahead file t in
     let rest = rateRefusals (ratesOf (records file)) t in

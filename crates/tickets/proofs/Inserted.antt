@@ -19,7 +19,8 @@ use Rattle.record.proofs.Tests.{both}
 use Rattle.record.proofs.Within.{never, both-true, neither, by-kind}
 use Rattle.account.specs.Accepted.{Each}
 use Rattle.account.specs.Answers.{numberOf, refusal}
-use Rattle.account.specs.Check.{theOneBefore, kindFalls, unlisted, outOfOrder, overLimit, faultOf, orElse, firstFault, none, listsContract, listsDay, listsTier, legUnlisted, contractFalls, legsClash, withItself}
+use Rattle.account.specs.Check.{theOneBefore, kindFalls, unlisted, outOfOrder, overLimit, faultOf, orElse, firstFault, none, listsContract, listsDay}
+use Rattle.account.specs.Check.{listsTier, legUnlisted, contractFalls, legsClash, withItself}
 use Rattle.account.specs.Parts.{ofKind, ofContract, contractsOf, promptsOf, rowsOf, spreadsOf, entriesOf, ratesOf}
 use Rattle.account.specs.declared.answers.Answer.{Answer}
 use Rattle.account.specs.declared.answers.Answer.the-variants.{Accepted}

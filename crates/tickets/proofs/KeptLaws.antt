@@ -110,7 +110,8 @@ records-one t w =
 
 -- ---- one row more
 pub same-position :
-    {g h : List Record} {u v : ℕ} {ps qs rs ss : List Record} (p : Position) → g ≡ h → u ≡ v → ps ≡ qs → rs ≡ ss → PositionOf h v qs ss p → PositionOf g u ps rs p
+    {g h : List Record} {u v : ℕ} {ps qs rs ss : List Record} (p : Position) → g ≡ h → u ≡ v → ps ≡ qs → rs ≡ ss → PositionOf h v qs ss p
+    → PositionOf g u ps rs p
 same-position {g} {h} {u} {v} {ps} {qs} {rs} {ss} p d e f i is =
     subst⁻¹ (λ (xs : List Record). PositionOf xs u ps rs p) d
     (subst⁻¹ (λ (x : ℕ). PositionOf h x ps rs p) e
@@ -150,7 +151,8 @@ module _ (t : Record) (whole more : List Record) (one : OneRowMore t whole more)
   rows-fit′ = subst RowsFit (one .rows) (contract-within more law′ [] c none-within .rows-within)
 
   rated′ : Rated held (rowsOf c whole ++ t ∷ [])
-  rated′ = subst (λ (rs : List Record). Rated held rs) (one .rows) (subst (λ (rs : List Record). Rated rs (rowsOf c more)) (one .rates) (rows-rated more law′ c))
+  rated′ = subst (λ (rs : List Record). Rated held rs) (one .rows)
+      (subst (λ (rs : List Record). Rated rs (rowsOf c more)) (one .rates) (rows-rated more law′ c))
 
   long : length (rowsOf c whole ++ t ∷ []) ≡ length (rowsOf c whole) + 1
   long = length-append (rowsOf c whole) (t ∷ [])
@@ -274,7 +276,8 @@ module _ (t : Record) (whole more : List Record) (one : OneRowMore t whole more)
     before-is q e = subst⁻¹ (PositionOf held u (promptsOf c whole) (rowsOf c whole)) (e b added-last) b-is
 
 -- ---- a ticket that is accepted
-module _ (file : List ℕ) (ts : List Record) (t : Record) (ok : checked (withTickets file ts) ≡ Accepted) (h : ticketChecked (withTickets file ts) t ≡ Accepted) where
+module _ (file : List ℕ) (ts : List Record) (t : Record) (ok : checked (withTickets file ts) ≡ Accepted)
+    (h : ticketChecked (withTickets file ts) t ≡ Accepted) where
   pub one-kept : OneRowMore t (records (withTickets file ts)) (records (withTickets file (ts ++ t ∷ [])))
   one-kept =
       subst⁻¹ (λ (b : List ℕ). OneRowMore t (records (withTickets file ts)) (records b)) (tickets-last file ts t)
@@ -369,16 +372,23 @@ module _ (file : List ℕ) (account : Account) (none : List ℕ) (st : Stands fi
       at-unit = same-position p refl unit-is refl refl (of .each n small .is)
 
       pub more-asks : (u ≤ 1000) × ((days .count ≤ 32) × (RowsFit (records t) × (RatedBy table (records t) × Bounded (128 - length (records t)) p)))
-      more-asks =
-          (unit-few, (known .few, (fits, (rated, subst⁻¹ (λ (rs : List Record). Bounded (128 - length rs) p) only (room t whole more one law law′ p (of .each n small .is))))))
+      more-asks = (
+        unit-few,
+        (
+          known .few,
+          (fits, (rated, subst⁻¹ (λ (rs : List Record). Bounded (128 - length rs) p) only (room t whole more one law law′ p (of .each n small .is)))),
+        ),
+      )
 
       pub row-added :
           (q : Position)
-          → ((held prompts earlier : List Record) → RatesOf held table → DaysOf prompts days → PositionOf held u prompts earlier p → PositionOf held u prompts (earlier ++ records t) q)
+          → ((held prompts earlier : List Record) → RatesOf held table → DaysOf prompts days → PositionOf held u prompts earlier p
+          → PositionOf held u prompts (earlier ++ records t) q)
           → Bounded 128 q → PositionsOf more (record { records = ps .records + 1; at = set (ps .at) n q })
       row-added q added most =
           positions-more t whole more one law law′ small ps (record { records = ps .records + 1; at = set (ps .at) n q }) q refl of
-          (same-position q refl (sym unit-is) refl (ap (λ (rs : List Record). rowsOf n whole ++ rs) (sym only)) (added (ratesOf whole) (promptsOf n whole) (rowsOf n whole) rates-are days-are at-unit))
+          (same-position q refl (sym unit-is) refl (ap (λ (rs : List Record). rowsOf n whole ++ rs) (sym only))
+          (added (ratesOf whole) (promptsOf n whole) (rowsOf n whole) rates-are days-are at-unit))
           most refl
 
     -- and one less
@@ -386,7 +396,8 @@ module _ (file : List ℕ) (account : Account) (none : List ℕ) (st : Stands fi
       abbrev p′ : Position
       p′ = getD (ps .at) n noPosition
 
-      pub less-asks : (u ≤ 1000) × ((days .count ≤ 32) × (RowsFit (records t) × (RatedBy table (records t) × (Bounded 128 p′ × HasRows table u days (records t) p′))))
+      pub less-asks : (u ≤ 1000)
+          × ((days .count ≤ 32) × (RowsFit (records t) × (RatedBy table (records t) × (Bounded 128 p′ × HasRows table u days (records t) p′))))
       less-asks = (
         unit-few,
         (
@@ -398,7 +409,8 @@ module _ (file : List ℕ) (account : Account) (none : List ℕ) (st : Stands fi
               (
                 of .each n small .most,
                 subst⁻¹ (λ (rs : List Record). HasRows table u days rs p′) only
-                    (subst⁻¹ (λ (x : ℕ). HasRows table x days (t ∷ []) p′) unit-is (has-row t whole more one law law′ p′ (of .each n small) days days-are table rates-are)),
+                    (subst⁻¹ (λ (x : ℕ). HasRows table x days (t ∷ []) p′) unit-is
+                    (has-row t whole more one law law′ p′ (of .each n small) days days-are table rates-are)),
               ),
             ),
           ),
@@ -413,7 +425,8 @@ module _ (file : List ℕ) (account : Account) (none : List ℕ) (st : Stands fi
           (before-is t whole more one law law′ p′ (of .each n small) days days-are q
           (λ x w.
           back (ratesOf whole) x rates-are
-          (subst⁻¹ (λ (rs : List Record). WithRows (ratesOf whole) u days x rs p′) only (subst⁻¹ (λ (y : ℕ). WithRows (ratesOf whole) y days x (t ∷ []) p′) unit-is w))))
+          (subst⁻¹ (λ (rs : List Record). WithRows (ratesOf whole) u days x rs p′) only
+          (subst⁻¹ (λ (y : ℕ). WithRows (ratesOf whole) y days x (t ∷ []) p′) unit-is w))))
           refl
 
 -- ---- the latest ticket

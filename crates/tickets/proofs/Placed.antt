@@ -16,7 +16,8 @@ use Rattle.record.specs.Layout.{Record, recordBytes, kind, contract}
 use Rattle.account.specs.Accepted.{Each}
 use Rattle.account.specs.Answers.{numberOf, recordOf}
 use Rattle.record.specs.Ranges.{unusedByte, fieldOutside}
-use Rattle.account.specs.Check.{theOneBefore, kindFalls, unlisted, outOfOrder, overLimit, Refusal, _when_, firstOf, faultOf, orElse, firstFault, tooLong, cutRecord, recordsChecked}
+use Rattle.account.specs.Check.{theOneBefore, kindFalls, unlisted, outOfOrder, overLimit, Refusal, _when_, firstOf, faultOf, orElse, firstFault}
+use Rattle.account.specs.Check.{tooLong, cutRecord, recordsChecked}
 use Rattle.account.specs.Checked.{rateRefusals, rateFaultOf, firstRateFault, ratesChecked, checked}
 use Rattle.account.specs.Parts.{ofKind, ratesOf}
 use Rattle.account.specs.Products.{hasRate, conversionBeyond}
@@ -269,7 +270,8 @@ module _ (file : List ℕ) (ok : checked file ≡ Accepted) where
         told : (f : Bool) → fullWith file ≡ f → ticketChecked file t ≡ orElse (rowFault file t) p (cond f TooLong Accepted)
         told f e =
             let k = p in
-            ap (λ (b : Bool). cond (not b) CutRecord (cond (notRow t) (UnknownKind k) (orElse (rowFault file t) k (cond (fullWith file) TooLong Accepted)))) (eq-eqb (length t) 96 whole)
+            ap (λ (b : Bool). cond (not b) CutRecord
+            (cond (notRow t) (UnknownKind k) (orElse (rowFault file t) k (cond (fullWith file) TooLong Accepted)))) (eq-eqb (length t) 96 whole)
             ∙ ap (λ (b : Bool). cond (not b) (UnknownKind k) (orElse (rowFault file t) k (cond (fullWith file) TooLong Accepted))) (eq-eqb (kind t) 3 row)
             ∙ ap (λ (b : Bool). orElse (rowFault file t) k (cond b TooLong Accepted)) e
 
@@ -280,12 +282,14 @@ module _ (file : List ℕ) (ok : checked file ≡ Accepted) where
             ap₂ (λ (a b : Answer). cond (eqb (numberOf a) 0) b a)
             (by-records (withTicket file t) (le-ltb 61440 (length (withTicket file t)) (omega (arith, length-with, plain .bytes))) not-cut ∙ by-row)
             by-rates
-            ∙ two-stages (unusedByte t) (fieldOutside t) (unlisted es t) (outOfOrder (theOneBefore es) t) (overLimit es t) (rateRefusals (ratesOf (records file)) t) p
+            ∙ two-stages (unusedByte t) (fieldOutside t) (unlisted es t) (outOfOrder (theOneBefore es) t) (overLimit es t)
+            (rateRefusals (ratesOf (records file)) t) p
             ∙ sym (told false (lt-leb 640 n room))
 
         -- and without, the longer file is too long
         pub full-with : 640 ≤ n → checked (withTicket file t) ≡ TooLong
-        full-with full = ap (λ (a : Answer). cond (eqb (numberOf a) 0) (ratesChecked (records (withTicket file t))) a) (too-long (withTicket file t) (lt-ltb 61440 (length (withTicket file t)) (omega (arith, length-with, plain .bytes))))
+        full-with full = ap (λ (a : Answer). cond (eqb (numberOf a) 0) (ratesChecked (records (withTicket file t))) a)
+            (too-long (withTicket file t) (lt-ltb 61440 (length (withTicket file t)) (omega (arith, length-with, plain .bytes))))
 
         pub told-full : 640 ≤ n → ticketChecked file t ≡ orElse (rowFault file t) p TooLong
         told-full full = told true (le-leb 640 n full)

@@ -124,7 +124,8 @@ fn place_of(counts: Counts, c: usize) -> usize
 // 7: the row's contract is not listed, or none of the contract's prompts is on its day.
 fn missing<'a>(file: &'a [u8], none: &'a [u8], account: Account, row: &[u8]) -> bool
     requires { ⌜ Stands (now file) (now none) account × (contract (now row) ≤ mostContract) ⌝ }
-    ensures { λ b. ⌜ b ≡ noContract (account .counts) (contract (now (row .entry))) || noDay (promptsOf (contract (now (row .entry))) (accountOf (now (file .entry)) (now (none .entry)))) (day (now (row .entry))) ⌝ }
+    ensures { λ b. ⌜ b ≡ noContract (account .counts) (contract (now (row .entry)))
+        || noDay (promptsOf (contract (now (row .entry))) (accountOf (now (file .entry)) (now (none .entry)))) (day (now (row .entry))) ⌝ }
 {
     let c = contract(row);
     let prompts = part(file, none, account, PROMPTS + c);
@@ -134,7 +135,10 @@ fn missing<'a>(file: &'a [u8], none: &'a [u8], account: Account, row: &[u8]) -> 
 // The first refusal of a row, 5 to 9, or 0.
 fn row_fault<'a>(file: &'a [u8], none: &'a [u8], account: Account, rows: usize, row: &[u8]) -> usize
     requires { ⌜ Stands (now file) (now none) account × (kind (now row) ≡ 3) ⌝ }
-    ensures { λ n. ⌜ n ≡ rowFaultBy (noContract (account .counts) (contract (now (row .entry))) || noDay (promptsOf (contract (now (row .entry))) (accountOf (now (file .entry)) (now (none .entry)))) (day (now (row .entry)))) rows (now (row .entry)) ⌝ }
+    ensures { λ n. ⌜ n ≡ rowFaultBy
+        (noContract (account .counts) (contract (now (row .entry)))
+        || noDay (promptsOf (contract (now (row .entry))) (accountOf (now (file .entry)) (now (none .entry)))) (day (now (row .entry)))) rows
+        (now (row .entry)) ⌝ }
 {
     if unused_byte(row) {
         return 5;
@@ -154,7 +158,9 @@ fn row_fault<'a>(file: &'a [u8], none: &'a [u8], account: Account, rows: usize, 
 // What a ticket is told.
 pub fn check_ticket<'a>(file: &'a [u8], none: &'a [u8], counts: Counts, ticket: &[u8]) -> Answer
     requires { ⌜ (now none ≡ []) × Counted (now file) counts ⌝ }
-    ensures { λ a. ⌜ ((tickets : List Record) → CountsOf (now (file .entry)) tickets counts → a ≡ ticketChecked (withTickets (now (file .entry)) tickets) (now (ticket .entry))) ⌝ }
+    ensures { λ a. ⌜
+        ((tickets : List Record) → CountsOf (now (file .entry)) tickets counts → a ≡ ticketChecked (withTickets (now (file .entry)) tickets)
+        (now (ticket .entry))) ⌝ }
 {
     if ticket.len() != RECORD_BYTES {
         return Answer::CutRecord;
@@ -184,7 +190,9 @@ pub fn check_ticket<'a>(file: &'a [u8], none: &'a [u8], counts: Counts, ticket: 
 // The place at which a ticket would stand.
 pub fn ticket_place(file: &[u8], counts: Counts, ticket: &[u8]) -> usize
     requires { ⌜ Counted (now file) counts ⌝ }
-    ensures { λ n. ⌜ ((tickets : List Record) → CountsOf (now (file .entry)) tickets counts → n ≡ place (now (ticket .entry)) (records (withTickets (now (file .entry)) tickets))) ⌝ }
+    ensures { λ n. ⌜
+        ((tickets : List Record) → CountsOf (now (file .entry)) tickets counts
+        → n ≡ place (now (ticket .entry)) (records (withTickets (now (file .entry)) tickets))) ⌝ }
 {
     place_of(counts, contract(ticket))
 }

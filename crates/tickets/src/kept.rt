@@ -79,7 +79,9 @@ pub fn keep(file: &[u8], account: Account) -> Kept
 // The positions with one row more.
 fn with_row<'a>(file: &'a [u8], none: &'a [u8], kept: Kept, row: &[u8]) -> Positions
     requires { ⌜ (now none ≡ []) × Takes (now file) kept (now row) ⌝ }
-    ensures { λ r. ⌜ ((tickets : List Record) → KeptBy (now (file .entry)) tickets kept → PositionsOf (records (withTickets (now (file .entry)) (tickets ++ now (row .entry) ∷ []))) r) ⌝ }
+    ensures { λ r. ⌜
+        ((tickets : List Record) → KeptBy (now (file .entry)) tickets kept
+        → PositionsOf (records (withTickets (now (file .entry)) (tickets ++ now (row .entry) ∷ []))) r) ⌝ }
 {
     let counts = kept.counts;
     let positions = kept.positions;
@@ -99,7 +101,8 @@ fn with_row<'a>(file: &'a [u8], none: &'a [u8], kept: Kept, row: &[u8]) -> Posit
 // The positions without the latest row.
 fn without_row<'a>(file: &'a [u8], none: &'a [u8], kept: Kept, row: &[u8]) -> Positions
     requires { ⌜ (now none ≡ []) × Leaves (now file) kept (now row) ⌝ }
-    ensures { λ r. ⌜ ((tickets : List Record) → KeptBy (now (file .entry)) (tickets ++ now (row .entry) ∷ []) kept → PositionsOf (records (withTickets (now (file .entry)) tickets)) r) ⌝ }
+    ensures { λ r. ⌜ ((tickets : List Record) → KeptBy (now (file .entry)) (tickets ++ now (row .entry) ∷ []) kept
+        → PositionsOf (records (withTickets (now (file .entry)) tickets)) r) ⌝ }
 {
     let counts = kept.counts;
     let positions = kept.positions;
@@ -164,7 +167,8 @@ pub fn withdraw(file: &[u8], tickets: &[u8], kept: Kept) -> Keeping
 // The total of the margins.
 pub fn kept_total(file: &[u8], kept: Kept) -> Amount
     requires { ⌜ Keeps (now file) kept ⌝ }
-    ensures { λ r. ⌜ ((tickets : List Record) → KeptBy (now (file .entry)) tickets kept → r .0 ≡ accountTotal (records (withTickets (now (file .entry)) tickets))) ⌝ }
+    ensures { λ r. ⌜
+        ((tickets : List Record) → KeptBy (now (file .entry)) tickets kept → r .0 ≡ accountTotal (records (withTickets (now (file .entry)) tickets))) ⌝ }
 {
     let counts = kept.counts;
     let positions = kept.positions;
@@ -174,7 +178,10 @@ pub fn kept_total(file: &[u8], kept: Kept) -> Amount
 // A question's answer, at the front of `out`. A refusal writes nothing.
 pub fn kept_answer(file: &[u8], kept: Kept, question: Question, out: &mut [i64]) -> Answer
     requires { ⌜ Keeps (now file) kept ⌝ }
-    ensures { λ r. ⌜ ((tickets : List Record) → KeptBy (now (file .entry)) tickets kept → (r ≡ answerOver (records (withTickets (now (file .entry)) tickets)) question (length (now (out .entry)))) × (now (out .exit) ≡ afterOver (records (withTickets (now (file .entry)) tickets)) question (now (out .entry)))) ⌝ }
+    ensures { λ r. ⌜
+        ((tickets : List Record) → KeptBy (now (file .entry)) tickets kept
+        → (r ≡ answerOver (records (withTickets (now (file .entry)) tickets)) question (length (now (out .entry))))
+        × (now (out .exit) ≡ afterOver (records (withTickets (now (file .entry)) tickets)) question (now (out .entry)))) ⌝ }
 {
     let counts = kept.counts;
     let positions = kept.positions;
@@ -191,7 +198,9 @@ pub fn kept_answer(file: &[u8], kept: Kept, question: Question, out: &mut [i64])
 // How many numbers the answer of a question has, 0 where it is not answered.
 pub fn kept_needed(file: &[u8], kept: Kept, question: Question) -> usize
     requires { ⌜ Keeps (now file) kept ⌝ }
-    ensures { λ n. ⌜ (((tickets : List Record) → KeptBy (now (file .entry)) tickets kept → n ≡ needOver (records (withTickets (now (file .entry)) tickets)) question)) × (n ≤ mostFor question) ⌝ }
+    ensures { λ n. ⌜
+        (((tickets : List Record) → KeptBy (now (file .entry)) tickets kept
+        → n ≡ needOver (records (withTickets (now (file .entry)) tickets)) question)) × (n ≤ mostFor question) ⌝ }
 {
     let counts = kept.counts;
     needed_over(file, nothing_of(file), account_of(counts), question)
@@ -206,7 +215,9 @@ pub fn kept_all(
     uses: &mut [i64],
 ) -> Everything
     requires { ⌜ Keeps (now file) kept ⌝ }
-    ensures { λ r. ⌜ ((tickets : List Record) → KeptBy (now (file .entry)) tickets kept → EverythingOf (records (withTickets (now (file .entry)) tickets)) (now (figures .entry)) (now (books .entry)) (now (uses .entry)) r (now (figures .exit)) (now (books .exit)) (now (uses .exit))) ⌝ }
+    ensures { λ r. ⌜
+        ((tickets : List Record) → KeptBy (now (file .entry)) tickets kept → EverythingOf (records (withTickets (now (file .entry)) tickets))
+        (now (figures .entry)) (now (books .entry)) (now (uses .entry)) r (now (figures .exit)) (now (books .exit)) (now (uses .exit))) ⌝ }
 {
     let counts = kept.counts;
     let positions = kept.positions;

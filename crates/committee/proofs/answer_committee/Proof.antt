@@ -43,7 +43,8 @@ returns-3 c =
     let s = c .before .before .before .before .before .before .args in
     let few = c .before .before .before .if1 .left in
     let h =
-    lacking (s .accounts .now) (s .lengths .now) (s .out .now) (omega (arith, few)) (sym (c .before .before .add-up .ensures) ∙ not-false _ (c .before .if2 .left)) (c .if3 .taken)
+    lacking (s .accounts .now) (s .lengths .now) (s .out .now) (omega (arith, few))
+    (sym (c .before .before .add-up .ensures) ∙ not-false _ (c .before .if2 .left)) (c .if3 .taken)
     in
     (h .is, h .out-is)
 
@@ -54,7 +55,8 @@ loop-holds : tie.Need-loop-holds Inv-loop μ-loop
 loop-holds c =
     let s = c .before .before .before .before .before .before .before .args in
     begin (s .accounts .now) (s .lengths .now) (c .none .result) (c .none .ensures)
-    (eqb-true (sum (s .lengths .now)) (length (s .accounts .now)) (sym (c .before .before .before .add-up .ensures) ∙ not-false _ (c .before .before .if2 .left)))
+    (eqb-true (sum (s .lengths .now)) (length (s .accounts .now))
+    (sym (c .before .before .before .add-up .ensures) ∙ not-false _ (c .before .before .if2 .left)))
 
 mul-end : tie.Need-mul-end Inv-loop μ-loop
 mul-end c = search needs
@@ -137,7 +139,9 @@ returns-4 c =
     let room = c .before .before .before .before .before .before .if3 .left in
     let e = end (s .accounts .now) (s .lengths .now) (l .sums) (l .at) (l .i) (l .inv) (omega (arith, t)) in
     let h =
-    all (s .accounts .now) (s .lengths .now) (s .out .now) (omega (arith, few)) (sym (c .before .before .before .before .before .before .before .before .add-up .ensures) ∙ not-false _ (c .before .before .before .before .before .before .before .if2 .left)) (omega (arith, room))
+    all (s .accounts .now) (s .lengths .now) (s .out .now) (omega (arith, few))
+    (sym (c .before .before .before .before .before .before .before .before .add-up .ensures)
+    ∙ not-false _ (c .before .before .before .before .before .before .before .if2 .left)) (omega (arith, room))
     (c .before .put-numbers .last .1 .0) (c .before .put-numbers .ensures ∙ ap (λ (xs : List ℕ). map pos xs ++ drop committeeNumbers (s .out .now)) e)
     in
     (h .is, h .out-is)

@@ -26,7 +26,9 @@ returns c =
     let l = back (s .args .last) (s .fits .last) in
     let t = back (s .args .threshold) (s .fits .threshold) in
     let k = back (s .args .collateral) (s .fits .collateral) in
-    subst (λ (x : Call). TellsCall x (record { outcome = c .tell-of .result; call = m .result .amount .0 })) (m .ensures ∙ ap₂ (λ (x y : ℤ). a x y (toZ w64 (ofZ w64 (s .args .collateral)))) l t ∙ ap (a (s .args .last) (s .args .threshold)) k) (record { outcome-is = c .tell-of .ensures; call-is = refl })
+    subst (λ (x : Call). TellsCall x (record { outcome = c .tell-of .result; call = m .result .amount .0 }))
+    (m .ensures ∙ ap₂ (λ (x y : ℤ). a x y (toZ w64 (ofZ w64 (s .args .collateral)))) l t ∙ ap (a (s .args .last) (s .args .threshold)) k)
+    (record { outcome-is = c .tell-of .ensures; call-is = refl })
 
 pub felgotany-call-spec : {M : Type 1} → statement M
 felgotany-call-spec = tie.close (tie.spec cover-call-requires tell-of-requires returns)

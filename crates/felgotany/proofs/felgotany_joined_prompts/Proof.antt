@@ -13,7 +13,8 @@ prompt-place-requires c κs = search needs
 returns : tie.Need-returns
 returns c =
     let p = c .prompt-place in
-    subst (λ (q : Place). TellsPlace q (record { file = p .result .file; first = p .result .first; records = p .result .records })) (p .ensures) (record { file-is = refl; first-is = refl; records-are = refl })
+    subst (λ (q : Place). TellsPlace q (record { file = p .result .file; first = p .result .first; records = p .result .records })) (p .ensures)
+    (record { file-is = refl; first-is = refl; records-are = refl })
 
 pub felgotany-joined-prompts-spec : {M : Type 1} → statement M
 felgotany-joined-prompts-spec = tie.close (tie.spec prompt-place-requires returns)

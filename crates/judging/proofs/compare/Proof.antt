@@ -39,7 +39,8 @@ returns c =
     let ln : length (p .net) ≡ 32 = sym (length-map (p .net) _) ∙ s .good .0 .1 .1 .1 .1 .0 .1 .0 .1 in
     compared p (a .spread) (a .second) (st .result) (st .ensures) (s .pre .0) lt ln (a .step) (a .number) (a .uses .now) (s .pre .1)
     (c .verdict-of .result) (c .before .same-uses .result) (c .before .same-uses .ensures)
-    (seen (λ (z : ℤ). verdictOf (a .step) (st .result .number .0) z (c .before .same-uses .result) Right) (a .number) (s .fits .number) (c .verdict-of .ensures))
+    (seen (λ (z : ℤ). verdictOf (a .step) (st .result .number .0) z (c .before .same-uses .result) Right) (a .number) (s .fits .number)
+    (c .verdict-of .ensures))
 
 pub compare-spec : {M : Type 1} → statement M
 compare-spec =

@@ -22,7 +22,8 @@ returns : tie.Need-returns
 returns c =
     let s = c .before .before in
     let z = s .args .number in
-    ap₂ (λ (b : Bool) (n : ℕ). not b && ltb (s .args .formed) n) (seen negative z (s .fits .number) (c .before .is-negative .ensures)) (seen natAbs z (s .fits .number) (c .magnitude .ensures))
+    ap₂ (λ (b : Bool) (n : ℕ). not b && ltb (s .args .formed) n) (seen negative z (s .fits .number) (c .before .is-negative .ensures))
+    (seen natAbs z (s .fits .number) (c .magnitude .ensures))
     ∙ more-is (s .args .formed) z
 
 pub is-more-spec : {M : Type 1} → statement M

@@ -22,7 +22,8 @@ use Rattle.judging.proofs.judge_steps.Statement.{statement}
 use Rattle.judging.proofs.judge_steps.Tie as tie
 
 abbrev Inv-loop : tie.InvT-loop
-Inv-loop numbers uses table n left₀ at₀ step₀ left at step = Judging n table numbers uses (judgedFrom 0 (stepsOf table) (openOf left₀) (toldOf n numbers uses)) step at left
+Inv-loop numbers uses table n left₀ at₀ step₀ left at step = Judging n table numbers uses
+    (judgedFrom 0 (stepsOf table) (openOf left₀) (toldOf n numbers uses)) step at left
 
 abbrev μ-loop : tie.MeasureT-loop
 μ-loop numbers uses table n left₀ at₀ step₀ left at step = length numbers - step
@@ -61,7 +62,8 @@ add-compare : tie.Need-add-compare Inv-loop μ-loop
 add-compare c =
     let s = c .before .before .before .before in
     let l = c .before .before .before .loop in
-    let r = room-here (s .args .t2) (spreads-32 s) (sound-table s) (s .args .prompts .count) (s .args .numbers .now) (s .args .uses .now) (s .pre .1 .0) _ (l .step) (l .at) (l .left) (l .inv) (c .before .before .loop-test .taken) in
+    let r = room-here (s .args .t2) (spreads-32 s) (sound-table s) (s .args .prompts .count) (s .args .numbers .now) (s .args .uses .now)
+    (s .pre .1 .0) _ (l .step) (l .at) (l .left) (l .inv) (c .before .before .loop-test .taken) in
     omega (arith, r, s .good .1 .1 .1 .0)
 
 mul-compare-2 : tie.Need-mul-compare-2 Inv-loop μ-loop
@@ -77,7 +79,8 @@ part-compare-end : tie.Need-part-compare-end Inv-loop μ-loop
 part-compare-end c =
     let s = c .before .before .before .before in
     let l = c .before .before .before .loop in
-    let r = room-here (s .args .t2) (spreads-32 s) (sound-table s) (s .args .prompts .count) (s .args .numbers .now) (s .args .uses .now) (s .pre .1 .0) _ (l .step) (l .at) (l .left) (l .inv) (c .before .before .loop-test .taken) in
+    let r = room-here (s .args .t2) (spreads-32 s) (sound-table s) (s .args .prompts .count) (s .args .numbers .now) (s .args .uses .now)
+    (s .pre .1 .0) _ (l .step) (l .at) (l .left) (l .inv) (c .before .before .loop-test .taken) in
     omega (arith, r)
 
 compare-requires : tie.Need-compare-requires Inv-loop μ-loop
@@ -85,8 +88,10 @@ compare-requires c κs =
     let s = c .before .before .before .before .before in
     let l = c .before .before .before .before .loop in
     let h = c .before .before .before .loop-test .taken in (
-      sound-here (s .args .t2) (spreads-32 s) (sound-table s) (s .args .prompts .count) (s .args .numbers .now) (s .args .uses .now) (s .pre .1 .0) _ (l .step) (l .at) (l .left) (l .inv) h noSpread,
-      part-long (s .args .t2) (spreads-32 s) (sound-table s) (s .args .prompts .count) (s .args .numbers .now) (s .args .uses .now) (s .pre .1 .0) _ (l .step) (l .at) (l .left) (l .inv) h noSpread,
+      sound-here (s .args .t2) (spreads-32 s) (sound-table s) (s .args .prompts .count) (s .args .numbers .now) (s .args .uses .now) (s .pre .1 .0) _
+          (l .step) (l .at) (l .left) (l .inv) h noSpread,
+      part-long (s .args .t2) (spreads-32 s) (sound-table s) (s .args .prompts .count) (s .args .numbers .now) (s .args .uses .now) (s .pre .1 .0) _
+          (l .step) (l .at) (l .left) (l .inv) h noSpread,
     )
 
 is-right-requires : tie.Need-is-right-requires Inv-loop μ-loop
@@ -114,7 +119,8 @@ returns c =
     let s = b .before .before .before .before .before .before in
     let l = b .before .before .before .before .before .loop in
     let h = b .before .before .before .before .loop-test .taken in
-    stops (s .args .t2) (spreads-32 s) (sound-table s) (s .args .prompts .count) (s .args .numbers .now) (s .args .uses .now) (s .pre .1 .0) _ (l .step) (l .at) (l .left) (l .inv) h noSpread
+    stops (s .args .t2) (spreads-32 s) (sound-table s) (s .args .prompts .count) (s .args .numbers .now) (s .args .uses .now) (s .pre .1 .0) _
+    (l .step) (l .at) (l .left) (l .inv) h noSpread
     (b .compare .result) (said b)
     (sym (c .before .is-right .ensures) ∙ not-true (c .before .is-right .result) (c .if1 .taken))
 
@@ -123,7 +129,8 @@ add-at c =
     let b = c .before .before .before in
     let s = b .before .before .before .before .before .before in
     let l = b .before .before .before .before .before .loop in
-    let r = room-here (s .args .t2) (spreads-32 s) (sound-table s) (s .args .prompts .count) (s .args .numbers .now) (s .args .uses .now) (s .pre .1 .0) _ (l .step) (l .at) (l .left) (l .inv) (b .before .before .before .before .loop-test .taken) in
+    let r = room-here (s .args .t2) (spreads-32 s) (sound-table s) (s .args .prompts .count) (s .args .numbers .now) (s .args .uses .now)
+    (s .pre .1 .0) _ (l .step) (l .at) (l .left) (l .inv) (b .before .before .before .before .loop-test .taken) in
     omega (arith, r, s .good .1 .1 .1 .0)
 
 add-step : tie.Need-add-step Inv-loop μ-loop
@@ -138,7 +145,8 @@ loop-again c =
     let s = b .before .before .before .before .before .before in
     let l = b .before .before .before .before .before .loop in
     let h = b .before .before .before .before .loop-test .taken in
-    goes (s .args .t2) (spreads-32 s) (sound-table s) (s .args .prompts .count) (s .args .numbers .now) (s .args .uses .now) (s .pre .1 .0) _ (l .step) (l .at) (l .left) (l .inv) h noSpread
+    goes (s .args .t2) (spreads-32 s) (sound-table s) (s .args .prompts .count) (s .args .numbers .now) (s .args .uses .now) (s .pre .1 .0) _
+    (l .step) (l .at) (l .left) (l .inv) h noSpread
     (b .compare .result) (said b)
     (sym (c .before .before .is-right .ensures) ∙ not-false (c .before .before .is-right .result) (c .before .if1 .left))
 
@@ -146,7 +154,8 @@ returns-2 : tie.Need-returns-2 Inv-loop μ-loop
 returns-2 c =
     let s = c .before .before in
     let l = c .before .loop in
-    ends (s .args .t2) (spreads-32 s) (sound-table s) (s .args .prompts .count) (s .args .numbers .now) (s .args .uses .now) (s .pre .1 .0) _ (l .step) (l .at) (l .left) (l .inv) (omega arith)
+    ends (s .args .t2) (spreads-32 s) (sound-table s) (s .args .prompts .count) (s .args .numbers .now) (s .args .uses .now) (s .pre .1 .0) _
+    (l .step) (l .at) (l .left) (l .inv) (omega arith)
 
 pub judge-steps-spec : {M : Type 1} → statement M
 judge-steps-spec =

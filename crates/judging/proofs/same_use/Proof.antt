@@ -22,7 +22,8 @@ returns c =
     let x = s .args .sent in
     let y = s .args .taken .0 in
     let fy : SFits w64 y = record { sfits = c .before .before .before .struct-told .given .0 .1 } in
-    ap₂ (λ (p q : Bool). not p && not q) (seen₂ ltZ x y (s .fits .sent) fy (c .before .before .below .ensures)) (seen₂ ltZ y x fy (s .fits .sent) (c .below2 .ensures))
+    ap₂ (λ (p q : Bool). not p && not q) (seen₂ ltZ x y (s .fits .sent) fy (c .before .before .below .ensures))
+    (seen₂ ltZ y x fy (s .fits .sent) (c .below2 .ensures))
 
 pub same-use-spec : {M : Type 1} → statement M
 same-use-spec = tie.close (tie.spec below-requires below-requires-2 returns)

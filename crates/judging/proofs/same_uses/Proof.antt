@@ -51,7 +51,8 @@ returns c =
     let ds = s .args .t2 in
     let fits : SFits w64 (getD us (l .i) (pos 0)) = record { sfits = c .before .before .before .same-use-arg .given } in
     let e : same (getD us (l .i) (pos 0)) (getD ds (l .i) noDelta .0) ≡ false =
-    sym (seen (λ (x : ℤ). same x (getD ds (l .i) noDelta .0)) (getD us (l .i) (pos 0)) fits (c .before .same-use .ensures)) ∙ not-true (c .before .same-use .result) (c .if1 .taken) in
+    sym (seen (λ (x : ℤ). same x (getD ds (l .i) noDelta .0)) (getD us (l .i) (pos 0)) fits (c .before .same-use .ensures))
+    ∙ not-true (c .before .same-use .result) (c .if1 .taken) in
     let few : length us ≤ length ds = omega arith in
     sym
     (sym (l .inv .0) ∙ uses-at us ds few (l .i) (c .before .before .before .before .loop-test .taken)
@@ -71,7 +72,8 @@ loop-again c =
     let ds = s .args .t2 in
     let fits : SFits w64 (getD us (l .i) (pos 0)) = record { sfits = c .before .before .before .same-use-arg .given } in
     let e : same (getD us (l .i) (pos 0)) (getD ds (l .i) noDelta .0) ≡ true =
-    sym (seen (λ (x : ℤ). same x (getD ds (l .i) noDelta .0)) (getD us (l .i) (pos 0)) fits (c .before .same-use .ensures)) ∙ not-false (c .before .same-use .result) (c .if1 .left) in
+    sym (seen (λ (x : ℤ). same x (getD ds (l .i) noDelta .0)) (getD us (l .i) (pos 0)) fits (c .before .same-use .ensures))
+    ∙ not-false (c .before .same-use .result) (c .if1 .left) in
     let few : length us ≤ length ds = omega arith in (
       ap (λ (k : ℕ). alike (drop k us) (drop k (take (length us) (deltasIn ds)))) (add-one (l .i))
           ∙ sym

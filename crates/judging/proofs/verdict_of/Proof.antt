@@ -35,7 +35,8 @@ returns-3 : tie.Need-returns-3
 returns-3 c =
     let s = c .before .before .before .before .before in
     let a = s .args in
-    let m = sym (seen (ltZ (pos (a .formed))) (a .number) (s .fits .number) (c .before .before .before .before .is-more .ensures)) ∙ c .before .before .before .if1 .left in
+    let m = sym (seen (ltZ (pos (a .formed))) (a .number) (s .fits .number) (c .before .before .before .before .is-more .ensures))
+    ∙ c .before .before .before .if1 .left in
     let l = sym (seen (λ (z : ℤ). ltZ z (pos (a .formed))) (a .number) (s .fits .number) (c .before .before .is-less .ensures)) ∙ c .before .if2 .left in
     sym (says-none (a .step) (a .formed) (a .number) Right (a .alike) m l (c .if3 .taken))
 
@@ -43,7 +44,8 @@ returns-4 : tie.Need-returns-4
 returns-4 c =
     let s = c .before .before .before .before .before in
     let a = s .args in
-    let m = sym (seen (ltZ (pos (a .formed))) (a .number) (s .fits .number) (c .before .before .before .before .is-more .ensures)) ∙ c .before .before .before .if1 .left in
+    let m = sym (seen (ltZ (pos (a .formed))) (a .number) (s .fits .number) (c .before .before .before .before .is-more .ensures))
+    ∙ c .before .before .before .if1 .left in
     let l = sym (seen (λ (z : ℤ). ltZ z (pos (a .formed))) (a .number) (s .fits .number) (c .before .before .is-less .ensures)) ∙ c .before .if2 .left in
     sym (says-use (a .step) (a .formed) (a .number) Right (a .alike) m l (c .if3 .left))
 

@@ -33,14 +33,16 @@ judge-over-requires c κs =
     let a = c .before .before .before .before .before .before .args in
     let o = c .before .before .before .before .check-file in
     let n = c .nothing-of in
-    file-stands (a .question) (a .sent) (a .numbers .now) (a .uses .now) (a .file .now) (o .result) (o .ensures) (clear (c .before .before)) (n .result .now) (n .ensures)
+    file-stands (a .question) (a .sent) (a .numbers .now) (a .uses .now) (a .file .now) (o .result) (o .ensures) (clear (c .before .before))
+    (n .result .now) (n .ensures)
 
 returns-2 : tie.Need-returns-2
 returns-2 c =
     let a = c .before .before .before .before .before .before .before .args in
     let o = c .before .before .before .before .before .check-file in
     let n = c .before .nothing-of in
-    list-accepted (a .question) (a .sent) (a .numbers .now) (a .uses .now) (a .file .now) (o .result) (o .ensures) (clear (c .before .before .before)) (n .result .now) (n .ensures)
+    list-accepted (a .question) (a .sent) (a .numbers .now) (a .uses .now) (a .file .now) (o .result) (o .ensures) (clear (c .before .before .before))
+    (n .result .now) (n .ensures)
     (c .judge-over .result) (c .judge-over .ensures)
 
 pub judge-spec : {M : Type 1} → statement M

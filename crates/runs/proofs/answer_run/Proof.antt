@@ -51,7 +51,8 @@ loop-holds : tie.Need-loop-holds Inv-loop μ-loop
 loop-holds c =
     let s = c .before .before .before .before .before .before .before .args in
     begin (s .accounts .now) (s .lengths .now) (s .out .now) (s .outcomes .now)
-    (eqb-true (sum (s .lengths .now)) (length (s .accounts .now)) (sym (c .before .before .before .add-up .ensures) ∙ not-false _ (c .before .before .if1 .left)))
+    (eqb-true (sum (s .lengths .now)) (length (s .accounts .now))
+    (sym (c .before .before .before .add-up .ensures) ∙ not-false _ (c .before .before .if1 .left)))
 
 mul-end : tie.Need-mul-end Inv-loop μ-loop
 mul-end c = search needs
@@ -114,7 +115,8 @@ loop-less c =
 
 loop-again : tie.Need-loop-again Inv-loop μ-loop
 loop-again c =
-    let s = c .before .before .before .before .before .before .before .before .before .before .before .before .before .before .before .before .before .before .args in
+    let s = c .before .before .before .before .before .before .before .before .before .before .before .before .before .before .before .before .before
+    .before .args in
     let l = c .before .before .before .before .before .before .before .before .before .before .loop in
     let a = c .before .before .before .before .before .before .before .before .before .before .before .before .if2 .left in
     let b = c .before .before .before .before .before .before .before .before .before .before .before .if3 .left in
@@ -148,7 +150,8 @@ returns-4 c =
     let t = c .loop-test .left in
     let e = end (s .accounts .now) (s .lengths .now) (s .out .now) (s .outcomes .now) (l .out) (l .outcomes) (l .at) (l .i) (l .inv) (omega (arith, t)) in
     let h = all (s .accounts .now) (s .lengths .now) (s .out .now) (s .outcomes .now)
-    (sym (c .before .before .before .before .before .add-up .ensures) ∙ not-false _ (c .before .before .before .before .if1 .left)) (omega (arith, a)) (omega (arith, b))
+    (sym (c .before .before .before .before .before .add-up .ensures) ∙ not-false _ (c .before .before .before .before .if1 .left)) (omega (arith, a))
+    (omega (arith, b))
     (l .out) (l .outcomes) (e .0) (e .1) in
     (h .is, (h .out-is, h .outcome-is))
 

@@ -46,8 +46,11 @@ returns c =
     let d = length-drop at out in
     let lent : length (take (at + longestFigures - at) (drop at out)) ≡ longestFigures =
     ap (λ (n : ℕ). length (take n (drop at out))) width ∙ length-take-le longestFigures (drop at out) (let p = s .pre in omega (arith, d, p))
-    in
-    (f .0 ∙ ap (figuresAnswer (s .args .account .now)) lent, put-place longestFigures at out (c .before .answer .last .1 .1 .0) (afterFigures (s .args .account .now)) (f .1))
+    in (
+      f .0 ∙ ap (figuresAnswer (s .args .account .now)) lent,
+      put-place longestFigures at out (c .before .answer .last .1 .1 .0)
+          (afterFigures (s .args .account .now)) (f .1),
+    )
 
 pub place-figures-spec : {M : Type 1} → statement M
 place-figures-spec =

@@ -78,7 +78,8 @@ returns-4 c =
     let s = e .before .before .before .before .before in
     let a = s .args in
     let o = c .before .before .before .before .before .ask-order in
-    let z : numberOf (o .result .answer) ≡ 0 = sym (c .before .before .before .before .number-of .ensures) ∙ omega (arith, c .before .before .before .if3 .left) in
+    let z : numberOf (o .result .answer) ≡ 0 = sym (c .before .before .before .before .number-of .ensures)
+    ∙ omega (arith, c .before .before .before .if3 .left) in
     let fine : orderIn (held (a .lent .now) (a .named)) (a .ticket .now) ≡ Accepted = sym (o .ensures .answer-is) ∙ accepted-only (o .result .answer) z in
     c .weigh .ensures
     ∙ ap₂ weighed (seen natAbs (a .limit) (s .fits .limit) (c .before .magnitude .ensures)) (o .ensures .total-is fine)

@@ -80,8 +80,10 @@ returns-5 c =
     let a = c .before .before .before .before .before .before .before .before .before .before .before .before .before .before .before .args in
     let v = c .before .before .before .before .before .before .before .before in
     let whole = ap not (eq-eqb (length (a .entries .now) % 96) 0 (v .before .before .before .if2 .left)) in
-    let accepted = ap numberOf (sym (v .verdict-on .ensures)) ∙ sym (c .before .before .before .before .before .before .before .number-of .ensures) ∙ c .before .before .before .before .before .before .if3 .left in
-    writes (a .entries .now) (a .out .now) _ _ whole accepted (c .before .before .before .before .before .if4 .left) (c .before .before .fill .ensures) refl refl
+    let accepted = ap numberOf (sym (v .verdict-on .ensures)) ∙ sym (c .before .before .before .before .before .before .before .number-of .ensures)
+    ∙ c .before .before .before .before .before .before .if3 .left in
+    writes (a .entries .now) (a .out .now) _ _ whole accepted (c .before .before .before .before .before .if4 .left)
+    (c .before .before .fill .ensures) refl refl
 
 pub write-spec : {M : Type 1} → statement M
 write-spec =

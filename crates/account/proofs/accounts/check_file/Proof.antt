@@ -26,7 +26,8 @@ number-of-requires c κs = search needs
 -- the account of the survey
 by : (c : tie.After-in-one-file)
     → AloneBy (c .before .before .take-survey .result) (recordCount (c .before .before .before .before .args .file .now)) (c .in-one-file .result)
-by c = subst (λ (k : ℕ). AloneBy (c .before .before .take-survey .result) k (c .in-one-file .result)) (c .before .record-count .ensures) (c .in-one-file .ensures)
+by c = subst (λ (k : ℕ). AloneBy (c .before .before .take-survey .result) k (c .in-one-file .result)) (c .before .record-count .ensures)
+    (c .in-one-file .ensures)
 
 returns : tie.Need-returns
 returns c =

@@ -19,7 +19,8 @@ use Rattle.account.specs.Records.{records, recordCount}
 use Rattle.account.specs.Standing.{accountOf, PartOf}
 use Rattle.account.specs.declared.rates.Rates.{Rates}
 use Rattle.account.proofs.JoinedLaws.{partsOf}
-use Rattle.account.proofs.RateLaws.{rowsOnFrom, turn-start, turn-next, turn-stop, turn-end, rowsBefore, before-next, before-few, before-counted, rows-known}
+use Rattle.account.proofs.RateLaws.{rowsOnFrom, turn-start, turn-next, turn-stop, turn-end, rowsBefore, before-next, before-few}
+use Rattle.account.proofs.RateLaws.{before-counted, rows-known}
 use Rattle.account.proofs.Standing.{row-part, rate-part}
 use Rattle.account.proofs.Walk.{length-cut}
 use Rattle.account.proofs.accounts.conversions_answer.Statement.{statement}
@@ -52,7 +53,8 @@ loop-holds c =
 
 -- the table holds the account's rates
 held : (c : tie.After-rates-of Inv-loop μ-loop)
-    → RatesOf (ratesOf (accountOf (c .before .before .before .before .args .morning .now) (c .before .before .before .before .args .noon .now))) (c .rates-of .result)
+    → RatesOf (ratesOf (accountOf (c .before .before .before .before .args .morning .now) (c .before .before .before .before .args .noon .now)))
+    (c .rates-of .result)
 held c =
     let s = c .before .before .before .before in
     let a = accountOf (s .args .morning .now) (s .args .noon .now) in
@@ -84,8 +86,10 @@ number-of-requires c κs = search needs
 answered : (c : tie.After-rows-answer Inv-loop μ-loop)
     → c .rows-answer .result
     ≡ firstRateFault (c .before .before .before .loop .k)
-    (ratesOf (accountOf (c .before .before .before .before .before .before .before .before .before .args .morning .now) (c .before .before .before .before .before .before .before .before .before .args .noon .now)))
-    (partsOf (accountOf (c .before .before .before .before .before .before .before .before .before .args .morning .now) (c .before .before .before .before .before .before .before .before .before .args .noon .now)) (48 + c .before .before .before .loop .c))
+    (ratesOf (accountOf (c .before .before .before .before .before .before .before .before .before .args .morning .now)
+    (c .before .before .before .before .before .before .before .before .before .args .noon .now)))
+    (partsOf (accountOf (c .before .before .before .before .before .before .before .before .before .args .morning .now)
+    (c .before .before .before .before .before .before .before .before .before .args .noon .now)) (48 + c .before .before .before .loop .c))
 answered c =
     let s = c .before .before .before .before .before .before .before .before .before in
     let a = accountOf (s .args .morning .now) (s .args .noon .now) in
@@ -110,7 +114,8 @@ record-count-requires c κs = tt
 counted : (c : tie.After-record-count Inv-loop μ-loop)
     → c .record-count .result
     ≡ length (partsOf (accountOf (c .before .before .before .before .before .before .before .before .before .before .before .before .args .morning .now)
-    (c .before .before .before .before .before .before .before .before .before .before .before .before .args .noon .now)) (48 + c .before .before .before .before .before .before .loop .c))
+    (c .before .before .before .before .before .before .before .before .before .before .before .before .args .noon .now))
+    (48 + c .before .before .before .before .before .before .loop .c))
 counted c =
     let s = c .before .before .before .before .before .before .before .before .before .before .before .before in
     let a = accountOf (s .args .morning .now) (s .args .noon .now) in
@@ -136,7 +141,8 @@ add-k c =
     omega (
       arith,
       next c,
-      before-few (records (s .args .morning .now)) (records (s .args .noon .now)) (l .c + 1) (omega (arith, c .before .before .before .before .before .loop-test .taken)),
+      before-few (records (s .args .morning .now)) (records (s .args .noon .now)) (l .c + 1)
+          (omega (arith, c .before .before .before .before .before .loop-test .taken)),
       s .pre .1 .limits .all,
     )
 

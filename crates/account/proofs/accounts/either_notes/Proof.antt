@@ -12,7 +12,8 @@ use Rattle.account.proofs.accounts.either_notes.Statement.{statement}
 use Rattle.account.proofs.accounts.either_notes.Tie as tie
 
 abbrev Inv-loop : tie.InvT-loop
-Inv-loop notes₀ morning noon counts v₀ notes v = (length notes ≡ length notes₀) × ((v ≤ length notes₀) × ((i : ℕ) → i < v → getD notes i 0 ≡ eitherNote morning noon counts i))
+Inv-loop notes₀ morning noon counts v₀ notes v = (length notes ≡ length notes₀)
+    × ((v ≤ length notes₀) × ((i : ℕ) → i < v → getD notes i 0 ≡ eitherNote morning noon counts i))
 
 abbrev μ-loop : tie.MeasureT-loop
 μ-loop notes₀ morning noon counts v₀ notes v = length notes₀ - v
@@ -41,7 +42,11 @@ loop-again c =
     let l = c .before .before .loop in
     let h = c .before .loop-test .taken in (
       length-set (l .notes) (l .v) (c .either-note .result) ∙ l .inv .0,
-      (omega (arith, h, l .inv .0), filled-next 0 (eitherNote (s .args .morning .now) (s .args .noon .now) (s .args .counts .now)) (l .notes) (l .v) (c .either-note .result) h (c .either-note .ensures) (l .inv .1 .1)),
+      (
+        omega (arith, h, l .inv .0),
+        filled-next 0 (eitherNote (s .args .morning .now) (s .args .noon .now) (s .args .counts .now)) (l .notes) (l .v)
+            (c .either-note .result) h (c .either-note .ensures) (l .inv .1 .1),
+      ),
     )
 
 same-length : tie.Need-same-length Inv-loop μ-loop

@@ -38,7 +38,11 @@ loop-again c =
     let l = c .before .before .loop in
     let h = c .before .loop-test .taken in (
       length-set (l .listed) (l .c) (c .lists .result) ∙ l .inv .0,
-      (omega (arith, h), filled-next false (lists (c .before .before .before .before .args .counts .now)) (l .listed) (l .c) (c .lists .result) (omega (arith, h, l .inv .0)) (c .lists .ensures) (l .inv .1 .1)),
+      (
+        omega (arith, h),
+        filled-next false (lists (c .before .before .before .before .args .counts .now)) (l .listed) (l .c) (c .lists .result)
+            (omega (arith, h, l .inv .0)) (c .lists .ensures) (l .inv .1 .1),
+      ),
     )
 
 returns : tie.Need-returns Inv-loop μ-loop

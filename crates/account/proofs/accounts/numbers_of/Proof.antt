@@ -17,7 +17,8 @@ at-most true = omega arith
 at-most false = omega arith
 
 abbrev Inv-loop : tie.InvT-loop
-Inv-loop counts count₀ number₀ c₀ count number c = (length number ≡ 16) × ((count ≤ c) × ((c ≤ 16) × ((take count number ≡ keep (lists counts) (countFrom 0 c)) × (drop count number ≡ replicate (16 - count) 0))))
+Inv-loop counts count₀ number₀ c₀ count number c = (length number ≡ 16)
+    × ((count ≤ c) × ((c ≤ 16) × ((take count number ≡ keep (lists counts) (countFrom 0 c)) × (drop count number ≡ replicate (16 - count) 0))))
 
 abbrev μ-loop : tie.MeasureT-loop
 μ-loop counts count₀ number₀ c₀ count number c = 16 - c
@@ -32,13 +33,23 @@ slice-aggregate-put-number : tie.Need-slice-aggregate-put-number Inv-loop μ-loo
 slice-aggregate-put-number c = sym (c .before .before .before .loop .inv .0)
 
 put-number-requires : tie.Need-put-number-requires Inv-loop μ-loop
-put-number-requires c κs = (omega (arith, c .before .before .before .loop .inv .0, c .before .before .before .loop .inv .1 .0, c .before .before .loop-test .taken), c .before .before .loop-test .taken)
+put-number-requires c κs = (
+  omega (arith, c .before .before .before .loop .inv .0, c .before .before .before .loop .inv .1 .0, c .before .before .loop-test .taken),
+  c .before .before .loop-test .taken,
+)
 
 one-if-requires : tie.Need-one-if-requires Inv-loop μ-loop
 one-if-requires c κs = tt
 
 add-count : tie.Need-add-count Inv-loop μ-loop
-add-count c = omega (arith, c .one-if .ensures, at-most (c .before .before .before .before .lists .result), c .before .before .before .before .before .before .loop .inv .1 .0, c .before .before .before .before .before .loop-test .taken)
+add-count c = omega (
+  arith,
+  c .one-if .ensures,
+  at-most
+      (c .before .before .before .before .lists .result),
+  c .before .before .before .before .before .before .loop .inv .1 .0,
+  c .before .before .before .before .before .loop-test .taken,
+)
 
 add-c : tie.Need-add-c Inv-loop μ-loop
 add-c c = omega (arith, c .before .before .before .before .before .loop-test .taken)
@@ -57,7 +68,19 @@ loop-again c =
     let n : l .count < length (l .number) = omega (arith, h, l .inv .0, l .inv .1 .0) in
     let p = lists (c .before .before .before .before .before .before .before .before .args .counts .now) in (
       c .before .number2 .given,
-      (omega (arith, o, m, l .inv .1 .0), (omega (arith, h), (ap (λ (k : ℕ). take (l .count + k) (u .last .0)) o ∙ numbers-next p (l .c) (l .count) (l .number) (u .last .0) (b .result) (b .ensures) n (u .ensures) (l .inv .1 .1 .1 .0), ap₂ (λ (k i : ℕ). drop (l .count + k) (u .last .0)) o o ∙ left-after p (l .c) (l .count) (l .number) (u .last .0) (b .result) (b .ensures) n (u .ensures) 16 (l .inv .0) (l .inv .1 .1 .1 .1) ∙ ap (λ (k : ℕ). replicate (16 - (l .count + k)) 0) (sym o)))),
+      (
+        omega (arith, o, m, l .inv .1 .0),
+        (
+          omega (arith, h),
+          (
+            ap (λ (k : ℕ). take (l .count + k) (u .last .0)) o ∙ numbers-next p (l .c) (l .count) (l .number) (u .last .0) (b .result) (b .ensures) n
+                (u .ensures) (l .inv .1 .1 .1 .0),
+            ap₂ (λ (k i : ℕ). drop (l .count + k) (u .last .0)) o o ∙ left-after p (l .c) (l .count) (l .number)
+                (u .last .0) (b .result) (b .ensures) n (u .ensures) 16 (l .inv .0) (l .inv .1 .1 .1 .1) ∙ ap (λ (k : ℕ). replicate (16 - (l .count + k)) 0)
+                (sym o),
+          ),
+        ),
+      ),
     )
 
 returns : tie.Need-returns Inv-loop μ-loop

@@ -48,9 +48,11 @@ stretch-requires c κs = search needs
 returns-2 : tie.Need-returns-2
 returns-2 c =
     let s = c .before .before .before .before .before .before .before .before in
-    part-stands (s .args .morning .now) (s .args .noon .now) (s .args .t3) (s .pre) (s .args .v) (omega (arith, c .before .before .before .before .before .if1 .left))
+    part-stands (s .args .morning .now) (s .args .noon .now) (s .args .t3) (s .pre) (s .args .v)
+    (omega (arith, c .before .before .before .before .before .if1 .left))
     _ refl (c .stretch .result .now)
-    (c .stretch .ensures ∙ ap (λ f. stretch f (getD (s .args .t3 .first) (s .args .v) 0) (getD (s .args .t3 .counts) (s .args .v) 0)) (c .before .before .before .supplier .ensures))
+    (c .stretch .ensures ∙ ap (λ f. stretch f (getD (s .args .t3 .first) (s .args .v) 0) (getD (s .args .t3 .counts) (s .args .v) 0))
+    (c .before .before .before .supplier .ensures))
 
 pub placed-part-spec : {M : Type 1} → statement M
 placed-part-spec =

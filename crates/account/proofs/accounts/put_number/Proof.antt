@@ -17,7 +17,9 @@ same-length : tie.Need-same-length
 same-length c = search needs
 
 returns : tie.Need-returns
-returns c = sym (ap (λ (t : Bool). cond t (set (c .before .args .number .now) (c .before .args .count) (c .before .args .c)) (c .before .args .number .now)) (c .if1 .taken))
+returns c = sym
+    (ap (λ (t : Bool). cond t (set (c .before .args .number .now) (c .before .args .count) (c .before .args .c)) (c .before .args .number .now))
+    (c .if1 .taken))
 
 returns-2 : tie.Need-returns-2
 returns-2 c = search needs

@@ -27,7 +27,13 @@ wide-requires : tie.Need-wide-requires Inv-loop μ-loop
 wide-requires c κs = search needs
 
 add-n : tie.Need-add-n Inv-loop μ-loop
-add-n c = omega (arith, c .wide .ensures .1, c .before .before .before .loop .inv .1 .1, c .before .before .before .loop .inv .1 .0, c .before .before .before .before .before .pre)
+add-n c = omega (
+  arith,
+  c .wide .ensures .1,
+  c .before .before .before .loop .inv .1 .1,
+  c .before .before .before .loop .inv .1 .0,
+  c .before .before .before .before .before .pre,
+)
 
 add-v : tie.Need-add-v Inv-loop μ-loop
 add-v c = search needs
@@ -42,8 +48,10 @@ loop-again c =
     let h = c .before .before .loop-test .taken in
     let e : l .v + 1 ≡ suc (l .v) = omega arith in
     let w = c .wide .ensures in
-    let n = c .before .note-at .ensures in
-    (omega (arith, w .0, n, l .inv .0, sum-next (s .args .counts .now) (l .v) h) ∙ ap (λ (m : ℕ). sum (take m (s .args .counts .now))) (sym e), (omega (arith, h), omega (arith, w .1, l .inv .1 .1)))
+    let n = c .before .note-at .ensures in (
+      omega (arith, w .0, n, l .inv .0, sum-next (s .args .counts .now) (l .v) h) ∙ ap (λ (m : ℕ). sum (take m (s .args .counts .now))) (sym e),
+      (omega (arith, h), omega (arith, w .1, l .inv .1 .1)),
+    )
 
 returns : tie.Need-returns Inv-loop μ-loop
 returns c =

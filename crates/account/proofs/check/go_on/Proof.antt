@@ -24,7 +24,8 @@ same-length-2 : tie.Need-same-length-2
 same-length-2 c = search needs
 
 returns : tie.Need-returns
-returns c = step-runs (c .before .before .before .before .before .before .before .before .passes-from .ensures) (c .before .before .before .before .before .before .before .if1 .taken) (c .before .before .before .before .note-to .ensures)
+returns c = step-runs (c .before .before .before .before .before .before .before .before .passes-from .ensures)
+    (c .before .before .before .before .before .before .before .if1 .taken) (c .before .before .before .before .note-to .ensures)
 
 fault-at-requires : tie.Need-fault-at-requires
 fault-at-requires c κs = search needs
@@ -63,7 +64,10 @@ same-length-6 c = search needs
 
 returns-3 : tie.Need-returns-3
 returns-3 c =
-    step-alone (c .before .before .before .before .before .before .before .before .before .before .fault-at .ensures) (c .before .before .before .before .before .before .before .before .before .if2 .left) (c .before .before .before .before .before .before .before .before .before .before .before .before .before .before .before .before .before .before .before .before .pre .inside) (c .before .before .before .before .before .before .note-to2 .ensures)
+    step-alone (c .before .before .before .before .before .before .before .before .before .before .fault-at .ensures)
+    (c .before .before .before .before .before .before .before .before .before .if2 .left)
+    (c .before .before .before .before .before .before .before .before .before .before .before .before .before .before .before .before .before
+    .before .before .before .pre .inside) (c .before .before .before .before .before .before .note-to2 .ensures)
     (c .one-if-contract .ensures) (c .before .whole-at .ensures)
 
 pub go-on-spec : {M : Type 1} → statement M

@@ -32,7 +32,8 @@ note-one-requires c κs =
     let pre = start .pre .0 in
     let none = start .pre .1 .0 in
     let counts = start .args .counts .now in
-    let v = c .before .before .before .before .before .before .part-of .ensures ∙ ap partOf (c .before .before .before .before .before .before .before .whole-at .ensures) in
+    let v = c .before .before .before .before .before .before .part-of .ensures
+    ∙ ap partOf (c .before .before .before .before .before .before .before .whole-at .ensures) in
     let e = ap (λ (u : ℕ). getD counts u 0) v in
     let inside : c .before .before .before .before .before .before .part-of .result < length counts = omega (arith, pre .known none, pre .sizes) in
     let few : getD counts (c .before .before .before .before .before .before .part-of .result) 0 < 640 = omega (arith, pre .room none, pre .inside, pre .few) in
@@ -51,7 +52,8 @@ note-more-requires c κs =
     let none = start .pre .1 .0 in
     let counts = start .args .counts .now in
     let v = c .before .before .before .before .before .before .before .before .before .before .part-of .result in
-    let is = c .before .before .before .before .before .before .before .before .before .before .part-of .ensures ∙ ap partOf (c .before .before .before .before .before .before .before .before .before .before .before .whole-at .ensures) in
+    let is = c .before .before .before .before .before .before .before .before .before .before .part-of .ensures
+    ∙ ap partOf (c .before .before .before .before .before .before .before .before .before .before .before .whole-at .ensures) in
     let e = ap (λ (u : ℕ). getD counts u 0) is in
     let one = c .before .before .before .note-one in
     let long : length (one .last .0) ≡ length counts = ap length (one .ensures) ∙ length-set counts v (getD counts v 0 + 1) in
@@ -70,7 +72,10 @@ same-length-2 c = search needs
 
 returns : tie.Need-returns
 returns c =
-    noted-to (c .before .before .before .before .before .before .before .before .before .before .before .before .before .part-of .ensures ∙ ap partOf (c .before .before .before .before .before .before .before .before .before .before .before .before .before .before .whole-at .ensures)) (c .before .before .before .before .before .before .before .before .before .before .note-first .ensures)
+    noted-to (c .before .before .before .before .before .before .before .before .before .before .before .before .before .part-of .ensures
+    ∙ ap partOf
+    (c .before .before .before .before .before .before .before .before .before .before .before .before .before .before .whole-at .ensures))
+    (c .before .before .before .before .before .before .before .before .before .before .note-first .ensures)
     (c .before .before .before .before .before .before .note-one .ensures) (c .before .before .note-more .ensures)
 
 pub note-to-spec : {M : Type 1} → statement M

@@ -73,7 +73,9 @@ returns-3 c =
     let step = c .before .before .before .before .before .before .go-on in
     let more : loop .k < recordCount file = omega arith in
     going-stops (loop .inv) more (step .result .number) (step .ensures .stops (c .before .before .if3 .taken)) (c .before .before .if3 .taken)
-    (le-ltb 61440 (length file) (c .before .before .before .before .before .before .before .before .before .before .before .before .before .if1 .left)) (ap not (eq-eqb (length file % 96) 0 (c .before .before .before .before .before .before .before .before .before .before .before .before .if2 .left)))
+    (le-ltb 61440 (length file)
+    (c .before .before .before .before .before .before .before .before .before .before .before .before .before .if1 .left))
+    (ap not (eq-eqb (length file % 96) 0 (c .before .before .before .before .before .before .before .before .before .before .before .before .if2 .left)))
     (c .refused3 .result)
     (subst (λ (a : Answer). Empty a (c .refused3 .result)) (c .before .refusal .ensures) (c .refused3 .ensures))
 

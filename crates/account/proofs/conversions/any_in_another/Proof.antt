@@ -44,14 +44,16 @@ loop-again c =
     let h = c .before .before .loop-test .taken in
     let n = c .before .before .before .before .record-count .ensures in (
       l .inv .0 ∙ any-next inAnother rows (l .found) (l .i) (omega (arith, h, n))
-          ∙ ap (λ (b : Bool). (l .found || b) || anyFrom inAnother rows (l .i + 1)) (sym (c .in-another .ensures ∙ ap inAnother (c .before .whole-at .ensures))),
+          ∙ ap (λ (b : Bool). (l .found || b) || anyFrom inAnother rows (l .i + 1))
+          (sym (c .in-another .ensures ∙ ap inAnother (c .before .whole-at .ensures))),
       omega (arith, h, n),
     )
 
 returns : tie.Need-returns Inv-loop μ-loop
 returns c =
     let l = c .before .loop in
-    sym (l .inv .0 ∙ any-end inAnother (c .before .before .before .before .args .rows .now) (l .found) (l .i) (omega (arith, c .loop-test .left, c .before .before .record-count .ensures)))
+    sym (l .inv .0 ∙ any-end inAnother (c .before .before .before .before .args .rows .now) (l .found) (l .i)
+    (omega (arith, c .loop-test .left, c .before .before .record-count .ensures)))
 
 pub any-in-another-spec : {M : Type 1} → statement M
 any-in-another-spec =

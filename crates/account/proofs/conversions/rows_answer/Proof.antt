@@ -69,7 +69,8 @@ returns c rates of each =
     c .before .before .row-answer .ensures rates of each ∙ ap (rowAnswer rates k) (c .before .before .before .whole-at .ensures) in
     a
     ∙ sym (l .inv .0 rates of each
-    ∙ rows-stop rates (s .args .k) rows (l .i) (omega (arith, c .before .before .before .before .loop-test .taken, c .before .before .before .before .before .before .record-count .ensures))
+    ∙ rows-stop rates (s .args .k) rows (l .i)
+    (omega (arith, c .before .before .before .before .loop-test .taken, c .before .before .before .before .before .before .record-count .ensures))
     (λ z. c .if1 .taken (c .before .number-of .ensures ∙ ap numberOf a ∙ z)))
 
 add-i : tie.Need-add-i Inv-loop μ-loop
@@ -99,7 +100,8 @@ returns-2 : tie.Need-returns-2 Inv-loop μ-loop
 returns-2 c rates of each =
     let s = c .before .before .before .before in
     let l = c .before .loop in
-    sym (l .inv .0 rates of each ∙ rows-end rates (s .args .k) (s .args .rows .now) (l .i) (omega (arith, c .loop-test .left, c .before .before .record-count .ensures)))
+    sym (l .inv .0 rates of each ∙ rows-end rates (s .args .k) (s .args .rows .now) (l .i)
+    (omega (arith, c .loop-test .left, c .before .before .record-count .ensures)))
 
 pub rows-answer-spec : {M : Type 1} → statement M
 rows-answer-spec =

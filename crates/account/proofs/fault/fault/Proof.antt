@@ -125,7 +125,16 @@ returns-7 c =
     let r = args .r .now in
     is-9 (unknownKind r) (kindFalls e r) (unusedByte r) (fieldOutside r) (unlistedBy n ps r) (outOfOrder e r)
     (overLimitBy n r) (sym
-    (c .before .before .before .before .before .before .before .before .before .before .before .before .before .unknown-kind .ensures) ∙ c .before .before .before .before .before .before .before .before .before .before .before .before .if1 .left) (sym (c .before .before .before .before .before .before .before .before .before .before .before .kind-falls .ensures) ∙ c .before .before .before .before .before .before .before .before .before .before .if2 .left) (sym (c .before .before .before .before .before .before .before .before .before .unused-byte .ensures) ∙ c .before .before .before .before .before .before .before .before .if3 .left) (sym (c .before .before .before .before .before .before .before .field-outside .ensures) ∙ c .before .before .before .before .before .before .if4 .left) (sym (c .before .before .before .before .before .unlisted .ensures) ∙ c .before .before .before .before .if5 .left) (sym (c .before .before .before .out-of-order .ensures) ∙ c .before .before .if6 .left) (sym (c .before .over-limit .ensures) ∙ c .if7 .taken)
+    (c .before .before .before .before .before .before .before .before .before .before .before .before .before .unknown-kind .ensures)
+    ∙ c .before .before .before .before .before .before .before .before .before .before .before .before .if1 .left)
+    (sym (c .before .before .before .before .before .before .before .before .before .before .before .kind-falls .ensures)
+    ∙ c .before .before .before .before .before .before .before .before .before .before .if2 .left)
+    (sym (c .before .before .before .before .before .before .before .before .before .unused-byte .ensures)
+    ∙ c .before .before .before .before .before .before .before .before .if3 .left)
+    (sym (c .before .before .before .before .before .before .before .field-outside .ensures)
+    ∙ c .before .before .before .before .before .before .if4 .left)
+    (sym (c .before .before .before .before .before .unlisted .ensures) ∙ c .before .before .before .before .if5 .left)
+    (sym (c .before .before .before .out-of-order .ensures) ∙ c .before .before .if6 .left) (sym (c .before .over-limit .ensures) ∙ c .if7 .taken)
 
 returns-8 : tie.Need-returns-8
 returns-8 c =
@@ -137,7 +146,16 @@ returns-8 c =
     let r = args .r .now in
     is-0 (unknownKind r) (kindFalls e r) (unusedByte r) (fieldOutside r) (unlistedBy n ps r) (outOfOrder e r)
     (overLimitBy n r) (sym
-    (c .before .before .before .before .before .before .before .before .before .before .before .before .before .unknown-kind .ensures) ∙ c .before .before .before .before .before .before .before .before .before .before .before .before .if1 .left) (sym (c .before .before .before .before .before .before .before .before .before .before .before .kind-falls .ensures) ∙ c .before .before .before .before .before .before .before .before .before .before .if2 .left) (sym (c .before .before .before .before .before .before .before .before .before .unused-byte .ensures) ∙ c .before .before .before .before .before .before .before .before .if3 .left) (sym (c .before .before .before .before .before .before .before .field-outside .ensures) ∙ c .before .before .before .before .before .before .if4 .left) (sym (c .before .before .before .before .before .unlisted .ensures) ∙ c .before .before .before .before .if5 .left) (sym (c .before .before .before .out-of-order .ensures) ∙ c .before .before .if6 .left) (sym (c .before .over-limit .ensures) ∙ c .if7 .left)
+    (c .before .before .before .before .before .before .before .before .before .before .before .before .before .unknown-kind .ensures)
+    ∙ c .before .before .before .before .before .before .before .before .before .before .before .before .if1 .left)
+    (sym (c .before .before .before .before .before .before .before .before .before .before .before .kind-falls .ensures)
+    ∙ c .before .before .before .before .before .before .before .before .before .before .if2 .left)
+    (sym (c .before .before .before .before .before .before .before .before .before .unused-byte .ensures)
+    ∙ c .before .before .before .before .before .before .before .before .if3 .left)
+    (sym (c .before .before .before .before .before .before .before .field-outside .ensures)
+    ∙ c .before .before .before .before .before .before .if4 .left)
+    (sym (c .before .before .before .before .before .unlisted .ensures) ∙ c .before .before .before .before .if5 .left)
+    (sym (c .before .before .before .out-of-order .ensures) ∙ c .before .before .if6 .left) (sym (c .before .over-limit .ensures) ∙ c .if7 .left)
 
 pub fault-spec : {M : Type 1} → statement M
 fault-spec =

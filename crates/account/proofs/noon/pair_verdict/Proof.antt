@@ -21,7 +21,8 @@ number-of-requires c κs = search needs
 -- the verdict on the records
 by : (c : tie.After-verdict-of)
     → c .verdict-of .result
-    ≡ verdictBy (c .before .before .before .before .args .first) (c .before .before .before .before .args .second) (c .before .before .before .before .args .account .records)
+    ≡ verdictBy (c .before .before .before .before .args .first) (c .before .before .before .before .args .second)
+    (c .before .before .before .before .args .account .records)
 by c =
     let s = c .before .before .before .before .args in
     c .verdict-of .ensures ∙ ap (verdictBy (s .first) (s .second)) (c .before .record-total .ensures)

@@ -21,7 +21,8 @@ pair-verdict-requires : tie.Need-pair-verdict-requires
 pair-verdict-requires c κs = (c .before .before .take-survey .ensures, (c .before .take-survey2 .ensures, c .join .ensures))
 
 -- both files checked and joined, with the verdict
-abbrev known : (c : tie.After-pair-verdict) → Joining (c .before .before .before .before .before .before .args .morning .now) (c .before .before .before .before .before .before .args .noon .now)
+abbrev known : (c : tie.After-pair-verdict) → Joining (c .before .before .before .before .before .before .args .morning .now)
+    (c .before .before .before .before .before .before .args .noon .now)
 known c =
     let m = c .before .before .before .take-survey in
     let n = c .before .before .take-survey2 in

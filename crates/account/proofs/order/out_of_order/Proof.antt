@@ -74,8 +74,10 @@ returns-7 : tie.Need-returns-7
 returns-7 c =
     let args = c .before .before .before .before .before .before .before .before .before .args in
     let kind = c .before .before .before .before .before .before .kind .ensures .0 in
-    sym (order-none (args .before .now) (args .r .now) (λ e. c .before .before .before .before .before .if1 .left (kind ∙ e)) (λ e. c .before .before .before .before .if2 .left (kind ∙ e))
-    (λ e. c .before .before .before .if3 .left (kind ∙ e)) (λ e. c .before .before .if4 .left (kind ∙ e)) (λ e. c .before .if5 .left (kind ∙ e)) (λ e. c .if6 .left (kind ∙ e)))
+    sym (order-none (args .before .now) (args .r .now) (λ e. c .before .before .before .before .before .if1 .left (kind ∙ e))
+    (λ e. c .before .before .before .before .if2 .left (kind ∙ e))
+    (λ e. c .before .before .before .if3 .left (kind ∙ e)) (λ e. c .before .before .if4 .left (kind ∙ e)) (λ e. c .before .if5 .left (kind ∙ e))
+    (λ e. c .if6 .left (kind ∙ e)))
 
 pub out-of-order-spec : {M : Type 1} → statement M
 out-of-order-spec =

@@ -41,8 +41,11 @@ loop-less : tie.Need-loop-less Inv-loop μ-loop
 loop-less c = omega arith
 
 loop-again : tie.Need-loop-again Inv-loop μ-loop
-loop-again c =
-    (days-next (c .before .before .before .loop .inv .0) (c .short-day .result) (c .short-day .ensures ∙ ap day (c .before .whole-at .ensures)) (omega arith), omega arith)
+loop-again c = (
+  days-next (c .before .before .before .loop .inv .0) (c .short-day .result) (c .short-day .ensures ∙ ap day (c .before .whole-at .ensures))
+      (omega arith),
+  omega arith,
+)
 
 returns : tie.Need-returns Inv-loop μ-loop
 returns c = days-end (c .before .loop .inv .0) (omega arith)

@@ -39,7 +39,8 @@ prompts-from-requires : tie.Need-prompts-from-requires
 prompts-from-requires c κs =
     let start = c .before .before .before .before .before .before .before .before .before .before .before in
     let contract = c .before .before .before .before .contract in
-    begins-read 2 (c .before .before .before .before .before .kind .result) (contract .result) (start .pre .0) (start .pre .1) (c .before .before .before .before .before .before .before .if1 .left) (c .before .before .before .before .before .before .whole-at .ensures)
+    begins-read 2 (c .before .before .before .before .before .kind .result) (contract .result) (start .pre .0) (start .pre .1)
+    (c .before .before .before .before .before .before .before .if1 .left) (c .before .before .before .before .before .before .whole-at .ensures)
     (c .before .before .before .whole-at2 .ensures) (c .before .before .before .before .before .kind .ensures .0) (contract .ensures .0) (contract .ensures .1)
     (sym (c .before .before .may-run .ensures) ∙ not-false _ (c .before .if2 .left)) (c .if3 .taken)
 
@@ -50,8 +51,11 @@ rows-from-requires : tie.Need-rows-from-requires
 rows-from-requires c κs =
     let start = c .before .before .before .before .before .before .before .before .before .before .before .before in
     let contract = c .before .before .before .before .before .contract in
-    begins-read 3 (c .before .before .before .before .before .before .kind .result) (contract .result) (start .pre .0) (start .pre .1) (c .before .before .before .before .before .before .before .before .if1 .left) (c .before .before .before .before .before .before .before .whole-at .ensures)
-    (c .before .before .before .before .whole-at2 .ensures) (c .before .before .before .before .before .before .kind .ensures .0) (contract .ensures .0) (contract .ensures .1)
+    begins-read 3 (c .before .before .before .before .before .before .kind .result) (contract .result) (start .pre .0) (start .pre .1)
+    (c .before .before .before .before .before .before .before .before .if1 .left)
+    (c .before .before .before .before .before .before .before .whole-at .ensures)
+    (c .before .before .before .before .whole-at2 .ensures) (c .before .before .before .before .before .before .kind .ensures .0)
+    (contract .ensures .0) (contract .ensures .1)
     (sym (c .before .before .before .may-run .ensures) ∙ not-false _ (c .before .before .if2 .left)) (c .if4 .taken)
 
 returns-4 : tie.Need-returns-4
@@ -61,8 +65,11 @@ spreads-from-requires : tie.Need-spreads-from-requires
 spreads-from-requires c κs =
     let start = c .before .before .before .before .before .before .before .before .before .before .before .before .before in
     let contract = c .before .before .before .before .before .before .contract in
-    begins-read 4 (c .before .before .before .before .before .before .before .kind .result) (contract .result) (start .pre .0) (start .pre .1) (c .before .before .before .before .before .before .before .before .before .if1 .left) (c .before .before .before .before .before .before .before .before .whole-at .ensures)
-    (c .before .before .before .before .before .whole-at2 .ensures) (c .before .before .before .before .before .before .before .kind .ensures .0) (contract .ensures .0) (contract .ensures .1)
+    begins-read 4 (c .before .before .before .before .before .before .before .kind .result) (contract .result) (start .pre .0) (start .pre .1)
+    (c .before .before .before .before .before .before .before .before .before .if1 .left)
+    (c .before .before .before .before .before .before .before .before .whole-at .ensures)
+    (c .before .before .before .before .before .whole-at2 .ensures) (c .before .before .before .before .before .before .before .kind .ensures .0)
+    (contract .ensures .0) (contract .ensures .1)
     (sym (c .before .before .before .before .may-run .ensures) ∙ not-false _ (c .before .before .before .if2 .left)) (c .if5 .taken)
 
 returns-5 : tie.Need-returns-5

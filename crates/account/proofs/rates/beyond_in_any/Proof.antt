@@ -30,7 +30,8 @@ or-none : (a : Bool) → a || false ≡ a
 or-none true = refl
 or-none false = refl
 
-one-more : (p : ℕ → Bool) (t : Bool) (s : ℕ) → s < 16 → t || any p (countFrom (s + 1) (16 - s)) ≡ (t || p (s + 1)) || any p (countFrom (s + 1 + 1) (16 - (s + 1)))
+one-more : (p : ℕ → Bool) (t : Bool) (s : ℕ) → s < 16 → t || any p (countFrom (s + 1) (16 - s)) ≡ (t || p (s + 1))
+    || any p (countFrom (s + 1 + 1) (16 - (s + 1)))
 one-more p t s h =
     let e : 16 - s ≡ suc (16 - (s + 1)) = omega arith in
     ap (λ (n : ℕ). t || any p (countFrom (s + 1) n)) e ∙ or-assoc t (p (s + 1)) _
@@ -59,7 +60,8 @@ beyond-in-requires c κs =
     let in-range : Between 1 (i .s + 1) 16 = record { least = omega arith; most = omega arith } in (
       subst (λ (z : ℤ). natAbs z ≤ 1000000000) (sym (back (s .args .each) (s .fits .each))) (s .pre .0),
       (
-        subst (λ (z : ℤ). natAbs z ≤ 100000) (sym (back (c .loss .result) (record { sfits = c .loss .ok }) ∙ c .loss .ensures)) (s .pre .1 .0 .losses (i .s + 1) in-range),
+        subst (λ (z : ℤ). natAbs z ≤ 100000) (sym (back (c .loss .result) (record { sfits = c .loss .ok }) ∙ c .loss .ensures))
+            (s .pre .1 .0 .losses (i .s + 1) in-range),
         s .pre .1 .1,
       ),
     )

@@ -44,7 +44,8 @@ half-away-requires c κs =
       omega arith,
       (
         omega arith,
-        subst (λ (x : ℤ). halfUp (natAbs x * c .factor .result) hundredMillion < 2 ^ 63) (sym (back z (s .fits .z))) (fits z (c .factor .result) (s .pre .0) small),
+        subst (λ (x : ℤ). halfUp (natAbs x * c .factor .result) hundredMillion < 2 ^ 63) (sym (back z (s .fits .z)))
+            (fits z (c .factor .result) (s .pre .0) small),
       ),
     )
 

@@ -22,7 +22,8 @@ currency-requires c κs = search needs
 returns : tie.Need-returns
 returns c =
     let row = now (c .before .before .before .args .row) in
-    λ rates held within. ap (λ (t : Bool). t || any (ofCurrency (currency row)) rates) (sym (eq-eqb (currency row) 0 (sym (c .before .currency .ensures .0) ∙ c .if1 .taken)))
+    λ rates held within. ap (λ (t : Bool). t || any (ofCurrency (currency row)) rates)
+    (sym (eq-eqb (currency row) 0 (sym (c .before .currency .ensures .0) ∙ c .if1 .taken)))
 
 mul-result : tie.Need-mul-result
 mul-result c = omega (arith, c .before .currency .ensures .0, c .before .before .before .pre)

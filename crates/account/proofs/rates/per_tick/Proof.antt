@@ -31,7 +31,8 @@ returns : tie.Need-returns
 returns c =
     let s = c .before .before .before .before .before in
     sized-back (c .times .result) (record { sfits = c .times .ok })
-    (times-is (c .before .before .before .lots .result) (c .before .as-signed .result) (lots (now (s .args .row))) (pos (value (now (s .args .row)))) 100000 10000
+    (times-is (c .before .before .before .lots .result) (c .before .as-signed .result) (lots (now (s .args .row)))
+    (pos (value (now (s .args .row)))) 100000 10000
     (record { sfits = c .before .before .before .lots .ok }) (record { sfits = c .before .as-signed .ok })
     (c .before .before .before .lots .ensures) (c .before .as-signed .ensures ∙ ap pos (c .before .before .value .ensures .0))
     (s .pre .0) (s .pre .1) (c .times .result) (c .times .ensures))

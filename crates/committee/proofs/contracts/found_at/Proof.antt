@@ -53,7 +53,13 @@ above-risk-requires : tie.Need-above-risk-requires
 above-risk-requires c κs =
     let s = c .before .before .before .before .before .before in
     let h = s .pre .0 .risk-within (s .args .i) (s .pre .1) in
-    omega (arith, h, c .before .before .before .before .before .amount-at .ensures, c .before .before .before .before .amount-at2 .ensures, c .before .before .before .amount-at3 .ensures)
+    omega (
+      arith,
+      h,
+      c .before .before .before .before .before .amount-at .ensures,
+      c .before .before .before .before .amount-at2 .ensures,
+      c .before .before .before .amount-at3 .ensures,
+    )
 
 one-if-requires : tie.Need-one-if-requires
 one-if-requires c κs = search needs

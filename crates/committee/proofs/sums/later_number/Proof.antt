@@ -32,14 +32,16 @@ mean-requires c κs = search needs
 
 returns-6 : tie.Need-returns-6
 returns-6 c =
-    c .mean .ensures ∙ sym (ap (λ (n : ℕ). getD (laterNumbers (c .before .before .before .before .before .before .before .args .sums)) n 0) (c .before .if6 .taken))
+    c .mean .ensures
+    ∙ sym (ap (λ (n : ℕ). getD (laterNumbers (c .before .before .before .before .before .before .before .args .sums)) n 0) (c .before .if6 .taken))
 
 left-over-requires : tie.Need-left-over-requires
 left-over-requires c κs = search needs
 
 returns-7 : tie.Need-returns-7
 returns-7 c =
-    c .left-over .ensures ∙ sym (ap (λ (n : ℕ). getD (laterNumbers (c .before .before .before .before .before .before .before .before .args .sums)) n 0) (c .before .if7 .taken))
+    c .left-over .ensures
+    ∙ sym (ap (λ (n : ℕ). getD (laterNumbers (c .before .before .before .before .before .before .before .before .args .sums)) n 0) (c .before .if7 .taken))
 
 returns-8 : tie.Need-returns-8
 returns-8 c =

@@ -36,13 +36,17 @@ add-t19 c =
     omega (arith, s .pre .0 .refused-most, c .before .one-if2 .ensures, one-most (not (eqb (s .args .account .refusal) 0)))
 
 add-t15 : tie.Need-add-t15
-add-t15 c = let s = c .before .before .before .before .before .before .before .before .before .before .before .before .before in omega (arith, s .pre .0 .margin-most, s .pre .1)
+add-t15 c = let s = c .before .before .before .before .before .before .before .before .before .before .before .before .before in omega
+    (arith, s .pre .0 .margin-most, s .pre .1)
 
 add-t23 : tie.Need-add-t23
-add-t23 c = let s = c .before .before .before .before .before .before .before .before .before .before .before .before .before .before .before in omega (arith, s .pre .0 .credits-most, s .pre .2)
+add-t23 c = let s = c .before .before .before .before .before .before .before .before .before .before .before .before .before .before .before in omega
+    (arith, s .pre .0 .credits-most, s .pre .2)
 
 add-t24 : tie.Need-add-t24
-add-t24 c = let s = c .before .before .before .before .before .before .before .before .before .before .before .before .before .before .before .before .before in omega (arith, s .pre .0 .above-most, s .pre .3)
+add-t24 c = let s =
+    c .before .before .before .before .before .before .before .before .before .before .before .before .before .before .before .before .before in omega
+    (arith, s .pre .0 .above-most, s .pre .3)
 
 returns : tie.Need-returns
 returns c =
@@ -50,7 +54,8 @@ returns c =
     record {
       accepted-is = ap (λ (n : ℕ). s .sums .accepted + n) (c .before .before .before .before .before .before .before .before .before .one-if .ensures);
       refused-is = ap (λ (n : ℕ). s .sums .refused + n) (c .before .before .before .before .before .before .before .one-if2 .ensures);
-      refusals-are = c .before .before .before .before .before .before .before .before .before .before .before .before .before .before .before .with-refusal .ensures;
+      refusals-are =
+          c .before .before .before .before .before .before .before .before .before .before .before .before .before .before .before .with-refusal .ensures;
       margin-is = refl;
       largest-is = c .before .before .before .before .before .before .before .before .before .before .before .either .ensures;
       place-is = c .before .before .before .before .before .before .before .before .before .before .either2 .ensures;

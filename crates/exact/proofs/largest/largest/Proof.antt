@@ -54,7 +54,8 @@ loop-again c =
     (seen (λ (x : ℤ). cond (ltZ x (l .best .value)) (l .best .number) (l .i - 1 + 1)) (getD ts (l .i - 1) (pos 0)) fits (c .or-earlier .ensures .1))
 
 returns : tie.Need-returns Inv-loop μ-loop
-returns c = finish (c .before .before .before .args .t1) (c .before .loop .i) (c .before .loop .best .value) (c .before .loop .best .number) (omega arith) (c .before .loop .inv)
+returns c = finish (c .before .before .before .args .t1) (c .before .loop .i) (c .before .loop .best .value) (c .before .loop .best .number)
+    (omega arith) (c .before .loop .inv)
 
 pub largest-spec : {M : Type 1} → statement M
 largest-spec =

@@ -45,7 +45,8 @@ or-zero-requires : tie.Need-or-zero-requires
 or-zero-requires c κs = search needs
 
 -- what the call of `or_zero` left
-sized : (c : tie.After-or-zero) → (c .or-zero .result + 1 ≡ natAbs (c .before .before .before .before .args .z)) × (natAbs (c .before .before .before .before .args .z) ≤ 2 ^ 63)
+sized : (c : tie.After-or-zero) → (c .or-zero .result + 1 ≡ natAbs (c .before .before .before .before .args .z))
+    × (natAbs (c .before .before .before .before .args .z) ≤ 2 ^ 63)
 sized c =
     let s = c .before .before .before .before in
     size (s .args .z) (c .before .minus .result) (c .or-zero .result) (s .fits .z) (record { sfits = c .before .minus .ok })

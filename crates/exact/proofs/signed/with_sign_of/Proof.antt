@@ -38,14 +38,16 @@ returns c =
     back (c .minus .result) (record { sfits = c .minus .ok })
     ∙ c .minus .ensures
     ∙ turned (c .before .as-signed .result) (s .args .m) (record { sfits = c .before .as-signed .ok }) (c .before .as-signed .ensures)
-    ∙ sym (sign-negative (s .args .z) (s .args .m) (sym (seen negative (s .args .z) (s .fits .z) (c .before .before .before .is-negative .ensures)) ∙ c .before .before .if1 .taken))
+    ∙ sym (sign-negative (s .args .z) (s .args .m) (sym (seen negative (s .args .z) (s .fits .z) (c .before .before .before .is-negative .ensures))
+    ∙ c .before .before .if1 .taken))
 
 returns-2 : tie.Need-returns-2
 returns-2 c =
     let s = c .before .before .before in
     back (c .as-signed2 .result) (record { sfits = c .as-signed2 .ok })
     ∙ c .as-signed2 .ensures
-    ∙ sym (sign-natural (s .args .z) (s .args .m) (sym (seen negative (s .args .z) (s .fits .z) (c .before .before .is-negative .ensures)) ∙ c .before .if1 .left))
+    ∙ sym (sign-natural (s .args .z) (s .args .m) (sym (seen negative (s .args .z) (s .fits .z) (c .before .before .is-negative .ensures))
+    ∙ c .before .if1 .left))
 
 pub with-sign-of-spec : {M : Type 1} → statement M
 with-sign-of-spec =

@@ -20,7 +20,8 @@ number-of-requires c κs = search needs
 returns : tie.Need-returns
 returns c =
     let s = c .before .before .before in
-    let f = answer-refused (s .args .file .now) (s .args .checked) (s .pre) (λ e. c .if1 .taken (c .before .number-of .ensures ∙ e)) Figures (s .args .figures .now) in
+    let f = answer-refused (s .args .file .now) (s .args .checked) (s .pre) (λ e. c .if1 .taken (c .before .number-of .ensures ∙ e)) Figures
+    (s .args .figures .now) in
     let b = all-refused (s .args .file .now) (s .args .checked) (s .pre) (λ e. c .if1 .taken (c .before .number-of .ensures ∙ e)) false (s .args .books .now) in
     let u = all-refused (s .args .file .now) (s .args .checked) (s .pre) (λ e. c .if1 .taken (c .before .number-of .ensures ∙ e)) true (s .args .uses .now) in
     record { figures-answer = f .0; figures-after = f .1; books-answer = b .0; books-after = b .1; uses-answer = u .0; uses-after = u .1 }
@@ -51,9 +52,12 @@ returns-2 c =
     let z = clear (c .before .before .before .before .before .before .before .before .before) in
     let r = c .before .before .before .everything-over in
     let x = r .ensures in
-    let f = answer-accepted file (s .args .checked) (s .pre) z (n .result .now) (n .ensures) Figures (s .args .figures .now) (r .result .figures) _ (x .figures-answer, x .figures-after) in
-    let b = all-accepted file (s .args .checked) (s .pre) z (n .result .now) (n .ensures) false (s .args .books .now) (r .result .books) _ (x .books-answer, x .books-after) in
-    let u = all-accepted file (s .args .checked) (s .pre) z (n .result .now) (n .ensures) true (s .args .uses .now) (r .result .uses) _ (x .uses-answer, x .uses-after) in
+    let f = answer-accepted file (s .args .checked) (s .pre) z (n .result .now) (n .ensures) Figures (s .args .figures .now) (r .result .figures) _
+    (x .figures-answer, x .figures-after) in
+    let b = all-accepted file (s .args .checked) (s .pre) z (n .result .now) (n .ensures) false (s .args .books .now) (r .result .books) _
+    (x .books-answer, x .books-after) in
+    let u = all-accepted file (s .args .checked) (s .pre) z (n .result .now) (n .ensures) true (s .args .uses .now) (r .result .uses) _
+    (x .uses-answer, x .uses-after) in
     record { figures-answer = f .0; figures-after = f .1; books-answer = b .0; books-after = b .1; uses-answer = u .0; uses-after = u .1 }
 
 pub everything-spec : {M : Type 1} → statement M

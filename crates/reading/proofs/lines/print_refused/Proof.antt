@@ -30,7 +30,11 @@ end-line-requires c κs = search needs
 
 returns-2 : tie.Need-returns-2
 returns-2 c =
-    rw (← c .before .before .before .before .before .before .before .number-of .ensures, ne-eqb _ _ (c .before .before .before .before .before .before .if1 .left))
+    rw (
+      ← c .before .before .before .before .before .before .before .number-of .ensures,
+      ne-eqb _ _
+          (c .before .before .before .before .before .before .if1 .left),
+    )
 
 pub print-refused-spec : {M : Type 1} → statement M
 print-refused-spec =

@@ -22,7 +22,12 @@ part-result-end c = search needs
 returns : tie.Need-returns
 returns c =
     let a = c .before .before .args in
-    rw (drop-of-length-le (a .numbers .now) {i = length (a .numbers .now)} (omega arith), drop-of-length-le (a .numbers .now) {i = a .n} (omega arith), take-nil)
+    rw (
+      drop-of-length-le (a .numbers .now) {i = length (a .numbers .now)} (omega arith),
+      drop-of-length-le (a .numbers .now) {i = a .n}
+          (omega arith),
+      take-nil,
+    )
 
 mul-result-2 : tie.Need-mul-result-2
 mul-result-2 c = search needs

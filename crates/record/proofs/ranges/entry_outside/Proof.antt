@@ -51,11 +51,16 @@ beyond-requires-2 c κs = search needs
 
 returns : tie.Need-returns
 returns c =
-    let marked = ap (λ (n : ℕ). eqb n 1) (c .before .before .before .before .before .before .before .before .before .before .before .before .byte-in .ensures .0) in
-    both (c .before .before .before .before .before .before .before .before .before .before .no-contract .ensures ∙ ap (beyond contractRange) (c .before .before .before .before .before .before .before .before .before .before .before .byte-in2 .ensures .0))
-    (both (c .before .before .before .before .before .before .before .before .no-contract2 .ensures ∙ ap (beyond contractRange) (c .before .before .before .before .before .before .before .before .before .byte-in3 .ensures .0))
-    (both (c .before .before .before .before .before .before .beyond .ensures ∙ ap (beyond (plain 0 100)) (c .before .before .before .before .before .before .before .byte-in4 .ensures .0))
-    (both (c .before .before .before .before .no-entry-ratio .ensures ∙ (λ i. beyond (entryRatioRange (marked i)) (c .before .before .before .before .before .u16-in .ensures .0 i)))
+    let marked = ap (λ (n : ℕ). eqb n 1)
+    (c .before .before .before .before .before .before .before .before .before .before .before .before .byte-in .ensures .0) in
+    both (c .before .before .before .before .before .before .before .before .before .before .no-contract .ensures
+    ∙ ap (beyond contractRange) (c .before .before .before .before .before .before .before .before .before .before .before .byte-in2 .ensures .0))
+    (both (c .before .before .before .before .before .before .before .before .no-contract2 .ensures
+    ∙ ap (beyond contractRange) (c .before .before .before .before .before .before .before .before .before .byte-in3 .ensures .0))
+    (both (c .before .before .before .before .before .before .beyond .ensures
+    ∙ ap (beyond (plain 0 100)) (c .before .before .before .before .before .before .before .byte-in4 .ensures .0))
+    (both (c .before .before .before .before .no-entry-ratio .ensures
+    ∙ (λ i. beyond (entryRatioRange (marked i)) (c .before .before .before .before .before .u16-in .ensures .0 i)))
     (both (c .before .before .no-entry-ratio2 .ensures ∙ (λ i. beyond (entryRatioRange (marked i)) (c .before .before .before .u16-in2 .ensures .0 i)))
     (last (c .beyond2 .ensures ∙ ap (beyond (plain 0 1)) (c .before .byte-in5 .ensures .0)))))))
 

@@ -80,7 +80,8 @@ returns-7 c =
     let r = c .before .before .before .before .before .before .before .before .before .args .r .now in
     let kind = c .before .before .before .before .before .before .before .byte-in .ensures .0 in
     c .beside-none .ensures ∙ ap (λ (fs : List Field). unusedBeside fs r)
-    (sym (of-none r (λ e. c .before .before .before .before .before .before .if1 .left (kind ∙ e)) (λ e. c .before .before .before .before .before .if2 .left (kind ∙ e))
+    (sym (of-none r (λ e. c .before .before .before .before .before .before .if1 .left (kind ∙ e))
+    (λ e. c .before .before .before .before .before .if2 .left (kind ∙ e))
     (λ e. c .before .before .before .before .if3 .left (kind ∙ e)) (λ e. c .before .before .before .if4 .left (kind ∙ e))
     (λ e. c .before .before .if5 .left (kind ∙ e)) (λ e. c .before .if6 .left (kind ∙ e))))
 

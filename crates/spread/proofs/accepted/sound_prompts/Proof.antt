@@ -51,7 +51,8 @@ loop-again c = let s = c .before .before .before .before .before .before in
     let ln : length (p .net) ≡ 32 = sym (length-map (p .net) _) ∙ s .good .0 .1 .1 .1 .1 .0 .1 .0 .1 in
     let n = open-length p lt ln (omega arith) in (
       omega arith,
-      tested-next soundPrompt (openOf p) i (record { tier = 0; unused = pos 0 }) (c .before .before .before .before .loop .sound) _ (omega arith) (c .before .before .before .before .loop .inv .1)
+      tested-next soundPrompt (openOf p) i (record { tier = 0; unused = pos 0 }) (c .before .before .before .before .loop .sound) _ (omega arith)
+          (c .before .before .before .before .loop .inv .1)
           (c .sound-prompt .ensures ∙ sym (ap soundPrompt (open-at p i _ _ _ lt ln (omega arith) (c .before .before .before .loop-test .taken)))),
     )
 

@@ -47,7 +47,8 @@ loop-again c = let s = c .before .before .before .before .before in
     let l : length (t .spread) ≡ 32 = sym (length-map (t .spread) _) ∙ s .good .0 .1 .1 .1 .0 .1 .0 .1 in
     let n = length-take-le (t .count) (t .spread) (omega arith) in (
       omega arith,
-      tested-next soundSpread (take (t .count) (t .spread)) i _ (c .before .before .before .loop .sound) _ (omega arith) (c .before .before .before .loop .inv .1)
+      tested-next soundSpread (take (t .count) (t .spread)) i _ (c .before .before .before .loop .sound) _ (omega arith)
+          (c .before .before .before .loop .inv .1)
           (c .sound-spread .ensures ∙ sym (ap soundSpread (getD-take (t .count) (t .spread) i _ (c .before .before .loop-test .taken)))),
     )
 

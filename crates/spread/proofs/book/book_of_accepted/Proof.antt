@@ -22,7 +22,8 @@ run-requires c κs =
     let lt : length (p .tier) ≡ 32 = sym (length-map (p .tier) _) ∙ s .good .0 .1 .1 .1 .0 .1 .0 .1 in
     let ln : length (p .net) ≡ 32 = sym (length-map (p .net) _) ∙ s .good .0 .1 .1 .1 .1 .0 .1 .0 .1 in (
       leb-true (s .args .table .count) 32
-          (and-left (leb (s .args .table .count) 32) (every soundSpread (spreadsOf (s .args .table))) (and-right (soundPrompts p) (soundTable (s .args .table)) (s .pre))),
+          (and-left (leb (s .args .table .count) 32) (every soundSpread (spreadsOf (s .args .table)))
+          (and-right (soundPrompts p) (soundTable (s .args .table)) (s .pre))),
       pooled-small p _ lt ln (and-left (soundPrompts p) (soundTable (s .args .table)) (s .pre)) (c .pools-of .ensures),
     )
 

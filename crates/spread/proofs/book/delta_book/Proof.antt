@@ -15,7 +15,8 @@ refused-requires c κs = search needs
 
 returns : tie.Need-returns
 returns c = let s = c .before .before .before in
-    booked-refused (s .args .prompts) (s .args .table) (c .refused .result) (sym (c .before .before .accepted .ensures) ∙ not-true _ (c .before .if1 .taken)) (c .refused .ensures)
+    booked-refused (s .args .prompts) (s .args .table) (c .refused .result)
+    (sym (c .before .before .accepted .ensures) ∙ not-true _ (c .before .if1 .taken)) (c .refused .ensures)
 
 book-of-accepted-requires : tie.Need-book-of-accepted-requires
 book-of-accepted-requires c κs = sym (c .before .accepted .ensures) ∙ not-false _ (c .if1 .left)

@@ -26,7 +26,8 @@ nets s = sym (length-map (s .args .t1 .net) _) ∙ s .good .0 .1 .1 .1 .1 .0 .1 
 
 -- the prompt of a turn
 here : (c : tie.After-pool-of Inv-loop μ-loop)
-    → let p = c .before .before .before .before .before .before .args .t1 in let k = c .before .before .before .before .loop .k in Placed (openOf p) k (netOf p k) (c .pool-of .result)
+    → let p = c .before .before .before .before .before .before .args .t1 in let k = c .before .before .before .before .loop .k in Placed (openOf p) k
+    (netOf p k) (c .pool-of .result)
 here c = let s = c .before .before .before .before .before .before in
     placed (s .args .t1) _ (c .pool-of .result) (tiers s) (nets s) (s .pre) (c .before .before .before .loop-test .taken) (c .pool-of .ensures)
 
@@ -97,7 +98,8 @@ loop-again c = let p = c .before .before .before .before .before in
     let parts = c .before .before .before .before .parts-of in (
       omega arith,
       l .inv .1,
-      pay-next (s .args .wanted .cell) (openOf (s .args .t1)) (l .k) (l .left) _ (l .paid .used) (l .paid .unused) _ cell (parts .result .used) (parts .result .unused) (omega arith)
+      pay-next (s .args .wanted .cell) (openOf (s .args .t1)) (l .k) (l .left) _ (l .paid .used) (l .paid .unused) _ cell (parts .result .used)
+          (parts .result .unused) (omega arith)
           (here p) (parts .ensures .0) (parts .ensures .1)
           (ap (set (l .left) cell) (c .beyond .ensures ∙ ap (λ (a : ℕ). getD (l .left) cell 0 - a) (c .before .size .ensures)))
           (l .inv .2),

@@ -29,7 +29,8 @@ nets s = sym (length-map (s .args .t1 .net) _) ∙ s .good .0 .1 .1 .1 .1 .0 .1 
 
 -- the prompt of a turn
 here : (c : tie.After-pool-of Inv-loop μ-loop)
-    → let p = c .before .before .before .before .before .args .t1 in let i = c .before .before .before .before .loop .i in Placed (openOf p) i (netOf p i) (c .pool-of .result)
+    → let p = c .before .before .before .before .before .args .t1 in let i = c .before .before .before .before .loop .i in Placed (openOf p) i
+    (netOf p i) (c .pool-of .result)
 here c = let s = c .before .before .before .before .before in
     placed (s .args .t1) _ (c .pool-of .result) (tiers s) (nets s) (s .pre) (c .before .before .before .loop-test .taken) (c .pool-of .ensures)
 

@@ -99,7 +99,8 @@ loop-again c = let j = c .before .before .before .before .before in
     let len : length (t .spread) ≡ 32 = sym (length-map (t .spread) _) ∙ s .good .1 .0 .1 .1 .1 .0 .1 .0 .1 in (
       omega arith,
       small-taken _ _ _ _ (second-step c) (between j),
-      table-next t (s .args .pools .cell) (l .i) (l .left .cell) _ _ (l .ran .first) (l .ran .second) _ _ _ len (s .pre .0) (j .before .before .before .before .before .before .loop-test .taken)
+      table-next t (s .args .pools .cell) (l .i) (l .left .cell) _ _ (l .ran .first) (l .ran .second) _ _ _ len (s .pre .0)
+          (j .before .before .before .before .before .before .loop-test .taken)
           (first-step j) (second-step c) (l .inv .2),
     )
 

@@ -53,8 +53,11 @@ loop-less c = omega arith
 
 loop-again : tie.Need-loop-again Inv-loop μ-loop
 loop-again c = let s = c .before .before .before .before .before in
-    let l = c .before .before .loop in
-    (omega arith, filled-next 0 (used-at (s .args .pools .cell) (s .args .left .cell)) (l .cell) (l .used) (c .beyond .result) (l .inv .1) (omega arith) (c .beyond .ensures))
+    let l = c .before .before .loop in (
+      omega arith,
+      filled-next 0 (used-at (s .args .pools .cell) (s .args .left .cell)) (l .cell) (l .used) (c .beyond .result) (l .inv .1)
+          (omega arith) (c .beyond .ensures),
+    )
 
 returns : tie.Need-returns Inv-loop μ-loop
 returns c = let s = c .before .before .before .before in

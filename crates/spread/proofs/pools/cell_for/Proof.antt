@@ -25,7 +25,8 @@ cell-of-requires : tie.Need-cell-of-requires
 cell-of-requires c κs = search needs
 
 returns : tie.Need-returns
-returns c = let s = c .before .before in c .cell-of .ensures ∙ ap (λ (m : Market). cellOf m (s .args .leg .tier)) (market (s .args .leg .side) (s .args .second))
+returns c = let s = c .before .before in c .cell-of .ensures ∙ ap (λ (m : Market). cellOf m (s .args .leg .tier))
+    (market (s .args .leg .side) (s .args .second))
 
 pub cell-for-spec : {M : Type 1} → statement M
 cell-for-spec = tie.close (tie.spec cell-of-requires returns)

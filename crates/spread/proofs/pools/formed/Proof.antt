@@ -32,7 +32,9 @@ smallest-requires c κs = search needs
 returns : tie.Need-returns
 returns c = let s = c .before .before .before .before .before .before .before .before in
     let l : length (s .args .t2 .leg) ≡ 3 = sym (length-map (s .args .t2 .leg) _) ∙ s .good .1 .0 .1 .1 .1 .0 .1 .0 .1 in
-    least-legs (s .args .second) (s .args .t2) _ _ _ (three _ (s .args .t2 .leg) l) (roomIn (s .args .cells .now)) _ _ _ _ (c .before .before .before .before .before .room-for .ensures) (c .before .before .before .room-for2 .ensures) (c .before .room-for3 .ensures) (c .smallest .ensures)
+    least-legs (s .args .second) (s .args .t2) _ _ _ (three _ (s .args .t2 .leg) l) (roomIn (s .args .cells .now)) _ _ _ _
+    (c .before .before .before .before .before .room-for .ensures) (c .before .before .before .room-for2 .ensures) (c .before .room-for3 .ensures)
+    (c .smallest .ensures)
 
 pub formed-spec : {M : Type 1} → statement M
 formed-spec =

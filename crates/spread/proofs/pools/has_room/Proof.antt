@@ -34,7 +34,9 @@ returns : tie.Need-returns
 returns c = let s = c .before .before .before .before .before .before .before .before in
     let l : length (s .args .t2 .leg) ≡ 3 = sym (length-map (s .args .t2 .leg) _) ∙ s .good .1 .0 .1 .1 .1 .0 .1 .0 .1 in
     ap (ltb 0)
-    (least-legs (s .args .second) (s .args .t2) _ _ _ (three _ (s .args .t2 .leg) l) (poolIn (s .args .cells .now)) _ _ _ _ (c .before .before .before .before .before .pool-for .ensures) (c .before .before .before .pool-for2 .ensures) (c .before .pool-for3 .ensures) (c .smallest .ensures))
+    (least-legs (s .args .second) (s .args .t2) _ _ _ (three _ (s .args .t2 .leg) l) (poolIn (s .args .cells .now)) _ _ _ _
+    (c .before .before .before .before .before .pool-for .ensures) (c .before .before .before .pool-for2 .ensures) (c .before .pool-for3 .ensures)
+    (c .smallest .ensures))
 
 pub has-room-spec : {M : Type 1} → statement M
 has-room-spec =

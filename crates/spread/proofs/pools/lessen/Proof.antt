@@ -34,7 +34,8 @@ returns c = let third = c .before .before in
     let first = second .before .before .before .before .before in
     let s = first .before .before .before .before in
     let l : length (s .args .t2 .leg) ≡ 3 = sym (length-map (s .args .t2 .leg) _) ∙ s .good .1 .0 .1 .1 .1 .0 .1 .0 .1 in
-    after-legs (s .args .second) (s .args .t2) _ _ _ (three _ (s .args .t2 .leg) l) (s .args .number) (s .args .cells .now) _ _ _ (first .less-if .ensures) (second .less-if2 .ensures) (third .less-if3 .ensures)
+    after-legs (s .args .second) (s .args .t2) _ _ _ (three _ (s .args .t2 .leg) l) (s .args .number) (s .args .cells .now) _ _ _
+    (first .less-if .ensures) (second .less-if2 .ensures) (third .less-if3 .ensures)
 
 pub lessen-spec : {M : Type 1} → statement M
 lessen-spec =

@@ -28,7 +28,8 @@ lesser-requires-3 c κs = search needs
 
 returns-4 : tie.Need-returns-4
 returns-4 c = let s = c .before .before .before .before .before in
-    c .lesser3 .ensures ∙ ap (min (s .args .a)) (c .before .lesser2 .ensures) ∙ sym (least-three (s .args .legs) (s .args .a) (s .args .b) (s .args .c) (omega arith))
+    c .lesser3 .ensures ∙ ap (min (s .args .a)) (c .before .lesser2 .ensures)
+    ∙ sym (least-three (s .args .legs) (s .args .a) (s .args .b) (s .args .c) (omega arith))
 
 pub smallest-spec : {M : Type 1} → statement M
 smallest-spec =

@@ -20,7 +20,8 @@ not-taken-requires c κs = search needs
 returns : tie.Need-returns
 returns c =
     let s = c .before .before .before in
-    stepped-refused (s .args .prompts) (s .args .spread) (s .args .second) (c .not-taken .result) (sym (c .before .before .can-step .ensures) ∙ not-true _ (c .before .if1 .taken)) (c .not-taken .ensures)
+    stepped-refused (s .args .prompts) (s .args .spread) (s .args .second) (c .not-taken .result)
+    (sym (c .before .before .can-step .ensures) ∙ not-true _ (c .before .if1 .taken)) (c .not-taken .ensures)
 
 pools-of-requires : tie.Need-pools-of-requires
 pools-of-requires c κs =
@@ -33,7 +34,8 @@ take-requires c κs =
     let q = s .args .prompts in
     let lt : length (q .tier) ≡ 32 = sym (length-map (q .tier) _) ∙ s .good .0 .1 .1 .1 .0 .1 .0 .1 in
     let ln : length (q .net) ≡ 32 = sym (length-map (q .net) _) ∙ s .good .0 .1 .1 .1 .1 .0 .1 .0 .1 in
-    pooled-small q _ lt ln (and-left (soundPrompts q) (soundSpread (s .args .spread)) (sym (c .before .before .can-step .ensures) ∙ not-false _ (c .before .if1 .left)))
+    pooled-small q _ lt ln
+    (and-left (soundPrompts q) (soundSpread (s .args .spread)) (sym (c .before .before .can-step .ensures) ∙ not-false _ (c .before .if1 .left)))
     (c .pools-of .ensures)
 
 used-of-requires : tie.Need-used-of-requires

@@ -37,7 +37,8 @@ returns c =
     let ok = file-ok file (s .args .kept .counts .account) (s .pre .counts .from-check) in
     let h = c .before .before .before .put-in in
     c .refused .ensures
-    ∙ ask-no-ticket file ts ok (h .result .ticket) (h .result .answer) (h .ensures .told) (λ z. c .before .if1 .taken (c .before .before .number-of .ensures ∙ z)) (s .args .ticket .now)
+    ∙ ask-no-ticket file ts ok (h .result .ticket) (h .result .answer) (h .ensures .told)
+    (λ z. c .before .if1 .taken (c .before .before .number-of .ensures ∙ z)) (s .args .ticket .now)
 
 add-requires : tie.Need-add-requires
 add-requires c κs =
@@ -56,7 +57,8 @@ add-refused c =
     let ts = ticketsIn bytes in
     let ok = file-ok file (s .args .kept .counts .account) (s .pre .counts .from-check) in
     let h = c .before .before .before .before .before .before .put-in in
-    let z : numberOf (c .before .before .before .before .before .before .put-in .result .answer) ≡ 0 = sym (c .before .before .before .before .before .number-of .ensures) ∙ c .before .before .before .before .if1 .left in
+    let z : numberOf (c .before .before .before .before .before .before .put-in .result .answer) ≡ 0 = sym
+    (c .before .before .before .before .before .number-of .ensures) ∙ c .before .before .before .before .if1 .left in
     let kb = c .before .before .before .before .before .before .put-in .ensures .kept z in
     omega (arith, h .ensures .many z, few-tickets file bytes (h .result .kept) kb)
 
@@ -71,10 +73,12 @@ returns-2 c =
     let ts = ticketsIn bytes in
     let ok = file-ok file (s .args .kept .counts .account) (s .pre .counts .from-check) in
     let h = c .before .before .before .before .before .before .before .put-in in
-    let z : numberOf (c .before .before .before .before .before .before .before .put-in .result .answer) ≡ 0 = sym (c .before .before .before .before .before .before .number-of .ensures) ∙ c .before .before .before .before .before .if1 .left in
+    let z : numberOf (c .before .before .before .before .before .before .before .put-in .result .answer) ≡ 0 = sym
+    (c .before .before .before .before .before .before .number-of .ensures) ∙ c .before .before .before .before .before .if1 .left in
     let kb = c .before .before .before .before .before .before .before .put-in .ensures .kept z in
     c .refused2 .ensures
-    ∙ ask-refused file ts ok (h .result .ticket) (h .result .answer) (h .ensures .told) z (s .args .ticket .now) (c .before .before .before .add .result .answer)
+    ∙ ask-refused file ts ok (h .result .ticket) (h .result .answer) (h .ensures .told) z (s .args .ticket .now)
+    (c .before .before .before .add .result .answer)
     (c .before .before .before .add .ensures .told ts kb) (λ y. c .before .if2 .taken (c .before .before .number-of2 .ensures ∙ y))
 
 add-t12 : tie.Need-add-t12
@@ -85,14 +89,16 @@ add-t12 c =
     let ts = ticketsIn bytes in
     let ok = file-ok file (s .args .kept .counts .account) (s .pre .counts .from-check) in
     let h = c .before .before .before .before .before .before .before .put-in in
-    let z : numberOf (c .before .before .before .before .before .before .before .put-in .result .answer) ≡ 0 = sym (c .before .before .before .before .before .before .number-of .ensures) ∙ c .before .before .before .before .before .if1 .left in
+    let z : numberOf (c .before .before .before .before .before .before .before .put-in .result .answer) ≡ 0 = sym
+    (c .before .before .before .before .before .before .number-of .ensures) ∙ c .before .before .before .before .before .if1 .left in
     let kb = c .before .before .before .before .before .before .before .put-in .ensures .kept z in
     omega (arith, h .ensures .many z, few-tickets file bytes (h .result .kept) kb)
 
 kept-total-requires : tie.Need-kept-total-requires
 kept-total-requires c κs =
     let s = c .before .before .before .before .before .before .before .before .before .before .before in
-    let z : numberOf (c .before .before .before .before .before .before .before .put-in .result .answer) ≡ 0 = sym (c .before .before .before .before .before .before .number-of .ensures) ∙ c .before .before .before .before .before .if1 .left in
+    let z : numberOf (c .before .before .before .before .before .before .before .put-in .result .answer) ≡ 0 = sym
+    (c .before .before .before .before .before .before .number-of .ensures) ∙ c .before .before .before .before .before .if1 .left in
     record { tickets = ticketsIn (s .args .tickets .now); kept = c .before .before .before .before .before .before .before .put-in .ensures .kept z }
 
 kept-total-requires-2 : tie.Need-kept-total-requires-2
@@ -103,9 +109,11 @@ kept-total-requires-2 c κs =
     let ts = ticketsIn bytes in
     let ok = file-ok file (s .args .kept .counts .account) (s .pre .counts .from-check) in
     let h = c .before .before .before .before .before .before .before .before .put-in in
-    let z : numberOf (c .before .before .before .before .before .before .before .before .put-in .result .answer) ≡ 0 = sym (c .before .before .before .before .before .before .before .number-of .ensures) ∙ c .before .before .before .before .before .before .if1 .left in
+    let z : numberOf (c .before .before .before .before .before .before .before .before .put-in .result .answer) ≡ 0 = sym
+    (c .before .before .before .before .before .before .before .number-of .ensures) ∙ c .before .before .before .before .before .before .if1 .left in
     let kb = c .before .before .before .before .before .before .before .before .put-in .ensures .kept z in
-    let y : numberOf (c .before .before .before .before .add .result .answer) ≡ 0 = sym (c .before .before .before .number-of2 .ensures) ∙ c .before .before .if2 .left in
+    let y : numberOf (c .before .before .before .before .add .result .answer) ≡ 0 = sym (c .before .before .before .number-of2 .ensures)
+    ∙ c .before .before .if2 .left in
     record { tickets = ts ++ s .args .ticket .now ∷ []; kept = c .before .before .before .before .add .ensures .accepted y ts kb }
 
 returns-3 : tie.Need-returns-3
@@ -116,13 +124,22 @@ returns-3 c =
     let ts = ticketsIn bytes in
     let ok = file-ok file (s .args .kept .counts .account) (s .pre .counts .from-check) in
     let h = c .before .before .before .before .before .before .before .before .before .put-in in
-    let z : numberOf (c .before .before .before .before .before .before .before .before .before .put-in .result .answer) ≡ 0 = sym (c .before .before .before .before .before .before .before .before .number-of .ensures) ∙ c .before .before .before .before .before .before .before .if1 .left in
+    let z : numberOf (c .before .before .before .before .before .before .before .before .before .put-in .result .answer) ≡ 0 = sym
+    (c .before .before .before .before .before .before .before .before .number-of .ensures)
+    ∙ c .before .before .before .before .before .before .before .if1 .left in
     let kb = c .before .before .before .before .before .before .before .before .before .put-in .ensures .kept z in
     let t = s .args .ticket .now in
-    let y : numberOf (c .before .before .before .before .before .add .result .answer) ≡ 0 = sym (c .before .before .before .before .number-of2 .ensures) ∙ c .before .before .before .if2 .left in
+    let y : numberOf (c .before .before .before .before .before .add .result .answer) ≡ 0 = sym
+    (c .before .before .before .before .number-of2 .ensures) ∙ c .before .before .before .if2 .left in
     ask-answered file ts ok (h .result .ticket) (h .result .answer) (h .ensures .told) z t (c .before .before .before .before .before .add .result .answer)
     (c .before .before .before .before .before .add .ensures .told ts kb) y
-    (record { ticket = h .result .ticket + 1; answer = c .before .before .before .before .before .add .result .answer; before = c .before .kept-total .result; after = c .kept-total2 .result })
+    (record {
+      ticket = h .result .ticket + 1;
+      answer = c .before .before .before .before .before .add .result .answer;
+      before =
+          c .before .kept-total .result;
+      after = c .kept-total2 .result;
+    })
     refl refl (c .before .kept-total .ensures ts kb)
     (c .kept-total2 .ensures (ts ++ t ∷ []) (c .before .before .before .before .before .add .ensures .accepted y ts kb) ∙ ap total (tickets-last file ts t))
 

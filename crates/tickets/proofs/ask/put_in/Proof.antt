@@ -71,7 +71,8 @@ returns c =
     record {
       told =
           from-stops file bytes n (l .i) (c .before .before .before .before .loop-test .taken) (a .result .answer)
-          (a .ensures .told (cut (l .i) bytes) (l .inv .1 .0) ∙ ap (ticketChecked (withTickets file (cut (l .i) bytes))) (c .before .before .before .record-at .ensures)) nz
+          (a .ensures .told (cut (l .i) bytes) (l .inv .1 .0) ∙ ap (ticketChecked (withTickets file (cut (l .i) bytes)))
+          (c .before .before .before .record-at .ensures)) nz
           ∙ sym (l .inv .1 .1) ∙ ap (inTurn 0 file) (all bytes n (c .before .before .before .before .before .before .ticket-count .ensures));
       many = λ z. absurd (nz z);
       kept = λ z. absurd (nz z);
@@ -92,10 +93,12 @@ loop-again c =
     let n = c .before .before .before .before .before .before .before .ticket-count .result in
     let a = c .before .before .before .add in
     let z : numberOf (a .result .answer) ≡ 0 = sym (c .before .before .number-of .ensures) ∙ c .before .if1 .left in
-    let told = a .ensures .told (cut (l .i) bytes) (l .inv .1 .0) ∙ ap (ticketChecked (withTickets file (cut (l .i) bytes))) (c .before .before .before .before .record-at .ensures) in (
+    let told = a .ensures .told (cut (l .i) bytes) (l .inv .1 .0) ∙ ap (ticketChecked (withTickets file (cut (l .i) bytes)))
+    (c .before .before .before .before .record-at .ensures) in (
       omega (arith, c .before .before .before .before .before .loop-test .taken),
       (
-        next file bytes (a .result .kept) (l .i) (c .before .before .before .before .record-at .result .now) (c .before .before .before .before .record-at .ensures) (a .ensures .accepted z (cut (l .i) bytes) (l .inv .1 .0)),
+        next file bytes (a .result .kept) (l .i) (c .before .before .before .before .record-at .result .now)
+            (c .before .before .before .before .record-at .ensures) (a .ensures .accepted z (cut (l .i) bytes) (l .inv .1 .0)),
         l .inv .1 .1 ∙ from-next file bytes n (l .i) (c .before .before .before .before .before .loop-test .taken) (sym (ap numberOf told) ∙ z),
       ),
     )

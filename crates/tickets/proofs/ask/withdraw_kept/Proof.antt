@@ -36,7 +36,8 @@ returns c =
     let ok = file-ok file (s .args .kept .counts .account) (s .pre .counts .from-check) in
     let h = c .before .before .before .put-in in
     c .refused .ensures
-    ∙ withdraw-no-ticket file ts ok (h .result .ticket) (h .result .answer) (h .ensures .told) (λ z. c .before .if1 .taken (c .before .before .number-of .ensures ∙ z))
+    ∙ withdraw-no-ticket file ts ok (h .result .ticket) (h .result .answer) (h .ensures .told)
+    (λ z. c .before .if1 .taken (c .before .before .number-of .ensures ∙ z))
 
 withdraw-requires : tie.Need-withdraw-requires
 withdraw-requires c κs =
@@ -64,17 +65,20 @@ returns-2 c =
     let ts = ticketsIn bytes in
     let ok = file-ok file (s .args .kept .counts .account) (s .pre .counts .from-check) in
     let h = c .before .before .before .before .before .before .before .put-in in
-    let z : numberOf (c .before .before .before .before .before .before .before .put-in .result .answer) ≡ 0 = sym (c .before .before .before .before .before .before .number-of .ensures) ∙ c .before .before .before .before .before .if1 .left in
+    let z : numberOf (c .before .before .before .before .before .before .before .put-in .result .answer) ≡ 0 = sym
+    (c .before .before .before .before .before .before .number-of .ensures) ∙ c .before .before .before .before .before .if1 .left in
     let kb = c .before .before .before .before .before .before .before .put-in .ensures .kept z in
     let w = c .before .before .before .withdraw in
-    let none = nothing-left file bytes (h .result .kept) kb (w .result .answer) (w .ensures .told) (λ y. c .before .if2 .taken (c .before .before .number-of2 .ensures ∙ y)) in
+    let none = nothing-left file bytes (h .result .kept) kb (w .result .answer) (w .ensures .told)
+    (λ y. c .before .if2 .taken (c .before .before .number-of2 .ensures ∙ y)) in
     c .refused2 .ensures
     ∙ withdraw-none file ts ok (h .result .ticket) (h .result .answer) (h .ensures .told) z (w .result .answer) (h .ensures .many z ∙ none .0) (none .1)
 
 kept-total-requires : tie.Need-kept-total-requires
 kept-total-requires c κs =
     let s = c .before .before .before .before .before .before .before .before .before .before in
-    let z : numberOf (c .before .before .before .before .before .before .before .put-in .result .answer) ≡ 0 = sym (c .before .before .before .before .before .before .number-of .ensures) ∙ c .before .before .before .before .before .if1 .left in
+    let z : numberOf (c .before .before .before .before .before .before .before .put-in .result .answer) ≡ 0 = sym
+    (c .before .before .before .before .before .before .number-of .ensures) ∙ c .before .before .before .before .before .if1 .left in
     record { tickets = ticketsIn (s .args .tickets .now); kept = c .before .before .before .before .before .before .before .put-in .ensures .kept z }
 
 kept-total-requires-2 : tie.Need-kept-total-requires-2
@@ -85,9 +89,11 @@ kept-total-requires-2 c κs =
     let ts = ticketsIn bytes in
     let ok = file-ok file (s .args .kept .counts .account) (s .pre .counts .from-check) in
     let h = c .before .before .before .before .before .before .before .before .put-in in
-    let z : numberOf (c .before .before .before .before .before .before .before .before .put-in .result .answer) ≡ 0 = sym (c .before .before .before .before .before .before .before .number-of .ensures) ∙ c .before .before .before .before .before .before .if1 .left in
+    let z : numberOf (c .before .before .before .before .before .before .before .before .put-in .result .answer) ≡ 0 = sym
+    (c .before .before .before .before .before .before .before .number-of .ensures) ∙ c .before .before .before .before .before .before .if1 .left in
     let kb = c .before .before .before .before .before .before .before .before .put-in .ensures .kept z in
-    let y : numberOf (c .before .before .before .before .withdraw .result .answer) ≡ 0 = sym (c .before .before .before .number-of2 .ensures) ∙ c .before .before .if2 .left in
+    let y : numberOf (c .before .before .before .before .withdraw .result .answer) ≡ 0 = sym (c .before .before .before .number-of2 .ensures)
+    ∙ c .before .before .if2 .left in
     record { tickets = cut (h .result .kept .counts .tickets - 1) bytes; kept = c .before .before .before .before .withdraw .ensures .accepted y }
 
 returns-3 : tie.Need-returns-3
@@ -98,7 +104,9 @@ returns-3 c =
     let ts = ticketsIn bytes in
     let ok = file-ok file (s .args .kept .counts .account) (s .pre .counts .from-check) in
     let h = c .before .before .before .before .before .before .before .before .before .put-in in
-    let z : numberOf (c .before .before .before .before .before .before .before .before .before .put-in .result .answer) ≡ 0 = sym (c .before .before .before .before .before .before .before .before .number-of .ensures) ∙ c .before .before .before .before .before .before .before .if1 .left in
+    let z : numberOf (c .before .before .before .before .before .before .before .before .before .put-in .result .answer) ≡ 0 = sym
+    (c .before .before .before .before .before .before .before .before .number-of .ensures)
+    ∙ c .before .before .before .before .before .before .before .if1 .left in
     let kb = c .before .before .before .before .before .before .before .before .before .put-in .ensures .kept z in
     let w = c .before .before .before .before .before .withdraw in
     let y : numberOf (w .result .answer) ≡ 0 = sym (c .before .before .before .before .number-of2 .ensures) ∙ c .before .before .before .if2 .left in

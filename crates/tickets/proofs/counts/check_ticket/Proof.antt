@@ -14,7 +14,8 @@ use Rattle.account.specs.Records.{records}
 use Rattle.tickets.specs.Ticket.{withTickets}
 use Rattle.tickets.specs.Counts.{Small}
 use Rattle.tickets.specs.declared.counts.Counts.{Counts}
-use Rattle.tickets.proofs.CountLaws.{small, stands-in, many-few, by-counts, row-within-here, rates-read, rates-fit, told-by, tell-2, tell-3, tell-row, tell-rate, tell-1, tell-0}
+use Rattle.tickets.proofs.CountLaws.{small, stands-in, many-few, by-counts, row-within-here, rates-read, rates-fit, told-by, tell-2, tell-3}
+use Rattle.tickets.proofs.CountLaws.{tell-row, tell-rate, tell-1, tell-0}
 use Rattle.tickets.proofs.counts.check_ticket.Statement.{statement}
 use Rattle.tickets.proofs.counts.check_ticket.Tie as tie
 
@@ -44,7 +45,8 @@ returns-2 c =
     let a = c .before .before .before .before .before .before .before .before .args in
     λ ts co.
     tell-3 (a .file .now) ts (a .counts) co (a .ticket .now) (c .before .before .place-of .result)
-    (at (a .counts) (a .ticket .now) (c .before .before .place-of .result) (c .before .before .before .contract .result) (c .before .before .before .contract .ensures .0) (c .before .before .place-of .ensures))
+    (at (a .counts) (a .ticket .now) (c .before .before .place-of .result) (c .before .before .before .contract .result)
+    (c .before .before .before .contract .ensures .0) (c .before .before .place-of .ensures))
     (c .before .before .before .before .if1 .left) (λ e. c .if2 .taken (c .before .kind .ensures .0 ∙ e))
 
 slice-aggregate-number-at : tie.Need-slice-aggregate-number-at
@@ -56,8 +58,11 @@ number-at-requires c κs = search needs
 row-fault-requires : tie.Need-row-fault-requires
 row-fault-requires c κs =
     let s = c .before .before .before .before .before .before .before .before .before .before .before .before in
-    let p = s .pre .1 in
-    (stands-in (s .args .file .now) (s .args .counts .account) (p .counts .from-check) (s .args .none .now) (s .pre .0), sym (c .before .before .before .before .before .kind .ensures .0) ∙ c .before .before .before .before .if2 .left)
+    let p = s .pre .1 in (
+      stands-in (s .args .file .now) (s .args .counts .account) (p .counts .from-check) (s .args .none .now) (s .pre .0),
+      sym
+          (c .before .before .before .before .before .kind .ensures .0) ∙ c .before .before .before .before .if2 .left,
+    )
 
 refusal-requires : tie.Need-refusal-requires
 refusal-requires c κs = search needs
@@ -69,11 +74,19 @@ returns-3 c =
     let t = a .ticket .now in
     λ ts co.
     c .refusal .ensures
-    ∙ tell-row (a .file .now) ts (a .counts) co t (a .none .now) (s .pre .0) (c .before .before .before .before .before .before .before .before .before .before .before .if1 .left) (sym (c .before .before .before .before .before .before .before .before .kind .ensures .0) ∙ c .before .before .before .before .before .before .before .if2 .left)
+    ∙ tell-row (a .file .now) ts (a .counts) co t (a .none .now) (s .pre .0)
+    (c .before .before .before .before .before .before .before .before .before .before .before .if1 .left)
+    (sym (c .before .before .before .before .before .before .before .before .kind .ensures .0)
+    ∙ c .before .before .before .before .before .before .before .if2 .left)
     (c .before .before .before .before .before .before .before .before .before .place-of .result) (c .before .before .row-fault .result)
-    (at (a .counts) t (c .before .before .before .before .before .before .before .before .before .place-of .result) (c .before .before .before .before .before .before .before .before .before .before .contract .result) (c .before .before .before .before .before .before .before .before .before .before .contract .ensures .0) (c .before .before .before .before .before .before .before .before .before .place-of .ensures))
-    (by-counts (a .file .now) ts (a .counts) co t (a .none .now) (c .before .before .row-fault .result) (c .before .before .before .number-at .result) (c .before .before .before .before .before .before .before .before .before .before .contract .result)
-    (c .before .before .row-fault .ensures) (c .before .before .before .number-at .ensures) (c .before .before .before .before .before .before .before .before .before .before .contract .ensures .0))
+    (at (a .counts) t (c .before .before .before .before .before .before .before .before .before .place-of .result)
+    (c .before .before .before .before .before .before .before .before .before .before .contract .result)
+    (c .before .before .before .before .before .before .before .before .before .before .contract .ensures .0)
+    (c .before .before .before .before .before .before .before .before .before .place-of .ensures))
+    (by-counts (a .file .now) ts (a .counts) co t (a .none .now) (c .before .before .row-fault .result) (c .before .before .before .number-at .result)
+    (c .before .before .before .before .before .before .before .before .before .before .contract .result)
+    (c .before .before .row-fault .ensures) (c .before .before .before .number-at .ensures)
+    (c .before .before .before .before .before .before .before .before .before .before .contract .ensures .0))
     (c .before .if3 .taken)
 
 part-requires : tie.Need-part-requires
@@ -92,14 +105,21 @@ row-answer-requires c κs =
     let t = a .ticket .now in
     let x = s .pre .1 in
     let co = x .counts in
-    let row = sym (c .before .before .before .before .before .before .before .before .before .kind .ensures .0) ∙ c .before .before .before .before .before .before .before .before .if2 .left in
+    let row = sym (c .before .before .before .before .before .before .before .before .before .kind .ensures .0)
+    ∙ c .before .before .before .before .before .before .before .before .if2 .left in
     let e = rates-read (a .file .now) (x .tickets) (a .counts) co (a .none .now) (s .pre .0) (c .before .part .result .now) (c .before .part .ensures) in (
       record {
         isRow = row;
         within =
-            row-within-here (a .file .now) (x .tickets) (a .counts) co t (a .none .now) (s .pre .0) (c .before .before .before .before .before .before .before .before .before .before .before .before .if1 .left) row (c .before .before .before .row-fault .result)
-            (by-counts (a .file .now) (x .tickets) (a .counts) co t (a .none .now) (c .before .before .before .row-fault .result) (c .before .before .before .before .number-at .result) (c .before .before .before .before .before .before .before .before .before .before .before .contract .result)
-            (c .before .before .before .row-fault .ensures) (c .before .before .before .before .number-at .ensures) (c .before .before .before .before .before .before .before .before .before .before .before .contract .ensures .0)) (c .before .before .if3 .left);
+            row-within-here (a .file .now) (x .tickets) (a .counts) co t (a .none .now) (s .pre .0)
+            (c .before .before .before .before .before .before .before .before .before .before .before .before .if1 .left) row
+            (c .before .before .before .row-fault .result)
+            (by-counts (a .file .now) (x .tickets) (a .counts) co t (a .none .now) (c .before .before .before .row-fault .result)
+            (c .before .before .before .before .number-at .result)
+            (c .before .before .before .before .before .before .before .before .before .before .before .contract .result)
+            (c .before .before .before .row-fault .ensures) (c .before .before .before .before .number-at .ensures)
+            (c .before .before .before .before .before .before .before .before .before .before .before .contract .ensures .0))
+            (c .before .before .if3 .left);
       },
       record {
         rates = ratesOf (records (withTickets (a .file .now) (x .tickets)));
@@ -113,18 +133,34 @@ number-of-requires c κs = search needs
 
 returns-4 : tie.Need-returns-4
 returns-4 c =
-    let s = c .before .before .before .before .before .before .before .before .before .before .before .before .before .before .before .before .before .before .before in
+    let s = c .before .before .before .before .before .before .before .before .before .before .before .before .before .before .before .before .before
+    .before .before in
     let a = s .args in
     let t = a .ticket .now in
     λ ts co.
-    tell-rate (a .file .now) ts (a .counts) co t (a .none .now) (s .pre .0) (c .before .before .before .before .before .before .before .before .before .before .before .before .before .before .before .if1 .left) (sym (c .before .before .before .before .before .before .before .before .before .before .before .before .kind .ensures .0) ∙ c .before .before .before .before .before .before .before .before .before .before .before .if2 .left)
+    tell-rate (a .file .now) ts (a .counts) co t (a .none .now) (s .pre .0)
+    (c .before .before .before .before .before .before .before .before .before .before .before .before .before .before .before .if1 .left)
+    (sym (c .before .before .before .before .before .before .before .before .before .before .before .before .kind .ensures .0)
+    ∙ c .before .before .before .before .before .before .before .before .before .before .before .if2 .left)
     (c .before .before .before .before .before .before .row-fault .result)
-    (by-counts (a .file .now) ts (a .counts) co t (a .none .now) (c .before .before .before .before .before .before .row-fault .result) (c .before .before .before .before .before .before .before .number-at .result) (c .before .before .before .before .before .before .before .before .before .before .before .before .before .before .contract .result)
-    (c .before .before .before .before .before .before .row-fault .ensures) (c .before .before .before .before .before .before .before .number-at .ensures) (c .before .before .before .before .before .before .before .before .before .before .before .before .before .before .contract .ensures .0))
-    (c .before .before .before .before .before .if3 .left) (c .before .before .before .before .before .before .before .before .before .before .before .before .before .place-of .result)
-    (at (a .counts) t (c .before .before .before .before .before .before .before .before .before .before .before .before .before .place-of .result) (c .before .before .before .before .before .before .before .before .before .before .before .before .before .before .contract .result) (c .before .before .before .before .before .before .before .before .before .before .before .before .before .before .contract .ensures .0) (c .before .before .before .before .before .before .before .before .before .before .before .before .before .place-of .ensures))
+    (by-counts (a .file .now) ts (a .counts) co t (a .none .now) (c .before .before .before .before .before .before .row-fault .result)
+    (c .before .before .before .before .before .before .before .number-at .result)
+    (c .before .before .before .before .before .before .before .before .before .before .before .before .before .before .contract .result)
+    (c .before .before .before .before .before .before .row-fault .ensures)
+    (c .before .before .before .before .before .before .before .number-at .ensures)
+    (c .before .before .before .before .before .before .before .before .before .before .before .before .before .before .contract .ensures .0))
+    (c .before .before .before .before .before .if3 .left)
+    (c .before .before .before .before .before .before .before .before .before .before .before .before .before .place-of .result)
+    (at (a .counts) t (c .before .before .before .before .before .before .before .before .before .before .before .before .before .place-of .result)
+    (c .before .before .before .before .before .before .before .before .before .before .before .before .before .before .contract .result)
+    (c .before .before .before .before .before .before .before .before .before .before .before .before .before .before .contract .ensures .0)
+    (c .before .before .before .before .before .before .before .before .before .before .before .before .before .place-of .ensures))
     (c .before .before .row-answer .result)
-    (told-by (a .file .now) ts (a .counts) co t (a .none .now) (s .pre .0) (c .before .before .before .before .part .result .now) (c .before .before .before .before .part .ensures) (c .before .before .before .rates-of .result) (c .before .before .before .rates-of .ensures) (c .before .before .before .before .before .before .before .before .before .before .before .before .before .place-of .result) (c .before .before .row-answer .result) (c .before .before .row-answer .ensures))
+    (told-by (a .file .now) ts (a .counts) co t (a .none .now) (s .pre .0) (c .before .before .before .before .part .result .now)
+    (c .before .before .before .before .part .ensures) (c .before .before .before .rates-of .result)
+    (c .before .before .before .rates-of .ensures)
+    (c .before .before .before .before .before .before .before .before .before .before .before .before .before .place-of .result)
+    (c .before .before .row-answer .result) (c .before .before .row-answer .ensures))
     (λ z. c .if4 .taken (c .before .number-of .ensures ∙ z))
 
 record-total-requires : tie.Need-record-total-requires
@@ -132,37 +168,76 @@ record-total-requires c κs = search needs
 
 add-if5 : tie.Need-add-if5
 add-if5 c =
-    let s = c .before .before .before .before .before .before .before .before .before .before .before .before .before .before .before .before .before .before .before .before .before in
+    let s = c .before .before .before .before .before .before .before .before .before .before .before .before .before .before .before .before .before
+    .before .before .before .before in
     let p = s .pre .1 in
     omega (arith, c .before .record-total .ensures, many-few (s .args .file .now) (p .tickets) (s .args .counts) (p .counts))
 
 returns-5 : tie.Need-returns-5
 returns-5 c =
-    let s = c .before .before .before .before .before .before .before .before .before .before .before .before .before .before .before .before .before .before .before .before .before .before in
+    let s = c .before .before .before .before .before .before .before .before .before .before .before .before .before .before .before .before .before
+    .before .before .before .before .before in
     let a = s .args in
     let t = a .ticket .now in
     λ ts co.
-    tell-1 (a .file .now) ts (a .counts) co t (a .none .now) (s .pre .0) (c .before .before .before .before .before .before .before .before .before .before .before .before .before .before .before .before .before .before .if1 .left) (sym (c .before .before .before .before .before .before .before .before .before .before .before .before .before .before .before .kind .ensures .0) ∙ c .before .before .before .before .before .before .before .before .before .before .before .before .before .before .if2 .left)
+    tell-1 (a .file .now) ts (a .counts) co t (a .none .now) (s .pre .0)
+    (c .before .before .before .before .before .before .before .before .before .before .before .before .before .before .before .before .before
+    .before .if1 .left)
+    (sym (c .before .before .before .before .before .before .before .before .before .before .before .before .before .before .before .kind .ensures
+    .0) ∙ c .before .before .before .before .before .before .before .before .before .before .before .before .before .before .if2 .left)
     (c .before .before .before .before .before .before .before .before .before .row-fault .result)
-    (by-counts (a .file .now) ts (a .counts) co t (a .none .now) (c .before .before .before .before .before .before .before .before .before .row-fault .result) (c .before .before .before .before .before .before .before .before .before .before .number-at .result) (c .before .before .before .before .before .before .before .before .before .before .before .before .before .before .before .before .before .contract .result)
-    (c .before .before .before .before .before .before .before .before .before .row-fault .ensures) (c .before .before .before .before .before .before .before .before .before .before .number-at .ensures) (c .before .before .before .before .before .before .before .before .before .before .before .before .before .before .before .before .before .contract .ensures .0))
-    (c .before .before .before .before .before .before .before .before .if3 .left) (c .before .before .before .before .before .before .before .before .before .before .before .before .before .before .before .before .place-of .result) (c .before .before .before .before .before .row-answer .result)
-    (told-by (a .file .now) ts (a .counts) co t (a .none .now) (s .pre .0) (c .before .before .before .before .before .before .before .part .result .now) (c .before .before .before .before .before .before .before .part .ensures) (c .before .before .before .before .before .before .rates-of .result) (c .before .before .before .before .before .before .rates-of .ensures) (c .before .before .before .before .before .before .before .before .before .before .before .before .before .before .before .before .place-of .result) (c .before .before .before .before .before .row-answer .result) (c .before .before .before .before .before .row-answer .ensures))
+    (by-counts (a .file .now) ts (a .counts) co t (a .none .now)
+    (c .before .before .before .before .before .before .before .before .before .row-fault .result)
+    (c .before .before .before .before .before .before .before .before .before .before .number-at .result)
+    (c .before .before .before .before .before .before .before .before .before .before .before .before .before .before .before .before .before
+    .contract .result)
+    (c .before .before .before .before .before .before .before .before .before .row-fault .ensures)
+    (c .before .before .before .before .before .before .before .before .before .before .number-at .ensures)
+    (c .before .before .before .before .before .before .before .before .before .before .before .before .before .before .before .before .before
+    .contract .ensures .0))
+    (c .before .before .before .before .before .before .before .before .if3 .left)
+    (c .before .before .before .before .before .before .before .before .before .before .before .before .before .before .before .before .place-of
+    .result) (c .before .before .before .before .before .row-answer .result)
+    (told-by (a .file .now) ts (a .counts) co t (a .none .now) (s .pre .0)
+    (c .before .before .before .before .before .before .before .part .result .now)
+    (c .before .before .before .before .before .before .before .part .ensures)
+    (c .before .before .before .before .before .before .rates-of .result) (c .before .before .before .before .before .before .rates-of .ensures)
+    (c .before .before .before .before .before .before .before .before .before .before .before .before .before .before .before .before .place-of
+    .result) (c .before .before .before .before .before .row-answer .result) (c .before .before .before .before .before .row-answer .ensures))
     (sym (c .before .before .before .before .number-of .ensures) ∙ c .before .before .before .if4 .left)
     (omega (arith, c .if5 .taken, c .before .before .record-total .ensures))
 
 returns-6 : tie.Need-returns-6
 returns-6 c =
-    let s = c .before .before .before .before .before .before .before .before .before .before .before .before .before .before .before .before .before .before .before .before .before .before in
+    let s = c .before .before .before .before .before .before .before .before .before .before .before .before .before .before .before .before .before
+    .before .before .before .before .before in
     let a = s .args in
     let t = a .ticket .now in
     λ ts co.
-    tell-0 (a .file .now) ts (a .counts) co t (a .none .now) (s .pre .0) (c .before .before .before .before .before .before .before .before .before .before .before .before .before .before .before .before .before .before .if1 .left) (sym (c .before .before .before .before .before .before .before .before .before .before .before .before .before .before .before .kind .ensures .0) ∙ c .before .before .before .before .before .before .before .before .before .before .before .before .before .before .if2 .left)
+    tell-0 (a .file .now) ts (a .counts) co t (a .none .now) (s .pre .0)
+    (c .before .before .before .before .before .before .before .before .before .before .before .before .before .before .before .before .before
+    .before .if1 .left)
+    (sym (c .before .before .before .before .before .before .before .before .before .before .before .before .before .before .before .kind .ensures
+    .0) ∙ c .before .before .before .before .before .before .before .before .before .before .before .before .before .before .if2 .left)
     (c .before .before .before .before .before .before .before .before .before .row-fault .result)
-    (by-counts (a .file .now) ts (a .counts) co t (a .none .now) (c .before .before .before .before .before .before .before .before .before .row-fault .result) (c .before .before .before .before .before .before .before .before .before .before .number-at .result) (c .before .before .before .before .before .before .before .before .before .before .before .before .before .before .before .before .before .contract .result)
-    (c .before .before .before .before .before .before .before .before .before .row-fault .ensures) (c .before .before .before .before .before .before .before .before .before .before .number-at .ensures) (c .before .before .before .before .before .before .before .before .before .before .before .before .before .before .before .before .before .contract .ensures .0))
-    (c .before .before .before .before .before .before .before .before .if3 .left) (c .before .before .before .before .before .before .before .before .before .before .before .before .before .before .before .before .place-of .result) (c .before .before .before .before .before .row-answer .result)
-    (told-by (a .file .now) ts (a .counts) co t (a .none .now) (s .pre .0) (c .before .before .before .before .before .before .before .part .result .now) (c .before .before .before .before .before .before .before .part .ensures) (c .before .before .before .before .before .before .rates-of .result) (c .before .before .before .before .before .before .rates-of .ensures) (c .before .before .before .before .before .before .before .before .before .before .before .before .before .before .before .before .place-of .result) (c .before .before .before .before .before .row-answer .result) (c .before .before .before .before .before .row-answer .ensures))
+    (by-counts (a .file .now) ts (a .counts) co t (a .none .now)
+    (c .before .before .before .before .before .before .before .before .before .row-fault .result)
+    (c .before .before .before .before .before .before .before .before .before .before .number-at .result)
+    (c .before .before .before .before .before .before .before .before .before .before .before .before .before .before .before .before .before
+    .contract .result)
+    (c .before .before .before .before .before .before .before .before .before .row-fault .ensures)
+    (c .before .before .before .before .before .before .before .before .before .before .number-at .ensures)
+    (c .before .before .before .before .before .before .before .before .before .before .before .before .before .before .before .before .before
+    .contract .ensures .0))
+    (c .before .before .before .before .before .before .before .before .if3 .left)
+    (c .before .before .before .before .before .before .before .before .before .before .before .before .before .before .before .before .place-of
+    .result) (c .before .before .before .before .before .row-answer .result)
+    (told-by (a .file .now) ts (a .counts) co t (a .none .now) (s .pre .0)
+    (c .before .before .before .before .before .before .before .part .result .now)
+    (c .before .before .before .before .before .before .before .part .ensures)
+    (c .before .before .before .before .before .before .rates-of .result) (c .before .before .before .before .before .before .rates-of .ensures)
+    (c .before .before .before .before .before .before .before .before .before .before .before .before .before .before .before .before .place-of
+    .result) (c .before .before .before .before .before .row-answer .result) (c .before .before .before .before .before .row-answer .ensures))
     (sym (c .before .before .before .before .number-of .ensures) ∙ c .before .before .before .if4 .left)
     (omega (arith, c .if5 .left, c .before .before .record-total .ensures))
 

@@ -19,8 +19,11 @@ slice-aggregate-sum-of c = search needs
 
 sum-of-requires : tie.Need-sum-of-requires
 sum-of-requires c κs =
-    let s = c .before .before .before .before .before in
-    (omega arith, totals-few (s .args .file .now) (s .args .account) (s .pre .1) 2 (omega arith) (c .before .before .totals-of .result) (c .before .before .totals-of .ensures))
+    let s = c .before .before .before .before .before in (
+      omega arith,
+      totals-few (s .args .file .now) (s .args .account) (s .pre .1) 2 (omega arith) (c .before .before .totals-of .result)
+          (c .before .before .totals-of .ensures),
+    )
 
 add-above : tie.Need-add-above
 add-above c =
@@ -30,7 +33,8 @@ add-above c =
       c .sum-of .ensures,
       c .before .before .contract-total .ensures,
       contracts-few (s .args .file .now) (s .args .account) (s .pre .1),
-      prompts-few (s .args .file .now) (s .args .account) (s .pre .1) (c .before .before .before .totals-of .result) (c .before .before .before .totals-of .ensures),
+      prompts-few (s .args .file .now) (s .args .account) (s .pre .1) (c .before .before .before .totals-of .result)
+          (c .before .before .before .totals-of .ensures),
     )
 
 totals-of-requires-2 : tie.Need-totals-of-requires-2
@@ -39,7 +43,8 @@ totals-of-requires-2 c κs = search needs
 returns : tie.Need-returns
 returns c =
     let s = c .before .before .before .before .before .before .before in
-    counts-start (s .args .file .now) (s .args .account) (s .pre .1) _ (c .before .before .before .before .totals-of .result) refl refl (c .before .before .before .before .totals-of .ensures)
+    counts-start (s .args .file .now) (s .args .account) (s .pre .1) _ (c .before .before .before .before .totals-of .result) refl refl
+    (c .before .before .before .before .totals-of .ensures)
     (ap₂ (λ (x y : ℕ). x + y) (c .before .before .before .contract-total .ensures) (c .before .sum-of .ensures)) (c .totals-of2 .ensures)
 
 pub counts-of-spec : {M : Type 1} → statement M

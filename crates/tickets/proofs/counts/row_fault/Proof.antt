@@ -51,7 +51,8 @@ returns-3 c =
     let args = c .before .before .before .before .before .before .before .before .before .args in
     let r = args .row .now in
     let m = noContract (args .account .counts) (contract r) || noDay (promptsOf (contract r) (accountOf (args .file .now) (args .none .now))) (day r) in
-    four-7 (unusedByte r) (fieldOutside r) m (leb 128 (args .rows)) (sym (c .before .before .before .before .before .unused-byte .ensures) ∙ c .before .before .before .before .if1 .left)
+    four-7 (unusedByte r) (fieldOutside r) m (leb 128 (args .rows))
+    (sym (c .before .before .before .before .before .unused-byte .ensures) ∙ c .before .before .before .before .if1 .left)
     (sym (c .before .before .before .field-outside .ensures) ∙ c .before .before .if2 .left) (sym (c .before .missing .ensures) ∙ c .if3 .taken)
 
 returns-4 : tie.Need-returns-4
@@ -59,8 +60,10 @@ returns-4 c =
     let args = c .before .before .before .before .before .before .before .before .before .before .args in
     let r = args .row .now in
     let m = noContract (args .account .counts) (contract r) || noDay (promptsOf (contract r) (accountOf (args .file .now) (args .none .now))) (day r) in
-    four-9 (unusedByte r) (fieldOutside r) m (leb 128 (args .rows)) (sym (c .before .before .before .before .before .before .unused-byte .ensures) ∙ c .before .before .before .before .before .if1 .left)
-    (sym (c .before .before .before .before .field-outside .ensures) ∙ c .before .before .before .if2 .left) (sym (c .before .before .missing .ensures) ∙ c .before .if3 .left)
+    four-9 (unusedByte r) (fieldOutside r) m (leb 128 (args .rows))
+    (sym (c .before .before .before .before .before .before .unused-byte .ensures) ∙ c .before .before .before .before .before .if1 .left)
+    (sym (c .before .before .before .before .field-outside .ensures) ∙ c .before .before .before .if2 .left)
+    (sym (c .before .before .missing .ensures) ∙ c .before .if3 .left)
     (le-leb 128 (args .rows) (c .if4 .taken))
 
 returns-5 : tie.Need-returns-5
@@ -68,8 +71,10 @@ returns-5 c =
     let args = c .before .before .before .before .before .before .before .before .before .before .args in
     let r = args .row .now in
     let m = noContract (args .account .counts) (contract r) || noDay (promptsOf (contract r) (accountOf (args .file .now) (args .none .now))) (day r) in
-    four-0 (unusedByte r) (fieldOutside r) m (leb 128 (args .rows)) (sym (c .before .before .before .before .before .before .unused-byte .ensures) ∙ c .before .before .before .before .before .if1 .left)
-    (sym (c .before .before .before .before .field-outside .ensures) ∙ c .before .before .before .if2 .left) (sym (c .before .before .missing .ensures) ∙ c .before .if3 .left)
+    four-0 (unusedByte r) (fieldOutside r) m (leb 128 (args .rows))
+    (sym (c .before .before .before .before .before .before .unused-byte .ensures) ∙ c .before .before .before .before .before .if1 .left)
+    (sym (c .before .before .before .before .field-outside .ensures) ∙ c .before .before .before .if2 .left)
+    (sym (c .before .before .missing .ensures) ∙ c .before .if3 .left)
     (lt-leb 128 (args .rows) (c .if4 .left))
 
 pub row-fault-spec : {M : Type 1} → statement M

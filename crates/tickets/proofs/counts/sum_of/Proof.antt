@@ -26,7 +26,15 @@ number-at-requires c κs = search needs
 add-total : tie.Need-add-total Inv-loop μ-loop
 add-total c =
     let l = c .before .before .loop in
-    omega (arith, c .number-at .ensures, c .before .before .before .before .pre .1 (l .i), l .inv .1 .1, l .inv .1 .0, c .before .before .before .before .pre .0)
+    omega (
+      arith,
+      c .number-at .ensures,
+      c .before .before .before .before .pre .1
+          (l .i),
+      l .inv .1 .1,
+      l .inv .1 .0,
+      c .before .before .before .before .pre .0,
+    )
 
 add-i : tie.Need-add-i Inv-loop μ-loop
 add-i c = omega (arith, c .before .before .loop .inv .1 .0, c .before .before .before .before .pre .0)

@@ -44,7 +44,11 @@ loop-again c =
     let h = c .before .loop-test .taken in
     let s = c .before .before .before in (
       length-set (l .totals) (l .c) (c .part-total .result) ∙ l .inv .0,
-      (omega (arith, h), filled-next 0 (λ i. getD (s .args .account .counts) (s .args .first + i) 0) (l .totals) (l .c) (c .part-total .result) (omega (arith, h, l .inv .0)) (c .part-total .ensures) (l .inv .1 .1)),
+      (
+        omega (arith, h),
+        filled-next 0 (λ i. getD (s .args .account .counts) (s .args .first + i) 0) (l .totals) (l .c) (c .part-total .result)
+            (omega (arith, h, l .inv .0)) (c .part-total .ensures) (l .inv .1 .1),
+      ),
     )
 
 returns : tie.Need-returns Inv-loop μ-loop

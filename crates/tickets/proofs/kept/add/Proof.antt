@@ -46,7 +46,8 @@ with-row-requires c κs =
       record {
         tickets = x .tickets;
         kept = x .kept;
-        taken = λ ts kb. sym (c .before .before .check-ticket .ensures ts (kb .counts)) ∙ accepted-only (c .before .before .check-ticket .result) (sym (c .before .number-of .ensures) ∙ c .if1 .left);
+        taken = λ ts kb. sym (c .before .before .check-ticket .ensures ts (kb .counts)) ∙ accepted-only (c .before .before .check-ticket .result)
+            (sym (c .before .number-of .ensures) ∙ c .if1 .left);
       },
     )
 
@@ -59,7 +60,9 @@ one-more-requires c κs =
     let x = s .pre in
     let file = s .args .file .now in
     let t = s .args .ticket .now in
-    let h = sym (c .before .before .before .before .check-ticket .ensures (x .tickets) (x .kept .counts)) ∙ accepted-only (c .before .before .before .before .check-ticket .result) (sym (c .before .before .before .number-of .ensures) ∙ c .before .before .if1 .left) in (
+    let h = sym (c .before .before .before .before .check-ticket .ensures (x .tickets) (x .kept .counts))
+    ∙ accepted-only (c .before .before .before .before .check-ticket .result)
+    (sym (c .before .before .before .number-of .ensures) ∙ c .before .before .if1 .left) in (
       small file (x .tickets) (s .args .kept .counts) (x .kept .counts),
       omega (arith, c .contract .ensures .0, low-kept file (x .tickets) t (with-ok file (x .tickets) (s .args .kept .counts) (x .kept .counts)) h),
     )
@@ -69,7 +72,8 @@ returns-2 c =
     let s = c .before .before .before .before .before .before .before .before .before .before in
     let file = s .args .file .now in
     let t = s .args .ticket .now in
-    let z : numberOf (c .before .before .before .before .before .check-ticket .result) ≡ 0 = sym (c .before .before .before .before .number-of .ensures) ∙ c .before .before .before .if1 .left in
+    let z : numberOf (c .before .before .before .before .before .check-ticket .result) ≡ 0 = sym
+    (c .before .before .before .before .number-of .ensures) ∙ c .before .before .before .if1 .left in
     record {
       told = λ ts kb. c .before .before .before .before .before .check-ticket .ensures ts (kb .counts);
       refused = λ n. absurd (n z);
@@ -77,7 +81,8 @@ returns-2 c =
           record {
             counts =
                 counts-more file ts t (s .args .kept .counts) (c .one-more .result) (kb .counts)
-                (sym (c .before .before .before .before .before .check-ticket .ensures ts (kb .counts)) ∙ accepted-only (c .before .before .before .before .before .check-ticket .result) z)
+                (sym (c .before .before .before .before .before .check-ticket .ensures ts (kb .counts))
+                ∙ accepted-only (c .before .before .before .before .before .check-ticket .result) z)
                 (subst (λ (n : ℕ). OneMore n (s .args .kept .counts) (c .one-more .result)) (c .before .contract .ensures .0) (c .one-more .ensures));
             positions = c .before .before .with-row .ensures ts kb;
           };

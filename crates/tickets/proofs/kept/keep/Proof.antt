@@ -38,7 +38,8 @@ returns c =
       counts = c .before .counts-of .ensures;
       positions =
           subst (λ (rs : List Record). PositionsOf rs (c .positions-over .result))
-          (alone (s .args .file .now) (c .before .before .nothing-of .result .now) (c .before .before .nothing-of .ensures) (plain (s .args .file .now) (file-ok (s .args .file .now) (s .args .account) (s .pre)) .recorded))
+          (alone (s .args .file .now) (c .before .before .nothing-of .result .now) (c .before .before .nothing-of .ensures)
+          (plain (s .args .file .now) (file-ok (s .args .file .now) (s .args .account) (s .pre)) .recorded))
           (c .positions-over .ensures);
     }
 

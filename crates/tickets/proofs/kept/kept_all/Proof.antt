@@ -27,9 +27,12 @@ everything-from-requires : tie.Need-everything-from-requires
 everything-from-requires c κs =
     let s = c .before .before .before .before .before .before .before .before in
     let x = s .pre in (
-      subst⁻¹ (λ (a : Account). Stands (s .args .file .now) (c .before .before .before .before .nothing-of .result .now) a) (c .before .before .before .account-of .ensures)
-          (stands-kept (s .args .file .now) (x .tickets) (s .args .kept) (x .kept) (c .before .before .before .before .nothing-of .result .now) (c .before .before .before .before .nothing-of .ensures)),
-      known-kept (s .args .file .now) (x .tickets) (s .args .kept) (x .kept) (c .before .before .before .before .nothing-of .result .now) (c .before .before .before .before .nothing-of .ensures),
+      subst⁻¹ (λ (a : Account). Stands (s .args .file .now) (c .before .before .before .before .nothing-of .result .now) a)
+          (c .before .before .before .account-of .ensures)
+          (stands-kept (s .args .file .now) (x .tickets) (s .args .kept) (x .kept) (c .before .before .before .before .nothing-of .result .now)
+          (c .before .before .before .before .nothing-of .ensures)),
+      known-kept (s .args .file .now) (x .tickets) (s .args .kept) (x .kept) (c .before .before .before .before .nothing-of .result .now)
+          (c .before .before .before .before .nothing-of .ensures),
     )
 
 same-length : tie.Need-same-length
@@ -46,7 +49,8 @@ returns c =
     let s = c .before .before .before .before .before .before .before .before .before .before .before .before in
     λ ts kb.
     c .before .before .before .everything-from .ensures (records (withTickets (s .args .file .now) ts))
-    (told-kept (s .args .file .now) ts (s .args .kept) kb (c .before .before .before .before .before .before .before .before .nothing-of .result .now) (c .before .before .before .before .before .before .before .before .nothing-of .ensures))
+    (told-kept (s .args .file .now) ts (s .args .kept) kb (c .before .before .before .before .before .before .before .before .nothing-of .result .now)
+    (c .before .before .before .before .before .before .before .before .nothing-of .ensures))
 
 pub kept-all-spec : {M : Type 1} → statement M
 kept-all-spec =

@@ -28,8 +28,10 @@ answer-from-requires c κs =
     let s = c .before .before .before .before .before .before in
     let x = s .pre in (
       subst⁻¹ (λ (a : Account). Stands (s .args .file .now) (c .before .before .nothing-of .result .now) a) (c .before .account-of .ensures)
-          (stands-kept (s .args .file .now) (x .tickets) (s .args .kept) (x .kept) (c .before .before .nothing-of .result .now) (c .before .before .nothing-of .ensures)),
-      known-kept (s .args .file .now) (x .tickets) (s .args .kept) (x .kept) (c .before .before .nothing-of .result .now) (c .before .before .nothing-of .ensures),
+          (stands-kept (s .args .file .now) (x .tickets) (s .args .kept) (x .kept) (c .before .before .nothing-of .result .now)
+          (c .before .before .nothing-of .ensures)),
+      known-kept (s .args .file .now) (x .tickets) (s .args .kept) (x .kept) (c .before .before .nothing-of .result .now)
+          (c .before .before .nothing-of .ensures),
     )
 
 same-length : tie.Need-same-length
@@ -40,7 +42,8 @@ returns c =
     let s = c .before .before .before .before .before .before .before .before in
     λ ts kb.
     c .before .answer-from .ensures (records (withTickets (s .args .file .now) ts))
-    (told-kept (s .args .file .now) ts (s .args .kept) kb (c .before .before .before .before .nothing-of .result .now) (c .before .before .before .before .nothing-of .ensures))
+    (told-kept (s .args .file .now) ts (s .args .kept) kb (c .before .before .before .before .nothing-of .result .now)
+    (c .before .before .before .before .nothing-of .ensures))
 
 pub kept-answer-spec : {M : Type 1} → statement M
 kept-answer-spec =

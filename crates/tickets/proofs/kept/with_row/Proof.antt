@@ -62,7 +62,8 @@ array-copy-out-with-rows : tie.Need-array-copy-out-with-rows
 array-copy-out-with-rows c =
     let s = c .before .before .before .before .before .before .before .before .before .before .before .before in
     let x = s .pre .1 in
-    let l = low-kept (s .args .file .now) (x .tickets) (s .args .row .now) (with-ok (s .args .file .now) (x .tickets) (s .args .kept .counts) (x .kept .counts)) (x .taken (x .tickets) (x .kept)) in
+    let l = low-kept (s .args .file .now) (x .tickets) (s .args .row .now)
+    (with-ok (s .args .file .now) (x .tickets) (s .args .kept .counts) (x .kept .counts)) (x .taken (x .tickets) (x .kept)) in
     omega (arith, c .before .before .before .before .before .contract .ensures .0)
 
 days-of-requires : tie.Need-days-of-requires
@@ -73,8 +74,10 @@ days-of-requires c κs =
     let bytes = c .before .before .before .before .part2 .result .now in
     days-asked (s .args .file .now) (s .args .kept .counts .account) (s .args .none .now)
     (stands-kept (s .args .file .now) (x .tickets) (s .args .kept) (x .kept) (s .args .none .now) (s .pre .0))
-    (x .tickets) (s .args .row .now) (with-ok (s .args .file .now) (x .tickets) (s .args .kept .counts) (x .kept .counts)) (x .taken (x .tickets) (x .kept)) (told-kept (s .args .file .now) (x .tickets) (s .args .kept) (x .kept) (s .args .none .now) (s .pre .0) .beside)
-    bytes (subst (λ (n : ℕ). PartOf a (32 + n) bytes) (c .before .before .before .before .before .before .contract .ensures .0) (c .before .before .before .before .part2 .ensures))
+    (x .tickets) (s .args .row .now) (with-ok (s .args .file .now) (x .tickets) (s .args .kept .counts) (x .kept .counts))
+    (x .taken (x .tickets) (x .kept)) (told-kept (s .args .file .now) (x .tickets) (s .args .kept) (x .kept) (s .args .none .now) (s .pre .0) .beside)
+    bytes (subst (λ (n : ℕ). PartOf a (32 + n) bytes) (c .before .before .before .before .before .before .contract .ensures .0)
+    (c .before .before .before .before .part2 .ensures))
 
 unit-requires : tie.Need-unit-requires
 unit-requires c κs = search needs
@@ -88,13 +91,20 @@ with-rows-requires c κs =
     let prompts = c .before .before .before .before .before .before .part2 .result .now in
     let rates = c .before .before .before .before .before .part3 .result .now in
     let e = c .before .before .before .before .before .before .before .before .contract .ensures .0 in
-    subst⁻¹ (λ (n : ℕ). (c .unit .result ≤ 1000) × ((c .before .days-of .result .count ≤ 32) × (RowsFit (records (s .args .row .now)) × (RatedBy (c .before .before .before .before .rates-of .result) (records (s .args .row .now)) × Bounded (128 - length (records (s .args .row .now))) (getD (s .args .kept .positions .at) n noPosition)))))
+    subst⁻¹ (λ (n : ℕ). (c .unit .result ≤ 1000)
+    × ((c .before .days-of .result .count ≤ 32)
+    × (RowsFit (records (s .args .row .now))
+    × (RatedBy (c .before .before .before .before .rates-of .result) (records (s .args .row .now))
+    × Bounded (128 - length (records (s .args .row .now))) (getD (s .args .kept .positions .at) n noPosition)))))
     e
     (more-asks (s .args .file .now) (s .args .kept .counts .account) (s .args .none .now)
     (stands-kept (s .args .file .now) (x .tickets) (s .args .kept) (x .kept) (s .args .none .now) (s .pre .0))
-    (x .tickets) (s .args .row .now) (with-ok (s .args .file .now) (x .tickets) (s .args .kept .counts) (x .kept .counts)) (x .taken (x .tickets) (x .kept)) (told-kept (s .args .file .now) (x .tickets) (s .args .kept) (x .kept) (s .args .none .now) (s .pre .0) .beside)
-    own prompts rates (subst (λ (n : ℕ). PartOf a (16 + n) own) e (c .before .before .before .before .before .before .before .part .ensures)) (subst (λ (n : ℕ). PartOf a (32 + n) prompts) e (c .before .before .before .before .before .before .part2 .ensures))
-    (c .before .before .before .before .before .part3 .ensures) (c .before .before .before .before .rates-of .result) (c .before .before .before .before .rates-of .ensures)
+    (x .tickets) (s .args .row .now) (with-ok (s .args .file .now) (x .tickets) (s .args .kept .counts) (x .kept .counts))
+    (x .taken (x .tickets) (x .kept)) (told-kept (s .args .file .now) (x .tickets) (s .args .kept) (x .kept) (s .args .none .now) (s .pre .0) .beside)
+    own prompts rates (subst (λ (n : ℕ). PartOf a (16 + n) own) e (c .before .before .before .before .before .before .before .part .ensures))
+    (subst (λ (n : ℕ). PartOf a (32 + n) prompts) e (c .before .before .before .before .before .before .part2 .ensures))
+    (c .before .before .before .before .before .part3 .ensures) (c .before .before .before .before .rates-of .result)
+    (c .before .before .before .before .rates-of .ensures)
     (c .before .days-of .result) (c .before .days-of .ensures) (c .unit .result) (c .unit .ensures .0) (s .args .kept .positions) (x .kept .positions))
 
 mul-at : tie.Need-mul-at
@@ -104,7 +114,8 @@ array-set-from-at : tie.Need-array-set-from-at
 array-set-from-at c =
     let s = c .before .before .before .before .before .before .before .before .before .before .before .before .before .before .before .before in
     let x = s .pre .1 in
-    let l = low-kept (s .args .file .now) (x .tickets) (s .args .row .now) (with-ok (s .args .file .now) (x .tickets) (s .args .kept .counts) (x .kept .counts)) (x .taken (x .tickets) (x .kept)) in
+    let l = low-kept (s .args .file .now) (x .tickets) (s .args .row .now)
+    (with-ok (s .args .file .now) (x .tickets) (s .args .kept .counts) (x .kept .counts)) (x .taken (x .tickets) (x .kept)) in
     omega (arith, c .before .before .before .before .before .before .before .before .before .contract .ensures .0)
 
 add-t13 : tie.Need-add-t13
@@ -125,17 +136,23 @@ returns c =
     let q = c .before .with-rows .result in
     λ ts kb.
     subst⁻¹
-    (λ (n : ℕ). PositionsOf (records (withTickets (s .args .file .now) (ts ++ s .args .row .now ∷ []))) (record { records = s .args .kept .positions .records + 1; at = set (s .args .kept .positions .at) n q }))
+    (λ (n : ℕ). PositionsOf (records (withTickets (s .args .file .now) (ts ++ s .args .row .now ∷ [])))
+    (record { records = s .args .kept .positions .records + 1; at = set (s .args .kept .positions .at) n q }))
     e
     (row-added (s .args .file .now) (s .args .kept .counts .account) (s .args .none .now)
     (stands-kept (s .args .file .now) (ts) (s .args .kept) kb (s .args .none .now) (s .pre .0))
-    ts (s .args .row .now) (with-ok (s .args .file .now) ts (s .args .kept .counts) (kb .counts)) (x .taken ts kb) (told-kept (s .args .file .now) ts (s .args .kept) kb (s .args .none .now) (s .pre .0) .beside)
-    own prompts rates (subst (λ (n : ℕ). PartOf a (16 + n) own) e (c .before .before .before .before .before .before .before .before .before .part .ensures)) (subst (λ (n : ℕ). PartOf a (32 + n) prompts) e (c .before .before .before .before .before .before .before .before .part2 .ensures))
+    ts (s .args .row .now) (with-ok (s .args .file .now) ts (s .args .kept .counts) (kb .counts)) (x .taken ts kb)
+    (told-kept (s .args .file .now) ts (s .args .kept) kb (s .args .none .now) (s .pre .0) .beside)
+    own prompts rates
+    (subst (λ (n : ℕ). PartOf a (16 + n) own) e (c .before .before .before .before .before .before .before .before .before .part .ensures))
+    (subst (λ (n : ℕ). PartOf a (32 + n) prompts) e (c .before .before .before .before .before .before .before .before .part2 .ensures))
     (c .before .before .before .before .before .before .before .part3 .ensures) table (c .before .before .before .before .before .before .rates-of .ensures)
-    (c .before .before .before .days-of .result) (c .before .before .before .days-of .ensures) (c .before .before .unit .result) (c .before .before .unit .ensures .0) (s .args .kept .positions) (kb .positions)
+    (c .before .before .before .days-of .result) (c .before .before .before .days-of .ensures) (c .before .before .unit .result)
+    (c .before .before .unit .ensures .0) (s .args .kept .positions) (kb .positions)
     q
     (subst
-    (λ (n : ℕ). (held ps earlier : List Record) → RatesOf held table → DaysOf ps (c .before .before .before .days-of .result) → PositionOf held (c .before .before .unit .result) ps earlier (getD (s .args .kept .positions .at) n noPosition)
+    (λ (n : ℕ). (held ps earlier : List Record) → RatesOf held table → DaysOf ps (c .before .before .before .days-of .result)
+    → PositionOf held (c .before .before .unit .result) ps earlier (getD (s .args .kept .positions .at) n noPosition)
     → PositionOf held (c .before .before .unit .result) ps (earlier ++ records (s .args .row .now)) q)
     e (c .before .with-rows .ensures .1 .0))
     (c .before .with-rows .ensures .1 .1))

@@ -57,7 +57,8 @@ without-row-requires c κs =
       c .before .nothing-of .ensures,
       record {
         tickets = cut (c .before .before .before .tickets-of .result - 1) (s .args .tickets .now);
-        kept = latest (s .args .file .now) (s .args .tickets .now) (s .args .kept) (c .before .before .before .tickets-of .result) (c .record-at .result .now) (c .before .before .before .tickets-of .ensures) (c .before .before .if1 .left) (c .record-at .ensures) (s .pre);
+        kept = latest (s .args .file .now) (s .args .tickets .now) (s .args .kept) (c .before .before .before .tickets-of .result)
+            (c .record-at .result .now) (c .before .before .before .tickets-of .ensures) (c .before .before .if1 .left) (c .record-at .ensures) (s .pre);
       },
     )
 
@@ -71,8 +72,10 @@ one-less-requires c κs =
     let n = c .before .before .before .before .before .tickets-of .result in
     let ts = cut (n - 1) (s .args .tickets .now) in
     let t = c .before .before .record-at .result .now in
-    let kb = latest file (s .args .tickets .now) (s .args .kept) n t (c .before .before .before .before .before .tickets-of .ensures) (c .before .before .before .before .if1 .left) (c .before .before .record-at .ensures) (s .pre) in
-    subst⁻¹ (λ (i : ℕ). Small (s .args .kept .counts) × ((i ≤ 15) × ((1 ≤ getD (s .args .kept .counts .rows) i 0) × (1 ≤ s .args .kept .counts .tickets)))) (c .contract .ensures .0) (
+    let kb = latest file (s .args .tickets .now) (s .args .kept) n t (c .before .before .before .before .before .tickets-of .ensures)
+    (c .before .before .before .before .if1 .left) (c .before .before .record-at .ensures) (s .pre) in
+    subst⁻¹ (λ (i : ℕ). Small (s .args .kept .counts)
+    × ((i ≤ 15) × ((1 ≤ getD (s .args .kept .counts .rows) i 0) × (1 ≤ s .args .kept .counts .tickets)))) (c .contract .ensures .0) (
       small file (ts ++ t ∷ []) (s .args .kept .counts) (kb .counts),
       (
         known-low file ts t (s .args .kept .counts) (kb .counts),
@@ -87,13 +90,17 @@ returns-2 c =
     let n = c .before .before .before .before .before .before .tickets-of .result in
     let ts = cut (n - 1) (s .args .tickets .now) in
     let t = c .before .before .before .record-at .result .now in
-    let kb = latest file (s .args .tickets .now) (s .args .kept) n t (c .before .before .before .before .before .before .tickets-of .ensures) (c .before .before .before .before .before .if1 .left) (c .before .before .before .record-at .ensures) (s .pre) in
-    let nz : s .args .kept .counts .tickets ≡ 0 → ⊥ = λ z. c .before .before .before .before .before .if1 .left (c .before .before .before .before .before .before .tickets-of .ensures ∙ z) in
+    let kb = latest file (s .args .tickets .now) (s .args .kept) n t (c .before .before .before .before .before .before .tickets-of .ensures)
+    (c .before .before .before .before .before .if1 .left) (c .before .before .before .record-at .ensures) (s .pre) in
+    let nz : s .args .kept .counts .tickets ≡ 0 → ⊥ = λ z. c .before .before .before .before .before .if1 .left
+    (c .before .before .before .before .before .before .tickets-of .ensures ∙ z) in
     record {
       told = sym (ap (λ (b : Bool). cond b NoTicketLeft Accepted) (ne-eqb (s .args .kept .counts .tickets) 0 nz));
       refused = λ m. absurd (m refl);
       accepted = λ z.
-          subst (λ (i : ℕ). KeptBy file (cut (i - 1) (s .args .tickets .now)) (record { counts = c .one-less .result; positions = c .before .before .without-row .result })) (c .before .before .before .before .before .before .tickets-of .ensures)
+          subst (λ (i : ℕ). KeptBy file (cut (i - 1) (s .args .tickets .now))
+          (record { counts = c .one-less .result; positions = c .before .before .without-row .result }))
+          (c .before .before .before .before .before .before .tickets-of .ensures)
           (record {
             counts =
                 counts-less file ts t (s .args .kept .counts) (kb .counts) (c .one-less .result)

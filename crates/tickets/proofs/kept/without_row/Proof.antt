@@ -63,7 +63,9 @@ array-copy-out-without-rows : tie.Need-array-copy-out-without-rows
 array-copy-out-without-rows c =
     let s = c .before .before .before .before .before .before .before .before .before .before .before .before in
     let x = s .pre .1 in
-    let l = low-kept (s .args .file .now) (x .tickets) (s .args .row .now) (before-ok (s .args .file .now) (x .tickets) (s .args .row .now) (s .args .kept .counts) (x .kept .counts)) (taken-here (s .args .file .now) (x .tickets) (s .args .row .now) (s .args .kept .counts) (x .kept .counts)) in
+    let l = low-kept (s .args .file .now) (x .tickets) (s .args .row .now)
+    (before-ok (s .args .file .now) (x .tickets) (s .args .row .now) (s .args .kept .counts) (x .kept .counts))
+    (taken-here (s .args .file .now) (x .tickets) (s .args .row .now) (s .args .kept .counts) (x .kept .counts)) in
     omega (arith, c .before .before .before .before .before .contract .ensures .0)
 
 days-of-requires : tie.Need-days-of-requires
@@ -74,8 +76,11 @@ days-of-requires c κs =
     let bytes = c .before .before .before .before .part2 .result .now in
     days-asked (s .args .file .now) (s .args .kept .counts .account) (s .args .none .now)
     (stands-kept (s .args .file .now) (x .tickets ++ s .args .row .now ∷ []) (s .args .kept) (x .kept) (s .args .none .now) (s .pre .0))
-    (x .tickets) (s .args .row .now) (before-ok (s .args .file .now) (x .tickets) (s .args .row .now) (s .args .kept .counts) (x .kept .counts)) (taken-here (s .args .file .now) (x .tickets) (s .args .row .now) (s .args .kept .counts) (x .kept .counts)) (beside-less (s .args .file .now) (x .tickets) (s .args .row .now) (s .args .kept) (x .kept) (s .args .none .now) (s .pre .0))
-    bytes (subst (λ (n : ℕ). PartOf a (32 + n) bytes) (c .before .before .before .before .before .before .contract .ensures .0) (c .before .before .before .before .part2 .ensures))
+    (x .tickets) (s .args .row .now) (before-ok (s .args .file .now) (x .tickets) (s .args .row .now) (s .args .kept .counts) (x .kept .counts))
+    (taken-here (s .args .file .now) (x .tickets) (s .args .row .now) (s .args .kept .counts) (x .kept .counts))
+    (beside-less (s .args .file .now) (x .tickets) (s .args .row .now) (s .args .kept) (x .kept) (s .args .none .now) (s .pre .0))
+    bytes (subst (λ (n : ℕ). PartOf a (32 + n) bytes) (c .before .before .before .before .before .before .contract .ensures .0)
+    (c .before .before .before .before .part2 .ensures))
 
 unit-requires : tie.Need-unit-requires
 unit-requires c κs = search needs
@@ -89,13 +94,22 @@ without-rows-requires c κs =
     let prompts = c .before .before .before .before .before .before .part2 .result .now in
     let rates = c .before .before .before .before .before .part3 .result .now in
     let e = c .before .before .before .before .before .before .before .before .contract .ensures .0 in
-    subst⁻¹ (λ (n : ℕ). (c .unit .result ≤ 1000) × ((c .before .days-of .result .count ≤ 32) × (RowsFit (records (s .args .row .now)) × (RatedBy (c .before .before .before .before .rates-of .result) (records (s .args .row .now)) × (Bounded 128 (getD (s .args .kept .positions .at) n noPosition) × HasRows (c .before .before .before .before .rates-of .result) (c .unit .result) (c .before .days-of .result) (records (s .args .row .now)) (getD (s .args .kept .positions .at) n noPosition))))))
+    subst⁻¹ (λ (n : ℕ). (c .unit .result ≤ 1000)
+    × ((c .before .days-of .result .count ≤ 32)
+    × (RowsFit (records (s .args .row .now))
+    × (RatedBy (c .before .before .before .before .rates-of .result) (records (s .args .row .now))
+    × (Bounded 128 (getD (s .args .kept .positions .at) n noPosition) × HasRows (c .before .before .before .before .rates-of .result)
+    (c .unit .result) (c .before .days-of .result) (records (s .args .row .now)) (getD (s .args .kept .positions .at) n noPosition))))))
     e
     (less-asks (s .args .file .now) (s .args .kept .counts .account) (s .args .none .now)
     (stands-kept (s .args .file .now) (x .tickets ++ s .args .row .now ∷ []) (s .args .kept) (x .kept) (s .args .none .now) (s .pre .0))
-    (x .tickets) (s .args .row .now) (before-ok (s .args .file .now) (x .tickets) (s .args .row .now) (s .args .kept .counts) (x .kept .counts)) (taken-here (s .args .file .now) (x .tickets) (s .args .row .now) (s .args .kept .counts) (x .kept .counts)) (beside-less (s .args .file .now) (x .tickets) (s .args .row .now) (s .args .kept) (x .kept) (s .args .none .now) (s .pre .0))
-    own prompts rates (subst (λ (n : ℕ). PartOf a (16 + n) own) e (c .before .before .before .before .before .before .before .part .ensures)) (subst (λ (n : ℕ). PartOf a (32 + n) prompts) e (c .before .before .before .before .before .before .part2 .ensures))
-    (c .before .before .before .before .before .part3 .ensures) (c .before .before .before .before .rates-of .result) (c .before .before .before .before .rates-of .ensures)
+    (x .tickets) (s .args .row .now) (before-ok (s .args .file .now) (x .tickets) (s .args .row .now) (s .args .kept .counts) (x .kept .counts))
+    (taken-here (s .args .file .now) (x .tickets) (s .args .row .now) (s .args .kept .counts) (x .kept .counts))
+    (beside-less (s .args .file .now) (x .tickets) (s .args .row .now) (s .args .kept) (x .kept) (s .args .none .now) (s .pre .0))
+    own prompts rates (subst (λ (n : ℕ). PartOf a (16 + n) own) e (c .before .before .before .before .before .before .before .part .ensures))
+    (subst (λ (n : ℕ). PartOf a (32 + n) prompts) e (c .before .before .before .before .before .before .part2 .ensures))
+    (c .before .before .before .before .before .part3 .ensures) (c .before .before .before .before .rates-of .result)
+    (c .before .before .before .before .rates-of .ensures)
     (c .before .days-of .result) (c .before .days-of .ensures) (c .unit .result) (c .unit .ensures .0) (s .args .kept .positions) (x .kept .positions))
 
 mul-at : tie.Need-mul-at
@@ -105,7 +119,9 @@ array-set-from-at : tie.Need-array-set-from-at
 array-set-from-at c =
     let s = c .before .before .before .before .before .before .before .before .before .before .before .before .before .before .before .before in
     let x = s .pre .1 in
-    let l = low-kept (s .args .file .now) (x .tickets) (s .args .row .now) (before-ok (s .args .file .now) (x .tickets) (s .args .row .now) (s .args .kept .counts) (x .kept .counts)) (taken-here (s .args .file .now) (x .tickets) (s .args .row .now) (s .args .kept .counts) (x .kept .counts)) in
+    let l = low-kept (s .args .file .now) (x .tickets) (s .args .row .now)
+    (before-ok (s .args .file .now) (x .tickets) (s .args .row .now) (s .args .kept .counts) (x .kept .counts))
+    (taken-here (s .args .file .now) (x .tickets) (s .args .row .now) (s .args .kept .counts) (x .kept .counts)) in
     omega (arith, c .before .before .before .before .before .before .before .before .before .contract .ensures .0)
 
 sub-t13 : tie.Need-sub-t13
@@ -126,17 +142,24 @@ returns c =
     let q = c .before .without-rows .result in
     λ ts kb.
     subst⁻¹
-    (λ (n : ℕ). PositionsOf (records (withTickets (s .args .file .now) (ts))) (record { records = s .args .kept .positions .records - 1; at = set (s .args .kept .positions .at) n q }))
+    (λ (n : ℕ). PositionsOf (records (withTickets (s .args .file .now) (ts)))
+    (record { records = s .args .kept .positions .records - 1; at = set (s .args .kept .positions .at) n q }))
     e
     (row-taken (s .args .file .now) (s .args .kept .counts .account) (s .args .none .now)
     (stands-kept (s .args .file .now) (ts ++ s .args .row .now ∷ []) (s .args .kept) kb (s .args .none .now) (s .pre .0))
-    ts (s .args .row .now) (before-ok (s .args .file .now) ts (s .args .row .now) (s .args .kept .counts) (kb .counts)) (taken-here (s .args .file .now) ts (s .args .row .now) (s .args .kept .counts) (kb .counts)) (beside-less (s .args .file .now) ts (s .args .row .now) (s .args .kept) kb (s .args .none .now) (s .pre .0))
-    own prompts rates (subst (λ (n : ℕ). PartOf a (16 + n) own) e (c .before .before .before .before .before .before .before .before .before .part .ensures)) (subst (λ (n : ℕ). PartOf a (32 + n) prompts) e (c .before .before .before .before .before .before .before .before .part2 .ensures))
+    ts (s .args .row .now) (before-ok (s .args .file .now) ts (s .args .row .now) (s .args .kept .counts) (kb .counts))
+    (taken-here (s .args .file .now) ts (s .args .row .now) (s .args .kept .counts) (kb .counts))
+    (beside-less (s .args .file .now) ts (s .args .row .now) (s .args .kept) kb (s .args .none .now) (s .pre .0))
+    own prompts rates
+    (subst (λ (n : ℕ). PartOf a (16 + n) own) e (c .before .before .before .before .before .before .before .before .before .part .ensures))
+    (subst (λ (n : ℕ). PartOf a (32 + n) prompts) e (c .before .before .before .before .before .before .before .before .part2 .ensures))
     (c .before .before .before .before .before .before .before .part3 .ensures) table (c .before .before .before .before .before .before .rates-of .ensures)
-    (c .before .before .before .days-of .result) (c .before .before .before .days-of .ensures) (c .before .before .unit .result) (c .before .before .unit .ensures .0) (s .args .kept .positions) (kb .positions)
+    (c .before .before .before .days-of .result) (c .before .before .before .days-of .ensures) (c .before .before .unit .result)
+    (c .before .before .unit .ensures .0) (s .args .kept .positions) (kb .positions)
     q
     (subst
-    (λ (n : ℕ). (held : List Record) (before : Position) → RatesOf held table → WithRows held (c .before .before .unit .result) (c .before .before .before .days-of .result) before (records (s .args .row .now)) (getD (s .args .kept .positions .at) n noPosition) → q ≡ before)
+    (λ (n : ℕ). (held : List Record) (before : Position) → RatesOf held table → WithRows held (c .before .before .unit .result)
+    (c .before .before .before .days-of .result) before (records (s .args .row .now)) (getD (s .args .kept .positions .at) n noPosition) → q ≡ before)
     e (c .before .without-rows .ensures)))
 
 pub without-row-spec : {M : Type 1} → statement M

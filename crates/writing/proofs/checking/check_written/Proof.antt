@@ -52,7 +52,8 @@ slice-aggregate-hold-3 : tie.Need-slice-aggregate-hold-3 Inv-loop μ-loop
 slice-aggregate-hold-3 c = sym (c .before .before .before .before .before .before .loop .inv .holds .long)
 
 room-for : (c : tie.After-asked-of Inv-loop μ-loop)
-    → Holdable (written (c .before .before .before .before .before .before .before .args .entries .now)) (c .before .before .before .loop .first) (c .before .before .before .loop .counts)
+    → Holdable (written (c .before .before .before .before .before .before .before .args .entries .now)) (c .before .before .before .loop .first)
+    (c .before .before .before .loop .counts)
     (c .asked-of .result)
 room-for c = turn-holdable (c .before .before .before .loop .inv) (inside (c .before .before)) (c .before .entry-at .ensures) (c .asked-of .ensures)
 
@@ -91,13 +92,15 @@ returns c =
     let s = l .before .before .before .before in
     let e = s .args .entries .now in
     c .refusal .ensures
-    ∙ turn-stops (l .loop .inv) (inside (a .before .before)) (a .before .entry-at .ensures) (a .asked-of .ensures) (h .hold .ensures) (f .before .entry-before .ensures)
+    ∙ turn-stops (l .loop .inv) (inside (a .before .before)) (a .before .entry-at .ensures) (a .asked-of .ensures) (h .hold .ensures)
+    (f .before .entry-before .ensures)
     (f .fault-by .ensures) (c .before .if1 .taken) (long-same e ∙ s .pre .1 .0) (cut-same e ∙ s .pre .1 .1)
 
 -- a record without a fault
 passed : (c : tie.Else1 Inv-loop μ-loop)
     → Turned
-    (written (c .before .before .before .before .before .before .before .before .before .before .before .before .before .before .before .before .before .args .entries .now))
+    (written (c .before .before .before .before .before .before .before .before .before .before .before .before .before .before .before .before
+    .before .args .entries .now))
     (c .before .before .before .before .before .before .before .before .before .before .before .before .before .loop .first)
     (c .before .before .before .before .before .before .before .before .before .before .before .before .before .loop .counts)
     (c .before .before .before .before .before .before .hold .last .1 .1 .1 .1 .1 .1 .0)
@@ -163,7 +166,8 @@ loop-less c =
 loop-again : tie.Need-loop-again Inv-loop μ-loop
 loop-again c =
     let p = c .before .before .before .before .before .before .before .before in
-    passed p .next (c .before .before .before .before .note-first .ensures) (c .before .note-one .ensures) (c .before .before .before .before .before .before .before .part-of .ensures)
+    passed p .next (c .before .before .before .before .note-first .ensures) (c .before .note-one .ensures)
+    (c .before .before .before .before .before .before .before .part-of .ensures)
 
 slice-aggregate-noted : tie.Need-slice-aggregate-noted Inv-loop μ-loop
 slice-aggregate-noted c = sym (c .before .before .loop .inv .going .notes .firsts)

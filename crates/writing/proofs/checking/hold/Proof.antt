@@ -43,7 +43,8 @@ returns-2 : tie.Need-returns-2
 returns-2 c =
     let s = c .before .before .before .before .before .before .before .before .before .before .before .before in
     held-now (s .args .entries .now) (s .args .first .now) (s .args .counts .now) (s .args .prompts .now) (s .args .c)
-    (c .before .before .before .before .before .noted .ensures) (c .before .before .before .before .noted2 .ensures) (s .pre .1 .holdable .within) (c .before .before .fill .ensures) (c .before .before .fill .kept .1 .1 .1 .1 .0 ∙ s .pre .1 .holds .long)
+    (c .before .before .before .before .before .noted .ensures) (c .before .before .before .before .noted2 .ensures) (s .pre .1 .holdable .within)
+    (c .before .before .fill .ensures) (c .before .before .fill .kept .1 .1 .1 .1 .0 ∙ s .pre .1 .holds .long)
 
 pub hold-spec : {M : Type 1} → statement M
 hold-spec =

@@ -31,7 +31,12 @@ mul-keys : tie.Need-mul-keys Inv-loop μ-loop
 mul-keys c = search needs
 
 array-write-keys : tie.Need-array-write-keys Inv-loop μ-loop
-array-write-keys c = omega (arith, c .before .before .loop-test .taken, c .before .before .before .before .record-count .ensures, c .before .before .before .before .before .before .pre)
+array-write-keys c = omega (
+  arith,
+  c .before .before .loop-test .taken,
+  c .before .before .before .before .record-count .ensures,
+  c .before .before .before .before .before .before .pre,
+)
 
 add-k : tie.Need-add-k Inv-loop μ-loop
 add-k c = omega (arith, c .before .before .loop-test .taken)
@@ -42,7 +47,8 @@ loop-less c = omega (arith, c .before .before .loop-test .taken)
 loop-again : tie.Need-loop-again Inv-loop μ-loop
 loop-again c =
     keying-next (c .before .before .before .loop .inv) (c .before .before .before .before .before .before .pre)
-    (omega (arith, c .before .before .loop-test .taken, c .before .before .before .before .record-count .ensures)) (c .before .record-at .ensures) (c .rank .ensures)
+    (omega (arith, c .before .before .loop-test .taken, c .before .before .before .before .record-count .ensures)) (c .before .record-at .ensures)
+    (c .rank .ensures)
 
 returns : tie.Need-returns Inv-loop μ-loop
 returns c = keying-ends (c .before .loop .inv) (omega (arith, c .loop-test .left, c .before .before .record-count .ensures))

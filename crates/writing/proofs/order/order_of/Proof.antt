@@ -27,25 +27,39 @@ slice-aggregate-sort : tie.Need-slice-aggregate-sort
 slice-aggregate-sort c = sym (c .before .before .before .before .before .keys-of .ensures .long)
 
 array-borrow-prefix-order : tie.Need-array-borrow-prefix-order
-array-borrow-prefix-order c = omega (arith, c .before .order2 .given, c .before .before .before .before .record-count .ensures, c .before .before .before .before .before .before .before .pre)
+array-borrow-prefix-order c = omega
+    (arith, c .before .order2 .given, c .before .before .before .before .record-count .ensures, c .before .before .before .before .before .before .before .pre)
 
 slice-aggregate-sort-2 : tie.Need-slice-aggregate-sort-2
 slice-aggregate-sort-2 c =
     sym (length-take-le (c .before .before .before .before .before .record-count .result) (c .before .before .before .number-up .last .0)
-    (omega (arith, c .before .before .order2 .given, c .before .before .before .before .before .record-count .ensures, c .before .before .before .before .before .before .before .before .pre)))
+    (omega (
+      arith,
+      c .before .before .order2 .given,
+      c .before .before .before .before .before .record-count .ensures,
+      c .before .before .before .before .before .before .before .before .pre,
+    )))
 
 slice-aggregate-sort-3 : tie.Need-slice-aggregate-sort-3
 slice-aggregate-sort-3 c = refl
 
 sort-requires : tie.Need-sort-requires
 sort-requires c κs =
-    let h : c .before .before .before .before .before .before .record-count .result ≤ 640 = omega (arith, c .before .before .before .before .before .before .record-count .ensures, c .before .before .before .before .before .before .before .before .before .pre) in
-    let l = length-take-le (c .before .before .before .before .before .before .record-count .result) (c .before .before .before .before .number-up .last .0) (omega (arith, h, c .before .before .before .order2 .given)) in
+    let h : c .before .before .before .before .before .before .record-count .result ≤ 640 = omega (
+      arith,
+      c .before .before .before .before .before .before .record-count .ensures,
+      c .before .before .before .before .before .before .before .before .before .pre,
+    ) in
+    let l = length-take-le (c .before .before .before .before .before .before .record-count .result)
+    (c .before .before .before .before .number-up .last .0) (omega (arith, h, c .before .before .before .order2 .given)) in
     omega (arith, h, l)
 
 returns : tie.Need-returns
 returns c =
-    ordered-by (c .before .before .before .before .before .before .before .before .before .before .before .before .args .entries .now) (c .before .before .before .before .before .before .before .before .before .before .before .before .pre) (c .before .before .before .before .before .before .before .before .before .before .keys-of .ensures) (c .before .before .before .before .before .before .before .before .before .record-count .ensures)
+    ordered-by (c .before .before .before .before .before .before .before .before .before .before .before .before .args .entries .now)
+    (c .before .before .before .before .before .before .before .before .before .before .before .before .pre)
+    (c .before .before .before .before .before .before .before .before .before .before .keys-of .ensures)
+    (c .before .before .before .before .before .before .before .before .before .record-count .ensures)
     (c .before .before .before .before .before .before .before .number-up .ensures) (c .before .before .sort .ensures)
 
 pub order-of-spec : {M : Type 1} → statement M

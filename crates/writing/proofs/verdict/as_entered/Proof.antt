@@ -25,7 +25,8 @@ refusal-requires c κs = tt
 returns-2 : tie.Need-returns-2
 returns-2 c =
     let a = c .before .before .before .before .before .before .before .args in
-    entered-late (a .order .now) (a .answer) (c .before .before .before .before .before .number-of .ensures) (c .before .before .before .before .if1 .left) (c .before .before .before .record-of .ensures) (c .before .before .place-at .ensures)
+    entered-late (a .order .now) (a .answer) (c .before .before .before .before .before .number-of .ensures)
+    (c .before .before .before .before .if1 .left) (c .before .before .before .record-of .ensures) (c .before .before .place-at .ensures)
     (c .before .wide .ensures) (c .refusal .ensures)
 
 pub as-entered-spec : {M : Type 1} → statement M

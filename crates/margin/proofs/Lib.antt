@@ -37,4 +37,5 @@ pub mod Touched
 pub mod AnswerLaws
 pub mod BesideLaws
 pub mod PositionsLaws
+pub mod LentLaws
 pub mod WithdrawLaws

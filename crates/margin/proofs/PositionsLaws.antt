@@ -16,8 +16,6 @@ use Rattle.record.specs.Layout.{Record, contract}
 use Rattle.account.specs.Accepted.{Each, listed}
 use Rattle.account.specs.Lawful.{Lawful}
 use Rattle.account.specs.Parts.{ofKind, contractsOf, promptsOf, rowsOf, ratesOf}
-use Rattle.account.specs.Standing.{Stands, accountOf}
-use Rattle.account.specs.declared.accounts.Account.{Account}
 use Rattle.account.proofs.Lists.{any-keep}
 use Rattle.margin.specs.declared.positions.Positions.{Positions}
 use Rattle.margin.specs.declared.rows.Position.{Position}
@@ -25,19 +23,19 @@ use Rattle.margin.specs.Beside.{unitOf}
 use Rattle.margin.specs.Books.{asks}
 use Rattle.margin.specs.Lined.{PositionAt}
 use Rattle.margin.specs.Position.{PositionOf}
-use Rattle.margin.specs.Positions.{noPosition, PositionsOf, Told}
-use Rattle.margin.proofs.BesideLaws.{alone, own-fit}
+use Rattle.margin.specs.Positions.{noPosition, PositionsOf}
+use Rattle.margin.proofs.BesideLaws.{own-fit}
 use Rattle.margin.proofs.PositionLaws.{one-position}
 use Rattle.margin.proofs.PositionBounds.{no-rows, bounded, wider}
 
 -- ---- a contract by its number
 
-record Found (c : ℕ) (xs : List Record) : Type 0 where
+pub record Found (c : ℕ) (xs : List Record) : Type 0 where
   pub place : ℕ
   pub below : place < length xs
   pub here : contract (getD xs place []) ≡ c
 
-found : (c : ℕ) (xs : List Record) → any (asks c) xs ≡ true → Found c xs
+pub found : (c : ℕ) (xs : List Record) → any (asks c) xs ≡ true → Found c xs
 found c [] e = absurd (false≢true e)
 found c (x ∷ xs) e = go (eqb (contract x) c) refl e (found c xs)
   where
@@ -123,10 +121,6 @@ placed-all account law i ps e is n = record { records-are = n; places = is .plac
         subst (λ (d : ℕ). PositionAt (ratesOf account) (unitOf d account) account d (getD (ps .at) d noPosition)) (f .here) (is .done (f .place) (omega (arith, e, f .below)))
     go c h false a =
         flat-at account law c (getD (ps .at) c noPosition) (is .rest c h (λ j l. none c (contractsOf account) a j (omega (arith, e)))) a
-
--- the account itself
-pub told-alone : (morning noon : List ℕ) (a : Account) → Stands morning noon a → (ps : Positions) → PositionsOf (accountOf morning noon) ps → Told (accountOf morning noon) ps (accountOf morning noon)
-told-alone morning noon a st ps is = record { beside = alone morning noon a st; positions = is }
 
 -- an account has one
 pub one-positions : (whole : List Record) (a b : Positions) → PositionsOf whole a → PositionsOf whole b → a ≡ b

@@ -35,6 +35,7 @@ use Rattle.margin.specs.Contract.{Contract, contracts, partsIn, asTier, 
 use Rattle.margin.specs.Deltas.{netDeltas, intercontract}
 use Rattle.margin.specs.Lines.{noLine}
 use Rattle.margin.specs.Lined.{TierIs, TiersIn, PositionAt}
+use Rattle.margin.specs.Promised.{LineOf}
 use Rattle.margin.specs.Sums.{deltasIn}
 use Rattle.margin.specs.Table.{tierOf}
 use Rattle.margin.specs.Tables.{TableOf}
@@ -64,6 +65,11 @@ module _ (account : List Record) (law : Lawful account) (rates : List Record) (o
         number-within = few;
         net-within = subst⁻¹ (λ (x : ℤ). natAbs x ≤ mostDelta) ez (le-trans (abs-sum (deltasIn (q .nets))) tier-sizes);
       }
+
+-- and by its line
+pub line-tier : (k : Contract) (l : Line) → LineOf k l → TierIs k (l .contract) (l .net .0)
+line-tier k l is =
+    record { number-is = is .contract-is; net-is = is .net-is; number-within = is .within .contract-within; net-within = is .net-within }
 
 -- a line with a contract's number and net delta alone
 abbrev pub lean : Contract → Line

@@ -3,18 +3,24 @@
 use Prim.Native.Nat.{ℕ, zero, suc, _+_, _*_, _<_}
 use mathlib.Core.Path.{_≡_}
 use mathlib.Core.Bool.{Bool, true, false, cond}
-use mathlib.Core.List.{List, _++_}
+use mathlib.Core.List.{List, [], _++_}
 use lib.Dec.{ltb}
 use lib.IntN.{ℤ}
-use lib.ListN.{length, take, drop}
-use Rattle.record.specs.Layout.{Record}
+use lib.ListN.{length, getD, take, drop}
+use Rattle.record.specs.Layout.{Record, contract}
+use Rattle.account.specs.Parts.{contractsOf}
 use Rattle.account.specs.declared.answers.Answer.{Answer}
 use Rattle.account.specs.declared.answers.Answer.the-variants.{Accepted, TooFewNumbers}
 use Rattle.margin.specs.declared.asking.Question.{Question}
 use Rattle.margin.specs.declared.asking.Everything.{Everything}
 use Rattle.margin.specs.declared.asking.Question.the-variants.{Figures, Book, Uses}
+use Rattle.margin.specs.declared.line.Line.{Line}
+use Rattle.margin.specs.declared.over.Lines.{Lines}
 use Rattle.margin.specs.Books.{tableQuestion}
 use Rattle.margin.specs.Bounds.{longestBook, longestUses}
+use Rattle.margin.specs.Contract.{partsIn}
+use Rattle.margin.specs.Lined.{LinesOf}
+use Rattle.margin.specs.Promised.{LineOf}
 use Rattle.margin.specs.Questions.{accepted, answerOver, afterOver}
 
 -- places in lent numbers, all of one width, one after the other
@@ -44,6 +50,13 @@ abbrev pub afterEachOver : ℕ → (ℕ → List ℤ → List ℤ) → List Reco
 afterEachOver width after account lent =
     cond (accepted (eachOver width account (length lent))) (afterEach width after questions lent) lent
 
+-- where all places are lent: the place of one question changed, and of those below n
+abbrev pub lentPlace : ℕ → ℕ → (List ℤ → List ℤ) → List ℤ → List ℤ
+lentPlace width q change lent = cond (ltb (length lent) (width * questions)) lent (atPlace width (width * q) change lent)
+
+abbrev pub lentEach : ℕ → (ℕ → List ℤ → List ℤ) → ℕ → List ℤ → List ℤ
+lentEach width after n lent = cond (ltb (length lent) (width * questions)) lent (afterEach width after n lent)
+
 -- the books of all questions, or who paid for what in each of them
 abbrev pub questionOf : Bool → ℕ → Question
 questionOf paid question = cond paid (Uses question) (Book question)
@@ -56,6 +69,22 @@ allOver paid = eachOver (widthOf paid)
 
 abbrev pub afterAllOver : Bool → List Record → List ℤ → List ℤ
 afterAllOver paid account = afterEachOver (widthOf paid) (λ q. afterOver account (questionOf paid q)) account
+
+-- the line of the i-th contract, and its book and its uses in their places
+pub record ContractLent (account : List Record) (i : ℕ) (l : Line) (books uses books′ uses′ : List ℤ) : Type 0 where
+  pub line : LineOf (partsIn account (getD (contractsOf account) i [])) l
+  pub book :
+      let c = contract (getD (contractsOf account) i []) in
+      books′ ≡ lentPlace longestBook c (afterOver account (Book c)) books
+  pub paid :
+      let c = contract (getD (contractsOf account) i []) in
+      uses′ ≡ lentPlace longestUses c (afterOver account (Uses c)) uses
+
+-- and of all contracts
+pub record ContractsLent (account : List Record) (ls : Lines) (books uses books′ uses′ : List ℤ) : Type 0 where
+  pub lines : LinesOf account ls
+  pub book : books′ ≡ lentEach longestBook (λ q. afterOver account (Book q)) tableQuestion books
+  pub paid : uses′ ≡ lentEach longestUses (λ q. afterOver account (Uses q)) tableQuestion uses
 
 -- the figures, and the books and uses of all questions
 pub record EverythingOf (account : List Record) (figures books uses : List ℤ) (r : Everything) (figures′ books′ uses′ : List ℤ) : Type 0 where

@@ -1,53 +1,65 @@
 // The questions that an account answers. What comes after an account's records is said here once, for one file and for two: 11,
 // then 10, and the answer in lent memory.
 use crate::books::book_of;
+use crate::line::Line;
 use crate::numbers::LONGEST_BOOK;
 use crate::numbers::LONGEST_USES;
 use crate::numbers::Numbers;
 use crate::numbers::lend;
+use crate::over::Lines;
 use crate::over::TABLE;
 use crate::over::asking_over;
 use crate::over::asking_with;
+use crate::over::figures_of;
 use crate::over::figures_over;
 use crate::over::is_asked;
+use crate::over::line_with;
+use crate::over::no_line;
+use crate::over::position_in;
 use crate::over::table_asking;
+use crate::over::tiers_in;
 use crate::positions::Positions;
 use crate::positions::asking_from;
 use crate::positions::figures_from;
-use crate::positions::positions_over;
 use crate::positions::tiers_from;
 use crate::rows::Position;
 use crate::uses::Asking;
 use crate::uses::put_uses;
 use crate::uses::uses_count;
 use account::accounts::Account;
+use account::accounts::contract_number;
 use account::accounts::contract_total;
+use account::accounts::part;
 use account::accounts::part_total;
 use account::accounts::record_total;
 use account::answers::Answer;
 use account::parts::CONTRACTS;
 use account::parts::ENTRIES;
 use account::parts::PROMPTS;
+use account::parts::RATES;
 use account::parts::SPREADS;
+use account::rates::Rates;
+use account::rates::rates_of;
 use spread::Prompts;
 ghost use mathlib.Core.Path.{_≡_};
 ghost use mathlib.Core.Bool.{true};
 ghost use mathlib.Core.List.{List};
-ghost use Prim.Native.Nat.{ℕ, _+_, _*_, _≤_};
+ghost use Prim.Native.Nat.{ℕ, _+_, _*_, _≤_, _<_};
 ghost use lib.ListN.{length};
 ghost use Rattle.record.specs.Layout.{Record, mostContract};
 ghost use Rattle.account.specs.Check.{mostContracts};
-ghost use Rattle.account.specs.Parts.{promptsOf, spreadsOf};
+ghost use Rattle.account.specs.Parts.{promptsOf, spreadsOf, ratesOf};
+ghost use Rattle.account.specs.Products.{RatesOf};
 ghost use Rattle.account.specs.Standing.{Stands, accountOf};
 ghost use Rattle.spread.specs.Accepted.{sound};
-ghost use Rattle.margin.specs.Beside.{Besides, TiersKnown};
+ghost use Rattle.margin.specs.Beside.{unitOf, Besides, TiersKnown};
 ghost use Rattle.margin.specs.Books.{answered, tableQuestion};
 ghost use Rattle.margin.specs.Bounds.{longestBook, longestUses};
-ghost use Rattle.margin.specs.Lined.{TiersIn};
+ghost use Rattle.margin.specs.Lined.{TiersIn, PositionAt};
 ghost use Rattle.margin.specs.Positions.{Told, Known, ToldOf};
 ghost use Rattle.margin.specs.Promised.{BookFit};
 ghost use Rattle.margin.specs.Questions.{answerOver, afterOver, needOver, mostFor, SizesOf, Holds, AskedBy};
-ghost use Rattle.margin.specs.Places.{questions, atPlace, questionOf, widthOf, allOver, afterAllOver, EverythingOf};
+ghost use Rattle.margin.specs.Places.{questions, atPlace, lentPlace, ContractLent, ContractsLent, questionOf, widthOf, allOver, afterAllOver, EverythingOf};
 ghost use Rattle.margin.specs.declared.asking.Question.{Question};
 ghost use Rattle.margin.specs.declared.asking.Question.the-variants.{Figures, Book, Uses};
 
@@ -415,7 +427,92 @@ pub fn everything_from<'a>(
     }
 }
 
-// The same of an account that stands in the files, its positions worked out once.
+// The book of a contract, or who paid for what in it, in its place where all places are lent.
+fn lend_contract<'a>(
+    morning: &'a [u8],
+    noon: &'a [u8],
+    account: Account,
+    paid: bool,
+    c: usize,
+    p: Position,
+    out: &mut [i64],
+)
+    requires { ⌜ Stands (now morning) (now noon) account × ((c ≤ mostContract) × PositionAt (ratesOf (accountOf (now morning) (now noon))) (unitOf c (accountOf (now morning) (now noon))) (accountOf (now morning) (now noon)) c p) ⌝ }
+    ensures { λ r. ⌜ now (out .exit) ≡ lentPlace (widthOf paid) c (afterOver (accountOf (now (morning .entry)) (now (noon .entry))) (questionOf paid c)) (now (out .entry)) ⌝ }
+{
+    if out.len() < width_of(paid) * QUESTIONS {
+        return;
+    }
+    let records = record_total(account);
+    place_contract(morning, noon, account, records, paid, c, p, out);
+}
+
+// The line of the i-th contract; its book and its uses likewise.
+fn contract_over<'a>(
+    morning: &'a [u8],
+    noon: &'a [u8],
+    account: Account,
+    i: usize,
+    rates: Rates,
+    books: &mut [i64],
+    uses: &mut [i64],
+) -> Line
+    requires { ⌜ Stands (now morning) (now noon) account × ((i < account .contracts) × RatesOf (ratesOf (accountOf (now morning) (now noon))) rates) ⌝ }
+    ensures { λ r. ⌜ ContractLent (accountOf (now (morning .entry)) (now (noon .entry))) i r (now (books .entry)) (now (uses .entry)) (now (books .exit)) (now (uses .exit)) ⌝ }
+{
+    let c = contract_number(account, i);
+    let p = position_in(morning, noon, account, c, rates);
+    lend_contract(morning, noon, account, false, c, p, books);
+    lend_contract(morning, noon, account, true, c, p, uses);
+    line_with(morning, noon, account, c, p)
+}
+
+// The lines of all contracts, in file order; their books and uses likewise.
+fn contracts_over<'a>(
+    morning: &'a [u8],
+    noon: &'a [u8],
+    account: Account,
+    books: &mut [i64],
+    uses: &mut [i64],
+) -> Lines
+    requires { ⌜ Stands (now morning) (now noon) account ⌝ }
+    ensures { λ r. ⌜ ContractsLent (accountOf (now (morning .entry)) (now (noon .entry))) r (now (books .entry)) (now (uses .entry)) (now (books .exit)) (now (uses .exit)) ⌝ }
+{
+    let count = contract_total(account);
+    let rates = rates_of(part(morning, noon, account, RATES));
+    let mut lines = [no_line(); CONTRACTS];
+    let mut i = 0;
+    while i < count {
+        lines[i] = contract_over(morning, noon, account, i, rates, books, uses);
+        i += 1;
+    }
+    Lines {
+        count: count,
+        line: lines,
+    }
+}
+
+// The book of the intercontract table, or who paid for what in it, likewise: the last place of all.
+fn lend_table<'a>(
+    morning: &'a [u8],
+    noon: &'a [u8],
+    account: Account,
+    paid: bool,
+    tiers: Prompts,
+    out: &mut [i64],
+) -> Answer
+    requires { ⌜ Stands (now morning) (now noon) account × TiersIn (accountOf (now morning) (now noon)) tiers ⌝ }
+    ensures { λ r. ⌜ (r ≡ allOver paid (accountOf (now (morning .entry)) (now (noon .entry))) (length (now (out .entry)))) × (now (out .exit) ≡ lentPlace (widthOf paid) tableQuestion (afterOver (accountOf (now (morning .entry)) (now (noon .entry))) (questionOf paid tableQuestion)) (now (out .entry))) ⌝ }
+{
+    let records = record_total(account);
+    if out.len() < width_of(paid) * QUESTIONS {
+        return Answer::TooFewNumbers(records);
+    }
+    place_table(morning, noon, account, records, paid, tiers, out);
+    Answer::Accepted
+}
+
+// The same of an account that stands in the files, what the rows of each contract come to worked out once.
 pub fn everything_over<'a>(
     morning: &'a [u8],
     noon: &'a [u8],
@@ -427,6 +524,12 @@ pub fn everything_over<'a>(
     requires { ⌜ Stands (now morning) (now noon) account ⌝ }
     ensures { λ r. ⌜ EverythingOf (accountOf (now (morning .entry)) (now (noon .entry))) (now (figures .entry)) (now (books .entry)) (now (uses .entry)) r (now (figures .exit)) (now (books .exit)) (now (uses .exit)) ⌝ }
 {
-    let positions = positions_over(morning, noon, account);
-    everything_from(morning, noon, account, positions, figures, books, uses)
+    let lines = contracts_over(morning, noon, account, books, uses);
+    let numbers = figures_of(morning, noon, account, lines);
+    let tiers = tiers_in(lines);
+    Everything {
+        figures: put_numbers(record_total(account), numbers, figures),
+        books: lend_table(morning, noon, account, false, tiers, books),
+        uses: lend_table(morning, noon, account, true, tiers, uses),
+    }
 }

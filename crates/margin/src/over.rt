@@ -39,6 +39,7 @@ ghost use mathlib.Core.Bool.{true};
 ghost use mathlib.Core.List.{List, [], map};
 ghost use Prim.Native.Nat.{_+_, _*_, _≤_, _<_};
 ghost use lib.ListN.{getD};
+ghost use Rattle.account.specs.Check.{mostContracts};
 ghost use Rattle.account.specs.Parts.{contractsOf, promptsOf, rowsOf, spreadsOf, entriesOf, ratesOf};
 ghost use Rattle.account.specs.Products.{RatesOf};
 ghost use Rattle.account.specs.Records.{records};
@@ -243,6 +244,30 @@ fn tiers_over<'a>(morning: &'a [u8], noon: &'a [u8], account: Account) -> Prompt
         let one = tier_at(morning, noon, account, i);
         tiers[i] = one.contract;
         let net = one.net;
+        nets[i] = net;
+        i += 1;
+    }
+    Prompts {
+        count: count,
+        tier: tiers,
+        net: nets,
+    }
+}
+
+// The contracts as tiers, by their lines.
+pub(crate) fn tiers_in(all: Lines) -> Prompts
+    requires { ⌜ all .count ≤ mostContracts ⌝ }
+    ensures { λ r. ⌜ ((whole : List Record) → LinesOf whole all → TiersIn whole r) ⌝ }
+{
+    let count = all.count;
+    let lines = all.line;
+    let mut tiers = [0u8; MOST_PROMPTS];
+    let mut nets = [Delta(0); MOST_PROMPTS];
+    let mut i = 0;
+    while i < count {
+        let line = lines[i];
+        tiers[i] = line.contract;
+        let net = line.net;
         nets[i] = net;
         i += 1;
     }

@@ -1,0 +1,141 @@
+-- The contracts one after the other: each is answered in its place, and its line put in place.
+-- Assumes nothing.
+use mathlib.Core.Path.{refl, _∙_, subst}
+use mathlib.Core.Bool.{true, false}
+use mathlib.Core.List.{List}
+use Prim.Native.Nat.{_-_, _≤_}
+use native.Mathlib.Nat.{not-suc-le-zero}
+use native.Mathlib.Omega.{arith}
+use borrow.Author.Needs.{needs}
+use Rattle.record.specs.Layout.{Record}
+use Rattle.account.specs.Parts.{ratesOf}
+use Rattle.account.specs.Products.{RatesOf}
+use Rattle.account.specs.Standing.{accountOf}
+use Rattle.margin.proofs.AccountLaws.{LinedTo, lined-next}
+use Rattle.margin.proofs.LentLaws.{LentTo, lent-none, lent-next, lent-all}
+use Rattle.margin.proofs.StandLaws.{few-contracts, listed-at}
+use Rattle.margin.proofs.asking.contracts_over.Statement.{statement}
+use Rattle.margin.proofs.asking.contracts_over.Tie as tie
+
+abbrev Inv-loop : tie.InvT-loop
+Inv-loop morning noon account books₀ uses₀ count rates lines₀ i₀ books uses lines i =
+    LinedTo (accountOf morning noon) i lines
+    × ((i ≤ count) × (LentTo (accountOf morning noon) false i books₀ books × LentTo (accountOf morning noon) true i uses₀ uses))
+
+abbrev μ-loop : tie.MeasureT-loop
+μ-loop morning noon account books₀ uses₀ count rates lines₀ i₀ books uses lines i = count - i
+
+-- an account has at most sixteen contracts
+few : (c : tie.After-contract-total Inv-loop μ-loop) → c .contract-total .result ≤ 16
+few c =
+    let s = c .before .before .before in
+    omega (arith, c .contract-total .ensures, few-contracts (s .args .morning .now) (s .args .noon .now) (s .args .account) (s .pre))
+
+contract-total-requires : tie.Need-contract-total-requires Inv-loop μ-loop
+contract-total-requires c κs = search needs
+
+part-requires : tie.Need-part-requires Inv-loop μ-loop
+part-requires c κs = search needs
+
+rates-of-requires : tie.Need-rates-of-requires Inv-loop μ-loop
+rates-of-requires c κs = search needs
+
+-- the table of the account's rates
+table : (c : tie.After-rates-of Inv-loop μ-loop) →
+    let s = c .before .before .before .before .before in
+    RatesOf (ratesOf (accountOf (s .args .morning .now) (s .args .noon .now))) (c .rates-of .result)
+table c = subst (λ (rs : List Record). RatesOf rs (c .rates-of .result)) (c .before .part .ensures .are) (c .rates-of .ensures)
+
+no-line-requires : tie.Need-no-line-requires Inv-loop μ-loop
+no-line-requires c κs = search needs
+
+loop-holds : tie.Need-loop-holds Inv-loop μ-loop
+loop-holds c =
+    let s = c .before .before .before .before .before .before in
+    let a = accountOf (s .args .morning .now) (s .args .noon .now) in (
+      record { places = refl; each = λ j h. absurd (not-suc-le-zero h) },
+      (omega arith, (lent-none a false (s .args .books .now), lent-none a true (s .args .uses .now))),
+    )
+
+contract-over-requires : tie.Need-contract-over-requires Inv-loop μ-loop
+contract-over-requires c κs =
+    (c .before .before .before .before .before .before .before .before .before .before .pre, (omega (arith, c .before .before .loop-test .taken, c .before .before .before .before .before .before .before .contract-total .ensures), table (c .before .before .before .before .before)))
+
+mul-lines : tie.Need-mul-lines Inv-loop μ-loop
+mul-lines c = let h = few (c .before .before .before .before .before .before .before .before .before .before) in omega (arith, c .before .before .before .before .before .loop-test .taken)
+
+array-set-from-lines : tie.Need-array-set-from-lines Inv-loop μ-loop
+array-set-from-lines c = let h = few (c .before .before .before .before .before .before .before .before .before .before) in omega (arith, c .before .before .before .before .before .loop-test .taken)
+
+add-i : tie.Need-add-i Inv-loop μ-loop
+add-i c = let h = few (c .before .before .before .before .before .before .before .before .before .before) in omega (arith, c .before .before .before .before .before .loop-test .taken)
+
+loop-less : tie.Need-loop-less Inv-loop μ-loop
+loop-less c = omega (arith, c .before .before .before .before .before .loop-test .taken)
+
+loop-again : tie.Need-loop-again Inv-loop μ-loop
+loop-again c =
+    let s = c .before .before .before .before .before .before .before .before .before .before .before .before .before in
+    let m = s .args .morning .now in
+    let n = s .args .noon .now in
+    let a = accountOf m n in
+    let l = c .before .before .before .before .before .before .loop in
+    let h = few (c .before .before .before .before .before .before .before .before .before .before) in
+    let r = c .before .before .contract-over in
+    let its = listed-at m n (s .args .account) (s .pre) (l .i) (omega (arith, c .before .before .before .before .before .loop-test .taken, c .before .before .before .before .before .before .before .before .before .before .contract-total .ensures)) in (
+      lined-next a (l .i) (l .lines) (r .result) (l .inv .0) (omega (arith, c .before .before .before .before .before .loop-test .taken)) (r .ensures .line),
+      (
+        omega (arith, c .before .before .before .before .before .loop-test .taken),
+        (
+          lent-next a (s .pre .lawful) false (l .i) (s .args .books .now) (l .books) _ (l .inv .1 .1 .0) its (c .before .books .given) (r .ensures .book),
+          lent-next a (s .pre .lawful) true (l .i) (s .args .uses .now) (l .uses) _ (l .inv .1 .1 .1) its (c .uses .given) (r .ensures .paid),
+        ),
+      ),
+    )
+
+same-length : tie.Need-same-length Inv-loop μ-loop
+same-length c = c .before .loop .inv .1 .1 .0 .same
+
+same-length-2 : tie.Need-same-length-2 Inv-loop μ-loop
+same-length-2 c = c .before .loop .inv .1 .1 .1 .same
+
+returns : tie.Need-returns Inv-loop μ-loop
+returns c =
+    let s = c .before .before .before .before .before .before .before .before in
+    let a = accountOf (s .args .morning .now) (s .args .noon .now) in
+    let l = c .before .loop in
+    let h = few (c .before .before .before .before .before) in
+    let n = c .before .before .before .before .before .contract-total .ensures in
+    let e = s .pre .places .contracts in
+    record {
+      lines =
+          record {
+            count-is = n ∙ e;
+            few = h;
+            places = l .inv .0 .places;
+            each = λ i m. l .inv .0 .each i (omega (arith, c .loop-test .left));
+          };
+      book = lent-all a (s .pre .lawful) false (l .i) (s .args .books .now) (l .books) (l .inv .1 .1 .0) (omega (arith, c .loop-test .left, l .inv .1 .0));
+      paid = lent-all a (s .pre .lawful) true (l .i) (s .args .uses .now) (l .uses) (l .inv .1 .1 .1) (omega (arith, c .loop-test .left, l .inv .1 .0));
+    }
+
+pub contracts-over-spec : {M : Type 1} → statement M
+contracts-over-spec =
+    tie.close
+    (tie.spec
+    Inv-loop
+    μ-loop
+    contract-total-requires
+    part-requires
+    rates-of-requires
+    no-line-requires
+    loop-holds
+    contract-over-requires
+    mul-lines
+    array-set-from-lines
+    add-i
+    loop-less
+    loop-again
+    same-length
+    same-length-2
+    returns)

@@ -1,11 +1,11 @@
 -- Runs of sound records: a record that passes its test gets no fault, and the check goes on past all of them at once.
 -- Assumes nothing.
-use Prim.Native.Nat.{ℕ, zero, suc, _+_, _-_, _*_, _≤_, _<_, min}
+use Prim.Native.Nat.{ℕ, _+_, _-_, _*_, _≤_, _<_, min}
 use mathlib.Core.Path.{_≡_, refl, sym, ap, subst, _∙_}
 use mathlib.Core.Bool.{Bool, true, false, not, cond, _&&_, _||_}
-use mathlib.Core.List.{List, [], _∷_, _++_, map}
+use mathlib.Core.List.{List, [], _∷_, map}
 use lib.ListN.{length, getD, set, length-set, replicate, length-replicate, getD-replicate, length-map}
-use lib.Seq.{getD-set-same, getD-set-other, set-set, set-getD}
+use lib.Seq.{getD-set-same, getD-set-other}
 use lib.Dec.{eqb, leb, ltb}
 use native.Mathlib.Omega.{arith}
 use native.Mathlib.Numerals.{add-one}
@@ -20,7 +20,7 @@ use Rattle.record.proofs.Reading.{byte-past}
 use Rattle.record.proofs.Sound.{Sound, sound-known}
 use Rattle.record.proofs.Tests.{any-append, or-false, both}
 use Rattle.record.proofs.Within.{both-true, neither, row-within, spread-within, contract-known}
-use Rattle.account.specs.Check.{mostPrompts, kindFalls, dayNotAbove, tierFalls, contractFalls, legsClash, outOfOrder}
+use Rattle.account.specs.Check.{kindFalls, dayNotAbove, tierFalls, contractFalls, legsClash, outOfOrder}
 use Rattle.account.specs.Notes.{part, partOf, oneMore, startNoted, noContract, noDay, noTier, unlistedBy, overLimitBy, faultBy, promptsNoted}
 use Rattle.account.specs.Notes.{beforeAt, faultAt}
 use Rattle.account.specs.Parts.{ofKind, onDay, onTier}

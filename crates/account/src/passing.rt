@@ -2,13 +2,13 @@
 // about by itself.
 ghost use mathlib.Core.Path.{_≡_};
 ghost use mathlib.Core.Bool.{not, _||_};
-ghost use Prim.Native.Nat.{ℕ, _+_, _≤_, _<_, _-_, min};
+ghost use Prim.Native.Nat.{_+_, _≤_, _<_, _-_, min};
 ghost use lib.ListN.{length};
 ghost use Rattle.exact.specs.Lists.{any};
 ghost use Rattle.record.specs.Layout.{day, legsOf};
 ghost use Rattle.account.specs.Check.{kindFalls, contractFalls};
 ghost use Rattle.account.specs.Notes.{parts, noContract};
-ghost use Rattle.account.specs.Passing.{DaysOf, hasDay, tierBytes, TiersOf, legUnlistedIn, promptPasses, rowPasses, spreadPasses, RunTo, Begins, Runs};
+ghost use Rattle.account.specs.Passing.{DaysOf, hasDay, TiersOf, legUnlistedIn, promptPasses, rowPasses, spreadPasses, RunTo, Begins, Runs};
 ghost use Rattle.account.specs.Records.{recordAt, recordCount, records};
 use crate::limits::MOST_PROMPTS;
 use crate::limits::MOST_ROWS;

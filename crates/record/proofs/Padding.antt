@@ -2,17 +2,16 @@
 -- Assumes nothing.
 use Prim.Native.Nat.{ℕ, _+_, _*_, _≤_, _<_}
 use mathlib.Core.Path.{_≡_, refl, sym, ap, _∙_}
-use mathlib.Core.Bool.{Bool, true, false, not, _&&_, _||_}
+use mathlib.Core.Bool.{Bool, true, false, not, _&&_}
 use mathlib.Core.List.{List, [], _∷_}
 use lib.ListN.{length, getD, set, length-set, replicate, length-replicate, getD-replicate}
 use lib.Seq.{getD-set-same, getD-set-other}
 use lib.Dec.{eqb, ltb}
 use native.Mathlib.Omega.{arith}
 use borrow.Author.Tests.{ltb-true, ltb-false, eqb-true, eqb-false}
-use Rattle.exact.specs.Lists.{any}
 use Rattle.record.specs.Bytes.{Record, byteAt, one, two, four, Width, Field, plainAt, numberIn}
 use Rattle.record.specs.Layout.{fieldsOf}
-use Rattle.record.specs.Ranges.{beyond, outside, outsideAmong, named, unusedByte, fieldOutside}
+use Rattle.record.specs.Ranges.{beyond, outsideAmong, named, unusedByte, fieldOutside}
 use Rattle.record.proofs.Reading.{byte-past}
 use Rattle.record.proofs.Tests.{both, any-same}
 

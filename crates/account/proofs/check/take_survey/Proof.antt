@@ -1,6 +1,6 @@
 -- `account::check::take_survey` meets its contract. Assumes nothing.
-use Prim.Native.Nat.{ℕ, _-_, _%_, _≤_, _<_}
-use mathlib.Core.Path.{_≡_, refl, sym, ap, subst, _∙_}
+use Prim.Native.Nat.{_-_, _%_, _≤_, _<_}
+use mathlib.Core.Path.{refl, sym, ap, subst}
 use mathlib.Core.Bool.{not}
 use native.Mathlib.Omega.{arith}
 use lib.ListN.{length}

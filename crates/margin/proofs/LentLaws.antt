@@ -40,7 +40,8 @@ module _ (width : ℕ) (after : ℕ → List ℤ → List ℤ) (lent : List ℤ)
   skip zero n h same = let e : 0 ≡ n = omega (arith, h) in ap (λ (k : ℕ). afterEach width after k lent) e
   skip (suc m) n h same = go (ℕ-discrete n (suc m)) (λ l. skip m n l (λ q a b. same q a (omega arith)))
     where
-      go : Dec (n ≡ suc m) → (n ≤ m → afterEach width after m lent ≡ afterEach width after n lent) → afterEach width after (suc m) lent ≡ afterEach width after n lent
+      go : Dec (n ≡ suc m) → (n ≤ m → afterEach width after m lent ≡ afterEach width after n lent)
+          → afterEach width after (suc m) lent ≡ afterEach width after n lent
       go (yes e) before = ap (λ (k : ℕ). afterEach width after k lent) (sym e)
       go (no e) before =
           same-place width (width * m) (after m) (afterEach width after m lent) (same m (omega (arith, e)) (omega arith)) ∙ before (omega (arith, e))
@@ -81,7 +82,8 @@ module _ (account : List Record) where
 
   stays : (paid : Bool) (q : ℕ) → answered account q ≡ false → (xs : List ℤ) → after paid q xs ≡ xs
   stays paid q e xs =
-      ap (λ (a : Answer). afterwards a (numbersFor account (questionOf paid q)) xs) (not-asked account (questionOf paid q) (length xs) (answers-of account paid q ∙ e))
+      ap (λ (a : Answer). afterwards a (numbersFor account (questionOf paid q)) xs)
+      (not-asked account (questionOf paid q) (length xs) (answers-of account paid q ∙ e))
 
   pub lent-none : (paid : Bool) (lent : List ℤ) → LentTo paid 0 lent lent
   lent-none paid lent = record { same = refl; each = λ n few below above. go n few above (ltb (length lent) (widthOf paid * questions)) }
@@ -111,7 +113,8 @@ module _ (account : List Record) (law : Lawful account) where
         go j h m (no e) = let up = numbers-rise account law i j (omega (arith, e)) m in omega arith
 
     -- no number between this contract's and one that parts the contracts after it is listed
-    between : (n q : ℕ) → n ≤ 16 → ((j : ℕ) → i + 1 ≤ j → j < length (contractsOf account) → n ≤ numberAt account j) → suc c ≤ q → q < n → answered account q ≡ false
+    between : (n q : ℕ) → n ≤ 16 → ((j : ℕ) → i + 1 ≤ j → j < length (contractsOf account) → n ≤ numberAt account j) → suc c ≤ q → q < n
+        → answered account q ≡ false
     between n q few above a b = unlisted account q (omega arith) (λ j h e. go j h e (ltb j i) refl (ℕ-discrete j i))
       where
         go : (j : ℕ) → j < length (contractsOf account) → numberAt account j ≡ q → (t : Bool) → ltb j i ≡ t → Dec (j ≡ i) → ⊥
@@ -138,7 +141,8 @@ module _ (account : List Record) (law : Lawful account) where
             ∙ ap (atPlace width (width * c) (after account paid c)) a
             ∙ sym (skip width (after account paid) lent n (suc c) here (λ q d f. stays account paid q (between n q few above d f)))
 
-  pub lent-all : (paid : Bool) (i : ℕ) (lent left : List ℤ) → LentTo account paid i lent left → i ≡ length (contractsOf account) → left ≡ lentEach (widthOf paid) (after account paid) 16 lent
+  pub lent-all : (paid : Bool) (i : ℕ) (lent left : List ℤ) → LentTo account paid i lent left → i ≡ length (contractsOf account)
+      → left ≡ lentEach (widthOf paid) (after account paid) 16 lent
   lent-all paid i lent left is all =
       is .each 16 (omega arith) (λ j h. let few = own-number account law j (omega arith) in omega arith) (λ j h m. absurd (omega arith))
 
@@ -154,7 +158,8 @@ module _ (account : List Record) (paid : Bool) (lent left left′ : List ℤ) (s
   abbrev table : List ℤ → List ℤ
   table = atPlace wide (wide * 16) (each 16)
 
-  pub then-table : (answer : Answer) → left ≡ lentEach wide each 16 lent → answer ≡ allOver paid account (length left) → left′ ≡ lentPlace wide 16 (each 16) left
+  pub then-table : (answer : Answer) → left ≡ lentEach wide each 16 lent → answer ≡ allOver paid account (length left)
+      → left′ ≡ lentPlace wide 16 (each 16) left
       → (answer ≡ allOver paid account (length lent)) × (left′ ≡ afterAllOver paid account lent)
   then-table answer so-far a e = (
     a ∙ ap (allOver paid account) same,

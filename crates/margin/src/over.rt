@@ -260,12 +260,11 @@ pub(crate) fn tiers_in(all: Lines) -> Prompts
     ensures { λ r. ⌜ ((whole : List Record) → LinesOf whole all → TiersIn whole r) ⌝ }
 {
     let count = all.count;
-    let lines = all.line;
     let mut tiers = [0u8; MOST_PROMPTS];
     let mut nets = [Delta(0); MOST_PROMPTS];
     let mut i = 0;
     while i < count {
-        let line = lines[i];
+        let line = all.line[i];
         tiers[i] = line.contract;
         let net = line.net;
         nets[i] = net;

@@ -27,14 +27,16 @@ number : (c : tie.After-contract-number) →
     c .contract-number .result ≡ contract (getD (contractsOf (accountOf (s .args .morning .now) (s .args .noon .now))) (s .args .i) [])
 number c =
     let s = c .before .before .before in
-    number-at (s .args .morning .now) (s .args .noon .now) (s .args .account) (s .pre .0) (s .args .i) (s .pre .1 .0) (c .contract-number .result) (c .contract-number .ensures)
+    number-at (s .args .morning .now) (s .args .noon .now) (s .args .account) (s .pre .0)
+    (s .args .i) (s .pre .1 .0) (c .contract-number .result) (c .contract-number .ensures)
 
 small : (c : tie.After-contract-number) → c .contract-number .result ≤ 15
 small c =
     let s = c .before .before .before in
     let m = s .args .morning .now in
     let n = s .args .noon .now in
-    omega (arith, number c, own-number (accountOf m n) (s .pre .0 .lawful) (s .args .i) (listed-at m n (s .args .account) (s .pre .0) (s .args .i) (s .pre .1 .0)))
+    let h = listed-at m n (s .args .account) (s .pre .0) (s .args .i) (s .pre .1 .0) in
+    omega (arith, number c, own-number (accountOf m n) (s .pre .0 .lawful) (s .args .i) h)
 
 position-in-requires : tie.Need-position-in-requires
 position-in-requires c κs = (c .before .before .before .pre .0, (small c, c .before .before .before .pre .1 .1))
@@ -43,15 +45,17 @@ lend-contract-requires : tie.Need-lend-contract-requires
 lend-contract-requires c κs = (c .before .before .before .before .before .pre .0, (small (c .before .before), c .before .position-in .ensures))
 
 lend-contract-requires-2 : tie.Need-lend-contract-requires-2
-lend-contract-requires-2 c κs = (c .before .before .before .before .before .before .before .before .pre .0, (small (c .before .before .before .before .before), c .before .before .before .before .position-in .ensures))
+lend-contract-requires-2 c κs = let p = c .before .before .before .before in (p .before .before .before .before .pre .0, (small (p .before), p .position-in .ensures))
 
 line-with-requires : tie.Need-line-with-requires
 line-with-requires c κs =
     let s = c .before .before .before .before .before .before .before .before .before .before in
     let m = s .args .morning .now in
     let n = s .args .noon .now in
+    let k = c .before .before .before .before .before .before .before in
     let p = c .before .before .before .before .before .before .position-in in
-    (s .pre .0, (small (c .before .before .before .before .before .before .before), fits (accountOf m n) (accountOf m n) (alone m n (s .args .account) (s .pre .0)) (c .before .before .before .before .before .before .before .contract-number .result) (p .result) (p .ensures)))
+    let b = alone m n (s .args .account) (s .pre .0) in
+    (s .pre .0, (small k, fits (accountOf m n) (accountOf m n) b (k .contract-number .result) (p .result) (p .ensures)))
 
 same-length : tie.Need-same-length
 same-length c = search needs

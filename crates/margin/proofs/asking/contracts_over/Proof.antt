@@ -59,16 +59,18 @@ loop-holds c =
 
 contract-over-requires : tie.Need-contract-over-requires Inv-loop μ-loop
 contract-over-requires c κs =
-    (c .before .before .before .before .before .before .before .before .before .before .pre, (omega (arith, c .before .before .loop-test .taken, c .before .before .before .before .before .before .before .contract-total .ensures), table (c .before .before .before .before .before)))
+    let r = c .before .before .before .before .before in
+    let n = r .before .before .contract-total .ensures in
+    (r .before .before .before .before .before .pre, (omega (arith, c .before .before .loop-test .taken, n), table r))
 
 mul-lines : tie.Need-mul-lines Inv-loop μ-loop
-mul-lines c = let h = few (c .before .before .before .before .before .before .before .before .before .before) in omega (arith, c .before .before .before .before .before .loop-test .taken)
+mul-lines c = let t = c .before .before .before .before .before in let h = few (t .before .before .before .before .before) in omega (arith, t .loop-test .taken)
 
 array-set-from-lines : tie.Need-array-set-from-lines Inv-loop μ-loop
-array-set-from-lines c = let h = few (c .before .before .before .before .before .before .before .before .before .before) in omega (arith, c .before .before .before .before .before .loop-test .taken)
+array-set-from-lines c = let t = c .before .before .before .before .before in let h = few (t .before .before .before .before .before) in omega (arith, t .loop-test .taken)
 
 add-i : tie.Need-add-i Inv-loop μ-loop
-add-i c = let h = few (c .before .before .before .before .before .before .before .before .before .before) in omega (arith, c .before .before .before .before .before .loop-test .taken)
+add-i c = let t = c .before .before .before .before .before in let h = few (t .before .before .before .before .before) in omega (arith, t .loop-test .taken)
 
 loop-less : tie.Need-loop-less Inv-loop μ-loop
 loop-less c = omega (arith, c .before .before .before .before .before .loop-test .taken)
@@ -82,7 +84,8 @@ loop-again c =
     let l = c .before .before .before .before .before .before .loop in
     let h = few (c .before .before .before .before .before .before .before .before .before .before) in
     let r = c .before .before .contract-over in
-    let its = listed-at m n (s .args .account) (s .pre) (l .i) (omega (arith, c .before .before .before .before .before .loop-test .taken, c .before .before .before .before .before .before .before .before .before .before .contract-total .ensures)) in (
+    let count = c .before .before .before .before .before .before .before .before .before .before .contract-total .ensures in
+    let its = listed-at m n (s .args .account) (s .pre) (l .i) (omega (arith, c .before .before .before .before .before .loop-test .taken, count)) in (
       lined-next a (l .i) (l .lines) (r .result) (l .inv .0) (omega (arith, c .before .before .before .before .before .loop-test .taken)) (r .ensures .line),
       (
         omega (arith, c .before .before .before .before .before .loop-test .taken),

@@ -1,10 +1,9 @@
 -- The contracts first, then the figures, and the table in its two places.
 -- Assumes nothing.
-use mathlib.Core.Path.{_∙_, ap}
+use mathlib.Core.Path.{_∙_}
 use mathlib.Core.Bool.{true, false}
 use native.Mathlib.Omega.{arith}
 use borrow.Author.Needs.{needs}
-use lib.ListN.{length}
 use Rattle.account.specs.Standing.{accountOf}
 use Rattle.margin.specs.declared.asking.Question.the-variants.{Figures}
 use Rattle.margin.proofs.BesideLaws.{alone}
@@ -34,44 +33,50 @@ put-numbers-requires c κs = c .before .before .before .figures-of .ensures .1 .
 
 lend-table-requires : tie.Need-lend-table-requires
 lend-table-requires c κs =
-    let s = c .before .before .before .before .before .before .before .before .before .before .before .before .before .before in
-    (s .pre, c .before .before .before .before .before .tiers-in .ensures (accountOf (s .args .morning .now) (s .args .noon .now)) (c .before .before .before .before .before .before .before .before .before .contracts-over .ensures .lines))
+    let t = c .before .before .before .before .before in
+    let k = t .before .before .before .before in
+    let s = k .before .before .before .before .before in
+    (s .pre, t .tiers-in .ensures (accountOf (s .args .morning .now) (s .args .noon .now)) (k .contracts-over .ensures .lines))
 
 lend-table-requires-2 : tie.Need-lend-table-requires-2
 lend-table-requires-2 c κs =
-    let s = c .before .before .before .before .before .before .before .before .before .before .before .before .before .before .before .before .before in
-    (s .pre, c .before .before .before .before .before .before .before .before .tiers-in .ensures (accountOf (s .args .morning .now) (s .args .noon .now)) (c .before .before .before .before .before .before .before .before .before .before .before .before .contracts-over .ensures .lines))
+    let t = c .before .before .before .before .before .before .before .before in
+    let k = t .before .before .before .before in
+    let s = k .before .before .before .before .before in
+    (s .pre, t .tiers-in .ensures (accountOf (s .args .morning .now) (s .args .noon .now)) (k .contracts-over .ensures .lines))
 
 same-length : tie.Need-same-length
 same-length c = search needs
 
 same-length-2 : tie.Need-same-length-2
-same-length-2 c = c .before .before .before .books2 .given ∙ c .before .before .before .before .before .before .before .before .before .before .before .before .before .books .given
+same-length-2 c = let b = c .before .before .before in b .books2 .given ∙ b .before .before .before .before .before .before .before .before .before .before .books .given
 
 same-length-3 : tie.Need-same-length-3
 same-length-3 c = c .uses2 .given ∙ c .before .before .before .before .before .before .before .before .before .before .before .before .uses .given
 
 returns : tie.Need-returns
 returns c =
-    let s = c .before .before .before .before .before .before .before .before .before .before .before .before .before .before .before .before .before .before .before in
+    let q = c .before .before .before .before .before .before .before .before in
+    let k = q .before .before .before .before .before .before in
+    let s = k .before .before .before .before .before in
     let m = s .args .morning .now in
     let n = s .args .noon .now in
     let a = accountOf m n in
-    let k = c .before .before .before .before .before .before .before .before .before .before .before .before .before .before .contracts-over .ensures in
-    let f = c .before .before .before .before .before .before .before .before .before .before .before .figures-of .ensures in
+    let l = k .contracts-over .ensures in
+    let f = q .before .before .before .figures-of .ensures in
     let p =
     c .before .before .before .before .before .before .before .put-numbers .ensures a Figures
     (record {
       asked-is = λ i. true;
-      records-are = c .before .before .before .before .before .before .before .before .before .record-total .ensures ∙ s .pre .places .all;
-      listed-is = f .0 a (alone m n (s .args .account) (s .pre)) (k .lines);
+      records-are = q .before .record-total .ensures ∙ s .pre .places .all;
+      listed-is = f .0 a (alone m n (s .args .account) (s .pre)) (l .lines);
       count-is = omega (arith, f .1 .0, figures-length a, s .pre .places .contracts);
     })
     in
     let t = c .before .before .before .before .lend-table .ensures in
     let v = c .before .lend-table2 .ensures in
-    let b = then-table a false (s .args .books .now) _ _ (c .before .before .before .before .before .before .before .before .before .before .before .before .before .books .given) _ (k .book) (t .0) (t .1) in
-    let u = then-table a true (s .args .uses .now) _ _ (c .before .before .before .before .before .before .before .before .before .before .before .before .uses .given) _ (k .paid) (v .0) (v .1) in
+    let b = then-table a false (s .args .books .now) _ _ (q .before .before .before .before .before .books .given) _ (l .book) (t .0) (t .1) in
+    let u = then-table a true (s .args .uses .now) _ _ (q .before .before .before .before .uses .given) _ (l .paid) (v .0) (v .1) in
     record { figures-answer = p .0; figures-after = p .1; books-answer = b .0; books-after = b .1; uses-answer = u .0; uses-after = u .1 }
 
 pub everything-over-spec : {M : Type 1} → statement M

@@ -64,7 +64,11 @@ returns-2 c =
     let a = accountOf m n in
     lent-enough (widthOf p) (s .args .c) (afterOver a (questionOf p (s .args .c))) (s .args .out .now) _ (room (c .before .before .before))
     (c .before .place-contract .ensures a
-    (record { beside = alone m n (s .args .account) (s .pre .0); records-are = c .before .before .before .record-total .ensures ∙ s .pre .0 .places .all; at = s .pre .1 .1 }))
+    (record {
+      beside = alone m n (s .args .account) (s .pre .0);
+      records-are = c .before .before .before .record-total .ensures ∙ s .pre .0 .places .all;
+      at = s .pre .1 .1;
+    }))
 
 pub lend-contract-spec : {M : Type 1} → statement M
 lend-contract-spec =

@@ -29,8 +29,9 @@ returns c =
     let p = s .args .paid in
     let o = s .args .out .now in
     let a = accountOf (s .args .morning .now) (s .args .noon .now) in
+    let n = c .before .before .record-total in
     let few : length o < widthOf p * questions = omega (arith, c .before .width-of .ensures .0, c .if1 .taken) in (
-      each-too-few (widthOf p) (λ k. afterOver a (questionOf p k)) a o (c .before .before .record-total .result) few (c .before .before .record-total .ensures ∙ s .pre .0 .places .all) .0,
+      each-too-few (widthOf p) (λ k. afterOver a (questionOf p k)) a o (n .result) few (n .ensures ∙ s .pre .0 .places .all) .0,
       lent-few (widthOf p) 16 (afterOver a (questionOf p 16)) o few,
     )
 
@@ -58,7 +59,8 @@ returns-2 c =
     let a = accountOf m n in (
       each-accepted (widthOf p) (λ k. afterOver a (questionOf p k)) a o _ (room (c .before .before .before)) refl .0,
       lent-enough (widthOf p) 16 (afterOver a (questionOf p 16)) o _ (room (c .before .before .before))
-          (c .before .place-table .ensures a (alone m n (s .args .account) (s .pre .0)) (s .pre .1) (c .before .before .before .before .before .record-total .ensures ∙ s .pre .0 .places .all)),
+          (c .before .place-table .ensures a (alone m n (s .args .account) (s .pre .0)) (s .pre .1)
+          (c .before .before .before .before .before .record-total .ensures ∙ s .pre .0 .places .all)),
     )
 
 pub lend-table-spec : {M : Type 1} → statement M

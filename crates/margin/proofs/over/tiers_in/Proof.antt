@@ -1,10 +1,10 @@
 -- The contracts are put in place one after the other, each by its line.
 -- Assumes nothing.
-use mathlib.Core.Path.{_≡_, refl, ap}
-use mathlib.Core.List.{List, []}
-use Prim.Native.Nat.{ℕ, _-_, _≤_, _<_}
+use mathlib.Core.Path.{refl}
+use mathlib.Core.List.{List}
+use Prim.Native.Nat.{_-_, _≤_}
 use native.Mathlib.Omega.{arith}
-use lib.ListN.{length, getD}
+use lib.ListN.{getD}
 use Rattle.record.specs.Layout.{Record}
 use Rattle.margin.specs.Lined.{LinesOf}
 use Rattle.margin.specs.Lines.{noLine}
@@ -13,41 +13,41 @@ use Rattle.margin.proofs.over.tiers_in.Statement.{statement}
 use Rattle.margin.proofs.over.tiers_in.Tie as tie
 
 abbrev Inv-loop : tie.InvT-loop
-Inv-loop count lines tiers₀ nets₀ i₀ tiers nets i =
-    ((whole : List Record) → LinesOf whole (record { count = count; line = lines }) → TieredTo whole i tiers nets) × (i ≤ count)
+Inv-loop all count tiers₀ nets₀ i₀ tiers nets i =
+    ((whole : List Record) → LinesOf whole all → TieredTo whole i tiers nets) × (i ≤ count)
 
 abbrev μ-loop : tie.MeasureT-loop
-μ-loop count lines tiers₀ nets₀ i₀ tiers nets i = count - i
+μ-loop all count tiers₀ nets₀ i₀ tiers nets i = count - i
 
 loop-holds : tie.Need-loop-holds Inv-loop μ-loop
 loop-holds c = (λ whole is. tiers-none whole _ _ refl refl, omega arith)
 
 mul-line : tie.Need-mul-line Inv-loop μ-loop
-mul-line c = omega (arith, c .loop-test .taken, c .before .before .before .pre)
+mul-line c = omega (arith, c .loop-test .taken, c .before .before .pre)
 
-array-copy-out-line : tie.Need-array-copy-out-line Inv-loop μ-loop
-array-copy-out-line c = omega (arith, c .loop-test .taken, c .before .before .before .pre)
+element-copy-out-line : tie.Need-element-copy-out-line Inv-loop μ-loop
+element-copy-out-line c = omega (arith, c .loop-test .taken, c .before .before .pre)
 
 array-write-tiers : tie.Need-array-write-tiers Inv-loop μ-loop
-array-write-tiers c = omega (arith, c .before .loop-test .taken, c .before .before .before .before .pre)
+array-write-tiers c = omega (arith, c .before .loop-test .taken, c .before .before .before .pre)
 
 mul-nets : tie.Need-mul-nets Inv-loop μ-loop
-mul-nets c = omega (arith, c .before .before .loop-test .taken, c .before .before .before .before .before .pre)
+mul-nets c = omega (arith, c .before .before .loop-test .taken, c .before .before .before .before .pre)
 
 array-set-from-nets : tie.Need-array-set-from-nets Inv-loop μ-loop
-array-set-from-nets c = omega (arith, c .before .before .loop-test .taken, c .before .before .before .before .before .pre)
+array-set-from-nets c = omega (arith, c .before .before .loop-test .taken, c .before .before .before .before .pre)
 
 add-i : tie.Need-add-i Inv-loop μ-loop
-add-i c = omega (arith, c .before .before .loop-test .taken, c .before .before .before .before .before .pre)
+add-i c = omega (arith, c .before .before .loop-test .taken, c .before .before .before .before .pre)
 
 loop-less : tie.Need-loop-less Inv-loop μ-loop
 loop-less c = omega (arith, c .before .before .loop-test .taken)
 
 loop-again : tie.Need-loop-again Inv-loop μ-loop
 loop-again c =
-    let s = c .before .before .before .before .before in
+    let s = c .before .before .before .before in
     let l = c .before .before .before .loop in
-    let x = getD (s .args .all .line) (l .i) noLine in (
+    let x = getD (s .args .t1 .line) (l .i) noLine in (
       λ whole is.
           tiers-next whole (l .i) (l .tiers) (l .nets) (x .contract) (x .net) (l .inv .0 whole is) (omega (arith, c .before .before .loop-test .taken, s .pre))
           (omega (arith, c .before .before .loop-test .taken, is .count-is)) (line-tier _ x (is .each (l .i) (c .before .before .loop-test .taken))),
@@ -56,10 +56,10 @@ loop-again c =
 
 returns : tie.Need-returns Inv-loop μ-loop
 returns c =
-    let s = c .before .before .before in
+    let s = c .before .before in
     let l = c .before .loop in
     λ whole is.
-    tiers-all whole (l .i) _ (l .inv .0 whole (record { count-is = is .count-is; few = is .few; places = is .places; each = is .each }))
+    tiers-all whole (l .i) _ (l .inv .0 whole is)
     (omega (arith, c .loop-test .left, l .inv .1)) (omega (arith, c .loop-test .left, l .inv .1, is .count-is)) (omega (arith, l .inv .1, s .pre))
 
 pub tiers-in-spec : {M : Type 1} → statement M
@@ -70,7 +70,7 @@ tiers-in-spec =
     μ-loop
     loop-holds
     mul-line
-    array-copy-out-line
+    element-copy-out-line
     array-write-tiers
     mul-nets
     array-set-from-nets

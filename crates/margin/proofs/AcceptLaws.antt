@@ -35,7 +35,12 @@ side-sound (suc (suc (suc s))) l h = absurd (omega arith)
 
 leg-sound : (s : Record) (i : ℕ) → ranges.LegWithin s i → soundLeg (legOf s i) ≡ true
 leg-sound s i w =
-    rw (lt-ltb (legTier s i) 16 (omega (arith, w .tiers .most)), side-sound (legSide s i) (w .sides .least) (w .sides .most), lt-ltb 0 (legRatio s i) (w .ratios .least))
+    rw (
+      lt-ltb (legTier s i) 16 (omega (arith, w .tiers .most)),
+      side-sound (legSide s i) (w .sides .least) (w .sides .most),
+      lt-ltb 0 (legRatio s i)
+          (w .ratios .least),
+    )
 
 two-legs : (x y : Bool) (p : Bool) → x ≡ true → y ≡ true → (p || false) || (false || false) ≡ false → x && (not (p || false) && y) ≡ true
 two-legs true true true e f g = absurd (false≢true (sym g))
@@ -57,9 +62,11 @@ legs-two : (s : Record) → legCount s ≡ 2 → alikeAmong s (legsOf s) ≡ fal
 legs-two s e a w0 w1 =
     rw e (two-legs (soundLeg (legOf s 0)) (soundLeg (legOf s 1)) (sameLeg s 0 1) (leg-sound s 0 w0) (leg-sound s 1 w1) (rw e at a))
 
-legs-three : (s : Record) → legCount s ≡ 3 → alikeAmong s (legsOf s) ≡ false → ranges.LegWithin s 0 → ranges.LegWithin s 1 → ranges.LegWithin s 2 → soundSpread (interprompt s) ≡ true
+legs-three : (s : Record) → legCount s ≡ 3 → alikeAmong s (legsOf s) ≡ false → ranges.LegWithin s 0 → ranges.LegWithin s 1 → ranges.LegWithin s 2
+    → soundSpread (interprompt s) ≡ true
 legs-three s e a w0 w1 w2 =
-    rw e (three-legs (soundLeg (legOf s 0)) (soundLeg (legOf s 1)) (soundLeg (legOf s 2)) (sameLeg s 0 1) (sameLeg s 0 2) (sameLeg s 1 2) (leg-sound s 0 w0) (leg-sound s 1 w1) (leg-sound s 2 w2) (rw e at a))
+    rw e (three-legs (soundLeg (legOf s 0)) (soundLeg (legOf s 1)) (soundLeg (legOf s 2)) (sameLeg s 0 1) (sameLeg s 0 2) (sameLeg s 1 2)
+    (leg-sound s 0 w0) (leg-sound s 1 w1) (leg-sound s 2 w2) (rw e at a))
 
 spread-within : (s : Record) → ranges.SpreadWithin s → legsClash s ≡ false → SpreadFit s
 spread-within s w h =
@@ -123,7 +130,11 @@ module _ (account : List Record) (ok : Lawful account) where
             record { tier-within = omega (arith, p .tiers .most); spread-rate = p .spreadRates; outright-rate = p .outrightRates };
         one-day = λ k h. let e = every-at (λ r. count (onDay (day r)) (promptsOf c account) ≡ 1) (rowsOf c account) (ok .onePrompt c) k h in omega arith;
         rows-within =
-            record { few = ok .limits .rows c; each = λ k h. row-within (getD (rowsOf c account) k []) (every-at ranges.RowWithin (rowsOf c account) (ok .ranges .rows c) k h) };
+            record {
+              few = ok .limits .rows c;
+              each = λ k h. row-within (getD (rowsOf c account) k [])
+                  (every-at ranges.RowWithin (rowsOf c account) (ok .ranges .rows c) k h);
+            };
         each-spread =
             λ k h.
             spread-within (getD (spreadsOf c account) k []) (every-at ranges.SpreadWithin (spreadsOf c account) (ok .ranges .spreads c) k h)
@@ -173,12 +184,15 @@ module _ (account : List Record) (ok : Lawful account) where
       }
 
   -- contract numbers differ
-  pub numbers-rise : (i j : ℕ) → i < j → j < length (contractsOf account) → contract (getD (contractsOf account) i []) < contract (getD (contractsOf account) j [])
+  pub numbers-rise : (i j : ℕ) → i < j → j < length (contractsOf account) → contract (getD (contractsOf account) i []) < contract
+      (getD (contractsOf account) j [])
   numbers-rise i zero l h = absurd (not-suc-le-zero l)
   numbers-rise i (suc j) l h = go (eqb i j) refl (λ m. numbers-rise i j m (omega arith))
     where
-      go : (t : Bool) → eqb i j ≡ t → (i < j → contract (getD (contractsOf account) i []) < contract (getD (contractsOf account) j [])) → contract (getD (contractsOf account) i []) < contract (getD (contractsOf account) (suc j) [])
-      go true e before = subst⁻¹ (λ (n : ℕ). contract (getD (contractsOf account) n []) < contract (getD (contractsOf account) (suc j) [])) (eqb-true i j e) (ok .orders .contracts j h)
+      go : (t : Bool) → eqb i j ≡ t → (i < j → contract (getD (contractsOf account) i []) < contract (getD (contractsOf account) j []))
+          → contract (getD (contractsOf account) i []) < contract (getD (contractsOf account) (suc j) [])
+      go true e before = subst⁻¹ (λ (n : ℕ). contract (getD (contractsOf account) n []) < contract (getD (contractsOf account) (suc j) []))
+          (eqb-true i j e) (ok .orders .contracts j h)
       go false e before =
           let n = eqb-false i j e in
           let a = before (omega (arith, n)) in

@@ -49,7 +49,8 @@ pub record LinedTo (account : List Record) (i : ℕ) (ls : List Line) : Type 0 w
   pub places : length ls ≡ 16
   pub each : (j : ℕ) → j < i → LineOf (partsIn account (getD (contractsOf account) j [])) (getD ls j noLine)
 
-pub lined-next : (account : List Record) (i : ℕ) (ls : List Line) (l : Line) → LinedTo account i ls → i < 16 → LineOf (partsIn account (getD (contractsOf account) i [])) l → LinedTo account (i + 1) (set ls i l)
+pub lined-next : (account : List Record) (i : ℕ) (ls : List Line) (l : Line) → LinedTo account i ls → i < 16
+    → LineOf (partsIn account (getD (contractsOf account) i [])) l → LinedTo account (i + 1) (set ls i l)
 lined-next account i ls l is h e =
     record { places = rw length-set (is .places); each = λ j k. go j k (ℕ-discrete j i) }
   where
@@ -62,20 +63,26 @@ lined-next account i ls l is h e =
 
 -- ---- from places to lists
 
-lined-from : (ks : List Contract) (d : Contract) (ls : List Line) → length ks ≤ length ls → ((i : ℕ) → i < length ks → LineOf (getD ks i d) (getD ls i noLine)) → Lined ks (take (length ks) ls)
+lined-from : (ks : List Contract) (d : Contract) (ls : List Line) → length ks ≤ length ls
+    → ((i : ℕ) → i < length ks → LineOf (getD ks i d) (getD ls i noLine)) → Lined ks (take (length ks) ls)
 lined-from [] d ls h e = tt
 lined-from (k ∷ ks) d [] h e = absurd (not-suc-le-zero h)
 lined-from (k ∷ ks) d (l ∷ ls) h e = (e 0 (suc-le-suc zero-le), lined-from ks d ls (le-of-suc-le-suc h) (λ i m. e (suc i) (suc-le-suc m)))
 
 apart-from : (ls : List Line) → ((i j : ℕ) → i < j → j < length ls → getD (map (λ l. l .contract) ls) i 0 < getD (map (λ l. l .contract) ls) j 0) → Apart ls
 apart-from [] h = tt
-apart-from (l ∷ ls) h =
-    (λ k m e. let a = h 0 (suc k) (suc-le-suc zero-le) (suc-le-suc m) in omega arith, apart-from ls (λ i j k m. h (suc i) (suc j) (suc-le-suc k) (suc-le-suc m)))
+apart-from (l ∷ ls) h = (
+  λ k m e. let a = h 0 (suc k) (suc-le-suc zero-le) (suc-le-suc m) in omega arith,
+  apart-from ls
+      (λ i j k m. h (suc i) (suc j) (suc-le-suc k) (suc-le-suc m)),
+)
 
-credited-from : (es : List Record) (table : List Open) (ks : List Contract) (d : Contract) (cs : List Amount) → length ks ≤ length cs → ((i : ℕ) → i < length ks → getD cs i (record { 0 = 0 }) .0 ≡ creditOf es table (getD ks i d)) → Credited es table ks (take (length ks) cs)
+credited-from : (es : List Record) (table : List Open) (ks : List Contract) (d : Contract) (cs : List Amount) → length ks ≤ length cs
+    → ((i : ℕ) → i < length ks → getD cs i (record { 0 = 0 }) .0 ≡ creditOf es table (getD ks i d)) → Credited es table ks (take (length ks) cs)
 credited-from es table [] d cs h e = tt
 credited-from es table (k ∷ ks) d [] h e = absurd (not-suc-le-zero h)
-credited-from es table (k ∷ ks) d (c ∷ cs) h e = (e 0 (suc-le-suc zero-le), credited-from es table ks d cs (le-of-suc-le-suc h) (λ i m. e (suc i) (suc-le-suc m)))
+credited-from es table (k ∷ ks) d (c ∷ cs) h e =
+    (e 0 (suc-le-suc zero-le), credited-from es table ks d cs (le-of-suc-le-suc h) (λ i m. e (suc i) (suc-le-suc m)))
 
 module _ (account : List Record) (law : Lawful account) (all : Lines) (is : LinesOf account all) (part : List ℕ) (ep : PartOf account entryPart part) where
   abbrev n : ℕ
@@ -154,13 +161,15 @@ module _ (account : List Record) (law : Lawful account) (all : Lines) (is : Line
     line-here : (i : ℕ) → i < n → getD ls i noLine ≡ getD (all .line) i noLine
     line-here i h = getD-take n (all .line) i noLine h
 
-    use-most : (i : ℕ) → i < n → (k : ℕ) → k < length (records part) → entryUse (getD (all .line) i noLine .contract) (getD (records part) k []) (spreadsAt (b .first) k) (spreadsAt (b .second) k) ≤ natAbs (getD (all .line) i noLine .net .0)
+    use-most : (i : ℕ) → i < n → (k : ℕ) → k < length (records part) → entryUse (getD (all .line) i noLine .contract) (getD (records part) k [])
+        (spreadsAt (b .first) k) (spreadsAt (b .second) k) ≤ natAbs (getD (all .line) i noLine .net .0)
     use-most i h k m =
         let l : k < 32 = omega (arith, (entries-fit account law part ep) .few) in
         let c = getD (all .line) i noLine .contract in
         let u = entry-use-within c (records part) (map tierOf ls) (entries-fit account law part ep) k m in
         let v : unusedBy c (map tierOf ls) ≡ natAbs (getD (all .line) i noLine .net .0) =
-        subst (λ (x : Line). unusedBy (x .contract) (map tierOf ls) ≡ natAbs (x .net .0)) (line-here i h) (unused-is ls noLine apart i (omega (arith, ls-length)))
+        subst (λ (x : Line). unusedBy (x .contract) (map tierOf ls) ≡ natAbs (x .net .0)) (line-here i h)
+        (unused-is ls noLine apart i (omega (arith, ls-length)))
         in
         let w = ap₂ (λ (x y : ℕ). entryUse c (getD (records part) k []) x y) (first-at bk k l) (second-at bk k l) in
         omega arith
@@ -193,17 +202,25 @@ module _ (account : List Record) (law : Lawful account) (all : Lines) (is : Line
       lines-within = record { most = is .few; line-within = λ k h. line-at k h .within; credit-within = earned .most }
 
       -- what a line earns is its contract's credit
-      earns-credit : (i : ℕ) → i < n → earns (getD (all .line) i noLine) (records part) (b .first) (b .second) ≡ creditOf (records part) (map asTier ks) (getD ks i kd)
+      earns-credit : (i : ℕ) → i < n → earns (getD (all .line) i noLine) (records part) (b .first) (b .second) ≡ creditOf (records part)
+          (map asTier ks) (getD ks i kd)
       earns-credit i h =
           let l = getD (all .line) i noLine in
           let k = getD ks i kd in
           let li = line-at i h in
-          ap₂ (λ (u c : ℕ). creditsBy u c (l .«twice_price») (natAbs (l .net .0)) (records part) (interleaved (b .first) (b .second))) (li .unit-is) (li .contract-is)
-          ∙ ap₂ (λ (t : ℕ) (z : ℤ). creditsBy (unit (k .own)) (contract (k .own)) t (natAbs z) (records part) (interleaved (b .first) (b .second))) (li .price-is) (li .net-is)
-          ∙ ap₂ (λ (x y : List Spreads). creditsBy (unit (k .own)) (contract (k .own)) (twicePriceRisk (k .totals)) (natAbs (contractNet k)) (records part) (interleaved x y)) (bk .first-is) (bk .second-is)
-          ∙ over-arrays (λ e x y. credit (unit (k .own)) (twicePriceRisk (k .totals)) (entryUse (contract (k .own)) e x y) (percent e) (natAbs (contractNet k))) (records part) ns 32 (numbers-length intercontract (records part) (map tierOf ls)) ((entries-fit account law part ep) .few)
-          ∙ ap (λ (ps : List Open). creditsBy (unit (k .own)) (contract (k .own)) (twicePriceRisk (k .totals)) (natAbs (contractNet k)) (records part) (numbers (steps (map intercontract (records part))) ps)) (tiers-are ks ls lined)
-          ∙ sym (credits-by (unit (k .own)) (contract (k .own)) (twicePriceRisk (k .totals)) (natAbs (contractNet k)) (records part) (map asTier ks) (entries-fit account law part ep))
+          ap₂ (λ (u c : ℕ). creditsBy u c (l .«twice_price») (natAbs (l .net .0)) (records part) (interleaved (b .first) (b .second))) (li .unit-is)
+          (li .contract-is)
+          ∙ ap₂ (λ (t : ℕ) (z : ℤ). creditsBy (unit (k .own)) (contract (k .own)) t (natAbs z) (records part) (interleaved (b .first) (b .second)))
+          (li .price-is) (li .net-is)
+          ∙ ap₂ (λ (x y : List Spreads). creditsBy (unit (k .own)) (contract (k .own)) (twicePriceRisk (k .totals)) (natAbs (contractNet k))
+          (records part) (interleaved x y)) (bk .first-is) (bk .second-is)
+          ∙ over-arrays
+          (λ e x y. credit (unit (k .own)) (twicePriceRisk (k .totals)) (entryUse (contract (k .own)) e x y) (percent e) (natAbs (contractNet k)))
+          (records part) ns 32 (numbers-length intercontract (records part) (map tierOf ls)) ((entries-fit account law part ep) .few)
+          ∙ ap (λ (ps : List Open). creditsBy (unit (k .own)) (contract (k .own)) (twicePriceRisk (k .totals)) (natAbs (contractNet k)) (records part)
+          (numbers (steps (map intercontract (records part))) ps)) (tiers-are ks ls lined)
+          ∙ sym (credits-by (unit (k .own)) (contract (k .own)) (twicePriceRisk (k .totals)) (natAbs (contractNet k)) (records part) (map asTier ks)
+          (entries-fit account law part ep))
 
       credited : Credited (records part) (map asTier ks) ks (take n cs)
       credited =

@@ -20,11 +20,13 @@ pub start : (more : ℕ → ℤ) (xs : List ℤ) → Added 0 more xs xs
 start more xs = record { as-many = refl; added = λ k h. absurd (not-suc-le-zero h); others = λ k h. refl }
 
 -- the next number is added to
-pub next : (i : ℕ) (more : ℕ → ℤ) (xs ys : List ℤ) (z : ℤ) → Added i more xs ys → i < length xs → z ≡ getD xs i (pos 0) +ℤ more i → Added (i + 1) more xs (set ys i z)
+pub next : (i : ℕ) (more : ℕ → ℤ) (xs ys : List ℤ) (z : ℤ) → Added i more xs ys → i < length xs → z ≡ getD xs i (pos 0) +ℤ more i
+    → Added (i + 1) more xs (set ys i z)
 next i more xs ys z a h e =
     record {
       as-many = length-set ys i z ∙ a .as-many;
-      added = below-more (λ (k : ℕ). getD (set ys i z) k (pos 0) ≡ getD xs k (pos 0) +ℤ more k) i earlier (getD-set-same ys i z (pos 0) (omega (arith, a .as-many)) ∙ e);
+      added = below-more (λ (k : ℕ). getD (set ys i z) k (pos 0) ≡ getD xs k (pos 0) +ℤ more k) i earlier
+          (getD-set-same ys i z (pos 0) (omega (arith, a .as-many)) ∙ e);
       others = λ k l. getD-set-other ys i k z (pos 0) (λ q. omega arith) ∙ a .others k (omega arith);
     }
   where
@@ -67,7 +69,8 @@ twice n f g more xs ys zs e a b =
 pub at-most-wider : (n b c : ℕ) (xs : List ℤ) → b ≤ c → AtMost n b xs → AtMost n c xs
 at-most-wider n b c xs h a = record { as-many = a .as-many; size = λ k l. le-trans (a .size k l) h }
 
-pub at-most-added : (m n b c : ℕ) (more : ℕ → ℤ) (xs ys : List ℤ) → AtMost m b xs → Added n more xs ys → ((k : ℕ) → k < n → natAbs (more k) ≤ c) → AtMost m (b + c) ys
+pub at-most-added : (m n b c : ℕ) (more : ℕ → ℤ) (xs ys : List ℤ) → AtMost m b xs → Added n more xs ys → ((k : ℕ) → k < n → natAbs (more k) ≤ c)
+    → AtMost m (b + c) ys
 at-most-added m n b c more xs ys a d h = record { as-many = d .as-many ∙ a .as-many; size = λ k l. go k l (ltb k n) refl }
   where
     go : (k : ℕ) → k < m → (t : Bool) → ltb k n ≡ t → natAbs (getD ys k (pos 0)) ≤ b + c

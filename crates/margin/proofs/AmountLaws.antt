@@ -3,7 +3,8 @@
 use mathlib.Core.Path.{_≡_, refl, sym, ap, _∙_}
 use mathlib.Core.Bool.{Bool, true, false, cond}
 use Prim.Native.Nat.{ℕ, _+_, _*_, _/_, _%_, _≤_, _<_}
-use native.Mathlib.Nat.{mul-le-mul, mul-le-mul-left, mul-assoc, mul-right-comm, mul-left-comm, add-mul, zero-mul, div-add-mod', div-mul-le-self, mod-lt, le-mul-of-pos-right}
+use native.Mathlib.Nat.{mul-le-mul, mul-le-mul-left, mul-assoc, mul-right-comm, mul-left-comm, add-mul, zero-mul, div-add-mod', div-mul-le-self}
+use native.Mathlib.Nat.{mod-lt, le-mul-of-pos-right}
 use native.Mathlib.Omega.{arith}
 use lib.Dec.{eqb}
 use borrow.Author.Tests.{eqb-true}
@@ -87,11 +88,19 @@ parted unit whole part used percent q r e =
     in
     ap (λ (x : ℕ). x * percent) in-units
     ∙ add-mul (q * (fromUnit * unit)) (r * toUnit + part * used) percent
-    ∙ omega (arith, mul-right-comm q (fromUnit * unit) percent, add-mul (r * toUnit) (part * used) percent, mul-right-comm r toUnit percent, mul-assoc part used percent)
+    ∙ omega (
+      arith,
+      mul-right-comm q (fromUnit * unit) percent,
+      add-mul (r * toUnit)
+          (part * used) percent,
+      mul-right-comm r toUnit percent,
+      mul-assoc part used percent,
+    )
 
 -- the credit, from the wholes and the part of the unit price risk
 pub record CreditParts (unit twice used percent net whole part : ℕ) : Type 0 where
-  pub is : (whole * used / (200 * unit) * percent + halfUp (whole * used % (200 * unit) * percent * toUnit + part * (used * percent)) (fromUnit * unit)) * unit ≡ credit unit twice used percent net
+  pub is : (whole * used / (200 * unit) * percent + halfUp (whole * used % (200 * unit) * percent * toUnit + part * (used * percent))
+      (fromUnit * unit)) * unit ≡ credit unit twice used percent net
   pub within : credit unit twice used percent net ≤ mostCredit
   pub halves-within : whole * used ≤ twice
   pub wholes-within : whole * used / (200 * unit) * percent ≤ twice

@@ -80,18 +80,21 @@ book-by-steps account law question a = go (eqb question 16) refl
     ns = netDeltas ps (rowsOf question account)
 
     go : (t : Bool) → eqb question 16 ≡ t → book account question ≡ bookBy
-        (cond t (tableSteps (entriesOf account)) (stepsOf (partsOf account question))) (cond t (map asTier (contracts account)) (opensOf (partsOf account question)))
+        (cond t (tableSteps (entriesOf account)) (stepsOf (partsOf account question)))
+        (cond t (map asTier (contracts account)) (opensOf (partsOf account question)))
     go true e =
         let ss = tableSteps (entriesOf account) in
         let os = map asTier (contracts account) in
         table-asked account law contractBook tableBook (λ own. refl) question (eqb-true question 16 e)
-        ∙ ap (λ (xs : List ℤ). (threes xs (usedOf ss os) (unusedOf ss os) ++ map pos (numbers ss os)) ++ (pos (touches ss os) ∷ [])) (sym (unused-tiers (contracts account)))
+        ∙ ap (λ (xs : List ℤ). (threes xs (usedOf ss os) (unusedOf ss os) ++ map pos (numbers ss os)) ++ (pos (touches ss os) ∷ []))
+        (sym (unused-tiers (contracts account)))
     go false e =
         let ss = stepsOf (partsOf account question) in
         let os = opensOf (partsOf account question) in
         contract-asked account law contractBook tableBook (λ own. refl) question a (eqb-false question 16 e)
         ∙ ap (λ (xs : List ℤ). (threes xs (usedOf ss os) (unusedOf ss os) ++ map pos (numbers ss os)) ++ (pos (touches ss os) ∷ []))
-        (sym (unused-nets (promptsOf question account) (netDeltas (promptsOf question account) (rowsOf question account)) (length-map (promptsOf question account) _)))
+        (sym (unused-nets (promptsOf question account) (netDeltas (promptsOf question account) (rowsOf question account))
+        (length-map (promptsOf question account) _)))
 
 by-length : (spreads : List Spread) (ps : List Open) → length (bookBy (steps spreads) ps) ≡ 3 * length ps + 2 * length spreads + 1
 by-length spreads ps =
@@ -155,7 +158,8 @@ module _ (p : Prompts) (t : Table) (lt : length (p .tier) ≡ 32) (ln : length (
 
     -- the numbers but for the last
     pub listed : (r : Numbers) → r .count ≡ 3 * p .count + 2 * t .count
-        → written r ≡ threes (take (p .count) (deltasIn (p .net))) (take (p .count) (deltasIn (c .book .used))) (take (p .count) (deltasIn (c .book .unused))) ++ map pos (interleaved (take (t .count) (c .book .first)) (take (t .count) (c .book .second)))
+        → written r ≡ threes (take (p .count) (deltasIn (p .net))) (take (p .count) (deltasIn (c .book .used)))
+        (take (p .count) (deltasIn (c .book .unused))) ++ map pos (interleaved (take (t .count) (c .book .first)) (take (t .count) (c .book .second)))
         → PartNumbers (threes (map (λ p. p .unused) ps) (usedOf ss ps) (unusedOf ss ps) ++ map pos (numbers ss ps)) (p .count) (t .count) r
     listed r ec el =
         let fp = few-prompts in
@@ -163,20 +167,25 @@ module _ (p : Prompts) (t : Table) (lt : length (p .tier) ≡ 32) (ln : length (
         record {
           listed-is =
               book-listed ss ps (c .book) (take (p .count) (deltasIn (p .net))) (p .count) (t .count) (written r) book-is ps-long fp
-              (one-per-step ss ps ∙ steps-length (spreadsOf t) ∙ ap (λ (x : ℕ). 2 * x) spreads-long) fs (used-length ss ps ∙ ps-long) (unused-length ss ps ∙ ps-long) el
-              ∙ ap (λ (zs : List ℤ). threes zs (usedOf ss ps) (unusedOf ss ps) ++ map pos (numbers ss ps)) (sym (unused-given (p .count) (p .tier) (p .net) (omega (arith, lt, ln))));
+              (one-per-step ss ps ∙ steps-length (spreadsOf t) ∙ ap (λ (x : ℕ). 2 * x) spreads-long) fs (used-length ss ps ∙ ps-long)
+              (unused-length ss ps ∙ ps-long) el
+              ∙ ap (λ (zs : List ℤ). threes zs (usedOf ss ps) (unusedOf ss ps) ++ map pos (numbers ss ps))
+              (sym (unused-given (p .count) (p .tier) (p .net) (omega (arith, lt, ln))));
           count-is = ec;
           few = omega arith;
         }
 
-    pub finished : (n r : Numbers) → PartNumbers (threes (map (λ p. p .unused) ps) (usedOf ss ps) (unusedOf ss ps) ++ map pos (numbers ss ps)) (p .count) (t .count) n
+    pub finished : (n r : Numbers) → PartNumbers (threes (map (λ p. p .unused) ps) (usedOf ss ps) (unusedOf ss ps) ++ map pos (numbers ss ps))
+        (p .count) (t .count) n
         → r .count ≡ n .count + 1 → written r ≡ written n ++ (pos (c .touches) ∷ []) → AllOf (bookBy ss ps) r
     finished n r parts ec el =
         record {
           listed-is =
-              with-last (threes (map (λ p. p .unused) ps) (usedOf ss ps) (unusedOf ss ps) ++ map pos (numbers ss ps)) (written n) (written r) (c .touches) (touches ss ps) (parts .listed-is) el
+              with-last (threes (map (λ p. p .unused) ps) (usedOf ss ps) (unusedOf ss ps) ++ map pos (numbers ss ps)) (written n) (written r)
+              (c .touches) (touches ss ps) (parts .listed-is) el
               (is .touches ∙ touches-accepted ss ps p t refl refl ok);
-          count-is = ec ∙ ap (λ (k : ℕ). k + 1) (parts .count-is) ∙ sym (by-length (spreadsOf t) ps ∙ ap₂ (λ (x y : ℕ). 3 * x + 2 * y + 1) ps-long spreads-long);
+          count-is = ec ∙ ap (λ (k : ℕ). k + 1) (parts .count-is)
+              ∙ sym (by-length (spreadsOf t) ps ∙ ap₂ (λ (x y : ℕ). 3 * x + 2 * y + 1) ps-long spreads-long);
           few = omega (arith, ec, parts .few);
         }
 

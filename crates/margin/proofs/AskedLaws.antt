@@ -21,7 +21,8 @@ use Rattle.account.proofs.Lists.{any-keep, none-counted}
 use Rattle.account.proofs.Noted.{part-is}
 use Rattle.spread.specs.Steps.{numbers, usedOf, unusedOf}
 use Rattle.margin.specs.Books.{threes, contractParts, tableParts, contractBook, tableBook, ofEach, ofQuestion, asks, answered, askedBy, book}
-use Rattle.margin.specs.Contract.{Contract, contractFrom, contracts, partsIn, partsOf, contractNet, asTier, stepsOf, opensOf, contractTouches, tableSteps, tableTouches}
+use Rattle.margin.specs.Contract.{Contract, contractFrom, contracts, partsIn, partsOf, contractNet, asTier, stepsOf, opensOf, contractTouches}
+use Rattle.margin.specs.Contract.{tableSteps, tableTouches}
 use Rattle.margin.specs.Deltas.{interprompt, intercontract, netDeltas}
 use Rattle.margin.proofs.LineLaws.{numbers-length, used-length, unused-length, opens-length}
 
@@ -33,22 +34,26 @@ threes-length (n ∷ nets) [] unused e f = absurd (omega arith)
 threes-length (n ∷ nets) (u ∷ used) [] e f = absurd (omega arith)
 threes-length (n ∷ nets) (u ∷ used) (o ∷ unused) e f = let h = threes-length nets used unused (omega arith) (omega arith) in omega arith
 
-parts-length : (rates : List Record) (own : Record) (prompts rows spreads : List Record) → length (contractParts (contractFrom rates own prompts rows spreads)) ≡ 3 * length prompts + 2 * length spreads
+parts-length : (rates : List Record) (own : Record) (prompts rows spreads : List Record)
+    → length (contractParts (contractFrom rates own prompts rows spreads)) ≡ 3 * length prompts + 2 * length spreads
 parts-length rates own prompts rows spreads =
     let k = contractFrom rates own prompts rows spreads in
     let o : length (opensOf k) ≡ length prompts = opens-length prompts (netDeltas prompts rows) (length-map prompts _) in
     let t = threes-length (netDeltas prompts rows) (usedOf (stepsOf k) (opensOf k)) (unusedOf (stepsOf k) (opensOf k))
     (used-length (stepsOf k) (opensOf k) ∙ o ∙ sym (length-map prompts _)) (unused-length (stepsOf k) (opensOf k) ∙ o ∙ sym (length-map prompts _))
     in
-    length-append (threes (netDeltas prompts rows) (usedOf (stepsOf k) (opensOf k)) (unusedOf (stepsOf k) (opensOf k))) (map pos (numbers (stepsOf k) (opensOf k)))
-    ∙ ap₂ _+_ (t ∙ ap (λ (x : ℕ). 3 * x) (length-map prompts _)) (length-map (numbers (stepsOf k) (opensOf k)) pos ∙ numbers-length interprompt spreads (opensOf k))
+    length-append (threes (netDeltas prompts rows) (usedOf (stepsOf k) (opensOf k)) (unusedOf (stepsOf k) (opensOf k)))
+    (map pos (numbers (stepsOf k) (opensOf k)))
+    ∙ ap₂ _+_ (t ∙ ap (λ (x : ℕ). 3 * x) (length-map prompts _))
+    (length-map (numbers (stepsOf k) (opensOf k)) pos ∙ numbers-length interprompt spreads (opensOf k))
 
 table-parts-length : (entries : List Record) (ks : List Contract) → length (tableParts entries ks) ≡ 3 * length ks + 2 * length entries
 table-parts-length entries ks =
     let ss = tableSteps entries in
     let ps = map asTier ks in
     let o : length ps ≡ length ks = length-map ks asTier in
-    let t = threes-length (map contractNet ks) (usedOf ss ps) (unusedOf ss ps) (used-length ss ps ∙ o ∙ sym (length-map ks contractNet)) (unused-length ss ps ∙ o ∙ sym (length-map ks contractNet)) in
+    let t = threes-length (map contractNet ks) (usedOf ss ps) (unusedOf ss ps) (used-length ss ps ∙ o ∙ sym (length-map ks contractNet))
+    (unused-length ss ps ∙ o ∙ sym (length-map ks contractNet)) in
     length-append (threes (map contractNet ks) (usedOf ss ps) (unusedOf ss ps)) (map pos (numbers ss ps))
     ∙ ap₂ _+_ (t ∙ ap (λ (x : ℕ). 3 * x) (length-map ks contractNet)) (length-map (numbers ss ps) pos ∙ numbers-length intercontract entries ps)
 
@@ -127,7 +132,8 @@ module _ (all : List Record) (ok : Lawful all) where
       go false l = ltb-false 15 q l
 
   -- what is answered of a contract, which does not go by its own record, and of the table
-  module _ (ofContract : Contract → List ℤ) (ofTable : List Record → List Contract → List ℤ) (parts : (own : Record) → ofContract (partsIn all own) ≡ ofContract (partsOf all (contract own))) where
+  module _ (ofContract : Contract → List ℤ) (ofTable : List Record → List Contract → List ℤ)
+      (parts : (own : Record) → ofContract (partsIn all own) ≡ ofContract (partsOf all (contract own))) where
     pub contract-asked : (q : ℕ) → answered all q ≡ true → (q ≡ 16 → ⊥) → ofQuestion ofContract ofTable all q ≡ ofContract (partsOf all q)
     contract-asked q a n =
         let listed : any (asks q) (contractsOf all) ≡ true = ap (λ (t : Bool). t || any (asks q) (contractsOf all)) (sym (ne-eqb q 16 n)) ∙ a in
@@ -135,7 +141,8 @@ module _ (all : List Record) (ok : Lawful all) where
         let c = count-keep (ofKind 1) (asks q) all in
         let o = one-kept (asks q) (contractsOf all) listed (omega arith) in
         let e = eqb-true (contract (o .only)) q (o .passes) in
-        ap (λ (t : Bool). cond t (ofTable (entriesOf all) (contracts all)) (ofEach ofContract (map (partsIn all) (keep (asks q) (contractsOf all))))) (ne-eqb q 16 n)
+        ap (λ (t : Bool). cond t (ofTable (entriesOf all) (contracts all)) (ofEach ofContract (map (partsIn all) (keep (asks q) (contractsOf all)))))
+        (ne-eqb q 16 n)
         ∙ ap (λ (rs : List Record). ofEach ofContract (map (partsIn all) rs)) (o .kept)
         ∙ append-nil (ofContract (partsIn all (o .only)))
         ∙ parts (o .only)
@@ -143,7 +150,8 @@ module _ (all : List Record) (ok : Lawful all) where
 
     pub table-asked : (q : ℕ) → q ≡ 16 → ofQuestion ofContract ofTable all q ≡ ofTable (entriesOf all) (contracts all)
     table-asked q e =
-        ap (λ (t : Bool). cond t (ofTable (entriesOf all) (contracts all)) (ofEach ofContract (map (partsIn all) (keep (asks q) (contractsOf all))))) (eq-eqb q 16 e)
+        ap (λ (t : Bool). cond t (ofTable (entriesOf all) (contracts all)) (ofEach ofContract (map (partsIn all) (keep (asks q) (contractsOf all)))))
+        (eq-eqb q 16 e)
 
   pub one-book : (q : ℕ) → answered all q ≡ true → (q ≡ 16 → ⊥) → book all q ≡ contractBook (partsOf all q)
   one-book q = contract-asked contractBook tableBook (λ own. refl) q

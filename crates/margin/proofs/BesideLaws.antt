@@ -88,7 +88,14 @@ module _ (standing whole : List Record) (b : Besides standing whole) where
     pub fits : PositionFit (ownOf c standing) (promptsOf c standing) (spreadsOf c standing) p
     fits =
         parts-beside c (λ own ps ss. PositionFit own ps ss p)
-        (record { rates = ratesOf whole; rows = rowsOf c whole; fit = contract-within whole (b .lawful) (ownOf c whole) c (own-fit whole (b .lawful) c); is = at .is; most = at .most })
+        (record {
+          rates = ratesOf whole;
+          rows = rowsOf c whole;
+          fit = contract-within whole (b .lawful) (ownOf c whole) c
+              (own-fit whole (b .lawful) c);
+          is = at .is;
+          most = at .most;
+        })
 
     pub fits-book : BookFit (promptsOf c standing) (spreadsOf c standing) p
     fits-book = record { own = ownOf c standing; fits = fits }
@@ -100,7 +107,8 @@ module _ (standing whole : List Record) (b : Besides standing whole) where
 
     -- what is asked about
     pub asks-beside : (a : Asking)
-        → Asks (stepsOf (contractWith [] (promptsOf c standing) (spreadsOf c standing) p)) (opensOf (contractWith [] (promptsOf c standing) (spreadsOf c standing) p)) a
+        → Asks (stepsOf (contractWith [] (promptsOf c standing) (spreadsOf c standing) p))
+        (opensOf (contractWith [] (promptsOf c standing) (spreadsOf c standing) p)) a
         → Asks (stepsOf (partsOf whole c)) (opensOf (partsOf whole c)) a
     asks-beside a = subst (λ (x : Contract). Asks (stepsOf x) (opensOf x) a) contract-is
 
@@ -114,7 +122,8 @@ module _ (standing whole : List Record) (b : Besides standing whole) where
           subst (λ (x : Contract). LineOf x l)
           (contract-is
           ∙ ap (λ (n : ℕ). contractFrom (ratesOf whole) (ownOf n whole) (promptsOf n whole) (rowsOf n whole) (spreadsOf n whole)) number
-          ∙ ap (λ (r : Record). contractFrom (ratesOf whole) r (promptsOf (contract its) whole) (rowsOf (contract its) whole) (spreadsOf (contract its) whole)) (own-here whole (b .lawful) i listed))
+          ∙ ap (λ (r : Record). contractFrom (ratesOf whole) r (promptsOf (contract its) whole) (rowsOf (contract its) whole)
+          (spreadsOf (contract its) whole)) (own-here whole (b .lawful) i listed))
 
       pub tier-is : (z : ℤ) → c ≤ 15 → z ≡ sumℤ (deltasIn (p .nets)) → TierIs (partsIn whole its) c z
       tier-is z few e = tiers.tier-is whole (b .lawful) (ratesOf whole) (ownOf c whole) (own-fit whole (b .lawful) c) c p at its z number few e

@@ -83,7 +83,8 @@ prompts-arrays unit (r ∷ rs) [] unused (suc n) e g h = absurd (omega arith)
 prompts-arrays unit (r ∷ rs) (u ∷ used) [] (suc n) e g h = absurd (omega arith)
 prompts-arrays unit (r ∷ rs) (u ∷ used) (v ∷ unused) (suc n) e g h =
     ap₂ (λ (xs ys : List Delta). promptCharges unit (r ∷ rs) (deltasIn xs) (deltasIn ys)) (deltas-next n u used) (deltas-next n v unused)
-    ∙ ap (λ (x : ℕ). promptCharge unit (spreadRate r) (outrightRate r) u v + x) (prompts-arrays unit rs used unused n (omega arith) (omega arith) (le-of-suc-le-suc h))
+    ∙ ap (λ (x : ℕ). promptCharge unit (spreadRate r) (outrightRate r) u v + x)
+    (prompts-arrays unit rs used unused n (omega arith) (omega arith) (le-of-suc-le-suc h))
 
 -- ---- what the spread steps are handed is what the definitions speak of
 
@@ -105,7 +106,8 @@ opens-are part ds p is =
     ∙ open-records (records part) ds
 
 -- a book of accepted prompts and spreads
-pub book-accepted : (ss : List (List Taker)) (ps : List Open) (p : Prompts) (t : Table) (b : Book) → given.openOf p ≡ ps → given.stepsOf t ≡ ss → given.sound p t ≡ true → Booked p t b → BookOf ss ps b
+pub book-accepted : (ss : List (List Taker)) (ps : List Open) (p : Prompts) (t : Table) (b : Book) → given.openOf p ≡ ps → given.stepsOf t ≡ ss
+    → given.sound p t ≡ true → Booked p t b → BookOf ss ps b
 book-accepted ss ps p t b eo es sound is =
     let n : numbersOf p t ≡ numbers ss ps = ap (λ (x : Bool). cond x (numbers (given.stepsOf t) (given.openOf p)) []) sound ∙ ap₂ numbers es eo in
     let u : usedIn p t ≡ usedOf ss ps = ap (λ (x : Bool). cond x (usedOf (given.stepsOf t) (given.openOf p)) []) sound ∙ ap₂ usedOf es eo in
@@ -117,22 +119,27 @@ book-accepted ss ps p t b eo es sound is =
       unused-is = is .unused ∙ ap (λ (xs : List ℤ). entries 32 (deltaEntry xs)) l;
     }
 
-pub handed-sound : (p : Prompts) (t : Table) (ps : List Open) (spreads : List Spread) → given.openOf p ≡ ps → given.spreadsOf t ≡ spreads → p .count ≤ 32 → t .count ≤ 32
+pub handed-sound : (p : Prompts) (t : Table) (ps : List Open) (spreads : List Spread) → given.openOf p ≡ ps → given.spreadsOf t ≡ spreads
+    → p .count ≤ 32 → t .count ≤ 32
     → every soundPrompt ps ≡ true → every soundSpread spreads ≡ true → given.sound p t ≡ true
 handed-sound p t ps spreads eo es np nt hp ht =
     and-both (leb (p .count) 32 && every soundPrompt (given.openOf p)) (leb (t .count) 32 && every soundSpread (given.spreadsOf t))
     (and-both (leb (p .count) 32) (every soundPrompt (given.openOf p)) (le-leb (p .count) 32 np) (ap (every soundPrompt) eo ∙ hp))
     (and-both (leb (t .count) 32) (every soundSpread (given.spreadsOf t)) (le-leb (t .count) 32 nt) (ap (every soundSpread) es ∙ ht))
 
-pub contract-sound : (part spreads : List ℕ) (ds : List Delta) (p : Prompts) (t : Table) → TiersOf part ds p → TableOf interprompt spreads t → BookRoom (records part) (deltasIn ds) (records spreads) → given.sound p t ≡ true
+pub contract-sound : (part spreads : List ℕ) (ds : List Delta) (p : Prompts) (t : Table) → TiersOf part ds p → TableOf interprompt spreads t
+    → BookRoom (records part) (deltasIn ds) (records spreads) → given.sound p t ≡ true
 contract-sound part spreads ds p t tiers table room =
     handed-sound p t (opens (records part) (deltasIn ds)) (map interprompt (records spreads)) (opens-are part ds p tiers) (table .spreads-are)
-    (omega (arith, tiers .count-is, room .few-prompts, count-is part)) (omega (arith, table .count-is, room .few-spreads, count-is spreads)) (room .prompts-sound) (room .spreads-sound)
+    (omega (arith, tiers .count-is, room .few-prompts, count-is part)) (omega (arith, table .count-is, room .few-spreads, count-is spreads))
+    (room .prompts-sound) (room .spreads-sound)
 
-pub contract-book-is : (part spreads : List ℕ) (ds : List Delta) (p : Prompts) (t : Table) (b : Book) → TiersOf part ds p → TableOf interprompt spreads t → BookRoom (records part) (deltasIn ds) (records spreads) → Booked p t b
+pub contract-book-is : (part spreads : List ℕ) (ds : List Delta) (p : Prompts) (t : Table) (b : Book) → TiersOf part ds p
+    → TableOf interprompt spreads t → BookRoom (records part) (deltasIn ds) (records spreads) → Booked p t b
     → BookOf (steps (map interprompt (records spreads))) (opens (records part) (deltasIn ds)) b
 contract-book-is part spreads ds p t b tiers table room is =
-    book-accepted (steps (map interprompt (records spreads))) (opens (records part) (deltasIn ds)) p t b (opens-are part ds p tiers) (ap steps (table .spreads-are))
+    book-accepted (steps (map interprompt (records spreads))) (opens (records part) (deltasIn ds)) p t b (opens-are part ds p tiers)
+    (ap steps (table .spreads-are))
     (contract-sound part spreads ds p t tiers table room) is
 
 -- how often the steps touch a prompt
@@ -148,9 +155,11 @@ take-deltas [] (suc n) m e h = absurd (omega arith)
 take-deltas (z ∷ zs) zero m e h = absurd (omega arith)
 take-deltas (z ∷ zs) (suc n) zero e h = absurd (not-suc-le-zero h)
 take-deltas (z ∷ zs) (suc n) (suc m) e h =
-    ap (λ (ds : List Delta). take (suc n) (deltasIn ds)) (deltas-next m z zs) ∙ ap (λ (xs : List ℤ). z ∷ xs) (take-deltas zs n m (omega arith) (le-of-suc-le-suc h))
+    ap (λ (ds : List Delta). take (suc n) (deltasIn ds)) (deltas-next m z zs)
+    ∙ ap (λ (xs : List ℤ). z ∷ xs) (take-deltas zs n m (omega arith) (le-of-suc-le-suc h))
 
-pub take-numbers : (numbers : List ℕ) (n m : ℕ) → length numbers ≡ 2 * n → n ≤ m → interleaved (take n (firsts m numbers)) (take n (seconds m numbers)) ≡ numbers
+pub take-numbers : (numbers : List ℕ) (n m : ℕ) → length numbers ≡ 2 * n → n ≤ m → interleaved (take n (firsts m numbers))
+    (take n (seconds m numbers)) ≡ numbers
 take-numbers [] zero m e h = refl
 take-numbers (a ∷ numbers) zero m e h = absurd (omega arith)
 take-numbers numbers (suc n) zero e h = absurd (not-suc-le-zero h)
@@ -161,21 +170,26 @@ take-numbers (a ∷ b ∷ numbers) (suc n) (suc m) e h =
     ∙ ap (λ (xs : List ℕ). a ∷ b ∷ xs) (take-numbers numbers n m (omega arith) (le-of-suc-le-suc h))
 
 -- the numbers of a book: each prompt's three, then each spread's two
-pub book-listed : (ss : List (List Taker)) (ps : List Open) (b : Book) (nets : List ℤ) (n m : ℕ) (written : List ℤ) → BookOf ss ps b → length ps ≡ n → n ≤ 32 → length (numbers ss ps) ≡ 2 * m → m ≤ 32
+pub book-listed : (ss : List (List Taker)) (ps : List Open) (b : Book) (nets : List ℤ) (n m : ℕ) (written : List ℤ) → BookOf ss ps b → length ps ≡ n
+    → n ≤ 32 → length (numbers ss ps) ≡ 2 * m → m ≤ 32
     → length (usedOf ss ps) ≡ n → length (unusedOf ss ps) ≡ n
     → written ≡ threes nets (take n (deltasIn (b .used))) (take n (deltasIn (b .unused))) ++ map pos (interleaved (take m (b .first)) (take m (b .second)))
     → written ≡ threes nets (usedOf ss ps) (unusedOf ss ps) ++ map pos (numbers ss ps)
 book-listed ss ps b nets n m written is e hn en hm eu el w =
     w
     ∙ ap₂ _++_
-    (ap₂ (threes nets) (ap (λ (ds : List Delta). take n (deltasIn ds)) (is .used-is) ∙ take-deltas (usedOf ss ps) n 32 eu hn) (ap (λ (ds : List Delta). take n (deltasIn ds)) (is .unused-is) ∙ take-deltas (unusedOf ss ps) n 32 el hn))
-    (ap (map pos) (ap₂ (λ (xs ys : List Spreads). interleaved (take m xs) (take m ys)) (is .first-is) (is .second-is) ∙ take-numbers (numbers ss ps) m 32 en hm))
+    (ap₂ (threes nets) (ap (λ (ds : List Delta). take n (deltasIn ds)) (is .used-is) ∙ take-deltas (usedOf ss ps) n 32 eu hn)
+    (ap (λ (ds : List Delta). take n (deltasIn ds)) (is .unused-is) ∙ take-deltas (unusedOf ss ps) n 32 el hn))
+    (ap (map pos) (ap₂ (λ (xs ys : List Spreads). interleaved (take m xs) (take m ys)) (is .first-is) (is .second-is)
+    ∙ take-numbers (numbers ss ps) m 32 en hm))
 
 -- ---- the numbers that a book's spreads formed, place by place
 
 module _ {ss : List (List Taker)} {ps : List Open} {b : Book} (is : BookOf ss ps b) (k : ℕ) (h : k < 32) where
   pub first-at : spreadsAt (b .first) k ≡ getD (numbers ss ps) (2 * k) 0
-  first-at = ap (λ (xs : List Spreads). spreadsAt xs k) (is .first-is) ∙ ap (λ (x : Spreads). x .0) (entries-at 32 (λ i. spreadsEntry (numbers ss ps) (2 * i)) k (record { 0 = 0 }) h)
+  first-at = ap (λ (xs : List Spreads). spreadsAt xs k) (is .first-is)
+      ∙ ap (λ (x : Spreads). x .0) (entries-at 32 (λ i. spreadsEntry (numbers ss ps) (2 * i)) k (record { 0 = 0 }) h)
 
   pub second-at : spreadsAt (b .second) k ≡ getD (numbers ss ps) (2 * k + 1) 0
-  second-at = ap (λ (xs : List Spreads). spreadsAt xs k) (is .second-is) ∙ ap (λ (x : Spreads). x .0) (entries-at 32 (λ i. spreadsEntry (numbers ss ps) (2 * i + 1)) k (record { 0 = 0 }) h)
+  second-at = ap (λ (xs : List Spreads). spreadsAt xs k) (is .second-is)
+      ∙ ap (λ (x : Spreads). x .0) (entries-at 32 (λ i. spreadsEntry (numbers ss ps) (2 * i + 1)) k (record { 0 = 0 }) h)

@@ -32,7 +32,8 @@ use Rattle.margin.specs.Risks.{TotalsWithin, Scanned}
 use Rattle.margin.specs.Sums.{interleaved, deltasIn, SpreadsWithin, PromptsWithin}
 use Rattle.margin.specs.Within.{ContractFit}
 use Rattle.margin.proofs.BookLaws.{over-arrays, prompts-arrays}
-use Rattle.margin.proofs.LineLaws.{opens-first, opens-length, opens-sizes, opens-sound, spreads-sound, interprompt-whole, numbers-length, used-length, unused-length, sum-zeros, size-zeros, first-within, delta-within}
+use Rattle.margin.proofs.LineLaws.{opens-first, opens-length, opens-sizes, opens-sound, spreads-sound, interprompt-whole, numbers-length}
+use Rattle.margin.proofs.LineLaws.{used-length, unused-length, sum-zeros, size-zeros, first-within, delta-within}
 use Rattle.margin.proofs.NetLaws.{net-sizes-most}
 use Rattle.margin.proofs.StepBounds.{sizes, whole-number-within, used-within, unused-within, size-at}
 
@@ -44,7 +45,8 @@ everywhere n most zs e h k = go (decLt k n)
     go (yes l) = h k l
     go (no l) = subst⁻¹ (λ (z : ℤ). natAbs z ≤ most) (List·getD-eq-default zs (pos 0) (omega (arith, l))) zero-le
 
-module _ (rates : List Record) (own : Record) (prompts rows spreads : List Record) (w : ContractFit own prompts rows spreads) (q : Position) (is : PositionOf rates (unit own) prompts rows q) (most : Bounded 128 q) where
+module _ (rates : List Record) (own : Record) (prompts rows spreads : List Record) (w : ContractFit own prompts rows spreads) (q : Position)
+    (is : PositionOf rates (unit own) prompts rows q) (most : Bounded 128 q) where
   abbrev nets : List ℤ
   nets = deltasIn (q .nets)
 
@@ -143,12 +145,15 @@ module _ (rates : List Record) (own : Record) (prompts rows spreads : List Recor
     pub prompt-is : promptCharges (unit own) prompts (deltasIn (b .used)) (deltasIn (b .unused)) ≡ promptOf k
     prompt-is =
         ap₂ (λ (x y : List Delta). promptCharges (unit own) prompts (deltasIn x) (deltasIn y)) (bk .used-is) (bk .unused-is)
-        ∙ prompts-arrays (unit own) prompts (usedOf ss ps) (unusedOf ss ps) 32 (used-length ss ps ∙ prompts-open) (unused-length ss ps ∙ prompts-open) (w .few-prompts)
+        ∙ prompts-arrays (unit own) prompts (usedOf ss ps) (unusedOf ss ps) 32 (used-length ss ps ∙ prompts-open) (unused-length ss ps ∙ prompts-open)
+        (w .few-prompts)
         ∙ ap (λ (x : List Open). promptCharges (unit own) prompts (usedOf ss x) (unusedOf ss x)) nets-are
 
     -- the line, from what was made of the rows, the book and the contract's own record
-    pub line-is : (l : Line) (rate : ℕ) → l .contract ≡ contract own → l .unit ≡ unit own → Scanned (q .totals .0) (l .active) (l .scanning .0) (l .«twice_price») → Charged (unit own) prompts spreads b (l .interprompt .0) (l .prompt .0)
-        → rate ≡ shortOptionRate own → l .minimum .0 ≡ shortOptionMinimum (q .shorts) rate → l .minimum .0 ≤ mostLots * mostRate → l .net .0 ≡ sumℤ nets → LineOf k l
+    pub line-is : (l : Line) (rate : ℕ) → l .contract ≡ contract own → l .unit ≡ unit own → Scanned (q .totals .0) (l .active) (l .scanning .0)
+        (l .«twice_price») → Charged (unit own) prompts spreads b (l .interprompt .0) (l .prompt .0)
+        → rate ≡ shortOptionRate own → l .minimum .0 ≡ shortOptionMinimum (q .shorts) rate → l .minimum .0 ≤ mostLots * mostRate
+        → l .net .0 ≡ sumℤ nets → LineOf k l
     line-is l rate ec eu sc ch er em hm en =
         let active : l .active ≡ activeScenario (totals rates (unit own) rows) = sc .active-is ∙ ap activeScenario (is .totals-are) in
         let sixteen : length (totals rates (unit own) rows) ≡ 16 = refl in

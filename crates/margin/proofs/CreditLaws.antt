@@ -66,7 +66,8 @@ pub used-in : (c : ℕ) (e : Record) (ps : List Open) → EntryFit e
     → usedByEntry e c ps ≡ entryUse c e (firstNumber e ps) (secondNumber e ps)
 used-in c e ps w =
     used-taken c e ps w
-    ∙ split (eqb c (contract e)) (eqb c (secondContract e)) (useOf (tenths e) (firstNumber e ps) (firstRatio e)) (useOf (tenths e) (secondNumber e ps) (firstRatio e))
+    ∙ split (eqb c (contract e)) (eqb c (secondContract e)) (useOf (tenths e) (firstNumber e ps) (firstRatio e))
+    (useOf (tenths e) (secondNumber e ps) (firstRatio e))
     (useOf (tenths e) (firstNumber e ps) (secondRatio e)) (useOf (tenths e) (secondNumber e ps) (secondRatio e))
     (λ a b. w .apart (sym (eqb-true c (contract e) a) ∙ eqb-true c (secondContract e) b))
 

@@ -51,7 +51,8 @@ tiers-sound [] (l ∷ ls) h = absurd h
 tiers-sound (k ∷ ks) [] h = absurd h
 tiers-sound (k ∷ ks) (l ∷ ls) h =
     and-both (ltb (l .contract) 16 && leb (natAbs (l .net .0)) mostDelta) (every soundPrompt (map tierOf ls))
-    (and-both (ltb (l .contract) 16) (leb (natAbs (l .net .0)) mostDelta) (lt-ltb (l .contract) 16 (suc-le-suc (h .0 .within .contract-within))) (le-leb (natAbs (l .net .0)) mostDelta (h .0 .net-within)))
+    (and-both (ltb (l .contract) 16) (leb (natAbs (l .net .0)) mostDelta) (lt-ltb (l .contract) 16 (suc-le-suc (h .0 .within .contract-within)))
+    (le-leb (natAbs (l .net .0)) mostDelta (h .0 .net-within)))
     (tiers-sound ks ls (h .1))
 
 pub tier-sizes : (ks : List Contract) (ls : List Line) → Lined ks ls → sizes (map tierOf ls) ≤ length ls * mostDelta
@@ -78,22 +79,27 @@ both-sides (pos n) = omega arith
 both-sides (negsuc n) = omega arith
 
 -- what the table has of a contract is its net delta
-pub unused-is : (ls : List Line) (d : Line) → Apart ls → (i : ℕ) → i < length ls → unusedBy (getD ls i d .contract) (map tierOf ls) ≡ natAbs (getD ls i d .net .0)
+pub unused-is : (ls : List Line) (d : Line) → Apart ls → (i : ℕ) → i < length ls → unusedBy (getD ls i d .contract) (map tierOf ls) ≡ natAbs
+    (getD ls i d .net .0)
 unused-is [] d a i h = absurd (not-suc-le-zero h)
 unused-is (l ∷ ls) d a zero h =
     let x = none-there long (l .contract) ls (a .0) in
     let y = none-there short (l .contract) ls (a .0) in
     let t = eq-eqb (l .contract) (l .contract) refl in
-    let p : pool long (l .contract) (map tierOf (l ∷ ls)) ≡ onSide long (l .net .0) + 0 = ap₂ (λ (b : Bool) (n : ℕ). cond b (onSide long (l .net .0)) 0 + n) t x in
-    let q : pool short (l .contract) (map tierOf (l ∷ ls)) ≡ onSide short (l .net .0) + 0 = ap₂ (λ (b : Bool) (n : ℕ). cond b (onSide short (l .net .0)) 0 + n) t y in
+    let p : pool long (l .contract) (map tierOf (l ∷ ls)) ≡ onSide long (l .net .0) + 0 = ap₂
+    (λ (b : Bool) (n : ℕ). cond b (onSide long (l .net .0)) 0 + n) t x in
+    let q : pool short (l .contract) (map tierOf (l ∷ ls)) ≡ onSide short (l .net .0) + 0 = ap₂
+    (λ (b : Bool) (n : ℕ). cond b (onSide short (l .net .0)) 0 + n) t y in
     let s = both-sides (l .net .0) in
     omega arith
 unused-is (l ∷ ls) d a (suc i) h =
     let r = unused-is ls d (a .1) i (le-of-suc-le-suc h) in
     let e : getD (map (λ m. m .contract) ls) i 0 ≡ getD ls i d .contract = same ls i (le-of-suc-le-suc h) in
     let n : eqb (l .contract) (getD ls i d .contract) ≡ false = ne-eqb (l .contract) (getD ls i d .contract) (λ q. a .0 i (le-of-suc-le-suc h) (q ∙ sym e)) in
-    let p : pool long (getD ls i d .contract) (map tierOf (l ∷ ls)) ≡ 0 + pool long (getD ls i d .contract) (map tierOf ls) = ap (λ (b : Bool). cond b (onSide long (l .net .0)) 0 + pool long (getD ls i d .contract) (map tierOf ls)) n in
-    let q : pool short (getD ls i d .contract) (map tierOf (l ∷ ls)) ≡ 0 + pool short (getD ls i d .contract) (map tierOf ls) = ap (λ (b : Bool). cond b (onSide short (l .net .0)) 0 + pool short (getD ls i d .contract) (map tierOf ls)) n in
+    let p : pool long (getD ls i d .contract) (map tierOf (l ∷ ls)) ≡ 0 + pool long (getD ls i d .contract) (map tierOf ls) = ap
+    (λ (b : Bool). cond b (onSide long (l .net .0)) 0 + pool long (getD ls i d .contract) (map tierOf ls)) n in
+    let q : pool short (getD ls i d .contract) (map tierOf (l ∷ ls)) ≡ 0 + pool short (getD ls i d .contract) (map tierOf ls) = ap
+    (λ (b : Bool). cond b (onSide short (l .net .0)) 0 + pool short (getD ls i d .contract) (map tierOf ls)) n in
     omega arith
   where
     same : (ms : List Line) (j : ℕ) → j < length ms → getD (map (λ m. m .contract) ms) j 0 ≡ getD ms j d .contract
@@ -104,7 +110,8 @@ unused-is (l ∷ ls) d a (suc i) h =
 -- ---- what an entry uses of a contract is within what the contract has
 
 pub entry-use-within : (c : ℕ) (es : List Record) (ps : List Open) → EntriesFit es → (k : ℕ) → k < length es
-    → entryUse c (getD es k []) (getD (numbers (steps (map intercontract es)) ps) (2 * k) 0) (getD (numbers (steps (map intercontract es)) ps) (2 * k + 1) 0) ≤ unusedBy c ps
+    → entryUse c (getD es k []) (getD (numbers (steps (map intercontract es)) ps) (2 * k) 0)
+    (getD (numbers (steps (map intercontract es)) ps) (2 * k + 1) 0) ≤ unusedBy c ps
 entry-use-within c [] ps w k h = absurd (not-suc-le-zero h)
 entry-use-within c (e ∷ es) ps w zero h =
     subst (λ (n : ℕ). n ≤ unusedBy c ps) (used-in c e ps (w .each 0 (suc-le-suc zero-le))) (used-within c e ps)
@@ -114,7 +121,8 @@ entry-use-within c (e ∷ es) ps w (suc k) h =
     let b : 2 * suc k + 1 ≡ suc (suc (2 * k + 1)) = omega arith in
     le-trans
     (subst⁻¹ (λ (n : ℕ). n ≤ unusedBy c (afterEntry e ps))
-    (ap₂ (λ (x y : ℕ). entryUse c (getD es k []) (getD (numbers (steps (map intercontract (e ∷ es))) ps) x 0) (getD (numbers (steps (map intercontract (e ∷ es))) ps) y 0)) a b) r)
+    (ap₂ (λ (x y : ℕ). entryUse c (getD es k []) (getD (numbers (steps (map intercontract (e ∷ es))) ps) x 0)
+    (getD (numbers (steps (map intercontract (e ∷ es))) ps) y 0)) a b) r)
     (left-within c e ps (w .each 0 (suc-le-suc zero-le)))
 
 -- ---- the figures
@@ -125,7 +133,8 @@ Credited entries table [] cs = Unit {0}
 Credited entries table (k ∷ ks) [] = ⊥
 Credited entries table (k ∷ ks) (c ∷ cs) = (c .0 ≡ creditOf entries table k) × Credited entries table ks cs
 
-eight-is : (entries : List Record) (table : List Open) (k : Contract) (l : Line) (c : ℕ) → LineOf k l → c ≡ creditOf entries table k → eightOf l c ≡ eight entries table k
+eight-is : (entries : List Record) (table : List Open) (k : Contract) (l : Line) (c : ℕ) → LineOf k l → c ≡ creditOf entries table k
+    → eightOf l c ≡ eight entries table k
 eight-is entries table k l c is e =
     λ i.
     is .contract-is i
@@ -138,11 +147,13 @@ eight-is entries table k l c is e =
     ∷ margin (is .minimum-is i) (risk (is .scanning-is i) (is .interprompt-is i) (is .prompt-is i) (e i))
     ∷ []
 
-margin-is : (entries : List Record) (table : List Open) (k : Contract) (l : Line) (c : ℕ) → LineOf k l → c ≡ creditOf entries table k → marginWith l c ≡ marginOf entries table k
+margin-is : (entries : List Record) (table : List Open) (k : Contract) (l : Line) (c : ℕ) → LineOf k l → c ≡ creditOf entries table k
+    → marginWith l c ≡ marginOf entries table k
 margin-is entries table k l c is e =
     λ i. margin (is .minimum-is i) (risk (is .scanning-is i) (is .interprompt-is i) (is .prompt-is i) (e i))
 
-eights-are : (entries : List Record) (table : List Open) (ks : List Contract) (ls : List Line) (cs : List Amount) → Lined ks ls → Credited entries table ks cs → eightsFrom ls cs ≡ eights entries table ks
+eights-are : (entries : List Record) (table : List Open) (ks : List Contract) (ls : List Line) (cs : List Amount) → Lined ks ls
+    → Credited entries table ks cs → eightsFrom ls cs ≡ eights entries table ks
 eights-are entries table [] [] cs h g = refl
 eights-are entries table [] (l ∷ ls) cs h g = absurd h
 eights-are entries table (k ∷ ks) [] cs h g = absurd h
@@ -150,7 +161,8 @@ eights-are entries table (k ∷ ks) (l ∷ ls) [] h g = absurd g
 eights-are entries table (k ∷ ks) (l ∷ ls) (c ∷ cs) h g =
     ap₂ _++_ (eight-is entries table k l (c .0) (h .0) (g .0)) (eights-are entries table ks ls cs (h .1) (g .1))
 
-total-is : (entries : List Record) (table : List Open) (ks : List Contract) (ls : List Line) (cs : List Amount) → Lined ks ls → Credited entries table ks cs → totalFrom ls cs ≡ totalMargin entries table ks
+total-is : (entries : List Record) (table : List Open) (ks : List Contract) (ls : List Line) (cs : List Amount) → Lined ks ls
+    → Credited entries table ks cs → totalFrom ls cs ≡ totalMargin entries table ks
 total-is entries table [] [] cs h g = refl
 total-is entries table [] (l ∷ ls) cs h g = absurd h
 total-is entries table (k ∷ ks) [] cs h g = absurd h
@@ -158,6 +170,7 @@ total-is entries table (k ∷ ks) (l ∷ ls) [] h g = absurd g
 total-is entries table (k ∷ ks) (l ∷ ls) (c ∷ cs) h g =
     ap₂ _+_ (margin-is entries table k l (c .0) (h .0) (g .0)) (total-is entries table ks ls cs (h .1) (g .1))
 
-pub figures-are : (entries : List Record) (ks : List Contract) (ls : List Line) (cs : List Amount) → Lined ks ls → Credited entries (map asTier ks) ks cs → figuresFrom ls cs ≡ figuresOver entries ks
+pub figures-are : (entries : List Record) (ks : List Contract) (ls : List Line) (cs : List Amount) → Lined ks ls
+    → Credited entries (map asTier ks) ks cs → figuresFrom ls cs ≡ figuresOver entries ks
 figures-are entries ks ls cs h g =
     ap₂ (λ (xs : List ℕ) (n : ℕ). xs ++ (n ∷ [])) (eights-are entries (map asTier ks) ks ls cs h g) (total-is entries (map asTier ks) ks ls cs h g)

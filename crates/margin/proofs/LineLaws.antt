@@ -48,7 +48,8 @@ opens-sizes (r ∷ rs) [] = zero-le
 opens-sizes (r ∷ rs) (d ∷ ds) = let h = opens-sizes rs ds in omega arith
 
 -- the spread steps accept them
-pub opens-sound : (rs : List Record) (ds : List ℤ) → ((k : ℕ) → k < length rs → tier (getD rs k []) < 16) → ((k : ℕ) → natAbs (getD ds k (pos 0)) ≤ mostDelta) → every soundPrompt (opens rs ds) ≡ true
+pub opens-sound : (rs : List Record) (ds : List ℤ) → ((k : ℕ) → k < length rs → tier (getD rs k []) < 16)
+    → ((k : ℕ) → natAbs (getD ds k (pos 0)) ≤ mostDelta) → every soundPrompt (opens rs ds) ≡ true
 opens-sound [] ds ht hd = refl
 opens-sound (r ∷ rs) [] ht hd = refl
 opens-sound (r ∷ rs) (d ∷ ds) ht hd =
@@ -56,7 +57,8 @@ opens-sound (r ∷ rs) (d ∷ ds) ht hd =
     (and-both (ltb (tier r) 16) (leb (natAbs d) mostDelta) (lt-ltb (tier r) 16 (ht 0 (suc-le-suc zero-le))) (le-leb (natAbs d) mostDelta (hd 0)))
     (opens-sound rs ds (λ k h. ht (suc k) (suc-le-suc h)) (λ k. hd (suc k)))
 
-pub spreads-sound : (made : Record → Spread) (rs : List Record) → ((k : ℕ) → k < length rs → soundSpread (made (getD rs k [])) ≡ true) → every soundSpread (map made rs) ≡ true
+pub spreads-sound : (made : Record → Spread) (rs : List Record) → ((k : ℕ) → k < length rs → soundSpread (made (getD rs k [])) ≡ true)
+    → every soundSpread (map made rs) ≡ true
 spreads-sound made [] h = refl
 spreads-sound made (r ∷ rs) h =
     and-both (soundSpread (made r)) (every soundSpread (map made rs)) (h 0 (suc-le-suc zero-le)) (spreads-sound made rs (λ k l. h (suc k) (suc-le-suc l)))
@@ -113,20 +115,24 @@ size-zeros (suc n) (z ∷ zs) h = ap (λ (x : ℕ). natAbs z + x) (size-zeros n 
 
 -- ---- the arrays of a book, within their bounds
 
-pub first-within : (numbers : List ℕ) (f : ℕ → ℕ) (most : ℕ) → ((j : ℕ) → getD numbers j 0 ≤ most) → (k : ℕ) → k < 32 → spreadsAt (entries 32 (λ i. spreadsEntry numbers (f i))) k ≤ most
+pub first-within : (numbers : List ℕ) (f : ℕ → ℕ) (most : ℕ) → ((j : ℕ) → getD numbers j 0 ≤ most) → (k : ℕ) → k < 32
+    → spreadsAt (entries 32 (λ i. spreadsEntry numbers (f i))) k ≤ most
 first-within numbers f most h k l =
     subst⁻¹ (λ (x : Spreads). x .0 ≤ most) (entries-at 32 (λ i. spreadsEntry numbers (f i)) k (record { 0 = 0 }) l) (h (f k))
 
-pub delta-within : (zs : List ℤ) (most : ℕ) → ((j : ℕ) → natAbs (getD zs j (pos 0)) ≤ most) → (k : ℕ) → k < 32 → natAbs (deltaAt (entries 32 (deltaEntry zs)) k) ≤ most
+pub delta-within : (zs : List ℤ) (most : ℕ) → ((j : ℕ) → natAbs (getD zs j (pos 0)) ≤ most) → (k : ℕ) → k < 32
+    → natAbs (deltaAt (entries 32 (deltaEntry zs)) k) ≤ most
 delta-within zs most h k l =
     subst⁻¹ (λ (d : Delta). natAbs (d .0) ≤ most) (entries-at 32 (deltaEntry zs) k (record { 0 = pos 0 }) l) (h k)
 
 -- ---- net deltas added up, one after the other
 
-pub net-so-far : (zs : List ℤ) (i : ℕ) (most : ℕ) → i < length zs → sum (map natAbs zs) ≤ most → natAbs (sumℤ (take i zs)) + natAbs (getD zs i (pos 0)) ≤ 2 * most
+pub net-so-far : (zs : List ℤ) (i : ℕ) (most : ℕ) → i < length zs → sum (map natAbs zs) ≤ most
+    → natAbs (sumℤ (take i zs)) + natAbs (getD zs i (pos 0)) ≤ 2 * most
 net-so-far zs i most h m =
     let a = abs-sum (take i zs) in
-    let b : sum (map natAbs (take i zs)) ≤ sum (map natAbs zs) = subst⁻¹ (λ (xs : List ℕ). sum xs ≤ sum (map natAbs zs)) (map-take natAbs i zs) (sum-take i (map natAbs zs)) in
+    let b : sum (map natAbs (take i zs)) ≤ sum (map natAbs zs) = subst⁻¹ (λ (xs : List ℕ). sum xs ≤ sum (map natAbs zs)) (map-take natAbs i zs)
+    (sum-take i (map natAbs zs)) in
     let c : natAbs (getD zs i (pos 0)) ≤ sum (map natAbs zs) =
     subst (λ (n : ℕ). n ≤ sum (map natAbs zs)) (getD-map natAbs zs i (pos 0) 0 h) (sum-at (map natAbs zs) i (rw length-map h))
     in

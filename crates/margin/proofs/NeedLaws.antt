@@ -50,7 +50,8 @@ module _ (account : List Record) (law : Lawful account) (q : ℕ) (asked : answe
   uses-size true e =
       ap length (table-asked account law contractUses tableUses (λ own. refl) q (eqb-true q 16 e))
       ∙ spread-uses (map intercontract (entriesOf account)) (map asTier (contracts account))
-      ∙ ap₂ (λ (x y : ℕ). x * (2 * y)) (length-map (entriesOf account) intercontract) (length-map (contracts account) asTier ∙ length-map (contractsOf account) (partsIn account))
+      ∙ ap₂ (λ (x y : ℕ). x * (2 * y)) (length-map (entriesOf account) intercontract)
+      (length-map (contracts account) asTier ∙ length-map (contractsOf account) (partsIn account))
   uses-size false e =
       let ps = promptsOf q account in
       ap length (contract-asked account law contractUses tableUses (λ own. refl) q asked (eqb-false q 16 e))

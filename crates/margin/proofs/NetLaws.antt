@@ -39,7 +39,8 @@ addedSize row p = natAbs (adds row p)
 once : (row : Record) (ps : List Record) → sum (map (addedSize row) ps) ≡ count (onDay (day row)) ps * natAbs (rowDelta row)
 once row [] = sym (zero-mul (natAbs (rowDelta row)))
 once row (p ∷ ps) =
-    ap (λ (t : Bool). natAbs (cond t (rowDelta row) (pos 0)) + sum (map (addedSize row) ps)) (eqb-turned (day row) (day p)) ∙ go (eqb (day p) (day row)) (once row ps)
+    ap (λ (t : Bool). natAbs (cond t (rowDelta row) (pos 0)) + sum (map (addedSize row) ps)) (eqb-turned (day row) (day p))
+    ∙ go (eqb (day p) (day row)) (once row ps)
   where
     go : (t : Bool) → sum (map (addedSize row) ps) ≡ count (onDay (day row)) ps * natAbs (rowDelta row)
         → natAbs (cond t (rowDelta row) (pos 0)) + sum (map (addedSize row) ps) ≡ (oneIf t + count (onDay (day row)) ps) * natAbs (rowDelta row)
@@ -60,7 +61,8 @@ no-rows (p ∷ ps) = let h = no-rows ps in omega arith
 size-first-row : (row : Record) (rows : List Record) (p : Record) → netSize (row ∷ rows) p ≤ addedSize row p + netSize rows p
 size-first-row row rows p = subst⁻¹ (λ (z : ℤ). natAbs z ≤ addedSize row p + netSize rows p) (first-row row rows p) (abs-add (adds row p) (netDelta rows p))
 
-pub sizes-sum : (prompts rows : List Record) → OneDay prompts rows → ((k : ℕ) → k < length rows → RowFit (getD rows k [])) → sum (map (netSize rows) prompts) ≤ length rows * 1000000000
+pub sizes-sum : (prompts rows : List Record) → OneDay prompts rows → ((k : ℕ) → k < length rows → RowFit (getD rows k []))
+    → sum (map (netSize rows) prompts) ≤ length rows * 1000000000
 sizes-sum prompts [] r e = omega (arith, no-rows prompts)
 sizes-sum prompts (row ∷ rows) r e =
     let one : sum (map (addedSize row) prompts) ≤ 1000000000 = le-trans (one-day row prompts (r 0 (omega arith))) (delta-most row (e 0 (omega arith))) in
@@ -79,17 +81,21 @@ net-sizes-most prompts rows r w =
 
 none-added : (row : Record) (ps : List Record) → count (onDay (day row)) ps ≡ 0 → sumℤ (map (adds row) ps) ≡ pos 0
 none-added row [] e = refl
-none-added row (p ∷ ps) e = ap (λ (t : Bool). cond t (rowDelta row) (pos 0) +ℤ sumℤ (map (adds row) ps)) (eqb-turned (day row) (day p)) ∙ go (eqb (day p) (day row)) (none-added row ps) e
+none-added row (p ∷ ps) e = ap (λ (t : Bool). cond t (rowDelta row) (pos 0) +ℤ sumℤ (map (adds row) ps)) (eqb-turned (day row) (day p))
+    ∙ go (eqb (day p) (day row)) (none-added row ps) e
   where
-    go : (t : Bool) → (count (onDay (day row)) ps ≡ 0 → sumℤ (map (adds row) ps) ≡ pos 0) → oneIf t + count (onDay (day row)) ps ≡ 0 → cond t (rowDelta row) (pos 0) +ℤ sumℤ (map (adds row) ps) ≡ pos 0
+    go : (t : Bool) → (count (onDay (day row)) ps ≡ 0 → sumℤ (map (adds row) ps) ≡ pos 0) → oneIf t + count (onDay (day row)) ps ≡ 0
+        → cond t (rowDelta row) (pos 0) +ℤ sumℤ (map (adds row) ps) ≡ pos 0
     go true rest z = absurd (omega arith)
     go false rest z = +ℤ-idl (sumℤ (map (adds row) ps)) ∙ rest (omega arith)
 
 once-added : (row : Record) (ps : List Record) → count (onDay (day row)) ps ≡ 1 → sumℤ (map (adds row) ps) ≡ rowDelta row
 once-added row [] e = absurd (omega arith)
-once-added row (p ∷ ps) e = ap (λ (t : Bool). cond t (rowDelta row) (pos 0) +ℤ sumℤ (map (adds row) ps)) (eqb-turned (day row) (day p)) ∙ go (eqb (day p) (day row)) (once-added row ps) e
+once-added row (p ∷ ps) e = ap (λ (t : Bool). cond t (rowDelta row) (pos 0) +ℤ sumℤ (map (adds row) ps)) (eqb-turned (day row) (day p))
+    ∙ go (eqb (day p) (day row)) (once-added row ps) e
   where
-    go : (t : Bool) → (count (onDay (day row)) ps ≡ 1 → sumℤ (map (adds row) ps) ≡ rowDelta row) → oneIf t + count (onDay (day row)) ps ≡ 1 → cond t (rowDelta row) (pos 0) +ℤ sumℤ (map (adds row) ps) ≡ rowDelta row
+    go : (t : Bool) → (count (onDay (day row)) ps ≡ 1 → sumℤ (map (adds row) ps) ≡ rowDelta row) → oneIf t + count (onDay (day row)) ps ≡ 1
+        → cond t (rowDelta row) (pos 0) +ℤ sumℤ (map (adds row) ps) ≡ rowDelta row
     go true rest z = ap (λ (x : ℤ). rowDelta row +ℤ x) (none-added row ps (omega arith)) ∙ +ℤ-idr (rowDelta row)
     go false rest z = +ℤ-idl (sumℤ (map (adds row) ps)) ∙ rest (omega arith)
 

@@ -61,7 +61,8 @@ module _ {ℓ} {A : Type ℓ} where
   pub start : (n : ℕ) (rest : ℕ → List A) (at at′ : ℕ) (out : List A) → at′ ≡ at → ToWrite n rest (sets out at (rest 0)) 0 at′ out
   start n rest at at′ out e = record { whole = ap (λ (k : ℕ). sets out k (rest 0)) e; within = zero-le }
 
-  pub next : {n : ℕ} {rest : ℕ → List A} {all : List A} (i at at′ : ℕ) (out out′ vs : List A) → ToWrite n rest all i at out → i < n → rest i ≡ vs ++ rest (i + 1) → out′ ≡ sets out at vs → at′ ≡ at + length vs → ToWrite n rest all (i + 1) at′ out′
+  pub next : {n : ℕ} {rest : ℕ → List A} {all : List A} (i at at′ : ℕ) (out out′ vs : List A) → ToWrite n rest all i at out → i < n
+      → rest i ≡ vs ++ rest (i + 1) → out′ ≡ sets out at vs → at′ ≡ at + length vs → ToWrite n rest all (i + 1) at′ out′
   next {n} {rest} {all} i at at′ out out′ vs t h e o p =
       record {
         whole =
@@ -112,7 +113,8 @@ module _ (count : ℕ) (lines : List Line) (credits : List Amount) where
         ∙ ap (λ (n : ℕ). 8 * n) (length-take-le count lines hl)
 
     -- the total after the last line
-    pub figures-listed : (none number : List ℤ) (total : ℕ) → 8 * count + 1 ≤ length none → number ≡ sets none 0 (eightsOn 0) → total ≡ totalOn 0 → take (count * 8 + 1) (set number (count * 8) (pos total)) ≡ map pos (figuresFrom (take count lines) (take count credits))
+    pub figures-listed : (none number : List ℤ) (total : ℕ) → 8 * count + 1 ≤ length none → number ≡ sets none 0 (eightsOn 0) → total ≡ totalOn 0
+        → take (count * 8 + 1) (set number (count * 8) (pos total)) ≡ map pos (figuresFrom (take count lines) (take count credits))
     figures-listed none number total h e t =
         let at : 0 + length (eightsOn 0) ≡ count * 8 = omega (arith, eights-length) in
         let all = eightsOn 0 ++ (pos total ∷ []) in
@@ -146,7 +148,16 @@ module _ (count : ℕ) (nets used unused : List Delta) where
 
     pub threes-step : (i : ℕ) → i < count → threesOn i ≡ (deltaAt nets i ∷ deltaAt used i ∷ deltaAt unused i ∷ []) ++ threesOn (i + 1)
     threes-step i h =
-        rw (add-one i, slice-cons i count (deltasIn nets) (pos 0) h (within nets hn), slice-cons i count (deltasIn used) (pos 0) h (within used hu), slice-cons i count (deltasIn unused) (pos 0) h (within unused ho), delta-at nets i, delta-at used i, delta-at unused i)
+        rw (
+          add-one i,
+          slice-cons i count (deltasIn nets) (pos 0) h (within nets hn),
+          slice-cons i count (deltasIn used) (pos 0) h
+              (within used hu),
+          slice-cons i count (deltasIn unused) (pos 0) h (within unused ho),
+          delta-at nets i,
+          delta-at used i,
+          delta-at unused i,
+        )
 
     pub threes-length : length (threesOn 0) ≡ 3 * count
     threes-length =
@@ -183,7 +194,9 @@ module _ (count : ℕ) (firsts seconds : List Spreads) where
         ∙ ap (λ (k : ℕ). 2 * k) f
 
 -- prompts first, then spreads
-pub book-listed : (prompts spreads : ℕ) (none number number′ threes twos : List ℤ) → length threes ≡ 3 * prompts → length twos ≡ 2 * spreads → 3 * prompts + 2 * spreads ≤ length none → number ≡ sets none 0 threes → number′ ≡ sets number (prompts * 3) twos → take (prompts * 3 + spreads * 2) number′ ≡ threes ++ twos
+pub book-listed : (prompts spreads : ℕ) (none number number′ threes twos : List ℤ) → length threes ≡ 3 * prompts → length twos ≡ 2 * spreads
+    → 3 * prompts + 2 * spreads ≤ length none → number ≡ sets none 0 threes → number′ ≡ sets number (prompts * 3) twos
+    → take (prompts * 3 + spreads * 2) number′ ≡ threes ++ twos
 book-listed prompts spreads none number number′ threes twos lt ls h e f =
     let at : 0 + length threes ≡ prompts * 3 = omega arith in
     let long : length (threes ++ twos) ≡ prompts * 3 + spreads * 2 = length-append threes twos ∙ omega arith in
@@ -199,5 +212,6 @@ pub last-listed : (count : ℕ) (number : List ℤ) (z : ℤ) → count < length
 last-listed count number z h = ap (λ (n : ℕ). take n (set number count z)) (add-one count) ∙ take-suc-set number count z h
 
 -- one number more, at the end
-pub with-last : (parts written with : List ℤ) (last touches : ℕ) → written ≡ parts → with ≡ written ++ (pos last ∷ []) → last ≡ touches → with ≡ parts ++ (pos touches ∷ [])
+pub with-last : (parts written with : List ℤ) (last touches : ℕ) → written ≡ parts → with ≡ written ++ (pos last ∷ []) → last ≡ touches
+    → with ≡ parts ++ (pos touches ∷ [])
 with-last parts written with last touches is listed same = listed ∙ ap₂ (λ (zs : List ℤ) (t : ℕ). zs ++ (pos t ∷ [])) is same

@@ -141,7 +141,8 @@ module _ (width : ℕ) (after : ℕ → List ℤ → List ℤ) (keeps : (q : ℕ
     placed zero q k g = absurd (omega arith)
     placed (suc n) q k g = go (ℕ-discrete q n) (λ l. placed n q l (omega arith))
       where
-        go : Dec (q ≡ n) → (q < n → place width q (afterEach width after n lent) ≡ after q (place width q lent)) → place width q (afterEach width after (suc n) lent) ≡ after q (place width q lent)
+        go : Dec (q ≡ n) → (q < n → place width q (afterEach width after n lent) ≡ after q (place width q lent))
+            → place width q (afterEach width after (suc n) lent) ≡ after q (place width q lent)
         go (yes e) before =
             ap (λ (i : ℕ). place width i (afterEach width after (suc n) lent)) e
             ∙ at-here width (width * n) (after n) (keeps n) (afterEach width after n lent) (room n g)
@@ -155,10 +156,12 @@ module _ (width : ℕ) (after : ℕ → List ℤ → List ℤ) (keeps : (q : ℕ
   each-room : (account : List Record) (lent : ℕ) → eachOver width account lent ≡ Accepted → width * questions ≤ lent
   each-room account lent ok = lent-enough (width * questions) lent (length account) (ltb lent (width * questions)) refl (ap numberOf ok)
 
-  pub each-place : (account : List Record) (lent : List ℤ) → eachOver width account (length lent) ≡ Accepted → EachPlace width after lent (afterEachOver width after account lent)
+  pub each-place : (account : List Record) (lent : List ℤ) → eachOver width account (length lent) ≡ Accepted
+      → EachPlace width after lent (afterEachOver width after account lent)
   each-place account lent ok =
       let h = each-room account (length lent) ok in
-      let e : afterEachOver width after account lent ≡ afterEach width after questions lent = ap (λ (a : Answer). cond (accepted a) (afterEach width after questions lent) lent) ok in
+      let e : afterEachOver width after account lent ≡ afterEach width after questions lent = ap
+      (λ (a : Answer). cond (accepted a) (afterEach width after questions lent) lent) ok in
       record {
         each = λ q g. ap (place width q) e ∙ placed lent h questions q g (omega arith);
         rest = ap (drop (width * questions)) e ∙ past lent h questions (width * questions) (omega arith) (omega arith);
@@ -166,7 +169,8 @@ module _ (width : ℕ) (after : ℕ → List ℤ → List ℤ) (keeps : (q : ℕ
 
 pub all-places : (paid : Bool) (account : List Record) (lent : List ℤ) → allOver paid account (length lent) ≡ Accepted
     → EachPlace (widthOf paid) (λ q. afterOver account (questionOf paid q)) lent (afterAllOver paid account lent)
-all-places paid account lent = each-place (widthOf paid) (λ q. afterOver account (questionOf paid q)) (λ q. keeps-length account (questionOf paid q)) account lent
+all-places paid account lent = each-place (widthOf paid) (λ q. afterOver account (questionOf paid q))
+    (λ q. keeps-length account (questionOf paid q)) account lent
 
 -- ---- what the code does, place by place
 
@@ -178,7 +182,8 @@ put-place width at out part change e =
     ap₂ (λ ys zs. take at out ++ (ys ++ zs)) (e ∙ ap (λ (n : ℕ). change (take n (drop at out))) k) (post-is at (at + width) out (omega arith))
 
 module _ (width : ℕ) (after : ℕ → List ℤ → List ℤ) where
-  pub next-each : (q : ℕ) (lent out left : List ℤ) → out ≡ afterEach width after q lent → left ≡ atPlace width (width * q) (after q) out → left ≡ afterEach width after (q + 1) lent
+  pub next-each : (q : ℕ) (lent out left : List ℤ) → out ≡ afterEach width after q lent → left ≡ atPlace width (width * q) (after q) out
+      → left ≡ afterEach width after (q + 1) lent
   next-each q lent out left h e =
       e ∙ ap (atPlace width (width * q) (after q)) h ∙ sym (ap (λ (n : ℕ). afterEach width after n lent) (more q))
     where
@@ -188,12 +193,16 @@ module _ (width : ℕ) (after : ℕ → List ℤ → List ℤ) where
   abbrev pub EachAnswered : Answer → List ℤ → List Record → List ℤ → Type 0
   EachAnswered a left account lent = (a ≡ eachOver width account (length lent)) × (left ≡ afterEachOver width after account lent)
 
-  pub each-too-few : (account : List Record) (lent : List ℤ) (k : ℕ) → length lent < width * questions → k ≡ length account → EachAnswered (TooFewNumbers k) lent account lent
+  pub each-too-few : (account : List Record) (lent : List ℤ) (k : ℕ) → length lent < width * questions → k ≡ length account
+      → EachAnswered (TooFewNumbers k) lent account lent
   each-too-few account lent k h e =
-      let a : eachOver width account (length lent) ≡ TooFewNumbers k = ap (λ (t : Bool). cond t (TooFewNumbers (length account)) Accepted) (lt-ltb (length lent) (width * questions) h) ∙ ap TooFewNumbers (sym e) in
+      let a : eachOver width account (length lent) ≡ TooFewNumbers k = ap (λ (t : Bool). cond t (TooFewNumbers (length account)) Accepted)
+      (lt-ltb (length lent) (width * questions) h) ∙ ap TooFewNumbers (sym e) in
       (sym a, sym (ap (λ (x : Answer). cond (accepted x) (afterEach width after questions lent) lent) a))
 
-  pub each-accepted : (account : List Record) (lent left : List ℤ) → width * questions ≤ length lent → left ≡ afterEach width after questions lent → EachAnswered Accepted left account lent
+  pub each-accepted : (account : List Record) (lent left : List ℤ) → width * questions ≤ length lent → left ≡ afterEach width after questions lent
+      → EachAnswered Accepted left account lent
   each-accepted account lent left h e =
-      let a : eachOver width account (length lent) ≡ Accepted = ap (λ (t : Bool). cond t (TooFewNumbers (length account)) Accepted) (le-ltb (length lent) (width * questions) h) in
+      let a : eachOver width account (length lent) ≡ Accepted = ap (λ (t : Bool). cond t (TooFewNumbers (length account)) Accepted)
+      (le-ltb (length lent) (width * questions) h) in
       (sym a, e ∙ sym (ap (λ (x : Answer). cond (accepted x) (afterEach width after questions lent) lent) a))

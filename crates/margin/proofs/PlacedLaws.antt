@@ -36,7 +36,8 @@ rising-more n days h r later j k l m = go (ltb k n) refl
         omega arith
 
 -- one day more that is another
-pub passed-one : (days : List ℕ) (start j d : ℕ) → ((k : ℕ) → start ≤ k → k < j → getD days k 0 ≡ d → ⊥) → (getD days j 0 ≡ d → ⊥) → (k : ℕ) → start ≤ k → k < j + 1 → getD days k 0 ≡ d → ⊥
+pub passed-one : (days : List ℕ) (start j d : ℕ) → ((k : ℕ) → start ≤ k → k < j → getD days k 0 ≡ d → ⊥) → (getD days j 0 ≡ d → ⊥) → (k : ℕ)
+    → start ≤ k → k < j + 1 → getD days k 0 ≡ d → ⊥
 passed-one days start j d earlier here k l h = go (ltb k j) refl
   where
     go : (t : Bool) → ltb k j ≡ t → getD days k 0 ≡ d → ⊥
@@ -86,7 +87,8 @@ module _ (days : List ℕ) (n d : ℕ) (more : ℤ) (xs : List ℤ) where
           ∙ ap (λ (t : Bool). getD xs k (pos 0) +ℤ cond t more (pos 0)) (sym (ne-eqb d (getD days k 0) (λ q. f .others k far h (sym q))))
 
   -- at a place of the day
-  pub added-at : (j : ℕ) (ys : List ℤ) (z : ℤ) → j < length xs → getD days j 0 ≡ d → Added j (addsOn days d more) xs ys → z ≡ getD ys j (pos 0) +ℤ more → Added (j + 1) (addsOn days d more) xs (set ys j z)
+  pub added-at : (j : ℕ) (ys : List ℤ) (z : ℤ) → j < length xs → getD days j 0 ≡ d → Added j (addsOn days d more) xs ys
+      → z ≡ getD ys j (pos 0) +ℤ more → Added (j + 1) (addsOn days d more) xs (set ys j z)
   added-at j ys z h same a e =
       next j (addsOn days d more) xs ys z a h
       (e

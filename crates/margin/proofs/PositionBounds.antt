@@ -25,7 +25,8 @@ use Rattle.margin.proofs.PositionLaws.{totals-at, net-here}
 
 -- ---- of one row
 
-pub product-most : (rates : List Record) (unit : ℕ) → unit ≤ 1000 → (row : Record) → RowRated rates row → (s : ℕ) → 1 ≤ s → s ≤ 16 → natAbs (product rates unit s row) ≤ mostProduct
+pub product-most : (rates : List Record) (unit : ℕ) → unit ≤ 1000 → (row : Record) → RowRated rates row → (s : ℕ) → 1 ≤ s → s ≤ 16
+    → natAbs (product rates unit s row) ≤ mostProduct
 product-most rates unit hu row w s l h = omega (arith, w .conversion-within s l h, away-above unit (inHundredths rates s row))
 
 pub delta-most : (row : Record) → RowFit row → natAbs (rowDelta row) ≤ 1000000000
@@ -51,7 +52,8 @@ Each rows = (k : ℕ) → k < length rows → RowFit (getD rows k [])
 abbrev pub Rated : List Record → List Record → Type 0
 Rated rates rows = (k : ℕ) → k < length rows → RowRated rates (getD rows k [])
 
-pub total-most : (rates : List Record) (unit : ℕ) → unit ≤ 1000 → (rows : List Record) → Rated rates rows → (s : ℕ) → 1 ≤ s → s ≤ 16 → natAbs (total rates unit rows s) ≤ length rows * mostProduct
+pub total-most : (rates : List Record) (unit : ℕ) → unit ≤ 1000 → (rows : List Record) → Rated rates rows → (s : ℕ) → 1 ≤ s → s ≤ 16
+    → natAbs (total rates unit rows s) ≤ length rows * mostProduct
 total-most rates unit hu [] e s l h = zero-le
 total-most rates unit hu (row ∷ rows) e s l h =
     let one = product-most rates unit hu row (e 0 (omega arith)) s l h in
@@ -63,7 +65,8 @@ pub net-most : (rows : List Record) → Each rows → (d : ℕ) → natAbs (netO
 net-most [] e d = zero-le
 net-most (row ∷ rows) e d = go (ofDay d row) (net-most rows (λ k l. e (suc k) (omega arith)) d)
   where
-    go : (t : Bool) → natAbs (netOn rows d) ≤ length rows * 1000000000 → natAbs (sumℤ (map rowDelta (consIf t row (keep (ofDay d) rows)))) ≤ suc (length rows) * 1000000000
+    go : (t : Bool) → natAbs (netOn rows d) ≤ length rows * 1000000000 → natAbs (sumℤ (map rowDelta (consIf t row (keep (ofDay d) rows)))) ≤ suc
+        (length rows) * 1000000000
     go true rest =
         let both = abs-plus (rowDelta row) (netOn rows d) (delta-most row (e 0 (omega arith))) rest in
         omega arith
@@ -79,7 +82,8 @@ short-lots-most (row ∷ rows) e =
 -- ---- of a position
 
 -- the nets of the prompts and those past them
-net-place : (rates : List Record) (unit : ℕ) (prompts rows : List Record) (p : Position) → Each rows → PositionOf rates unit prompts rows p → (j : ℕ) → natAbs (getD (deltasIn (p .nets)) j (pos 0)) ≤ length rows * 1000000000
+net-place : (rates : List Record) (unit : ℕ) (prompts rows : List Record) (p : Position) → Each rows → PositionOf rates unit prompts rows p → (j : ℕ)
+    → natAbs (getD (deltasIn (p .nets)) j (pos 0)) ≤ length rows * 1000000000
 net-place rates unit prompts rows p e is j = go (ltb j (length prompts)) refl
   where
     go : (t : Bool) → ltb j (length prompts) ≡ t → natAbs (getD (deltasIn (p .nets)) j (pos 0)) ≤ length rows * 1000000000
@@ -89,7 +93,8 @@ net-place rates unit prompts rows p e is j = go (ltb j (length prompts)) refl
     go false h =
         subst (λ (z : ℤ). natAbs z ≤ length rows * 1000000000) (sym (is .nets-beyond j (ltb-false j (length prompts) h))) zero-le
 
-pub bounded : (rates : List Record) (unit : ℕ) → unit ≤ 1000 → (prompts rows : List Record) (p : Position) → RowsFit rows → Rated rates rows → PositionOf rates unit prompts rows p → Bounded (length rows) p
+pub bounded : (rates : List Record) (unit : ℕ) → unit ≤ 1000 → (prompts rows : List Record) (p : Position) → RowsFit rows → Rated rates rows
+    → PositionOf rates unit prompts rows p → Bounded (length rows) p
 bounded rates unit hu prompts rows p w rated is =
     record {
       totals-most =
@@ -116,7 +121,8 @@ wider n m p h b =
       shorts-most = le-trans (b .shorts-most) (mul-le-mul-right 100000 h);
     }
 
-pub each-take : (P : Record → Type 0) (rows : List Record) (n : ℕ) → ((k : ℕ) → k < length rows → P (getD rows k [])) → (k : ℕ) → k < length (take n rows) → P (getD (take n rows) k [])
+pub each-take : (P : Record → Type 0) (rows : List Record) (n : ℕ) → ((k : ℕ) → k < length rows → P (getD rows k [])) → (k : ℕ)
+    → k < length (take n rows) → P (getD (take n rows) k [])
 each-take P rows n e k h =
     let n-above : k < n = omega (arith, length-take n rows) in
     let rows-above : k < length rows = omega (arith, length-take n rows) in

@@ -25,7 +25,8 @@ use Rattle.margin.proofs.AddedLaws.{same-deltas}
 
 -- ---- rows before and rows after
 
-pub total-append : (rates : List Record) (unit : ℕ) (xs ys : List Record) (s : ℕ) → total rates unit (xs ++ ys) s ≡ total rates unit xs s +ℤ total rates unit ys s
+pub total-append : (rates : List Record) (unit : ℕ) (xs ys : List Record) (s : ℕ)
+    → total rates unit (xs ++ ys) s ≡ total rates unit xs s +ℤ total rates unit ys s
 total-append rates unit xs ys s =
     ap sumℤ (map-append (product rates unit s) xs ys) ∙ sumℤ-append (map (product rates unit s) xs) (map (product rates unit s) ys)
 
@@ -66,7 +67,8 @@ pub nets-at : (prompts rows : List Record) (j : ℕ) → j < length prompts → 
 nets-at prompts rows j h = getD-map (netDelta rows) prompts j [] (pos 0) h
 
 -- a position's net at a place
-pub net-here : (rates : List Record) (unit : ℕ) (prompts rows : List Record) (p : Position) → PositionOf rates unit prompts rows p → (j : ℕ) → j < length prompts → getD (deltasIn (p .nets)) j (pos 0) ≡ netDelta rows (getD prompts j [])
+pub net-here : (rates : List Record) (unit : ℕ) (prompts rows : List Record) (p : Position) → PositionOf rates unit prompts rows p → (j : ℕ)
+    → j < length prompts → getD (deltasIn (p .nets)) j (pos 0) ≡ netDelta rows (getD prompts j [])
 net-here rates unit prompts rows p is j h =
     sym (getD-take (length prompts) (deltasIn (p .nets)) j (pos 0) h)
     ∙ ap (λ (zs : List ℤ). getD zs j (pos 0)) (is .nets-are)
@@ -79,7 +81,8 @@ zeros zero j = refl
 zeros (suc n) zero = refl
 zeros (suc n) (suc j) = zeros n j
 
-pub nothing : (rates : List Record) (unit : ℕ) (prompts : List Record) (p : Position) → length prompts ≤ 32 → p .totals .0 ≡ replicate 16 (pos 0) → deltasIn (p .nets) ≡ replicate 32 (pos 0) → p .shorts ≡ 0 → PositionOf rates unit prompts [] p
+pub nothing : (rates : List Record) (unit : ℕ) (prompts : List Record) (p : Position) → length prompts ≤ 32 → p .totals .0 ≡ replicate 16 (pos 0)
+    → deltasIn (p .nets) ≡ replicate 32 (pos 0) → p .shorts ≡ 0 → PositionOf rates unit prompts [] p
 nothing rates unit prompts p few et en es =
     let thirty-two : length (deltasIn (p .nets)) ≡ 32 = ap length en in
     let here : (j : ℕ) → getD (deltasIn (p .nets)) j (pos 0) ≡ pos 0 = λ j. ap (λ (zs : List ℤ). getD zs j (pos 0)) en ∙ zeros 32 j in
@@ -98,7 +101,8 @@ nothing rates unit prompts p few et en es =
 
 -- ---- rows come to one position
 
-pub one-position : (rates : List Record) (unit : ℕ) (prompts rows : List Record) (p q : Position) → PositionOf rates unit prompts rows p → PositionOf rates unit prompts rows q → p ≡ q
+pub one-position : (rates : List Record) (unit : ℕ) (prompts rows : List Record) (p q : Position) → PositionOf rates unit prompts rows p
+    → PositionOf rates unit prompts rows q → p ≡ q
 one-position rates unit prompts rows p q a b =
     λ i.
     record {
@@ -116,7 +120,8 @@ one-position rates unit prompts rows p q a b =
 
 -- ---- the position with more rows
 
-module _ (rates : List Record) (unit : ℕ) (prompts earlier rows : List Record) (days : Days) (p q : Position) (known : DaysOf prompts days) (is : PositionOf rates unit prompts earlier p) (w : WithRows rates unit days p rows q) where
+module _ (rates : List Record) (unit : ℕ) (prompts earlier rows : List Record) (days : Days) (p q : Position) (known : DaysOf prompts days)
+    (is : PositionOf rates unit prompts earlier p) (w : WithRows rates unit days p rows q) where
   same-totals : q .totals .0 ≡ totals rates unit (earlier ++ rows)
   same-totals =
       let sixteen : length (q .totals .0) ≡ 16 = w .totals-added .as-many ∙ ap length (is .totals-are) in
@@ -133,7 +138,8 @@ module _ (rates : List Record) (unit : ℕ) (prompts earlier rows : List Record)
   same-nets : take (length prompts) (deltasIn (q .nets)) ≡ netDeltas prompts (earlier ++ rows)
   same-nets =
       let thirty-two : length (deltasIn (q .nets)) ≡ 32 = w .nets-added .as-many ∙ is .places in
-      let as-many : length (take (length prompts) (deltasIn (q .nets))) ≡ length prompts = length-take-le (length prompts) (deltasIn (q .nets)) (omega (arith, known .few, known .count-is)) in
+      let as-many : length (take (length prompts) (deltasIn (q .nets))) ≡ length prompts = length-take-le (length prompts) (deltasIn (q .nets))
+      (omega (arith, known .few, known .count-is)) in
       ext-getD (pos 0) (take (length prompts) (deltasIn (q .nets))) (netDeltas prompts (earlier ++ rows))
       (as-many ∙ sym (length-map prompts (netDelta (earlier ++ rows))))
       (λ j h. here j (omega arith))
@@ -159,7 +165,8 @@ module _ (rates : List Record) (unit : ℕ) (prompts earlier rows : List Record)
 
 -- ---- net deltas alone
 
-module _ (rates : List Record) (unit : ℕ) (prompts rows : List Record) (days : Days) (p : Position) (nets : List Delta) (known : DaysOf prompts days) (is : PositionOf rates unit prompts [] p) (added : Added (days .count) (λ j. netOn rows (getD (days .day) j 0)) (deltasIn (p .nets)) (deltasIn nets)) where
+module _ (rates : List Record) (unit : ℕ) (prompts rows : List Record) (days : Days) (p : Position) (nets : List Delta) (known : DaysOf prompts days)
+    (is : PositionOf rates unit prompts [] p) (added : Added (days .count) (λ j. netOn rows (getD (days .day) j 0)) (deltasIn (p .nets)) (deltasIn nets)) where
   its-totals : Added 16 (λ k. total rates unit rows (k + 1)) (totals rates unit []) (totals rates unit rows)
   its-totals =
       record {

@@ -71,14 +71,17 @@ module _ (account : List Record) (law : Lawful account) where
       let is = flat (ratesOf account) (unitOf c account) (promptsOf c account) (law .limits .prompts c) in
       record {
         is = subst⁻¹ (λ (rs : List Record). PositionOf (ratesOf account) (unitOf c account) (promptsOf c account) rs p) (unlisted c e) is;
-        most = wider 0 128 p zero-le (bounded (ratesOf account) (unitOf c account) (own-fit account law c .units .most) (promptsOf c account) [] p no-rows (λ k h. absurd (not-suc-le-zero h)) is);
+        most = wider 0 128 p zero-le
+            (bounded (ratesOf account) (unitOf c account) (own-fit account law c .units .most) (promptsOf c account) [] p no-rows
+            (λ k h. absurd (not-suc-le-zero h)) is);
       }
 
 -- ---- put in place one after the other
 
 pub record Placed (account : List Record) (i : ℕ) (at : List Position) : Type 0 where
   pub places : length at ≡ 16
-  pub done : (j : ℕ) → j < i → PositionAt (ratesOf account) (unitOf (contract (getD (contractsOf account) j [])) account) account (contract (getD (contractsOf account) j [])) (getD at (contract (getD (contractsOf account) j [])) noPosition)
+  pub done : (j : ℕ) → j < i → PositionAt (ratesOf account) (unitOf (contract (getD (contractsOf account) j [])) account) account
+      (contract (getD (contractsOf account) j [])) (getD at (contract (getD (contractsOf account) j [])) noPosition)
   pub rest : (c : ℕ) → c ≤ 15 → ((j : ℕ) → j < i → contract (getD (contractsOf account) j []) ≡ c → ⊥) → Flat (getD at c noPosition)
 
 pub placed-none : (account : List Record) (p : Position) → Flat p → Placed account 0 (replicate 16 p)
@@ -89,7 +92,8 @@ placed-none account p flat =
       rest = λ c h n. subst⁻¹ Flat (getD-replicate 16 c p noPosition (omega arith)) flat;
     }
 
-pub placed-next : (account : List Record) (i : ℕ) (at : List Position) (c : ℕ) (p : Position) → Placed account i at → c ≤ 15 → c ≡ contract (getD (contractsOf account) i [])
+pub placed-next : (account : List Record) (i : ℕ) (at : List Position) (c : ℕ) (p : Position) → Placed account i at → c ≤ 15
+    → c ≡ contract (getD (contractsOf account) i [])
     → PositionAt (ratesOf account) (unitOf c account) account c p → Placed account (i + 1) (set at c p)
 placed-next account i at c p is few number here =
     record {
@@ -102,7 +106,8 @@ placed-next account i at c p is few number here =
     same = subst⁻¹ (PositionAt (ratesOf account) (unitOf c account) account c) (getD-set-same at c p noPosition (omega (arith, is .places))) here
 
     done : (j : ℕ) → j < i + 1 → Dec (contract (getD (contractsOf account) j []) ≡ c)
-        → PositionAt (ratesOf account) (unitOf (contract (getD (contractsOf account) j [])) account) account (contract (getD (contractsOf account) j [])) (getD (set at c p) (contract (getD (contractsOf account) j [])) noPosition)
+        → PositionAt (ratesOf account) (unitOf (contract (getD (contractsOf account) j [])) account) account
+        (contract (getD (contractsOf account) j [])) (getD (set at c p) (contract (getD (contractsOf account) j [])) noPosition)
     done j h (yes q) = subst⁻¹ (λ (d : ℕ). PositionAt (ratesOf account) (unitOf d account) account d (getD (set at c p) d noPosition)) q same
     done j h (no q) =
         let d = contract (getD (contractsOf account) j []) in
@@ -112,13 +117,16 @@ placed-next account i at c p is few number here =
         earlier (yes e) = absurd (q (ap (λ (n : ℕ). contract (getD (contractsOf account) n [])) e ∙ sym number))
         earlier (no e) = omega (arith, e)
 
-pub placed-all : (account : List Record) (law : Lawful account) (i : ℕ) (ps : Positions) → i ≡ length (contractsOf account) → Placed account i (ps .at) → ps .records ≡ length account → PositionsOf account ps
+pub placed-all : (account : List Record) (law : Lawful account) (i : ℕ) (ps : Positions) → i ≡ length (contractsOf account)
+    → Placed account i (ps .at) → ps .records ≡ length account → PositionsOf account ps
 placed-all account law i ps e is n = record { records-are = n; places = is .places; each = λ c h. go c h (any (asks c) (contractsOf account)) refl }
   where
-    go : (c : ℕ) → c ≤ 15 → (t : Bool) → any (asks c) (contractsOf account) ≡ t → PositionAt (ratesOf account) (unitOf c account) account c (getD (ps .at) c noPosition)
+    go : (c : ℕ) → c ≤ 15 → (t : Bool) → any (asks c) (contractsOf account) ≡ t → PositionAt (ratesOf account) (unitOf c account) account c
+        (getD (ps .at) c noPosition)
     go c h true a =
         let f = found c (contractsOf account) a in
-        subst (λ (d : ℕ). PositionAt (ratesOf account) (unitOf d account) account d (getD (ps .at) d noPosition)) (f .here) (is .done (f .place) (omega (arith, e, f .below)))
+        subst (λ (d : ℕ). PositionAt (ratesOf account) (unitOf d account) account d (getD (ps .at) d noPosition)) (f .here)
+        (is .done (f .place) (omega (arith, e, f .below)))
     go c h false a =
         flat-at account law c (getD (ps .at) c noPosition) (is .rest c h (λ j l. none c (contractsOf account) a j (omega (arith, e)))) a
 
@@ -132,6 +140,7 @@ one-positions whole a b x y =
           ext-getD noPosition (a .at) (b .at) (x .places ∙ sym (y .places))
           (λ c h.
           let l : c ≤ 15 = omega (arith, x .places) in
-          one-position (ratesOf whole) (unitOf c whole) (promptsOf c whole) (rowsOf c whole) (getD (a .at) c noPosition) (getD (b .at) c noPosition) (x .each c l .is) (y .each c l .is))
+          one-position (ratesOf whole) (unitOf c whole) (promptsOf c whole) (rowsOf c whole) (getD (a .at) c noPosition) (getD (b .at) c noPosition)
+          (x .each c l .is) (y .each c l .is))
           i;
     }

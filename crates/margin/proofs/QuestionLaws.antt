@@ -52,7 +52,8 @@ pub refused-with : (a answer : Answer) (numbers out : List ℤ) → answer ≡ a
 refused-with a answer numbers out e h =
     (sym e, sym (ap (λ (x : Answer). afterwards x numbers out) e ∙ after-refused a numbers out h))
 
-pub accepted-with : (answer : Answer) (numbers out after : List ℤ) (n : ℕ) → answer ≡ Accepted → length numbers ≡ n → after ≡ numbers ++ drop n out → Answers Accepted after answer numbers out
+pub accepted-with : (answer : Answer) (numbers out after : List ℤ) (n : ℕ) → answer ≡ Accepted → length numbers ≡ n → after ≡ numbers ++ drop n out
+    → Answers Accepted after answer numbers out
 accepted-with answer numbers out after n e l f =
     (sym e, f ∙ ap (λ (m : ℕ). numbers ++ drop m out) (sym l) ∙ sym (ap (λ (x : Answer). afterwards x numbers out) e))
 
@@ -74,7 +75,8 @@ module _ (account : List Record) (question : Question) (lent : ℕ) where
   pub then-enough : answers account question ≡ true → answerOver account question lent ≡ enough account (numbersFor account question) lent
   then-enough e = ap (λ (t : Bool). ifAccepted (cond t Accepted (NoSuchQuestion (length account))) (enough account (numbersFor account question) lent)) e
 
-  pub asked-few : answers account question ≡ true → lent < length (numbersFor account question) → answerOver account question lent ≡ TooFewNumbers (length account)
+  pub asked-few : answers account question ≡ true → lent < length (numbersFor account question) → answerOver account question lent ≡ TooFewNumbers
+      (length account)
   asked-few e h = then-enough e ∙ too-few account (numbersFor account question) lent h
 
   pub asked-many : answers account question ≡ true → length (numbersFor account question) ≤ lent → answerOver account question lent ≡ Accepted

@@ -39,7 +39,8 @@ module _ {A : Type 0} (g : Record → A) (f : List ℕ) where
         so-far =
             ap (λ (n : ℕ). take n (set table k a)) (add-one k)
             ∙ take-suc-set table k a (omega (arith, filled .room))
-            ∙ ap₂ (λ (xs : List A) (x : A). xs ++ (x ∷ [])) (filled .so-far) (e ∙ ap g (sym (record-here f k h)) ∙ sym (getD-map g (records f) k [] (g []) (rw (length-cut) h)))
+            ∙ ap₂ (λ (xs : List A) (x : A). xs ++ (x ∷ [])) (filled .so-far)
+            (e ∙ ap g (sym (record-here f k h)) ∙ sym (getD-map g (records f) k [] (g []) (rw (length-cut) h)))
             ∙ sym (take-suc (map g (records f)) k (g []) (rw (length-map, length-cut) h))
             ∙ ap (λ (n : ℕ). take n (map g (records f))) (sym (add-one k));
       }

@@ -132,7 +132,8 @@ short-rows rows = ap sumℤ (sym (map-map pos shortOptions rows)) ∙ pos-sum (m
 
 -- ---- the sixteen totals
 
-total-at : (rates : List Record) (unit : ℕ) (rows : List Record) (scenario : ℕ) → 1 ≤ scenario → scenario ≤ 16 → totalOf (totals rates unit rows) scenario ≡ total rates unit rows scenario
+total-at : (rates : List Record) (unit : ℕ) (rows : List Record) (scenario : ℕ) → 1 ≤ scenario → scenario ≤ 16
+    → totalOf (totals rates unit rows) scenario ≡ total rates unit rows scenario
 total-at rates unit rows scenario l h =
     let e : scenario - 1 + 1 ≡ scenario = omega arith in
     totals-at rates unit rows (scenario - 1) (omega arith) ∙ ap (total rates unit rows) e
@@ -158,7 +159,8 @@ module _ (account : List Record) (law : Lawful account) (within : Each KindWithi
       record {
         totals =
             λ scenario l h.
-            over-owns (λ k. totalOf (k .totals) scenario) (λ own. product (ratesOf account) (unit own) scenario) (λ own. total-at (ratesOf account) (unit own) (rowsOf (contract own) account) scenario l h);
+            over-owns (λ k. totalOf (k .totals) scenario) (λ own. product (ratesOf account) (unit own) scenario)
+            (λ own. total-at (ratesOf account) (unit own) (rowsOf (contract own) account) scenario l h);
         nets =
             over-owns contractNet (λ own. rowDelta)
             (λ own. all-rows (promptsOf (contract own) account) (rowsOf (contract own) account) (law .onePrompt (contract own)));

@@ -33,11 +33,21 @@ use Rattle.margin.proofs.AcceptLaws.{none-within, contract-within, own-
 use Rattle.margin.proofs.RecordLaws.{count-is}
 
 -- a contract known by its rows is the one known by what they come to
-pub contract-with : (rates : List Record) (own : Record) (prompts rows spreads : List Record) (p : Position) → PositionOf rates (unit own) prompts rows p → contractFrom rates own prompts rows spreads ≡ contractWith own prompts spreads p
+pub contract-with : (rates : List Record) (own : Record) (prompts rows spreads : List Record) (p : Position)
+    → PositionOf rates (unit own) prompts rows p → contractFrom rates own prompts rows spreads ≡ contractWith own prompts spreads p
 contract-with rates own prompts rows spreads p is =
-    λ i. record { own = own; prompts = prompts; spreads = spreads; totals = sym (is .totals-are) i; nets = sym (is .nets-are) i; shorts = sym (is .shorts-are) i }
+    λ i. record {
+      own = own;
+      prompts = prompts;
+      spreads = spreads;
+      totals = sym (is .totals-are) i;
+      nets = sym (is .nets-are) i;
+      shorts = sym
+          (is .shorts-are) i;
+    }
 
-pub line-with : (rates : List Record) (own : Record) (prompts rows spreads : List Record) (p : Position) → PositionOf rates (unit own) prompts rows p → (l : Line) → LineOf (contractFrom rates own prompts rows spreads) l → LineOf (contractWith own prompts spreads p) l
+pub line-with : (rates : List Record) (own : Record) (prompts rows spreads : List Record) (p : Position) → PositionOf rates (unit own) prompts rows p
+    → (l : Line) → LineOf (contractFrom rates own prompts rows spreads) l → LineOf (contractWith own prompts spreads p) l
 line-with rates own prompts rows spreads p is l = subst (λ (k : Contract). LineOf k l) (contract-with rates own prompts rows spreads p is)
 
 -- ---- the one record of a contract's own part
@@ -120,15 +130,18 @@ module _ (account : List Record) (law : Lawful account) where
       pub rows-rated-by : (t : Rates) → RatedBy t (rowsOf c account) → RatedBy t (records rows)
       rows-rated-by t = subst⁻¹ (RatedBy t) (of-contract 3 (omega arith) rows er)
 
-      pub position-is : (rates : List Record) (u : ℕ) (p : Position) → PositionOf rates u (records prompts) (records rows) p → Bounded 128 p → PositionAt rates u account c p
+      pub position-is : (rates : List Record) (u : ℕ) (p : Position) → PositionOf rates u (records prompts) (records rows) p → Bounded 128 p
+          → PositionAt rates u account c p
       position-is rates u p is most =
           record {
-            is = subst (λ (rs : List Record). PositionOf rates u (promptsOf c account) rs p) (of-contract 3 (omega arith) rows er) (subst (λ (ps : List Record). PositionOf rates u ps (records rows) p) (of-contract 2 (omega arith) prompts ep) is);
+            is = subst (λ (rs : List Record). PositionOf rates u (promptsOf c account) rs p) (of-contract 3 (omega arith) rows er)
+                (subst (λ (ps : List Record). PositionOf rates u ps (records rows) p) (of-contract 2 (omega arith) prompts ep) is);
             most = most;
           }
 
     -- its prompts and interprompt spreads
-    module _ (prompts spreads : List ℕ) (ep : PartOf account (part 2 c) prompts) (es : PartOf account (part 4 c) spreads) (P : List Record → List Record → Type 0) where
+    module _ (prompts spreads : List ℕ) (ep : PartOf account (part 2 c) prompts) (es : PartOf account (part 4 c) spreads)
+        (P : List Record → List Record → Type 0) where
       pub parts-read : P (promptsOf c account) (spreadsOf c account) → P (records prompts) (records spreads)
       parts-read x =
           subst⁻¹ (λ (ps : List Record). P ps (records spreads)) (of-contract 2 (omega arith) prompts ep)
@@ -142,7 +155,9 @@ module _ (account : List Record) (law : Lawful account) where
     -- a contract without a record of its own
     module _ (p : Position) (at : PositionAt [] 1 account c p) where
       pub book-fits : BookFit (promptsOf c account) (spreadsOf c account) p
-      book-fits = record { own = []; fits = record { rates = []; rows = rowsOf c account; fit = contract-within account law [] c none-within; is = at .is; most = at .most } }
+      book-fits =
+          record
+          { own = []; fits = record { rates = []; rows = rowsOf c account; fit = contract-within account law [] c none-within; is = at .is; most = at .most } }
 
       pub by-number : contractWith [] (promptsOf c account) (spreadsOf c account) p ≡ partsOf account c
       by-number = sym (contract-with [] [] (promptsOf c account) (rowsOf c account) (spreadsOf c account) p (at .is))

@@ -92,12 +92,14 @@ whole-number-within (s ∷ ss) ps (suc j) e =
     le-trans (whole-number-within ss (after s (formed s ps) ps) j (and-right (wholeStep s) (wholeSteps ss) e)) (after-sizes s (formed s ps) ps)
 
 -- what is left and what is used at each prompt
-spent-at : (w : Market → ℕ → ℕ) (ps : List Open) (k : ℕ) → natAbs (getD (map (λ p. p .unused) (spend w ps)) k (pos 0)) ≤ natAbs (getD (map (λ p. p .unused) ps) k (pos 0))
+spent-at : (w : Market → ℕ → ℕ) (ps : List Open) (k : ℕ) → natAbs (getD (map (λ p. p .unused) (spend w ps)) k (pos 0)) ≤ natAbs
+    (getD (map (λ p. p .unused) ps) k (pos 0))
 spent-at w [] k = zero-le
 spent-at w (p ∷ ps) zero = let e = abs-towards-zero (p .unused) (w (marketOf (p .unused)) (p .tier)) in omega arith
 spent-at w (p ∷ ps) (suc k) = spent-at (λ m t. w m t - inTier m t p) ps k
 
-taken-at : (w : Market → ℕ → ℕ) (ps : List Open) (k : ℕ) → natAbs (getD (minus (map (λ p. p .unused) ps) (map (λ p. p .unused) (spend w ps))) k (pos 0)) ≤ natAbs (getD (map (λ p. p .unused) ps) k (pos 0))
+taken-at : (w : Market → ℕ → ℕ) (ps : List Open) (k : ℕ)
+    → natAbs (getD (minus (map (λ p. p .unused) ps) (map (λ p. p .unused) (spend w ps))) k (pos 0)) ≤ natAbs (getD (map (λ p. p .unused) ps) k (pos 0))
 taken-at w [] k = zero-le
 taken-at w (p ∷ ps) zero =
     let a = w (marketOf (p .unused)) (p .tier) in
@@ -105,7 +107,8 @@ taken-at w (p ∷ ps) zero =
     omega arith
 taken-at w (p ∷ ps) (suc k) = taken-at (λ m t. w m t - inTier m t p) ps k
 
-pub unused-within : (ss : List (List Taker)) (ps : List Open) (k : ℕ) → natAbs (getD (unusedOf ss ps) k (pos 0)) ≤ natAbs (getD (map (λ p. p .unused) ps) k (pos 0))
+pub unused-within : (ss : List (List Taker)) (ps : List Open) (k : ℕ) → natAbs (getD (unusedOf ss ps) k (pos 0)) ≤ natAbs
+    (getD (map (λ p. p .unused) ps) k (pos 0))
 unused-within ss ps k = rw (left-spend ss ps) (spent-at (λ m t. totalUse m t ss (numbers ss ps)) ps k)
 
 pub used-within : (ss : List (List Taker)) (ps : List Open) (k : ℕ) → natAbs (getD (usedOf ss ps) k (pos 0)) ≤ natAbs (getD (map (λ p. p .unused) ps) k (pos 0))

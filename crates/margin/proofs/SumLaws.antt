@@ -29,7 +29,8 @@ pub record ToGo (n most : ℕ) (rest : ℕ → ℕ) (i sum : ℕ) : Type 0 where
 pub start : (n most : ℕ) (rest : ℕ → ℕ) → ToGo n most rest 0 0
 start n most rest = record { all = zero-add (rest 0); small = zero-le; within = zero-le }
 
-pub next : {n most : ℕ} {rest : ℕ → ℕ} (i sum c : ℕ) → ToGo n most rest i sum → i < n → rest i ≡ c + rest (i + 1) → c ≤ most → ToGo n most rest (i + 1) (sum + c)
+pub next : {n most : ℕ} {rest : ℕ → ℕ} (i sum c : ℕ) → ToGo n most rest i sum → i < n → rest i ≡ c + rest (i + 1) → c ≤ most
+    → ToGo n most rest (i + 1) (sum + c)
 next {n} {most} {rest} i sum c t h e m =
     let a = t .all in
     let b = t .small in

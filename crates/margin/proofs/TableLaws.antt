@@ -41,7 +41,8 @@ use Rattle.margin.proofs.BookLaws.{book-accepted, handed-sound}
 use Rattle.margin.proofs.LineLaws.{spreads-sound}
 use Rattle.margin.proofs.RecordLaws.{count-is}
 
-opens-set : (ts : List ℕ) (ds : List Delta) (i t : ℕ) (d : Delta) → given.opens (set ts i t) (set ds i d) ≡ set (given.opens ts ds) i (record { tier = t; unused = d .0 })
+opens-set : (ts : List ℕ) (ds : List Delta) (i t : ℕ) (d : Delta) → given.opens (set ts i t) (set ds i d) ≡ set (given.opens ts ds) i
+    (record { tier = t; unused = d .0 })
 opens-set [] ds i t d = refl
 opens-set (x ∷ ts) [] zero t d = refl
 opens-set (x ∷ ts) [] (suc i) t d = refl
@@ -54,7 +55,8 @@ pub record Tiered (lines : List Line) (i : ℕ) (ts : List ℕ) (ds : List Delta
   pub nets : length ds ≡ 32
   pub so-far : take i (given.opens ts ds) ≡ map tierOf (take i lines)
 
-pub tiered-next : (lines : List Line) (i : ℕ) (ts : List ℕ) (ds : List Delta) (t : ℕ) (d : Delta) → Tiered lines i ts ds → i < 32 → i < length lines → record { tier = t; unused = d .0 } ≡ tierOf (getD lines i noLine)
+pub tiered-next : (lines : List Line) (i : ℕ) (ts : List ℕ) (ds : List Delta) (t : ℕ) (d : Delta) → Tiered lines i ts ds → i < 32 → i < length lines
+    → record { tier = t; unused = d .0 } ≡ tierOf (getD lines i noLine)
     → Tiered lines (i + 1) (set ts i t) (set ds i d)
 tiered-next lines i ts ds t d is h l e =
     let n = opens-length ts ds 32 (is .tiers) (is .nets) in
@@ -64,7 +66,8 @@ tiered-next lines i ts ds t d is h l e =
       so-far =
           ap₂ take (add-one i) (opens-set ts ds i t d)
           ∙ take-suc-set (given.opens ts ds) i (record { tier = t; unused = d .0 }) (omega arith)
-          ∙ ap₂ (λ (ps : List Open) (p : Open). ps ++ (p ∷ [])) (is .so-far ∙ map-take tierOf i lines) (e ∙ sym (getD-map tierOf lines i noLine (tierOf noLine) l))
+          ∙ ap₂ (λ (ps : List Open) (p : Open). ps ++ (p ∷ [])) (is .so-far ∙ map-take tierOf i lines)
+          (e ∙ sym (getD-map tierOf lines i noLine (tierOf noLine) l))
           ∙ sym (take-suc (map tierOf lines) i (tierOf noLine) (rw length-map l))
           ∙ ap (λ (k : ℕ). take k (map tierOf lines)) (sym (add-one i))
           ∙ sym (map-take tierOf (i + 1) lines);
@@ -93,12 +96,14 @@ tiered-all lines i count p is e c =
     }
 
 -- the first i contracts' credits stand in the array
-pub earned-next : (i : ℕ) (lines : List Line) (entries : List Record) (f g : List Spreads) (xs : List Amount) (a : Amount) → CreditsOf i lines entries f g xs → i < 16 → a .0 ≡ earns (getD lines i noLine) entries f g → a .0 ≤ mostCredits
+pub earned-next : (i : ℕ) (lines : List Line) (entries : List Record) (f g : List Spreads) (xs : List Amount) (a : Amount)
+    → CreditsOf i lines entries f g xs → i < 16 → a .0 ≡ earns (getD lines i noLine) entries f g → a .0 ≤ mostCredits
     → CreditsOf (i + 1) lines entries f g (set xs i a)
 earned-next i lines entries f g xs a is h e m =
     record {
       places = rw length-set (is .places);
-      each = λ j l. at j l (λ (x : Amount). x .0 ≡ earns (getD lines j noLine) entries f g) (λ q. subst (λ (k : ℕ). a .0 ≡ earns (getD lines k noLine) entries f g) (sym q) e) (is .each j);
+      each = λ j l. at j l (λ (x : Amount). x .0 ≡ earns (getD lines j noLine) entries f g)
+          (λ q. subst (λ (k : ℕ). a .0 ≡ earns (getD lines k noLine) entries f g) (sym q) e) (is .each j);
       most = λ j l. at j l (λ (x : Amount). x .0 ≤ mostCredits) (λ q. m) (is .most j);
     }
   where
@@ -106,11 +111,13 @@ earned-next i lines entries f g xs a is h e m =
     at j l P same before = go (ℕ-discrete j i)
       where
         go : Dec (j ≡ i) → P (getD (set xs i a) j (record { 0 = 0 }))
-        go (yes q) = subst⁻¹ P (ap (λ (k : ℕ). getD (set xs i a) k (record { 0 = 0 })) q ∙ getD-set-same xs i a (record { 0 = 0 }) (omega (arith, is .places))) (same q)
+        go (yes q) = subst⁻¹ P
+            (ap (λ (k : ℕ). getD (set xs i a) k (record { 0 = 0 })) q ∙ getD-set-same xs i a (record { 0 = 0 }) (omega (arith, is .places))) (same q)
         go (no q) = subst⁻¹ P (getD-set-other xs i j a (record { 0 = 0 }) q) (before (omega (arith, q)))
 
 module _ (l : Line) (e : Earner) (entries : List Record) (f g : List Spreads) (is : EarnerOf l e) where
-  pub earner-room : EntriesRoom (l .unit) (l .contract) (l .«twice_price») (natAbs (l .net .0)) entries f g → EntriesRoom (e .unit) (e .contract) (e .«twice_price») (e .net) entries f g
+  pub earner-room : EntriesRoom (l .unit) (l .contract) (l .«twice_price») (natAbs (l .net .0)) entries f g
+      → EntriesRoom (e .unit) (e .contract) (e .«twice_price») (e .net) entries f g
   earner-room h = rw (is .unit-is, is .contract-is, is .price-is, is .net-is) h
 
   pub earner-earns : (r : ℕ) → r ≡ creditsBy (e .unit) (e .contract) (e .«twice_price») (e .net) entries (interleaved f g) → r ≡ earns l entries f g
@@ -120,7 +127,8 @@ module _ (l : Line) (e : Earner) (entries : List Record) (f g : List Spreads) (i
       ∙ ap₂ (λ (t n : ℕ). creditsBy (l .unit) (l .contract) t n entries (interleaved f g)) (is .price-is) (is .net-is)
 
 -- without entries there is nothing to earn
-pub none-earned : (count : ℕ) (lines : List Line) (part : List ℕ) (f g : List Spreads) → length part < 96 → CreditsOf count lines (records part) f g (replicate 16 (record { 0 = 0 }))
+pub none-earned : (count : ℕ) (lines : List Line) (part : List ℕ) (f g : List Spreads) → length part < 96 → CreditsOf count lines (records part) f g
+    (replicate 16 (record { 0 = 0 }))
 none-earned count lines part f g h =
     let e : length part / 96 ≡ 0 = omega arith in
     subst⁻¹ (λ (es : List Record). CreditsOf count lines es f g (replicate 16 (record { 0 = 0 }))) (ap (λ (n : ℕ). cut n part) e)
@@ -133,7 +141,13 @@ none-earned count lines part f g h =
 -- the entries of a table are spreads that the steps accept
 pub entry-accepted : (e : Record) → EntryFit e → given.soundSpread (intercontract e) ≡ true
 entry-accepted e w =
-    rw (lt-ltb (contract e) 16 (le-suc (w .first-number)), lt-ltb (secondContract e) 16 (le-suc (w .second-number)), lt-ltb 0 (firstRatio e) (w .first-ratio), lt-ltb 0 (secondRatio e) (w .second-ratio))
+    rw (
+      lt-ltb (contract e) 16 (le-suc (w .first-number)),
+      lt-ltb (secondContract e) 16 (le-suc (w .second-number)),
+      lt-ltb 0 (firstRatio e)
+          (w .first-ratio),
+      lt-ltb 0 (secondRatio e) (w .second-ratio),
+    )
     (last (eqb (contract e) (secondContract e)))
   where
     le-suc : {n m : ℕ} → n ≤ m → suc n ≤ suc m
@@ -143,13 +157,15 @@ entry-accepted e w =
     last true = refl
     last false = refl
 
-pub table-sound : (count : ℕ) (lines : List Line) (entries : List ℕ) (p : Prompts) (t : Table) → TiersFrom count lines p → TableOf intercontract entries t → TableRoom count lines (records entries) → given.sound p t ≡ true
+pub table-sound : (count : ℕ) (lines : List Line) (entries : List ℕ) (p : Prompts) (t : Table) → TiersFrom count lines p
+    → TableOf intercontract entries t → TableRoom count lines (records entries) → given.sound p t ≡ true
 table-sound count lines entries p t tiers table room =
     handed-sound p t (map tierOf (take count lines)) (map intercontract (records entries)) (tiers .opens-are) (table .spreads-are)
     (omega (arith, tiers .count-is, room .few)) (omega (arith, table .count-is, room .entries-within .few, count-is entries)) (room .tiers-sound)
     (spreads-sound intercontract (records entries) (λ k h. entry-accepted (getD (records entries) k []) (room .entries-within .each k h)))
 
-pub table-book-is : (count : ℕ) (lines : List Line) (entries : List ℕ) (p : Prompts) (t : Table) (b : Book) → TiersFrom count lines p → TableOf intercontract entries t → TableRoom count lines (records entries) → Booked p t b
+pub table-book-is : (count : ℕ) (lines : List Line) (entries : List ℕ) (p : Prompts) (t : Table) (b : Book) → TiersFrom count lines p
+    → TableOf intercontract entries t → TableRoom count lines (records entries) → Booked p t b
     → BookOf (steps (map intercontract (records entries))) (map tierOf (take count lines)) b
 table-book-is count lines entries p t b tiers table room is =
     book-accepted (steps (map intercontract (records entries))) (map tierOf (take count lines)) p t b (tiers .opens-are) (ap steps (table .spreads-are))

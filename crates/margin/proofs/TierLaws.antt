@@ -49,7 +49,8 @@ use Rattle.margin.proofs.StepBounds.{sizes, number-within}
 use Rattle.margin.proofs.TableLaws.{Tiered, tiered-next, tiered-all, entry-accepted}
 
 -- a contract's number and net delta, by what its rows come to
-module _ (account : List Record) (law : Lawful account) (rates : List Record) (own : Record) (w : ranges.ContractWithin own) (c : ℕ) (q : Position) (at : PositionAt rates (unit own) account c q) where
+module _ (account : List Record) (law : Lawful account) (rates : List Record) (own : Record) (w : ranges.ContractWithin own) (c : ℕ) (q : Position)
+    (at : PositionAt rates (unit own) account c q) where
   pub tier-sizes : sum (map natAbs (deltasIn (q .nets))) ≤ mostDelta
   tier-sizes =
       net-sizes rates own (promptsOf c account) (rowsOf c account) (spreadsOf c account) (contract-within account law own c w) q (at .is) (at .most)
@@ -73,7 +74,18 @@ line-tier k l is =
 
 -- a line with a contract's number and net delta alone
 abbrev pub lean : Contract → Line
-lean k = record { contract = contract (k .own); unit = 1; active = 0; scanning = record { 0 = 0 }; interprompt = record { 0 = 0 }; prompt = record { 0 = 0 }; minimum = record { 0 = 0 }; «twice_price» = 0; net = record { 0 = contractNet k } }
+lean k = record {
+  contract = contract (k .own);
+  unit = 1;
+  active = 0;
+  scanning = record { 0 = 0 };
+  interprompt = record { 0 = 0 };
+  prompt =
+      record { 0 = 0 };
+  minimum = record { 0 = 0 };
+  «twice_price» = 0;
+  net = record { 0 = contractNet k };
+}
 
 lean-tiers : (ks : List Contract) → map tierOf (map lean ks) ≡ map asTier ks
 lean-tiers [] = refl
@@ -92,7 +104,8 @@ tier-sound k t z is =
     and-both (ltb (contract (k .own)) 16) (leb (natAbs (contractNet k)) mostDelta) (lt-ltb (contract (k .own)) 16 h)
     (le-leb (natAbs (contractNet k)) mostDelta (subst (λ (x : ℤ). natAbs x ≤ mostDelta) (is .net-is) (is .net-within)))
 
-all-sound : (ks : List Contract) (d : Contract) → ((i : ℕ) → i < length ks → soundPrompt (asTier (getD ks i d)) ≡ true) → every soundPrompt (map asTier ks) ≡ true
+all-sound : (ks : List Contract) (d : Contract) → ((i : ℕ) → i < length ks → soundPrompt (asTier (getD ks i d)) ≡ true)
+    → every soundPrompt (map asTier ks) ≡ true
 all-sound [] d h = refl
 all-sound (k ∷ ks) d h =
     and-both (soundPrompt (asTier k)) (every soundPrompt (map asTier ks)) (h 0 (suc-le-suc zero-le)) (all-sound ks d (λ i l. h (suc i) (suc-le-suc l)))
@@ -100,7 +113,8 @@ all-sound (k ∷ ks) d h =
 pub sound-sizes : (ps : List Open) → every soundPrompt ps ≡ true → sizes ps ≤ length ps * mostDelta
 sound-sizes [] e = zero-le
 sound-sizes (p ∷ ps) e =
-    let a = leb-true (natAbs (p .unused)) mostDelta (and-right (ltb (p .tier) 16) (leb (natAbs (p .unused)) mostDelta) (and-left (soundPrompt p) (every soundPrompt ps) e)) in
+    let a = leb-true (natAbs (p .unused)) mostDelta
+    (and-right (ltb (p .tier) 16) (leb (natAbs (p .unused)) mostDelta) (and-left (soundPrompt p) (every soundPrompt ps) e)) in
     let r = sound-sizes ps (and-right (soundPrompt p) (every soundPrompt ps) e) in
     omega arith
 
@@ -126,7 +140,8 @@ module _ (account : List Record) where
   pub tiers-next : (i : ℕ) (ts : List ℕ) (ds : List Delta) (t : ℕ) (d : Delta) → TieredTo account i ts ds → i < 16 → i < length (contractsOf account)
       → TierIs (partsIn account (getD (contractsOf account) i [])) t (d .0) → TieredTo account (i + 1) (set ts i t) (set ds i d)
   tiers-next i ts ds t d is few h tier =
-      let here : TierIs (getD ks i kd) t (d .0) = subst⁻¹ (λ (k : Contract). TierIs k t (d .0)) (getD-map (partsIn account) (contractsOf account) i [] kd h) tier in
+      let here : TierIs (getD ks i kd) t (d .0) = subst⁻¹ (λ (k : Contract). TierIs k t (d .0))
+      (getD-map (partsIn account) (contractsOf account) i [] kd h) tier in
       let l : i < length ks = omega (arith, ks-length) in
       record {
         tiered =

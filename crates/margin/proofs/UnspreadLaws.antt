@@ -33,16 +33,21 @@ all-unused [] (d ∷ ds) (suc n) e h =
 all-unused (r ∷ rs) (d ∷ ds) (suc n) e h =
     ap (λ (xs : List Delta). d ∷ xs) (all-unused rs ds n (omega arith) (λ j l. h (suc j) (suc-le-suc l)))
 
-pub unspread : (rs : List Record) (part : List ℕ) (nets : List Delta) (b : Book) → length part < 96 → length nets ≡ 32 → ((j : ℕ) → length rs ≤ j → getD (deltasIn nets) j (pos 0) ≡ pos 0)
-    → b .first ≡ replicate 32 (record { 0 = 0 }) → b .second ≡ replicate 32 (record { 0 = 0 }) → b .used ≡ replicate 32 (record { 0 = pos 0 }) → b .unused ≡ nets
+pub unspread : (rs : List Record) (part : List ℕ) (nets : List Delta) (b : Book) → length part < 96 → length nets ≡ 32
+    → ((j : ℕ) → length rs ≤ j → getD (deltasIn nets) j (pos 0) ≡ pos 0)
+    → b .first ≡ replicate 32 (record { 0 = 0 }) → b .second ≡ replicate 32 (record { 0 = 0 }) → b .used ≡ replicate 32 (record { 0 = pos 0 })
+    → b .unused ≡ nets
     → BookOf (steps (map interprompt (records part))) (opens rs (deltasIn nets)) b
 unspread rs part nets b short len beyond f s u v =
     let e : length part / 96 ≡ 0 = omega arith in
     let ps = opens rs (deltasIn nets) in
     subst⁻¹ (λ (es : List Record). BookOf (steps (map interprompt es)) ps b) (ap (λ (n : ℕ). cut n part) e)
     (record {
-      first-is = f ∙ filled-all (record { 0 = 0 }) (λ k. spreadsEntry [] (2 * k)) 0 _ (filled-none (record { 0 = 0 }) (λ k. spreadsEntry [] (2 * k))) (λ k l. refl);
-      second-is = s ∙ filled-all (record { 0 = 0 }) (λ k. spreadsEntry [] (2 * k + 1)) 0 _ (filled-none (record { 0 = 0 }) (λ k. spreadsEntry [] (2 * k + 1))) (λ k l. refl);
-      used-is = u ∙ filled-all (record { 0 = pos 0 }) (deltaEntry (usedOf [] ps)) 0 _ (filled-none (record { 0 = pos 0 }) (deltaEntry (usedOf [] ps))) (λ k l i. record { 0 = none-used (map (λ p. p .unused) ps) k i });
+      first-is = f ∙ filled-all (record { 0 = 0 }) (λ k. spreadsEntry [] (2 * k)) 0 _ (filled-none (record { 0 = 0 }) (λ k. spreadsEntry [] (2 * k)))
+          (λ k l. refl);
+      second-is = s ∙ filled-all (record { 0 = 0 }) (λ k. spreadsEntry [] (2 * k + 1)) 0 _
+          (filled-none (record { 0 = 0 }) (λ k. spreadsEntry [] (2 * k + 1))) (λ k l. refl);
+      used-is = u ∙ filled-all (record { 0 = pos 0 }) (deltaEntry (usedOf [] ps)) 0 _ (filled-none (record { 0 = pos 0 }) (deltaEntry (usedOf [] ps)))
+          (λ k l i. record { 0 = none-used (map (λ p. p .unused) ps) k i });
       unused-is = v ∙ all-unused rs nets 32 len beyond;
     })

@@ -63,7 +63,8 @@ module _ (p : Prompts) (s : Spread) (second : Bool) (r : Step) (is : Stepped p s
 
   pub taken-is : length (p .tier) ≡ 32 → length (p .net) ≡ 32 → p .count ≤ 32 → take (p .count) (deltasIn (r .taken)) ≡ takenOf (stepOf second s) (openOf p)
   taken-is lt ln few =
-      ap (λ (ds : List Delta). take (p .count) (deltasIn ds)) (is .taken ∙ ap (λ (b : Bool). entries 32 (deltaEntry (cond b (takenOf (stepOf second s) (openOf p)) []))) e)
+      ap (λ (ds : List Delta). take (p .count) (deltasIn ds))
+      (is .taken ∙ ap (λ (b : Bool). entries 32 (deltaEntry (cond b (takenOf (stepOf second s) (openOf p)) []))) e)
       ∙ take-deltas (takenOf (stepOf second s) (openOf p)) (p .count) 32 (used-length (stepOf second s ∷ []) (openOf p) ∙ open-length p lt ln few) few
 
 -- ---- all steps: what is written and what the steps still to come take are the whole
@@ -99,7 +100,8 @@ module _ (t : Table) (len : length (t .spread) ≡ 32) (ok : soundTable t ≡ tr
       subst (λ (s : Spread). soundSpread s ≡ true) (spread-here i d h)
       (every-at soundSpread (spreadsOf t) i d (and-right (leb (t .count) 32) (every soundSpread (spreadsOf t)) ok) (omega (arith, spreads-there)))
 
-  module _ (n : ℕ) (all : List ℤ) (i at : ℕ) (left between rest : Prompts) (out out₁ out₂ : List ℤ) (d : Spread) (is : Putting n t all i at left out) (h : i < t .count) where
+  module _ (n : ℕ) (all : List ℤ) (i at : ℕ) (left between rest : Prompts) (out out₁ out₂ : List ℤ) (d : Spread) (is : Putting n t all i at left out)
+      (h : i < t .count) where
     abbrev s : Spread
     s = getD (t .spread) i d
 
@@ -147,8 +149,10 @@ module _ (t : Table) (len : length (t .spread) ≡ 32) (ok : soundTable t ≡ tr
         to-come : x ++ (y ++ z) ≡ usesOf (steps (drop i (spreadsOf t))) (openOf left)
         to-come =
             ap₂ (λ (l : List Open) (k : ℕ). x ++ (y ++ usesOf (steps (drop k (spreadsOf t))) l)) (b .opens) (add-one i)
-            ∙ ap (λ (l : List Open). x ++ (takenOf (stepOf true s) l ++ usesOf (steps (drop (suc i) (spreadsOf t))) (after (stepOf true s) (formed (stepOf true s) l) l))) (a .opens)
-            ∙ ap (λ (l : List Spread). usesOf (steps l) (openOf left)) (sym (drop-cons (spreadsOf t) i d (omega (arith, spreads-there)) ∙ ap (λ (u : Spread). u ∷ drop (suc i) (spreadsOf t)) (spread-here i d h)))
+            ∙ ap (λ (l : List Open). x ++
+            (takenOf (stepOf true s) l ++ usesOf (steps (drop (suc i) (spreadsOf t))) (after (stepOf true s) (formed (stepOf true s) l) l))) (a .opens)
+            ∙ ap (λ (l : List Spread). usesOf (steps l) (openOf left))
+            (sym (drop-cons (spreadsOf t) i d (omega (arith, spreads-there)) ∙ ap (λ (u : Spread). u ∷ drop (suc i) (spreadsOf t)) (spread-here i d h)))
 
         written : sets out₂ (at + 2 * n) z ≡ sets out at (usesOf (steps (drop i (spreadsOf t))) (openOf left))
         written =
@@ -178,12 +182,21 @@ module _ (t : Table) (len : length (t .spread) ≡ 32) (ok : soundTable t ≡ tr
       ap (λ (l : List Spread). sets out at (usesOf (steps l) (openOf left))) (sym (drop-of-length-le (spreadsOf t) past)) ∙ is .whole
 
 -- nothing is written yet
-pub put-none : (p : Prompts) (t : Table) (out : List ℤ) → length (p .tier) ≡ 32 → length (p .net) ≡ 32 → sound p t ≡ true → t .count * (2 * p .count) ≤ length out
+pub put-none : (p : Prompts) (t : Table) (out : List ℤ) → length (p .tier) ≡ 32 → length (p .net) ≡ 32 → sound p t ≡ true
+    → t .count * (2 * p .count) ≤ length out
     → Putting (p .count) t (sets out 0 (usesOf (steps (spreadsOf t)) (openOf p))) 0 0 p out
 put-none p t out lt ln ok h =
     let a = and-left (soundPrompts p) (soundTable t) ok in
     let none : t .count - 0 ≡ t .count = omega arith in
-    record { whole = refl; sound = a; count = refl; room = omega (arith, h, ap (λ (k : ℕ). k * (2 * p .count)) none); within = omega arith; long = open-length p lt ln (few p a) }
+    record {
+      whole = refl;
+      sound = a;
+      count = refl;
+      room = omega (arith, h, ap (λ (k : ℕ). k * (2 * p .count)) none);
+      within = omega arith;
+      long =
+          open-length p lt ln (few p a);
+    }
 
 -- ---- what a question asks about
 
@@ -203,7 +216,8 @@ spread-uses spreads ps =
     ∙ mul-assoc (length spreads) 2 (length ps)
 
 -- the steps of a table over prompts
-pub asks : (p : Prompts) (t : Table) (ps : List Open) (spreads : List Spread) → openOf p ≡ ps → spreadsOf t ≡ spreads → sound p t ≡ true → p .count ≡ length ps → t .count ≡ length spreads
+pub asks : (p : Prompts) (t : Table) (ps : List Open) (spreads : List Spread) → openOf p ≡ ps → spreadsOf t ≡ spreads → sound p t ≡ true
+    → p .count ≡ length ps → t .count ≡ length spreads
     → Asks (steps spreads) ps (record { prompts = p; table = t })
 asks p t ps spreads eo es ok np nt =
     record {
@@ -215,14 +229,16 @@ asks p t ps spreads eo es ok np nt =
 
 pub contract-asks : (prompts spreads : List ℕ) (q : Position) → BookFit (records prompts) (records spreads) q
     → (p : Prompts) (t : Table) → TiersOf prompts (q .nets) p → TableOf interprompt spreads t
-    → Asks (stepsOf (contractWith [] (records prompts) (records spreads) q)) (opensOf (contractWith [] (records prompts) (records spreads) q)) (record { prompts = p; table = t })
+    → Asks (stepsOf (contractWith [] (records prompts) (records spreads) q)) (opensOf (contractWith [] (records prompts) (records spreads) q))
+    (record { prompts = p; table = t })
 contract-asks prompts spreads q w p t tiers table =
     let ps = records prompts in
     let f = w .fits in
     let room = book-room (f .rates) (w .own) ps (f .rows) (records spreads) (f .fit) q (f .is) (f .most) in
     let same = opens-first ps (deltasIn (q .nets)) in
     let few : length (take (length ps) (deltasIn (q .nets))) ≡ length ps = ap length (f .is .nets-are) ∙ length-map ps _ in
-    asks p t (opens ps (take (length ps) (deltasIn (q .nets)))) (map interprompt (records spreads)) (opens-are prompts (q .nets) p tiers ∙ same) (table .spreads-are)
+    asks p t (opens ps (take (length ps) (deltasIn (q .nets)))) (map interprompt (records spreads)) (opens-are prompts (q .nets) p tiers ∙ same)
+    (table .spreads-are)
     (contract-sound prompts spreads (q .nets) p t tiers table room)
     (tiers .count-is ∙ sym (count-is prompts) ∙ sym (opens-length ps (take (length ps) (deltasIn (q .nets))) few))
     (table .count-is ∙ sym (count-is spreads) ∙ sym (length-map (records spreads) interprompt))
@@ -242,6 +258,7 @@ pub uses-by-steps : (account : List Record) → Lawful account → (question : �
 uses-by-steps account law question a = go (eqb question 16) refl
   where
     go : (t : Bool) → eqb question 16 ≡ t → uses account question ≡ usesOf
-        (cond t (tableSteps (entriesOf account)) (stepsOf (partsOf account question))) (cond t (map asTier (contracts account)) (opensOf (partsOf account question)))
+        (cond t (tableSteps (entriesOf account)) (stepsOf (partsOf account question)))
+        (cond t (map asTier (contracts account)) (opensOf (partsOf account question)))
     go true e = table-asked account law contractUses tableUses (λ own. refl) question (eqb-true question 16 e)
     go false e = contract-asked account law contractUses tableUses (λ own. refl) question a (eqb-false question 16 e)

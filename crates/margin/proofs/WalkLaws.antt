@@ -24,7 +24,9 @@ passed-row rows i row h e =
     ap (λ (r : Record). take i rows ++ r ∷ []) (sym e) ∙ sym (take-suc rows i [] h) ∙ ap (λ (m : ℕ). take m rows) (sym (add-one i))
 
 -- the net deltas with it, and that there is room for it
-pub nets-next : (rows : List Record) (count : ℕ) (days : List ℕ) (i : ℕ) (ns ms ms′ : List ℤ) (row : Record) → i < length rows → getD rows i [] ≡ row → Added count (λ j. netOn (take i rows) (getD days j 0)) ns ms → Added count (addsOn days (day row) (rowDelta row)) ms ms′ → Added count (λ j. netOn (take (i + 1) rows) (getD days j 0)) ns ms′
+pub nets-next : (rows : List Record) (count : ℕ) (days : List ℕ) (i : ℕ) (ns ms ms′ : List ℤ) (row : Record) → i < length rows → getD rows i [] ≡ row
+    → Added count (λ j. netOn (take i rows) (getD days j 0)) ns ms → Added count (addsOn days (day row) (rowDelta row)) ms ms′
+    → Added count (λ j. netOn (take (i + 1) rows) (getD days j 0)) ns ms′
 nets-next rows count days i ns ms ms′ row h e =
     twice count (λ j. netOn (take i rows) (getD days j 0)) (addsOn days (day row) (rowDelta row)) (λ j. netOn (take (i + 1) rows) (getD days j 0)) ns ms ms′
     (λ j l.
@@ -32,7 +34,8 @@ nets-next rows count days i ns ms ms′ row h e =
     ∙ sym (net-append (take i rows) (row ∷ []) (getD days j 0))
     ∙ ap (λ (rs : List Record). netOn rs (getD days j 0)) (passed-row rows i row h e))
 
-pub nets-room : (rows : List Record) (count : ℕ) (days : List ℕ) (ns : List ℤ) → RowsFit rows → AtMost 32 ((128 - length rows) * 1000000000) ns → (i n : ℕ) (ms : List ℤ) → Added count (λ j. netOn (take i rows) (getD days j 0)) ns ms → 128 - length rows + i ≤ n → AtMost 32 (n * 1000000000) ms
+pub nets-room : (rows : List Record) (count : ℕ) (days : List ℕ) (ns : List ℤ) → RowsFit rows → AtMost 32 ((128 - length rows) * 1000000000) ns
+    → (i n : ℕ) (ms : List ℤ) → Added count (λ j. netOn (take i rows) (getD days j 0)) ns ms → 128 - length rows + i ≤ n → AtMost 32 (n * 1000000000) ms
 nets-room rows count days ns w most i n ms a h =
     let few : length (take i rows) ≤ i = omega (arith, length-take i rows) in
     at-most-wider 32 ((128 - length rows) * 1000000000 + length (take i rows) * 1000000000) (n * 1000000000) ms (omega arith)
@@ -40,7 +43,8 @@ nets-room rows count days ns w most i n ms a h =
     most a (λ j l. net-most (take i rows) (each-take RowFit rows i (w .each)) (getD days j 0)))
 
 -- totals us, nets ms and short lots v are ts, ns and u with the first i rows
-pub record SoFar (rates : List Record) (unit : ℕ) (rows : List Record) (count : ℕ) (days : List ℕ) (ts ns : List ℤ) (u i : ℕ) (us ms : List ℤ) (v : ℕ) : Type 0 where
+pub record SoFar (rates : List Record) (unit : ℕ) (rows : List Record) (count : ℕ) (days : List ℕ) (ts ns : List ℤ) (u i : ℕ) (us ms : List ℤ)
+    (v : ℕ) : Type 0 where
   pub passed : i ≤ length rows
   pub totals-so-far : Added 16 (λ k. total rates unit (take i rows) (k + 1)) ts us
   pub nets-so-far : Added count (λ j. netOn (take i rows) (getD days j 0)) ns ms
@@ -56,7 +60,9 @@ module _ (rates : List Record) (unit : ℕ) (rows : List Record) (count : ℕ) (
         shorts-so-far = omega arith;
       }
 
-  pub next : (i : ℕ) (us ms us′ ms′ : List ℤ) (v v′ : ℕ) (row : Record) → SoFar rates unit rows count days ts ns u i us ms v → i < length rows → getD rows i [] ≡ row → Added 16 (products rates unit row) us us′ → Added count (addsOn days (day row) (rowDelta row)) ms ms′ → v′ ≡ v + shortOptions row → SoFar rates unit rows count days ts ns u (i + 1) us′ ms′ v′
+  pub next : (i : ℕ) (us ms us′ ms′ : List ℤ) (v v′ : ℕ) (row : Record) → SoFar rates unit rows count days ts ns u i us ms v → i < length rows
+      → getD rows i [] ≡ row → Added 16 (products rates unit row) us us′ → Added count (addsOn days (day row) (rowDelta row)) ms ms′
+      → v′ ≡ v + shortOptions row → SoFar rates unit rows count days ts ns u (i + 1) us′ ms′ v′
   next i us ms us′ ms′ v v′ row s h e t n o =
       let passed = passed-row rows i row h e in
       record {
@@ -81,7 +87,8 @@ pub record Most (n : ℕ) (us ms : List ℤ) (v : ℕ) : Type 0 where
   pub nets-most : AtMost 32 (n * 1000000000) ms
   pub shorts-most : v ≤ n * 100000
 
-module _ (rates : List Record) (unit : ℕ) (hu : unit ≤ 1000) (rows : List Record) (count : ℕ) (days : List ℕ) (ts ns : List ℤ) (u : ℕ) (w : RowsFit rows) (rated : Rated rates rows) (m : Most (128 - length rows) ts ns u) where
+module _ (rates : List Record) (unit : ℕ) (hu : unit ≤ 1000) (rows : List Record) (count : ℕ) (days : List ℕ) (ts ns : List ℤ) (u : ℕ)
+    (w : RowsFit rows) (rated : Rated rates rows) (m : Most (128 - length rows) ts ns u) where
   -- room for what n rows in all can come to
   pub room : (i n : ℕ) (us ms : List ℤ) (v : ℕ) → SoFar rates unit rows count days ts ns u i us ms v → 128 - length rows + i ≤ n → Most n us ms v
   room i n us ms v s h =
@@ -98,7 +105,10 @@ module _ (rates : List Record) (unit : ℕ) (hu : unit ≤ 1000) (rows : List Re
       }
 
 -- all rows
-pub finish : (rates : List Record) (unit : ℕ) (rows : List Record) (count : ℕ) (days : List ℕ) (ts ns : List ℤ) (u i : ℕ) (us ms : List ℤ) (v : ℕ) → length rows ≤ i → SoFar rates unit rows count days ts ns u i us ms v → (Added 16 (λ k. total rates unit rows (k + 1)) ts us) × ((Added count (λ j. netOn rows (getD days j 0)) ns ms) × (v ≡ u + shortLots rows))
+pub finish : (rates : List Record) (unit : ℕ) (rows : List Record) (count : ℕ) (days : List ℕ) (ts ns : List ℤ) (u i : ℕ) (us ms : List ℤ) (v : ℕ)
+    → length rows ≤ i → SoFar rates unit rows count days ts ns u i us ms v → (Added 16 (λ k. total rates unit rows (k + 1)) ts us)
+    × ((Added count (λ j. netOn rows (getD days j 0)) ns ms) × (v ≡ u + shortLots rows))
 finish rates unit rows count days ts ns u i us ms v h s =
-    subst (λ (rs : List Record). (Added 16 (λ k. total rates unit rs (k + 1)) ts us) × ((Added count (λ j. netOn rs (getD days j 0)) ns ms) × (v ≡ u + shortLots rs)))
+    subst (λ (rs : List Record). (Added 16 (λ k. total rates unit rs (k + 1)) ts us)
+    × ((Added count (λ j. netOn rs (getD days j 0)) ns ms) × (v ≡ u + shortLots rs)))
     (take-all i rows h) (s .totals-so-far, (s .nets-so-far, s .shorts-so-far))

@@ -16,7 +16,8 @@ use Rattle.account.specs.Notes.{part}
 use Rattle.account.specs.Parts.{contractsOf, entriesOf}
 use Rattle.spread.specs.Steps.{Open, Taker, numbers, usedOf, unusedOf}
 use Rattle.spread.specs.Touches.{touches}
-use Rattle.margin.specs.Contract.{Contract, contracts, partsIn, contractNet, asTier, numbersOf, usedDeltas, unusedDeltas, contractTouches, tableSteps, tableTouches}
+use Rattle.margin.specs.Contract.{Contract, contracts, partsIn, contractNet, asTier, numbersOf, usedDeltas, unusedDeltas, contractTouches}
+use Rattle.margin.specs.Contract.{tableSteps, tableTouches}
 
 -- net, used and unused of each
 abbrev pub threes : List ℤ → List ℤ → List ℤ → List ℤ

@@ -56,7 +56,8 @@ earns l entries firsts seconds = creditsBy (l .unit) (l .contract) (l .«twice_p
 
 pub record CreditsRoom (count : ℕ) (lines : List Line) (entries : List Record) (firsts seconds : List Spreads) : Type 0 where
   pub few : count ≤ mostContracts
-  pub each : (i : ℕ) → i < count → EntriesRoom (getD lines i noLine .unit) (getD lines i noLine .contract) (getD lines i noLine .«twice_price») (natAbs (getD lines i noLine .net .0)) entries firsts seconds
+  pub each : (i : ℕ) → i < count → EntriesRoom (getD lines i noLine .unit) (getD lines i noLine .contract) (getD lines i noLine .«twice_price»)
+      (natAbs (getD lines i noLine .net .0)) entries firsts seconds
 
 pub record CreditsOf (count : ℕ) (lines : List Line) (entries : List Record) (firsts seconds : List Spreads) (earned : List Amount) : Type 0 where
   pub places : length earned ≡ 16

@@ -5,7 +5,8 @@ use mathlib.Core.Path.{_≡_}
 use mathlib.Core.Bool.{true}
 use mathlib.Core.List.{List, []}
 use lib.ListN.{length, getD}
-use Rattle.record.specs.Layout.{Record, contract, shortOptionRate, unit, mostUnit, tier, spreadRate, outrightRate, ratePerSpread, secondContract, percent, firstRatio, secondRatio, mostContract, mostRate, mostPercent}
+use Rattle.record.specs.Layout.{Record, contract, shortOptionRate, unit, mostUnit, tier, spreadRate, outrightRate, ratePerSpread, secondContract}
+use Rattle.record.specs.Layout.{percent, firstRatio, secondRatio, mostContract, mostRate, mostPercent}
 use Rattle.record.specs.Within.{Between}
 use Rattle.account.specs.Check.{mostPrompts, mostSpreads, mostEntries}
 use Rattle.spread.specs.Accepted.{soundSpread}

@@ -33,7 +33,8 @@ pub(crate) fn prompt_charge(
     spread_rate: u64,
     outright_rate: u64,
 ) -> Amount
-    requires { ⌜ (natAbs (used .0) ≤ mostDelta) × (natAbs (unused .0) ≤ mostDelta) × («spread_rate» ≤ mostRate) × («outright_rate» ≤ mostRate) × (unit ≤ mostUnit) ⌝ }
+    requires { ⌜ (natAbs (used .0) ≤ mostDelta) × (natAbs (unused .0) ≤ mostDelta) × («spread_rate» ≤ mostRate) × («outright_rate» ≤ mostRate)
+        × (unit ≤ mostUnit) ⌝ }
     ensures { λ r. ⌜ (r .0 ≡ promptCharge unit «spread_rate» «outright_rate» (used .0) (unused .0)) × (r .0 ≤ mostCharge) ⌝ }
 {
     Amount(half_up_to(

@@ -59,7 +59,18 @@ ghost use Rattle.margin.specs.Lined.{TiersIn, PositionAt};
 ghost use Rattle.margin.specs.Positions.{Told, Known, ToldOf};
 ghost use Rattle.margin.specs.Promised.{BookFit};
 ghost use Rattle.margin.specs.Questions.{answerOver, afterOver, needOver, mostFor, SizesOf, Holds, AskedBy};
-ghost use Rattle.margin.specs.Places.{questions, atPlace, lentPlace, ContractLent, ContractsLent, questionOf, widthOf, allOver, afterAllOver, EverythingOf};
+ghost use Rattle.margin.specs.Places.{
+  questions,
+  atPlace,
+  lentPlace,
+  ContractLent,
+  ContractsLent,
+  questionOf,
+  widthOf,
+  allOver,
+  afterAllOver,
+  EverythingOf,
+};
 ghost use Rattle.margin.specs.declared.asking.Question.{Question};
 ghost use Rattle.margin.specs.declared.asking.Question.the-variants.{Figures, Book, Uses};
 
@@ -82,7 +93,8 @@ pub const ALL_USES: usize = LONGEST_USES * QUESTIONS;
 // The numbers of an answer at the front of `out`, for an account of so many records. A refusal writes nothing.
 fn put_numbers(records: usize, numbers: Numbers, out: &mut [i64]) -> Answer
     requires { ⌜ numbers .count ≤ longestBook ⌝ }
-    ensures { λ r. ⌜ ((whole : List Record) (question : Question) → Holds whole question records numbers → (r ≡ answerOver whole question (length (now (out .entry)))) × (now (out .exit) ≡ afterOver whole question (now (out .entry)))) ⌝ }
+    ensures { λ r. ⌜ ((whole : List Record) (question : Question) → Holds whole question records numbers
+        → (r ≡ answerOver whole question (length (now (out .entry)))) × (now (out .exit) ≡ afterOver whole question (now (out .entry)))) ⌝ }
 {
     if out.len() < numbers.count {
         return Answer::TooFewNumbers(records);
@@ -94,7 +106,9 @@ fn put_numbers(records: usize, numbers: Numbers, out: &mut [i64]) -> Answer
 // What each step takes of each prompt, at the front of `out`, likewise.
 fn answer_uses(records: usize, asking: Asking, out: &mut [i64]) -> Answer
     requires { ⌜ sound (asking .prompts) (asking .table) ≡ true ⌝ }
-    ensures { λ r. ⌜ ((whole : List Record) (question : ℕ) → AskedBy whole question records asking → (r ≡ answerOver whole (Uses question) (length (now (out .entry)))) × (now (out .exit) ≡ afterOver whole (Uses question) (now (out .entry)))) ⌝ }
+    ensures { λ r. ⌜
+        ((whole : List Record) (question : ℕ) → AskedBy whole question records asking
+        → (r ≡ answerOver whole (Uses question) (length (now (out .entry)))) × (now (out .exit) ≡ afterOver whole (Uses question) (now (out .entry)))) ⌝ }
 {
     let prompts = asking.prompts;
     let table = asking.table;
@@ -108,7 +122,10 @@ fn answer_uses(records: usize, asking: Asking, out: &mut [i64]) -> Answer
 // A question's book, or who paid for what in it, by what it asks about.
 fn answer_asking(records: usize, asking: Asking, paid: bool, out: &mut [i64]) -> Answer
     requires { ⌜ sound (asking .prompts) (asking .table) ≡ true ⌝ }
-    ensures { λ r. ⌜ ((whole : List Record) (question : ℕ) → AskedBy whole question records asking → (r ≡ answerOver whole (questionOf paid question) (length (now (out .entry)))) × (now (out .exit) ≡ afterOver whole (questionOf paid question) (now (out .entry)))) ⌝ }
+    ensures { λ r. ⌜
+        ((whole : List Record) (question : ℕ) → AskedBy whole question records asking
+        → (r ≡ answerOver whole (questionOf paid question) (length (now (out .entry))))
+        × (now (out .exit) ≡ afterOver whole (questionOf paid question) (now (out .entry)))) ⌝ }
 {
     if paid {
         return answer_uses(records, asking, out);
@@ -123,7 +140,8 @@ fn answer_figures<'a>(
     out: &mut [i64],
 ) -> Answer
     requires { ⌜ Stands (now morning) (now noon) account ⌝ }
-    ensures { λ r. ⌜ (r ≡ answerOver (accountOf (now (morning .entry)) (now (noon .entry))) Figures (length (now (out .entry)))) × (now (out .exit) ≡ afterOver (accountOf (now (morning .entry)) (now (noon .entry))) Figures (now (out .entry))) ⌝ }
+    ensures { λ r. ⌜ (r ≡ answerOver (accountOf (now (morning .entry)) (now (noon .entry))) Figures (length (now (out .entry))))
+        × (now (out .exit) ≡ afterOver (accountOf (now (morning .entry)) (now (noon .entry))) Figures (now (out .entry))) ⌝ }
 {
     let numbers = figures_over(morning, noon, account);
     put_numbers(record_total(account), numbers, out)
@@ -138,7 +156,8 @@ fn answer_question<'a>(
     out: &mut [i64],
 ) -> Answer
     requires { ⌜ Stands (now morning) (now noon) account ⌝ }
-    ensures { λ r. ⌜ (r ≡ answerOver (accountOf (now (morning .entry)) (now (noon .entry))) (questionOf paid question) (length (now (out .entry)))) × (now (out .exit) ≡ afterOver (accountOf (now (morning .entry)) (now (noon .entry))) (questionOf paid question) (now (out .entry))) ⌝ }
+    ensures { λ r. ⌜ (r ≡ answerOver (accountOf (now (morning .entry)) (now (noon .entry))) (questionOf paid question) (length (now (out .entry))))
+        × (now (out .exit) ≡ afterOver (accountOf (now (morning .entry)) (now (noon .entry))) (questionOf paid question) (now (out .entry))) ⌝ }
 {
     if !is_asked(account, question) {
         return Answer::NoSuchQuestion(record_total(account));
@@ -156,7 +175,8 @@ pub fn answer_over<'a>(
     out: &mut [i64],
 ) -> Answer
     requires { ⌜ Stands (now morning) (now noon) account ⌝ }
-    ensures { λ r. ⌜ (r ≡ answerOver (accountOf (now (morning .entry)) (now (noon .entry))) question (length (now (out .entry)))) × (now (out .exit) ≡ afterOver (accountOf (now (morning .entry)) (now (noon .entry))) question (now (out .entry))) ⌝ }
+    ensures { λ r. ⌜ (r ≡ answerOver (accountOf (now (morning .entry)) (now (noon .entry))) question (length (now (out .entry))))
+        × (now (out .exit) ≡ afterOver (accountOf (now (morning .entry)) (now (noon .entry))) question (now (out .entry))) ⌝ }
 {
     match question {
         Question::Figures => answer_figures(morning, noon, account, out),
@@ -173,7 +193,8 @@ fn figures_answer<'a>(
     out: &mut [i64],
 ) -> Answer
     requires { ⌜ Stands (now morning) (now noon) account × Known (accountOf (now morning) (now noon)) positions ⌝ }
-    ensures { λ r. ⌜ ((whole : List Record) → Told (accountOf (now (morning .entry)) (now (noon .entry))) positions whole → (r ≡ answerOver whole Figures (length (now (out .entry)))) × (now (out .exit) ≡ afterOver whole Figures (now (out .entry)))) ⌝ }
+    ensures { λ r. ⌜ ((whole : List Record) → Told (accountOf (now (morning .entry)) (now (noon .entry))) positions whole
+        → (r ≡ answerOver whole Figures (length (now (out .entry)))) × (now (out .exit) ≡ afterOver whole Figures (now (out .entry)))) ⌝ }
 {
     let numbers = figures_from(morning, noon, account, positions);
     put_numbers(positions.records, numbers, out)
@@ -189,7 +210,9 @@ fn question_answer<'a>(
     out: &mut [i64],
 ) -> Answer
     requires { ⌜ Stands (now morning) (now noon) account × Known (accountOf (now morning) (now noon)) positions ⌝ }
-    ensures { λ r. ⌜ ((whole : List Record) → Told (accountOf (now (morning .entry)) (now (noon .entry))) positions whole → (r ≡ answerOver whole (questionOf paid question) (length (now (out .entry)))) × (now (out .exit) ≡ afterOver whole (questionOf paid question) (now (out .entry)))) ⌝ }
+    ensures { λ r. ⌜ ((whole : List Record) → Told (accountOf (now (morning .entry)) (now (noon .entry))) positions whole
+        → (r ≡ answerOver whole (questionOf paid question) (length (now (out .entry))))
+        × (now (out .exit) ≡ afterOver whole (questionOf paid question) (now (out .entry)))) ⌝ }
 {
     if !is_asked(account, question) {
         return Answer::NoSuchQuestion(positions.records);
@@ -208,7 +231,8 @@ pub fn answer_from<'a>(
     out: &mut [i64],
 ) -> Answer
     requires { ⌜ Stands (now morning) (now noon) account × Known (accountOf (now morning) (now noon)) positions ⌝ }
-    ensures { λ r. ⌜ ((whole : List Record) → Told (accountOf (now (morning .entry)) (now (noon .entry))) positions whole → (r ≡ answerOver whole question (length (now (out .entry)))) × (now (out .exit) ≡ afterOver whole question (now (out .entry)))) ⌝ }
+    ensures { λ r. ⌜ ((whole : List Record) → Told (accountOf (now (morning .entry)) (now (noon .entry))) positions whole
+        → (r ≡ answerOver whole question (length (now (out .entry)))) × (now (out .exit) ≡ afterOver whole question (now (out .entry)))) ⌝ }
 {
     match question {
         Question::Figures => figures_answer(morning, noon, account, positions, out),
@@ -306,8 +330,11 @@ fn answer_contract<'a>(
     p: Position,
     out: &mut [i64],
 ) -> Answer
-    requires { ⌜ Stands (now morning) (now noon) account × ((c ≤ mostContract) × BookFit (promptsOf c (accountOf (now morning) (now noon))) (spreadsOf c (accountOf (now morning) (now noon))) p) ⌝ }
-    ensures { λ r. ⌜ ((whole : List Record) → ToldOf (accountOf (now (morning .entry)) (now (noon .entry))) records c p whole → (r ≡ answerOver whole (questionOf paid c) (length (now (out .entry)))) × (now (out .exit) ≡ afterOver whole (questionOf paid c) (now (out .entry)))) ⌝ }
+    requires { ⌜ Stands (now morning) (now noon) account
+        × ((c ≤ mostContract) × BookFit (promptsOf c (accountOf (now morning) (now noon))) (spreadsOf c (accountOf (now morning) (now noon))) p) ⌝ }
+    ensures { λ r. ⌜ ((whole : List Record) → ToldOf (accountOf (now (morning .entry)) (now (noon .entry))) records c p whole
+        → (r ≡ answerOver whole (questionOf paid c) (length (now (out .entry))))
+        × (now (out .exit) ≡ afterOver whole (questionOf paid c) (now (out .entry)))) ⌝ }
 {
     if !is_asked(account, c) {
         return Answer::NoSuchQuestion(records);
@@ -327,8 +354,12 @@ fn place_contract<'a>(
     p: Position,
     out: &mut [i64],
 )
-    requires { ⌜ Stands (now morning) (now noon) account × ((c ≤ mostContract) × (BookFit (promptsOf c (accountOf (now morning) (now noon))) (spreadsOf c (accountOf (now morning) (now noon))) p × (widthOf paid * c + widthOf paid ≤ length (now out)))) ⌝ }
-    ensures { λ r. ⌜ ((whole : List Record) → ToldOf (accountOf (now (morning .entry)) (now (noon .entry))) records c p whole → now (out .exit) ≡ atPlace (widthOf paid) (widthOf paid * c) (afterOver whole (questionOf paid c)) (now (out .entry))) ⌝ }
+    requires { ⌜ Stands (now morning) (now noon) account
+        × ((c ≤ mostContract)
+        × (BookFit (promptsOf c (accountOf (now morning) (now noon))) (spreadsOf c (accountOf (now morning) (now noon))) p
+        × (widthOf paid * c + widthOf paid ≤ length (now out)))) ⌝ }
+    ensures { λ r. ⌜ ((whole : List Record) → ToldOf (accountOf (now (morning .entry)) (now (noon .entry))) records c p whole
+        → now (out .exit) ≡ atPlace (widthOf paid) (widthOf paid * c) (afterOver whole (questionOf paid c)) (now (out .entry))) ⌝ }
 {
     let width = width_of(paid);
     let start = width * c;
@@ -355,8 +386,11 @@ fn place_table<'a>(
     tiers: Prompts,
     out: &mut [i64],
 )
-    requires { ⌜ Stands (now morning) (now noon) account × (TiersKnown (accountOf (now morning) (now noon)) tiers × (widthOf paid * questions ≤ length (now out))) ⌝ }
-    ensures { λ r. ⌜ ((whole : List Record) → Besides (accountOf (now (morning .entry)) (now (noon .entry))) whole → TiersIn whole tiers → records ≡ length whole → now (out .exit) ≡ atPlace (widthOf paid) (widthOf paid * tableQuestion) (afterOver whole (questionOf paid tableQuestion)) (now (out .entry))) ⌝ }
+    requires { ⌜ Stands (now morning) (now noon) account
+        × (TiersKnown (accountOf (now morning) (now noon)) tiers × (widthOf paid * questions ≤ length (now out))) ⌝ }
+    ensures { λ r. ⌜ ((whole : List Record) → Besides (accountOf (now (morning .entry)) (now (noon .entry))) whole → TiersIn whole tiers
+        → records ≡ length whole → now (out .exit) ≡ atPlace (widthOf paid) (widthOf paid * tableQuestion)
+        (afterOver whole (questionOf paid tableQuestion)) (now (out .entry))) ⌝ }
 {
     let width = width_of(paid);
     let start = width * TABLE;
@@ -375,7 +409,8 @@ pub fn all_from<'a>(
     out: &mut [i64],
 ) -> Answer
     requires { ⌜ Stands (now morning) (now noon) account × Known (accountOf (now morning) (now noon)) positions ⌝ }
-    ensures { λ r. ⌜ ((whole : List Record) → Told (accountOf (now (morning .entry)) (now (noon .entry))) positions whole → (r ≡ allOver paid whole (length (now (out .entry)))) × (now (out .exit) ≡ afterAllOver paid whole (now (out .entry)))) ⌝ }
+    ensures { λ r. ⌜ ((whole : List Record) → Told (accountOf (now (morning .entry)) (now (noon .entry))) positions whole
+        → (r ≡ allOver paid whole (length (now (out .entry)))) × (now (out .exit) ≡ afterAllOver paid whole (now (out .entry)))) ⌝ }
 {
     let records = positions.records;
     if out.len() < width_of(paid) * QUESTIONS {
@@ -418,7 +453,8 @@ pub fn everything_from<'a>(
     uses: &mut [i64],
 ) -> Everything
     requires { ⌜ Stands (now morning) (now noon) account × Known (accountOf (now morning) (now noon)) positions ⌝ }
-    ensures { λ r. ⌜ ((whole : List Record) → Told (accountOf (now (morning .entry)) (now (noon .entry))) positions whole → EverythingOf whole (now (figures .entry)) (now (books .entry)) (now (uses .entry)) r (now (figures .exit)) (now (books .exit)) (now (uses .exit))) ⌝ }
+    ensures { λ r. ⌜ ((whole : List Record) → Told (accountOf (now (morning .entry)) (now (noon .entry))) positions whole
+        → EverythingOf whole (now (figures .entry)) (now (books .entry)) (now (uses .entry)) r (now (figures .exit)) (now (books .exit)) (now (uses .exit))) ⌝ }
 {
     Everything {
         figures: figures_answer(morning, noon, account, positions, figures),
@@ -437,8 +473,11 @@ fn lend_contract<'a>(
     p: Position,
     out: &mut [i64],
 )
-    requires { ⌜ Stands (now morning) (now noon) account × ((c ≤ mostContract) × PositionAt (ratesOf (accountOf (now morning) (now noon))) (unitOf c (accountOf (now morning) (now noon))) (accountOf (now morning) (now noon)) c p) ⌝ }
-    ensures { λ r. ⌜ now (out .exit) ≡ lentPlace (widthOf paid) c (afterOver (accountOf (now (morning .entry)) (now (noon .entry))) (questionOf paid c)) (now (out .entry)) ⌝ }
+    requires { ⌜ Stands (now morning) (now noon) account
+        × ((c ≤ mostContract) × PositionAt (ratesOf (accountOf (now morning) (now noon))) (unitOf c (accountOf (now morning) (now noon)))
+        (accountOf (now morning) (now noon)) c p) ⌝ }
+    ensures { λ r. ⌜ now (out .exit) ≡ lentPlace (widthOf paid) c
+        (afterOver (accountOf (now (morning .entry)) (now (noon .entry))) (questionOf paid c)) (now (out .entry)) ⌝ }
 {
     if out.len() < width_of(paid) * QUESTIONS {
         return;
@@ -458,7 +497,8 @@ fn contract_over<'a>(
     uses: &mut [i64],
 ) -> Line
     requires { ⌜ Stands (now morning) (now noon) account × ((i < account .contracts) × RatesOf (ratesOf (accountOf (now morning) (now noon))) rates) ⌝ }
-    ensures { λ r. ⌜ ContractLent (accountOf (now (morning .entry)) (now (noon .entry))) i r (now (books .entry)) (now (uses .entry)) (now (books .exit)) (now (uses .exit)) ⌝ }
+    ensures { λ r. ⌜ ContractLent (accountOf (now (morning .entry)) (now (noon .entry))) i r (now (books .entry)) (now (uses .entry))
+        (now (books .exit)) (now (uses .exit)) ⌝ }
 {
     let c = contract_number(account, i);
     let p = position_in(morning, noon, account, c, rates);
@@ -476,7 +516,8 @@ fn contracts_over<'a>(
     uses: &mut [i64],
 ) -> Lines
     requires { ⌜ Stands (now morning) (now noon) account ⌝ }
-    ensures { λ r. ⌜ ContractsLent (accountOf (now (morning .entry)) (now (noon .entry))) r (now (books .entry)) (now (uses .entry)) (now (books .exit)) (now (uses .exit)) ⌝ }
+    ensures { λ r. ⌜ ContractsLent (accountOf (now (morning .entry)) (now (noon .entry))) r (now (books .entry)) (now (uses .entry))
+        (now (books .exit)) (now (uses .exit)) ⌝ }
 {
     let count = contract_total(account);
     let rates = rates_of(part(morning, noon, account, RATES));
@@ -502,7 +543,9 @@ fn lend_table<'a>(
     out: &mut [i64],
 ) -> Answer
     requires { ⌜ Stands (now morning) (now noon) account × TiersIn (accountOf (now morning) (now noon)) tiers ⌝ }
-    ensures { λ r. ⌜ (r ≡ allOver paid (accountOf (now (morning .entry)) (now (noon .entry))) (length (now (out .entry)))) × (now (out .exit) ≡ lentPlace (widthOf paid) tableQuestion (afterOver (accountOf (now (morning .entry)) (now (noon .entry))) (questionOf paid tableQuestion)) (now (out .entry))) ⌝ }
+    ensures { λ r. ⌜ (r ≡ allOver paid (accountOf (now (morning .entry)) (now (noon .entry))) (length (now (out .entry))))
+        × (now (out .exit) ≡ lentPlace (widthOf paid) tableQuestion
+        (afterOver (accountOf (now (morning .entry)) (now (noon .entry))) (questionOf paid tableQuestion)) (now (out .entry))) ⌝ }
 {
     let records = record_total(account);
     if out.len() < width_of(paid) * QUESTIONS {
@@ -522,7 +565,8 @@ pub fn everything_over<'a>(
     uses: &mut [i64],
 ) -> Everything
     requires { ⌜ Stands (now morning) (now noon) account ⌝ }
-    ensures { λ r. ⌜ EverythingOf (accountOf (now (morning .entry)) (now (noon .entry))) (now (figures .entry)) (now (books .entry)) (now (uses .entry)) r (now (figures .exit)) (now (books .exit)) (now (uses .exit)) ⌝ }
+    ensures { λ r. ⌜ EverythingOf (accountOf (now (morning .entry)) (now (noon .entry))) (now (figures .entry)) (now (books .entry))
+        (now (uses .entry)) r (now (figures .exit)) (now (books .exit)) (now (uses .exit)) ⌝ }
 {
     let lines = contracts_over(morning, noon, account, books, uses);
     let numbers = figures_of(morning, noon, account, lines);

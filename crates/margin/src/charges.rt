@@ -138,7 +138,8 @@ pub struct Earner {
 // Nothing is earned where nothing is used.
 fn credit_from(e: &[u8], earner: Earner, first: Spreads, second: Spreads) -> Amount
     requires { ⌜ CreditRoom (earner .unit) (earner .contract) (earner .«twice_price») (earner .net) (now e) (first .0) (second .0) ⌝ }
-    ensures { λ r. ⌜ (r .0 ≡ credit (earner .unit) (earner .«twice_price») (entryUse (earner .contract) (now (e .entry)) (first .0) (second .0)) (percent (now (e .entry))) (earner .net)) × (r .0 ≤ mostCredit) ⌝ }
+    ensures { λ r. ⌜ (r .0 ≡ credit (earner .unit) (earner .«twice_price») (entryUse (earner .contract) (now (e .entry)) (first .0) (second .0))
+        (percent (now (e .entry))) (earner .net)) × (r .0 ≤ mostCredit) ⌝ }
 {
     let used = entry_use(earner.contract, e, first, second);
     if used == 0 {
@@ -161,7 +162,8 @@ pub(crate) fn credits(
     second: [Spreads; MOST_SPREADS],
 ) -> Amount
     requires { ⌜ EntriesRoom (earner .unit) (earner .contract) (earner .«twice_price») (earner .net) (records (now entries)) first second ⌝ }
-    ensures { λ r. ⌜ (r .0 ≡ creditsBy (earner .unit) (earner .contract) (earner .«twice_price») (earner .net) (records (now (entries .entry))) (interleaved first second)) × (r .0 ≤ mostCredits) ⌝ }
+    ensures { λ r. ⌜ (r .0 ≡ creditsBy (earner .unit) (earner .contract) (earner .«twice_price») (earner .net) (records (now (entries .entry)))
+        (interleaved first second)) × (r .0 ≤ mostCredits) ⌝ }
 {
     let count = entries.len() / RECORD_BYTES;
     let mut sum: u64 = 0;

@@ -91,8 +91,10 @@ pub(crate) fn table_credits(
     lines: [Line; CONTRACTS],
     entries: &[u8],
 ) -> [Amount; CONTRACTS]
-    requires { ⌜ TableRoom count lines (records (now entries)) × CreditsRoom count lines (records (now entries)) (tableFirsts count lines (records (now entries))) (tableSeconds count lines (records (now entries))) ⌝ }
-    ensures { λ r. ⌜ CreditsOf count lines (records (now (entries .entry))) (tableFirsts count lines (records (now (entries .entry)))) (tableSeconds count lines (records (now (entries .entry)))) r ⌝ }
+    requires { ⌜ TableRoom count lines (records (now entries)) × CreditsRoom count lines (records (now entries))
+        (tableFirsts count lines (records (now entries))) (tableSeconds count lines (records (now entries))) ⌝ }
+    ensures { λ r. ⌜ CreditsOf count lines (records (now (entries .entry))) (tableFirsts count lines (records (now (entries .entry))))
+        (tableSeconds count lines (records (now (entries .entry)))) r ⌝ }
 {
     if entries.len() < RECORD_BYTES {
         return [Amount(0); CONTRACTS];

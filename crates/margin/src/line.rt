@@ -67,7 +67,8 @@ struct Charges {
 }
 
 fn charges_of(unit: u64, prompts: &[u8], spreads: &[u8], book: Book) -> Charges
-    requires { ⌜ SpreadsWithin unit (records (now spreads)) (book .first) (book .second) × PromptsWithin unit (records (now prompts)) (book .used) (book .unused) ⌝ }
+    requires { ⌜ SpreadsWithin unit (records (now spreads)) (book .first) (book .second) × PromptsWithin unit (records (now prompts)) (book .used)
+        (book .unused) ⌝ }
     ensures { λ r. ⌜ Charged unit (records (now (prompts .entry))) (records (now (spreads .entry))) book (r .interprompt .0) (r .prompt .0) ⌝ }
 {
     let first = book.first;

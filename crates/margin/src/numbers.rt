@@ -52,7 +52,8 @@ fn margin_of(l: Line, credit: Amount) -> Amount
 
 // A contract's eight numbers, from a place on.
 fn put_eight(out: &mut [i64; LONGEST_BOOK], at: usize, l: Line, credit: Amount, margin: Amount)
-    requires { ⌜ (at + 8 ≤ longestBook) × (LineWithin l × ((credit .0 ≤ mostCredits) × ((margin .0 ≡ marginWith l (credit .0)) × (margin .0 ≤ 3 * mostRisk)))) ⌝ }
+    requires { ⌜ (at + 8 ≤ longestBook)
+        × (LineWithin l × ((credit .0 ≤ mostCredits) × ((margin .0 ≡ marginWith l (credit .0)) × (margin .0 ≤ 3 * mostRisk)))) ⌝ }
     ensures { λ r. ⌜ now (out .exit) ≡ sets (now (out .entry)) at (map pos (eightOf l (credit .0))) ⌝ }
 {
     put(out, at, l.contract as u64);
@@ -129,7 +130,8 @@ fn put_prompts(
     unused: [Delta; MOST_PROMPTS],
 )
     requires { ⌜ prompts ≤ mostPrompts ⌝ }
-    ensures { λ r. ⌜ now (out .exit) ≡ sets (now (out .entry)) 0 (threes (take prompts (deltasIn nets)) (take prompts (deltasIn used)) (take prompts (deltasIn unused))) ⌝ }
+    ensures { λ r. ⌜ now (out .exit) ≡ sets (now (out .entry)) 0
+        (threes (take prompts (deltasIn nets)) (take prompts (deltasIn used)) (take prompts (deltasIn unused))) ⌝ }
 {
     let mut i = 0;
     while i < prompts {
@@ -167,7 +169,9 @@ pub(crate) fn book_numbers(
     second: [Spreads; MOST_SPREADS],
 ) -> Numbers
     requires { ⌜ (prompts ≤ mostPrompts) × SpreadsSigned spreads first second ⌝ }
-    ensures { λ r. ⌜ (r .count ≡ 3 * prompts + 2 * spreads) × (written r ≡ threes (take prompts (deltasIn nets)) (take prompts (deltasIn used)) (take prompts (deltasIn unused)) ++ map pos (interleaved (take spreads first) (take spreads second))) ⌝ }
+    ensures { λ r. ⌜ (r .count ≡ 3 * prompts + 2 * spreads)
+        × (written r ≡ threes (take prompts (deltasIn nets)) (take prompts (deltasIn used)) (take prompts (deltasIn unused)) ++ map pos
+        (interleaved (take spreads first) (take spreads second))) ⌝ }
 {
     let mut number = [0i64; LONGEST_BOOK];
     put_prompts(&mut number, prompts, nets, used, unused);

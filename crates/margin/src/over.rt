@@ -77,7 +77,8 @@ fn position_at<'a>(
     rates: Rates,
     unit: u64,
 ) -> Position
-    requires { ⌜ Stands (now morning) (now noon) account × ((c ≤ mostContract) × ((unit ≤ mostUnit) × RatedBy rates (rowsOf c (accountOf (now morning) (now noon))))) ⌝ }
+    requires { ⌜ Stands (now morning) (now noon) account
+        × ((c ≤ mostContract) × ((unit ≤ mostUnit) × RatedBy rates (rowsOf c (accountOf (now morning) (now noon))))) ⌝ }
     ensures { λ p. ⌜ ((held : List Record) → RatesOf held rates → PositionAt held unit (accountOf (now (morning .entry)) (now (noon .entry))) c p) ⌝ }
 {
     let prompts = part(morning, noon, account, PROMPTS + c);
@@ -94,7 +95,8 @@ pub(crate) fn position_in<'a>(
     rates: Rates,
 ) -> Position
     requires { ⌜ Stands (now morning) (now noon) account × ((c ≤ mostContract) × RatesOf (ratesOf (accountOf (now morning) (now noon))) rates) ⌝ }
-    ensures { λ p. ⌜ PositionAt (ratesOf (accountOf (now (morning .entry)) (now (noon .entry)))) (unitOf c (accountOf (now (morning .entry)) (now (noon .entry)))) (accountOf (now (morning .entry)) (now (noon .entry))) c p ⌝ }
+    ensures { λ p. ⌜ PositionAt (ratesOf (accountOf (now (morning .entry)) (now (noon .entry))))
+        (unitOf c (accountOf (now (morning .entry)) (now (noon .entry)))) (accountOf (now (morning .entry)) (now (noon .entry))) c p ⌝ }
 {
     let own = part(morning, noon, account, OWN + c);
     position_at(morning, noon, account, c, rates, unit(own) as u64)
@@ -108,8 +110,12 @@ pub(crate) fn line_with<'a>(
     c: usize,
     p: Position,
 ) -> Line
-    requires { ⌜ Stands (now morning) (now noon) account × ((c ≤ mostContract) × PositionFit (ownOf c (accountOf (now morning) (now noon))) (promptsOf c (accountOf (now morning) (now noon))) (spreadsOf c (accountOf (now morning) (now noon))) p) ⌝ }
-    ensures { λ r. ⌜ LineOf (contractWith (ownOf c (accountOf (now (morning .entry)) (now (noon .entry)))) (promptsOf c (accountOf (now (morning .entry)) (now (noon .entry)))) (spreadsOf c (accountOf (now (morning .entry)) (now (noon .entry)))) p) r ⌝ }
+    requires { ⌜ Stands (now morning) (now noon) account
+        × ((c ≤ mostContract) × PositionFit (ownOf c (accountOf (now morning) (now noon))) (promptsOf c (accountOf (now morning) (now noon)))
+        (spreadsOf c (accountOf (now morning) (now noon))) p) ⌝ }
+    ensures { λ r. ⌜ LineOf
+        (contractWith (ownOf c (accountOf (now (morning .entry)) (now (noon .entry))))
+        (promptsOf c (accountOf (now (morning .entry)) (now (noon .entry)))) (spreadsOf c (accountOf (now (morning .entry)) (now (noon .entry)))) p) r ⌝ }
 {
     let own = part(morning, noon, account, OWN + c);
     let prompts = part(morning, noon, account, PROMPTS + c);
@@ -120,7 +126,8 @@ pub(crate) fn line_with<'a>(
 // The line of the i-th contract, at the account's rates.
 fn line_at<'a>(morning: &'a [u8], noon: &'a [u8], account: Account, i: usize, rates: Rates) -> Line
     requires { ⌜ Stands (now morning) (now noon) account × ((i < account .contracts) × RatesOf (ratesOf (accountOf (now morning) (now noon))) rates) ⌝ }
-    ensures { λ r. ⌜ LineOf (partsIn (accountOf (now (morning .entry)) (now (noon .entry))) (getD (contractsOf (accountOf (now (morning .entry)) (now (noon .entry)))) i [])) r ⌝ }
+    ensures { λ r. ⌜ LineOf
+        (partsIn (accountOf (now (morning .entry)) (now (noon .entry))) (getD (contractsOf (accountOf (now (morning .entry)) (now (noon .entry)))) i [])) r ⌝ }
 {
     let c = contract_number(account, i);
     let p = position_in(morning, noon, account, c, rates);
@@ -168,7 +175,8 @@ pub(crate) fn figures_of<'a>(
     all: Lines,
 ) -> Numbers
     requires { ⌜ Stands (now morning) (now noon) account × LinesKnown (accountOf (now morning) (now noon)) all ⌝ }
-    ensures are { λ r. ⌜ ((whole : List Record) → Besides (accountOf (now (morning .entry)) (now (noon .entry))) whole → LinesOf whole all → written r ≡ figures whole) ⌝ }
+    ensures are { λ r. ⌜ ((whole : List Record) → Besides (accountOf (now (morning .entry)) (now (noon .entry))) whole → LinesOf whole all
+        → written r ≡ figures whole) ⌝ }
     ensures many { λ r. ⌜ (r .count ≡ 8 * account .contracts + 1) × (r .count ≤ longestBook) ⌝ }
 {
     let count = all.count;
@@ -181,7 +189,8 @@ pub(crate) fn figures_of<'a>(
 // The same of an account that stands in the files.
 pub(crate) fn figures_over<'a>(morning: &'a [u8], noon: &'a [u8], account: Account) -> Numbers
     requires { ⌜ Stands (now morning) (now noon) account ⌝ }
-    ensures { λ r. ⌜ (written r ≡ figures (accountOf (now (morning .entry)) (now (noon .entry)))) × (r .count ≡ 8 * account .contracts + 1) × (r .count ≤ longestBook) ⌝ }
+    ensures { λ r. ⌜ (written r ≡ figures (accountOf (now (morning .entry)) (now (noon .entry)))) × (r .count ≡ 8 * account .contracts + 1)
+        × (r .count ≤ longestBook) ⌝ }
 {
     figures_of(morning, noon, account, lines_of(morning, noon, account))
 }
@@ -205,7 +214,8 @@ fn nets_at<'a>(
     c: usize,
 ) -> [Delta; MOST_PROMPTS]
     requires { ⌜ Stands (now morning) (now noon) account × (c ≤ mostContract) ⌝ }
-    ensures { λ r. ⌜ PositionAt [] 1 (accountOf (now (morning .entry)) (now (noon .entry))) c (withNets [] 1 (rowsOf c (accountOf (now (morning .entry)) (now (noon .entry)))) r) ⌝ }
+    ensures { λ r. ⌜ PositionAt [] 1 (accountOf (now (morning .entry)) (now (noon .entry))) c
+        (withNets [] 1 (rowsOf c (accountOf (now (morning .entry)) (now (noon .entry)))) r) ⌝ }
 {
     let prompts = part(morning, noon, account, PROMPTS + c);
     let rows = part(morning, noon, account, ROWS + c);
@@ -221,7 +231,9 @@ pub struct Tier {
 // The i-th contract as a tier: its net delta, without its book and its charges.
 fn tier_at<'a>(morning: &'a [u8], noon: &'a [u8], account: Account, i: usize) -> Tier
     requires { ⌜ Stands (now morning) (now noon) account × (i < account .contracts) ⌝ }
-    ensures { λ r. ⌜ TierIs (partsIn (accountOf (now (morning .entry)) (now (noon .entry))) (getD (contractsOf (accountOf (now (morning .entry)) (now (noon .entry)))) i [])) (r .contract) (r .net .0) ⌝ }
+    ensures { λ r. ⌜ TierIs
+        (partsIn (accountOf (now (morning .entry)) (now (noon .entry)))
+        (getD (contractsOf (accountOf (now (morning .entry)) (now (noon .entry)))) i [])) (r .contract) (r .net .0) ⌝ }
 {
     let c = contract_number(account, i);
     let net = contract_net(nets_at(morning, noon, account, c));
@@ -280,7 +292,8 @@ pub(crate) fn tiers_in(all: Lines) -> Prompts
 // A contract's prompts with their net deltas, and its interprompt spreads.
 fn contract_asking(prompts: &[u8], spreads: &[u8], p: Position) -> Asking
     requires { ⌜ BookFit (records (now prompts)) (records (now spreads)) p ⌝ }
-    ensures { λ r. ⌜ Asks (stepsOf (contractWith [] (records (now (prompts .entry))) (records (now (spreads .entry))) p)) (opensOf (contractWith [] (records (now (prompts .entry))) (records (now (spreads .entry))) p)) r ⌝ }
+    ensures { λ r. ⌜ Asks (stepsOf (contractWith [] (records (now (prompts .entry))) (records (now (spreads .entry))) p))
+        (opensOf (contractWith [] (records (now (prompts .entry))) (records (now (spreads .entry))) p)) r ⌝ }
 {
     let nets = p.nets;
     Asking {
@@ -297,8 +310,15 @@ pub(crate) fn asking_with<'a>(
     c: usize,
     p: Position,
 ) -> Asking
-    requires { ⌜ Stands (now morning) (now noon) account × ((c ≤ mostContract) × BookFit (promptsOf c (accountOf (now morning) (now noon))) (spreadsOf c (accountOf (now morning) (now noon))) p) ⌝ }
-    ensures { λ r. ⌜ Asks (stepsOf (contractWith [] (promptsOf c (accountOf (now (morning .entry)) (now (noon .entry)))) (spreadsOf c (accountOf (now (morning .entry)) (now (noon .entry)))) p)) (opensOf (contractWith [] (promptsOf c (accountOf (now (morning .entry)) (now (noon .entry)))) (spreadsOf c (accountOf (now (morning .entry)) (now (noon .entry)))) p)) r ⌝ }
+    requires { ⌜ Stands (now morning) (now noon) account
+        × ((c ≤ mostContract) × BookFit (promptsOf c (accountOf (now morning) (now noon))) (spreadsOf c (accountOf (now morning) (now noon))) p) ⌝ }
+    ensures { λ r. ⌜ Asks
+        (stepsOf
+        (contractWith [] (promptsOf c (accountOf (now (morning .entry)) (now (noon .entry))))
+        (spreadsOf c (accountOf (now (morning .entry)) (now (noon .entry)))) p))
+        (opensOf
+        (contractWith [] (promptsOf c (accountOf (now (morning .entry)) (now (noon .entry))))
+        (spreadsOf c (accountOf (now (morning .entry)) (now (noon .entry)))) p)) r ⌝ }
 {
     let prompts = part(morning, noon, account, PROMPTS + c);
     let spreads = part(morning, noon, account, SPREADS + c);
@@ -308,7 +328,8 @@ pub(crate) fn asking_with<'a>(
 // The same of a contract that stands in the files.
 fn asking_of<'a>(morning: &'a [u8], noon: &'a [u8], account: Account, c: usize) -> Asking
     requires { ⌜ Stands (now morning) (now noon) account × (c ≤ mostContract) ⌝ }
-    ensures { λ r. ⌜ Asks (stepsOf (partsOf (accountOf (now (morning .entry)) (now (noon .entry))) c)) (opensOf (partsOf (accountOf (now (morning .entry)) (now (noon .entry))) c)) r ⌝ }
+    ensures { λ r. ⌜ Asks (stepsOf (partsOf (accountOf (now (morning .entry)) (now (noon .entry))) c))
+        (opensOf (partsOf (accountOf (now (morning .entry)) (now (noon .entry))) c)) r ⌝ }
 {
     let p = position_at(morning, noon, account, c, no_rates(), ONE_HUNDREDTH);
     asking_with(morning, noon, account, c, p)
@@ -322,7 +343,8 @@ pub(crate) fn table_asking<'a>(
     tiers: Prompts,
 ) -> Asking
     requires { ⌜ Stands (now morning) (now noon) account × TiersKnown (accountOf (now morning) (now noon)) tiers ⌝ }
-    ensures { λ r. ⌜ ((whole : List Record) → Besides (accountOf (now (morning .entry)) (now (noon .entry))) whole → TiersIn whole tiers → Asks (tableSteps (entriesOf whole)) (map asTier (contracts whole)) r) ⌝ }
+    ensures { λ r. ⌜ ((whole : List Record) → Besides (accountOf (now (morning .entry)) (now (noon .entry))) whole → TiersIn whole tiers
+        → Asks (tableSteps (entriesOf whole)) (map asTier (contracts whole)) r) ⌝ }
 {
     let entries = part(morning, noon, account, ENTRIES);
     Asking {
@@ -339,7 +361,8 @@ pub(crate) fn asking_over<'a>(
     question: usize,
 ) -> Asking
     requires { ⌜ Stands (now morning) (now noon) account × (answered (accountOf (now morning) (now noon)) question ≡ true) ⌝ }
-    ensures { λ r. ⌜ Asks (stepsFor (accountOf (now (morning .entry)) (now (noon .entry))) question) (opensFor (accountOf (now (morning .entry)) (now (noon .entry))) question) r ⌝ }
+    ensures { λ r. ⌜ Asks (stepsFor (accountOf (now (morning .entry)) (now (noon .entry))) question)
+        (opensFor (accountOf (now (morning .entry)) (now (noon .entry))) question) r ⌝ }
 {
     if question == TABLE {
         let tiers = tiers_over(morning, noon, account);

@@ -178,8 +178,10 @@ pub(crate) fn asking_from<'a>(
     positions: Positions,
     question: usize,
 ) -> Asking
-    requires { ⌜ Stands (now morning) (now noon) account × (Known (accountOf (now morning) (now noon)) positions × (answered (accountOf (now morning) (now noon)) question ≡ true)) ⌝ }
-    ensures { λ r. ⌜ ((whole : List Record) → Told (accountOf (now (morning .entry)) (now (noon .entry))) positions whole → Asks (stepsFor whole question) (opensFor whole question) r) ⌝ }
+    requires { ⌜ Stands (now morning) (now noon) account
+        × (Known (accountOf (now morning) (now noon)) positions × (answered (accountOf (now morning) (now noon)) question ≡ true)) ⌝ }
+    ensures { λ r. ⌜ ((whole : List Record) → Told (accountOf (now (morning .entry)) (now (noon .entry))) positions whole
+        → Asks (stepsFor whole question) (opensFor whole question) r) ⌝ }
 {
     if question == TABLE {
         let tiers = tiers_from(morning, noon, account, positions);

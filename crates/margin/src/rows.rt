@@ -68,7 +68,10 @@ fn product(each: i64, loss: i64, unit: u64) -> i64
 
 // The same in another currency, converted at its rate.
 fn converted_product(f: Factors, each: i64, loss: i64, unit: u64) -> i64
-    requires { ⌜ (natAbs each ≤ 1000000000) × ((natAbs loss ≤ hundredThousand) × ((unit ≤ mostUnit) × ((f .raised ≤ mostFactor) × ((f .lowered ≤ mostFactor) × (natAbs (convertedAt (f .raised) (f .lowered) (each *ℤ loss)) ≤ mostConversion))))) ⌝ }
+    requires { ⌜ (natAbs each ≤ 1000000000)
+        × ((natAbs loss ≤ hundredThousand)
+        × ((unit ≤ mostUnit)
+        × ((f .raised ≤ mostFactor) × ((f .lowered ≤ mostFactor) × (natAbs (convertedAt (f .raised) (f .lowered) (each *ℤ loss)) ≤ mostConversion))))) ⌝ }
     ensures { λ r. ⌜ Sized mostProduct (halfAwayTo (convertedAt (f .raised) (f .lowered) (each *ℤ loss)) unit) r ⌝ }
 {
     half_away_to(converted(f, times(each, loss)), unit)
@@ -140,7 +143,8 @@ fn add_converted(totals: &mut [i64; SCENARIOS], f: Factors, unit: u64, row: &[u8
 // Each total with one row more: whether it is converted is decided once.
 fn add_row(totals: &mut [i64; SCENARIOS], rates: Rates, unit: u64, row: &[u8])
     requires { ⌜ (unit ≤ mostUnit) × (RowFit (now row) × (RatedBy rates (now row ∷ []) × AtMost 16 (127 * mostProduct) (now totals))) ⌝ }
-    ensures { λ r. ⌜ ((held : List Record) → RatesOf held rates → Added 16 (products held unit (now (row .entry))) (now (totals .entry)) (now (totals .exit))) ⌝ }
+    ensures { λ r. ⌜
+        ((held : List Record) → RatesOf held rates → Added 16 (products held unit (now (row .entry))) (now (totals .entry)) (now (totals .exit))) ⌝ }
 {
     let c = currency(row);
     if c == 0 {
@@ -262,9 +266,12 @@ fn next_place(days: &[u32; MOST_PROMPTS], count: usize, rising: bool, j: usize) 
 
 // What rows come to with more rows, in one walk over these. A ticket is one row more.
 pub fn with_rows(p: Position, days: Days, rates: Rates, unit: u64, rows: &[u8]) -> Position
-    requires { ⌜ (unit ≤ mostUnit) × ((days .count ≤ mostPrompts) × (RowsFit (records (now rows)) × (RatedBy rates (records (now rows)) × Bounded (mostRows - length (records (now rows))) p))) ⌝ }
+    requires { ⌜ (unit ≤ mostUnit)
+        × ((days .count ≤ mostPrompts)
+        × (RowsFit (records (now rows)) × (RatedBy rates (records (now rows)) × Bounded (mostRows - length (records (now rows))) p))) ⌝ }
     ensures added { λ q. ⌜ ((held : List Record) → RatesOf held rates → WithRows held unit days p (records (now (rows .entry))) q) ⌝ }
-    ensures more { λ q. ⌜ ((held prompts earlier : List Record) → RatesOf held rates → DaysOf prompts days → PositionOf held unit prompts earlier p → PositionOf held unit prompts (earlier ++ records (now (rows .entry))) q) ⌝ }
+    ensures more { λ q. ⌜ ((held prompts earlier : List Record) → RatesOf held rates → DaysOf prompts days → PositionOf held unit prompts earlier p
+        → PositionOf held unit prompts (earlier ++ records (now (rows .entry))) q) ⌝ }
     ensures most { λ q. ⌜ Bounded mostRows q ⌝ }
 {
     let count = rows.len() / RECORD_BYTES;
@@ -300,7 +307,8 @@ pub fn with_rows(p: Position, days: Days, rates: Rates, unit: u64, rows: &[u8]) 
 
 // Net deltas with more rows, in one walk over these: where nothing but they are asked for.
 fn nets_with(before: [Delta; MOST_PROMPTS], days: Days, rows: &[u8]) -> [Delta; MOST_PROMPTS]
-    requires { ⌜ (days .count ≤ mostPrompts) × (RowsFit (records (now rows)) × AtMost 32 ((mostRows - length (records (now rows))) * 1000000000) (deltasIn before)) ⌝ }
+    requires { ⌜ (days .count ≤ mostPrompts)
+        × (RowsFit (records (now rows)) × AtMost 32 ((mostRows - length (records (now rows))) * 1000000000) (deltasIn before)) ⌝ }
     ensures { λ r. ⌜ Added (days .count) (λ j. netOn (records (now (rows .entry))) (getD (days .day) j 0)) (deltasIn before) (deltasIn r) ⌝ }
 {
     let count = rows.len() / RECORD_BYTES;
@@ -328,7 +336,8 @@ fn nets_with(before: [Delta; MOST_PROMPTS], days: Days, rows: &[u8]) -> [Delta; 
 // The net deltas alone of what a contract's rows come to.
 pub(crate) fn nets_of(prompts: &[u8], rows: &[u8]) -> [Delta; MOST_PROMPTS]
     requires { ⌜ (recordCount (now prompts) ≤ mostPrompts) × RowsFit (records (now rows)) ⌝ }
-    ensures { λ r. ⌜ ((rates : List Record) (unit : ℕ) → PositionOf rates unit (records (now (prompts .entry))) (records (now (rows .entry))) (withNets rates unit (records (now (rows .entry))) r)) ⌝ }
+    ensures { λ r. ⌜ ((rates : List Record) (unit : ℕ) → PositionOf rates unit (records (now (prompts .entry))) (records (now (rows .entry)))
+        (withNets rates unit (records (now (rows .entry))) r)) ⌝ }
 {
     let none = flat();
     let no_nets = none.nets;
@@ -374,8 +383,11 @@ fn nets_without(nets: [Delta; MOST_PROMPTS], gone: [Delta; MOST_PROMPTS]) -> [De
 
 // What rows come to without the last of them, which it has: the position before these rows, in every number.
 pub fn without_rows(p: Position, days: Days, rates: Rates, unit: u64, rows: &[u8]) -> Position
-    requires { ⌜ (unit ≤ mostUnit) × ((days .count ≤ mostPrompts) × (RowsFit (records (now rows)) × (RatedBy rates (records (now rows)) × (Bounded mostRows p × HasRows rates unit days (records (now rows)) p)))) ⌝ }
-    ensures { λ q. ⌜ ((held : List Record) (before : Position) → RatesOf held rates → WithRows held unit days before (records (now (rows .entry))) p → q ≡ before) ⌝ }
+    requires { ⌜ (unit ≤ mostUnit)
+        × ((days .count ≤ mostPrompts)
+        × (RowsFit (records (now rows)) × (RatedBy rates (records (now rows)) × (Bounded mostRows p × HasRows rates unit days (records (now rows)) p)))) ⌝ }
+    ensures { λ q. ⌜ ((held : List Record) (before : Position) → RatesOf held rates → WithRows held unit days before (records (now (rows .entry))) p
+        → q ≡ before) ⌝ }
 {
     let gone = with_rows(flat(), days, rates, unit, rows);
     let its_totals = p.totals;

@@ -67,7 +67,8 @@ credited :
     (c : tie.After-half-up) →
     let u = c .before .before .before in
     let s = u .before .args in
-    (u .unit-price-risk .result .whole * s .used / (200 * s .unit) * s .percent + c .half-up .result) * s .unit ≡ credit (s .unit) (s .twice-risk) (s .used) (s .percent) (s .net)
+    (u .unit-price-risk .result .whole * s .used / (200 * s .unit) * s .percent + c .half-up .result) * s .unit ≡ credit (s .unit) (s .twice-risk)
+    (s .used) (s .percent) (s .net)
 credited c =
     let u = c .before .before .before in
     let s = u .before .args in

@@ -56,7 +56,8 @@ half-up-to-requires c κs =
       omega (arith, s .pre .4),
       omega (
         arith,
-        charged-within (s .args .unit) (c .before .before .magnitude .result * s .args .spread-rate + c .magnitude2 .result * s .args .outright-rate) (s .pre .4) (omega arith),
+        charged-within (s .args .unit) (c .before .before .magnitude .result * s .args .spread-rate + c .magnitude2 .result * s .args .outright-rate)
+            (s .pre .4) (omega arith),
       ),
     )
 
@@ -73,8 +74,11 @@ returns c =
     let second : c .before .magnitude2 .result * s .args .outright-rate ≡ natAbs (s .args .unused .0) * s .args .outright-rate =
     ap (λ (x : ℕ). x * s .args .outright-rate) n
     in
-    let e = c .half-up-to .ensures in
-    (e ∙ ap₂ (λ (a b : ℕ). charged (s .args .unit) (a + b)) first second, subst⁻¹ (λ (x : ℕ). x ≤ mostCharge) e (charged-within (s .args .unit) _ (s .pre .4) (omega arith)))
+    let e = c .half-up-to .ensures in (
+      e ∙ ap₂ (λ (a b : ℕ). charged (s .args .unit) (a + b)) first second,
+      subst⁻¹ (λ (x : ℕ). x ≤ mostCharge) e
+          (charged-within (s .args .unit) _ (s .pre .4) (omega arith)),
+    )
 
 pub prompt-charge-spec : {M : Type 1} → statement M
 prompt-charge-spec =

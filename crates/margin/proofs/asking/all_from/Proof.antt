@@ -59,8 +59,16 @@ place-contract-requires c κs =
       (
         h,
         (
-          fits-book (accountOf (s .args .morning .now) (s .args .noon .now)) (x .whole) (x .told .beside) k (getD (s .args .t4 .at) k noPosition) (x .told .positions .each k h),
-          omega (arith, ends-within (widthOf (s .args .paid)) k questions (omega arith), c .before .before .before .before .before .width-of .ensures .0, c .before .before .before .before .if1 .left, l .inv .1 .1),
+          fits-book (accountOf (s .args .morning .now) (s .args .noon .now)) (x .whole) (x .told .beside) k (getD (s .args .t4 .at) k noPosition)
+              (x .told .positions .each k h),
+          omega (
+            arith,
+            ends-within (widthOf (s .args .paid)) k questions
+                (omega arith),
+            c .before .before .before .before .before .width-of .ensures .0,
+            c .before .before .before .before .if1 .left,
+            l .inv .1 .1,
+          ),
         ),
       ),
     )
@@ -113,7 +121,9 @@ returns-2 c =
     let so-far : l .out ≡ afterEach (widthOf p) (λ k. afterOver whole (questionOf p k)) 16 (s .args .out .now) =
     l .inv .0 whole t ∙ ap (λ (n : ℕ). afterEach (widthOf p) (λ k. afterOver whole (questionOf p k)) n (s .args .out .now)) q
     in
-    each-accepted (widthOf p) (λ k. afterOver whole (questionOf p k)) whole (s .args .out .now) _ (omega (arith, c .before .before .before .before .before .before .before .width-of .ensures .0, c .before .before .before .before .before .before .if1 .left))
+    each-accepted (widthOf p) (λ k. afterOver whole (questionOf p k)) whole (s .args .out .now) _
+    (omega
+    (arith, c .before .before .before .before .before .before .before .width-of .ensures .0, c .before .before .before .before .before .before .if1 .left))
     (next-each (widthOf p) (λ k. afterOver whole (questionOf p k)) 16 (s .args .out .now) (l .out) _ so-far
     (r .ensures whole (t .beside) (c .before .before .before .tiers-from .ensures whole t) (t .positions .records-are)))
 

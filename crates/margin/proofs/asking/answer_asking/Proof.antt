@@ -23,7 +23,8 @@ returns c =
     let out = s .args .out .now in
     let r = c .before .answer-uses in
     λ whole question h.
-    subst⁻¹ (λ (t : Bool). (r .result ≡ answerOver whole (questionOf t question) (length out)) × (r .last .1 .1 .0 ≡ afterOver whole (questionOf t question) out))
+    subst⁻¹ (λ (t : Bool). (r .result ≡ answerOver whole (questionOf t question) (length out))
+    × (r .last .1 .1 .0 ≡ afterOver whole (questionOf t question) out))
     (c .before .before .before .if1 .taken) (r .ensures whole question h)
 
 book-of-requires : tie.Need-book-of-requires
@@ -42,8 +43,10 @@ returns-2 c =
     let r = c .before .put-numbers in
     let b = c .before .before .before .book-of in
     λ whole question h.
-    subst⁻¹ (λ (t : Bool). (r .result ≡ answerOver whole (questionOf t question) (length out)) × (r .last .1 .1 .0 ≡ afterOver whole (questionOf t question) out))
-    (c .before .before .before .before .if1 .left) (r .ensures whole (Book question) (holds-book whole question (s .args .records) (s .args .asking) h (b .result) (b .ensures)))
+    subst⁻¹ (λ (t : Bool). (r .result ≡ answerOver whole (questionOf t question) (length out))
+    × (r .last .1 .1 .0 ≡ afterOver whole (questionOf t question) out))
+    (c .before .before .before .before .if1 .left)
+    (r .ensures whole (Book question) (holds-book whole question (s .args .records) (s .args .asking) h (b .result) (b .ensures)))
 
 pub answer-asking-spec : {M : Type 1} → statement M
 answer-asking-spec =

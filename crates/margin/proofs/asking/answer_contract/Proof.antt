@@ -31,7 +31,8 @@ asked : (c : tie.After-is-asked)
     answered (accountOf (s .args .morning .now) (s .args .noon .now)) (s .args .c) ≡ c .is-asked .result
 asked c =
     let s = c .before .before .before in
-    sym (c .is-asked .ensures ∙ asked-is (accountOf (s .args .morning .now) (s .args .noon .now)) (s .pre .0 .lawful) (s .args .account .counts) (s .pre .0 .places .counts) (s .args .c))
+    sym (c .is-asked .ensures ∙ asked-is (accountOf (s .args .morning .now) (s .args .noon .now)) (s .pre .0 .lawful) (s .args .account .counts)
+    (s .pre .0 .places .counts) (s .args .c))
 
 returns : tie.Need-returns
 returns c =
@@ -41,7 +42,8 @@ returns c =
     let q = questionOf (s .args .paid) k in
     λ whole t.
     refused-with (NoSuchQuestion (s .args .records)) _ (numbersFor whole q) (s .args .out .now)
-    (not-asked whole q (length (s .args .out .now)) (answers-of whole (s .args .paid) k ∙ answered-beside a whole (t .beside) k ∙ asked (c .before) ∙ not-true (c .before .is-asked .result) (c .if1 .taken))
+    (not-asked whole q (length (s .args .out .now)) (answers-of whole (s .args .paid) k ∙ answered-beside a whole (t .beside) k ∙ asked (c .before)
+    ∙ not-true (c .before .is-asked .result) (c .if1 .taken))
     ∙ ap NoSuchQuestion (sym (t .records-are))) (λ e. omega arith)
 
 asking-with-requires : tie.Need-asking-with-requires
@@ -63,11 +65,13 @@ returns-2 c =
     c .before .answer-asking .ensures whole k
     (record {
       lawful = t .beside .lawful;
-      asked-is = answered-beside a whole (t .beside) k ∙ asked (c .before .before .before .before .before) ∙ not-false (c .before .before .before .before .before .is-asked .result) (c .before .before .before .before .if1 .left);
+      asked-is = answered-beside a whole (t .beside) k ∙ asked (c .before .before .before .before .before)
+          ∙ not-false (c .before .before .before .before .before .is-asked .result) (c .before .before .before .before .if1 .left);
       records-are = t .records-are;
       asks =
           subst
-          (λ (b : Bool). Asks (cond b (tableSteps (entriesOf whole)) (stepsOf (partsOf whole k))) (cond b (map asTier (contracts whole)) (opensOf (partsOf whole k))) (r .result))
+          (λ (b : Bool). Asks (cond b (tableSteps (entriesOf whole)) (stepsOf (partsOf whole k)))
+          (cond b (map asTier (contracts whole)) (opensOf (partsOf whole k))) (r .result))
           (sym (ne-eqb k 16 (λ e. omega (arith, s .pre .1 .0, e)))) (asks-beside a whole (t .beside) k (s .args .p) (t .at) (r .result) (r .ensures));
     })
 

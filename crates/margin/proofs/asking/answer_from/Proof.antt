@@ -13,7 +13,8 @@ use Rattle.margin.proofs.asking.answer_from.Statement.{statement}
 use Rattle.margin.proofs.asking.answer_from.Tie as tie
 
 -- the same question by another name
-answered : (account : List Record) (a : Answer) (left lent : List ℤ) (q q′ : Question) → q ≡ q′ → (a ≡ answerOver account q′ (length lent)) × (left ≡ afterOver account q′ lent)
+answered : (account : List Record) (a : Answer) (left lent : List ℤ) (q q′ : Question) → q ≡ q′ → (a ≡ answerOver account q′ (length lent))
+    × (left ≡ afterOver account q′ lent)
     → (a ≡ answerOver account q (length lent)) × (left ≡ afterOver account q lent)
 answered account a left lent q q′ e = subst⁻¹ (λ (x : Question). (a ≡ answerOver account x (length lent)) × (left ≡ afterOver account x lent)) e
 
@@ -51,7 +52,8 @@ returns-2 : tie.Need-returns-2
 returns-2 c =
     let s = c .before .before .before .before .before .before .before .before in
     let r = c .before .question-answer in
-    λ whole t. answered whole (r .result) (r .last .1 .1 .1 .1 .1 .1 .0) (s .args .out .now) _ _ (c .before .before .before .before .question .given .1) (r .ensures whole t)
+    λ whole t. answered whole (r .result) (r .last .1 .1 .1 .1 .1 .1 .0) (s .args .out .now) _ _
+    (c .before .before .before .before .question .given .1) (r .ensures whole t)
 
 same-length-3 : tie.Need-same-length-3
 same-length-3 c = search needs
@@ -60,7 +62,8 @@ returns-3 : tie.Need-returns-3
 returns-3 c =
     let s = c .before .before .before .before .before .before .before .before in
     let r = c .before .question-answer2 in
-    λ whole t. answered whole (r .result) (r .last .1 .1 .1 .1 .1 .1 .0) (s .args .out .now) _ _ (c .before .before .before .before .question2 .given .1) (r .ensures whole t)
+    λ whole t. answered whole (r .result) (r .last .1 .1 .1 .1 .1 .1 .0) (s .args .out .now) _ _
+    (c .before .before .before .before .question2 .given .1) (r .ensures whole t)
 
 pub answer-from-spec : {M : Type 1} → statement M
 answer-from-spec =

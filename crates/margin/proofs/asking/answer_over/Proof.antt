@@ -14,7 +14,8 @@ use Rattle.margin.proofs.asking.answer_over.Statement.{statement}
 use Rattle.margin.proofs.asking.answer_over.Tie as tie
 
 -- the same question by another name
-answered : (account : List Record) (a : Answer) (left lent : List ℤ) (q q′ : Question) → q ≡ q′ → (a ≡ answerOver account q′ (length lent)) × (left ≡ afterOver account q′ lent)
+answered : (account : List Record) (a : Answer) (left lent : List ℤ) (q q′ : Question) → q ≡ q′ → (a ≡ answerOver account q′ (length lent))
+    × (left ≡ afterOver account q′ lent)
     → (a ≡ answerOver account q (length lent)) × (left ≡ afterOver account q lent)
 answered account a left lent q q′ e = subst⁻¹ (λ (x : Question). (a ≡ answerOver account x (length lent)) × (left ≡ afterOver account x lent)) e
 
@@ -43,7 +44,8 @@ returns : tie.Need-returns
 returns c =
     let s = c .before .before .before .before .before .before .before in
     let r = c .before .answer-figures in
-    answered (accountOf (s .args .morning .now) (s .args .noon .now)) (r .result) (r .last .1 .1 .1 .0) (s .args .out .now) _ _ (c .before .before .before .enum-told .given .1) (r .ensures)
+    answered (accountOf (s .args .morning .now) (s .args .noon .now)) (r .result) (r .last .1 .1 .1 .0) (s .args .out .now) _ _
+    (c .before .before .before .enum-told .given .1) (r .ensures)
 
 same-length-2 : tie.Need-same-length-2
 same-length-2 c = search needs
@@ -52,7 +54,8 @@ returns-2 : tie.Need-returns-2
 returns-2 c =
     let s = c .before .before .before .before .before .before .before .before in
     let r = c .before .answer-question in
-    answered (accountOf (s .args .morning .now) (s .args .noon .now)) (r .result) (r .last .1 .1 .1 .1 .1 .0) (s .args .out .now) _ _ (c .before .before .before .before .question .given .1) (r .ensures)
+    answered (accountOf (s .args .morning .now) (s .args .noon .now)) (r .result) (r .last .1 .1 .1 .1 .1 .0) (s .args .out .now) _ _
+    (c .before .before .before .before .question .given .1) (r .ensures)
 
 same-length-3 : tie.Need-same-length-3
 same-length-3 c = search needs
@@ -61,7 +64,8 @@ returns-3 : tie.Need-returns-3
 returns-3 c =
     let s = c .before .before .before .before .before .before .before .before in
     let r = c .before .answer-question2 in
-    answered (accountOf (s .args .morning .now) (s .args .noon .now)) (r .result) (r .last .1 .1 .1 .1 .1 .0) (s .args .out .now) _ _ (c .before .before .before .before .question2 .given .1) (r .ensures)
+    answered (accountOf (s .args .morning .now) (s .args .noon .now)) (r .result) (r .last .1 .1 .1 .1 .1 .0) (s .args .out .now) _ _
+    (c .before .before .before .before .question2 .given .1) (r .ensures)
 
 pub answer-over-spec : {M : Type 1} → statement M
 answer-over-spec =

@@ -25,7 +25,8 @@ asked : (c : tie.After-is-asked)
     answered (accountOf (s .args .morning .now) (s .args .noon .now)) (s .args .question) ≡ c .is-asked .result
 asked c =
     let s = c .before .before .before in
-    sym (c .is-asked .ensures ∙ asked-is (accountOf (s .args .morning .now) (s .args .noon .now)) (s .pre .lawful) (s .args .account .counts) (s .pre .places .counts) (s .args .question))
+    sym (c .is-asked .ensures ∙ asked-is (accountOf (s .args .morning .now) (s .args .noon .now)) (s .pre .lawful) (s .args .account .counts)
+    (s .pre .places .counts) (s .args .question))
 
 record-total-requires : tie.Need-record-total-requires
 record-total-requires c κs = search needs
@@ -36,7 +37,8 @@ returns c =
     let a = accountOf (s .args .morning .now) (s .args .noon .now) in
     let q = questionOf (s .args .paid) (s .args .question) in
     refused-with (NoSuchQuestion (c .record-total .result)) _ (numbersFor a q) (s .args .out .now)
-    (not-asked a q (length (s .args .out .now)) (answers-of a (s .args .paid) (s .args .question) ∙ asked (c .before .before) ∙ not-true (c .before .before .is-asked .result) (c .before .if1 .taken))
+    (not-asked a q (length (s .args .out .now))
+    (answers-of a (s .args .paid) (s .args .question) ∙ asked (c .before .before) ∙ not-true (c .before .before .is-asked .result) (c .before .if1 .taken))
     ∙ ap NoSuchQuestion (sym (c .record-total .ensures ∙ s .pre .places .all))) (λ e. omega arith)
 
 asking-over-requires : tie.Need-asking-over-requires

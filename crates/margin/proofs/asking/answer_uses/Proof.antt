@@ -40,11 +40,18 @@ returns-2 c =
     let out = s .args .out .now in
     λ whole question h.
     let enough : length (uses whole question) ≤ length out =
-    omega (arith, uses-many whole question (s .args .records) (s .args .asking) h, c .before .before .before .before .uses-count .ensures, c .before .before .before .if1 .left)
+    omega (
+      arith,
+      uses-many whole question (s .args .records)
+          (s .args .asking) h,
+      c .before .before .before .before .uses-count .ensures,
+      c .before .before .before .if1 .left,
+    )
     in
     accepted-with _ (uses whole question) out (c .before .put-uses .last .0) (length (uses whole question))
     (asked-many whole (Uses question) (length out) (h .asked-is) enough) refl
-    (c .before .put-uses .ensures ∙ ap (sets out 0) (uses-same whole question (s .args .records) (s .args .asking) h) ∙ sets-front (uses whole question) out enough)
+    (c .before .put-uses .ensures ∙ ap (sets out 0) (uses-same whole question (s .args .records) (s .args .asking) h)
+    ∙ sets-front (uses whole question) out enough)
 
 pub answer-uses-spec : {M : Type 1} → statement M
 answer-uses-spec =

@@ -23,13 +23,17 @@ asked : (c : tie.After-is-asked)
     answered (accountOf (s .args .morning .now) (s .args .noon .now)) (s .args .question) ≡ c .is-asked .result
 asked c =
     let s = c .before .before .before in
-    sym (c .is-asked .ensures ∙ asked-is (accountOf (s .args .morning .now) (s .args .noon .now)) (s .pre .lawful) (s .args .account .counts) (s .pre .places .counts) (s .args .question))
+    sym (c .is-asked .ensures ∙ asked-is (accountOf (s .args .morning .now) (s .args .noon .now)) (s .pre .lawful) (s .args .account .counts)
+    (s .pre .places .counts) (s .args .question))
 
 returns : tie.Need-returns
 returns c =
     let s = c .before .before .before .before in
-    let a = accountOf (s .args .morning .now) (s .args .noon .now) in
-    (sym (ap (λ (t : Bool). cond t (length (numbersFor a (Book (s .args .question)))) 0) (asked (c .before) ∙ not-true (c .before .is-asked .result) (c .if1 .taken))), omega arith)
+    let a = accountOf (s .args .morning .now) (s .args .noon .now) in (
+      sym (ap (λ (t : Bool). cond t (length (numbersFor a (Book (s .args .question)))) 0)
+          (asked (c .before) ∙ not-true (c .before .is-asked .result) (c .if1 .taken))),
+      omega arith,
+    )
 
 sizes-over-requires : tie.Need-sizes-over-requires
 sizes-over-requires c κs = (c .before .before .before .before .pre, asked (c .before) ∙ not-false (c .before .is-asked .result) (c .if1 .left))
@@ -51,7 +55,9 @@ returns-2 c =
     let s = c .before .before .before .before .before .before .before in
     let a = accountOf (s .args .morning .now) (s .args .noon .now) in
     let r = c .before .before .sizes-over in (
-      sym (ap (λ (t : Bool). cond t (length (numbersFor a (Book (s .args .question)))) 0) (asked (c .before .before .before .before) ∙ not-false (c .before .before .before .before .is-asked .result) (c .before .before .before .if1 .left)) ∙ r .ensures .book-has),
+      sym (ap (λ (t : Bool). cond t (length (numbersFor a (Book (s .args .question)))) 0)
+          (asked (c .before .before .before .before) ∙ not-false (c .before .before .before .before .is-asked .result)
+          (c .before .before .before .if1 .left)) ∙ r .ensures .book-has),
       omega (arith, r .ensures .prompts-few, r .ensures .spreads-few),
     )
 

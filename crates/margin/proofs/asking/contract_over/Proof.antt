@@ -45,7 +45,8 @@ lend-contract-requires : tie.Need-lend-contract-requires
 lend-contract-requires c κs = (c .before .before .before .before .before .pre .0, (small (c .before .before), c .before .position-in .ensures))
 
 lend-contract-requires-2 : tie.Need-lend-contract-requires-2
-lend-contract-requires-2 c κs = let p = c .before .before .before .before in (p .before .before .before .before .pre .0, (small (p .before), p .position-in .ensures))
+lend-contract-requires-2 c κs = let p = c .before .before .before .before in
+    (p .before .before .before .before .pre .0, (small (p .before), p .position-in .ensures))
 
 line-with-requires : tie.Need-line-with-requires
 line-with-requires c κs =

@@ -67,7 +67,8 @@ mul-lines : tie.Need-mul-lines Inv-loop μ-loop
 mul-lines c = let t = c .before .before .before .before .before in let h = few (t .before .before .before .before .before) in omega (arith, t .loop-test .taken)
 
 array-set-from-lines : tie.Need-array-set-from-lines Inv-loop μ-loop
-array-set-from-lines c = let t = c .before .before .before .before .before in let h = few (t .before .before .before .before .before) in omega (arith, t .loop-test .taken)
+array-set-from-lines c = let t = c .before .before .before .before .before in let h = few (t .before .before .before .before .before) in omega
+    (arith, t .loop-test .taken)
 
 add-i : tie.Need-add-i Inv-loop μ-loop
 add-i c = let t = c .before .before .before .before .before in let h = few (t .before .before .before .before .before) in omega (arith, t .loop-test .taken)

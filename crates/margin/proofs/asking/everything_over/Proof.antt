@@ -49,7 +49,8 @@ same-length : tie.Need-same-length
 same-length c = search needs
 
 same-length-2 : tie.Need-same-length-2
-same-length-2 c = let b = c .before .before .before in b .books2 .given ∙ b .before .before .before .before .before .before .before .before .before .before .books .given
+same-length-2 c = let b = c .before .before .before in b .books2 .given
+    ∙ b .before .before .before .before .before .before .before .before .before .before .books .given
 
 same-length-3 : tie.Need-same-length-3
 same-length-3 c = c .uses2 .given ∙ c .before .before .before .before .before .before .before .before .before .before .before .before .uses .given

@@ -44,7 +44,8 @@ returns c =
     let a = accountOf (s .args .morning .now) (s .args .noon .now) in
     let n = c .figures-count in
     let few = few-contracts (s .args .morning .now) (s .args .noon .now) (s .args .account) (s .pre) in
-    needed a (n .result) _ _ (c .before .enum-told .given .1) (sym (figures-length a ∙ omega (arith, n .ensures, s .pre .places .contracts)), omega (arith, n .ensures, few))
+    needed a (n .result) _ _ (c .before .enum-told .given .1)
+    (sym (figures-length a ∙ omega (arith, n .ensures, s .pre .places .contracts)), omega (arith, n .ensures, few))
 
 returns-2 : tie.Need-returns-2
 returns-2 c =

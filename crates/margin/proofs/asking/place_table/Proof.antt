@@ -40,7 +40,8 @@ part-answer-asking-end : tie.Need-part-answer-asking-end
 part-answer-asking-end c = omega (arith, room (c .before))
 
 answer-asking-requires : tie.Need-answer-asking-requires
-answer-asking-requires c κs = let x = c .before .before .before .before .before .pre .1 .0 in c .before .table-asking .ensures (x .whole) (x .beside) (x .is) .accepted
+answer-asking-requires c κs = let x = c .before .before .before .before .before .pre .1 .0 in c .before .table-asking .ensures (x .whole) (x .beside)
+    (x .is) .accepted
 
 same-length : tie.Need-same-length
 same-length c = search needs

@@ -18,7 +18,8 @@ returns c =
     let out = s .args .out .now in
     λ whole question h.
     refused-with (TooFewNumbers (s .args .records)) _ (numbersFor whole question) out
-    (asked-few whole question (length out) (h .asked-is) (omega (arith, h .count-is, c .if1 .taken)) ∙ ap TooFewNumbers (sym (h .records-are))) (λ e. omega arith)
+    (asked-few whole question (length out) (h .asked-is) (omega (arith, h .count-is, c .if1 .taken)) ∙ ap TooFewNumbers (sym (h .records-are)))
+    (λ e. omega arith)
 
 lend-requires : tie.Need-lend-requires
 lend-requires c κs = search needs

@@ -26,7 +26,8 @@ asked : (c : tie.After-is-asked)
     answered (accountOf (s .args .morning .now) (s .args .noon .now)) (s .args .question) ≡ c .is-asked .result
 asked c =
     let s = c .before .before .before in
-    sym (c .is-asked .ensures ∙ asked-is (accountOf (s .args .morning .now) (s .args .noon .now)) (s .pre .0 .lawful) (s .args .account .counts) (s .pre .0 .places .counts) (s .args .question))
+    sym (c .is-asked .ensures ∙ asked-is (accountOf (s .args .morning .now) (s .args .noon .now)) (s .pre .0 .lawful) (s .args .account .counts)
+    (s .pre .0 .places .counts) (s .args .question))
 
 returns : tie.Need-returns
 returns c =
@@ -36,14 +37,17 @@ returns c =
     let q = questionOf (s .args .paid) k in
     λ whole t.
     refused-with (NoSuchQuestion (s .args .positions .records)) _ (numbersFor whole q) (s .args .out .now)
-    (not-asked whole q (length (s .args .out .now)) (answers-of whole (s .args .paid) k ∙ answered-beside a whole (t .beside) k ∙ asked (c .before) ∙ not-true (c .before .is-asked .result) (c .if1 .taken))
+    (not-asked whole q (length (s .args .out .now)) (answers-of whole (s .args .paid) k ∙ answered-beside a whole (t .beside) k ∙ asked (c .before)
+    ∙ not-true (c .before .is-asked .result) (c .if1 .taken))
     ∙ ap NoSuchQuestion (sym (t .positions .records-are))) (λ e. omega arith)
 
 asking-from-requires : tie.Need-asking-from-requires
-asking-from-requires c κs = let s = c .before .before .before .before in (s .pre .0, (s .pre .1, asked (c .before) ∙ not-false (c .before .is-asked .result) (c .if1 .left)))
+asking-from-requires c κs = let s = c .before .before .before .before in
+    (s .pre .0, (s .pre .1, asked (c .before) ∙ not-false (c .before .is-asked .result) (c .if1 .left)))
 
 answer-asking-requires : tie.Need-answer-asking-requires
-answer-asking-requires c κs = let x = c .before .before .before .before .before .before .pre .1 in c .before .asking-from .ensures (x .whole) (x .told) .accepted
+answer-asking-requires c κs = let x = c .before .before .before .before .before .before .pre .1 in c .before .asking-from .ensures (x .whole)
+    (x .told) .accepted
 
 same-length : tie.Need-same-length
 same-length c = search needs
@@ -56,7 +60,9 @@ returns-2 c =
     c .before .answer-asking .ensures whole k
     (record {
       lawful = t .beside .lawful;
-      asked-is = answered-beside (accountOf (s .args .morning .now) (s .args .noon .now)) whole (t .beside) k ∙ asked (c .before .before .before .before .before) ∙ not-false (c .before .before .before .before .before .is-asked .result) (c .before .before .before .before .if1 .left);
+      asked-is = answered-beside (accountOf (s .args .morning .now) (s .args .noon .now)) whole (t .beside) k
+          ∙ asked (c .before .before .before .before .before) ∙ not-false (c .before .before .before .before .before .is-asked .result)
+          (c .before .before .before .before .if1 .left);
       records-are = t .positions .records-are;
       asks = c .before .before .before .asking-from .ensures whole t;
     })

@@ -20,7 +20,8 @@ part-total-requires c κs = search needs
 returns : tie.Need-returns
 returns c =
     let s = c .before .before .before .before .before in
-    subst₂ (SizesOf (accountOf (s .args .morning .now) (s .args .noon .now)) (s .args .question)) (sym (c .before .contract-total .ensures)) (sym (c .part-total .ensures))
+    subst₂ (SizesOf (accountOf (s .args .morning .now) (s .args .noon .now)) (s .args .question)) (sym (c .before .contract-total .ensures))
+    (sym (c .part-total .ensures))
     (table-sizes (s .args .morning .now) (s .args .noon .now) (s .args .account) (s .pre .0) (s .args .question) (s .pre .1) (c .before .before .if1 .taken))
 
 -- the question is a contract's number
@@ -44,7 +45,8 @@ part-total-requires-3 c κs = search needs
 returns-2 : tie.Need-returns-2
 returns-2 c =
     let s = c .before .before .before .before .before in
-    subst₂ (SizesOf (accountOf (s .args .morning .now) (s .args .noon .now)) (s .args .question)) (sym (c .before .part-total2 .ensures)) (sym (c .part-total3 .ensures))
+    subst₂ (SizesOf (accountOf (s .args .morning .now) (s .args .noon .now)) (s .args .question)) (sym (c .before .part-total2 .ensures))
+    (sym (c .part-total3 .ensures))
     (contract-sizes (s .args .morning .now) (s .args .noon .now) (s .args .account) (s .pre .0) (s .args .question) (s .pre .1) (c .before .before .if1 .left))
 
 pub sizes-over-spec : {M : Type 1} → statement M

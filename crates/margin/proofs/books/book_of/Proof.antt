@@ -39,12 +39,15 @@ parts : (c : tie.After-book-numbers)
     → let s = c .before .before .before .before .before .before .before .before .before .before in
     let p = s .args .asking .prompts in
     let t = s .args .asking .table in
-    PartNumbers (threes (map (λ o. o .unused) (openOf p)) (usedOf (stepsOf t) (openOf p)) (unusedOf (stepsOf t) (openOf p)) ++ map pos (numbers (stepsOf t) (openOf p))) (p .count) (t .count) (c .book-numbers .result)
+    PartNumbers
+    (threes (map (λ o. o .unused) (openOf p)) (usedOf (stepsOf t) (openOf p)) (unusedOf (stepsOf t) (openOf p)) ++ map pos
+    (numbers (stepsOf t) (openOf p))) (p .count) (t .count) (c .book-numbers .result)
 parts c =
     let s = c .before .before .before .before .before .before .before .before .before .before in
     let b = c .before .before .before .before .before .before .counted-book in
     let r = c .book-numbers in
-    listed (s .args .asking .prompts) (s .args .asking .table) (tiers-32 s) (nets-32 s) (spreads-32 s) (s .pre) (b .result) (b .ensures) (r .result) (r .ensures .0) (r .ensures .1)
+    listed (s .args .asking .prompts) (s .args .asking .table) (tiers-32 s) (nets-32 s) (spreads-32 s) (s .pre) (b .result) (b .ensures) (r .result)
+    (r .ensures .0) (r .ensures .1)
 
 with-last-requires : tie.Need-with-last-requires
 with-last-requires c κs = (parts c .few, omega (arith, c .before .before .before .before .before .before .counted-book .ensures .few))
@@ -56,7 +59,8 @@ returns c =
     let t = s .args .asking .table in
     let b = c .before .before .before .before .before .before .before .counted-book in
     let r = c .with-last in
-    finished p t (tiers-32 s) (nets-32 s) (spreads-32 s) (s .pre) (b .result) (b .ensures) (c .before .book-numbers .result) (r .result) (parts (c .before)) (r .ensures .0) (r .ensures .1)
+    finished p t (tiers-32 s) (nets-32 s) (spreads-32 s) (s .pre) (b .result) (b .ensures) (c .before .book-numbers .result) (r .result)
+    (parts (c .before)) (r .ensures .0) (r .ensures .1)
 
 pub book-of-spec : {M : Type 1} → statement M
 book-of-spec =

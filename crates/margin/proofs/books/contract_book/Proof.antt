@@ -32,7 +32,8 @@ book-of-accepted-requires c κs =
 returns-2 : tie.Need-returns-2
 returns-2 c =
     let s = c .before .before .before .before .before .before in
-    contract-book-is (s .args .prompts .now) (s .args .spreads .now) (s .args .nets) (c .before .before .prompts-with .result) (c .before .interprompt-table .result) (c .book-of-accepted .result)
+    contract-book-is (s .args .prompts .now) (s .args .spreads .now) (s .args .nets) (c .before .before .prompts-with .result)
+    (c .before .interprompt-table .result) (c .book-of-accepted .result)
     (c .before .before .prompts-with .ensures) (c .before .interprompt-table .ensures) (s .pre) (c .book-of-accepted .ensures)
 
 pub contract-book-spec : {M : Type 1} → statement M

@@ -20,7 +20,8 @@ returns : tie.Need-returns
 returns c =
     let s = c .before .before .before .before in (
       c .prompt-charge .ensures .0
-          ∙ ap₂ (λ (r q : ℕ). promptCharge (s .args .unit) r q (s .args .used .0) (s .args .unused .0)) (c .before .before .spread-rate .ensures .0) (c .before .outright-rate .ensures .0),
+          ∙ ap₂ (λ (r q : ℕ). promptCharge (s .args .unit) r q (s .args .used .0) (s .args .unused .0)) (c .before .before .spread-rate .ensures .0)
+          (c .before .outright-rate .ensures .0),
       c .prompt-charge .ensures .1,
     )
 

@@ -15,8 +15,11 @@ spread-charge-requires c κs = search needs
 
 returns : tie.Need-returns
 returns c =
-    let s = c .before .before .before in
-    (c .spread-charge .ensures .0 ∙ ap (λ (r : ℕ). spreadCharge (s .args .unit) r (s .args .first .0) (s .args .second .0)) (c .before .rate-per-spread .ensures .0), c .spread-charge .ensures .1)
+    let s = c .before .before .before in (
+      c .spread-charge .ensures .0 ∙ ap (λ (r : ℕ). spreadCharge (s .args .unit) r (s .args .first .0) (s .args .second .0))
+          (c .before .rate-per-spread .ensures .0),
+      c .spread-charge .ensures .1,
+    )
 
 pub charge-of-spread-spec : {M : Type 1} → statement M
 charge-of-spread-spec =

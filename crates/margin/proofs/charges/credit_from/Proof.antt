@@ -32,8 +32,11 @@ entry-use-requires c κs = search needs
 
 returns : tie.Need-returns
 returns c =
-    let s = c .before .before .before in
-    (nothing-used (s .args .earner .unit) (s .args .earner .«twice_price») _ _ (s .args .earner .net) (sym (c .before .entry-use .ensures) ∙ c .if1 .taken), omega arith)
+    let s = c .before .before .before in (
+      nothing-used (s .args .earner .unit) (s .args .earner .«twice_price») _ _ (s .args .earner .net)
+          (sym (c .before .entry-use .ensures) ∙ c .if1 .taken),
+      omega arith,
+    )
 
 percent-requires : tie.Need-percent-requires
 percent-requires c κs = search needs
@@ -45,7 +48,8 @@ returns-2 : tie.Need-returns-2
 returns-2 c =
     let s = c .before .before .before .before .before in (
       c .credit .ensures .0
-          ∙ ap₂ (λ (u p : ℕ). credit (s .args .earner .unit) (s .args .earner .«twice_price») u p (s .args .earner .net)) (c .before .before .before .entry-use .ensures) (c .before .percent .ensures .0),
+          ∙ ap₂ (λ (u p : ℕ). credit (s .args .earner .unit) (s .args .earner .«twice_price») u p (s .args .earner .net))
+          (c .before .before .before .entry-use .ensures) (c .before .percent .ensures .0),
       c .credit .ensures .1,
     )
 

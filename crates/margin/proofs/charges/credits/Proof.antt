@@ -17,7 +17,8 @@ use Rattle.margin.proofs.charges.credits.Statement.{statement}
 use Rattle.margin.proofs.charges.credits.Tie as tie
 
 abbrev Inv-loop : tie.InvT-loop
-Inv-loop entries earner first second count sum₀ i₀ sum i = ToGo (recordCount entries) mostCredit (creditFrom (earner .unit) (earner .contract) (earner .«twice_price») (earner .net) (records entries) first second) i sum
+Inv-loop entries earner first second count sum₀ i₀ sum i = ToGo (recordCount entries) mostCredit
+    (creditFrom (earner .unit) (earner .contract) (earner .«twice_price») (earner .net) (records entries) first second) i sum
 
 abbrev μ-loop : tie.MeasureT-loop
 μ-loop entries earner first second count sum₀ i₀ sum i = count - i
@@ -44,19 +45,23 @@ mul-credit-from : tie.Need-mul-credit-from Inv-loop μ-loop
 mul-credit-from c = omega arith
 
 array-copy-out-credit-from : tie.Need-array-copy-out-credit-from Inv-loop μ-loop
-array-copy-out-credit-from c = let s = c .before .before .before .before in omega (arith, s .pre .most, length-cut (recordCount (s .args .entries .now)) (s .args .entries .now))
+array-copy-out-credit-from c = let s = c .before .before .before .before in omega
+    (arith, s .pre .most, length-cut (recordCount (s .args .entries .now)) (s .args .entries .now))
 
 mul-credit-from-2 : tie.Need-mul-credit-from-2 Inv-loop μ-loop
 mul-credit-from-2 c = omega arith
 
 array-copy-out-credit-from-2 : tie.Need-array-copy-out-credit-from-2 Inv-loop μ-loop
-array-copy-out-credit-from-2 c = let s = c .before .before .before .before .before in omega (arith, s .pre .most, length-cut (recordCount (s .args .entries .now)) (s .args .entries .now))
+array-copy-out-credit-from-2 c = let s = c .before .before .before .before .before in omega
+    (arith, s .pre .most, length-cut (recordCount (s .args .entries .now)) (s .args .entries .now))
 
 credit-from-requires : tie.Need-credit-from-requires Inv-loop μ-loop
 credit-from-requires c κs =
     let s = c .before .before .before .before .before .before in
     let l = c .before .before .before .before .loop in
-    subst⁻¹ (λ (r : Record). CreditRoom (s .args .earner .unit) (s .args .earner .contract) (s .args .earner .«twice_price») (s .args .earner .net) r (getD (s .args .t3) (l .i) (record { 0 = 0 }) .0) (getD (s .args .t4) (l .i) (record { 0 = 0 }) .0)) (lent-at (s .args .entries .now) (l .i) (omega arith)) (s .pre .each (l .i) (below-records (s .args .entries .now) (l .i) (omega arith)))
+    subst⁻¹ (λ (r : Record). CreditRoom (s .args .earner .unit) (s .args .earner .contract) (s .args .earner .«twice_price») (s .args .earner .net) r
+    (getD (s .args .t3) (l .i) (record { 0 = 0 }) .0) (getD (s .args .t4) (l .i) (record { 0 = 0 }) .0))
+    (lent-at (s .args .entries .now) (l .i) (omega arith)) (s .pre .each (l .i) (below-records (s .args .entries .now) (l .i) (omega arith)))
 
 add-sum : tie.Need-add-sum Inv-loop μ-loop
 add-sum c =
@@ -83,8 +88,14 @@ loop-again c =
     let first : length (s .args .t3) ≡ 32 = search needs in
     let second : length (s .args .t4) ≡ 32 = search needs in
     next (l .i) (l .sum) (c .before .credit-from .result .0) (l .inv) (omega arith)
-    (credit-step (s .args .earner .unit) (s .args .earner .contract) (s .args .earner .«twice_price») (s .args .earner .net) (records (s .args .entries .now)) (s .args .t3) (s .args .t4) (omega arith) (omega arith) (l .i) (below-records f (l .i) (omega arith))
-    ∙ ap (λ (x : ℕ). x + creditFrom (s .args .earner .unit) (s .args .earner .contract) (s .args .earner .«twice_price») (s .args .earner .net) (records (s .args .entries .now)) (s .args .t3) (s .args .t4) (l .i + 1)) (sym (c .before .credit-from .ensures .0 ∙ ap (λ (r : Record). credit (s .args .earner .unit) (s .args .earner .«twice_price») (entryUse (s .args .earner .contract) r (getD (s .args .t3) (l .i) (record { 0 = 0 }) .0) (getD (s .args .t4) (l .i) (record { 0 = 0 }) .0)) (percent r) (s .args .earner .net)) (lent-at f (l .i) (omega arith)))))
+    (credit-step (s .args .earner .unit) (s .args .earner .contract) (s .args .earner .«twice_price») (s .args .earner .net)
+    (records (s .args .entries .now)) (s .args .t3) (s .args .t4) (omega arith) (omega arith) (l .i) (below-records f (l .i) (omega arith))
+    ∙ ap (λ (x : ℕ). x + creditFrom (s .args .earner .unit) (s .args .earner .contract) (s .args .earner .«twice_price») (s .args .earner .net)
+    (records (s .args .entries .now)) (s .args .t3) (s .args .t4) (l .i + 1))
+    (sym (c .before .credit-from .ensures .0
+    ∙ ap (λ (r : Record). credit (s .args .earner .unit) (s .args .earner .«twice_price»)
+    (entryUse (s .args .earner .contract) r (getD (s .args .t3) (l .i) (record { 0 = 0 }) .0) (getD (s .args .t4) (l .i) (record { 0 = 0 }) .0))
+    (percent r) (s .args .earner .net)) (lent-at f (l .i) (omega arith)))))
     (c .before .credit-from .ensures .1)
 
 returns : tie.Need-returns Inv-loop μ-loop
@@ -95,8 +106,12 @@ returns c =
     let n = length-cut (recordCount f) f in
     let h = s .pre .most in
     let t = l .inv .small in
-    let w = l .inv .within in
-    (finish (l .i) (l .sum) (l .inv) (omega arith) (credit-none (s .args .earner .unit) (s .args .earner .contract) (s .args .earner .«twice_price») (s .args .earner .net) (records (s .args .entries .now)) (s .args .t3) (s .args .t4) (l .i) (omega arith)), omega arith)
+    let w = l .inv .within in (
+      finish (l .i) (l .sum) (l .inv) (omega arith)
+          (credit-none (s .args .earner .unit) (s .args .earner .contract) (s .args .earner .«twice_price») (s .args .earner .net)
+          (records (s .args .entries .now)) (s .args .t3) (s .args .t4) (l .i) (omega arith)),
+      omega arith,
+    )
 
 pub credits-spec : {M : Type 1} → statement M
 credits-spec =

@@ -45,7 +45,8 @@ returns-2 c =
     let second = c .before .before .before .before .second-contract in
     c .both-take2 .ensures
     ∙ use-second (s .args .c) (s .args .e .now) (s .args .first .0) (s .args .second .0) (number .result) (number .ensures .0)
-    (second .result) _ _ (second .ensures .0) (c .before .before .before .before .before .if1 .left) (c .before .before .before .if2 .taken) (c .before .before .tenths2 .ensures) (c .before .second-ratio .ensures .0)
+    (second .result) _ _ (second .ensures .0) (c .before .before .before .before .before .if1 .left) (c .before .before .before .if2 .taken)
+    (c .before .before .tenths2 .ensures) (c .before .second-ratio .ensures .0)
 
 returns-3 : tie.Need-returns-3
 returns-3 c =

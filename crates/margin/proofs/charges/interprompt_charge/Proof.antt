@@ -44,19 +44,23 @@ mul-charge-of-spread : tie.Need-mul-charge-of-spread Inv-loop μ-loop
 mul-charge-of-spread c = omega arith
 
 array-copy-out-charge-of-spread : tie.Need-array-copy-out-charge-of-spread Inv-loop μ-loop
-array-copy-out-charge-of-spread c = let s = c .before .before .before .before in omega (arith, s .pre .most, length-cut (recordCount (s .args .spreads .now)) (s .args .spreads .now))
+array-copy-out-charge-of-spread c = let s = c .before .before .before .before in omega
+    (arith, s .pre .most, length-cut (recordCount (s .args .spreads .now)) (s .args .spreads .now))
 
 mul-charge-of-spread-2 : tie.Need-mul-charge-of-spread-2 Inv-loop μ-loop
 mul-charge-of-spread-2 c = omega arith
 
 array-copy-out-charge-of-spread-2 : tie.Need-array-copy-out-charge-of-spread-2 Inv-loop μ-loop
-array-copy-out-charge-of-spread-2 c = let s = c .before .before .before .before .before in omega (arith, s .pre .most, length-cut (recordCount (s .args .spreads .now)) (s .args .spreads .now))
+array-copy-out-charge-of-spread-2 c = let s = c .before .before .before .before .before in omega
+    (arith, s .pre .most, length-cut (recordCount (s .args .spreads .now)) (s .args .spreads .now))
 
 charge-of-spread-requires : tie.Need-charge-of-spread-requires Inv-loop μ-loop
 charge-of-spread-requires c κs =
     let s = c .before .before .before .before .before .before in
     let l = c .before .before .before .before .loop in
-    subst⁻¹ (λ (r : Record). SpreadRoom (s .args .unit) r (getD (s .args .t3) (l .i) (record { 0 = 0 }) .0) (getD (s .args .t4) (l .i) (record { 0 = 0 }) .0)) (lent-at (s .args .spreads .now) (l .i) (omega arith)) (s .pre .each (l .i) (below-records (s .args .spreads .now) (l .i) (omega arith)))
+    subst⁻¹ (λ (r : Record). SpreadRoom (s .args .unit) r (getD (s .args .t3) (l .i) (record { 0 = 0 }) .0)
+    (getD (s .args .t4) (l .i) (record { 0 = 0 }) .0)) (lent-at (s .args .spreads .now) (l .i) (omega arith))
+    (s .pre .each (l .i) (below-records (s .args .spreads .now) (l .i) (omega arith)))
 
 add-sum : tie.Need-add-sum Inv-loop μ-loop
 add-sum c =
@@ -83,8 +87,12 @@ loop-again c =
     let first : length (s .args .t3) ≡ 32 = search needs in
     let second : length (s .args .t4) ≡ 32 = search needs in
     next (l .i) (l .sum) (c .before .charge-of-spread .result .0) (l .inv) (omega arith)
-    (charge-step (s .args .unit) (records (s .args .spreads .now)) (s .args .t3) (s .args .t4) (omega arith) (omega arith) (l .i) (below-records f (l .i) (omega arith))
-    ∙ ap (λ (x : ℕ). x + chargeFrom (s .args .unit) (records (s .args .spreads .now)) (s .args .t3) (s .args .t4) (l .i + 1)) (sym (c .before .charge-of-spread .ensures .0 ∙ ap (λ (r : Record). spreadCharge (s .args .unit) (ratePerSpread r) (getD (s .args .t3) (l .i) (record { 0 = 0 }) .0) (getD (s .args .t4) (l .i) (record { 0 = 0 }) .0)) (lent-at f (l .i) (omega arith)))))
+    (charge-step (s .args .unit) (records (s .args .spreads .now)) (s .args .t3) (s .args .t4) (omega arith) (omega arith) (l .i)
+    (below-records f (l .i) (omega arith))
+    ∙ ap (λ (x : ℕ). x + chargeFrom (s .args .unit) (records (s .args .spreads .now)) (s .args .t3) (s .args .t4) (l .i + 1))
+    (sym (c .before .charge-of-spread .ensures .0
+    ∙ ap (λ (r : Record). spreadCharge (s .args .unit) (ratePerSpread r) (getD (s .args .t3) (l .i) (record { 0 = 0 }) .0)
+    (getD (s .args .t4) (l .i) (record { 0 = 0 }) .0)) (lent-at f (l .i) (omega arith)))))
     (c .before .charge-of-spread .ensures .1)
 
 returns : tie.Need-returns Inv-loop μ-loop
@@ -95,8 +103,11 @@ returns c =
     let n = length-cut (recordCount f) f in
     let h = s .pre .most in
     let t = l .inv .small in
-    let w = l .inv .within in
-    (finish (l .i) (l .sum) (l .inv) (omega arith) (charge-none (s .args .unit) (records (s .args .spreads .now)) (s .args .t3) (s .args .t4) (l .i) (omega arith)), omega arith)
+    let w = l .inv .within in (
+      finish (l .i) (l .sum) (l .inv) (omega arith)
+          (charge-none (s .args .unit) (records (s .args .spreads .now)) (s .args .t3) (s .args .t4) (l .i) (omega arith)),
+      omega arith,
+    )
 
 pub interprompt-charge-spec : {M : Type 1} → statement M
 interprompt-charge-spec =

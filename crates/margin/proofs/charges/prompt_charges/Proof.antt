@@ -45,19 +45,23 @@ mul-charge-of-prompt : tie.Need-mul-charge-of-prompt Inv-loop μ-loop
 mul-charge-of-prompt c = omega arith
 
 array-copy-out-charge-of-prompt : tie.Need-array-copy-out-charge-of-prompt Inv-loop μ-loop
-array-copy-out-charge-of-prompt c = let s = c .before .before .before .before in omega (arith, s .pre .most, length-cut (recordCount (s .args .prompts .now)) (s .args .prompts .now))
+array-copy-out-charge-of-prompt c = let s = c .before .before .before .before in omega
+    (arith, s .pre .most, length-cut (recordCount (s .args .prompts .now)) (s .args .prompts .now))
 
 mul-charge-of-prompt-2 : tie.Need-mul-charge-of-prompt-2 Inv-loop μ-loop
 mul-charge-of-prompt-2 c = omega arith
 
 array-copy-out-charge-of-prompt-2 : tie.Need-array-copy-out-charge-of-prompt-2 Inv-loop μ-loop
-array-copy-out-charge-of-prompt-2 c = let s = c .before .before .before .before .before in omega (arith, s .pre .most, length-cut (recordCount (s .args .prompts .now)) (s .args .prompts .now))
+array-copy-out-charge-of-prompt-2 c = let s = c .before .before .before .before .before in omega
+    (arith, s .pre .most, length-cut (recordCount (s .args .prompts .now)) (s .args .prompts .now))
 
 charge-of-prompt-requires : tie.Need-charge-of-prompt-requires Inv-loop μ-loop
 charge-of-prompt-requires c κs =
     let s = c .before .before .before .before .before .before in
     let l = c .before .before .before .before .loop in
-    subst⁻¹ (λ (r : Record). PromptRoom (s .args .unit) r (getD (s .args .t3) (l .i) (record { 0 = pos 0 }) .0) (getD (s .args .t4) (l .i) (record { 0 = pos 0 }) .0)) (lent-at (s .args .prompts .now) (l .i) (omega arith)) (s .pre .each (l .i) (below-records (s .args .prompts .now) (l .i) (omega arith)))
+    subst⁻¹ (λ (r : Record). PromptRoom (s .args .unit) r (getD (s .args .t3) (l .i) (record { 0 = pos 0 }) .0)
+    (getD (s .args .t4) (l .i) (record { 0 = pos 0 }) .0)) (lent-at (s .args .prompts .now) (l .i) (omega arith))
+    (s .pre .each (l .i) (below-records (s .args .prompts .now) (l .i) (omega arith)))
 
 add-sum : tie.Need-add-sum Inv-loop μ-loop
 add-sum c =
@@ -84,8 +88,12 @@ loop-again c =
     let first : length (s .args .t3) ≡ 32 = search needs in
     let second : length (s .args .t4) ≡ 32 = search needs in
     next (l .i) (l .sum) (c .before .charge-of-prompt .result .0) (l .inv) (omega arith)
-    (prompt-step (s .args .unit) (records (s .args .prompts .now)) (s .args .t3) (s .args .t4) (omega arith) (omega arith) (l .i) (below-records f (l .i) (omega arith))
-    ∙ ap (λ (x : ℕ). x + promptFrom (s .args .unit) (records (s .args .prompts .now)) (s .args .t3) (s .args .t4) (l .i + 1)) (sym (c .before .charge-of-prompt .ensures .0 ∙ ap (λ (r : Record). promptCharge (s .args .unit) (spreadRate r) (outrightRate r) (getD (s .args .t3) (l .i) (record { 0 = pos 0 }) .0) (getD (s .args .t4) (l .i) (record { 0 = pos 0 }) .0)) (lent-at f (l .i) (omega arith)))))
+    (prompt-step (s .args .unit) (records (s .args .prompts .now)) (s .args .t3) (s .args .t4) (omega arith) (omega arith) (l .i)
+    (below-records f (l .i) (omega arith))
+    ∙ ap (λ (x : ℕ). x + promptFrom (s .args .unit) (records (s .args .prompts .now)) (s .args .t3) (s .args .t4) (l .i + 1))
+    (sym (c .before .charge-of-prompt .ensures .0
+    ∙ ap (λ (r : Record). promptCharge (s .args .unit) (spreadRate r) (outrightRate r) (getD (s .args .t3) (l .i) (record { 0 = pos 0 }) .0)
+    (getD (s .args .t4) (l .i) (record { 0 = pos 0 }) .0)) (lent-at f (l .i) (omega arith)))))
     (c .before .charge-of-prompt .ensures .1)
 
 returns : tie.Need-returns Inv-loop μ-loop
@@ -96,8 +104,11 @@ returns c =
     let n = length-cut (recordCount f) f in
     let h = s .pre .most in
     let t = l .inv .small in
-    let w = l .inv .within in
-    (finish (l .i) (l .sum) (l .inv) (omega arith) (prompt-none (s .args .unit) (records (s .args .prompts .now)) (s .args .t3) (s .args .t4) (l .i) (omega arith)), omega arith)
+    let w = l .inv .within in (
+      finish (l .i) (l .sum) (l .inv) (omega arith)
+          (prompt-none (s .args .unit) (records (s .args .prompts .now)) (s .args .t3) (s .args .t4) (l .i) (omega arith)),
+      omega arith,
+    )
 
 pub prompt-charges-spec : {M : Type 1} → statement M
 prompt-charges-spec =

@@ -35,7 +35,8 @@ credits-requires : tie.Need-credits-requires Inv-loop μ-loop
 credits-requires c κs =
     let s = c .before .before .before .before .before .before .before in
     let l = c .before .before .before .loop in
-    earner-room (getD (s .args .t2) (l .i) noLine) (c .earner-of .result) (records (s .args .entries .now)) (s .args .book .first) (s .args .book .second) (c .earner-of .ensures) (s .pre .each (l .i) (omega arith))
+    earner-room (getD (s .args .t2) (l .i) noLine) (c .earner-of .result) (records (s .args .entries .now)) (s .args .book .first)
+    (s .args .book .second) (c .earner-of .ensures) (s .pre .each (l .i) (omega arith))
 
 mul-earned : tie.Need-mul-earned Inv-loop μ-loop
 mul-earned c = omega (arith, c .before .before .before .before .before .before .before .before .pre .few)
@@ -53,8 +54,10 @@ loop-again : tie.Need-loop-again Inv-loop μ-loop
 loop-again c =
     let s = c .before .before .before .before .before .before .before .before in
     let l = c .before .before .before .before .loop in (
-      earned-next (l .i) (s .args .t2) (records (s .args .entries .now)) (s .args .book .first) (s .args .book .second) (l .earned) (c .credits .result) (l .inv .0) (omega (arith, s .pre .few))
-          (earner-earns (getD (s .args .t2) (l .i) noLine) (c .before .earner-of .result) (records (s .args .entries .now)) (s .args .book .first) (s .args .book .second) (c .before .earner-of .ensures) (c .credits .result .0) (c .credits .ensures .0))
+      earned-next (l .i) (s .args .t2) (records (s .args .entries .now)) (s .args .book .first) (s .args .book .second) (l .earned)
+          (c .credits .result) (l .inv .0) (omega (arith, s .pre .few))
+          (earner-earns (getD (s .args .t2) (l .i) noLine) (c .before .earner-of .result) (records (s .args .entries .now)) (s .args .book .first)
+          (s .args .book .second) (c .before .earner-of .ensures) (c .credits .result .0) (c .credits .ensures .0))
           (c .credits .ensures .1),
       omega arith,
     )

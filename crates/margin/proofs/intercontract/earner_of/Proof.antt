@@ -14,7 +14,13 @@ magnitude-requires : tie.Need-magnitude-requires
 magnitude-requires c κs = search needs
 
 returns : tie.Need-returns
-returns c = record { unit-is = refl; contract-is = refl; price-is = refl; net-is = seen natAbs (c .before .before .before .before .args .line .net .0) (record { sfits = c .before .struct-told .given .0 .1 }) (c .magnitude .ensures) }
+returns c = record {
+  unit-is = refl;
+  contract-is = refl;
+  price-is = refl;
+  net-is = seen natAbs (c .before .before .before .before .args .line .net .0)
+      (record { sfits = c .before .struct-told .given .0 .1 }) (c .magnitude .ensures);
+}
 
 pub earner-of-spec : {M : Type 1} → statement M
 earner-of-spec = tie.close (tie.spec cast-t3 magnitude-requires returns)

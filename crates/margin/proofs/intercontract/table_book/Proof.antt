@@ -22,7 +22,8 @@ book-of-accepted-requires c κs =
 returns : tie.Need-returns
 returns c =
     let s = c .before .before .before .before in
-    table-book-is (s .args .count) (s .args .lines) (s .args .entries .now) (c .before .before .tiers-of .result) (c .before .intercontract-table .result) (c .book-of-accepted .result)
+    table-book-is (s .args .count) (s .args .lines) (s .args .entries .now) (c .before .before .tiers-of .result)
+    (c .before .intercontract-table .result) (c .book-of-accepted .result)
     (c .before .before .tiers-of .ensures) (c .before .intercontract-table .ensures) (s .pre) (c .book-of-accepted .ensures)
 
 pub table-book-spec : {M : Type 1} → statement M

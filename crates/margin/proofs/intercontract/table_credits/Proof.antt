@@ -13,7 +13,8 @@ returns : tie.Need-returns
 returns c =
     let s = c .before .before in
     let es = records (s .args .entries .now) in
-    none-earned (s .args .count) (s .args .lines) (s .args .entries .now) (tableFirsts (s .args .count) (s .args .lines) es) (tableSeconds (s .args .count) (s .args .lines) es) (c .if1 .taken)
+    none-earned (s .args .count) (s .args .lines) (s .args .entries .now) (tableFirsts (s .args .count) (s .args .lines) es)
+    (tableSeconds (s .args .count) (s .args .lines) es) (c .if1 .taken)
 
 table-book-requires : tie.Need-table-book-requires
 table-book-requires c κs = c .before .before .pre .0
@@ -31,8 +32,10 @@ returns-2 c =
     let s = c .before .before .before .before in
     let es = records (s .args .entries .now) in
     let b = c .before .table-book in
-    subst (λ (f : List Spreads). CreditsOf (s .args .count) (s .args .lines) es f (tableSeconds (s .args .count) (s .args .lines) es) (c .credits-of .result)) (b .ensures .first-is)
-    (subst (λ (g : List Spreads). CreditsOf (s .args .count) (s .args .lines) es (b .result .first) g (c .credits-of .result)) (b .ensures .second-is) (c .credits-of .ensures))
+    subst (λ (f : List Spreads). CreditsOf (s .args .count) (s .args .lines) es f (tableSeconds (s .args .count) (s .args .lines) es)
+    (c .credits-of .result)) (b .ensures .first-is)
+    (subst (λ (g : List Spreads). CreditsOf (s .args .count) (s .args .lines) es (b .result .first) g (c .credits-of .result)) (b .ensures .second-is)
+    (c .credits-of .ensures))
 
 pub table-credits-spec : {M : Type 1} → statement M
 table-credits-spec =

@@ -16,7 +16,8 @@ scanned-requires : tie.Need-scanned-requires
 scanned-requires c κs =
     let s = c .before .before .before .before .before .before in
     let w = s .pre in
-    totals-room (w .rates) (s .args .own .now) (records (s .args .prompts .now)) (w .rows) (records (s .args .spreads .now)) (w .fit) (s .args .p) (w .is) (w .most)
+    totals-room (w .rates) (s .args .own .now) (records (s .args .prompts .now)) (w .rows) (records (s .args .spreads .now)) (w .fit) (s .args .p)
+    (w .is) (w .most)
 
 unit-requires : tie.Need-unit-requires
 unit-requires c κs = search needs
@@ -25,7 +26,8 @@ contract-book-requires : tie.Need-contract-book-requires
 contract-book-requires c κs =
     let s = c .before .before .before .before .before .before .before .before in
     let w = s .pre in
-    book-room (w .rates) (s .args .own .now) (records (s .args .prompts .now)) (w .rows) (records (s .args .spreads .now)) (w .fit) (s .args .p) (w .is) (w .most)
+    book-room (w .rates) (s .args .own .now) (records (s .args .prompts .now)) (w .rows) (records (s .args .spreads .now)) (w .fit) (s .args .p)
+    (w .is) (w .most)
 
 charges-of-requires : tie.Need-charges-of-requires
 charges-of-requires c κs =
@@ -54,7 +56,8 @@ contract-net-requires : tie.Need-contract-net-requires
 contract-net-requires c κs =
     let s = c .before .before .before .before .before .before .before .before .before .before .before .before in
     let w = s .pre in
-    net-sizes (w .rates) (s .args .own .now) (records (s .args .prompts .now)) (w .rows) (records (s .args .spreads .now)) (w .fit) (s .args .p) (w .is) (w .most)
+    net-sizes (w .rates) (s .args .own .now) (records (s .args .prompts .now)) (w .rows) (records (s .args .spreads .now)) (w .fit) (s .args .p)
+    (w .is) (w .most)
 
 contract-requires : tie.Need-contract-requires
 contract-requires c κs = search needs

@@ -25,7 +25,8 @@ asked c =
     let s = c .before .before .before in
     sym
     (c .is-asked .ensures
-    ∙ asked-is (accountOf (s .args .morning .now) (s .args .noon .now)) (s .pre .lawful) (s .args .account .counts) (s .pre .places .counts) (s .args .question))
+    ∙ asked-is (accountOf (s .args .morning .now) (s .args .noon .now)) (s .pre .lawful) (s .args .account .counts) (s .pre .places .counts)
+    (s .args .question))
 
 record-total-requires : tie.Need-record-total-requires
 record-total-requires c κs = search needs

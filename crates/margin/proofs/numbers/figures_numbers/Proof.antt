@@ -76,7 +76,8 @@ loop-again c =
     let most = s .pre .most in
     let lines : length (s .args .t2) ≡ 16 = search needs in
     let credits : length (s .args .t3) ≡ 16 = search needs in (
-      next (l .i) (l .i * 8) ((l .i + 1) * 8) (l .number) (c .before .put-eight .last .0) (map pos (eightOf (getD (s .args .t2) (l .i) noLine) (amountAt (s .args .t3) (l .i))))
+      next (l .i) (l .i * 8) ((l .i + 1) * 8) (l .number) (c .before .put-eight .last .0)
+          (map pos (eightOf (getD (s .args .t2) (l .i) noLine) (amountAt (s .args .t3) (l .i))))
           (l .inv .0) (omega arith)
           (eights-step (s .args .count) (s .args .t2) (s .args .t3) (omega arith) (omega arith) (l .i) (omega arith))
           (c .before .put-eight .ensures) (omega arith),
@@ -112,7 +113,8 @@ returns c =
     let lines : length (s .args .t2) ≡ 16 = search needs in
     let credits : length (s .args .t3) ≡ 16 = search needs in
     let last : n ≡ l .i = omega (arith, l .inv .0 .within) in
-    let total = sums.finish (l .i) (l .total) (l .inv .1) (omega arith) (subst (λ (k : ℕ). totalOn n (s .args .t2) (s .args .t3) k ≡ 0) last (total-none n (s .args .t2) (s .args .t3))) in (
+    let total = sums.finish (l .i) (l .total) (l .inv .1) (omega arith)
+    (subst (λ (k : ℕ). totalOn n (s .args .t2) (s .args .t3) k ≡ 0) last (total-none n (s .args .t2) (s .args .t3))) in (
       omega arith,
       ap (take (n * 8 + 1)) (c .put .ensures)
           ∙ figures-listed n (s .args .t2) (s .args .t3) (omega arith) (omega arith) _ (l .number) (l .total) (omega arith)

@@ -50,7 +50,8 @@ loop-again c =
     let here : ℤ = getD number (l .i) (pos 0) in (
       next (l .i) (l .i) (l .i + 1) (l .out) _ (here ∷ [])
           (l .inv .0) (omega arith)
-          (slice-cons (l .i) (s .args .numbers .count) number (pos 0) (omega arith) (omega arith) ∙ ap (λ (k : ℕ). here ∷ slice k (s .args .numbers .count) number) (sym (add-one (l .i))))
+          (slice-cons (l .i) (s .args .numbers .count) number (pos 0) (omega arith) (omega arith)
+          ∙ ap (λ (k : ℕ). here ∷ slice k (s .args .numbers .count) number) (sym (add-one (l .i))))
           (ap (λ (z : ℤ). set (l .out) (l .i) z) (back here (record { sfits = c .z .given }))) refl,
       simp length-set (l .inv .1),
     )

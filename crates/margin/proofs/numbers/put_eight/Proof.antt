@@ -66,7 +66,17 @@ returns c =
     let c2 = c3 .before .before in
     let c1 = c2 .before .before in
     let s = c1 .before .before .before in
-    rw (c .put8 .ensures, c7 .put7 .ensures, c6 .put6 .ensures, c5 .put5 .ensures, c4 .put4 .ensures, c3 .put3 .ensures, c2 .put2 .ensures, c1 .put .ensures, s .pre .1 .1 .1 .0)
+    rw (
+      c .put8 .ensures,
+      c7 .put7 .ensures,
+      c6 .put6 .ensures,
+      c5 .put5 .ensures,
+      c4 .put4 .ensures,
+      c3 .put3 .ensures,
+      c2 .put2 .ensures,
+      c1 .put .ensures,
+      s .pre .1 .1 .1 .0,
+    )
     (stores-sets (s .args .out .now) (s .args .at) (map pos (eightOf (s .args .l) (s .args .credit .0))))
 
 pub put-eight-spec : {M : Type 1} → statement M

@@ -13,7 +13,8 @@ use Rattle.margin.proofs.numbers.put_prompts.Statement.{statement}
 use Rattle.margin.proofs.numbers.put_prompts.Tie as tie
 
 abbrev Inv-loop : tie.InvT-loop
-Inv-loop out₀ prompts nets used unused i₀ out i = ToWrite prompts (threesOn prompts nets used unused) (sets out₀ 0 (threesOn prompts nets used unused 0)) i (i * 3) out
+Inv-loop out₀ prompts nets used unused i₀ out i = ToWrite prompts (threesOn prompts nets used unused)
+    (sets out₀ 0 (threesOn prompts nets used unused 0)) i (i * 3) out
 
 abbrev μ-loop : tie.MeasureT-loop
 μ-loop out₀ prompts nets used unused i₀ out i = prompts - i
@@ -58,7 +59,8 @@ loop-again c =
     let nets : length (s .args .t3) ≡ 32 = search needs in
     let used : length (s .args .t4) ≡ 32 = search needs in
     let unused : length (s .args .t5) ≡ 32 = search needs in
-    next (l .i) (l .i * 3) ((l .i + 1) * 3) (l .out) (c .put-three .last .0) (deltaAt (s .args .t3) (l .i) ∷ deltaAt (s .args .t4) (l .i) ∷ deltaAt (s .args .t5) (l .i) ∷ [])
+    next (l .i) (l .i * 3) ((l .i + 1) * 3) (l .out) (c .put-three .last .0)
+    (deltaAt (s .args .t3) (l .i) ∷ deltaAt (s .args .t4) (l .i) ∷ deltaAt (s .args .t5) (l .i) ∷ [])
     (l .inv) (omega arith)
     (threes-step (s .args .prompts) (s .args .t3) (s .args .t4) (s .args .t5) (omega arith) (omega arith) (omega arith) (l .i) (omega arith))
     (c .put-three .ensures) (omega arith)

@@ -58,7 +58,8 @@ loop-again c =
     let l = c .before .before .before .before .before .loop in
     let first : length (s .args .t4) ≡ 32 = search needs in
     let second : length (s .args .t5) ≡ 32 = search needs in
-    next (l .i) (s .args .at + l .i * 2) (s .args .at + (l .i + 1) * 2) (l .out) (c .put-two .last .0) (pos (spreadsAt (s .args .t4) (l .i)) ∷ pos (spreadsAt (s .args .t5) (l .i)) ∷ [])
+    next (l .i) (s .args .at + l .i * 2) (s .args .at + (l .i + 1) * 2) (l .out) (c .put-two .last .0)
+    (pos (spreadsAt (s .args .t4) (l .i)) ∷ pos (spreadsAt (s .args .t5) (l .i)) ∷ [])
     (l .inv) (omega arith)
     (twos-step (s .args .spreads) (s .args .t4) (s .args .t5) (omega arith) (omega arith) (l .i) (omega arith))
     (c .put-two .ensures) (omega arith)

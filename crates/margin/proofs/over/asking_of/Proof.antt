@@ -24,8 +24,14 @@ position-at-requires c κs =
 asking-with-requires : tie.Need-asking-with-requires
 asking-with-requires c κs =
     let s = c .before .before .before .before in
-    let p = c .position-at in
-    (s .pre .0, (s .pre .1, book-fits (accountOf (s .args .morning .now) (s .args .noon .now)) (s .pre .0 .lawful) (s .args .c) (s .pre .1) (p .result) (p .ensures [] (c .before .no-rates .ensures))))
+    let p = c .position-at in (
+      s .pre .0,
+      (
+        s .pre .1,
+        book-fits (accountOf (s .args .morning .now) (s .args .noon .now)) (s .pre .0 .lawful) (s .args .c) (s .pre .1)
+            (p .result) (p .ensures [] (c .before .no-rates .ensures)),
+      ),
+    )
 
 returns : tie.Need-returns
 returns c =
@@ -33,7 +39,8 @@ returns c =
     let p = c .before .position-at in
     let r = c .asking-with in
     subst (λ (k : Contract). Asks (stepsOf k) (opensOf k) (r .result))
-    (by-number (accountOf (s .args .morning .now) (s .args .noon .now)) (s .pre .0 .lawful) (s .args .c) (s .pre .1) (p .result) (p .ensures [] (c .before .before .no-rates .ensures))) (r .ensures)
+    (by-number (accountOf (s .args .morning .now) (s .args .noon .now)) (s .pre .0 .lawful) (s .args .c) (s .pre .1) (p .result)
+    (p .ensures [] (c .before .before .no-rates .ensures))) (r .ensures)
 
 pub asking-of-spec : {M : Type 1} → statement M
 asking-of-spec =

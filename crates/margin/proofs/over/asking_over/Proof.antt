@@ -32,7 +32,8 @@ returns c =
     let a = accountOf m n in
     let q = s .args .question in
     subst
-    (λ (t : Bool). Asks (cond t (tableSteps (entriesOf a)) (stepsOf (partsOf a q))) (cond t (map asTier (contracts a)) (opensOf (partsOf a q))) (c .table-asking .result))
+    (λ (t : Bool). Asks (cond t (tableSteps (entriesOf a)) (stepsOf (partsOf a q))) (cond t (map asTier (contracts a)) (opensOf (partsOf a q)))
+    (c .table-asking .result))
     (sym (eq-eqb q 16 (c .before .before .if1 .taken))) (c .table-asking .ensures a (alone m n (s .args .account) (s .pre .0)) (c .before .tiers-over .ensures))
 
 asking-of-requires : tie.Need-asking-of-requires
@@ -46,7 +47,8 @@ returns-2 c =
     let a = accountOf (s .args .morning .now) (s .args .noon .now) in
     let q = s .args .question in
     subst
-    (λ (t : Bool). Asks (cond t (tableSteps (entriesOf a)) (stepsOf (partsOf a q))) (cond t (map asTier (contracts a)) (opensOf (partsOf a q))) (c .asking-of .result))
+    (λ (t : Bool). Asks (cond t (tableSteps (entriesOf a)) (stepsOf (partsOf a q))) (cond t (map asTier (contracts a)) (opensOf (partsOf a q)))
+    (c .asking-of .result))
     (sym (ne-eqb q 16 (c .before .if1 .left))) (c .asking-of .ensures)
 
 pub asking-over-spec : {M : Type 1} → statement M

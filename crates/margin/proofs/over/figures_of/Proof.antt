@@ -47,7 +47,8 @@ returns c =
       λ whole beside is.
           let e = entries-beside a whole beside (p .result .now) (p .ensures) in
           f .1
-          ∙ answer-is whole (beside .lawful) l is (p .result .now) e (its whole (beside .lawful) l is (p .result .now) e) (its-book whole (beside .lawful) l is (p .result .now) e) (t .result) (t .ensures),
+          ∙ answer-is whole (beside .lawful) l is (p .result .now) e (its whole (beside .lawful) l is (p .result .now) e)
+          (its-book whole (beside .lawful) l is (p .result .now) e) (t .result) (t .ensures),
       (
         omega (arith, f .0, x .lines .count-is, ap length (x .beside .contracts), s .pre .0 .places .contracts),
         omega (arith, f .0, x .lines .few),

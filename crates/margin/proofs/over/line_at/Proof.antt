@@ -32,8 +32,14 @@ line-with-requires c κs =
     let s = c .before .before .before .before in
     let m = s .args .morning .now in
     let n = s .args .noon .now in
-    let p = c .position-in in
-    (s .pre .0, (small (c .before), fits (accountOf m n) (accountOf m n) (alone m n (s .args .account) (s .pre .0)) (c .before .contract-number .result) (p .result) (p .ensures)))
+    let p = c .position-in in (
+      s .pre .0,
+      (
+        small (c .before),
+        fits (accountOf m n) (accountOf m n) (alone m n (s .args .account) (s .pre .0)) (c .before .contract-number .result)
+            (p .result) (p .ensures),
+      ),
+    )
 
 returns : tie.Need-returns
 returns c =

@@ -49,8 +49,10 @@ loop-holds : tie.Need-loop-holds Inv-loop μ-loop
 loop-holds c = (record { places = refl; each = λ j h. absurd (not-suc-le-zero h) }, omega arith)
 
 line-at-requires : tie.Need-line-at-requires Inv-loop μ-loop
-line-at-requires c κs =
-    (c .before .before .before .before .before .before .before .before .pre, (omega (arith, c .loop-test .taken, c .before .before .before .before .before .contract-total .ensures), table (c .before .before .before)))
+line-at-requires c κs = (
+  c .before .before .before .before .before .before .before .before .pre,
+  (omega (arith, c .loop-test .taken, c .before .before .before .before .before .contract-total .ensures), table (c .before .before .before)),
+)
 
 mul-lines : tie.Need-mul-lines Inv-loop μ-loop
 mul-lines c = let h = few (c .before .before .before .before .before .before) in omega arith
@@ -68,15 +70,19 @@ loop-again : tie.Need-loop-again Inv-loop μ-loop
 loop-again c =
     let s = c .before .before .before .before .before .before .before .before .before in
     let l = c .before .before .loop in
-    let h = few (c .before .before .before .before .before .before) in
-    (lined-next (accountOf (s .args .morning .now) (s .args .noon .now)) (l .i) (l .lines) (c .line-at .result) (l .inv .0) (omega arith) (c .line-at .ensures), omega arith)
+    let h = few (c .before .before .before .before .before .before) in (
+      lined-next (accountOf (s .args .morning .now) (s .args .noon .now)) (l .i) (l .lines) (c .line-at .result) (l .inv .0) (omega arith)
+          (c .line-at .ensures),
+      omega arith,
+    )
 
 returns : tie.Need-returns Inv-loop μ-loop
 returns c =
     let l = c .before .loop in
     let h = few (c .before .before .before .before .before) in
     record {
-      count-is = c .before .before .before .before .before .contract-total .ensures ∙ c .before .before .before .before .before .before .before .before .pre .places .contracts;
+      count-is = c .before .before .before .before .before .contract-total .ensures
+          ∙ c .before .before .before .before .before .before .before .before .pre .places .contracts;
       few = h;
       places = l .inv .0 .places;
       each = λ i m. l .inv .0 .each i (omega arith);

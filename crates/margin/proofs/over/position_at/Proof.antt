@@ -29,7 +29,8 @@ position-of-requires c κs =
         prompts-few a (s .pre .0 .lawful) (s .args .c) (s .pre .1 .0) (ps .result .now) (rs .result .now) (ps .ensures) (rs .ensures),
         (
           rows-room a (s .pre .0 .lawful) (s .args .c) (s .pre .1 .0) (ps .result .now) (rs .result .now) (ps .ensures) (rs .ensures) .rows-within,
-          rows-rated-by a (s .pre .0 .lawful) (s .args .c) (s .pre .1 .0) (ps .result .now) (rs .result .now) (ps .ensures) (rs .ensures) (s .args .rates) (s .pre .1 .1 .1),
+          rows-rated-by a (s .pre .0 .lawful) (s .args .c) (s .pre .1 .0) (ps .result .now) (rs .result .now) (ps .ensures) (rs .ensures)
+              (s .args .rates) (s .pre .1 .1 .1),
         ),
       ),
     )
@@ -42,7 +43,8 @@ returns c =
     let rs = c .before .part2 in
     let p = c .position-of in
     λ held is.
-    position-is a (s .pre .0 .lawful) (s .args .c) (s .pre .1 .0) (ps .result .now) (rs .result .now) (ps .ensures) (rs .ensures) held (s .args .unit) (p .result) (p .ensures .0 held is) (p .ensures .1)
+    position-is a (s .pre .0 .lawful) (s .args .c) (s .pre .1 .0) (ps .result .now) (rs .result .now) (ps .ensures) (rs .ensures) held (s .args .unit)
+    (p .result) (p .ensures .0 held is) (p .ensures .1)
 
 pub position-at-spec : {M : Type 1} → statement M
 position-at-spec =

@@ -31,14 +31,23 @@ its-unit : (c : tie.After-unit)
 its-unit c =
     let s = c .before .before .before .before in
     let own = c .before .part in
-    c .unit .ensures .0 ∙ ap unit (own-by (accountOf (s .args .morning .now) (s .args .noon .now)) (s .pre .0 .lawful) (s .args .c) (s .pre .1 .0) (own .result .now) (own .ensures))
+    c .unit .ensures .0
+    ∙ ap unit (own-by (accountOf (s .args .morning .now) (s .args .noon .now)) (s .pre .0 .lawful) (s .args .c) (s .pre .1 .0) (own .result .now)
+    (own .ensures))
 
 position-at-requires : tie.Need-position-at-requires
 position-at-requires c κs =
     let s = c .before .before .before .before in
     let w = own-fit (accountOf (s .args .morning .now) (s .args .noon .now)) (s .pre .0 .lawful) (s .args .c) in (
       s .pre .0,
-      (s .pre .1 .0, (omega (arith, its-unit c, w .units .most), rows-rated (accountOf (s .args .morning .now) (s .args .noon .now)) (s .pre .0 .lawful) (s .args .c) (s .args .rates) (s .pre .1 .1))),
+      (
+        s .pre .1 .0,
+        (
+          omega (arith, its-unit c, w .units .most),
+          rows-rated (accountOf (s .args .morning .now) (s .args .noon .now)) (s .pre .0 .lawful)
+              (s .args .c) (s .args .rates) (s .pre .1 .1),
+        ),
+      ),
     )
 
 returns : tie.Need-returns

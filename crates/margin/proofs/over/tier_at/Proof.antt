@@ -57,7 +57,8 @@ returns c =
     let m = s .args .morning .now in
     let n = s .args .noon .now in
     let k = c .before .before .contract-number in
-    tier-is (accountOf m n) (s .pre .0 .lawful) [] [] none-within (k .result) (its (c .before)) (c .before .nets-at .ensures) (getD (contractsOf (accountOf m n)) (s .args .i) []) (c .contract-net .result .0)
+    tier-is (accountOf m n) (s .pre .0 .lawful) [] [] none-within (k .result) (its (c .before)) (c .before .nets-at .ensures)
+    (getD (contractsOf (accountOf m n)) (s .args .i) []) (c .contract-net .result .0)
     (number-at m n (s .args .account) (s .pre .0) (s .args .i) (s .pre .1) (k .result) (k .ensures)) (small (c .before .before)) (c .contract-net .ensures)
 
 pub tier-at-spec : {M : Type 1} → statement M

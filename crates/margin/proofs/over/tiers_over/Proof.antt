@@ -53,8 +53,11 @@ loop-again c =
     let t = c .before .tier-at in
     let h = few (c .before .before .before .before) in
     let e = s .pre .places .contracts in
-    let n = c .before .before .before .before .contract-total .ensures in
-    (tiers-next (accountOf (s .args .morning .now) (s .args .noon .now)) (l .i) (l .tiers) (l .nets) (t .result .contract) (t .result .net) (l .inv .0) (omega arith) (omega arith) (t .ensures), omega arith)
+    let n = c .before .before .before .before .contract-total .ensures in (
+      tiers-next (accountOf (s .args .morning .now) (s .args .noon .now)) (l .i) (l .tiers) (l .nets) (t .result .contract) (t .result .net)
+          (l .inv .0) (omega arith) (omega arith) (t .ensures),
+      omega arith,
+    )
 
 returns : tie.Need-returns Inv-loop μ-loop
 returns c =

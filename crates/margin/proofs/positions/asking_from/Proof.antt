@@ -32,7 +32,8 @@ returns c =
     let q = s .args .question in
     λ whole t.
     subst
-    (λ (b : Bool). Asks (cond b (tableSteps (entriesOf whole)) (stepsOf (partsOf whole q))) (cond b (map asTier (contracts whole)) (opensOf (partsOf whole q))) (c .table-asking .result))
+    (λ (b : Bool). Asks (cond b (tableSteps (entriesOf whole)) (stepsOf (partsOf whole q)))
+    (cond b (map asTier (contracts whole)) (opensOf (partsOf whole q))) (c .table-asking .result))
     (sym (eq-eqb q 16 (c .before .before .if1 .taken))) (c .table-asking .ensures whole (t .beside) (c .before .tiers-from .ensures whole t))
 
 -- the question is a contract's number
@@ -52,8 +53,14 @@ asking-with-requires c κs =
     let s = c .before .before .before .before in
     let x = s .pre .1 .0 in
     let q = s .args .question in
-    let h = small (c .before) in
-    (s .pre .0, (h, fits-book (accountOf (s .args .morning .now) (s .args .noon .now)) (x .whole) (x .told .beside) q (getD (s .args .t4 .at) q noPosition) (x .told .positions .each q h)))
+    let h = small (c .before) in (
+      s .pre .0,
+      (
+        h,
+        fits-book (accountOf (s .args .morning .now) (s .args .noon .now)) (x .whole) (x .told .beside) q (getD (s .args .t4 .at) q noPosition)
+            (x .told .positions .each q h),
+      ),
+    )
 
 returns-2 : tie.Need-returns-2
 returns-2 c =
@@ -61,9 +68,11 @@ returns-2 c =
     let q = s .args .question in
     λ whole t.
     subst
-    (λ (b : Bool). Asks (cond b (tableSteps (entriesOf whole)) (stepsOf (partsOf whole q))) (cond b (map asTier (contracts whole)) (opensOf (partsOf whole q))) (c .asking-with .result))
+    (λ (b : Bool). Asks (cond b (tableSteps (entriesOf whole)) (stepsOf (partsOf whole q)))
+    (cond b (map asTier (contracts whole)) (opensOf (partsOf whole q))) (c .asking-with .result))
     (sym (ne-eqb q 16 (c .before .before .if1 .left)))
-    (asks-beside (accountOf (s .args .morning .now) (s .args .noon .now)) whole (t .beside) q (getD (s .args .t4 .at) q noPosition) (t .positions .each q (small (c .before .before))) (c .asking-with .result) (c .asking-with .ensures))
+    (asks-beside (accountOf (s .args .morning .now) (s .args .noon .now)) whole (t .beside) q (getD (s .args .t4 .at) q noPosition)
+    (t .positions .each q (small (c .before .before))) (c .asking-with .result) (c .asking-with .ensures))
 
 pub asking-from-spec : {M : Type 1} → statement M
 asking-from-spec =

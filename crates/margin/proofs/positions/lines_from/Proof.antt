@@ -19,7 +19,8 @@ use Rattle.margin.proofs.positions.lines_from.Statement.{statement}
 use Rattle.margin.proofs.positions.lines_from.Tie as tie
 
 abbrev Inv-loop : tie.InvT-loop
-Inv-loop morning noon account positions count lines₀ i₀ lines i = ((whole : List Record) → Told (accountOf morning noon) positions whole → LinedTo whole i lines) × (i ≤ count)
+Inv-loop morning noon account positions count lines₀ i₀ lines i =
+    ((whole : List Record) → Told (accountOf morning noon) positions whole → LinedTo whole i lines) × (i ≤ count)
 
 abbrev μ-loop : tie.MeasureT-loop
 μ-loop morning noon account positions count lines₀ i₀ lines i = count - i
@@ -31,7 +32,8 @@ few c =
     omega (arith, c .contract-total .ensures, few-contracts (s .args .morning .now) (s .args .noon .now) (s .args .account) (s .pre .0))
 
 -- the turn's contract is listed, and has this number
-within : (c : tie.After-contract-number Inv-loop μ-loop) → c .before .before .loop .i < c .before .before .before .before .before .before .before .args .account .contracts
+within : (c : tie.After-contract-number Inv-loop μ-loop)
+    → c .before .before .loop .i < c .before .before .before .before .before .before .before .args .account .contracts
 within c = omega (arith, c .before .loop-test .taken, c .before .before .before .before .contract-total .ensures)
 
 number : (c : tie.After-contract-number Inv-loop μ-loop)
@@ -39,24 +41,32 @@ number : (c : tie.After-contract-number Inv-loop μ-loop)
     c .contract-number .result ≡ contract (getD (contractsOf (accountOf (s .args .morning .now) (s .args .noon .now))) (c .before .before .loop .i) [])
 number c =
     let s = c .before .before .before .before .before .before .before in
-    number-at (s .args .morning .now) (s .args .noon .now) (s .args .account) (s .pre .0) (c .before .before .loop .i) (within c) (c .contract-number .result) (c .contract-number .ensures)
+    number-at (s .args .morning .now) (s .args .noon .now) (s .args .account) (s .pre .0) (c .before .before .loop .i) (within c)
+    (c .contract-number .result) (c .contract-number .ensures)
 
 small : (c : tie.After-contract-number Inv-loop μ-loop) → c .contract-number .result ≤ 15
 small c =
     let s = c .before .before .before .before .before .before .before in
     let m = s .args .morning .now in
     let n = s .args .noon .now in
-    omega (arith, number c, own-number (accountOf m n) (s .pre .0 .lawful) (c .before .before .loop .i) (listed-at m n (s .args .account) (s .pre .0) (c .before .before .loop .i) (within c)))
+    omega (
+      arith,
+      number c,
+      own-number (accountOf m n) (s .pre .0 .lawful) (c .before .before .loop .i)
+          (listed-at m n (s .args .account) (s .pre .0) (c .before .before .loop .i) (within c)),
+    )
 
 -- and is so in every account beside
 listed : (c : tie.After-contract-number Inv-loop μ-loop)
     → let s = c .before .before .before .before .before .before .before in
     (whole : List Record) → Besides (accountOf (s .args .morning .now) (s .args .noon .now)) whole → c .before .before .loop .i < length (contractsOf whole)
-listed c whole b = let s = c .before .before .before .before .before .before .before in omega (arith, within c, ap length (b .contracts), s .pre .0 .places .contracts)
+listed c whole b = let s = c .before .before .before .before .before .before .before in omega
+    (arith, within c, ap length (b .contracts), s .pre .0 .places .contracts)
 
 number-in : (c : tie.After-contract-number Inv-loop μ-loop)
     → let s = c .before .before .before .before .before .before .before in
-    (whole : List Record) → Besides (accountOf (s .args .morning .now) (s .args .noon .now)) whole → c .contract-number .result ≡ contract (getD (contractsOf whole) (c .before .before .loop .i) [])
+    (whole : List Record) → Besides (accountOf (s .args .morning .now) (s .args .noon .now)) whole
+    → c .contract-number .result ≡ contract (getD (contractsOf whole) (c .before .before .loop .i) [])
 number-in c whole b = number c ∙ ap (λ (rs : List Record). contract (getD rs (c .before .before .loop .i) [])) (sym (b .contracts))
 
 contract-total-requires : tie.Need-contract-total-requires Inv-loop μ-loop
@@ -82,8 +92,14 @@ line-with-requires c κs =
     let s = c .before .before .before .before .before .before .before .before in
     let x = s .pre .1 in
     let k = c .before .contract-number .result in
-    let h = small (c .before) in
-    (s .pre .0, (h, fits (accountOf (s .args .morning .now) (s .args .noon .now)) (x .whole) (x .told .beside) k (getD (s .args .t4 .at) k noPosition) (x .told .positions .each k h)))
+    let h = small (c .before) in (
+      s .pre .0,
+      (
+        h,
+        fits (accountOf (s .args .morning .now) (s .args .noon .now)) (x .whole) (x .told .beside) k (getD (s .args .t4 .at) k noPosition)
+            (x .told .positions .each k h),
+      ),
+    )
 
 mul-lines : tie.Need-mul-lines Inv-loop μ-loop
 mul-lines c = let h = few (c .before .before .before .before .before .before) in omega (arith, c .before .before .before .loop-test .taken)
@@ -106,7 +122,9 @@ loop-again c =
     let h = few (c .before .before .before .before .before .before) in (
       λ whole t.
           lined-next whole (l .i) (l .lines) (c .line-with .result) (l .inv .0 whole t) (omega (arith, c .before .before .before .loop-test .taken))
-          (line-is (accountOf (s .args .morning .now) (s .args .noon .now)) whole (t .beside) k (getD (s .args .t4 .at) k noPosition) (t .positions .each k (small n)) (l .i) (listed n whole (t .beside)) (number-in n whole (t .beside)) (c .line-with .result) (c .line-with .ensures)),
+          (line-is (accountOf (s .args .morning .now) (s .args .noon .now)) whole (t .beside) k (getD (s .args .t4 .at) k noPosition)
+          (t .positions .each k (small n)) (l .i) (listed n whole (t .beside)) (number-in n whole (t .beside)) (c .line-with .result)
+          (c .line-with .ensures)),
       omega (arith, c .before .before .before .loop-test .taken),
     )
 

@@ -28,7 +28,8 @@ few c =
     omega (arith, c .contract-total .ensures, few-contracts (s .args .morning .now) (s .args .noon .now) (s .args .account) (s .pre))
 
 -- the turn's contract is listed, and has this number
-within : (c : tie.After-contract-number Inv-loop μ-loop) → c .before .before .loop .i < c .before .before .before .before .before .before .before .before .before .args .account .contracts
+within : (c : tie.After-contract-number Inv-loop μ-loop)
+    → c .before .before .loop .i < c .before .before .before .before .before .before .before .before .before .args .account .contracts
 within c = omega (arith, c .before .loop-test .taken, c .before .before .before .before .before .before .contract-total .ensures)
 
 number : (c : tie.After-contract-number Inv-loop μ-loop)
@@ -36,14 +37,20 @@ number : (c : tie.After-contract-number Inv-loop μ-loop)
     c .contract-number .result ≡ contract (getD (contractsOf (accountOf (s .args .morning .now) (s .args .noon .now))) (c .before .before .loop .i) [])
 number c =
     let s = c .before .before .before .before .before .before .before .before .before in
-    number-at (s .args .morning .now) (s .args .noon .now) (s .args .account) (s .pre) (c .before .before .loop .i) (within c) (c .contract-number .result) (c .contract-number .ensures)
+    number-at (s .args .morning .now) (s .args .noon .now) (s .args .account) (s .pre) (c .before .before .loop .i) (within c)
+    (c .contract-number .result) (c .contract-number .ensures)
 
 small : (c : tie.After-contract-number Inv-loop μ-loop) → c .contract-number .result ≤ 15
 small c =
     let s = c .before .before .before .before .before .before .before .before .before in
     let m = s .args .morning .now in
     let n = s .args .noon .now in
-    omega (arith, number c, own-number (accountOf m n) (s .pre .lawful) (c .before .before .loop .i) (listed-at m n (s .args .account) (s .pre) (c .before .before .loop .i) (within c)))
+    omega (
+      arith,
+      number c,
+      own-number (accountOf m n) (s .pre .lawful) (c .before .before .loop .i)
+          (listed-at m n (s .args .account) (s .pre) (c .before .before .loop .i) (within c)),
+    )
 
 contract-total-requires : tie.Need-contract-total-requires Inv-loop μ-loop
 contract-total-requires c κs = search needs
@@ -72,7 +79,8 @@ contract-number-requires : tie.Need-contract-number-requires Inv-loop μ-loop
 contract-number-requires c κs = search needs
 
 position-in-requires : tie.Need-position-in-requires Inv-loop μ-loop
-position-in-requires c κs = (c .before .before .before .before .before .before .before .before .before .pre, (small c, table (c .before .before .before .before)))
+position-in-requires c κs =
+    (c .before .before .before .before .before .before .before .before .before .pre, (small c, table (c .before .before .before .before)))
 
 mul-at : tie.Need-mul-at Inv-loop μ-loop
 mul-at c = let h = small (c .before) in omega arith
@@ -91,7 +99,8 @@ loop-again c =
     let s = c .before .before .before .before .before .before .before .before .before .before in
     let l = c .before .before .before .loop in
     let k = c .before .contract-number in (
-      placed-next (accountOf (s .args .morning .now) (s .args .noon .now)) (l .i) (l .at) (k .result) (c .position-in .result) (l .inv .0) (small (c .before)) (number (c .before)) (c .position-in .ensures),
+      placed-next (accountOf (s .args .morning .now) (s .args .noon .now)) (l .i) (l .at) (k .result) (c .position-in .result) (l .inv .0)
+          (small (c .before)) (number (c .before)) (c .position-in .ensures),
       omega (arith, c .before .before .loop-test .taken),
     )
 
@@ -103,7 +112,13 @@ returns c =
     let s = c .before .before .before .before .before .before .before .before .before in
     let l = c .before .before .loop in
     placed-all (accountOf (s .args .morning .now) (s .args .noon .now)) (s .pre .lawful) (l .i) _
-    (omega (arith, c .before .loop-test .left, l .inv .1, c .before .before .before .before .before .before .contract-total .ensures, s .pre .places .contracts)) (l .inv .0) (c .record-total .ensures ∙ s .pre .places .all)
+    (omega (
+      arith,
+      c .before .loop-test .left,
+      l .inv .1,
+      c .before .before .before .before .before .before .contract-total .ensures,
+      s .pre .places .contracts,
+    )) (l .inv .0) (c .record-total .ensures ∙ s .pre .places .all)
 
 pub positions-over-spec : {M : Type 1} → statement M
 positions-over-spec =

@@ -20,7 +20,8 @@ use Rattle.margin.proofs.positions.tiers_from.Statement.{statement}
 use Rattle.margin.proofs.positions.tiers_from.Tie as tie
 
 abbrev Inv-loop : tie.InvT-loop
-Inv-loop morning noon account positions count tiers₀ nets₀ i₀ tiers nets i = ((whole : List Record) → Told (accountOf morning noon) positions whole → TieredTo whole i tiers nets) × (i ≤ count)
+Inv-loop morning noon account positions count tiers₀ nets₀ i₀ tiers nets i =
+    ((whole : List Record) → Told (accountOf morning noon) positions whole → TieredTo whole i tiers nets) × (i ≤ count)
 
 abbrev μ-loop : tie.MeasureT-loop
 μ-loop morning noon account positions count tiers₀ nets₀ i₀ tiers nets i = count - i
@@ -32,7 +33,8 @@ few c =
     omega (arith, c .contract-total .ensures, few-contracts (s .args .morning .now) (s .args .noon .now) (s .args .account) (s .pre .0))
 
 -- the turn's contract is listed, and has this number
-within : (c : tie.After-contract-number Inv-loop μ-loop) → c .before .before .loop .i < c .before .before .before .before .before .before .args .account .contracts
+within : (c : tie.After-contract-number Inv-loop μ-loop)
+    → c .before .before .loop .i < c .before .before .before .before .before .before .args .account .contracts
 within c = omega (arith, c .before .loop-test .taken, c .before .before .before .contract-total .ensures)
 
 number : (c : tie.After-contract-number Inv-loop μ-loop)
@@ -40,14 +42,20 @@ number : (c : tie.After-contract-number Inv-loop μ-loop)
     c .contract-number .result ≡ contract (getD (contractsOf (accountOf (s .args .morning .now) (s .args .noon .now))) (c .before .before .loop .i) [])
 number c =
     let s = c .before .before .before .before .before .before in
-    number-at (s .args .morning .now) (s .args .noon .now) (s .args .account) (s .pre .0) (c .before .before .loop .i) (within c) (c .contract-number .result) (c .contract-number .ensures)
+    number-at (s .args .morning .now) (s .args .noon .now) (s .args .account) (s .pre .0) (c .before .before .loop .i) (within c)
+    (c .contract-number .result) (c .contract-number .ensures)
 
 small : (c : tie.After-contract-number Inv-loop μ-loop) → c .contract-number .result ≤ 15
 small c =
     let s = c .before .before .before .before .before .before in
     let m = s .args .morning .now in
     let n = s .args .noon .now in
-    omega (arith, number c, own-number (accountOf m n) (s .pre .0 .lawful) (c .before .before .loop .i) (listed-at m n (s .args .account) (s .pre .0) (c .before .before .loop .i) (within c)))
+    omega (
+      arith,
+      number c,
+      own-number (accountOf m n) (s .pre .0 .lawful) (c .before .before .loop .i)
+          (listed-at m n (s .args .account) (s .pre .0) (c .before .before .loop .i) (within c)),
+    )
 
 -- and is so in every account beside
 listed : (c : tie.After-contract-number Inv-loop μ-loop)
@@ -57,7 +65,8 @@ listed c whole b = let s = c .before .before .before .before .before .before in 
 
 number-in : (c : tie.After-contract-number Inv-loop μ-loop)
     → let s = c .before .before .before .before .before .before in
-    (whole : List Record) → Besides (accountOf (s .args .morning .now) (s .args .noon .now)) whole → c .contract-number .result ≡ contract (getD (contractsOf whole) (c .before .before .loop .i) [])
+    (whole : List Record) → Besides (accountOf (s .args .morning .now) (s .args .noon .now)) whole
+    → c .contract-number .result ≡ contract (getD (contractsOf whole) (c .before .before .loop .i) [])
 number-in c whole b = number c ∙ ap (λ (rs : List Record). contract (getD rs (c .before .before .loop .i) [])) (sym (b .contracts))
 
 contract-total-requires : tie.Need-contract-total-requires Inv-loop μ-loop
@@ -80,8 +89,11 @@ tier-with-requires c κs =
     let s = c .before .before .before .before .before .before .before in
     let x = s .pre .1 in
     let k = c .before .contract-number .result in
-    let h = small (c .before) in
-    (h, tier-sizes (accountOf (s .args .morning .now) (s .args .noon .now)) (x .whole) (x .told .beside) k (getD (s .args .t4 .at) k noPosition) (x .told .positions .each k h))
+    let h = small (c .before) in (
+      h,
+      tier-sizes (accountOf (s .args .morning .now) (s .args .noon .now)) (x .whole) (x .told .beside) k (getD (s .args .t4 .at) k noPosition)
+          (x .told .positions .each k h),
+    )
 
 array-write-tiers : tie.Need-array-write-tiers Inv-loop μ-loop
 array-write-tiers c = let h = few (c .before .before .before .before .before) in omega (arith, c .before .before .before .loop-test .taken)
@@ -107,9 +119,12 @@ loop-again c =
     let r = c .before .tier-with in
     let h = few (c .before .before .before .before .before .before) in (
       λ whole t.
-          tiers-next whole (l .i) (l .tiers) (l .nets) (r .result .contract) (r .result .net) (l .inv .0 whole t) (omega (arith, c .before .before .before .before .loop-test .taken)) (listed n whole (t .beside))
+          tiers-next whole (l .i) (l .tiers) (l .nets) (r .result .contract) (r .result .net) (l .inv .0 whole t)
+          (omega (arith, c .before .before .before .before .loop-test .taken)) (listed n whole (t .beside))
           (subst⁻¹ (λ (m : ℕ). TierIs (partsIn whole (getD (contractsOf whole) (l .i) [])) m (r .result .net .0)) (r .ensures .0)
-          (tier-is (accountOf (s .args .morning .now) (s .args .noon .now)) whole (t .beside) k (getD (s .args .t4 .at) k noPosition) (t .positions .each k (small n)) (l .i) (listed n whole (t .beside)) (number-in n whole (t .beside)) (r .result .net .0) (small n) (r .ensures .1))),
+          (tier-is (accountOf (s .args .morning .now) (s .args .noon .now)) whole (t .beside) k (getD (s .args .t4 .at) k noPosition)
+          (t .positions .each k (small n)) (l .i) (listed n whole (t .beside)) (number-in n whole (t .beside)) (r .result .net .0) (small n)
+          (r .ensures .1))),
       omega (arith, c .before .before .before .before .loop-test .taken),
     )
 
@@ -122,7 +137,8 @@ returns c =
     let n = c .before .before .contract-total .ensures in
     λ whole t.
     let same = ap length (t .beside .contracts) in
-    tiers-all whole (l .i) _ (l .inv .0 whole t) (omega (arith, c .loop-test .left, l .inv .1)) (omega (arith, c .loop-test .left, l .inv .1)) (omega (arith, l .inv .1))
+    tiers-all whole (l .i) _ (l .inv .0 whole t) (omega (arith, c .loop-test .left, l .inv .1)) (omega (arith, c .loop-test .left, l .inv .1))
+    (omega (arith, l .inv .1))
 
 pub tiers-from-spec : {M : Type 1} → statement M
 tiers-from-spec =

@@ -32,7 +32,8 @@ returns c =
     let o = c .before .before .before .figures-from in
     λ whole t.
     seen natAbs (getD (o .result .number) (o .result .count - 1) (pos 0)) (record { sfits = c .before .magnitude-arg .given }) (c .magnitude .ensures)
-    ∙ total-last whole (o .result) (o .ensures .0 whole t) (omega (arith, o .ensures .1 .0, figures-length whole, ap length (t .beside .contracts), s .pre .0 .places .contracts))
+    ∙ total-last whole (o .result) (o .ensures .0 whole t)
+    (omega (arith, o .ensures .1 .0, figures-length whole, ap length (t .beside .contracts), s .pre .0 .places .contracts))
 
 pub total-from-spec : {M : Type 1} → statement M
 total-from-spec =

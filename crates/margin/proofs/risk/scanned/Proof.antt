@@ -28,7 +28,8 @@ returns c =
     let s = c .before .before .before .before in
     let l = c .before .before .before .largest in
     let r : c .before .or-zero .result ≡ scanningRisk (s .args .totals) =
-    seen orZero (l .result .value) (record { sfits = c .before .before .struct-told .given .0 .1 }) (c .before .or-zero .ensures) ∙ ap orZero (l .ensures .value-is)
+    seen orZero (l .result .value) (record { sfits = c .before .before .struct-told .given .0 .1 }) (c .before .or-zero .ensures)
+    ∙ ap orZero (l .ensures .value-is)
     in
     record {
       active-is = l .ensures .number-is;

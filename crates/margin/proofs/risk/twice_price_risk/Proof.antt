@@ -33,7 +33,8 @@ still c = totalOf (c .args .totals) 1 +ℤ totalOf (c .args .totals) 2
 
 paired-is : (c : tie.After-both) → c .both .result ≡ paired (c .before .before)
 unfolding paired
-paired-is c = let s = c .before .before in c .both .ensures .0 ∙ ap (λ (p : ℕ). totalOf (s .args .totals) (s .args .active) +ℤ totalOf (s .args .totals) p) (c .before .pair-of .ensures)
+paired-is c = let s = c .before .before in c .both .ensures .0
+    ∙ ap (λ (p : ℕ). totalOf (s .args .totals) (s .args .active) +ℤ totalOf (s .args .totals) p) (c .before .pair-of .ensures)
 
 within : (c : tie.After-both2) → natAbs (paired (c .before .before .before) -ℤ still (c .before .before .before)) ≤ 4 * mostRisk
 unfolding still
@@ -49,7 +50,8 @@ unfolding still
 minus-requires c κs =
     let s = c .before .before .before in
     let h = within c in
-    op-fits _-ℤ_ (c .before .both .result) (c .both2 .result) (paired s) (still s) (c .before .both .ok) (c .both2 .ok) (paired-is (c .before)) (c .both2 .ensures .0) (omega arith)
+    op-fits _-ℤ_ (c .before .both .result) (c .both2 .result) (paired s) (still s) (c .before .both .ok) (c .both2 .ok) (paired-is (c .before))
+    (c .both2 .ensures .0) (omega arith)
 
 or-zero-requires : tie.Need-or-zero-requires
 or-zero-requires c κs = search needs
@@ -59,7 +61,8 @@ unfolding still paired
 returns c =
     let s = c .before .before .before .before .before in
     let b = c .before .before in
-    let e = op-is _-ℤ_ (b .before .both .result) (b .both2 .result) (paired s) (still s) (b .before .both .ok) (b .both2 .ok) (paired-is (b .before)) (b .both2 .ensures .0)
+    let e = op-is _-ℤ_ (b .before .both .result) (b .both2 .result) (paired s) (still s) (b .before .both .ok) (b .both2 .ok) (paired-is (b .before))
+    (b .both2 .ensures .0)
     (c .before .minus .result) (c .before .minus .ok) (c .before .minus .ensures)
     in
     let r : c .or-zero .result ≡ orZero (paired s -ℤ still s) = c .or-zero .ensures ∙ ap orZero e in

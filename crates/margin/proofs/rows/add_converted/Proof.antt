@@ -30,7 +30,8 @@ per-tick-requires : tie.Need-per-tick-requires Inv-loop μ-loop
 per-tick-requires c κs = let w = c .before .pre .1 .0 in (w .lots-within, w .value-within)
 
 loop-holds : tie.Need-loop-holds Inv-loop μ-loop
-loop-holds c = let s = c .before .before in (omega arith, start (convertedProducts (s .args .f .raised) (s .args .f .lowered) (s .args .unit) (now (s .args .row))) (now (s .args .totals)))
+loop-holds c = let s = c .before .before in
+    (omega arith, start (convertedProducts (s .args .f .raised) (s .args .f .lowered) (s .args .unit) (now (s .args .row))) (now (s .args .totals)))
 
 add-loss : tie.Need-add-loss Inv-loop μ-loop
 add-loss c = omega arith
@@ -73,12 +74,15 @@ converted-product-requires c κs =
 -- what the call of `converted_product` left
 multiplied : (c : tie.After-converted-product Inv-loop μ-loop) →
     let s = c .before .before .before .before .before .before in
-    Sized mostProduct (convertedProducts (s .args .f .raised) (s .args .f .lowered) (s .args .unit) (now (s .args .row)) (c .before .before .before .loop .s)) (c .converted-product .result)
+    Sized mostProduct
+    (convertedProducts (s .args .f .raised) (s .args .f .lowered) (s .args .unit) (now (s .args .row)) (c .before .before .before .loop .s))
+    (c .converted-product .result)
 multiplied c =
     let s = c .before .before .before .before .before .before in
     let e = c .converted-product .ensures in
     record {
-      is = e .is ∙ ap₂ (λ (x y : ℤ). halfAwayTo (convertedAt (s .args .f .raised) (s .args .f .lowered) (x *ℤ y)) (s .args .unit)) (tick-is (c .before)) (loss-is (c .before));
+      is = e .is ∙ ap₂ (λ (x y : ℤ). halfAwayTo (convertedAt (s .args .f .raised) (s .args .f .lowered) (x *ℤ y)) (s .args .unit))
+          (tick-is (c .before)) (loss-is (c .before));
       size = e .size;
     }
 
@@ -92,10 +96,12 @@ plus-requires : tie.Need-plus-requires Inv-loop μ-loop
 plus-requires c κs =
     let i = c .before .before .before .before .loop in
     let ts = now (c .before .before .before .before .before .before .before .args .totals) in
-    let here : natAbs (getD ts (i .s) (pos 0)) ≤ 127 * mostProduct = c .before .before .before .before .before .before .before .pre .1 .1 .1 .size (i .s) (omega arith) in
+    let here : natAbs (getD ts (i .s) (pos 0)) ≤ 127 * mostProduct = c .before .before .before .before .before .before .before .pre .1 .1 .1 .size
+    (i .s) (omega arith) in
     let by = multiplied (c .before) in
     let same : getD (i .totals) (i .s) (pos 0) ≡ getD ts (i .s) (pos 0) = i .inv .1 .others (i .s) (omega arith) in
-    plus-fits (getD (i .totals) (i .s) (pos 0)) (c .before .converted-product .result) (getD ts (i .s) (pos 0)) (c .before .converted-product .result) (127 * mostProduct) mostProduct
+    plus-fits (getD (i .totals) (i .s) (pos 0)) (c .before .converted-product .result) (getD ts (i .s) (pos 0)) (c .before .converted-product .result)
+    (127 * mostProduct) mostProduct
     (sfits-abs (getD (i .totals) (i .s) (pos 0)) (omega (arith, ap natAbs same))) (record { sfits = c .before .converted-product .ok })
     same refl here (by .size) (omega arith)
 
@@ -119,16 +125,22 @@ loop-again c =
     let here : natAbs (getD ts (i .s) (pos 0)) ≤ 127 * mostProduct = s .pre .1 .1 .1 .size (i .s) (omega arith) in
     let by = multiplied (c .before .before) in
     let same : getD (i .totals) (i .s) (pos 0) ≡ getD ts (i .s) (pos 0) = i .inv .1 .others (i .s) (omega arith) in
-    let sum = plus-is (getD (i .totals) (i .s) (pos 0)) (c .before .before .converted-product .result) (getD ts (i .s) (pos 0)) (convertedProducts (s .args .f .raised) (s .args .f .lowered) (s .args .unit) (now (s .args .row)) (i .s)) (127 * mostProduct) mostProduct
+    let sum = plus-is (getD (i .totals) (i .s) (pos 0)) (c .before .before .converted-product .result) (getD ts (i .s) (pos 0))
+    (convertedProducts (s .args .f .raised) (s .args .f .lowered) (s .args .unit) (now (s .args .row)) (i .s)) (127 * mostProduct) mostProduct
     (sfits-abs (getD (i .totals) (i .s) (pos 0)) (omega (arith, ap natAbs same))) (record { sfits = c .before .before .converted-product .ok })
-    same (by .is) here (subst (λ (z : ℤ). natAbs z ≤ mostProduct) (by .is) (by .size)) (c .plus .result) (c .plus .ensures) in
-    (omega arith, next (i .s) (convertedProducts (s .args .f .raised) (s .args .f .lowered) (s .args .unit) (now (s .args .row))) ts (i .totals) (toZ w64 (ofZ w64 (c .plus .result))) (i .inv .1) (omega (arith, s .pre .1 .1 .1 .as-many)) (back (c .plus .result) (record { sfits = c .plus .ok }) ∙ sum .is))
+    same (by .is) here (subst (λ (z : ℤ). natAbs z ≤ mostProduct) (by .is) (by .size)) (c .plus .result) (c .plus .ensures) in (
+      omega arith,
+      next (i .s) (convertedProducts (s .args .f .raised) (s .args .f .lowered) (s .args .unit) (now (s .args .row))) ts (i .totals)
+          (toZ w64 (ofZ w64 (c .plus .result))) (i .inv .1) (omega (arith, s .pre .1 .1 .1 .as-many))
+          (back (c .plus .result) (record { sfits = c .plus .ok }) ∙ sum .is),
+    )
 
 returns : tie.Need-returns Inv-loop μ-loop
 returns c =
     let i = c .before .loop in
     let s = c .before .before .before .before in
-    subst (λ (n : ℕ). Added n (convertedProducts (s .args .f .raised) (s .args .f .lowered) (s .args .unit) (now (s .args .row))) (now (s .args .totals)) (i .totals)) (omega arith) (i .inv .1)
+    subst (λ (n : ℕ). Added n (convertedProducts (s .args .f .raised) (s .args .f .lowered) (s .args .unit) (now (s .args .row)))
+    (now (s .args .totals)) (i .totals)) (omega arith) (i .inv .1)
 
 pub add-converted-spec : {M : Type 1} → statement M
 add-converted-spec =

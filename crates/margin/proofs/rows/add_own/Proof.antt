@@ -79,10 +79,12 @@ plus-requires : tie.Need-plus-requires Inv-loop μ-loop
 plus-requires c κs =
     let i = c .before .before .before .before .loop in
     let ts = now (c .before .before .before .before .before .before .before .args .totals) in
-    let here : natAbs (getD ts (i .s) (pos 0)) ≤ 127 * mostProduct = c .before .before .before .before .before .before .before .pre .1 .1 .size (i .s) (omega arith) in
+    let here : natAbs (getD ts (i .s) (pos 0)) ≤ 127 * mostProduct = c .before .before .before .before .before .before .before .pre .1 .1 .size (i .s)
+    (omega arith) in
     let by = multiplied (c .before) in
     let same : getD (i .totals) (i .s) (pos 0) ≡ getD ts (i .s) (pos 0) = i .inv .1 .others (i .s) (omega arith) in
-    plus-fits (getD (i .totals) (i .s) (pos 0)) (c .before .product .result) (getD ts (i .s) (pos 0)) (c .before .product .result) (127 * mostProduct) mostProduct
+    plus-fits (getD (i .totals) (i .s) (pos 0)) (c .before .product .result) (getD ts (i .s) (pos 0)) (c .before .product .result)
+    (127 * mostProduct) mostProduct
     (sfits-abs (getD (i .totals) (i .s) (pos 0)) (omega (arith, ap natAbs same))) (record { sfits = c .before .product .ok })
     same refl here (by .size) (omega arith)
 
@@ -106,10 +108,14 @@ loop-again c =
     let here : natAbs (getD ts (i .s) (pos 0)) ≤ 127 * mostProduct = s .pre .1 .1 .size (i .s) (omega arith) in
     let by = multiplied (c .before .before) in
     let same : getD (i .totals) (i .s) (pos 0) ≡ getD ts (i .s) (pos 0) = i .inv .1 .others (i .s) (omega arith) in
-    let sum = plus-is (getD (i .totals) (i .s) (pos 0)) (c .before .before .product .result) (getD ts (i .s) (pos 0)) (ownProducts (s .args .unit) (now (s .args .row)) (i .s)) (127 * mostProduct) mostProduct
+    let sum = plus-is (getD (i .totals) (i .s) (pos 0)) (c .before .before .product .result) (getD ts (i .s) (pos 0))
+    (ownProducts (s .args .unit) (now (s .args .row)) (i .s)) (127 * mostProduct) mostProduct
     (sfits-abs (getD (i .totals) (i .s) (pos 0)) (omega (arith, ap natAbs same))) (record { sfits = c .before .before .product .ok })
-    same (by .is) here (subst (λ (z : ℤ). natAbs z ≤ mostProduct) (by .is) (by .size)) (c .plus .result) (c .plus .ensures) in
-    (omega arith, next (i .s) (ownProducts (s .args .unit) (now (s .args .row))) ts (i .totals) (toZ w64 (ofZ w64 (c .plus .result))) (i .inv .1) (omega (arith, s .pre .1 .1 .as-many)) (back (c .plus .result) (record { sfits = c .plus .ok }) ∙ sum .is))
+    same (by .is) here (subst (λ (z : ℤ). natAbs z ≤ mostProduct) (by .is) (by .size)) (c .plus .result) (c .plus .ensures) in (
+      omega arith,
+      next (i .s) (ownProducts (s .args .unit) (now (s .args .row))) ts (i .totals) (toZ w64 (ofZ w64 (c .plus .result))) (i .inv .1)
+          (omega (arith, s .pre .1 .1 .as-many)) (back (c .plus .result) (record { sfits = c .plus .ok }) ∙ sum .is),
+    )
 
 returns : tie.Need-returns Inv-loop μ-loop
 returns c =

@@ -99,7 +99,8 @@ returns-2 c =
     λ held is.
     same-added 16 (convertedProducts (f .raised) (f .lowered) unit row) (products held unit row) (now (s .args .totals)) (c .add-converted .last .0)
     (λ k.
-    ap₂ (λ (up down : ℕ). halfAwayTo (convertedAt up down (inOwn (k + 1) row)) unit) (raised-is (c .before) held is small) (lowered-is (c .before) held is small)
+    ap₂ (λ (up down : ℕ). halfAwayTo (convertedAt up down (inOwn (k + 1) row)) unit) (raised-is (c .before) held is small)
+    (lowered-is (c .before) held is small)
     ∙ ap (λ (t : Bool). halfAwayTo (by-currency held row (k + 1) t) unit) (sym (other (c .before))))
     (c .add-converted .ensures)
 

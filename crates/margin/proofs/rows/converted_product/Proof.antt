@@ -28,8 +28,10 @@ multiplied c =
 
 converted-requires : tie.Need-converted-requires
 converted-requires c κs =
-    let s = c .before in
-    (subst (λ (z : ℤ). natAbs z ≤ mostConversion) (sym (back (c .times .result) (record { sfits = c .times .ok }))) (multiplied c .size), (s .pre .1 .1 .1 .0, s .pre .1 .1 .1 .1 .0))
+    let s = c .before in (
+      subst (λ (z : ℤ). natAbs z ≤ mostConversion) (sym (back (c .times .result) (record { sfits = c .times .ok }))) (multiplied c .size),
+      (s .pre .1 .1 .1 .0, s .pre .1 .1 .1 .1 .0),
+    )
 
 -- what the call of `converted` left
 changed : (c : tie.After-converted) →
@@ -67,7 +69,8 @@ returns c =
     (record {
       is = is;
       size =
-          subst (λ (z : ℤ). natAbs z ≤ mostProduct) (sym (seen (λ (z : ℤ). halfAwayTo z (s .args .unit)) (t .result) (record { sfits = t .ok }) (c .half-away-to .ensures)))
+          subst (λ (z : ℤ). natAbs z ≤ mostProduct)
+          (sym (seen (λ (z : ℤ). halfAwayTo z (s .args .unit)) (t .result) (record { sfits = t .ok }) (c .half-away-to .ensures)))
           (rounded (s .args .unit) (t .result) (s .pre .1 .1 .0) (m .size));
     })
 

@@ -19,7 +19,8 @@ returns c =
     let s = c .before .before .before in
     back (c .plus .result) (record { sfits = c .plus .ok })
     ∙ plus-is (s .args .net .0) (s .args .more .0) (s .args .net .0) (s .args .more .0) mostDelta mostDelta
-    (sfits-abs (s .args .net .0) (omega arith)) (sfits-abs (s .args .more .0) (omega arith)) refl refl (s .pre .0) (s .pre .1) (c .plus .result) (c .plus .ensures) .is
+    (sfits-abs (s .args .net .0) (omega arith)) (sfits-abs (s .args .more .0) (omega arith)) refl refl (s .pre .0) (s .pre .1) (c .plus .result)
+    (c .plus .ensures) .is
 
 pub net-with-spec : {M : Type 1} → statement M
 net-with-spec = tie.close (tie.spec plus-requires returns)

@@ -20,7 +20,8 @@ returns c =
     let s = c .before .before .before in
     let x = s .args .net .0 in
     let y = s .args .gone .0 in
-    op-is _-ℤ_ x y x y (c .before .before .struct-told .given .0 .1) (c .before .struct-told2 .given .0 .1) refl refl (c .minus .result) (c .minus .ok) (c .minus .ensures)
+    op-is _-ℤ_ x y x y (c .before .before .struct-told .given .0 .1) (c .before .struct-told2 .given .0 .1) refl refl (c .minus .result)
+    (c .minus .ok) (c .minus .ensures)
 
 pub net-without-spec : {M : Type 1} → statement M
 net-without-spec =

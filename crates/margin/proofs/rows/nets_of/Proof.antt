@@ -42,7 +42,8 @@ returns c =
     let few : length prompts ≤ 32 = omega (arith, known .few, known .count-is) in
     let none = c .before .before .before .flat in
     λ rates unit.
-    nets-alone rates unit prompts (records (now (s .args .rows))) (c .before .days-of .result) (none .result) (c .nets-with .result) known (none .ensures rates unit prompts few) (c .nets-with .ensures)
+    nets-alone rates unit prompts (records (now (s .args .rows))) (c .before .days-of .result) (none .result) (c .nets-with .result) known
+    (none .ensures rates unit prompts few) (c .nets-with .ensures)
 
 pub nets-of-spec : {M : Type 1} → statement M
 nets-of-spec = tie.close (tie.spec flat-requires days-of-requires nets-with-requires returns)

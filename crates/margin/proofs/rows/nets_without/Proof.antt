@@ -60,10 +60,12 @@ loop-again c =
     let l = c .before .before .before .before .loop in
     let r = c .net-without in
     let more : ℕ → ℤ = λ k. negℤ (getD (deltasIn (s .args .t2)) k (pos 0)) in
-    let same : getD (l .left) (l .j) (record { 0 = pos 0 }) .0 ≡ getD (deltasIn (s .args .nets)) (l .j) (pos 0) = sym (delta-at (l .left) (l .j)) ∙ l .inv .1 .others (l .j) (omega arith) in (
+    let same : getD (l .left) (l .j) (record { 0 = pos 0 }) .0 ≡ getD (deltasIn (s .args .nets)) (l .j) (pos 0) = sym (delta-at (l .left) (l .j))
+    ∙ l .inv .1 .others (l .j) (omega arith) in (
       omega (arith, c .before .before .before .loop-test .taken),
       subst (λ (zs : List ℤ). Added (l .j + 1) more (deltasIn (s .args .nets)) zs) (sym (deltas-set (l .left) (l .j) (r .result)))
-          (next (l .j) more (deltasIn (s .args .nets)) (deltasIn (l .left)) (r .result .0) (l .inv .1) (omega (arith, c .before .before .before .loop-test .taken, s .pre .0 .as-many))
+          (next (l .j) more (deltasIn (s .args .nets)) (deltasIn (l .left)) (r .result .0) (l .inv .1)
+          (omega (arith, c .before .before .before .loop-test .taken, s .pre .0 .as-many))
           (r .ensures ∙ ap₂ _-ℤ_ same (sym (delta-at (s .args .t2) (l .j))))),
     )
 
@@ -71,7 +73,8 @@ returns : tie.Need-returns Inv-loop μ-loop
 returns c =
     let s = c .before .before in
     let l = c .before .loop in
-    subst (λ (n : ℕ). Added n (λ k. negℤ (getD (deltasIn (s .args .t2)) k (pos 0))) (deltasIn (s .args .nets)) (deltasIn (l .left))) (omega (arith, c .loop-test .left, l .inv .0)) (l .inv .1)
+    subst (λ (n : ℕ). Added n (λ k. negℤ (getD (deltasIn (s .args .t2)) k (pos 0))) (deltasIn (s .args .nets)) (deltasIn (l .left)))
+    (omega (arith, c .loop-test .left, l .inv .0)) (l .inv .1)
 
 pub nets-without-spec : {M : Type 1} → statement M
 nets-without-spec =

@@ -21,7 +21,8 @@ element-copy-out-if3 c = search needs
 returns : tie.Need-returns
 returns c =
     let s = c .before .before .before .before .before in
-    the-first (s .args .count) (now (s .args .days)) (s .pre .1 (c .before .before .before .before .if1 .taken)) (s .args .d) (c .before .before .before .earlier .result) (c .before .before .if2 .taken) (c .if3 .taken)
+    the-first (s .args .count) (now (s .args .days)) (s .pre .1 (c .before .before .before .before .if1 .taken)) (s .args .d)
+    (c .before .before .before .earlier .result) (c .before .before .if2 .taken) (c .if3 .taken)
 
 first-place-requires : tie.Need-first-place-requires
 first-place-requires c κs = search needs

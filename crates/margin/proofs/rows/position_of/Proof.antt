@@ -32,7 +32,8 @@ with-rows-requires c κs =
           (
             s .pre .1 .1 .1,
             wider 0 (128 - length (records (now (s .args .rows)))) (c .before .flat .result) (omega arith)
-                (bounded [] (s .args .unit) (s .pre .0) prompts [] (c .before .flat .result) no-rows (λ k h. absurd (not-suc-le-zero h)) (c .before .flat .ensures [] (s .args .unit) prompts few)),
+                (bounded [] (s .args .unit) (s .pre .0) prompts [] (c .before .flat .result) no-rows (λ k h. absurd (not-suc-le-zero h))
+                (c .before .flat .ensures [] (s .args .unit) prompts few)),
           ),
         ),
       ),

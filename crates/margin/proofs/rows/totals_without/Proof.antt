@@ -77,15 +77,18 @@ loop-again c =
     let ha = s .pre .0 .size (l .s) h in
     let hy = s .pre .1 .size (l .s) h in (
       omega arith,
-      next (l .s) (λ k. negℤ (getD (s .args .gone .0) k (pos 0))) (s .args .t .0) (l .totals) (toZ w64 (ofZ w64 (c .minus .result))) (l .inv .1) (omega (arith, s .pre .0 .as-many))
-          (op-is _-ℤ_ x y a y (fits x (omega (arith, ap natAbs same, ha)) .sfits) (fits y hy .sfits) same refl (c .minus .result) (c .minus .ok) (c .minus .ensures)),
+      next (l .s) (λ k. negℤ (getD (s .args .gone .0) k (pos 0))) (s .args .t .0) (l .totals) (toZ w64 (ofZ w64 (c .minus .result))) (l .inv .1)
+          (omega (arith, s .pre .0 .as-many))
+          (op-is _-ℤ_ x y a y (fits x (omega (arith, ap natAbs same, ha)) .sfits) (fits y hy .sfits) same refl (c .minus .result) (c .minus .ok)
+          (c .minus .ensures)),
     )
 
 returns : tie.Need-returns Inv-loop μ-loop
 returns c =
     let s = c .before .before .before .before in
     let l = c .before .loop in
-    subst (λ (n : ℕ). Added n (λ k. negℤ (getD (s .args .gone .0) k (pos 0))) (s .args .t .0) (l .totals)) (omega (arith, c .loop-test .left, l .inv .0)) (l .inv .1)
+    subst (λ (n : ℕ). Added n (λ k. negℤ (getD (s .args .gone .0) k (pos 0))) (s .args .t .0) (l .totals))
+    (omega (arith, c .loop-test .left, l .inv .0)) (l .inv .1)
 
 pub totals-without-spec : {M : Type 1} → statement M
 totals-without-spec =

@@ -57,24 +57,32 @@ rise-requires c κs = c .before .before .before .pre .1 .0
 loop-holds : tie.Need-loop-holds Inv-loop2 μ-loop2 Inv-loop μ-loop
 loop-holds c =
     let s = c .before .before .before .before .before .before .before in
-    λ held is. start held (s .args .unit) (records (now (s .args .rows))) (s .args .days .count) (s .args .days .day) (s .args .p .totals .0) (deltasIn (s .args .p .nets)) (s .args .p .shorts)
+    λ held is. start held (s .args .unit) (records (now (s .args .rows))) (s .args .days .count) (s .args .days .day) (s .args .p .totals .0)
+    (deltasIn (s .args .p .nets)) (s .args .p .shorts)
 
 -- at the head of a turn: the row is within its ranges, and there is room for it
-row-within : (c : tie.In-loop Inv-loop2 μ-loop2 Inv-loop μ-loop) → RowFit (take (c .before .loop .i * 96 + 96 - c .before .loop .i * 96) (drop (c .before .loop .i * 96) (now (c .before .before .before .before .before .before .before .before .before .args .rows))))
+row-within : (c : tie.In-loop Inv-loop2 μ-loop2 Inv-loop μ-loop)
+    → RowFit
+    (take (c .before .loop .i * 96 + 96 - c .before .loop .i * 96)
+    (drop (c .before .loop .i * 96) (now (c .before .before .before .before .before .before .before .before .before .args .rows))))
 row-within c =
     let s = c .before .before .before .before .before .before .before .before .before in
     let file = now (s .args .rows) in
     let more : c .before .loop .i < length file / 96 = c .loop-test .taken in
     subst (λ (row : Record). RowFit row) (record-at file (c .before .loop .i) more) (s .pre .1 .1 .0 .each (c .before .loop .i) (omega (arith, count-is file)))
 
-row-rated : (c : tie.In-loop Inv-loop2 μ-loop2 Inv-loop μ-loop) → RatedBy (c .before .before .before .before .before .before .before .before .before .args .rates) (take (c .before .loop .i * 96 + 96 - c .before .loop .i * 96) (drop (c .before .loop .i * 96) (now (c .before .before .before .before .before .before .before .before .before .args .rows))) ∷ [])
+row-rated : (c : tie.In-loop Inv-loop2 μ-loop2 Inv-loop μ-loop)
+    → RatedBy (c .before .before .before .before .before .before .before .before .before .args .rates)
+    (take (c .before .loop .i * 96 + 96 - c .before .loop .i * 96)
+    (drop (c .before .loop .i * 96) (now (c .before .before .before .before .before .before .before .before .before .args .rows))) ∷ [])
 row-rated c =
     let s = c .before .before .before .before .before .before .before .before .before in
     let file = now (s .args .rows) in
     let by = s .pre .1 .1 .1 .0 in
     let more : c .before .loop .i < length file / 96 = c .loop-test .taken in
     one-rated (s .args .rates) (by .rates) _ (by .held)
-    (subst (λ (row : Record). RowRated (by .rates) row) (record-at file (c .before .loop .i) more) (by .each (c .before .loop .i) (omega (arith, count-is file))))
+    (subst (λ (row : Record). RowRated (by .rates) row) (record-at file (c .before .loop .i) more)
+    (by .each (c .before .loop .i) (omega (arith, count-is file))))
 
 has-room : (c : tie.In-loop Inv-loop2 μ-loop2 Inv-loop μ-loop) → Most 127 (c .before .loop .totals) (deltasIn (c .before .loop .nets)) (c .before .loop .shorts)
 has-room c =
@@ -83,8 +91,10 @@ has-room c =
     let file = now (s .args .rows) in
     let more : i .i < length file / 96 = c .loop-test .taken in
     let by = s .pre .1 .1 .1 .0 in
-    room (by .rates) (s .args .unit) (s .pre .0) (records file) (s .args .days .count) (s .args .days .day) (s .args .p .totals .0) (deltasIn (s .args .p .nets)) (s .args .p .shorts)
-    (s .pre .1 .1 .0) (by .each) (most (s .args .p) (s .pre .1 .1 .1 .1)) (i .i) 127 (i .totals) (deltasIn (i .nets)) (i .shorts) (i .inv (by .rates) (by .held))
+    room (by .rates) (s .args .unit) (s .pre .0) (records file) (s .args .days .count) (s .args .days .day) (s .args .p .totals .0)
+    (deltasIn (s .args .p .nets)) (s .args .p .shorts)
+    (s .pre .1 .1 .0) (by .each) (most (s .args .p) (s .pre .1 .1 .1 .1)) (i .i) 127 (i .totals) (deltasIn (i .nets)) (i .shorts)
+    (i .inv (by .rates) (by .held))
     (omega (arith, count-is file, s .pre .1 .1 .0 .few))
 
 mul-at : tie.Need-mul-at Inv-loop2 μ-loop2 Inv-loop μ-loop
@@ -109,7 +119,10 @@ row-delta-requires : tie.Need-row-delta-requires Inv-loop2 μ-loop2 Inv-loop μ-
 row-delta-requires c κs = row-within (c .before .before)
 
 place-of-requires : tie.Need-place-of-requires Inv-loop2 μ-loop2 Inv-loop μ-loop
-place-of-requires c κs = (c .before .before .before .before .before .before .before .before .before .before .before .before .before .pre .1 .0, c .before .before .before .before .before .before .before .before .before .rise .ensures)
+place-of-requires c κs = (
+  c .before .before .before .before .before .before .before .before .before .before .before .before .before .pre .1 .0,
+  c .before .before .before .before .before .before .before .before .before .rise .ensures,
+)
 
 loop2-holds : tie.Need-loop2-holds Inv-loop2 μ-loop2 Inv-loop μ-loop
 loop2-holds c =
@@ -117,40 +130,68 @@ loop2-holds c =
     let f = c .place-of .ensures in
     let of-day = c .before .before .before .day-of .result in
     let more = c .before .before .row-delta .result .0 in
-    let xs = deltasIn (c .before .before .before .before .before .before .loop .nets) in
-    (f .high, (f .here, passed-by (s .args .days .day) (s .args .days .count) of-day more xs 0 (c .place-of .result) xs f (adding.start (addsOn (s .args .days .day) of-day more) xs)))
+    let xs = deltasIn (c .before .before .before .before .before .before .loop .nets) in (
+      f .high,
+      (
+        f .here,
+        passed-by (s .args .days .day) (s .args .days .count) of-day more xs 0 (c .place-of .result) xs f
+            (adding.start (addsOn (s .args .days .day) of-day more) xs),
+      ),
+    )
 
 mul-net-with : tie.Need-mul-net-with Inv-loop2 μ-loop2 Inv-loop μ-loop
-mul-net-with c = omega (arith, c .before .before .before .before .before .before .before .before .before .before .before .before .before .before .before .before .pre .1 .0)
+mul-net-with c = omega
+    (arith, c .before .before .before .before .before .before .before .before .before .before .before .before .before .before .before .before .pre .1 .0)
 
 array-copy-out-net-with : tie.Need-array-copy-out-net-with Inv-loop2 μ-loop2 Inv-loop μ-loop
-array-copy-out-net-with c = omega (arith, c .before .before .before .before .before .before .before .before .before .before .before .before .before .before .before .before .pre .1 .0)
+array-copy-out-net-with c = omega
+    (arith, c .before .before .before .before .before .before .before .before .before .before .before .before .before .before .before .before .pre .1 .0)
 
 net-with-requires : tie.Need-net-with-requires Inv-loop2 μ-loop2 Inv-loop μ-loop
 net-with-requires c κs =
     let i = c .before .before .before .before .before .before .before .before .before .loop in
     let k = c .before .before .loop2 in
-    let few : k .j < 32 = omega (arith, c .before .before .before .before .before .before .before .before .before .before .before .before .before .before .before .before .before .pre .1 .0) in
-    let here : natAbs (getD (deltasIn (i .nets)) (k .j) (pos 0)) ≤ mostDelta = omega (arith, has-room (c .before .before .before .before .before .before .before .before) .nets-most .size (k .j) few) in (
+    let few : k .j < 32 = omega (
+      arith,
+      c .before .before .before .before .before .before .before .before .before .before .before .before .before .before .before .before .before .pre .1 .0,
+    ) in
+    let here : natAbs (getD (deltasIn (i .nets)) (k .j) (pos 0)) ≤ mostDelta = omega
+    (arith, has-room (c .before .before .before .before .before .before .before .before) .nets-most .size (k .j) few) in (
       subst (λ (z : ℤ). natAbs z ≤ mostDelta) (sym (k .inv .1 .1 .others (k .j) (omega arith)) ∙ adding.delta-at (k .nets) (k .j)) here,
       omega (arith, c .before .before .before .before .before .row-delta .ensures .size),
     )
 
 mul-nets : tie.Need-mul-nets Inv-loop2 μ-loop2 Inv-loop μ-loop
-mul-nets c = omega (arith, c .before .before .before .before .before .before .before .before .before .before .before .before .before .before .before .before .before .before .pre .1 .0)
+mul-nets c = omega (
+  arith,
+  c .before .before .before .before .before .before .before .before .before .before .before .before .before .before .before .before .before .before
+      .pre .1 .0,
+)
 
 array-set-from-nets : tie.Need-array-set-from-nets Inv-loop2 μ-loop2 Inv-loop μ-loop
-array-set-from-nets c = omega (arith, c .before .before .before .before .before .before .before .before .before .before .before .before .before .before .before .before .before .before .pre .1 .0)
+array-set-from-nets c = omega (
+  arith,
+  c .before .before .before .before .before .before .before .before .before .before .before .before .before .before .before .before .before .before
+      .pre .1 .0,
+)
 
 next-place-requires : tie.Need-next-place-requires Inv-loop2 μ-loop2 Inv-loop μ-loop
-next-place-requires c κs = (c .before .before .before .loop2-test .taken, (c .before .before .before .before .before .before .before .before .before .before .before .before .before .before .before .before .before .before .before .pre .1 .0, c .before .before .before .before .before .before .before .before .before .before .before .before .before .before .before .rise .ensures))
+next-place-requires c κs = (
+  c .before .before .before .loop2-test .taken,
+  (
+    c .before .before .before .before .before .before .before .before .before .before .before .before .before .before .before .before .before .before
+        .before .pre .1 .0,
+    c .before .before .before .before .before .before .before .before .before .before .before .before .before .before .before .rise .ensures,
+  ),
+)
 
 loop2-less : tie.Need-loop2-less Inv-loop2 μ-loop2 Inv-loop μ-loop
 loop2-less c = omega (arith, c .next-place .ensures .low)
 
 loop2-again : tie.Need-loop2-again Inv-loop2 μ-loop2 Inv-loop μ-loop
 loop2-again c =
-    let s = c .before .before .before .before .before .before .before .before .before .before .before .before .before .before .before .before .before .before .before .before in
+    let s = c .before .before .before .before .before .before .before .before .before .before .before .before .before .before .before .before .before
+    .before .before .before in
     let days = s .args .days .day in
     let n = s .args .days .count in
     let i = c .before .before .before .before .before .before .before .before .before .before .before .before .loop in
@@ -159,17 +200,32 @@ loop2-again c =
     let more = c .before .before .before .before .before .before .before .before .row-delta .result .0 in
     let net = c .before .before .net-with in
     let same : getD days (k .j) 0 ≡ of-day = k .inv .1 .0 (c .before .before .before .before .loop2-test .taken) in
-    let f : FirstPlace days (k .j + 1) n of-day (c .next-place .result) = subst (λ (d : ℕ). FirstPlace days (k .j + 1) n d (c .next-place .result)) same (c .next-place .ensures) in
-    let places : length (deltasIn (i .nets)) ≡ 32 = has-room (c .before .before .before .before .before .before .before .before .before .before .before) .nets-most .as-many in
+    let f : FirstPlace days (k .j + 1) n of-day (c .next-place .result) = subst
+    (λ (d : ℕ). FirstPlace days (k .j + 1) n d (c .next-place .result)) same (c .next-place .ensures) in
+    let places : length (deltasIn (i .nets)) ≡ 32 = has-room
+    (c .before .before .before .before .before .before .before .before .before .before .before) .nets-most .as-many in
     let few : k .j < 32 = omega (arith, s .pre .1 .0) in
     let here : Added (k .j + 1) (addsOn days of-day more) (deltasIn (i .nets)) (deltasIn (set (k .nets) (k .j) (net .result))) =
     subst (λ (zs : List ℤ). Added (k .j + 1) (addsOn days of-day more) (deltasIn (i .nets)) zs) (sym (adding.deltas-set (k .nets) (k .j) (net .result)))
     (added-at days n of-day more (deltasIn (i .nets)) (k .j) (deltasIn (k .nets)) (net .result .0) (omega arith) same (k .inv .1 .1)
-    (net .ensures ∙ ap (λ (z : ℤ). z +ℤ more) (sym (adding.delta-at (k .nets) (k .j))))) in
-    (f .high, (f .here, passed-by days n of-day more (deltasIn (i .nets)) (k .j + 1) (c .next-place .result) (deltasIn (set (k .nets) (k .j) (net .result))) f here))
+    (net .ensures ∙ ap (λ (z : ℤ). z +ℤ more) (sym (adding.delta-at (k .nets) (k .j))))) in (
+      f .high,
+      (f .here, passed-by days n of-day more (deltasIn (i .nets)) (k .j + 1) (c .next-place .result) (deltasIn (set (k .nets) (k .j) (net .result))) f here),
+    )
 
 add-row-requires : tie.Need-add-row-requires Inv-loop2 μ-loop2 Inv-loop μ-loop
-add-row-requires c κs = (c .before .before .before .before .before .before .before .before .before .before .before .before .before .before .before .before .before .pre .0, (row-within (c .before .before .before .before .before .before .before .before), (row-rated (c .before .before .before .before .before .before .before .before), has-room (c .before .before .before .before .before .before .before .before) .totals-most)))
+add-row-requires c κs = (
+  c .before .before .before .before .before .before .before .before .before .before .before .before .before .before .before .before .before .pre
+      .0,
+  (
+    row-within (c .before .before .before .before .before .before .before .before),
+    (
+      row-rated (c .before .before .before .before .before .before .before .before),
+      has-room
+          (c .before .before .before .before .before .before .before .before) .totals-most,
+    ),
+  ),
+)
 
 short-options-requires : tie.Need-short-options-requires Inv-loop2 μ-loop2 Inv-loop μ-loop
 short-options-requires c κs = search needs
@@ -177,17 +233,29 @@ short-options-requires c κs = search needs
 add-shorts : tie.Need-add-shorts Inv-loop2 μ-loop2 Inv-loop μ-loop
 add-shorts c =
     let row = row-within (c .before .before .before .before .before .before .before .before .before .before) in
-    omega (arith, c .short-options .ensures, shorts-most _ row, has-room (c .before .before .before .before .before .before .before .before .before .before) .shorts-most)
+    omega (
+      arith,
+      c .short-options .ensures,
+      shorts-most _ row,
+      has-room
+          (c .before .before .before .before .before .before .before .before .before .before) .shorts-most,
+    )
 
 add-i : tie.Need-add-i Inv-loop2 μ-loop2 Inv-loop μ-loop
-add-i c = omega (arith, c .before .before .before .before .before .before .before .before .before .before .loop-test .taken, c .before .before .before .before .before .before .before .before .before .before .before .before .before .before .before .before .before .before .before .good)
+add-i c = omega (
+  arith,
+  c .before .before .before .before .before .before .before .before .before .before .loop-test .taken,
+  c .before .before .before .before .before .before .before .before .before .before .before .before .before .before .before .before .before .before
+      .before .good,
+)
 
 loop-less : tie.Need-loop-less Inv-loop2 μ-loop2 Inv-loop μ-loop
 loop-less c = omega (arith, c .before .before .before .before .before .before .before .before .before .before .loop-test .taken)
 
 loop-again : tie.Need-loop-again Inv-loop2 μ-loop2 Inv-loop μ-loop
 loop-again c =
-    let s = c .before .before .before .before .before .before .before .before .before .before .before .before .before .before .before .before .before .before .before in
+    let s = c .before .before .before .before .before .before .before .before .before .before .before .before .before .before .before .before .before
+    .before .before in
     let i = c .before .before .before .before .before .before .before .before .before .before .before .loop in
     let k = c .before .before .before .before .loop2 in
     let file = now (s .args .rows) in
@@ -220,16 +288,19 @@ returns c =
     let q : Position = record { totals = record { 0 = i .totals }; nets = i .nets; shorts = i .shorts } in
     let last =
     room (by .rates) (s .args .unit) (s .pre .0) (records file) count days (s .args .p .totals .0) (deltasIn (s .args .p .nets)) (s .args .p .shorts)
-    (s .pre .1 .1 .0) (by .each) (most (s .args .p) (s .pre .1 .1 .1 .1)) (i .i) 128 (i .totals) (deltasIn (i .nets)) (i .shorts) (i .inv (by .rates) (by .held))
+    (s .pre .1 .1 .0) (by .each) (most (s .args .p) (s .pre .1 .1 .1 .1)) (i .i) 128 (i .totals) (deltasIn (i .nets)) (i .shorts)
+    (i .inv (by .rates) (by .held))
     (omega (arith, i .inv (by .rates) (by .held) .passed, s .pre .1 .1 .0 .few)) in
     let added : (held : List Record) → RatesOf held (s .args .rates) → WithRows held (s .args .unit) (s .args .days) (s .args .p) (records file) q =
     λ held is.
-    let all = finish held (s .args .unit) (records file) count days (s .args .p .totals .0) (deltasIn (s .args .p .nets)) (s .args .p .shorts) (i .i) (i .totals) (deltasIn (i .nets)) (i .shorts)
+    let all = finish held (s .args .unit) (records file) count days (s .args .p .totals .0) (deltasIn (s .args .p .nets)) (s .args .p .shorts) (i .i)
+    (i .totals) (deltasIn (i .nets)) (i .shorts)
     (omega (arith, count-is file, c .loop-test .left)) (i .inv held is) in
     record { totals-added = all .0; nets-added = all .1 .0; shorts-added = all .1 .1 } in (
       added,
       (
-        λ held prompts earlier rated known is. joined held (s .args .unit) prompts earlier (records file) (s .args .days) (s .args .p) q known is (added held rated),
+        λ held prompts earlier rated known is. joined held (s .args .unit) prompts earlier (records file) (s .args .days) (s .args .p) q known is
+            (added held rated),
         record { totals-most = last .totals-most; nets-most = last .nets-most; shorts-most = last .shorts-most },
       ),
     )

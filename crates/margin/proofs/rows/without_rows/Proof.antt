@@ -29,24 +29,37 @@ with-rows-requires c κs =
           (
             s .pre .1 .1 .1 .0,
             wider 0 (128 - length (records (now (s .args .rows)))) (f .result) zero-le
-                (bounded [] (s .args .unit) (s .pre .0) [] [] (f .result) no-rows (λ k h. absurd (not-suc-le-zero h)) (f .ensures [] (s .args .unit) [] zero-le)),
+                (bounded [] (s .args .unit) (s .pre .0) [] [] (f .result) no-rows (λ k h. absurd (not-suc-le-zero h))
+                (f .ensures [] (s .args .unit) [] zero-le)),
           ),
         ),
       ),
     )
 
 totals-without-requires : tie.Need-totals-without-requires
-totals-without-requires c κs = (c .before .before .before .before .before .before .before .pre .1 .1 .1 .1 .0 .totals-most, c .before .before .before .before .with-rows .ensures .1 .1 .totals-most)
+totals-without-requires c κs = (
+  c .before .before .before .before .before .before .before .pre .1 .1 .1 .1 .0 .totals-most,
+  c .before .before .before .before .with-rows .ensures .1 .1 .totals-most,
+)
 
 nets-without-requires : tie.Need-nets-without-requires
-nets-without-requires c κs = (c .before .before .before .before .before .before .before .before .pre .1 .1 .1 .1 .0 .nets-most, c .before .before .before .before .before .with-rows .ensures .1 .1 .nets-most)
+nets-without-requires c κs = (
+  c .before .before .before .before .before .before .before .before .pre .1 .1 .1 .1 .0 .nets-most,
+  c .before .before .before .before .before .with-rows .ensures .1 .1 .nets-most,
+)
 
 sub-t14 : tie.Need-sub-t14
 sub-t14 c =
     let s = c .before .before .before .before .before .before .before .before .before .before .before in
     let h = s .pre .1 .1 .1 .1 .1 in
     let g = c .before .before .before .before .before .before .before .before .with-rows .ensures .0 (h .rates) (h .held) in
-    omega (arith, h .added .shorts-added, g .shorts-added, c .before .before .before .before .before .before .before .before .before .flat .ensures (h .rates) (s .args .unit) [] zero-le .shorts-are)
+    omega (
+      arith,
+      h .added .shorts-added,
+      g .shorts-added,
+      c .before .before .before .before .before .before .before .before .before .flat .ensures
+          (h .rates) (s .args .unit) [] zero-le .shorts-are,
+    )
 
 returns : tie.Need-returns
 returns c =
@@ -55,7 +68,8 @@ returns c =
     let f = c .before .before .before .before .before .before .before .before .before .flat in
     λ held before rated is.
     taken-away held (s .args .unit) (s .args .days) (records (now (s .args .rows))) before (s .args .p) (f .result) (g .result) _ is (g .ensures .0 held rated)
-    (f .ensures held (s .args .unit) [] zero-le) (s .pre .1 .1 .1 .1 .0) (s .pre .1 .0) (c .before .before .before .totals-without .ensures) (c .before .before .nets-without .ensures) refl
+    (f .ensures held (s .args .unit) [] zero-le) (s .pre .1 .1 .1 .1 .0) (s .pre .1 .0) (c .before .before .before .totals-without .ensures)
+    (c .before .before .nets-without .ensures) refl
 
 pub without-rows-spec : {M : Type 1} → statement M
 without-rows-spec =

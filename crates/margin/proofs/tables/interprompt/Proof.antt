@@ -22,7 +22,13 @@ leg-of-requires-3 : tie.Need-leg-of-requires-3
 leg-of-requires-3 c κs = search needs
 
 returns : tie.Need-returns
-returns c = λ i. record { legs = c .before .before .before .leg-count .ensures .0 i; leg = c .before .before .leg-of .ensures i ∷ c .before .leg-of2 .ensures i ∷ c .leg-of3 .ensures i ∷ []; tenths = false }
+returns c =
+    λ i. record {
+      legs = c .before .before .before .leg-count .ensures .0 i;
+      leg = c .before .before .leg-of .ensures i ∷ c .before .leg-of2 .ensures
+          i ∷ c .leg-of3 .ensures i ∷ [];
+      tenths = false;
+    }
 
 pub interprompt-spec : {M : Type 1} → statement M
 interprompt-spec =

@@ -18,7 +18,8 @@ use Rattle.margin.proofs.uses.put_deltas.Statement.{statement}
 use Rattle.margin.proofs.uses.put_deltas.Tie as tie
 
 abbrev Inv-loop : tie.InvT-loop
-Inv-loop out₀ at count deltas i₀ out i = ToWrite count (λ k. slice k count (deltasIn deltas)) (sets out₀ at (take count (deltasIn deltas))) i (at + i) out × (length out ≡ length out₀)
+Inv-loop out₀ at count deltas i₀ out i = ToWrite count (λ k. slice k count (deltasIn deltas)) (sets out₀ at (take count (deltasIn deltas))) i
+    (at + i) out × (length out ≡ length out₀)
 
 abbrev μ-loop : tie.MeasureT-loop
 μ-loop out₀ at count deltas i₀ out i = count - i

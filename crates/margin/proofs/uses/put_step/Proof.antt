@@ -32,7 +32,8 @@ returns c =
     let lt : length (p .tier) ≡ 32 = sym (length-map (p .tier) _) ∙ s .good .1 .1 .0 .1 .1 .1 .0 .1 .0 .1 in
     let ln : length (p .net) ≡ 32 = sym (length-map (p .net) _) ∙ s .good .1 .1 .0 .1 .1 .1 .1 .0 .1 .0 .1 in (
       left-by p d (s .args .second) (step .result) (step .ensures) (s .pre .0),
-      c .before .before .put-deltas .ensures ∙ ap (sets (s .args .out .now) (s .args .at)) (taken-is p d (s .args .second) (step .result) (step .ensures) (s .pre .0) lt ln (few p (and-left (soundPrompts p) (soundSpread d) (s .pre .0)))),
+      c .before .before .put-deltas .ensures ∙ ap (sets (s .args .out .now) (s .args .at))
+          (taken-is p d (s .args .second) (step .result) (step .ensures) (s .pre .0) lt ln (few p (and-left (soundPrompts p) (soundSpread d) (s .pre .0)))),
     )
 
 pub put-step-spec : {M : Type 1} → statement M

@@ -11,7 +11,8 @@ use Rattle.spread.specs.Accepted.{openOf, stepsOf, soundPrompts, soundTable}
 use Rattle.spread.specs.Uses.{usesOf}
 use Rattle.spread.specs.declared.Spread.{Spread}
 use Rattle.spread.proofs.Both.{and-right}
-use Rattle.margin.proofs.UsesLaws.{Putting, few-in-table, put-none, room-here, first-room, first-sound, second-room, second-sound, put-next, put-length, put-all}
+use Rattle.margin.proofs.UsesLaws.{Putting, few-in-table, put-none, room-here, first-room, first-sound, second-room, second-sound, put-next}
+use Rattle.margin.proofs.UsesLaws.{put-length, put-all}
 use Rattle.margin.proofs.uses.put_uses.Statement.{statement}
 use Rattle.margin.proofs.uses.put_uses.Tie as tie
 
@@ -19,7 +20,8 @@ abbrev noSpread : Spread
 noSpread = record { legs = 0; leg = []; tenths = false }
 
 abbrev Inv-loop : tie.InvT-loop
-Inv-loop out₀ table n spreads left₀ at₀ i₀ out left at i = Putting n table (sets out₀ 0 (usesOf (stepsOf table) (openOf left₀))) i at left out × (length out ≡ length out₀)
+Inv-loop out₀ table n spreads left₀ at₀ i₀ out left at i = Putting n table (sets out₀ 0 (usesOf (stepsOf table) (openOf left₀))) i at left out
+    × (length out ≡ length out₀)
 
 abbrev μ-loop : tie.MeasureT-loop
 μ-loop out₀ table n spreads left₀ at₀ i₀ out left at i = spreads - i
@@ -54,29 +56,51 @@ put-step-requires : tie.Need-put-step-requires Inv-loop μ-loop
 put-step-requires c κs =
     let b = c in
     let s = b .before .before .before .before in
-    let l = b .before .before .before .loop in
-    (first-sound (s .args .t3) (spreads-32 s) (sound-table s) (s .args .prompts .count) _ (l .i) (l .at) (l .left) (l .left) (l .left) (l .out) (l .out) (l .out) noSpread (l .inv .0) (b .before .before .loop-test .taken), omega (arith, l .inv .0 .count, first-room (s .args .t3) (spreads-32 s) (sound-table s) (s .args .prompts .count) _ (l .i) (l .at) (l .left) (l .left) (l .left) (l .out) (l .out) (l .out) noSpread (l .inv .0) (b .before .before .loop-test .taken)))
+    let l = b .before .before .before .loop in (
+      first-sound (s .args .t3) (spreads-32 s) (sound-table s) (s .args .prompts .count) _ (l .i) (l .at) (l .left) (l .left) (l .left) (l .out)
+          (l .out) (l .out) noSpread (l .inv .0) (b .before .before .loop-test .taken),
+      omega (
+        arith,
+        l .inv .0 .count,
+        first-room (s .args .t3) (spreads-32 s) (sound-table s) (s .args .prompts .count) _ (l .i) (l .at) (l .left)
+            (l .left) (l .left) (l .out) (l .out) (l .out) noSpread (l .inv .0) (b .before .before .loop-test .taken),
+      ),
+    )
 
 add-put-step : tie.Need-add-put-step Inv-loop μ-loop
 add-put-step c =
     let b = c .before .before .before in
     let s = b .before .before .before .before in
     let l = b .before .before .before .loop in
-    omega (arith, l .inv .1, s .good .0, first-room (s .args .t3) (spreads-32 s) (sound-table s) (s .args .prompts .count) _ (l .i) (l .at) (l .left) (l .left) (l .left) (l .out) (l .out) (l .out) noSpread (l .inv .0) (b .before .before .loop-test .taken))
+    omega (
+      arith,
+      l .inv .1,
+      s .good .0,
+      first-room (s .args .t3) (spreads-32 s) (sound-table s) (s .args .prompts .count) _ (l .i) (l .at) (l .left)
+          (l .left) (l .left) (l .out) (l .out) (l .out) noSpread (l .inv .0) (b .before .before .loop-test .taken),
+    )
 
 put-step-requires-2 : tie.Need-put-step-requires-2 Inv-loop μ-loop
 put-step-requires-2 c κs =
     let b = c .before .before .before in
     let s = b .before .before .before .before in
-    let l = b .before .before .before .loop in
-    (second-sound (s .args .t3) (spreads-32 s) (sound-table s) (s .args .prompts .count) _ (l .i) (l .at) (l .left) (c .before .before .put-step .result) (l .left) (l .out) (c .before .before .put-step .last .0) (l .out) noSpread (l .inv .0) (b .before .before .loop-test .taken) (c .before .before .put-step .ensures .0) (c .before .before .put-step .ensures .1), second-room (s .args .t3) (spreads-32 s) (sound-table s) (s .args .prompts .count) _ (l .i) (l .at) (l .left) (c .before .before .put-step .result) (l .left) (l .out) (c .before .before .put-step .last .0) (l .out) noSpread (l .inv .0) (b .before .before .loop-test .taken) (c .before .before .put-step .ensures .0) (c .before .before .put-step .ensures .1))
+    let l = b .before .before .before .loop in (
+      second-sound (s .args .t3) (spreads-32 s) (sound-table s) (s .args .prompts .count) _ (l .i) (l .at) (l .left)
+          (c .before .before .put-step .result) (l .left) (l .out) (c .before .before .put-step .last .0) (l .out) noSpread (l .inv .0)
+          (b .before .before .loop-test .taken) (c .before .before .put-step .ensures .0) (c .before .before .put-step .ensures .1),
+      second-room
+          (s .args .t3) (spreads-32 s) (sound-table s) (s .args .prompts .count) _ (l .i) (l .at) (l .left) (c .before .before .put-step .result)
+          (l .left) (l .out) (c .before .before .put-step .last .0) (l .out) noSpread (l .inv .0) (b .before .before .loop-test .taken)
+          (c .before .before .put-step .ensures .0) (c .before .before .put-step .ensures .1),
+    )
 
 mul-at : tie.Need-mul-at Inv-loop μ-loop
 mul-at c =
     let b = c .before .before .before .before .before in
     let s = b .before .before .before .before in
     let l = b .before .before .before .loop in
-    let r = room-here (s .args .t3) (spreads-32 s) (sound-table s) (s .args .prompts .count) _ (l .i) (l .at) (l .left) (l .left) (l .left) (l .out) (l .out) (l .out) noSpread (l .inv .0) (b .before .before .loop-test .taken) in
+    let r = room-here (s .args .t3) (spreads-32 s) (sound-table s) (s .args .prompts .count) _ (l .i) (l .at) (l .left) (l .left) (l .left) (l .out)
+    (l .out) (l .out) noSpread (l .inv .0) (b .before .before .loop-test .taken) in
     omega (arith, l .inv .1, s .good .0)
 
 add-at : tie.Need-add-at Inv-loop μ-loop
@@ -84,7 +108,8 @@ add-at c =
     let b = c .before .before .before .before .before in
     let s = b .before .before .before .before in
     let l = b .before .before .before .loop in
-    let r = room-here (s .args .t3) (spreads-32 s) (sound-table s) (s .args .prompts .count) _ (l .i) (l .at) (l .left) (l .left) (l .left) (l .out) (l .out) (l .out) noSpread (l .inv .0) (b .before .before .loop-test .taken) in
+    let r = room-here (s .args .t3) (spreads-32 s) (sound-table s) (s .args .prompts .count) _ (l .i) (l .at) (l .left) (l .left) (l .left) (l .out)
+    (l .out) (l .out) noSpread (l .inv .0) (b .before .before .loop-test .taken) in
     omega (arith, l .inv .1, s .good .0)
 
 add-i : tie.Need-add-i Inv-loop μ-loop
@@ -97,8 +122,19 @@ loop-again : tie.Need-loop-again Inv-loop μ-loop
 loop-again c =
     let b = c .before .before .before .before .before in
     let s = b .before .before .before .before in
-    let l = b .before .before .before .loop in
-    (put-next (s .args .t3) (spreads-32 s) (sound-table s) (s .args .prompts .count) _ (l .i) (l .at) (l .left) (c .before .before .before .before .put-step .result) (c .before .put-step2 .result) (l .out) (c .before .before .before .before .put-step .last .0) (c .before .put-step2 .last .0) noSpread (l .inv .0) (b .before .before .loop-test .taken) (c .before .before .before .before .put-step .ensures .0) (c .before .before .before .before .put-step .ensures .1) (c .before .put-step2 .ensures .0) (c .before .put-step2 .ensures .1), put-length (s .args .t3) (spreads-32 s) (sound-table s) (s .args .prompts .count) _ (l .i) (l .at) (l .left) (c .before .before .before .before .put-step .result) (c .before .put-step2 .result) (l .out) (c .before .before .before .before .put-step .last .0) (c .before .put-step2 .last .0) noSpread (l .inv .0) (b .before .before .loop-test .taken) (c .before .before .before .before .put-step .ensures .0) (c .before .before .before .before .put-step .ensures .1) (c .before .put-step2 .ensures .0) (c .before .put-step2 .ensures .1) ∙ l .inv .1)
+    let l = b .before .before .before .loop in (
+      put-next (s .args .t3) (spreads-32 s) (sound-table s) (s .args .prompts .count) _ (l .i) (l .at) (l .left)
+          (c .before .before .before .before .put-step .result) (c .before .put-step2 .result) (l .out)
+          (c .before .before .before .before .put-step .last .0) (c .before .put-step2 .last .0) noSpread (l .inv .0)
+          (b .before .before .loop-test .taken) (c .before .before .before .before .put-step .ensures .0)
+          (c .before .before .before .before .put-step .ensures .1) (c .before .put-step2 .ensures .0) (c .before .put-step2 .ensures .1),
+      put-length
+          (s .args .t3) (spreads-32 s) (sound-table s) (s .args .prompts .count) _ (l .i) (l .at) (l .left)
+          (c .before .before .before .before .put-step .result) (c .before .put-step2 .result) (l .out)
+          (c .before .before .before .before .put-step .last .0) (c .before .put-step2 .last .0) noSpread (l .inv .0)
+          (b .before .before .loop-test .taken) (c .before .before .before .before .put-step .ensures .0)
+          (c .before .before .before .before .put-step .ensures .1) (c .before .put-step2 .ensures .0) (c .before .put-step2 .ensures .1) ∙ l .inv .1,
+    )
 
 same-length : tie.Need-same-length Inv-loop μ-loop
 same-length c = c .before .loop .inv .1

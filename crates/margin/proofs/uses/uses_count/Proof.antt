@@ -11,7 +11,8 @@ use Rattle.margin.proofs.uses.uses_count.Statement.{statement}
 use Rattle.margin.proofs.uses.uses_count.Tie as tie
 
 mul-result : tie.Need-mul-result
-mul-result c = let s = c .before in let p = few (s .args .prompts) (and-left (soundPrompts (s .args .prompts)) (soundTable (s .args .table)) (s .pre)) in omega arith
+mul-result c = let s = c .before in let p = few (s .args .prompts)
+    (and-left (soundPrompts (s .args .prompts)) (soundTable (s .args .table)) (s .pre)) in omega arith
 
 mul-result-2 : tie.Need-mul-result-2
 mul-result-2 c =

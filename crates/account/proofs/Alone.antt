@@ -8,13 +8,15 @@ use mathlib.Core.List.{List, []}
 use lib.Dec.{eqb, ltb}
 use borrow.Author.Tests.{ne-eqb, eqb-true, eqb-false}
 use lib.ListN.{length, getD, replicate, length-replicate, getD-replicate}
-use Rattle.exact.specs.Lists.{sum}
+use Rattle.exact.specs.Lists.{any, sum}
 use Rattle.account.specs.Answers.{numberOf}
 use Rattle.account.specs.Check.{recordsChecked, mostContracts}
 use Rattle.account.specs.Checked.{ratesChecked, checked}
+use Rattle.account.specs.Conversions.{otherRow}
 use Rattle.account.specs.Lawful.{Recorded, Lawful}
 use Rattle.account.specs.declared.answers.Answer.{Answer}
 use Rattle.account.specs.Notes.{parts}
+use Rattle.account.specs.Parts.{ratesOf}
 use Rattle.account.specs.Records.{records, recordCount}
 use Rattle.account.specs.Standing.{lists, fromNoon, eitherNote, Filled, Flagged, JoinedBy, AloneBy, Places, Stands, CheckedBy, accountOf}
 use Rattle.account.specs.Surveyed.{Surveyed}
@@ -23,7 +25,7 @@ use Rattle.account.specs.declared.check.Survey.{Survey}
 use Rattle.account.specs.declared.accounts.Account.{Account}
 use Rattle.account.proofs.Going.{same-survey}
 use Rattle.account.proofs.AcceptedOnly.{accepted-only}
-use Rattle.account.proofs.RateLaws.{lawful-of}
+use Rattle.account.proofs.RateLaws.{lawful-of, no-other-row}
 use Rattle.account.proofs.Lawful.{recorded}
 use Rattle.account.proofs.Places.{alone, alone-recorded, records-are, places}
 use Rattle.account.proofs.Walk.{length-cut}
@@ -104,6 +106,17 @@ records-decide file ok = ap (λ (a : Answer). cond (eqb (numberOf a) 0) (ratesCh
 pub records-refused : (file : List ℕ) → (numberOf (recordsChecked file) ≡ 0 → ⊥) → checked file ≡ recordsChecked file
 records-refused file h = ap (λ (t : Bool). cond t (ratesChecked (records file)) (recordsChecked file)) (ne-eqb (numberOf (recordsChecked file)) 0 h)
 
+-- the verdict, by that on the records
+module _ (file : List ℕ) (a : Answer) (e : a ≡ recordsChecked file) where
+  pub refused-there : (numberOf a ≡ 0 → ⊥) → a ≡ checked file
+  refused-there d = e ∙ sym (records-refused file (λ z. d (ap numberOf e ∙ z)))
+
+  -- no row is in another currency
+  pub none-other : numberOf a ≡ 0 → any otherRow (records file) ≡ false → a ≡ checked file
+  none-other z none =
+      let ok = accepted-only (recordsChecked file) (ap numberOf (sym e) ∙ z) in
+      e ∙ ok ∙ sym (records-decide file ok ∙ no-other-row (ratesOf (records file)) 0 (records file) none)
+
 -- what an accepted file passed
 pub record Passes (file : List ℕ) : Type 0 where
   pub recorded : recordsChecked file ≡ Accepted
@@ -133,7 +146,7 @@ module _ (file : List ℕ) (s : Survey) (j : Account) (sv : Surveyed file s) (by
         places = alone-places file s (recordCount file) j sv by (p .recorded) refl none z;
       }
 
-  checked-alone : (a : Answer) → a ≡ checked file → CheckedBy file (record { answer = a; account = j })
+  pub checked-alone : (a : Answer) → a ≡ checked file → CheckedBy file (record { answer = a; account = j })
   checked-alone a e =
       record {
         answer-is = e;
@@ -141,20 +154,14 @@ module _ (file : List ℕ) (s : Survey) (j : Account) (sv : Surveyed file s) (by
         stands = alone-stands;
       }
 
-  -- the records are refused
-  pub refused-alone : (numberOf (s .answer) ≡ 0 → ⊥) → CheckedBy file (record { answer = s .answer; account = j })
-  refused-alone d =
-      checked-alone (s .answer) (sv .answer ∙ sym (records-refused file (λ z. d (ap numberOf (sv .answer) ∙ z))))
-
-  -- they are accepted: the rates are looked at
+  -- the records are accepted: the rates are looked at
   module _ (z : numberOf (s .answer) ≡ 0) where
-    pub accepted-alone : recordsChecked file ≡ Accepted
+    accepted-alone : recordsChecked file ≡ Accepted
     accepted-alone = accepted-only (recordsChecked file) (ap numberOf (sym (sv .answer)) ∙ z)
 
     pub rated-alone : (none : List ℕ) → none ≡ [] → Places file none j × Recorded (accountOf file none)
     rated-alone none e =
         (alone-places file s (recordCount file) j sv by accepted-alone refl none e, alone-recorded file none e accepted-alone)
 
-    pub all-alone : (none : List ℕ) → none ≡ [] → (a : Answer) → a ≡ ratesChecked (accountOf file none) → CheckedBy file (record { answer = a; account = j })
-    all-alone none e a is =
-        checked-alone a (is ∙ ap ratesChecked (alone file none e accepted-alone) ∙ sym (records-decide file accepted-alone))
+    pub rates-alone : (none : List ℕ) → none ≡ [] → ratesChecked (accountOf file none) ≡ checked file
+    rates-alone none e = ap ratesChecked (alone file none e accepted-alone) ∙ sym (records-decide file accepted-alone)

@@ -2,8 +2,9 @@
 -- Assumes nothing.
 use Prim.Native.Nat.{ℕ, zero, suc, _≤_}
 use mathlib.Core.Path.{_≡_, refl, sym}
-use mathlib.Core.Bool.{Bool, true, false}
+use mathlib.Core.Bool.{Bool, true, false, not, _||_}
 use mathlib.Core.List.{[], _∷_}
+use lib.Dec.{eqb}
 use native.Mathlib.Omega.{arith}
 use Rattle.account.specs.Answers.{numberOf, recordOf, refusal}
 use Rattle.account.specs.Check.{_when_, firstOf}
@@ -41,6 +42,23 @@ module _ (a b c d e f g : Bool) where
       a ≡ false → b ≡ false → c ≡ false → d ≡ false → e ≡ false → f ≡ false → g ≡ false
       → _≡_ {A = ℕ} 0 (seven a b c d e f g)
   is-0 ha hb hc hd he hf hg = rw (ha, hb, hc, hd, he, hf, hg)
+
+-- none of the seven
+none-of : (a b c d e f g : Bool) → not (b || ((a || (c || d)) || (e || (f || g)))) ≡ eqb (seven a b c d e f g) 0
+none-of true true c d e f g = refl
+none-of true false c d e f g = refl
+none-of false true c d e f g = refl
+none-of false false true d e f g = refl
+none-of false false false true e f g = refl
+none-of false false false false true f g = refl
+none-of false false false false false true g = refl
+none-of false false false false false false true = refl
+none-of false false false false false false false = refl
+
+pub none-is : (a b c d e f g : Bool) {a′ b′ c′ d′ e′ f′ g′ : Bool}
+    → a′ ≡ a → b′ ≡ b → c′ ≡ c → d′ ≡ d → e′ ≡ e → f′ ≡ f → g′ ≡ g
+    → not (b′ || ((a′ || (c′ || d′)) || (e′ || (f′ || g′)))) ≡ eqb (seven a b c d e f g) 0
+none-is a b c d e f g ha hb hc hd he hf hg = rw (ha, hb, hc, hd, he, hf, hg) (none-of a b c d e f g)
 
 -- 7 and 9 count only where 3 to 6 do not hold
 pub same-first :

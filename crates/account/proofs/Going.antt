@@ -19,7 +19,7 @@ use Rattle.account.specs.Notes.{partOf, inPart, oneMore, startNoted, fau
 use Rattle.account.specs.Parts.{ofKind, startOf}
 use Rattle.account.specs.Passing.{partAtRecord, countedTo, Passes, Notable, Advances}
 use Rattle.account.specs.Records.{cut, recordAt, recordCount, earlier}
-use Rattle.account.specs.Surveyed.{ofAccepted, Surveyed, Empty}
+use Rattle.account.specs.Surveyed.{ofAccepted, Surveyed, Empty, Tallied}
 use Rattle.account.specs.declared.answers.Answer.{Answer}
 use Rattle.account.specs.declared.answers.Answer.the-variants.{Accepted}
 use Rattle.account.specs.declared.check.Survey.{Survey}
@@ -93,13 +93,13 @@ module _ {file first counts : List ℕ} {contracts k : ℕ} (g : Going file firs
 
   -- a fault: the verdict
   pub going-stops :
-      (n : ℕ) → n ≡ faultAt file first counts k → (n ≡ 0 → ⊥) → tooLong file ≡ false → cutRecord file ≡ false
-      → (s : Survey) → Empty (refusal n k) s → Surveyed file s
-  going-stops n e nz a b s h =
+      {first′ counts′ : List ℕ} (n : ℕ) → n ≡ faultAt file first counts k → (n ≡ 0 → ⊥) → tooLong file ≡ false → cutRecord file ≡ false
+      → Tallied file (refusal n k) contracts first′ counts′
+  going-stops n e nz a b =
       let f = sym (e ∙ fault-is) in
       let i = fault-number (earlier file k) (recordAt file k) n f nz in
       let m = number-refusal n k (i .0) (i .1) in
-      nothing file (refusal n k) s (by-records file a b ∙ stops file k n more (g .fine) f nz) (λ z. nz (sym m ∙ z)) h
+      record { answer-is = sym (by-records file a b ∙ stops file k n more (g .fine) f nz); accepted = λ z. absurd (nz (sym m ∙ z)) }
 
   -- no fault: what the next turn begins with
   module _ (none : faultAt file first counts k ≡ 0) where
@@ -256,6 +256,13 @@ module _ {file first counts : List ℕ} {contracts k : ℕ} (g : Going file firs
             ap (λ (l : List ℕ). getD l v 0) n ∙ g .notes .counted v h
             ∙ ap (λ (m : ℕ). count (inPart v) (cut m file)) at-end ∙ sym (if-accepted (recordsChecked file) _ e);
       }
+
+  pub going-tallied : tooLong file ≡ false → cutRecord file ≡ false → Tallied file Accepted contracts first counts
+  going-tallied a b = let e = going-ends a b in record { answer-is = sym e; accepted = λ z. surveyed _ e refl refl refl refl }
+
+pub tallied-as : {file first counts : List ℕ} {a b : Answer} {contracts : ℕ} → a ≡ b → Tallied file b contracts first counts
+    → Tallied file a contracts first counts
+tallied-as {file} {first} {counts} {a} {b} {contracts} e t = subst⁻¹ (λ (x : Answer). Tallied file x contracts first counts) e t
 
 -- the promise leaves one survey
 pub same-survey : (file : List ℕ) (s t : Survey) → Surveyed file s → Surveyed file t → s ≡ t

@@ -6,7 +6,7 @@ use native.Mathlib.Nat.{zero-add}
 use mathlib.Core.Path.{_≡_, refl, sym, ap, ap₂, subst, subst⁻¹, _∙_}
 use mathlib.Core.Bool.{Bool, true, false, not, _&&_, _||_, cond}
 use mathlib.Core.List.{List, [], _∷_, _++_, append-nil}
-use borrow.Author.Tests.{eq-eqb, ne-eqb, eqb-true, eqb-false, not-false}
+use borrow.Author.Tests.{eq-eqb, ne-eqb, eqb-true, eqb-false}
 use lib.Dec.{eqb}
 use lib.ListN.{length, getD, take, drop, length-append}
 use lib.Seq.{getD-take, length-take-le}
@@ -20,7 +20,7 @@ use Rattle.account.specs.Accepted.{Each}
 use Rattle.account.specs.Answers.{numberOf, refusal}
 use Rattle.account.specs.Check.{orElse}
 use Rattle.account.specs.Checked.{rateFaultOf, firstRateFault, ratesChecked}
-use Rattle.account.specs.Conversions.{inAnother, rowAnswer, Row}
+use Rattle.account.specs.Conversions.{inAnother, otherRow, rowAnswer, Row}
 use Rattle.account.specs.Joined.{inTurn, joined}
 use Rattle.account.specs.Lawful.{Recorded, Lawful}
 use Rattle.account.specs.Notes.{part, inPart}
@@ -97,18 +97,27 @@ module _ (rates : List Record) where
   no-rows k (r ∷ xs) h = rw (ne-eqb (kind r) 3 (h .0)) (no-rows (k + 1) xs (h .1))
 
   -- no row in another currency
+  not-other : (r : Record) → otherRow r ≡ false → rateFaultOf rates r ≡ 0
+  not-other r = none (ofKind 3 r) (eqb (currency r) 0)
+    where
+      none : (i e : Bool) → not e && i ≡ false
+          → two (i && not (e || any (ofCurrency (currency r)) rates)) (i && (not e && any (beyondIn rates r) (countFrom 1 scenarioCount))) ≡ 0
+      none true true h = refl
+      none false true h = refl
+      none false false h = refl
+      none true false h = absurd (never (sym h))
+
   pub no-other : (k : ℕ) (xs : List Record) → any inAnother xs ≡ false → firstRateFault k rates xs ≡ Accepted
   no-other k [] h = refl
   no-other k (r ∷ xs) h =
       let t = neither (inAnother r) (any inAnother xs) h in
-      let own = not-false (eqb (currency r) 0) (t .0) in
-      fault-on k r xs (none (ofKind 3 r) (eqb (currency r) 0) own) ∙ no-other (k + 1) xs (t .1)
-    where
-      none : (i e : Bool) → e ≡ true
-          → two (i && not (e || any (ofCurrency (currency r)) rates)) (i && (not e && any (beyondIn rates r) (countFrom 1 scenarioCount))) ≡ 0
-      none true true e = refl
-      none false true e = refl
-      none i false e = absurd (never e)
+      fault-on k r xs (not-other r (ap (λ (b : Bool). b && ofKind 3 r) (t .0))) ∙ no-other (k + 1) xs (t .1)
+
+  pub no-other-row : (k : ℕ) (xs : List Record) → any otherRow xs ≡ false → firstRateFault k rates xs ≡ Accepted
+  no-other-row k [] h = refl
+  no-other-row k (r ∷ xs) h =
+      let t = neither (otherRow r) (any otherRow xs) h in
+      fault-on k r xs (not-other r (t .0)) ∙ no-other-row (k + 1) xs (t .1)
 
   -- what no fault says of each row
   pub each-row : (k : ℕ) (xs : List Record) → firstRateFault k rates xs ≡ Accepted

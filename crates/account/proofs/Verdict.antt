@@ -1,7 +1,7 @@
 -- The verdict, from the faults of the records: the first fault answers, and without one the file is accepted.
 -- Assumes nothing.
 use Prim.Native.Nat.{ℕ, zero, suc, _+_, _-_, _*_, _≤_, _<_}
-use mathlib.Core.Path.{_≡_, sym, ap, _∙_}
+use mathlib.Core.Path.{_≡_, refl, sym, ap, _∙_}
 use mathlib.Core.Bool.{Bool, true, false, cond}
 use mathlib.Core.List.{List, [], _∷_}
 use lib.ListN.{drop}
@@ -10,8 +10,9 @@ use native.Mathlib.Numerals.{add-one}
 use borrow.Author.Tests.{ne-eqb}
 use Rattle.record.specs.Layout.{Record}
 use Rattle.record.specs.Ranges.{unknownKind, unusedByte, fieldOutside}
-use Rattle.account.specs.Answers.{refusal}
-use Rattle.account.specs.Check.{theOneBefore, kindFalls, unlisted, outOfOrder, overLimit, faultOf, orElse, firstFault, tooLong, cutRecord, recordsChecked}
+use Rattle.account.specs.Answers.{numberOf, refusal}
+use Rattle.account.specs.Check.{theOneBefore, kindFalls, unlisted, outOfOrder, overLimit, faultOf, orElse, firstFault, tooLong, cutRecord, lengthChecked}
+use Rattle.account.specs.Check.{recordsChecked}
 use Rattle.account.specs.Records.{cut, recordAt, records, recordCount, earlier}
 use Rattle.account.specs.declared.answers.Answer.{Answer}
 use Rattle.account.specs.declared.answers.Answer.the-variants.{Accepted, TooLong, CutRecord}
@@ -72,6 +73,34 @@ module _ (file : List ℕ) where
   by-records e f =
       ap (λ (b : Bool). cond b TooLong (cond (cutRecord file) CutRecord (firstFault 0 [] (records file)))) e
       ∙ ap (λ (b : Bool). cond b CutRecord (firstFault 0 [] (records file))) f
+
+-- ---- 1 and 2
+module _ (file : List ℕ) where
+  pub length-long : tooLong file ≡ true → TooLong ≡ lengthChecked file
+  length-long e = rw e
+
+  pub length-cut-short : tooLong file ≡ false → cutRecord file ≡ true → CutRecord ≡ lengthChecked file
+  length-cut-short e f = rw (e, f)
+
+  pub length-whole : tooLong file ≡ false → cutRecord file ≡ false → Accepted ≡ lengthChecked file
+  length-whole e f = rw (e, f)
+
+  pub length-fine : lengthChecked file ≡ Accepted → (tooLong file ≡ false) × (cutRecord file ≡ false)
+  length-fine = go (tooLong file) (cutRecord file)
+    where
+      go : (t u : Bool) → cond t TooLong (cond u CutRecord Accepted) ≡ Accepted → (t ≡ false) × (u ≡ false)
+      go true u e = absurd (omega (arith, ap numberOf e))
+      go false true e = absurd (omega (arith, ap numberOf e))
+      go false false e = (refl, refl)
+
+  pub length-refused : (numberOf (lengthChecked file) ≡ 0 → ⊥) → lengthChecked file ≡ recordsChecked file
+  length-refused = go (tooLong file) (cutRecord file)
+    where
+      go : (t u : Bool) → (numberOf (cond t TooLong (cond u CutRecord Accepted)) ≡ 0 → ⊥)
+          → cond t TooLong (cond u CutRecord Accepted) ≡ cond t TooLong (cond u CutRecord (firstFault 0 [] (records file)))
+      go true u h = refl
+      go false true h = refl
+      go false false h = absurd (h refl)
 
 -- a fault has a number from 3 to 9
 pub fault-number : (es : List Record) (r : Record) (n : ℕ) → faultOf es r ≡ n → (n ≡ 0 → ⊥) → (3 ≤ n) × (n ≤ 9)

@@ -42,3 +42,9 @@ pub record Empty (a : Answer) (s : Survey) : Type 0 where
   pub contracts : s .contracts ≡ 0
   pub first : s .first ≡ replicate parts 0
   pub counts : s .counts ≡ replicate parts 0
+
+-- a verdict on a file beside notes that are the survey's where nothing is refused
+pub record Tallied (file : List ℕ) (answer : Answer) (contracts : ℕ) (first counts : List ℕ) : Type 0 where
+  pub answer-is : answer ≡ recordsChecked file
+  pub accepted : numberOf answer ≡ 0
+      → Surveyed file (record { answer = answer; contracts = contracts; first = first; counts = counts })

@@ -3,8 +3,10 @@
 use crate::answers::Answer;
 use crate::answers::number_of;
 use crate::check::Survey;
+use crate::check::note_file;
 use crate::check::take_survey;
 use crate::conversions::any_in_another;
+use crate::conversions::any_other_row;
 use crate::conversions::rows_answer;
 use crate::notes::note_at;
 use crate::notes::noted;
@@ -23,6 +25,7 @@ ghost use mathlib.Core.Bool.{cond};
 ghost use Prim.Native.Nat.{_≤_, _<_};
 ghost use lib.ListN.{length, getD, set, take};
 ghost use Rattle.exact.specs.Lists.{any, keep, oneIf, sum};
+ghost use Rattle.account.specs.Answers.{numberOf};
 ghost use Rattle.account.specs.Check.{mostContracts};
 ghost use Rattle.account.specs.Checked.{ratesChecked, checked};
 ghost use Rattle.account.specs.Conversions.{inAnother};
@@ -30,6 +33,7 @@ ghost use Rattle.account.specs.Lawful.{Recorded};
 ghost use Rattle.account.specs.Notes.{inPart, parts, rowPart};
 ghost use Rattle.account.specs.Standing.{accountOf, Places, Stands, PartOf, CheckedBy};
 ghost use Rattle.account.specs.Standing.{lists, fromNoon, eitherNote, Filled, Flagged, Numbered, JoinedBy, AloneBy};
+ghost use Rattle.account.specs.Surveyed.{Surveyed};
 
 // An account: how many records it has, its contracts' numbers in order, which of them the noon file supplies, and of each
 // part where it begins in its file and how many records it has. Only the check and a join of two checked files make one:
@@ -326,6 +330,15 @@ pub(crate) fn conversions_checked<'a>(morning: &'a [u8], noon: &'a [u8], account
     Answer::Accepted
 }
 
+// The same of one file, by its survey.
+fn rates_answer(file: &[u8], survey: Survey) -> Answer
+    requires { ⌜ Surveyed (now file) survey × (numberOf (survey .answer) ≡ 0) ⌝ }
+    ensures { λ a. ⌜ a ≡ checked (now (file .entry)) ⌝ }
+{
+    let account = in_one_file(survey, record_count(file));
+    conversions_answer(file, &file[..0], account)
+}
+
 // What the check of a file hands out: its answer, and of an accepted file the account.
 pub struct Checked {
     pub answer: Answer,
@@ -344,14 +357,35 @@ pub fn check_file(file: &[u8]) -> Checked
             account,
         };
     }
-    let answer = conversions_checked(file, &file[..0], account);
-    Checked { answer, account }
+    if any_other_row(file) {
+        let answer = rates_answer(file, survey);
+        return Checked { answer, account };
+    }
+    Checked {
+        answer: first,
+        account,
+    }
 }
 
-// The verdict on any bytes.
+// The verdict on any bytes. It needs no account where all rows are in the margin currency.
 pub fn check(file: &[u8]) -> Answer
     ensures { λ a. ⌜ a ≡ checked (now (file .entry)) ⌝ }
 {
-    let c = check_file(file);
-    c.answer
+    let mut first = [0u16; PARTS];
+    let mut counts = [0u16; PARTS];
+    let tally = note_file(file, &mut first, &mut counts);
+    let answer = tally.answer;
+    if number_of(answer) != 0 {
+        return answer;
+    }
+    if any_other_row(file) {
+        let survey = Survey {
+            answer,
+            contracts: tally.contracts,
+            first,
+            counts,
+        };
+        return rates_answer(file, survey);
+    }
+    answer
 }

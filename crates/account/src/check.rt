@@ -2,15 +2,18 @@
 // stand.
 ghost use mathlib.Core.Path.{_≡_};
 ghost use Prim.Native.Nat.{_+_, _≤_, _<_};
-ghost use lib.ListN.{length, getD, set};
+ghost use lib.ListN.{length, getD, set, replicate};
 ghost use Rattle.exact.specs.Lists.{oneIf};
-ghost use Rattle.account.specs.Check.{mostRecords};
-ghost use Rattle.account.specs.Notes.{oneMore, startNoted, faultAt};
+ghost use Rattle.account.specs.Answers.{refusal};
+ghost use Rattle.account.specs.Check.{mostRecords, lengthChecked};
+ghost use Rattle.account.specs.Notes.{oneMore, startNoted, faultAt, parts};
 ghost use Rattle.account.specs.Records.{recordCount};
 ghost use Rattle.account.specs.Parts.{ofKind};
 ghost use Rattle.account.specs.Passing.{Notable, NotedTo, StepBy};
-ghost use Rattle.account.specs.Surveyed.{Surveyed, Empty};
+ghost use Rattle.account.specs.Surveyed.{Surveyed, Empty, Tallied};
+ghost use Rattle.account.specs.declared.answers.Answer.the-variants.{Accepted};
 use crate::answers::Answer;
+use crate::answers::number_of;
 use crate::answers::refusal;
 use crate::fault::fault_at;
 use crate::notes::noted;
@@ -126,32 +129,91 @@ fn go_on(file: &[u8], first: &mut [u16], counts: &mut [u16], k: usize) -> Step
     }
 }
 
-// The verdict on any bytes, with the parts of an accepted file.
-pub fn take_survey(file: &[u8]) -> Survey
-    ensures { λ s. ⌜ Surveyed (now (file .entry)) s ⌝ }
+// The records noted up to the first with a fault, or all of them.
+fn note_records(file: &[u8], first: &mut [u16; PARTS], counts: &mut [u16; PARTS]) -> Step
+    requires { ⌜ (lengthChecked (now file) ≡ Accepted) × ((now first ≡ replicate parts 0) × (now counts ≡ replicate parts 0)) ⌝ }
+    ensures { λ s. ⌜ Tallied (now (file .entry)) (refusal (s .number) (s .next)) (s .contracts) (now (first .exit)) (now (counts .exit)) ⌝ }
 {
-    if MOST_BYTES < file.len() {
-        return refused(Answer::TooLong);
-    }
-    if file.len() % RECORD_BYTES != 0 {
-        return refused(Answer::CutRecord);
-    }
     let count = record_count(file);
     let mut contracts = 0;
-    let mut first = [0u16; PARTS];
-    let mut counts = [0u16; PARTS];
     let mut k = 0;
     while k < count {
-        let passed = go_on(file, &mut first, &mut counts, k);
+        let passed = go_on(file, first, counts, k);
         if passed.number != 0 {
-            return refused(refusal(passed.number, k));
+            return Step {
+                number: passed.number,
+                next: k,
+                contracts,
+            };
         }
         contracts += passed.contracts;
         k = passed.next;
     }
-    Survey {
-        answer: Answer::Accepted,
+    Step {
+        number: 0,
+        next: k,
         contracts,
+    }
+}
+
+// 1 and 2, of the length of a file.
+fn length_answer(file: &[u8]) -> Answer
+    ensures { λ a. ⌜ a ≡ lengthChecked (now (file .entry)) ⌝ }
+{
+    if MOST_BYTES < file.len() {
+        return Answer::TooLong;
+    }
+    if file.len() % RECORD_BYTES != 0 {
+        return Answer::CutRecord;
+    }
+    Answer::Accepted
+}
+
+// A verdict and how many contracts were noted.
+pub(crate) struct Tally {
+    pub answer: Answer,
+    pub contracts: usize,
+}
+
+// The verdict on any bytes, with the parts of an accepted file noted in lent memory.
+pub(crate) fn note_file(file: &[u8], first: &mut [u16; PARTS], counts: &mut [u16; PARTS]) -> Tally
+    requires { ⌜ (now first ≡ replicate parts 0) × (now counts ≡ replicate parts 0) ⌝ }
+    ensures { λ t. ⌜ Tallied (now (file .entry)) (t .answer) (t .contracts) (now (first .exit)) (now (counts .exit)) ⌝ }
+{
+    let answer = length_answer(file);
+    if number_of(answer) != 0 {
+        return Tally {
+            answer,
+            contracts: 0,
+        };
+    }
+    let noted = note_records(file, first, counts);
+    if noted.number == 0 {
+        return Tally {
+            answer,
+            contracts: noted.contracts,
+        };
+    }
+    Tally {
+        answer: refusal(noted.number, noted.next),
+        contracts: noted.contracts,
+    }
+}
+
+// The same, handed out.
+pub fn take_survey(file: &[u8]) -> Survey
+    ensures { λ s. ⌜ Surveyed (now (file .entry)) s ⌝ }
+{
+    let mut first = [0u16; PARTS];
+    let mut counts = [0u16; PARTS];
+    let tally = note_file(file, &mut first, &mut counts);
+    let answer = tally.answer;
+    if number_of(answer) != 0 {
+        return refused(answer);
+    }
+    Survey {
+        answer,
+        contracts: tally.contracts,
         first,
         counts,
     }

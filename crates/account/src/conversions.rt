@@ -7,6 +7,7 @@ use crate::rates::has_rate;
 use crate::stretches::record_count;
 use crate::stretches::whole_at;
 use record::fields::currency;
+use record::fields::kind;
 ghost use mathlib.Core.Path.{_≡_};
 ghost use mathlib.Core.List.{List};
 ghost use Prim.Native.Nat.{_≤_};
@@ -15,7 +16,7 @@ ghost use Rattle.record.specs.Within.{RateWithin};
 ghost use Rattle.account.specs.Accepted.{Each};
 ghost use Rattle.account.specs.Checked.{firstRateFault};
 ghost use Rattle.exact.specs.Lists.{any};
-ghost use Rattle.account.specs.Conversions.{inAnother, rowAnswer, Row};
+ghost use Rattle.account.specs.Conversions.{inAnother, otherRow, rowAnswer, Row};
 ghost use Rattle.account.specs.Products.{RatesOf, HoldsRates};
 ghost use Rattle.account.specs.Records.{records};
 
@@ -37,6 +38,28 @@ pub(crate) fn any_in_another(rows: &[u8]) -> bool
         i += 1;
     }
     found
+}
+
+// Whether a record of any kind is such a row.
+fn is_other_row(r: &[u8]) -> bool
+    ensures { λ b. ⌜ b ≡ otherRow (now (r .entry)) ⌝ }
+{
+    in_another(r) & (kind(r) == 3)
+}
+
+// Whether any of a file's records is.
+pub(crate) fn any_other_row(file: &[u8]) -> bool
+    ensures { λ b. ⌜ b ≡ any otherRow (records (now (file .entry))) ⌝ }
+{
+    let count = record_count(file);
+    let mut i = 0;
+    while i < count {
+        if is_other_row(whole_at(file, i)) {
+            return true;
+        }
+        i += 1;
+    }
+    false
 }
 
 // Of the row that is record `k`. A row in the margin currency gets neither.

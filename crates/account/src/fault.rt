@@ -1,6 +1,7 @@
 // The first refusal of a record, 3 to 9 in that order, or 0.
 ghost use mathlib.Core.Path.{_≡_};
 ghost use Prim.Native.Nat.{_<_};
+ghost use lib.Dec.{eqb};
 ghost use Rattle.account.specs.Notes.{faultBy, faultAt};
 ghost use Rattle.account.specs.Records.{records, recordCount};
 use crate::limits::over_limit;
@@ -44,6 +45,16 @@ pub fn fault(counts: &[u16], prompts: &[u8], before: &[u8], r: &[u8]) -> usize
     0
 }
 
+// Whether a record gets none of them. There is no way out before the end, so that all is tested at once.
+fn faultless(counts: &[u16], prompts: &[u8], before: &[u8], r: &[u8]) -> bool
+    ensures { λ b. ⌜ b ≡ eqb (faultBy (now (counts .entry)) (records (now (prompts .entry))) (now (before .entry)) (now (r .entry))) 0 ⌝ }
+{
+    let by_itself = unknown_kind(r) | (unused_byte(r) | field_outside(r));
+    let by_the_others = unlisted(counts, prompts, r)
+        | (out_of_order(before, r) | over_limit(counts, r));
+    !(kind_falls(before, r) | (by_itself | by_the_others))
+}
+
 // Of record `k`, from the notes of the records before it.
 pub(crate) fn fault_at(file: &[u8], first: &[u16], counts: &[u16], k: usize) -> usize
     requires { ⌜ k < recordCount (now file) ⌝ }
@@ -51,5 +62,9 @@ pub(crate) fn fault_at(file: &[u8], first: &[u16], counts: &[u16], k: usize) -> 
 {
     let r = whole_at(file, k);
     let prompts = part_at(file, first, counts, PROMPTS + contract(r));
-    fault(counts, prompts, whole_before(file, k), r)
+    let before = whole_before(file, k);
+    if faultless(counts, prompts, before, r) {
+        return 0;
+    }
+    fault(counts, prompts, before, r)
 }

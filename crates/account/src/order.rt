@@ -1,5 +1,6 @@
 // Refusals 4 and 8: order and clash.
 ghost use mathlib.Core.Path.{_≡_};
+ghost use mathlib.Core.Bool.{_||_};
 ghost use lib.Dec.{eqb};
 ghost use Rattle.record.specs.Layout.{legsOf, legSide};
 ghost use Rattle.account.specs.Check.{kindFalls, numberNotAbove, dayNotAbove, tierFalls, contractFalls};
@@ -84,6 +85,13 @@ pub(crate) fn legs_clash(r: &[u8]) -> bool
     some_alike(r) | (no_leg_on(r, 1) | no_leg_on(r, 2))
 }
 
+// Of an interprompt spread; by itself, so that the other kinds need no copy of the slices for `legs_clash`.
+fn spread_out_of_order(before: &[u8], r: &[u8]) -> bool
+    ensures { λ b. ⌜ b ≡ contractFalls (now (before .entry)) (now (r .entry)) || legsClash (now (r .entry)) ⌝ }
+{
+    contract_falls(before, r) | legs_clash(r)
+}
+
 fn with_itself(r: &[u8]) -> bool
     ensures { λ b. ⌜ b ≡ withItself (now (r .entry)) ⌝ }
 {
@@ -110,7 +118,7 @@ pub(crate) fn out_of_order(before: &[u8], r: &[u8]) -> bool
         return contract_falls(before, r);
     }
     if k == 4 {
-        return contract_falls(before, r) | legs_clash(r);
+        return spread_out_of_order(before, r);
     }
     if k == 5 {
         return with_itself(r);

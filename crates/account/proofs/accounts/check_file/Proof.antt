@@ -1,13 +1,13 @@
 -- The check's answer, on the records and then on the rates, and the account by what the check hands out.
 -- Assumes nothing.
 use borrow.Author.Needs.{needs}
-use native.Mathlib.Omega.{arith}
 use Prim.Native.Nat.{ℕ}
-use mathlib.Core.Path.{_≡_, refl, sym, subst, _∙_}
+use mathlib.Core.Path.{_≡_, sym, subst, _∙_}
 use Rattle.account.specs.Answers.{numberOf}
-use Rattle.account.specs.Records.{recordCount}
-use Rattle.account.specs.Standing.{AloneBy}
-use Rattle.account.proofs.Alone.{refused-alone, rated-alone, all-alone}
+use Rattle.account.specs.Checked.{checked}
+use Rattle.account.specs.Standing.{AloneBy, CheckedBy}
+use Rattle.account.specs.declared.answers.Answer.{Answer}
+use Rattle.account.proofs.Alone.{checked-alone, refused-there, none-other}
 use Rattle.account.proofs.accounts.check_file.Statement.{statement}
 use Rattle.account.proofs.accounts.check_file.Tie as tie
 
@@ -23,37 +23,42 @@ in-one-file-requires c κs = search needs
 number-of-requires : tie.Need-number-of-requires
 number-of-requires c κs = search needs
 
--- the account of the survey
-by : (c : tie.After-in-one-file)
-    → AloneBy (c .before .before .take-survey .result) (recordCount (c .before .before .before .before .args .file .now)) (c .in-one-file .result)
-by c = subst (λ (k : ℕ). AloneBy (c .before .before .take-survey .result) k (c .in-one-file .result)) (c .before .record-count .ensures)
-    (c .in-one-file .ensures)
+-- the account of the survey, with the verdict
+with : (c : tie.After-in-one-file) (a : Answer) → a ≡ checked (c .before .before .before .before .args .file .now)
+    → CheckedBy (c .before .before .before .before .args .file .now) (record { answer = a; account = c .in-one-file .result })
+with c a e =
+    let file = c .before .before .before .before .args .file .now in
+    let s = c .before .before .take-survey in
+    checked-alone file (s .result) (c .in-one-file .result) (s .ensures)
+    (subst (λ (k : ℕ). AloneBy (s .result) k (c .in-one-file .result)) (c .before .record-count .ensures) (c .in-one-file .ensures)) a e
 
 returns : tie.Need-returns
 returns c =
     let a = c .before .before in
     let s = a .before .before .take-survey in
-    refused-alone (a .before .before .before .before .args .file .now) (s .result) (a .in-one-file .result) (s .ensures) (by a)
-    (λ z. c .if1 .taken (c .before .number-of .ensures ∙ z))
-
-slice-aggregate-conversions-checked : tie.Need-slice-aggregate-conversions-checked
-slice-aggregate-conversions-checked c = search needs
+    with a (s .result .answer)
+    (refused-there (a .before .before .before .before .args .file .now) (s .result .answer) (s .ensures .answer)
+    (λ z. c .if1 .taken (c .before .number-of .ensures ∙ z)))
 
 none : (c : tie.Else1) → numberOf (c .before .before .before .before .take-survey .result .answer) ≡ 0
-none c = sym (c .before .number-of .ensures) ∙ omega (arith, c .if1 .left)
+none c = sym (c .before .number-of .ensures) ∙ c .if1 .left
 
-conversions-checked-requires : tie.Need-conversions-checked-requires
-conversions-checked-requires c κs =
-    let a = c .before .before .before in
-    let s = a .before .before .take-survey in
-    rated-alone (a .before .before .before .before .args .file .now) (s .result) (a .in-one-file .result) (s .ensures) (by a) (none (c .before)) _ refl
+any-other-row-requires : tie.Need-any-other-row-requires
+any-other-row-requires c κs = search needs
+
+rates-answer-requires : tie.Need-rates-answer-requires
+rates-answer-requires c κs = (c .before .before .before .before .before .before .take-survey .ensures, none (c .before .before))
 
 returns-2 : tie.Need-returns-2
-returns-2 c =
+returns-2 c = with (c .before .before .before .before .before) (c .rates-answer .result) (c .rates-answer .ensures)
+
+returns-3 : tie.Need-returns-3
+returns-3 c =
     let a = c .before .before .before .before in
     let s = a .before .before .take-survey in
-    all-alone (a .before .before .before .before .args .file .now) (s .result) (a .in-one-file .result) (s .ensures) (by a) (none (c .before .before)) _ refl
-    (c .conversions-checked .result) (c .conversions-checked .ensures)
+    with a (s .result .answer)
+    (none-other (a .before .before .before .before .args .file .now) (s .result .answer) (s .ensures .answer) (none (c .before .before))
+    (sym (c .before .any-other-row .ensures) ∙ c .if2 .left))
 
 pub check-file-spec : {M : Type 1} → statement M
 check-file-spec =
@@ -64,6 +69,7 @@ check-file-spec =
     in-one-file-requires
     number-of-requires
     returns
-    slice-aggregate-conversions-checked
-    conversions-checked-requires
-    returns-2)
+    any-other-row-requires
+    rates-answer-requires
+    returns-2
+    returns-3)

@@ -1,8 +1,9 @@
 -- `account::fault::fault_at` meets its contract. Assumes nothing.
 use borrow.Author.Needs.{needs}
 use Prim.Native.Nat.{ℕ, _+_}
-use mathlib.Core.Path.{_≡_, ap, _∙_}
+use mathlib.Core.Path.{_≡_, sym, ap, _∙_}
 use mathlib.Core.List.{List}
+use borrow.Author.Tests.{eqb-true}
 use Rattle.record.specs.Layout.{Record, contract}
 use Rattle.account.specs.Notes.{faultBy, faultAt, partAt, promptsNoted, beforeAt}
 use Rattle.account.specs.Records.{records, recordAt}
@@ -36,15 +37,28 @@ part-at-requires c κs = tt
 whole-before-requires : tie.Need-whole-before-requires
 whole-before-requires c κs = search needs
 
+faultless-requires : tie.Need-faultless-requires
+faultless-requires c κs = tt
+
+here : (c : tie.After-whole-before)
+    → faultBy (c .before .before .before .before .before .before .before .args .counts .now) (records (c .before .part-at .result .now))
+    (c .whole-before .result .now) (c .before .before .before .whole-at .result .now)
+    ≡ faultAt (c .before .before .before .before .before .before .before .args .file .now)
+    (c .before .before .before .before .before .before .before .args .first .now)
+    (c .before .before .before .before .before .before .before .args .counts .now) (c .before .before .before .before .before .before .before .args .k)
+here c =
+    let args = c .before .before .before .before .before .before .before .args in
+    joined (args .file .now) (args .first .now) (args .counts .now) (args .k) (c .before .before .before .whole-at .ensures)
+    (c .before .before .contract .ensures .0) (c .before .part-at .ensures) (c .whole-before .ensures)
+
+returns : tie.Need-returns
+returns c = sym (eqb-true _ 0 (sym (c .before .faultless .ensures) ∙ c .if1 .taken)) ∙ here (c .before .before)
+
 fault-requires : tie.Need-fault-requires
 fault-requires c κs = tt
 
-returns : tie.Need-returns
-returns c =
-    let args = c .before .before .before .before .before .before .before .before .args in
-    c .fault .ensures ∙ joined (args .file .now) (args .first .now) (args .counts .now) (args .k)
-    (c .before .before .before .before .whole-at .ensures) (c .before .before .before .contract .ensures .0)
-    (c .before .before .part-at .ensures) (c .before .whole-before .ensures)
+returns-2 : tie.Need-returns-2
+returns-2 c = c .fault .ensures ∙ here (c .before .before .before)
 
 pub fault-at-spec : {M : Type 1} → statement M
 fault-at-spec =
@@ -55,5 +69,7 @@ fault-at-spec =
     add-part-at
     part-at-requires
     whole-before-requires
+    faultless-requires
+    returns
     fault-requires
-    returns)
+    returns-2)

@@ -39,18 +39,15 @@ returns-3 c =
     c .contract-falls .ensures ∙ sym (order-3 (args .before .now) (args .r .now)
     (sym (c .before .before .before .before .kind .ensures .0) ∙ c .before .if3 .taken))
 
-contract-falls-requires-2 : tie.Need-contract-falls-requires-2
-contract-falls-requires-2 c κs = tt
-
-legs-clash-requires : tie.Need-legs-clash-requires
-legs-clash-requires c κs = tt
+spread-out-of-order-requires : tie.Need-spread-out-of-order-requires
+spread-out-of-order-requires c κs = tt
 
 returns-4 : tie.Need-returns-4
 returns-4 c =
-    let args = c .before .before .before .before .before .before .before .before .before .args in
-    both (c .before .contract-falls2 .ensures) (c .legs-clash .ensures) ∙ sym
+    let args = c .before .before .before .before .before .before .before .before .args in
+    c .spread-out-of-order .ensures ∙ sym
     (order-4 (args .before .now) (args .r .now)
-    (sym (c .before .before .before .before .before .before .kind .ensures .0) ∙ c .before .before .if4 .taken))
+    (sym (c .before .before .before .before .before .kind .ensures .0) ∙ c .before .if4 .taken))
 
 with-itself-requires : tie.Need-with-itself-requires
 with-itself-requires c κs = tt
@@ -91,8 +88,7 @@ out-of-order-spec =
     returns-2
     contract-falls-requires
     returns-3
-    contract-falls-requires-2
-    legs-clash-requires
+    spread-out-of-order-requires
     returns-4
     with-itself-requires
     returns-5

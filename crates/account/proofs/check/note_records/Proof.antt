@@ -1,0 +1,95 @@
+-- Step after step: no fault so far, and the notes are those of the records passed.
+-- Assumes nothing.
+use Prim.Native.Nat.{ℕ, _-_, _≤_, _<_}
+use mathlib.Core.Path.{subst⁻¹}
+use mathlib.Core.List.{List}
+use native.Mathlib.Omega.{arith}
+use lib.ListN.{length, replicate}
+use borrow.Author.Tests.{ltb-false}
+use Rattle.account.specs.Parts.{ofKind}
+use Rattle.account.specs.Records.{recordAt, recordCount}
+use Rattle.account.proofs.Going.{Going, going-start, going-stops, owned-small, one-at-most, notable, going-over, going-tallied}
+use Rattle.account.proofs.Verdict.{length-fine}
+use Rattle.account.proofs.check.note_records.Statement.{statement}
+use Rattle.account.proofs.check.note_records.Tie as tie
+
+abbrev Inv-loop : tie.InvT-loop
+Inv-loop file first₀ counts₀ count contracts₀ k₀ first counts contracts k = Going file first counts contracts k
+
+abbrev μ-loop : tie.MeasureT-loop
+μ-loop file first₀ counts₀ count contracts₀ k₀ first counts contracts k = count - k
+
+record-count-requires : tie.Need-record-count-requires Inv-loop μ-loop
+record-count-requires c κs = tt
+
+loop-holds : tie.Need-loop-holds Inv-loop μ-loop
+loop-holds c =
+    let s = c .before .before in
+    let file = s .args .file .now in
+    subst⁻¹ (λ (first : List ℕ). Going file first (s .args .counts .now) 0 0) (s .pre .1 .0)
+    (subst⁻¹ (λ (counts : List ℕ). Going file (replicate 82 0) counts 0 0) (s .pre .1 .1) (going-start file))
+
+go-on-requires : tie.Need-go-on-requires Inv-loop μ-loop
+go-on-requires c κs =
+    let s = c .before .before .before .before .before .before in
+    let file = s .args .file .now in
+    let loop = c .before .before .before .loop in
+    let more : loop .k < recordCount file = omega arith in
+    let short : length file ≤ 61440 = ltb-false 61440 (length file) (length-fine file (s .pre .0) .0) in
+    let few : recordCount file ≤ 640 = omega arith in
+    notable (loop .inv) more few
+
+returns : tie.Need-returns Inv-loop μ-loop
+returns c =
+    let s = c .before .before .before .before .before .before .before .before .before in
+    let file = s .args .file .now in
+    let loop = c .before .before .before .before .before .before .loop in
+    let step = c .before .before .go-on in
+    let more : loop .k < recordCount file = omega arith in
+    let fine = length-fine file (s .pre .0) in
+    going-stops (loop .inv) more (step .result .number) (step .ensures .stops (c .if1 .taken)) (c .if1 .taken) (fine .0) (fine .1)
+
+add-contracts : tie.Need-add-contracts Inv-loop μ-loop
+add-contracts c =
+    let file = c .before .before .before .before .before .before .before .before .before .before .args .file .now in
+    let loop = c .before .before .before .before .before .before .before .loop in
+    let more : loop .k < recordCount file = omega arith in
+    let goes = c .before .before .before .go-on .ensures .goes (c .before .if1 .left) in
+    omega (arith, owned-small (loop .inv) more, one-at-most (ofKind 1 (recordAt file (loop .k))), goes .own)
+
+loop-less : tie.Need-loop-less Inv-loop μ-loop
+loop-less c =
+    let goes = c .before .before .before .go-on .ensures .goes (c .before .if1 .left) in
+    let l = goes .later .low in
+    omega arith
+
+loop-again : tie.Need-loop-again Inv-loop μ-loop
+loop-again c =
+    let file = c .before .before .before .before .before .before .before .before .before .before .args .file .now in
+    let loop = c .before .before .before .before .before .before .before .loop in
+    let more : loop .k < recordCount file = omega arith in
+    going-over (loop .inv) more (c .before .before .before .go-on .ensures .goes (c .before .if1 .left))
+
+returns-2 : tie.Need-returns-2 Inv-loop μ-loop
+returns-2 c =
+    let s = c .before .before .before .before in
+    let file = s .args .file .now in
+    let loop = c .before .loop in
+    let done : recordCount file ≤ loop .k = omega arith in
+    let fine = length-fine file (s .pre .0) in
+    going-tallied (loop .inv) done (fine .0) (fine .1)
+
+pub note-records-spec : {M : Type 1} → statement M
+note-records-spec =
+    tie.close
+    (tie.spec
+    Inv-loop
+    μ-loop
+    record-count-requires
+    loop-holds
+    go-on-requires
+    returns
+    add-contracts
+    loop-less
+    loop-again
+    returns-2)

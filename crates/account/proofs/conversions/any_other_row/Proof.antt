@@ -1,0 +1,87 @@
+-- Record after record, until one is such a row.
+-- Assumes nothing.
+use borrow.Author.Needs.{needs}
+use Prim.Native.Nat.{_+_, _-_, _≤_}
+use native.Mathlib.Omega.{arith}
+use mathlib.Core.Path.{_≡_, sym, ap, _∙_}
+use mathlib.Core.Bool.{Bool, false, _||_}
+use Rattle.exact.specs.Lists.{any}
+use Rattle.account.specs.Conversions.{otherRow}
+use Rattle.account.specs.Records.{records, recordCount}
+use Rattle.account.proofs.RateLaws.{anyFrom, any-start, any-next, any-end}
+use Rattle.account.proofs.conversions.any_other_row.Statement.{statement}
+use Rattle.account.proofs.conversions.any_other_row.Tie as tie
+
+abbrev Inv-loop : tie.InvT-loop
+Inv-loop file count i₀ i = (any otherRow (records file) ≡ anyFrom otherRow file i) × (i ≤ recordCount file)
+
+abbrev μ-loop : tie.MeasureT-loop
+μ-loop file count i₀ i = count - i
+
+record-count-requires : tie.Need-record-count-requires Inv-loop μ-loop
+record-count-requires c κs = tt
+
+loop-holds : tie.Need-loop-holds Inv-loop μ-loop
+loop-holds c = (any-start otherRow (c .before .before .args .file .now), omega arith)
+
+whole-at-requires : tie.Need-whole-at-requires Inv-loop μ-loop
+whole-at-requires c κs = omega (arith, c .loop-test .taken, c .before .before .record-count .ensures)
+
+is-other-row-requires : tie.Need-is-other-row-requires Inv-loop μ-loop
+is-other-row-requires c κs = tt
+
+-- what is known with record i looked at
+looked : (c : tie.After-is-other-row Inv-loop μ-loop)
+    → any otherRow (records (c .before .before .before .before .before .before .args .file .now))
+    ≡ c .is-other-row .result || anyFrom otherRow (c .before .before .before .before .before .before .args .file .now) (c .before .before .before .loop .i + 1)
+looked c =
+    let file = c .before .before .before .before .before .before .args .file .now in
+    let l = c .before .before .before .loop in
+    l .inv .0
+    ∙ any-next otherRow file false (l .i) (omega (arith, c .before .before .loop-test .taken, c .before .before .before .before .record-count .ensures))
+    ∙ ap (λ (b : Bool). b || anyFrom otherRow file (l .i + 1)) (sym (c .is-other-row .ensures ∙ ap otherRow (c .before .whole-at .ensures)))
+
+returns : tie.Need-returns Inv-loop μ-loop
+returns c =
+    let l = c .before .before .before .before .loop in
+    sym
+    (looked (c .before)
+    ∙ ap (λ (b : Bool). b || anyFrom otherRow (c .before .before .before .before .before .before .before .args .file .now) (l .i + 1)) (c .if1 .taken))
+
+add-i : tie.Need-add-i Inv-loop μ-loop
+add-i c = search needs
+
+loop-less : tie.Need-loop-less Inv-loop μ-loop
+loop-less c = omega (arith, c .before .before .before .loop-test .taken)
+
+loop-again : tie.Need-loop-again Inv-loop μ-loop
+loop-again c =
+    let l = c .before .before .before .before .loop in (
+      looked (c .before)
+          ∙ ap (λ (b : Bool). b || anyFrom otherRow (c .before .before .before .before .before .before .before .args .file .now) (l .i + 1)) (c .if1 .left),
+      omega (arith, c .before .before .before .loop-test .taken, c .before .before .before .before .before .record-count .ensures),
+    )
+
+returns-2 : tie.Need-returns-2 Inv-loop μ-loop
+returns-2 c =
+    let l = c .before .loop in
+    sym
+    (l .inv .0
+    ∙ any-end otherRow (c .before .before .before .before .args .file .now) false (l .i)
+    (omega (arith, c .loop-test .left, c .before .before .record-count .ensures)))
+
+pub any-other-row-spec : {M : Type 1} → statement M
+any-other-row-spec =
+    tie.close
+    (tie.spec
+    Inv-loop
+    μ-loop
+    record-count-requires
+    loop-holds
+    whole-at-requires
+    is-other-row-requires
+    returns
+    add-i
+    loop-less
+    loop-again
+    returns-2)

@@ -9,41 +9,42 @@ use mathlib.Core.List.{List, [], _∷_, _++_, map}
 use borrow.Author.Tests.{eqb-true, eqb-false}
 use lib.Dec.{eqb}
 use lib.IntN.{ℤ, pos}
-use lib.ListN.{length, getD, take, length-append, length-map}
-use lib.Seq.{length-take-le}
+use lib.ListN.{length, getD, take, set, length-append, length-map}
+use lib.Seq.{sets, length-take-le}
 use Rattle.record.specs.Layout.{Record, tier}
 use Rattle.account.specs.Lawful.{Lawful}
 use Rattle.account.specs.Parts.{promptsOf, rowsOf, entriesOf}
 use Rattle.spread.specs.Accepted as given
 use Rattle.spread.specs.Accepted.{openOf, spreadsOf, soundPrompts, soundTable, sound}
+use Rattle.spread.specs.Book.{Booked}
 use Rattle.spread.specs.Steps.{Open, Taker, steps, numbers, usedOf, unusedOf}
-use Rattle.spread.specs.Touches.{touches, CountedBook}
+use Rattle.spread.specs.Touches.{touches}
 use Rattle.spread.specs.Uses.{usesOf}
 use Rattle.spread.specs.declared.Delta.{Delta}
 use Rattle.spread.specs.declared.Prompts.{Prompts}
 use Rattle.spread.specs.declared.Spread.{Spread}
 use Rattle.spread.specs.declared.Table.{Table}
-use Rattle.spread.specs.declared.touches.Counted.{Counted}
+use Rattle.spread.specs.declared.book.Book.{Book}
 use Rattle.spread.proofs.Both.{and-left, and-right}
 use Rattle.spread.proofs.Demand3.{one-per-step}
 use Rattle.spread.proofs.Every.{open-length}
 use Rattle.spread.proofs.Gathering.{few, all-sound}
-use Rattle.margin.specs.declared.asking.Question.the-variants.{Book}
-use Rattle.margin.specs.declared.numbers.Numbers.{Numbers}
+use Rattle.spread.proofs.Touching.{touches-few}
 use Rattle.margin.specs.declared.uses.Asking.{Asking}
 use Rattle.margin.specs.Books.{threes, bookBy, contractBook, tableBook, answered, book}
-use Rattle.margin.specs.Bounds.{mostDelta, longestBook}
+use Rattle.margin.specs.Bounds.{mostDelta}
 use Rattle.margin.specs.Contract.{Contract, contracts, partsOf, asTier, contractNet, stepsOf, opensOf, tableSteps}
 use Rattle.margin.specs.Deltas.{opens, netDeltas}
-use Rattle.margin.specs.Numbers.{written, SpreadsSigned, AllOf}
+use Rattle.margin.specs.Numbers.{SpreadsSigned}
 use Rattle.margin.specs.Promised.{BookOf}
-use Rattle.margin.specs.Questions.{Holds, AskedBy}
-use Rattle.margin.specs.Sums.{deltasIn, interleaved}
+use Rattle.margin.specs.Questions.{AskedBy}
+use Rattle.margin.specs.Sums.{deltasIn}
 use Rattle.margin.specs.Uses.{uses, stepsFor, opensFor}
 use Rattle.margin.proofs.AskedLaws.{contract-asked, table-asked, threes-length}
-use Rattle.margin.proofs.BookLaws.{first-at, second-at, book-accepted, touches-accepted, book-listed}
+use Rattle.margin.proofs.BookLaws.{first-at, second-at, entries-length, book-accepted, touches-accepted, book-listed}
 use Rattle.margin.proofs.LineLaws.{steps-length, used-length, unused-length}
-use Rattle.margin.proofs.NumberLaws.{with-last}
+use Rattle.margin.proofs.NumberLaws.{threesOn, twosOn, twos-length}
+use Rattle.margin.proofs.NumberLaws as written
 use Rattle.margin.proofs.StepBounds.{number-within}
 use Rattle.margin.proofs.TierLaws.{sound-sizes}
 use Rattle.margin.proofs.UsesLaws.{few-in-table, uses-by-steps}
@@ -106,13 +107,7 @@ by-length spreads ps =
     length-append (threes (map (λ p. p .unused) ps) (usedOf ss ps) (unusedOf ss ps) ++ map pos (numbers ss ps)) (pos (touches ss ps) ∷ [])
     ∙ ap (λ (k : ℕ). k + 1) (a ∙ ap₂ _+_ (t ∙ ap (λ (k : ℕ). 3 * k) n) m)
 
--- ---- the numbers of a book, as the code makes them
-
--- with so many prompts and spreads, without the last
-pub record PartNumbers (parts : List ℤ) (prompts spreads : ℕ) (n : Numbers) : Type 0 where
-  pub listed-is : written n ≡ parts
-  pub count-is : n .count ≡ 3 * prompts + 2 * spreads
-  pub few : n .count < longestBook
+-- ---- the numbers of a book, as the code writes them
 
 module _ (p : Prompts) (t : Table) (lt : length (p .tier) ≡ 32) (ln : length (p .net) ≡ 32) (ls : length (t .spread) ≡ 32) (ok : sound p t ≡ true) where
   abbrev ss : List (List Taker)
@@ -142,12 +137,18 @@ module _ (p : Prompts) (t : Table) (lt : length (p .tier) ≡ 32) (ln : length (
       let m = mul-le-mul-right mostDelta few-prompts in
       le-trans (number-within ss ps j) (omega (arith, ap (λ (x : ℕ). x * mostDelta) ps-long))
 
-  module _ (c : Counted) (is : CountedBook p t c) where
-    book-is : BookOf ss ps (c .book)
-    book-is = book-accepted ss ps p t (c .book) refl refl ok (is .book)
+  pub book-long : length (bookBy ss ps) ≡ 3 * p .count + 2 * t .count + 1
+  book-long = by-length (spreadsOf t) ps ∙ ap₂ (λ (x y : ℕ). 3 * x + 2 * y + 1) ps-long spreads-long
+
+  pub touched : touches ss ps ≤ 224
+  touched = omega (arith, touches-few p t lt ln ok, touches-accepted ss ps p t refl refl ok)
+
+  module _ (b : Book) (is : Booked p t b) where
+    book-is : BookOf ss ps b
+    book-is = book-accepted ss ps p t b refl refl ok is
 
     -- the numbers formed can be written signed
-    pub signed : SpreadsSigned (t .count) (c .book .first) (c .book .second)
+    pub signed : SpreadsSigned (t .count) (b .first) (b .second)
     signed =
         let f = few-spreads in
         record {
@@ -157,52 +158,46 @@ module _ (p : Prompts) (t : Table) (lt : length (p .tier) ≡ 32) (ln : length (
         }
 
     -- the numbers but for the last
-    pub listed : (r : Numbers) → r .count ≡ 3 * p .count + 2 * t .count
-        → written r ≡ threes (take (p .count) (deltasIn (p .net))) (take (p .count) (deltasIn (c .book .used)))
-        (take (p .count) (deltasIn (c .book .unused))) ++ map pos (interleaved (take (t .count) (c .book .first)) (take (t .count) (c .book .second)))
-        → PartNumbers (threes (map (λ p. p .unused) ps) (usedOf ss ps) (unusedOf ss ps) ++ map pos (numbers ss ps)) (p .count) (t .count) r
-    listed r ec el =
+    listed : threesOn (p .count) (p .net) (b .used) (b .unused) 0 ++ twosOn (t .count) (b .first) (b .second) 0
+        ≡ threes (map (λ p. p .unused) ps) (usedOf ss ps) (unusedOf ss ps) ++ map pos (numbers ss ps)
+    listed =
+        book-listed ss ps b (take (p .count) (deltasIn (p .net))) (p .count) (t .count) _ book-is ps-long few-prompts
+        (one-per-step ss ps ∙ steps-length (spreadsOf t) ∙ ap (λ (x : ℕ). 2 * x) spreads-long) few-spreads (used-length ss ps ∙ ps-long)
+        (unused-length ss ps ∙ ps-long) refl
+        ∙ ap (λ (zs : List ℤ). threes zs (usedOf ss ps) (unusedOf ss ps) ++ map pos (numbers ss ps))
+        (sym (unused-given (p .count) (p .tier) (p .net) (omega (arith, lt, ln))))
+
+    places : (length (b .used) ≡ 32) × (length (b .unused) ≡ 32) × (length (b .first) ≡ 32) × (length (b .second) ≡ 32)
+    places = (
+      ap length (is .used) ∙ entries-length 32 _,
+      ap length (is .unused) ∙ entries-length 32 _,
+      ap length (is .first) ∙ entries-length 32 _,
+      ap length (is .second) ∙ entries-length 32 _,
+    )
+
+    pub book-written : (out with-prompts with-spreads all : List ℤ) (n : ℕ) → n ≡ touches ss ps
+        → with-prompts ≡ sets out 0 (threesOn (p .count) (p .net) (b .used) (b .unused) 0)
+        → with-spreads ≡ sets with-prompts (p .count * 3) (twosOn (t .count) (b .first) (b .second) 0)
+        → all ≡ set with-spreads (p .count * 3 + t .count * 2) (pos n) → all ≡ sets out 0 (bookBy ss ps)
+    book-written out with-prompts with-spreads all n e f g h =
         let fp = few-prompts in
         let fs = few-spreads in
-        record {
-          listed-is =
-              book-listed ss ps (c .book) (take (p .count) (deltasIn (p .net))) (p .count) (t .count) (written r) book-is ps-long fp
-              (one-per-step ss ps ∙ steps-length (spreadsOf t) ∙ ap (λ (x : ℕ). 2 * x) spreads-long) fs (used-length ss ps ∙ ps-long)
-              (unused-length ss ps ∙ ps-long) el
-              ∙ ap (λ (zs : List ℤ). threes zs (usedOf ss ps) (unusedOf ss ps) ++ map pos (numbers ss ps))
-              (sym (unused-given (p .count) (p .tier) (p .net) (omega (arith, lt, ln))));
-          count-is = ec;
-          few = omega arith;
-        }
-
-    pub finished : (n r : Numbers) → PartNumbers (threes (map (λ p. p .unused) ps) (usedOf ss ps) (unusedOf ss ps) ++ map pos (numbers ss ps))
-        (p .count) (t .count) n
-        → r .count ≡ n .count + 1 → written r ≡ written n ++ (pos (c .touches) ∷ []) → AllOf (bookBy ss ps) r
-    finished n r parts ec el =
-        record {
-          listed-is =
-              with-last (threes (map (λ p. p .unused) ps) (usedOf ss ps) (unusedOf ss ps) ++ map pos (numbers ss ps)) (written n) (written r)
-              (c .touches) (touches ss ps) (parts .listed-is) el
-              (is .touches ∙ touches-accepted ss ps p t refl refl ok);
-          count-is = ec ∙ ap (λ (k : ℕ). k + 1) (parts .count-is)
-              ∙ sym (by-length (spreadsOf t) ps ∙ ap₂ (λ (x y : ℕ). 3 * x + 2 * y + 1) ps-long spreads-long);
-          few = omega (arith, ec, parts .few);
-        }
+        written.book-listed (p .count) (t .count) out with-prompts with-spreads all
+        (threesOn (p .count) (p .net) (b .used) (b .unused) 0) (twosOn (t .count) (b .first) (b .second) 0) (pos n)
+        (written.threes-length (p .count) (p .net) (b .used) (b .unused) (omega (arith, ln)) (omega (arith, places .0)) (omega (arith, places .1)))
+        (twos-length (t .count) (b .first) (b .second) (omega (arith, places .2)) (omega (arith, places .3)))
+        f g h
+        ∙ ap₂ (λ (zs : List ℤ) (m : ℕ). sets out 0 (zs ++ (pos m ∷ []))) listed e
 
 -- ---- an account's answers
 
 module _ (account : List Record) (question records : ℕ) (a : Asking) (is : AskedBy account question records a) where
-  book-same : bookBy (given.stepsOf (a .table)) (openOf (a .prompts)) ≡ book account question
+  pub book-same : bookBy (given.stepsOf (a .table)) (openOf (a .prompts)) ≡ book account question
   book-same = ap₂ bookBy (is .asks .steps) (is .asks .opens) ∙ sym (book-by-steps account (is .lawful) question (is .asked-is))
 
-  pub holds-book : (n : Numbers) → AllOf (bookBy (given.stepsOf (a .table)) (openOf (a .prompts))) n → Holds account (Book question) records n
-  holds-book n b =
-      record {
-        asked-is = is .asked-is;
-        records-are = is .records-are;
-        listed-is = b .listed-is ∙ book-same;
-        count-is = b .count-is ∙ ap length book-same;
-      }
+  module _ (lt : length (a .prompts .tier) ≡ 32) (ln : length (a .prompts .net) ≡ 32) (ls : length (a .table .spread) ≡ 32) where
+    pub book-many : length (book account question) ≡ 3 * a .prompts .count + 2 * a .table .count + 1
+    book-many = ap length (sym book-same) ∙ book-long (a .prompts) (a .table) lt ln ls (is .asks .accepted)
 
   pub uses-same : usesOf (given.stepsOf (a .table)) (openOf (a .prompts)) ≡ uses account question
   uses-same = ap₂ usesOf (is .asks .steps) (is .asks .opens) ∙ sym (uses-by-steps account (is .lawful) question (is .asked-is))

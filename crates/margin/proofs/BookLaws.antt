@@ -38,6 +38,11 @@ unfolding entries
 entries-same zero f g h = refl
 entries-same (suc n) f g h = ap₂ _∷_ (h 0) (entries-same n (λ k. f (suc k)) (λ k. g (suc k)) (λ k. h (suc k)))
 
+pub entries-length : {A : Type 0} (n : ℕ) (f : ℕ → A) → length (entries n f) ≡ n
+unfolding entries
+entries-length zero f = refl
+entries-length (suc n) f = ap suc (entries-length n (λ k. f (suc k)))
+
 -- the numbers of first and second steps, as arrays hold them
 abbrev pub firsts : ℕ → List ℕ → List Spreads
 firsts n numbers = entries n (λ k. spreadsEntry numbers (2 * k))

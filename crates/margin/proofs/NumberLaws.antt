@@ -1,13 +1,13 @@
 -- Numbers written one after the other: what is written and what is still to write are the whole.
 -- Assumes nothing.
-use mathlib.Core.Path.{_≡_, refl, sym, _∙_, ap, ap₂, subst}
+use mathlib.Core.Path.{_≡_, refl, sym, _∙_, ap, subst}
 use mathlib.Core.List.{List, [], _∷_, _++_, map, map-append}
 use Prim.Native.Nat.{ℕ, suc, _+_, _*_, _≤_, _<_, zero-le}
 use native.Mathlib.Nat.{add-suc, suc-add, add-zero, zero-add}
 use native.Mathlib.Numerals.{add-one}
 use native.Mathlib.Omega.{arith}
 use lib.ListN.{length, getD, take, drop, set, length-append, length-map}
-use lib.Seq.{sets, sets-eq, take-at, length-take-le, slice, slice-cons, slice-empty, take-suc-set}
+use lib.Seq.{sets, sets-eq, length-take-le, slice, slice-cons, slice-empty}
 use lib.IntN.{ℤ, pos}
 use Rattle.spread.specs.declared.Delta.{Delta}
 use Rattle.spread.specs.declared.Spreads.{Spreads}
@@ -15,8 +15,7 @@ use Rattle.margin.specs.declared.amount.Amount.{Amount}
 use Rattle.margin.specs.declared.line.Line.{Line}
 use Rattle.margin.specs.Books.{threes}
 use Rattle.margin.specs.Lines.{marginWith, eightOf, eightsFrom, totalFrom, figuresFrom, noLine}
-use Rattle.margin.specs.Numbers.{amountAt, written}
-use Rattle.margin.specs.declared.numbers.Numbers.{Numbers}
+use Rattle.margin.specs.Numbers.{amountAt}
 use Rattle.margin.specs.Sums.{interleaved, deltasIn, spreadsAt, deltaAt}
 use Rattle.margin.proofs.AddedLaws.{delta-at}
 
@@ -49,9 +48,6 @@ module _ {ℓ} {A : Type ℓ} where
   -- at the front: the list written, then what was there
   pub sets-front : (vs l : List A) → length vs ≤ length l → sets l 0 vs ≡ vs ++ drop (length vs) l
   sets-front vs l h = sets-eq vs l 0 (omega arith) ∙ ap (λ (k : ℕ). vs ++ drop k l) (zero-add (length vs))
-
-  pub take-sets : (n : ℕ) (vs l : List A) → length vs ≡ n → n ≤ length l → take n (sets l 0 vs) ≡ vs
-  take-sets n vs l e h = ap (take n) (sets-front vs l (omega arith)) ∙ take-at vs (drop (length vs) l) n e
 
   -- n groups, written from the first: `rest i` is what is written from group i on, at the place `at`
   pub record ToWrite (n : ℕ) (rest : ℕ → List A) (all : List A) (i at : ℕ) (out : List A) : Type ℓ where
@@ -113,19 +109,16 @@ module _ (count : ℕ) (lines : List Line) (credits : List Amount) where
         ∙ ap (λ (n : ℕ). 8 * n) (length-take-le count lines hl)
 
     -- the total after the last line
-    pub figures-listed : (none number : List ℤ) (total : ℕ) → 8 * count + 1 ≤ length none → number ≡ sets none 0 (eightsOn 0) → total ≡ totalOn 0
-        → take (count * 8 + 1) (set number (count * 8) (pos total)) ≡ map pos (figuresFrom (take count lines) (take count credits))
-    figures-listed none number total h e t =
+    pub figures-listed : (out lines-in all : List ℤ) (total : ℕ) → lines-in ≡ sets out 0 (eightsOn 0) → all ≡ set lines-in (count * 8) (pos total)
+        → total ≡ totalOn 0 → all ≡ sets out 0 (map pos (figuresFrom (take count lines) (take count credits)))
+    figures-listed out lines-in all total e f t =
         let at : 0 + length (eightsOn 0) ≡ count * 8 = omega (arith, eights-length) in
-        let all = eightsOn 0 ++ (pos total ∷ []) in
-        let long : length all ≡ count * 8 + 1 = length-append (eightsOn 0) (pos total ∷ []) ∙ omega (arith, eights-length) in
-        ap (take (count * 8 + 1))
-        (ap (λ (l : List ℤ). set l (count * 8) (pos total)) e
-        ∙ ap (λ (n : ℕ). set (sets none 0 (eightsOn 0)) n (pos total)) (sym at)
-        ∙ sym (sets-append none 0 (eightsOn 0) (pos total ∷ [])))
-        ∙ take-sets (count * 8 + 1) all none long (omega arith)
-        ∙ ap (λ (n : ℕ). eightsOn 0 ++ (pos n ∷ [])) t
-        ∙ sym (map-append pos (eightsFrom (take count lines) (take count credits)) (totalOn 0 ∷ []))
+        f
+        ∙ ap (λ (l : List ℤ). set l (count * 8) (pos total)) e
+        ∙ ap (λ (n : ℕ). set (sets out 0 (eightsOn 0)) n (pos total)) (sym at)
+        ∙ sym (sets-append out 0 (eightsOn 0) (pos total ∷ []))
+        ∙ ap (λ (n : ℕ). sets out 0 (eightsOn 0 ++ (pos n ∷ []))) t
+        ∙ ap (sets out 0) (sym (map-append pos (eightsFrom (take count lines) (take count credits)) (totalOn 0 ∷ [])))
 
 -- three numbers for each prompt
 length-threes : (xs ys zs : List ℤ) → length xs ≤ length ys → length xs ≤ length zs → length (threes xs ys zs) ≡ 3 * length xs
@@ -193,25 +186,19 @@ module _ (count : ℕ) (firsts seconds : List Spreads) where
         ∙ length-interleaved (take count firsts) (take count seconds) (omega arith)
         ∙ ap (λ (k : ℕ). 2 * k) f
 
--- prompts first, then spreads
-pub book-listed : (prompts spreads : ℕ) (none number number′ threes twos : List ℤ) → length threes ≡ 3 * prompts → length twos ≡ 2 * spreads
-    → 3 * prompts + 2 * spreads ≤ length none → number ≡ sets none 0 threes → number′ ≡ sets number (prompts * 3) twos
-    → take (prompts * 3 + spreads * 2) number′ ≡ threes ++ twos
-book-listed prompts spreads none number number′ threes twos lt ls h e f =
+-- prompts first, then spreads, and one number more at the end
+pub book-listed : (prompts spreads : ℕ) (out with-prompts with-spreads all threes twos : List ℤ) (last : ℤ) → length threes ≡ 3 * prompts
+    → length twos ≡ 2 * spreads → with-prompts ≡ sets out 0 threes → with-spreads ≡ sets with-prompts (prompts * 3) twos
+    → all ≡ set with-spreads (prompts * 3 + spreads * 2) last
+    → all ≡ sets out 0 ((threes ++ twos) ++ (last ∷ []))
+book-listed prompts spreads out with-prompts with-spreads all threes twos last lt ls e f g =
     let at : 0 + length threes ≡ prompts * 3 = omega arith in
-    let long : length (threes ++ twos) ≡ prompts * 3 + spreads * 2 = length-append threes twos ∙ omega arith in
-    ap (take (prompts * 3 + spreads * 2))
+    let end : 0 + length (threes ++ twos) ≡ prompts * 3 + spreads * 2 = omega (arith, length-append threes twos) in
+    g
+    ∙ ap (λ (l : List ℤ). set l (prompts * 3 + spreads * 2) last)
     (f
     ∙ ap (λ (l : List ℤ). sets l (prompts * 3) twos) e
-    ∙ ap (λ (n : ℕ). sets (sets none 0 threes) n twos) (sym at)
-    ∙ sym (sets-append none 0 threes twos))
-    ∙ take-sets (prompts * 3 + spreads * 2) (threes ++ twos) none long (omega arith)
-
--- one number more at the end
-pub last-listed : (count : ℕ) (number : List ℤ) (z : ℤ) → count < length number → take (count + 1) (set number count z) ≡ take count number ++ (z ∷ [])
-last-listed count number z h = ap (λ (n : ℕ). take n (set number count z)) (add-one count) ∙ take-suc-set number count z h
-
--- one number more, at the end
-pub with-last : (parts written with : List ℤ) (last touches : ℕ) → written ≡ parts → with ≡ written ++ (pos last ∷ []) → last ≡ touches
-    → with ≡ parts ++ (pos touches ∷ [])
-with-last parts written with last touches is listed same = listed ∙ ap₂ (λ (zs : List ℤ) (t : ℕ). zs ++ (pos t ∷ [])) is same
+    ∙ ap (λ (n : ℕ). sets (sets out 0 threes) n twos) (sym at)
+    ∙ sym (sets-append out 0 threes twos))
+    ∙ ap (λ (n : ℕ). set (sets out 0 (threes ++ twos)) n last) (sym end)
+    ∙ sym (sets-append out 0 (threes ++ twos) (last ∷ []))

@@ -1,14 +1,14 @@
 -- What a question answers and leaves behind, by what the check, the question and the lent numbers say.
 -- Assumes nothing.
-use Prim.Native.Nat.{ℕ, zero, suc, _+_, _*_, _-_, _≤_, _<_}
+use Prim.Native.Nat.{ℕ, zero, suc, _+_, _*_, _≤_, _<_}
 use native.Mathlib.Omega.{arith}
 use mathlib.Core.Path.{_≡_, refl, sym, ap, _∙_}
 use mathlib.Core.Bool.{Bool, true, false, cond}
 use mathlib.Core.List.{List, [], _∷_, _++_, map}
 use borrow.Author.Tests.{lt-ltb, le-ltb, ne-eqb}
 use lib.IntN.{ℤ, pos, natAbs}
-use lib.ListN.{length, getD, drop, length-append, length-map}
-use lib.Seq.{getD-take}
+use lib.ListN.{length, getD, drop, length-append, length-map, List·getD-append}
+use lib.Seq.{sets}
 use Rattle.exact.proofs.Lists.{getD-map}
 use Rattle.record.specs.Layout.{Record}
 use Rattle.account.specs.Answers.{numberOf}
@@ -19,10 +19,9 @@ pub use Rattle.account.proofs.NoonLaws.{accepted-only}
 use Rattle.spread.specs.Steps.{Open}
 use Rattle.margin.specs.Contract.{Contract, contracts, partsIn, asTier}
 use Rattle.margin.specs.Figures.{eights, figures, figuresOver, totalMargin, accountTotal}
-use Rattle.margin.specs.Numbers.{written}
 use Rattle.margin.specs.Questions.{accepted, ifAccepted, numbersFor, answers, enough, answerOver, afterwards}
 use Rattle.margin.specs.declared.asking.Question.{Question}
-use Rattle.margin.specs.declared.numbers.Numbers.{Numbers}
+use Rattle.margin.proofs.NumberLaws.{sets-front}
 
 pub some : {n : ℕ} → suc n ≡ 0 → ⊥
 some e = omega arith
@@ -106,17 +105,17 @@ ends-with : (xs : List ℕ) (x : ℕ) → length (xs ++ x ∷ []) ≡ suc (lengt
 ends-with [] x = refl
 ends-with (y ∷ xs) x = ap suc (ends-with xs x)
 
-pub total-last : (account : List Record) (n : Numbers) → written n ≡ figures account → n .count ≡ length (figures account)
-    → natAbs (getD (n .number) (n .count - 1) (pos 0)) ≡ accountTotal account
-total-last account n w k =
+pub total-last : (account : List Record) (out numbers : List ℤ) (n : ℕ) → numbers ≡ sets out 0 (figures account) → length (figures account) ≤ length out
+    → n ≡ 8 * length (contractsOf account) → natAbs (getD numbers n (pos 0)) ≡ accountTotal account
+total-last account out numbers n w room k =
     let es = entriesOf account in
     let ks = contracts account in
     let xs = eights es (map asTier ks) ks in
     let x = totalMargin es (map asTier ks) ks in
-    let l : n .count ≡ suc (length xs) = k ∙ length-map (figuresOver es ks) pos ∙ ends-with xs x in
-    let i : n .count - 1 ≡ length xs = omega arith in
-    ap (λ (m : ℕ). natAbs (getD (n .number) m (pos 0))) i
-    ∙ ap natAbs (sym (getD-take (n .count) (n .number) (length xs) (pos 0) (omega arith)))
-    ∙ ap (λ (zs : List ℤ). natAbs (getD zs (length xs) (pos 0))) w
+    let l : length (figures account) ≡ suc (length xs) = length-map (figuresOver es ks) pos ∙ ends-with xs x in
+    let i : n ≡ length xs = omega (arith, figures-length account) in
+    ap (λ (m : ℕ). natAbs (getD numbers m (pos 0))) i
+    ∙ ap (λ (zs : List ℤ). natAbs (getD zs (length xs) (pos 0))) (w ∙ sets-front (figures account) out room)
+    ∙ ap natAbs (List·getD-append (figures account) (drop (length (figures account)) out) (pos 0) (length xs) (omega arith))
     ∙ ap natAbs (getD-map pos (figuresOver es ks) (length xs) 0 (pos 0) (omega (arith, ends-with xs x)))
     ∙ last-is xs x

@@ -3,7 +3,7 @@
 use Prim.Native.Nat.{ℕ}
 use mathlib.Core.Path.{_≡_}
 use mathlib.Core.List.{List, []}
-use lib.ListN.{getD}
+use lib.ListN.{length, getD}
 use Rattle.exact.specs.Lists.{keep}
 use Rattle.record.specs.Layout.{Record, unit}
 use Rattle.account.specs.Lawful.{Lawful}
@@ -35,6 +35,12 @@ pub record LinesKnown (standing : List Record) (ls : Lines) : Type 0 where
   pub whole : List Record
   pub beside : Besides standing whole
   pub lines : LinesOf whole ls
+
+-- such a one, of so many records
+pub record LinedBy (standing : List Record) (ls : Lines) (records : ℕ) (whole : List Record) : Type 0 where
+  pub beside : Besides standing whole
+  pub lines : LinesOf whole ls
+  pub records-are : records ≡ length whole
 
 pub record TiersKnown (standing : List Record) (tiers : Prompts) : Type 0 where
   pub whole : List Record

@@ -1,22 +1,15 @@
--- Answers as lists of numbers, and the bounds within which they are made.
+-- The bounds within which the numbers of an answer are made.
 -- Assumes nothing.
 use Prim.Native.Nat.{ℕ, _^_, _≤_, _<_}
-use mathlib.Core.Path.{_≡_}
 use mathlib.Core.List.{List}
-use lib.ListN.{length, getD, take}
-use lib.IntN.{ℤ}
+use lib.ListN.{getD}
 use Rattle.account.specs.Check.{mostContracts, mostSpreads}
 use Rattle.spread.specs.declared.Spreads.{Spreads}
 use Rattle.margin.specs.declared.amount.Amount.{Amount}
 use Rattle.margin.specs.declared.line.Line.{Line}
-use Rattle.margin.specs.declared.numbers.Numbers.{Numbers}
-use Rattle.margin.specs.Bounds.{mostCredits, longestBook}
+use Rattle.margin.specs.Bounds.{mostCredits}
 use Rattle.margin.specs.Lines.{LineWithin, noLine}
 use Rattle.margin.specs.Sums.{spreadsAt}
-
--- the numbers of an answer
-abbrev pub written : Numbers → List ℤ
-written n = take (n .count) (n .number)
 
 abbrev pub amountAt : List Amount → ℕ → ℕ
 amountAt amounts k = getD amounts k (record { 0 = 0 }) .0
@@ -32,9 +25,3 @@ pub record SpreadsSigned (count : ℕ) (firsts seconds : List Spreads) : Type 0 
   pub most : count ≤ mostSpreads
   pub first-within : (k : ℕ) → k < count → spreadsAt firsts k < 2 ^ 63
   pub second-within : (k : ℕ) → k < count → spreadsAt seconds k < 2 ^ 63
-
--- the numbers of an answer, all of them
-pub record AllOf (numbers : List ℤ) (n : Numbers) : Type 0 where
-  pub listed-is : written n ≡ numbers
-  pub count-is : n .count ≡ length numbers
-  pub few : n .count ≤ longestBook

@@ -16,12 +16,10 @@ use Rattle.account.specs.declared.answers.Answer.{Answer}
 use Rattle.account.specs.declared.answers.Answer.the-variants.{Accepted, TooFewNumbers, NoSuchQuestion}
 use Rattle.margin.specs.declared.asking.Question.{Question}
 use Rattle.margin.specs.declared.asking.Question.the-variants.{Figures, Book, Uses}
-use Rattle.margin.specs.declared.numbers.Numbers.{Numbers}
 use Rattle.margin.specs.declared.uses.Asking.{Asking}
 use Rattle.margin.specs.Figures.{figures}
 use Rattle.margin.specs.Books.{answered, book}
 use Rattle.margin.specs.Bounds.{longestFigures, longestBook, longestUses}
-use Rattle.margin.specs.Numbers.{written}
 use Rattle.margin.specs.Uses.{uses, stepsFor, opensFor, Asks}
 
 abbrev pub accepted : Answer → Bool
@@ -78,13 +76,6 @@ pub record SizesOf (account : List Record) (question prompts spreads : ℕ) : Ty
   pub uses-have : length (uses account question) ≡ spreads * (2 * prompts)
   pub prompts-few : prompts ≤ mostPrompts
   pub spreads-few : spreads ≤ mostSpreads
-
--- numbers that answer a question, of an account with so many records
-pub record Holds (whole : List Record) (question : Question) (records : ℕ) (n : Numbers) : Type 0 where
-  pub asked-is : answers whole question ≡ true
-  pub records-are : records ≡ length whole
-  pub listed-is : written n ≡ numbersFor whole question
-  pub count-is : n .count ≡ length (numbersFor whole question)
 
 -- what a question is about that it answers
 pub record AskedBy (whole : List Record) (question records : ℕ) (a : Asking) : Type 0 where

@@ -1,26 +1,25 @@
 // The questions that an account answers. What comes after an account's records is said here once, for one file and for two: 11,
 // then 10, and the answer in lent memory.
-use crate::books::book_of;
+use crate::books::book_count;
+use crate::books::put_book;
 use crate::line::Line;
 use crate::numbers::LONGEST_BOOK;
 use crate::numbers::LONGEST_USES;
-use crate::numbers::Numbers;
-use crate::numbers::lend;
 use crate::over::Lines;
 use crate::over::TABLE;
 use crate::over::asking_over;
 use crate::over::asking_with;
-use crate::over::figures_of;
-use crate::over::figures_over;
 use crate::over::is_asked;
 use crate::over::line_with;
+use crate::over::lines_of;
 use crate::over::no_line;
 use crate::over::position_in;
+use crate::over::put_figures;
 use crate::over::table_asking;
 use crate::over::tiers_in;
 use crate::positions::Positions;
 use crate::positions::asking_from;
-use crate::positions::figures_from;
+use crate::positions::lines_from;
 use crate::positions::tiers_from;
 use crate::rows::Position;
 use crate::uses::Asking;
@@ -41,6 +40,7 @@ use account::parts::SPREADS;
 use account::rates::Rates;
 use account::rates::rates_of;
 use spread::Prompts;
+use spread::book::book_of_accepted;
 ghost use mathlib.Core.Path.{_≡_};
 ghost use mathlib.Core.Bool.{true};
 ghost use mathlib.Core.List.{List};
@@ -52,13 +52,13 @@ ghost use Rattle.account.specs.Parts.{promptsOf, spreadsOf, ratesOf};
 ghost use Rattle.account.specs.Products.{RatesOf};
 ghost use Rattle.account.specs.Standing.{Stands, accountOf};
 ghost use Rattle.spread.specs.Accepted.{sound};
-ghost use Rattle.margin.specs.Beside.{unitOf, Besides, TiersKnown};
+ghost use Rattle.margin.specs.Beside.{unitOf, Besides, LinesKnown, LinedBy, TiersKnown};
 ghost use Rattle.margin.specs.Books.{answered, tableQuestion};
 ghost use Rattle.margin.specs.Bounds.{longestBook, longestUses};
 ghost use Rattle.margin.specs.Lined.{TiersIn, PositionAt};
 ghost use Rattle.margin.specs.Positions.{Told, Known, ToldOf};
 ghost use Rattle.margin.specs.Promised.{BookFit};
-ghost use Rattle.margin.specs.Questions.{answerOver, afterOver, needOver, mostFor, SizesOf, Holds, AskedBy};
+ghost use Rattle.margin.specs.Questions.{answerOver, afterOver, needOver, mostFor, SizesOf, AskedBy};
 ghost use Rattle.margin.specs.Places.{
   questions,
   atPlace,
@@ -90,16 +90,47 @@ pub const ALL_BOOKS: usize = LONGEST_BOOK * QUESTIONS;
 
 pub const ALL_USES: usize = LONGEST_USES * QUESTIONS;
 
-// The numbers of an answer at the front of `out`, for an account of so many records. A refusal writes nothing.
-fn put_numbers(records: usize, numbers: Numbers, out: &mut [i64]) -> Answer
-    requires { ⌜ numbers .count ≤ longestBook ⌝ }
-    ensures { λ r. ⌜ ((whole : List Record) (question : Question) → Holds whole question records numbers
-        → (r ≡ answerOver whole question (length (now (out .entry)))) × (now (out .exit) ≡ afterOver whole question (now (out .entry)))) ⌝ }
+// How many numbers the figures have.
+fn figures_count(account: Account) -> usize
+    requires { ⌜ account .contracts ≤ mostContracts ⌝ }
+    ensures { λ n. ⌜ n ≡ 8 * account .contracts + 1 ⌝ }
 {
-    if out.len() < numbers.count {
+    8 * contract_total(account) + 1
+}
+
+// The figures at the front of `out`, by the lines of an account of so many records. A refusal writes nothing.
+fn answer_lines<'a>(
+    morning: &'a [u8],
+    noon: &'a [u8],
+    account: Account,
+    records: usize,
+    lines: Lines,
+    out: &mut [i64],
+) -> Answer
+    requires { ⌜ Stands (now morning) (now noon) account × LinesKnown (accountOf (now morning) (now noon)) lines ⌝ }
+    ensures { λ r. ⌜ ((whole : List Record) → LinedBy (accountOf (now (morning .entry)) (now (noon .entry))) lines records whole
+        → (r ≡ answerOver whole Figures (length (now (out .entry)))) × (now (out .exit) ≡ afterOver whole Figures (now (out .entry)))) ⌝ }
+{
+    if out.len() < figures_count(account) {
         return Answer::TooFewNumbers(records);
     }
-    lend(out, numbers);
+    put_figures(morning, noon, account, lines, out);
+    Answer::Accepted
+}
+
+// The numbers of a book at the front of `out`, by what is asked about, likewise.
+fn answer_book(records: usize, asking: Asking, out: &mut [i64]) -> Answer
+    requires { ⌜ sound (asking .prompts) (asking .table) ≡ true ⌝ }
+    ensures { λ r. ⌜
+        ((whole : List Record) (question : ℕ) → AskedBy whole question records asking
+        → (r ≡ answerOver whole (Book question) (length (now (out .entry)))) × (now (out .exit) ≡ afterOver whole (Book question) (now (out .entry)))) ⌝ }
+{
+    let prompts = asking.prompts;
+    let table = asking.table;
+    if out.len() < book_count(prompts, table) {
+        return Answer::TooFewNumbers(records);
+    }
+    put_book(out, prompts, table, book_of_accepted(prompts, table));
     Answer::Accepted
 }
 
@@ -130,7 +161,7 @@ fn answer_asking(records: usize, asking: Asking, paid: bool, out: &mut [i64]) ->
     if paid {
         return answer_uses(records, asking, out);
     }
-    put_numbers(records, book_of(asking), out)
+    answer_book(records, asking, out)
 }
 
 fn answer_figures<'a>(
@@ -143,8 +174,8 @@ fn answer_figures<'a>(
     ensures { λ r. ⌜ (r ≡ answerOver (accountOf (now (morning .entry)) (now (noon .entry))) Figures (length (now (out .entry))))
         × (now (out .exit) ≡ afterOver (accountOf (now (morning .entry)) (now (noon .entry))) Figures (now (out .entry))) ⌝ }
 {
-    let numbers = figures_over(morning, noon, account);
-    put_numbers(record_total(account), numbers, out)
+    let lines = lines_of(morning, noon, account);
+    answer_lines(morning, noon, account, record_total(account), lines, out)
 }
 
 fn answer_question<'a>(
@@ -196,8 +227,8 @@ fn figures_answer<'a>(
     ensures { λ r. ⌜ ((whole : List Record) → Told (accountOf (now (morning .entry)) (now (noon .entry))) positions whole
         → (r ≡ answerOver whole Figures (length (now (out .entry)))) × (now (out .exit) ≡ afterOver whole Figures (now (out .entry)))) ⌝ }
 {
-    let numbers = figures_from(morning, noon, account, positions);
-    put_numbers(positions.records, numbers, out)
+    let lines = lines_from(morning, noon, account, positions);
+    answer_lines(morning, noon, account, positions.records, lines, out)
 }
 
 fn question_answer<'a>(
@@ -239,14 +270,6 @@ pub fn answer_from<'a>(
         Question::Book(q) => question_answer(morning, noon, account, positions, false, q, out),
         Question::Uses(q) => question_answer(morning, noon, account, positions, true, q, out),
     }
-}
-
-// How many numbers the figures have.
-fn figures_count(account: Account) -> usize
-    requires { ⌜ account .contracts ≤ mostContracts ⌝ }
-    ensures { λ n. ⌜ n ≡ 8 * account .contracts + 1 ⌝ }
-{
-    8 * contract_total(account) + 1
 }
 
 // How many prompts and spreads a book is about; of the intercontract table, contracts and its spreads.
@@ -569,10 +592,16 @@ pub fn everything_over<'a>(
         (now (uses .entry)) r (now (figures .exit)) (now (books .exit)) (now (uses .exit)) ⌝ }
 {
     let lines = contracts_over(morning, noon, account, books, uses);
-    let numbers = figures_of(morning, noon, account, lines);
     let tiers = tiers_in(lines);
     Everything {
-        figures: put_numbers(record_total(account), numbers, figures),
+        figures: answer_lines(
+            morning,
+            noon,
+            account,
+            record_total(account),
+            lines,
+            figures,
+        ),
         books: lend_table(morning, noon, account, false, tiers, books),
         uses: lend_table(morning, noon, account, true, tiers, uses),
     }

@@ -1,28 +1,32 @@
 // The delta book of a contract, and the numbers of a question's book, by the spread steps.
-use crate::numbers::Numbers;
-use crate::numbers::book_numbers;
-use crate::numbers::with_last;
+use crate::numbers::put;
+use crate::numbers::put_prompts;
+use crate::numbers::put_spreads;
 use crate::tables::interprompt_table;
 use crate::tables::prompts_with;
-use crate::uses::Asking;
 use record::bytes::RECORD_BYTES;
 use spread::Delta;
 use spread::MOST_PROMPTS;
 use spread::MOST_SPREADS;
+use spread::Prompts;
 use spread::Spreads;
+use spread::Table;
 use spread::book::Book;
 use spread::book::book_of_accepted;
-use spread::touches::counted_book;
+use spread::touches::touches_of;
 ghost use mathlib.Core.Path.{_≡_};
 ghost use mathlib.Core.Bool.{true};
 ghost use mathlib.Core.List.{map};
+ghost use Prim.Native.Nat.{_+_, _*_, _≤_};
+ghost use lib.ListN.{length};
+ghost use lib.Seq.{sets};
 ghost use Rattle.account.specs.Records.{records};
 ghost use Rattle.spread.specs.Accepted.{openOf, stepsOf, sound};
+ghost use Rattle.spread.specs.Book.{Booked};
 ghost use Rattle.spread.specs.Steps.{steps};
 ghost use Rattle.margin.specs.Books.{bookBy};
 ghost use Rattle.margin.specs.Deltas.{opens, interprompt};
 ghost use Rattle.margin.specs.Sums.{deltasIn};
-ghost use Rattle.margin.specs.Numbers.{AllOf};
 ghost use Rattle.margin.specs.Promised.{BookOf, BookRoom};
 
 // The book of a contract's interprompt spreads, over its prompts and their net deltas. Without spreads nothing is used.
@@ -42,28 +46,28 @@ pub(crate) fn contract_book(prompts: &[u8], nets: [Delta; MOST_PROMPTS], spreads
     book_of_accepted(prompts_with(prompts, nets), interprompt_table(spreads))
 }
 
-// The numbers of a question's book, by what it asks about.
-pub(crate) fn book_of(asking: Asking) -> Numbers
-    requires { ⌜ sound (asking .prompts) (asking .table) ≡ true ⌝ }
-    ensures { λ r. ⌜ AllOf (bookBy (stepsOf (asking .table)) (openOf (asking .prompts))) r ⌝ }
+// How many numbers a book has: three for each prompt, two for each spread, and how often a prompt is touched.
+pub(crate) fn book_count(prompts: Prompts, table: Table) -> usize
+    requires { ⌜ sound prompts table ≡ true ⌝ }
+    ensures { λ r. ⌜ r ≡ 3 * prompts .count + 2 * table .count + 1 ⌝ }
 {
-    let prompts = asking.prompts;
-    let table = asking.table;
+    3 * prompts.count + 2 * table.count + 1
+}
+
+// The numbers of a book, from the front.
+pub(crate) fn put_book(out: &mut [i64], prompts: Prompts, table: Table, book: Book)
+    requires { ⌜ (sound prompts table ≡ true) × (Booked prompts table book × (3 * prompts .count + 2 * table .count + 1 ≤ length (now out))) ⌝ }
+    ensures { λ r. ⌜ now (out .exit) ≡ sets (now (out .entry)) 0 (bookBy (stepsOf table) (openOf prompts)) ⌝ }
+{
+    let count = prompts.count;
+    let spreads = table.count;
     let nets = prompts.net;
-    let counted = counted_book(prompts, table);
-    let book = counted.book;
     let used = book.used;
     let unused = book.unused;
     let first = book.first;
     let second = book.second;
-    let numbers = book_numbers(
-        prompts.count,
-        nets,
-        used,
-        unused,
-        table.count,
-        first,
-        second,
-    );
-    with_last(numbers, counted.touches)
+    put_prompts(out, count, nets, used, unused);
+    put_spreads(out, count * 3, spreads, first, second);
+    let touches = touches_of(prompts, table, first, second);
+    put(out, count * 3 + spreads * 2, touches);
 }

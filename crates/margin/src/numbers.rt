@@ -1,4 +1,4 @@
-// Answers: lists of numbers, and writing them to lent memory.
+// Answers: numbers written to lent memory.
 use crate::amount::Amount;
 use crate::amount::margin;
 use crate::amount::risk;
@@ -10,33 +10,30 @@ use spread::MOST_PROMPTS;
 use spread::MOST_SPREADS;
 use spread::Spreads;
 ghost use mathlib.Core.Path.{_≡_};
-ghost use mathlib.Core.List.{[], _∷_, _++_, map};
+ghost use mathlib.Core.List.{[], _∷_, map};
 ghost use Prim.Native.Nat.{_+_, _*_, _^_, _≤_, _<_};
 ghost use lib.IntN.{pos};
-ghost use lib.ListN.{length, take, drop, set};
+ghost use lib.ListN.{length, take, set};
 ghost use lib.Seq.{sets};
 ghost use Rattle.account.specs.Check.{mostPrompts};
-ghost use Rattle.margin.specs.Bounds.{mostRisk, mostCredits, longestBook};
+ghost use Rattle.margin.specs.Bounds.{mostRisk, mostCredits};
 ghost use Rattle.margin.specs.Lines.{LineWithin, marginWith, eightOf, figuresFrom};
-ghost use Rattle.margin.specs.Numbers.{written, LinesWithin, SpreadsSigned};
+ghost use Rattle.margin.specs.Numbers.{LinesWithin, SpreadsSigned};
 ghost use Rattle.margin.specs.Books.{threes};
 ghost use Rattle.margin.specs.Sums.{interleaved, deltasIn};
 
-// The most numbers that a book has: three for each prompt, two for each spread, and how often a prompt was touched.
+// The most numbers that the figures have: eight for each contract, and the total.
+pub const LONGEST_FIGURES: usize = 8 * CONTRACTS + 1;
+
+// The most that a book has: three for each prompt, two for each spread, and how often a prompt was touched.
 pub const LONGEST_BOOK: usize = 3 * MOST_PROMPTS + 2 * MOST_SPREADS + 1;
 
 // The most that say who paid in it: one for each prompt in each spread's two steps.
 pub const LONGEST_USES: usize = 2 * MOST_SPREADS * MOST_PROMPTS;
 
-// An answer: its first `count` numbers. A contract's book can have the most.
-pub struct Numbers {
-    pub count: usize,
-    pub number: [i64; LONGEST_BOOK],
-}
-
 // A number that is not negative, at a place.
-fn put(out: &mut [i64; LONGEST_BOOK], at: usize, x: u64)
-    requires { ⌜ (at < longestBook) × (x < 2 ^ 63) ⌝ }
+pub(crate) fn put(out: &mut [i64], at: usize, x: u64)
+    requires { ⌜ (at < length (now out)) × (x < 2 ^ 63) ⌝ }
     ensures { λ r. ⌜ now (out .exit) ≡ set (now (out .entry)) at (pos x) ⌝ }
 {
     out[at] = as_signed(x);
@@ -51,8 +48,8 @@ fn margin_of(l: Line, credit: Amount) -> Amount
 }
 
 // A contract's eight numbers, from a place on.
-fn put_eight(out: &mut [i64; LONGEST_BOOK], at: usize, l: Line, credit: Amount, margin: Amount)
-    requires { ⌜ (at + 8 ≤ longestBook)
+fn put_eight(out: &mut [i64], at: usize, l: Line, credit: Amount, margin: Amount)
+    requires { ⌜ (at + 8 ≤ length (now out))
         × (LineWithin l × ((credit .0 ≤ mostCredits) × ((margin .0 ≡ marginWith l (credit .0)) × (margin .0 ≤ 3 * mostRisk)))) ⌝ }
     ensures { λ r. ⌜ now (out .exit) ≡ sets (now (out .entry)) at (map pos (eightOf l (credit .0))) ⌝ }
 {
@@ -67,8 +64,8 @@ fn put_eight(out: &mut [i64; LONGEST_BOOK], at: usize, l: Line, credit: Amount, 
 }
 
 // A delta, at a place.
-fn put_delta(out: &mut [i64; LONGEST_BOOK], at: usize, d: Delta)
-    requires { ⌜ at < longestBook ⌝ }
+fn put_delta(out: &mut [i64], at: usize, d: Delta)
+    requires { ⌜ at < length (now out) ⌝ }
     ensures { λ r. ⌜ now (out .exit) ≡ set (now (out .entry)) at (d .0) ⌝ }
 {
     let z = d.0;
@@ -76,8 +73,8 @@ fn put_delta(out: &mut [i64; LONGEST_BOOK], at: usize, d: Delta)
 }
 
 // The net delta of a prompt, and what of it is used and unused, from a place on.
-fn put_three(out: &mut [i64; LONGEST_BOOK], at: usize, net: Delta, used: Delta, unused: Delta)
-    requires { ⌜ at + 3 ≤ longestBook ⌝ }
+fn put_three(out: &mut [i64], at: usize, net: Delta, used: Delta, unused: Delta)
+    requires { ⌜ at + 3 ≤ length (now out) ⌝ }
     ensures { λ r. ⌜ now (out .exit) ≡ sets (now (out .entry)) at (net .0 ∷ used .0 ∷ unused .0 ∷ []) ⌝ }
 {
     put_delta(out, at, net);
@@ -86,50 +83,46 @@ fn put_three(out: &mut [i64; LONGEST_BOOK], at: usize, net: Delta, used: Delta, 
 }
 
 // The numbers of a spread's two steps, from a place on.
-fn put_two(out: &mut [i64; LONGEST_BOOK], at: usize, first: Spreads, second: Spreads)
-    requires { ⌜ (at + 2 ≤ longestBook) × ((first .0 < 2 ^ 63) × (second .0 < 2 ^ 63)) ⌝ }
+fn put_two(out: &mut [i64], at: usize, first: Spreads, second: Spreads)
+    requires { ⌜ (at + 2 ≤ length (now out)) × ((first .0 < 2 ^ 63) × (second .0 < 2 ^ 63)) ⌝ }
     ensures { λ r. ⌜ now (out .exit) ≡ sets (now (out .entry)) at (pos (first .0) ∷ pos (second .0) ∷ []) ⌝ }
 {
     put(out, at, first.0);
     put(out, at + 1, second.0);
 }
 
-// The figures: eight numbers for each of the first `count` lines, then the total of the margins.
-pub(crate) fn figures_numbers(
+// The figures from the front: eight numbers for each of the first `count` lines, then the total of the margins.
+pub(crate) fn put_lines(
+    out: &mut [i64],
     count: usize,
     lines: [Line; CONTRACTS],
     credits: [Amount; CONTRACTS],
-) -> Numbers
-    requires { ⌜ LinesWithin count lines credits ⌝ }
-    ensures { λ r. ⌜ (r .count ≡ 8 * count + 1) × (written r ≡ map pos (figuresFrom (take count lines) (take count credits))) ⌝ }
+)
+    requires { ⌜ LinesWithin count lines credits × (8 * count + 1 ≤ length (now out)) ⌝ }
+    ensures { λ r. ⌜ now (out .exit) ≡ sets (now (out .entry)) 0 (map pos (figuresFrom (take count lines) (take count credits))) ⌝ }
 {
-    let mut number = [0i64; LONGEST_BOOK];
     let mut total: u64 = 0;
     let mut i = 0;
     while i < count {
         let line = lines[i];
         let credit = credits[i];
         let margin = margin_of(line, credit);
-        put_eight(&mut number, i * 8, line, credit, margin);
+        put_eight(out, i * 8, line, credit, margin);
         total += margin.0;
         i += 1;
     }
-    put(&mut number, count * 8, total);
-    Numbers {
-        count: count * 8 + 1,
-        number: number,
-    }
+    put(out, count * 8, total);
 }
 
 // Three numbers for each prompt, from the front.
-fn put_prompts(
-    out: &mut [i64; LONGEST_BOOK],
+pub(crate) fn put_prompts(
+    out: &mut [i64],
     prompts: usize,
     nets: [Delta; MOST_PROMPTS],
     used: [Delta; MOST_PROMPTS],
     unused: [Delta; MOST_PROMPTS],
 )
-    requires { ⌜ prompts ≤ mostPrompts ⌝ }
+    requires { ⌜ (prompts ≤ mostPrompts) × (3 * prompts ≤ length (now out)) ⌝ }
     ensures { λ r. ⌜ now (out .exit) ≡ sets (now (out .entry)) 0
         (threes (take prompts (deltasIn nets)) (take prompts (deltasIn used)) (take prompts (deltasIn unused))) ⌝ }
 {
@@ -141,72 +134,19 @@ fn put_prompts(
 }
 
 // Two numbers for each spread, from a place on.
-fn put_spreads(
-    out: &mut [i64; LONGEST_BOOK],
+pub(crate) fn put_spreads(
+    out: &mut [i64],
     at: usize,
     spreads: usize,
     first: [Spreads; MOST_SPREADS],
     second: [Spreads; MOST_SPREADS],
 )
-    requires { ⌜ (at ≤ 3 * mostPrompts) × SpreadsSigned spreads first second ⌝ }
+    requires { ⌜ (at + 2 * spreads ≤ length (now out)) × SpreadsSigned spreads first second ⌝ }
     ensures { λ r. ⌜ now (out .exit) ≡ sets (now (out .entry)) at (map pos (interleaved (take spreads first) (take spreads second))) ⌝ }
 {
     let mut i = 0;
     while i < spreads {
         put_two(out, at + i * 2, first[i], second[i]);
-        i += 1;
-    }
-}
-
-// A delta book but for its last number: three numbers for each prompt, then two for each spread.
-pub(crate) fn book_numbers(
-    prompts: usize,
-    nets: [Delta; MOST_PROMPTS],
-    used: [Delta; MOST_PROMPTS],
-    unused: [Delta; MOST_PROMPTS],
-    spreads: usize,
-    first: [Spreads; MOST_SPREADS],
-    second: [Spreads; MOST_SPREADS],
-) -> Numbers
-    requires { ⌜ (prompts ≤ mostPrompts) × SpreadsSigned spreads first second ⌝ }
-    ensures { λ r. ⌜ (r .count ≡ 3 * prompts + 2 * spreads)
-        × (written r ≡ threes (take prompts (deltasIn nets)) (take prompts (deltasIn used)) (take prompts (deltasIn unused)) ++ map pos
-        (interleaved (take spreads first) (take spreads second))) ⌝ }
-{
-    let mut number = [0i64; LONGEST_BOOK];
-    put_prompts(&mut number, prompts, nets, used, unused);
-    put_spreads(&mut number, prompts * 3, spreads, first, second);
-    Numbers {
-        count: prompts * 3 + spreads * 2,
-        number: number,
-    }
-}
-
-// One number more, at the end.
-pub(crate) fn with_last(numbers: Numbers, last: u64) -> Numbers
-    requires { ⌜ (numbers .count < longestBook) × (last < 2 ^ 63) ⌝ }
-    ensures { λ r. ⌜ (r .count ≡ numbers .count + 1) × (written r ≡ written numbers ++ (pos last ∷ [])) ⌝ }
-{
-    let count = numbers.count;
-    let mut number = numbers.number;
-    put(&mut number, count, last);
-    Numbers {
-        count: count + 1,
-        number: number,
-    }
-}
-
-// Success writes the answer at the front and nothing after it.
-pub(crate) fn lend(out: &mut [i64], numbers: Numbers)
-    requires { ⌜ (numbers .count ≤ longestBook) × (numbers .count ≤ length (now out)) ⌝ }
-    ensures { λ r. ⌜ now (out .exit) ≡ written numbers ++ drop (numbers .count) (now (out .entry)) ⌝ }
-{
-    let end = numbers.count;
-    let number = numbers.number;
-    let mut i = 0;
-    while i < end {
-        let z = number[i];
-        out[i] = z;
         i += 1;
     }
 }

@@ -1,12 +1,11 @@
-// What an account's answers are made of: the lines of its contracts, the numbers of its figures and books, and what is asked
-// about by a question.
+// What an account's answers are made of: the lines of its contracts, its figures, and what is asked about by a question.
 use crate::amount::Amount;
 use crate::intercontract::table_credits;
 use crate::line::Line;
 use crate::line::contract_net;
 use crate::line::line_of;
-use crate::numbers::Numbers;
-use crate::numbers::figures_numbers;
+use crate::numbers::LONGEST_FIGURES;
+use crate::numbers::put_lines;
 use crate::rows::Position;
 use crate::rows::nets_of;
 use crate::rows::position_of;
@@ -38,7 +37,8 @@ ghost use mathlib.Core.Path.{_≡_};
 ghost use mathlib.Core.Bool.{true};
 ghost use mathlib.Core.List.{List, [], map};
 ghost use Prim.Native.Nat.{_+_, _*_, _≤_, _<_};
-ghost use lib.ListN.{getD};
+ghost use lib.ListN.{length, getD};
+ghost use lib.Seq.{sets};
 ghost use Rattle.account.specs.Check.{mostContracts};
 ghost use Rattle.account.specs.Parts.{contractsOf, promptsOf, rowsOf, spreadsOf, entriesOf, ratesOf};
 ghost use Rattle.account.specs.Products.{RatesOf};
@@ -46,10 +46,8 @@ ghost use Rattle.account.specs.Records.{records};
 ghost use Rattle.account.specs.Standing.{Stands, accountOf};
 ghost use Rattle.record.specs.Layout.{Record, mostContract, mostUnit};
 ghost use Rattle.margin.specs.Books.{answered, askedBy};
-ghost use Rattle.margin.specs.Bounds.{longestBook};
 ghost use Rattle.margin.specs.Contract.{contracts, partsIn, partsOf, asTier, stepsOf, opensOf, tableSteps};
 ghost use Rattle.margin.specs.Figures.{figures, accountTotal};
-ghost use Rattle.margin.specs.Numbers.{written};
 ghost use Rattle.margin.specs.Position.{RatedBy, withNets};
 ghost use Rattle.margin.specs.Promised.{LineOf, PositionFit, BookFit, contractWith};
 ghost use Rattle.margin.specs.Beside.{ownOf, unitOf, Besides, LinesKnown, TiersKnown};
@@ -149,7 +147,7 @@ pub(crate) fn no_line() -> Line {
 }
 
 // The lines of all contracts, in file order.
-fn lines_of<'a>(morning: &'a [u8], noon: &'a [u8], account: Account) -> Lines
+pub(crate) fn lines_of<'a>(morning: &'a [u8], noon: &'a [u8], account: Account) -> Lines
     requires { ⌜ Stands (now morning) (now noon) account ⌝ }
     ensures { λ r. ⌜ LinesOf (accountOf (now (morning .entry)) (now (noon .entry))) r ⌝ }
 {
@@ -167,32 +165,24 @@ fn lines_of<'a>(morning: &'a [u8], noon: &'a [u8], account: Account) -> Lines
     }
 }
 
-// The numbers of the figures, from the lines of the contracts.
-pub(crate) fn figures_of<'a>(
+// The figures, from the lines of the contracts, at the front of `out`.
+pub(crate) fn put_figures<'a>(
     morning: &'a [u8],
     noon: &'a [u8],
     account: Account,
     all: Lines,
-) -> Numbers
-    requires { ⌜ Stands (now morning) (now noon) account × LinesKnown (accountOf (now morning) (now noon)) all ⌝ }
-    ensures are { λ r. ⌜ ((whole : List Record) → Besides (accountOf (now (morning .entry)) (now (noon .entry))) whole → LinesOf whole all
-        → written r ≡ figures whole) ⌝ }
-    ensures many { λ r. ⌜ (r .count ≡ 8 * account .contracts + 1) × (r .count ≤ longestBook) ⌝ }
+    out: &mut [i64],
+)
+    requires { ⌜ Stands (now morning) (now noon) account
+        × (LinesKnown (accountOf (now morning) (now noon)) all × (8 * account .contracts + 1 ≤ length (now out))) ⌝ }
+    ensures { λ r. ⌜ ((whole : List Record) → Besides (accountOf (now (morning .entry)) (now (noon .entry))) whole → LinesOf whole all
+        → now (out .exit) ≡ sets (now (out .entry)) 0 (figures whole)) ⌝ }
 {
     let count = all.count;
     let lines = all.line;
     let entries = part(morning, noon, account, ENTRIES);
     let credits = table_credits(count, lines, entries);
-    figures_numbers(count, lines, credits)
-}
-
-// The same of an account that stands in the files.
-pub(crate) fn figures_over<'a>(morning: &'a [u8], noon: &'a [u8], account: Account) -> Numbers
-    requires { ⌜ Stands (now morning) (now noon) account ⌝ }
-    ensures { λ r. ⌜ (written r ≡ figures (accountOf (now (morning .entry)) (now (noon .entry)))) × (r .count ≡ 8 * account .contracts + 1)
-        × (r .count ≤ longestBook) ⌝ }
-{
-    figures_of(morning, noon, account, lines_of(morning, noon, account))
+    put_lines(out, count, lines, credits);
 }
 
 // The total of the margins, which stands last in the figures.
@@ -200,10 +190,11 @@ pub fn total_over<'a>(morning: &'a [u8], noon: &'a [u8], account: Account) -> Am
     requires { ⌜ Stands (now morning) (now noon) account ⌝ }
     ensures { λ r. ⌜ r .0 ≡ accountTotal (accountOf (now (morning .entry)) (now (noon .entry))) ⌝ }
 {
-    let numbers = figures_over(morning, noon, account);
-    let count = numbers.count;
-    let number = numbers.number;
-    Amount(magnitude(number[count - 1]))
+    let lines = lines_of(morning, noon, account);
+    let mut numbers = [0i64; LONGEST_FIGURES];
+    put_figures(morning, noon, account, lines, &mut numbers);
+    let last = 8 * contract_total(account);
+    Amount(magnitude(numbers[last]))
 }
 
 // The net deltas alone of contract `c`, which no rate and no unit changes.

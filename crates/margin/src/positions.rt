@@ -1,15 +1,15 @@
-// What the rows of each contract come to, worked out once for an account; and its lines, tiers and figures from there.
+// What the rows of each contract come to, worked out once for an account; and its lines, tiers and total from there.
 use crate::amount::Amount;
 use crate::line::contract_net;
-use crate::numbers::Numbers;
+use crate::numbers::LONGEST_FIGURES;
 use crate::over::Lines;
 use crate::over::TABLE;
 use crate::over::Tier;
 use crate::over::asking_with;
-use crate::over::figures_of;
 use crate::over::line_with;
 use crate::over::no_line;
 use crate::over::position_in;
+use crate::over::put_figures;
 use crate::over::table_asking;
 use crate::rows::Position;
 use crate::rows::flat;
@@ -29,16 +29,15 @@ use spread::Prompts;
 ghost use mathlib.Core.Path.{_≡_};
 ghost use mathlib.Core.Bool.{true};
 ghost use mathlib.Core.List.{List, map};
-ghost use Prim.Native.Nat.{_+_, _*_, _≤_, _<_};
+ghost use Prim.Native.Nat.{_≤_, _<_};
 ghost use lib.IntN.{natAbs};
 ghost use Rattle.exact.specs.Lists.{sum, sumℤ};
 ghost use Rattle.account.specs.Standing.{Stands, accountOf};
 ghost use Rattle.record.specs.Layout.{Record, mostContract};
 ghost use Rattle.margin.specs.Books.{answered};
-ghost use Rattle.margin.specs.Bounds.{mostDelta, longestBook};
-ghost use Rattle.margin.specs.Figures.{figures, accountTotal};
+ghost use Rattle.margin.specs.Bounds.{mostDelta};
+ghost use Rattle.margin.specs.Figures.{accountTotal};
 ghost use Rattle.margin.specs.Lined.{LinesOf, TiersIn};
-ghost use Rattle.margin.specs.Numbers.{written};
 ghost use Rattle.margin.specs.Positions.{PositionsOf, Told, Known};
 ghost use Rattle.margin.specs.Sums.{deltasIn};
 ghost use Rattle.margin.specs.Uses.{stepsFor, opensFor, Asks};
@@ -70,7 +69,7 @@ pub fn positions_over<'a>(morning: &'a [u8], noon: &'a [u8], account: Account) -
 }
 
 // The lines of all contracts, in file order.
-fn lines_from<'a>(
+pub(crate) fn lines_from<'a>(
     morning: &'a [u8],
     noon: &'a [u8],
     account: Account,
@@ -93,25 +92,6 @@ fn lines_from<'a>(
     }
 }
 
-// The numbers of the figures.
-pub(crate) fn figures_from<'a>(
-    morning: &'a [u8],
-    noon: &'a [u8],
-    account: Account,
-    positions: Positions,
-) -> Numbers
-    requires { ⌜ Stands (now morning) (now noon) account × Known (accountOf (now morning) (now noon)) positions ⌝ }
-    ensures are { λ r. ⌜ ((whole : List Record) → Told (accountOf (now (morning .entry)) (now (noon .entry))) positions whole → written r ≡ figures whole) ⌝ }
-    ensures many { λ r. ⌜ (r .count ≡ 8 * account .contracts + 1) × (r .count ≤ longestBook) ⌝ }
-{
-    figures_of(
-        morning,
-        noon,
-        account,
-        lines_from(morning, noon, account, positions),
-    )
-}
-
 // The total of the margins, which stands last in the figures.
 pub fn total_from<'a>(
     morning: &'a [u8],
@@ -122,10 +102,11 @@ pub fn total_from<'a>(
     requires { ⌜ Stands (now morning) (now noon) account × Known (accountOf (now morning) (now noon)) positions ⌝ }
     ensures { λ r. ⌜ ((whole : List Record) → Told (accountOf (now (morning .entry)) (now (noon .entry))) positions whole → r .0 ≡ accountTotal whole) ⌝ }
 {
-    let numbers = figures_from(morning, noon, account, positions);
-    let count = numbers.count;
-    let number = numbers.number;
-    Amount(magnitude(number[count - 1]))
+    let lines = lines_from(morning, noon, account, positions);
+    let mut numbers = [0i64; LONGEST_FIGURES];
+    put_figures(morning, noon, account, lines, &mut numbers);
+    let last = 8 * contract_total(account);
+    Amount(magnitude(numbers[last]))
 }
 
 // A contract as a tier, by what its rows come to.

@@ -201,8 +201,8 @@ fn step_touches(
     a + b + c
 }
 
-// The steps with the numbers that they formed: how often they take of a prompt.
-fn touches_of(
+// The steps of what is accepted, with the numbers that they formed: how often they take of a prompt.
+pub fn touches_of(
     prompts: Prompts,
     table: Table,
     first: [Spreads; MOST_SPREADS],

@@ -1,23 +1,24 @@
 -- The figures of an account answer it.
 -- Assumes nothing.
 use mathlib.Core.Path.{_∙_}
-use mathlib.Core.Bool.{true}
-use native.Mathlib.Omega.{arith}
 use borrow.Author.Needs.{needs}
 use Rattle.account.specs.Standing.{accountOf}
-use Rattle.margin.specs.declared.asking.Question.the-variants.{Figures}
-use Rattle.margin.proofs.QuestionLaws.{figures-length}
+use Rattle.margin.proofs.BesideLaws.{alone}
 use Rattle.margin.proofs.asking.answer_figures.Statement.{statement}
 use Rattle.margin.proofs.asking.answer_figures.Tie as tie
 
-figures-over-requires : tie.Need-figures-over-requires
-figures-over-requires c κs = search needs
+lines-of-requires : tie.Need-lines-of-requires
+lines-of-requires c κs = search needs
 
 record-total-requires : tie.Need-record-total-requires
 record-total-requires c κs = search needs
 
-put-numbers-requires : tie.Need-put-numbers-requires
-put-numbers-requires c κs = c .before .before .figures-over .ensures .2
+answer-lines-requires : tie.Need-answer-lines-requires
+answer-lines-requires c κs =
+    let s = c .before .before .before .before .before in
+    let m = s .args .morning .now in
+    let n = s .args .noon .now in
+    (s .pre, record { whole = accountOf m n; beside = alone m n (s .args .account) (s .pre); lines = c .before .before .lines-of .ensures })
 
 same-length : tie.Need-same-length
 same-length c = search needs
@@ -25,22 +26,21 @@ same-length c = search needs
 returns : tie.Need-returns
 returns c =
     let s = c .before .before .before .before .before .before .before in
-    let a = accountOf (s .args .morning .now) (s .args .noon .now) in
-    let f = c .before .before .before .before .figures-over .ensures in
-    c .before .put-numbers .ensures a Figures
+    let m = s .args .morning .now in
+    let n = s .args .noon .now in
+    c .before .answer-lines .ensures (accountOf m n)
     (record {
-      asked-is = λ i. true;
+      beside = alone m n (s .args .account) (s .pre);
+      lines = c .before .before .before .before .lines-of .ensures;
       records-are = c .before .before .before .record-total .ensures ∙ s .pre .places .all;
-      listed-is = f .0;
-      count-is = omega (arith, f .1, figures-length a, s .pre .places .contracts);
     })
 
 pub answer-figures-spec : {M : Type 1} → statement M
 answer-figures-spec =
     tie.close
     (tie.spec
-    figures-over-requires
+    lines-of-requires
     record-total-requires
-    put-numbers-requires
+    answer-lines-requires
     same-length
     returns)

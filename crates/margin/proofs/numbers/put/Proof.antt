@@ -14,8 +14,11 @@ as-signed-requires c κs = search needs
 mul-t5 : tie.Need-mul-t5
 mul-t5 c = search needs
 
-element-set-from-out : tie.Need-element-set-from-out
-element-set-from-out c = search needs
+slice-set-from-out : tie.Need-slice-set-from-out
+slice-set-from-out c = search needs
+
+same-length : tie.Need-same-length
+same-length c = search needs
 
 returns : tie.Need-returns
 returns c =
@@ -23,4 +26,4 @@ returns c =
     ap (λ (z : ℤ). set (s .args .out .now) (s .args .at) z) (back (c .as-signed .result) (record { sfits = c .as-signed .ok }) ∙ c .as-signed .ensures)
 
 pub put-spec : {M : Type 1} → statement M
-put-spec = tie.close (tie.spec as-signed-requires mul-t5 element-set-from-out returns)
+put-spec = tie.close (tie.spec as-signed-requires mul-t5 slice-set-from-out same-length returns)

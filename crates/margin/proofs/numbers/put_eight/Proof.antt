@@ -1,6 +1,7 @@
 -- `put_eight`: eight stores, one after the other.
 -- Assumes nothing.
 use mathlib.Core.List.{map}
+use native.Mathlib.Omega.{arith}
 use lib.IntN.{pos}
 use Rattle.margin.specs.Lines.{eightOf}
 use Rattle.margin.proofs.NumberLaws.{stores-sets}
@@ -54,20 +55,26 @@ add-put-7 : tie.Need-add-put-7
 add-put-7 c = search needs
 
 put-requires-8 : tie.Need-put-requires-8
-put-requires-8 c κs = search needs
+put-requires-8 c κs =
+    let s = c .before .before .before .before .before .before .before .before .before .before .before .before .before .before .before .before .before .before .before .before .before .before .before in
+    (omega (arith, s .pre .0, c .before .out7 .given, c .before .before .before .before .out6 .given, c .before .before .before .before .before .before .before .out5 .given, c .before .before .before .before .before .before .before .before .before .before .out4 .given, c .before .before .before .before .before .before .before .before .before .before .before .before .before .out3 .given, c .before .before .before .before .before .before .before .before .before .before .before .before .before .before .before .before .out2 .given, c .before .before .before .before .before .before .before .before .before .before .before .before .before .before .before .before .before .before .before .out .given), omega (arith, s .pre .1 .1 .1 .1))
+
+same-length : tie.Need-same-length
+same-length c = search needs
 
 returns : tie.Need-returns
 returns c =
-    let c7 = c .before .before in
-    let c6 = c7 .before .before in
-    let c5 = c6 .before .before in
-    let c4 = c5 .before .before in
-    let c3 = c4 .before .before in
-    let c2 = c3 .before .before in
-    let c1 = c2 .before .before in
+    let c8 = c .before in
+    let c7 = c8 .before .before .before in
+    let c6 = c7 .before .before .before in
+    let c5 = c6 .before .before .before in
+    let c4 = c5 .before .before .before in
+    let c3 = c4 .before .before .before in
+    let c2 = c3 .before .before .before in
+    let c1 = c2 .before .before .before in
     let s = c1 .before .before .before in
     rw (
-      c .put8 .ensures,
+      c8 .put8 .ensures,
       c7 .put7 .ensures,
       c6 .put6 .ensures,
       c5 .put5 .ensures,
@@ -99,4 +106,5 @@ put-eight-spec =
     put-requires-7
     add-put-7
     put-requires-8
+    same-length
     returns)

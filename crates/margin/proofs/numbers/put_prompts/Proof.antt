@@ -1,6 +1,6 @@
 -- Three numbers a prompt, one prompt after the other.
 -- Assumes nothing.
-use mathlib.Core.Path.{_≡_, refl}
+use mathlib.Core.Path.{_≡_, refl, _∙_}
 use mathlib.Core.List.{[], _∷_}
 use Prim.Native.Nat.{_+_, _*_, _-_}
 use native.Mathlib.Omega.{arith}
@@ -14,13 +14,13 @@ use Rattle.margin.proofs.numbers.put_prompts.Tie as tie
 
 abbrev Inv-loop : tie.InvT-loop
 Inv-loop out₀ prompts nets used unused i₀ out i = ToWrite prompts (threesOn prompts nets used unused)
-    (sets out₀ 0 (threesOn prompts nets used unused 0)) i (i * 3) out
+    (sets out₀ 0 (threesOn prompts nets used unused 0)) i (i * 3) out × (length out ≡ length out₀)
 
 abbrev μ-loop : tie.MeasureT-loop
 μ-loop out₀ prompts nets used unused i₀ out i = prompts - i
 
 loop-holds : tie.Need-loop-holds Inv-loop μ-loop
-loop-holds c = start _ _ 0 0 _ refl
+loop-holds c = (start _ _ 0 0 _ refl, refl)
 
 mul-put-three : tie.Need-mul-put-three Inv-loop μ-loop
 mul-put-three c = omega arith
@@ -44,7 +44,7 @@ array-copy-out-put-three-3 : tie.Need-array-copy-out-put-three-3 Inv-loop μ-loo
 array-copy-out-put-three-3 c = omega arith
 
 put-three-requires : tie.Need-put-three-requires Inv-loop μ-loop
-put-three-requires c κs = omega arith
+put-three-requires c κs = let l = c .before .before .before .before .before .loop in omega (arith, l .inv .1)
 
 add-i : tie.Need-add-i Inv-loop μ-loop
 add-i c = omega arith
@@ -54,22 +54,27 @@ loop-less c = omega arith
 
 loop-again : tie.Need-loop-again Inv-loop μ-loop
 loop-again c =
-    let s = c .before .before .before .before .before .before .before in
-    let l = c .before .before .before .before .before .before .loop in
+    let s = c .before .before .before .before .before .before .before .before in
+    let l = c .before .before .before .before .before .before .before .loop in
     let nets : length (s .args .t3) ≡ 32 = search needs in
     let used : length (s .args .t4) ≡ 32 = search needs in
-    let unused : length (s .args .t5) ≡ 32 = search needs in
-    next (l .i) (l .i * 3) ((l .i + 1) * 3) (l .out) (c .put-three .last .0)
-    (deltaAt (s .args .t3) (l .i) ∷ deltaAt (s .args .t4) (l .i) ∷ deltaAt (s .args .t5) (l .i) ∷ [])
-    (l .inv) (omega arith)
-    (threes-step (s .args .prompts) (s .args .t3) (s .args .t4) (s .args .t5) (omega arith) (omega arith) (omega arith) (l .i) (omega arith))
-    (c .put-three .ensures) (omega arith)
+    let unused : length (s .args .t5) ≡ 32 = search needs in (
+      next (l .i) (l .i * 3) ((l .i + 1) * 3) (l .out) (c .before .put-three .last .0)
+          (deltaAt (s .args .t3) (l .i) ∷ deltaAt (s .args .t4) (l .i) ∷ deltaAt (s .args .t5) (l .i) ∷ [])
+          (l .inv .0) (omega arith)
+          (threes-step (s .args .prompts) (s .args .t3) (s .args .t4) (s .args .t5) (omega arith) (omega arith) (omega arith) (l .i) (omega arith))
+          (c .before .put-three .ensures) (omega arith),
+      c .out .given ∙ l .inv .1,
+    )
+
+same-length : tie.Need-same-length Inv-loop μ-loop
+same-length c = c .before .loop .inv .1
 
 returns : tie.Need-returns Inv-loop μ-loop
 returns c =
     let s = c .before .before in
     let l = c .before .loop in
-    finish (l .i) (l .i * 3) (l .out) (l .inv) (omega arith) (threes-none (s .args .prompts) (s .args .t3) (s .args .t4) (s .args .t5))
+    finish (l .i) (l .i * 3) (l .out) (l .inv .0) (omega arith) (threes-none (s .args .prompts) (s .args .t3) (s .args .t4) (s .args .t5))
 
 pub put-prompts-spec : {M : Type 1} → statement M
 put-prompts-spec =
@@ -89,4 +94,5 @@ put-prompts-spec =
     add-i
     loop-less
     loop-again
+    same-length
     returns)

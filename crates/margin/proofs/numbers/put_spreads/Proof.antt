@@ -1,6 +1,6 @@
 -- Two numbers a spread, one spread after the other.
 -- Assumes nothing.
-use mathlib.Core.Path.{_≡_}
+use mathlib.Core.Path.{_≡_, refl, _∙_}
 use mathlib.Core.List.{[], _∷_}
 use Prim.Native.Nat.{_+_, _*_, _-_}
 use native.Mathlib.Omega.{arith}
@@ -15,12 +15,13 @@ use Rattle.margin.proofs.numbers.put_spreads.Tie as tie
 
 abbrev Inv-loop : tie.InvT-loop
 Inv-loop out₀ at spreads first second i₀ out i = ToWrite spreads (twosOn spreads first second) (sets out₀ at (twosOn spreads first second 0)) i (at + i * 2) out
+    × (length out ≡ length out₀)
 
 abbrev μ-loop : tie.MeasureT-loop
 μ-loop out₀ at spreads first second i₀ out i = spreads - i
 
 loop-holds : tie.Need-loop-holds Inv-loop μ-loop
-loop-holds c = start _ _ (c .args .at) (c .args .at + 0) _ (omega arith)
+loop-holds c = (start _ _ (c .args .at) (c .args .at + 0) _ (omega arith), refl)
 
 mul-put-two : tie.Need-mul-put-two Inv-loop μ-loop
 mul-put-two c = omega arith
@@ -43,8 +44,9 @@ array-copy-out-put-two-2 c = omega arith
 put-two-requires : tie.Need-put-two-requires Inv-loop μ-loop
 put-two-requires c κs =
     let s = c .before .before .before .before .before in
-    let i = c .before .before .before .before .loop .i in
-    (omega arith, (s .pre .1 .first-within i (omega arith), s .pre .1 .second-within i (omega arith)))
+    let l = c .before .before .before .before .loop in
+    let i = l .i in
+    (omega (arith, l .inv .1), (s .pre .1 .first-within i (omega arith), s .pre .1 .second-within i (omega arith)))
 
 add-i : tie.Need-add-i Inv-loop μ-loop
 add-i c = omega arith
@@ -54,21 +56,26 @@ loop-less c = omega arith
 
 loop-again : tie.Need-loop-again Inv-loop μ-loop
 loop-again c =
-    let s = c .before .before .before .before .before .before in
-    let l = c .before .before .before .before .before .loop in
+    let s = c .before .before .before .before .before .before .before in
+    let l = c .before .before .before .before .before .before .loop in
     let first : length (s .args .t4) ≡ 32 = search needs in
-    let second : length (s .args .t5) ≡ 32 = search needs in
-    next (l .i) (s .args .at + l .i * 2) (s .args .at + (l .i + 1) * 2) (l .out) (c .put-two .last .0)
-    (pos (spreadsAt (s .args .t4) (l .i)) ∷ pos (spreadsAt (s .args .t5) (l .i)) ∷ [])
-    (l .inv) (omega arith)
-    (twos-step (s .args .spreads) (s .args .t4) (s .args .t5) (omega arith) (omega arith) (l .i) (omega arith))
-    (c .put-two .ensures) (omega arith)
+    let second : length (s .args .t5) ≡ 32 = search needs in (
+      next (l .i) (s .args .at + l .i * 2) (s .args .at + (l .i + 1) * 2) (l .out) (c .before .put-two .last .0)
+          (pos (spreadsAt (s .args .t4) (l .i)) ∷ pos (spreadsAt (s .args .t5) (l .i)) ∷ [])
+          (l .inv .0) (omega arith)
+          (twos-step (s .args .spreads) (s .args .t4) (s .args .t5) (omega arith) (omega arith) (l .i) (omega arith))
+          (c .before .put-two .ensures) (omega arith),
+      c .out .given ∙ l .inv .1,
+    )
+
+same-length : tie.Need-same-length Inv-loop μ-loop
+same-length c = c .before .loop .inv .1
 
 returns : tie.Need-returns Inv-loop μ-loop
 returns c =
     let s = c .before .before in
     let l = c .before .loop in
-    finish (l .i) (s .args .at + l .i * 2) (l .out) (l .inv) (omega arith) (twos-none (s .args .spreads) (s .args .t4) (s .args .t5))
+    finish (l .i) (s .args .at + l .i * 2) (l .out) (l .inv .0) (omega arith) (twos-none (s .args .spreads) (s .args .t4) (s .args .t5))
 
 pub put-spreads-spec : {M : Type 1} → statement M
 put-spreads-spec =
@@ -87,4 +94,5 @@ put-spreads-spec =
     add-i
     loop-less
     loop-again
+    same-length
     returns)

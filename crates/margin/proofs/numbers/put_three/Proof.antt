@@ -21,10 +21,15 @@ add-put-delta-2 c = search needs
 put-delta-requires-3 : tie.Need-put-delta-requires-3
 put-delta-requires-3 c κs = search needs
 
+same-length : tie.Need-same-length
+same-length c = search needs
+
 returns : tie.Need-returns
 returns c =
-    let s = c .before .before .before .before .before .before in
-    rw (c .put-delta3 .ensures, c .before .before .put-delta2 .ensures, c .before .before .before .before .put-delta .ensures)
+    let c2 = c .before .before .before in
+    let c1 = c2 .before .before .before in
+    let s = c1 .before .before .before in
+    rw (c .before .put-delta3 .ensures, c2 .before .put-delta2 .ensures, c1 .before .put-delta .ensures)
     (stores-sets (s .args .out .now) (s .args .at) (s .args .net .0 ∷ s .args .used .0 ∷ s .args .unused .0 ∷ []))
 
 pub put-three-spec : {M : Type 1} → statement M
@@ -36,4 +41,5 @@ put-three-spec =
     put-delta-requires-2
     add-put-delta-2
     put-delta-requires-3
+    same-length
     returns)

@@ -16,11 +16,14 @@ add-put c = search needs
 put-requires-2 : tie.Need-put-requires-2
 put-requires-2 c κs = search needs
 
+same-length : tie.Need-same-length
+same-length c = search needs
+
 returns : tie.Need-returns
 returns c =
-    let s = c .before .before .before .before in
-    rw (c .put2 .ensures, c .before .before .put .ensures)
+    let s = c .before .before .before .before .before .before in
+    rw (c .before .put2 .ensures, c .before .before .before .before .put .ensures)
     (stores-sets (s .args .out .now) (s .args .at) (pos (s .args .first .0) ∷ pos (s .args .second .0) ∷ []))
 
 pub put-two-spec : {M : Type 1} → statement M
-put-two-spec = tie.close (tie.spec put-requires add-put put-requires-2 returns)
+put-two-spec = tie.close (tie.spec put-requires add-put put-requires-2 same-length returns)

@@ -1,46 +1,80 @@
 -- The total stands last in the figures.
 -- Assumes nothing.
 use mathlib.Core.Path.{_∙_}
+use Prim.Native.Nat.{_*_, _≤_}
 use native.Mathlib.Omega.{arith}
+use borrow.Author.Needs.{needs}
 use lib.IntN.{pos, natAbs}
 use lib.ListN.{getD}
-use Prim.Native.Nat.{_-_}
 use Rattle.exact.proofs.Integers.{seen}
 use Rattle.account.specs.Standing.{accountOf}
+use Rattle.margin.proofs.BesideLaws.{alone}
 use Rattle.margin.proofs.QuestionLaws.{figures-length, total-last}
-use borrow.Author.Needs.{needs}
 use Rattle.margin.proofs.over.total_over.Statement.{statement}
 use Rattle.margin.proofs.over.total_over.Tie as tie
 
-figures-over-requires : tie.Need-figures-over-requires
-figures-over-requires c κs = search needs
+lines-of-requires : tie.Need-lines-of-requires
+lines-of-requires c κs = search needs
 
-sub-magnitude : tie.Need-sub-magnitude
-sub-magnitude c = search needs
+slice-aggregate-put-figures : tie.Need-slice-aggregate-put-figures
+slice-aggregate-put-figures c = search needs
+
+-- at most 16 contracts
+few : (c : tie.After-lines-of) → c .before .before .before .args .account .contracts ≤ 16
+few c =
+    let s = c .before .before .before in
+    omega (arith, c .lines-of .ensures .few, c .lines-of .ensures .count-is, s .pre .places .contracts)
+
+put-figures-requires : tie.Need-put-figures-requires
+put-figures-requires c κs =
+    let s = c .before .before .before .before in
+    let m = s .args .morning .now in
+    let n = s .args .noon .now in (
+      s .pre,
+      (
+        record { whole = accountOf m n; beside = alone m n (s .args .account) (s .pre); lines = c .before .lines-of .ensures },
+        omega (arith, few (c .before)),
+      ),
+    )
+
+contract-total-requires : tie.Need-contract-total-requires
+contract-total-requires c κs = search needs
+
+mul-last : tie.Need-mul-last
+mul-last c = omega (arith, c .contract-total .ensures, few (c .before .before .before .before))
 
 mul-magnitude : tie.Need-mul-magnitude
-mul-magnitude c = search needs
+mul-magnitude c = omega (arith, c .contract-total .ensures, few (c .before .before .before .before))
 
 array-copy-out-magnitude : tie.Need-array-copy-out-magnitude
-array-copy-out-magnitude c = search needs
+array-copy-out-magnitude c = omega (arith, c .contract-total .ensures, few (c .before .before .before .before))
 
 magnitude-requires : tie.Need-magnitude-requires
 magnitude-requires c κs = search needs
 
 returns : tie.Need-returns
 returns c =
-    let s = c .before .before .before .before .before .before in
-    let o = c .before .before .before .figures-over in
-    let a = accountOf (s .args .morning .now) (s .args .noon .now) in
-    seen natAbs (getD (o .result .number) (o .result .count - 1) (pos 0)) (record { sfits = c .before .magnitude-arg .given }) (c .magnitude .ensures)
-    ∙ total-last a (o .result) (o .ensures .0) (omega (arith, o .ensures .1, figures-length a, s .pre .places .contracts))
+    let s = c .before .before .before .before .before .before .before .before .before in
+    let f = c .before .before .before .before .put-figures in
+    let n = c .before .before .contract-total in
+    let m = s .args .morning .now in
+    let k = s .args .noon .now in
+    let a = accountOf m k in
+    seen natAbs (getD (f .last .1 .1 .1 .1 .0) (8 * n .result) (pos 0)) (record { sfits = c .before .magnitude-arg .given }) (c .magnitude .ensures)
+    ∙ total-last a _ (f .last .1 .1 .1 .1 .0) (8 * n .result)
+    (f .ensures a (alone m k (s .args .account) (s .pre)) (c .before .before .before .before .before .before .lines-of .ensures))
+    (omega (arith, few (c .before .before .before .before .before .before), figures-length a, s .pre .places .contracts))
+    (omega (arith, n .ensures, s .pre .places .contracts))
 
 pub total-over-spec : {M : Type 1} → statement M
 total-over-spec =
     tie.close
     (tie.spec
-    figures-over-requires
-    sub-magnitude
+    lines-of-requires
+    slice-aggregate-put-figures
+    put-figures-requires
+    contract-total-requires
+    mul-last
     mul-magnitude
     array-copy-out-magnitude
     magnitude-requires

@@ -1,8 +1,8 @@
 -- The total stands last in the figures.
 -- Assumes nothing.
 use mathlib.Core.Path.{_∙_, ap}
+use Prim.Native.Nat.{_*_, _≤_}
 use native.Mathlib.Omega.{arith}
-use Prim.Native.Nat.{_-_}
 use borrow.Author.Needs.{needs}
 use lib.IntN.{pos, natAbs}
 use lib.ListN.{length, getD}
@@ -11,36 +11,73 @@ use Rattle.margin.proofs.QuestionLaws.{figures-length, total-last}
 use Rattle.margin.proofs.positions.total_from.Statement.{statement}
 use Rattle.margin.proofs.positions.total_from.Tie as tie
 
-figures-from-requires : tie.Need-figures-from-requires
-figures-from-requires c κs = search needs
+lines-from-requires : tie.Need-lines-from-requires
+lines-from-requires c κs = search needs
 
-sub-magnitude : tie.Need-sub-magnitude
-sub-magnitude c = search needs
+slice-aggregate-put-figures : tie.Need-slice-aggregate-put-figures
+slice-aggregate-put-figures c = search needs
+
+-- at most 16 contracts
+few : (c : tie.After-lines-from) → c .before .before .before .args .account .contracts ≤ 16
+few c =
+    let s = c .before .before .before in
+    let x = s .pre .1 in
+    let l = c .lines-from .ensures (x .whole) (x .told) in
+    omega (arith, l .few, l .count-is, ap length (x .told .beside .contracts), s .pre .0 .places .contracts)
+
+put-figures-requires : tie.Need-put-figures-requires
+put-figures-requires c κs =
+    let s = c .before .before .before .before in
+    let x = s .pre .1 in (
+      s .pre .0,
+      (
+        record { whole = x .whole; beside = x .told .beside; lines = c .before .lines-from .ensures (x .whole) (x .told) },
+        omega (arith, few (c .before)),
+      ),
+    )
+
+contract-total-requires : tie.Need-contract-total-requires
+contract-total-requires c κs = search needs
+
+mul-last : tie.Need-mul-last
+mul-last c = omega (arith, c .contract-total .ensures, few (c .before .before .before .before))
 
 mul-magnitude : tie.Need-mul-magnitude
-mul-magnitude c = search needs
+mul-magnitude c = omega (arith, c .contract-total .ensures, few (c .before .before .before .before))
 
 array-copy-out-magnitude : tie.Need-array-copy-out-magnitude
-array-copy-out-magnitude c = search needs
+array-copy-out-magnitude c = omega (arith, c .contract-total .ensures, few (c .before .before .before .before))
 
 magnitude-requires : tie.Need-magnitude-requires
 magnitude-requires c κs = search needs
 
 returns : tie.Need-returns
 returns c =
-    let s = c .before .before .before .before .before .before in
-    let o = c .before .before .before .figures-from in
+    let s = c .before .before .before .before .before .before .before .before .before in
+    let f = c .before .before .before .before .put-figures in
+    let n = c .before .before .contract-total in
     λ whole t.
-    seen natAbs (getD (o .result .number) (o .result .count - 1) (pos 0)) (record { sfits = c .before .magnitude-arg .given }) (c .magnitude .ensures)
-    ∙ total-last whole (o .result) (o .ensures .0 whole t)
-    (omega (arith, o .ensures .1 .0, figures-length whole, ap length (t .beside .contracts), s .pre .0 .places .contracts))
+    seen natAbs (getD (f .last .1 .1 .1 .1 .0) (8 * n .result) (pos 0)) (record { sfits = c .before .magnitude-arg .given }) (c .magnitude .ensures)
+    ∙ total-last whole _ (f .last .1 .1 .1 .1 .0) (8 * n .result)
+    (f .ensures whole (t .beside) (c .before .before .before .before .before .before .lines-from .ensures whole t))
+    (omega (
+      arith,
+      few (c .before .before .before .before .before .before),
+      figures-length whole,
+      ap length (t .beside .contracts),
+      s .pre .0 .places .contracts,
+    ))
+    (omega (arith, n .ensures, ap length (t .beside .contracts), s .pre .0 .places .contracts))
 
 pub total-from-spec : {M : Type 1} → statement M
 total-from-spec =
     tie.close
     (tie.spec
-    figures-from-requires
-    sub-magnitude
+    lines-from-requires
+    slice-aggregate-put-figures
+    put-figures-requires
+    contract-total-requires
+    mul-last
     mul-magnitude
     array-copy-out-magnitude
     magnitude-requires

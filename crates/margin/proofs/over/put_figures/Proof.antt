@@ -4,11 +4,12 @@ use mathlib.Core.Path.{_∙_, ap}
 use native.Mathlib.Omega.{arith}
 use borrow.Author.Needs.{needs}
 use lib.ListN.{length}
+use lib.Seq.{sets}
 use Rattle.account.specs.Standing.{accountOf}
 use Rattle.margin.proofs.AccountLaws.{table-room, its, its-book, credits-room, lines-within, answer-is}
 use Rattle.margin.proofs.BesideLaws.{entries-beside}
-use Rattle.margin.proofs.over.figures_of.Statement.{statement}
-use Rattle.margin.proofs.over.figures_of.Tie as tie
+use Rattle.margin.proofs.over.put_figures.Statement.{statement}
+use Rattle.margin.proofs.over.put_figures.Tie as tie
 
 part-requires : tie.Need-part-requires
 part-requires c κs = search needs
@@ -16,7 +17,7 @@ part-requires c κs = search needs
 table-credits-requires : tie.Need-table-credits-requires
 table-credits-requires c κs =
     let s = c .before .before .before .before in
-    let x = s .pre .1 in
+    let x = s .pre .1 .0 in
     let l = s .args .all in
     let p = c .part in
     let e = entries-beside (accountOf (s .args .morning .now) (s .args .noon .now)) (x .whole) (x .beside) (p .result .now) (p .ensures) in
@@ -24,42 +25,42 @@ table-credits-requires c κs =
     let k = its-book (x .whole) (x .beside .lawful) l (x .lines) (p .result .now) e in
     (table-room (x .whole) (x .beside .lawful) l (x .lines) (p .result .now) e, credits-room (x .whole) (x .beside .lawful) l (x .lines) (p .result .now) e b k)
 
-figures-numbers-requires : tie.Need-figures-numbers-requires
-figures-numbers-requires c κs =
-    let s = c .before .before .before .before .before in
-    let x = s .pre .1 in
-    let l = s .args .all in
-    let p = c .before .part in
-    let e = entries-beside (accountOf (s .args .morning .now) (s .args .noon .now)) (x .whole) (x .beside) (p .result .now) (p .ensures) in
-    let b = its (x .whole) (x .beside .lawful) l (x .lines) (p .result .now) e in
-    let k = its-book (x .whole) (x .beside .lawful) l (x .lines) (p .result .now) e in
-    lines-within (x .whole) (x .beside .lawful) l (x .lines) (p .result .now) e b k (c .table-credits .result) (c .table-credits .ensures)
-
-returns : tie.Need-returns
-returns c =
+put-lines-requires : tie.Need-put-lines-requires
+put-lines-requires c κs =
     let s = c .before .before .before .before .before .before in
-    let x = s .pre .1 in
-    let a = accountOf (s .args .morning .now) (s .args .noon .now) in
+    let x = s .pre .1 .0 in
     let l = s .args .all in
     let p = c .before .before .part in
     let t = c .before .table-credits in
-    let f = c .figures-numbers .ensures in (
-      λ whole beside is.
-          let e = entries-beside a whole beside (p .result .now) (p .ensures) in
-          f .1
-          ∙ answer-is whole (beside .lawful) l is (p .result .now) e (its whole (beside .lawful) l is (p .result .now) e)
-          (its-book whole (beside .lawful) l is (p .result .now) e) (t .result) (t .ensures),
-      (
-        omega (arith, f .0, x .lines .count-is, ap length (x .beside .contracts), s .pre .0 .places .contracts),
-        omega (arith, f .0, x .lines .few),
-      ),
+    let e = entries-beside (accountOf (s .args .morning .now) (s .args .noon .now)) (x .whole) (x .beside) (p .result .now) (p .ensures) in
+    let b = its (x .whole) (x .beside .lawful) l (x .lines) (p .result .now) e in
+    let k = its-book (x .whole) (x .beside .lawful) l (x .lines) (p .result .now) e in (
+      lines-within (x .whole) (x .beside .lawful) l (x .lines) (p .result .now) e b k (t .result) (t .ensures),
+      omega (arith, s .pre .1 .1, x .lines .count-is, ap length (x .beside .contracts), s .pre .0 .places .contracts),
     )
 
-pub figures-of-spec : {M : Type 1} → statement M
-figures-of-spec =
+same-length : tie.Need-same-length
+same-length c = search needs
+
+returns : tie.Need-returns
+returns c =
+    let s = c .before .before .before .before .before .before .before .before in
+    let a = accountOf (s .args .morning .now) (s .args .noon .now) in
+    let l = s .args .all in
+    let p = c .before .before .before .before .part in
+    let t = c .before .before .before .table-credits in
+    λ whole beside is.
+    let e = entries-beside a whole beside (p .result .now) (p .ensures) in
+    c .before .put-lines .ensures
+    ∙ ap (sets (s .args .out .now) 0) (answer-is whole (beside .lawful) l is (p .result .now) e (its whole (beside .lawful) l is (p .result .now) e)
+    (its-book whole (beside .lawful) l is (p .result .now) e) (t .result) (t .ensures))
+
+pub put-figures-spec : {M : Type 1} → statement M
+put-figures-spec =
     tie.close
     (tie.spec
     part-requires
     table-credits-requires
-    figures-numbers-requires
+    put-lines-requires
+    same-length
     returns)

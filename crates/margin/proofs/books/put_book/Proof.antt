@@ -1,0 +1,83 @@
+-- The numbers of a book: what the spreads use and form of each prompt, and how often a prompt is touched.
+-- Assumes nothing.
+use mathlib.Core.Path.{_≡_, sym, _∙_}
+use native.Mathlib.Omega.{arith}
+use lib.ListN.{length, length-map}
+use borrow.Author.Needs.{needs}
+use Rattle.margin.proofs.AnswerLaws.{few-prompts, signed, touched, book-written}
+use Rattle.margin.proofs.books.put_book.Statement.{statement}
+use Rattle.margin.proofs.books.put_book.Tie as tie
+
+-- the places of its arrays
+tiers-32 : (s : tie.Start) → length (s .args .prompts .tier) ≡ 32
+tiers-32 s = sym (length-map (s .args .prompts .tier) _) ∙ s .good .1 .0 .1 .1 .1 .0 .1 .0 .1
+
+nets-32 : (s : tie.Start) → length (s .args .prompts .net) ≡ 32
+nets-32 s = sym (length-map (s .args .prompts .net) _) ∙ s .good .1 .0 .1 .1 .1 .1 .0 .1 .0 .1
+
+spreads-32 : (s : tie.Start) → length (s .args .table .spread) ≡ 32
+spreads-32 s = sym (length-map (s .args .table .spread) _) ∙ s .good .1 .1 .0 .1 .1 .1 .0 .1 .0 .1
+
+put-prompts-requires : tie.Need-put-prompts-requires
+put-prompts-requires c κs =
+    let s = c .before .before .before .before .before .before in
+    (few-prompts (s .args .prompts) (s .args .table) (tiers-32 s) (nets-32 s) (spreads-32 s) (s .pre .0), omega (arith, s .pre .1 .1))
+
+mul-put-spreads : tie.Need-mul-put-spreads
+mul-put-spreads c = search needs
+
+put-spreads-requires : tie.Need-put-spreads-requires
+put-spreads-requires c κs =
+    let s = c .before .before .before .before .before .before .before .before .before in (
+      omega (arith, s .pre .1 .1, c .before .out .given),
+      signed (s .args .prompts) (s .args .table) (tiers-32 s) (nets-32 s) (spreads-32 s) (s .pre .0) (s .args .book) (s .pre .1 .0),
+    )
+
+touches-of-requires : tie.Need-touches-of-requires
+touches-of-requires c κs = search needs
+
+mul-put : tie.Need-mul-put
+mul-put c = search needs
+
+mul-put-2 : tie.Need-mul-put-2
+mul-put-2 c = search needs
+
+add-put : tie.Need-add-put
+add-put c = search needs
+
+put-requires : tie.Need-put-requires
+put-requires c κs =
+    let s = c .before .before .before .before .before .before .before .before .before .before .before .before .before in (
+      omega (arith, s .pre .1 .1, c .before .before .before .before .before .out .given, c .before .before .out2 .given),
+      omega (
+        arith,
+        c .before .touches-of .ensures,
+        touched (s .args .prompts) (s .args .table) (tiers-32 s) (nets-32 s) (spreads-32 s) (s .pre .0),
+      ),
+    )
+
+same-length : tie.Need-same-length
+same-length c = search needs
+
+returns : tie.Need-returns
+returns c =
+    let s = c .before .before .before .before .before .before .before .before .before .before .before .before .before .before .before in
+    book-written (s .args .prompts) (s .args .table) (tiers-32 s) (nets-32 s) (spreads-32 s) (s .pre .0) (s .args .book) (s .pre .1 .0)
+    (s .args .out .now) (c .before .before .before .before .before .before .before .before .put-prompts .last .0) (c .before .before .before .before .before .put-spreads .last .0) (c .before .put .last .0)
+    (c .before .before .before .touches-of .result) (c .before .before .before .touches-of .ensures)
+    (c .before .before .before .before .before .before .before .before .put-prompts .ensures) (c .before .before .before .before .before .put-spreads .ensures) (c .before .put .ensures)
+
+pub put-book-spec : {M : Type 1} → statement M
+put-book-spec =
+    tie.close
+    (tie.spec
+    put-prompts-requires
+    mul-put-spreads
+    put-spreads-requires
+    touches-of-requires
+    mul-put
+    mul-put-2
+    add-put
+    put-requires
+    same-length
+    returns)

@@ -4,9 +4,9 @@
 use Prim.Native.Nat.{ℕ, _*_, _≤_, _<_}
 use native.Mathlib.Omega.{arith}
 use mathlib.Core.Path.{_≡_, refl, sym, ap, _∙_, subst}
-use mathlib.Core.Bool.{Bool, true, false, _||_}
+use mathlib.Core.Bool.{Bool, true, false, cond, _||_}
 use mathlib.Core.List.{List, [], _∷_, map}
-use borrow.Author.Tests.{eq-eqb}
+use borrow.Author.Tests.{eq-eqb, ne-eqb}
 use lib.IntN.{ℤ, natAbs}
 use lib.ListN.{length, getD}
 use lib.Dec.{eqb}
@@ -16,7 +16,7 @@ use Rattle.record.specs.Within as ranges
 use Rattle.account.specs.Accepted.{Each}
 use Rattle.account.specs.Lawful.{Lawful}
 use Rattle.account.specs.Notes.{entryPart}
-use Rattle.account.specs.Parts.{ofKind, contractsOf, promptsOf, rowsOf, spreadsOf, ratesOf}
+use Rattle.account.specs.Parts.{ofKind, contractsOf, promptsOf, rowsOf, spreadsOf, entriesOf, ratesOf}
 use Rattle.account.specs.Standing.{PartOf, Stands, accountOf}
 use Rattle.account.specs.declared.accounts.Account.{Account}
 use Rattle.margin.specs.declared.line.Line.{Line}
@@ -25,9 +25,11 @@ use Rattle.margin.specs.declared.uses.Asking.{Asking}
 use Rattle.margin.specs.Beside.{ownOf, unitOf, Besides}
 use Rattle.margin.specs.Books.{asks, answered}
 use Rattle.margin.specs.Bounds.{mostDelta}
-use Rattle.margin.specs.Contract.{Contract, contractFrom, partsIn, partsOf, stepsOf, opensOf}
+use Rattle.margin.specs.Contract.{Contract, contracts, contractFrom, partsIn, partsOf, asTier, stepsOf, opensOf, tableSteps}
 use Rattle.margin.specs.Lined.{PositionAt, TierIs}
+use Rattle.margin.specs.Positions.{ContractIn}
 use Rattle.margin.specs.Promised.{LineOf, PositionFit, BookFit, contractWith}
+use Rattle.margin.specs.Questions.{AskedBy}
 use Rattle.margin.specs.Sums.{deltasIn}
 use Rattle.margin.specs.Uses.{Asks}
 use Rattle.margin.proofs.AcceptLaws.{none-within, contract-within}
@@ -130,3 +132,33 @@ module _ (standing whole : List Record) (b : Besides standing whole) where
 
     pub tier-sizes : sum (map natAbs (deltasIn (p .nets))) ≤ mostDelta
     tier-sizes = tiers.tier-sizes whole (b .lawful) (ratesOf whole) (ownOf c whole) (own-fit whole (b .lawful) c) c p at
+
+-- ---- a contract that is answered by itself
+
+pub asked-by : (whole : List Record) (records c : ℕ) (prompts spreads : List Record) (p : Position) (a : Asking) → c ≤ 15
+    → ContractIn whole records c prompts spreads p
+    → Asks (stepsOf (contractWith [] prompts spreads p)) (opensOf (contractWith [] prompts spreads p)) a → AskedBy whole c records a
+asked-by whole records c prompts spreads p a few is x =
+    let itself : Besides whole whole = record {
+      lawful = is .lawful;
+      contracts = refl;
+      prompts = λ c. refl;
+      spreads = λ c. refl;
+      entries = refl;
+      rates = refl;
+    }
+    in
+    let about : List Record → List Record → Type 0 = λ ps ss. Asks (stepsOf (contractWith [] ps ss p)) (opensOf (contractWith [] ps ss p)) a in
+    record {
+      lawful = is .lawful;
+      asked-is = is .asked-is;
+      records-are = is .records-are;
+      asks =
+          subst
+          (λ (b : Bool). Asks (cond b (tableSteps (entriesOf whole)) (stepsOf (partsOf whole c)))
+          (cond b (map asTier (contracts whole)) (opensOf (partsOf whole c))) a)
+          (sym (ne-eqb c 16 (λ e. omega (arith, few, e))))
+          (asks-beside whole whole itself c p (is .at) a
+          (subst (λ (ss : List Record). about (promptsOf c whole) ss) (is .spreads-are)
+          (subst (λ (ps : List Record). about ps spreads) (is .prompts-are) x)));
+    }

@@ -3,14 +3,17 @@
 -- Assumes nothing.
 use Prim.Native.Nat.{ℕ, _≤_}
 use mathlib.Core.Path.{_≡_}
+use mathlib.Core.Bool.{true}
 use mathlib.Core.List.{List, []}
 use lib.ListN.{length, getD}
 use Rattle.record.specs.Layout.{Record, mostContract}
 use Rattle.account.specs.Check.{mostContracts}
-use Rattle.account.specs.Parts.{ratesOf}
+use Rattle.account.specs.Lawful.{Lawful}
+use Rattle.account.specs.Parts.{promptsOf, spreadsOf, ratesOf}
 use Rattle.margin.specs.declared.positions.Positions.{Positions}
 use Rattle.margin.specs.declared.rows.Position.{Position}
 use Rattle.margin.specs.Beside.{unitOf, Besides}
+use Rattle.margin.specs.Books.{answered}
 use Rattle.margin.specs.Lined.{PositionAt}
 
 abbrev pub noPosition : Position
@@ -36,4 +39,13 @@ pub record Known (standing : List Record) (ps : Positions) : Type 0 where
 pub record ToldOf (standing : List Record) (records c : ℕ) (p : Position) (whole : List Record) : Type 0 where
   pub beside : Besides standing whole
   pub records-are : records ≡ length whole
+  pub at : PositionAt (ratesOf whole) (unitOf c whole) whole c p
+
+-- an account that answers contract c, whose prompts and interprompt spreads are these
+pub record ContractIn (whole : List Record) (records c : ℕ) (prompts spreads : List Record) (p : Position) : Type 0 where
+  pub lawful : Lawful whole
+  pub asked-is : answered whole c ≡ true
+  pub records-are : records ≡ length whole
+  pub prompts-are : prompts ≡ promptsOf c whole
+  pub spreads-are : spreads ≡ spreadsOf c whole
   pub at : PositionAt (ratesOf whole) (unitOf c whole) whole c p

@@ -3,14 +3,15 @@
 use crate::books::book_count;
 use crate::books::put_book;
 use crate::line::Line;
+use crate::line::line_by;
 use crate::numbers::LONGEST_BOOK;
 use crate::numbers::LONGEST_USES;
 use crate::over::Lines;
 use crate::over::TABLE;
 use crate::over::asking_over;
 use crate::over::asking_with;
+use crate::over::contract_asking;
 use crate::over::is_asked;
-use crate::over::line_with;
 use crate::over::lines_of;
 use crate::over::no_line;
 use crate::over::position_in;
@@ -34,6 +35,7 @@ use account::accounts::record_total;
 use account::answers::Answer;
 use account::parts::CONTRACTS;
 use account::parts::ENTRIES;
+use account::parts::OWN;
 use account::parts::PROMPTS;
 use account::parts::RATES;
 use account::parts::SPREADS;
@@ -51,13 +53,15 @@ ghost use Rattle.account.specs.Check.{mostContracts};
 ghost use Rattle.account.specs.Parts.{promptsOf, spreadsOf, ratesOf};
 ghost use Rattle.account.specs.Products.{RatesOf};
 ghost use Rattle.account.specs.Standing.{Stands, accountOf};
+ghost use Rattle.account.specs.Records.{records};
 ghost use Rattle.spread.specs.Accepted.{sound};
-ghost use Rattle.margin.specs.Beside.{unitOf, Besides, LinesKnown, LinedBy, TiersKnown};
+ghost use Rattle.spread.specs.Book.{Booked};
+ghost use Rattle.margin.specs.Beside.{Besides, LinesKnown, LinedBy, TiersKnown};
 ghost use Rattle.margin.specs.Books.{answered, tableQuestion};
 ghost use Rattle.margin.specs.Bounds.{longestBook, longestUses};
-ghost use Rattle.margin.specs.Lined.{TiersIn, PositionAt};
-ghost use Rattle.margin.specs.Positions.{Told, Known, ToldOf};
-ghost use Rattle.margin.specs.Promised.{BookFit};
+ghost use Rattle.margin.specs.Lined.{TiersIn};
+ghost use Rattle.margin.specs.Positions.{Told, Known, ToldOf, ContractIn};
+ghost use Rattle.margin.specs.Promised.{BookFit, LineOf, PositionFit, contractWith};
 ghost use Rattle.margin.specs.Questions.{answerOver, afterOver, needOver, mostFor, SizesOf, AskedBy};
 ghost use Rattle.margin.specs.Places.{
   questions,
@@ -118,9 +122,9 @@ fn answer_lines<'a>(
     Answer::Accepted
 }
 
-// The numbers of a book at the front of `out`, by what is asked about, likewise.
-fn answer_book(records: usize, asking: Asking, out: &mut [i64]) -> Answer
-    requires { ⌜ sound (asking .prompts) (asking .table) ≡ true ⌝ }
+// The numbers of a book that was run at the front of `out`, likewise.
+fn answer_book(records: usize, asking: Asking, book: spread::book::Book, out: &mut [i64]) -> Answer
+    requires { ⌜ (sound (asking .prompts) (asking .table) ≡ true) × Booked (asking .prompts) (asking .table) book ⌝ }
     ensures { λ r. ⌜
         ((whole : List Record) (question : ℕ) → AskedBy whole question records asking
         → (r ≡ answerOver whole (Book question) (length (now (out .entry)))) × (now (out .exit) ≡ afterOver whole (Book question) (now (out .entry)))) ⌝ }
@@ -130,7 +134,7 @@ fn answer_book(records: usize, asking: Asking, out: &mut [i64]) -> Answer
     if out.len() < book_count(prompts, table) {
         return Answer::TooFewNumbers(records);
     }
-    put_book(out, prompts, table, book_of_accepted(prompts, table));
+    put_book(out, prompts, table, book);
     Answer::Accepted
 }
 
@@ -161,7 +165,10 @@ fn answer_asking(records: usize, asking: Asking, paid: bool, out: &mut [i64]) ->
     if paid {
         return answer_uses(records, asking, out);
     }
-    answer_book(records, asking, out)
+    let prompts = asking.prompts;
+    let table = asking.table;
+    let book = book_of_accepted(prompts, table);
+    answer_book(records, asking, book, out)
 }
 
 fn answer_figures<'a>(
@@ -486,27 +493,58 @@ pub fn everything_from<'a>(
     }
 }
 
-// The book of a contract, or who paid for what in it, in its place where all places are lent.
-fn lend_contract<'a>(
-    morning: &'a [u8],
-    noon: &'a [u8],
-    account: Account,
-    paid: bool,
-    c: usize,
-    p: Position,
-    out: &mut [i64],
-)
-    requires { ⌜ Stands (now morning) (now noon) account
-        × ((c ≤ mostContract) × PositionAt (ratesOf (accountOf (now morning) (now noon))) (unitOf c (accountOf (now morning) (now noon)))
-        (accountOf (now morning) (now noon)) c p) ⌝ }
-    ensures { λ r. ⌜ now (out .exit) ≡ lentPlace (widthOf paid) c
-        (afterOver (accountOf (now (morning .entry)) (now (noon .entry))) (questionOf paid c)) (now (out .entry)) ⌝ }
+// The book of a contract in its place where all places are lent.
+fn lend_book(records: usize, c: usize, asking: Asking, book: spread::book::Book, out: &mut [i64])
+    requires { ⌜ (c ≤ mostContract) × ((sound (asking .prompts) (asking .table) ≡ true) × Booked (asking .prompts) (asking .table) book) ⌝ }
+    ensures { λ r. ⌜ ((whole : List Record) → AskedBy whole c records asking
+        → now (out .exit) ≡ lentPlace longestBook c (afterOver whole (Book c)) (now (out .entry))) ⌝ }
 {
-    if out.len() < width_of(paid) * QUESTIONS {
+    if out.len() < ALL_BOOKS {
         return;
     }
-    let records = record_total(account);
-    place_contract(morning, noon, account, records, paid, c, p, out);
+    let start = LONGEST_BOOK * c;
+    let end = start + LONGEST_BOOK;
+    answer_book(records, asking, book, &mut out[start..end]);
+}
+
+// Who paid for what in it, likewise.
+fn lend_uses(records: usize, c: usize, asking: Asking, out: &mut [i64])
+    requires { ⌜ (c ≤ mostContract) × (sound (asking .prompts) (asking .table) ≡ true) ⌝ }
+    ensures { λ r. ⌜ ((whole : List Record) → AskedBy whole c records asking
+        → now (out .exit) ≡ lentPlace longestUses c (afterOver whole (Uses c)) (now (out .entry))) ⌝ }
+{
+    if out.len() < ALL_USES {
+        return;
+    }
+    let start = LONGEST_USES * c;
+    let end = start + LONGEST_USES;
+    answer_uses(records, asking, &mut out[start..end]);
+}
+
+// The line of a contract, and its book and its uses in their places: its steps are run once for its line and its book.
+fn contract_in(
+    own: &[u8],
+    prompts: &[u8],
+    spreads: &[u8],
+    count: usize,
+    c: usize,
+    p: Position,
+    books: &mut [i64],
+    uses: &mut [i64],
+) -> Line
+    requires { ⌜ (c ≤ mostContract) × PositionFit (now own) (records (now prompts)) (records (now spreads)) p ⌝ }
+    ensures line { λ r. ⌜ LineOf (contractWith (now (own .entry)) (records (now (prompts .entry))) (records (now (spreads .entry))) p) r ⌝ }
+    ensures lent { λ r. ⌜ ((whole : List Record) → ContractIn whole count c (records (now (prompts .entry))) (records (now (spreads .entry))) p
+        → (now (books .exit) ≡ lentPlace longestBook c (afterOver whole (Book c)) (now (books .entry)))
+        × (now (uses .exit) ≡ lentPlace longestUses c (afterOver whole (Uses c)) (now (uses .entry)))) ⌝ }
+{
+    let asking = contract_asking(prompts, spreads, p);
+    let its_prompts = asking.prompts;
+    let table = asking.table;
+    let book = book_of_accepted(its_prompts, table);
+    lend_book(count, c, asking, book, books);
+    lend_uses(count, c, asking, uses);
+    line_by(own, prompts, spreads, p, book)
 }
 
 // The line of the i-th contract; its book and its uses likewise.
@@ -525,9 +563,19 @@ fn contract_over<'a>(
 {
     let c = contract_number(account, i);
     let p = position_in(morning, noon, account, c, rates);
-    lend_contract(morning, noon, account, false, c, p, books);
-    lend_contract(morning, noon, account, true, c, p, uses);
-    line_with(morning, noon, account, c, p)
+    let own = part(morning, noon, account, OWN + c);
+    let prompts = part(morning, noon, account, PROMPTS + c);
+    let spreads = part(morning, noon, account, SPREADS + c);
+    contract_in(
+        own,
+        prompts,
+        spreads,
+        record_total(account),
+        c,
+        p,
+        books,
+        uses,
+    )
 }
 
 // The lines of all contracts, in file order; their books and uses likewise.

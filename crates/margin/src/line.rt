@@ -20,8 +20,10 @@ ghost use lib.IntN.{natAbs, _+ℤ_};
 ghost use Rattle.exact.specs.Lists.{sum, sumℤ};
 ghost use Rattle.record.specs.Layout.{mostUnit};
 ghost use Rattle.account.specs.Records.{records};
+ghost use Rattle.spread.specs.Steps.{steps};
 ghost use Rattle.margin.specs.Bounds.{mostDelta};
-ghost use Rattle.margin.specs.Promised.{Charged, LineOf, PositionFit, contractWith};
+ghost use Rattle.margin.specs.Deltas.{opens, interprompt};
+ghost use Rattle.margin.specs.Promised.{BookOf, Charged, LineOf, PositionFit, contractWith};
 ghost use Rattle.margin.specs.Sums.{deltasIn, SpreadsWithin, PromptsWithin};
 
 // What the figures say of a contract, but for its credit and its margin; and what its credit is reckoned from.
@@ -83,9 +85,10 @@ fn charges_of(unit: u64, prompts: &[u8], spreads: &[u8], book: Book) -> Charges
     }
 }
 
-// The line of a contract, from its own record, its prompts and interprompt spreads, and what its rows come to.
-pub(crate) fn line_of(own: &[u8], prompts: &[u8], spreads: &[u8], p: Position) -> Line
-    requires { ⌜ PositionFit (now own) (records (now prompts)) (records (now spreads)) p ⌝ }
+// The line of a contract, from its own record, its prompts and interprompt spreads, what its rows come to, and its book.
+pub(crate) fn line_by(own: &[u8], prompts: &[u8], spreads: &[u8], p: Position, book: Book) -> Line
+    requires { ⌜ PositionFit (now own) (records (now prompts)) (records (now spreads)) p
+        × BookOf (steps (map interprompt (records (now spreads)))) (opens (records (now prompts)) (deltasIn (p .nets))) book ⌝ }
     ensures { λ r. ⌜ LineOf (contractWith (now (own .entry)) (records (now (prompts .entry))) (records (now (spreads .entry))) p) r ⌝ }
 {
     let nets = p.nets;
@@ -93,12 +96,7 @@ pub(crate) fn line_of(own: &[u8], prompts: &[u8], spreads: &[u8], p: Position) -
     let totals = sixteen.0;
     let risks = scanned(totals);
     let its_unit = unit(own) as u64;
-    let charges = charges_of(
-        its_unit,
-        prompts,
-        spreads,
-        contract_book(prompts, nets, spreads),
-    );
+    let charges = charges_of(its_unit, prompts, spreads, book);
     let minimum = short_option_minimum(p.shorts, short_option_rate(own) as u64);
     let net = contract_net(nets);
     let scanning = risks.scanning;
@@ -115,4 +113,14 @@ pub(crate) fn line_of(own: &[u8], prompts: &[u8], spreads: &[u8], p: Position) -
         twice_price: risks.twice_price,
         net: net,
     }
+}
+
+// The same without its book, which is run.
+pub(crate) fn line_of(own: &[u8], prompts: &[u8], spreads: &[u8], p: Position) -> Line
+    requires { ⌜ PositionFit (now own) (records (now prompts)) (records (now spreads)) p ⌝ }
+    ensures { λ r. ⌜ LineOf (contractWith (now (own .entry)) (records (now (prompts .entry))) (records (now (spreads .entry))) p) r ⌝ }
+{
+    let nets = p.nets;
+    let book = contract_book(prompts, nets, spreads);
+    line_by(own, prompts, spreads, p, book)
 }

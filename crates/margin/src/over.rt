@@ -281,7 +281,7 @@ pub(crate) fn tiers_in(all: Lines) -> Prompts
 }
 
 // A contract's prompts with their net deltas, and its interprompt spreads.
-fn contract_asking(prompts: &[u8], spreads: &[u8], p: Position) -> Asking
+pub(crate) fn contract_asking(prompts: &[u8], spreads: &[u8], p: Position) -> Asking
     requires { ⌜ BookFit (records (now prompts)) (records (now spreads)) p ⌝ }
     ensures { λ r. ⌜ Asks (stepsOf (contractWith [] (records (now (prompts .entry))) (records (now (spreads .entry))) p))
         (opensOf (contractWith [] (records (now (prompts .entry))) (records (now (spreads .entry))) p)) r ⌝ }

@@ -25,6 +25,9 @@ returns c =
     × (r .last .1 .1 .0 ≡ afterOver whole (questionOf t question) out))
     (c .before .before .before .if1 .taken) (r .ensures whole question h)
 
+book-of-accepted-requires : tie.Need-book-of-accepted-requires
+book-of-accepted-requires c κs = search needs
+
 answer-book-requires : tie.Need-answer-book-requires
 answer-book-requires c κs = search needs
 
@@ -33,13 +36,13 @@ same-length-2 c = search needs
 
 returns-2 : tie.Need-returns-2
 returns-2 c =
-    let s = c .before .before .before .before in
+    let s = c .before .before .before .before .before .before .before in
     let out = s .args .out .now in
     let r = c .before .answer-book in
     λ whole question h.
     subst⁻¹ (λ (t : Bool). (r .result ≡ answerOver whole (questionOf t question) (length out))
-    × (r .last .1 .1 .0 ≡ afterOver whole (questionOf t question) out))
-    (c .before .before .before .if1 .left) (r .ensures whole question h)
+    × (r .last .1 .1 .1 .0 ≡ afterOver whole (questionOf t question) out))
+    (c .before .before .before .before .before .before .if1 .left) (r .ensures whole question h)
 
 pub answer-asking-spec : {M : Type 1} → statement M
 answer-asking-spec =
@@ -48,6 +51,7 @@ answer-asking-spec =
     answer-uses-requires
     same-length
     returns
+    book-of-accepted-requires
     answer-book-requires
     same-length-2
     returns-2)

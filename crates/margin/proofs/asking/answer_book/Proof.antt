@@ -42,9 +42,6 @@ returns c =
     (omega (arith, many s whole question h, c .before .book-count .ensures, c .if1 .taken))
     ∙ ap TooFewNumbers (sym (h .records-are))) (λ e. omega arith)
 
-book-of-accepted-requires : tie.Need-book-of-accepted-requires
-book-of-accepted-requires c κs = search needs
-
 put-book-requires : tie.Need-put-book-requires
 put-book-requires c κs = search needs
 
@@ -53,15 +50,15 @@ same-length c = search needs
 
 returns-2 : tie.Need-returns-2
 returns-2 c =
-    let s = c .before .before .before .before .before .before .before .before in
+    let s = c .before .before .before .before .before .before .before in
     let out = s .args .out .now in
     λ whole question h.
     let enough : length (book whole question) ≤ length out =
     omega (
       arith,
       many s whole question h,
-      c .before .before .before .before .before .book-count .ensures,
-      c .before .before .before .before .if1 .left,
+      c .before .before .before .before .book-count .ensures,
+      c .before .before .before .if1 .left,
     )
     in
     accepted-with _ (book whole question) out (c .before .put-book .last .0) (length (book whole question))
@@ -75,7 +72,6 @@ answer-book-spec =
     (tie.spec
     book-count-requires
     returns
-    book-of-accepted-requires
     put-book-requires
     same-length
     returns-2)

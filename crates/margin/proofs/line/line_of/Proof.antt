@@ -1,99 +1,23 @@
--- The line of a contract: each part is asked for within its bounds, and gives the contract's number.
+-- The line of a contract by the book of its spreads.
 -- Assumes nothing.
-use Prim.Native.Nat.{ℕ}
-use mathlib.Core.Path.{subst, subst⁻¹}
-use native.Mathlib.Omega.{arith}
 use borrow.Author.Needs.{needs}
 use Rattle.account.specs.Records.{records}
-use Rattle.margin.specs.Promised.{Charged}
-use Rattle.margin.specs.Sums.{SpreadsWithin, PromptsWithin}
-use Rattle.margin.proofs.ContractLaws.{book-room, totals-room, net-sizes, spreads-room, prompts-room, line-is}
-use Rattle.margin.proofs.StandLaws.{line-with}
+use Rattle.margin.proofs.ContractLaws.{book-room}
 use Rattle.margin.proofs.line.line_of.Statement.{statement}
 use Rattle.margin.proofs.line.line_of.Tie as tie
 
-scanned-requires : tie.Need-scanned-requires
-scanned-requires c κs =
-    let s = c .before .before .before .before .before .before in
-    let w = s .pre in
-    totals-room (w .rates) (s .args .own .now) (records (s .args .prompts .now)) (w .rows) (records (s .args .spreads .now)) (w .fit) (s .args .p)
-    (w .is) (w .most)
-
-unit-requires : tie.Need-unit-requires
-unit-requires c κs = search needs
-
 contract-book-requires : tie.Need-contract-book-requires
 contract-book-requires c κs =
-    let s = c .before .before .before .before .before .before .before .before in
+    let s = c .before .before .before .before in
     let w = s .pre in
     book-room (w .rates) (s .args .own .now) (records (s .args .prompts .now)) (w .rows) (records (s .args .spreads .now)) (w .fit) (s .args .p)
     (w .is) (w .most)
 
-charges-of-requires : tie.Need-charges-of-requires
-charges-of-requires c κs =
-    let s = c .before .before .before .before .before .before .before .before .before in
-    let w = s .pre in
-    let u = c .before .unit in
-    let b = c .contract-book in
-    let own = s .args .own .now in
-    let prompts = records (s .args .prompts .now) in
-    let spreads = records (s .args .spreads .now) in (
-      subst⁻¹ (λ (n : ℕ). SpreadsWithin n spreads (b .result .first) (b .result .second)) (u .ensures .0)
-          (spreads-room (w .rates) own prompts (w .rows) spreads (w .fit) (s .args .p) (w .is) (w .most) (b .result) (b .ensures)),
-      subst⁻¹ (λ (n : ℕ). PromptsWithin n prompts (b .result .used) (b .result .unused)) (u .ensures .0)
-          (prompts-room (w .rates) own prompts (w .rows) spreads (w .fit) (s .args .p) (w .is) (w .most) (b .result) (b .ensures)),
-    )
-
-short-option-rate-requires : tie.Need-short-option-rate-requires
-short-option-rate-requires c κs = search needs
-
-short-option-minimum-requires : tie.Need-short-option-minimum-requires
-short-option-minimum-requires c κs =
-    let w = c .before .before .before .before .before .before .before .before .before .before .before .pre in
-    (omega (arith, w .most .shorts-most), omega (arith, w .fit .rate, c .short-option-rate .ensures .0))
-
-contract-net-requires : tie.Need-contract-net-requires
-contract-net-requires c κs =
-    let s = c .before .before .before .before .before .before .before .before .before .before .before .before in
-    let w = s .pre in
-    net-sizes (w .rates) (s .args .own .now) (records (s .args .prompts .now)) (w .rows) (records (s .args .spreads .now)) (w .fit) (s .args .p)
-    (w .is) (w .most)
-
-contract-requires : tie.Need-contract-requires
-contract-requires c κs = search needs
-
-cast-t19 : tie.Need-cast-t19
-cast-t19 c = search needs
+line-by-requires : tie.Need-line-by-requires
+line-by-requires c κs = search needs
 
 returns : tie.Need-returns
-returns c =
-    let s = c .before .before .before .before .before .before .before .before .before .before .before .before .before .before .before .before .before in
-    let w = s .pre in
-    let own = s .args .own .now in
-    let prompts = records (s .args .prompts .now) in
-    let spreads = records (s .args .spreads .now) in
-    let rate = c .before .before .before .before .before .before .short-option-rate in
-    let least = c .before .before .before .before .before .short-option-minimum in
-    let b = c .before .before .before .before .before .before .before .before .contract-book in
-    let u = c .before .before .before .before .before .before .before .before .before .unit in
-    let charged = c .before .before .before .before .before .before .before .charges-of in
-    line-with (w .rates) own prompts (w .rows) spreads (s .args .p) (w .is) _
-    (line-is (w .rates) own prompts (w .rows) spreads (w .fit) (s .args .p) (w .is) (w .most) (b .result) (b .ensures) _ (rate .result)
-    (c .contract .ensures .0) (u .ensures .0) (c .before .before .before .before .before .before .before .before .before .before .scanned .ensures)
-    (subst (λ (n : ℕ). Charged n prompts spreads (b .result) (charged .result .interprompt .0) (charged .result .prompt .0)) (u .ensures .0) (charged .ensures))
-    (rate .ensures .0) (least .ensures .0) (least .ensures .1) (c .before .before .before .before .contract-net .ensures))
+returns c = search needs
 
 pub line-of-spec : {M : Type 1} → statement M
-line-of-spec =
-    tie.close
-    (tie.spec
-    scanned-requires
-    unit-requires
-    contract-book-requires
-    charges-of-requires
-    short-option-rate-requires
-    short-option-minimum-requires
-    contract-net-requires
-    contract-requires
-    cast-t19
-    returns)
+line-of-spec = tie.close (tie.spec contract-book-requires line-by-requires returns)

@@ -3,7 +3,7 @@
 -- Assumes nothing.
 use Prim.Native.Nat.{ℕ, _*_, _≤_, _<_}
 use native.Mathlib.Omega.{arith}
-use mathlib.Core.Path.{_≡_, refl, sym, ap, _∙_, subst}
+use mathlib.Core.Path.{_≡_, refl, sym, ap, _∙_, subst, subst⁻¹}
 use mathlib.Core.Bool.{Bool, true, false, cond, _||_}
 use mathlib.Core.List.{List, [], _∷_, map}
 use borrow.Author.Tests.{eq-eqb, ne-eqb}
@@ -11,14 +11,18 @@ use lib.IntN.{ℤ, natAbs}
 use lib.ListN.{length, getD}
 use lib.Dec.{eqb}
 use Rattle.exact.specs.Lists.{any, consIf, keep, sum, sumℤ}
-use Rattle.record.specs.Layout.{Record, contract}
+use Rattle.exact.proofs.Lists.{any-at}
+use Rattle.record.specs.Layout.{Record, contract, unit, mostUnit}
 use Rattle.record.specs.Within as ranges
 use Rattle.account.specs.Accepted.{Each}
 use Rattle.account.specs.Lawful.{Lawful}
-use Rattle.account.specs.Notes.{entryPart}
+use Rattle.account.specs.Notes.{part, entryPart}
 use Rattle.account.specs.Parts.{ofKind, contractsOf, promptsOf, rowsOf, spreadsOf, entriesOf, ratesOf}
+use Rattle.account.specs.Products.{RatesOf}
+use Rattle.account.specs.Records.{records, recordCount}
 use Rattle.account.specs.Standing.{PartOf, Stands, accountOf}
 use Rattle.account.specs.declared.accounts.Account.{Account}
+use Rattle.account.specs.declared.rates.Rates.{Rates}
 use Rattle.margin.specs.declared.line.Line.{Line}
 use Rattle.margin.specs.declared.rows.Position.{Position}
 use Rattle.margin.specs.declared.uses.Asking.{Asking}
@@ -27,14 +31,15 @@ use Rattle.margin.specs.Books.{asks, answered}
 use Rattle.margin.specs.Bounds.{mostDelta}
 use Rattle.margin.specs.Contract.{Contract, contracts, contractFrom, partsIn, partsOf, asTier, stepsOf, opensOf, tableSteps}
 use Rattle.margin.specs.Lined.{PositionAt, TierIs}
+use Rattle.margin.specs.Position.{PositionOf, Bounded, RowsFit, RatedBy}
 use Rattle.margin.specs.Positions.{ContractIn}
 use Rattle.margin.specs.Promised.{LineOf, PositionFit, BookFit, contractWith}
 use Rattle.margin.specs.Questions.{AskedBy}
 use Rattle.margin.specs.Sums.{deltasIn}
 use Rattle.margin.specs.Uses.{Asks}
-use Rattle.margin.proofs.AcceptLaws.{none-within, contract-within}
+use Rattle.margin.proofs.AcceptLaws.{none-within, contract-within, rows-rated}
 use Rattle.margin.proofs.AskedLaws.{count-keep}
-use Rattle.margin.proofs.StandLaws.{kept-at, contract-with}
+use Rattle.margin.proofs.StandLaws.{kept-at, contract-with, of-contract, own-by, rows-room, prompts-few, rows-rated-by, position-is, parts-read, parts-told}
 use Rattle.margin.proofs.TierLaws as tiers
 
 -- ---- the own record of a contract
@@ -162,3 +167,61 @@ asked-by whole records c prompts spreads p a few is x =
           (subst (λ (ss : List Record). about (promptsOf c whole) ss) (is .spreads-are)
           (subst (λ (ps : List Record). about ps spreads) (is .prompts-are) x)));
     }
+
+-- ---- a contract by the parts that it has in the files
+
+module _ (account : List Record) (law : Lawful account) (c : ℕ) (few : c ≤ 15) (own prompts rows spreads : List ℕ) (eo : PartOf account (part 1 c) own)
+    (ep : PartOf account (part 2 c) prompts) (er : PartOf account (part 3 c) rows) (es : PartOf account (part 4 c) spreads) (rates : Rates)
+    (held : RatesOf (ratesOf account) rates) (u : ℕ) (eu : u ≡ unit own) where
+  itself : Besides account account
+  itself = record { lawful = law; contracts = refl; prompts = λ c. refl; spreads = λ c. refl; entries = refl; rates = refl }
+
+  its-unit : u ≡ unitOf c account
+  its-unit = eu ∙ ap unit (own-by account law c few own eo)
+
+  -- what its rows come to can be worked out
+  pub position-room : (u ≤ mostUnit) × ((recordCount prompts ≤ 32) × (RowsFit (records rows) × RatedBy rates (records rows)))
+  position-room = (
+    omega (arith, its-unit, own-fit account law c .units .most),
+    (
+      prompts-few account law c few prompts rows ep er,
+      (
+        rows-room account law c few prompts rows ep er .rows-within,
+        rows-rated-by account law c few prompts rows ep er rates (rows-rated account law c rates held),
+      ),
+    ),
+  )
+
+  module _ (p : Position) (is : PositionOf (ratesOf account) u (records prompts) (records rows) p) (most : Bounded 128 p) where
+    pub position-here : PositionAt (ratesOf account) (unitOf c account) account c p
+    position-here =
+        subst (λ (n : ℕ). PositionAt (ratesOf account) n account c p) its-unit
+        (position-is account law c few prompts rows ep er (ratesOf account) u p is most)
+
+    pub fit-here : PositionFit own (records prompts) (records spreads) p
+    fit-here =
+        subst⁻¹ (λ (o : Record). PositionFit o (records prompts) (records spreads) p) (own-by account law c few own eo)
+        (parts-read account law c few prompts spreads ep es (λ (xs ys : List Record). PositionFit (ownOf c account) xs ys p)
+        (fits account account itself c p position-here))
+
+    pub line-here : (i : ℕ) → i < length (contractsOf account) → c ≡ contract (getD (contractsOf account) i []) → (l : Line)
+        → LineOf (contractWith own (records prompts) (records spreads) p) l → LineOf (partsIn account (getD (contractsOf account) i [])) l
+    line-here i listed number l x =
+        line-is account account itself c p position-here i listed number l
+        (parts-told account law c few prompts spreads ep es (λ (xs ys : List Record). LineOf (contractWith (ownOf c account) xs ys p) l)
+        (subst (λ (o : Record). LineOf (contractWith o (records prompts) (records spreads) p) l) (own-by account law c few own eo) x))
+
+    -- a listed contract answers
+    pub contract-in : (i : ℕ) → i < length (contractsOf account) → c ≡ contract (getD (contractsOf account) i [])
+        → ContractIn account (length account) c (records prompts) (records spreads) p
+    contract-in i listed number =
+        record {
+          lawful = law;
+          asked-is =
+              ap (λ (t : Bool). t || any (asks c) (contractsOf account)) (ne-eqb c 16 (λ e. omega (arith, few, e)))
+              ∙ any-at (asks c) (contractsOf account) i [] listed (eq-eqb (contract (getD (contractsOf account) i [])) c (sym number));
+          records-are = refl;
+          prompts-are = of-contract account law c few 2 (omega arith) prompts ep;
+          spreads-are = of-contract account law c few 4 (omega arith) spreads es;
+          at = position-here;
+        }

@@ -14,7 +14,6 @@ use crate::over::contract_asking;
 use crate::over::is_asked;
 use crate::over::lines_of;
 use crate::over::no_line;
-use crate::over::position_in;
 use crate::over::put_figures;
 use crate::over::table_asking;
 use crate::over::tiers_in;
@@ -23,6 +22,7 @@ use crate::positions::asking_from;
 use crate::positions::lines_from;
 use crate::positions::tiers_from;
 use crate::rows::Position;
+use crate::rows::position_of;
 use crate::uses::Asking;
 use crate::uses::put_uses;
 use crate::uses::uses_count;
@@ -38,9 +38,11 @@ use account::parts::ENTRIES;
 use account::parts::OWN;
 use account::parts::PROMPTS;
 use account::parts::RATES;
+use account::parts::ROWS;
 use account::parts::SPREADS;
 use account::rates::Rates;
 use account::rates::rates_of;
+use record::fields::unit;
 use spread::Prompts;
 use spread::book::book_of_accepted;
 ghost use mathlib.Core.Path.{_≡_};
@@ -562,10 +564,11 @@ fn contract_over<'a>(
         (now (books .exit)) (now (uses .exit)) ⌝ }
 {
     let c = contract_number(account, i);
-    let p = position_in(morning, noon, account, c, rates);
     let own = part(morning, noon, account, OWN + c);
     let prompts = part(morning, noon, account, PROMPTS + c);
+    let rows = part(morning, noon, account, ROWS + c);
     let spreads = part(morning, noon, account, SPREADS + c);
+    let p = position_of(rates, unit(own) as u64, prompts, rows);
     contract_in(
         own,
         prompts,

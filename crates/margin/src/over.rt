@@ -128,8 +128,12 @@ fn line_at<'a>(morning: &'a [u8], noon: &'a [u8], account: Account, i: usize, ra
         (partsIn (accountOf (now (morning .entry)) (now (noon .entry))) (getD (contractsOf (accountOf (now (morning .entry)) (now (noon .entry)))) i [])) r ⌝ }
 {
     let c = contract_number(account, i);
-    let p = position_in(morning, noon, account, c, rates);
-    line_with(morning, noon, account, c, p)
+    let own = part(morning, noon, account, OWN + c);
+    let prompts = part(morning, noon, account, PROMPTS + c);
+    let rows = part(morning, noon, account, ROWS + c);
+    let spreads = part(morning, noon, account, SPREADS + c);
+    let p = position_of(rates, unit(own) as u64, prompts, rows);
+    line_of(own, prompts, spreads, p)
 }
 
 pub(crate) fn no_line() -> Line {

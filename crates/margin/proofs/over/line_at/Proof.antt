@@ -1,10 +1,15 @@
 -- The line of the i-th contract, by what its rows come to.
 -- Assumes nothing.
+use mathlib.Core.Path.{_≡_}
+use mathlib.Core.List.{[]}
 use Prim.Native.Nat.{_≤_}
 use native.Mathlib.Omega.{arith}
 use borrow.Author.Needs.{needs}
+use lib.ListN.{getD}
+use Rattle.record.specs.Layout.{contract}
+use Rattle.account.specs.Parts.{contractsOf, ratesOf}
 use Rattle.account.specs.Standing.{accountOf}
-use Rattle.margin.proofs.BesideLaws.{alone, fits, line-is}
+use Rattle.margin.proofs.BesideLaws.{position-room, fit-here, line-here}
 use Rattle.margin.proofs.StandLaws.{number-at, listed-at, own-number}
 use Rattle.margin.proofs.over.line_at.Statement.{statement}
 use Rattle.margin.proofs.over.line_at.Tie as tie
@@ -13,50 +18,107 @@ contract-number-requires : tie.Need-contract-number-requires
 contract-number-requires c κs = search needs
 
 -- the contract's number
+number : (c : tie.After-contract-number) →
+    let s = c .before .before .before in
+    c .contract-number .result ≡ contract (getD (contractsOf (accountOf (s .args .morning .now) (s .args .noon .now))) (s .args .i) [])
+number c =
+    let s = c .before .before .before in
+    number-at (s .args .morning .now) (s .args .noon .now) (s .args .account) (s .pre .0)
+    (s .args .i) (s .pre .1 .0) (c .contract-number .result) (c .contract-number .ensures)
+
 small : (c : tie.After-contract-number) → c .contract-number .result ≤ 15
 small c =
     let s = c .before .before .before in
     let m = s .args .morning .now in
     let n = s .args .noon .now in
-    omega (
-      arith,
-      number-at m n (s .args .account) (s .pre .0) (s .args .i) (s .pre .1 .0) (c .contract-number .result) (c .contract-number .ensures),
-      own-number (accountOf m n) (s .pre .0 .lawful) (s .args .i) (listed-at m n (s .args .account) (s .pre .0) (s .args .i) (s .pre .1 .0)),
-    )
+    let h = listed-at m n (s .args .account) (s .pre .0) (s .args .i) (s .pre .1 .0) in
+    omega (arith, number c, own-number (accountOf m n) (s .pre .0 .lawful) (s .args .i) h)
 
-position-in-requires : tie.Need-position-in-requires
-position-in-requires c κs = (c .before .before .before .pre .0, (small c, c .before .before .before .pre .1 .1))
+add-part : tie.Need-add-part
+add-part c = omega (arith, small c)
 
-line-with-requires : tie.Need-line-with-requires
-line-with-requires c κs =
-    let s = c .before .before .before .before in
-    let m = s .args .morning .now in
-    let n = s .args .noon .now in
-    let p = c .position-in in (
-      s .pre .0,
-      (
-        small (c .before),
-        fits (accountOf m n) (accountOf m n) (alone m n (s .args .account) (s .pre .0)) (c .before .contract-number .result)
-            (p .result) (p .ensures),
-      ),
-    )
+part-requires : tie.Need-part-requires
+part-requires c κs = search needs
+
+add-part-2 : tie.Need-add-part-2
+add-part-2 c = omega (arith, small (c .before))
+
+part-requires-2 : tie.Need-part-requires-2
+part-requires-2 c κs = search needs
+
+add-part-3 : tie.Need-add-part-3
+add-part-3 c = omega (arith, small (c .before .before))
+
+part-requires-3 : tie.Need-part-requires-3
+part-requires-3 c κs = search needs
+
+add-part-4 : tie.Need-add-part-4
+add-part-4 c = omega (arith, small (c .before .before .before))
+
+part-requires-4 : tie.Need-part-requires-4
+part-requires-4 c κs = search needs
+
+unit-requires : tie.Need-unit-requires
+unit-requires c κs = search needs
+
+position-of-requires : tie.Need-position-of-requires
+position-of-requires c κs =
+    let ss = c .before .part4 in
+    let rs = c .before .before .part3 in
+    let ps = c .before .before .before .part2 in
+    let own = c .before .before .before .before .part in
+    let k = c .before .before .before .before .before in
+    let s = k .before .before .before in
+    position-room (accountOf (s .args .morning .now) (s .args .noon .now)) (s .pre .0 .lawful) (k .contract-number .result) (small k)
+    (own .result .now) (ps .result .now) (rs .result .now) (ss .result .now) (own .ensures) (ps .ensures) (rs .ensures) (ss .ensures)
+    (s .args .rates) (s .pre .1 .1) (c .unit .result) (c .unit .ensures .0)
+
+line-of-requires : tie.Need-line-of-requires
+line-of-requires c κs =
+    let p = c .position-of in
+    let u = c .before .unit in
+    let ss = c .before .before .part4 in
+    let rs = c .before .before .before .part3 in
+    let ps = c .before .before .before .before .part2 in
+    let own = c .before .before .before .before .before .part in
+    let k = c .before .before .before .before .before .before in
+    let s = k .before .before .before in
+    let a = accountOf (s .args .morning .now) (s .args .noon .now) in
+    fit-here a (s .pre .0 .lawful) (k .contract-number .result) (small k) (own .result .now) (ps .result .now) (rs .result .now) (ss .result .now)
+    (own .ensures) (ps .ensures) (rs .ensures) (ss .ensures) (s .args .rates) (s .pre .1 .1) (u .result) (u .ensures .0)
+    (p .result) (p .ensures .0 (ratesOf a) (s .pre .1 .1)) (p .ensures .1)
 
 returns : tie.Need-returns
 returns c =
-    let s = c .before .before .before .before .before in
-    let m = s .args .morning .now in
-    let n = s .args .noon .now in
-    let k = c .before .before .contract-number in
-    let p = c .before .position-in in
-    line-is (accountOf m n) (accountOf m n) (alone m n (s .args .account) (s .pre .0)) (k .result) (p .result) (p .ensures)
-    (s .args .i) (listed-at m n (s .args .account) (s .pre .0) (s .args .i) (s .pre .1 .0))
-    (number-at m n (s .args .account) (s .pre .0) (s .args .i) (s .pre .1 .0) (k .result) (k .ensures)) (c .line-with .result) (c .line-with .ensures)
+    let p = c .before .position-of in
+    let u = c .before .before .unit in
+    let ss = c .before .before .before .part4 in
+    let rs = c .before .before .before .before .part3 in
+    let ps = c .before .before .before .before .before .part2 in
+    let own = c .before .before .before .before .before .before .part in
+    let k = c .before .before .before .before .before .before .before in
+    let s = k .before .before .before in
+    let a = accountOf (s .args .morning .now) (s .args .noon .now) in
+    let listed = listed-at (s .args .morning .now) (s .args .noon .now) (s .args .account) (s .pre .0) (s .args .i) (s .pre .1 .0) in
+    line-here a (s .pre .0 .lawful) (k .contract-number .result) (small k) (own .result .now) (ps .result .now) (rs .result .now) (ss .result .now)
+    (own .ensures) (ps .ensures) (rs .ensures) (ss .ensures) (s .args .rates) (s .pre .1 .1) (u .result) (u .ensures .0)
+    (p .result) (p .ensures .0 (ratesOf a) (s .pre .1 .1)) (p .ensures .1)
+    (s .args .i) listed (number k) (c .line-of .result) (c .line-of .ensures)
 
 pub line-at-spec : {M : Type 1} → statement M
 line-at-spec =
     tie.close
     (tie.spec
     contract-number-requires
-    position-in-requires
-    line-with-requires
+    add-part
+    part-requires
+    add-part-2
+    part-requires-2
+    add-part-3
+    part-requires-3
+    add-part-4
+    part-requires-4
+    unit-requires
+    position-of-requires
+    line-of-requires
     returns)

@@ -23,7 +23,9 @@ ghost use lib.Seq.{sets};
 ghost use Rattle.account.specs.Records.{records};
 ghost use Rattle.spread.specs.Accepted.{openOf, stepsOf, sound};
 ghost use Rattle.spread.specs.Book.{Booked};
+ghost use Rattle.spread.specs.Passing.{FormedBy};
 ghost use Rattle.spread.specs.Steps.{steps};
+ghost use Rattle.spread.specs.Touches.{touches};
 ghost use Rattle.margin.specs.Books.{bookBy};
 ghost use Rattle.margin.specs.Deltas.{opens, interprompt};
 ghost use Rattle.margin.specs.Sums.{deltasIn};
@@ -54,6 +56,22 @@ pub(crate) fn book_count(prompts: Prompts, table: Table) -> usize
     3 * prompts.count + 2 * table.count + 1
 }
 
+// How often the steps take of a prompt, by the numbers that they formed: never where there are none.
+fn touches_in(
+    prompts: Prompts,
+    table: Table,
+    first: [Spreads; MOST_SPREADS],
+    second: [Spreads; MOST_SPREADS],
+) -> u64
+    requires { ⌜ (sound prompts table ≡ true) × FormedBy prompts table first second ⌝ }
+    ensures { λ r. ⌜ r ≡ touches (stepsOf table) (openOf prompts) ⌝ }
+{
+    if table.count == 0 {
+        return 0;
+    }
+    touches_of(prompts, table, first, second)
+}
+
 // The numbers of a book, from the front.
 pub(crate) fn put_book(out: &mut [i64], prompts: Prompts, table: Table, book: Book)
     requires { ⌜ (sound prompts table ≡ true) × (Booked prompts table book × (3 * prompts .count + 2 * table .count + 1 ≤ length (now out))) ⌝ }
@@ -68,6 +86,6 @@ pub(crate) fn put_book(out: &mut [i64], prompts: Prompts, table: Table, book: Bo
     let second = book.second;
     put_prompts(out, count, nets, used, unused);
     put_spreads(out, count * 3, spreads, first, second);
-    let touches = touches_of(prompts, table, first, second);
+    let touches = touches_in(prompts, table, first, second);
     put(out, count * 3 + spreads * 2, touches);
 }

@@ -33,8 +33,8 @@ put-spreads-requires c κs =
       signed (s .args .prompts) (s .args .table) (tiers-32 s) (nets-32 s) (spreads-32 s) (s .pre .0) (s .args .book) (s .pre .1 .0),
     )
 
-touches-of-requires : tie.Need-touches-of-requires
-touches-of-requires c κs = search needs
+touches-in-requires : tie.Need-touches-in-requires
+touches-in-requires c κs = search needs
 
 mul-put : tie.Need-mul-put
 mul-put c = search needs
@@ -51,7 +51,7 @@ put-requires c κs =
       omega (arith, s .pre .1 .1, c .before .before .before .before .before .out .given, c .before .before .out2 .given),
       omega (
         arith,
-        c .before .touches-of .ensures,
+        c .before .touches-in .ensures,
         touched (s .args .prompts) (s .args .table) (tiers-32 s) (nets-32 s) (spreads-32 s) (s .pre .0),
       ),
     )
@@ -64,7 +64,7 @@ returns c =
     let s = c .before .before .before .before .before .before .before .before .before .before .before .before .before .before .before in
     book-written (s .args .prompts) (s .args .table) (tiers-32 s) (nets-32 s) (spreads-32 s) (s .pre .0) (s .args .book) (s .pre .1 .0)
     (s .args .out .now) (c .before .before .before .before .before .before .before .before .put-prompts .last .0) (c .before .before .before .before .before .put-spreads .last .0) (c .before .put .last .0)
-    (c .before .before .before .touches-of .result) (c .before .before .before .touches-of .ensures)
+    (c .before .before .before .touches-in .result) (c .before .before .before .touches-in .ensures)
     (c .before .before .before .before .before .before .before .before .put-prompts .ensures) (c .before .before .before .before .before .put-spreads .ensures) (c .before .put .ensures)
 
 pub put-book-spec : {M : Type 1} → statement M
@@ -74,7 +74,7 @@ put-book-spec =
     put-prompts-requires
     mul-put-spreads
     put-spreads-requires
-    touches-of-requires
+    touches-in-requires
     mul-put
     mul-put-2
     add-put

@@ -61,7 +61,7 @@ unused-tiers : (ks : List Contract) → map (λ p. p .unused) (map asTier ks) �
 unused-tiers [] = refl
 unused-tiers (k ∷ ks) = ap (λ (xs : List ℤ). contractNet k ∷ xs) (unused-tiers ks)
 
-unused-given : (n : ℕ) (ts : List ℕ) (ds : List Delta) → length ds ≤ length ts → map (λ p. p .unused) (take n (given.opens ts ds)) ≡ take n (deltasIn ds)
+pub unused-given : (n : ℕ) (ts : List ℕ) (ds : List Delta) → length ds ≤ length ts → map (λ p. p .unused) (take n (given.opens ts ds)) ≡ take n (deltasIn ds)
 unused-given zero ts ds h = refl
 unused-given (suc n) [] [] h = refl
 unused-given (suc n) [] (d ∷ ds) h = absurd (omega arith)

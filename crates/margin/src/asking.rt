@@ -1,5 +1,6 @@
 // The questions that an account answers. What comes after an account's records is said here once, for one file and for two: 11,
 // then 10, and the answer in lent memory.
+use crate::books::book_by;
 use crate::books::book_count;
 use crate::books::put_book;
 use crate::line::Line;
@@ -44,7 +45,6 @@ use account::rates::Rates;
 use account::rates::rates_of;
 use record::fields::unit;
 use spread::Prompts;
-use spread::book::book_of_accepted;
 ghost use mathlib.Core.Path.{_≡_};
 ghost use mathlib.Core.Bool.{true};
 ghost use mathlib.Core.List.{List};
@@ -169,7 +169,7 @@ fn answer_asking(records: usize, asking: Asking, paid: bool, out: &mut [i64]) ->
     }
     let prompts = asking.prompts;
     let table = asking.table;
-    let book = book_of_accepted(prompts, table);
+    let book = book_by(prompts, table);
     answer_book(records, asking, book, out)
 }
 
@@ -543,7 +543,7 @@ fn contract_in(
     let asking = contract_asking(prompts, spreads, p);
     let its_prompts = asking.prompts;
     let table = asking.table;
-    let book = book_of_accepted(its_prompts, table);
+    let book = book_by(its_prompts, table);
     lend_book(count, c, asking, book, books);
     lend_uses(count, c, asking, uses);
     line_by(own, prompts, spreads, p, book)

@@ -16,15 +16,15 @@ use spread::book::book_of_accepted;
 use spread::touches::touches_of;
 ghost use mathlib.Core.Path.{_≡_};
 ghost use mathlib.Core.Bool.{true};
-ghost use mathlib.Core.List.{map};
+ghost use mathlib.Core.List.{[], map};
 ghost use Prim.Native.Nat.{_+_, _*_, _≤_};
 ghost use lib.ListN.{length};
 ghost use lib.Seq.{sets};
 ghost use Rattle.account.specs.Records.{records};
-ghost use Rattle.spread.specs.Accepted.{openOf, stepsOf, sound};
-ghost use Rattle.spread.specs.Book.{Booked};
+ghost use Rattle.spread.specs.Accepted.{openOf, stepsOf, soundPrompts, sound};
+ghost use Rattle.spread.specs.Book.{Booked, entries, deltaEntry};
 ghost use Rattle.spread.specs.Passing.{FormedBy};
-ghost use Rattle.spread.specs.Steps.{steps};
+ghost use Rattle.spread.specs.Steps.{steps, unusedOf};
 ghost use Rattle.spread.specs.Touches.{touches};
 ghost use Rattle.margin.specs.Books.{bookBy};
 ghost use Rattle.margin.specs.Deltas.{opens, interprompt};
@@ -46,6 +46,40 @@ pub(crate) fn contract_book(prompts: &[u8], nets: [Delta; MOST_PROMPTS], spreads
         };
     }
     book_of_accepted(prompts_with(prompts, nets), interprompt_table(spreads))
+}
+
+// The net deltas of prompts, and 0 beyond them.
+fn nets_in(prompts: Prompts) -> [Delta; MOST_PROMPTS]
+    requires { ⌜ soundPrompts prompts ≡ true ⌝ }
+    ensures { λ r. ⌜ r ≡ entries 32 (deltaEntry (unusedOf [] (openOf prompts))) ⌝ }
+{
+    let n = prompts.count;
+    let mut nets = [Delta(0); MOST_PROMPTS];
+    let mut k = 0;
+    while k < n {
+        let net = prompts.net[k];
+        nets[k] = net;
+        k += 1;
+    }
+    nets
+}
+
+// The book of what is accepted. Without spreads nothing is used.
+pub(crate) fn book_by(prompts: Prompts, table: Table) -> Book
+    requires { ⌜ sound prompts table ≡ true ⌝ }
+    ensures { λ r. ⌜ Booked prompts table r ⌝ }
+{
+    if table.count == 0 {
+        let nets = nets_in(prompts);
+        return Book {
+            accepted: true,
+            first: [Spreads(0); MOST_SPREADS],
+            second: [Spreads(0); MOST_SPREADS],
+            used: [Delta(0); MOST_PROMPTS],
+            unused: nets,
+        };
+    }
+    book_of_accepted(prompts, table)
 }
 
 // How many numbers a book has: three for each prompt, two for each spread, and how often a prompt is touched.

@@ -25,8 +25,8 @@ returns c =
     × (r .last .1 .1 .0 ≡ afterOver whole (questionOf t question) out))
     (c .before .before .before .if1 .taken) (r .ensures whole question h)
 
-book-of-accepted-requires : tie.Need-book-of-accepted-requires
-book-of-accepted-requires c κs = search needs
+book-by-requires : tie.Need-book-by-requires
+book-by-requires c κs = search needs
 
 answer-book-requires : tie.Need-answer-book-requires
 answer-book-requires c κs = search needs
@@ -51,7 +51,7 @@ answer-asking-spec =
     answer-uses-requires
     same-length
     returns
-    book-of-accepted-requires
+    book-by-requires
     answer-book-requires
     same-length-2
     returns-2)

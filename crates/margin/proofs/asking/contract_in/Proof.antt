@@ -16,8 +16,8 @@ use Rattle.margin.proofs.asking.contract_in.Tie as tie
 contract-asking-requires : tie.Need-contract-asking-requires
 contract-asking-requires c κs = search needs
 
-book-of-accepted-requires : tie.Need-book-of-accepted-requires
-book-of-accepted-requires c κs = search needs
+book-by-requires : tie.Need-book-by-requires
+book-by-requires c κs = search needs
 
 lend-book-requires : tie.Need-lend-book-requires
 lend-book-requires c κs = search needs
@@ -27,7 +27,7 @@ lend-uses-requires c κs = search needs
 
 line-by-requires : tie.Need-line-by-requires
 line-by-requires c κs =
-    let b = c .before .before .before .before .before .before .book-of-accepted in
+    let b = c .before .before .before .before .before .before .book-by in
     let a = c .before .before .before .before .before .before .before .before .before .contract-asking in
     let s = c .before .before .before .before .before .before .before .before .before .before .before .before .before in
     let prompts = records (s .args .prompts .now) in
@@ -61,7 +61,7 @@ contract-in-spec =
     tie.close
     (tie.spec
     contract-asking-requires
-    book-of-accepted-requires
+    book-by-requires
     lend-book-requires
     lend-uses-requires
     line-by-requires

@@ -19,7 +19,7 @@ use Rattle.margin.specs.declared.line.Line.{Line}
 use Rattle.margin.specs.Bounds.{mostCredits}
 use Rattle.margin.specs.Credit.{creditsBy}
 use Rattle.margin.specs.Deltas.{intercontract}
-use Rattle.margin.specs.Lines.{noLine}
+use Rattle.margin.specs.Lines.{LineWithin, noLine}
 use Rattle.margin.specs.Sums.{interleaved, deltasIn, EntriesRoom}
 use Rattle.margin.specs.Within.{EntriesFit}
 
@@ -34,6 +34,7 @@ pub record TiersFrom (count : ℕ) (lines : List Line) (p : Prompts) : Type 0 wh
 
 pub record TableRoom (count : ℕ) (lines : List Line) (entries : List Record) : Type 0 where
   pub few : count ≤ mostContracts
+  pub lines-within : (k : ℕ) → k < count → LineWithin (getD lines k noLine)
   pub tiers-sound : every soundPrompt (map tierOf (take count lines)) ≡ true
   pub entries-within : EntriesFit entries
 

@@ -13,18 +13,19 @@ use spread::Prompts;
 use spread::book::Book;
 use spread::book::book_of_accepted;
 ghost use mathlib.Core.List.{map};
-ghost use Prim.Native.Nat.{_≤_};
-ghost use lib.ListN.{take};
+ghost use Prim.Native.Nat.{ℕ, _≤_, _<_};
+ghost use lib.ListN.{getD, take};
 ghost use Rattle.account.specs.Check.{mostContracts};
 ghost use Rattle.account.specs.Records.{records};
 ghost use Rattle.spread.specs.Steps.{steps};
 ghost use Rattle.margin.specs.Deltas.{intercontract};
+ghost use Rattle.margin.specs.Lines.{LineWithin, noLine};
 ghost use Rattle.margin.specs.Promised.{BookOf};
 ghost use Rattle.margin.specs.Table.{tierOf, TiersFrom, TableRoom, EarnerOf, CreditsRoom, CreditsOf, tableFirsts, tableSeconds};
 
 // The contracts as the spread steps take them.
 fn tiers_of(count: usize, lines: [Line; CONTRACTS]) -> Prompts
-    requires { ⌜ count ≤ mostContracts ⌝ }
+    requires { ⌜ (count ≤ mostContracts) × ((k : ℕ) → k < count → LineWithin (getD lines k noLine)) ⌝ }
     ensures { λ r. ⌜ TiersFrom count lines r ⌝ }
 {
     let mut tiers = [0u8; MOST_PROMPTS];
@@ -32,7 +33,7 @@ fn tiers_of(count: usize, lines: [Line; CONTRACTS]) -> Prompts
     let mut i = 0;
     while i < count {
         let line = lines[i];
-        tiers[i] = line.contract;
+        tiers[i] = line.contract as u8;
         let net = line.net;
         nets[i] = net;
         i += 1;
@@ -58,7 +59,7 @@ fn earner_of(line: Line) -> Earner
     let net = line.net;
     Earner {
         unit: line.unit,
-        contract: line.contract as usize,
+        contract: line.contract,
         twice_price: line.twice_price,
         net: magnitude(net.0),
     }

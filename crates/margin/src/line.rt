@@ -28,7 +28,7 @@ ghost use Rattle.margin.specs.Sums.{deltasIn, SpreadsWithin, PromptsWith
 
 // What the figures say of a contract, but for its credit and its margin; and what its credit is reckoned from.
 pub struct Line {
-    pub contract: u8,
+    pub contract: usize,
     pub unit: u64,
     pub active: usize,
     pub scanning: Amount,
@@ -103,7 +103,7 @@ pub(crate) fn line_by(own: &[u8], prompts: &[u8], spreads: &[u8], p: Position, b
     let interprompt = charges.interprompt;
     let prompt = charges.prompt;
     Line {
-        contract: contract(own) as u8,
+        contract: contract(own),
         unit: its_unit,
         active: risks.active,
         scanning: scanning,

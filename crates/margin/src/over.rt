@@ -36,7 +36,7 @@ use spread::Prompts;
 ghost use mathlib.Core.Path.{_≡_};
 ghost use mathlib.Core.Bool.{true};
 ghost use mathlib.Core.List.{List, [], map};
-ghost use Prim.Native.Nat.{_+_, _*_, _≤_, _<_};
+ghost use Prim.Native.Nat.{ℕ, _+_, _*_, _≤_, _<_};
 ghost use lib.ListN.{length, getD};
 ghost use lib.Seq.{sets};
 ghost use Rattle.account.specs.Check.{mostContracts};
@@ -51,6 +51,7 @@ ghost use Rattle.margin.specs.Figures.{figures, accountTotal};
 ghost use Rattle.margin.specs.Position.{RatedBy, withNets};
 ghost use Rattle.margin.specs.Promised.{LineOf, PositionFit, BookFit, contractWith};
 ghost use Rattle.margin.specs.Beside.{ownOf, unitOf, Besides, LinesKnown, TiersKnown};
+ghost use Rattle.margin.specs.Lines.{LineWithin, noLine};
 ghost use Rattle.margin.specs.Lined.{LinesOf, TierIs, TiersIn, PositionAt};
 ghost use Rattle.margin.specs.Uses.{stepsFor, opensFor, Asks};
 
@@ -263,7 +264,7 @@ fn tiers_over<'a>(morning: &'a [u8], noon: &'a [u8], account: Account) -> Prompt
 
 // The contracts as tiers, by their lines.
 pub(crate) fn tiers_in(all: Lines) -> Prompts
-    requires { ⌜ all .count ≤ mostContracts ⌝ }
+    requires { ⌜ (all .count ≤ mostContracts) × ((k : ℕ) → k < all .count → LineWithin (getD (all .line) k noLine)) ⌝ }
     ensures { λ r. ⌜ ((whole : List Record) → LinesOf whole all → TiersIn whole r) ⌝ }
 {
     let count = all.count;
@@ -272,7 +273,7 @@ pub(crate) fn tiers_in(all: Lines) -> Prompts
     let mut i = 0;
     while i < count {
         let line = all.line[i];
-        tiers[i] = line.contract;
+        tiers[i] = line.contract as u8;
         let net = line.net;
         nets[i] = net;
         i += 1;

@@ -13,7 +13,7 @@ contracts-over-requires : tie.Need-contracts-over-requires
 contracts-over-requires c κs = search needs
 
 tiers-in-requires : tie.Need-tiers-in-requires
-tiers-in-requires c κs = c .before .before .contracts-over .ensures .lines .few
+tiers-in-requires c κs = let l = c .before .before .contracts-over .ensures .lines in (l .few, λ k h. l .each k h .within)
 
 record-total-requires : tie.Need-record-total-requires
 record-total-requires c κs = search needs

@@ -7,9 +7,6 @@ use borrow.Author.Needs.{needs}
 use Rattle.margin.proofs.intercontract.earner_of.Statement.{statement}
 use Rattle.margin.proofs.intercontract.earner_of.Tie as tie
 
-cast-t3 : tie.Need-cast-t3
-cast-t3 c = search needs
-
 magnitude-requires : tie.Need-magnitude-requires
 magnitude-requires c κs = search needs
 
@@ -18,9 +15,9 @@ returns c = record {
   unit-is = refl;
   contract-is = refl;
   price-is = refl;
-  net-is = seen natAbs (c .before .before .before .before .args .line .net .0)
+  net-is = seen natAbs (c .before .before .before .args .line .net .0)
       (record { sfits = c .before .struct-told .given .0 .1 }) (c .magnitude .ensures);
 }
 
 pub earner-of-spec : {M : Type 1} → statement M
-earner-of-spec = tie.close (tie.spec cast-t3 magnitude-requires returns)
+earner-of-spec = tie.close (tie.spec magnitude-requires returns)

@@ -24,6 +24,11 @@ mul-line c = omega arith
 array-copy-out-line : tie.Need-array-copy-out-line Inv-loop μ-loop
 array-copy-out-line c = omega arith
 
+cast-tiers : tie.Need-cast-tiers Inv-loop μ-loop
+cast-tiers c =
+    let s = c .before .before .before .before in
+    omega (arith, s .pre .1 (c .before .before .before .loop .i) (c .before .before .loop-test .taken) .contract-within)
+
 array-write-tiers : tie.Need-array-write-tiers Inv-loop μ-loop
 array-write-tiers c = omega arith
 
@@ -41,8 +46,8 @@ loop-less c = omega arith
 
 loop-again : tie.Need-loop-again Inv-loop μ-loop
 loop-again c =
-    let s = c .before .before .before .before in
-    let l = c .before .before .before .loop in
+    let s = c .before .before .before .before .before in
+    let l = c .before .before .before .before .loop in
     let n : length (s .args .t2) ≡ 16 = search needs in
     (tiered-next (s .args .t2) (l .i) (l .tiers) (l .nets) _ _ (l .inv .0) (omega arith) (omega arith) refl, omega arith)
 
@@ -61,6 +66,7 @@ tiers-of-spec =
     loop-holds
     mul-line
     array-copy-out-line
+    cast-tiers
     array-write-tiers
     mul-nets
     array-set-from-nets

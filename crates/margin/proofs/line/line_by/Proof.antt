@@ -56,9 +56,6 @@ contract-net-requires c κs =
 contract-requires : tie.Need-contract-requires
 contract-requires c κs = search needs
 
-cast-t19 : tie.Need-cast-t19
-cast-t19 c = search needs
-
 returns : tie.Need-returns
 returns c =
     let s = c .before .before .before .before .before .before .before .before .before .before .before .before .before .before .before .before in
@@ -88,5 +85,4 @@ line-by-spec =
     short-option-minimum-requires
     contract-net-requires
     contract-requires
-    cast-t19
     returns)

@@ -9,9 +9,6 @@ use borrow.Author.Needs.{needs}
 use Rattle.margin.proofs.numbers.put_eight.Statement.{statement}
 use Rattle.margin.proofs.numbers.put_eight.Tie as tie
 
-cast-put : tie.Need-cast-put
-cast-put c = search needs
-
 put-requires : tie.Need-put-requires
 put-requires c κs = search needs
 
@@ -56,7 +53,7 @@ add-put-7 c = search needs
 
 put-requires-8 : tie.Need-put-requires-8
 put-requires-8 c κs =
-    let s = c .before .before .before .before .before .before .before .before .before .before .before .before .before .before .before .before .before .before .before .before .before .before .before in
+    let s = c .before .before .before .before .before .before .before .before .before .before .before .before .before .before .before .before .before .before .before .before .before .before in
     (omega (arith, s .pre .0, c .before .out7 .given, c .before .before .before .before .out6 .given, c .before .before .before .before .before .before .before .out5 .given, c .before .before .before .before .before .before .before .before .before .before .out4 .given, c .before .before .before .before .before .before .before .before .before .before .before .before .before .out3 .given, c .before .before .before .before .before .before .before .before .before .before .before .before .before .before .before .before .out2 .given, c .before .before .before .before .before .before .before .before .before .before .before .before .before .before .before .before .before .before .before .out .given), omega (arith, s .pre .1 .1 .1 .1))
 
 same-length : tie.Need-same-length
@@ -72,7 +69,7 @@ returns c =
     let c3 = c4 .before .before .before in
     let c2 = c3 .before .before .before in
     let c1 = c2 .before .before .before in
-    let s = c1 .before .before .before in
+    let s = c1 .before .before in
     rw (
       c8 .put8 .ensures,
       c7 .put7 .ensures,
@@ -90,7 +87,6 @@ pub put-eight-spec : {M : Type 1} → statement M
 put-eight-spec =
     tie.close
     (tie.spec
-    cast-put
     put-requires
     add-put
     put-requires-2

@@ -23,35 +23,40 @@ loop-holds : tie.Need-loop-holds Inv-loop μ-loop
 loop-holds c = (λ whole is. tiers-none whole _ _ refl refl, omega arith)
 
 mul-line : tie.Need-mul-line Inv-loop μ-loop
-mul-line c = omega (arith, c .loop-test .taken, c .before .before .pre)
+mul-line c = omega (arith, c .loop-test .taken, c .before .before .pre .0)
 
 element-copy-out-line : tie.Need-element-copy-out-line Inv-loop μ-loop
-element-copy-out-line c = omega (arith, c .loop-test .taken, c .before .before .pre)
+element-copy-out-line c = omega (arith, c .loop-test .taken, c .before .before .pre .0)
+
+cast-tiers : tie.Need-cast-tiers Inv-loop μ-loop
+cast-tiers c =
+    let s = c .before .before .before .before in
+    omega (arith, s .pre .1 (c .before .before .before .loop .i) (c .before .before .loop-test .taken) .contract-within)
 
 array-write-tiers : tie.Need-array-write-tiers Inv-loop μ-loop
-array-write-tiers c = omega (arith, c .before .loop-test .taken, c .before .before .before .pre)
+array-write-tiers c = omega (arith, c .before .before .loop-test .taken, c .before .before .before .before .pre .0)
 
 mul-nets : tie.Need-mul-nets Inv-loop μ-loop
-mul-nets c = omega (arith, c .before .before .loop-test .taken, c .before .before .before .before .pre)
+mul-nets c = omega (arith, c .before .before .before .loop-test .taken, c .before .before .before .before .before .pre .0)
 
 array-set-from-nets : tie.Need-array-set-from-nets Inv-loop μ-loop
-array-set-from-nets c = omega (arith, c .before .before .loop-test .taken, c .before .before .before .before .pre)
+array-set-from-nets c = omega (arith, c .before .before .before .loop-test .taken, c .before .before .before .before .before .pre .0)
 
 add-i : tie.Need-add-i Inv-loop μ-loop
-add-i c = omega (arith, c .before .before .loop-test .taken, c .before .before .before .before .pre)
+add-i c = omega (arith, c .before .before .before .loop-test .taken, c .before .before .before .before .before .pre .0)
 
 loop-less : tie.Need-loop-less Inv-loop μ-loop
-loop-less c = omega (arith, c .before .before .loop-test .taken)
+loop-less c = omega (arith, c .before .before .before .loop-test .taken)
 
 loop-again : tie.Need-loop-again Inv-loop μ-loop
 loop-again c =
-    let s = c .before .before .before .before in
-    let l = c .before .before .before .loop in
+    let s = c .before .before .before .before .before in
+    let l = c .before .before .before .before .loop in
     let x = getD (s .args .t1 .line) (l .i) noLine in (
       λ whole is.
-          tiers-next whole (l .i) (l .tiers) (l .nets) (x .contract) (x .net) (l .inv .0 whole is) (omega (arith, c .before .before .loop-test .taken, s .pre))
-          (omega (arith, c .before .before .loop-test .taken, is .count-is)) (line-tier _ x (is .each (l .i) (c .before .before .loop-test .taken))),
-      omega (arith, c .before .before .loop-test .taken),
+          tiers-next whole (l .i) (l .tiers) (l .nets) (x .contract) (x .net) (l .inv .0 whole is) (omega (arith, c .before .before .before .loop-test .taken, s .pre .0))
+          (omega (arith, c .before .before .before .loop-test .taken, is .count-is)) (line-tier _ x (is .each (l .i) (c .before .before .before .loop-test .taken))),
+      omega (arith, c .before .before .before .loop-test .taken),
     )
 
 returns : tie.Need-returns Inv-loop μ-loop
@@ -60,7 +65,7 @@ returns c =
     let l = c .before .loop in
     λ whole is.
     tiers-all whole (l .i) _ (l .inv .0 whole is)
-    (omega (arith, c .loop-test .left, l .inv .1)) (omega (arith, c .loop-test .left, l .inv .1, is .count-is)) (omega (arith, l .inv .1, s .pre))
+    (omega (arith, c .loop-test .left, l .inv .1)) (omega (arith, c .loop-test .left, l .inv .1, is .count-is)) (omega (arith, l .inv .1, s .pre .0))
 
 pub tiers-in-spec : {M : Type 1} → statement M
 tiers-in-spec =
@@ -71,6 +76,7 @@ tiers-in-spec =
     loop-holds
     mul-line
     element-copy-out-line
+    cast-tiers
     array-write-tiers
     mul-nets
     array-set-from-nets

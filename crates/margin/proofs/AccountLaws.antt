@@ -132,7 +132,13 @@ module _ (account : List Record) (law : Lawful account) (all : Lines) (is : Line
       omega arith)
 
   pub table-room : TableRoom n (all .line) (records part)
-  table-room = record { few = is .few; lines-within = λ k h. is .each k h .within; tiers-sound = tiers-sound ks ls lined; entries-within = (entries-fit account law part ep) }
+  table-room =
+      record {
+        few = is .few;
+        lines-within = λ k h. is .each k h .within;
+        tiers-sound = tiers-sound ks ls lined;
+        entries-within = entries-fit account law part ep;
+      }
 
   -- the book of the table, run or not
   abbrev pub its : Book

@@ -39,7 +39,8 @@ use Rattle.margin.specs.Sums.{deltasIn}
 use Rattle.margin.specs.Uses.{Asks}
 use Rattle.margin.proofs.AcceptLaws.{none-within, contract-within, rows-rated}
 use Rattle.margin.proofs.AskedLaws.{count-keep}
-use Rattle.margin.proofs.StandLaws.{kept-at, contract-with, of-contract, own-by, rows-room, prompts-few, rows-rated-by, position-is, parts-read, parts-told}
+use Rattle.margin.proofs.StandLaws.{kept-at, contract-with, of-contract, own-by, rows-room, prompts-few, rows-rated-by}
+use Rattle.margin.proofs.StandLaws.{position-is, parts-read, parts-told}
 use Rattle.margin.proofs.TierLaws as tiers
 
 -- ---- the own record of a contract

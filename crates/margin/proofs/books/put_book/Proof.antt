@@ -61,11 +61,13 @@ same-length c = search needs
 
 returns : tie.Need-returns
 returns c =
-    let s = c .before .before .before .before .before .before .before .before .before .before .before .before .before .before .before in
+    let t = c .before .before .before in
+    let r = t .before .before in
+    let q = r .before .before .before in
+    let s = q .before .before .before .before .before .before .before in
     book-written (s .args .prompts) (s .args .table) (tiers-32 s) (nets-32 s) (spreads-32 s) (s .pre .0) (s .args .book) (s .pre .1 .0)
-    (s .args .out .now) (c .before .before .before .before .before .before .before .before .put-prompts .last .0) (c .before .before .before .before .before .put-spreads .last .0) (c .before .put .last .0)
-    (c .before .before .before .touches-in .result) (c .before .before .before .touches-in .ensures)
-    (c .before .before .before .before .before .before .before .before .put-prompts .ensures) (c .before .before .before .before .before .put-spreads .ensures) (c .before .put .ensures)
+    (s .args .out .now) (q .put-prompts .last .0) (r .put-spreads .last .0) (c .before .put .last .0)
+    (t .touches-in .result) (t .touches-in .ensures) (q .put-prompts .ensures) (r .put-spreads .ensures) (c .before .put .ensures)
 
 pub put-book-spec : {M : Type 1} → statement M
 put-book-spec =

@@ -53,8 +53,17 @@ add-put-7 c = search needs
 
 put-requires-8 : tie.Need-put-requires-8
 put-requires-8 c κs =
-    let s = c .before .before .before .before .before .before .before .before .before .before .before .before .before .before .before .before .before .before .before .before .before .before in
-    (omega (arith, s .pre .0, c .before .out7 .given, c .before .before .before .before .out6 .given, c .before .before .before .before .before .before .before .out5 .given, c .before .before .before .before .before .before .before .before .before .before .out4 .given, c .before .before .before .before .before .before .before .before .before .before .before .before .before .out3 .given, c .before .before .before .before .before .before .before .before .before .before .before .before .before .before .before .before .out2 .given, c .before .before .before .before .before .before .before .before .before .before .before .before .before .before .before .before .before .before .before .out .given), omega (arith, s .pre .1 .1 .1 .1))
+    let c7 = c .before in
+    let c6 = c7 .before .before .before in
+    let c5 = c6 .before .before .before in
+    let c4 = c5 .before .before .before in
+    let c3 = c4 .before .before .before in
+    let c2 = c3 .before .before .before in
+    let c1 = c2 .before .before .before in
+    let s = c1 .before .before .before in (
+      omega (arith, s .pre .0, c7 .out7 .given, c6 .out6 .given, c5 .out5 .given, c4 .out4 .given, c3 .out3 .given, c2 .out2 .given, c1 .out .given),
+      omega (arith, s .pre .1 .1 .1 .1),
+    )
 
 same-length : tie.Need-same-length
 same-length c = search needs

@@ -52,11 +52,12 @@ loop-again : tie.Need-loop-again Inv-loop μ-loop
 loop-again c =
     let s = c .before .before .before .before .before in
     let l = c .before .before .before .before .loop in
+    let taken = c .before .before .before .loop-test .taken in
     let x = getD (s .args .t1 .line) (l .i) noLine in (
       λ whole is.
-          tiers-next whole (l .i) (l .tiers) (l .nets) (x .contract) (x .net) (l .inv .0 whole is) (omega (arith, c .before .before .before .loop-test .taken, s .pre .0))
-          (omega (arith, c .before .before .before .loop-test .taken, is .count-is)) (line-tier _ x (is .each (l .i) (c .before .before .before .loop-test .taken))),
-      omega (arith, c .before .before .before .loop-test .taken),
+          tiers-next whole (l .i) (l .tiers) (l .nets) (x .contract) (x .net) (l .inv .0 whole is) (omega (arith, taken, s .pre .0))
+          (omega (arith, taken, is .count-is)) (line-tier _ x (is .each (l .i) taken)),
+      omega (arith, taken),
     )
 
 returns : tie.Need-returns Inv-loop μ-loop

@@ -6,12 +6,10 @@ use native.Mathlib.Omega.{arith}
 use mathlib.Core.Bool.{Bool, true, false, cond}
 use mathlib.Core.List.{List, []}
 use mathlib.Core.Path.{_≡_, refl, sym, _∙_, ap}
-use lib.Dec.{ltb}
 use lib.ListN.{replicate}
-use borrow.Author.Tests.{ltb-true, ltb-false}
 use Rattle.spread.specs.Accepted.{openOf, spreadsOf, stepsOf, sound}
-use Rattle.spread.specs.Book.{numbersOf, usedIn, unusedIn, entries, spreadsEntry, deltaEntry, Booked, Refused, Run, Wanted, Spent}
-use Rattle.spread.specs.Cells.{cellOf, cellAt, Pooled, numbersIn}
+use Rattle.spread.specs.Book.{numbersOf, usedIn, unusedIn, entries, spreadsEntry, deltaEntry, Booked, Refused, Run, goneOf, Spent}
+use Rattle.spread.specs.Cells.{Pooled, numbersIn}
 use Rattle.spread.specs.Demand.{totalUse, Demand3, soundSteps}
 use Rattle.spread.specs.Spend.{spend, deltas}
 use Rattle.spread.specs.Steps.{Market, Open, Taker, pool, numbers, left, minus, usedOf, unusedOf}
@@ -23,7 +21,7 @@ use Rattle.spread.specs.declared.book.Book.{Book}
 use Rattle.spread.proofs.Demand3.{demand3, demand3-accepted}
 use Rattle.spread.proofs.Filling.{filled-none, filled-all}
 use Rattle.spread.proofs.Gathering.{noDelta}
-use Rattle.spread.proofs.Pooling.{cell-small, no-cell, pooled-numbers, pooled-left}
+use Rattle.spread.proofs.Pooling.{pooled-numbers, pooled-left}
 use Rattle.spread.proofs.Running.{noSpreads}
 use Rattle.spread.proofs.Soundness.{table-sound}
 use Rattle.spread.proofs.Spending.{left-spend, pool-spend, spend-same}
@@ -64,35 +62,25 @@ booked-refused p t r e h =
 
 -- steps that can be run: pools, what is left of them and one spend of the difference leave the prompts as the steps do
 
-module _ (ss : List (List Taker)) (ps : List Open) (e : soundSteps ss ≡ true) (cells l wanted : List ℕ)
-    (pools : Pooled cells ps) (leaves : Pooled l (left ss ps)) (w : Wanted cells l wanted) where
-  -- what is wanted of a pool is the list's use there
-  wants-use : (m : Market) (u : ℕ) → cellAt wanted m u ≡ totalUse m u ss (numbers ss ps)
-  wants-use m u = go (ltb u 16) refl
-    where
-      go : (b : Bool) → ltb u 16 ≡ b → cellAt wanted m u ≡ totalUse m u ss (numbers ss ps)
-      go true f =
-          let a = w .each (cellOf m u) (cell-small m u (ltb-true u 16 f)) in
-          let b = pools .each m u in
-          let c = leaves .each m u ∙ ap (pool m u) (left-spend ss ps) ∙ pool-spend (λ m u. totalUse m u ss (numbers ss ps)) m u ps in
-          let d = demand3 ss ps e .enough (numbers ss ps) (demand3 ss ps e .first .isOne) m u in
-          omega arith
-      go false f =
-          let a = no-cell wanted m u (w .size) (ltb-false u 16 f) in
-          let b = no-cell cells m u (pools .size) (ltb-false u 16 f) in
-          let c = pools .each m u in
-          let d = demand3 ss ps e .enough (numbers ss ps) (demand3 ss ps e .first .isOne) m u in
-          omega arith
+module _ (ss : List (List Taker)) (ps : List Open) (e : soundSteps ss ≡ true) (cells l : List ℕ)
+    (pools : Pooled cells ps) (leaves : Pooled l (left ss ps)) where
+  -- what is gone of a pool is the list's use there
+  gone-use : (m : Market) (u : ℕ) → goneOf cells l m u ≡ totalUse m u ss (numbers ss ps)
+  gone-use m u =
+      let b = pools .each m u in
+      let c = leaves .each m u ∙ ap (pool m u) (left-spend ss ps) ∙ pool-spend (λ m u. totalUse m u ss (numbers ss ps)) m u ps in
+      let d = demand3 ss ps e .enough (numbers ss ps) (demand3 ss ps e .first .isOne) m u in
+      omega arith
 
-  pub spend-left : spend (cellAt wanted) ps ≡ left ss ps
-  spend-left = spend-same ps wants-use ∙ sym (left-spend ss ps)
+  pub spend-left : spend (goneOf cells l) ps ≡ left ss ps
+  spend-left = spend-same ps gone-use ∙ sym (left-spend ss ps)
 
 -- what is accepted
 
-pub booked-accepted : (p : Prompts) (t : Table) (cells l wanted : List ℕ) (first second : List Spreads) (used unused : List Delta) → sound p t ≡ true
-    → Pooled cells (openOf p) → Run cells (spreadsOf t) l first second → Wanted cells l wanted → Spent wanted (openOf p) used unused
+pub booked-accepted : (p : Prompts) (t : Table) (cells l : List ℕ) (first second : List Spreads) (used unused : List Delta) → sound p t ≡ true
+    → Pooled cells (openOf p) → Run cells (spreadsOf t) l first second → Spent cells l (openOf p) used unused
     → Booked p t (record { accepted = true; first = first; second = second; used = used; unused = unused })
-booked-accepted p t cells l wanted first second used unused e pools run w spent =
+booked-accepted p t cells l first second used unused e pools run spent =
     record {
       accepted = sym e;
       first = run .firsts ∙ ap (λ (xs : List ℕ). entries 32 (λ k. spreadsEntry xs (2 * k))) formed;
@@ -115,5 +103,5 @@ booked-accepted p t cells l wanted first second used unused e pools run w spent 
     after-run : Pooled l (left (stepsOf t) (openOf p))
     after-run = rw (run .leaves) (pooled-left (stepsOf t) cells (openOf p) pools)
 
-    paid : spend (cellAt wanted) (openOf p) ≡ left (stepsOf t) (openOf p)
-    paid = spend-left (stepsOf t) (openOf p) (table-sound p t e) cells l wanted pools after-run w
+    paid : spend (goneOf cells l) (openOf p) ≡ left (stepsOf t) (openOf p)
+    paid = spend-left (stepsOf t) (openOf p) (table-sound p t e) cells l pools after-run

@@ -1,4 +1,4 @@
--- The spend over the prompts, one prompt after the other, with the cells for what is still wanted.
+-- The spend over the prompts, one prompt after the other, with the cells for what the later ones had.
 -- Assumes nothing.
 use Prim.Native.Nat.{ℕ, suc, _+_, _-_, _≤_, _<_}
 use native.Mathlib.Numerals.{add-one}
@@ -8,7 +8,7 @@ use mathlib.Core.Path.{_≡_, refl, sym, _∙_, ap, ap₂, subst}
 use lib.IntN.{ℤ, pos, natAbs, _-ℤ_}
 use lib.ListN.{length, getD, set, drop, replicate, length-set, drop-of-length-le}
 use lib.Seq.{drop-cons}
-use Rattle.spread.specs.Book.{deltaEntry, Spent}
+use Rattle.spread.specs.Book.{deltaEntry, goneOf, Spent}
 use Rattle.spread.specs.Cells.{cellOf, cellAt}
 use Rattle.spread.specs.Spend.{marketOf, spend, deltas, usedBy}
 use Rattle.spread.specs.Steps.{Open, inTier, towardsZero, minus}
@@ -18,59 +18,62 @@ use Rattle.spread.proofs.Gathering.{own, in-own-pool, nothing, Placed, 
 use Rattle.spread.proofs.Pooling.{cell-less}
 use Rattle.spread.proofs.Spending.{spend-same}
 
--- the spend: i prompts have paid, and the cells hold what is still wanted
+-- the spend: i prompts have paid, and of the cells as many are gone as are still wanted
 
-pub record Paying (wanted : List ℕ) (ps : List Open) (i : ℕ) (now : List ℕ) (used unused : List Delta) : Type 0 where
+pub record Paying (had left : List ℕ) (ps : List Open) (i : ℕ) (now : List ℕ) (used unused : List Delta) : Type 0 where
   pub place : i ≤ length ps
   pub size : length now ≡ 32
-  pub useds : Filled noDelta (deltaEntry (usedBy (cellAt wanted) ps)) i used
-  pub unuseds : Filled noDelta (deltaEntry (deltas (spend (cellAt wanted) ps))) i unused
-  pub toUse : (j : ℕ) → getD (usedBy (cellAt wanted) ps) (i + j) (pos 0) ≡ getD (usedBy (cellAt now) (drop i ps)) j (pos 0)
-  pub toLeave : (j : ℕ) → getD (deltas (spend (cellAt wanted) ps)) (i + j) (pos 0) ≡ getD (deltas (spend (cellAt now) (drop i ps))) j (pos 0)
+  pub useds : Filled noDelta (deltaEntry (usedBy (goneOf had left) ps)) i used
+  pub unuseds : Filled noDelta (deltaEntry (deltas (spend (goneOf had left) ps))) i unused
+  pub toUse : (j : ℕ) → getD (usedBy (goneOf had left) ps) (i + j) (pos 0) ≡ getD (usedBy (goneOf now left) (drop i ps)) j (pos 0)
+  pub toLeave : (j : ℕ) → getD (deltas (spend (goneOf had left) ps)) (i + j) (pos 0) ≡ getD (deltas (spend (goneOf now left) (drop i ps))) j (pos 0)
 
-pub paying-none : (wanted : List ℕ) (ps : List Open) → length wanted ≡ 32 → Paying wanted ps 0 wanted (replicate 32 noDelta) (replicate 32 noDelta)
-paying-none wanted ps l =
+pub paying-none : (had left : List ℕ) (ps : List Open) → length had ≡ 32 → Paying had left ps 0 had (replicate 32 noDelta) (replicate 32 noDelta)
+paying-none had left ps l =
     record {
       place = omega arith;
       size = l;
-      useds = filled-none noDelta (deltaEntry (usedBy (cellAt wanted) ps));
-      unuseds = filled-none noDelta (deltaEntry (deltas (spend (cellAt wanted) ps)));
-      toUse = λ j. ap (λ (k : ℕ). getD (usedBy (cellAt wanted) ps) k (pos 0)) (omega arith);
-      toLeave = λ j. ap (λ (k : ℕ). getD (deltas (spend (cellAt wanted) ps)) k (pos 0)) (omega arith);
+      useds = filled-none noDelta (deltaEntry (usedBy (goneOf had left) ps));
+      unuseds = filled-none noDelta (deltaEntry (deltas (spend (goneOf had left) ps)));
+      toUse = λ j. ap (λ (k : ℕ). getD (usedBy (goneOf had left) ps) k (pos 0)) (omega arith);
+      toLeave = λ j. ap (λ (k : ℕ). getD (deltas (spend (goneOf had left) ps)) k (pos 0)) (omega arith);
     }
 
--- what is wanted after a prompt has paid
-pub wanted-after : (now : List ℕ) (p : Open) (ps : List Open) → length now ≡ 32
-    → spend (λ m t. cellAt now m t - inTier m t p) ps
-    ≡ spend (cellAt (set now (cellOf (marketOf (p .unused)) (p .tier)) (cellAt now (marketOf (p .unused)) (p .tier) - natAbs (p .unused)))) ps
-wanted-after now p ps l =
-    spend-same ps (λ m t. ap (λ (a : ℕ). cellAt now m t - a) (in-own-pool m t p) ∙ sym (cell-less now (own p) (natAbs (p .unused)) m t l))
+-- what is gone after a prompt has paid
+gone-after : (a b x l n : ℕ) → n ≡ x → b ≡ a - x → a - l - n ≡ b - l
+gone-after a b x l n e f = omega arith
 
-module _ (wanted : List ℕ) (ps : List Open) (i : ℕ) (now : List ℕ) (used unused : List Delta) (p : Open) (u v : Delta) (d : Open)
+pub wanted-after : (now left : List ℕ) (p : Open) (ps : List Open) → length now ≡ 32
+    → spend (λ m t. goneOf now left m t - inTier m t p) ps
+    ≡ spend (goneOf (set now (cellOf (marketOf (p .unused)) (p .tier)) (cellAt now (marketOf (p .unused)) (p .tier) - natAbs (p .unused))) left) ps
+wanted-after now left p ps l =
+    spend-same ps (λ m t. gone-after (cellAt now m t) _ _ (cellAt left m t) _ (in-own-pool m t p) (cell-less now (own p) (natAbs (p .unused)) m t l))
+
+module _ (had left : List ℕ) (ps : List Open) (i : ℕ) (now : List ℕ) (used unused : List Delta) (p : Open) (u v : Delta) (d : Open)
     (h : i < length ps) (g : i < 32) (here : getD ps i d ≡ p)
-    (eu : u .0 ≡ p .unused -ℤ towardsZero (p .unused) (cellAt now (marketOf (p .unused)) (p .tier)))
-    (ev : v .0 ≡ towardsZero (p .unused) (cellAt now (marketOf (p .unused)) (p .tier)))
-    (r : Paying wanted ps i now used unused) where
+    (eu : u .0 ≡ p .unused -ℤ towardsZero (p .unused) (goneOf now left (marketOf (p .unused)) (p .tier)))
+    (ev : v .0 ≡ towardsZero (p .unused) (goneOf now left (marketOf (p .unused)) (p .tier)))
+    (r : Paying had left ps i now used unused) where
   after-p : List ℕ
   after-p = set now (cellOf (marketOf (p .unused)) (p .tier)) (cellAt now (marketOf (p .unused)) (p .tier) - natAbs (p .unused))
 
   to-go : drop i ps ≡ p ∷ drop (i + 1) ps
   to-go = drop-cons ps i d h ∙ ap₂ _∷_ here (ap (λ (k : ℕ). drop k ps) (sym (add-one i)))
 
-  leaves : (j : ℕ) → getD (deltas (spend (cellAt wanted) ps)) (i + j) (pos 0) ≡ getD (v .0 ∷ deltas (spend (cellAt after-p) (drop (i + 1) ps))) j (pos 0)
+  leaves : (j : ℕ) → getD (deltas (spend (goneOf had left) ps)) (i + j) (pos 0) ≡ getD (v .0 ∷ deltas (spend (goneOf after-p left) (drop (i + 1) ps))) j (pos 0)
   unfolding after-p
   leaves j =
       r .toLeave j
-      ∙ ap (λ (l : List Open). getD (deltas (spend (cellAt now) l)) j (pos 0)) to-go
-      ∙ ap₂ (λ (z : ℤ) (l : List Open). getD (z ∷ deltas l) j (pos 0)) (sym ev) (wanted-after now p (drop (i + 1) ps) (r .size))
+      ∙ ap (λ (l : List Open). getD (deltas (spend (goneOf now left) l)) j (pos 0)) to-go
+      ∙ ap₂ (λ (z : ℤ) (l : List Open). getD (z ∷ deltas l) j (pos 0)) (sym ev) (wanted-after now left p (drop (i + 1) ps) (r .size))
 
-  pays : (j : ℕ) → getD (usedBy (cellAt wanted) ps) (i + j) (pos 0) ≡ getD (u .0 ∷ usedBy (cellAt after-p) (drop (i + 1) ps)) j (pos 0)
+  pays : (j : ℕ) → getD (usedBy (goneOf had left) ps) (i + j) (pos 0) ≡ getD (u .0 ∷ usedBy (goneOf after-p left) (drop (i + 1) ps)) j (pos 0)
   unfolding after-p
   pays j =
       r .toUse j
-      ∙ ap (λ (l : List Open). getD (usedBy (cellAt now) l) j (pos 0)) to-go
+      ∙ ap (λ (l : List Open). getD (usedBy (goneOf now left) l) j (pos 0)) to-go
       ∙ ap₂ (λ (z : ℤ) (l : List Open). getD (z ∷ minus (deltas (drop (i + 1) ps)) (deltas l)) j (pos 0))
-      (sym eu) (wanted-after now p (drop (i + 1) ps) (r .size))
+      (sym eu) (wanted-after now left p (drop (i + 1) ps) (r .size))
 
   here-at : (l : List ℤ) (z : ℤ) → getD l (i + 0) (pos 0) ≡ z → z ≡ getD l i (pos 0)
   here-at l z e = sym e ∙ ap (λ (k : ℕ). getD l k (pos 0)) (omega arith)
@@ -78,7 +81,7 @@ module _ (wanted : List ℕ) (ps : List Open) (i : ℕ) (now : List ℕ) (used u
   shift : (j : ℕ) → i + 1 + j ≡ i + suc j
   shift j = omega arith
 
-  paying-next : Paying wanted ps (i + 1)
+  paying-next : Paying had left ps (i + 1)
       (set now (cellOf (marketOf (p .unused)) (p .tier)) (cellAt now (marketOf (p .unused)) (p .tier) - natAbs (p .unused)))
       (set used i u) (set unused i v)
   unfolding after-p
@@ -87,50 +90,51 @@ module _ (wanted : List ℕ) (ps : List Open) (i : ℕ) (now : List ℕ) (used u
         place = omega arith;
         size = length-set now (cellOf (marketOf (p .unused)) (p .tier)) (cellAt now (marketOf (p .unused)) (p .tier) - natAbs (p .unused)) ∙ r .size;
         useds =
-            filled-next noDelta (deltaEntry (usedBy (cellAt wanted) ps)) i used u (r .useds) g
-            (ap (λ (z : ℤ). record { 0 = z }) (here-at (usedBy (cellAt wanted) ps) (u .0) (pays 0)));
+            filled-next noDelta (deltaEntry (usedBy (goneOf had left) ps)) i used u (r .useds) g
+            (ap (λ (z : ℤ). record { 0 = z }) (here-at (usedBy (goneOf had left) ps) (u .0) (pays 0)));
         unuseds =
-            filled-next noDelta (deltaEntry (deltas (spend (cellAt wanted) ps))) i unused v (r .unuseds) g
-            (ap (λ (z : ℤ). record { 0 = z }) (here-at (deltas (spend (cellAt wanted) ps)) (v .0) (leaves 0)));
-        toUse = λ j. ap (λ (k : ℕ). getD (usedBy (cellAt wanted) ps) k (pos 0)) (shift j) ∙ pays (suc j);
-        toLeave = λ j. ap (λ (k : ℕ). getD (deltas (spend (cellAt wanted) ps)) k (pos 0)) (shift j) ∙ leaves (suc j);
+            filled-next noDelta (deltaEntry (deltas (spend (goneOf had left) ps))) i unused v (r .unuseds) g
+            (ap (λ (z : ℤ). record { 0 = z }) (here-at (deltas (spend (goneOf had left) ps)) (v .0) (leaves 0)));
+        toUse = λ j. ap (λ (k : ℕ). getD (usedBy (goneOf had left) ps) k (pos 0)) (shift j) ∙ pays (suc j);
+        toLeave = λ j. ap (λ (k : ℕ). getD (deltas (spend (goneOf had left) ps)) k (pos 0)) (shift j) ∙ leaves (suc j);
       }
 
-pub paying-all : (wanted : List ℕ) (ps : List Open) (i : ℕ) (now : List ℕ) (used unused : List Delta) → length ps ≤ i
-    → Paying wanted ps i now used unused → Spent wanted ps used unused
-paying-all wanted ps i now used unused h r =
+pub paying-all : (had left : List ℕ) (ps : List Open) (i : ℕ) (now : List ℕ) (used unused : List Delta) → length ps ≤ i
+    → Paying had left ps i now used unused → Spent had left ps used unused
+paying-all had left ps i now used unused h r =
     record {
-      useds = filled-all noDelta (deltaEntry (usedBy (cellAt wanted) ps)) i used (r .useds) (λ k g. ap (λ (z : ℤ). record { 0 = z }) (none-used k g));
-      unuseds = filled-all noDelta (deltaEntry (deltas (spend (cellAt wanted) ps))) i unused (r .unuseds)
+      useds = filled-all noDelta (deltaEntry (usedBy (goneOf had left) ps)) i used (r .useds) (λ k g. ap (λ (z : ℤ). record { 0 = z }) (none-used k g));
+      unuseds = filled-all noDelta (deltaEntry (deltas (spend (goneOf had left) ps))) i unused (r .unuseds)
           (λ k g. ap (λ (z : ℤ). record { 0 = z }) (none-left k g));
     }
   where
     split : (k : ℕ) → i ≤ k → k ≡ i + (k - i)
     split k g = omega arith
 
-    none-used : (k : ℕ) → i ≤ k → getD (usedBy (cellAt wanted) ps) k (pos 0) ≡ pos 0
+    none-used : (k : ℕ) → i ≤ k → getD (usedBy (goneOf had left) ps) k (pos 0) ≡ pos 0
     none-used k g =
-        ap (λ (j : ℕ). getD (usedBy (cellAt wanted) ps) j (pos 0)) (split k g)
+        ap (λ (j : ℕ). getD (usedBy (goneOf had left) ps) j (pos 0)) (split k g)
         ∙ r .toUse (k - i)
-        ∙ ap (λ (l : List Open). getD (usedBy (cellAt now) l) (k - i) (pos 0)) (drop-of-length-le ps h)
+        ∙ ap (λ (l : List Open). getD (usedBy (goneOf now left) l) (k - i) (pos 0)) (drop-of-length-le ps h)
 
-    none-left : (k : ℕ) → i ≤ k → getD (deltas (spend (cellAt wanted) ps)) k (pos 0) ≡ pos 0
+    none-left : (k : ℕ) → i ≤ k → getD (deltas (spend (goneOf had left) ps)) k (pos 0) ≡ pos 0
     none-left k g =
-        ap (λ (j : ℕ). getD (deltas (spend (cellAt wanted) ps)) j (pos 0)) (split k g)
+        ap (λ (j : ℕ). getD (deltas (spend (goneOf had left) ps)) j (pos 0)) (split k g)
         ∙ r .toLeave (k - i)
-        ∙ ap (λ (l : List Open). getD (deltas (spend (cellAt now) l)) (k - i) (pos 0)) (drop-of-length-le ps h)
+        ∙ ap (λ (l : List Open). getD (deltas (spend (goneOf now left) l)) (k - i) (pos 0)) (drop-of-length-le ps h)
 
 -- a turn of the code
-pub pay-next : (wanted : List ℕ) (ps : List Open) (i : ℕ) (now more : List ℕ) (used unused : List Delta) (z : ℤ) (cell : ℕ) (u v : Delta) → i < 32
+pub pay-next : (had left : List ℕ) (ps : List Open) (i : ℕ) (now more : List ℕ) (used unused : List Delta) (z : ℤ) (cell due : ℕ) (u v : Delta) → i < 32
     → Placed ps i z cell
-    → u .0 ≡ z -ℤ towardsZero z (getD now cell 0)
-    → v .0 ≡ towardsZero z (getD now cell 0)
+    → due ≡ getD now cell 0 - getD left cell 0
+    → u .0 ≡ z -ℤ towardsZero z due
+    → v .0 ≡ towardsZero z due
     → more ≡ set now cell (getD now cell 0 - natAbs z)
-    → Paying wanted ps i now used unused
-    → Paying wanted ps (i + 1) more (set used i u) (set unused i v)
-pay-next wanted ps i now more used unused z cell u v h g eu ev e r =
-    subst (λ (l : List ℕ). Paying wanted ps (i + 1) l (set used i u) (set unused i v))
+    → Paying had left ps i now used unused
+    → Paying had left ps (i + 1) more (set used i u) (set unused i v)
+pay-next had left ps i now more used unused z cell due u v h g ed eu ev e r =
+    subst (λ (l : List ℕ). Paying had left ps (i + 1) l (set used i u) (set unused i v))
     (sym (e ∙ (λ j. set now (g .own j) (getD now (g .own j) 0 - natAbs (g .net j)))))
-    (paying-next wanted ps i now used unused (getD ps i nothing) u v nothing (g .place) h refl
-    (eu ∙ (λ j. g .net j -ℤ towardsZero (g .net j) (getD now (g .own j) 0)))
-    (ev ∙ (λ j. towardsZero (g .net j) (getD now (g .own j) 0))) r)
+    (paying-next had left ps i now used unused (getD ps i nothing) u v nothing (g .place) h refl
+    (eu ∙ ap (λ (a : ℕ). z -ℤ towardsZero z a) ed ∙ (λ j. g .net j -ℤ towardsZero (g .net j) (getD now (g .own j) 0 - getD left (g .own j) 0)))
+    (ev ∙ ap (towardsZero z) ed ∙ (λ j. towardsZero (g .net j) (getD now (g .own j) 0 - getD left (g .own j) 0))) r)

@@ -55,7 +55,7 @@ cell-most m t = go (ltb t 16) refl
     go true e = let s = cell-small m t (ltb-true t 16 e) in omega arith
     go false e = let o = out-of-range m t (ltb-false t 16 e) in omega arith
 
-pub no-cell : (cells : List ℕ) (m : Market) (t : ℕ) → length cells ≡ 32 → 16 ≤ t → cellAt cells m t ≡ 0
+no-cell : (cells : List ℕ) (m : Market) (t : ℕ) → length cells ≡ 32 → 16 ≤ t → cellAt cells m t ≡ 0
 no-cell cells m t l h = ap (λ (k : ℕ). getD cells k 0) (out-of-range m t h) ∙ List·getD-eq-default cells 0 (omega arith)
 
 pub same-cells : (m n : Market) (t u : ℕ) → u < 16 → eqb (cellOf m t) (cellOf n u) ≡ sameMarket n m && eqb t u

@@ -14,8 +14,8 @@ use native.Mathlib.Nat.{add-zero}
 use Rattle.exact.specs.Lists.{sumℤ}
 use Rattle.exact.proofs.Integers.{abs-towards-zero}
 use Rattle.spread.specs.Accepted.{mostDelta, every, opens, openOf, soundPrompt, soundPrompts, soundSpread}
-use Rattle.spread.specs.Book.{entries, deltaEntry, Wanted, Spent}
-use Rattle.spread.specs.Cells.{cellAt, stepOf, Pooled, Taken}
+use Rattle.spread.specs.Book.{entries, deltaEntry, goneOf, Spent}
+use Rattle.spread.specs.Cells.{stepOf, Pooled, Taken}
 use Rattle.spread.specs.Demand.{deltaAt, addedUp, stepUse, soundStep, soundSteps}
 use Rattle.spread.specs.Spend.{marketOf, spend, deltas}
 use Rattle.spread.specs.Steps.{Market, Open, Taker, onSide, inTier, towardsZero, less, formed, after, numbers, left, minus, usedOf, unusedOf}
@@ -163,11 +163,11 @@ module _ (p : Prompts) (s : Spread) (second : Bool) (e : soundFor p s ≡ true) 
       (ap (every soundPrompt) (left-opens ds h) ∙ rest-sound)
 
   -- what is accepted
-  pub stepped-accepted : (cells l wanted : List ℕ) (number : Spreads) (used unused : List Delta)
-      → Pooled cells (openOf p) → Taken (stepOf second s) cells l (number .0) → Wanted cells l wanted → Spent wanted (openOf p) used unused
+  pub stepped-accepted : (cells l : List ℕ) (number : Spreads) (used unused : List Delta)
+      → Pooled cells (openOf p) → Taken (stepOf second s) cells l (number .0) → Spent cells l (openOf p) used unused
       → Stepped p s second (record { accepted = true; number = number; taken = used; left = record { count = p .count; tier = p .tier; net = unused } })
   unfolding rest left-prompts
-  stepped-accepted cells l wanted number used unused pools taken w spent =
+  stepped-accepted cells l number used unused pools taken spent =
       record {
         accepted = sym e;
         number = taken .formed ∙ ap first-of (pooled-numbers one cells (openOf p) pools)
@@ -198,8 +198,8 @@ module _ (p : Prompts) (s : Spread) (second : Bool) (e : soundFor p s ≡ true) 
       after-step : Pooled l (left one (openOf p))
       after-step = rw (taken .leaves) (pooled-left one cells (openOf p) pools)
 
-      paid : spend (cellAt wanted) (openOf p) ≡ left one (openOf p)
-      paid = spend-left one (openOf p) runs cells l wanted pools after-step w
+      paid : spend (goneOf cells l) (openOf p) ≡ left one (openOf p)
+      paid = spend-left one (openOf p) runs cells l pools after-step
 
       left-nets : unused ≡ entries 32 (deltaEntry (deltas rest))
       left-nets = spent .unuseds ∙ ap (λ (ps : List Open). entries 32 (deltaEntry (deltas ps))) paid

@@ -1,12 +1,12 @@
 -- What comes back for prompts and a table of spreads: each step's number, and used and unused at each prompt.
 -- Assumes nothing.
-use Prim.Native.Nat.{ℕ, zero, suc, _+_, _-_, _*_, _<_}
+use Prim.Native.Nat.{ℕ, zero, suc, _+_, _-_, _*_}
 use mathlib.Core.Path.{_≡_}
 use mathlib.Core.Bool.{false, cond}
 use mathlib.Core.List.{List, [], _∷_}
-use lib.ListN.{length, getD, replicate}
+use lib.ListN.{getD, replicate}
 use lib.IntN.{ℤ, pos}
-use Rattle.spread.specs.Steps.{Open, steps, numbers, usedOf, unusedOf}
+use Rattle.spread.specs.Steps.{Market, Open, steps, numbers, usedOf, unusedOf}
 use Rattle.spread.specs.Spend.{spend, deltas, usedBy}
 use Rattle.spread.specs.Cells.{cellAt, numbersIn, leftIn}
 use Rattle.spread.specs.Accepted.{openOf, stepsOf, sound}
@@ -61,12 +61,11 @@ pub record Run (cells : List ℕ) (ss : List Spread) (left : List ℕ) (first se
   pub seconds : second ≡ entries 32 (λ k. spreadsEntry (numbersIn (steps ss) cells) (2 * k + 1))
   pub leaves : left ≡ leftIn (steps ss) cells
 
--- What is used of each pool.
-pub record Wanted (cells left wanted : List ℕ) : Type 0 where
-  pub size : length wanted ≡ 32
-  pub each : (k : ℕ) → k < 32 → getD wanted k 0 ≡ getD cells k 0 - getD left k 0
+-- what is gone of each pool
+abbrev pub goneOf : List ℕ → List ℕ → Market → ℕ → ℕ
+goneOf had left m t = cellAt had m t - cellAt left m t
 
--- One spend of the pools over the prompts.
-pub record Spent (wanted : List ℕ) (ps : List Open) (used unused : List Delta) : Type 0 where
-  pub useds : used ≡ entries 32 (deltaEntry (usedBy (cellAt wanted) ps))
-  pub unuseds : unused ≡ entries 32 (deltaEntry (deltas (spend (cellAt wanted) ps)))
+-- One spend over the prompts of what is gone of the pools.
+pub record Spent (had left : List ℕ) (ps : List Open) (used unused : List Delta) : Type 0 where
+  pub useds : used ≡ entries 32 (deltaEntry (usedBy (goneOf had left) ps))
+  pub unuseds : unused ≡ entries 32 (deltaEntry (deltas (spend (goneOf had left) ps)))

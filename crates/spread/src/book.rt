@@ -15,13 +15,14 @@ use exact::signed::minus;
 use exact::signed::towards_zero;
 ghost use mathlib.Core.Path.{_≡_};
 ghost use mathlib.Core.Bool.{true};
-ghost use Prim.Native.Nat.{_-_, _≤_};
+ghost use Prim.Native.Nat.{_≤_};
+ghost use lib.ListN.{length};
 ghost use lib.IntN.{_-ℤ_};
 ghost use Rattle.spread.specs.Steps.{towardsZero};
 ghost use Rattle.spread.specs.Accepted.{openOf, spreadsOf, soundPrompts, sound};
 ghost use Rattle.spread.specs.Spend.{marketOf};
 ghost use Rattle.spread.specs.Cells.{cellOf, Pooled, Small};
-ghost use Rattle.spread.specs.Book.{Booked, Refused, Run, Wanted, Spent};
+ghost use Rattle.spread.specs.Book.{Booked, Refused, Run, Spent};
 
 // Spread k formed first[k] in its first step and second[k] in its second; used[k] and unused[k] are the parts of prompt k's
 // net delta. All are zero beyond the spreads and prompts given, and where these are not accepted.
@@ -111,21 +112,6 @@ fn run(pools: Pools, table: Table) -> Ran
     ran
 }
 
-// What the steps used of each pool.
-pub(crate) fn used_of(pools: Pools, left: Pools) -> Pools
-    ensures { λ r. ⌜ Wanted (pools .cell) (left .cell) (r .cell) ⌝ }
-{
-    let had = pools.cell;
-    let has = left.cell;
-    let mut used = [0; CELLS];
-    let mut cell = 0;
-    while cell < CELLS {
-        used[cell] = beyond(had[cell], has[cell]);
-        cell += 1;
-    }
-    Pools { cell: used }
-}
-
 // A net delta of which so much is wanted: no prompt goes past zero.
 fn parts_of(net: Delta, wanted: u64) -> Parts
     ensures { λ r. ⌜ (r .used .0 ≡ net .0 -ℤ towardsZero (net .0) wanted) × (r .unused .0 ≡ towardsZero (net .0) wanted) ⌝ }
@@ -138,13 +124,14 @@ fn parts_of(net: Delta, wanted: u64) -> Parts
     }
 }
 
-// "from the prompts of its tier on that side, earliest day first"
-pub(crate) fn paid_by(prompts: Prompts, wanted: Pools) -> Paid
-    requires { ⌜ soundPrompts prompts ≡ true ⌝ }
-    ensures { λ r. ⌜ Spent (wanted .cell) (openOf prompts) (r .used) (r .unused) ⌝ }
+// What the steps used of each pool, had less left, "from the prompts of its tier on that side, earliest day first". A prompt
+// that has paid is no longer among what was had.
+pub(crate) fn paid_by(prompts: Prompts, pools: Pools, left: &[u64]) -> Paid
+    requires { ⌜ (soundPrompts prompts ≡ true) × (length (now left) ≡ 32) ⌝ }
+    ensures { λ r. ⌜ Spent (pools .cell) (now (left .entry)) (openOf prompts) (r .used) (r .unused) ⌝ }
 {
     let n = prompts.count;
-    let mut left = wanted.cell;
+    let mut had = pools.cell;
     let mut paid = Paid {
         used: [Delta(0); MOST_PROMPTS],
         unused: [Delta(0); MOST_PROMPTS],
@@ -153,13 +140,13 @@ pub(crate) fn paid_by(prompts: Prompts, wanted: Pools) -> Paid
     while k < n {
         let net = prompts.net[k];
         let cell = pool_of(prompts.tier[k], net);
-        let due = left[cell];
+        let due = beyond(had[cell], left[cell]);
         let parts = parts_of(net, due);
         let taken = parts.used;
         let kept = parts.unused;
         paid.used[k] = taken;
         paid.unused[k] = kept;
-        left[cell] = beyond(due, net.size());
+        had[cell] = beyond(had[cell], net.size());
         k += 1;
     }
     paid
@@ -185,8 +172,7 @@ pub fn book_of_accepted(prompts: Prompts, table: Table) -> Book
 {
     let pools = pools_of(prompts);
     let ran = run(pools, table);
-    let left = ran.left;
-    let paid = paid_by(prompts, used_of(pools, left));
+    let paid = paid_by(prompts, pools, &ran.left.cell);
     let first = ran.first;
     let second = ran.second;
     let used = paid.used;

@@ -8,7 +8,6 @@ use crate::accepted::sound_prompts;
 use crate::accepted::sound_spread;
 use crate::book::paid_by;
 use crate::book::pools_of;
-use crate::book::used_of;
 ghost use mathlib.Core.Path.{_≡_};
 ghost use Rattle.spread.specs.Uses.{soundFor, Stepped, NotTaken};
 
@@ -50,7 +49,7 @@ pub fn step_over(prompts: Prompts, spread: Spread, second: bool) -> Step
     let pools = pools_of(prompts);
     let took = pools.take(spread, second);
     let after = took.left;
-    let paid = paid_by(prompts, used_of(pools, after));
+    let paid = paid_by(prompts, pools, &after.cell);
     let number = took.number;
     let taken = paid.used;
     let unused = paid.unused;

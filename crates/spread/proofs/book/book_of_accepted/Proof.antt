@@ -27,19 +27,19 @@ run-requires c κs =
       pooled-small p _ lt ln (and-left (soundPrompts p) (soundTable (s .args .table)) (s .pre)) (c .pools-of .ensures),
     )
 
-used-of-requires : tie.Need-used-of-requires
-used-of-requires c κs = search needs
-
 paid-by-requires : tie.Need-paid-by-requires
-paid-by-requires c κs = let s = c .before .before .before .before in
-    and-left (soundPrompts (s .args .prompts)) (soundTable (s .args .table)) (s .pre)
+paid-by-requires c κs = let s = c .before .before .before .before .before in
+    let r = c .before .before .before .run in (
+      and-left (soundPrompts (s .args .prompts)) (soundTable (s .args .table)) (s .pre),
+      sym (length-map (r .result .left .cell) _) ∙ r .ok .1 .1 .0 .1 .1 .0 .1 .0 .1,
+    )
 
 returns : tie.Need-returns
 returns c = let b = c .before .before .before .before in
-    let s = b .before .before .before .before .before in
-    booked-accepted (s .args .prompts) (s .args .table) _ _ _ _ _ _ _ (s .pre)
-    (b .before .before .before .before .pools-of .ensures) (b .before .before .before .run .ensures) (b .before .used-of .ensures) (b .paid-by .ensures)
+    let r = b .before .before .before .before in
+    let s = r .before .before in
+    booked-accepted (s .args .prompts) (s .args .table) _ _ _ _ _ _ (s .pre) (r .before .pools-of .ensures) (r .run .ensures) (b .paid-by .ensures)
 
 pub book-of-accepted-spec : {M : Type 1} → statement M
 book-of-accepted-spec =
-    tie.close (tie.spec pools-of-requires run-requires used-of-requires paid-by-requires returns)
+    tie.close (tie.spec pools-of-requires run-requires paid-by-requires returns)

@@ -1,4 +1,4 @@
--- `paid_by`: the prompts passed have paid, and the cells hold what is still wanted of the later ones.
+-- `paid_by`: the prompts passed have paid, and what is gone of the cells is still wanted of the later ones.
 -- Assumes nothing.
 use Prim.Native.Nat.{ℕ, _-_, _≤_, _<_}
 use native.Mathlib.Omega.{arith}
@@ -13,10 +13,10 @@ use Rattle.spread.proofs.book.paid_by.Statement.{statement}
 use Rattle.spread.proofs.book.paid_by.Tie as tie
 
 abbrev Inv-loop : tie.InvT-loop
-Inv-loop prompts n left₀ paid₀ k₀ left paid k = (k ≤ n) × (n ≤ 32) × Paying left₀ (openOf prompts) k left (paid .used) (paid .unused)
+Inv-loop left prompts n had₀ paid₀ k₀ had paid k = (k ≤ n) × (n ≤ 32) × Paying had₀ left (openOf prompts) k had (paid .used) (paid .unused)
 
 abbrev μ-loop : tie.MeasureT-loop
-μ-loop prompts n left₀ paid₀ k₀ left paid k = n - k
+μ-loop left prompts n had₀ paid₀ k₀ had paid k = n - k
 
 tiers : (s : tie.Start Inv-loop μ-loop) → length (s .args .t1 .tier) ≡ 32
 tiers s = sym (length-map (s .args .t1 .tier) _) ∙ s .good .0 .1 .1 .1 .0 .1 .0 .1
@@ -26,18 +26,18 @@ nets s = sym (length-map (s .args .t1 .net) _) ∙ s .good .0 .1 .1 .1 .1 .0 .1 
 
 -- the prompt of a turn
 here : (c : tie.After-pool-of Inv-loop μ-loop)
-    → let p = c .before .before .before .before .before .before .args .t1 in let k = c .before .before .before .before .loop .k in Placed (openOf p) k
+    → let p = c .before .before .before .before .before .before .before .args .t1 in let k = c .before .before .before .before .loop .k in Placed (openOf p) k
     (netOf p k) (c .pool-of .result)
-here c = let s = c .before .before .before .before .before .before in
-    placed (s .args .t1) _ (c .pool-of .result) (tiers s) (nets s) (s .pre) (c .before .before .before .loop-test .taken) (c .pool-of .ensures)
+here c = let s = c .before .before .before .before .before .before .before in
+    placed (s .args .t1) _ (c .pool-of .result) (tiers s) (nets s) (s .pre .0) (c .before .before .before .loop-test .taken) (c .pool-of .ensures)
 
 within : (c : tie.After-pool-of Inv-loop μ-loop) → c .pool-of .result < 32
 within c = placed-within _ _ _ _ (here c)
 
 loop-holds : tie.Need-loop-holds Inv-loop μ-loop
-loop-holds c = let s = c .before in
-    let len : length (s .args .wanted .cell) ≡ 32 = sym (length-map (s .args .wanted .cell) _) ∙ s .good .1 .0 .1 .1 .0 .1 .0 .1 in
-    (omega arith, few (s .args .t1) (s .pre), paying-none (s .args .wanted .cell) (openOf (s .args .t1)) len)
+loop-holds c = let s = c .before .before in
+    let len : length (s .args .pools .cell) ≡ 32 = sym (length-map (s .args .pools .cell) _) ∙ s .good .1 .0 .1 .1 .0 .1 .0 .1 in
+    (omega arith, few (s .args .t1) (s .pre .0), paying-none (s .args .pools .cell) (s .args .left .now) (openOf (s .args .t1)) len)
 
 mul-net : tie.Need-mul-net Inv-loop μ-loop
 mul-net c = omega arith
@@ -51,11 +51,20 @@ element-copy-out-pool-of c = omega arith
 pool-of-requires : tie.Need-pool-of-requires Inv-loop μ-loop
 pool-of-requires c κs = search needs
 
-mul-due : tie.Need-mul-due Inv-loop μ-loop
-mul-due c = let h = within c in omega arith
+mul-beyond : tie.Need-mul-beyond Inv-loop μ-loop
+mul-beyond c = let h = within c in omega arith
 
-array-read-due : tie.Need-array-read-due Inv-loop μ-loop
-array-read-due c = within c
+array-read-beyond : tie.Need-array-read-beyond Inv-loop μ-loop
+array-read-beyond c = within c
+
+mul-beyond-2 : tie.Need-mul-beyond-2 Inv-loop μ-loop
+mul-beyond-2 c = let h = within c in omega arith
+
+shared-slice-read-beyond : tie.Need-shared-slice-read-beyond Inv-loop μ-loop
+shared-slice-read-beyond c = let s = c .before .before .before .before .before .before .before .before in omega (arith, within (c .before), s .pre .1)
+
+beyond-requires : tie.Need-beyond-requires Inv-loop μ-loop
+beyond-requires c κs = search needs
 
 parts-of-requires : tie.Need-parts-of-requires Inv-loop μ-loop
 parts-of-requires c κs = search needs
@@ -72,17 +81,23 @@ mul-kept c = omega arith
 element-set-from-kept : tie.Need-element-set-from-kept Inv-loop μ-loop
 element-set-from-kept c = omega arith
 
+mul-beyond-3 : tie.Need-mul-beyond-3 Inv-loop μ-loop
+mul-beyond-3 c = let h = within (c .before .before .before .before .before) in omega arith
+
+array-read-beyond-2 : tie.Need-array-read-beyond-2 Inv-loop μ-loop
+array-read-beyond-2 c = within (c .before .before .before .before .before)
+
 size-requires : tie.Need-size-requires Inv-loop μ-loop
 size-requires c κs = search needs
 
-beyond-requires : tie.Need-beyond-requires Inv-loop μ-loop
-beyond-requires c κs = search needs
+beyond-requires-2 : tie.Need-beyond-requires-2 Inv-loop μ-loop
+beyond-requires-2 c κs = search needs
 
-mul-left : tie.Need-mul-left Inv-loop μ-loop
-mul-left c = let h = within (c .before .before .before .before .before) in omega arith
+mul-had : tie.Need-mul-had Inv-loop μ-loop
+mul-had c = let h = within (c .before .before .before .before .before .before .before) in omega arith
 
-array-write-left : tie.Need-array-write-left Inv-loop μ-loop
-array-write-left c = within (c .before .before .before .before .before)
+array-write-had : tie.Need-array-write-had Inv-loop μ-loop
+array-write-had c = within (c .before .before .before .before .before .before .before)
 
 add-k : tie.Need-add-k Inv-loop μ-loop
 add-k c = omega arith
@@ -91,26 +106,27 @@ loop-less : tie.Need-loop-less Inv-loop μ-loop
 loop-less c = omega arith
 
 loop-again : tie.Need-loop-again Inv-loop μ-loop
-loop-again c = let p = c .before .before .before .before .before in
+loop-again c = let p = c .before .before .before .before .before .before .before in
     let l = p .before .before .before .before .loop in
-    let s = p .before .before .before .before .before .before in
+    let s = p .before .before .before .before .before .before .before in
     let cell = p .pool-of .result in
+    let due = c .before .before .before .before .before .beyond .ensures in
     let parts = c .before .before .before .before .parts-of in (
       omega arith,
       l .inv .1,
-      pay-next (s .args .wanted .cell) (openOf (s .args .t1)) (l .k) (l .left) _ (l .paid .used) (l .paid .unused) _ cell (parts .result .used)
-          (parts .result .unused) (omega arith)
-          (here p) (parts .ensures .0) (parts .ensures .1)
-          (ap (set (l .left) cell) (c .beyond .ensures ∙ ap (λ (a : ℕ). getD (l .left) cell 0 - a) (c .before .size .ensures)))
+      pay-next (s .args .pools .cell) (s .args .left .now) (openOf (s .args .t1)) (l .k) (l .had) _ (l .paid .used) (l .paid .unused) _ cell _
+          (parts .result .used) (parts .result .unused) (omega arith)
+          (here p) due (parts .ensures .0) (parts .ensures .1)
+          (ap (set (l .had) cell) (c .beyond2 .ensures ∙ ap (λ (a : ℕ). getD (l .had) cell 0 - a) (c .before .size .ensures)))
           (l .inv .2),
     )
 
 returns : tie.Need-returns Inv-loop μ-loop
-returns c = let s = c .before .before .before in
+returns c = let s = c .before .before .before .before in
     let p = s .args .t1 in
     let l = c .before .loop in
     let n = open-length p (tiers s) (nets s) (l .inv .1) in
-    paying-all (s .args .wanted .cell) (openOf p) (l .k) (l .left) (l .paid .used) (l .paid .unused) (omega arith) (l .inv .2)
+    paying-all (s .args .pools .cell) (s .args .left .now) (openOf p) (l .k) (l .had) (l .paid .used) (l .paid .unused) (omega arith) (l .inv .2)
 
 pub paid-by-spec : {M : Type 1} → statement M
 paid-by-spec =
@@ -123,17 +139,22 @@ paid-by-spec =
     element-copy-out-net
     element-copy-out-pool-of
     pool-of-requires
-    mul-due
-    array-read-due
+    mul-beyond
+    array-read-beyond
+    mul-beyond-2
+    shared-slice-read-beyond
+    beyond-requires
     parts-of-requires
     mul-taken
     element-set-from-taken
     mul-kept
     element-set-from-kept
+    mul-beyond-3
+    array-read-beyond-2
     size-requires
-    beyond-requires
-    mul-left
-    array-write-left
+    beyond-requires-2
+    mul-had
+    array-write-had
     add-k
     loop-less
     loop-again

@@ -38,28 +38,28 @@ take-requires c κs =
     (and-left (soundPrompts q) (soundSpread (s .args .spread)) (sym (c .before .before .can-step .ensures) ∙ not-false _ (c .before .if1 .left)))
     (c .pools-of .ensures)
 
-used-of-requires : tie.Need-used-of-requires
-used-of-requires c κs = search needs
-
 paid-by-requires : tie.Need-paid-by-requires
 paid-by-requires c κs =
-    let b = c .before .before .before .before in
+    let b = c .before .before .before .before .before .before in
     let s = b .before .before in
-    and-left (soundPrompts (s .args .prompts)) (soundSpread (s .args .spread)) (sym (b .before .can-step .ensures) ∙ not-false _ (b .if1 .left))
+    let t = c .before .before .before .before .take in (
+      and-left (soundPrompts (s .args .prompts)) (soundSpread (s .args .spread)) (sym (b .before .can-step .ensures) ∙ not-false _ (b .if1 .left)),
+      sym (length-map (t .result .left .cell) _) ∙ t .ok .1 .1 .0 .1 .1 .0 .1 .0 .1,
+    )
 
 returns-2 : tie.Need-returns-2
 returns-2 c =
     let b = c .before .before .before .before in
-    let t = b .before .before .before in
+    let t = b .before .before .before .before .before in
     let p = t .before in
     let s = p .before .before .before in
     let q = s .args .prompts in
     let lt : length (q .tier) ≡ 32 = sym (length-map (q .tier) _) ∙ s .good .0 .1 .1 .1 .0 .1 .0 .1 in
     let ln : length (q .net) ≡ 32 = sym (length-map (q .net) _) ∙ s .good .0 .1 .1 .1 .1 .0 .1 .0 .1 in
-    stepped-accepted q (s .args .spread) (s .args .second) (sym (p .before .before .can-step .ensures) ∙ not-false _ (p .before .if1 .left)) lt ln _ _ _ _ _ _
-    (p .pools-of .ensures) (t .take .ensures) (b .before .used-of .ensures) (b .paid-by .ensures)
+    stepped-accepted q (s .args .spread) (s .args .second) (sym (p .before .before .can-step .ensures) ∙ not-false _ (p .before .if1 .left)) lt ln _ _ _ _ _
+    (p .pools-of .ensures) (t .take .ensures) (b .paid-by .ensures)
 
 pub step-over-spec : {M : Type 1} → statement M
 step-over-spec =
     tie.close
-    (tie.spec can-step-requires not-taken-requires returns pools-of-requires take-requires used-of-requires paid-by-requires returns-2)
+    (tie.spec can-step-requires not-taken-requires returns pools-of-requires take-requires paid-by-requires returns-2)

@@ -12,6 +12,7 @@ use Rattle.spread.specs.Accepted.{every, opens, openOf}
 use Rattle.spread.specs.Steps.{Open}
 use Rattle.spread.specs.declared.Delta.{Delta}
 use Rattle.spread.specs.declared.Prompts.{Prompts}
+use Rattle.spread.proofs.Both.{and-left, and-right}
 
 pub and-assoc : (a b c : Bool) → a && (b && c) ≡ (a && b) && c
 and-assoc true b c = refl
@@ -38,6 +39,11 @@ module _ {ℓ} {A : Type ℓ} where
   pub tested-end : (p : A → Bool) (l : List A) (i : ℕ) (so-far : Bool) → length l ≤ i → Tested p l i so-far → so-far ≡ every p l
   tested-end p l i so-far h e =
       sym (e ∙ ap (λ (k : List A). so-far && every p k) (drop-of-length-le l h) ∙ and-true so-far)
+
+  pub every-at : (p : A → Bool) (l : List A) (i : ℕ) (d : A) → every p l ≡ true → i < length l → p (getD l i d) ≡ true
+  every-at p [] i d e h = absurd (omega arith)
+  every-at p (x ∷ l) zero d e h = and-left (p x) (every p l) e
+  every-at p (x ∷ l) (suc i) d e h = every-at p l i d (and-right (p x) (every p l) e) (omega arith)
 
 -- the prompts by place
 

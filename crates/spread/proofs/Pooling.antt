@@ -3,7 +3,7 @@
 use Prim.Native.Nat.{ℕ, _+_, _-_, _*_, _≤_, _<_}
 use native.Mathlib.Nat.{sub-zero}
 use native.Mathlib.Omega.{arith}
-use mathlib.Core.Bool.{Bool, true, false, cond, _&&_}
+use mathlib.Core.Bool.{Bool, true, false, cond, _&&_, Bool·beq}
 use mathlib.Core.List.{List, [], _∷_, map}
 use mathlib.Core.Path.{_≡_, refl, sym, _∙_, ap, ap₂, subst, fun-ext}
 use lib.Dec.{eqb, ltb}
@@ -11,9 +11,10 @@ use lib.ListN.{length, getD, set, length-set, List·getD-eq-default}
 use lib.Seq.{getD-set-same, getD-set-other, set-out}
 use borrow.Author.Tests.{eqb-true, eqb-false, eq-eqb, ne-eqb, ltb-true, ltb-false, lt-ltb, le-ltb}
 use Rattle.exact.specs.Lists.{least}
-use Rattle.spread.specs.Cells.{parity, cellOf, cellAt, Pooled, formedIn, lessIn, afterIn, numbersIn, leftIn}
+use Rattle.spread.specs.Cells.{parity, cellOf, shortIf, marketIn, cellAt, Pooled, formedIn, lessIn, afterIn, numbersIn, leftIn}
 use Rattle.spread.specs.Demand.{sameMarket, draws}
 use Rattle.spread.specs.Steps.{Market, long, short, Open, Taker, pool, room, legTakes, takeFrom, formed, after, numbers, left}
+use Rattle.spread.specs.declared.Leg.{Leg}
 use Rattle.spread.proofs.Spending.{draws-market, draws-tier, take-spend, pool-spend}
 
 -- a test is as another that holds exactly when it does
@@ -67,6 +68,25 @@ same-cells m n t u h = go (ltb t 16) refl
         ne-eqb (cellOf m t) (cellOf n u)
         (λ d. let s = cell-small n u h in let o = out-of-range m t (ltb-false t 16 e) in omega arith)
         ∙ sym (ap (λ b. sameMarket n m && b) (ne-eqb t u (λ d. let g = ltb-false t 16 e in omega arith)) ∙ and-none (sameMarket n m))
+
+-- A legs are short in the second step, B legs in the first
+side-short : (b second : Bool) → shortIf (Bool·beq b second) ≡ cond second (cond b short long) (cond b long short)
+side-short true true = refl
+side-short true false = refl
+side-short false true = refl
+side-short false false = refl
+
+pub side-market : (s : ℕ) (second : Bool) → shortIf (Bool·beq (eqb s 1) second) ≡ marketIn second s
+side-market s true = side-short (eqb s 1) true
+side-market s false = side-short (eqb s 1) false
+
+-- the cell of a leg within the tiers
+pub cell-in-step : (l : Leg) (second b : Bool) → l .tier < 16 → Bool·beq (eqb (l .side) 1) second ≡ b
+    → cellOf (marketIn second (l .side)) (l .tier) ≡ 2 * l .tier + parity (shortIf b)
+cell-in-step l second b h e =
+    ap (λ (m : Market). cellOf m (l .tier)) (sym (side-market (l .side) second))
+    ∙ in-range (shortIf (Bool·beq (eqb (l .side) 1) second)) (l .tier) h
+    ∙ ap (λ (a : Bool). 2 * l .tier + parity (shortIf a)) e
 
 -- one cell changed
 pub cell-set : (cells : List ℕ) (n : Market) (u v : ℕ) (m : Market) (t : ℕ) → length cells ≡ 32 → u < 16

@@ -6,15 +6,19 @@ use native.Mathlib.Omega.{arith}
 use mathlib.Core.Bool.{true, false}
 use mathlib.Core.List.{List, _∷_}
 use mathlib.Core.Path.{_≡_, refl, sym, _∙_, ap, ap₂, subst}
+use lib.Dec.{leb}
 use lib.ListN.{length, getD, set, drop, replicate, drop-of-length-le}
 use lib.Seq.{drop-cons, getD-take, length-take-le}
-use Rattle.spread.specs.Accepted.{spreadsOf}
+use borrow.Author.Tests.{leb-true}
+use Rattle.spread.specs.Accepted.{every, spreadsOf, soundSpread, soundTable}
 use Rattle.spread.specs.Book.{spreadsEntry, Run}
 use Rattle.spread.specs.Cells.{stepOf, numbersIn, leftIn, Taken}
 use Rattle.spread.specs.Steps.{steps}
 use Rattle.spread.specs.declared.Spread.{Spread}
 use Rattle.spread.specs.declared.Spreads.{Spreads}
 use Rattle.spread.specs.declared.Table.{Table}
+use Rattle.spread.proofs.Both.{and-left, and-right}
+use Rattle.spread.proofs.Every.{every-at}
 use Rattle.spread.proofs.Filling.{Filled, filled-none, filled-next, filled-all}
 
 abbrev pub noSpreads : Spreads
@@ -113,6 +117,16 @@ running-all cells ss i now first second h r =
 
 pub table-length : (t : Table) → length (t .spread) ≡ 32 → t .count ≤ 32 → length (spreadsOf t) ≡ t .count
 table-length t l h = length-take-le (t .count) (t .spread) (omega arith)
+
+-- of a table that is accepted
+pub table-few : (t : Table) → soundTable t ≡ true → t .count ≤ 32
+table-few t e = leb-true (t .count) 32 (and-left (leb (t .count) 32) (every soundSpread (spreadsOf t)) e)
+
+pub table-at : (t : Table) (i : ℕ) (d : Spread) → length (t .spread) ≡ 32 → soundTable t ≡ true → i < t .count → soundSpread (getD (t .spread) i d) ≡ true
+table-at t i d l e h =
+    let n = table-length t l (table-few t e) in
+    sym (ap soundSpread (getD-take (t .count) (t .spread) i d h))
+    ∙ every-at soundSpread (spreadsOf t) i d (and-right (leb (t .count) 32) (every soundSpread (spreadsOf t)) e) (omega arith)
 
 pub table-next : (t : Table) (cells : List ℕ) (i : ℕ) (now l₁ l₂ : List ℕ) (first second : List Spreads) (d : Spread) (n₁ n₂ : Spreads)
     → length (t .spread) ≡ 32 → t .count ≤ 32 → i < t .count

@@ -1,12 +1,13 @@
 -- The steps of an accepted table can be run: what is asked of its legs is what demand 3 rests on.
 -- Assumes nothing.
-use Prim.Native.Nat.{ℕ}
+use Prim.Native.Nat.{ℕ, _<_}
 use mathlib.Core.Bool.{Bool, true, false, not, _&&_, _||_, true≢false}
 use mathlib.Core.List.{List, [], _∷_, map}
-use mathlib.Core.Logic.{_⊎_, inl, inr}
-use mathlib.Core.Path.{_≡_, refl, _∙_, ap}
+use mathlib.Core.Logic.{_⊎_, inl, inr, ⊎-elim}
+use mathlib.Core.Path.{_≡_, refl, sym, _∙_, ap}
 use lib.Dec.{eqb, leb, ltb}
-use borrow.Author.Tests.{eqb-true, not-true}
+use lib.ListN.{length, getD, take}
+use borrow.Author.Tests.{eqb-true, ltb-true, not-true}
 use Rattle.exact.specs.Lists.{any}
 use Rattle.spread.specs.Accepted.{spreadsOf, stepsOf, every, whole, soundLeg, sameLeg, soundLegsOf, soundSpread, soundPrompts, soundTable, sound}
 use Rattle.spread.specs.Cells.{marketIn, stepOf}
@@ -16,16 +17,17 @@ use Rattle.spread.specs.declared.Leg.{Leg}
 use Rattle.spread.specs.declared.Prompts.{Prompts}
 use Rattle.spread.specs.declared.Spread.{Spread}
 use Rattle.spread.specs.declared.Table.{Table}
+use Rattle.spread.proofs.Legs.{three}
 use Rattle.spread.proofs.Both.{and-left, and-right, and-both}
 
 -- a side is A or B, and in each step the two take from different sides of the market
 
-sides : (s : ℕ) → eqb s 1 || eqb s 2 ≡ true → (s ≡ 1) ⊎ (s ≡ 2)
-sides s e = go (eqb s 1) refl e
+one-of : (n a b : ℕ) → eqb n a || eqb n b ≡ true → (n ≡ a) ⊎ (n ≡ b)
+one-of n a b e = go (eqb n a) refl e
   where
-    go : (b : Bool) → eqb s 1 ≡ b → b || eqb s 2 ≡ true → (s ≡ 1) ⊎ (s ≡ 2)
-    go true f h = inl (eqb-true s 1 f)
-    go false f h = inr (eqb-true s 2 h)
+    go : (c : Bool) → eqb n a ≡ c → c || eqb n b ≡ true → (n ≡ a) ⊎ (n ≡ b)
+    go true f h = inl (eqb-true n a f)
+    go false f h = inr (eqb-true n b h)
 
 market-apart : (second : Bool) (a b : ℕ) → (a ≡ 1) ⊎ (a ≡ 2) → (b ≡ 1) ⊎ (b ≡ 2) → eqb a b ≡ false → sameMarket (marketIn second b) (marketIn second a) ≡ false
 market-apart second a b (inl ea) (inl eb) h = absurd (true≢false (rw (ea, eb) at h))
@@ -37,14 +39,17 @@ market-apart second a b (inr ea) (inr eb) h = absurd (true≢false (rw (ea, eb) 
 
 side-of : (l : Leg) → soundLeg l ≡ true → (l .side ≡ 1) ⊎ (l .side ≡ 2)
 side-of l e =
-    sides (l .side)
+    one-of (l .side) 1 2
     (and-left (eqb (l .side) 1 || eqb (l .side) 2) (ltb 0 (l .ratio))
     (and-right (ltb (l .tier) 16) ((eqb (l .side) 1 || eqb (l .side) 2) && ltb 0 (l .ratio)) e))
 
-ratio-of : (l : Leg) → soundLeg l ≡ true → ltb 0 (l .ratio) ≡ true
+pub ratio-of : (l : Leg) → soundLeg l ≡ true → ltb 0 (l .ratio) ≡ true
 ratio-of l e =
     and-right (eqb (l .side) 1 || eqb (l .side) 2) (ltb 0 (l .ratio))
     (and-right (ltb (l .tier) 16) ((eqb (l .side) 1 || eqb (l .side) 2) && ltb 0 (l .ratio)) e)
+
+pub tier-of : (l : Leg) → soundLeg l ≡ true → l .tier < 16
+tier-of l e = ltb-true (l .tier) 16 (and-left (ltb (l .tier) 16) ((eqb (l .side) 1 || eqb (l .side) 2) && ltb 0 (l .ratio)) e)
 
 -- what a sound list of legs says of its first and of the others
 
@@ -109,6 +114,44 @@ module _ (tenths second : Bool) where
   step-sound : (ls : List Leg) → soundLegsOf ls ≡ true → soundStep (map (taker tenths (marketIn second)) ls) ≡ true
   step-sound [] e = e
   step-sound (l ∷ ls) e = legs-sound l ls e
+
+-- a spread of two legs or of three, leg by leg
+pub with-two : (s : Spread) (d : Leg) → length (s .leg) ≡ 3 → s .legs ≡ 2 → soundSpread s ≡ soundLegsOf (getD (s .leg) 0 d ∷ getD (s .leg) 1 d ∷ [])
+with-two s d l e = rw e (ap (λ (k : List Leg). soundLegsOf (take 2 k)) (three d (s .leg) l))
+
+pub with-three : (s : Spread) (d : Leg) → length (s .leg) ≡ 3 → s .legs ≡ 3
+    → soundSpread s ≡ soundLegsOf (getD (s .leg) 0 d ∷ getD (s .leg) 1 d ∷ getD (s .leg) 2 d ∷ [])
+with-three s d l e = rw e (ap (λ (k : List Leg). soundLegsOf (take 3 k)) (three d (s .leg) l))
+
+pub leg-count : (s : Spread) → soundSpread s ≡ true → (s .legs ≡ 2) ⊎ (s .legs ≡ 3)
+leg-count s e = one-of (s .legs) 2 3 (and-left (eqb (s .legs) 2 || eqb (s .legs) 3) (soundLegsOf (legsOf s)) e)
+
+pub has-three : (s : Spread) → soundSpread s ≡ true → (s .legs ≡ 2 → ⊥) → s .legs ≡ 3
+has-three s e h = ⊎-elim (λ two. absurd (h two)) (λ three. three) (leg-count s e)
+
+pub has-two : (s : Spread) → soundSpread s ≡ true → (s .legs ≡ 3 → ⊥) → s .legs ≡ 2
+has-two s e h = ⊎-elim (λ two. two) (λ three. absurd (h three)) (leg-count s e)
+
+module _ (s : Spread) (d : Leg) (l : length (s .leg) ≡ 3) (e : soundSpread s ≡ true) where
+  pub first-leg : soundLeg (getD (s .leg) 0 d) ≡ true
+  first-leg =
+      ⊎-elim
+      (λ two. first-sound (getD (s .leg) 0 d) (getD (s .leg) 1 d ∷ []) (sym (with-two s d l two) ∙ e))
+      (λ three. first-sound (getD (s .leg) 0 d) (getD (s .leg) 1 d ∷ getD (s .leg) 2 d ∷ []) (sym (with-three s d l three) ∙ e))
+      (leg-count s e)
+
+  pub second-leg : soundLeg (getD (s .leg) 1 d) ≡ true
+  second-leg =
+      ⊎-elim
+      (λ two. others-sound (getD (s .leg) 0 d) (getD (s .leg) 1 d) [] (sym (with-two s d l two) ∙ e))
+      (λ three. first-sound (getD (s .leg) 1 d) (getD (s .leg) 2 d ∷ [])
+      (others-sound (getD (s .leg) 0 d) (getD (s .leg) 1 d) (getD (s .leg) 2 d ∷ []) (sym (with-three s d l three) ∙ e)))
+      (leg-count s e)
+
+  pub third-leg : s .legs ≡ 3 → soundLeg (getD (s .leg) 2 d) ≡ true
+  third-leg three =
+      others-sound (getD (s .leg) 1 d) (getD (s .leg) 2 d) []
+      (others-sound (getD (s .leg) 0 d) (getD (s .leg) 1 d) (getD (s .leg) 2 d ∷ []) (sym (with-three s d l three) ∙ e))
 
 pub spread-sound : (second : Bool) (s : Spread) → soundSpread s ≡ true → soundStep (stepOf second s) ≡ true
 spread-sound second s e = step-sound (s .tenths) second (legsOf s) (and-right (eqb (s .legs) 2 || eqb (s .legs) 3) (soundLegsOf (legsOf s)) e)

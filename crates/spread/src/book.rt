@@ -15,11 +15,10 @@ use exact::signed::minus;
 use exact::signed::towards_zero;
 ghost use mathlib.Core.Path.{_≡_};
 ghost use mathlib.Core.Bool.{true};
-ghost use Prim.Native.Nat.{_≤_};
 ghost use lib.ListN.{length};
 ghost use lib.IntN.{_-ℤ_};
 ghost use Rattle.spread.specs.Steps.{towardsZero};
-ghost use Rattle.spread.specs.Accepted.{openOf, spreadsOf, soundPrompts, sound};
+ghost use Rattle.spread.specs.Accepted.{openOf, spreadsOf, soundPrompts, soundTable, sound};
 ghost use Rattle.spread.specs.Spend.{marketOf};
 ghost use Rattle.spread.specs.Cells.{cellOf, Pooled, Small};
 ghost use Rattle.spread.specs.Book.{Booked, Refused, Run, Spent};
@@ -79,7 +78,7 @@ pub(crate) fn pools_of(prompts: Prompts) -> Pools
 
 // "Each spread, in file order, is two steps".
 fn run(pools: Pools, table: Table) -> Ran
-    requires { ⌜ (table .count ≤ 32) × Small (pools .cell) ⌝ }
+    requires { ⌜ (soundTable table ≡ true) × Small (pools .cell) ⌝ }
     ensures { λ r. ⌜ Run (pools .cell) (spreadsOf table) (r .left .cell) (r .first) (r .second) ⌝ }
 {
     let n = table.count;

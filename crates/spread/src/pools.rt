@@ -4,12 +4,11 @@ use crate::Spread;
 use crate::Spreads;
 use exact::rounding::half_up;
 ghost use mathlib.Core.Path.{_≡_};
-ghost use mathlib.Core.Bool.{cond};
-ghost use mathlib.Core.List.{[], _∷_};
-ghost use Prim.Native.Nat.{_-_, _≤_, min};
+ghost use mathlib.Core.Bool.{true};
+ghost use Prim.Native.Nat.{_-_, _≤_, _<_, min};
 ghost use lib.Dec.{ltb};
-ghost use lib.ListN.{getD, take};
-ghost use Rattle.exact.specs.Lists.{least};
+ghost use lib.ListN.{length};
+ghost use Rattle.spread.specs.Accepted.{soundLeg, soundSpread};
 ghost use Rattle.spread.specs.Steps.{room, useOf, taker};
 ghost use Rattle.spread.specs.Cells.{cellOf, shortIf, marketIn, stepOf, roomIn, lessIn, formedIn, afterIn, Taken};
 ghost use Rattle.spread.specs.Cells.{cellAt, lowestIn, mostPool, mostNumber, Small};
@@ -51,19 +50,28 @@ pub(crate) fn cell_for(leg: Leg, second: bool) -> usize
     cell_of(leg.tier, a == second)
 }
 
+// The same of a leg whose tier is in range.
+fn leg_cell(leg: Leg, second: bool) -> usize
+    requires { ⌜ soundLeg leg ≡ true ⌝ }
+    ensures { λ r. ⌜ (r ≡ cellOf (marketIn second (leg .side)) (leg .tier)) × (r < 32) ⌝ }
+{
+    let t = leg.tier as usize;
+    let a = leg.side == 1;
+    if a == second { 2 * t + 1 } else { 2 * t }
+}
+
 // "pool divided by ratio, whole ten-thousandths, rounded down"; of tenths "10 × pool / ratio, rounded down".
 fn room(pool: u64, ratio: u64, tenths: bool) -> u64
-    requires { ⌜ pool ≤ mostPool ⌝ }
+    requires { ⌜ (pool ≤ mostPool) × (0 < ratio) ⌝ }
     ensures { λ r. ⌜ r ≡ room tenths pool ratio ⌝ }
 {
-    if ratio == 0 {
-        return 0;
-    }
     if tenths {
-        TENTHS * pool / ratio
-    } else {
-        pool / ratio
+        return TENTHS * pool / ratio;
     }
+    if ratio == 1 {
+        return pool;
+    }
+    pool / ratio
 }
 
 // "number × ratio"; of tenths "number × ratio / 10, rounded to a ten-thousandth, halves up".
@@ -92,47 +100,31 @@ pub(crate) fn lesser(a: u64, b: u64) -> u64
     if a < b { a } else { b }
 }
 
-// The smallest of the first legs' rooms.
-fn smallest(legs: u8, a: u64, b: u64, c: u64) -> u64
-    ensures { λ r. ⌜ r ≡ least (take legs (a ∷ b ∷ c ∷ [])) ⌝ }
-{
-    if legs == 0 {
-        return 0;
-    }
-    if legs == 1 {
-        return a;
-    }
-    if legs == 2 {
-        return lesser(a, b);
-    }
-    lesser(a, lesser(b, c))
-}
-
-// A pool; 0 where there is no such cell. Here and below the cells are lent, so that a step copies them once.
-fn pool_at(cells: &[u64], cell: usize) -> u64
-    ensures { λ r. ⌜ r ≡ getD (now (cells .entry)) cell 0 ⌝ }
-{
-    if cell < cells.len() { cells[cell] } else { 0 }
-}
-
+// Here and below the cells are lent, so that a step copies them once.
 fn pool_for(cells: &[u64], leg: Leg, second: bool) -> u64
+    requires { ⌜ (length (now cells) ≡ 32) × (soundLeg leg ≡ true) ⌝ }
     ensures { λ r. ⌜ r ≡ cellAt (now (cells .entry)) (marketIn second (leg .side)) (leg .tier) ⌝ }
 {
-    pool_at(cells, cell_for(leg, second))
+    let cell = leg_cell(leg, second);
+    cells[cell]
 }
 
 // Whether no pool is empty that its legs take from: where one is, nothing is formed.
 pub(crate) fn has_room(cells: &[u64], spread: Spread, second: bool) -> bool
+    requires { ⌜ (length (now cells) ≡ 32) × (soundSpread spread ≡ true) ⌝ }
     ensures { λ r. ⌜ r ≡ ltb 0 (lowestIn (now (cells .entry)) (stepOf second spread)) ⌝ }
 {
     let a = pool_for(cells, spread.leg[0], second);
     let b = pool_for(cells, spread.leg[1], second);
+    if spread.legs == 2 {
+        return 0 < lesser(a, b);
+    }
     let c = pool_for(cells, spread.leg[2], second);
-    0 < smallest(spread.legs, a, b, c)
+    0 < lesser(a, lesser(b, c))
 }
 
 fn room_for(cells: &[u64], leg: Leg, tenths: bool, second: bool) -> u64
-    requires { ⌜ Small (now cells) ⌝ }
+    requires { ⌜ (length (now cells) ≡ 32) × (soundLeg leg ≡ true) × Small (now cells) ⌝ }
     ensures { λ r. ⌜ r ≡ roomIn (now (cells .entry)) (taker tenths (marketIn second) leg) ⌝ }
 {
     room(pool_for(cells, leg, second), leg.ratio as u64, tenths)
@@ -140,53 +132,46 @@ fn room_for(cells: &[u64], leg: Leg, tenths: bool, second: bool) -> u64
 
 // "The number formed is the smallest over its legs".
 fn formed(cells: &[u64], spread: Spread, second: bool) -> u64
-    requires { ⌜ Small (now cells) ⌝ }
+    requires { ⌜ (length (now cells) ≡ 32) × (soundSpread spread ≡ true) × Small (now cells) ⌝ }
     ensures { λ r. ⌜ r ≡ formedIn (stepOf second spread) (now (cells .entry)) ⌝ }
 {
     let tenths = spread.tenths;
     let a = room_for(cells, spread.leg[0], tenths, second);
     let b = room_for(cells, spread.leg[1], tenths, second);
+    if spread.legs == 2 {
+        return lesser(a, b);
+    }
     let c = room_for(cells, spread.leg[2], tenths, second);
-    smallest(spread.legs, a, b, c)
+    lesser(a, lesser(b, c))
 }
 
 fn less(cells: &mut [u64], leg: Leg, tenths: bool, second: bool, number: u64)
-    requires { ⌜ number ≤ mostNumber ⌝ }
+    requires { ⌜ (length (now cells) ≡ 32) × (soundLeg leg ≡ true) × (number ≤ mostNumber) ⌝ }
     ensures { λ _. ⌜ now (cells .exit) ≡ lessIn number (taker tenths (marketIn second) leg) (now (cells .entry)) ⌝ }
 {
-    let cell = cell_for(leg, second);
-    if cell < cells.len() {
-        let taken = use_of(number, leg.ratio, tenths);
-        cells[cell] = beyond(cells[cell], taken);
-    }
-}
-
-fn less_if(cells: &mut [u64], there: bool, leg: Leg, tenths: bool, second: bool, number: u64)
-    requires { ⌜ number ≤ mostNumber ⌝ }
-    ensures { λ _. ⌜ now (cells .exit) ≡ cond there (lessIn number (taker tenths (marketIn second) leg) (now (cells .entry))) (now (cells .entry)) ⌝ }
-{
-    if there {
-        less(cells, leg, tenths, second, number);
-    }
+    let cell = leg_cell(leg, second);
+    let taken = use_of(number, leg.ratio, tenths);
+    cells[cell] = beyond(cells[cell], taken);
 }
 
 // "Each leg takes" its use of the number.
 fn lessen(cells: &mut [u64], spread: Spread, second: bool, number: u64)
-    requires { ⌜ number ≤ mostNumber ⌝ }
+    requires { ⌜ (length (now cells) ≡ 32) × (soundSpread spread ≡ true) × (number ≤ mostNumber) ⌝ }
     ensures { λ _. ⌜ now (cells .exit) ≡ afterIn (stepOf second spread) number (now (cells .entry)) ⌝ }
 {
-    let legs = spread.legs;
     let tenths = spread.tenths;
-    less_if(cells, 0 < legs, spread.leg[0], tenths, second, number);
-    less_if(cells, 1 < legs, spread.leg[1], tenths, second, number);
-    less_if(cells, 2 < legs, spread.leg[2], tenths, second, number);
+    less(cells, spread.leg[0], tenths, second, number);
+    less(cells, spread.leg[1], tenths, second, number);
+    if spread.legs == 3 {
+        less(cells, spread.leg[2], tenths, second, number);
+    }
 }
 
 impl Pools {
     // A step of a spread, "first A legs take long and B legs short, then the reverse": the number that it forms, and the
     // pools that it leaves.
     pub(crate) fn take(self, spread: Spread, second: bool) -> Took
-        requires { ⌜ Small (self .cell) ⌝ }
+        requires { ⌜ (soundSpread spread ≡ true) × Small (self .cell) ⌝ }
         ensures { λ r. ⌜ Taken (stepOf second spread) (self .cell) (r .left .cell) (r .number .0) ⌝ }
     {
         let mut cells = self.cell;

@@ -1,24 +1,12 @@
 -- `sound_spread`: leg by leg, of two legs or of three.
 -- Assumes nothing.
-use mathlib.Core.List.{List, [], _∷_}
-use mathlib.Core.Path.{_≡_, sym, _∙_, ap}
-use lib.ListN.{length, length-map, getD, take}
+use mathlib.Core.Path.{_≡_, sym, _∙_}
+use lib.ListN.{length, length-map}
 use borrow.Author.Needs.{needs}
 use borrow.Author.Tests.{ne-eqb}
-use Rattle.spread.specs.Accepted.{soundLegsOf, soundSpread}
-use Rattle.spread.specs.declared.Leg.{Leg}
-use Rattle.spread.specs.declared.Spread.{Spread}
-use Rattle.spread.proofs.Legs.{three}
+use Rattle.spread.proofs.Soundness.{with-two, with-three}
 use Rattle.spread.proofs.accepted.sound_spread.Statement.{statement}
 use Rattle.spread.proofs.accepted.sound_spread.Tie as tie
-
--- a spread of two legs or of three, leg by leg
-with-two : (s : Spread) (d : Leg) → length (s .leg) ≡ 3 → s .legs ≡ 2 → soundSpread s ≡ soundLegsOf (getD (s .leg) 0 d ∷ getD (s .leg) 1 d ∷ [])
-with-two s d l e = rw e (ap (λ (k : List Leg). soundLegsOf (take 2 k)) (three d (s .leg) l))
-
-with-three : (s : Spread) (d : Leg) → length (s .leg) ≡ 3 → s .legs ≡ 3
-    → soundSpread s ≡ soundLegsOf (getD (s .leg) 0 d ∷ getD (s .leg) 1 d ∷ getD (s .leg) 2 d ∷ [])
-with-three s d l e = rw e (ap (λ (k : List Leg). soundLegsOf (take 3 k)) (three d (s .leg) l))
 
 element-copy-out-sound-two : tie.Need-element-copy-out-sound-two
 element-copy-out-sound-two c = search needs

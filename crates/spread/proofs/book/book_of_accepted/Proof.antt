@@ -1,11 +1,8 @@
 -- `book_of_accepted`: the numbers of the pools, the run and the spend.
 -- Assumes nothing.
 use mathlib.Core.Path.{_≡_, sym, _∙_}
-use lib.Dec.{leb}
 use lib.ListN.{length, length-map}
-use borrow.Author.Needs.{needs}
-use borrow.Author.Tests.{leb-true}
-use Rattle.spread.specs.Accepted.{every, spreadsOf, soundSpread, soundPrompts, soundTable}
+use Rattle.spread.specs.Accepted.{soundPrompts, soundTable}
 use Rattle.spread.proofs.Booking.{booked-accepted}
 use Rattle.spread.proofs.Both.{and-left, and-right}
 use Rattle.spread.proofs.Bounds.{pooled-small}
@@ -21,9 +18,7 @@ run-requires c κs =
     let p = s .args .prompts in
     let lt : length (p .tier) ≡ 32 = sym (length-map (p .tier) _) ∙ s .good .0 .1 .1 .1 .0 .1 .0 .1 in
     let ln : length (p .net) ≡ 32 = sym (length-map (p .net) _) ∙ s .good .0 .1 .1 .1 .1 .0 .1 .0 .1 in (
-      leb-true (s .args .table .count) 32
-          (and-left (leb (s .args .table .count) 32) (every soundSpread (spreadsOf (s .args .table)))
-          (and-right (soundPrompts p) (soundTable (s .args .table)) (s .pre))),
+      and-right (soundPrompts p) (soundTable (s .args .table)) (s .pre),
       pooled-small p _ lt ln (and-left (soundPrompts p) (soundTable (s .args .table)) (s .pre)) (c .pools-of .ensures),
     )
 

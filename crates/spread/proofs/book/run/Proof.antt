@@ -6,26 +6,34 @@ use mathlib.Core.Bool.{true, false}
 use mathlib.Core.List.{[]}
 use mathlib.Core.Logic.{⊎-elim}
 use mathlib.Core.Path.{_≡_, sym, _∙_}
-use lib.ListN.{length, length-map, getD, take}
+use lib.ListN.{length, length-map, getD}
 use borrow.Author.Needs.{needs}
-use Rattle.spread.specs.Accepted.{spreadsOf}
+use Rattle.spread.specs.Accepted.{spreadsOf, soundSpread}
 use Rattle.spread.specs.Cells.{Small, Taken, stepOf}
 use Rattle.spread.specs.declared.Spread.{Spread}
 use Rattle.spread.specs.declared.Table.{Table}
 use Rattle.spread.proofs.Bounds.{small-taken}
 use Rattle.spread.proofs.Nothing.{taken-now, taken-none}
-use Rattle.spread.proofs.Running.{table-length, table-next, Running, running-none, running-all}
+use Rattle.spread.proofs.Running.{table-length, table-few, table-at, table-next, Running, running-none, running-all}
 use Rattle.spread.proofs.book.run.Statement.{statement}
 use Rattle.spread.proofs.book.run.Tie as tie
 
 abbrev Inv-loop : tie.InvT-loop
-Inv-loop table n left₀ ran₀ i₀ left ran i = (i ≤ n) × Small (left .cell) × Running (left₀ .cell) (spreadsOf table) i (left .cell) (ran .first) (ran .second)
+Inv-loop table n left₀ ran₀ i₀ left ran i =
+    (i ≤ n) × (n ≤ 32) × Small (left .cell) × Running (left₀ .cell) (spreadsOf table) i (left .cell) (ran .first) (ran .second)
 
 abbrev μ-loop : tie.MeasureT-loop
 μ-loop table n left₀ ran₀ i₀ left ran i = n - i
 
 abbrev spread-at : Table → ℕ → Spread
 spread-at t i = getD (t .spread) i (record { legs = 0; leg = []; tenths = false })
+
+spreads : (s : tie.Start Inv-loop μ-loop) → length (s .args .t2 .spread) ≡ 32
+spreads s = sym (length-map (s .args .t2 .spread) _) ∙ s .good .1 .0 .1 .1 .1 .0 .1 .0 .1
+
+-- the spread of a turn is accepted
+here : (c : tie.In-loop Inv-loop μ-loop) → soundSpread (spread-at (c .before .before .args .t2) (c .before .loop .i)) ≡ true
+here c = let s = c .before .before in table-at (s .args .t2) (c .before .loop .i) _ (spreads s) (s .pre .0) (c .loop-test .taken)
 
 -- the steps of a turn, each taken or left out
 first-step : (c : tie.Joined1 Inv-loop μ-loop)
@@ -50,10 +58,10 @@ second-step c =
 
 -- what the first step leaves is small
 between : (c : tie.Joined1 Inv-loop μ-loop) → Small (c .if1 .left .cell)
-between c = let l = c .before .before .before .before .before .before .before .loop in small-taken _ (l .left .cell) _ _ (first-step c) (l .inv .1)
+between c = let l = c .before .before .before .before .before .before .before .loop in small-taken _ (l .left .cell) _ _ (first-step c) (l .inv .2)
 
 loop-holds : tie.Need-loop-holds Inv-loop μ-loop
-loop-holds c = (omega arith, c .pre .1, running-none (c .args .pools .cell) (spreadsOf (c .args .t2)))
+loop-holds c = (omega arith, table-few (c .args .t2) (c .pre .0), c .pre .1, running-none (c .args .pools .cell) (spreadsOf (c .args .t2)))
 
 mul-spread : tie.Need-mul-spread Inv-loop μ-loop
 mul-spread c = omega arith
@@ -62,16 +70,16 @@ element-copy-out-spread : tie.Need-element-copy-out-spread Inv-loop μ-loop
 element-copy-out-spread c = omega arith
 
 has-room-requires : tie.Need-has-room-requires Inv-loop μ-loop
-has-room-requires c κs = search needs
+has-room-requires c κs = (search needs, here (c .before .before .before .before))
 
 take-requires : tie.Need-take-requires Inv-loop μ-loop
-take-requires c κs = c .before .before .before .before .before .before .before .loop .inv .1
+take-requires c κs = let t = c .before .before .before .before .before .before in (here t, t .before .loop .inv .2)
 
 has-room-requires-2 : tie.Need-has-room-requires-2 Inv-loop μ-loop
-has-room-requires-2 c κs = search needs
+has-room-requires-2 c κs = (search needs, here (c .before .before .before .before .before .before .before .before .before))
 
 take-requires-2 : tie.Need-take-requires-2 Inv-loop μ-loop
-take-requires-2 c κs = between (c .before .before .before .before .before)
+take-requires-2 c κs = let j = c .before .before .before .before .before in (here (j .before .before .before .before .before .before), between j)
 
 mul-formed : tie.Need-mul-formed Inv-loop μ-loop
 mul-formed c = omega arith
@@ -95,22 +103,21 @@ loop-again : tie.Need-loop-again Inv-loop μ-loop
 loop-again c = let j = c .before .before .before .before .before in
     let l = j .before .before .before .before .before .before .before .loop in
     let s = j .before .before .before .before .before .before .before .before in
-    let t = s .args .t2 in
-    let len : length (t .spread) ≡ 32 = sym (length-map (t .spread) _) ∙ s .good .1 .0 .1 .1 .1 .0 .1 .0 .1 in (
+    let t = s .args .t2 in (
       omega arith,
+      l .inv .1,
       small-taken _ _ _ _ (second-step c) (between j),
-      table-next t (s .args .pools .cell) (l .i) (l .left .cell) _ _ (l .ran .first) (l .ran .second) _ _ _ len (s .pre .0)
+      table-next t (s .args .pools .cell) (l .i) (l .left .cell) _ _ (l .ran .first) (l .ran .second) _ _ _ (spreads s) (l .inv .1)
           (j .before .before .before .before .before .before .loop-test .taken)
-          (first-step j) (second-step c) (l .inv .2),
+          (first-step j) (second-step c) (l .inv .3),
     )
 
 returns : tie.Need-returns Inv-loop μ-loop
 returns c = let s = c .before .before in
     let t = s .args .t2 in
     let l = c .before .loop in
-    let len : length (t .spread) ≡ 32 = sym (length-map (t .spread) _) ∙ s .good .1 .0 .1 .1 .1 .0 .1 .0 .1 in
-    let n = table-length t len (s .pre .0) in
-    running-all (s .args .pools .cell) (spreadsOf t) (l .i) (l .left .cell) (l .ran .first) (l .ran .second) (omega arith) (l .inv .2)
+    let n = table-length t (spreads s) (l .inv .1) in
+    running-all (s .args .pools .cell) (spreadsOf t) (l .i) (l .left .cell) (l .ran .first) (l .ran .second) (omega arith) (l .inv .3)
 
 pub run-spec : {M : Type 1} → statement M
 run-spec =

@@ -1,21 +1,23 @@
 -- `pool_for`: the pool at the leg's cell.
 -- Assumes nothing.
 use Prim.Native.Nat.{ℕ}
-use mathlib.Core.Path.{_∙_, ap}
+use native.Mathlib.Omega.{arith}
+use mathlib.Core.Path.{ap}
 use lib.ListN.{getD}
-use borrow.Author.Needs.{needs}
 use Rattle.spread.proofs.pools.pool_for.Statement.{statement}
 use Rattle.spread.proofs.pools.pool_for.Tie as tie
 
-cell-for-requires : tie.Need-cell-for-requires
-cell-for-requires c κs = search needs
+leg-cell-requires : tie.Need-leg-cell-requires
+leg-cell-requires c κs = c .before .pre .1
 
-pool-at-requires : tie.Need-pool-at-requires
-pool-at-requires c κs = search needs
+mul-result : tie.Need-mul-result
+mul-result c = omega (arith, c .leg-cell .ensures .1)
+
+shared-slice-read-result : tie.Need-shared-slice-read-result
+shared-slice-read-result c = omega (arith, c .before .leg-cell .ensures .1, c .before .before .before .pre .0)
 
 returns : tie.Need-returns
-returns c =
-    c .pool-at .ensures ∙ ap (λ (k : ℕ). getD (c .before .before .before .args .cells .now) k 0) (c .before .cell-for .ensures)
+returns c = ap (λ (k : ℕ). getD (c .before .before .before .args .cells .now) k 0) (c .before .leg-cell .ensures .0)
 
 pub pool-for-spec : {M : Type 1} → statement M
-pool-for-spec = tie.close (tie.spec cell-for-requires pool-at-requires returns)
+pool-for-spec = tie.close (tie.spec leg-cell-requires mul-result shared-slice-read-result returns)

@@ -5,7 +5,7 @@ use lib.ListN.{length, length-map}
 use borrow.Author.Needs.{needs}
 use borrow.Author.Tests.{not-true, not-false}
 use Rattle.spread.specs.Accepted.{soundPrompts, soundSpread}
-use Rattle.spread.proofs.Both.{and-left}
+use Rattle.spread.proofs.Both.{and-left, and-right}
 use Rattle.spread.proofs.Bounds.{pooled-small}
 use Rattle.spread.proofs.Stepping.{stepped-refused, stepped-accepted}
 use Rattle.spread.proofs.stepwise.step_over.Statement.{statement}
@@ -34,9 +34,10 @@ take-requires c κs =
     let q = s .args .prompts in
     let lt : length (q .tier) ≡ 32 = sym (length-map (q .tier) _) ∙ s .good .0 .1 .1 .1 .0 .1 .0 .1 in
     let ln : length (q .net) ≡ 32 = sym (length-map (q .net) _) ∙ s .good .0 .1 .1 .1 .1 .0 .1 .0 .1 in
-    pooled-small q _ lt ln
-    (and-left (soundPrompts q) (soundSpread (s .args .spread)) (sym (c .before .before .can-step .ensures) ∙ not-false _ (c .before .if1 .left)))
-    (c .pools-of .ensures)
+    let e = sym (c .before .before .can-step .ensures) ∙ not-false _ (c .before .if1 .left) in (
+      and-right (soundPrompts q) (soundSpread (s .args .spread)) e,
+      pooled-small q _ lt ln (and-left (soundPrompts q) (soundSpread (s .args .spread)) e) (c .pools-of .ensures),
+    )
 
 paid-by-requires : tie.Need-paid-by-requires
 paid-by-requires c κs =

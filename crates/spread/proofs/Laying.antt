@@ -13,7 +13,7 @@ use borrow.Author.Tests.{eqb-true, eqb-false, ltb-true, ltb-false}
 use Rattle.spread.specs.Cells.{cellOf}
 use Rattle.spread.specs.Passing.{Begun, SameAs, Laid}
 use Rattle.spread.specs.Spend.{marketOf}
-use Rattle.spread.specs.Steps.{Market, Open}
+use Rattle.spread.specs.Steps.{Open}
 use Rattle.spread.proofs.Filling.{getD-same}
 use Rattle.spread.proofs.Gathering.{eqb-turned, in-own-pool, nothing, Placed, placed-within}
 use Rattle.spread.proofs.Passing.{laid-each}
@@ -28,16 +28,15 @@ pub record Laying (ps : List Open) (i : ℕ) (cs xs at : List ℕ) : Type 0 wher
   pub beyond : (k : ℕ) → i ≤ k → getD xs k 0 ≡ 0
   pub first : (k : ℕ) → k < i → getD at (getD cs k 0) 0 ≤ k
 
-pub laying-none : (ps : List Open) → Laying ps 0 (replicate 32 0) (replicate 32 0) (replicate 33 32)
-laying-none ps =
+pub laying-none : (ps : List Open) (cs xs at : List ℕ) → length cs ≡ 32 → xs ≡ replicate 32 0 → length at ≡ 33 → Laying ps 0 cs xs at
+laying-none ps cs xs at lc e la =
     let z : ℕ = 0 in
-    let m : ℕ = 32 in
     record {
-      pools = length-replicate 32 z;
-      sizes = length-replicate 32 z;
-      places = length-replicate 33 m;
+      pools = lc;
+      sizes = ap length e ∙ length-replicate 32 z;
+      places = la;
       each = λ k h. absurd (omega arith);
-      beyond = λ k h. getD-same 32 z k;
+      beyond = λ k h. ap (λ (l : List ℕ). getD l k 0) e ∙ getD-same 32 z k;
       first = λ k h. absurd (omega arith);
     }
 

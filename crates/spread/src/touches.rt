@@ -17,7 +17,7 @@ ghost use mathlib.Core.Path.{_≡_};
 ghost use mathlib.Core.Bool.{true, cond};
 ghost use Prim.Native.Nat.{_+_, _≤_, min};
 ghost use lib.Dec.{ltb};
-ghost use lib.ListN.{length};
+ghost use lib.ListN.{length, replicate};
 ghost use Rattle.exact.specs.Lists.{oneIf};
 ghost use Rattle.spread.specs.Accepted.{openOf, stepsOf, soundPrompts, sound};
 ghost use Rattle.spread.specs.Cells.{cellOf, marketIn, stepOf, mostNumber};
@@ -34,13 +34,6 @@ pub struct Counted {
     pub touches: u64,
 }
 
-// Each prompt's pool and the size of its net delta, and for each pool the place of its first prompt.
-struct Laying {
-    pool: [usize; MOST_PROMPTS],
-    size: [u64; MOST_PROMPTS],
-    at: [usize; PLACES],
-}
-
 // How many prompts a leg takes of, and the last place that it came to.
 struct Passing {
     at: usize,
@@ -53,14 +46,12 @@ fn earlier(a: usize, b: usize) -> usize
     if a < b { a } else { b }
 }
 
-fn laid(prompts: Prompts) -> Laying
-    requires { ⌜ soundPrompts prompts ≡ true ⌝ }
-    ensures { λ r. ⌜ Laid (openOf prompts) (r .pool) (r .size) × Begun (r .at) (r .pool) (r .size) ⌝ }
+// Each prompt's pool and the size of its net delta, zero beyond the prompts, and for each pool the place of its first prompt.
+fn lay(pool: &mut [usize], size: &mut [u64], at: &mut [usize], prompts: Prompts)
+    requires { ⌜ (soundPrompts prompts ≡ true) × (length (now pool) ≡ 32) × (now size ≡ replicate 32 0) × (length (now at) ≡ 33) ⌝ }
+    ensures { λ _. ⌜ Laid (openOf prompts) (now (pool .exit)) (now (size .exit)) × Begun (now (at .exit)) (now (pool .exit)) (now (size .exit)) ⌝ }
 {
     let n = prompts.count;
-    let mut pool = [0; MOST_PROMPTS];
-    let mut size = [0; MOST_PROMPTS];
-    let mut at = [MOST_PROMPTS; PLACES];
     let mut k = 0;
     while k < n {
         let net = prompts.net[k];
@@ -69,11 +60,6 @@ fn laid(prompts: Prompts) -> Laying
         size[k] = net.size();
         at[cell] = earlier(at[cell], k);
         k += 1;
-    }
-    Laying {
-        pool: pool,
-        size: size,
-        at: at,
     }
 }
 
@@ -211,10 +197,10 @@ pub fn touches_of(
     requires { ⌜ (sound prompts table ≡ true) × FormedBy prompts table first second ⌝ }
     ensures { λ r. ⌜ r ≡ touches (stepsOf table) (openOf prompts) ⌝ }
 {
-    let lay = laid(prompts);
-    let pool = lay.pool;
-    let mut size = lay.size;
-    let mut at = lay.at;
+    let mut pool = [0; MOST_PROMPTS];
+    let mut size = [0; MOST_PROMPTS];
+    let mut at = [MOST_PROMPTS; PLACES];
+    lay(&mut pool, &mut size, &mut at, prompts);
     let n = table.count;
     let mut touches = 0;
     let mut i = 0;

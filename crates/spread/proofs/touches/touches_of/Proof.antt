@@ -2,19 +2,16 @@
 -- Assumes nothing.
 use Prim.Native.Nat.{ℕ, _+_, _-_, _*_, _≤_, _<_}
 use native.Mathlib.Omega.{arith}
-use mathlib.Core.Bool.{true}
 use mathlib.Core.List.{List}
-use mathlib.Core.Path.{_≡_, sym, _∙_}
+use mathlib.Core.Path.{_≡_, refl, sym, _∙_}
 use lib.Dec.{leb}
 use lib.ListN.{length, length-map, getD}
 use borrow.Author.Needs.{needs}
 use borrow.Author.Tests.{leb-true}
-use Rattle.spread.specs.Accepted.{openOf, spreadsOf, every, soundSpread, soundPrompts, soundTable, sound}
+use Rattle.spread.specs.Accepted.{openOf, spreadsOf, every, soundSpread, soundPrompts, soundTable}
 use Rattle.spread.specs.Cells.{mostNumber}
 use Rattle.spread.specs.Passing.{Ready, Laid}
 use Rattle.spread.specs.Steps.{Open}
-use Rattle.spread.specs.declared.Prompts.{Prompts}
-use Rattle.spread.specs.declared.Table.{Table}
 use Rattle.spread.proofs.Both.{and-left, and-right}
 use Rattle.spread.proofs.Counting.{Formed, formed-by, numbers-small, Counting, counting-none, counting-all, table-counting}
 use Rattle.spread.proofs.Running.{noSpreads, table-length}
@@ -64,19 +61,32 @@ second-small s i h =
 within : (c : tie.In-loop Inv-loop μ-loop) → c .before .loop .i < 32
 within c = omega (arith, c .before .loop .inv .0, c .before .loop .inv .1, c .loop-test .taken)
 
-laid-requires : tie.Need-laid-requires Inv-loop μ-loop
-laid-requires c κs = and-left (soundPrompts (c .args .prompts)) (soundTable (c .args .t2)) (c .pre .0)
+slice-aggregate-lay : tie.Need-slice-aggregate-lay Inv-loop μ-loop
+slice-aggregate-lay c = search needs
+
+slice-aggregate-lay-2 : tie.Need-slice-aggregate-lay-2 Inv-loop μ-loop
+slice-aggregate-lay-2 c = search needs
+
+slice-aggregate-lay-3 : tie.Need-slice-aggregate-lay-3 Inv-loop μ-loop
+slice-aggregate-lay-3 c = search needs
+
+lay-requires : tie.Need-lay-requires Inv-loop μ-loop
+lay-requires c κs = let s = c .before .before .before in (
+  and-left (soundPrompts (s .args .prompts)) (soundTable (s .args .t2)) (s .pre .0),
+  search needs,
+  refl,
+  search needs,
+)
 
 loop-holds : tie.Need-loop-holds Inv-loop μ-loop
 loop-holds c =
-    let s = c .before .before .before .before in
-    let l = c .before .before .before .laid in
-    let r = l .result in (
+    let l = c .before .before .before in
+    let s = l .before .before .before .before in (
       omega arith,
       few s,
       omega arith,
-      record { places = search needs; pools = search needs; sizes = search needs; begun = l .ensures .1 },
-      λ ps h f. counting-none (spreadsOf (s .args .t2)) ps (r .pool) (r .size) h,
+      record { places = search needs; pools = search needs; sizes = search needs; begun = l .lay .ensures .1 },
+      λ ps h f. counting-none (spreadsOf (s .args .t2)) ps _ _ h,
     )
 
 mul-spread : tie.Need-mul-spread Inv-loop μ-loop
@@ -110,7 +120,7 @@ step-touches-requires : tie.Need-step-touches-requires Inv-loop μ-loop
 step-touches-requires c κs = (
   c .before .before .before .before .before .before .before .loop .inv .3,
   first-small
-      (c .before .before .before .before .before .before .before .before .before .before .before .before)
+      (c .before .before .before .before .before .before .before .before .before .before .before .before .before .before .before)
       (c .before .before .before .before .before .before .before .loop .i) (within (c .before .before .before .before .before .before)),
 )
 
@@ -124,16 +134,14 @@ slice-aggregate-step-touches-6 : tie.Need-slice-aggregate-step-touches-6 Inv-loo
 slice-aggregate-step-touches-6 c = search needs
 
 step-touches-requires-2 : tie.Need-step-touches-requires-2 Inv-loop μ-loop
-step-touches-requires-2 c κs = (
-  c .before .before .before .before .before .step-touches .ensures .ready,
-  second-small
-      (c .before .before .before .before .before .before .before .before .before .before .before .before .before .before .before .before .before .before)
-      (c .before .before .before .before .before .before .before .before .before .before .before .before .before .loop .i) (within
-      (c .before .before .before .before .before .before .before .before .before .before .before .before)),
-)
+step-touches-requires-2 c κs = let one = c .before .before .before .before .before in
+    let t = one .before .before .before .before .before .before .before in (
+      one .step-touches .ensures .ready,
+      second-small (t .before .before .before .before .before .before .before .before .before) (t .before .loop .i) (within t),
+    )
 
 -- the turn that ends
-abbrev in-turn : tie.After-at5 Inv-loop μ-loop → tie.In-loop Inv-loop μ-loop
+abbrev in-turn : tie.After-at6 Inv-loop μ-loop → tie.In-loop Inv-loop μ-loop
 in-turn c = c .before .before .before .before .before .before .before .before .before .before .before .before .before .before .before
 
 add-touches : tie.Need-add-touches Inv-loop μ-loop
@@ -161,7 +169,7 @@ loop-again c =
     let two = c .before .before .step-touches2 in
     let one = c .before .before .before .before .before .before .before .before .step-touches in
     let l = in-turn c .before .loop in
-    let s = in-turn c .before .before .before .before .before .before in
+    let s = in-turn c .before .before .before .before .before .before .before .before .before in
     let t = s .args .t2 in (
       omega (arith, in-turn c .loop-test .taken),
       l .inv .1,
@@ -177,10 +185,10 @@ loop-again c =
 returns : tie.Need-returns Inv-loop μ-loop
 returns c =
     let l = c .before .loop in
-    let s = c .before .before .before .before .before .before in
+    let s = c .before .before .before .before .before .before .before .before .before in
     let n = table-length (s .args .t2) (tables s) (few s) in
     counting-all (spreadsOf (s .args .t2)) (openOf (s .args .prompts)) (l .i) _ _ _ (omega (arith, n, c .loop-test .left))
-    (l .inv .4 (openOf (s .args .prompts)) (c .before .before .before .before .before .laid .ensures .0) (formed s))
+    (l .inv .4 (openOf (s .args .prompts)) (c .before .before .before .before .before .lay .ensures .0) (formed s))
 
 pub touches-of-spec : {M : Type 1} → statement M
 touches-of-spec =
@@ -188,7 +196,10 @@ touches-of-spec =
     (tie.spec
     Inv-loop
     μ-loop
-    laid-requires
+    slice-aggregate-lay
+    slice-aggregate-lay-2
+    slice-aggregate-lay-3
+    lay-requires
     loop-holds
     mul-spread
     element-copy-out-spread

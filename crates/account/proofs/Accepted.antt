@@ -14,12 +14,11 @@ use Rattle.record.specs.Within.{ContractWithin, PromptWithin, RowWithin, Spread
 use Rattle.record.proofs.Within.{neither, contract-within, prompt-within, row-within, spread-within, entry-within, rate-within}
 use Rattle.account.specs.Accepted.{Each, partBytes, Ranges, Limits, OnePrompt, Accepts}
 use Rattle.account.specs.Answers.{numberOf, recordOf}
-use Rattle.account.specs.Check.{recordsChecked, none, listsContract, listsDay, overLimit}
-use Rattle.account.specs.Notes.{part, inPart}
+use Rattle.account.specs.Check.{recordsChecked, none, listsContract, listsDay, overLimit, mostRecords}
+use Rattle.account.specs.PartNumbers.{part, inPart, contractCount, partCount, entryPart, ratePart, parts}
 use Rattle.account.specs.Orders.{RatesRise}
 use Rattle.account.specs.Parts.{ofKind, ofContract, onDay, startOf, promptsOf, ratesOf}
 use Rattle.account.specs.Records.{cut, recordAt, records, recordCount, stretch, earlier}
-use Rattle.account.specs.Surveyed.{contractCount, partCount}
 use Rattle.account.specs.declared.answers.Answer.the-variants.{Accepted}
 use Rattle.account.proofs.Days.{days}
 use Rattle.account.proofs.Dispatch.{unlisted-3, over-2, over-3, over-4, over-5}
@@ -67,7 +66,7 @@ module _ (file : List ℕ) (ok : recordsChecked file ≡ Accepted) where
       let g = exactly file .accepted .forth (record { number = ap numberOf ok; place = ap recordOf ok }) in
       faultless file (recordCount file) (g .none)
 
-  short : length (records file) ≤ 640
+  short : length (records file) ≤ mostRecords
   short =
       let g = exactly file .accepted .forth (record { number = ap numberOf ok; place = ap recordOf ok }) in
       let l = ltb-false 61440 (length file) (g .long) in
@@ -77,7 +76,7 @@ module _ (file : List ℕ) (ok : recordsChecked file ≡ Accepted) where
   at k h = passed-at file (recordCount file) fine k h
 
   -- ---- the parts stand in one stretch each
-  stands : (v : ℕ) → v < 82 → records (partBytes file v) ≡ keep (inPart v) (records file)
+  stands : (v : ℕ) → v < parts → records (partBytes file v) ≡ keep (inPart v) (records file)
   stands v h =
       let n = recordCount file in
       let s = laid file n fine .parts v h in
@@ -186,8 +185,8 @@ module _ (file : List ℕ) (ok : recordsChecked file ≡ Accepted) where
               prompts = λ c h. part-stands 2 c (omega arith) h;
               rows = λ c h. part-stands 3 c (omega arith) h;
               spreads = λ c h. part-stands 4 c (omega arith) h;
-              entries = stands 80 (omega arith);
-              rates = stands 81 (omega arith);
+              entries = stands entryPart (omega arith);
+              rates = stands ratePart (omega arith);
             };
         ranges = ranges-hold;
         limits = limits-hold;

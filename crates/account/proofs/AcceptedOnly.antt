@@ -5,10 +5,10 @@ use native.Mathlib.Omega.{arith}
 use mathlib.Core.Path.{_≡_, refl}
 use Rattle.account.specs.Answers.{numberOf}
 use Rattle.account.specs.declared.answers.Answer.{Answer}
-use Rattle.account.specs.declared.answers.Answer.the-variants.{Accepted, TooLong, CutRecord, UnknownKind, KindFalls, UnusedByte, FieldOutside}
-use Rattle.account.specs.declared.answers.Answer.the-variants.{Unlisted, OutOfOrder, OverLimit, TooFewNumbers, NoSuchQuestion, NoonSpread}
-use Rattle.account.specs.declared.answers.Answer.the-variants.{TooManyJoined, NoRate, ConversionBeyond, TooFewBytes, LengthsDiffer, OtherCounts}
-use Rattle.account.specs.declared.answers.Answer.the-variants.{TooManyAccounts, LimitBelowZero, AmountOutside, NoTicketLeft}
+use Rattle.account.specs.declared.answers.Answer.the-variants.{Accepted, TooLong, CutRecord, UnknownKind, KindFalls, UnusedByte, FieldOutside, Unlisted}
+use Rattle.account.specs.declared.answers.Answer.the-variants.{OutOfOrder, OverLimit, TooFewNumbers, NoSuchQuestion, NoonSpread, TooManyJoined, NoRate}
+use Rattle.account.specs.declared.answers.Answer.the-variants.{ConversionBeyond, TooFewBytes, LengthsDiffer, OtherCounts, TooManyAccounts, LimitBelowZero}
+use Rattle.account.specs.declared.answers.Answer.the-variants.{AmountOutside, NoTicketLeft}
 
 pub some : {n : ℕ} → suc n ≡ 0 → ⊥
 some e = omega arith

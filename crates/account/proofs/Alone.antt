@@ -15,11 +15,12 @@ use Rattle.account.specs.Checked.{ratesChecked, checked}
 use Rattle.account.specs.Conversions.{otherRow}
 use Rattle.account.specs.Lawful.{Recorded, Lawful}
 use Rattle.account.specs.declared.answers.Answer.{Answer}
-use Rattle.account.specs.Notes.{parts}
+use Rattle.account.specs.PartNumbers.{parts, entryPart}
 use Rattle.account.specs.Parts.{ratesOf}
 use Rattle.account.specs.Records.{records, recordCount}
-use Rattle.account.specs.Standing.{lists, fromNoon, eitherNote, Filled, Flagged, JoinedBy, AloneBy, Places, Stands, CheckedBy, accountOf}
-use Rattle.account.specs.Surveyed.{Surveyed}
+use Rattle.account.specs.code.Standing.{lists, fromNoon, eitherNote, Filled, Flagged, JoinedBy, AloneBy, Places, Stands, CheckedBy}
+use Rattle.account.specs.Joined.{accountOf}
+use Rattle.account.specs.code.Surveyed.{Surveyed}
 use Rattle.account.specs.declared.answers.Answer.the-variants.{Accepted}
 use Rattle.account.specs.declared.check.Survey.{Survey}
 use Rattle.account.specs.declared.accounts.Account.{Account}
@@ -53,7 +54,7 @@ none-listed : (c : ℕ) → c < mostContracts → lists zeros c ≡ false
 none-listed c h = ap (λ (n : ℕ). not (eqb n 0)) (getD-replicate {A = ℕ} parts (16 + c) 0 0 (omega arith))
 
 none-supplied : (v : ℕ) → fromNoon zeros v ≡ false
-none-supplied v = ap (λ (t : Bool). ltb v 80 && t) (none-listed (v % 16) (omega arith)) ∙ go (ltb v 80)
+none-supplied v = ap (λ (t : Bool). ltb v entryPart && t) (none-listed (v % 16) (omega arith)) ∙ go (ltb v entryPart)
   where
     go : (t : Bool) → t && false ≡ false
     go true = refl

@@ -13,7 +13,8 @@ use Rattle.record.proofs.Tests.{both}
 use Rattle.record.proofs.Within.{neither, by-kind, kind-known, contract-known}
 use Rattle.account.specs.Check.{theOneBefore, numberNotAbove, dayNotAbove, tierFalls, contractFalls, legsClash, withItself, currencyNotAbove, outOfOrder}
 use Rattle.account.specs.Claims.{latest, outOfOrderByKind, ByKind}
-use Rattle.account.specs.Notes.{part, partOf, inPart, beforeAt}
+use Rattle.account.specs.PartNumbers.{part, inPart}
+use Rattle.account.specs.code.Notes.{partOf, beforeAt}
 use Rattle.account.specs.Parts.{ofKind, ofContract}
 use Rattle.account.specs.Records.{cut, recordAt, earlier}
 use Rattle.account.proofs.Dispatch.{order-1, order-2, order-3, order-4, order-5, order-6}

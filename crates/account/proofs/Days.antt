@@ -15,7 +15,8 @@ use Rattle.record.specs.Layout.{Record, kind, contract, tier, day}
 use Rattle.record.proofs.Within.{never, both-true, neither}
 use Rattle.account.specs.Accepted.{Each}
 use Rattle.account.specs.Check.{dayNotAbove, tierFalls, outOfOrder}
-use Rattle.account.specs.Notes.{part, partOf, inPart, beforeAt}
+use Rattle.account.specs.PartNumbers.{part, inPart}
+use Rattle.account.specs.code.Notes.{partOf, beforeAt}
 use Rattle.account.specs.Parts.{ofContract, onDay}
 use Rattle.account.specs.Records.{cut, recordAt}
 use Rattle.account.proofs.Dispatch.{order-2}

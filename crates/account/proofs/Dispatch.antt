@@ -9,11 +9,10 @@ use lib.Dec.{leb}
 use borrow.Author.Tests.{ne-eqb}
 use Rattle.exact.specs.Lists.{any}
 use Rattle.record.specs.Layout.{Record, kind, contract, day, legsOf, legTier, secondContract}
-use Rattle.account.specs.Check.{numberNotAbove, dayNotAbove, tierFalls, contractFalls, legsClash, withItself, currencyNotAbove, outOfOrder}
-use Rattle.account.specs.Check.{none, listsContract, listsDay, legUnlisted, unlisted}
-use Rattle.account.specs.Check.{mostPrompts, mostRows, mostSpreads, mostEntries, reached, overLimit}
+use Rattle.account.specs.Check.{numberNotAbove, dayNotAbove, tierFalls, contractFalls, legsClash, withItself, currencyNotAbove, outOfOrder, none}
+use Rattle.account.specs.Check.{listsContract, listsDay, legUnlisted, unlisted, mostPrompts, mostRows, mostSpreads, mostEntries, reached, overLimit}
 use Rattle.account.specs.Parts.{ofKind, ofContract}
-use Rattle.account.specs.Notes.{partOf, noContract, noDay, noTier, unlistedBy, overLimitBy}
+use Rattle.account.specs.code.Notes.{partOf, noContract, noDay, noTier, unlistedBy, overLimitBy}
 
 module _ (before r : Record) where
   pub order-1 : kind r ≡ 1 → outOfOrder before r ≡ numberNotAbove before r

@@ -7,6 +7,7 @@ use mathlib.Core.List.{List, [], _∷_, _++_}
 use lib.ListN.{length, take, drop, length-drop}
 use lib.Seq.{drop-drop, take-take, take-add, drop-at, length-take-le}
 use native.Mathlib.Omega.{arith}
+use Rattle.record.specs.Bytes.{recordBytes}
 use Rattle.exact.specs.Lists.{any, count}
 use Rattle.exact.proofs.Lists.{count-append}
 use Rattle.record.specs.Layout.{Record}
@@ -16,10 +17,10 @@ use Rattle.account.specs.Records.{cut, stretch, recordAt, records, recor
 pub cut-more : (k : ℕ) (file : List ℕ) → cut (suc k) file ≡ cut k file ++ recordAt file k ∷ []
 cut-more zero file = refl
 cut-more (suc k) file =
-    let d : 96 + k * 96 ≡ suc k * 96 = omega arith in
-    ap (λ (l : List Record). take 96 file ∷ l) (cut-more k (drop 96 file))
-    ∙ ap (λ (b : List ℕ). take 96 file ∷ cut k (drop 96 file) ++ take 96 b ∷ [])
-    (drop-drop (k * 96) 96 file ∙ ap (λ (n : ℕ). drop n file) d)
+    let d : recordBytes + k * recordBytes ≡ suc k * recordBytes = omega arith in
+    ap (λ (l : List Record). take recordBytes file ∷ l) (cut-more k (drop recordBytes file))
+    ∙ ap (λ (b : List ℕ). take recordBytes file ∷ cut k (drop recordBytes file) ++ take recordBytes b ∷ [])
+    (drop-drop (k * recordBytes) recordBytes file ∙ ap (λ (n : ℕ). drop n file) d)
 
 or-comm : (a b : Bool) → a || b ≡ b || a
 or-comm true true = refl
@@ -44,46 +45,46 @@ module _ (p : Record → Bool) (file : List ℕ) where
       omega arith
 
 -- ---- a stretch of the file is a part of its records
-drop-cut : (f k : ℕ) (file : List ℕ) → f ≤ k → drop f (cut k file) ≡ cut (k - f) (drop (f * 96) file)
+drop-cut : (f k : ℕ) (file : List ℕ) → f ≤ k → drop f (cut k file) ≡ cut (k - f) (drop (f * recordBytes) file)
 drop-cut zero k file h =
     let e : k - 0 ≡ k = omega arith in
     rw e
 drop-cut (suc f) zero file h = absurd (omega arith)
 drop-cut (suc f) (suc k) file h =
     let e : suc k - suc f ≡ k - f = omega arith in
-    let d : 96 + f * 96 ≡ suc f * 96 = omega arith in
-    drop-cut f k (drop 96 file) (omega arith)
-    ∙ ap (cut (k - f)) (drop-drop (f * 96) 96 file ∙ ap (λ (n : ℕ). drop n file) d)
-    ∙ ap (λ (n : ℕ). cut n (drop (suc f * 96) file)) (sym e)
+    let d : recordBytes + f * recordBytes ≡ suc f * recordBytes = omega arith in
+    drop-cut f k (drop recordBytes file) (omega arith)
+    ∙ ap (cut (k - f)) (drop-drop (f * recordBytes) recordBytes file ∙ ap (λ (n : ℕ). drop n file) d)
+    ∙ ap (λ (n : ℕ). cut n (drop (suc f * recordBytes) file)) (sym e)
 
 take-cut : (n m : ℕ) (file : List ℕ) → n ≤ m → take n (cut m file) ≡ cut n file
 take-cut zero m file h = refl
 take-cut (suc n) zero file h = absurd (omega arith)
-take-cut (suc n) (suc m) file h = ap (λ (l : List Record). take 96 file ∷ l)
-    (take-cut n m (drop 96 file) (omega arith))
+take-cut (suc n) (suc m) file h = ap (λ (l : List Record). take recordBytes file ∷ l)
+    (take-cut n m (drop recordBytes file) (omega arith))
 
-cut-take : (n : ℕ) (file : List ℕ) → n * 96 ≤ length file → cut n (take (n * 96) file) ≡ cut n file
+cut-take : (n : ℕ) (file : List ℕ) → n * recordBytes ≤ length file → cut n (take (n * recordBytes) file) ≡ cut n file
 cut-take zero file h = refl
 cut-take (suc n) file h =
-    let e : suc n * 96 ≡ 96 + n * 96 = omega arith in
-    let l : length (take 96 file) ≡ 96 = length-take-le 96 file (omega arith) in
-    let d : length (drop 96 file) ≡ length file - 96 = length-drop 96 file in
-    let both : take (suc n * 96) file ≡ take 96 file ++ take (n * 96) (drop 96 file) =
-    ap (λ (m : ℕ). take m file) e ∙ take-add 96 (n * 96) file in
-    let left : take 96 (take (suc n * 96) file) ≡ take 96 file = take-take 96 (suc n * 96) file (omega arith) in
-    let right : drop 96 (take (suc n * 96) file) ≡ take (n * 96) (drop 96 file) =
-    ap (drop 96) both ∙ drop-at (take 96 file) (take (n * 96) (drop 96 file)) 96 l in
-    ap (λ (r : Record). r ∷ cut n (drop 96 (take (suc n * 96) file))) left
-    ∙ ap (λ (b : List ℕ). take 96 file ∷ cut n b) right
-    ∙ ap (λ (rs : List Record). take 96 file ∷ rs) (cut-take n (drop 96 file) (omega arith))
+    let e : suc n * recordBytes ≡ recordBytes + n * recordBytes = omega arith in
+    let l : length (take recordBytes file) ≡ recordBytes = length-take-le recordBytes file (omega arith) in
+    let d : length (drop recordBytes file) ≡ length file - recordBytes = length-drop recordBytes file in
+    let both : take (suc n * recordBytes) file ≡ take recordBytes file ++ take (n * recordBytes) (drop recordBytes file) =
+    ap (λ (m : ℕ). take m file) e ∙ take-add recordBytes (n * recordBytes) file in
+    let left : take recordBytes (take (suc n * recordBytes) file) ≡ take recordBytes file = take-take recordBytes (suc n * recordBytes) file (omega arith) in
+    let right : drop recordBytes (take (suc n * recordBytes) file) ≡ take (n * recordBytes) (drop recordBytes file) =
+    ap (drop recordBytes) both ∙ drop-at (take recordBytes file) (take (n * recordBytes) (drop recordBytes file)) recordBytes l in
+    ap (λ (r : Record). r ∷ cut n (drop recordBytes (take (suc n * recordBytes) file))) left
+    ∙ ap (λ (b : List ℕ). take recordBytes file ∷ cut n b) right
+    ∙ ap (λ (rs : List Record). take recordBytes file ∷ rs) (cut-take n (drop recordBytes file) (omega arith))
 
 pub stretch-cut :
     (file : List ℕ) (f n k : ℕ) → f + n ≤ k → k ≤ recordCount file
     → records (stretch file f n) ≡ take n (drop f (cut k file))
 stretch-cut file f n k h m =
-    let b = drop (f * 96) file in
-    let l : length b ≡ length file - f * 96 = length-drop (f * 96) file in
-    let t : length (take (n * 96) b) ≡ n * 96 = length-take-le (n * 96) b (omega arith) in
+    let b = drop (f * recordBytes) file in
+    let l : length b ≡ length file - f * recordBytes = length-drop (f * recordBytes) file in
+    let t : length (take (n * recordBytes) b) ≡ n * recordBytes = length-take-le (n * recordBytes) b (omega arith) in
     let c : recordCount (stretch file f n) ≡ n = omega arith in
     ap (λ (i : ℕ). cut i (stretch file f n)) c
     ∙ cut-take n b (omega arith)

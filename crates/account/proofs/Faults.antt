@@ -13,11 +13,12 @@ use Rattle.record.specs.Ranges.{unknownKind, unusedByte, fieldOutside}
 use Rattle.record.proofs.Tests.{both}
 use Rattle.record.proofs.Within.{by-kind, kind-known, contract-known, entry-within}
 use Rattle.account.specs.Check.{kindFalls, outOfOrder, none, listsContract, legUnlisted, unlisted, overLimit, faultOf}
-use Rattle.account.specs.Notes.{part, partOf, inPart, noContract, noTier, unlistedBy, overLimitBy, promptsNoted, beforeAt, faultAt}
+use Rattle.account.specs.PartNumbers.{part, inPart, entryPart, parts}
+use Rattle.account.specs.code.Notes.{partOf, noContract, noTier, unlistedBy, overLimitBy, promptsNoted, beforeAt, faultAt}
 use Rattle.account.specs.Parts.{ofKind, ofContract, onDay, onTier, startOf}
 use Rattle.account.specs.Records.{cut, recordAt, recordCount, records, stretch, earlier}
-use Rattle.account.proofs.Dispatch.{listed-2, listed-3, listed-4, listed-5, limit-2, limit-3, limit-4, limit-5}
-use Rattle.account.proofs.Dispatch.{unlisted-2, unlisted-3, unlisted-4, unlisted-5, over-2, over-3, over-4, over-5}
+use Rattle.account.proofs.Dispatch.{listed-2, listed-3, listed-4, listed-5, limit-2, limit-3, limit-4, limit-5, unlisted-2, unlisted-3, unlisted-4}
+use Rattle.account.proofs.Dispatch.{unlisted-5, over-2, over-3, over-4, over-5}
 use Rattle.account.proofs.Earlier.{any-earlier, count-earlier, stretch-cut}
 use Rattle.account.proofs.Firsts.{same-first}
 use Rattle.account.proofs.Laid.{Faultless, laid}
@@ -46,7 +47,7 @@ module _
   pub prompts-are : (c : ℕ) → c ≤ 15 → promptsNoted file first counts c ≡ keep (ofContract 2 c) (cut k file)
   prompts-are c hc =
       let v = part 2 c in
-      let h : v < 82 = omega arith in
+      let h : v < parts = omega arith in
       let s = laid file k fine .parts v h in
       let w = s .within in
       ap (λ (i : ℕ). records (stretch file i (getD counts v 0))) (notes .started v h)
@@ -119,7 +120,7 @@ module _
           kind (recordAt file k) ≡ 5
           → getD counts (partOf (recordAt file k)) 0 ≡ count (ofKind 5) (earlier file k)
       entries e =
-          ap (λ (v : ℕ). getD counts v 0) (part-entry (recordAt file k) e) ∙ notes .counted 80 (omega arith)
+          ap (λ (v : ℕ). getD counts v 0) (part-entry (recordAt file k) e) ∙ notes .counted entryPart (omega arith)
           ∙ sym (count-earlier (ofKind 5) file k)
 
   pub same-fault : faultAt file first counts k ≡ faultOf (earlier file k) (recordAt file k)

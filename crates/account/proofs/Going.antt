@@ -14,12 +14,13 @@ use Rattle.exact.specs.Lists.{oneIf, count}
 use Rattle.exact.proofs.Lists.{count-append}
 use Rattle.record.specs.Layout.{Record}
 use Rattle.account.specs.Answers.{numberOf, refusal}
-use Rattle.account.specs.Check.{faultOf, tooLong, cutRecord, recordsChecked}
-use Rattle.account.specs.Notes.{partOf, inPart, oneMore, startNoted, faultAt}
+use Rattle.account.specs.Check.{faultOf, tooLong, cutRecord, recordsChecked, mostRecords}
+use Rattle.account.specs.code.Notes.{partOf, oneMore, startNoted, faultAt}
+use Rattle.account.specs.PartNumbers.{inPart, ofAccepted, parts}
 use Rattle.account.specs.Parts.{ofKind, startOf}
-use Rattle.account.specs.Passing.{partAtRecord, countedTo, Passes, Notable, Advances}
+use Rattle.account.specs.code.Passing.{partAtRecord, countedTo, Passes, Notable, Advances}
 use Rattle.account.specs.Records.{cut, recordAt, recordCount, earlier}
-use Rattle.account.specs.Surveyed.{ofAccepted, Surveyed, Empty, Tallied}
+use Rattle.account.specs.code.Surveyed.{Surveyed, Empty, Tallied}
 use Rattle.account.specs.declared.answers.Answer.{Answer}
 use Rattle.account.specs.declared.answers.Answer.the-variants.{Accepted}
 use Rattle.account.specs.declared.check.Survey.{Survey}
@@ -50,7 +51,7 @@ pub record Going (file first counts : List ℕ) (contracts k : ℕ) : Type 0 whe
   pub notes : Noted first counts (cut k file)
   pub owned : contracts ≡ count (ofKind 1) (cut k file)
 
-pub going-start : (file : List ℕ) → Going file (replicate 82 0) (replicate 82 0) 0 0
+pub going-start : (file : List ℕ) → Going file (replicate parts 0) (replicate parts 0) 0 0
 going-start file = record {
   inside = omega arith;
   fine = λ j h. absurd (omega arith);
@@ -76,10 +77,10 @@ nothing file a s e nz h =
     record {
       answer = h .answer ∙ sym e;
       contracts = h .contracts ∙ sym (none _);
-      firsts = ap length (h .first) ∙ length-replicate {A = ℕ} 82 0;
-      sizes = ap length (h .counts) ∙ length-replicate {A = ℕ} 82 0;
-      first = λ v l. ap (λ (xs : List ℕ). getD xs v 0) (h .first) ∙ getD-replicate {A = ℕ} 82 v 0 0 l ∙ sym (none _);
-      counts = λ v l. ap (λ (xs : List ℕ). getD xs v 0) (h .counts) ∙ getD-replicate {A = ℕ} 82 v 0 0 l ∙ sym
+      firsts = ap length (h .first) ∙ length-replicate {A = ℕ} parts 0;
+      sizes = ap length (h .counts) ∙ length-replicate {A = ℕ} parts 0;
+      first = λ v l. ap (λ (xs : List ℕ). getD xs v 0) (h .first) ∙ getD-replicate {A = ℕ} parts v 0 0 l ∙ sym (none _);
+      counts = λ v l. ap (λ (xs : List ℕ). getD xs v 0) (h .counts) ∙ getD-replicate {A = ℕ} parts v 0 0 l ∙ sym
           (none _);
     }
 
@@ -109,7 +110,7 @@ module _ {file first counts : List ℕ} {contracts k : ℕ} (g : Going file firs
     known : Known (recordAt file k)
     known = known-of (recordAt file k) (passed (earlier file k) (recordAt file k) no-fault)
 
-    pub part-in : partOf (recordAt file k) < 82
+    pub part-in : partOf (recordAt file k) < parts
     part-in = part-bound (recordAt file k) known
 
     pub count-small : getD counts (partOf (recordAt file k)) 0 ≤ k
@@ -213,7 +214,7 @@ going-over {file} {first} {counts} {first′} {counts′} {contracts} {k} {next}
 
 pub notable :
     {file first counts : List ℕ} {contracts k : ℕ} (g : Going file first counts contracts k) → k < recordCount file
-    → recordCount file ≤ 640 → Notable file first counts k
+    → recordCount file ≤ mostRecords → Notable file first counts k
 notable g more few =
     record {
       inside = more;

@@ -19,7 +19,8 @@ use Rattle.account.specs.Accepted.{Each, OnePrompt, listed, EntryNamed}
 use Rattle.account.specs.Check.{recordsChecked, mostRecords, legsClash, withItself}
 use Rattle.account.specs.Joined.{supplier, inTurn, joinedOf, fromMorning, joined}
 use Rattle.account.specs.Lawful.{Recorded}
-use Rattle.account.specs.Notes.{parts, partOf, inPart}
+use Rattle.account.specs.PartNumbers.{parts, inPart, entryPart, ratePart}
+use Rattle.account.specs.code.Notes.{partOf}
 use Rattle.account.specs.Orders.{Rising, Later, RatesRise}
 use Rattle.account.specs.Parts.{ofKind, ofContract, onDay, contractsOf, promptsOf, rowsOf, entriesOf, ratesOf}
 use Rattle.account.specs.Records.{cut, recordAt, records, recordCount}
@@ -258,41 +259,41 @@ counted-once f t a (suc n) l h is =
         rw (is a (omega arith) ∙ e) (omega (arith, rest (omega arith)))
 
 abbrev OnePart : Record → Type 0
-OnePart r = count (λ v. inPart v r) (countFrom 0 82) ≡ 1
+OnePart r = count (λ v. inPart v r) (countFrom 0 parts) ≡ 1
 
 one-part : (r : Record) → Known r → OnePart r
 one-part r known =
-    counted-once (λ v. inPart v r) (partOf r) 0 82 (omega arith) (part-bound r known) (λ v h. mine r known v h)
+    counted-once (λ v. inPart v r) (partOf r) 0 parts (omega arith) (part-bound r known) (λ v h. mine r known v h)
 
 entry-part : (r : Record) → kind r ≡ 5 → OnePart r
-entry-part r k = counted-once (λ v. inPart v r) 80 0 82 (omega arith) (omega arith) (λ v h. go v h (eqb v 80) refl (eqb v 81) refl)
+entry-part r k = counted-once (λ v. inPart v r) entryPart 0 parts (omega arith) (omega arith) (λ v h. go v h (eqb v entryPart) refl (eqb v ratePart) refl)
   where
-    go : (v : ℕ) → v < 82 → (s : Bool) → eqb v 80 ≡ s → (t : Bool) → eqb v 81 ≡ t → inPart v r ≡ eqb 80 v
-    go v h true e t f = rw e (eq-eqb (kind r) 5 k ∙ sym (eq-eqb 80 v (sym (eqb-true v 80 e))))
+    go : (v : ℕ) → v < parts → (s : Bool) → eqb v entryPart ≡ s → (t : Bool) → eqb v ratePart ≡ t → inPart v r ≡ eqb entryPart v
+    go v h true e t f = rw e (eq-eqb (kind r) 5 k ∙ sym (eq-eqb entryPart v (sym (eqb-true v entryPart e))))
     go v h false e true f =
-        let d = eqb-false v 80 e in
-        rw (e, f) (ne-eqb (kind r) 6 (λ z. omega arith) ∙ sym (ne-eqb 80 v (λ z. d (sym z))))
+        let d = eqb-false v entryPart e in
+        rw (e, f) (ne-eqb (kind r) 6 (λ z. omega arith) ∙ sym (ne-eqb entryPart v (λ z. d (sym z))))
     go v h false e false f =
-        let d = eqb-false v 80 e in
-        let i = eqb-false v 81 f in
-        rw (e, f) (other-kind (v / 16) (v % 16) r (λ z. omega arith) ∙ sym (ne-eqb 80 v (λ z. d (sym z))))
+        let d = eqb-false v entryPart e in
+        let i = eqb-false v ratePart f in
+        rw (e, f) (other-kind (v / 16) (v % 16) r (λ z. omega arith) ∙ sym (ne-eqb entryPart v (λ z. d (sym z))))
 
 rate-part : (r : Record) → kind r ≡ 6 → OnePart r
-rate-part r k = counted-once (λ v. inPart v r) 81 0 82 (omega arith) (omega arith) (λ v h. go v h (eqb v 80) refl (eqb v 81) refl)
+rate-part r k = counted-once (λ v. inPart v r) ratePart 0 parts (omega arith) (omega arith) (λ v h. go v h (eqb v entryPart) refl (eqb v ratePart) refl)
   where
-    go : (v : ℕ) → v < 82 → (s : Bool) → eqb v 80 ≡ s → (t : Bool) → eqb v 81 ≡ t → inPart v r ≡ eqb 81 v
+    go : (v : ℕ) → v < parts → (s : Bool) → eqb v entryPart ≡ s → (t : Bool) → eqb v ratePart ≡ t → inPart v r ≡ eqb ratePart v
     go v h true e t f =
-        let d = eqb-true v 80 e in
-        rw e (ne-eqb (kind r) 5 (λ z. omega arith) ∙ sym (ne-eqb 81 v (λ z. omega arith)))
-    go v h false e true f = rw (e, f) (eq-eqb (kind r) 6 k ∙ sym (eq-eqb 81 v (sym (eqb-true v 81 f))))
+        let d = eqb-true v entryPart e in
+        rw e (ne-eqb (kind r) 5 (λ z. omega arith) ∙ sym (ne-eqb ratePart v (λ z. omega arith)))
+    go v h false e true f = rw (e, f) (eq-eqb (kind r) 6 k ∙ sym (eq-eqb ratePart v (sym (eqb-true v ratePart f))))
     go v h false e false f =
-        let d = eqb-false v 80 e in
-        let i = eqb-false v 81 f in
-        rw (e, f) (other-kind (v / 16) (v % 16) r (λ z. omega arith) ∙ sym (ne-eqb 81 v (λ z. i (sym z))))
+        let d = eqb-false v entryPart e in
+        let i = eqb-false v ratePart f in
+        rw (e, f) (other-kind (v / 16) (v % 16) r (λ z. omega arith) ∙ sym (ne-eqb ratePart v (λ z. i (sym z))))
 
 length-parts :
-    (xs : List Record) → Each OnePart xs → length xs ≡ sum (map (λ v. count (inPart v) xs) (countFrom 0 82))
-length-parts xs one = go (countFrom 0 82) xs one
+    (xs : List Record) → Each OnePart xs → length xs ≡ sum (map (λ v. count (inPart v) xs) (countFrom 0 parts))
+length-parts xs one = go (countFrom 0 parts) xs one
   where
     counts : (p : ℕ → Bool) (vs : List ℕ) → sum (map (λ v. oneIf (p v)) vs) ≡ count p vs
     counts p [] = refl
@@ -579,7 +580,7 @@ in-parts file (suc k) fine =
         part-cases r known (16 ≤ t) (λ e i. omega arith) (λ e i. omega arith) (λ l i. omega (arith, known .low)) in
         let grown : (v : ℕ) → keep (inPart v) (cut (suc k) file) ≡ keep (inPart v) (cut k file ++ r ∷ []) =
         λ v. ap (keep (inPart v)) (cut-more k file) in
-        turn-more (partsOf (cut k file)) (partsOf (cut (suc k) file)) r t 82
+        turn-more (partsOf (cut k file)) (partsOf (cut (suc k) file)) r t parts
         (grown t ∙ keeps-one (inPart t) (cut k file) r (mine r known t bound ∙ eq-eqb t t refl))
         (λ v h d. grown v ∙ keeps-not (inPart v) (cut k file) r (mine r known v h ∙ ne-eqb t v (λ e. d (sym e))))
         (λ v h l.

@@ -12,7 +12,8 @@ use borrow.Author.Tests.{eq-eqb, eqb-true}
 use Rattle.exact.specs.Lists.{count}
 use Rattle.record.specs.Layout.{Record, kind, contract}
 use Rattle.account.specs.Check.{faultOf}
-use Rattle.account.specs.Notes.{partOf, inPart, beforeAt}
+use Rattle.account.specs.code.Notes.{partOf, beforeAt}
+use Rattle.account.specs.PartNumbers.{inPart, parts as allParts}
 use Rattle.account.specs.Parts.{startOf}
 use Rattle.account.specs.Records.{cut, recordAt, earlier}
 use Rattle.account.proofs.Earlier.{cut-more}
@@ -24,8 +25,8 @@ abbrev pub Faultless : List ℕ → ℕ → Type 0
 Faultless file k = (j : ℕ) → j < k → faultOf (earlier file j) (recordAt file j) ≡ 0
 
 pub record Laid (xs : List Record) (top : ℕ) : Type 0 where
-  pub parts : (v : ℕ) → v < 82 → Stretch (inPart v) xs
-  pub upto : (v : ℕ) → v < 82 → 0 < count (inPart v) xs → v ≤ top
+  pub parts : (v : ℕ) → v < allParts → Stretch (inPart v) xs
+  pub upto : (v : ℕ) → v < allParts → 0 < count (inPart v) xs → v ≤ top
   pub latest : 0 < count (inPart top) xs → startOf (inPart top) xs + count (inPart top) xs ≡ length xs
 
 laid-none : Laid [] 0
@@ -57,14 +58,14 @@ module _ (xs : List Record) (top : ℕ) (old : Laid xs top) (r : Record) (k : Kn
         latest = λ z. stretch-latest (inPart (partOf r)) xs r (old .parts (partOf r) (part-bound r k)) ours so-far;
       }
     where
-      part-of : (v : ℕ) → v < 82 → (t : Bool) → inPart v r ≡ t → Stretch (inPart v) (xs ++ r ∷ [])
+      part-of : (v : ℕ) → v < allParts → (t : Bool) → inPart v r ≡ t → Stretch (inPart v) (xs ++ r ∷ [])
       part-of v h true e =
           let same : partOf r ≡ v = eqb-true _ _ (sym (mine r k v h) ∙ e) in
           subst (λ (u : ℕ). Stretch (inPart u) (xs ++ r ∷ [])) same
           (stretch-grow (inPart (partOf r)) xs r (old .parts (partOf r) (part-bound r k)) ours so-far)
       part-of v h false e = stretch-skip (inPart v) xs r (old .parts v h) e
 
-      upto-of : (v : ℕ) → v < 82 → 0 < count (inPart v) (xs ++ r ∷ []) → (t : Bool) → inPart v r ≡ t → v ≤ partOf r
+      upto-of : (v : ℕ) → v < allParts → 0 < count (inPart v) (xs ++ r ∷ []) → (t : Bool) → inPart v r ≡ t → v ≤ partOf r
       upto-of v h z true e =
           let same : partOf r ≡ v = eqb-true _ _ (sym (mine r k v h) ∙ e) in
           omega arith

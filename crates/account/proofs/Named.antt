@@ -13,7 +13,7 @@ use Rattle.record.proofs.Tests.{any-append}
 use Rattle.record.proofs.Within.{both-true, neither}
 use Rattle.account.specs.Accepted.{Each, listed, EntryNamed, Named}
 use Rattle.account.specs.Check.{none, listsContract, unlisted}
-use Rattle.account.specs.Notes.{beforeAt}
+use Rattle.account.specs.code.Notes.{beforeAt}
 use Rattle.account.specs.Parts.{ofKind, ofContract}
 use Rattle.account.specs.Records.{cut, recordAt, records, recordCount, earlier}
 use Rattle.account.proofs.Dispatch.{order-1, order-5, unlisted-2, unlisted-3, unlisted-4, unlisted-5}

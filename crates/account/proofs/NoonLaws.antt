@@ -14,15 +14,16 @@ use Rattle.account.specs.Accepted.{Each, listed}
 use Rattle.account.specs.Answers.{numberOf}
 use Rattle.account.specs.Check.{recordsChecked, mostRecords, mostContracts}
 use Rattle.account.specs.Checked.{ratesChecked}
-use Rattle.account.specs.Joined.{joinedOf, fromMorning}
+use Rattle.account.specs.Joined.{joinedOf, fromMorning, accountOf}
 use Rattle.account.specs.Lawful.{Recorded, Lawful}
-use Rattle.account.specs.Noon.{ofJoined, ofMorning, ofNoon, clear, _then_, morningsOwn, noSpread, fewJoined, recordsVerdict, joinedVerdict}
-use Rattle.account.specs.Noon.{noonSpread, verdictBy, PairBy, nowhere, placeIn, placeBy, promptPlace}
-use Rattle.account.specs.Notes.{part, inPart}
+use Rattle.account.specs.Noon.{ofJoined, ofMorning, ofNoon, clear, _then_, morningsOwn, noSpread, fewJoined, recordsVerdict, joinedVerdict, nowhere}
+use Rattle.account.specs.Noon.{placeIn, promptPlace}
+use Rattle.account.specs.code.Pair.{noonSpread, verdictBy, PairBy, placeBy}
+use Rattle.account.specs.PartNumbers.{part, inPart, ofAccepted, entryPart, ratePart, parts}
 use Rattle.account.specs.Parts.{ofKind, ofContract, placeOf, startOf, entriesOf, ratesOf}
 use Rattle.account.specs.Records.{records}
-use Rattle.account.specs.Standing.{JoinedBy, Places, Stands, accountOf}
-use Rattle.account.specs.Surveyed.{Surveyed, ofAccepted}
+use Rattle.account.specs.code.Standing.{JoinedBy, Places, Stands}
+use Rattle.account.specs.code.Surveyed.{Surveyed}
 use Rattle.account.specs.declared.answers.Answer.{Answer}
 use Rattle.account.specs.declared.answers.Answer.the-variants.{Accepted, NoonSpread, TooManyJoined}
 use Rattle.account.specs.declared.check.Survey.{Survey}
@@ -218,17 +219,17 @@ module _ (noon : List ℕ) (n : Survey) (sn : Surveyed noon n) (okn : recordsChe
 
   spread-is : noonSpread n ≡ noSpread noon
   spread-is =
-      ap₂ (λ (x y : ℕ). cond (eqb x 0) (cond (eqb (getD (n .counts) 81 0) 0) Accepted (NoonSpread (getD (n .first) 81 0))) (NoonSpread y))
-      (counts 80 (omega arith)) (begins 80 (omega arith))
+      ap₂ (λ (x y : ℕ). cond (eqb x 0) (cond (eqb (getD (n .counts) ratePart 0) 0) Accepted (NoonSpread (getD (n .first) ratePart 0))) (NoonSpread y))
+      (counts entryPart (omega arith)) (begins entryPart (omega arith))
       ∙ ap₂ (λ (x y : ℕ). cond (eqb (count (ofKind 5) rs) 0) (cond (eqb x 0) Accepted (NoonSpread y)) (NoonSpread (startOf (ofKind 5) rs)))
-      (counts 81 (omega arith)) (begins 81 (omega arith))
+      (counts ratePart (omega arith)) (begins ratePart (omega arith))
       ∙ subst (λ (xs : List Record). byCounts xs ≡ cond (any morningsOwn xs) (NoonSpread (placeOf morningsOwn xs)) Accepted) apart
       (by-kinds (((of 1 ++ of 2) ++ of 3) ++ of 4) first-four (entriesOf rs) (ratesOf rs) (entries-kind rs []) (rates-kind rs []))
     where
-      counts : (v : ℕ) → v < 82 → getD (n .counts) v 0 ≡ count (inPart v) rs
+      counts : (v : ℕ) → v < parts → getD (n .counts) v 0 ≡ count (inPart v) rs
       counts v h = sn .counts v h ∙ ap (λ (a : Answer). ofAccepted a (count (inPart v) rs)) okn
 
-      begins : (v : ℕ) → v < 82 → getD (n .first) v 0 ≡ startOf (inPart v) rs
+      begins : (v : ℕ) → v < parts → getD (n .first) v 0 ≡ startOf (inPart v) rs
       begins v h = sn .first v h ∙ ap (λ (a : Answer). ofAccepted a (startOf (inPart v) rs)) okn
 
 module _ (morning noon : List ℕ) (m n : Survey) (j : Account) (sm : Surveyed morning m) (sn : Surveyed noon n) (by : JoinedBy m n j) where

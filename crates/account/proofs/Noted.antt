@@ -11,24 +11,25 @@ use native.Mathlib.Omega.{arith}
 use borrow.Author.Tests.{ne-eqb, eqb-true, eqb-false}
 use Rattle.exact.specs.Lists.{count}
 use Rattle.record.specs.Layout.{Record}
-use Rattle.account.specs.Notes.{part, partOf, inPart, oneMore, startNoted}
+use Rattle.account.specs.PartNumbers.{part, inPart, entryPart, ratePart, parts}
+use Rattle.account.specs.code.Notes.{partOf, oneMore, startNoted}
 use Rattle.account.specs.Parts.{ofKind, ofContract, startOf}
 use Rattle.account.proofs.Lists.{counts-not, counts-one, starts-same-not, starts-same, starts-here}
 use Rattle.account.proofs.Passed.{Known, part-bound, mine}
 
 pub record Noted (first counts : List ℕ) (xs : List Record) : Type 0 where
-  pub firsts : length first ≡ 82
-  pub sizes : length counts ≡ 82
-  pub counted : (v : ℕ) → v < 82 → getD counts v 0 ≡ count (inPart v) xs
-  pub started : (v : ℕ) → v < 82 → getD first v 0 ≡ startOf (inPart v) xs
+  pub firsts : length first ≡ parts
+  pub sizes : length counts ≡ parts
+  pub counted : (v : ℕ) → v < parts → getD counts v 0 ≡ count (inPart v) xs
+  pub started : (v : ℕ) → v < parts → getD first v 0 ≡ startOf (inPart v) xs
 
-pub noted-none : Noted (replicate 82 0) (replicate 82 0) []
+pub noted-none : Noted (replicate parts 0) (replicate parts 0) []
 noted-none =
     record {
-      firsts = length-replicate {A = ℕ} 82 0;
-      sizes = length-replicate {A = ℕ} 82 0;
-      counted = λ v h. getD-replicate {A = ℕ} 82 v 0 0 h;
-      started = λ v h. getD-replicate {A = ℕ} 82 v 0 0 h;
+      firsts = length-replicate {A = ℕ} parts 0;
+      sizes = length-replicate {A = ℕ} parts 0;
+      counted = λ v h. getD-replicate {A = ℕ} parts v 0 0 h;
+      started = λ v h. getD-replicate {A = ℕ} parts v 0 0 h;
     }
 
 abbrev choice : Bool → Bool → ℕ → ℕ → Record → Bool
@@ -37,26 +38,26 @@ choice a b n c = λ r. cond a (ofKind 5 r) (cond b (ofKind 6 r) (ofContract n c 
 pub part-is : (n c : ℕ) → n ≤ 4 → c ≤ 15 → inPart (part n c) ≡ ofContract n c
 part-is n c hn hc =
     let v = part n c in
-    let e : eqb v 80 ≡ false = ne-eqb v 80 (λ z. omega arith) in
-    let f : eqb v 81 ≡ false = ne-eqb v 81 (λ z. omega arith) in
+    let e : eqb v entryPart ≡ false = ne-eqb v entryPart (λ z. omega arith) in
+    let f : eqb v ratePart ≡ false = ne-eqb v ratePart (λ z. omega arith) in
     let d : v / 16 ≡ n = omega arith in
     let m : v % 16 ≡ c = omega arith in
-    ap (λ (b : Bool). choice b (eqb v 81) (v / 16) (v % 16)) e ∙ ap (λ (b : Bool). choice false b (v / 16) (v % 16)) f
+    ap (λ (b : Bool). choice b (eqb v ratePart) (v / 16) (v % 16)) e ∙ ap (λ (b : Bool). choice false b (v / 16) (v % 16)) f
     ∙ ap (λ (x : ℕ). choice false false x (v % 16)) d ∙ ap (λ (x : ℕ). choice false false n x) m
 
 module _
     (first counts : List ℕ) (xs : List Record) (old : Noted first counts xs) (r : Record) (k : Known r) where
-  bound : partOf r < 82
+  bound : partOf r < parts
   bound = part-bound r k
 
-  same-part : (v : ℕ) → v < 82 → inPart v r ≡ true → partOf r ≡ v
+  same-part : (v : ℕ) → v < parts → inPart v r ≡ true → partOf r ≡ v
   same-part v h e = eqb-true _ _ (sym (mine r k v h) ∙ e)
 
-  other-part : (v : ℕ) → v < 82 → inPart v r ≡ false → v ≡ partOf r → ⊥
+  other-part : (v : ℕ) → v < parts → inPart v r ≡ false → v ≡ partOf r → ⊥
   other-part v h e i = eqb-false (partOf r) v (sym (mine r k v h) ∙ e) (sym i)
 
   counted-more :
-      (v : ℕ) → v < 82 → (t : Bool) → inPart v r ≡ t
+      (v : ℕ) → v < parts → (t : Bool) → inPart v r ≡ t
       → getD (oneMore counts (partOf r)) v 0 ≡ count (inPart v) (xs ++ r ∷ [])
   counted-more v h true e =
       let s = same-part v h e in
@@ -80,7 +81,7 @@ module _
   abbrev Started : ℕ → Type 0
   Started v = getD (startNoted first counts (partOf r) (length xs)) v 0 ≡ startOf (inPart v) (xs ++ r ∷ [])
 
-  started-here : (v : ℕ) → v < 82 → inPart v r ≡ true → (t : Bool) → eqb (getD counts (partOf r) 0) 0 ≡ t → Started v
+  started-here : (v : ℕ) → v < parts → inPart v r ≡ true → (t : Bool) → eqb (getD counts (partOf r) 0) 0 ≡ t → Started v
   started-here v h e true z =
       let s = same-part v h e in
       let l = old .firsts in
@@ -97,7 +98,7 @@ module _
       ∙ sym (starts-same (inPart v) xs r e (omega arith))
 
   started-other :
-      (v : ℕ) → v < 82 → inPart v r ≡ false → (t : Bool) → eqb (getD counts (partOf r) 0) 0 ≡ t → Started v
+      (v : ℕ) → v < parts → inPart v r ≡ false → (t : Bool) → eqb (getD counts (partOf r) 0) 0 ≡ t → Started v
   started-other v h e true z =
       ap (λ (f : List ℕ). getD f v 0) (first-set z)
       ∙ getD-set-other first (partOf r) v (length xs) 0 (other-part v h e) ∙ old .started v h
@@ -105,12 +106,12 @@ module _
   started-other v h e false z =
       ap (λ (f : List ℕ). getD f v 0) (first-kept z) ∙ old .started v h ∙ sym (starts-same-not (inPart v) xs r e)
 
-  started-more : (v : ℕ) → v < 82 → (t : Bool) → inPart v r ≡ t → Started v
+  started-more : (v : ℕ) → v < parts → (t : Bool) → inPart v r ≡ t → Started v
   started-more v h true e = started-here v h e (eqb (getD counts (partOf r) 0) 0) refl
   started-more v h false e = started-other v h e (eqb (getD counts (partOf r) 0) 0) refl
 
   firsts-more :
-      (t : Bool) → eqb (getD counts (partOf r) 0) 0 ≡ t → length (startNoted first counts (partOf r) (length xs)) ≡ 82
+      (t : Bool) → eqb (getD counts (partOf r) 0) 0 ≡ t → length (startNoted first counts (partOf r) (length xs)) ≡ parts
   firsts-more true z = ap length (first-set z) ∙ length-set first (partOf r) (length xs) ∙ old .firsts
   firsts-more false z = ap length (first-kept z) ∙ old .firsts
 

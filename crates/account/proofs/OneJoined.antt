@@ -3,20 +3,20 @@
 use Prim.Native.Nat.{ℕ, zero, suc, _+_, _-_, _<_}
 use mathlib.Core.Path.{_≡_, refl, sym, ap, ap₂, subst⁻¹, _∙_}
 use mathlib.Core.Bool.{Bool, false}
-use mathlib.Core.List.{List, [], _∷_, _++_, map}
-use lib.ListN.{length, getD, take, drop, replicate, length-map, take-append-drop}
+use mathlib.Core.List.{List, _++_, map}
+use lib.ListN.{length, getD, replicate, length-map, take-append-drop}
 use lib.Seq.{ext-getD, length-take-le}
 use native.Mathlib.Omega.{arith}
 use Rattle.exact.specs.Lists.{keep, sum}
 use Rattle.exact.proofs.Lists.{getD-map}
 use Rattle.record.specs.Bytes.{countFrom}
 use Rattle.account.specs.Check.{recordsChecked, mostContracts}
-use Rattle.account.specs.Determined.{Determined}
-use Rattle.account.specs.Noon.{PairBy}
-use Rattle.account.specs.Notes.{parts}
+use Rattle.account.specs.code.Determined.{Determined}
+use Rattle.account.specs.code.Pair.{PairBy}
+use Rattle.account.specs.PartNumbers.{parts, contractCount, partStart, partCount}
 use Rattle.account.specs.Records.{recordCount}
-use Rattle.account.specs.Standing.{lists, Filled, Flagged, Numbered, JoinedBy, AloneBy, CheckedBy}
-use Rattle.account.specs.Surveyed.{Surveyed, contractCount, partStart, partCount}
+use Rattle.account.specs.code.Standing.{lists, Filled, Flagged, Numbered, JoinedBy, AloneBy, CheckedBy}
+use Rattle.account.specs.code.Surveyed.{Surveyed}
 use Rattle.account.specs.declared.check.Survey.{Survey}
 use Rattle.account.specs.declared.accounts.Account.{Account}
 use Rattle.account.specs.declared.accounts.Checked.{Checked}

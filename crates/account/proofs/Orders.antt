@@ -10,6 +10,7 @@ use borrow.Author.Tests.{eqb-true, eq-eqb, leb-false}
 use lib.Dec.{eqb}
 use lib.ListN.{length, getD, take, drop}
 use lib.Seq.{getD-take, getD-drop, drop-drop}
+use Rattle.record.specs.Bytes.{recordBytes}
 use Rattle.exact.specs.Lists.{count, keep}
 use Rattle.record.specs.Layout.{Record, kind, contract, tier, day, rateCurrency}
 use Rattle.record.proofs.Within.{both-true, neither}
@@ -17,7 +18,7 @@ use Rattle.account.specs.Accepted.{Each}
 use Rattle.account.specs.Answers.{numberOf, recordOf}
 use Rattle.account.specs.Check.{recordsChecked, theOneBefore, contractFalls, legsClash, withItself, outOfOrder}
 use Rattle.account.specs.Orders.{Rising, Later, RatesRise, Orders}
-use Rattle.account.specs.Notes.{part, inPart}
+use Rattle.account.specs.PartNumbers.{part, inPart, ratePart, parts}
 use Rattle.account.specs.Parts.{startOf, ofKind, ofContract, contractsOf, promptsOf, ratesOf}
 use Rattle.account.specs.Records.{cut, recordAt, records, recordCount, earlier}
 use Rattle.account.specs.declared.answers.Answer.the-variants.{Accepted}
@@ -41,8 +42,9 @@ pub cut-at : (n k : ℕ) (file : List ℕ) → k < n → getD (cut n file) k [] 
 cut-at zero k file h = absurd (not-suc-le-zero h)
 cut-at (suc n) zero file h = refl
 cut-at (suc n) (suc k) file h =
-    let e : 96 + k * 96 ≡ suc k * 96 = omega arith in
-    cut-at n k (drop 96 file) (le-of-suc-le-suc h) ∙ ap (take 96) (drop-drop (k * 96) 96 file ∙ ap (λ (m : ℕ). drop m file) e)
+    let e : recordBytes + k * recordBytes ≡ suc k * recordBytes = omega arith in
+    cut-at n k (drop recordBytes file) (le-of-suc-le-suc h) ∙ ap (take recordBytes) (drop-drop (k * recordBytes) recordBytes file
+    ∙ ap (λ (m : ℕ). drop m file) e)
 
 module _ (file : List ℕ) (ok : recordsChecked file ≡ Accepted) where
   pub fine : Faultless file (recordCount file)
@@ -118,7 +120,7 @@ module _ (file : List ℕ) (ok : recordsChecked file ≡ Accepted) where
         subst₂ P (sym (a .0)) (sym r)
         (f (recordAt file (start + k)) (recordAt file (suc (start + k))) one two (at (suc (start + k)) (omega (arith, e, b .1)) .ordered))
 
-  part-laid : (v : ℕ) → v < 82 → Stretch (inPart v) (records file)
+  part-laid : (v : ℕ) → v < parts → Stretch (inPart v) (records file)
   part-laid v h = laid file (recordCount file) fine .parts v h
 
   later : (c : ℕ) → c ≤ 15 → Later (promptsOf c (records file))
@@ -131,7 +133,7 @@ module _ (file : List ℕ) (ok : recordsChecked file ≡ Accepted) where
 
   pub rates-rise : RatesRise (ratesOf (records file))
   rates-rise =
-      next (ofKind 6) (part-laid 81 (omega arith)) (λ b r. rateCurrency b < rateCurrency r)
+      next (ofKind 6) (part-laid ratePart (omega arith)) (λ b r. rateCurrency b < rateCurrency r)
       (λ b r p q off. leb-false (rateCurrency r) (rateCurrency b) (right-off p (sym (order-6 b r (eqb-true (kind r) 6 q)) ∙ off)))
 
   pub orders : Orders (records file)

@@ -11,7 +11,7 @@ use native.Mathlib.Nat.{le-refl}
 use borrow.Author.Tests.{eq-eqb, ne-eqb, eqb-true, eqb-false, leb-false, ltb-false}
 use Rattle.exact.specs.Lists.{count}
 use Rattle.record.specs.Layout.{Record, kind, contract}
-use Rattle.account.specs.Notes.{beforeAt}
+use Rattle.account.specs.code.Notes.{beforeAt}
 use Rattle.account.specs.Parts.{ofKind, startOf}
 use Rattle.account.specs.Records.{cut, recordAt, earlier}
 use Rattle.account.proofs.Dispatch.{order-1}

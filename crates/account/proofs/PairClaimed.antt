@@ -6,10 +6,10 @@ use mathlib.Core.Path.{_≡_, refl, sym, ap, subst, subst⁻¹, _∙_}
 use mathlib.Core.Bool.{Bool, true, false, not, _&&_, _||_, cond, false≢true}
 use mathlib.Core.List.{List, [], _∷_}
 use mathlib.Core.Logic.{_⊎_, inl, inr, ⊎-elim}
-use borrow.Author.Tests.{ne-eqb, eq-eqb, eqb-true, eqb-false, lt-ltb, le-ltb, ltb-true, ltb-false, leb-false}
-use lib.Dec.{eqb, leb, ltb}
+use borrow.Author.Tests.{eq-eqb, eqb-true, eqb-false, lt-ltb, le-ltb, ltb-true, ltb-false, leb-false}
+use lib.Dec.{eqb, ltb}
 use lib.ListN.{length, getD}
-use Rattle.exact.specs.Lists.{any, keep}
+use Rattle.exact.specs.Lists.{any}
 use Rattle.exact.proofs.Lists.{any-at}
 use Rattle.record.specs.Layout.{Record, mostContract}
 use Rattle.account.specs.Accepted.{Each, listed, partBytes}
@@ -17,13 +17,13 @@ use Rattle.account.specs.Answers.{numberOf, recordOf}
 use Rattle.account.specs.Check.{recordsChecked, mostRecords, mostContracts}
 use Rattle.account.specs.Claims.{Iff, Comes, RecordsGive}
 use Rattle.account.specs.Checked.{ratesChecked}
-use Rattle.account.specs.Noon.{ofJoined, ofMorning, ofNoon, clear, _then_, morningsOwn, noSpread, fewJoined, recordsVerdict, joinedVerdict}
-use Rattle.account.specs.Noon.{nowhere, placeIn, promptPlace, joinedPrompts}
-use Rattle.account.specs.Notes.{part}
+use Rattle.account.specs.Noon.{ofJoined, ofMorning, ofNoon, clear, _then_, morningsOwn, noSpread, fewJoined, recordsVerdict, joinedVerdict, nowhere}
+use Rattle.account.specs.Noon.{placeIn, joinedPrompts}
+use Rattle.account.specs.PartNumbers.{part}
 use Rattle.account.specs.PairClaims.{Says, BothPass, FirstSpread, NoSpread, PairExactly, OfMorning, OfNoon, OfJoined, PromptsHanded, PairClaims}
-use Rattle.account.specs.Parts.{ofContract, placeOf, promptsOf}
+use Rattle.account.specs.Parts.{placeOf, promptsOf}
 use Rattle.account.specs.Records.{records, recordAt, recordCount, stretch}
-use Rattle.account.specs.Standing.{accountOf}
+use Rattle.account.specs.Joined.{accountOf}
 use Rattle.account.specs.declared.answers.Answer.{Answer}
 use Rattle.account.specs.declared.answers.Answer.the-variants.{Accepted, NoonSpread, TooManyJoined}
 use Rattle.account.specs.declared.noon.Place.{Place}

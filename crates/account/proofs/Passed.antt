@@ -12,7 +12,8 @@ use Rattle.record.specs.Layout.{Record, kind, contract}
 use Rattle.record.specs.Ranges.{unknownKind, unusedByte, fieldOutside}
 use Rattle.record.proofs.Within.{both-true, neither, by-kind, kind-known, contract-known}
 use Rattle.account.specs.Check.{theOneBefore, kindFalls, unlisted, outOfOrder, overLimit, faultOf, dayNotAbove, tierFalls, contractFalls, legsClash}
-use Rattle.account.specs.Notes.{partOf, inPart}
+use Rattle.account.specs.code.Notes.{partOf}
+use Rattle.account.specs.PartNumbers.{inPart, entryPart, ratePart, parts}
 use Rattle.account.specs.Parts.{ofContract}
 use Rattle.account.proofs.Dispatch.{order-1, order-2, order-3, order-4}
 use Rattle.account.proofs.Firsts.{seven}
@@ -64,10 +65,10 @@ known-of r p =
     let k = kind-known r (p .known) in
     record { low = k .least; high = k .most; contracts = contract-known r (p .known) (p .within) }
 
-pub part-entry : (r : Record) → kind r ≡ 5 → partOf r ≡ 80
+pub part-entry : (r : Record) → kind r ≡ 5 → partOf r ≡ entryPart
 part-entry r e = rw e
 
-pub part-rate : (r : Record) → kind r ≡ 6 → partOf r ≡ 81
+pub part-rate : (r : Record) → kind r ≡ 6 → partOf r ≡ ratePart
 part-rate r e = rw e
 
 pub part-other : (r : Record) → (kind r ≡ 5 → ⊥) → (kind r ≡ 6 → ⊥) → partOf r ≡ 16 * kind r + contract r
@@ -76,7 +77,7 @@ part-other r h i = rw (ne-eqb (kind r) 5 h, ne-eqb (kind r) 6 i)
 -- the part by the kind, of a known kind or of none
 pub kind-cases :
     (r : Record) → kind r ≤ 6 → (P : Type 0)
-    → (kind r ≡ 5 → partOf r ≡ 80 → P) → (kind r ≡ 6 → partOf r ≡ 81 → P) → (kind r < 5 → partOf r ≡ 16 * kind r + contract r → P)
+    → (kind r ≡ 5 → partOf r ≡ entryPart → P) → (kind r ≡ 6 → partOf r ≡ ratePart → P) → (kind r < 5 → partOf r ≡ 16 * kind r + contract r → P)
     → P
 kind-cases r high P f g h = go (eqb (kind r) 5) refl (eqb (kind r) 6) refl
   where
@@ -98,19 +99,19 @@ both-hold p q = rw (p, q)
 
 module _ (r : Record) (k : Known r) where
   pub part-cases :
-      (P : Type 0) → (kind r ≡ 5 → partOf r ≡ 80 → P) → (kind r ≡ 6 → partOf r ≡ 81 → P)
+      (P : Type 0) → (kind r ≡ 5 → partOf r ≡ entryPart → P) → (kind r ≡ 6 → partOf r ≡ ratePart → P)
       → (kind r < 5 → partOf r ≡ 16 * kind r + contract r → P) → P
   part-cases = kind-cases r (k .high)
 
-  pub part-bound : partOf r < 82
+  pub part-bound : partOf r < parts
   part-bound =
       let c = k .contracts in
-      part-cases (partOf r < 82) (λ e p. omega arith) (λ e p. omega arith) (λ l p. omega arith)
+      part-cases (partOf r < parts) (λ e p. omega arith) (λ e p. omega arith) (λ l p. omega arith)
 
-  pub mine : (v : ℕ) → v < 82 → inPart v r ≡ eqb (partOf r) v
-  mine v h = go (eqb v 80) refl (eqb v 81) refl
+  pub mine : (v : ℕ) → v < parts → inPart v r ≡ eqb (partOf r) v
+  mine v h = go (eqb v entryPart) refl (eqb v ratePart) refl
     where
-      entries : v ≡ 80 → eqb (kind r) 5 ≡ eqb (partOf r) v
+      entries : v ≡ entryPart → eqb (kind r) 5 ≡ eqb (partOf r) v
       entries e =
           same-tests _ _ (λ t. eq-eqb _ _ (part-entry r (eqb-true _ _ t) ∙ sym e))
           (λ t.
@@ -118,7 +119,7 @@ module _ (r : Record) (k : Known r) where
           let c = k .contracts in
           part-cases (eqb (kind r) 5 ≡ true) (λ i q. eq-eqb _ _ i) (λ i q. absurd (omega arith)) (λ l q. absurd (omega arith)))
 
-      rates : v ≡ 81 → eqb (kind r) 6 ≡ eqb (partOf r) v
+      rates : v ≡ ratePart → eqb (kind r) 6 ≡ eqb (partOf r) v
       rates e =
           same-tests _ _ (λ t. eq-eqb _ _ (part-rate r (eqb-true _ _ t) ∙ sym e))
           (λ t.
@@ -126,7 +127,7 @@ module _ (r : Record) (k : Known r) where
           let c = k .contracts in
           part-cases (eqb (kind r) 6 ≡ true) (λ i q. absurd (omega arith)) (λ i q. eq-eqb _ _ i) (λ l q. absurd (omega arith)))
 
-      others : (v ≡ 80 → ⊥) → (v ≡ 81 → ⊥) → ofContract (v / 16) (v % 16) r ≡ eqb (partOf r) v
+      others : (v ≡ entryPart → ⊥) → (v ≡ ratePart → ⊥) → ofContract (v / 16) (v % 16) r ≡ eqb (partOf r) v
       others n m =
           let c = k .contracts in
           same-tests (ofContract (v / 16) (v % 16) r) (eqb (partOf r) v)
@@ -140,7 +141,7 @@ module _ (r : Record) (k : Known r) where
           part-cases (ofContract (v / 16) (v % 16) r ≡ true) (λ a q. absurd (omega arith)) (λ a q. absurd (omega arith))
           (λ l q. both-hold (eq-eqb (kind r) (v / 16) (omega arith)) (eq-eqb (contract r) (v % 16) (omega arith))))
 
-      go : (s : Bool) → eqb v 80 ≡ s → (t : Bool) → eqb v 81 ≡ t → inPart v r ≡ eqb (partOf r) v
+      go : (s : Bool) → eqb v entryPart ≡ s → (t : Bool) → eqb v ratePart ≡ t → inPart v r ≡ eqb (partOf r) v
       go true e t f = rw e (entries (eqb-true _ _ e))
       go false e true f = rw (e, f) (rates (eqb-true _ _ f))
       go false e false f = rw (e, f) (others (eqb-false _ _ e) (eqb-false _ _ f))

@@ -15,21 +15,21 @@ use Rattle.record.specs.Bytes.{countFrom}
 use Rattle.record.specs.Layout.{Record, kind, contract}
 use Rattle.account.specs.Accepted.{listed}
 use Rattle.account.specs.Check.{recordsChecked}
-use Rattle.account.specs.Joined.{supplier, joinedOf, fromMorning, joined}
+use Rattle.account.specs.Joined.{supplier, joinedOf, fromMorning, joined, accountOf}
 use Rattle.account.specs.Lawful.{Recorded}
-use Rattle.account.specs.Notes.{part, parts, inPart}
+use Rattle.account.specs.PartNumbers.{part, parts, inPart, partStart, partCount, entryPart, ratePart}
 use Rattle.account.specs.Parts.{ofKind, ofContract, contractsOf, entriesOf, ratesOf}
 use Rattle.account.specs.Records.{records, stretch}
-use Rattle.account.specs.Standing.{lists, fromNoon, JoinedBy, accountOf, supplies, Places}
-use Rattle.account.specs.Surveyed.{Surveyed, partStart, partCount}
+use Rattle.account.specs.code.Standing.{lists, fromNoon, JoinedBy, supplies, Places}
+use Rattle.account.specs.code.Surveyed.{Surveyed}
 use Rattle.account.specs.declared.answers.Answer.the-variants.{Accepted}
 use Rattle.account.specs.declared.check.Survey.{Survey}
 use Rattle.account.specs.declared.accounts.Account.{Account}
 use Rattle.account.proofs.Accepted.{accepts, part-stands}
 use Rattle.account.proofs.Every.{length-kept}
 use Rattle.account.proofs.Going.{if-accepted}
-use Rattle.account.proofs.JoinedLaws.{only-5, other-kind, others, none-mornings, by-parts, part-joined, entries-joined, rates-joined}
-use Rattle.account.proofs.JoinedLaws.{joined-length, joined-alone}
+use Rattle.account.proofs.JoinedLaws.{only-5, other-kind, others, none-mornings, by-parts, part-joined, entries-joined, rates-joined, joined-length}
+use Rattle.account.proofs.JoinedLaws.{joined-alone}
 use Rattle.account.proofs.Lawful.{recorded, numbered}
 use Rattle.account.proofs.Lists.{none-counted}
 use Rattle.account.proofs.Noted.{part-is}
@@ -44,7 +44,7 @@ alone-recorded file none e ok = subst⁻¹ Recorded (alone file none e ok) (reco
 -- ---- no record is of kind 0
 module _ (v : ℕ) (low : v < 16) where
   not-low : (r : Record) → (kind r ≡ 0 → ⊥) → inPart v r ≡ false
-  not-low r d = rw (ne-eqb v 80 (λ z. omega arith), ne-eqb v 81 (λ z. omega arith)) (other-kind (v / 16) (v % 16) r (λ z. d (omega arith)))
+  not-low r d = rw (ne-eqb v entryPart (λ z. omega arith), ne-eqb v ratePart (λ z. omega arith)) (other-kind (v / 16) (v % 16) r (λ z. d (omega arith)))
 
   pub none-low : (m n : List Record) → keep (inPart v) (joined m n) ≡ []
   none-low m n =
@@ -78,7 +78,7 @@ lists-is counts rs c h e =
 from-noon : (counts : List ℕ) (k c : ℕ) → k ≤ 4 → c ≤ 15 → fromNoon counts (part k c) ≡ lists counts c
 from-noon counts k c hk hc =
     let e : part k c % 16 ≡ c = omega arith in
-    ap (λ (b : Bool). b && lists counts (part k c % 16)) (lt-ltb (part k c) 80 (omega arith)) ∙ ap (lists counts) e
+    ap (λ (b : Bool). b && lists counts (part k c % 16)) (lt-ltb (part k c) entryPart (omega arith)) ∙ ap (lists counts) e
 
 -- ---- lists of numbers
 from-places :
@@ -123,14 +123,14 @@ module _
   flag-is c h = by .noon .each c (omega arith) ∙ noon-lists c h
 
   count-from :
-      (v : ℕ) → v < 82
+      (v : ℕ) → v < parts
       → getD (j .counts) v 0 ≡ cond (fromNoon (n .counts) v) (partCount noon v) (partCount morning v)
   count-from v h =
       by .counts .each v h
       ∙ ap₂ (λ (x y : ℕ). cond (fromNoon (n .counts) v) x y) (sn .counts v h) (sm .counts v h)
 
   first-from :
-      (v : ℕ) → v < 82
+      (v : ℕ) → v < parts
       → getD (j .first) v 0 ≡ cond (fromNoon (n .counts) v) (partStart noon v) (partStart morning v)
   first-from v h =
       by .first .each v h
@@ -143,7 +143,7 @@ module _
   each-stands k c low hk hc =
       let b = listed c (records noon) in
       let v = part k c in
-      let h : v < 82 = omega arith in
+      let h : v < parts = omega arith in
       let e = part-from k c hk hc in
       ap (λ (t : Bool). records (stretch (cond t noon morning) (getD (j .first) v 0) (getD (j .counts) v 0)))
       (flag-is c hc)
@@ -181,18 +181,18 @@ module _
       either true p = refl
       either false p = refl
 
-  count-entries : getD (j .counts) 80 0 ≡ count (inPart 80) account
+  count-entries : getD (j .counts) entryPart 0 ≡ count (inPart entryPart) account
   count-entries =
-      count-from 80 (omega arith)
-      ∙ counted morning okm 80
+      count-from entryPart (omega arith)
+      ∙ counted morning okm entryPart
       ∙ sym (length-kept (ofKind 5) (records morning))
       ∙ ap length (sym (entries-joined (records morning) (records noon)))
       ∙ length-kept (ofKind 5) account
 
-  count-rates : getD (j .counts) 81 0 ≡ count (inPart 81) account
+  count-rates : getD (j .counts) ratePart 0 ≡ count (inPart ratePart) account
   count-rates =
-      count-from 81 (omega arith)
-      ∙ counted morning okm 81
+      count-from ratePart (omega arith)
+      ∙ counted morning okm ratePart
       ∙ sym (length-kept (ofKind 6) (records morning))
       ∙ ap length (sym (rates-joined (records morning) (records noon)))
       ∙ length-kept (ofKind 6) account
@@ -214,26 +214,26 @@ module _
   pub counts-are : (v : ℕ) → v < parts → getD (j .counts) v 0 ≡ count (inPart v) (accountOf morning noon)
   counts-are v h = low (ltb v 16) refl
     where
-      middle : 16 ≤ v → (t : Bool) → ltb v 80 ≡ t → getD (j .counts) v 0 ≡ count (inPart v) account
+      middle : 16 ≤ v → (t : Bool) → ltb v entryPart ≡ t → getD (j .counts) v 0 ≡ count (inPart v) account
       middle above true e =
-          let below = ltb-true v 80 e in
+          let below = ltb-true v entryPart e in
           let d : part (v / 16) (v % 16) ≡ v = omega arith in
           subst (λ (i : ℕ). getD (j .counts) i 0 ≡ count (inPart i) account) d
           (count-part (v / 16) (v % 16) (omega arith) (omega arith) (omega arith))
       middle above false e =
-          last (ltb-false v 80 e) (eqb v 80) refl
+          last (ltb-false v entryPart e) (eqb v entryPart) refl
         where
-          last : 80 ≤ v → (t : Bool) → eqb v 80 ≡ t → getD (j .counts) v 0 ≡ count (inPart v) account
+          last : entryPart ≤ v → (t : Bool) → eqb v entryPart ≡ t → getD (j .counts) v 0 ≡ count (inPart v) account
           last l true i =
-              subst (λ (i : ℕ). getD (j .counts) i 0 ≡ count (inPart i) account) (sym (eqb-true v 80 i)) count-entries
+              subst (λ (i : ℕ). getD (j .counts) i 0 ≡ count (inPart i) account) (sym (eqb-true v entryPart i)) count-entries
           last l false i =
-              let n = eqb-false v 80 i in
-              let d : 81 ≡ v = omega arith in
+              let n = eqb-false v entryPart i in
+              let d : ratePart ≡ v = omega arith in
               subst (λ (i : ℕ). getD (j .counts) i 0 ≡ count (inPart i) account) d count-rates
 
       low : (t : Bool) → ltb v 16 ≡ t → getD (j .counts) v 0 ≡ count (inPart v) account
       low true e = count-none v (ltb-true v 16 e)
-      low false e = middle (ltb-false v 16 e) (ltb v 80) refl
+      low false e = middle (ltb-false v 16 e) (ltb v entryPart) refl
 
   pub records-are : j .records ≡ length (accountOf morning noon)
   records-are =
@@ -275,16 +275,16 @@ module _
       ∙ getD-map contract (contractsOf account) i [] 0 (omega (arith, contracts-are law))
 
   entries-stand :
-      records (stretch morning (getD (j .first) 80 0) (getD (j .counts) 80 0)) ≡ entriesOf account
+      records (stretch morning (getD (j .first) entryPart 0) (getD (j .counts) entryPart 0)) ≡ entriesOf account
   entries-stand =
-      ap₂ (λ (x y : ℕ). records (stretch morning x y)) (first-from 80 (omega arith)) (count-from 80 (omega arith))
+      ap₂ (λ (x y : ℕ). records (stretch morning x y)) (first-from entryPart (omega arith)) (count-from entryPart (omega arith))
       ∙ accepts morning okm .standing .entries
       ∙ sym (entries-joined (records morning) (records noon))
 
   rates-stand :
-      records (stretch morning (getD (j .first) 81 0) (getD (j .counts) 81 0)) ≡ ratesOf account
+      records (stretch morning (getD (j .first) ratePart 0) (getD (j .counts) ratePart 0)) ≡ ratesOf account
   rates-stand =
-      ap₂ (λ (x y : ℕ). records (stretch morning x y)) (first-from 81 (omega arith)) (count-from 81 (omega arith))
+      ap₂ (λ (x y : ℕ). records (stretch morning x y)) (first-from ratePart (omega arith)) (count-from ratePart (omega arith))
       ∙ accepts morning okm .standing .rates
       ∙ sym (rates-joined (records morning) (records noon))
 

@@ -6,21 +6,22 @@ use mathlib.Core.Bool.{Bool, true, false, not, _&&_, _||_, cond, true≢false}
 use mathlib.Core.List.{List, [], _∷_}
 use native.Mathlib.Nat.{mul-le-mul, mul-pos, mul-zero}
 use native.Mathlib.Omega.{arith}
-use lib.Dec.{eqb, ltb}
+use lib.Dec.{eqb}
 use lib.IntN.{ℤ, pos, natAbs, _*ℤ_}
-use lib.ListN.{length, getD, set, drop, length-set, replicate, getD-replicate}
+use lib.ListN.{length, getD, set, replicate, getD-replicate}
 use lib.Seq.{getD-set-same, getD-set-other, ext-getD}
-use borrow.Author.Tests.{eqb-true, eqb-false, eq-eqb, ne-eqb, ltb-false}
+use borrow.Author.Tests.{eqb-true, eqb-false, ne-eqb, ltb-false}
 use Rattle.exact.specs.Lists.{any}
 use Rattle.exact.specs.Signed.{negative}
 use Rattle.exact.proofs.FractionLaws.{fraction-within}
 use Rattle.exact.proofs.SignedCalls.{abs-times}
 use Rattle.record.specs.Bytes.{countFrom}
-use Rattle.record.specs.Layout.{Record, lots, value, loss, currency, mostCurrency, rateCurrency, spotRate, adjustment, scenarioCount}
+use Rattle.record.specs.Layout.{Record, lots, value, loss, currency, mostCurrency, rateCurrency, adjustment, scenarioCount}
 use Rattle.record.specs.Within.{Between, RowWithin, RateWithin}
 use Rattle.account.specs.Accepted.{Each}
 use Rattle.account.specs.Products.{inOwn, ofCurrency, rateFor, raised, lowered, mostFactor, hundredMillion, converted, inHundredths, hasRate}
-use Rattle.account.specs.Products.{mostConversion, beyondIn, conversionBeyond, Convertible, RatesOf}
+use Rattle.account.specs.Products.{mostConversion, beyondIn, conversionBeyond, Convertible}
+use Rattle.account.specs.code.Rates.{RatesOf}
 use Rattle.account.specs.declared.rates.Rates.{Rates}
 
 -- ---- the table, one rate at a time

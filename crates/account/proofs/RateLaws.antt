@@ -1,35 +1,34 @@
 -- Refusals 14 and 15: the first row with a fault, list by list and part by part, and what an account without one has.
 -- Assumes nothing.
-use Prim.Native.Nat.{ℕ, zero, suc, _+_, _-_, _*_, _/_, _%_, _≤_, _<_}
+use Prim.Native.Nat.{ℕ, suc, _+_, _-_, _*_, _/_, _%_, _≤_, _<_}
 use native.Mathlib.Omega.{arith}
 use native.Mathlib.Nat.{zero-add}
-use mathlib.Core.Path.{_≡_, refl, sym, ap, ap₂, subst, subst⁻¹, _∙_}
+use mathlib.Core.Path.{_≡_, refl, sym, ap, ap₂, subst⁻¹, _∙_}
 use mathlib.Core.Bool.{Bool, true, false, not, _&&_, _||_, cond}
 use mathlib.Core.List.{List, [], _∷_, _++_, append-nil}
-use borrow.Author.Tests.{eq-eqb, ne-eqb, eqb-true, eqb-false}
+use borrow.Author.Tests.{eq-eqb, ne-eqb, eqb-true}
 use lib.Dec.{eqb}
 use lib.ListN.{length, getD, take, drop, length-append}
 use lib.Seq.{getD-take, length-take-le}
 use Rattle.exact.specs.Lists.{any, consIf, keep, count, sum}
-use Rattle.record.specs.Bytes.{countFrom}
+use Rattle.record.specs.Bytes.{countFrom, recordBytes}
 use Rattle.record.specs.Layout.{Record, kind, currency, scenarioCount}
 use Rattle.record.specs.Within.{RowWithin}
 use Rattle.record.proofs.Tests.{or-false}
 use Rattle.record.proofs.Within.{never, neither}
 use Rattle.account.specs.Accepted.{Each}
-use Rattle.account.specs.Answers.{numberOf, refusal}
+use Rattle.account.specs.Answers.{numberOf}
 use Rattle.account.specs.Check.{orElse}
 use Rattle.account.specs.Checked.{rateFaultOf, firstRateFault, ratesChecked}
 use Rattle.account.specs.Conversions.{inAnother, otherRow, rowAnswer, Row}
 use Rattle.account.specs.Joined.{inTurn, joined}
 use Rattle.account.specs.Lawful.{Recorded, Lawful}
-use Rattle.account.specs.Notes.{part, inPart}
+use Rattle.account.specs.PartNumbers.{inPart, entryPart, ratePart, parts}
 use Rattle.account.specs.Parts.{ofKind, ofContract, rowsOf, ratesOf}
 use Rattle.account.specs.Products.{ofCurrency, hasRate, beyondIn, conversionBeyond, Convertible}
 use Rattle.account.specs.Records.{cut, recordAt, records, recordCount}
 use Rattle.account.specs.declared.answers.Answer.{Answer}
 use Rattle.account.specs.declared.answers.Answer.the-variants.{Accepted, NoRate, ConversionBeyond}
-use Rattle.account.proofs.AcceptedOnly.{accepted-only}
 use Rattle.account.proofs.Every.{every-weaker, length-kept}
 use Rattle.account.proofs.JoinedLaws.{every-turn, none-turn, turn-join, partsOf, joined-turn}
 use Rattle.account.proofs.Lists.{every-both, kept-pass}
@@ -150,7 +149,7 @@ module _ (rates : List Record) where
   -- ---- the rows of a part, from row i on
   module _ (k : ℕ) (rows : List ℕ) where
     abbrev pub rowsFrom : ℕ → Answer
-    rowsFrom i = firstRateFault (k + i) rates (cut (recordCount rows - i) (drop (i * 96) rows))
+    rowsFrom i = firstRateFault (k + i) rates (cut (recordCount rows - i) (drop (i * recordBytes) rows))
 
     pub rows-start : firstRateFault k rates (records rows) ≡ rowsFrom 0
     rows-start =
@@ -164,7 +163,7 @@ module _ (rates : List Record) where
         let e : k + i + 1 ≡ k + (i + 1) = omega arith in
         ap (firstRateFault (k + i) rates) (cut-on rows (recordCount rows) i h)
         ∙ ap (λ (n : ℕ). orElse (rateFaultOf rates (recordAt rows i)) (k + i)
-        (firstRateFault n rates (cut (recordCount rows - (i + 1)) (drop ((i + 1) * 96) rows)))) e
+        (firstRateFault n rates (cut (recordCount rows - (i + 1)) (drop ((i + 1) * recordBytes) rows)))) e
 
     pub rows-next : (i : ℕ) → i < recordCount rows → numberOf (rowAnswer rates (k + i) (recordAt rows i)) ≡ 0 → rowsFrom i ≡ rowsFrom (i + 1)
     rows-next i h e =
@@ -180,12 +179,12 @@ module _ (rates : List Record) where
     pub rows-end : (i : ℕ) → recordCount rows ≤ i → rowsFrom i ≡ Accepted
     rows-end i h =
         let e : recordCount rows - i ≡ 0 = omega arith in
-        ap (λ (n : ℕ). firstRateFault (k + i) rates (cut n (drop (i * 96) rows))) e
+        ap (λ (n : ℕ). firstRateFault (k + i) rates (cut n (drop (i * recordBytes) rows))) e
 
 -- ---- a test of each row, from row i on
 module _ (p : Record → Bool) (rows : List ℕ) where
   abbrev pub anyFrom : ℕ → Bool
-  anyFrom i = any p (cut (recordCount rows - i) (drop (i * 96) rows))
+  anyFrom i = any p (cut (recordCount rows - i) (drop (i * recordBytes) rows))
 
   pub any-start : any p (records rows) ≡ false || anyFrom 0
   any-start =
@@ -202,7 +201,7 @@ module _ (p : Record → Bool) (rows : List ℕ) where
   pub any-end : (b : Bool) (i : ℕ) → recordCount rows ≤ i → b || anyFrom i ≡ b
   any-end b i h =
       let e : recordCount rows - i ≡ 0 = omega arith in
-      ap (λ (n : ℕ). b || any p (cut n (drop (i * 96) rows))) e ∙ or-false b
+      ap (λ (n : ℕ). b || any p (cut n (drop (i * recordBytes) rows))) e ∙ or-false b
 
 -- ---- an account part by part
 every-of-kept : (P : Record → Type 0) (p : Record → Bool) (xs : List Record) → Each P xs → Each P (keep p xs)
@@ -238,7 +237,7 @@ lawful-of rs r e =
 
 -- ---- the parts in the order of their numbers
 in-kind : (v : ℕ) (r : Record) → inPart v r ≡ true → kind r ≡ 3 → v / 16 ≡ 3
-in-kind v r e k = go (eqb v 80) (eqb v 81) e
+in-kind v r e k = go (eqb v entryPart) (eqb v ratePart) e
   where
     go : (a b : Bool) → cond a (ofKind 5 r) (cond b (ofKind 6 r) (ofContract (v / 16) (v % 16) r)) ≡ true → v / 16 ≡ 3
     go true b t = let i = eqb-true (kind r) 5 t in absurd (omega arith)
@@ -265,7 +264,7 @@ module _ (m n : List Record) where
   turn = inTurn (partsOf account)
 
   -- the records before part v, and those from it on
-  split : (v w : ℕ) → v + w ≡ 82 → turn 0 v ++ turn v w ≡ account
+  split : (v w : ℕ) → v + w ≡ parts → turn 0 v ++ turn v w ≡ account
   split v w e =
       let z : v ≡ 0 + v = omega arith in
       ap (λ (x : ℕ). turn 0 v ++ turn x w) z ∙ turn-join (partsOf account) 0 v w ∙ ap (turn 0) e
@@ -329,10 +328,10 @@ module _ (m n : List Record) where
 
   pub before-few : (c : ℕ) → c ≤ 16 → rowsBefore c ≤ length account
   before-few c h =
-      let e : 48 + c + (34 - c) ≡ 82 = omega arith in
+      let e : 48 + c + (34 - c) ≡ parts = omega arith in
       omega (arith, ap length (split (48 + c) (34 - c) e), length-append (turn 0 (48 + c)) (turn (48 + c) (34 - c)))
 
-  pub before-counted : (counts : List ℕ) → length counts ≡ 82 → ((v : ℕ) → v < 82 → getD counts v 0 ≡ count (inPart v) account)
+  pub before-counted : (counts : List ℕ) → length counts ≡ parts → ((v : ℕ) → v < parts → getD counts v 0 ≡ count (inPart v) account)
       → sum (take 48 counts) ≡ rowsBefore 0
   before-counted counts l are =
       let long : length (take 48 counts) ≡ 48 = length-take-le 48 counts (omega arith) in

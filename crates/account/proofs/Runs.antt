@@ -21,11 +21,12 @@ use Rattle.record.proofs.Sound.{Sound, sound-known}
 use Rattle.record.proofs.Tests.{any-append, or-false, both}
 use Rattle.record.proofs.Within.{both-true, neither, row-within, spread-within, contract-known}
 use Rattle.account.specs.Check.{kindFalls, dayNotAbove, tierFalls, contractFalls, legsClash, outOfOrder}
-use Rattle.account.specs.Notes.{part, partOf, oneMore, startNoted, noContract, noDay, noTier, unlistedBy, overLimitBy, faultBy, promptsNoted}
-use Rattle.account.specs.Notes.{beforeAt, faultAt}
+use Rattle.account.specs.PartNumbers.{part, parts}
+use Rattle.account.specs.code.Notes.{partOf, oneMore, startNoted, noContract, noDay, noTier, unlistedBy, overLimitBy, faultBy, promptsNoted, beforeAt}
+use Rattle.account.specs.code.Notes.{faultAt}
 use Rattle.account.specs.Parts.{ofKind, onDay, onTier}
-use Rattle.account.specs.Passing.{DaysOf, hasDay, TiersOf, legUnlistedIn, promptPasses, rowPasses, spreadPasses, RunTo, partAtRecord, countedTo}
-use Rattle.account.specs.Passing.{PassesAt, Passes, After, Begins, Runs, NotedTo, StepBy}
+use Rattle.account.specs.code.Passing.{DaysOf, hasDay, TiersOf, legUnlistedIn, promptPasses, rowPasses, spreadPasses, RunTo, partAtRecord, countedTo}
+use Rattle.account.specs.code.Passing.{PassesAt, Passes, After, Begins, Runs, NotedTo, StepBy}
 use Rattle.account.specs.Records.{cut, recordAt, recordCount, records, stretch}
 use Rattle.account.proofs.Dispatch.{order-2, order-3, order-4, listed-2, listed-3, listed-4, limit-2, limit-3, limit-4}
 use Rattle.account.proofs.Earlier.{cut-more}
@@ -667,7 +668,7 @@ module _ (file first counts : List ℕ) (k c : ℕ) {i : ℕ} where
 
 -- a run may begin at record k, from what is read of it
 pub begins-read :
-    {file counts : List ℕ} {k : ℕ} {r before : Record} (n m c : ℕ) → k < recordCount file → length counts ≡ 82 → (k ≡ 0 → ⊥)
+    {file counts : List ℕ} {k : ℕ} {r before : Record} (n m c : ℕ) → k < recordCount file → length counts ≡ parts → (k ≡ 0 → ⊥)
     → r ≡ recordAt file k → before ≡ recordAt file (k - 1) → m ≡ kind r → c ≡ contract r → c < 256
     → not (noContract counts c || (kindFalls before r || contractFalls before r)) ≡ true → m ≡ n → Begins n file counts k c
 begins-read {file} {counts} {k} {r} {before} n m c inside sizes nz e eb km cc byte may mn =

@@ -2,19 +2,21 @@
 -- Assumes nothing.
 use Prim.Native.Nat.{ℕ, _+_, _*_, _/_, _%_, _≤_, _<_}
 use native.Mathlib.Omega.{arith}
-use mathlib.Core.Path.{_≡_, refl, sym, ap, ap₂, _∙_, subst}
+use mathlib.Core.Path.{_≡_, refl, sym, ap, _∙_, subst}
 use mathlib.Core.Bool.{Bool, true, false, _&&_, cond}
 use mathlib.Core.List.{List, [], _∷_}
 use borrow.Author.Tests.{eqb-true, eqb-false, lt-ltb, le-ltb, ltb-true, ltb-false}
 use lib.Dec.{eqb, ltb}
 use lib.ListN.{length, getD, drop, length-take}
 use lib.Seq.{take-all}
-use Rattle.exact.specs.Lists.{keep, count}
+use Rattle.record.specs.Bytes.{recordBytes}
+use Rattle.exact.specs.Lists.{keep}
 use Rattle.record.specs.Layout.{Record}
-use Rattle.account.specs.Notes.{part, parts, entryPart, ratePart, inPart, partRecords}
+use Rattle.account.specs.PartNumbers.{part, entryPart, ratePart, inPart, partRecords}
 use Rattle.account.specs.Parts.{ofKind, ofContract}
 use Rattle.account.specs.Records.{cut, records, recordCount, stretch}
-use Rattle.account.specs.Standing.{accountOf, Places, PartOf}
+use Rattle.account.specs.Joined.{accountOf}
+use Rattle.account.specs.code.Standing.{Places, PartOf}
 use Rattle.account.specs.declared.accounts.Account.{Account}
 use Rattle.account.proofs.Every.{length-kept}
 use Rattle.account.proofs.Noted.{part-is}
@@ -22,8 +24,8 @@ use Rattle.account.proofs.Places.{none-low}
 use Rattle.account.proofs.Walk.{length-cut}
 
 -- n records that are as many as n: all of their bytes are there
-whole : (file : List ℕ) (k n : ℕ) → recordCount (stretch file k n) ≡ n → length (stretch file k n) ≡ n * 96
-whole file k n e = omega (arith, e, length-take (n * 96) (drop (k * 96) file))
+whole : (file : List ℕ) (k n : ℕ) → recordCount (stretch file k n) ≡ n → length (stretch file k n) ≡ n * recordBytes
+whole file k n e = omega (arith, e, length-take (n * recordBytes) (drop (k * recordBytes) file))
 
 -- the part of a number, where there is one
 pub within : (v : ℕ) → v ≤ ratePart → (account : List Record) → partRecords v account ≡ keep (inPart v) account
@@ -38,20 +40,20 @@ contract-part k c hk hc account =
 pub row-part : (c : ℕ) → c < 16 → (account : List Record) → partRecords (48 + c) account ≡ keep (inPart (48 + c)) account
 row-part c h account = within (48 + c) (omega arith) account
 
-pub rate-part : (account : List Record) → partRecords 81 account ≡ keep (ofKind 6) account
-rate-part account = within 81 (omega arith) account
+pub rate-part : (account : List Record) → partRecords ratePart account ≡ keep (ofKind 6) account
+rate-part account = within ratePart (omega arith) account
 
 -- the bytes of one record are that record
-pub one-record : (bytes : List ℕ) (r : Record) → records bytes ≡ r ∷ [] → length bytes ≡ 96 → bytes ≡ r
+pub one-record : (bytes : List ℕ) (r : Record) → records bytes ≡ r ∷ [] → length bytes ≡ recordBytes → bytes ≡ r
 one-record bytes r e l =
     let one : recordCount bytes ≡ 1 = sym (length-cut (recordCount bytes) bytes) ∙ ap length e in
-    sym (take-all 96 bytes (omega (arith, l))) ∙ ap (λ (rs : List Record). getD rs 0 []) (sym (ap (λ (n : ℕ). cut n bytes) one) ∙ e)
+    sym (take-all recordBytes bytes (omega (arith, l))) ∙ ap (λ (rs : List Record). getD rs 0 []) (sym (ap (λ (n : ℕ). cut n bytes) one) ∙ e)
 
 -- none past the last
 pub part-past : (account : List Record) (v : ℕ) → ratePart < v → PartOf account v []
 part-past account v h =
     let e : partRecords v account ≡ [] = ap (λ (t : Bool). cond t [] (keep (inPart v) account)) (lt-ltb ratePart v h) in
-    record { are = sym e; whole = sym (ap (λ (rs : List Record). length rs * 96) e) }
+    record { are = sym e; whole = sym (ap (λ (rs : List Record). length rs * recordBytes) e) }
 
 module _ (morning noon : List ℕ) (a : Account) (st : Places morning noon a) (v : ℕ) (h : v ≤ ratePart) where
   abbrev account : List Record
@@ -70,30 +72,30 @@ module _ (morning noon : List ℕ) (a : Account) (st : Places morning noon a) (v
   late = ltb v entryPart && getD (a .noon) (v % 16) false
 
   are : records (bytes late) ≡ keep (inPart v) account
-  are = go (ltb v 16) refl (ltb v 80) refl
+  are = go (ltb v 16) refl (ltb v entryPart) refl
     where
-      go : (t : Bool) → ltb v 16 ≡ t → (u : Bool) → ltb v 80 ≡ u → records (bytes late) ≡ keep (inPart v) account
+      go : (t : Bool) → ltb v 16 ≡ t → (u : Bool) → ltb v entryPart ≡ u → records (bytes late) ≡ keep (inPart v) account
       go true e u f =
           let z : keep (inPart v) account ≡ [] = none-low v (ltb-true v 16 e) (records morning) (records noon) in
           ap (λ (n : ℕ). records (stretch (file late) (getD (a .first) v 0) n)) (counted ∙ ap length z) ∙ sym z
       go false e true f =
           let low = ltb-false v 16 e in
-          let high = ltb-true v 80 f in
+          let high = ltb-true v entryPart f in
           let d : part (v / 16) (v % 16) ≡ v = omega arith in
           ap (λ (t : Bool). records (bytes (t && getD (a .noon) (v % 16) false))) f
           ∙ subst (λ (i : ℕ). records (stretch (file (getD (a .noon) (v % 16) false)) (getD (a .first) i 0) (getD (a .counts) i 0)) ≡ keep (inPart i) account) d
           (st .each (v / 16) (v % 16) (omega arith) (omega arith) (omega arith)
           ∙ ap (λ (p : Record → Bool). keep p account) (sym (part-is (v / 16) (v % 16) (omega arith) (omega arith))))
       go false e false f =
-          ap (λ (t : Bool). records (bytes (t && getD (a .noon) (v % 16) false))) f ∙ last (eqb v 80) refl
+          ap (λ (t : Bool). records (bytes (t && getD (a .noon) (v % 16) false))) f ∙ last (eqb v entryPart) refl
         where
-          last : (t : Bool) → eqb v 80 ≡ t → records (stretch morning (getD (a .first) v 0) (getD (a .counts) v 0)) ≡ keep (inPart v) account
+          last : (t : Bool) → eqb v entryPart ≡ t → records (stretch morning (getD (a .first) v 0) (getD (a .counts) v 0)) ≡ keep (inPart v) account
           last true i =
               subst (λ (i : ℕ). records (stretch morning (getD (a .first) i 0) (getD (a .counts) i 0)) ≡ keep (inPart i) account)
-              (sym (eqb-true v 80 i)) (st .entries)
+              (sym (eqb-true v entryPart i)) (st .entries)
           last false i =
-              let n = eqb-false v 80 i in
-              let d : 81 ≡ v = omega (arith, ltb-false v 80 f) in
+              let n = eqb-false v entryPart i in
+              let d : ratePart ≡ v = omega (arith, ltb-false v entryPart f) in
               subst (λ (i : ℕ). records (stretch morning (getD (a .first) i 0) (getD (a .counts) i 0)) ≡ keep (inPart i) account) d (st .rates)
 
   pub part-stands : (b : Bool) → b ≡ late → (r : List ℕ) → r ≡ bytes b → PartOf account v r
@@ -104,6 +106,6 @@ module _ (morning noon : List ℕ) (a : Account) (st : Places morning noon a) (v
       ∙ ap length is ∙ sym counted in
       record {
         are = is ∙ sym (within v h account);
-        whole = ap length er ∙ whole (file b) (getD (a .first) v 0) n many ∙ ap (λ (k : ℕ). k * 96) counted
-            ∙ ap (λ (rs : List Record). length rs * 96) (sym (within v h account));
+        whole = ap length er ∙ whole (file b) (getD (a .first) v 0) n many ∙ ap (λ (k : ℕ). k * recordBytes) counted
+            ∙ ap (λ (rs : List Record). length rs * recordBytes) (sym (within v h account));
       }

@@ -8,6 +8,7 @@ use lib.ListN.{drop}
 use native.Mathlib.Omega.{arith}
 use native.Mathlib.Numerals.{add-one}
 use borrow.Author.Tests.{ne-eqb}
+use Rattle.record.specs.Bytes.{recordBytes}
 use Rattle.record.specs.Layout.{Record}
 use Rattle.record.specs.Ranges.{unknownKind, unusedByte, fieldOutside}
 use Rattle.account.specs.Answers.{numberOf, refusal}
@@ -23,19 +24,19 @@ use Rattle.account.proofs.Walk.{cut-on}
 module _ (file : List ℕ) where
   -- the verdict of the records from record k on
   abbrev fromOn : ℕ → Answer
-  fromOn k = firstFault k (earlier file k) (cut (recordCount file - k) (drop (k * 96) file))
+  fromOn k = firstFault k (earlier file k) (cut (recordCount file - k) (drop (k * recordBytes) file))
 
   abbrev rest : ℕ → Answer
   rest k =
       firstFault (k + 1) (recordAt file k ∷ earlier file k)
-      (cut (recordCount file - (k + 1)) (drop ((k + 1) * 96) file))
+      (cut (recordCount file - (k + 1)) (drop ((k + 1) * recordBytes) file))
 
   step : (k : ℕ) → k < recordCount file → fromOn k ≡ orElse (faultOf (earlier file k) (recordAt file k)) k (rest k)
   step k h = ap (firstFault k (earlier file k)) (cut-on file (recordCount file) k h)
 
   on : (k : ℕ) → rest k ≡ fromOn (k + 1)
   on k =
-      ap (λ (es : List Record). firstFault (k + 1) es (cut (recordCount file - (k + 1)) (drop ((k + 1) * 96) file)))
+      ap (λ (es : List Record). firstFault (k + 1) es (cut (recordCount file - (k + 1)) (drop ((k + 1) * recordBytes) file)))
       (ap (earlier file) (sym (add-one k)))
 
   pub reach : (k : ℕ) → k ≤ recordCount file → Faultless file k → firstFault 0 [] (records file) ≡ fromOn k
@@ -59,7 +60,7 @@ module _ (file : List ℕ) where
       let n = recordCount file in
       let e : n - n ≡ 0 = omega arith in
       reach n (omega arith) fine
-      ∙ ap (λ (m : ℕ). firstFault n (earlier file n) (cut m (drop (n * 96) file))) e
+      ∙ ap (λ (m : ℕ). firstFault n (earlier file n) (cut m (drop (n * recordBytes) file))) e
 
   pub too-long : tooLong file ≡ true → recordsChecked file ≡ TooLong
   too-long e = ap (λ (b : Bool). cond b TooLong (cond (cutRecord file) CutRecord (firstFault 0 [] (records file)))) e

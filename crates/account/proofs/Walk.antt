@@ -10,32 +10,33 @@ use lib.Dec.{leb, leb·suc-zero, leb·suc-suc}
 use native.Mathlib.Nat.{zero-add}
 use native.Mathlib.Omega.{arith}
 use native.Mathlib.Numerals.{add-one}
+use Rattle.record.specs.Bytes.{recordBytes}
 use Rattle.exact.specs.Lists.{any}
 use Rattle.record.specs.Layout.{Record}
-use Rattle.account.specs.Notes.{beforeAt}
+use Rattle.account.specs.code.Notes.{beforeAt}
 use Rattle.account.specs.Parts.{placeOf}
 use Rattle.account.specs.Records.{cut, stretch, recordAt, records, recordCount}
 
 -- ---- a stretch
 module _ (file : List ℕ) (k n : ℕ) where
   pub stretch-past :
-      length file / 96 < k → take (length file - length file) (drop (length file) file) ≡ stretch file k n
+      length file / recordBytes < k → take (length file - length file) (drop (length file) file) ≡ stretch file k n
   stretch-past h =
       let z : length file - length file ≡ 0 = omega arith in
-      let d : drop (k * 96) file ≡ [] = drop-of-length-le file {i = k * 96} (omega arith) in
-      rw (z, d) (sym (take-nil (n * 96)))
+      let d : drop (k * recordBytes) file ≡ [] = drop-of-length-le file {i = k * 96} (omega arith) in
+      rw (z, d) (sym (take-nil (n * recordBytes)))
 
   pub stretch-rest :
-      k * 96 ≤ length file → (length file - k * 96) / 96 < n
-      → take (length file - k * 96) (drop (k * 96) file) ≡ stretch file k n
+      k * recordBytes ≤ length file → (length file - k * recordBytes) / recordBytes < n
+      → take (length file - k * recordBytes) (drop (k * recordBytes) file) ≡ stretch file k n
   stretch-rest h m =
-      let l : length (drop (k * 96) file) ≡ length file - k * 96 = length-drop (k * 96) file in
-      take-all (length file - k * 96) (drop (k * 96) file) (omega arith)
-      ∙ sym (take-all (n * 96) (drop (k * 96) file) (omega arith))
+      let l : length (drop (k * recordBytes) file) ≡ length file - k * recordBytes = length-drop (k * recordBytes) file in
+      take-all (length file - k * recordBytes) (drop (k * recordBytes) file) (omega arith)
+      ∙ sym (take-all (n * recordBytes) (drop (k * recordBytes) file) (omega arith))
 
-  pub stretch-whole : take (k * 96 + n * 96 - k * 96) (drop (k * 96) file) ≡ stretch file k n
+  pub stretch-whole : take (k * recordBytes + n * recordBytes - k * recordBytes) (drop (k * recordBytes) file) ≡ stretch file k n
   stretch-whole =
-      let e : k * 96 + n * 96 - k * 96 ≡ n * 96 = omega arith in
+      let e : k * recordBytes + n * recordBytes - k * recordBytes ≡ n * recordBytes = omega arith in
       rw e
 
 pub before-is : (file : List ℕ) (k : ℕ) → (k ≡ 0 → ⊥) → recordAt file (k - 1) ≡ beforeAt file k
@@ -47,20 +48,20 @@ before-is file (suc k) h =
 -- ---- the records of a file, from record i on
 pub cut-on :
     (file : List ℕ) (n i : ℕ) → i < n
-    → cut (n - i) (drop (i * 96) file) ≡ recordAt file i ∷ cut (n - (i + 1)) (drop ((i + 1) * 96) file)
+    → cut (n - i) (drop (i * recordBytes) file) ≡ recordAt file i ∷ cut (n - (i + 1)) (drop ((i + 1) * recordBytes) file)
 cut-on file n i h =
     let s : n - i ≡ suc (n - (i + 1)) = omega arith in
-    let d : i * 96 + 96 ≡ (i + 1) * 96 = omega arith in
-    rw (s, drop-drop 96 (i * 96) file, d)
+    let d : i * recordBytes + recordBytes ≡ (i + 1) * recordBytes = omega arith in
+    rw (s, drop-drop recordBytes (i * recordBytes) file, d)
 
 pub length-cut : (n : ℕ) (file : List ℕ) → length (cut n file) ≡ n
 length-cut zero file = refl
-length-cut (suc n) file = ap suc (length-cut n (drop 96 file))
+length-cut (suc n) file = ap suc (length-cut n (drop recordBytes file))
 
 -- ---- the place of a record, looked for from the front
 module _ (p : Record → Bool) (file : List ℕ) (n i : ℕ) where
   abbrev pub placeFrom : ℕ
-  placeFrom = i + placeOf p (cut (n - i) (drop (i * 96) file))
+  placeFrom = i + placeOf p (cut (n - i) (drop (i * recordBytes) file))
 
   pub place-here : i < n → p (recordAt file i) ≡ true → placeFrom ≡ i
   place-here h t = rw (cut-on file n i h, t) (omega arith)

@@ -8,19 +8,18 @@ use lib.ListN.{length}
 use lib.Dec.{eqb, leb}
 use native.Mathlib.Omega.{arith}
 use borrow.Author.Tests.{eq-eqb, ne-eqb, eqb-true, eqb-false, leb-true, leb-false}
-use Rattle.exact.specs.Lists.{consIf, keep, any, oneIf, count, sum}
+use Rattle.exact.specs.Lists.{consIf, keep, oneIf, count, sum}
 use Rattle.exact.proofs.Lists.{sum-map-add}
 use Rattle.record.specs.Layout.{Record, kind, contract}
 use Rattle.record.specs.Within.{Between}
 use Rattle.record.proofs.Within.{by-kind}
 use Rattle.account.specs.Accepted.{Each, listed}
 use Rattle.account.specs.Checked.{checked}
-use Rattle.account.specs.Joined.{joined, joinedOf, fromMorning}
+use Rattle.account.specs.Joined.{joined, joinedOf, fromMorning, accountOf}
 use Rattle.account.specs.Lawful.{Recorded}
 use Rattle.account.specs.Noon.{clear, joinedVerdict}
 use Rattle.account.specs.Parts.{ofKind, ofContract, contractsOf, entriesOf, ratesOf}
 use Rattle.account.specs.Records.{records}
-use Rattle.account.specs.Standing.{accountOf}
 use Rattle.account.specs.Whole.{partsBy, inHowMany, Whole}
 use Rattle.account.specs.declared.answers.Answer.the-variants.{Accepted}
 use Rattle.account.proofs.Alone.{passes}

@@ -10,10 +10,9 @@ use Rattle.exact.specs.Lists.{any, count}
 use Rattle.record.specs.Layout.{Record, contract, day, secondContract, mostContract, mostCurrency}
 use Rattle.record.specs.Within.{ContractWithin, PromptWithin, RowWithin, SpreadWithin, EntryWithin, RateWithin}
 use Rattle.account.specs.Check.{mostRecords, mostContracts, mostPrompts, mostRows, mostSpreads, mostEntries}
-use Rattle.account.specs.Notes.{part, entryPart, ratePart}
+use Rattle.account.specs.PartNumbers.{part, entryPart, ratePart, contractCount, partStart, partCount}
 use Rattle.account.specs.Parts.{ofContract, onDay, contractsOf, promptsOf, rowsOf, spreadsOf, entriesOf, ratesOf}
 use Rattle.account.specs.Records.{records, stretch}
-use Rattle.account.specs.Surveyed.{contractCount, partStart, partCount}
 
 abbrev pub Each : (Record → Type 0) → List Record → Type 0
 Each P [] = Unit

@@ -5,10 +5,10 @@ use Prim.Native.Nat.{ℕ}
 use mathlib.Core.Bool.{cond}
 use lib.Dec.{eqb}
 use Rattle.account.specs.declared.answers.Answer.{Answer}
-use Rattle.account.specs.declared.answers.Answer.the-variants.{Accepted, TooLong, CutRecord, UnknownKind, KindFalls, UnusedByte, FieldOutside}
-use Rattle.account.specs.declared.answers.Answer.the-variants.{Unlisted, OutOfOrder, OverLimit, TooFewNumbers, NoSuchQuestion, NoonSpread}
-use Rattle.account.specs.declared.answers.Answer.the-variants.{TooManyJoined, NoRate, ConversionBeyond, TooFewBytes, LengthsDiffer, OtherCounts}
-use Rattle.account.specs.declared.answers.Answer.the-variants.{TooManyAccounts, LimitBelowZero, AmountOutside, NoTicketLeft}
+use Rattle.account.specs.declared.answers.Answer.the-variants.{Accepted, TooLong, CutRecord, UnknownKind, KindFalls, UnusedByte, FieldOutside, Unlisted}
+use Rattle.account.specs.declared.answers.Answer.the-variants.{OutOfOrder, OverLimit, TooFewNumbers, NoSuchQuestion, NoonSpread, TooManyJoined, NoRate}
+use Rattle.account.specs.declared.answers.Answer.the-variants.{ConversionBeyond, TooFewBytes, LengthsDiffer, OtherCounts, TooManyAccounts, LimitBelowZero}
+use Rattle.account.specs.declared.answers.Answer.the-variants.{AmountOutside, NoTicketLeft}
 
 -- "No."; 0 where nothing is refused
 abbrev pub numberOf : Answer → ℕ

@@ -13,11 +13,10 @@ use Rattle.record.specs.Layout.{Record, _has_, byKind, kind, contract}
 use Rattle.record.specs.Ranges.{unknownKind, fieldOutside}
 use Rattle.account.specs.Accepted.{Accepts}
 use Rattle.account.specs.Answers.{numberOf, recordOf}
-use Rattle.account.specs.Check.{Refusal, refusals, tooLong, cutRecord, recordsChecked}
+use Rattle.account.specs.Check.{Refusal, refusals, tooLong, cutRecord, recordsChecked, theOneBefore, kindFalls, numberNotAbove, dayNotAbove, tierFalls}
+use Rattle.account.specs.Check.{contractFalls, legsClash, withItself, currencyNotAbove, outOfOrder, faultOf}
 use Rattle.account.specs.Checked.{rateRefusals, ratesChecked, checked}
 use Rattle.account.specs.Lawful.{Lawful}
-use Rattle.account.specs.Check.{theOneBefore, kindFalls, numberNotAbove, dayNotAbove, tierFalls, contractFalls, legsClash, withItself}
-use Rattle.account.specs.Check.{currencyNotAbove, outOfOrder, faultOf}
 use Rattle.account.specs.Orders.{Orders}
 use Rattle.account.specs.Parts.{ofKind, ofContract, ratesOf}
 use Rattle.account.specs.Records.{records, recordAt, recordCount, earlier}

@@ -8,6 +8,7 @@ use Rattle.record.specs.Layout.{Record}
 use Rattle.account.specs.Accepted.{listed}
 use Rattle.account.specs.Check.{mostContracts}
 use Rattle.account.specs.Parts.{ofContract, entriesOf, ratesOf}
+use Rattle.account.specs.Records.{records}
 
 -- "A contract's records of kinds 1 to 4 come from the noon file if that file lists the contract, else from the morning's"
 abbrev pub supplier : List Record → List Record → ℕ → List Record
@@ -31,3 +32,8 @@ abbrev pub joined : List Record → List Record → List Record
 joined morning noon =
     joinedOf morning noon 1
     ++ (joinedOf morning noon 2 ++ (joinedOf morning noon 3 ++ (joinedOf morning noon 4 ++ fromMorning morning)))
+
+-- ---- where the records of the account stand
+
+abbrev pub accountOf : List ℕ → List ℕ → List Record
+accountOf morning noon = joined (records morning) (records noon)

@@ -2,9 +2,6 @@ pub mod Answers
 pub mod Records
 pub mod Parts
 pub mod Check
-pub mod Notes
-pub mod Passing
-pub mod Surveyed
 pub mod Accepted
 pub mod Products
 pub mod Checked
@@ -13,8 +10,8 @@ pub mod Orders
 pub mod Lawful
 pub mod Claims
 pub mod Joined
-pub mod Standing
 pub mod Noon
 pub mod PairClaims
 pub mod Whole
-pub mod Determined
+pub mod PartNumbers
+pub mod code

@@ -1,26 +1,22 @@
 -- Request 2026-01: what a morning's file and a noon file are refused for before a question is put to the joined account.
 -- Assumes nothing.
 use Prim.Native.Nat.{ℕ}
-use mathlib.Core.Path.{_≡_}
-use mathlib.Core.Bool.{Bool, true, _&&_, _||_, cond}
+use mathlib.Core.Bool.{Bool, _&&_, _||_, cond}
 use mathlib.Core.List.{List}
 use Rattle.record.specs.Layout.{Record}
 use lib.Dec.{eqb, ltb}
-use lib.ListN.{length, getD}
+use lib.ListN.{length}
 use Rattle.exact.specs.Lists.{any}
 use Rattle.account.specs.Accepted.{listed}
 use Rattle.account.specs.Answers.{numberOf}
 use Rattle.account.specs.Check.{recordsChecked, mostRecords, mostContracts}
 use Rattle.account.specs.Checked.{ratesChecked}
-use Rattle.account.specs.Notes.{part, entryPart, ratePart}
+use Rattle.account.specs.PartNumbers.{part, partStart, partCount}
 use Rattle.account.specs.Parts.{ofKind, placeOf}
 use Rattle.account.specs.Records.{records, stretch}
-use Rattle.account.specs.Standing.{accountOf, JoinedBy, Stands}
-use Rattle.account.specs.Surveyed.{Surveyed, partStart, partCount}
+use Rattle.account.specs.Joined.{accountOf}
 use Rattle.account.specs.declared.answers.Answer.{Answer}
 use Rattle.account.specs.declared.answers.Answer.the-variants.{Accepted, NoonSpread, TooManyJoined}
-use Rattle.account.specs.declared.check.Survey.{Survey}
-use Rattle.account.specs.declared.noon.CheckedPair.{CheckedPair}
 use Rattle.account.specs.declared.noon.Place.{Place}
 use Rattle.account.specs.declared.noon.Verdict.{Verdict}
 
@@ -63,23 +59,6 @@ recordsVerdict morning noon =
 abbrev pub joinedVerdict : List ℕ → List ℕ → Verdict
 joinedVerdict morning noon = recordsVerdict morning noon then ofJoined (ratesChecked (accountOf morning noon))
 
--- the records' verdict by what the check handed out of both files
-abbrev pub noonSpread : Survey → Answer
-noonSpread n =
-    cond (eqb (getD (n .counts) entryPart 0) 0)
-    (cond (eqb (getD (n .counts) ratePart 0) 0) Accepted (NoonSpread (getD (n .first) ratePart 0)))
-    (NoonSpread (getD (n .first) entryPart 0))
-
-abbrev pub verdictBy : Survey → Survey → ℕ → Verdict
-verdictBy m n records =
-    ofMorning (m .answer) then ofNoon (n .answer)
-    then ofNoon (noonSpread n) then ofJoined (fewJoined records)
-
-pub record PairBy (morning noon : List ℕ) (r : CheckedPair) : Type 0 where
-  pub verdict-is : r .verdict ≡ joinedVerdict morning noon
-  pub joined-by : (m n : Survey) → Surveyed morning m → Surveyed noon n → JoinedBy m n (r .account)
-  pub stands : clear (joinedVerdict morning noon) ≡ true → Stands morning noon (r .account)
-
 -- "hand back its prompt records as they stand in whichever file supplies them, an empty part if neither lists it or the
 -- pair's records are refused": in which file they stand, from which record on, and how many
 abbrev pub nowhere : Place
@@ -87,9 +66,6 @@ nowhere = record { file = 0; first = 0; records = 0 }
 
 abbrev pub placeIn : ℕ → List ℕ → ℕ → Place
 placeIn n file c = record { file = n; first = partStart file (part 2 c); records = partCount file (part 2 c) }
-
-abbrev pub placeBy : ℕ → Survey → ℕ → Place
-placeBy n survey c = record { file = n; first = getD (survey .first) (part 2 c) 0; records = getD (survey .counts) (part 2 c) 0 }
 
 abbrev pub promptPlace : List ℕ → List ℕ → ℕ → Place
 promptPlace morning noon c =

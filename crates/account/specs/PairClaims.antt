@@ -13,10 +13,10 @@ use Rattle.account.specs.Answers.{numberOf, recordOf}
 use Rattle.account.specs.Check.{recordsChecked, mostRecords}
 use Rattle.account.specs.Claims.{Iff, RecordsGive, FirstRate, Rated}
 use Rattle.account.specs.Noon.{clear, morningsOwn, joinedVerdict, joinedPrompts}
-use Rattle.account.specs.Notes.{part}
+use Rattle.account.specs.PartNumbers.{part}
 use Rattle.account.specs.Parts.{promptsOf}
 use Rattle.account.specs.Records.{records, recordAt, recordCount}
-use Rattle.account.specs.Standing.{accountOf}
+use Rattle.account.specs.Joined.{accountOf}
 use Rattle.account.specs.declared.answers.Answer.the-variants.{Accepted}
 use Rattle.account.specs.declared.noon.Verdict.{Verdict}
 

@@ -6,16 +6,12 @@ use mathlib.Core.Bool.{Bool, true, not, _&&_, _||_, cond}
 use mathlib.Core.List.{List, [], _∷_}
 use lib.Dec.{eqb, ltb}
 use lib.IntN.{ℤ, pos, natAbs, _*ℤ_}
-use lib.ListN.{length, getD}
 use Rattle.exact.specs.Lists.{any}
 use Rattle.exact.specs.Rounding.{halfAway}
 use Rattle.exact.specs.Signed.{negative}
 use Rattle.record.specs.Bytes.{countFrom}
-use Rattle.record.specs.Layout.{Record, lots, value, loss, scenarioCount, currency, mostCurrency, rateCurrency, spotRate, adjustment, mostSpotRate}
-use Rattle.record.specs.Layout.{mostAdjustment}
-use Rattle.record.specs.Within.{Between, RateWithin}
-use Rattle.account.specs.Accepted.{Each}
-use Rattle.account.specs.declared.rates.Rates.{Rates}
+use Rattle.record.specs.Layout.{Record, lots, value, loss, scenarioCount, currency, rateCurrency, spotRate, adjustment}
+use Rattle.record.specs.Within.{Between}
 
 -- "lots × value × loss": above 0 a loss, below it a gain, in hundredths of the row's own currency
 abbrev pub inOwn : ℕ → Record → ℤ
@@ -76,16 +72,3 @@ pub record Convertible (rates : List Record) (row : Record) : Type 0 where
 -- a rate of 100 raised by 50 percent
 abbrev pub mostFactor : ℕ
 mostFactor = 15000000000
-
--- the table holds the raised and the lowered rate of each currency
-pub record RatesOf (rates : List Record) (t : Rates) : Type 0 where
-  pub raised-places : length (t .raised) ≡ 8
-  pub lowered-places : length (t .lowered) ≡ 8
-  pub raised-are : (c : ℕ) → c ≤ mostCurrency → getD (t .raised) c 0 ≡ raised (rateFor rates c)
-  pub lowered-are : (c : ℕ) → c ≤ mostCurrency → getD (t .lowered) c 0 ≡ lowered (rateFor rates c)
-
--- it holds some rates within their ranges
-pub record HoldsRates (t : Rates) : Type 0 where
-  pub rates : List Record
-  pub held : RatesOf rates t
-  pub within : Each RateWithin rates

@@ -30,10 +30,12 @@ ghost use Rattle.account.specs.Check.{mostContracts};
 ghost use Rattle.account.specs.Checked.{ratesChecked, checked};
 ghost use Rattle.account.specs.Conversions.{inAnother};
 ghost use Rattle.account.specs.Lawful.{Recorded};
-ghost use Rattle.account.specs.Notes.{inPart, parts, rowPart};
-ghost use Rattle.account.specs.Standing.{accountOf, Places, Stands, PartOf, CheckedBy};
-ghost use Rattle.account.specs.Standing.{lists, fromNoon, eitherNote, Filled, Flagged, Numbered, JoinedBy, AloneBy};
-ghost use Rattle.account.specs.Surveyed.{Surveyed};
+ghost use Rattle.account.specs.PartNumbers.{inPart, parts, rowPart};
+ghost use Rattle.account.specs.Joined.{accountOf};
+ghost use Rattle.account.specs.code.Standing as Standing;
+ghost use Rattle.account.specs.code.Standing.{Places, Stands, PartOf, CheckedBy, fromNoon, eitherNote, Filled, Flagged, Numbered, JoinedBy};
+ghost use Rattle.account.specs.code.Standing.{AloneBy};
+ghost use Rattle.account.specs.code.Surveyed.{Surveyed};
 
 // An account: how many records it has, its contracts' numbers in order, which of them the noon file supplies, and of each
 // part where it begins in its file and how many records it has. Only the check and a join of two checked files make one:
@@ -128,7 +130,7 @@ pub(crate) fn supplier<'a>(morning: &'a [u8], noon: &'a [u8], later: bool) -> &'
 // Whether a file lists contract `c`, by its counts.
 fn lists(counts: &[u16], c: usize) -> bool
     requires { ⌜ c < mostContracts ⌝ }
-    ensures { λ b. ⌜ b ≡ lists (now (counts .entry)) c ⌝ }
+    ensures { λ b. ⌜ b ≡ Standing.lists (now (counts .entry)) c ⌝ }
 {
     noted(counts, OWN + c) != 0
 }
@@ -177,7 +179,7 @@ fn flags(counts: &[u16]) -> [bool; CONTRACTS]
     listed
 }
 
-struct Numbers {
+struct ContractNumbers {
     count: usize,
     number: [u8; CONTRACTS],
 }
@@ -199,7 +201,7 @@ fn one_if(b: bool) -> usize
 }
 
 // Their numbers in order: the first `count`.
-fn numbers_of(counts: &[u16]) -> Numbers
+fn numbers_of(counts: &[u16]) -> ContractNumbers
     ensures { λ r. ⌜ Numbered (now (counts .entry)) (r .count) (r .number) ⌝ }
 {
     let mut count = 0;
@@ -211,7 +213,7 @@ fn numbers_of(counts: &[u16]) -> Numbers
         count += one_if(listed);
         c += 1;
     }
-    Numbers { count, number }
+    ContractNumbers { count, number }
 }
 
 // How many records there are in all parts.

@@ -1,6 +1,7 @@
 // What comes back for an account file and for the questions put to it.
 ghost use mathlib.Core.Path.{_≡_};
-ghost use Rattle.account.specs.Answers.{numberOf, recordOf, refusal};
+ghost use Rattle.account.specs.Answers as Answers;
+ghost use Rattle.account.specs.Answers.{numberOf, recordOf};
 
 // The record at fault, or how many records there are, is with the case.
 pub enum Answer {
@@ -93,7 +94,7 @@ pub fn record_of(a: Answer) -> usize
 
 // The refusal of record `k` by its number, 3 to 9, 14 or 15.
 pub fn refusal(number: usize, k: usize) -> Answer
-    ensures { λ a. ⌜ a ≡ refusal number k ⌝ }
+    ensures { λ a. ⌜ a ≡ Answers.refusal number k ⌝ }
 {
     if number == 3 {
         return Answer::UnknownKind(k);

@@ -17,7 +17,7 @@ ghost use Rattle.account.specs.Accepted.{Each};
 ghost use Rattle.account.specs.Checked.{firstRateFault};
 ghost use Rattle.exact.specs.Lists.{any};
 ghost use Rattle.account.specs.Conversions.{inAnother, otherRow, rowAnswer, Row};
-ghost use Rattle.account.specs.Products.{RatesOf, HoldsRates};
+ghost use Rattle.account.specs.code.Rates.{RatesOf, HoldsRates};
 ghost use Rattle.account.specs.Records.{records};
 
 fn in_another(row: &[u8]) -> bool

@@ -2,7 +2,7 @@
 ghost use mathlib.Core.Path.{_≡_};
 ghost use Prim.Native.Nat.{_<_};
 ghost use lib.Dec.{eqb};
-ghost use Rattle.account.specs.Notes.{faultBy, faultAt};
+ghost use Rattle.account.specs.code.Notes.{faultBy, faultAt};
 ghost use Rattle.account.specs.Records.{records, recordCount};
 use crate::limits::over_limit;
 use crate::listed::unlisted;

@@ -1,6 +1,6 @@
 // Refusal 9: one record more than a limit.
 ghost use mathlib.Core.Path.{_≡_};
-ghost use Rattle.account.specs.Notes.{overLimitBy};
+ghost use Rattle.account.specs.code.Notes.{overLimitBy};
 use crate::notes::noted;
 use crate::notes::part_of;
 use record::fields::kind;

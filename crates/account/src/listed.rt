@@ -3,7 +3,7 @@ ghost use mathlib.Core.Path.{_≡_};
 ghost use Prim.Native.Nat.{_<_};
 ghost use Rattle.exact.specs.Lists.{any};
 ghost use Rattle.record.specs.Layout.{legsOf, legTier};
-ghost use Rattle.account.specs.Notes.{noContract, noDay, noTier, unlistedBy};
+ghost use Rattle.account.specs.code.Notes.{noContract, noDay, noTier, unlistedBy};
 ghost use Rattle.account.specs.Records.{records};
 use crate::notes::noted;
 use crate::parts::OWN;

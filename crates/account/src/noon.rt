@@ -18,9 +18,10 @@ use crate::stretches::stretch;
 ghost use mathlib.Core.Path.{_≡_};
 ghost use Prim.Native.Nat.{_<_};
 ghost use Rattle.account.specs.Check.{mostContracts};
-ghost use Rattle.account.specs.Standing.{JoinedBy};
-ghost use Rattle.account.specs.Surveyed.{Surveyed};
-ghost use Rattle.account.specs.Noon.{noonSpread, verdictBy, joinedVerdict, PairBy, placeBy, promptPlace, joinedPrompts};
+ghost use Rattle.account.specs.code.Standing.{JoinedBy};
+ghost use Rattle.account.specs.code.Surveyed.{Surveyed};
+ghost use Rattle.account.specs.code.Pair.{noonSpread, verdictBy, PairBy, placeBy};
+ghost use Rattle.account.specs.Noon.{joinedVerdict, promptPlace, joinedPrompts};
 
 // Which file an answer is about.
 pub const JOINED: usize = 0;

@@ -2,7 +2,7 @@
 ghost use mathlib.Core.Path.{_≡_};
 ghost use Prim.Native.Nat.{_<_};
 ghost use lib.ListN.{getD};
-ghost use Rattle.account.specs.Notes.{partOf};
+ghost use Rattle.account.specs.code.Notes.{partOf};
 use crate::parts::CONTRACTS;
 use crate::parts::ENTRIES;
 use crate::parts::RATES;

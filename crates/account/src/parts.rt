@@ -1,7 +1,7 @@
 // A part of a file by its number: CONTRACTS * kind + contract for a contract's own record, its prompts, its rows and its
 // interprompt spreads, one number for all intercontract spreads, and one for all currency rates.
 ghost use mathlib.Core.Path.{_≡_};
-ghost use Rattle.account.specs.Notes.{partAt};
+ghost use Rattle.account.specs.code.Notes.{partAt};
 use crate::notes::noted;
 use crate::stretches::stretch;
 

@@ -17,7 +17,7 @@ use record::fields::value;
 ghost use mathlib.Core.Path.{_≡_};
 ghost use mathlib.Core.Bool.{cond};
 ghost use mathlib.Core.List.{List, [], _∷_};
-ghost use Prim.Native.Nat.{ℕ, _≤_};
+ghost use Prim.Native.Nat.{_≤_};
 ghost use lib.Dec.{ltb};
 ghost use lib.IntN.{pos, natAbs, _*ℤ_};
 ghost use lib.ListN.{getD};
@@ -28,7 +28,9 @@ ghost use Rattle.record.specs.Layout.{Record, currency, lots, value, loss, hund
 ghost use Rattle.record.specs.Within.{RowWithin, RateWithin};
 ghost use Rattle.account.specs.Accepted.{Each};
 ghost use Rattle.account.specs.Records.{records};
-ghost use Rattle.account.specs.Products.{raised, lowered, convertedAt, hasRate, conversionBeyond, mostConversion, mostFactor, RatesOf, HoldsRates};
+ghost use Rattle.account.specs.Products as Products;
+ghost use Rattle.account.specs.Products.{convertedAt, hasRate, conversionBeyond, mostConversion, mostFactor};
+ghost use Rattle.account.specs.code.Rates.{RatesOf, HoldsRates};
 
 // Currencies are numbered 0 to 7; 0 is the margin currency.
 pub const CURRENCIES: usize = 8;
@@ -51,13 +53,13 @@ pub struct Factors {
 }
 
 fn raised(rate: &[u8]) -> u64
-    ensures { λ n. ⌜ n ≡ raised (now (rate .entry)) ⌝ }
+    ensures { λ n. ⌜ n ≡ Products.raised (now (rate .entry)) ⌝ }
 {
     (spot_rate(rate) * (100 + adjustment(rate))) as u64
 }
 
 fn lowered(rate: &[u8]) -> u64
-    ensures { λ n. ⌜ n ≡ lowered (now (rate .entry)) ⌝ }
+    ensures { λ n. ⌜ n ≡ Products.lowered (now (rate .entry)) ⌝ }
 {
     let percent = adjustment(rate);
     if 100 < percent {

@@ -1,8 +1,9 @@
 // Records as they stand in a file.
 ghost use mathlib.Core.Path.{_≡_};
 ghost use Prim.Native.Nat.{_<_};
-ghost use Rattle.account.specs.Records.{stretch, recordAt, recordCount};
-ghost use Rattle.account.specs.Notes.{beforeAt};
+ghost use Rattle.account.specs.Records as Records;
+ghost use Rattle.account.specs.Records.{recordAt, recordCount};
+ghost use Rattle.account.specs.code.Notes.{beforeAt};
 use record::bytes::RECORD_BYTES;
 
 // How many whole records a file has.
@@ -14,7 +15,7 @@ pub fn record_count(file: &[u8]) -> usize
 
 // `n` records from record `k` on, or what the file has of them.
 pub fn stretch(file: &[u8], k: usize, n: usize) -> &[u8]
-    ensures { λ r. ⌜ now r ≡ stretch (now (file .entry)) k n ⌝ }
+    ensures { λ r. ⌜ now r ≡ Records.stretch (now (file .entry)) k n ⌝ }
 {
     if file.len() / RECORD_BYTES < k {
         let end = file.len();

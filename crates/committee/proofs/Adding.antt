@@ -12,8 +12,7 @@ use lib.ListN.{length}
 use Rattle.exact.specs.Lists.{oneIf, count, any}
 use Rattle.exact.proofs.Lists.{count-append}
 use Rattle.committee.specs.Answered.{Answered}
-use Rattle.committee.specs.Committee.{totalOf, isAccepted, acceptedCount, refusedCount, refusalCount, ofAccepted, summed}
-use Rattle.committee.specs.Committee.{largestMargin, holds, lowestPlace, unlessNone, largestPlace}
+use Rattle.committee.specs.Committee.{totalOf, isAccepted, acceptedCount, ofAccepted, summed, largestMargin, holds, lowestPlace, unlessNone, largestPlace}
 
 -- ---- counts and sums
 module _ (p : Answered → Bool) (run : List Answered) (a : Answered) where

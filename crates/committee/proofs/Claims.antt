@@ -1,17 +1,17 @@
 -- The claims about the committee's figures, for any bytes, lengths and lent numbers.
 -- Assumes nothing.
-use Prim.Native.Nat.{ℕ, zero, suc, _+_, _*_, _/_, _%_, _≤_, _<_, _^_, max, zero-le}
+use Prim.Native.Nat.{ℕ, zero, suc, _+_, _*_, _/_, _%_, _≤_, _<_, _^_, zero-le}
 use native.Mathlib.Nat.{div-add-mod', mod-lt, not-suc-le-zero, le-of-suc-le-suc}
 use native.Mathlib.Omega.{arith}
 use mathlib.Core.Path.{_≡_, refl, sym, ap, ap₂, _∙_}
-use mathlib.Core.Bool.{Bool, true, false, cond, not, _&&_, _||_, true≢false, false≢true}
+use mathlib.Core.Bool.{Bool, true, false, cond, not, _&&_, _||_, false≢true}
 use mathlib.Core.List.{List, [], _∷_, _++_, map}
 use borrow.Author.Tests.{eqb-true, eqb-false, eq-eqb, ne-eqb, ltb-true, ltb-false, lt-ltb, le-ltb}
 use lib.Dec.{eqb, ltb}
 use lib.IntN.{ℤ, pos}
 use lib.ListN.{length, length-map, getD, take, drop}
 use lib.Seq.{take-at, drop-at}
-use Rattle.exact.specs.Lists.{consIf, keep, any, count, oneIf, sum}
+use Rattle.exact.specs.Lists.{consIf, keep, any, oneIf, sum}
 use Rattle.exact.proofs.Lists.{sum-map-add}
 use Rattle.record.specs.Bytes.{countFrom}
 use Rattle.account.specs.Answers.{numberOf, recordOf}
@@ -20,11 +20,11 @@ use Rattle.account.specs.declared.answers.Answer.the-variants.{Accepted, TooFew
 use Rattle.runs.proofs.RunLaws.{accounts-length}
 use Rattle.runs.specs.Runs.{accountsOf}
 use Rattle.committee.specs.Answered.{Answered, answered}
-use Rattle.committee.specs.Claims.{Exactly, Written, Lowest, Mean, NoneAccepted, Numbers, Claims}
+use Rattle.committee.specs.Claims.{Exactly, Written, Lowest, Mean, Numbers, Claims}
 use Rattle.committee.specs.Committee.{totalOf, isAccepted, acceptedCount, refusedCount, refusalCount, refusalCounts, ofAccepted, summed, marginSummed}
-use Rattle.committee.specs.Committee.{largestMargin, holds, lowestPlace, largestPlace, meanMargin, meanRemainder, committee}
-use Rattle.committee.specs.Committee.{mostAccounts, committeeNumbers, committeeAnswer, answeredRun, afterCommittee}
-use Rattle.committee.specs.Sums.{mostTotal}
+use Rattle.committee.specs.Committee.{largestMargin, holds, lowestPlace, largestPlace, committee, mostAccounts, committeeNumbers, committeeAnswer}
+use Rattle.committee.specs.Committee.{answeredRun, afterCommittee}
+use Rattle.committee.specs.code.Sums.{mostTotal}
 use Rattle.committee.proofs.Adding.{none-of, all-of, none-largest, some-holds, unless-none, unless-some}
 use Rattle.committee.proofs.Padded.{total-most, refusal-most}
 

@@ -19,9 +19,9 @@ use Rattle.account.specs.declared.answers.Answer.{Answer}
 use Rattle.account.specs.declared.answers.Answer.the-variants.{Accepted, TooFewNumbers, LengthsDiffer, TooManyAccounts}
 use Rattle.runs.proofs.RunLaws.{accounts-next, sum-next}
 use Rattle.committee.specs.Answered.{Answered, answered}
-use Rattle.committee.specs.Committee.{isAccepted, refusalCount, refusalCounts, totalOf, hadCredit, aboveRisk, committee}
-use Rattle.committee.specs.Committee.{mostAccounts, committeeNumbers, committeeAnswer, answeredRun, afterCommittee}
-use Rattle.committee.specs.Sums.{mostTotal, AccountOf, SumsOf, Within, leads, Added, numbersOf}
+use Rattle.committee.specs.Committee.{isAccepted, refusalCount, refusalCounts, totalOf, hadCredit, aboveRisk, committee, mostAccounts, committeeNumbers}
+use Rattle.committee.specs.Committee.{committeeAnswer, answeredRun, afterCommittee}
+use Rattle.committee.specs.code.Sums.{mostTotal, AccountOf, SumsOf, Within, leads, Added, sumsNumbers}
 use Rattle.committee.specs.declared.figures.Account.{Account}
 use Rattle.committee.specs.declared.sums.Sums.{Sums}
 use Rattle.committee.proofs.Adding.{count-next, summed-next, takesOver, taken}
@@ -146,7 +146,7 @@ fifteen run k h =
     let more : 1 + k ≡ suc k = omega arith in
     getD-map (refusalCount run) (countFrom 1 15) k 0 0 h ∙ ap (refusalCount run) (counted-from 1 15 k h ∙ more)
 
-pub numbers-are : (run : List Answered) (s : Sums) → SumsOf run s → numbersOf s ≡ committee run
+pub numbers-are : (run : List Answered) (s : Sums) → SumsOf run s → sumsNumbers s ≡ committee run
 numbers-are run s is =
     let long = is .refusals-long in
     let refusals : s .refusals ≡ refusalCounts run =
@@ -216,7 +216,7 @@ module _ (bytes lengths : List ℕ) where
         }
 
   -- all of them
-  pub end : (s : Sums) (at i : ℕ) → Going s at i → length lengths ≤ i → numbersOf s ≡ committee (answeredRun bytes lengths)
+  pub end : (s : Sums) (at i : ℕ) → Going s at i → length lengths ≤ i → sumsNumbers s ≡ committee (answeredRun bytes lengths)
   end s at i g h =
       let none : answeredRun (drop at bytes) (drop i lengths) ≡ [] =
       ap (λ (ns : List ℕ). answeredRun (drop at bytes) ns) (drop-of-length-le lengths h)

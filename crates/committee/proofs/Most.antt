@@ -2,9 +2,9 @@
 -- 134,000,000,001,000, and an account has at most 640 records.
 -- Assumes nothing.
 use Prim.Native.Nat.{ℕ, zero, suc, _+_, _-_, _*_, _≤_, _<_, max, zero-le}
-use native.Mathlib.Nat.{le-refl, le-trans, add-le-add, mul-le-mul, mul-le-mul-left, mul-le-mul-right, mul-assoc, mul-add}
+use native.Mathlib.Nat.{le-refl, le-trans, mul-le-mul, mul-le-mul-left, mul-le-mul-right, mul-assoc, mul-add}
 use native.Mathlib.Omega.{arith}
-use mathlib.Core.Path.{_≡_, refl, sym, ap, subst, _∙_}
+use mathlib.Core.Path.{_≡_, sym, ap, subst, _∙_}
 use mathlib.Core.List.{List, [], _∷_, map, map-map}
 use lib.IntN.{ℤ, pos, negsuc, natAbs}
 use lib.ListN.{length, getD}
@@ -14,31 +14,31 @@ use Rattle.exact.specs.Signed.{orZero}
 use Rattle.exact.proofs.Lists.{length-keep}
 use Rattle.exact.proofs.Totals.{largest-held}
 use Rattle.exact.proofs.UnitLaws.{up-above}
-use Rattle.record.specs.Layout.{Record, contract, currency, shortOptionRate, unit, ratePerSpread, spreadRate, outrightRate, mostRate}
+use Rattle.record.specs.Layout.{Record, contract, currency, unit, ratePerSpread, spreadRate, outrightRate, mostRate}
 use Rattle.record.specs.Within.{ContractWithin, RowWithin}
 use Rattle.account.specs.Accepted.{Each}
 use Rattle.account.specs.Lawful.{Lawful}
-use Rattle.account.specs.Parts.{ofContract, contractsOf, promptsOf, rowsOf, spreadsOf, entriesOf, ratesOf}
+use Rattle.account.specs.Parts.{ofContract, contractsOf, promptsOf, rowsOf, spreadsOf, ratesOf}
 use Rattle.account.specs.Products.{Convertible}
 use Rattle.account.specs.Whole.{partsBy, Whole}
 use Rattle.account.proofs.Orders.{every-at}
 use Rattle.account.proofs.ProductLaws.{factors-within}
-use Rattle.spread.specs.Steps.{Open, Taker}
-use Rattle.margin.specs.Charges.{charged, promptCharge, promptCharges}
-use Rattle.margin.specs.Contract.{Contract, contractFrom, partsIn, contracts, stepsOf, opensOf, numbersOf, usedDeltas, unusedDeltas}
-use Rattle.margin.specs.Contract.{scanningOf, interpromptOf, promptOf, creditOf, minimumOf, marginOf}
-use Rattle.margin.specs.Deltas.{netDelta, netDeltas}
+use Rattle.spread.specs.Steps.{Open}
+use Rattle.formulas.specs.Charges.{charged, promptCharges}
+use Rattle.formulas.specs.Contract.{Contract, contractFrom, partsIn, contracts, contractSteps, opensOf, stepNumbers, usedDeltas, unusedDeltas, scanningOf}
+use Rattle.formulas.specs.Contract.{interpromptOf, promptOf, creditOf, minimumOf, marginOf}
+use Rattle.formulas.specs.Deltas.{netDelta, netDeltas}
 use Rattle.margin.specs.Figures.{totalMargin}
-use Rattle.margin.specs.Scanning.{totals}
+use Rattle.formulas.specs.Scanning.{totals}
 use Rattle.margin.specs.Skipped.{overPlaces, spreadAt, NothingOver}
-use Rattle.margin.specs.Within.{PromptFit, ContractFit}
+use Rattle.formulas.specs.code.Within.{PromptFit, ContractFit}
 use Rattle.margin.proofs.AcceptLaws.{contract-within}
-use Rattle.margin.proofs.LineLaws.{opens-sizes, interprompt-whole}
-use Rattle.margin.proofs.NetLaws.{sizes-sum}
-use Rattle.margin.proofs.PositionBounds.{Rated, total-most, short-lots-most}
-use Rattle.margin.proofs.PositionLaws.{totals-at}
-use Rattle.margin.proofs.StepBounds.{sizes, whole-number-within, used-within, unused-within}
-use Rattle.committee.specs.Sums.{mostTotal}
+use Rattle.formulas.proofs.LineLaws.{opens-sizes, interprompt-whole}
+use Rattle.formulas.proofs.NetLaws.{sizes-sum}
+use Rattle.formulas.proofs.PositionBounds.{Rated, total-most, short-lots-most}
+use Rattle.formulas.proofs.PositionLaws.{totals-at}
+use Rattle.formulas.proofs.StepBounds.{sizes, whole-number-within, used-within, unused-within}
+use Rattle.committee.specs.code.Sums.{mostTotal}
 
 -- ---- charges over places and over prompts
 
@@ -125,21 +125,22 @@ module _ (rates : List Record) (own : Record) (prompts rows spreads : List Recor
       let nets = map (λ (p : Open). p .unused) (opensOf k) in
       let all =
       prompts-most (unit own) (w .unit-within .most) prompts (usedDeltas k) (unusedDeltas k) nets (w .each-prompt)
-      (used-within (stepsOf k) (opensOf k)) (unused-within (stepsOf k) (opensOf k))
+      (used-within (contractSteps k) (opensOf k)) (unused-within (contractSteps k) (opensOf k))
       in
       let e = ap sum (map-map natAbs (λ (p : Open). p .unused) (opensOf k)) in
       let s = sizes-most in
       omega arith
 
-  number-most : (j : ℕ) → getD (numbersOf k) j 0 ≤ length rows * 1000000000
-  number-most j = le-trans (whole-number-within (stepsOf k) (opensOf k) j (interprompt-whole spreads)) sizes-most
+  number-most : (j : ℕ) → getD (stepNumbers k) j 0 ≤ length rows * 1000000000
+  number-most j = le-trans (whole-number-within (contractSteps k) (opensOf k) j (interprompt-whole spreads)) sizes-most
 
   -- each of at most 32 spreads, over at most 128 rows
   pub interprompt-most : interpromptOf k ≤ length rows * 32000000000000 + length spreads * 128000000000500
   interprompt-most =
       let each : (j : ℕ) → j < length spreads → spreadAt k j ≤ 2000 * (length rows * 1000000000) + 500 =
       λ j l.
-      spread-most (unit own) (getD (numbersOf k) (2 * j) 0) (getD (numbersOf k) (2 * j + 1) 0) (length rows * 1000000000) (ratePerSpread (getD spreads j []))
+      spread-most (unit own) (getD (stepNumbers k) (2 * j) 0) (getD (stepNumbers k) (2 * j + 1) 0) (length rows * 1000000000) (ratePerSpread
+      (getD spreads j []))
       (w .unit-within .most) (number-most (2 * j)) (number-most (2 * j + 1)) (w .each-spread j l .rate)
       in
       let all = places-most (2000 * (length rows * 1000000000) + 500) (length spreads) (spreadAt k) each in

@@ -10,7 +10,7 @@ use lib.IntN.{ℤ}
 use lib.ListN.{length, getD}
 use Rattle.exact.specs.Lists.{oneIf, sum}
 use Rattle.committee.specs.Committee.{overContracts, marginAt, hasCredit, isAbove}
-use Rattle.committee.specs.Sums.{mostTotal, Fit, FoundAt, FoundIn}
+use Rattle.committee.specs.code.Sums.{mostTotal, Fit, FoundAt, FoundIn}
 use Rattle.committee.specs.declared.contracts.Found.{Found}
 
 pub one-most : (b : Bool) → oneIf b ≤ 1

@@ -11,8 +11,8 @@ use mathlib.Core.List.{List, [], _∷_, _++_, map, map-map}
 use borrow.Author.Tests.{eqb-true}
 use lib.Dec.{ltb}
 use lib.IntN.{ℤ, pos}
-use lib.ListN.{length, length-append, length-drop, length-map, length-replicate, getD, drop, replicate, getD-replicate, List·getD-append}
-use lib.ListN.{List·getD-eq-default, List·getD-map}
+use lib.ListN.{length, length-append, length-drop, length-map, length-replicate, getD, drop, replicate, getD-replicate, List·getD-append, List·getD-eq-default}
+use lib.ListN.{List·getD-map}
 use lib.Seq.{getD-append-add, getD-drop, getD-at}
 use Rattle.exact.specs.Lists.{oneIf, sum}
 use Rattle.exact.specs.Signed.{orZero}
@@ -26,10 +26,10 @@ use Rattle.account.proofs.Claimed.{claimed}
 use Rattle.account.proofs.Alone.{lawful}
 use Rattle.account.proofs.NoonLaws.{accepted-only}
 use Rattle.spread.specs.Steps.{Open}
-use Rattle.margin.specs.Bounds.{longestFigures}
-use Rattle.margin.specs.Contract.{Contract, contracts, partsIn, asTier, marginOf}
+use Rattle.formulas.specs.Bounds.{longestFigures}
+use Rattle.formulas.specs.Contract.{Contract, contracts, partsIn, asTier, marginOf}
 use Rattle.margin.specs.Figures.{eight, eights, figures, figuresOver, totalMargin}
-use Rattle.margin.specs.Margin.{risk}
+use Rattle.formulas.specs.Margin.{risk}
 use Rattle.questions.specs.Questions.{figuresAnswer, afterFigures}
 use Rattle.margin.specs.Skipped.{NoneSkipped}
 use Rattle.margin.proofs.AcceptLaws.{contract-within, own-within}
@@ -37,9 +37,9 @@ use Rattle.margin.proofs.QuestionLaws.{figures-length}
 use Rattle.margin.proofs.Skipped.{file-skips-none}
 use Rattle.runs.proofs.RunLaws.{verdict}
 use Rattle.committee.specs.Answered.{Answered, answered}
-use Rattle.committee.specs.Committee.{numberAt, contractCount, scanningAt, interpromptAt, promptAt, marginAt, totalOf, overContracts}
-use Rattle.committee.specs.Committee.{hasCredit, hadCredit, isAbove, aboveRisk, isAccepted, ofAccepted}
-use Rattle.committee.specs.Sums.{mostTotal, Fit, FoundIn, AccountOf}
+use Rattle.committee.specs.Committee.{numberAt, contractCount, scanningAt, interpromptAt, promptAt, marginAt, totalOf, overContracts, hasCredit}
+use Rattle.committee.specs.Committee.{hadCredit, isAbove, aboveRisk, isAccepted, ofAccepted}
+use Rattle.committee.specs.code.Sums.{mostTotal, Fit, FoundIn, AccountOf}
 use Rattle.committee.specs.declared.contracts.Found.{Found}
 use Rattle.committee.specs.declared.figures.Account.{Account}
 use Rattle.committee.proofs.Adding.{none-of, all-of}

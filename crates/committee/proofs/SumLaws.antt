@@ -3,7 +3,7 @@
 use Prim.Native.Nat.{ℕ, zero, suc, _+_, _-_, _*_, _/_, _%_, _≤_, _<_, _^_, zero-le}
 use native.Mathlib.Nat.{le-trans, div-le-self, div-add-mod'}
 use native.Mathlib.Omega.{arith}
-use mathlib.Core.Path.{_≡_, refl, sym, ap, subst, _∙_}
+use mathlib.Core.Path.{_≡_, refl, ap, subst, _∙_}
 use mathlib.Core.Bool.{Bool, true, false, cond}
 use mathlib.Core.List.{List, [], _∷_, _++_}
 use borrow.Author.Tests.{eqb-true, eqb-false, ne-eqb}
@@ -12,7 +12,7 @@ use lib.ListN.{length, length-set, length-append, getD, set, List·getD-append}
 use lib.Seq.{getD-set-same, getD-set-other, getD-append-add}
 use Rattle.exact.specs.Lists.{oneIf}
 use Rattle.committee.specs.Committee.{mostAccounts}
-use Rattle.committee.specs.Sums.{mostTotal, Counted, Within, laterNumbers, numbersOf}
+use Rattle.committee.specs.code.Sums.{mostTotal, Counted, Within, laterNumbers, sumsNumbers}
 use Rattle.committee.specs.declared.sums.Sums.{Sums}
 
 -- ---- the counts of the refusals
@@ -43,17 +43,17 @@ module _ (counts : List ℕ) (refusal : ℕ) (n : length counts ≡ 15) (some : 
 
 -- ---- the committee's numbers
 module _ (s : Sums) (n : length (s .refusals) ≡ 15) where
-  pub refusal-at : (k : ℕ) → 2 ≤ k → k < 17 → getD (numbersOf s) k 0 ≡ getD (s .refusals) (k - 2) 0
+  pub refusal-at : (k : ℕ) → 2 ≤ k → k < 17 → getD (sumsNumbers s) k 0 ≡ getD (s .refusals) (k - 2) 0
   refusal-at k l h =
       let e : k ≡ suc (suc (k - 2)) = omega arith in
-      ap (λ (j : ℕ). getD (numbersOf s) j 0) e ∙ List·getD-append (s .refusals) (laterNumbers s) 0 (k - 2) (omega arith)
+      ap (λ (j : ℕ). getD (sumsNumbers s) j 0) e ∙ List·getD-append (s .refusals) (laterNumbers s) 0 (k - 2) (omega arith)
 
-  pub later-at : (k : ℕ) → 17 ≤ k → getD (numbersOf s) k 0 ≡ getD (laterNumbers s) (k - 17) 0
+  pub later-at : (k : ℕ) → 17 ≤ k → getD (sumsNumbers s) k 0 ≡ getD (laterNumbers s) (k - 17) 0
   later-at k l =
       let e : k ≡ suc (suc (length (s .refusals) + (k - 17))) = omega arith in
-      ap (λ (j : ℕ). getD (numbersOf s) j 0) e ∙ getD-append-add (s .refusals) (laterNumbers s) (k - 17) 0
+      ap (λ (j : ℕ). getD (sumsNumbers s) j 0) e ∙ getD-append-add (s .refusals) (laterNumbers s) (k - 17) 0
 
-  pub numbers-length : length (numbersOf s) ≡ 24
+  pub numbers-length : length (sumsNumbers s) ≡ 24
   numbers-length = let l = length-append (s .refusals) (laterNumbers s) in omega arith
 
 -- none of them outgrows 64 bits
@@ -85,11 +85,11 @@ module _ (s : Sums) (w : Within mostAccounts s) where
       none-or (eqb (s .accepted) 0) (s .margin .0 % s .accepted) most (le-trans (mod-within (s .margin .0) (s .accepted)) (w .margin-most))
   later-most (suc (suc (suc (suc (suc (suc (suc k))))))) = zero-le
 
-  number-most : (k : ℕ) → getD (numbersOf s) k 0 ≤ most
+  number-most : (k : ℕ) → getD (sumsNumbers s) k 0 ≤ most
   number-most zero = let h = w .accepted-most in omega arith
   number-most (suc zero) = let h = w .refused-most in omega arith
   number-most (suc (suc k)) =
       either-list most (s .refusals) (laterNumbers s) k (λ j. let h = w .refusals-most j in omega arith) later-most
 
-  pub number-fits : (k : ℕ) → getD (numbersOf s) k 0 < 2 ^ 63
+  pub number-fits : (k : ℕ) → getD (sumsNumbers s) k 0 < 2 ^ 63
   number-fits k = let h = number-most k in omega arith

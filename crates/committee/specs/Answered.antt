@@ -5,7 +5,7 @@ use mathlib.Core.List.{List}
 use lib.IntN.{ℤ}
 use Rattle.account.specs.Answers.{numberOf}
 use Rattle.account.specs.Records.{records}
-use Rattle.margin.specs.Bounds.{longestFigures}
+use Rattle.formulas.specs.Bounds.{longestFigures}
 use Rattle.margin.specs.Figures.{figures}
 use Rattle.questions.specs.Questions.{figuresAnswer}
 

@@ -2,17 +2,16 @@
 -- Assumes nothing.
 use Prim.Native.Nat.{ℕ, _+_, _*_, _≤_, _<_, _^_}
 use mathlib.Core.Path.{_≡_}
-use mathlib.Core.Bool.{Bool, true, false}
-use mathlib.Core.List.{List, [], _∷_, _++_, map}
+use mathlib.Core.Bool.{true}
+use mathlib.Core.List.{List, map}
 use lib.IntN.{ℤ, pos}
 use lib.ListN.{length, getD, take, drop}
 use Rattle.exact.specs.Lists.{keep, sum}
 use Rattle.account.specs.Answers.{numberOf, recordOf}
 use Rattle.account.specs.Claims.{Iff}
-use Rattle.committee.specs.Answered.{Answered, answered}
-use Rattle.committee.specs.Committee.{totalOf, isAccepted, acceptedCount, refusedCount, refusalCounts, ofAccepted, summed, marginSummed}
-use Rattle.committee.specs.Committee.{largestMargin, largestPlace, creditCount, aboveCount, meanMargin, meanRemainder, committee}
-use Rattle.committee.specs.Committee.{mostAccounts, committeeNumbers, committeeAnswer, answeredRun, afterCommittee}
+use Rattle.committee.specs.Answered.{Answered}
+use Rattle.committee.specs.Committee.{totalOf, isAccepted, acceptedCount, refusedCount, refusalCounts, summed, marginSummed, largestMargin, largestPlace}
+use Rattle.committee.specs.Committee.{meanMargin, meanRemainder, committee, mostAccounts, committeeNumbers, committeeAnswer, answeredRun, afterCommittee}
 
 -- ---- "Refusals: as 2026-08, 10 being for this answer; 19, more than 100 accounts, first."
 

@@ -12,7 +12,7 @@ use Rattle.record.specs.Bytes.{countFrom}
 use Rattle.account.specs.Answers.{numberOf}
 use Rattle.account.specs.declared.answers.Answer.{Answer}
 use Rattle.account.specs.declared.answers.Answer.the-variants.{Accepted, TooFewNumbers, LengthsDiffer, TooManyAccounts}
-use Rattle.margin.specs.Margin.{risk}
+use Rattle.formulas.specs.Margin.{risk}
 use Rattle.runs.specs.Runs.{accountsOf}
 use Rattle.committee.specs.Answered.{Answered, answered}
 

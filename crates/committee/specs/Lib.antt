@@ -1,4 +1,4 @@
 pub mod Answered
 pub mod Claims
 pub mod Committee
-pub mod Sums
+pub mod code

@@ -1,15 +1,15 @@
 // The contracts of an account, read from the numbers of its figures.
 use account::parts::CONTRACTS;
 use exact::signed::or_zero;
-use margin::amount::Amount;
+use formulas::amount::Amount;
 ghost use mathlib.Core.Path.{_≡_};
 ghost use Prim.Native.Nat.{_+_, _^_, _<_};
 ghost use lib.Dec.{ltb};
 ghost use lib.ListN.{length};
 ghost use Rattle.exact.specs.Lists.{oneIf};
-ghost use Rattle.margin.specs.Margin.{risk};
+ghost use Rattle.formulas.specs.Margin.{risk};
 ghost use Rattle.committee.specs.Committee.{numberAt};
-ghost use Rattle.committee.specs.Sums.{Fit, FoundAt, FoundIn};
+ghost use Rattle.committee.specs.code.Sums.{Fit, FoundAt, FoundIn};
 
 // What contracts add: their margins, how many of them have credit, and how many a short option minimum above the risk.
 pub struct Found {

@@ -2,11 +2,11 @@
 use crate::contracts::found_in;
 use crate::contracts::one_if;
 use account::answers::number_of;
-use margin::amount::Amount;
+use formulas::amount::Amount;
 use margin::asking::Question;
 use questions::plain::answer;
 ghost use Rattle.committee.specs.Answered.{answered};
-ghost use Rattle.committee.specs.Sums.{AccountOf};
+ghost use Rattle.committee.specs.code.Sums.{AccountOf};
 
 // The most numbers that the figures have.
 const FIGURES: usize = 129;

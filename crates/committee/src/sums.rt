@@ -2,7 +2,7 @@
 use crate::contracts::one_if;
 use crate::figures::Account;
 use exact::signed::as_signed;
-use margin::amount::Amount;
+use formulas::amount::Amount;
 ghost use mathlib.Core.Path.{_≡_};
 ghost use mathlib.Core.Bool.{cond};
 ghost use mathlib.Core.List.{[], _++_, map};
@@ -11,7 +11,7 @@ ghost use lib.Dec.{eqb};
 ghost use lib.IntN.{pos};
 ghost use lib.ListN.{length, getD, drop};
 ghost use Rattle.committee.specs.Committee.{committeeNumbers, mostAccounts};
-ghost use Rattle.committee.specs.Sums.{Counted, Added, SumsOf, Within, laterNumbers, numbersOf};
+ghost use Rattle.committee.specs.code.Sums.{Counted, Added, SumsOf, Within, laterNumbers, sumsNumbers};
 
 // The numbers of the refusals that an account can have.
 const REFUSALS: usize = 15;
@@ -143,7 +143,7 @@ fn later_number(sums: Sums, k: usize) -> u64
 
 // One of the committee's numbers.
 fn number_at(sums: Sums, k: usize) -> u64
-    ensures { λ r. ⌜ r ≡ getD (numbersOf sums) k 0 ⌝ }
+    ensures { λ r. ⌜ r ≡ getD (sumsNumbers sums) k 0 ⌝ }
 {
     if k == 0 {
         return sums.accepted as u64;
@@ -161,7 +161,7 @@ fn number_at(sums: Sums, k: usize) -> u64
 // All of them, at the front of `out`.
 pub(crate) fn put_numbers(sums: Sums, out: &mut [i64])
     requires { ⌜ Within mostAccounts sums × (committeeNumbers ≤ length (now out)) ⌝ }
-    ensures { λ r. ⌜ now (out .exit) ≡ map pos (numbersOf sums) ++ drop committeeNumbers (now (out .entry)) ⌝ }
+    ensures { λ r. ⌜ now (out .exit) ≡ map pos (sumsNumbers sums) ++ drop committeeNumbers (now (out .entry)) ⌝ }
 {
     let mut k = 0;
     while k < NUMBERS {

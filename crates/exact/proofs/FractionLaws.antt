@@ -1,7 +1,7 @@
 -- Rounding z × m / d once, halves away from zero: what it is in parts, so that no product outgrows 64 bits, and its laws for every
 -- fraction, which are those of rounding halves up to a unit of 1.
 -- Assumes nothing.
-use mathlib.Core.Path.{_≡_, refl, sym, _∙_, ap, subst}
+use mathlib.Core.Path.{_≡_, refl, sym, _∙_, ap}
 use mathlib.Core.Bool.{true, false≢true}
 use Prim.Native.Nat.{ℕ, zero, suc, _+_, _*_, _/_, _%_, _≤_, _<_}
 use native.Mathlib.Nat.{zero-mul, mul-one, add-mul, mul-right-comm, mul-le-mul-left, mul-le-mul-right, div-add-mod', le-of-lt, mod-lt}

@@ -3,8 +3,8 @@
 use mathlib.Core.Path.{_≡_, refl, sym, _∙_, ap}
 use mathlib.Core.Bool.{Bool, true, false}
 use Prim.Native.Nat.{ℕ, zero, suc, _+_, _*_, _/_, _%_, _≤_, _<_}
-use native.Mathlib.Nat.{zero-mul, div-zero, div-add-mod', div-mul-le-self, mul-left-comm, mul-add-div-right, div-eq-of-lt, div-eq-of-lt-le}
-use native.Mathlib.Nat.{div-lt-iff-lt-mul, mod-lt, le-mul-of-pos-right}
+use native.Mathlib.Nat.{zero-mul, div-zero, div-add-mod', div-mul-le-self, mul-left-comm, mul-add-div-right, div-eq-of-lt, div-eq-of-lt-le, div-lt-iff-lt-mul}
+use native.Mathlib.Nat.{mod-lt, le-mul-of-pos-right}
 use native.Mathlib.Omega.{arith}
 use lib.Dec.{leb}
 use borrow.Author.Tests.{leb-true, leb-false}

@@ -1,12 +1,11 @@
 -- Rounding to a unit, for every unit: a quotient by twice the unit says all of it.
 -- Assumes nothing.
-use mathlib.Core.Path.{_≡_, refl, sym, _∙_, ap, subst}
+use mathlib.Core.Path.{_≡_, refl, sym, _∙_, ap}
 use mathlib.Core.Bool.{true, false≢true}
-use Prim.Native.Nat.{ℕ, zero, suc, _+_, _*_, _/_, _%_, _≤_, _<_}
-use native.Mathlib.Nat.{zero-mul, mul-one, one-mul, mul-pos, mul-left-comm, mul-mod-left, mul-le-mul-right, div-mul-le-self, lt-div-mul-add}
-use native.Mathlib.Nat.{le-div-iff-mul-le, div-eq-of-lt-le}
+use Prim.Native.Nat.{ℕ, zero, suc, _+_, _*_, _%_, _≤_, _<_}
+use native.Mathlib.Nat.{zero-mul, mul-one, one-mul, mul-pos, mul-left-comm, mul-mod-left, mul-le-mul-right, div-mul-le-self, lt-div-mul-add, le-div-iff-mul-le}
+use native.Mathlib.Nat.{div-eq-of-lt-le}
 use native.Mathlib.Omega.{arith}
-use lib.Dec.{leb}
 use lib.IntN.{ℤ, pos, negsuc, negℤ, natAbs, negℤ-negℤ}
 use lib.Signed.{leZ}
 use borrow.Author.Tests.{leb-true, le-leb}

@@ -7,13 +7,13 @@ ghost use Rattle.exact.specs.Signed.{larger};
 ghost use Rattle.exact.specs.Largest.{IsLargest};
 
 // A total and its number, counted from 1.
-pub struct Place {
+pub struct NumberedTotal {
     pub value: i64,
     pub number: usize,
 }
 
 // The place before `best`, unless its value is below that of `best`.
-fn or_earlier(best: Place, value: i64, number: usize) -> Place
+fn or_earlier(best: NumberedTotal, value: i64, number: usize) -> NumberedTotal
     ensures { λ r. ⌜ r .value ≡ larger value (best .value) ⌝ }
     ensures { λ r. ⌜ r .number ≡ cond (ltZ value (best .value)) (best .number) number ⌝ }
 {
@@ -21,17 +21,17 @@ fn or_earlier(best: Place, value: i64, number: usize) -> Place
     if below(value, value_of_best) {
         return best;
     }
-    Place {
+    NumberedTotal {
         value: value,
         number: number,
     }
 }
 
 // The largest total, and the lowest number holding it, from the last total to the first.
-pub fn largest(totals: [i64; 16]) -> Place
+pub fn largest(totals: [i64; 16]) -> NumberedTotal
     ensures { λ r. ⌜ IsLargest totals (r .value) (r .number) ⌝ }
 {
-    let mut best = Place {
+    let mut best = NumberedTotal {
         value: totals[15],
         number: 16,
     };

@@ -6,7 +6,8 @@ ghost use lib.IntN.{pos, natAbs, _+ℤ_, _-ℤ_, _*ℤ_};
 ghost use lib.Signed.{ltZ};
 ghost use mir.Syntax.{w64};
 ghost use mir.Val.{SFits};
-ghost use Rattle.exact.specs.Signed.{negative, larger, orZero, withSignOf, towardsZero};
+ghost use Rattle.exact.specs.Signed as Signed;
+ghost use Rattle.exact.specs.Signed.{negative, orZero, withSignOf, towardsZero};
 
 pub fn plus(a: i64, b: i64) -> i64
     requires { ⌜ SFits w64 (a +ℤ b) ⌝ }
@@ -69,7 +70,7 @@ pub fn magnitude(z: i64) -> u64
 
 // The larger of two numbers.
 pub fn larger(a: i64, b: i64) -> i64
-    ensures { λ r. ⌜ r ≡ larger a b ⌝ }
+    ensures { λ r. ⌜ r ≡ Signed.larger a b ⌝ }
 {
     if below(a, b) { b } else { a }
 }

@@ -19,7 +19,7 @@ use Rattle.questions.proofs.NoonLaws.{one-asked-pair}
 use Rattle.questions.proofs.PairDemands.{pair-demand1}
 use Rattle.lists.proofs.Claims.{list-claims, pair-claims}
 use Rattle.questions.proofs.PlaceLaws.{file-places, pair-places}
-use Rattle.margin.proofs.PairLaws.{pair-table}
+use Rattle.formulas.proofs.PairLaws.{pair-table}
 use Rattle.margin.proofs.Reckoned.{reckoned, printed}
 use Rattle.margin.proofs.Skipped.{file-skips-none, pair-skips-none}
 use Rattle.margin.proofs.Touched.{file-touched, pair-touched}
@@ -32,9 +32,9 @@ use Rattle.tickets.proofs.Claims.{claims as ticket-claims}
 use Rattle.tickets.proofs.KeptClaimed.{kept-claims}
 use Rattle.writing.proofs.Claimed.{claimed as writing-claims}
 use Rattle.screen.proofs.Claims.{claims as screen-claims}
-use Rattle.felgotany.specs.Roof.{OneFile, TwoFiles, Equations, OneOutcome, Roof}
-use Rattle.felgotany.proofs.Told.{one-told, all-told, one-told-of, all-told-of, one-call, one-place, one-list, one-pair-list, one-added}
-use Rattle.felgotany.proofs.Told.{one-total, one-limit, one-asked as one-ticket, one-written}
+use Rattle.felgotany.specs.Roof.{OneFile, TwoFiles, OneOutcome, Roof}
+use Rattle.felgotany.proofs.Told.{one-told, all-told, one-told-of, all-told-of, one-call, one-place, one-list, one-pair-list, one-added, one-total}
+use Rattle.felgotany.proofs.Told.{one-limit, one-asked as one-ticket, one-written}
 
 one-file : (file : List ℕ) → OneFile file
 one-file file =

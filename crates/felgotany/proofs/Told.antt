@@ -12,10 +12,10 @@ use Rattle.questions.specs.declared.noon.Call.{Call}
 use Rattle.screen.specs.declared.Added.{Added}
 use Rattle.screen.specs.declared.Limited.{Limited}
 use Rattle.screen.specs.declared.Told.{Told}
-use Rattle.felgotany.specs.Outcomes.{TellsAdded, TellsTotal, TellsLimit}
+use Rattle.felgotany.specs.code.Outcomes.{TellsAdded, TellsTotal, TellsLimit, Tells, TellsOf, TellsCall, TellsPlace, TellsList, TellsPairList, TellsAsked}
+use Rattle.felgotany.specs.code.Outcomes.{TellsWritten}
 use Rattle.felgotany.specs.declared.AddOutcome.{AddOutcome}
 use Rattle.tickets.specs.declared.ask.Asked.{Asked}
-use Rattle.felgotany.specs.Outcomes.{Tells, TellsOf, TellsCall, TellsPlace, TellsList, TellsPairList, TellsAsked, TellsWritten}
 use Rattle.felgotany.specs.declared.CallOutcome.{CallOutcome}
 use Rattle.felgotany.specs.declared.LimitOutcome.{LimitOutcome}
 use Rattle.felgotany.specs.declared.ListOutcome.{ListOutcome}

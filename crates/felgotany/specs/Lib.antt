@@ -1,2 +1,2 @@
-pub mod Outcomes
 pub mod Roof
+pub mod code

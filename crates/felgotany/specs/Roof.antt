@@ -13,11 +13,10 @@ use lib.ListN.{length}
 use Rattle.exact.specs.Fractions.{Fractions}
 use Rattle.exact.specs.Largest.{IsLargest}
 use Rattle.exact.specs.Units.{Units}
-use Rattle.exact.specs.declared.largest.Place.{Place as Largest}
+use Rattle.exact.specs.declared.largest.NumberedTotal.{NumberedTotal as Largest}
 use Rattle.record.specs.Layout.{Record}
-use Rattle.spread.specs.Book.{Booked}
-use Rattle.spread.specs.Touches.{CountedBook}
-use Rattle.spread.specs.Uses.{Stepped}
+use Rattle.spread.specs.code.Book.{Booked, CountedBook}
+use Rattle.spread.specs.code.Step.{Stepped}
 use Rattle.spread.specs.declared.Prompts.{Prompts}
 use Rattle.spread.specs.declared.Spread.{Spread}
 use Rattle.spread.specs.declared.Table.{Table}
@@ -26,25 +25,25 @@ use Rattle.spread.specs.declared.stepwise.Step.{Step}
 use Rattle.spread.specs.declared.touches.Counted.{Counted}
 use Rattle.account.specs.Checked.{checked}
 use Rattle.account.specs.Claims.{Claims}
-use Rattle.account.specs.Determined.{Determined}
+use Rattle.account.specs.code.Determined.{Determined}
 use Rattle.account.specs.Noon.{clear, ofJoined, _then_, joinedVerdict}
 use Rattle.account.specs.PairClaims.{PairClaims}
-use Rattle.account.specs.Products.{RatesOf}
+use Rattle.account.specs.code.Rates.{RatesOf}
 use Rattle.account.specs.Records.{records, recordCount}
-use Rattle.account.specs.Standing.{accountOf}
+use Rattle.account.specs.Joined.{accountOf}
 use Rattle.account.specs.declared.answers.Answer.{Answer}
 use Rattle.account.specs.declared.answers.Answer.the-variants.{Accepted}
 use Rattle.account.specs.declared.noon.Place.{Place}
 use Rattle.account.specs.declared.noon.Verdict.{Verdict}
 use Rattle.account.specs.declared.rates.Rates.{Rates}
 use Rattle.questions.specs.Demands.{Demand1, Demand2, Demanded}
-use Rattle.questions.specs.Held.{FromCheck}
+use Rattle.questions.specs.code.Held.{FromCheck}
 use Rattle.questions.specs.Noon.{joinedAnswer, joinedNeed, afterJoined, joinedAll, afterJoinedAll}
 use Rattle.questions.specs.PairDemands.{PairDemand1}
 use Rattle.lists.specs.Claims as lists
 use Rattle.lists.specs.declared.JudgedPair.{JudgedPair}
 use Rattle.questions.specs.Questions.{answerTo, afterTo, needTo, allTo, afterAllTo, Needed}
-use Rattle.margin.specs.Pairs.{PairTable}
+use Rattle.formulas.specs.Pairs.{PairTable}
 use Rattle.margin.specs.Places.{EachPlace, questionOf, widthOf}
 use Rattle.margin.specs.Questions.{ifAccepted, asked}
 use Rattle.margin.specs.Reckoned.{Reckoned, Printed}
@@ -62,20 +61,20 @@ use Rattle.committee.specs.Claims.{Claims as CommitteeClaims}
 use Rattle.statements.specs.Apart.{CanBeMet, NotTheMargin}
 use Rattle.statements.specs.Statements.{Statements}
 use Rattle.tickets.specs.Claims.{Claims as TicketClaims}
-use Rattle.tickets.specs.KeptClaims.{KeptClaims}
+use Rattle.tickets.specs.code.KeptClaims.{KeptClaims}
 use Rattle.tickets.specs.declared.ask.Asked.{Asked as AskedTicket}
 use Rattle.writing.specs.Claims.{Claims as WritingClaims}
 use Rattle.screen.specs.Claims.{Claims as ScreenClaims}
 use Rattle.screen.specs.declared.Added.{Added}
 use Rattle.screen.specs.declared.Limited.{Limited}
 use Rattle.screen.specs.declared.Told.{Told}
-use Rattle.felgotany.specs.Outcomes.{TellsAdded, TellsTotal, TellsLimit, TellsAsked, TellsWritten}
+use Rattle.felgotany.specs.code.Outcomes.{TellsAdded, TellsTotal, TellsLimit, TellsAsked, TellsWritten, Tells, TellsOf, TellsCall, TellsPlace, TellsList}
+use Rattle.felgotany.specs.code.Outcomes.{TellsPairList}
 use Rattle.felgotany.specs.declared.AddOutcome.{AddOutcome}
 use Rattle.felgotany.specs.declared.LimitOutcome.{LimitOutcome}
 use Rattle.felgotany.specs.declared.TicketOutcome.{TicketOutcome}
 use Rattle.felgotany.specs.declared.TotalOutcome.{TotalOutcome}
 use Rattle.felgotany.specs.declared.WriteOutcome.{WriteOutcome}
-use Rattle.felgotany.specs.Outcomes.{Tells, TellsOf, TellsCall, TellsPlace, TellsList, TellsPairList}
 use Rattle.felgotany.specs.declared.CallOutcome.{CallOutcome}
 use Rattle.felgotany.specs.declared.ListOutcome.{ListOutcome}
 use Rattle.felgotany.specs.declared.Outcome.{Outcome}

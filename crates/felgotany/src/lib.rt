@@ -29,22 +29,21 @@ ghost use mathlib.Core.Bool.{true, false};
 ghost use Prim.Native.Nat.{_≤_};
 ghost use lib.ListN.{length};
 ghost use Rattle.account.specs.Checked.{checked};
-ghost use Rattle.margin.specs.Bounds.{longestFigures, longestBook, longestUses};
-ghost use Rattle.questions.specs.Questions.{figuresAnswer, afterFigures, bookAnswer, afterBook, usesAnswer, afterUses};
-ghost use Rattle.questions.specs.Questions.{figuresNeed, bookNeed, usesNeed};
+ghost use Rattle.formulas.specs.Bounds.{longestFigures, longestBook, longestUses};
+ghost use Rattle.questions.specs.Questions.{figuresAnswer, afterFigures, bookAnswer, afterBook, usesAnswer, afterUses, figuresNeed, bookNeed, usesNeed};
 ghost use Rattle.questions.specs.Questions.{booksAnswer, booksAfter, allUsesAnswer, allUsesAfter};
 ghost use Rattle.account.specs.Noon.{promptPlace};
-ghost use Rattle.questions.specs.Noon.{joinedFigures, afterJoinedFigures, joinedBook, afterJoinedBook, joinedUses, afterJoinedUses, joinedCall};
+ghost use Rattle.questions.specs.Noon.{joinedFigures, afterJoinedFigures, joinedBook, afterJoinedBook, joinedUses, afterJoinedUses, joinedCall, joinedNeed};
+ghost use Rattle.questions.specs.Noon.{joinedAll, afterJoinedAll};
 ghost use Rattle.lists.specs.Lists.{answerIn, verdictNumber, stepNamed, judgedTo, joinedJudged};
-ghost use Rattle.questions.specs.Noon.{joinedNeed, joinedAll, afterJoinedAll};
 ghost use Rattle.margin.specs.declared.asking.Question.the-variants.{Figures, Book, Uses};
 ghost use Rattle.runs.specs.Runs.{runAnswer, runFigures, runOutcomes};
 ghost use Rattle.committee.specs.Committee.{committeeAnswer, afterCommittee};
-ghost use Rattle.screen.specs.Screen.{loadAnswer, added, afterAdd, totalRead, limited};
-ghost use Rattle.screen.specs.Screen.{addRefusal, bytesHeld, totalRefusal, totalTold, limitRefusal, limitNumber, limitTotal};
-ghost use Rattle.felgotany.specs.Outcomes.{TellsAdded, TellsTotal, TellsLimit};
+ghost use Rattle.screen.specs.Screen.{loadAnswer, added, afterAdd, totalRead, limited, addRefusal, bytesHeld, totalRefusal, totalTold, limitRefusal};
+ghost use Rattle.screen.specs.Screen.{limitNumber, limitTotal};
+ghost use Rattle.felgotany.specs.code.Outcomes.{TellsAdded, TellsTotal, TellsLimit, Tells, TellsOf, TellsCall, TellsPlace, TellsList, TellsPairList};
+ghost use Rattle.felgotany.specs.code.Outcomes.{TellsAsked, TellsWritten};
 ghost use Rattle.tickets.specs.Asked.{ticketsIn, askedAbout, withdrawnFrom};
-ghost use Rattle.felgotany.specs.Outcomes.{Tells, TellsOf, TellsCall, TellsPlace, TellsList, TellsPairList, TellsAsked, TellsWritten};
 
 // The number of a refusal, 0 where nothing is refused, and the record that it names.
 #[repr(C)]

@@ -13,7 +13,7 @@ use lib.Seq.{take-at, drop-at}
 use lib.Signed.{ltZ}
 use borrow.Author.Tests.{ltb-false, le-ltb, not-true}
 use Rattle.spread.specs.Steps.{Open, Taker, formed, after, numbers}
-use Rattle.spread.specs.Uses.{takenOf, takings, joined, usesOf}
+use Rattle.spread.specs.Uses.{takenOf, takings, inOneList, usesOf}
 use Rattle.spread.proofs.Both.{and-left, and-right}
 use Rattle.spread.proofs.Stepping.{after-length}
 use Rattle.judging.specs.Claims.{numbersTold, usesTold, numberTold, useTold, ToldWhole}
@@ -66,7 +66,7 @@ nothing : (us : List ℤ) → length us ≡ 0 → [] ≡ us
 nothing [] e = refl
 nothing (u ∷ us) e = absurd (omega arith)
 
-uses-told : (n : ℕ) (xs us : List ℤ) → length us ≡ length xs * n → joined (usesTold (toldOf n xs us)) ≡ us
+uses-told : (n : ℕ) (xs us : List ℤ) → length us ≡ length xs * n → inOneList (usesTold (toldOf n xs us)) ≡ us
 uses-told n [] us e = nothing us (omega arith)
 uses-told n (x ∷ xs) us e =
     ap (λ (l : List ℤ). take n us ++ l)

@@ -17,14 +17,14 @@ use borrow.Author.Tests.{ltb-true, lt-ltb, eqb-true, eq-eqb}
 use Rattle.spread.specs.Accepted.{openOf, stepsOf, sound}
 use Rattle.spread.specs.Demand.{Feasible, soundSteps}
 use Rattle.spread.specs.Steps.{Open, Taker, numbers}
-use Rattle.spread.specs.Uses.{joined, takings}
+use Rattle.spread.specs.Uses.{inOneList, takings}
 use Rattle.spread.specs.declared.Prompts.{Prompts}
 use Rattle.spread.specs.declared.Table.{Table}
 use Rattle.spread.proofs.Both.{and-left, and-right, and-both}
 use Rattle.spread.proofs.Demand3.{demand3, one-per-step}
 use Rattle.spread.proofs.Soundness.{table-sound}
-use Rattle.judging.specs.Claims.{Iff, usesTold, numberTold, useTold, Picked, Reached, IsRight, IsMore, IsLess, IsWrongUse, Says, SameCounts}
-use Rattle.judging.specs.Claims.{TheList, Claims}
+use Rattle.judging.specs.Claims.{Iff, usesTold, numberTold, useTold, Picked, Reached, IsRight, IsMore, IsLess, IsWrongUse, Says, SameCounts, TheList}
+use Rattle.judging.specs.Claims.{Claims}
 use Rattle.judging.specs.Judged.{Told, toldOf, alike, verdictOf, judgedFrom, sameCounts, judgedList}
 use Rattle.judging.specs.declared.Verdict.{Verdict}
 use Rattle.judging.specs.declared.Verdict.the-variants.{Right, MoreThanFormed, LessThanFormed, WrongUse, OtherCounts}
@@ -293,7 +293,7 @@ module _ (ss : List (List Taker)) (ps : List Open) (ok : soundSteps ss ≡ true)
     the-list : (c : SameCounts ss ps sent xs us) → IsRight ss ps ours ts → TheList ss ps ours sent xs us
     the-list c r =
         let w = told-whole sent xs us (c .uses ∙ ap₂ _*_ (sym (c .steps)) (sym (c .prompts))) in
-        record { prompts = c .prompts; numbers = sym (w .numbers) ∙ r .numbers; uses = sym (w .uses) ∙ ap joined (r .uses) }
+        record { prompts = c .prompts; numbers = sym (w .numbers) ∙ r .numbers; uses = sym (w .uses) ∙ ap inOneList (r .uses) }
 
     yes : Iff (judgedList ss ps sent xs us ≡ Right) (TheList ss ps ours sent xs us)
     yes =

@@ -13,10 +13,10 @@ use lib.ListN.{length, length-map, length-drop, getD, take, drop, drop-of-length
 use lib.Seq.{drop-cons, drop-drop, getD-take, length-take-le}
 use borrow.Author.Tests.{leb-true, eqb-true}
 use Rattle.spread.specs.Accepted.{every, openOf, spreadsOf, stepsOf, soundSpread, soundPrompts, soundTable, sound}
-use Rattle.spread.specs.Book.{entries, deltaEntry}
-use Rattle.spread.specs.Cells.{stepOf}
-use Rattle.spread.specs.Steps.{Open, Taker, steps, formed, after, minus, left}
-use Rattle.spread.specs.Uses.{takenOf, soundFor, Stepped}
+use Rattle.spread.specs.code.Book.{byPlace, deltaEntry}
+use Rattle.spread.specs.Steps.{stepOf, Open, Taker, steps, formed, after, minus, left}
+use Rattle.spread.specs.Uses.{takenOf, soundFor}
+use Rattle.spread.specs.code.Step.{Stepped}
 use Rattle.spread.specs.declared.Delta.{Delta}
 use Rattle.spread.specs.declared.Prompts.{Prompts}
 use Rattle.spread.specs.declared.Spread.{Spread}
@@ -47,8 +47,8 @@ taken-length s ps =
     (length-map ps (λ p. p .unused) ∙ sym (length-map (left (s ∷ []) ps) (λ p. p .unused) ∙ left-length (s ∷ []) ps))
     ∙ length-map ps (λ p. p .unused)
 
-take-deltas : (zs : List ℤ) (n m : ℕ) → length zs ≡ n → n ≤ m → take n (deltasIn (entries m (deltaEntry zs))) ≡ zs
-unfolding entries
+take-deltas : (zs : List ℤ) (n m : ℕ) → length zs ≡ n → n ≤ m → take n (deltasIn (byPlace m (deltaEntry zs))) ≡ zs
+unfolding byPlace
 take-deltas [] zero m e h = refl
 take-deltas [] (suc n) m e h = absurd (omega arith)
 take-deltas (z ∷ zs) zero m e h = absurd (omega arith)
@@ -66,7 +66,7 @@ module _ (p : Prompts) (s : Spread) (second : Bool) (st : Step) (is : Stepped p 
   taken-is : take (length uses) (deltasIn (st .taken)) ≡ takenOf (stepOf second s) (openOf p)
   taken-is =
       ap₂ (λ (n : ℕ) (ds : List Delta). take n (deltasIn ds)) many
-      (is .taken ∙ ap (λ (b : Bool). entries 32 (deltaEntry (cond b (takenOf (stepOf second s) (openOf p)) []))) e)
+      (is .taken ∙ ap (λ (b : Bool). byPlace 32 (deltaEntry (cond b (takenOf (stepOf second s) (openOf p)) []))) e)
       ∙ take-deltas (takenOf (stepOf second s) (openOf p)) (p .count) 32
       (taken-length (stepOf second s) (openOf p) ∙ open-length p lt ln few-prompts) few-prompts
 

@@ -8,7 +8,7 @@ use lib.ListN.{length, getD, take}
 use lib.Signed.{_<ℤ_}
 use Rattle.spread.specs.Demand.{Feasible, FirstDifference}
 use Rattle.spread.specs.Steps.{Open, Taker, numbers}
-use Rattle.spread.specs.Uses.{joined, takings}
+use Rattle.spread.specs.Uses.{inOneList, takings}
 use Rattle.judging.specs.Judged.{Told, toldOf, judgedList}
 use Rattle.judging.specs.declared.Verdict.{Verdict}
 use Rattle.judging.specs.declared.Verdict.the-variants.{Right, MoreThanFormed, LessThanFormed, WrongUse, OtherCounts}
@@ -84,13 +84,13 @@ pub record SameCounts (ss : List (List Taker)) (ps : List Open) (sent : ℕ) (xs
 -- what is lent is told whole
 pub record ToldWhole (sent : ℕ) (xs us : List ℤ) : Type 0 where
   pub numbers : numbersTold (toldOf sent xs us) ≡ xs
-  pub uses : joined (usesTold (toldOf sent xs us)) ≡ us
+  pub uses : inOneList (usesTold (toldOf sent xs us)) ≡ us
 
 -- "the list is the one demand 3 picks, with the uses 01's steps make", as it is lent
 pub record TheList (ss : List (List Taker)) (ps : List Open) (ours : List ℕ) (sent : ℕ) (xs us : List ℤ) : Type 0 where
   pub prompts : sent ≡ length ps
   pub numbers : xs ≡ map pos ours
-  pub uses : us ≡ joined (takings ss ps)
+  pub uses : us ≡ inOneList (takings ss ps)
 
 -- There is a list that demand 3 picks, and no other. "Say yes exactly when the list is the one"; the counts are told to differ exactly when
 -- they do; and where they do not, each verdict is given exactly when it says the truth.

@@ -6,8 +6,7 @@ use mathlib.Core.List.{List, map}
 use mathlib.Core.Path.{_≡_}
 use lib.IntN.{ℤ}
 use Rattle.spread.specs.Accepted.{openOf, soundPrompts}
-use Rattle.spread.specs.Cells.{stepOf}
-use Rattle.spread.specs.Steps.{formed, after}
+use Rattle.spread.specs.Steps.{stepOf, formed, after}
 use Rattle.spread.specs.Uses.{takenOf}
 use Rattle.spread.specs.declared.Delta.{Delta}
 use Rattle.spread.specs.declared.Prompts.{Prompts}

@@ -13,12 +13,11 @@ use Rattle.record.specs.Layout.{Record}
 use Rattle.account.specs.Answers.{numberOf}
 use Rattle.account.specs.Checked.{checked}
 use Rattle.account.specs.Lawful.{Lawful}
-use Rattle.account.specs.Noon.{clear, joinedVerdict}
+use Rattle.account.specs.Noon.{joinedVerdict}
 use Rattle.account.specs.Parts.{spreadsOf, entriesOf}
 use Rattle.account.specs.Records.{records}
-use Rattle.account.specs.Standing.{accountOf}
-use Rattle.account.specs.declared.answers.Answer.{Answer}
-use Rattle.account.specs.declared.answers.Answer.the-variants.{Accepted, NoSuchQuestion, OtherCounts}
+use Rattle.account.specs.Joined.{accountOf}
+use Rattle.account.specs.declared.answers.Answer.the-variants.{NoSuchQuestion, OtherCounts}
 use Rattle.account.proofs.Alone.{lawful}
 use Rattle.account.proofs.NoonLaws.{pair-lawful}
 use Rattle.judging.specs.Claims as judging
@@ -29,17 +28,16 @@ use Rattle.judging.proofs.Claims.{claims}
 use Rattle.spread.specs.Demand.{soundSteps}
 use Rattle.spread.proofs.Soundness.{steps-sound}
 use Rattle.margin.specs.Books.{answered}
-use Rattle.margin.specs.Contract.{partsOf, stepsOf, tableSteps}
-use Rattle.margin.specs.Deltas.{interprompt, intercontract}
+use Rattle.formulas.specs.Contract.{partsOf, contractSteps, tableSteps}
+use Rattle.formulas.specs.Deltas.{interprompt, intercontract}
 use Rattle.margin.specs.Lists.{saidOf, judgedOver}
-use Rattle.margin.specs.Questions.{accepted}
 use Rattle.margin.specs.Uses.{stepsFor, opensFor}
 use Rattle.margin.specs.declared.lists.Judged.{Judged}
 use Rattle.margin.specs.declared.lists.Judged.the-variants.{Refused}
 use Rattle.margin.proofs.AcceptLaws.{none-within, contract-within, entries-within}
-use Rattle.margin.proofs.LineLaws.{spreads-sound}
+use Rattle.formulas.proofs.LineLaws.{spreads-sound}
 use Rattle.margin.proofs.QuestionLaws.{accepted-only}
-use Rattle.margin.proofs.TableLaws.{entry-accepted}
+use Rattle.formulas.proofs.TableLaws.{entry-accepted}
 use Rattle.lists.specs.Claims.{OfAccount, Claims, PairClaims}
 use Rattle.lists.specs.Lists.{judgedTo, ofPair, joinedJudged}
 use Rattle.lists.specs.declared.JudgedPair.{JudgedPair}
@@ -48,7 +46,7 @@ use Rattle.lists.specs.declared.JudgedPair.{JudgedPair}
 sound-steps : (account : List Record) → Lawful account → (question : ℕ) → soundSteps (stepsFor account question) ≡ true
 sound-steps account law question = go (eqb question 16)
   where
-    go : (t : Bool) → soundSteps (cond t (tableSteps (entriesOf account)) (stepsOf (partsOf account question))) ≡ true
+    go : (t : Bool) → soundSteps (cond t (tableSteps (entriesOf account)) (contractSteps (partsOf account question))) ≡ true
     go true =
         let w = entries-within account law in
         steps-sound (map intercontract (entriesOf account))

@@ -1,17 +1,19 @@
 -- A list of spreads put to a checked file or to a checked pair: the refusal, or what the account says of it.
 -- Assumes nothing.
 use Prim.Native.Nat.{ℕ}
-use mathlib.Core.Bool.{Bool, true, false, cond}
+use mathlib.Core.Bool.{Bool, true, cond}
 use mathlib.Core.List.{List, []}
-use mathlib.Core.Path.{_≡_, sym, ap, ap₂, _∙_}
+use mathlib.Core.Path.{_≡_, sym, ap, _∙_}
 use borrow.Author.Tests.{ne-eqb, eq-eqb}
 use lib.IntN.{ℤ}
 use Rattle.record.specs.Layout.{Record}
 use Rattle.account.specs.Answers.{numberOf}
 use Rattle.account.specs.Checked.{checked}
-use Rattle.account.specs.Noon.{clear, joinedVerdict, PairBy}
+use Rattle.account.specs.Noon.{clear, joinedVerdict}
+use Rattle.account.specs.code.Pair.{PairBy}
 use Rattle.account.specs.Records.{records}
-use Rattle.account.specs.Standing.{Stands, CheckedBy, accountOf}
+use Rattle.account.specs.code.Standing.{Stands, CheckedBy}
+use Rattle.account.specs.Joined.{accountOf}
 use Rattle.account.specs.declared.accounts.Checked.{Checked}
 use Rattle.account.specs.declared.answers.Answer.{Answer}
 use Rattle.account.specs.declared.answers.Answer.the-variants.{Accepted}
@@ -20,7 +22,7 @@ use Rattle.account.specs.declared.noon.Verdict.{Verdict}
 use Rattle.account.proofs.Alone.{passes}
 use Rattle.account.proofs.Places.{alone}
 use Rattle.margin.specs.Lists.{judgedOver}
-use Rattle.margin.specs.Questions.{accepted}
+use Rattle.margin.specs.Questions.{notRefused}
 use Rattle.margin.specs.declared.lists.Judged.{Judged}
 use Rattle.margin.specs.declared.lists.Judged.the-variants.{Refused}
 use Rattle.margin.proofs.QuestionLaws.{accepted-only}
@@ -46,7 +48,7 @@ module _ (question sent : ℕ) (xs us : List ℤ) where
       pub list-accepted : (v : Judged) → v ≡ judgedOver (accountOf file none) question sent xs us → v ≡ judgedTo file question sent xs us
       list-accepted v e =
           e ∙ ap (λ (a : List Record). judgedOver a question sent xs us) (alone file none nothing (passes file ok .recorded))
-          ∙ sym (ap (λ (a : Answer). of (accepted a)) ok)
+          ∙ sym (ap (λ (a : Answer). of (notRefused a)) ok)
 
   module _ (morning noon : List ℕ) (r : CheckedPair) (by : PairBy morning noon r) where
     abbrev ofTwo : Bool → JudgedPair

@@ -8,18 +8,17 @@ use mathlib.Core.List.{List}
 use lib.IntN.{ℤ}
 use lib.ListN.{length}
 use Rattle.record.specs.Layout.{Record}
-use Rattle.account.specs.Answers.{numberOf}
 use Rattle.account.specs.Checked.{checked}
 use Rattle.account.specs.Noon.{clear, joinedVerdict}
 use Rattle.account.specs.Records.{records}
-use Rattle.account.specs.Standing.{accountOf}
+use Rattle.account.specs.Joined.{accountOf}
 use Rattle.account.specs.declared.answers.Answer.the-variants.{NoSuchQuestion, OtherCounts}
 use Rattle.judging.specs.Claims as judging
 use Rattle.judging.specs.Claims.{Iff, SameCounts}
 use Rattle.judging.specs.Judged.{judgedList}
 use Rattle.margin.specs.Books.{answered}
-use Rattle.margin.specs.Lists.{saidOf, judgedOver}
-use Rattle.margin.specs.Questions.{accepted}
+use Rattle.margin.specs.Lists.{saidOf}
+use Rattle.margin.specs.Questions.{notRefused}
 use Rattle.margin.specs.Uses.{stepsFor, opensFor}
 use Rattle.margin.specs.declared.lists.Judged.{Judged}
 use Rattle.margin.specs.declared.lists.Judged.the-variants.{Refused}
@@ -37,8 +36,8 @@ pub record OfAccount (account : List Record) (question sent : ℕ) (xs us : List
 
 -- "it comes after the account's own faults and 11"
 pub record Claims (file : List ℕ) (question sent : ℕ) (xs us : List ℤ) : Type 0 where
-  pub refused : accepted (checked file) ≡ false → judgedTo file question sent xs us ≡ Refused (checked file)
-  pub asked : accepted (checked file) ≡ true → OfAccount (records file) question sent xs us (judgedTo file question sent xs us)
+  pub refused : notRefused (checked file) ≡ false → judgedTo file question sent xs us ≡ Refused (checked file)
+  pub asked : notRefused (checked file) ≡ true → OfAccount (records file) question sent xs us (judgedTo file question sent xs us)
 
 -- the same of a pair
 pub record PairClaims (morning noon : List ℕ) (question sent : ℕ) (xs us : List ℤ) : Type 0 where

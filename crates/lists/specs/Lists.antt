@@ -7,11 +7,11 @@ use lib.IntN.{ℤ}
 use Rattle.account.specs.Checked.{checked}
 use Rattle.account.specs.Noon.{clear, joinedVerdict}
 use Rattle.account.specs.Records.{records}
-use Rattle.account.specs.Standing.{accountOf}
+use Rattle.account.specs.Joined.{accountOf}
 use Rattle.account.specs.declared.answers.Answer.{Answer}
 use Rattle.account.specs.declared.answers.Answer.the-variants.{Accepted}
 use Rattle.margin.specs.Lists.{judgedOver}
-use Rattle.margin.specs.Questions.{accepted}
+use Rattle.margin.specs.Questions.{notRefused}
 use Rattle.margin.specs.declared.lists.Judged.{Judged}
 use Rattle.margin.specs.declared.lists.Judged.the-variants.{Refused, Right, MoreThanFormed, LessThanFormed, WrongUse}
 use Rattle.lists.specs.declared.JudgedPair.{JudgedPair}
@@ -19,7 +19,7 @@ use Rattle.lists.specs.declared.JudgedPair.{JudgedPair}
 -- "it comes after the account's own faults and 11"
 abbrev pub judgedTo : List ℕ → ℕ → ℕ → List ℤ → List ℤ → Judged
 judgedTo file question sent numbers uses =
-    cond (accepted (checked file)) (judgedOver (records file) question sent numbers uses) (Refused (checked file))
+    cond (notRefused (checked file)) (judgedOver (records file) question sent numbers uses) (Refused (checked file))
 
 -- the same of the joined account, saying which file a refusal is about
 abbrev pub ofPair : ℕ → Judged → JudgedPair

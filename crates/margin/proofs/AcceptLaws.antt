@@ -17,14 +17,15 @@ use Rattle.account.specs.Check.{alikeAmong, noLegOn, legsClash, withItself, sam
 use Rattle.account.specs.Accepted.{Each}
 use Rattle.account.specs.Lawful.{Lawful}
 use Rattle.account.specs.Parts.{onDay, contractsOf, promptsOf, rowsOf, spreadsOf, entriesOf, ratesOf}
-use Rattle.account.specs.Products.{RatesOf, Convertible}
+use Rattle.account.specs.code.Rates.{RatesOf}
+use Rattle.account.specs.Products.{Convertible}
 use Rattle.account.specs.declared.rates.Rates.{Rates}
 use Rattle.account.proofs.Orders.{every-at}
 use Rattle.account.proofs.ProductLaws.{factors-within, unrated-within}
 use Rattle.spread.specs.Accepted.{soundLeg, soundSpread}
-use Rattle.margin.specs.Deltas.{legOf, interprompt}
-use Rattle.margin.specs.Position.{RowFit, RowRated, RatedBy}
-use Rattle.margin.specs.Within.{SpreadFit, ContractFit, EntriesFit}
+use Rattle.formulas.specs.Deltas.{legOf, interprompt}
+use Rattle.formulas.specs.code.Position.{RowFit, RowRated, RatedBy}
+use Rattle.formulas.specs.code.Within.{SpreadFit, ContractFit, EntriesFit}
 
 -- a leg within its ranges is one that the spread steps accept
 side-sound : (s : ℕ) → 1 ≤ s → s ≤ 2 → eqb s 1 || eqb s 2 ≡ true

@@ -15,33 +15,33 @@ use Rattle.record.specs.Layout.{Record, contract, unit, percent}
 use Rattle.account.specs.Parts.{contractsOf}
 use Rattle.account.specs.Records.{records}
 use Rattle.account.specs.Lawful.{Lawful}
-use Rattle.account.specs.Notes.{entryPart}
-use Rattle.account.specs.Standing.{PartOf}
-use Rattle.spread.specs.Book.{entries, deltaEntry}
+use Rattle.account.specs.PartNumbers.{entryPart}
+use Rattle.account.specs.code.Standing.{PartOf}
+use Rattle.spread.specs.code.Book.{byPlace, deltaEntry}
 use Rattle.spread.specs.Steps.{Open, steps, numbers, usedOf, unusedOf}
 use Rattle.spread.specs.declared.Spreads.{Spreads}
 use Rattle.spread.specs.declared.book.Book.{Book}
 use Rattle.margin.specs.declared.over.Lines.{Lines}
-use Rattle.margin.specs.declared.amount.Amount.{Amount}
-use Rattle.margin.specs.declared.line.Line.{Line}
-use Rattle.margin.specs.Bounds.{mostDelta, mostFormed}
-use Rattle.margin.specs.Contract.{Contract, contracts, partsIn, asTier, contractNet, creditOf}
-use Rattle.margin.specs.Credit.{credit, creditsBy, entryUse, unusedBy, twicePriceRisk}
-use Rattle.margin.specs.Deltas.{intercontract}
+use Rattle.formulas.specs.declared.amount.Amount.{Amount}
+use Rattle.formulas.specs.declared.line.Line.{Line}
+use Rattle.formulas.specs.Bounds.{mostDelta, mostFormed}
+use Rattle.formulas.specs.Contract.{Contract, contracts, partsIn, asTier, contractNet, creditOf}
+use Rattle.formulas.specs.Credit.{credit, creditsBy, entryUse, unusedBy, twicePriceRisk}
+use Rattle.formulas.specs.Deltas.{intercontract}
 use Rattle.margin.specs.Figures.{figures, figuresOver}
-use Rattle.margin.specs.Lines.{noLine, figuresFrom}
-use Rattle.margin.specs.Numbers.{LinesWithin}
-use Rattle.margin.specs.Promised.{BookOf, LineOf}
-use Rattle.margin.specs.Lined.{LinesOf}
-use Rattle.margin.specs.Sums.{interleaved, spreadsAt}
-use Rattle.margin.specs.Table.{tierOf, TableRoom, CreditsRoom, CreditsOf, earns, tableFirsts, tableSeconds}
+use Rattle.formulas.specs.code.Lines.{noLine, figuresFrom}
+use Rattle.margin.specs.code.Numbers.{LinesWithin}
+use Rattle.formulas.specs.code.Promised.{BookOf, LineOf}
+use Rattle.margin.specs.code.Lined.{LinesOf}
+use Rattle.formulas.specs.code.Sums.{interleaved, spreadsAt}
+use Rattle.formulas.specs.code.Table.{tierOf, TableRoom, CreditsRoom, CreditsOf, earns, tableFirsts, tableSeconds}
 use Rattle.margin.proofs.AcceptLaws.{entries-within, numbers-rise}
-use Rattle.margin.proofs.BookLaws.{first-at, second-at, over-arrays}
-use Rattle.margin.proofs.CreditLaws.{credits-by}
+use Rattle.formulas.proofs.BookLaws.{first-at, second-at, over-arrays}
+use Rattle.formulas.proofs.CreditLaws.{credits-by}
 use Rattle.margin.proofs.FigureLaws.{Lined, Apart, Credited, tiers-are, tiers-sound, tier-sizes, unused-is, entry-use-within, figures-are}
-use Rattle.margin.proofs.LineLaws.{numbers-length}
+use Rattle.formulas.proofs.LineLaws.{numbers-length}
 use Rattle.margin.proofs.StandLaws.{entries-part, entries-fit}
-use Rattle.margin.proofs.StepBounds.{number-within}
+use Rattle.formulas.proofs.StepBounds.{number-within}
 
 -- ---- lines, filled place by place
 
@@ -147,8 +147,8 @@ module _ (account : List Record) (law : Lawful account) (all : Lines) (is : Line
         accepted = true;
         first = tableFirsts n (all .line) (records part);
         second = tableSeconds n (all .line) (records part);
-        used = entries 32 (deltaEntry (usedOf (steps (map intercontract (records part))) (map tierOf ls)));
-        unused = entries 32 (deltaEntry (unusedOf (steps (map intercontract (records part))) (map tierOf ls)));
+        used = byPlace 32 (deltaEntry (usedOf (steps (map intercontract (records part))) (map tierOf ls)));
+        unused = byPlace 32 (deltaEntry (unusedOf (steps (map intercontract (records part))) (map tierOf ls)));
       }
 
   pub its-book : BookOf (steps (map intercontract (records part))) (map tierOf ls) its

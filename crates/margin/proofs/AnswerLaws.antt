@@ -1,6 +1,6 @@
 -- A question's book and uses go by its steps and by what they go over: the numbers that are made of them answer it.
 -- Assumes nothing.
-use Prim.Native.Nat.{ℕ, zero, suc, _+_, _*_, _≤_, _<_}
+use Prim.Native.Nat.{ℕ, _+_, _*_, _≤_}
 use native.Mathlib.Nat.{le-trans, mul-le-mul-right}
 use native.Mathlib.Omega.{arith}
 use mathlib.Core.Path.{_≡_, refl, sym, ap, ap₂, _∙_}
@@ -16,11 +16,10 @@ use Rattle.account.specs.Lawful.{Lawful}
 use Rattle.account.specs.Parts.{promptsOf, rowsOf, entriesOf}
 use Rattle.spread.specs.Accepted as given
 use Rattle.spread.specs.Accepted.{openOf, spreadsOf, soundPrompts, soundTable, sound}
-use Rattle.spread.specs.Book.{Booked}
+use Rattle.spread.specs.code.Book.{Booked}
 use Rattle.spread.specs.Steps.{Open, Taker, steps, numbers, usedOf, unusedOf}
 use Rattle.spread.specs.Touches.{touches}
 use Rattle.spread.specs.Uses.{usesOf}
-use Rattle.spread.specs.declared.Delta.{Delta}
 use Rattle.spread.specs.declared.Prompts.{Prompts}
 use Rattle.spread.specs.declared.Spread.{Spread}
 use Rattle.spread.specs.declared.Table.{Table}
@@ -32,22 +31,23 @@ use Rattle.spread.proofs.Gathering.{few, all-sound}
 use Rattle.spread.proofs.Touching.{touches-few}
 use Rattle.margin.specs.declared.uses.Asking.{Asking}
 use Rattle.margin.specs.Books.{threes, bookBy, contractBook, tableBook, answered, book}
-use Rattle.margin.specs.Bounds.{mostDelta}
-use Rattle.margin.specs.Contract.{Contract, contracts, partsOf, asTier, contractNet, stepsOf, opensOf, tableSteps}
-use Rattle.margin.specs.Deltas.{opens, netDeltas}
-use Rattle.margin.specs.Numbers.{SpreadsSigned}
-use Rattle.margin.specs.Promised.{BookOf}
-use Rattle.margin.specs.Questions.{AskedBy}
-use Rattle.margin.specs.Sums.{deltasIn}
+use Rattle.formulas.specs.Bounds.{mostDelta}
+use Rattle.formulas.specs.Contract.{Contract, contracts, partsOf, asTier, contractNet, contractSteps, opensOf, tableSteps}
+use Rattle.formulas.specs.Deltas.{opens, netDeltas}
+use Rattle.margin.specs.code.Numbers.{SpreadsSigned}
+use Rattle.formulas.specs.code.Promised.{BookOf}
+use Rattle.margin.specs.code.Asked.{AskedBy}
+use Rattle.formulas.specs.code.Sums.{deltasIn}
 use Rattle.margin.specs.Uses.{uses, stepsFor, opensFor}
-use Rattle.margin.proofs.AskedLaws.{contract-asked, table-asked, threes-length}
-use Rattle.margin.proofs.BookLaws.{first-at, second-at, entries-length, book-accepted, touches-accepted, book-listed}
-use Rattle.margin.proofs.LineLaws.{steps-length, used-length, unused-length}
+use Rattle.margin.proofs.AskedLaws.{contract-asked, table-asked, threes-length, book-listed}
+use Rattle.formulas.proofs.BookLaws.{first-at, second-at, entries-length, book-accepted, touches-accepted}
+use Rattle.formulas.proofs.LineLaws.{steps-length, used-length, unused-length}
 use Rattle.margin.proofs.NumberLaws.{threesOn, twosOn, twos-length}
 use Rattle.margin.proofs.NumberLaws as written
-use Rattle.margin.proofs.StepBounds.{number-within}
+use Rattle.formulas.proofs.StepBounds.{number-within}
 use Rattle.margin.proofs.TierLaws.{sound-sizes}
 use Rattle.margin.proofs.UsesLaws.{few-in-table, uses-by-steps}
+use Rattle.formulas.proofs.UnspreadLaws.{unused-given}
 
 -- ---- what is unused at first is the net delta
 
@@ -60,13 +60,6 @@ unused-nets (r ∷ rs) (n ∷ ns) e = ap (λ (xs : List ℤ). n ∷ xs) (unused-
 unused-tiers : (ks : List Contract) → map (λ p. p .unused) (map asTier ks) ≡ map contractNet ks
 unused-tiers [] = refl
 unused-tiers (k ∷ ks) = ap (λ (xs : List ℤ). contractNet k ∷ xs) (unused-tiers ks)
-
-pub unused-given : (n : ℕ) (ts : List ℕ) (ds : List Delta) → length ds ≤ length ts → map (λ p. p .unused) (take n (given.opens ts ds)) ≡ take n (deltasIn ds)
-unused-given zero ts ds h = refl
-unused-given (suc n) [] [] h = refl
-unused-given (suc n) [] (d ∷ ds) h = absurd (omega arith)
-unused-given (suc n) (t ∷ ts) [] h = refl
-unused-given (suc n) (t ∷ ts) (d ∷ ds) h = ap (λ (xs : List ℤ). d .0 ∷ xs) (unused-given n ts ds (omega arith))
 
 -- ---- the book by its steps
 
@@ -81,7 +74,7 @@ book-by-steps account law question a = go (eqb question 16) refl
     ns = netDeltas ps (rowsOf question account)
 
     go : (t : Bool) → eqb question 16 ≡ t → book account question ≡ bookBy
-        (cond t (tableSteps (entriesOf account)) (stepsOf (partsOf account question)))
+        (cond t (tableSteps (entriesOf account)) (contractSteps (partsOf account question)))
         (cond t (map asTier (contracts account)) (opensOf (partsOf account question)))
     go true e =
         let ss = tableSteps (entriesOf account) in
@@ -90,7 +83,7 @@ book-by-steps account law question a = go (eqb question 16) refl
         ∙ ap (λ (xs : List ℤ). (threes xs (usedOf ss os) (unusedOf ss os) ++ map pos (numbers ss os)) ++ (pos (touches ss os) ∷ []))
         (sym (unused-tiers (contracts account)))
     go false e =
-        let ss = stepsOf (partsOf account question) in
+        let ss = contractSteps (partsOf account question) in
         let os = opensOf (partsOf account question) in
         contract-asked account law contractBook tableBook (λ own. refl) question a (eqb-false question 16 e)
         ∙ ap (λ (xs : List ℤ). (threes xs (usedOf ss os) (unusedOf ss os) ++ map pos (numbers ss os)) ++ (pos (touches ss os) ∷ []))

@@ -4,27 +4,34 @@ use Prim.Native.Nat.{ℕ, _+_, _*_, _≤_, _<_}
 use native.Mathlib.Omega.{arith}
 use mathlib.Core.Path.{_≡_, refl, sym, ap, ap₂, _∙_}
 use mathlib.Core.Bool.{Bool, true, false, cond, not, _&&_, _||_, false≢true, Bool·not-not}
-use mathlib.Core.List.{List, [], _∷_, map, append-nil}
+use mathlib.Core.List.{List, [], _∷_, map, append-nil, _++_}
 use borrow.Author.Tests.{eqb-true, eqb-false, eq-eqb, ne-eqb, ltb-true, ltb-false}
 use lib.Dec.{eqb, ltb}
 use lib.IntN.{ℤ, pos}
-use lib.ListN.{length, getD, length-append, length-map}
+use lib.ListN.{length, getD, length-append, length-map, take}
 use Rattle.exact.specs.Lists.{consIf, keep, any, count, oneIf}
 use Rattle.record.specs.Layout.{Record, contract}
 use Rattle.record.specs.Within as ranges
 use Rattle.account.specs.Accepted.{Each}
 use Rattle.account.specs.Lawful.{Lawful}
-use Rattle.account.specs.Notes.{inPart}
+use Rattle.account.specs.PartNumbers.{inPart, parts}
 use Rattle.account.specs.Parts.{ofKind, ofContract, contractsOf, entriesOf}
 use Rattle.account.proofs.Days.{none-kept}
 use Rattle.account.proofs.Lists.{any-keep, none-counted}
 use Rattle.account.proofs.Noted.{part-is}
-use Rattle.spread.specs.Steps.{numbers, usedOf, unusedOf}
-use Rattle.margin.specs.Books.{threes, contractParts, tableParts, contractBook, tableBook, ofEach, ofQuestion, asks, answered, askedBy, book}
-use Rattle.margin.specs.Contract.{Contract, contractFrom, contracts, partsIn, partsOf, contractNet, asTier, stepsOf, opensOf, contractTouches}
-use Rattle.margin.specs.Contract.{tableSteps, tableTouches}
-use Rattle.margin.specs.Deltas.{interprompt, intercontract, netDeltas}
-use Rattle.margin.proofs.LineLaws.{numbers-length, used-length, unused-length, opens-length}
+use Rattle.spread.specs.Steps.{numbers, usedOf, unusedOf, Open, Taker}
+use Rattle.margin.specs.Books.{threes, contractParts, tableParts, contractBook, tableBook, ofEach, ofQuestion, asks, answered, book}
+use Rattle.margin.specs.code.Asked.{askedBy}
+use Rattle.formulas.specs.Contract.{Contract, contractFrom, contracts, partsIn, partsOf, contractNet, asTier, contractSteps, opensOf, contractTouches}
+use Rattle.formulas.specs.Contract.{tableSteps, tableTouches}
+use Rattle.formulas.specs.Deltas.{interprompt, intercontract, netDeltas}
+use Rattle.formulas.proofs.LineLaws.{numbers-length, used-length, unused-length, opens-length}
+use Rattle.spread.specs.declared.book.Book.{Book}
+use Rattle.spread.specs.declared.Spreads.{Spreads}
+use Rattle.spread.specs.declared.Delta.{Delta}
+use Rattle.formulas.specs.code.Promised.{BookOf}
+use Rattle.formulas.specs.code.Sums.{interleaved, deltasIn}
+use Rattle.formulas.proofs.BookLaws.{take-deltas, take-numbers}
 
 -- ---- how many numbers a book has
 
@@ -39,13 +46,13 @@ parts-length : (rates : List Record) (own : Record) (prompts rows spreads : List
 parts-length rates own prompts rows spreads =
     let k = contractFrom rates own prompts rows spreads in
     let o : length (opensOf k) ≡ length prompts = opens-length prompts (netDeltas prompts rows) (length-map prompts _) in
-    let t = threes-length (netDeltas prompts rows) (usedOf (stepsOf k) (opensOf k)) (unusedOf (stepsOf k) (opensOf k))
-    (used-length (stepsOf k) (opensOf k) ∙ o ∙ sym (length-map prompts _)) (unused-length (stepsOf k) (opensOf k) ∙ o ∙ sym (length-map prompts _))
+    let t = threes-length (netDeltas prompts rows) (usedOf (contractSteps k) (opensOf k)) (unusedOf (contractSteps k) (opensOf k))
+    (used-length (contractSteps k) (opensOf k) ∙ o ∙ sym (length-map prompts _)) (unused-length (contractSteps k) (opensOf k) ∙ o ∙ sym (length-map prompts _))
     in
-    length-append (threes (netDeltas prompts rows) (usedOf (stepsOf k) (opensOf k)) (unusedOf (stepsOf k) (opensOf k)))
-    (map pos (numbers (stepsOf k) (opensOf k)))
+    length-append (threes (netDeltas prompts rows) (usedOf (contractSteps k) (opensOf k)) (unusedOf (contractSteps k) (opensOf k)))
+    (map pos (numbers (contractSteps k) (opensOf k)))
     ∙ ap₂ _+_ (t ∙ ap (λ (x : ℕ). 3 * x) (length-map prompts _))
-    (length-map (numbers (stepsOf k) (opensOf k)) pos ∙ numbers-length interprompt spreads (opensOf k))
+    (length-map (numbers (contractSteps k) (opensOf k)) pos ∙ numbers-length interprompt spreads (opensOf k))
 
 table-parts-length : (entries : List Record) (ks : List Contract) → length (tableParts entries ks) ≡ 3 * length ks + 2 * length entries
 table-parts-length entries ks =
@@ -98,7 +105,7 @@ large q [] e h = refl
 large q (r ∷ rs) e h = ap₂ _||_ (ne-eqb (contract r) q (λ x. let w = e .0 .contracts in omega arith)) (large q rs (e .1) h)
 
 -- by how many records each part has it is known which questions are answered
-module _ (account : List Record) (ok : Lawful account) (counts : List ℕ) (are : (v : ℕ) → v < 82 → getD counts v 0 ≡ count (inPart v) account) where
+module _ (account : List Record) (ok : Lawful account) (counts : List ℕ) (are : (v : ℕ) → v < parts → getD counts v 0 ≡ count (inPart v) account) where
   pub asked-is : (q : ℕ) → askedBy counts q ≡ answered account q
   asked-is q = go (eqb q 16) refl (ltb q 16) refl
     where
@@ -158,3 +165,17 @@ module _ (all : List Record) (ok : Lawful all) where
 
   pub table-book : (q : ℕ) → q ≡ 16 → book all q ≡ tableBook (entriesOf all) (contracts all)
   table-book q = table-asked contractBook tableBook (λ own. refl) q
+
+-- the numbers of a book: each prompt's three, then each spread's two
+pub book-listed : (ss : List (List Taker)) (ps : List Open) (b : Book) (nets : List ℤ) (n m : ℕ) (written : List ℤ) → BookOf ss ps b → length ps ≡ n
+    → n ≤ 32 → length (numbers ss ps) ≡ 2 * m → m ≤ 32
+    → length (usedOf ss ps) ≡ n → length (unusedOf ss ps) ≡ n
+    → written ≡ threes nets (take n (deltasIn (b .used))) (take n (deltasIn (b .unused))) ++ map pos (interleaved (take m (b .first)) (take m (b .second)))
+    → written ≡ threes nets (usedOf ss ps) (unusedOf ss ps) ++ map pos (numbers ss ps)
+book-listed ss ps b nets n m written is e hn en hm eu el w =
+    w
+    ∙ ap₂ _++_
+    (ap₂ (threes nets) (ap (λ (ds : List Delta). take n (deltasIn ds)) (is .used-is) ∙ take-deltas (usedOf ss ps) n 32 eu hn)
+    (ap (λ (ds : List Delta). take n (deltasIn ds)) (is .unused-is) ∙ take-deltas (unusedOf ss ps) n 32 el hn))
+    (ap (map pos) (ap₂ (λ (xs ys : List Spreads). interleaved (take m xs) (take m ys)) (is .first-is) (is .second-is)
+    ∙ take-numbers (numbers ss ps) m 32 en hm))

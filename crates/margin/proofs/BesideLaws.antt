@@ -10,37 +10,39 @@ use borrow.Author.Tests.{eq-eqb, ne-eqb}
 use lib.IntN.{ℤ, natAbs}
 use lib.ListN.{length, getD}
 use lib.Dec.{eqb}
+use Rattle.record.specs.Bytes.{recordBytes}
 use Rattle.exact.specs.Lists.{any, consIf, keep, sum, sumℤ}
 use Rattle.exact.proofs.Lists.{any-at}
 use Rattle.record.specs.Layout.{Record, contract, unit, mostUnit}
 use Rattle.record.specs.Within as ranges
 use Rattle.account.specs.Accepted.{Each}
 use Rattle.account.specs.Lawful.{Lawful}
-use Rattle.account.specs.Notes.{part, entryPart}
+use Rattle.account.specs.PartNumbers.{part, entryPart}
 use Rattle.account.specs.Parts.{ofKind, contractsOf, promptsOf, rowsOf, spreadsOf, entriesOf, ratesOf}
-use Rattle.account.specs.Products.{RatesOf}
+use Rattle.account.specs.code.Rates.{RatesOf}
 use Rattle.account.specs.Records.{records, recordCount}
-use Rattle.account.specs.Standing.{PartOf, Stands, accountOf}
+use Rattle.account.specs.code.Standing.{PartOf, Stands}
+use Rattle.account.specs.Joined.{accountOf}
 use Rattle.account.specs.declared.accounts.Account.{Account}
 use Rattle.account.specs.declared.rates.Rates.{Rates}
-use Rattle.margin.specs.declared.line.Line.{Line}
-use Rattle.margin.specs.declared.rows.Position.{Position}
+use Rattle.formulas.specs.declared.line.Line.{Line}
+use Rattle.formulas.specs.declared.rows.Position.{Position}
 use Rattle.margin.specs.declared.uses.Asking.{Asking}
-use Rattle.margin.specs.Beside.{ownOf, unitOf, Besides}
+use Rattle.margin.specs.code.Beside.{ownOf, unitOf, Besides}
 use Rattle.margin.specs.Books.{asks, answered}
-use Rattle.margin.specs.Bounds.{mostDelta}
-use Rattle.margin.specs.Contract.{Contract, contracts, contractFrom, partsIn, partsOf, asTier, stepsOf, opensOf, tableSteps}
-use Rattle.margin.specs.Lined.{PositionAt, TierIs}
-use Rattle.margin.specs.Position.{PositionOf, Bounded, RowsFit, RatedBy}
-use Rattle.margin.specs.Positions.{ContractIn}
-use Rattle.margin.specs.Promised.{LineOf, PositionFit, BookFit, contractWith}
-use Rattle.margin.specs.Questions.{AskedBy}
-use Rattle.margin.specs.Sums.{deltasIn}
-use Rattle.margin.specs.Uses.{Asks}
+use Rattle.formulas.specs.Bounds.{mostDelta}
+use Rattle.formulas.specs.Contract.{Contract, contracts, contractFrom, partsIn, partsOf, asTier, contractSteps, opensOf, tableSteps}
+use Rattle.margin.specs.code.Lined.{PositionAt, TierIs}
+use Rattle.formulas.specs.code.Position.{PositionOf, Bounded, RowsFit, RatedBy}
+use Rattle.margin.specs.code.Positions.{ContractIn}
+use Rattle.formulas.specs.code.Promised.{LineOf, PositionFit, BookFit, contractWith}
+use Rattle.margin.specs.code.Asked.{AskedBy}
+use Rattle.formulas.specs.code.Sums.{deltasIn}
+use Rattle.margin.specs.code.Asking.{Asks}
 use Rattle.margin.proofs.AcceptLaws.{none-within, contract-within, rows-rated}
 use Rattle.margin.proofs.AskedLaws.{count-keep}
-use Rattle.margin.proofs.StandLaws.{kept-at, contract-with, of-contract, own-by, rows-room, prompts-few, rows-rated-by}
-use Rattle.margin.proofs.StandLaws.{position-is, parts-read, parts-told}
+use Rattle.margin.proofs.StandLaws.{kept-at, of-contract, own-by, rows-room, prompts-few, rows-rated-by, position-is, parts-read, parts-told}
+use Rattle.formulas.proofs.ContractLaws.{contract-with}
 use Rattle.margin.proofs.TierLaws as tiers
 
 -- ---- the own record of a contract
@@ -72,7 +74,7 @@ alone morning noon a st = record { lawful = st .lawful; contracts = refl; prompt
 module _ (standing whole : List Record) (b : Besides standing whole) where
   pub entries-beside : (bytes : List ℕ) → PartOf standing entryPart bytes → PartOf whole entryPart bytes
   entries-beside bytes ep =
-      record { are = ep .are ∙ sym (b .entries); whole = ep .whole ∙ ap (λ (rs : List Record). length rs * 96) (sym (b .entries)) }
+      record { are = ep .are ∙ sym (b .entries); whole = ep .whole ∙ ap (λ (rs : List Record). length rs * recordBytes) (sym (b .entries)) }
 
   -- the same questions are answered
   pub answered-beside : (q : ℕ) → answered whole q ≡ answered standing q
@@ -115,10 +117,10 @@ module _ (standing whole : List Record) (b : Besides standing whole) where
 
     -- what is asked about
     pub asks-beside : (a : Asking)
-        → Asks (stepsOf (contractWith [] (promptsOf c standing) (spreadsOf c standing) p))
+        → Asks (contractSteps (contractWith [] (promptsOf c standing) (spreadsOf c standing) p))
         (opensOf (contractWith [] (promptsOf c standing) (spreadsOf c standing) p)) a
-        → Asks (stepsOf (partsOf whole c)) (opensOf (partsOf whole c)) a
-    asks-beside a = subst (λ (x : Contract). Asks (stepsOf x) (opensOf x) a) contract-is
+        → Asks (contractSteps (partsOf whole c)) (opensOf (partsOf whole c)) a
+    asks-beside a = subst (λ (x : Contract). Asks (contractSteps x) (opensOf x) a) contract-is
 
     -- the i-th contract
     module _ (i : ℕ) (listed : i < length (contractsOf whole)) (number : c ≡ contract (getD (contractsOf whole) i [])) where
@@ -143,7 +145,7 @@ module _ (standing whole : List Record) (b : Besides standing whole) where
 
 pub asked-by : (whole : List Record) (records c : ℕ) (prompts spreads : List Record) (p : Position) (a : Asking) → c ≤ 15
     → ContractIn whole records c prompts spreads p
-    → Asks (stepsOf (contractWith [] prompts spreads p)) (opensOf (contractWith [] prompts spreads p)) a → AskedBy whole c records a
+    → Asks (contractSteps (contractWith [] prompts spreads p)) (opensOf (contractWith [] prompts spreads p)) a → AskedBy whole c records a
 asked-by whole records c prompts spreads p a few is x =
     let itself : Besides whole whole = record {
       lawful = is .lawful;
@@ -154,14 +156,14 @@ asked-by whole records c prompts spreads p a few is x =
       rates = refl;
     }
     in
-    let about : List Record → List Record → Type 0 = λ ps ss. Asks (stepsOf (contractWith [] ps ss p)) (opensOf (contractWith [] ps ss p)) a in
+    let about : List Record → List Record → Type 0 = λ ps ss. Asks (contractSteps (contractWith [] ps ss p)) (opensOf (contractWith [] ps ss p)) a in
     record {
       lawful = is .lawful;
       asked-is = is .asked-is;
       records-are = is .records-are;
       asks =
           subst
-          (λ (b : Bool). Asks (cond b (tableSteps (entriesOf whole)) (stepsOf (partsOf whole c)))
+          (λ (b : Bool). Asks (cond b (tableSteps (entriesOf whole)) (contractSteps (partsOf whole c)))
           (cond b (map asTier (contracts whole)) (opensOf (partsOf whole c))) a)
           (sym (ne-eqb c 16 (λ e. omega (arith, few, e))))
           (asks-beside whole whole itself c p (is .at) a

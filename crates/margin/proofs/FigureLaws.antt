@@ -1,6 +1,6 @@
 -- Lines of the figures against the contracts of an account: the table of their tiers, what entries use, credits and figures.
 -- Assumes nothing.
-use Prim.Native.Nat.{ℕ, zero, suc, _+_, _-_, _*_, _≤_, _<_, zero-le, suc-le-suc}
+use Prim.Native.Nat.{ℕ, zero, suc, _+_, _*_, _≤_, _<_, zero-le, suc-le-suc}
 use native.Mathlib.Nat.{le-trans, le-of-suc-le-suc, not-suc-le-zero}
 use native.Mathlib.Omega.{arith}
 use mathlib.Core.Path.{_≡_, refl, sym, ap, ap₂, _∙_, subst, subst⁻¹}
@@ -14,20 +14,20 @@ use Rattle.record.specs.Layout.{Record, contract}
 use Rattle.spread.specs.Accepted.{every, soundPrompt}
 use Rattle.spread.specs.Steps.{Market, long, short, Open, onSide, pool, steps, numbers}
 use Rattle.spread.proofs.Both.{and-both}
-use Rattle.margin.specs.declared.amount.Amount.{Amount}
-use Rattle.margin.specs.declared.line.Line.{Line}
-use Rattle.margin.specs.Bounds.{mostDelta}
-use Rattle.margin.specs.Contract.{Contract, asTier, creditOf, marginOf}
-use Rattle.margin.specs.Credit.{unusedBy, afterEntry, entryUse}
-use Rattle.margin.specs.Deltas.{intercontract}
+use Rattle.formulas.specs.declared.amount.Amount.{Amount}
+use Rattle.formulas.specs.declared.line.Line.{Line}
+use Rattle.formulas.specs.Bounds.{mostDelta}
+use Rattle.formulas.specs.Contract.{Contract, asTier, creditOf, marginOf}
+use Rattle.formulas.specs.Credit.{unusedBy, afterEntry, entryUse}
+use Rattle.formulas.specs.Deltas.{intercontract}
 use Rattle.margin.specs.Figures.{eight, eights, totalMargin, figuresOver}
-use Rattle.margin.specs.Lines.{marginWith, eightOf, eightsFrom, totalFrom, figuresFrom}
-use Rattle.margin.specs.Margin.{risk, margin}
-use Rattle.margin.specs.Promised.{LineOf}
-use Rattle.margin.specs.Table.{tierOf}
-use Rattle.margin.specs.Within.{EntriesFit}
-use Rattle.margin.proofs.CreditLaws.{used-in, used-within, left-within, rest-within}
-use Rattle.margin.proofs.StepBounds.{sizes}
+use Rattle.formulas.specs.code.Lines.{marginWith, eightOf, eightsFrom, totalFrom, figuresFrom}
+use Rattle.formulas.specs.Margin.{risk, margin}
+use Rattle.formulas.specs.code.Promised.{LineOf}
+use Rattle.formulas.specs.code.Table.{tierOf}
+use Rattle.formulas.specs.code.Within.{EntriesFit}
+use Rattle.formulas.proofs.CreditLaws.{used-in, used-within, left-within, rest-within}
+use Rattle.formulas.proofs.StepBounds.{sizes}
 
 -- each contract has its line
 abbrev pub Lined : List Contract → List Line → Type 0

@@ -19,7 +19,7 @@ use Rattle.account.specs.declared.answers.Answer.{Answer}
 use Rattle.account.specs.declared.answers.Answer.the-variants.{Accepted, TooFewNumbers}
 use Rattle.margin.specs.Books.{asks, answered}
 use Rattle.margin.specs.Places.{questions, atPlace, afterEach, lentPlace, lentEach, questionOf, widthOf, allOver, afterAllOver}
-use Rattle.margin.specs.Questions.{accepted, afterwards, numbersFor, afterOver}
+use Rattle.margin.specs.Questions.{notRefused, afterwards, numbersFor, afterOver}
 use Rattle.margin.proofs.AcceptLaws.{numbers-rise}
 use Rattle.margin.proofs.PlaceLaws.{answers-of}
 use Rattle.margin.proofs.PositionsLaws.{found}
@@ -167,6 +167,6 @@ module _ (account : List Record) (paid : Bool) (lent left left′ : List ℤ) (s
   )
     where
       go : (t : Bool) → left ≡ cond t lent (afterEach wide each 16 lent) → left′ ≡ cond t left (table left)
-          → left′ ≡ cond (accepted (cond t (TooFewNumbers (length account)) Accepted)) (afterEach wide each questions lent) lent
+          → left′ ≡ cond (notRefused (cond t (TooFewNumbers (length account)) Accepted)) (afterEach wide each questions lent) lent
       go true p q = q ∙ p
       go false p q = q ∙ ap table p

@@ -1,23 +1,4 @@
 pub mod Reckoned
-pub mod PairLaws
-pub mod AmountLaws
-pub mod Calls
-pub mod RiskLaws
-pub mod RecordLaws
-pub mod CreditLaws
-pub mod SumLaws
-pub mod SignedCalls
-pub mod AddedLaws
-pub mod PlacedLaws
-pub mod PositionLaws
-pub mod PositionBounds
-pub mod NetLaws
-pub mod StepBounds
-pub mod BookLaws
-pub mod LineLaws
-pub mod ContractLaws
-pub mod TableLaws
-pub mod WalkLaws
 pub mod NumberLaws
 pub mod FigureLaws
 pub mod AcceptLaws
@@ -26,7 +7,6 @@ pub mod AccountLaws
 pub mod AskedLaws
 pub mod QuestionLaws
 pub mod PlaceLaws
-pub mod UnspreadLaws
 pub mod TierLaws
 pub mod UsesLaws
 pub mod ListLaws
@@ -38,4 +18,3 @@ pub mod AnswerLaws
 pub mod BesideLaws
 pub mod PositionsLaws
 pub mod LentLaws
-pub mod WithdrawLaws

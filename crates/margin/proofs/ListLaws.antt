@@ -9,7 +9,6 @@ use lib.ListN.{length}
 use Rattle.record.specs.Layout.{Record}
 use Rattle.account.specs.declared.answers.Answer.the-variants.{NoSuchQuestion}
 use Rattle.judging.specs.Judged.{judgedList, judged}
-use Rattle.judging.specs.declared.Verdict.{Verdict}
 use Rattle.judging.specs.declared.Verdict.the-variants.{OtherCounts}
 use Rattle.spread.specs.Accepted as given
 use Rattle.spread.specs.Accepted.{openOf}
@@ -19,7 +18,8 @@ use Rattle.margin.specs.declared.lists.Judged.the-variants.{Refused}
 use Rattle.margin.specs.declared.uses.Asking.{Asking}
 use Rattle.margin.specs.Books.{answered}
 use Rattle.margin.specs.Lists.{saidOf, judgedOver}
-use Rattle.margin.specs.Uses.{stepsFor, opensFor, Asks}
+use Rattle.margin.specs.Uses.{stepsFor, opensFor}
+use Rattle.margin.specs.code.Asking.{Asks}
 
 module _ (account : List Record) (question sent : ℕ) (xs us : List ℤ) where
   abbrev of : Bool → Judged

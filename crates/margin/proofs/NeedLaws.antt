@@ -8,25 +8,28 @@ use mathlib.Core.List.{List, [], map}
 use borrow.Author.Tests.{eqb-true, eqb-false, eq-eqb, ne-eqb}
 use lib.Dec.{eqb}
 use lib.ListN.{length, getD, length-map}
+use Rattle.account.specs.PartNumbers.{entryPart}
 use Rattle.exact.specs.Lists.{keep, count}
 use Rattle.record.specs.Layout.{Record}
 use Rattle.account.specs.Lawful.{Lawful}
 use Rattle.account.specs.Parts.{ofKind, ofContract, contractsOf, promptsOf, rowsOf, spreadsOf, entriesOf}
-use Rattle.account.specs.Standing.{Stands, accountOf}
+use Rattle.account.specs.code.Standing.{Stands}
+use Rattle.account.specs.Joined.{accountOf}
 use Rattle.account.specs.declared.accounts.Account.{Account}
 use Rattle.account.proofs.Every.{length-kept}
 use Rattle.account.proofs.Noted.{part-is}
 use Rattle.margin.specs.declared.asking.Question.{Question}
 use Rattle.margin.specs.declared.asking.Question.the-variants.{Figures, Book, Uses}
-use Rattle.margin.specs.Beside.{Besides}
+use Rattle.margin.specs.code.Beside.{Besides}
 use Rattle.margin.specs.Books.{answered, book}
-use Rattle.margin.specs.Contract.{contracts, partsIn, partsOf, asTier, opensOf}
-use Rattle.margin.specs.Deltas.{interprompt, intercontract, netDeltas}
-use Rattle.margin.specs.Questions.{SizesOf, needOver}
+use Rattle.formulas.specs.Contract.{contracts, partsIn, partsOf, asTier, opensOf}
+use Rattle.formulas.specs.Deltas.{interprompt, intercontract, netDeltas}
+use Rattle.margin.specs.code.Asked.{SizesOf}
+use Rattle.margin.specs.Questions.{needOver}
 use Rattle.margin.specs.Uses.{contractUses, tableUses, uses}
 use Rattle.margin.proofs.AskedLaws.{one-book, table-book, contract-asked, table-asked, asked-small, contract-length, table-length}
 use Rattle.margin.proofs.BesideLaws.{answered-beside}
-use Rattle.margin.proofs.LineLaws.{opens-length}
+use Rattle.formulas.proofs.LineLaws.{opens-length}
 use Rattle.margin.proofs.QuestionLaws.{figures-length}
 use Rattle.margin.proofs.UsesLaws.{spread-uses}
 
@@ -103,10 +106,10 @@ module _ (morning noon : List ℕ) (a : Account) (st : Stands morning noon a) wh
       ∙ ap (λ (p : Record → Bool). count p account) (part-is n c hn hc)
       ∙ sym (length-kept (ofContract n c) account)
 
-  of-table : getD (a .counts) 80 0 ≡ length (entriesOf account)
-  of-table = st .places .counts 80 (omega arith) ∙ sym (length-kept (ofKind 5) account)
+  of-table : getD (a .counts) entryPart 0 ≡ length (entriesOf account)
+  of-table = st .places .counts entryPart (omega arith) ∙ sym (length-kept (ofKind 5) account)
 
-  pub table-sizes : (q : ℕ) → answered account q ≡ true → q ≡ 16 → SizesOf account q (a .contracts) (getD (a .counts) 80 0)
+  pub table-sizes : (q : ℕ) → answered account q ≡ true → q ≡ 16 → SizesOf account q (a .contracts) (getD (a .counts) entryPart 0)
   table-sizes q asked e =
       let limits = st .lawful .limits in
       let are = st .places .contracts in

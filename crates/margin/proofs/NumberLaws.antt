@@ -11,13 +11,13 @@ use lib.Seq.{sets, sets-eq, length-take-le, slice, slice-cons, slice-empty}
 use lib.IntN.{ℤ, pos}
 use Rattle.spread.specs.declared.Delta.{Delta}
 use Rattle.spread.specs.declared.Spreads.{Spreads}
-use Rattle.margin.specs.declared.amount.Amount.{Amount}
-use Rattle.margin.specs.declared.line.Line.{Line}
+use Rattle.formulas.specs.declared.amount.Amount.{Amount}
+use Rattle.formulas.specs.declared.line.Line.{Line}
 use Rattle.margin.specs.Books.{threes}
-use Rattle.margin.specs.Lines.{marginWith, eightOf, eightsFrom, totalFrom, figuresFrom, noLine}
-use Rattle.margin.specs.Numbers.{amountAt}
-use Rattle.margin.specs.Sums.{interleaved, deltasIn, spreadsAt, deltaAt}
-use Rattle.margin.proofs.AddedLaws.{delta-at}
+use Rattle.formulas.specs.code.Lines.{marginWith, eightOf, eightsFrom, totalFrom, figuresFrom, noLine}
+use Rattle.margin.specs.code.Numbers.{amountAt}
+use Rattle.formulas.specs.code.Sums.{interleaved, deltasIn, spreadsAt, deltaAt}
+use Rattle.formulas.proofs.AddedLaws.{delta-at}
 
 module _ {ℓ} {A : Type ℓ} where
   -- stores at `at + n`, `at + (n + 1)` and so on, as the code makes them

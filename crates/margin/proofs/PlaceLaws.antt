@@ -19,7 +19,7 @@ use Rattle.account.specs.declared.answers.Answer.{Answer}
 use Rattle.account.specs.declared.answers.Answer.the-variants.{Accepted, TooFewNumbers}
 use Rattle.margin.specs.Books.{answered}
 use Rattle.margin.specs.Places.{questions, atPlace, afterEach, eachOver, afterEachOver, questionOf, widthOf, allOver, afterAllOver, place, EachPlace}
-use Rattle.margin.specs.Questions.{accepted, answers, numbersFor, answerOver, afterOver}
+use Rattle.margin.specs.Questions.{notRefused, answers, numbersFor, answerOver, afterOver}
 use Rattle.margin.specs.declared.asking.Question.{Question}
 use Rattle.margin.proofs.QuestionLaws.{not-asked, then-enough}
 
@@ -91,9 +91,9 @@ module _ (account : List Record) (question : Question) (lent : List ℤ) where
       go false e = absurd (let n = ap numberOf (sym (not-asked account question (length lent) e)) ∙ z in omega arith)
 
   pub keeps-length : length (afterOver account question lent) ≡ length lent
-  keeps-length = go (accepted answer) refl
+  keeps-length = go (notRefused answer) refl
     where
-      go : (t : Bool) → accepted answer ≡ t → length (cond t (numbers ++ drop (length numbers) lent) lent) ≡ length lent
+      go : (t : Bool) → notRefused answer ≡ t → length (cond t (numbers ++ drop (length numbers) lent) lent) ≡ length lent
       go true e =
           let w = within (eqb-true (numberOf answer) 0 e) in
           length-append numbers (drop (length numbers) lent) ∙ (let d = length-drop (length numbers) lent in omega arith)
@@ -161,7 +161,7 @@ module _ (width : ℕ) (after : ℕ → List ℤ → List ℤ) (keeps : (q : ℕ
   each-place account lent ok =
       let h = each-room account (length lent) ok in
       let e : afterEachOver width after account lent ≡ afterEach width after questions lent = ap
-      (λ (a : Answer). cond (accepted a) (afterEach width after questions lent) lent) ok in
+      (λ (a : Answer). cond (notRefused a) (afterEach width after questions lent) lent) ok in
       record {
         each = λ q g. ap (place width q) e ∙ placed lent h questions q g (omega arith);
         rest = ap (drop (width * questions)) e ∙ past lent h questions (width * questions) (omega arith) (omega arith);
@@ -198,11 +198,11 @@ module _ (width : ℕ) (after : ℕ → List ℤ → List ℤ) where
   each-too-few account lent k h e =
       let a : eachOver width account (length lent) ≡ TooFewNumbers k = ap (λ (t : Bool). cond t (TooFewNumbers (length account)) Accepted)
       (lt-ltb (length lent) (width * questions) h) ∙ ap TooFewNumbers (sym e) in
-      (sym a, sym (ap (λ (x : Answer). cond (accepted x) (afterEach width after questions lent) lent) a))
+      (sym a, sym (ap (λ (x : Answer). cond (notRefused x) (afterEach width after questions lent) lent) a))
 
   pub each-accepted : (account : List Record) (lent left : List ℤ) → width * questions ≤ length lent → left ≡ afterEach width after questions lent
       → EachAnswered Accepted left account lent
   each-accepted account lent left h e =
       let a : eachOver width account (length lent) ≡ Accepted = ap (λ (t : Bool). cond t (TooFewNumbers (length account)) Accepted)
       (le-ltb (length lent) (width * questions) h) in
-      (sym a, e ∙ sym (ap (λ (x : Answer). cond (accepted x) (afterEach width after questions lent) lent) a))
+      (sym a, e ∙ sym (ap (λ (x : Answer). cond (notRefused x) (afterEach width after questions lent) lent) a))

@@ -18,15 +18,15 @@ use Rattle.account.specs.Lawful.{Lawful}
 use Rattle.account.specs.Parts.{ofKind, contractsOf, promptsOf, rowsOf, ratesOf}
 use Rattle.account.proofs.Lists.{any-keep}
 use Rattle.margin.specs.declared.positions.Positions.{Positions}
-use Rattle.margin.specs.declared.rows.Position.{Position}
-use Rattle.margin.specs.Beside.{unitOf}
+use Rattle.formulas.specs.declared.rows.Position.{Position}
+use Rattle.margin.specs.code.Beside.{unitOf}
 use Rattle.margin.specs.Books.{asks}
-use Rattle.margin.specs.Lined.{PositionAt}
-use Rattle.margin.specs.Position.{PositionOf}
-use Rattle.margin.specs.Positions.{noPosition, PositionsOf}
+use Rattle.margin.specs.code.Lined.{PositionAt}
+use Rattle.formulas.specs.code.Position.{PositionOf}
+use Rattle.margin.specs.code.Positions.{noPosition, PositionsOf}
 use Rattle.margin.proofs.BesideLaws.{own-fit}
-use Rattle.margin.proofs.PositionLaws.{one-position}
-use Rattle.margin.proofs.PositionBounds.{no-rows, bounded, wider}
+use Rattle.formulas.proofs.PositionLaws.{one-position}
+use Rattle.formulas.proofs.PositionBounds.{no-rows, bounded, wider}
 
 -- ---- a contract by its number
 

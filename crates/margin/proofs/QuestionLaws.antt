@@ -1,6 +1,6 @@
 -- What a question answers and leaves behind, by what the check, the question and the lent numbers say.
 -- Assumes nothing.
-use Prim.Native.Nat.{ℕ, zero, suc, _+_, _*_, _≤_, _<_}
+use Prim.Native.Nat.{ℕ, suc, _+_, _*_, _≤_, _<_}
 use native.Mathlib.Omega.{arith}
 use mathlib.Core.Path.{_≡_, refl, sym, ap, _∙_}
 use mathlib.Core.Bool.{Bool, true, false, cond}
@@ -17,9 +17,9 @@ use Rattle.account.specs.declared.answers.Answer.{Answer}
 use Rattle.account.specs.declared.answers.Answer.the-variants.{Accepted, TooFewNumbers, NoSuchQuestion}
 pub use Rattle.account.proofs.NoonLaws.{accepted-only}
 use Rattle.spread.specs.Steps.{Open}
-use Rattle.margin.specs.Contract.{Contract, contracts, partsIn, asTier}
+use Rattle.formulas.specs.Contract.{Contract, contracts, partsIn, asTier}
 use Rattle.margin.specs.Figures.{eights, figures, figuresOver, totalMargin, accountTotal}
-use Rattle.margin.specs.Questions.{accepted, ifAccepted, numbersFor, answers, enough, answerOver, afterwards}
+use Rattle.margin.specs.Questions.{notRefused, ifAccepted, numbersFor, answers, enough, answerOver, afterwards}
 use Rattle.margin.specs.declared.asking.Question.{Question}
 use Rattle.margin.proofs.NumberLaws.{sets-front}
 
@@ -32,7 +32,7 @@ pub if-refused : (a next : Answer) → (numberOf a ≡ 0 → ⊥) → ifAccepted
 if-refused a next h = rw (ne-eqb (numberOf a) 0 h)
 
 pub if-accepted : (a next : Answer) → a ≡ Accepted → ifAccepted a next ≡ next
-if-accepted a next e = ap (λ (x : Answer). cond (accepted x) next x) e
+if-accepted a next e = ap (λ (x : Answer). cond (notRefused x) next x) e
 
 pub after-refused : (a : Answer) (numbers out : List ℤ) → (numberOf a ≡ 0 → ⊥) → afterwards a numbers out ≡ out
 after-refused a numbers out h = rw (ne-eqb (numberOf a) 0 h)
@@ -59,9 +59,9 @@ accepted-with answer numbers out after n e l f =
 -- ---- a question: whether it may be asked, then whether enough numbers are lent
 
 pub if-then : (a b next : Answer) → ifAccepted a (ifAccepted b next) ≡ ifAccepted (ifAccepted a b) next
-if-then a b next = go (accepted a) refl
+if-then a b next = go (notRefused a) refl
   where
-    go : (t : Bool) → accepted a ≡ t → ifAccepted a (ifAccepted b next) ≡ ifAccepted (ifAccepted a b) next
+    go : (t : Bool) → notRefused a ≡ t → ifAccepted a (ifAccepted b next) ≡ ifAccepted (ifAccepted a b) next
     go true e = ap (λ (t : Bool). cond t (ifAccepted b next) a) e ∙ sym (ap (λ (t : Bool). ifAccepted (cond t b a) next) e)
     go false e =
         ap (λ (t : Bool). cond t (ifAccepted b next) a) e

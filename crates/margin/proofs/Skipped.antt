@@ -1,6 +1,6 @@
 -- No accepted line is skipped: rows counted contract by contract, and lists gone through side by side.
 -- Assumes nothing.
-use Prim.Native.Nat.{ℕ, zero, suc, _+_, _-_, _*_, _≤_, _<_}
+use Prim.Native.Nat.{ℕ, zero, suc, _+_, _-_, _*_, _≤_}
 use native.Mathlib.Omega.{arith}
 use mathlib.Core.Path.{_≡_, refl, sym, ap, ap₂, _∙_}
 use mathlib.Core.Bool.{Bool, true, false, cond, _&&_}
@@ -8,8 +8,8 @@ use mathlib.Core.List.{List, [], _∷_, map, map-map}
 use borrow.Author.Tests.{eq-eqb, ne-eqb, eqb-true, eqb-false}
 use lib.Dec.{eqb}
 use lib.IntN.{ℤ, pos, natAbs, _+ℤ_, +ℤ-idl, +ℤ-idr}
-use lib.ListN.{length, getD, length-append, length-map}
-use Rattle.exact.specs.Lists.{consIf, keep, count, oneIf, sum, sumℤ}
+use lib.ListN.{length, getD, length-map}
+use Rattle.exact.specs.Lists.{consIf, oneIf, sum, sumℤ}
 use Rattle.exact.proofs.Lists.{map-same, sumℤ-map-add}
 use Rattle.record.specs.Layout.{Record, kind, contract, unit, ratePerSpread, spreadRate, outrightRate}
 use Rattle.account.specs.Accepted.{Each}
@@ -18,28 +18,28 @@ use Rattle.account.specs.Lawful.{Recorded, Lawful}
 use Rattle.account.specs.Noon.{clear, joinedVerdict}
 use Rattle.account.specs.Parts.{ofKind, ofContract, contractsOf, promptsOf, rowsOf, entriesOf, ratesOf}
 use Rattle.account.specs.Records.{records}
-use Rattle.account.specs.Standing.{accountOf}
+use Rattle.account.specs.Joined.{accountOf}
 use Rattle.account.specs.Whole.{Whole}
 use Rattle.account.specs.declared.answers.Answer.the-variants.{Accepted}
 use Rattle.account.proofs.Alone.{lawful}
 use Rattle.account.proofs.NoonLaws.{pair-lawful}
 use Rattle.account.proofs.Whole.{KindWithin, owners, owned-once, file-kinds, pair-kinds, whole-file, whole-pair}
 use Rattle.spread.proofs.Gathering.{eqb-turned}
-use Rattle.margin.specs.declared.amount.Amount.{Amount}
-use Rattle.margin.specs.declared.line.Line.{Line}
-use Rattle.margin.specs.Charges.{overSteps, spreadCharge, promptCharge, promptCharges}
-use Rattle.margin.specs.Contract.{Contract, contractFrom, contracts, partsIn, contractNet, asTier}
-use Rattle.margin.specs.Contract.{tableSteps, stepsOf, opensOf, numbersOf, usedDeltas, unusedDeltas}
-use Rattle.margin.specs.Credit.{totalOf}
-use Rattle.margin.specs.Deltas.{rowDelta, netDeltas, interprompt, intercontract}
-use Rattle.margin.specs.Lines.{eightOf, eightsFrom}
-use Rattle.margin.specs.Margin.{shortOptions, shortLots}
-use Rattle.margin.specs.Scanning.{product, total, totals}
-use Rattle.margin.specs.Skipped.{allRows, ownerOf, lossIn, RowsOnce, overPlaces, NothingOver, TableOver, NoneSkipped}
+use Rattle.formulas.specs.declared.amount.Amount.{Amount}
+use Rattle.formulas.specs.declared.line.Line.{Line}
+use Rattle.formulas.specs.Charges.{overSteps, spreadCharge, promptCharge, promptCharges}
+use Rattle.formulas.specs.Contract.{Contract, contractFrom, contracts, partsIn, contractNet, asTier, tableSteps, contractSteps, opensOf, stepNumbers}
+use Rattle.formulas.specs.Contract.{usedDeltas, unusedDeltas}
+use Rattle.formulas.specs.Credit.{totalOf}
+use Rattle.formulas.specs.Deltas.{rowDelta, netDeltas, interprompt, intercontract}
+use Rattle.formulas.specs.code.Lines.{eightsFrom}
+use Rattle.formulas.specs.Margin.{shortOptions, shortLots}
+use Rattle.formulas.specs.Scanning.{product, total, totals}
+use Rattle.margin.specs.Skipped.{allRows, ownerOf, RowsOnce, overPlaces, NothingOver, TableOver, NoneSkipped}
 use Rattle.margin.proofs.AskedLaws.{contract-length, table-length}
-use Rattle.margin.proofs.LineLaws.{opens-length, numbers-length, used-length, unused-length}
-use Rattle.margin.proofs.NetLaws.{all-rows}
-use Rattle.margin.proofs.PositionLaws.{totals-at}
+use Rattle.formulas.proofs.LineLaws.{opens-length, numbers-length, used-length, unused-length}
+use Rattle.formulas.proofs.NetLaws.{all-rows}
+use Rattle.formulas.proofs.PositionLaws.{totals-at}
 use Rattle.margin.proofs.QuestionLaws.{figures-length}
 
 -- ---- what the rows come to, contract by contract and all together
@@ -207,9 +207,9 @@ nothing-over rates own prompts rows spreads =
     let k = contractFrom rates own prompts rows spreads in
     let nets : length (netDeltas prompts rows) ≡ length prompts = length-map prompts _ in
     let opened : length (opensOf k) ≡ length prompts = opens-length prompts (netDeltas prompts rows) nets in
-    let used : length (usedDeltas k) ≡ length prompts = used-length (stepsOf k) (opensOf k) ∙ opened in
-    let unused : length (unusedDeltas k) ≡ length prompts = unused-length (stepsOf k) (opensOf k) ∙ opened in
-    let formed : length (numbersOf k) ≡ 2 * length spreads = numbers-length interprompt spreads (opensOf k) in
+    let used : length (usedDeltas k) ≡ length prompts = used-length (contractSteps k) (opensOf k) ∙ opened in
+    let unused : length (unusedDeltas k) ≡ length prompts = unused-length (contractSteps k) (opensOf k) ∙ opened in
+    let formed : length (stepNumbers k) ≡ 2 * length spreads = numbers-length interprompt spreads (opensOf k) in
     record {
       nets = nets;
       opened = opened;
@@ -217,7 +217,7 @@ nothing-over rates own prompts rows spreads =
       unused = unused;
       formed = formed;
       book = contract-length rates own prompts rows spreads;
-      interprompt = over-steps (λ s. spreadCharge (unit own) (ratePerSpread s)) spreads (numbersOf k) formed;
+      interprompt = over-steps (λ s. spreadCharge (unit own) (ratePerSpread s)) spreads (stepNumbers k) formed;
       prompt = over-prompts (unit own) prompts (usedDeltas k) (unusedDeltas k) used unused;
     }
 

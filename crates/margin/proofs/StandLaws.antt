@@ -7,48 +7,32 @@ use mathlib.Core.Path.{_≡_, refl, sym, ap, _∙_, subst, subst⁻¹}
 use mathlib.Core.Bool.{Bool, true, false, _&&_}
 use mathlib.Core.List.{List, [], _∷_}
 use lib.ListN.{length, getD}
+use Rattle.record.specs.Bytes.{recordBytes}
 use Rattle.exact.specs.Lists.{consIf, keep, count, oneIf}
-use Rattle.record.specs.Layout.{Record, contract, unit}
+use Rattle.record.specs.Layout.{Record, contract}
 use Rattle.record.specs.Within as ranges
 use Rattle.account.specs.Lawful.{Lawful}
-use Rattle.account.specs.Notes.{part, entryPart}
+use Rattle.account.specs.PartNumbers.{part, entryPart}
 use Rattle.account.specs.Parts.{ofKind, ofContract, contractsOf, promptsOf, rowsOf, spreadsOf, entriesOf}
 use Rattle.account.specs.Records.{records, recordCount}
-use Rattle.account.specs.Standing.{PartOf, Stands, accountOf}
+use Rattle.account.specs.code.Standing.{PartOf, Stands}
+use Rattle.account.specs.Joined.{accountOf}
 use Rattle.account.specs.declared.accounts.Account.{Account}
 use Rattle.account.specs.declared.rates.Rates.{Rates}
 use Rattle.account.proofs.Days.{none-kept}
 use Rattle.account.proofs.Every.{length-kept}
 use Rattle.account.proofs.Standing.{contract-part, one-record}
-use Rattle.margin.specs.declared.line.Line.{Line}
-use Rattle.margin.specs.declared.rows.Position.{Position}
-use Rattle.margin.specs.Beside.{ownOf}
+use Rattle.formulas.specs.declared.rows.Position.{Position}
+use Rattle.margin.specs.code.Beside.{ownOf}
 use Rattle.margin.specs.Books.{asks}
-use Rattle.margin.specs.Contract.{Contract, contractFrom, partsOf}
-use Rattle.margin.specs.Lined.{PositionAt}
-use Rattle.margin.specs.Position.{RatedBy, PositionOf, Bounded}
-use Rattle.margin.specs.Promised.{LineOf, BookFit, contractWith}
-use Rattle.margin.specs.Within.{ContractFit, EntriesFit}
+use Rattle.formulas.specs.Contract.{partsOf}
+use Rattle.margin.specs.code.Lined.{PositionAt}
+use Rattle.formulas.specs.code.Position.{RatedBy, PositionOf, Bounded}
+use Rattle.formulas.specs.code.Promised.{BookFit, contractWith}
+use Rattle.formulas.specs.code.Within.{ContractFit, EntriesFit}
 use Rattle.margin.proofs.AcceptLaws.{none-within, contract-within, own-within, entries-within}
-use Rattle.margin.proofs.RecordLaws.{count-is}
-
--- a contract known by its rows is the one known by what they come to
-pub contract-with : (rates : List Record) (own : Record) (prompts rows spreads : List Record) (p : Position)
-    → PositionOf rates (unit own) prompts rows p → contractFrom rates own prompts rows spreads ≡ contractWith own prompts spreads p
-contract-with rates own prompts rows spreads p is =
-    λ i. record {
-      own = own;
-      prompts = prompts;
-      spreads = spreads;
-      totals = sym (is .totals-are) i;
-      nets = sym (is .nets-are) i;
-      shorts = sym
-          (is .shorts-are) i;
-    }
-
-pub line-with : (rates : List Record) (own : Record) (prompts rows spreads : List Record) (p : Position) → PositionOf rates (unit own) prompts rows p
-    → (l : Line) → LineOf (contractFrom rates own prompts rows spreads) l → LineOf (contractWith own prompts spreads p) l
-line-with rates own prompts rows spreads p is l = subst (λ (k : Contract). LineOf k l) (contract-with rates own prompts rows spreads p is)
+use Rattle.formulas.proofs.RecordLaws.{count-is}
+use Rattle.formulas.proofs.ContractLaws.{contract-with}
 
 -- ---- the one record of a contract's own part
 
@@ -99,8 +83,8 @@ module _ (account : List Record) (law : Lawful account) where
 
     -- its own record
     module _ (own : List ℕ) (eo : PartOf account (part 1 c) own) where
-      own-long : length own ≡ length (keep (ofContract 1 c) account) * 96
-      own-long = eo .whole ∙ ap (λ (rs : List Record). length rs * 96) (contract-part 1 c (omega arith) h account)
+      own-long : length own ≡ length (keep (ofContract 1 c) account) * recordBytes
+      own-long = eo .whole ∙ ap (λ (rs : List Record). length rs * recordBytes) (contract-part 1 c (omega arith) h account)
 
       pub own-by : own ≡ ownOf c account
       own-by =
@@ -113,9 +97,9 @@ module _ (account : List Record) (law : Lawful account) where
 
           go : (xs : List Record) → keep (ofContract 1 c) account ≡ xs → length xs ≤ 1 → own ≡ getD (keep (ofContract 1 c) account) 0 []
           go [] e few =
-              nil own (own-long ∙ ap (λ (rs : List Record). length rs * 96) e) ∙ ap (λ (rs : List Record). getD rs 0 []) (sym e)
+              nil own (own-long ∙ ap (λ (rs : List Record). length rs * recordBytes) e) ∙ ap (λ (rs : List Record). getD rs 0 []) (sym e)
           go (x ∷ []) e few =
-              one-record own x (of-contract 1 (omega arith) own eo ∙ e) (own-long ∙ ap (λ (rs : List Record). length rs * 96) e)
+              one-record own x (of-contract 1 (omega arith) own eo ∙ e) (own-long ∙ ap (λ (rs : List Record). length rs * recordBytes) e)
               ∙ ap (λ (rs : List Record). getD rs 0 []) (sym e)
           go (x ∷ y ∷ xs) e few = absurd (omega arith)
 

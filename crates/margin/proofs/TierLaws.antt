@@ -19,34 +19,34 @@ use Rattle.record.specs.Within as ranges
 use Rattle.account.specs.Parts.{contractsOf, promptsOf, rowsOf, spreadsOf}
 use Rattle.account.specs.Records.{records, recordCount}
 use Rattle.account.specs.Lawful.{Lawful}
-use Rattle.account.specs.Notes.{entryPart}
-use Rattle.account.specs.Standing.{PartOf}
+use Rattle.account.specs.PartNumbers.{entryPart}
+use Rattle.account.specs.code.Standing.{PartOf}
 use Rattle.spread.specs.Accepted as given
 use Rattle.spread.specs.Accepted.{every, soundPrompt}
-use Rattle.spread.specs.Steps.{Open, steps}
+use Rattle.spread.specs.Steps.{Open}
 use Rattle.spread.specs.declared.Delta.{Delta}
 use Rattle.spread.specs.declared.Prompts.{Prompts}
 use Rattle.spread.specs.declared.Table.{Table}
 use Rattle.spread.proofs.Both.{and-left, and-right, and-both}
-use Rattle.margin.specs.declared.line.Line.{Line}
-use Rattle.margin.specs.declared.rows.Position.{Position}
-use Rattle.margin.specs.Bounds.{mostDelta}
-use Rattle.margin.specs.Contract.{Contract, contracts, partsIn, asTier, contractNet}
-use Rattle.margin.specs.Deltas.{netDeltas, intercontract}
-use Rattle.margin.specs.Lines.{noLine}
-use Rattle.margin.specs.Lined.{TierIs, TiersIn, PositionAt}
-use Rattle.margin.specs.Promised.{LineOf}
-use Rattle.margin.specs.Sums.{deltasIn}
-use Rattle.margin.specs.Table.{tierOf}
-use Rattle.margin.specs.Tables.{TableOf}
+use Rattle.formulas.specs.declared.line.Line.{Line}
+use Rattle.formulas.specs.declared.rows.Position.{Position}
+use Rattle.formulas.specs.Bounds.{mostDelta}
+use Rattle.formulas.specs.Contract.{Contract, contracts, partsIn, asTier, contractNet}
+use Rattle.formulas.specs.Deltas.{netDeltas, intercontract}
+use Rattle.formulas.specs.code.Lines.{noLine}
+use Rattle.margin.specs.code.Lined.{TierIs, TiersIn, PositionAt}
+use Rattle.formulas.specs.code.Promised.{LineOf}
+use Rattle.formulas.specs.code.Sums.{deltasIn}
+use Rattle.formulas.specs.code.Table.{tierOf}
+use Rattle.formulas.specs.code.Tables.{TableOf}
 use Rattle.margin.proofs.AcceptLaws.{contract-within}
-use Rattle.margin.proofs.BookLaws.{handed-sound}
-use Rattle.margin.proofs.ContractLaws.{net-is, net-sizes}
-use Rattle.margin.proofs.LineLaws.{spreads-sound}
-use Rattle.margin.proofs.RecordLaws.{count-is}
+use Rattle.formulas.proofs.BookLaws.{handed-sound}
+use Rattle.formulas.proofs.ContractLaws.{net-is, net-sizes}
+use Rattle.formulas.proofs.LineLaws.{spreads-sound}
+use Rattle.formulas.proofs.RecordLaws.{count-is}
 use Rattle.margin.proofs.StandLaws.{entries-fit}
-use Rattle.margin.proofs.StepBounds.{sizes, number-within}
-use Rattle.margin.proofs.TableLaws.{Tiered, tiered-next, tiered-all, entry-accepted}
+use Rattle.formulas.proofs.StepBounds.{sizes, number-within}
+use Rattle.formulas.proofs.TableLaws.{Tiered, tiered-next, tiered-all, entry-accepted}
 
 -- a contract's number and net delta, by what its rows come to
 module _ (account : List Record) (law : Lawful account) (rates : List Record) (own : Record) (w : ranges.ContractWithin own) (c : ℕ) (q : Position)

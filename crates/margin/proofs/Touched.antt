@@ -11,17 +11,17 @@ use Rattle.account.specs.Lawful.{Lawful}
 use Rattle.account.specs.Noon.{clear, joinedVerdict}
 use Rattle.account.specs.Parts.{spreadsOf, entriesOf}
 use Rattle.account.specs.Records.{records}
-use Rattle.account.specs.Standing.{accountOf}
+use Rattle.account.specs.Joined.{accountOf}
 use Rattle.account.specs.declared.answers.Answer.the-variants.{Accepted}
 use Rattle.account.proofs.Alone.{lawful}
 use Rattle.account.proofs.NoonLaws.{pair-lawful}
 use Rattle.spread.proofs.Touching.{touched}
-use Rattle.margin.specs.Contract.{contracts, partsOf, asTier, opensOf}
-use Rattle.margin.specs.Deltas.{interprompt, intercontract}
+use Rattle.formulas.specs.Contract.{contracts, partsOf, asTier, opensOf}
+use Rattle.formulas.specs.Deltas.{interprompt, intercontract}
 use Rattle.margin.specs.Touched.{TouchesCounted}
 use Rattle.margin.proofs.AcceptLaws.{none-within, contract-within, entries-within}
-use Rattle.margin.proofs.LineLaws.{spreads-sound}
-use Rattle.margin.proofs.TableLaws.{entry-accepted}
+use Rattle.formulas.proofs.LineLaws.{spreads-sound}
+use Rattle.formulas.proofs.TableLaws.{entry-accepted}
 
 touches-counted : (account : List Record) → Lawful account → TouchesCounted account
 touches-counted account law =

@@ -1,6 +1,6 @@
 -- Nothing still open could have been paired: the spreads and entries of a lawful account are ones that the spread steps accept.
 -- Assumes nothing.
-use Prim.Native.Nat.{ℕ, zero-le}
+use Prim.Native.Nat.{ℕ}
 use mathlib.Core.Path.{_≡_}
 use mathlib.Core.Bool.{true}
 use mathlib.Core.List.{List, [], map}
@@ -11,18 +11,18 @@ use Rattle.account.specs.Lawful.{Lawful}
 use Rattle.account.specs.Noon.{clear, joinedVerdict}
 use Rattle.account.specs.Parts.{spreadsOf, entriesOf}
 use Rattle.account.specs.Records.{records}
-use Rattle.account.specs.Standing.{accountOf}
+use Rattle.account.specs.Joined.{accountOf}
 use Rattle.account.specs.declared.answers.Answer.the-variants.{Accepted}
 use Rattle.account.proofs.Alone.{lawful}
 use Rattle.account.proofs.NoonLaws.{pair-lawful}
 use Rattle.spread.proofs.Again.{nothing-to-pair}
 use Rattle.spread.proofs.Soundness.{steps-sound}
-use Rattle.margin.specs.Contract.{contracts, partsOf, asTier, stepsOf, opensOf, tableSteps}
-use Rattle.margin.specs.Deltas.{interprompt, intercontract}
+use Rattle.formulas.specs.Contract.{contracts, partsOf, asTier, contractSteps, opensOf, tableSteps}
+use Rattle.formulas.specs.Deltas.{interprompt, intercontract}
 use Rattle.margin.specs.Unpaired.{NothingOpen}
 use Rattle.margin.proofs.AcceptLaws.{none-within, contract-within, entries-within}
-use Rattle.margin.proofs.LineLaws.{spreads-sound, interprompt-whole}
-use Rattle.margin.proofs.TableLaws.{entry-accepted}
+use Rattle.formulas.proofs.LineLaws.{spreads-sound, interprompt-whole}
+use Rattle.formulas.proofs.TableLaws.{entry-accepted}
 
 nothing-open : (account : List Record) → Lawful account → NothingOpen account
 nothing-open account law =
@@ -30,7 +30,7 @@ nothing-open account law =
       interprompt =
           λ c.
           let w = contract-within account law [] c none-within in
-          nothing-to-pair (stepsOf (partsOf account c)) (opensOf (partsOf account c))
+          nothing-to-pair (contractSteps (partsOf account c)) (opensOf (partsOf account c))
           (steps-sound (map interprompt (spreadsOf c account))
           (spreads-sound interprompt (spreadsOf c account) (λ k h. w .each-spread k h .sound)))
           (interprompt-whole (spreadsOf c account));

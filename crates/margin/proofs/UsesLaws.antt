@@ -15,14 +15,14 @@ use borrow.Author.Tests.{leb-true, eqb-true, eqb-false}
 use Rattle.account.specs.Parts.{entriesOf}
 use Rattle.account.specs.Records.{records}
 use Rattle.account.specs.Lawful.{Lawful}
-use Rattle.account.specs.Notes.{entryPart}
-use Rattle.account.specs.Standing.{PartOf}
+use Rattle.account.specs.PartNumbers.{entryPart}
+use Rattle.account.specs.code.Standing.{PartOf}
 use Rattle.record.specs.Layout.{Record}
 use Rattle.spread.specs.Accepted.{every, openOf, spreadsOf, soundSpread, soundPrompts, soundTable, sound}
-use Rattle.spread.specs.Book.{entries, deltaEntry}
-use Rattle.spread.specs.Cells.{stepOf}
-use Rattle.spread.specs.Steps.{Open, Taker, steps, formed, after}
-use Rattle.spread.specs.Uses.{takenOf, usesOf, soundFor, Stepped}
+use Rattle.spread.specs.code.Book.{byPlace, deltaEntry}
+use Rattle.spread.specs.Steps.{stepOf, Open, Taker, steps, formed, after}
+use Rattle.spread.specs.Uses.{takenOf, usesOf, soundFor}
+use Rattle.spread.specs.code.Step.{Stepped}
 use Rattle.spread.specs.declared.Delta.{Delta}
 use Rattle.spread.specs.declared.Prompts.{Prompts}
 use Rattle.spread.specs.declared.Spread.{Spread}
@@ -32,21 +32,22 @@ use Rattle.spread.proofs.Gathering.{few}
 use Rattle.spread.proofs.Both.{and-left, and-right, and-both}
 use Rattle.spread.proofs.Every.{open-length}
 use Rattle.spread.proofs.Stepping.{after-length}
-use Rattle.margin.specs.declared.rows.Position.{Position}
+use Rattle.formulas.specs.declared.rows.Position.{Position}
 use Rattle.margin.specs.Books.{answered}
-use Rattle.margin.specs.Contract.{contracts, partsOf, asTier, stepsOf, opensOf, tableSteps}
-use Rattle.margin.specs.Deltas.{opens, interprompt, intercontract}
-use Rattle.margin.specs.Promised.{BookFit, contractWith}
-use Rattle.margin.specs.Lined.{TiersIn}
-use Rattle.margin.specs.Sums.{deltasIn}
-use Rattle.margin.specs.Tables.{TiersOf, TableOf}
-use Rattle.margin.specs.Uses.{contractUses, tableUses, uses, stepsFor, opensFor, LeftBy, Asks}
+use Rattle.formulas.specs.Contract.{contracts, partsOf, asTier, contractSteps, opensOf, tableSteps}
+use Rattle.formulas.specs.Deltas.{opens, interprompt, intercontract}
+use Rattle.formulas.specs.code.Promised.{BookFit, contractWith}
+use Rattle.margin.specs.code.Lined.{TiersIn}
+use Rattle.formulas.specs.code.Sums.{deltasIn}
+use Rattle.formulas.specs.code.Tables.{TiersOf, TableOf}
+use Rattle.margin.specs.Uses.{contractUses, tableUses, uses, stepsFor, opensFor}
+use Rattle.margin.specs.code.Asking.{LeftBy, Asks}
 use Rattle.margin.proofs.AskedLaws.{contract-asked, table-asked}
-use Rattle.margin.proofs.BookLaws.{take-deltas, opens-are, contract-sound}
-use Rattle.margin.proofs.ContractLaws.{book-room}
-use Rattle.margin.proofs.LineLaws.{opens-first, opens-length, steps-length, used-length}
+use Rattle.formulas.proofs.BookLaws.{take-deltas, opens-are, contract-sound}
+use Rattle.formulas.proofs.ContractLaws.{book-room}
+use Rattle.formulas.proofs.LineLaws.{opens-first, opens-length, steps-length, used-length}
 use Rattle.margin.proofs.NumberLaws.{sets-append}
-use Rattle.margin.proofs.RecordLaws.{count-is}
+use Rattle.formulas.proofs.RecordLaws.{count-is}
 use Rattle.margin.proofs.StandLaws.{entries-part}
 use Rattle.margin.proofs.TierLaws.{ps-length, tiers-accepted}
 
@@ -64,7 +65,7 @@ module _ (p : Prompts) (s : Spread) (second : Bool) (r : Step) (is : Stepped p s
   pub taken-is : length (p .tier) ≡ 32 → length (p .net) ≡ 32 → p .count ≤ 32 → take (p .count) (deltasIn (r .taken)) ≡ takenOf (stepOf second s) (openOf p)
   taken-is lt ln few =
       ap (λ (ds : List Delta). take (p .count) (deltasIn ds))
-      (is .taken ∙ ap (λ (b : Bool). entries 32 (deltaEntry (cond b (takenOf (stepOf second s) (openOf p)) []))) e)
+      (is .taken ∙ ap (λ (b : Bool). byPlace 32 (deltaEntry (cond b (takenOf (stepOf second s) (openOf p)) []))) e)
       ∙ take-deltas (takenOf (stepOf second s) (openOf p)) (p .count) 32 (used-length (stepOf second s ∷ []) (openOf p) ∙ open-length p lt ln few) few
 
 -- ---- all steps: what is written and what the steps still to come take are the whole
@@ -229,7 +230,7 @@ asks p t ps spreads eo es ok np nt =
 
 pub contract-asks : (prompts spreads : List ℕ) (q : Position) → BookFit (records prompts) (records spreads) q
     → (p : Prompts) (t : Table) → TiersOf prompts (q .nets) p → TableOf interprompt spreads t
-    → Asks (stepsOf (contractWith [] (records prompts) (records spreads) q)) (opensOf (contractWith [] (records prompts) (records spreads) q))
+    → Asks (contractSteps (contractWith [] (records prompts) (records spreads) q)) (opensOf (contractWith [] (records prompts) (records spreads) q))
     (record { prompts = p; table = t })
 contract-asks prompts spreads q w p t tiers table =
     let ps = records prompts in
@@ -258,7 +259,7 @@ pub uses-by-steps : (account : List Record) → Lawful account → (question : �
 uses-by-steps account law question a = go (eqb question 16) refl
   where
     go : (t : Bool) → eqb question 16 ≡ t → uses account question ≡ usesOf
-        (cond t (tableSteps (entriesOf account)) (stepsOf (partsOf account question)))
+        (cond t (tableSteps (entriesOf account)) (contractSteps (partsOf account question)))
         (cond t (map asTier (contracts account)) (opensOf (partsOf account question)))
     go true e = table-asked account law contractUses tableUses (λ own. refl) question (eqb-true question 16 e)
     go false e = contract-asked account law contractUses tableUses (λ own. refl) question a (eqb-false question 16 e)

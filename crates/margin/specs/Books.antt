@@ -3,21 +3,19 @@
 -- two per entry." Request 2026-11: "Report with each delta book how many times some step moved some prompt's unused delta towards
 -- zero. .. The book gains this number at its end."
 -- Assumes nothing.
-use Prim.Native.Nat.{ℕ, _+_}
-use mathlib.Core.Bool.{Bool, cond, not, _&&_, _||_}
+use Prim.Native.Nat.{ℕ}
+use mathlib.Core.Bool.{Bool, cond, _||_}
 use mathlib.Core.List.{List, [], _∷_, _++_, map}
-use lib.Dec.{eqb, ltb}
-use lib.ListN.{getD}
+use lib.Dec.{eqb}
 use lib.IntN.{ℤ, pos}
 use Rattle.exact.specs.Lists.{keep, any}
 use Rattle.record.specs.Layout.{Record, contract}
 use Rattle.account.specs.Check.{mostContracts}
-use Rattle.account.specs.Notes.{part}
 use Rattle.account.specs.Parts.{contractsOf, entriesOf}
 use Rattle.spread.specs.Steps.{Open, Taker, numbers, usedOf, unusedOf}
 use Rattle.spread.specs.Touches.{touches}
-use Rattle.margin.specs.Contract.{Contract, contracts, partsIn, contractNet, asTier, numbersOf, usedDeltas, unusedDeltas, contractTouches}
-use Rattle.margin.specs.Contract.{tableSteps, tableTouches}
+use Rattle.formulas.specs.Contract.{Contract, contracts, partsIn, contractNet, asTier, stepNumbers, usedDeltas, unusedDeltas, contractTouches, tableSteps}
+use Rattle.formulas.specs.Contract.{tableTouches}
 
 -- net, used and unused of each
 abbrev pub threes : List ℤ → List ℤ → List ℤ → List ℤ
@@ -27,7 +25,7 @@ threes (n ∷ nets) (u ∷ used) [] = []
 threes (n ∷ nets) (u ∷ used) (o ∷ unused) = n ∷ u ∷ o ∷ threes nets used unused
 
 abbrev pub contractParts : Contract → List ℤ
-contractParts k = threes (k .nets) (usedDeltas k) (unusedDeltas k) ++ map pos (numbersOf k)
+contractParts k = threes (k .nets) (usedDeltas k) (unusedDeltas k) ++ map pos (stepNumbers k)
 
 abbrev pub tableParts : List Record → List Contract → List ℤ
 tableParts entries ks =
@@ -56,11 +54,6 @@ asks question own = eqb (contract own) question
 
 abbrev pub answered : List Record → ℕ → Bool
 answered account question = eqb question tableQuestion || any (asks question) (contractsOf account)
-
--- the same by how many records each contract's own part has
-abbrev pub askedBy : List ℕ → ℕ → Bool
-askedBy counts question =
-    eqb question tableQuestion || (ltb question tableQuestion && not (eqb (getD counts (part 1 question) 0) 0))
 
 -- what a question is answered: of the table, or of the contract that has its number
 abbrev pub ofEach : (Contract → List ℤ) → List Contract → List ℤ

@@ -8,7 +8,7 @@ use Rattle.exact.specs.Lists.{sum}
 use Rattle.record.specs.Layout.{Record, contract}
 use Rattle.account.specs.Parts.{entriesOf}
 use Rattle.spread.specs.Steps.{Open}
-use Rattle.margin.specs.Contract.{Contract, contracts, asTier, activeOf, scanningOf, interpromptOf, promptOf, creditOf, minimumOf, marginOf}
+use Rattle.formulas.specs.Contract.{Contract, contracts, asTier, activeOf, scanningOf, interpromptOf, promptOf, creditOf, minimumOf, marginOf}
 
 abbrev pub eight : List Record → List Open → Contract → List ℕ
 eight entries table k =

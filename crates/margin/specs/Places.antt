@@ -2,26 +2,19 @@
 -- Assumes nothing.
 use Prim.Native.Nat.{ℕ, zero, suc, _+_, _*_, _<_}
 use mathlib.Core.Path.{_≡_}
-use mathlib.Core.Bool.{Bool, true, false, cond}
-use mathlib.Core.List.{List, [], _++_}
+use mathlib.Core.Bool.{Bool, cond}
+use mathlib.Core.List.{List, _++_}
 use lib.Dec.{ltb}
 use lib.IntN.{ℤ}
-use lib.ListN.{length, getD, take, drop}
-use Rattle.record.specs.Layout.{Record, contract}
-use Rattle.account.specs.Parts.{contractsOf}
+use lib.ListN.{length, take, drop}
+use Rattle.record.specs.Layout.{Record}
 use Rattle.account.specs.declared.answers.Answer.{Answer}
 use Rattle.account.specs.declared.answers.Answer.the-variants.{Accepted, TooFewNumbers}
 use Rattle.margin.specs.declared.asking.Question.{Question}
-use Rattle.margin.specs.declared.asking.Everything.{Everything}
-use Rattle.margin.specs.declared.asking.Question.the-variants.{Figures, Book, Uses}
-use Rattle.margin.specs.declared.line.Line.{Line}
-use Rattle.margin.specs.declared.over.Lines.{Lines}
+use Rattle.margin.specs.declared.asking.Question.the-variants.{Book, Uses}
 use Rattle.margin.specs.Books.{tableQuestion}
-use Rattle.margin.specs.Bounds.{longestBook, longestUses}
-use Rattle.margin.specs.Contract.{partsIn}
-use Rattle.margin.specs.Lined.{LinesOf}
-use Rattle.margin.specs.Promised.{LineOf}
-use Rattle.margin.specs.Questions.{accepted, answerOver, afterOver}
+use Rattle.formulas.specs.Bounds.{longestBook, longestUses}
+use Rattle.margin.specs.Questions.{notRefused, afterOver}
 
 -- places in lent numbers, all of one width, one after the other
 module _ {ℓ} {A : Type ℓ} where
@@ -48,7 +41,7 @@ eachOver width account lent = cond (ltb lent (width * questions)) (TooFewNumbers
 
 abbrev pub afterEachOver : ℕ → (ℕ → List ℤ → List ℤ) → List Record → List ℤ → List ℤ
 afterEachOver width after account lent =
-    cond (accepted (eachOver width account (length lent))) (afterEach width after questions lent) lent
+    cond (notRefused (eachOver width account (length lent))) (afterEach width after questions lent) lent
 
 -- where all places are lent: the place of one question changed, and of those below n
 abbrev pub lentPlace : ℕ → ℕ → (List ℤ → List ℤ) → List ℤ → List ℤ
@@ -69,31 +62,6 @@ allOver paid = eachOver (widthOf paid)
 
 abbrev pub afterAllOver : Bool → List Record → List ℤ → List ℤ
 afterAllOver paid account = afterEachOver (widthOf paid) (λ q. afterOver account (questionOf paid q)) account
-
--- the line of the i-th contract, and its book and its uses in their places
-pub record ContractLent (account : List Record) (i : ℕ) (l : Line) (books uses books′ uses′ : List ℤ) : Type 0 where
-  pub line : LineOf (partsIn account (getD (contractsOf account) i [])) l
-  pub book :
-      let c = contract (getD (contractsOf account) i []) in
-      books′ ≡ lentPlace longestBook c (afterOver account (Book c)) books
-  pub paid :
-      let c = contract (getD (contractsOf account) i []) in
-      uses′ ≡ lentPlace longestUses c (afterOver account (Uses c)) uses
-
--- and of all contracts
-pub record ContractsLent (account : List Record) (ls : Lines) (books uses books′ uses′ : List ℤ) : Type 0 where
-  pub lines : LinesOf account ls
-  pub book : books′ ≡ lentEach longestBook (λ q. afterOver account (Book q)) tableQuestion books
-  pub paid : uses′ ≡ lentEach longestUses (λ q. afterOver account (Uses q)) tableQuestion uses
-
--- the figures, and the books and uses of all questions
-pub record EverythingOf (account : List Record) (figures books uses : List ℤ) (r : Everything) (figures′ books′ uses′ : List ℤ) : Type 0 where
-  pub figures-answer : r .figures ≡ answerOver account Figures (length figures)
-  pub figures-after : figures′ ≡ afterOver account Figures figures
-  pub books-answer : r .books ≡ allOver false account (length books)
-  pub books-after : books′ ≡ afterAllOver false account books
-  pub uses-answer : r .uses ≡ allOver true account (length uses)
-  pub uses-after : uses′ ≡ afterAllOver true account uses
 
 -- ---- what this says of each question by itself
 

@@ -1,8 +1,7 @@
 -- "Two questions: the figures, and the delta book": what an account answers, after its records, and what stands in the lent numbers
 -- afterwards. Of a delta book it can be asked too what each step takes of each prompt.
 -- Assumes nothing.
-use Prim.Native.Nat.{ℕ, _+_, _*_, _≤_}
-use mathlib.Core.Path.{_≡_}
+use Prim.Native.Nat.{ℕ}
 use mathlib.Core.Bool.{Bool, true, cond}
 use mathlib.Core.List.{List, _++_}
 use lib.ListN.{length, drop}
@@ -10,24 +9,21 @@ use lib.Dec.{eqb, ltb}
 use lib.IntN.{ℤ}
 use Rattle.record.specs.Layout.{Record}
 use Rattle.account.specs.Answers.{numberOf}
-use Rattle.account.specs.Check.{mostPrompts, mostSpreads}
-use Rattle.account.specs.Lawful.{Lawful}
 use Rattle.account.specs.declared.answers.Answer.{Answer}
 use Rattle.account.specs.declared.answers.Answer.the-variants.{Accepted, TooFewNumbers, NoSuchQuestion}
 use Rattle.margin.specs.declared.asking.Question.{Question}
 use Rattle.margin.specs.declared.asking.Question.the-variants.{Figures, Book, Uses}
-use Rattle.margin.specs.declared.uses.Asking.{Asking}
 use Rattle.margin.specs.Figures.{figures}
 use Rattle.margin.specs.Books.{answered, book}
-use Rattle.margin.specs.Bounds.{longestFigures, longestBook, longestUses}
-use Rattle.margin.specs.Uses.{uses, stepsFor, opensFor, Asks}
+use Rattle.formulas.specs.Bounds.{longestFigures, longestBook, longestUses}
+use Rattle.margin.specs.Uses.{uses}
 
-abbrev pub accepted : Answer → Bool
-accepted a = eqb (numberOf a) 0
+abbrev pub notRefused : Answer → Bool
+notRefused a = eqb (numberOf a) 0
 
 -- what is asked next, where nothing was refused so far
 abbrev pub ifAccepted : Answer → Answer → Answer
-ifAccepted a next = cond (accepted a) next a
+ifAccepted a next = cond (notRefused a) next a
 
 -- the answer of each question
 abbrev pub numbersFor : List Record → Question → List ℤ
@@ -54,7 +50,7 @@ answerOver account question lent = ifAccepted (asked account question) (enough a
 
 -- "A refusal writes no number. .. Success writes the answer at the front and nothing after it."
 abbrev pub afterwards : Answer → List ℤ → List ℤ → List ℤ
-afterwards a numbers lent = cond (accepted a) (numbers ++ drop (length numbers) lent) lent
+afterwards a numbers lent = cond (notRefused a) (numbers ++ drop (length numbers) lent) lent
 
 abbrev pub afterOver : List Record → Question → List ℤ → List ℤ
 afterOver account question lent =
@@ -69,17 +65,3 @@ abbrev pub mostFor : Question → ℕ
 mostFor Figures = longestFigures
 mostFor (Book question) = longestBook
 mostFor (Uses question) = longestUses
-
--- how many prompts and spreads a book is about
-pub record SizesOf (account : List Record) (question prompts spreads : ℕ) : Type 0 where
-  pub book-has : length (book account question) ≡ 3 * prompts + 2 * spreads + 1
-  pub uses-have : length (uses account question) ≡ spreads * (2 * prompts)
-  pub prompts-few : prompts ≤ mostPrompts
-  pub spreads-few : spreads ≤ mostSpreads
-
--- what a question is about that it answers
-pub record AskedBy (whole : List Record) (question records : ℕ) (a : Asking) : Type 0 where
-  pub lawful : Lawful whole
-  pub asked-is : answered whole question ≡ true
-  pub records-are : records ≡ length whole
-  pub asks : Asks (stepsFor whole question) (opensFor whole question) a

@@ -13,13 +13,13 @@ use Rattle.account.specs.Checked.{checked}
 use Rattle.account.specs.Products.{inHundredths, hasRate, conversionBeyond}
 use Rattle.account.specs.declared.answers.Answer.the-variants.{Accepted}
 use Rattle.margin.specs.Entered.{contractRecord, promptRecord, rowIn, rowRecord, spreadRecord, entryRecord, rateRecord}
-use Rattle.margin.specs.Scanning.{product, total, scanningRisk, activeScenario}
-use Rattle.margin.specs.Charges.{spreadCharge, promptCharge}
-use Rattle.margin.specs.Pairs.{pairOf}
-use Rattle.margin.specs.Credit.{unitPriceRisk, credit}
+use Rattle.formulas.specs.Scanning.{product, total, scanningRisk, activeScenario}
+use Rattle.formulas.specs.Charges.{spreadCharge, promptCharge}
+use Rattle.formulas.specs.Pairs.{pairOf}
+use Rattle.formulas.specs.Credit.{unitPriceRisk, credit}
 use Rattle.spread.specs.Steps.{Open, Taker, numbers, unusedOf}
 use Rattle.spread.specs.Touches.{touches}
-use Rattle.margin.specs.Contract.{Contract, contractFrom, numbersOf, unusedDeltas, contractTouches, interpromptOf, promptOf, marginOf, asTier, tableSteps}
+use Rattle.formulas.specs.Contract.{Contract, contractFrom, stepNumbers, unusedDeltas, contractTouches, interpromptOf, promptOf, marginOf, asTier, tableSteps}
 use Rattle.margin.specs.Figures.{figures}
 
 -- whole lots, long and short
@@ -183,20 +183,20 @@ fefAgainstAex = against (lotsLong 120) (negℤ (pos 10012))
 -- The numbers of a spread's first and second step stand side by side.
 pub record Reckoned : Type 0 where
   -- "Formed 0, 5, 20, 15, 0, 15; charge 17,000; .. prompt charge 225."
-  pub p1-formed : numbersOf caseThree ≡ 0 ∷ 0 ∷ 50000 ∷ 0 ∷ 200000 ∷ 0 ∷ 0 ∷ 150000 ∷ 0 ∷ 0 ∷ 0 ∷ 150000 ∷ []
+  pub p1-formed : stepNumbers caseThree ≡ 0 ∷ 0 ∷ 50000 ∷ 0 ∷ 200000 ∷ 0 ∷ 0 ∷ 150000 ∷ 0 ∷ 0 ∷ 0 ∷ 150000 ∷ []
   pub p1-charge : interpromptOf caseThree ≡ 1700000
   pub p1-prompts : promptOf caseThree ≡ 22500
   -- 2026-11: 2-2 takes of two prompts, 3-3 of three, 1-2 and 1-3 of two each
   pub p1-touches : contractTouches caseThree ≡ 9
   -- "form 6, 4, 0"
-  pub p2 : numbersOf threeTiers ≡ 60000 ∷ 0 ∷ 40000 ∷ 0 ∷ 0 ∷ 0 ∷ []
+  pub p2 : stepNumbers threeTiers ≡ 60000 ∷ 0 ∷ 40000 ∷ 0 ∷ 0 ∷ 0 ∷ []
   -- "first step 1.5000, second 0.0001; left 0 long, 3.4998 short"
-  pub p3-formed : numbersOf oneTier ≡ 15000 ∷ 1 ∷ []
+  pub p3-formed : stepNumbers oneTier ≡ 15000 ∷ 1 ∷ []
   pub p3-left : unusedDeltas oneTier ≡ pos 0 ∷ negℤ (pos 34998) ∷ []
   -- both steps take of both prompts
   pub p3-touches : contractTouches oneTier ≡ 4
   -- "formed 10, 0; charge 50.00"
-  pub p4-formed : numbersOf byPriority ≡ 100000 ∷ 0 ∷ 0 ∷ 0 ∷ []
+  pub p4-formed : stepNumbers byPriority ≡ 100000 ∷ 0 ∷ 0 ∷ 0 ∷ []
   pub p4-charge : interpromptOf byPriority ≡ 5000
   -- "P5, P6: numbers 1.4999 and 1.5000 at a rate of one hundredth charge 1 and 2 hundredths"
   pub p5 : spreadCharge 1 1 14999 0 ≡ 1

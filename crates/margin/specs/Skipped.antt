@@ -13,18 +13,18 @@ use Rattle.record.specs.Layout.{Record, contract, mostContract, unit, ratePerSp
 use Rattle.account.specs.Parts.{ofKind, contractsOf, promptsOf, rowsOf, entriesOf, ratesOf}
 use Rattle.account.specs.Whole.{Whole}
 use Rattle.spread.specs.Steps.{numbers, usedOf, unusedOf}
-use Rattle.margin.specs.declared.amount.Amount.{Amount}
-use Rattle.margin.specs.declared.line.Line.{Line}
+use Rattle.formulas.specs.declared.amount.Amount.{Amount}
+use Rattle.formulas.specs.declared.line.Line.{Line}
 use Rattle.margin.specs.Books.{contractBook, tableBook}
-use Rattle.margin.specs.Charges.{spreadCharge, promptCharge}
-use Rattle.margin.specs.Contract.{Contract, contractFrom, contracts, contractNet, asTier, tableSteps}
-use Rattle.margin.specs.Contract.{opensOf, numbersOf, usedDeltas, unusedDeltas, interpromptOf, promptOf}
-use Rattle.margin.specs.Credit.{totalOf}
-use Rattle.margin.specs.Deltas.{rowDelta, netDeltas}
+use Rattle.formulas.specs.Charges.{spreadCharge, promptCharge}
+use Rattle.formulas.specs.Contract.{Contract, contractFrom, contracts, contractNet, asTier, tableSteps, opensOf, stepNumbers, usedDeltas, unusedDeltas}
+use Rattle.formulas.specs.Contract.{interpromptOf, promptOf}
+use Rattle.formulas.specs.Credit.{totalOf}
+use Rattle.formulas.specs.Deltas.{rowDelta, netDeltas}
 use Rattle.margin.specs.Figures.{figures}
-use Rattle.margin.specs.Lines.{eightsFrom}
-use Rattle.margin.specs.Margin.{shortOptions}
-use Rattle.margin.specs.Scanning.{product}
+use Rattle.formulas.specs.code.Lines.{eightsFrom}
+use Rattle.formulas.specs.Margin.{shortOptions}
+use Rattle.formulas.specs.Scanning.{product}
 
 -- ---- totals, net deltas and short lots are sums in which each row counts once
 
@@ -60,7 +60,7 @@ overPlaces (suc n) f = f 0 + overPlaces n (λ i. f (suc i))
 
 -- the charge of a contract's spread, or prompt, at a place
 abbrev pub spreadAt : Contract → ℕ → ℕ
-spreadAt k i = spreadCharge (unit (k .own)) (ratePerSpread (getD (k .spreads) i [])) (getD (numbersOf k) (2 * i) 0) (getD (numbersOf k) (2 * i + 1) 0)
+spreadAt k i = spreadCharge (unit (k .own)) (ratePerSpread (getD (k .spreads) i [])) (getD (stepNumbers k) (2 * i) 0) (getD (stepNumbers k) (2 * i + 1) 0)
 
 abbrev pub promptAt : Contract → ℕ → ℕ
 promptAt k i =
@@ -73,7 +73,7 @@ pub record NothingOver (k : Contract) : Type 0 where
   pub opened : length (opensOf k) ≡ length (k .prompts)
   pub used : length (usedDeltas k) ≡ length (k .prompts)
   pub unused : length (unusedDeltas k) ≡ length (k .prompts)
-  pub formed : length (numbersOf k) ≡ 2 * length (k .spreads)
+  pub formed : length (stepNumbers k) ≡ 2 * length (k .spreads)
   pub book : length (contractBook k) ≡ 3 * length (k .prompts) + 2 * length (k .spreads) + 1
   -- each spread is charged for its two numbers, each prompt for its two deltas
   pub interprompt : interpromptOf k ≡ overPlaces (length (k .spreads)) (spreadAt k)

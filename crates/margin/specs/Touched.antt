@@ -5,8 +5,8 @@ use mathlib.Core.List.{List, map}
 use Rattle.record.specs.Layout.{Record}
 use Rattle.account.specs.Parts.{spreadsOf, entriesOf}
 use Rattle.spread.specs.Touches.{Touched}
-use Rattle.margin.specs.Contract.{contracts, partsOf, asTier, opensOf}
-use Rattle.margin.specs.Deltas.{interprompt, intercontract}
+use Rattle.formulas.specs.Contract.{contracts, partsOf, asTier, opensOf}
+use Rattle.formulas.specs.Deltas.{interprompt, intercontract}
 
 pub record TouchesCounted (account : List Record) : Type 0 where
   -- of a contract's prompts, by its interprompt spreads

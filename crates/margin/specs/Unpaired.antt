@@ -8,10 +8,10 @@ use mathlib.Core.Path.{_≡_}
 use mathlib.Core.Bool.{true}
 use Rattle.spread.specs.Again.{NothingToPair}
 use Rattle.spread.specs.Demand.{wholeSteps}
-use Rattle.margin.specs.Contract.{contracts, partsOf, asTier, stepsOf, opensOf, tableSteps}
+use Rattle.formulas.specs.Contract.{contracts, partsOf, asTier, contractSteps, opensOf, tableSteps}
 
 pub record NothingOpen (account : List Record) : Type 0 where
-  pub interprompt : (c : ℕ) → NothingToPair (stepsOf (partsOf account c)) (opensOf (partsOf account c))
+  pub interprompt : (c : ℕ) → NothingToPair (contractSteps (partsOf account c)) (opensOf (partsOf account c))
   -- for entries whose ratios are whole
   pub intercontract : wholeSteps (tableSteps (entriesOf account)) ≡ true
       → NothingToPair (tableSteps (entriesOf account)) (map asTier (contracts account))

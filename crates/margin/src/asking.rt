@@ -3,8 +3,6 @@
 use crate::books::book_by;
 use crate::books::book_count;
 use crate::books::put_book;
-use crate::line::Line;
-use crate::line::line_by;
 use crate::numbers::LONGEST_BOOK;
 use crate::numbers::LONGEST_USES;
 use crate::over::Lines;
@@ -22,8 +20,6 @@ use crate::positions::Positions;
 use crate::positions::asking_from;
 use crate::positions::lines_from;
 use crate::positions::tiers_from;
-use crate::rows::Position;
-use crate::rows::position_of;
 use crate::uses::Asking;
 use crate::uses::put_uses;
 use crate::uses::uses_count;
@@ -43,6 +39,10 @@ use account::parts::ROWS;
 use account::parts::SPREADS;
 use account::rates::Rates;
 use account::rates::rates_of;
+use formulas::line::Line;
+use formulas::line::line_by;
+use formulas::rows::Position;
+use formulas::rows::position_of;
 use record::fields::unit;
 use spread::Prompts;
 ghost use mathlib.Core.Path.{_≡_};
@@ -53,30 +53,22 @@ ghost use lib.ListN.{length};
 ghost use Rattle.record.specs.Layout.{Record, mostContract};
 ghost use Rattle.account.specs.Check.{mostContracts};
 ghost use Rattle.account.specs.Parts.{promptsOf, spreadsOf, ratesOf};
-ghost use Rattle.account.specs.Products.{RatesOf};
-ghost use Rattle.account.specs.Standing.{Stands, accountOf};
+ghost use Rattle.account.specs.code.Rates.{RatesOf};
+ghost use Rattle.account.specs.code.Standing.{Stands};
+ghost use Rattle.account.specs.Joined.{accountOf};
 ghost use Rattle.account.specs.Records.{records};
 ghost use Rattle.spread.specs.Accepted.{sound};
-ghost use Rattle.spread.specs.Book.{Booked};
-ghost use Rattle.margin.specs.Beside.{Besides, LinesKnown, LinedBy, TiersKnown};
+ghost use Rattle.spread.specs.code.Book.{Booked};
+ghost use Rattle.margin.specs.code.Beside.{Besides, LinesKnown, LinedBy, TiersKnown};
 ghost use Rattle.margin.specs.Books.{answered, tableQuestion};
-ghost use Rattle.margin.specs.Bounds.{longestBook, longestUses};
-ghost use Rattle.margin.specs.Lined.{TiersIn};
-ghost use Rattle.margin.specs.Positions.{Told, Known, ToldOf, ContractIn};
-ghost use Rattle.margin.specs.Promised.{BookFit, LineOf, PositionFit, contractWith};
-ghost use Rattle.margin.specs.Questions.{answerOver, afterOver, needOver, mostFor, SizesOf, AskedBy};
-ghost use Rattle.margin.specs.Places.{
-  questions,
-  atPlace,
-  lentPlace,
-  ContractLent,
-  ContractsLent,
-  questionOf,
-  widthOf,
-  allOver,
-  afterAllOver,
-  EverythingOf,
-};
+ghost use Rattle.formulas.specs.Bounds.{longestBook, longestUses};
+ghost use Rattle.margin.specs.code.Lined.{TiersIn};
+ghost use Rattle.margin.specs.code.Positions.{Told, Known, ToldOf, ContractIn};
+ghost use Rattle.formulas.specs.code.Promised.{BookFit, LineOf, PositionFit, contractWith};
+ghost use Rattle.margin.specs.Questions.{answerOver, afterOver, needOver, mostFor};
+ghost use Rattle.margin.specs.code.Asked.{SizesOf, AskedBy};
+ghost use Rattle.margin.specs.Places.{questions, atPlace, lentPlace, questionOf, widthOf, allOver, afterAllOver};
+ghost use Rattle.margin.specs.code.Lent.{ContractLent, ContractsLent, EverythingOf};
 ghost use Rattle.margin.specs.declared.asking.Question.{Question};
 ghost use Rattle.margin.specs.declared.asking.Question.the-variants.{Figures, Book, Uses};
 

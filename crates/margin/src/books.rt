@@ -1,10 +1,7 @@
-// The delta book of a contract, and the numbers of a question's book, by the spread steps.
+// The numbers of a question's book, by the spread steps.
 use crate::numbers::put;
 use crate::numbers::put_prompts;
 use crate::numbers::put_spreads;
-use crate::tables::interprompt_table;
-use crate::tables::prompts_with;
-use record::bytes::RECORD_BYTES;
 use spread::Delta;
 use spread::MOST_PROMPTS;
 use spread::MOST_SPREADS;
@@ -16,42 +13,21 @@ use spread::book::book_of_accepted;
 use spread::touches::touches_of;
 ghost use mathlib.Core.Path.{_≡_};
 ghost use mathlib.Core.Bool.{true};
-ghost use mathlib.Core.List.{[], map};
+ghost use mathlib.Core.List.{[]};
 ghost use Prim.Native.Nat.{_+_, _*_, _≤_};
 ghost use lib.ListN.{length};
 ghost use lib.Seq.{sets};
-ghost use Rattle.account.specs.Records.{records};
 ghost use Rattle.spread.specs.Accepted.{openOf, stepsOf, soundPrompts, sound};
-ghost use Rattle.spread.specs.Book.{Booked, entries, deltaEntry};
-ghost use Rattle.spread.specs.Passing.{FormedBy};
-ghost use Rattle.spread.specs.Steps.{steps, unusedOf};
+ghost use Rattle.spread.specs.code.Book.{Booked, byPlace, deltaEntry};
+ghost use Rattle.spread.specs.code.Passing.{FormedBy};
+ghost use Rattle.spread.specs.Steps.{unusedOf};
 ghost use Rattle.spread.specs.Touches.{touches};
 ghost use Rattle.margin.specs.Books.{bookBy};
-ghost use Rattle.margin.specs.Deltas.{opens, interprompt};
-ghost use Rattle.margin.specs.Sums.{deltasIn};
-ghost use Rattle.margin.specs.Promised.{BookOf, BookRoom};
-
-// The book of a contract's interprompt spreads, over its prompts and their net deltas. Without spreads nothing is used.
-pub(crate) fn contract_book(prompts: &[u8], nets: [Delta; MOST_PROMPTS], spreads: &[u8]) -> Book
-    requires { ⌜ BookRoom (records (now prompts)) (deltasIn nets) (records (now spreads)) ⌝ }
-    ensures { λ r. ⌜ BookOf (steps (map interprompt (records (now (spreads .entry))))) (opens (records (now (prompts .entry))) (deltasIn nets)) r ⌝ }
-{
-    if spreads.len() < RECORD_BYTES {
-        return Book {
-            accepted: true,
-            first: [Spreads(0); MOST_SPREADS],
-            second: [Spreads(0); MOST_SPREADS],
-            used: [Delta(0); MOST_PROMPTS],
-            unused: nets,
-        };
-    }
-    book_of_accepted(prompts_with(prompts, nets), interprompt_table(spreads))
-}
 
 // The net deltas of prompts, and 0 beyond them.
 fn nets_in(prompts: Prompts) -> [Delta; MOST_PROMPTS]
     requires { ⌜ soundPrompts prompts ≡ true ⌝ }
-    ensures { λ r. ⌜ r ≡ entries 32 (deltaEntry (unusedOf [] (openOf prompts))) ⌝ }
+    ensures { λ r. ⌜ r ≡ byPlace 32 (deltaEntry (unusedOf [] (openOf prompts))) ⌝ }
 {
     let n = prompts.count;
     let mut nets = [Delta(0); MOST_PROMPTS];

@@ -7,7 +7,8 @@ use account::answers::Answer;
 use judging::Verdict;
 use judging::judge;
 ghost use mathlib.Core.Path.{_≡_};
-ghost use Rattle.account.specs.Standing.{Stands, accountOf};
+ghost use Rattle.account.specs.code.Standing.{Stands};
+ghost use Rattle.account.specs.Joined.{accountOf};
 ghost use Rattle.margin.specs.Lists.{saidOf, judgedOver};
 
 // What comes back for a list: a refusal, or what is said of it. A step is named by its place, from 0.

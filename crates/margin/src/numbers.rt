@@ -1,10 +1,10 @@
 // Answers: numbers written to lent memory.
-use crate::amount::Amount;
-use crate::amount::margin;
-use crate::amount::risk;
-use crate::line::Line;
 use account::parts::CONTRACTS;
 use exact::signed::as_signed;
+use formulas::amount::Amount;
+use formulas::amount::margin;
+use formulas::amount::risk;
+use formulas::line::Line;
 use spread::Delta;
 use spread::MOST_PROMPTS;
 use spread::MOST_SPREADS;
@@ -16,11 +16,11 @@ ghost use lib.IntN.{pos};
 ghost use lib.ListN.{length, take, set};
 ghost use lib.Seq.{sets};
 ghost use Rattle.account.specs.Check.{mostPrompts};
-ghost use Rattle.margin.specs.Bounds.{mostRisk, mostCredits};
-ghost use Rattle.margin.specs.Lines.{LineWithin, marginWith, eightOf, figuresFrom};
-ghost use Rattle.margin.specs.Numbers.{LinesWithin, SpreadsSigned};
+ghost use Rattle.formulas.specs.Bounds.{mostRisk, mostCredits};
+ghost use Rattle.formulas.specs.code.Lines.{LineWithin, marginWith, eightOf, figuresFrom};
+ghost use Rattle.margin.specs.code.Numbers.{LinesWithin, SpreadsSigned};
 ghost use Rattle.margin.specs.Books.{threes};
-ghost use Rattle.margin.specs.Sums.{interleaved, deltasIn};
+ghost use Rattle.formulas.specs.code.Sums.{interleaved, deltasIn};
 
 // The most numbers that the figures have: eight for each contract, and the total.
 pub const LONGEST_FIGURES: usize = 8 * CONTRACTS + 1;

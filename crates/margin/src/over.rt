@@ -1,17 +1,6 @@
 // What an account's answers are made of: the lines of its contracts, its figures, and what is asked about by a question.
-use crate::amount::Amount;
-use crate::intercontract::table_credits;
-use crate::line::Line;
-use crate::line::contract_net;
-use crate::line::line_of;
 use crate::numbers::LONGEST_FIGURES;
 use crate::numbers::put_lines;
-use crate::rows::Position;
-use crate::rows::nets_of;
-use crate::rows::position_of;
-use crate::tables::intercontract_table;
-use crate::tables::interprompt_table;
-use crate::tables::prompts_with;
 use crate::uses::Asking;
 use account::accounts::Account;
 use account::accounts::contract_number;
@@ -29,6 +18,17 @@ use account::rates::Rates;
 use account::rates::no_rates;
 use account::rates::rates_of;
 use exact::signed::magnitude;
+use formulas::amount::Amount;
+use formulas::intercontract::table_credits;
+use formulas::line::Line;
+use formulas::line::contract_net;
+use formulas::line::line_of;
+use formulas::rows::Position;
+use formulas::rows::nets_of;
+use formulas::rows::position_of;
+use formulas::tables::intercontract_table;
+use formulas::tables::interprompt_table;
+use formulas::tables::prompts_with;
 use record::fields::unit;
 use spread::Delta;
 use spread::MOST_PROMPTS;
@@ -41,19 +41,22 @@ ghost use lib.ListN.{length, getD};
 ghost use lib.Seq.{sets};
 ghost use Rattle.account.specs.Check.{mostContracts};
 ghost use Rattle.account.specs.Parts.{contractsOf, promptsOf, rowsOf, spreadsOf, entriesOf, ratesOf};
-ghost use Rattle.account.specs.Products.{RatesOf};
+ghost use Rattle.account.specs.code.Rates.{RatesOf};
 ghost use Rattle.account.specs.Records.{records};
-ghost use Rattle.account.specs.Standing.{Stands, accountOf};
+ghost use Rattle.account.specs.code.Standing.{Stands};
+ghost use Rattle.account.specs.Joined.{accountOf};
 ghost use Rattle.record.specs.Layout.{Record, mostContract, mostUnit};
-ghost use Rattle.margin.specs.Books.{answered, askedBy};
-ghost use Rattle.margin.specs.Contract.{contracts, partsIn, partsOf, asTier, stepsOf, opensOf, tableSteps};
+ghost use Rattle.margin.specs.Books.{answered};
+ghost use Rattle.margin.specs.code.Asked.{askedBy};
+ghost use Rattle.formulas.specs.Contract.{contracts, partsIn, partsOf, asTier, contractSteps, opensOf, tableSteps};
 ghost use Rattle.margin.specs.Figures.{figures, accountTotal};
-ghost use Rattle.margin.specs.Position.{RatedBy, withNets};
-ghost use Rattle.margin.specs.Promised.{LineOf, PositionFit, BookFit, contractWith};
-ghost use Rattle.margin.specs.Beside.{ownOf, unitOf, Besides, LinesKnown, TiersKnown};
-ghost use Rattle.margin.specs.Lines.{LineWithin, noLine};
-ghost use Rattle.margin.specs.Lined.{LinesOf, TierIs, TiersIn, PositionAt};
-ghost use Rattle.margin.specs.Uses.{stepsFor, opensFor, Asks};
+ghost use Rattle.formulas.specs.code.Position.{RatedBy, withNets};
+ghost use Rattle.formulas.specs.code.Promised.{LineOf, PositionFit, BookFit, contractWith};
+ghost use Rattle.margin.specs.code.Beside.{ownOf, unitOf, Besides, LinesKnown, TiersKnown};
+ghost use Rattle.formulas.specs.code.Lines.{LineWithin, noLine};
+ghost use Rattle.margin.specs.code.Lined.{LinesOf, TierIs, TiersIn, PositionAt};
+ghost use Rattle.margin.specs.Uses.{stepsFor, opensFor};
+ghost use Rattle.margin.specs.code.Asking.{Asks};
 
 // The question for the intercontract table; those below it are contracts.
 pub const TABLE: usize = CONTRACTS;
@@ -288,7 +291,7 @@ pub(crate) fn tiers_in(all: Lines) -> Prompts
 // A contract's prompts with their net deltas, and its interprompt spreads.
 pub(crate) fn contract_asking(prompts: &[u8], spreads: &[u8], p: Position) -> Asking
     requires { ⌜ BookFit (records (now prompts)) (records (now spreads)) p ⌝ }
-    ensures { λ r. ⌜ Asks (stepsOf (contractWith [] (records (now (prompts .entry))) (records (now (spreads .entry))) p))
+    ensures { λ r. ⌜ Asks (contractSteps (contractWith [] (records (now (prompts .entry))) (records (now (spreads .entry))) p))
         (opensOf (contractWith [] (records (now (prompts .entry))) (records (now (spreads .entry))) p)) r ⌝ }
 {
     let nets = p.nets;
@@ -309,7 +312,7 @@ pub(crate) fn asking_with<'a>(
     requires { ⌜ Stands (now morning) (now noon) account
         × ((c ≤ mostContract) × BookFit (promptsOf c (accountOf (now morning) (now noon))) (spreadsOf c (accountOf (now morning) (now noon))) p) ⌝ }
     ensures { λ r. ⌜ Asks
-        (stepsOf
+        (contractSteps
         (contractWith [] (promptsOf c (accountOf (now (morning .entry)) (now (noon .entry))))
         (spreadsOf c (accountOf (now (morning .entry)) (now (noon .entry)))) p))
         (opensOf
@@ -324,7 +327,7 @@ pub(crate) fn asking_with<'a>(
 // The same of a contract that stands in the files.
 fn asking_of<'a>(morning: &'a [u8], noon: &'a [u8], account: Account, c: usize) -> Asking
     requires { ⌜ Stands (now morning) (now noon) account × (c ≤ mostContract) ⌝ }
-    ensures { λ r. ⌜ Asks (stepsOf (partsOf (accountOf (now (morning .entry)) (now (noon .entry))) c))
+    ensures { λ r. ⌜ Asks (contractSteps (partsOf (accountOf (now (morning .entry)) (now (noon .entry))) c))
         (opensOf (partsOf (accountOf (now (morning .entry)) (now (noon .entry))) c)) r ⌝ }
 {
     let p = position_at(morning, noon, account, c, no_rates(), ONE_HUNDREDTH);

@@ -1,6 +1,4 @@
 // What the rows of each contract come to, worked out once for an account; and its lines, tiers and total from there.
-use crate::amount::Amount;
-use crate::line::contract_net;
 use crate::numbers::LONGEST_FIGURES;
 use crate::over::Lines;
 use crate::over::TABLE;
@@ -11,8 +9,6 @@ use crate::over::no_line;
 use crate::over::position_in;
 use crate::over::put_figures;
 use crate::over::table_asking;
-use crate::rows::Position;
-use crate::rows::flat;
 use crate::uses::Asking;
 use account::accounts::Account;
 use account::accounts::contract_number;
@@ -23,6 +19,10 @@ use account::parts::CONTRACTS;
 use account::parts::RATES;
 use account::rates::rates_of;
 use exact::signed::magnitude;
+use formulas::amount::Amount;
+use formulas::line::contract_net;
+use formulas::rows::Position;
+use formulas::rows::flat;
 use spread::Delta;
 use spread::MOST_PROMPTS;
 use spread::Prompts;
@@ -32,15 +32,17 @@ ghost use mathlib.Core.List.{List, map};
 ghost use Prim.Native.Nat.{_≤_, _<_};
 ghost use lib.IntN.{natAbs};
 ghost use Rattle.exact.specs.Lists.{sum, sumℤ};
-ghost use Rattle.account.specs.Standing.{Stands, accountOf};
+ghost use Rattle.account.specs.code.Standing.{Stands};
+ghost use Rattle.account.specs.Joined.{accountOf};
 ghost use Rattle.record.specs.Layout.{Record, mostContract};
 ghost use Rattle.margin.specs.Books.{answered};
-ghost use Rattle.margin.specs.Bounds.{mostDelta};
+ghost use Rattle.formulas.specs.Bounds.{mostDelta};
 ghost use Rattle.margin.specs.Figures.{accountTotal};
-ghost use Rattle.margin.specs.Lined.{LinesOf, TiersIn};
-ghost use Rattle.margin.specs.Positions.{PositionsOf, Told, Known};
-ghost use Rattle.margin.specs.Sums.{deltasIn};
-ghost use Rattle.margin.specs.Uses.{stepsFor, opensFor, Asks};
+ghost use Rattle.margin.specs.code.Lined.{LinesOf, TiersIn};
+ghost use Rattle.margin.specs.code.Positions.{PositionsOf, Told, Known};
+ghost use Rattle.formulas.specs.code.Sums.{deltasIn};
+ghost use Rattle.margin.specs.Uses.{stepsFor, opensFor};
+ghost use Rattle.margin.specs.code.Asking.{Asks};
 
 // How many records an account has, and what the rows of each contract number come to; nothing where it is not listed.
 pub struct Positions {

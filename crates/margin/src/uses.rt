@@ -12,10 +12,10 @@ ghost use lib.ListN.{length, take};
 ghost use lib.Seq.{sets};
 ghost use Rattle.account.specs.Check.{mostPrompts};
 ghost use Rattle.spread.specs.Accepted.{openOf, stepsOf, sound};
-ghost use Rattle.spread.specs.Cells.{stepOf};
+ghost use Rattle.spread.specs.Steps.{stepOf};
 ghost use Rattle.spread.specs.Uses.{takenOf, usesOf, soundFor};
-ghost use Rattle.margin.specs.Sums.{deltasIn};
-ghost use Rattle.margin.specs.Uses.{LeftBy};
+ghost use Rattle.formulas.specs.code.Sums.{deltasIn};
+ghost use Rattle.margin.specs.code.Asking.{LeftBy};
 
 // What a question asks about: prompts with their net deltas, or contracts as tiers, and the table of spreads over them.
 pub struct Asking {

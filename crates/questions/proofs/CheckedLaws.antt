@@ -11,7 +11,8 @@ use Rattle.record.specs.Layout.{Record}
 use Rattle.account.specs.Answers.{numberOf}
 use Rattle.account.specs.Checked.{checked}
 use Rattle.account.specs.Records.{records}
-use Rattle.account.specs.Standing.{Stands, CheckedBy, accountOf}
+use Rattle.account.specs.code.Standing.{Stands, CheckedBy}
+use Rattle.account.specs.Joined.{accountOf}
 use Rattle.account.specs.declared.accounts.Checked.{Checked}
 use Rattle.account.specs.declared.answers.Answer.{Answer}
 use Rattle.account.specs.declared.answers.Answer.the-variants.{Accepted}
@@ -19,7 +20,7 @@ use Rattle.account.proofs.Alone.{passes}
 use Rattle.account.proofs.Places.{alone}
 use Rattle.margin.specs.declared.asking.Question.{Question}
 use Rattle.margin.specs.Places.{allOver, afterAllOver}
-use Rattle.margin.specs.Questions.{accepted, ifAccepted, numbersFor, answerOver, afterOver, afterwards, needOver, mostFor}
+use Rattle.margin.specs.Questions.{notRefused, ifAccepted, numbersFor, answerOver, afterOver, afterwards, needOver, mostFor}
 use Rattle.margin.proofs.QuestionLaws.{accepted-only, if-refused, if-accepted, after-refused}
 use Rattle.questions.specs.Questions.{answerTo, afterTo, needTo, allTo, afterAllTo}
 
@@ -73,7 +74,7 @@ module _ (file : List ℕ) (r : Checked) (by : CheckedBy file r) where
     needed-accepted question n is = (
       is .0
           ∙ ap (λ (x : List Record). needOver x question) same
-          ∙ sym (ap (λ (a : Answer). cond (accepted a) (needOver (records file) question) 0) ok),
+          ∙ sym (ap (λ (a : Answer). cond (notRefused a) (needOver (records file) question) 0) ok),
       is .1,
     )
 
@@ -83,5 +84,5 @@ module _ (file : List ℕ) (r : Checked) (by : CheckedBy file r) where
     all-accepted paid lent a left is =
         let e = subst (λ (x : List Record). (a ≡ allOver paid x (length lent)) × (left ≡ afterAllOver paid x lent)) same is in (
           e .0 ∙ sym (if-accepted (checked file) (allOver paid (records file) (length lent)) ok),
-          e .1 ∙ sym (ap (λ (x : Answer). cond (accepted x) (afterAllOver paid (records file) lent) lent) ok),
+          e .1 ∙ sym (ap (λ (x : Answer). cond (notRefused x) (afterAllOver paid (records file) lent) lent) ok),
         )

@@ -1,10 +1,10 @@
 -- The three demands: 1 of any bytes, 2 of the definitions, 3 of every accepted account, whose spreads and entries are ones that
 -- the spread steps accept.
 -- Assumes nothing.
-use Prim.Native.Nat.{ℕ, zero, suc, _≤_, _<_}
+use Prim.Native.Nat.{ℕ, zero, suc, _≤_}
 use native.Mathlib.Omega.{arith}
 use mathlib.Core.Path.{_≡_, refl, sym, ap, _∙_}
-use mathlib.Core.Bool.{true, false}
+use mathlib.Core.Bool.{true}
 use mathlib.Core.List.{List, [], map}
 use mathlib.Core.Logic.{⊎-elim}
 use lib.ListN.{length, getD}
@@ -14,7 +14,7 @@ use Rattle.account.specs.Checked.{checked}
 use Rattle.account.specs.Claims.{Iff}
 use Rattle.account.specs.Lawful.{Lawful}
 use Rattle.account.specs.Noon.{clear, joinedVerdict}
-use Rattle.account.specs.Standing.{accountOf}
+use Rattle.account.specs.Joined.{accountOf}
 use Rattle.account.specs.Parts.{entriesOf, spreadsOf}
 use Rattle.account.specs.Records.{records, recordCount}
 use Rattle.account.specs.declared.answers.Answer.{Answer}
@@ -31,17 +31,17 @@ use Rattle.spread.proofs.Stepping.{who-paid}
 use Rattle.margin.specs.declared.asking.Question.{Question}
 use Rattle.margin.specs.declared.asking.Question.the-variants.{Figures}
 use Rattle.margin.specs.Books.{tableQuestion}
-use Rattle.margin.specs.Contract.{contracts, partsOf, asTier, stepsOf, opensOf, tableSteps}
-use Rattle.margin.specs.Deltas.{interprompt, intercontract}
+use Rattle.formulas.specs.Contract.{contracts, partsOf, asTier, contractSteps, opensOf, tableSteps}
+use Rattle.formulas.specs.Deltas.{interprompt, intercontract}
 use Rattle.margin.specs.Questions.{numbersFor, answerOver}
 use Rattle.margin.specs.Uses.{contractUses, tableUses}
 use Rattle.margin.proofs.AcceptLaws.{none-within, contract-within, entries-within}
 use Rattle.margin.proofs.AskedLaws.{one-book, table-book, contract-asked, table-asked}
-use Rattle.margin.proofs.LineLaws.{spreads-sound, interprompt-whole}
+use Rattle.formulas.proofs.LineLaws.{spreads-sound, interprompt-whole}
 use Rattle.margin.proofs.QuestionLaws.{if-refused, if-accepted, after-refused}
 use Rattle.margin.proofs.Reckoned.{reckoned, printed}
 use Rattle.margin.proofs.Skipped.{file-skips-none}
-use Rattle.margin.proofs.TableLaws.{entry-accepted}
+use Rattle.formulas.proofs.TableLaws.{entry-accepted}
 use Rattle.questions.specs.Demands.{FileAsked, FiguresAsked, Demand1, Demand2, Demanded}
 use Rattle.questions.specs.Questions.{answerTo}
 use Rattle.questions.proofs.AskingLaws.{asking, lent-after}
@@ -130,7 +130,7 @@ demand2 = record { reckoned = reckoned; printed = printed; empty-accepted = refl
 -- ---- 3
 
 module _ (account : List Record) (law : Lawful account) where
-  interprompt-steps : (c : ℕ) → soundSteps (stepsOf (partsOf account c)) ≡ true
+  interprompt-steps : (c : ℕ) → soundSteps (contractSteps (partsOf account c)) ≡ true
   interprompt-steps c =
       let w = contract-within account law [] c none-within in
       steps-sound (map interprompt (spreadsOf c account)) (spreads-sound interprompt (spreadsOf c account) (λ k h. w .each-spread k h .sound))
@@ -143,12 +143,12 @@ module _ (account : List Record) (law : Lawful account) where
             record {
               writes = one-book account law c a n;
               takes = contract-asked account law contractUses tableUses (λ own. refl) c a n;
-              demand = demand3 (stepsOf (partsOf account c)) (opensOf (partsOf account c)) (interprompt-steps c);
-              paid = who-paid (stepsOf (partsOf account c)) (opensOf (partsOf account c)) (interprompt-steps c);
+              demand = demand3 (contractSteps (partsOf account c)) (opensOf (partsOf account c)) (interprompt-steps c);
+              paid = who-paid (contractSteps (partsOf account c)) (opensOf (partsOf account c)) (interprompt-steps c);
             };
         firstWords =
             λ c.
-            demand3 (stepsOf (partsOf account c)) (opensOf (partsOf account c)) (interprompt-steps c) .firstWords
+            demand3 (contractSteps (partsOf account c)) (opensOf (partsOf account c)) (interprompt-steps c) .firstWords
             (interprompt-whole (spreadsOf c account));
         intercontract =
             let w = entries-within account law in

@@ -6,11 +6,11 @@ use mathlib.Core.List.{List}
 use lib.IntN.{ℤ}
 use lib.ListN.{length}
 use denote.Ref.{RefT, now}
-use Rattle.account.specs.Standing.{CheckedBy}
+use Rattle.account.specs.code.Standing.{CheckedBy}
 use Rattle.account.specs.declared.answers.Answer.{Answer}
 use Rattle.account.proofs.OneJoined.{one-file}
 use Rattle.margin.specs.declared.asking.Question.{Question}
-use Rattle.questions.specs.Held.{FromCheck, AllAnswered}
+use Rattle.questions.specs.code.Held.{FromCheck}
 use Rattle.questions.specs.Questions.{answerTo, afterTo, needTo}
 use Rattle.questions.specs.declared.held.Asked.{Asked}
 use Rattle.questions.specs.declared.held.Held.{Held}

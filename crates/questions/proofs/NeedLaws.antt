@@ -1,6 +1,6 @@
 -- As many numbers as a question needs are enough, and fewer are refused with 10: over an account, a file and a pair of files.
 -- Assumes nothing.
-use Prim.Native.Nat.{ℕ, zero, suc, _≤_, _<_}
+use Prim.Native.Nat.{ℕ, zero, suc}
 use native.Mathlib.Omega.{arith}
 use mathlib.Core.Path.{_≡_, refl, sym, ap, _∙_}
 use mathlib.Core.Bool.{Bool, true, false, cond}
@@ -12,14 +12,14 @@ use Rattle.account.specs.Answers.{numberOf}
 use Rattle.account.specs.Checked.{checked}
 use Rattle.account.specs.Noon.{ofJoined, clear, _then_, joinedVerdict}
 use Rattle.account.specs.Records.{records, recordCount}
-use Rattle.account.specs.Standing.{accountOf}
+use Rattle.account.specs.Joined.{accountOf}
 use Rattle.account.specs.declared.answers.Answer.{Answer}
 use Rattle.account.specs.declared.answers.Answer.the-variants.{Accepted, TooFewNumbers, NoSuchQuestion}
 use Rattle.account.specs.declared.noon.Verdict.{Verdict}
 use Rattle.account.proofs.NoonLaws.{stops, goes}
 use Rattle.account.proofs.Walk.{length-cut}
 use Rattle.margin.specs.declared.asking.Question.{Question}
-use Rattle.margin.specs.Questions.{accepted, ifAccepted, numbersFor, answers, asked, answerOver, needOver}
+use Rattle.margin.specs.Questions.{notRefused, ifAccepted, numbersFor, answers, asked, answerOver, needOver}
 use Rattle.margin.proofs.QuestionLaws.{some, accepted-only, if-refused, if-accepted, not-asked, asked-few, asked-many}
 use Rattle.questions.specs.Noon.{joinedAnswer, joinedNeed}
 use Rattle.questions.specs.Questions.{answerTo, needTo, Needed}
@@ -66,7 +66,7 @@ module _ (file : List ℕ) (question : Question) where
       go : (n : ℕ) → numberOf (checked file) ≡ n → Needed otherwise (recordCount file) (answerTo file question) (needTo file question)
       go zero e =
           let ok = accepted-only (checked file) e in
-          let n : needTo file question ≡ needOver (records file) question = ap (λ (a : Answer). cond (accepted a) (needOver (records file) question) 0) ok in
+          let n : needTo file question ≡ needOver (records file) question = ap (λ (a : Answer). cond (notRefused a) (needOver (records file) question) 0) ok in
           let is = if-accepted (checked file) in
           record {
             enough = λ lent h. is _ ok ∙ over .enough lent (omega (arith, n, h)) ∙ sym (is _ ok);

@@ -1,7 +1,6 @@
 -- What a question over a pair of files answers and leaves behind, and the call.
 -- Assumes nothing.
 use Prim.Native.Nat.{ℕ, _+_, _-_, _≤_, _<_, zero-le}
-use native.Mathlib.Omega.{arith}
 use mathlib.Core.Path.{_≡_, sym, ap, _∙_}
 use mathlib.Core.Bool.{Bool, true, false, _&&_, _||_, cond, false≢true}
 use mathlib.Core.List.{List}
@@ -12,21 +11,23 @@ use lib.ListN.{length}
 use Rattle.record.specs.Layout.{Record}
 use Rattle.record.proofs.Within.{neither}
 use Rattle.account.specs.Answers.{numberOf}
-use Rattle.account.specs.Noon.{ofJoined, clear, _then_, joinedVerdict, PairBy}
-use Rattle.account.specs.Standing.{Stands, accountOf}
+use Rattle.account.specs.Noon.{ofJoined, clear, _then_, joinedVerdict}
+use Rattle.account.specs.code.Pair.{PairBy}
+use Rattle.account.specs.code.Standing.{Stands}
+use Rattle.account.specs.Joined.{accountOf}
 use Rattle.account.specs.declared.answers.Answer.{Answer}
 use Rattle.account.specs.declared.answers.Answer.the-variants.{Accepted, AmountOutside}
 use Rattle.account.specs.declared.noon.CheckedPair.{CheckedPair}
 use Rattle.account.specs.declared.noon.Verdict.{Verdict}
 use Rattle.account.proofs.NoonLaws.{stops, goes, joined-accepted}
-use Rattle.margin.specs.declared.amount.Amount.{Amount}
+use Rattle.formulas.specs.declared.amount.Amount.{Amount}
 use Rattle.margin.specs.declared.asking.Question.{Question}
 use Rattle.margin.specs.Places.{allOver, afterAllOver}
 use Rattle.margin.specs.Questions.{numbersFor, answerOver, afterOver, afterwards, needOver, mostFor}
 use Rattle.margin.proofs.QuestionLaws.{some, after-refused}
 use Rattle.questions.specs.declared.noon.AskedPair.{AskedPair}
-use Rattle.questions.specs.Noon.{joinedAnswer, afterJoined, joinedNeed, joinedAll, afterJoinedAll}
-use Rattle.questions.specs.Noon.{requirement, coverCall, mostAmount, beyondAmount, amountsWithin, callVerdict, joinedCall}
+use Rattle.questions.specs.Noon.{joinedAnswer, afterJoined, joinedNeed, joinedAll, afterJoinedAll, requirement, coverCall, mostAmount, beyondAmount}
+use Rattle.questions.specs.Noon.{amountsWithin, callVerdict, joinedCall}
 
 module _ (morning noon : List ℕ) (r : CheckedPair) (by : PairBy morning noon r) where
   abbrev account : List Record

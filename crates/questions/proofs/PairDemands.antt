@@ -16,7 +16,7 @@ use Rattle.account.specs.Answers.{numberOf, recordOf}
 use Rattle.account.specs.Claims.{Iff}
 use Rattle.account.specs.Noon.{ofJoined, clear, _then_, joinedVerdict}
 use Rattle.account.specs.PairClaims.{OfMorning, OfNoon, OfJoined}
-use Rattle.account.specs.Standing.{accountOf}
+use Rattle.account.specs.Joined.{accountOf}
 use Rattle.account.specs.declared.answers.Answer.{Answer}
 use Rattle.account.specs.declared.answers.Answer.the-variants.{Accepted, AmountOutside}
 use Rattle.account.specs.declared.noon.Verdict.{Verdict}

@@ -11,13 +11,13 @@ use Rattle.account.specs.Answers.{numberOf}
 use Rattle.account.specs.Checked.{checked}
 use Rattle.account.specs.Noon.{ofJoined, clear, joinedVerdict}
 use Rattle.account.specs.Records.{records}
-use Rattle.account.specs.Standing.{accountOf}
+use Rattle.account.specs.Joined.{accountOf}
 use Rattle.account.specs.declared.answers.Answer.{Answer}
 use Rattle.account.specs.declared.answers.Answer.the-variants.{Accepted}
 use Rattle.account.specs.declared.noon.Verdict.{Verdict}
 use Rattle.account.proofs.NoonLaws.{stops, goes}
 use Rattle.margin.specs.Places.{questions, questionOf, widthOf, place, allOver, afterAllOver, EachPlace}
-use Rattle.margin.specs.Questions.{accepted, numbersFor, answerOver, afterwards}
+use Rattle.margin.specs.Questions.{notRefused, numbersFor, answerOver, afterwards}
 use Rattle.margin.proofs.PlaceLaws.{all-places}
 use Rattle.margin.proofs.QuestionLaws.{some, accepted-only, if-refused, if-accepted}
 use Rattle.questions.specs.Noon.{joinedAll, afterJoined, afterJoinedAll}
@@ -45,7 +45,7 @@ file-places paid file lent given = go (numberOf (checked file)) refl
         (λ q xs.
         ap (λ (a : Answer). afterwards a (numbersFor (records file) (questionOf paid q)) xs)
         (if-accepted (checked file) (answerOver (records file) (questionOf paid q) (length xs)) ok))
-        (ap (λ (a : Answer). cond (accepted a) (afterAllOver paid (records file) lent) lent) ok)
+        (ap (λ (a : Answer). cond (notRefused a) (afterAllOver paid (records file) lent) lent) ok)
         (all-places paid (records file) lent (sym (if-accepted (checked file) (allOver paid (records file) (length lent)) ok) ∙ given))
     go (suc k) e =
         let h : numberOf (checked file) ≡ 0 → ⊥ = λ z. some (sym e ∙ z) in

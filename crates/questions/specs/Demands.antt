@@ -22,7 +22,7 @@ use Rattle.spread.specs.Touches.{touches}
 use Rattle.spread.specs.Uses.{usesOf, WhoPaid}
 use Rattle.margin.specs.declared.asking.Question.{Question}
 use Rattle.margin.specs.Books.{threes, answered, book, tableQuestion}
-use Rattle.margin.specs.Contract.{contracts, partsOf, contractNet, asTier, stepsOf, opensOf, tableSteps}
+use Rattle.formulas.specs.Contract.{contracts, partsOf, contractNet, asTier, contractSteps, opensOf, tableSteps}
 use Rattle.margin.specs.Figures.{figures}
 use Rattle.margin.specs.Questions.{numbersFor, answers, answerOver, afterwards}
 use Rattle.margin.specs.Reckoned.{Reckoned, Printed}
@@ -100,9 +100,9 @@ pub record Holds (written taken nets : List ℤ) (ss : List (List Taker)) (ps : 
 
 pub record Demanded (account : List Record) : Type 0 where
   pub interprompt : (c : ℕ) → answered account c ≡ true → (c ≡ tableQuestion → ⊥)
-      → Holds (book account c) (uses account c) (partsOf account c .nets) (stepsOf (partsOf account c)) (opensOf (partsOf account c))
+      → Holds (book account c) (uses account c) (partsOf account c .nets) (contractSteps (partsOf account c)) (opensOf (partsOf account c))
   -- interprompt ratios are whole: there the demand also holds in its first words
-  pub firstWords : (c : ℕ) → FirstWords (stepsOf (partsOf account c)) (opensOf (partsOf account c))
+  pub firstWords : (c : ℕ) → FirstWords (contractSteps (partsOf account c)) (opensOf (partsOf account c))
   pub intercontract : Holds (book account tableQuestion) (uses account tableQuestion) (map contractNet (contracts account))
       (tableSteps (entriesOf account)) (map asTier (contracts account))
   -- "earlier dates": the prompts of a contract stand by their days

@@ -1,8 +1,7 @@
 -- Request 2026-01, "Noon against the morning": the questions over the joined account, and the call.
 -- Assumes nothing.
 use Prim.Native.Nat.{ℕ, _+_, _-_}
-use mathlib.Core.Path.{_≡_}
-use mathlib.Core.Bool.{Bool, true, false, _&&_, _||_, cond}
+use mathlib.Core.Bool.{Bool, _&&_, _||_, cond}
 use mathlib.Core.List.{List}
 use lib.Dec.{ltb}
 use lib.IntN.{ℤ, pos, natAbs}
@@ -10,11 +9,10 @@ use lib.ListN.{length}
 use lib.Signed.{ltZ}
 use Rattle.record.specs.Layout.{Record}
 use Rattle.account.specs.Noon.{ofJoined, clear, _then_, joinedVerdict}
-use Rattle.account.specs.Standing.{accountOf}
+use Rattle.account.specs.Joined.{accountOf}
 use Rattle.account.specs.declared.answers.Answer.{Answer}
 use Rattle.account.specs.declared.answers.Answer.the-variants.{Accepted, AmountOutside}
 use Rattle.account.specs.declared.noon.Verdict.{Verdict}
-use Rattle.questions.specs.declared.noon.AskedPair.{AskedPair}
 use Rattle.questions.specs.declared.noon.Call.{Call}
 use Rattle.margin.specs.declared.asking.Question.{Question}
 use Rattle.margin.specs.declared.asking.Question.the-variants.{Figures, Book, Uses}
@@ -61,15 +59,6 @@ joinedAll paid morning noon lent = joinedVerdict morning noon then ofJoined (all
 abbrev pub afterJoinedAll : Bool → List ℕ → List ℕ → List ℤ → List ℤ
 afterJoinedAll paid morning noon lent =
     cond (clear (joinedVerdict morning noon)) (afterAllOver paid (accountOf morning noon) lent) lent
-
--- a pair of files asked for everything: three verdicts, and the three lent memories afterwards
-pub record PairAllAnswered (morning noon : List ℕ) (figures books uses : List ℤ) (r : AskedPair) (figures′ books′ uses′ : List ℤ) : Type 0 where
-  pub figures-answer : r .figures ≡ joinedFigures morning noon (length figures)
-  pub figures-after : figures′ ≡ afterJoinedFigures morning noon figures
-  pub books-answer : r .books ≡ joinedAll false morning noon (length books)
-  pub books-after : books′ ≡ afterJoinedAll false morning noon books
-  pub uses-answer : r .uses ≡ joinedAll true morning noon (length uses)
-  pub uses-after : uses′ ≡ afterJoinedAll true morning noon uses
 
 -- the requirement: the total of the joined account's margins
 abbrev pub requirement : List Record → ℕ

@@ -11,14 +11,13 @@ use Rattle.account.specs.Answers.{numberOf, recordOf}
 use Rattle.account.specs.Claims.{Iff}
 use Rattle.account.specs.Noon.{clear, joinedVerdict}
 use Rattle.account.specs.PairClaims.{PairClaims}
-use Rattle.account.specs.Standing.{accountOf}
+use Rattle.account.specs.Joined.{accountOf}
 use Rattle.account.specs.declared.noon.Verdict.{Verdict}
 use Rattle.margin.specs.declared.asking.Question.{Question}
 use Rattle.margin.specs.Figures.{figures}
 use Rattle.margin.specs.Questions.{numbersFor, answers}
 use Rattle.questions.specs.Demands.{Lent}
-use Rattle.questions.specs.Noon.{joinedAnswer, joinedFigures, afterJoined}
-use Rattle.questions.specs.Noon.{requirement, coverCall, mostAmount, beyondAmount, callVerdict, joinedCall}
+use Rattle.questions.specs.Noon.{joinedAnswer, joinedFigures, afterJoined, requirement, coverCall, mostAmount, beyondAmount, callVerdict, joinedCall}
 
 -- a refusal of the joined account, "naming the joined record count"
 pub record NamesAll (morning noon : List ℕ) (v : Verdict) : Type 0 where

@@ -13,7 +13,7 @@ use Rattle.account.specs.declared.answers.Answer.the-variants.{TooFewNumbers}
 use Rattle.margin.specs.declared.asking.Question.{Question}
 use Rattle.margin.specs.declared.asking.Question.the-variants.{Figures, Book, Uses}
 use Rattle.margin.specs.Places.{allOver, afterAllOver}
-use Rattle.margin.specs.Questions.{accepted, ifAccepted, numbersFor, answerOver, afterwards, needOver}
+use Rattle.margin.specs.Questions.{notRefused, ifAccepted, numbersFor, answerOver, afterwards, needOver}
 
 -- "Order: 1, 2; then records from 0 up ..; then 11, then 10."
 abbrev pub answerTo : List ℕ → Question → ℕ → Answer
@@ -25,7 +25,7 @@ afterTo file question lent = afterwards (answerTo file question (length lent)) (
 
 -- how many numbers the answer has, 0 for a refused file and where the question is not answered
 abbrev pub needTo : List ℕ → Question → ℕ
-needTo file question = cond (accepted (checked file)) (needOver (records file) question) 0
+needTo file question = cond (notRefused (checked file)) (needOver (records file) question) 0
 
 -- the questions by their names
 abbrev pub figuresAnswer : List ℕ → ℕ → Answer
@@ -61,7 +61,7 @@ abbrev pub allTo : Bool → List ℕ → ℕ → Answer
 allTo paid file lent = ifAccepted (checked file) (allOver paid (records file) lent)
 
 abbrev pub afterAllTo : Bool → List ℕ → List ℤ → List ℤ
-afterAllTo paid file lent = cond (accepted (checked file)) (afterAllOver paid (records file) lent) lent
+afterAllTo paid file lent = cond (notRefused (checked file)) (afterAllOver paid (records file) lent) lent
 
 -- the seventeen books
 abbrev pub booksAnswer : List ℕ → ℕ → Answer

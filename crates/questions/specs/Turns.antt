@@ -1,13 +1,12 @@
 -- Beside the reckoned examples, where the paper's words turn: what counts as short, a half of a credit, the call at its two
 -- thresholds. One claim.
 -- Assumes nothing.
-use Prim.Native.Nat.{ℕ}
 use mathlib.Core.Path.{_≡_}
-use mathlib.Core.List.{List, [], _∷_}
+use mathlib.Core.List.{[], _∷_}
 use lib.IntN.{pos, negsuc}
 use lib.ListN.{replicate}
-use Rattle.margin.specs.Contract.{Contract, contractFrom, minimumOf}
-use Rattle.margin.specs.Credit.{credit}
+use Rattle.formulas.specs.Contract.{Contract, contractFrom, minimumOf}
+use Rattle.formulas.specs.Credit.{credit}
 use Rattle.margin.specs.Entered.{contractRecord, promptRecord, rowRecord}
 use Rattle.questions.specs.Noon.{coverCall}
 

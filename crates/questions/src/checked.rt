@@ -9,7 +9,7 @@ ghost use mathlib.Core.Path.{_≡_};
 ghost use mathlib.Core.List.{[]};
 ghost use Prim.Native.Nat.{_≤_};
 ghost use lib.ListN.{length};
-ghost use Rattle.account.specs.Standing.{CheckedBy};
+ghost use Rattle.account.specs.code.Standing.{CheckedBy};
 ghost use Rattle.margin.specs.Questions.{mostFor};
 ghost use Rattle.questions.specs.Questions.{answerTo, afterTo, needTo};
 

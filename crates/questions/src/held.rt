@@ -11,9 +11,9 @@ use margin::asking::everything_over;
 ghost use mathlib.Core.Path.{_≡_};
 ghost use Prim.Native.Nat.{_≤_};
 ghost use lib.ListN.{length};
-ghost use Rattle.account.specs.Standing.{CheckedBy};
+ghost use Rattle.account.specs.code.Standing.{CheckedBy};
 ghost use Rattle.margin.specs.Questions.{mostFor};
-ghost use Rattle.questions.specs.Held.{FromCheck, AllAnswered};
+ghost use Rattle.questions.specs.code.Held.{FromCheck, AllAnswered};
 ghost use Rattle.questions.specs.Questions.{answerTo, afterTo, needTo};
 
 // A view of a file's bytes with what the check handed out of them. Only `hold` makes one: its fields are of this module

@@ -8,7 +8,7 @@ use account::noon::Verdict;
 use account::noon::check_pair;
 use exact::signed::below;
 use exact::signed::magnitude;
-use margin::amount::Amount;
+use formulas::amount::Amount;
 use margin::asking::Question;
 use margin::asking::answer_over;
 use margin::asking::everything_over;
@@ -17,9 +17,11 @@ use margin::over::total_over;
 ghost use mathlib.Core.Path.{_≡_};
 ghost use Prim.Native.Nat.{_≤_};
 ghost use lib.ListN.{length};
-ghost use Rattle.account.specs.Noon.{ofJoined, PairBy};
+ghost use Rattle.account.specs.Noon.{ofJoined};
+ghost use Rattle.account.specs.code.Pair.{PairBy};
 ghost use Rattle.margin.specs.Questions.{mostFor};
-ghost use Rattle.questions.specs.Noon.{joinedAnswer, afterJoined, joinedNeed, PairAllAnswered, coverCall, mostAmount, beyondAmount, joinedCall};
+ghost use Rattle.questions.specs.Noon.{joinedAnswer, afterJoined, joinedNeed, coverCall, mostAmount, beyondAmount, joinedCall};
+ghost use Rattle.questions.specs.code.Held.{PairAllAnswered};
 
 // An answer about the joined account.
 fn of_joined(answer: Answer) -> Verdict

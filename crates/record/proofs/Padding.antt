@@ -9,7 +9,7 @@ use lib.Seq.{getD-set-same, getD-set-other}
 use lib.Dec.{eqb, ltb}
 use native.Mathlib.Omega.{arith}
 use borrow.Author.Tests.{ltb-true, ltb-false, eqb-true, eqb-false}
-use Rattle.record.specs.Bytes.{Record, byteAt, one, two, four, Width, Field, plainAt, numberIn}
+use Rattle.record.specs.Bytes.{Record, byteAt, one, two, four, Width, Field, plainAt, numberIn, recordBytes}
 use Rattle.record.specs.Layout.{fieldsOf}
 use Rattle.record.specs.Ranges.{beyond, outsideAmong, named, unusedByte, fieldOutside}
 use Rattle.record.proofs.Reading.{byte-past}
@@ -17,28 +17,28 @@ use Rattle.record.proofs.Tests.{both, any-same}
 
 -- ---- on the way: i bytes are copied, and zeros stand after them
 pub record Padding (r whole : List ℕ) (i : ℕ) : Type 0 where
-  pub long : length whole ≡ 96
+  pub long : length whole ≡ recordBytes
   pub inside : i ≤ length r
   pub copied : (o : ℕ) → o < i → byteAt whole o ≡ byteAt r o
   pub zeros : (o : ℕ) → i ≤ o → byteAt whole o ≡ 0
 
-pub padding-start : (r : List ℕ) → Padding r (replicate 96 0) 0
+pub padding-start : (r : List ℕ) → Padding r (replicate recordBytes 0) 0
 padding-start r =
     record {
-      long = length-replicate {A = ℕ} 96 0;
+      long = length-replicate {A = ℕ} recordBytes 0;
       inside = omega arith;
       copied = λ o h. absurd (omega arith);
-      zeros = λ o h. go o (ltb o 96) refl;
+      zeros = λ o h. go o (ltb o recordBytes) refl;
     }
   where
-    go : (o : ℕ) (t : Bool) → ltb o 96 ≡ t → byteAt (replicate 96 0) o ≡ 0
-    go o true e = getD-replicate {A = ℕ} 96 o 0 0 (ltb-true o 96 e)
+    go : (o : ℕ) (t : Bool) → ltb o recordBytes ≡ t → byteAt (replicate recordBytes 0) o ≡ 0
+    go o true e = getD-replicate {A = ℕ} recordBytes o 0 0 (ltb-true o recordBytes e)
     go o false e =
-        let l : length (replicate {A = ℕ} 96 0) ≤ o = omega (arith, ltb-false o 96 e, length-replicate {A = ℕ} 96 0) in
-        byte-past (replicate 96 0) o l
+        let l : length (replicate {A = ℕ} recordBytes 0) ≤ o = omega (arith, ltb-false o recordBytes e, length-replicate {A = ℕ} recordBytes 0) in
+        byte-past (replicate recordBytes 0) o l
 
 module _ {r whole : List ℕ} {i : ℕ} (p : Padding r whole i) where
-  pub padding-next : i < length r → i < 96 → Padding r (set whole i (getD r i 0)) (i + 1)
+  pub padding-next : i < length r → i < recordBytes → Padding r (set whole i (getD r i 0)) (i + 1)
   padding-next h g =
       record {
         long = length-set whole i (getD r i 0) ∙ p .long;
@@ -89,4 +89,4 @@ module _ (q r : Record) (same : (o : ℕ) → byteAt q o ≡ byteAt r o) where
 
   pub same-unused : unusedByte q ≡ unusedByte r
   same-unused =
-      any-same _ _ 96 0 (λ k l h. λ i. not (named (fields-same i) k) && not (eqb (same k i) 0))
+      any-same _ _ recordBytes 0 (λ k l h. λ i. not (named (fields-same i) k) && not (eqb (same k i) 0))

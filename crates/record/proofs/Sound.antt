@@ -7,17 +7,17 @@ use mathlib.Core.List.{List}
 use lib.ListN.{length}
 use lib.Dec.{eqb, leb}
 use borrow.Author.Tests.{eqb-true}
-use Rattle.record.specs.Bytes.{Record, Field}
+use Rattle.record.specs.Bytes.{Record, Field, recordBytes}
 use Rattle.record.specs.Layout.{kind, contract, fieldsOf}
 use Rattle.record.specs.Ranges.{unusedBeside, outsideAmong, unusedByte, fieldOutside, ofKindAndContract, sound}
 use Rattle.record.proofs.Within.{both-true, neither}
 
 module _ (n c : ℕ) (r : Record) where
-  pub sound-short : leb 96 (length r) ≡ false → false ≡ sound n c r
+  pub sound-short : leb recordBytes (length r) ≡ false → false ≡ sound n c r
   sound-short h = rw h
 
   pub sound-whole :
-      (fs : List Field) → (kind r ≡ n → fieldsOf r ≡ fs) → leb 96 (length r) ≡ true → {b u o : Bool}
+      (fs : List Field) → (kind r ≡ n → fieldsOf r ≡ fs) → leb recordBytes (length r) ≡ true → {b u o : Bool}
       → b ≡ ofKindAndContract n c r → u ≡ unusedBeside fs r → o ≡ outsideAmong fs r → b && not (u || o) ≡ sound n c r
   sound-whole fs f h {b} {u} {o} eb eu eo =
       λ i. go (ofKindAndContract n c r) refl i
@@ -43,7 +43,7 @@ module _ (n c : ℕ) (r : Record) where
 
   pub sound-known : sound n c r ≡ true → Sound
   sound-known h =
-      let a = both-true (leb 96 (length r)) _ h .1 in
+      let a = both-true (leb recordBytes (length r)) _ h .1 in
       let b = both-true (ofKindAndContract n c r) _ a in
       let k = both-true (eqb (kind r) n) _ (b .0) in
       let z = neither (unusedByte r) (fieldOutside r) (off (unusedByte r || fieldOutside r) (b .1)) in

@@ -11,13 +11,10 @@ use native.Mathlib.Omega.{arith}
 use borrow.Author.Tests.{leb-true, not-false, eqb-true, eqb-false}
 use mathlib.Core.Logic.{_⊎_, inl, inr, ⊎-elim}
 use Rattle.record.specs.Bytes.{Record, Field, countFrom, numberIn, plain, signed, twosComplement}
-use Rattle.record.specs.Layout.{kind, contract, shortOptionRate, unitField, unitOf, unit, tier, day, spreadRate, outrightRate, rowType}
-use Rattle.record.specs.Layout.{currency, value, put}
+use Rattle.record.specs.Layout.{kind, contract, shortOptionRate, unitField, unitOf, tier, day, spreadRate, outrightRate, rowType, currency, value, put}
 use Rattle.record.specs.Layout.{legCount, ratePerSpread, legTier, legSide, legRatio, secondContract, percent, firstRatio, secondRatio, tenths}
-use Rattle.record.specs.Layout.{mostEntryRatio}
-use Rattle.record.specs.Layout.{fieldsOf, contractFields, promptFields, rowFields, spreadFields, entryFields, rateFields, legFields, thirdLeg}
-use Rattle.record.specs.Layout.{rateCurrency, spotRate, adjustment}
-use Rattle.record.specs.Layout.{lotsField, deltaField, lossField, hundredThousands}
+use Rattle.record.specs.Layout.{mostEntryRatio, fieldsOf, contractFields, promptFields, rowFields, spreadFields, entryFields, rateFields, legFields}
+use Rattle.record.specs.Layout.{thirdLeg, rateCurrency, spotRate, adjustment, lotsField, deltaField, lossField, hundredThousands}
 use Rattle.record.specs.Ranges.{unknownKind, fieldOutside, beyond, outside, outsideAmong}
 use Rattle.record.specs.Within.{Between, ContractWithin, PromptWithin, RowWithin, LegWithin, SpreadWithin, EntryWithin, RateWithin}
 use Rattle.record.proofs.Dispatch.{of-contract, of-prompt, of-row, of-spread, of-entry, of-rate}

@@ -3,13 +3,10 @@
 use Prim.Native.Nat.{ℕ, _≤_}
 use mathlib.Core.Path.{_≡_}
 use lib.IntN.{natAbs}
-use Rattle.record.specs.Layout.{Record, contract, shortOptionRate, unit, mostUnit, tier, day, spreadRate, outrightRate}
-use Rattle.record.specs.Layout.{rowType, currency, lots, delta, value, loss}
-use Rattle.record.specs.Layout.{legCount, ratePerSpread, legTier, legSide, legRatio}
-use Rattle.record.specs.Layout.{secondContract, percent, firstRatio, secondRatio, tenths, mostEntryRatio}
-use Rattle.record.specs.Layout.{mostContract, mostDay, mostTier, mostRate, mostRatio, hundredThousand, mostValue, mostRowType, oneLot}
-use Rattle.record.specs.Layout.{scenarioCount, mostPercent}
-use Rattle.record.specs.Layout.{mostCurrency, rateCurrency, spotRate, mostSpotRate, adjustment, mostAdjustment}
+use Rattle.record.specs.Layout.{Record, contract, shortOptionRate, unit, mostUnit, tier, day, spreadRate, outrightRate, rowType, currency, lots, delta}
+use Rattle.record.specs.Layout.{value, loss, legCount, ratePerSpread, legTier, legSide, legRatio, secondContract, percent, firstRatio, secondRatio}
+use Rattle.record.specs.Layout.{tenths, mostEntryRatio, mostContract, mostDay, mostTier, mostRate, mostRatio, hundredThousand, mostValue, mostRowType}
+use Rattle.record.specs.Layout.{oneLot, scenarioCount, mostPercent, mostCurrency, rateCurrency, spotRate, mostSpotRate, adjustment, mostAdjustment}
 
 pub record Between (low x high : ℕ) : Type 0 where
   pub least : low ≤ x

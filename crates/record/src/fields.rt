@@ -1,11 +1,10 @@
 // The fields of a record, by document 01's table. Unsigned fields come as they stand, signed ones as signed numbers.
 ghost use mathlib.Core.Path.{_≡_};
 ghost use Prim.Native.Nat.{_<_};
-ghost use Rattle.record.specs.Layout.{kind, contract, shortOptionRate, unitField, unit, tier, day, spreadRate, outrightRate};
-ghost use Rattle.record.specs.Layout.{rowType, currency, strike, lots, delta, value, loss};
-ghost use Rattle.record.specs.Layout.{legCount, ratePerSpread, legTier, legSide, legRatio};
-ghost use Rattle.record.specs.Layout.{secondContract, percent, firstRatio, secondRatio, tenthsField, tenths};
-ghost use Rattle.record.specs.Layout.{rateCurrency, spotRate, adjustment};
+ghost use Rattle.record.specs.Layout as Layout;
+ghost use Rattle.record.specs.Layout.{shortOptionRate, unitField, spreadRate, outrightRate, rowType};
+ghost use Rattle.record.specs.Layout.{legCount, ratePerSpread, legTier, legSide, legRatio, secondContract, firstRatio};
+ghost use Rattle.record.specs.Layout.{secondRatio, tenthsField, rateCurrency, spotRate};
 ghost use Rattle.record.specs.Bytes.{numberIn};
 use crate::bytes::byte_at;
 use crate::bytes::i32_at;
@@ -17,13 +16,13 @@ use crate::layout;
 pub const SCENARIOS: usize = 16;
 
 pub fn kind(r: &[u8]) -> usize
-    ensures { λ n. ⌜ (n ≡ kind (now (r .entry))) × (n < 256) ⌝ }
+    ensures { λ n. ⌜ (n ≡ Layout.kind (now (r .entry))) × (n < 256) ⌝ }
 {
     byte_at(r, layout::KIND)
 }
 
 pub fn contract(r: &[u8]) -> usize
-    ensures { λ n. ⌜ (n ≡ contract (now (r .entry))) × (n < 256) ⌝ }
+    ensures { λ n. ⌜ (n ≡ Layout.contract (now (r .entry))) × (n < 256) ⌝ }
 {
     byte_at(r, layout::CONTRACT)
 }
@@ -44,7 +43,7 @@ pub(crate) fn unit_bytes(r: &[u8]) -> usize
 
 // The unit of a contract's amounts, in hundredths of the currency.
 pub fn unit(r: &[u8]) -> usize
-    ensures { λ n. ⌜ (n ≡ unit (now (r .entry))) × (n < 65536) ⌝ }
+    ensures { λ n. ⌜ (n ≡ Layout.unit (now (r .entry))) × (n < 65536) ⌝ }
 {
     let held = unit_bytes(r);
     if held == 0 { 1 } else { held }
@@ -52,13 +51,13 @@ pub fn unit(r: &[u8]) -> usize
 
 // Of a prompt; the day is also that of a row.
 pub fn tier(r: &[u8]) -> usize
-    ensures { λ n. ⌜ (n ≡ tier (now (r .entry))) × (n < 256) ⌝ }
+    ensures { λ n. ⌜ (n ≡ Layout.tier (now (r .entry))) × (n < 256) ⌝ }
 {
     byte_at(r, layout::TIER)
 }
 
 pub fn day(r: &[u8]) -> usize
-    ensures { λ n. ⌜ (n ≡ day (now (r .entry))) × (n < 4294967296) ⌝ }
+    ensures { λ n. ⌜ (n ≡ Layout.day (now (r .entry))) × (n < 4294967296) ⌝ }
 {
     u32_at(r, layout::DAY)
 }
@@ -84,38 +83,38 @@ pub fn row_type(r: &[u8]) -> usize
 
 // 0 is the margin currency.
 pub fn currency(r: &[u8]) -> usize
-    ensures { λ n. ⌜ (n ≡ currency (now (r .entry))) × (n < 256) ⌝ }
+    ensures { λ n. ⌜ (n ≡ Layout.currency (now (r .entry))) × (n < 256) ⌝ }
 {
     byte_at(r, layout::CURRENCY)
 }
 
 pub fn strike(r: &[u8]) -> usize
-    ensures { λ n. ⌜ (n ≡ strike (now (r .entry))) × (n < 4294967296) ⌝ }
+    ensures { λ n. ⌜ (n ≡ Layout.strike (now (r .entry))) × (n < 4294967296) ⌝ }
 {
     u32_at(r, layout::STRIKE)
 }
 
 pub fn lots(r: &[u8]) -> i64
-    ensures { λ z. ⌜ z ≡ lots (now (r .entry)) ⌝ }
+    ensures { λ z. ⌜ z ≡ Layout.lots (now (r .entry)) ⌝ }
 {
     i32_at(r, layout::LOTS)
 }
 
 pub fn delta(r: &[u8]) -> i64
-    ensures { λ z. ⌜ z ≡ delta (now (r .entry)) ⌝ }
+    ensures { λ z. ⌜ z ≡ Layout.delta (now (r .entry)) ⌝ }
 {
     i32_at(r, layout::DELTA)
 }
 
 pub fn value(r: &[u8]) -> usize
-    ensures { λ n. ⌜ (n ≡ value (now (r .entry))) × (n < 4294967296) ⌝ }
+    ensures { λ n. ⌜ (n ≡ Layout.value (now (r .entry))) × (n < 4294967296) ⌝ }
 {
     u32_at(r, layout::VALUE)
 }
 
 // The loss in a scenario, 1 to 16.
 pub fn loss(r: &[u8], scenario: usize) -> i64
-    ensures { λ z. ⌜ z ≡ loss (now (r .entry)) scenario ⌝ }
+    ensures { λ z. ⌜ z ≡ Layout.loss (now (r .entry)) scenario ⌝ }
 {
     if scenario < 1 {
         return i32_at(r, layout::FIRST_LOSS);
@@ -179,7 +178,7 @@ pub fn second_contract(r: &[u8]) -> usize
 }
 
 pub fn percent(r: &[u8]) -> usize
-    ensures { λ n. ⌜ (n ≡ percent (now (r .entry))) × (n < 256) ⌝ }
+    ensures { λ n. ⌜ (n ≡ Layout.percent (now (r .entry))) × (n < 256) ⌝ }
 {
     byte_at(r, layout::PERCENT)
 }
@@ -204,7 +203,7 @@ pub(crate) fn tenths_byte(r: &[u8]) -> usize
 }
 
 pub fn tenths(r: &[u8]) -> bool
-    ensures { λ b. ⌜ b ≡ tenths (now (r .entry)) ⌝ }
+    ensures { λ b. ⌜ b ≡ Layout.tenths (now (r .entry)) ⌝ }
 {
     tenths_byte(r) == 1
 }
@@ -223,7 +222,7 @@ pub fn spot_rate(r: &[u8]) -> usize
 }
 
 pub fn adjustment(r: &[u8]) -> usize
-    ensures { λ n. ⌜ (n ≡ adjustment (now (r .entry))) × (n < 256) ⌝ }
+    ensures { λ n. ⌜ (n ≡ Layout.adjustment (now (r .entry))) × (n < 256) ⌝ }
 {
     byte_at(r, layout::ADJUSTMENT)
 }

@@ -6,9 +6,10 @@ ghost use lib.IntN.{pos, negℤ};
 ghost use Rattle.record.specs.Bytes.{plain, signed, countFrom};
 ghost use lib.ListN.{length};
 ghost use Rattle.record.specs.Layout.{recordBytes, contractRange, dayRange, tierRange, rateRange, ratioRange, entryRatioRange, hundredThousands};
-ghost use Rattle.record.specs.Layout.{contractFields, promptFields, rowHead, spreadFields, entryFields, rateFields};
-ghost use Rattle.record.specs.Layout.{strikeField, deltaField, forward, put, lossField, legFields, thirdLeg};
-ghost use Rattle.record.specs.Ranges.{beyond, outside, outsideAmong};
+ghost use Rattle.record.specs.Layout.{contractFields, promptFields, rowHead, spreadFields, entryFields, rateFields, strikeField, deltaField, forward};
+ghost use Rattle.record.specs.Layout.{put, lossField, legFields, thirdLeg};
+ghost use Rattle.record.specs.Ranges as Ranges;
+ghost use Rattle.record.specs.Ranges.{outside, outsideAmong};
 use crate::bytes::byte_in;
 use crate::bytes::u16_in;
 use crate::bytes::u32_in;
@@ -16,7 +17,7 @@ use crate::fields::SCENARIOS;
 use crate::layout;
 
 fn beyond(x: usize, low: usize, high: usize) -> bool
-    ensures { λ b. ⌜ b ≡ beyond (plain low high) x ⌝ }
+    ensures { λ b. ⌜ b ≡ Ranges.beyond (plain low high) x ⌝ }
 {
     !((low <= x) & (x <= high))
 }
@@ -24,37 +25,37 @@ fn beyond(x: usize, low: usize, high: usize) -> bool
 // Of 32 bits in two's complement: below -low or above high.
 fn signed_beyond(x: usize, low: usize, high: usize) -> bool
     requires { ⌜ (x < 4294967296) × ((low ≤ 2147483648) × (high < 2147483648)) ⌝ }
-    ensures { λ b. ⌜ b ≡ beyond (signed (negℤ (pos low)) (pos high)) x ⌝ }
+    ensures { λ b. ⌜ b ≡ Ranges.beyond (signed (negℤ (pos low)) (pos high)) x ⌝ }
 {
     !((x <= high) | (4294967296 - low <= x))
 }
 
-fn no_contract(x: usize) -> bool
-    ensures { λ b. ⌜ b ≡ beyond contractRange x ⌝ }
+fn contract_beyond(x: usize) -> bool
+    ensures { λ b. ⌜ b ≡ Ranges.beyond contractRange x ⌝ }
 {
     beyond(x, 0, 15)
 }
 
-fn no_day(x: usize) -> bool
-    ensures { λ b. ⌜ b ≡ beyond dayRange x ⌝ }
+fn day_beyond(x: usize) -> bool
+    ensures { λ b. ⌜ b ≡ Ranges.beyond dayRange x ⌝ }
 {
     beyond(x, 1, 99999999)
 }
 
-fn no_tier(x: usize) -> bool
-    ensures { λ b. ⌜ b ≡ beyond tierRange x ⌝ }
+fn tier_beyond(x: usize) -> bool
+    ensures { λ b. ⌜ b ≡ Ranges.beyond tierRange x ⌝ }
 {
     beyond(x, 1, 8)
 }
 
-fn no_rate(x: usize) -> bool
-    ensures { λ b. ⌜ b ≡ beyond rateRange x ⌝ }
+fn rate_beyond(x: usize) -> bool
+    ensures { λ b. ⌜ b ≡ Ranges.beyond rateRange x ⌝ }
 {
     beyond(x, 0, 10000000)
 }
 
-fn no_ratio(x: usize) -> bool
-    ensures { λ b. ⌜ b ≡ beyond ratioRange x ⌝ }
+fn ratio_beyond(x: usize) -> bool
+    ensures { λ b. ⌜ b ≡ Ranges.beyond ratioRange x ⌝ }
 {
     beyond(x, 1, 100)
 }
@@ -62,7 +63,7 @@ fn no_ratio(x: usize) -> bool
 // The hundred thousands of lots and losses, either way.
 fn too_many(x: usize) -> bool
     requires { ⌜ x < 4294967296 ⌝ }
-    ensures { λ b. ⌜ b ≡ beyond hundredThousands x ⌝ }
+    ensures { λ b. ⌜ b ≡ Ranges.beyond hundredThousands x ⌝ }
 {
     signed_beyond(x, 100000, 100000)
 }
@@ -71,23 +72,24 @@ pub(crate) fn contract_outside(r: &[u8]) -> bool
     requires { ⌜ recordBytes ≤ length (now r) ⌝ }
     ensures { λ b. ⌜ b ≡ outsideAmong contractFields (now (r .entry)) ⌝ }
 {
-    no_contract(byte_in(r, layout::CONTRACT))
-        | (no_rate(u32_in(r, layout::SHORT_OPTION_RATE)) | beyond(u16_in(r, layout::UNIT), 0, 1000))
+    contract_beyond(byte_in(r, layout::CONTRACT))
+        | (rate_beyond(u32_in(r, layout::SHORT_OPTION_RATE))
+            | beyond(u16_in(r, layout::UNIT), 0, 1000))
 }
 
 pub(crate) fn prompt_outside(r: &[u8]) -> bool
     requires { ⌜ recordBytes ≤ length (now r) ⌝ }
     ensures { λ b. ⌜ b ≡ outsideAmong promptFields (now (r .entry)) ⌝ }
 {
-    no_contract(byte_in(r, layout::CONTRACT))
-        | (no_tier(byte_in(r, layout::TIER))
-            | (no_day(u32_in(r, layout::DAY))
-                | (no_rate(u32_in(r, layout::SPREAD_RATE))
-                    | no_rate(u32_in(r, layout::OUTRIGHT_RATE)))))
+    contract_beyond(byte_in(r, layout::CONTRACT))
+        | (tier_beyond(byte_in(r, layout::TIER))
+            | (day_beyond(u32_in(r, layout::DAY))
+                | (rate_beyond(u32_in(r, layout::SPREAD_RATE))
+                    | rate_beyond(u32_in(r, layout::OUTRIGHT_RATE)))))
 }
 
 // A strike of 0 for a forward, any other otherwise.
-fn no_strike(r: &[u8]) -> bool
+fn strike_beyond(r: &[u8]) -> bool
     requires { ⌜ recordBytes ≤ length (now r) ⌝ }
     ensures { λ b. ⌜ b ≡ outside (now (r .entry)) (strikeField (forward (now (r .entry)))) ⌝ }
 {
@@ -99,7 +101,7 @@ fn no_strike(r: &[u8]) -> bool
 }
 
 // A delta not above 0 for a put, not below it otherwise.
-fn no_delta(r: &[u8]) -> bool
+fn delta_beyond(r: &[u8]) -> bool
     requires { ⌜ recordBytes ≤ length (now r) ⌝ }
     ensures { λ b. ⌜ b ≡ outside (now (r .entry)) (deltaField (put (now (r .entry)))) ⌝ }
 {
@@ -129,33 +131,33 @@ pub(crate) fn row_head_outside(r: &[u8]) -> bool
     requires { ⌜ recordBytes ≤ length (now r) ⌝ }
     ensures { λ b. ⌜ b ≡ outsideAmong (rowHead (now (r .entry))) (now (r .entry)) ⌝ }
 {
-    no_contract(byte_in(r, layout::CONTRACT))
+    contract_beyond(byte_in(r, layout::CONTRACT))
         | (beyond(byte_in(r, layout::ROW_TYPE), 0, 2)
             | (beyond(byte_in(r, layout::CURRENCY), 0, 7)
-                | (no_day(u32_in(r, layout::DAY))
-                    | (no_strike(r)
+                | (day_beyond(u32_in(r, layout::DAY))
+                    | (strike_beyond(r)
                         | (too_many(u32_in(r, layout::LOTS))
-                            | (no_delta(r) | beyond(u32_in(r, layout::VALUE), 1, 10000)))))))
+                            | (delta_beyond(r) | beyond(u32_in(r, layout::VALUE), 1, 10000)))))))
 }
 
-fn no_leg(r: &[u8], leg: usize) -> bool
+fn leg_beyond(r: &[u8], leg: usize) -> bool
     requires { ⌜ (leg ≤ 2) × (recordBytes ≤ length (now r)) ⌝ }
     ensures { λ b. ⌜ b ≡ outsideAmong (legFields leg) (now (r .entry)) ⌝ }
 {
-    no_tier(byte_in(r, layout::LEG_TIER + 4 * leg))
+    tier_beyond(byte_in(r, layout::LEG_TIER + 4 * leg))
         | (beyond(byte_in(r, layout::LEG_SIDE + 4 * leg), 1, 2)
-            | no_ratio(u16_in(r, layout::LEG_RATIO + 4 * leg)))
+            | ratio_beyond(u16_in(r, layout::LEG_RATIO + 4 * leg)))
 }
 
 // The third leg, where there is one.
-fn no_third_leg(r: &[u8]) -> bool
+fn third_leg_beyond(r: &[u8]) -> bool
     requires { ⌜ recordBytes ≤ length (now r) ⌝ }
     ensures { λ b. ⌜ b ≡ outsideAmong (thirdLeg (now (r .entry))) (now (r .entry)) ⌝ }
 {
     if byte_in(r, layout::LEG_COUNT) == 2 {
         false
     } else {
-        no_leg(r, 2)
+        leg_beyond(r, 2)
     }
 }
 
@@ -163,20 +165,20 @@ pub(crate) fn spread_outside(r: &[u8]) -> bool
     requires { ⌜ recordBytes ≤ length (now r) ⌝ }
     ensures { λ b. ⌜ b ≡ outsideAmong (spreadFields (now (r .entry))) (now (r .entry)) ⌝ }
 {
-    no_contract(byte_in(r, layout::CONTRACT))
+    contract_beyond(byte_in(r, layout::CONTRACT))
         | (beyond(byte_in(r, layout::LEG_COUNT), 2, 3)
-            | (no_rate(u32_in(r, layout::RATE_PER_SPREAD))
-                | (no_leg(r, 0) | (no_leg(r, 1) | no_third_leg(r)))))
+            | (rate_beyond(u32_in(r, layout::RATE_PER_SPREAD))
+                | (leg_beyond(r, 0) | (leg_beyond(r, 1) | third_leg_beyond(r)))))
 }
 
 // A ratio of an intercontract spread.
-fn no_entry_ratio(x: usize, in_tenths: bool) -> bool
-    ensures { λ b. ⌜ b ≡ beyond (entryRatioRange in_tenths) x ⌝ }
+fn entry_ratio_beyond(x: usize, in_tenths: bool) -> bool
+    ensures { λ b. ⌜ b ≡ Ranges.beyond (entryRatioRange in_tenths) x ⌝ }
 {
     if in_tenths {
         beyond(x, 1, 1000)
     } else {
-        no_ratio(x)
+        ratio_beyond(x)
     }
 }
 
@@ -185,11 +187,11 @@ pub(crate) fn entry_outside(r: &[u8]) -> bool
     ensures { λ b. ⌜ b ≡ outsideAmong (entryFields (now (r .entry))) (now (r .entry)) ⌝ }
 {
     let in_tenths = byte_in(r, layout::TENTHS) == 1;
-    no_contract(byte_in(r, layout::CONTRACT))
-        | (no_contract(byte_in(r, layout::SECOND_CONTRACT))
+    contract_beyond(byte_in(r, layout::CONTRACT))
+        | (contract_beyond(byte_in(r, layout::SECOND_CONTRACT))
             | (beyond(byte_in(r, layout::PERCENT), 0, 100)
-                | (no_entry_ratio(u16_in(r, layout::FIRST_RATIO), in_tenths)
-                    | (no_entry_ratio(u16_in(r, layout::SECOND_RATIO), in_tenths)
+                | (entry_ratio_beyond(u16_in(r, layout::FIRST_RATIO), in_tenths)
+                    | (entry_ratio_beyond(u16_in(r, layout::SECOND_RATIO), in_tenths)
                         | beyond(byte_in(r, layout::TENTHS), 0, 1)))))
 }
 

@@ -14,8 +14,8 @@ use Rattle.exact.specs.Lists.{sum}
 use Rattle.account.specs.Answers.{numberOf, recordOf}
 use Rattle.account.specs.declared.answers.Answer.{Answer}
 use Rattle.account.specs.declared.answers.Answer.the-variants.{Accepted, TooFewNumbers, LengthsDiffer}
-use Rattle.margin.specs.Bounds.{longestFigures}
-use Rattle.margin.specs.Questions.{accepted}
+use Rattle.formulas.specs.Bounds.{longestFigures}
+use Rattle.margin.specs.Questions.{notRefused}
 use Rattle.questions.specs.Questions.{figuresAnswer, afterFigures}
 use Rattle.runs.specs.Claims.{EachAccount, Lacking, Exactly, Untouched, Claims}
 use Rattle.margin.specs.Places.{place}
@@ -113,10 +113,10 @@ module _ (bytes lengths : List ℕ) (figures : List ℤ) (outcomes : List ℕ) w
   accounts = accountsOf lengths bytes
 
   -- the lent numbers, by whether the run is accepted
-  figures-by : (t : Bool) → accepted run ≡ t → runFigures bytes lengths (length outcomes) figures ≡ cond t (eachFigures accounts figures) figures
+  figures-by : (t : Bool) → notRefused run ≡ t → runFigures bytes lengths (length outcomes) figures ≡ cond t (eachFigures accounts figures) figures
   figures-by t e = ap (λ (t : Bool). cond t (eachFigures accounts figures) figures) e
 
-  outcomes-by : (t : Bool) → accepted run ≡ t → runOutcomes bytes lengths (length figures) outcomes ≡ cond t (eachOutcome accounts outcomes) outcomes
+  outcomes-by : (t : Bool) → notRefused run ≡ t → runOutcomes bytes lengths (length figures) outcomes ≡ cond t (eachOutcome accounts outcomes) outcomes
   outcomes-by t e = ap (λ (t : Bool). cond t (eachOutcome accounts outcomes) outcomes) e
 
   untouched : (numberOf run ≡ 0 → ⊥) → Untouched bytes lengths figures outcomes
@@ -142,7 +142,7 @@ module _ (bytes lengths : List ℕ) (figures : List ℤ) (outcomes : List ℕ) w
         (past outcomeNumbers afterOutcome keeps-outcome accounts outcomes outcomes-room);
   }
     where
-      yes : accepted run ≡ true
+      yes : notRefused run ≡ true
       yes = eq-eqb (numberOf run) 0 h
 
       fs : runFigures bytes lengths (length outcomes) figures ≡ eachFigures accounts figures

@@ -6,10 +6,10 @@ use native.Mathlib.Omega.{arith}
 use mathlib.Core.Path.{_≡_, refl, sym, ap, ap₂, subst, subst⁻¹, _∙_}
 use mathlib.Core.Bool.{Bool, true, false, cond, not, _||_}
 use mathlib.Core.List.{List, [], _∷_, _++_}
-use borrow.Author.Tests.{eqb-true, eq-eqb, ne-eqb, lt-ltb, le-ltb, ltb-false}
+use borrow.Author.Tests.{eqb-true, eq-eqb, ne-eqb, lt-ltb, le-ltb}
 use lib.Dec.{eqb, ltb}
 use lib.IntN.{ℤ}
-use lib.ListN.{length, length-append, length-drop, getD, take, drop, drop-of-length-le}
+use lib.ListN.{length, getD, take, drop, drop-of-length-le}
 use lib.Seq.{drop-cons, drop-drop}
 use Rattle.exact.specs.Lists.{sum}
 use Rattle.account.specs.Answers.{numberOf}
@@ -19,9 +19,9 @@ use Rattle.account.specs.declared.answers.Answer.{Answer}
 use Rattle.account.specs.declared.answers.Answer.the-variants.{Accepted, TooFewNumbers, LengthsDiffer}
 use Rattle.account.proofs.Alone.{lawful}
 use Rattle.account.proofs.NoonLaws.{accepted-only}
-use Rattle.margin.specs.Bounds.{longestFigures}
+use Rattle.formulas.specs.Bounds.{longestFigures}
 use Rattle.margin.specs.Figures.{figures}
-use Rattle.margin.specs.Questions.{accepted, enough, answerOver, afterwards}
+use Rattle.margin.specs.Questions.{notRefused, enough, answerOver, afterwards}
 use Rattle.margin.specs.declared.asking.Question.the-variants.{Figures}
 use Rattle.margin.proofs.PlaceLaws.{keeps-length}
 use Rattle.margin.proofs.QuestionLaws.{figures-length}
@@ -39,15 +39,15 @@ figures-fit account ok =
     omega (arith, n, k)
 
 pub verdict : (account : List ℕ) → figuresAnswer account longestFigures ≡ checked account
-verdict account = go (accepted (checked account)) refl
+verdict account = go (notRefused (checked account)) refl
   where
-    fits : accepted (checked account) ≡ true → enough (records account) (figures (records account)) longestFigures ≡ checked account
+    fits : notRefused (checked account) ≡ true → enough (records account) (figures (records account)) longestFigures ≡ checked account
     fits e =
         let ok = accepted-only (checked account) (eqb-true (numberOf (checked account)) 0 e) in
         let room = le-ltb longestFigures (length (figures (records account))) (figures-fit account ok) in
         ap (λ (t : Bool). cond t (TooFewNumbers (length (records account))) Accepted) room ∙ sym ok
 
-    go : (t : Bool) → accepted (checked account) ≡ t →
+    go : (t : Bool) → notRefused (checked account) ≡ t →
         cond t (enough (records account) (figures (records account)) longestFigures) (checked account) ≡ checked account
     go true e = fits e
     go false e = refl
@@ -57,13 +57,13 @@ module _ (file : List ℕ) (lent : List ℤ) where
   abbrev numbers : List ℤ
   numbers = figures (records file)
 
-  asked : (t : Bool) → accepted (checked file) ≡ t
+  asked : (t : Bool) → notRefused (checked file) ≡ t
       → length (afterwards (cond t (answerOver (records file) Figures (length lent)) (checked file)) numbers lent) ≡ length lent
   asked true e = keeps-length (records file) Figures lent
   asked false e = ap (λ (t : Bool). length (cond t (numbers ++ drop (length numbers) lent) lent)) e
 
   figures-keep : length (afterFigures file lent) ≡ length lent
-  figures-keep = asked (accepted (checked file)) refl
+  figures-keep = asked (notRefused (checked file)) refl
 
 pub keeps-figures : (file : List ℕ) (lent : List ℤ) → length lent ≡ longestFigures → length (afterFigures file lent) ≡ longestFigures
 keeps-figures file lent h = figures-keep file lent ∙ h
@@ -110,9 +110,9 @@ module _ (bytes lengths : List ℕ) (out : List ℤ) (outcomes : List ℕ) where
     pub out-is : out′ ≡ runFigures bytes lengths (length outcomes) out
     pub outcome-is : outcomes′ ≡ runOutcomes bytes lengths (length out) outcomes
 
-  refused : (r : Answer) → answer ≡ r → accepted r ≡ false → Answered r out outcomes
+  refused : (r : Answer) → answer ≡ r → notRefused r ≡ false → Answered r out outcomes
   refused r e f =
-      let no : accepted answer ≡ false = ap accepted e ∙ f in
+      let no : notRefused answer ≡ false = ap notRefused e ∙ f in
       record {
         is = sym e;
         out-is = sym (ap (λ (t : Bool). cond t (eachFigures (accountsOf lengths bytes) out) out) no);
@@ -151,8 +151,8 @@ module _ (bytes lengths : List ℕ) (out : List ℤ) (outcomes : List ℕ) where
         in
         record {
           is = sym yes;
-          out-is = eo ∙ sym (ap (λ (a : Answer). cond (accepted a) (eachFigures (accountsOf lengths bytes) out) out) yes);
-          outcome-is = et ∙ sym (ap (λ (a : Answer). cond (accepted a) (eachOutcome (accountsOf lengths bytes) outcomes) outcomes) yes);
+          out-is = eo ∙ sym (ap (λ (a : Answer). cond (notRefused a) (eachFigures (accountsOf lengths bytes) out) out) yes);
+          outcome-is = et ∙ sym (ap (λ (a : Answer). cond (notRefused a) (eachOutcome (accountsOf lengths bytes) outcomes) outcomes) yes);
         }
 
 -- ---- while the accounts are answered: those before i are, and the bytes of the others begin at `at`

@@ -10,7 +10,7 @@ use Rattle.exact.specs.Lists.{sum}
 use Rattle.account.specs.Answers.{numberOf, recordOf}
 use Rattle.account.specs.Checked.{checked}
 use Rattle.account.specs.Claims.{Iff}
-use Rattle.margin.specs.Bounds.{longestFigures}
+use Rattle.formulas.specs.Bounds.{longestFigures}
 use Rattle.questions.specs.Questions.{figuresAnswer, afterFigures}
 use Rattle.margin.specs.Places.{place}
 use Rattle.runs.specs.Runs.{outcomeNumbers, outcomeOf, runAnswer, runFigures, runOutcomes}

@@ -10,8 +10,8 @@ use Rattle.exact.specs.Lists.{sum}
 use Rattle.account.specs.Answers.{numberOf, recordOf}
 use Rattle.account.specs.declared.answers.Answer.{Answer}
 use Rattle.account.specs.declared.answers.Answer.the-variants.{Accepted, TooFewNumbers, LengthsDiffer}
-use Rattle.margin.specs.Bounds.{longestFigures}
-use Rattle.margin.specs.Questions.{accepted}
+use Rattle.formulas.specs.Bounds.{longestFigures}
+use Rattle.margin.specs.Questions.{notRefused}
 use Rattle.questions.specs.Questions.{figuresAnswer, afterFigures}
 
 -- "Take a run of accounts, each with its length": the accounts stand one after the other in what is lent
@@ -57,8 +57,8 @@ eachOutcome = eachPlace outcomeNumbers afterOutcome
 -- a run that is refused writes nothing; "A refused account's figures are not written."
 abbrev pub runFigures : List ℕ → List ℕ → ℕ → List ℤ → List ℤ
 runFigures bytes lengths outcomes lent =
-    cond (accepted (runAnswer bytes lengths (length lent) outcomes)) (eachFigures (accountsOf lengths bytes) lent) lent
+    cond (notRefused (runAnswer bytes lengths (length lent) outcomes)) (eachFigures (accountsOf lengths bytes) lent) lent
 
 abbrev pub runOutcomes : List ℕ → List ℕ → ℕ → List ℕ → List ℕ
 runOutcomes bytes lengths figures lent =
-    cond (accepted (runAnswer bytes lengths figures (length lent))) (eachOutcome (accountsOf lengths bytes) lent) lent
+    cond (notRefused (runAnswer bytes lengths figures (length lent))) (eachOutcome (accountsOf lengths bytes) lent) lent

@@ -9,7 +9,7 @@ ghost use Prim.Native.Nat.{_+_, _*_, _≤_};
 ghost use lib.Dec.{eqb};
 ghost use lib.ListN.{length};
 ghost use Rattle.exact.specs.Lists.{sum};
-ghost use Rattle.margin.specs.Bounds.{longestFigures};
+ghost use Rattle.formulas.specs.Bounds.{longestFigures};
 ghost use Rattle.questions.specs.Questions.{figuresAnswer, afterFigures};
 ghost use Rattle.runs.specs.Runs.{outcomeNumbers, outcomeOf, runAnswer, runFigures, runOutcomes};
 ghost use Rattle.margin.specs.Places.{atPlace};

@@ -1,6 +1,6 @@
 -- A ticket added to the lent bytes: what is told, and what they hold then, by where the ticket would stand.
 -- Assumes nothing.
-use Prim.Native.Nat.{ℕ, _+_, _*_, _≤_, _<_}
+use Prim.Native.Nat.{ℕ, _+_, _≤_, _<_}
 use native.Mathlib.Omega.{arith}
 use mathlib.Core.Path.{_≡_, sym, ap, _∙_}
 use mathlib.Core.List.{List, _++_}
@@ -9,13 +9,11 @@ use lib.Seq.{length-take-le}
 use Rattle.record.specs.Layout.{Record, recordBytes}
 use Rattle.account.specs.Answers.{numberOf}
 use Rattle.account.specs.Checked.{checked}
-use Rattle.account.specs.Records.{records}
-use Rattle.account.specs.declared.answers.Answer.{Answer}
 use Rattle.account.specs.declared.answers.Answer.the-variants.{Accepted, TooFewBytes}
 use Rattle.margin.proofs.QuestionLaws.{accepted-only}
-use Rattle.tickets.specs.Ticket.{place, withTicket, ticketChecked}
-use Rattle.screen.specs.Held.{PlacedIn, putAt}
-use Rattle.screen.specs.Inserting.{inserted}
+use Rattle.tickets.specs.Ticket.{withTicket, ticketChecked}
+use Rattle.screen.specs.code.Held.{PlacedIn, putAt}
+use Rattle.screen.specs.code.Inserting.{inserted}
 use Rattle.screen.specs.Screen.{held, orderAnswer}
 use Rattle.screen.specs.declared.Added.the-variants.{Refused, Holds}
 use Rattle.screen.specs.declared.Order.{Order}

@@ -6,42 +6,38 @@ use mathlib.Core.Path.{_≡_, refl, sym, ap, subst, subst⁻¹, _∙_}
 use mathlib.Core.Bool.{Bool, true, false, cond}
 use mathlib.Core.Logic.{_⊎_, inl, inr}
 use mathlib.Core.List.{List, _++_}
-use borrow.Author.Tests.{eqb-true, eqb-false, ltb-true, ltb-false, leb-true, leb-false, le-leb, lt-leb, ne-eqb}
+use borrow.Author.Tests.{eqb-true, eqb-false, ltb-true, ltb-false, leb-true, leb-false, le-leb, lt-leb}
 use lib.Dec.{leb, ltb}
 use lib.IntN.{ℤ, pos, natAbs}
-use lib.ListN.{length, length-append, length-drop, take, drop, take-append-drop}
+use lib.ListN.{length, length-append, length-drop, take, drop}
 use lib.Seq.{length-take-le, take-at, drop-at}
 use lib.Signed.{ltZ}
 use Rattle.record.specs.Layout.{Record, recordBytes}
 use Rattle.account.specs.Answers.{numberOf, recordOf}
 use Rattle.account.specs.Checked.{checked}
-use Rattle.account.specs.Claims.{Iff}
 use Rattle.account.specs.Records.{records}
 use Rattle.account.specs.declared.answers.Answer.{Answer}
-use Rattle.account.specs.declared.answers.Answer.the-variants.{Accepted, TooFewBytes, LimitBelowZero}
+use Rattle.account.specs.declared.answers.Answer.the-variants.{Accepted, TooFewBytes}
 use Rattle.margin.specs.Figures.{accountTotal}
-use Rattle.margin.specs.Questions.{accepted, ifAccepted}
-use Rattle.margin.specs.declared.amount.Amount.{Amount}
+use Rattle.margin.specs.Questions.{notRefused, ifAccepted}
 use Rattle.margin.proofs.QuestionLaws.{accepted-only, if-accepted, if-refused}
 use Rattle.tickets.specs.Ticket.{place, withTicket, ticketChecked}
 use Rattle.screen.specs.Claims.{Says, LoadExactly, OrderExactly, AddExactly, LimitExactly, AfterAdding, Adding, Agree, Claims}
-use Rattle.screen.specs.Screen.{held, loadAnswer, orderAnswer, noRoom, addAnswer, afterAdd, amountOf, totalHeld, totalRead, totalWith}
-use Rattle.screen.specs.Screen.{limitAnswer, weighed, limited, limitNumber, limitTotal}
-use Rattle.screen.specs.declared.Limited.{Limited}
+use Rattle.screen.specs.Screen.{held, loadAnswer, orderAnswer, noRoom, addAnswer, afterAdd, amountOf, totalHeld, totalWith, limitAnswer, weighed, limited}
+use Rattle.screen.specs.Screen.{limitNumber, limitTotal}
 use Rattle.screen.specs.declared.Limited.the-variants.{Refused, Within, Over}
-use Rattle.screen.specs.declared.Told.{Told}
 use Rattle.screen.specs.declared.Told.the-variants.{Refused as NoTotal, Total}
-use Rattle.screen.proofs.ScreenLaws.{both, lacking, all-lent, order-lacking, limit-below, limit-stands, put-long, Comes, not-added, when-added}
-use Rattle.screen.proofs.ScreenLaws.{add-refused, add-no-room, add-room}
+use Rattle.screen.proofs.ScreenLaws.{both, lacking, all-lent, order-lacking, limit-below, limit-stands, put-long, not-added, when-added, add-refused}
+use Rattle.screen.proofs.ScreenLaws.{add-no-room, add-room}
 use Rattle.screen.proofs.TicketLaws.{check-low, ticket-low, ticket-long, accepted-with, stands-within}
 
 -- ---- one answer, then the next
 
 module _ (a next : Answer) where
   either : (n k : ℕ) → Says (ifAccepted a next) n k → (n ≡ 0 → ⊥) → Says a n k ⊎ ((a ≡ Accepted) × Says next n k)
-  either n k says some = go (accepted a) refl
+  either n k says some = go (notRefused a) refl
     where
-      go : (t : Bool) → accepted a ≡ t → Says a n k ⊎ ((a ≡ Accepted) × Says next n k)
+      go : (t : Bool) → notRefused a ≡ t → Says a n k ⊎ ((a ≡ Accepted) × Says next n k)
       go true h =
           let ok = accepted-only a (eqb-true (numberOf a) 0 h) in
           inr (ok, subst (λ (x : Answer). Says x n k) (if-accepted a next ok) says)
@@ -54,9 +50,9 @@ module _ (a next : Answer) where
   next-says n k ok says = subst⁻¹ (λ (x : Answer). Says x n k) (if-accepted a next ok) says
 
   then-most : (m : ℕ) → numberOf a ≤ m → numberOf next ≤ m → numberOf (ifAccepted a next) ≤ m
-  then-most m f g = go (accepted a) refl
+  then-most m f g = go (notRefused a) refl
     where
-      go : (t : Bool) → accepted a ≡ t → numberOf (cond t next a) ≤ m
+      go : (t : Bool) → notRefused a ≡ t → numberOf (cond t next a) ≤ m
       go true h = g
       go false h = f
 
@@ -228,7 +224,7 @@ module _ (lent : List ℕ) (named : ℕ) where
         holds = holds;
         loads = loads;
         total =
-            ap (λ (a : Answer). cond (accepted a) (Total (amountOf (totalHeld after (named + recordBytes)))) (NoTotal a)) loads
+            ap (λ (a : Answer). cond (notRefused a) (Total (amountOf (totalHeld after (named + recordBytes)))) (NoTotal a)) loads
             ∙ ap (λ (xs : List ℕ). Total (amountOf (accountTotal (records xs)))) holds;
         beyond = ap (drop (named + recordBytes)) after-is ∙ drop-at with-it (drop (named + recordBytes) lent) (named + recordBytes) with-long;
         as-long = as-long;
@@ -257,13 +253,13 @@ module _ (lent : List ℕ) (named : ℕ) where
       total = totalWith lent named ticket
 
       -- a yes and a no, apart
-      said : (t : Bool) → accepted asked ≡ t → (u : Bool) → leb total (natAbs limit) ≡ u
+      said : (t : Bool) → notRefused asked ≡ t → (u : Bool) → leb total (natAbs limit) ≡ u
           → limited lent named ticket limit ≡ cond t (cond u (Within (amountOf total)) (Over (amountOf total))) (Refused asked)
       said t h u g =
           ap (λ (t : Bool). cond t (weighed (natAbs limit) total) (Refused asked)) h
           ∙ ap (λ (u : Bool). cond t (cond u (Within (amountOf total)) (Over (amountOf total))) (Refused asked)) g
 
-      yes-of : (n : ℕ) (t : Bool) → accepted asked ≡ t → (u : Bool) → leb total (natAbs limit) ≡ u → limited lent named ticket limit ≡ Within (amountOf n)
+      yes-of : (n : ℕ) (t : Bool) → notRefused asked ≡ t → (u : Bool) → leb total (natAbs limit) ≡ u → limited lent named ticket limit ≡ Within (amountOf n)
           → (asked ≡ Accepted) × ((total ≡ n) × (n ≤ natAbs limit))
       yes-of n true h true g e =
           let same : total ≡ n = ap limitTotal (sym (said true h true g) ∙ e) in
@@ -272,7 +268,7 @@ module _ (lent : List ℕ) (named : ℕ) where
       yes-of n true h false g e = absurd (let v : 2 ≡ 1 = ap limitNumber (sym (said true h false g) ∙ e) in omega (arith, v))
       yes-of n false h u g e = absurd (let v : 0 ≡ 1 = ap limitNumber (sym (said false h u g) ∙ e) in omega (arith, v))
 
-      no-of : (n : ℕ) (t : Bool) → accepted asked ≡ t → (u : Bool) → leb total (natAbs limit) ≡ u → limited lent named ticket limit ≡ Over (amountOf n)
+      no-of : (n : ℕ) (t : Bool) → notRefused asked ≡ t → (u : Bool) → leb total (natAbs limit) ≡ u → limited lent named ticket limit ≡ Over (amountOf n)
           → (asked ≡ Accepted) × ((total ≡ n) × (natAbs limit < n))
       no-of n true h false g e =
           let same : total ≡ n = ap limitTotal (sym (said true h false g) ∙ e) in
@@ -289,15 +285,15 @@ module _ (lent : List ℕ) (named : ℕ) where
           back = λ h. subst⁻¹ (λ (x : Answer). Says x n k) (limit-stands lent named ticket limit (h .0)) (h .1);
         };
         yes = λ n. record {
-          forth = yes-of n (accepted asked) refl (leb total (natAbs limit)) refl;
+          forth = yes-of n (notRefused asked) refl (leb total (natAbs limit)) refl;
           back = λ h.
-              said true (ap accepted (h .0)) true (le-leb total (natAbs limit) (let a = h .1 .0 in let b = h .1 .1 in omega (arith, a, b)))
+              said true (ap notRefused (h .0)) true (le-leb total (natAbs limit) (let a = h .1 .0 in let b = h .1 .1 in omega (arith, a, b)))
               ∙ ap (λ (n : ℕ). Within (amountOf n)) (h .1 .0);
         };
         no = λ n. record {
-          forth = no-of n (accepted asked) refl (leb total (natAbs limit)) refl;
+          forth = no-of n (notRefused asked) refl (leb total (natAbs limit)) refl;
           back = λ h.
-              said true (ap accepted (h .0)) false (lt-leb total (natAbs limit) (let a = h .1 .0 in let b = h .1 .1 in omega (arith, a, b)))
+              said true (ap notRefused (h .0)) false (lt-leb total (natAbs limit) (let a = h .1 .0 in let b = h .1 .1 in omega (arith, a, b)))
               ∙ ap (λ (n : ℕ). Over (amountOf n)) (h .1 .0);
         };
       }

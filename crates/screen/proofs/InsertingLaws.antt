@@ -1,14 +1,13 @@
 -- A record put among bytes in place: one byte more is moved up at each turn, and what is moved and what is not are the whole.
 -- Assumes nothing.
-use Prim.Native.Nat.{ℕ, zero, suc, _+_, _-_, _≤_, _<_}
+use Prim.Native.Nat.{ℕ, suc, _+_, _-_, _≤_, _<_}
 use native.Mathlib.Omega.{arith}
 use mathlib.Core.Path.{_≡_, sym, ap, ap₂, subst, _∙_}
-use mathlib.Core.List.{List, [], _∷_, _++_, append-assoc}
-use lib.ListN.{length, length-append, length-drop, getD, set, take, drop, take-append-drop}
-use lib.Seq.{length-take-le, take-at, drop-at, take-suc, drop-cons, set-at, getD-take, take-take, take-append-le, drop-append-add, append-snoc}
-use lib.ListN.{List·getD-append}
+use mathlib.Core.List.{List, [], _∷_, _++_}
+use lib.ListN.{length, length-append, length-drop, getD, set, take, drop, take-append-drop, List·getD-append}
+use lib.Seq.{length-take-le, drop-at, take-suc, drop-cons, set-at, getD-take, take-take, take-append-le, append-snoc}
 use Rattle.record.specs.Layout.{recordBytes}
-use Rattle.screen.specs.Inserting.{movedUp, inserted}
+use Rattle.screen.specs.code.Inserting.{movedUp, inserted}
 
 -- the bytes from i on, m of them, moved up by n
 abbrev pub lifted : ℕ → ℕ → ℕ → List ℕ → List ℕ

@@ -7,7 +7,6 @@ use mathlib.Core.Path.{_≡_, refl, sym, ap, _∙_}
 use mathlib.Core.Bool.{Bool, true, false, cond}
 use mathlib.Core.List.{List, [], _∷_, _++_, append-assoc}
 use borrow.Author.Tests.{eqb-true, eqb-false, lt-ltb, le-ltb, le-leb, lt-leb, ne-eqb}
-use lib.Dec.{ltb}
 use lib.IntN.{ℤ, pos, natAbs}
 use lib.ListN.{length, length-append, length-drop, take, drop}
 use lib.Seq.{length-take-le, take-nil, take-take}
@@ -16,34 +15,33 @@ use Rattle.record.specs.Layout.{Record, recordBytes}
 use Rattle.account.specs.Answers.{numberOf}
 use Rattle.account.specs.Checked.{checked}
 use Rattle.account.specs.Records.{records}
-use Rattle.account.specs.Standing.{Stands, CheckedBy, accountOf}
+use Rattle.account.specs.code.Standing.{Stands, CheckedBy}
+use Rattle.account.specs.Joined.{accountOf}
 use Rattle.account.specs.declared.accounts.Checked.{Checked}
 use Rattle.account.specs.declared.answers.Answer.{Answer}
 use Rattle.account.specs.declared.answers.Answer.the-variants.{Accepted, TooFewBytes, LimitBelowZero}
 use Rattle.account.proofs.Places.{alone}
 use Rattle.account.proofs.Alone.{passes}
 use Rattle.margin.specs.Figures.{accountTotal}
-use Rattle.margin.specs.Questions.{accepted, ifAccepted}
-use Rattle.margin.specs.declared.amount.Amount.{Amount}
+use Rattle.margin.specs.Questions.{notRefused, ifAccepted}
+use Rattle.formulas.specs.declared.amount.Amount.{Amount}
 use Rattle.margin.proofs.QuestionLaws.{accepted-only, if-accepted, if-refused}
-use Rattle.tickets.specs.Ticket.{place, withTicket, ticketChecked}
-use Rattle.screen.specs.Held.{orderIn, totalIn, putAt}
-use Rattle.screen.specs.Inserting.{inserted}
-use Rattle.screen.specs.Screen.{held, loadAnswer, orderAnswer, noRoom, addAnswer, afterAdd, added, amountOf, totalHeld, totalRead, totalWith}
-use Rattle.screen.specs.Screen.{limitAnswer, weighed, limited}
+use Rattle.tickets.specs.Ticket.{withTicket, ticketChecked}
+use Rattle.screen.specs.code.Held.{orderIn, totalIn, putAt}
+use Rattle.screen.specs.code.Inserting.{inserted}
+use Rattle.screen.specs.Screen.{held, loadAnswer, orderAnswer, noRoom, addAnswer, afterAdd, added, amountOf, totalHeld, totalRead, totalWith, limitAnswer}
+use Rattle.screen.specs.Screen.{weighed, limited}
 use Rattle.screen.specs.declared.Added.{Added}
 use Rattle.screen.specs.declared.Added.the-variants.{Refused as NotAdded, Holds}
-use Rattle.screen.specs.declared.Limited.{Limited}
 use Rattle.screen.specs.declared.Limited.the-variants.{Refused as NotAsked, Within, Over}
-use Rattle.screen.specs.declared.Told.{Told}
 use Rattle.screen.specs.declared.Told.the-variants.{Refused as NoTotal, Total}
 
 -- ---- one answer, then the next
 
 pub both : (a next : Answer) → ifAccepted a next ≡ Accepted → (a ≡ Accepted) × (next ≡ Accepted)
-both a next e = go (accepted a) refl
+both a next e = go (notRefused a) refl
   where
-    go : (t : Bool) → accepted a ≡ t → (a ≡ Accepted) × (next ≡ Accepted)
+    go : (t : Bool) → notRefused a ≡ t → (a ≡ Accepted) × (next ≡ Accepted)
     go true h =
         let fine = accepted-only a (eqb-true (numberOf a) 0 h) in
         (fine, sym (if-accepted a next fine) ∙ e)
@@ -60,8 +58,8 @@ module _ (lent : List ℕ) (named : ℕ) where
   pub all-lent : named ≤ length lent → loadAnswer lent named ≡ checked (held lent named)
   all-lent h = ap (λ (t : Bool). cond t TooFewBytes (checked (held lent named))) (le-ltb (length lent) named h)
 
-  total-by : (a : Answer) → loadAnswer lent named ≡ a → totalRead lent named ≡ cond (accepted a) (Total (amountOf (totalHeld lent named))) (NoTotal a)
-  total-by a e = ap (λ (a : Answer). cond (accepted a) (Total (amountOf (totalHeld lent named))) (NoTotal a)) e
+  total-by : (a : Answer) → loadAnswer lent named ≡ a → totalRead lent named ≡ cond (notRefused a) (Total (amountOf (totalHeld lent named))) (NoTotal a)
+  total-by a e = ap (λ (a : Answer). cond (notRefused a) (Total (amountOf (totalHeld lent named))) (NoTotal a)) e
 
   pub total-lacking : length lent < named → totalRead lent named ≡ NoTotal TooFewBytes
   total-lacking h = total-by TooFewBytes (lacking h)
@@ -86,8 +84,8 @@ weigh-no limit total h = sym (ap (λ (t : Bool). cond t (Within total) (Over tot
 
 module _ (lent : List ℕ) (named : ℕ) (ticket : Record) (limit : ℤ) where
   limited-by : (a : Answer) → limitAnswer lent named ticket limit ≡ a
-      → limited lent named ticket limit ≡ cond (accepted a) (weighed (natAbs limit) (totalWith lent named ticket)) (NotAsked a)
-  limited-by a e = ap (λ (a : Answer). cond (accepted a) (weighed (natAbs limit) (totalWith lent named ticket)) (NotAsked a)) e
+      → limited lent named ticket limit ≡ cond (notRefused a) (weighed (natAbs limit) (totalWith lent named ticket)) (NotAsked a)
+  limited-by a e = ap (λ (a : Answer). cond (notRefused a) (weighed (natAbs limit) (totalWith lent named ticket)) (NotAsked a)) e
 
   pub limit-below : ltZ limit (pos 0) ≡ true → limitAnswer lent named ticket limit ≡ LimitBelowZero
   limit-below e = ap (λ (t : Bool). cond t LimitBelowZero (orderAnswer lent named ticket)) e
@@ -152,15 +150,15 @@ pub record Comes (lent : List ℕ) (named : ℕ) (ticket : Record) (r : Added) (
 module _ (lent : List ℕ) (named : ℕ) (ticket : Record) where
   pub not-added : (a : Answer) → addAnswer lent named ticket ≡ a → (numberOf a ≡ 0 → ⊥) → Comes lent named ticket (NotAdded a) lent
   not-added a e h =
-      let no : accepted a ≡ false = ne-eqb (numberOf a) 0 h in
+      let no : notRefused a ≡ false = ne-eqb (numberOf a) 0 h in
       record {
         is =
             sym
-            (ap (λ (a : Answer). cond (accepted a) (Holds (named + recordBytes)) (NotAdded a)) e
+            (ap (λ (a : Answer). cond (notRefused a) (Holds (named + recordBytes)) (NotAdded a)) e
             ∙ ap (λ (t : Bool). cond t (Holds (named + recordBytes)) (NotAdded a)) no);
         after =
             sym
-            (ap (λ (a : Answer). cond (accepted a) (withTicket (held lent named) ticket ++ drop (named + recordBytes) lent) lent) e
+            (ap (λ (a : Answer). cond (notRefused a) (withTicket (held lent named) ticket ++ drop (named + recordBytes) lent) lent) e
             ∙ ap (λ (t : Bool). cond t (withTicket (held lent named) ticket ++ drop (named + recordBytes) lent) lent) no);
       }
 
@@ -168,8 +166,8 @@ module _ (lent : List ℕ) (named : ℕ) (ticket : Record) where
       → Comes lent named ticket (Holds (named + recordBytes)) (withTicket (held lent named) ticket ++ drop (named + recordBytes) lent)
   when-added e =
       record {
-        is = sym (ap (λ (a : Answer). cond (accepted a) (Holds (named + recordBytes)) (NotAdded a)) e);
-        after = sym (ap (λ (a : Answer). cond (accepted a) (withTicket (held lent named) ticket ++ drop (named + recordBytes) lent) lent) e);
+        is = sym (ap (λ (a : Answer). cond (notRefused a) (Holds (named + recordBytes)) (NotAdded a)) e);
+        after = sym (ap (λ (a : Answer). cond (notRefused a) (withTicket (held lent named) ticket ++ drop (named + recordBytes) lent) lent) e);
       }
 
   abbrev roomAnswer : Answer
@@ -222,4 +220,4 @@ module _ (file : List ℕ) (r : Checked) (by : CheckedBy file r) where
       pub total-accepted : (a : Amount) → a .0 ≡ accountTotal (accountOf file none) → Total a ≡ totalIn file
       total-accepted a e =
           ap (λ (n : ℕ). Total (amountOf n)) (e ∙ ap accountTotal (alone file none nothing (passes file ok .recorded)))
-          ∙ sym (ap (λ (a : Answer). cond (accepted a) (Total (amountOf (accountTotal (records file)))) (NoTotal a)) ok)
+          ∙ sym (ap (λ (a : Answer). cond (notRefused a) (Total (amountOf (accountTotal (records file)))) (NoTotal a)) ok)

@@ -13,8 +13,8 @@ use Rattle.account.specs.Answers.{numberOf, recordOf, refusal}
 use Rattle.account.specs.Checked.{checked}
 use Rattle.account.specs.Records.{records}
 use Rattle.account.specs.declared.answers.Answer.{Answer}
-use Rattle.account.specs.declared.answers.Answer.the-variants.{Accepted, UnknownKind, KindFalls, UnusedByte, FieldOutside, Unlisted, OutOfOrder}
-use Rattle.account.specs.declared.answers.Answer.the-variants.{OverLimit, NoRate, ConversionBeyond}
+use Rattle.account.specs.declared.answers.Answer.the-variants.{Accepted, UnknownKind, KindFalls, UnusedByte, FieldOutside, Unlisted, OutOfOrder, OverLimit}
+use Rattle.account.specs.declared.answers.Answer.the-variants.{NoRate, ConversionBeyond}
 use Rattle.account.proofs.Claimed.{claimed}
 use Rattle.tickets.specs.Claims.{Row}
 use Rattle.tickets.specs.Ticket.{place, withTicket, rowFault, ticketChecked}

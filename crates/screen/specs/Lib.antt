@@ -1,4 +1,3 @@
 pub mod Claims
-pub mod Held
-pub mod Inserting
 pub mod Screen
+pub mod code

@@ -13,8 +13,8 @@ use Rattle.account.specs.Records.{records}
 use Rattle.account.specs.declared.answers.Answer.{Answer}
 use Rattle.account.specs.declared.answers.Answer.the-variants.{Accepted, TooFewBytes, LimitBelowZero}
 use Rattle.margin.specs.Figures.{accountTotal}
-use Rattle.margin.specs.Questions.{accepted, ifAccepted}
-use Rattle.margin.specs.declared.amount.Amount.{Amount}
+use Rattle.margin.specs.Questions.{notRefused, ifAccepted}
+use Rattle.formulas.specs.declared.amount.Amount.{Amount}
 use Rattle.tickets.specs.Ticket.{withTicket, ticketChecked}
 use Rattle.screen.specs.declared.Added.{Added}
 use Rattle.screen.specs.declared.Added.the-variants.{Refused as NotAdded, Holds}
@@ -47,12 +47,12 @@ addAnswer lent named ticket = ifAccepted (orderAnswer lent named ticket) (cond (
 -- the held file with the ticket; what is lent after it stays. A refusal changes nothing.
 abbrev pub afterAdd : List ℕ → ℕ → Record → List ℕ
 afterAdd lent named ticket =
-    cond (accepted (addAnswer lent named ticket)) (withTicket (held lent named) ticket ++ drop (named + recordBytes) lent) lent
+    cond (notRefused (addAnswer lent named ticket)) (withTicket (held lent named) ticket ++ drop (named + recordBytes) lent) lent
 
 -- how many bytes hold the account file then
 abbrev pub added : List ℕ → ℕ → Record → Added
 added lent named ticket =
-    cond (accepted (addAnswer lent named ticket)) (Holds (named + recordBytes)) (NotAdded (addAnswer lent named ticket))
+    cond (notRefused (addAnswer lent named ticket)) (Holds (named + recordBytes)) (NotAdded (addAnswer lent named ticket))
 
 -- ---- "read the total"
 
@@ -64,7 +64,7 @@ totalHeld lent named = accountTotal (records (held lent named))
 
 abbrev pub totalRead : List ℕ → ℕ → Told
 totalRead lent named =
-    cond (accepted (loadAnswer lent named)) (Total (amountOf (totalHeld lent named))) (NoTotal (loadAnswer lent named))
+    cond (notRefused (loadAnswer lent named)) (Total (amountOf (totalHeld lent named))) (NoTotal (loadAnswer lent named))
 
 -- ---- "ask whether the total with a ticket stays at or below the client's limit"
 
@@ -81,7 +81,7 @@ weighed limit total = cond (leb total limit) (Within (amountOf total)) (Over (am
 
 abbrev pub limited : List ℕ → ℕ → Record → ℤ → Limited
 limited lent named ticket limit =
-    cond (accepted (limitAnswer lent named ticket limit)) (weighed (natAbs limit) (totalWith lent named ticket))
+    cond (notRefused (limitAnswer lent named ticket limit)) (weighed (natAbs limit) (totalWith lent named ticket))
     (NotAsked (limitAnswer lent named ticket limit))
 
 -- ---- in numbers: the refusal, Accepted where there is none, and what comes back, 0 where it is refused

@@ -5,7 +5,7 @@ ghost use mathlib.Core.List.{_++_};
 ghost use Prim.Native.Nat.{_+_, _≤_};
 ghost use lib.ListN.{length, take, drop};
 ghost use Rattle.record.specs.Layout.{recordBytes};
-ghost use Rattle.screen.specs.Inserting.{movedUp, inserted};
+ghost use Rattle.screen.specs.code.Inserting.{movedUp, inserted};
 
 // The bytes from `at` to before `end` moved up by a record, the last first.
 fn move_up(lent: &mut [u8], at: usize, end: usize)

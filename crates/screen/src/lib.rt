@@ -7,7 +7,7 @@ use account::answers::Answer;
 use account::answers::number_of;
 use exact::signed::below;
 use exact::signed::magnitude;
-use margin::amount::Amount;
+use formulas::amount::Amount;
 use margin::over::total_over;
 use record::bytes::RECORD_BYTES;
 use tickets::counts::check_ticket;
@@ -18,7 +18,7 @@ use tickets::kept::kept_total;
 ghost use mathlib.Core.Path.{_≡_};
 ghost use mathlib.Core.List.{[]};
 ghost use Rattle.screen.specs.Screen.{loadAnswer, added, afterAdd, totalRead, weighed, limited};
-ghost use Rattle.screen.specs.Held.{PlacedIn, AskedIn, totalIn};
+ghost use Rattle.screen.specs.code.Held.{PlacedIn, AskedIn, totalIn};
 
 mod inserting; // inserting.rt: a record put among the bytes of a file, in place
 

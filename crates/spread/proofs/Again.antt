@@ -10,8 +10,7 @@ use mathlib.Core.Path.{_≡_, refl, sym, ap, ap₂, _∙_}
 use lib.ListN.{length, getD, replicate}
 use Rattle.exact.specs.Lists.{any}
 use Rattle.spread.specs.Again.{NothingToPair}
-use Rattle.spread.specs.Demand.{TotalWithin, FirstAmong, FirstDifference, FirstWords, Demand3, draws, legUse, stepUse, totalUse, wholeStep}
-use Rattle.spread.specs.Demand.{wholeSteps, soundStep, soundSteps}
+use Rattle.spread.specs.Demand.{TotalWithin, FirstAmong, draws, legUse, stepUse, totalUse, wholeStep, wholeSteps, soundStep, soundSteps}
 use Rattle.spread.specs.Steps.{Market, Open, Taker, pool, useOf, formed, after, numbers, left}
 use Rattle.spread.proofs.Both.{and-left, and-right}
 use Rattle.spread.proofs.Demand3.{demand3}

@@ -5,11 +5,11 @@ use Prim.Native.Nat.{ℕ, _+_, _*_}
 use native.Mathlib.Omega.{arith}
 use mathlib.Core.Bool.{Bool, true, false, cond}
 use mathlib.Core.List.{List, []}
-use mathlib.Core.Path.{_≡_, refl, sym, _∙_, ap}
+use mathlib.Core.Path.{_≡_, sym, _∙_, ap}
 use lib.ListN.{replicate}
 use Rattle.spread.specs.Accepted.{openOf, spreadsOf, stepsOf, sound}
-use Rattle.spread.specs.Book.{numbersOf, usedIn, unusedIn, entries, spreadsEntry, deltaEntry, Booked, Refused, Run, goneOf, Spent}
-use Rattle.spread.specs.Cells.{Pooled, numbersIn}
+use Rattle.spread.specs.code.Book.{numbersOf, usedIn, unusedIn, byPlace, spreadsEntry, deltaEntry, Booked, Refused, Run, goneOf, Spent}
+use Rattle.spread.specs.code.Cells.{Pooled, numbersIn}
 use Rattle.spread.specs.Demand.{totalUse, Demand3, soundSteps}
 use Rattle.spread.specs.Spend.{spend, deltas}
 use Rattle.spread.specs.Steps.{Market, Open, Taker, pool, numbers, left, minus, usedOf, unusedOf}
@@ -44,7 +44,7 @@ booked-demand3 p t r b e = demand3-accepted p t (sym (b .accepted) ∙ e)
 
 -- what is refused has no numbers
 
-pub all-none {ℓ} : {A : Type ℓ} (z : A) (f : ℕ → A) → ((k : ℕ) → f k ≡ z) → replicate 32 z ≡ entries 32 f
+pub all-none {ℓ} : {A : Type ℓ} (z : A) (f : ℕ → A) → ((k : ℕ) → f k ≡ z) → replicate 32 z ≡ byPlace 32 f
 all-none z f h = filled-all z f 0 (replicate 32 z) (filled-none z f) (λ k g. h k)
 
 pub booked-refused : (p : Prompts) (t : Table) (r : Book) → sound p t ≡ false → Refused r → Booked p t r
@@ -83,16 +83,16 @@ pub booked-accepted : (p : Prompts) (t : Table) (cells l : List ℕ) (first seco
 booked-accepted p t cells l first second used unused e pools run spent =
     record {
       accepted = sym e;
-      first = run .firsts ∙ ap (λ (xs : List ℕ). entries 32 (λ k. spreadsEntry xs (2 * k))) formed;
-      second = run .seconds ∙ ap (λ (xs : List ℕ). entries 32 (λ k. spreadsEntry xs (2 * k + 1))) formed;
+      first = run .firsts ∙ ap (λ (xs : List ℕ). byPlace 32 (λ k. spreadsEntry xs (2 * k))) formed;
+      second = run .seconds ∙ ap (λ (xs : List ℕ). byPlace 32 (λ k. spreadsEntry xs (2 * k + 1))) formed;
       used =
           spent .useds
-          ∙ ap (λ (ps : List Open). entries 32 (deltaEntry (minus (deltas (openOf p)) (deltas ps)))) paid
-          ∙ ap (λ (b : Bool). entries 32 (deltaEntry (cond b (usedOf (stepsOf t) (openOf p)) []))) (sym e);
+          ∙ ap (λ (ps : List Open). byPlace 32 (deltaEntry (minus (deltas (openOf p)) (deltas ps)))) paid
+          ∙ ap (λ (b : Bool). byPlace 32 (deltaEntry (cond b (usedOf (stepsOf t) (openOf p)) []))) (sym e);
       unused =
           spent .unuseds
-          ∙ ap (λ (ps : List Open). entries 32 (deltaEntry (deltas ps))) paid
-          ∙ ap (λ (b : Bool). entries 32 (deltaEntry (cond b (unusedOf (stepsOf t) (openOf p)) []))) (sym e);
+          ∙ ap (λ (ps : List Open). byPlace 32 (deltaEntry (deltas ps))) paid
+          ∙ ap (λ (b : Bool). byPlace 32 (deltaEntry (cond b (unusedOf (stepsOf t) (openOf p)) []))) (sym e);
     }
   where
     formed : numbersIn (stepsOf t) cells ≡ numbersOf p t

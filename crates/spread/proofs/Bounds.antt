@@ -10,7 +10,7 @@ use lib.ListN.{length, getD, set}
 use lib.Seq.{take-all}
 use Rattle.exact.specs.Lists.{least}
 use Rattle.spread.specs.Accepted.{openOf, soundPrompts}
-use Rattle.spread.specs.Cells.{cellOf, mostPool, mostNumber, Small, Pooled, poolIn, roomIn, formedIn, lessIn, afterIn, Taken}
+use Rattle.spread.specs.code.Cells.{cellOf, mostPool, mostNumber, Small, Pooled, poolIn, roomIn, formedIn, lessIn, afterIn, Taken}
 use Rattle.spread.specs.Steps.{Taker, pool, room, legTakes}
 use Rattle.spread.specs.declared.Prompts.{Prompts}
 use Rattle.spread.proofs.Every.{open-length}

@@ -6,15 +6,14 @@ use native.Mathlib.Numerals.{add-one}
 use native.Mathlib.Omega.{arith}
 use mathlib.Core.Bool.{Bool, true, false, cond}
 use mathlib.Core.List.{List, [], _∷_, map}
-use mathlib.Core.Path.{_≡_, refl, sym, _∙_, ap, ap₂, subst}
+use mathlib.Core.Path.{_≡_, sym, _∙_, ap, subst}
 use lib.ListN.{length, getD, drop, drop-of-length-le}
 use lib.Seq.{drop-cons, getD-take, take-all}
 use Rattle.spread.specs.Accepted.{openOf, spreadsOf, stepsOf, soundPrompts, sound}
-use Rattle.spread.specs.Book.{entries, spreadsEntry, numbersOf}
-use Rattle.spread.specs.Cells.{stepOf, mostPool, mostNumber}
-use Rattle.spread.specs.Demand.{stepUse}
-use Rattle.spread.specs.Passing.{sizesAfter, stepTouchesIn, StepTaken, FormedBy, Laid}
-use Rattle.spread.specs.Steps.{Market, Open, Taker, pool, roomFor, formed, after, numbers, steps}
+use Rattle.spread.specs.code.Book.{spreadsEntry, numbersOf}
+use Rattle.spread.specs.Steps.{stepOf, Market, Open, Taker, pool, roomFor, formed, after, numbers, steps}
+use Rattle.spread.specs.code.Cells.{mostPool, mostNumber}
+use Rattle.spread.specs.code.Passing.{sizesAfter, stepTouchesIn, StepTaken, FormedBy, Laid}
 use Rattle.spread.specs.Touches.{stepTouches, touches}
 use Rattle.spread.specs.declared.Prompts.{Prompts}
 use Rattle.spread.specs.declared.Spread.{Spread}

@@ -9,17 +9,17 @@ use lib.Dec.{eqb, ltb}
 use lib.ListN.{length, getD, set, replicate, length-replicate, length-set}
 use lib.Seq.{getD-set-same, getD-set-other}
 use borrow.Author.Tests.{eqb-true, eqb-false, lt-ltb, le-ltb, ltb-true, ltb-false}
-use Rattle.spread.specs.Book.{entries}
+use Rattle.spread.specs.code.Book.{byPlace}
 
 module _ {ℓ} {A : Type ℓ} where
-  pub entries-at : (n : ℕ) (f : ℕ → A) (k : ℕ) (d : A) → k < n → getD (entries n f) k d ≡ f k
-  unfolding entries
+  pub entries-at : (n : ℕ) (f : ℕ → A) (k : ℕ) (d : A) → k < n → getD (byPlace n f) k d ≡ f k
+  unfolding byPlace
   entries-at zero f k d h = absurd (omega arith)
   entries-at (suc n) f zero d h = refl
   entries-at (suc n) f (suc k) d h = entries-at n (λ k. f (suc k)) k d (omega arith)
 
-  entries-from : (n : ℕ) (f : ℕ → A) (d : A) (l : List A) → length l ≡ n → ((k : ℕ) → k < n → getD l k d ≡ f k) → l ≡ entries n f
-  unfolding entries
+  entries-from : (n : ℕ) (f : ℕ → A) (d : A) (l : List A) → length l ≡ n → ((k : ℕ) → k < n → getD l k d ≡ f k) → l ≡ byPlace n f
+  unfolding byPlace
   entries-from zero f d [] e h = refl
   entries-from zero f d (x ∷ l) e h = absurd (omega arith)
   entries-from (suc n) f d [] e h = absurd (omega arith)
@@ -60,7 +60,7 @@ module _ {ℓ} {A : Type ℓ} where
           ∙ h .each k
           ∙ sym (ap (λ (b : Bool). cond b (f k) z) (further k (ltb k i) (eqb-false k i t) refl))
 
-  pub filled-all : (z : A) (f : ℕ → A) (i : ℕ) (l : List A) → Filled z f i l → ((k : ℕ) → i ≤ k → f k ≡ z) → l ≡ entries 32 f
+  pub filled-all : (z : A) (f : ℕ → A) (i : ℕ) (l : List A) → Filled z f i l → ((k : ℕ) → i ≤ k → f k ≡ z) → l ≡ byPlace 32 f
   filled-all z f i l h beyond = entries-from 32 f z l (h .size) (λ k g. h .each k ∙ go k (ltb k i) refl)
     where
       go : (k : ℕ) (b : Bool) → ltb k i ≡ b → cond b (f k) z ≡ f k

@@ -13,7 +13,7 @@ use lib.Seq.{take-suc}
 use borrow.Author.Tests.{eqb-true, eqb-false, eq-eqb, ne-eqb, ltb-true, leb-true}
 use Rattle.exact.specs.Signed.{negative}
 use Rattle.spread.specs.Accepted.{openOf, every, mostDelta, soundPrompt, soundPrompts}
-use Rattle.spread.specs.Cells.{shortIf, cellOf, cellAt, Pooled}
+use Rattle.spread.specs.code.Cells.{shortIf, cellOf, cellAt, Pooled}
 use Rattle.spread.specs.Demand.{sameMarket, draws}
 use Rattle.spread.specs.Spend.{marketOf}
 use Rattle.spread.specs.Steps.{Market, long, short, Open, Taker, onSide, inTier, pool}

@@ -10,8 +10,8 @@ use lib.IntN.{ℤ, natAbs}
 use lib.ListN.{length, getD, set, replicate, length-set, length-replicate}
 use lib.Seq.{getD-set-same, getD-set-other}
 use borrow.Author.Tests.{eqb-true, eqb-false, ltb-true, ltb-false}
-use Rattle.spread.specs.Cells.{cellOf}
-use Rattle.spread.specs.Passing.{Begun, SameAs, Laid}
+use Rattle.spread.specs.code.Cells.{cellOf}
+use Rattle.spread.specs.code.Passing.{Begun, SameAs, Laid}
 use Rattle.spread.specs.Spend.{marketOf}
 use Rattle.spread.specs.Steps.{Open}
 use Rattle.spread.proofs.Filling.{getD-same}

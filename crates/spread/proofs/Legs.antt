@@ -8,8 +8,8 @@ use mathlib.Core.Path.{_≡_, refl, sym, _∙_, ap, ap₂}
 use lib.ListN.{length, getD, take}
 use Rattle.exact.proofs.Lists.{map-take}
 use Rattle.exact.specs.Lists.{least}
-use Rattle.spread.specs.Cells.{marketIn, stepOf, lessIn, afterIn}
-use Rattle.spread.specs.Steps.{Taker, taker}
+use Rattle.spread.specs.Steps.{marketIn, stepOf, Taker, taker}
+use Rattle.spread.specs.code.Cells.{lessIn, afterIn}
 use Rattle.spread.specs.declared.Leg.{Leg}
 use Rattle.spread.specs.declared.Spread.{Spread}
 

@@ -1,18 +1,18 @@
 -- A step that forms nothing leaves everything as it was; so does one that has an empty pool to take from.
 -- Assumes nothing.
-use Prim.Native.Nat.{ℕ, zero, suc, _-_, _<_}
+use Prim.Native.Nat.{ℕ, zero, suc, _-_}
 use native.Mathlib.Nat.{zero-mul, zero-div, sub-zero}
 use native.Mathlib.Omega.{arith}
 use mathlib.Core.Bool.{Bool, true, false}
-use mathlib.Core.List.{List, [], _∷_, map}
+use mathlib.Core.List.{List, [], _∷_}
 use mathlib.Core.Path.{_≡_, refl, sym, _∙_, ap}
 use lib.Dec.{ltb}
-use lib.ListN.{getD, set}
+use lib.ListN.{set}
 use lib.Seq.{set-getD}
 use borrow.Author.Tests.{ltb-false}
 use Rattle.exact.specs.Rounding.{halfUp}
-use Rattle.spread.specs.Cells.{cellOf, poolIn, lowestIn, roomIn, formedIn, lessIn, afterIn, Taken}
-use Rattle.spread.specs.Steps.{Taker, room, useOf, legTakes}
+use Rattle.spread.specs.code.Cells.{cellOf, poolIn, lowestIn, formedIn, lessIn, afterIn, Taken}
+use Rattle.spread.specs.Steps.{Taker, room, useOf}
 use Rattle.spread.specs.declared.Spreads.{Spreads}
 use Rattle.spread.specs.declared.pools.Pools.{Pools}
 

@@ -3,27 +3,27 @@
 -- Assumes nothing.
 use Prim.Native.Nat.{ℕ, zero, suc, _+_, _-_, _≤_, _<_, min}
 use native.Mathlib.Nat.{sub-zero, zero-add, zero-sub}
-use native.Mathlib.Numerals.{add-one}
 use native.Mathlib.Omega.{arith}
 use mathlib.Core.Bool.{Bool, true, false, cond, _&&_}
 use mathlib.Core.List.{List, [], _∷_, map}
 use mathlib.Core.Path.{_≡_, refl, sym, _∙_, ap, ap₂, subst}
 use lib.Dec.{eqb, ltb}
-use lib.IntN.{ℤ, pos}
+use lib.IntN.{ℤ}
 use lib.ListN.{length, getD, set, take, length-set, List·getD-eq-default}
 use lib.Seq.{getD-set-same, getD-set-other, set-out, take-nil}
 use borrow.Author.Tests.{eqb-true, eqb-false, eq-eqb, ne-eqb, ltb-true, ltb-false, lt-ltb}
 use Rattle.exact.specs.Lists.{oneIf}
-use Rattle.spread.specs.Cells.{cellOf, marketIn, stepOf}
-use Rattle.spread.specs.Demand.{sameMarket, draws}
-use Rattle.spread.specs.Passing.{givesIn, sizesIn, touchesIn, sizesAfter, stepTouchesIn, UsedUp, Begun, Ready, Passed, LegTaken, StepTaken, SameAs, Laid}
-use Rattle.spread.specs.Steps.{Market, Open, Taker, inTier, taker, useOf, less, gives, legTakes, takeFrom, after}
+use Rattle.spread.specs.code.Cells.{cellOf}
+use Rattle.spread.specs.Steps.{marketIn, stepOf, Market, Open, Taker, inTier, taker, useOf, less, gives, legTakes, takeFrom, after}
+use Rattle.spread.specs.Demand.{draws}
+use Rattle.spread.specs.code.Passing.{givesIn, sizesIn, touchesIn, sizesAfter, stepTouchesIn, UsedUp, Begun, Ready, Passed, LegTaken, StepTaken, SameAs}
+use Rattle.spread.specs.code.Passing.{Laid}
 use Rattle.spread.specs.Touches.{legTouches, stepTouches}
 use Rattle.spread.specs.declared.Leg.{Leg}
 use Rattle.spread.specs.declared.Spread.{Spread}
 use Rattle.spread.proofs.Gathering.{nothing}
 use Rattle.spread.proofs.Nothing.{use-none}
-use Rattle.spread.proofs.Pooling.{cell-small, out-of-range, same-cells}
+use Rattle.spread.proofs.Pooling.{out-of-range, same-cells}
 use Rattle.spread.proofs.Spending.{draws-tier, tier-less, wants}
 
 -- a prompt that is used up, or stands on another cell, gives nothing

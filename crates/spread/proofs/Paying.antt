@@ -8,8 +8,8 @@ use mathlib.Core.Path.{_≡_, refl, sym, _∙_, ap, ap₂, subst}
 use lib.IntN.{ℤ, pos, natAbs, _-ℤ_}
 use lib.ListN.{length, getD, set, drop, replicate, length-set, drop-of-length-le}
 use lib.Seq.{drop-cons}
-use Rattle.spread.specs.Book.{deltaEntry, goneOf, Spent}
-use Rattle.spread.specs.Cells.{cellOf, cellAt}
+use Rattle.spread.specs.code.Book.{deltaEntry, goneOf, Spent}
+use Rattle.spread.specs.code.Cells.{cellOf, cellAt}
 use Rattle.spread.specs.Spend.{marketOf, spend, deltas, usedBy}
 use Rattle.spread.specs.Steps.{Open, inTier, towardsZero, minus}
 use Rattle.spread.specs.declared.Delta.{Delta}

@@ -11,9 +11,9 @@ use lib.ListN.{length, getD, set, length-set, List·getD-eq-default}
 use lib.Seq.{getD-set-same, getD-set-other, set-out}
 use borrow.Author.Tests.{eqb-true, eqb-false, eq-eqb, ne-eqb, ltb-true, ltb-false, lt-ltb, le-ltb}
 use Rattle.exact.specs.Lists.{least}
-use Rattle.spread.specs.Cells.{parity, cellOf, shortIf, marketIn, cellAt, Pooled, formedIn, lessIn, afterIn, numbersIn, leftIn}
+use Rattle.spread.specs.code.Cells.{parity, cellOf, shortIf, cellAt, Pooled, formedIn, lessIn, afterIn, numbersIn, leftIn}
+use Rattle.spread.specs.Steps.{marketIn, Market, long, short, Open, Taker, pool, room, legTakes, takeFrom, formed, after, numbers, left}
 use Rattle.spread.specs.Demand.{sameMarket, draws}
-use Rattle.spread.specs.Steps.{Market, long, short, Open, Taker, pool, room, legTakes, takeFrom, formed, after, numbers, left}
 use Rattle.spread.specs.declared.Leg.{Leg}
 use Rattle.spread.proofs.Spending.{draws-market, draws-tier, take-spend, pool-spend}
 

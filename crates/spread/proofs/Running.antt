@@ -11,9 +11,9 @@ use lib.ListN.{length, getD, set, drop, replicate, drop-of-length-le}
 use lib.Seq.{drop-cons, getD-take, length-take-le}
 use borrow.Author.Tests.{leb-true}
 use Rattle.spread.specs.Accepted.{every, spreadsOf, soundSpread, soundTable}
-use Rattle.spread.specs.Book.{spreadsEntry, Run}
-use Rattle.spread.specs.Cells.{stepOf, numbersIn, leftIn, Taken}
-use Rattle.spread.specs.Steps.{steps}
+use Rattle.spread.specs.code.Book.{spreadsEntry, Run}
+use Rattle.spread.specs.Steps.{stepOf, steps}
+use Rattle.spread.specs.code.Cells.{numbersIn, leftIn, Taken}
 use Rattle.spread.specs.declared.Spread.{Spread}
 use Rattle.spread.specs.declared.Spreads.{Spreads}
 use Rattle.spread.specs.declared.Table.{Table}

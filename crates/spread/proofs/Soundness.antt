@@ -10,9 +10,8 @@ use lib.ListN.{length, getD, take}
 use borrow.Author.Tests.{eqb-true, ltb-true, not-true}
 use Rattle.exact.specs.Lists.{any}
 use Rattle.spread.specs.Accepted.{spreadsOf, stepsOf, every, whole, soundLeg, sameLeg, soundLegsOf, soundSpread, soundPrompts, soundTable, sound}
-use Rattle.spread.specs.Cells.{marketIn, stepOf}
+use Rattle.spread.specs.Steps.{marketIn, stepOf, Market, taker, firstMarket, secondMarket, legsOf, steps}
 use Rattle.spread.specs.Demand.{sameMarket, draws, wholeStep, wholeSteps, soundLegs, soundStep, soundSteps}
-use Rattle.spread.specs.Steps.{Market, taker, firstMarket, secondMarket, legsOf, steps}
 use Rattle.spread.specs.declared.Leg.{Leg}
 use Rattle.spread.specs.declared.Prompts.{Prompts}
 use Rattle.spread.specs.declared.Spread.{Spread}

@@ -12,8 +12,8 @@ use borrow.Author.Tests.{eqb-true}
 use Rattle.exact.proofs.Integers.{towards-zero-none}
 use Rattle.spread.specs.Demand.{sameMarket, draws, legUse, stepUse, totalUse}
 use Rattle.spread.specs.Spend.{marketOf, spend}
-use Rattle.spread.specs.Steps.{Market, long, short, Open, Taker, onSide, inTier, pool, legTakes, towardsZero, less, gives, takeFrom, formed}
-use Rattle.spread.specs.Steps.{after, numbers, left}
+use Rattle.spread.specs.Steps.{Market, long, short, Open, Taker, onSide, inTier, pool, legTakes, towardsZero, less, gives, takeFrom, formed, after}
+use Rattle.spread.specs.Steps.{numbers, left}
 use Rattle.spread.proofs.Both.{and-left, and-right}
 
 -- a delta moved towards zero

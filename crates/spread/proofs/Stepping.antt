@@ -14,12 +14,13 @@ use native.Mathlib.Nat.{add-zero}
 use Rattle.exact.specs.Lists.{sumℤ}
 use Rattle.exact.proofs.Integers.{abs-towards-zero}
 use Rattle.spread.specs.Accepted.{mostDelta, every, opens, openOf, soundPrompt, soundPrompts, soundSpread}
-use Rattle.spread.specs.Book.{entries, deltaEntry, goneOf, Spent}
-use Rattle.spread.specs.Cells.{stepOf, Pooled, Taken}
+use Rattle.spread.specs.code.Book.{byPlace, deltaEntry, goneOf, Spent}
+use Rattle.spread.specs.Steps.{stepOf, Market, Open, Taker, onSide, inTier, towardsZero, less, formed, after, numbers, left, minus, usedOf, unusedOf}
+use Rattle.spread.specs.code.Cells.{Pooled, Taken}
 use Rattle.spread.specs.Demand.{deltaAt, addedUp, stepUse, soundStep, soundSteps}
 use Rattle.spread.specs.Spend.{marketOf, spend, deltas}
-use Rattle.spread.specs.Steps.{Market, Open, Taker, onSide, inTier, towardsZero, less, formed, after, numbers, left, minus, usedOf, unusedOf}
-use Rattle.spread.specs.Uses.{takenOf, takings, WhoPaid, soundFor, Stepped, NotTaken}
+use Rattle.spread.specs.Uses.{takenOf, takings, WhoPaid, soundFor}
+use Rattle.spread.specs.code.Step.{Stepped, NotTaken}
 use Rattle.spread.specs.declared.Delta.{Delta}
 use Rattle.spread.specs.declared.Prompts.{Prompts}
 use Rattle.spread.specs.declared.Spread.{Spread}
@@ -45,7 +46,7 @@ stepped-refused p s second r e h =
       count = ap (λ (q : Prompts). q .count) (h .left);
       tiers = ap (λ (q : Prompts). q .tier) (h .left);
       nets = ap (λ (q : Prompts). q .net) (h .left)
-          ∙ sym (ap (λ (b : Bool). cond b (entries 32 (deltaEntry (unusedOf (stepOf second s ∷ []) (openOf p)))) (p .net)) e);
+          ∙ sym (ap (λ (b : Bool). cond b (byPlace 32 (deltaEntry (unusedOf (stepOf second s ∷ []) (openOf p)))) (p .net)) e);
       leaves = ap openOf (h .left) ∙ sym (ap (λ (b : Bool). cond b (after (stepOf second s) (formed (stepOf second s) (openOf p)) (openOf p)) (openOf p)) e);
       sound = ap soundPrompts (h .left);
     }
@@ -95,8 +96,8 @@ opens-tiers (suc n) (t ∷ ts) (d ∷ ds) h g = ap (λ (us : List ℕ). t ∷ us
 
 -- prompts made again of their tiers and deltas
 again : (m : ℕ) (qs : List Open) (ts : List ℕ) → tiers qs ≡ take (length qs) ts → length qs ≤ m
-    → take (length qs) (opens ts (entries m (deltaEntry (deltas qs)))) ≡ qs
-unfolding tiers entries
+    → take (length qs) (opens ts (byPlace m (deltaEntry (deltas qs)))) ≡ qs
+unfolding tiers byPlace
 again m [] ts e h = refl
 again m (q ∷ qs) [] e h = absurd (let l : suc (length (tiers qs)) ≡ 0 = ap length e in omega arith)
 again zero (q ∷ qs) (t ∷ ts) e h = absurd (omega arith)
@@ -112,10 +113,10 @@ module _ (p : Prompts) (s : Spread) (second : Bool) (e : soundFor p s ≡ true) 
   rest : List Open
   rest = after (stepOf second s) (formed (stepOf second s) (openOf p)) (openOf p)
 
-  leaves-rest : take (p .count) (opens (p .tier) (entries 32 (deltaEntry (deltas rest)))) ≡ rest
+  leaves-rest : take (p .count) (opens (p .tier) (byPlace 32 (deltaEntry (deltas rest)))) ≡ rest
   unfolding rest
   leaves-rest =
-      ap (λ (n : ℕ). take n (opens (p .tier) (entries 32 (deltaEntry (deltas rest))))) (sym long)
+      ap (λ (n : ℕ). take n (opens (p .tier) (byPlace 32 (deltaEntry (deltas rest))))) (sym long)
       ∙ again 32 rest (p .tier) same (omega (arith, long, few-prompts))
     where
       long : length rest ≡ p .count
@@ -152,11 +153,11 @@ module _ (p : Prompts) (s : Spread) (second : Bool) (e : soundFor p s ≡ true) 
   left-prompts : List Delta → Prompts
   left-prompts ds = record { count = p .count; tier = p .tier; net = ds }
 
-  left-opens : (ds : List Delta) → ds ≡ entries 32 (deltaEntry (deltas rest)) → openOf (left-prompts ds) ≡ rest
+  left-opens : (ds : List Delta) → ds ≡ byPlace 32 (deltaEntry (deltas rest)) → openOf (left-prompts ds) ≡ rest
   unfolding left-prompts
   left-opens ds h = ap (λ (xs : List Delta). take (p .count) (opens (p .tier) xs)) h ∙ leaves-rest
 
-  left-sound : (ds : List Delta) → ds ≡ entries 32 (deltaEntry (deltas rest)) → soundPrompts (left-prompts ds) ≡ true
+  left-sound : (ds : List Delta) → ds ≡ byPlace 32 (deltaEntry (deltas rest)) → soundPrompts (left-prompts ds) ≡ true
   unfolding left-prompts
   left-sound ds h =
       and-both (leb (p .count) 32) (every soundPrompt (openOf (left-prompts ds))) (le-leb (p .count) 32 few-prompts)
@@ -174,15 +175,15 @@ module _ (p : Prompts) (s : Spread) (second : Bool) (e : soundFor p s ≡ true) 
             ∙ sym (ap (λ (b : Bool). cond b (formed (stepOf second s) (openOf p)) 0) e);
         taken =
             spent .useds
-            ∙ ap (λ (ps : List Open). entries 32 (deltaEntry (minus (deltas (openOf p)) (deltas ps)))) paid
-            ∙ ap (λ (b : Bool). entries 32 (deltaEntry (cond b (takenOf (stepOf second s) (openOf p)) []))) (sym e);
+            ∙ ap (λ (ps : List Open). byPlace 32 (deltaEntry (minus (deltas (openOf p)) (deltas ps)))) paid
+            ∙ ap (λ (b : Bool). byPlace 32 (deltaEntry (cond b (takenOf (stepOf second s) (openOf p)) []))) (sym e);
         count = refl;
         tiers = refl;
         leaves = left-opens unused left-nets ∙ sym (ap (λ (b : Bool). cond b rest (openOf p)) e);
         sound = left-sound unused left-nets ∙ sym (and-left (soundPrompts p) (soundSpread s) e);
         nets =
             left-nets
-            ∙ ap (λ (b : Bool). cond b (entries 32 (deltaEntry (unusedOf one (openOf p)))) (p .net)) (sym e);
+            ∙ ap (λ (b : Bool). cond b (byPlace 32 (deltaEntry (unusedOf one (openOf p)))) (p .net)) (sym e);
       }
     where
       one : List (List Taker)
@@ -201,8 +202,8 @@ module _ (p : Prompts) (s : Spread) (second : Bool) (e : soundFor p s ≡ true) 
       paid : spend (goneOf cells l) (openOf p) ≡ left one (openOf p)
       paid = spend-left one (openOf p) runs cells l pools after-step
 
-      left-nets : unused ≡ entries 32 (deltaEntry (deltas rest))
-      left-nets = spent .unuseds ∙ ap (λ (ps : List Open). entries 32 (deltaEntry (deltas ps))) paid
+      left-nets : unused ≡ byPlace 32 (deltaEntry (deltas rest))
+      left-nets = spent .unuseds ∙ ap (λ (ps : List Open). byPlace 32 (deltaEntry (deltas ps))) paid
 
 -- ---- who paid
 

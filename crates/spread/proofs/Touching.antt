@@ -14,14 +14,15 @@ use lib.ListN.{length, length-map, take}
 use borrow.Author.Tests.{eqb-true, leb-true, leb-false, lt-ltb}
 use Rattle.exact.proofs.Integers.{abs-neg, abs-towards-zero, taken-sign, towards-zero-none}
 use Rattle.exact.proofs.Lists.{count-append, count-le}
-use Rattle.exact.specs.Lists.{oneIf, count, sum, any}
+use Rattle.exact.specs.Lists.{oneIf, count, sum}
 use Rattle.exact.specs.Signed.{withSignOf}
 use Rattle.spread.specs.Accepted.{openOf, spreadsOf, stepsOf, every, soundLegsOf, soundSpread, soundPrompts, soundTable, sound}
 use Rattle.spread.specs.Demand.{draws, sameMarket, legUse, stepUse, soundLegs, soundStep, soundSteps}
 use Rattle.spread.specs.Spend.{marketOf, spend, deltas, usedBy}
-use Rattle.spread.specs.Steps.{Market, long, short, Open, Taker, onSide, inTier, towardsZero, less, gives}
-use Rattle.spread.specs.Steps.{legTakes, takeFrom, formed, after, left, minus, taker, firstMarket, secondMarket, steps, legsOf}
-use Rattle.spread.specs.Touches.{legTouches, stepTouches, touches, touchesOf, bothSteps, mostTouches, moved, Touched, CountedBook}
+use Rattle.spread.specs.Steps.{Market, long, short, Open, Taker, onSide, inTier, towardsZero, less, gives, legTakes, takeFrom, formed, after, left, minus}
+use Rattle.spread.specs.Steps.{taker, firstMarket, secondMarket, steps, legsOf}
+use Rattle.spread.specs.Touches.{legTouches, stepTouches, touches, touchesOf, bothSteps, mostTouches, moved, Touched}
+use Rattle.spread.specs.code.Book.{CountedBook}
 use Rattle.spread.specs.Uses.{takenOf, usesOf}
 use Rattle.spread.specs.declared.Leg.{Leg}
 use Rattle.spread.specs.declared.Prompts.{Prompts}

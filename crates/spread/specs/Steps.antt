@@ -118,3 +118,11 @@ minus (x ∷ xs) (y ∷ ys) = (x -ℤ y) ∷ minus xs ys
 
 abbrev pub usedOf : List (List Taker) → List Open → List ℤ
 usedOf ss ps = minus (map (λ p. p .unused) ps) (unusedOf ss ps)
+
+-- the first step of a spread, or the second
+abbrev pub marketIn : Bool → ℕ → Market
+marketIn false = firstMarket
+marketIn true = secondMarket
+
+abbrev pub stepOf : Bool → Spread → List Taker
+stepOf second s = map (taker (s .tenths) (marketIn second)) (legsOf s)

@@ -10,13 +10,11 @@ use lib.IntN.{ℤ, natAbs}
 use lib.ListN.{length}
 use Rattle.exact.specs.Lists.{oneIf, count, sum}
 use Rattle.spread.specs.Accepted.{openOf, stepsOf, sound}
-use Rattle.spread.specs.Book.{Booked}
 use Rattle.spread.specs.Steps.{Open, Taker, legTakes, gives, takeFrom, formed, after, steps}
 use Rattle.spread.specs.Uses.{usesOf}
 use Rattle.spread.specs.declared.Prompts.{Prompts}
 use Rattle.spread.specs.declared.Spread.{Spread}
 use Rattle.spread.specs.declared.Table.{Table}
-use Rattle.spread.specs.declared.touches.Counted.{Counted}
 
 -- how many prompts a leg takes more than nothing of
 abbrev pub legTouches : Taker → ℕ → List Open → ℕ
@@ -52,9 +50,3 @@ pub record Touched (ss : List Spread) (ps : List Open) : Type 0 where
   pub moves : touches (steps ss) ps ≡ count moved (usesOf (steps ss) ps)
   -- "never exceeds the book's prompts (contracts in 16) plus all legs counted over both steps of every spread"
   pub bound : touches (steps ss) ps ≤ length ps + bothSteps ss
-
--- The promise: the delta book, and how often its steps touched a prompt.
-pub record CountedBook (p : Prompts) (t : Table) (r : Counted) : Type 0 where
-  pub book : Booked p t (r .book)
-  pub touches : r .touches ≡ touchesOf p t
-  pub few : r .touches ≤ mostTouches

@@ -20,8 +20,8 @@ ghost use lib.IntN.{_-ℤ_};
 ghost use Rattle.spread.specs.Steps.{towardsZero};
 ghost use Rattle.spread.specs.Accepted.{openOf, spreadsOf, soundPrompts, soundTable, sound};
 ghost use Rattle.spread.specs.Spend.{marketOf};
-ghost use Rattle.spread.specs.Cells.{cellOf, Pooled, Small};
-ghost use Rattle.spread.specs.Book.{Booked, Refused, Run, Spent};
+ghost use Rattle.spread.specs.code.Cells.{cellOf, Pooled, Small};
+ghost use Rattle.spread.specs.code.Book.{Booked, Refused, Run, Spent};
 
 // Spread k formed first[k] in its first step and second[k] in its second; used[k] and unused[k] are the parts of prompt k's
 // net delta. All are zero beyond the spreads and prompts given, and where these are not accepted.
@@ -41,7 +41,7 @@ struct Ran {
 }
 
 // The two parts of a net delta.
-struct Parts {
+struct Split {
     used: Delta,
     unused: Delta,
 }
@@ -112,12 +112,12 @@ fn run(pools: Pools, table: Table) -> Ran
 }
 
 // A net delta of which so much is wanted: no prompt goes past zero.
-fn parts_of(net: Delta, wanted: u64) -> Parts
+fn split_of(net: Delta, wanted: u64) -> Split
     ensures { λ r. ⌜ (r .used .0 ≡ net .0 -ℤ towardsZero (net .0) wanted) × (r .unused .0 ≡ towardsZero (net .0) wanted) ⌝ }
 {
     let unused = towards_zero(net.0, wanted);
     let used = minus(net.0, unused);
-    Parts {
+    Split {
         used: Delta(used),
         unused: Delta(unused),
     }
@@ -140,7 +140,7 @@ pub(crate) fn paid_by(prompts: Prompts, pools: Pools, left: &[u64]) -> Paid
         let net = prompts.net[k];
         let cell = pool_of(prompts.tier[k], net);
         let due = beyond(had[cell], left[cell]);
-        let parts = parts_of(net, due);
+        let parts = split_of(net, due);
         let taken = parts.used;
         let kept = parts.unused;
         paid.used[k] = taken;

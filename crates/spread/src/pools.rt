@@ -9,9 +9,9 @@ ghost use Prim.Native.Nat.{_-_, _≤_, _<_, min};
 ghost use lib.Dec.{ltb};
 ghost use lib.ListN.{length};
 ghost use Rattle.spread.specs.Accepted.{soundLeg, soundSpread};
-ghost use Rattle.spread.specs.Steps.{room, useOf, taker};
-ghost use Rattle.spread.specs.Cells.{cellOf, shortIf, marketIn, stepOf, roomIn, lessIn, formedIn, afterIn, Taken};
-ghost use Rattle.spread.specs.Cells.{cellAt, lowestIn, mostPool, mostNumber, Small};
+ghost use Rattle.spread.specs.Steps as Steps;
+ghost use Rattle.spread.specs.Steps.{useOf, taker, marketIn, stepOf};
+ghost use Rattle.spread.specs.code.Cells.{cellOf, shortIf, roomIn, lessIn, formedIn, afterIn, Taken, cellAt, lowestIn, mostPool, mostNumber, Small};
 
 pub const TIERS: usize = 16;
 
@@ -63,7 +63,7 @@ fn leg_cell(leg: Leg, second: bool) -> usize
 // "pool divided by ratio, whole ten-thousandths, rounded down"; of tenths "10 × pool / ratio, rounded down".
 fn room(pool: u64, ratio: u64, tenths: bool) -> u64
     requires { ⌜ (pool ≤ mostPool) × (0 < ratio) ⌝ }
-    ensures { λ r. ⌜ r ≡ room tenths pool ratio ⌝ }
+    ensures { λ r. ⌜ r ≡ Steps.room tenths pool ratio ⌝ }
 {
     if tenths {
         return TENTHS * pool / ratio;

@@ -9,7 +9,8 @@ use crate::accepted::sound_spread;
 use crate::book::paid_by;
 use crate::book::pools_of;
 ghost use mathlib.Core.Path.{_≡_};
-ghost use Rattle.spread.specs.Uses.{soundFor, Stepped, NotTaken};
+ghost use Rattle.spread.specs.Uses.{soundFor};
+ghost use Rattle.spread.specs.code.Step.{Stepped, NotTaken};
 
 // A step of a spread: the number that it forms, what it takes of each prompt, and the prompts as it leaves them. Where
 // prompts or spread are not accepted it forms and takes nothing.

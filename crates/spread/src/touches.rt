@@ -20,10 +20,11 @@ ghost use lib.Dec.{ltb};
 ghost use lib.ListN.{length, replicate};
 ghost use Rattle.exact.specs.Lists.{oneIf};
 ghost use Rattle.spread.specs.Accepted.{openOf, stepsOf, soundPrompts, sound};
-ghost use Rattle.spread.specs.Cells.{cellOf, marketIn, stepOf, mostNumber};
-ghost use Rattle.spread.specs.Steps.{useOf};
-ghost use Rattle.spread.specs.Passing.{givesIn, UsedUp, Begun, Ready, Passed, LegTaken, StepTaken, FormedBy, Laid};
-ghost use Rattle.spread.specs.Touches.{touches, CountedBook};
+ghost use Rattle.spread.specs.code.Cells.{cellOf, mostNumber};
+ghost use Rattle.spread.specs.Steps.{marketIn, stepOf, useOf};
+ghost use Rattle.spread.specs.code.Passing.{givesIn, UsedUp, Begun, Ready, Passed, LegTaken, StepTaken, FormedBy, Laid};
+ghost use Rattle.spread.specs.Touches.{touches};
+ghost use Rattle.spread.specs.code.Book.{CountedBook};
 
 // A cell for each pool, and one for a tier out of range.
 const PLACES: usize = CELLS + 1;

@@ -1,9 +1,8 @@
 -- What is said of the accounts of the examples, computed from the definitions.
 -- Assumes nothing.
-use Prim.Native.Nat.{ℕ}
 use mathlib.Core.Path.{_≡_, refl}
 use mathlib.Core.Bool.{Bool, true, false}
-use mathlib.Core.List.{List, [], _∷_, _++_, map, List·Permᴰ·nil, List·Permᴰ·cons, List·Permᴰ·swap}
+use mathlib.Core.List.{[], _∷_, _++_, map, List·Permᴰ·nil, List·Permᴰ·cons, List·Permᴰ·swap}
 use lib.Dec.{eqb}
 use lib.IntN.{pos}
 use Rattle.exact.specs.Lists.{consIf}

@@ -1,15 +1,13 @@
 -- The two statements, proved.
 -- Assumes nothing.
-use Prim.Native.Nat.{ℕ, _+_, _≤_}
-use native.Mathlib.Omega.{arith}
+use Prim.Native.Nat.{ℕ, _+_}
 use mathlib.Core.Path.{_≡_, refl, sym, ap, ap₂, _∙_}
 use mathlib.Core.Bool.{Bool, false, cond, _||_}
-use mathlib.Core.List.{List, [], _∷_, _++_, map, map-append}
+use mathlib.Core.List.{List, [], _∷_, map, map-append}
 use lib.Dec.{eqb, ltb}
 use lib.IntN.{ℤ, pos, _+ℤ_}
 use lib.ListN.{length}
 use Rattle.exact.specs.Lists.{any, keep, count, sum, sumℤ}
-use Rattle.exact.specs.Signed.{orZero}
 use Rattle.exact.proofs.Lists.{length-keep, map-same, sumℤ-append}
 use Rattle.record.specs.Layout.{Record, contract, day, unit}
 use Rattle.account.specs.Parts.{ofKind, ofContract, contractsOf, promptsOf, rowsOf, spreadsOf, entriesOf, ratesOf}
@@ -17,13 +15,13 @@ use Rattle.account.specs.Whole.{partsBy, Whole}
 use Rattle.account.specs.declared.answers.Answer.{Answer}
 use Rattle.account.specs.declared.answers.Answer.the-variants.{Accepted, TooFewNumbers, NoSuchQuestion}
 use Rattle.account.proofs.Whole.{whole-file, whole-pair}
-use Rattle.margin.specs.Books.{asks, answered, book, contractBook, ofEach, ofQuestion, tableBook, tableQuestion}
-use Rattle.margin.specs.Contract.{Contract, contractFrom, contracts, partsIn, scanningOf}
-use Rattle.margin.specs.Deltas.{rowDelta, ofDay, netDelta, netDeltas}
+use Rattle.margin.specs.Books.{asks, contractBook, ofEach, ofQuestion, tableBook, tableQuestion}
+use Rattle.formulas.specs.Contract.{Contract, contractFrom, contracts, partsIn}
+use Rattle.formulas.specs.Deltas.{rowDelta, ofDay, netDelta, netDeltas}
 use Rattle.margin.specs.Figures.{figures, figuresOver}
-use Rattle.margin.specs.Margin.{shortOptions, shortLots}
+use Rattle.formulas.specs.Margin.{shortOptions, shortLots}
 use Rattle.margin.specs.Questions.{ifAccepted, numbersFor, answers, answerOver, afterwards, afterOver}
-use Rattle.margin.specs.Scanning.{product, total, totals, scenarios}
+use Rattle.formulas.specs.Scanning.{product, total, totals, scenarios}
 use Rattle.margin.specs.Uses.{contractUses, tableUses, uses}
 use Rattle.margin.specs.declared.asking.Question.{Question}
 use Rattle.margin.specs.declared.asking.Question.the-variants.{Figures, Book, Uses}

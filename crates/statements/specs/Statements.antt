@@ -12,10 +12,10 @@ use Rattle.account.specs.Checked.{checked}
 use Rattle.account.specs.Noon.{clear, joinedVerdict}
 use Rattle.account.specs.Parts.{ofKind, rowsOf}
 use Rattle.account.specs.Records.{records}
-use Rattle.account.specs.Standing.{accountOf}
+use Rattle.account.specs.Joined.{accountOf}
 use Rattle.account.specs.declared.answers.Answer.the-variants.{Accepted}
 use Rattle.margin.specs.Books.{answered, book}
-use Rattle.margin.specs.Contract.{partsIn, scanningOf}
+use Rattle.formulas.specs.Contract.{partsIn, scanningOf}
 use Rattle.margin.specs.Figures.{figures}
 use Rattle.margin.specs.Questions.{answerOver, afterOver}
 use Rattle.margin.specs.Uses.{uses}

@@ -1,14 +1,16 @@
 -- Tickets in turn, and what is told of a file with its tickets.
 -- Assumes nothing.
-use Prim.Native.Nat.{ℕ, suc, _+_, _-_, _*_, _/_, _%_, _≤_, _<_}
-use mathlib.Core.Path.{_≡_, refl, sym, ap, ap₂, _∙_, subst, subst⁻¹}
+use Prim.Native.Nat.{ℕ, _+_, _-_, _*_, _/_, _%_, _≤_, _<_}
+use mathlib.Core.Path.{_≡_, refl, sym, ap, ap₂, _∙_, subst⁻¹}
 use mathlib.Core.Bool.{Bool, true, false, cond}
-use mathlib.Core.List.{List, [], _∷_, _++_}
+use mathlib.Core.List.{List}
 use native.Mathlib.Omega.{arith}
 use native.Mathlib.Numerals.{add-one}
 use borrow.Author.Tests.{eq-eqb, ne-eqb, eqb-true}
 use lib.Dec.{eqb}
 use lib.ListN.{length, take, drop}
+use Rattle.account.specs.Check.{mostRecords}
+use Rattle.record.specs.Bytes.{recordBytes}
 use Rattle.record.specs.Layout.{Record}
 use Rattle.account.specs.Answers.{numberOf}
 use Rattle.account.specs.Checked.{checked}
@@ -18,9 +20,9 @@ use Rattle.account.specs.declared.answers.Answer.the-variants.{Accepted, NoTick
 use Rattle.account.proofs.Earlier.{cut-more}
 use Rattle.account.proofs.AcceptedOnly.{accepted-only}
 use Rattle.account.proofs.Walk.{cut-on, length-cut}
-use Rattle.margin.specs.Questions.{accepted}
+use Rattle.margin.specs.Questions.{notRefused}
 use Rattle.tickets.specs.Asked.{ticketsIn, of, inTurn, standing, total, refusedBy, answeredBy, askedAbout, withdrawnFrom}
-use Rattle.tickets.specs.Kept.{KeptBy, withdrawal}
+use Rattle.tickets.specs.code.Kept.{KeptBy, withdrawal}
 use Rattle.tickets.specs.Ticket.{withTicket, withTickets, ticketChecked}
 use Rattle.tickets.specs.declared.ask.Asked.{Asked}
 use Rattle.tickets.specs.declared.ask.Ticketed.{Ticketed}
@@ -30,25 +32,25 @@ use Rattle.tickets.proofs.Placed.{take-cut}
 use Rattle.tickets.proofs.Taken.{tickets-last}
 
 -- ---- how many tickets
-pub whole-count : (bytes : List ℕ) → length bytes % 96 ≡ 0 → length bytes / 96 ≡ length (ticketsIn bytes)
-whole-count bytes z = omega (arith, length-cut ((length bytes + 95) / 96) bytes)
+pub whole-count : (bytes : List ℕ) → length bytes % recordBytes ≡ 0 → length bytes / recordBytes ≡ length (ticketsIn bytes)
+whole-count bytes z = omega (arith, length-cut ((length bytes + 95) / recordBytes) bytes)
 
-pub part-count : (bytes : List ℕ) → (length bytes % 96 ≡ 0 → ⊥) → length bytes / 96 + 1 ≡ length (ticketsIn bytes)
-part-count bytes nz = omega (arith, nz, length-cut ((length bytes + 95) / 96) bytes)
+pub part-count : (bytes : List ℕ) → (length bytes % recordBytes ≡ 0 → ⊥) → length bytes / recordBytes + 1 ≡ length (ticketsIn bytes)
+part-count bytes nz = omega (arith, nz, length-cut ((length bytes + 95) / recordBytes) bytes)
 
 -- ---- accepted or refused
 module _ {A : Type 0} (a : Answer) (x y : A) where
-  pub if-yes : numberOf a ≡ 0 → cond (accepted a) x y ≡ x
+  pub if-yes : numberOf a ≡ 0 → cond (notRefused a) x y ≡ x
   if-yes z = ap (λ (b : Bool). cond b x y) (eq-eqb (numberOf a) 0 z)
 
-  pub if-no : (numberOf a ≡ 0 → ⊥) → cond (accepted a) x y ≡ y
+  pub if-no : (numberOf a ≡ 0 → ⊥) → cond (notRefused a) x y ≡ y
   if-no nz = ap (λ (b : Bool). cond b x y) (ne-eqb (numberOf a) 0 nz)
 
 -- ---- tickets in turn
 module _ (file bytes : List ℕ) (n : ℕ) where
   -- those from ticket i on, once the first i are put in
   abbrev pub FromOn : ℕ → Ticketed
-  FromOn i = inTurn i (withTickets file (cut i bytes)) (cut (n - i) (drop (i * 96) bytes))
+  FromOn i = inTurn i (withTickets file (cut i bytes)) (cut (n - i) (drop (i * recordBytes) bytes))
 
   pub from-start : inTurn 0 file (cut n bytes) ≡ FromOn 0
   from-start =
@@ -65,7 +67,7 @@ module _ (file bytes : List ℕ) (n : ℕ) where
     from-next z =
         ap (inTurn i (withTickets file (cut i bytes))) (cut-on bytes n i h)
         ∙ if-yes (ticketChecked (withTickets file (cut i bytes)) (recordAt bytes i)) _ _ z
-        ∙ ap (λ (g : List ℕ). inTurn (i + 1) g (cut (n - (i + 1)) (drop ((i + 1) * 96) bytes))) one-more
+        ∙ ap (λ (g : List ℕ). inTurn (i + 1) g (cut (n - (i + 1)) (drop ((i + 1) * recordBytes) bytes))) one-more
 
     pub from-stops :
         (a : Answer) → a ≡ ticketChecked (withTickets file (cut i bytes)) (recordAt bytes i) → (numberOf a ≡ 0 → ⊥) → of (i + 1) a ≡ FromOn i
@@ -77,7 +79,7 @@ module _ (file bytes : List ℕ) (n : ℕ) where
   pub from-end : (i : ℕ) → n ≤ i → of i Accepted ≡ FromOn i
   from-end i h =
       let e : n - i ≡ 0 = omega arith in
-      ap (λ (m : ℕ). inTurn i (withTickets file (cut i bytes)) (cut m (drop (i * 96) bytes))) (sym e)
+      ap (λ (m : ℕ). inTurn i (withTickets file (cut i bytes)) (cut m (drop (i * recordBytes) bytes))) (sym e)
 
 -- ---- what is told in the end
 module _ (file : List ℕ) (ts : List Record) where
@@ -86,14 +88,14 @@ module _ (file : List ℕ) (ts : List Record) where
 
   abbrev askBy : Record → Ticketed → Asked
   askBy t v =
-      cond (accepted (v .answer))
-      (cond (accepted (ticketChecked held t)) (answeredBy (v .ticket + 1) (total held) (total (withTicket held t)))
+      cond (notRefused (v .answer))
+      (cond (notRefused (ticketChecked held t)) (answeredBy (v .ticket + 1) (total held) (total (withTicket held t)))
       (refusedBy (of (v .ticket + 1) (ticketChecked held t))))
       (refusedBy v)
 
   abbrev withdrawBy : Ticketed → Asked
   withdrawBy v =
-      cond (accepted (v .answer))
+      cond (notRefused (v .answer))
       (cond (eqb (v .ticket) 0) (refusedBy (of 0 NoTicketLeft)) (answeredBy (v .ticket) (total held) (total (withTickets file (take (length ts - 1) ts)))))
       (refusedBy v)
 
@@ -122,7 +124,7 @@ module _ (file : List ℕ) (ts : List Record) where
     module _ (z : numberOf a ≡ 0) where
       module _ (t : Record) (b : Answer) (i : b ≡ ticketChecked held t) where
         here : askedAbout file ts t
-            ≡ cond (accepted (ticketChecked held t)) (answeredBy (n + 1) (total held) (total (withTicket held t)))
+            ≡ cond (notRefused (ticketChecked held t)) (answeredBy (n + 1) (total held) (total (withTicket held t)))
             (refusedBy (of (n + 1) (ticketChecked held t)))
         here = ap (askBy t) (sym its) ∙ if-yes a _ _ z
 
@@ -170,11 +172,11 @@ some-left m z e =
     omega arith
 
 module _ (file bytes : List ℕ) (k : Kept) (kb : KeptBy file (ticketsIn bytes) k) where
-  pub few-tickets : length (ticketsIn bytes) ≤ 640
+  pub few-tickets : length (ticketsIn bytes) ≤ mostRecords
   few-tickets = omega (arith, kb .counts .many, small file (ticketsIn bytes) (k .counts) (kb .counts) .tickets-few)
 
-  how-many : k .counts .tickets ≡ (length bytes + 95) / 96
-  how-many = kb .counts .many ∙ length-cut ((length bytes + 95) / 96) bytes
+  how-many : k .counts .tickets ≡ (length bytes + 95) / recordBytes
+  how-many = kb .counts .many ∙ length-cut ((length bytes + 95) / recordBytes) bytes
 
   pub kept-cut : KeptBy file (cut (k .counts .tickets) bytes) k
   kept-cut = subst⁻¹ (λ (n : ℕ). KeptBy file (cut n bytes) k) how-many kb
@@ -182,7 +184,11 @@ module _ (file bytes : List ℕ) (k : Kept) (kb : KeptBy file (ticketsIn bytes) 
   pub but-last : cut (k .counts .tickets - 1) bytes ≡ take (length (ticketsIn bytes) - 1) (ticketsIn bytes)
   but-last =
       ap (λ (n : ℕ). cut (n - 1) bytes) (kb .counts .many)
-      ∙ sym (take-cut (length (ticketsIn bytes) - 1) ((length bytes + 95) / 96) bytes (omega (arith, length-cut ((length bytes + 95) / 96) bytes)))
+      ∙ sym (take-cut (length (ticketsIn bytes) - 1) ((length bytes + 95) / recordBytes) bytes (omega (
+        arith,
+        length-cut
+            ((length bytes + 95) / recordBytes) bytes,
+      )))
 
   pub nothing-left : (b : Answer) → b ≡ withdrawal (k .counts .tickets) → (numberOf b ≡ 0 → ⊥) → (length (ticketsIn bytes) ≡ 0) × (b ≡ NoTicketLeft)
   nothing-left b e nz =

@@ -9,13 +9,13 @@ use lib.ListN.{length, getD, take, replicate, length-map, length-append, length-
 use lib.Seq.{take-at, getD-append-add}
 use Rattle.record.specs.Layout.{Record, day}
 use Rattle.spread.specs.declared.Delta.{Delta}
-use Rattle.margin.specs.Deltas.{netDelta, netDeltas}
-use Rattle.margin.specs.Margin.{shortLots}
-use Rattle.margin.specs.Position.{DaysOf, PositionOf, WithRows, netOn, deltasIn}
-use Rattle.margin.specs.Scanning.{total, scenarios, totals}
-use Rattle.margin.specs.declared.rows.Days.{Days}
-use Rattle.margin.specs.declared.rows.Position.{Position}
-use Rattle.margin.proofs.PositionLaws.{total-append, net-append, shorts-append, totals-at, net-here, zeros}
+use Rattle.formulas.specs.Deltas.{netDelta, netDeltas}
+use Rattle.formulas.specs.Margin.{shortLots}
+use Rattle.formulas.specs.code.Position.{DaysOf, PositionOf, WithRows, netOn, deltasIn}
+use Rattle.formulas.specs.Scanning.{total, scenarios, totals}
+use Rattle.formulas.specs.declared.rows.Days.{Days}
+use Rattle.formulas.specs.declared.rows.Position.{Position}
+use Rattle.formulas.proofs.PositionLaws.{total-append, net-append, shorts-append, totals-at, net-here, zeros}
 
 delta : ℤ → Delta
 delta z = record { 0 = z }

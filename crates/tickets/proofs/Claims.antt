@@ -1,30 +1,30 @@
 -- The claims about a ticket.
 -- Assumes nothing.
-use Prim.Native.Nat.{ℕ, suc, _+_, _-_, _≤_, _<_}
+use Prim.Native.Nat.{ℕ, _≤_, _<_}
 use mathlib.Core.Path.{_≡_, refl, sym, ap, ap₂, _∙_, subst, subst⁻¹}
 use mathlib.Core.Bool.{Bool, true, false, not, _&&_, cond}
 use mathlib.Core.List.{List, [], _∷_, _++_}
 use lib.Dec.{eqb, leb, lit<}
-use lib.ListN.{length, take, drop, length-append, length-drop, take-append-drop}
+use lib.ListN.{length, take, drop, length-append, take-append-drop}
 use native.Mathlib.Omega.{arith}
-use borrow.Author.Tests.{eq-eqb, ne-eqb, eqb-true, eqb-false, leb-true, leb-false, le-leb, lt-leb}
-use Rattle.record.specs.Layout.{Record, recordBytes, kind, contract}
+use borrow.Author.Tests.{eqb-true, eqb-false, leb-true, leb-false}
+use Rattle.record.specs.Bytes.{recordBytes}
+use Rattle.record.specs.Layout.{Record, kind, contract}
 use Rattle.account.specs.Answers.{numberOf, recordOf, refusal}
 use Rattle.record.specs.Ranges.{unusedByte, fieldOutside}
-use Rattle.account.specs.Check.{theOneBefore, unlisted, outOfOrder, overLimit, _when_, firstOf}
+use Rattle.account.specs.Check.{theOneBefore, unlisted, outOfOrder, overLimit, _when_, firstOf, mostRecords}
 use Rattle.account.specs.Checked.{checked}
-use Rattle.account.specs.Claims.{Iff, givenIn}
-use Rattle.account.specs.Parts.{ofKind, contractsOf, promptsOf, rowsOf, spreadsOf, entriesOf, ratesOf}
+use Rattle.account.specs.Claims.{Iff}
+use Rattle.account.specs.Parts.{ofKind, ratesOf}
 use Rattle.account.specs.Products.{hasRate, conversionBeyond}
 use Rattle.account.specs.Records.{records, recordCount}
 use Rattle.account.specs.declared.answers.Answer.{Answer}
 use Rattle.account.specs.declared.answers.Answer.the-variants.{Accepted, TooLong, CutRecord, UnknownKind}
 use Rattle.account.proofs.Exactly.{Rising, none-given, leads, leads-back, clean-back}
 use Rattle.tickets.specs.Claims.{OneRowMore, PutIn, Gives, Row, FirstFor, NoneFor, Exactly, Claims}
-use Rattle.tickets.specs.Ticket.{place, withTicket, ahead, cutTicket, notRow, rowRefusals, rowFault, fullWith, ticketChecked}
-use Rattle.tickets.proofs.Inserted.{rows-with, rows-without, contracts-same, prompts-same, spreads-same, entries-same, rates-same, never-4}
-use Rattle.tickets.proofs.Inserted.{never-8, no-fault}
-use Rattle.tickets.proofs.Placed.{plain, place-within, records-with, apart-at, before-at, checked-with, full-with, told-full}
+use Rattle.tickets.specs.Ticket.{place, withTicket, ahead, rowRefusals, rowFault, ticketChecked}
+use Rattle.tickets.proofs.Inserted.{rows-with, rows-without, contracts-same, prompts-same, spreads-same, entries-same, rates-same, never-4, never-8}
+use Rattle.tickets.proofs.Placed.{records-with, apart-at, before-at, checked-with, full-with}
 
 -- ---- the row put in
 length-put : (n : ℕ) (t : Record) (rs : List Record) → length (take n rs ++ t ∷ drop n rs) ≡ length (t ∷ rs)
@@ -81,35 +81,35 @@ module _ (file : List ℕ) (t : Record) where
       cond (not whole) CutRecord (cond (not row) (UnknownKind p) (cond none (cond full TooLong Accepted) (refusal fault p)))
 
   pub shaped :
-      (w k z f : Bool) → eqb (length t) 96 ≡ w → eqb (kind t) 3 ≡ k → eqb fault 0 ≡ z → leb 640 (recordCount file) ≡ f
+      (w k z f : Bool) → eqb (length t) recordBytes ≡ w → eqb (kind t) 3 ≡ k → eqb fault 0 ≡ z → leb mostRecords (recordCount file) ≡ f
       → ticketChecked file t ≡ shape w k z f
   shaped w k z f e i h l =
-      ap₂ (λ (a b : Bool). shape a b (eqb fault 0) (leb 640 (recordCount file))) e i ∙ ap₂ (λ (a b : Bool). shape w k a b) h l
+      ap₂ (λ (a b : Bool). shape a b (eqb fault 0) (leb mostRecords (recordCount file))) e i ∙ ap₂ (λ (a b : Bool). shape w k a b) h l
 
   pub record Told (P : Type 0) : Type 0 where
-    pub two : (length t ≡ 96 → ⊥) → ticketChecked file t ≡ CutRecord → P
-    pub three : length t ≡ 96 → (kind t ≡ 3 → ⊥) → ticketChecked file t ≡ UnknownKind p → P
+    pub two : (length t ≡ recordBytes → ⊥) → ticketChecked file t ≡ CutRecord → P
+    pub three : length t ≡ recordBytes → (kind t ≡ 3 → ⊥) → ticketChecked file t ≡ UnknownKind p → P
     pub row : Row t → (fault ≡ 0 → ⊥) → ticketChecked file t ≡ refusal fault p → P
-    pub one : Row t → fault ≡ 0 → 640 ≤ recordCount file → ticketChecked file t ≡ TooLong → P
-    pub accepted : Row t → fault ≡ 0 → recordCount file < 640 → ticketChecked file t ≡ Accepted → P
+    pub one : Row t → fault ≡ 0 → mostRecords ≤ recordCount file → ticketChecked file t ≡ TooLong → P
+    pub accepted : Row t → fault ≡ 0 → recordCount file < mostRecords → ticketChecked file t ≡ Accepted → P
 
   pub told : {P : Type 0} → Told P → P
-  told {P} cases = go (eqb (length t) 96) refl (eqb (kind t) 3) refl (eqb fault 0) refl (leb 640 (recordCount file)) refl
+  told {P} cases = go (eqb (length t) recordBytes) refl (eqb (kind t) 3) refl (eqb fault 0) refl (leb mostRecords (recordCount file)) refl
     where
       go :
-          (w : Bool) → eqb (length t) 96 ≡ w → (k : Bool) → eqb (kind t) 3 ≡ k → (z : Bool) → eqb fault 0 ≡ z
-          → (f : Bool) → leb 640 (recordCount file) ≡ f → P
-      go false e k i z h f l = cases .two (eqb-false (length t) 96 e) (shaped false k z f e i h l)
-      go true e false i z h f l = cases .three (eqb-true (length t) 96 e) (eqb-false (kind t) 3 i) (shaped true false z f e i h l)
+          (w : Bool) → eqb (length t) recordBytes ≡ w → (k : Bool) → eqb (kind t) 3 ≡ k → (z : Bool) → eqb fault 0 ≡ z
+          → (f : Bool) → leb mostRecords (recordCount file) ≡ f → P
+      go false e k i z h f l = cases .two (eqb-false (length t) recordBytes e) (shaped false k z f e i h l)
+      go true e false i z h f l = cases .three (eqb-true (length t) recordBytes e) (eqb-false (kind t) 3 i) (shaped true false z f e i h l)
       go true e true i false h f l =
-          cases .row (record { whole = eqb-true (length t) 96 e; row = eqb-true (kind t) 3 i }) (eqb-false fault 0 h)
+          cases .row (record { whole = eqb-true (length t) recordBytes e; row = eqb-true (kind t) 3 i }) (eqb-false fault 0 h)
           (shaped true true false f e i h l)
       go true e true i true h true l =
-          cases .one (record { whole = eqb-true (length t) 96 e; row = eqb-true (kind t) 3 i }) (eqb-true fault 0 h)
-          (leb-true 640 (recordCount file) l) (shaped true true true true e i h l)
+          cases .one (record { whole = eqb-true (length t) recordBytes e; row = eqb-true (kind t) 3 i }) (eqb-true fault 0 h)
+          (leb-true mostRecords (recordCount file) l) (shaped true true true true e i h l)
       go true e true i true h false l =
-          cases .accepted (record { whole = eqb-true (length t) 96 e; row = eqb-true (kind t) 3 i }) (eqb-true fault 0 h)
-          (leb-false 640 (recordCount file) l) (shaped true true true false e i h l)
+          cases .accepted (record { whole = eqb-true (length t) recordBytes e; row = eqb-true (kind t) 3 i }) (eqb-true fault 0 h)
+          (leb-false mostRecords (recordCount file) l) (shaped true true true false e i h l)
 
   gives : {a : Answer} (n k : ℕ) → ticketChecked file t ≡ a → numberOf a ≡ n → recordOf a ≡ k → Gives file t n k
   gives n k e i j = record { number = ap numberOf e ∙ i; record-is = ap recordOf e ∙ j }
@@ -282,20 +282,20 @@ module _ (file : List ℕ) (t : Record) where
         })
 
     -- what the ticket is told is Accepted only with room
-    room-of : ticketChecked file t ≡ Accepted → recordCount file < 640
+    room-of : ticketChecked file t ≡ Accepted → recordCount file < mostRecords
     room-of h = exactly .accepted .forth (record { number = ap numberOf h; record-is = ap recordOf h }) .1 .1
 
     same-verdict : Iff (ticketChecked file t ≡ Accepted) (checked (withTicket file t) ≡ Accepted)
     same-verdict =
         record {
           forth = λ h. checked-with file ok t (r .whole) (r .row) (room-of h) ∙ h;
-          back = λ h. go h (leb 640 (recordCount file)) refl;
+          back = λ h. go h (leb mostRecords (recordCount file)) refl;
         }
       where
-        go : checked (withTicket file t) ≡ Accepted → (b : Bool) → leb 640 (recordCount file) ≡ b → ticketChecked file t ≡ Accepted
-        go h false e = sym (checked-with file ok t (r .whole) (r .row) (leb-false 640 (recordCount file) e)) ∙ h
+        go : checked (withTicket file t) ≡ Accepted → (b : Bool) → leb mostRecords (recordCount file) ≡ b → ticketChecked file t ≡ Accepted
+        go h false e = sym (checked-with file ok t (r .whole) (r .row) (leb-false mostRecords (recordCount file) e)) ∙ h
         go h true e =
-            let z : _≡_ {A = ℕ} 1 0 = ap numberOf (sym (full-with file ok t (r .whole) (r .row) (leb-true 640 (recordCount file) e)) ∙ h) in
+            let z : _≡_ {A = ℕ} 1 0 = ap numberOf (sym (full-with file ok t (r .whole) (r .row) (leb-true mostRecords (recordCount file) e)) ∙ h) in
             absurd (omega arith)
 
     pub put-in : PutIn file t

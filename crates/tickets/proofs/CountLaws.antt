@@ -6,12 +6,13 @@ use mathlib.Core.Bool.{Bool, true, false, not, _&&_, _||_, cond}
 use mathlib.Core.List.{List, [], _∷_, _++_}
 use lib.Dec.{eqb, leb}
 use lib.ListN.{length, getD, set, take, length-append, length-set}
-use lib.Seq.{getD-set-same, getD-set-other, take-all}
+use lib.Seq.{getD-set-same, getD-set-other}
 use native.Mathlib.Omega.{arith}
 use native.Mathlib.Numerals.{add-one}
 use borrow.Author.Tests.{eq-eqb, ne-eqb, eqb-true, eqb-false, leb-true, leb-false, le-leb, lt-leb}
+use Rattle.record.specs.Bytes.{recordBytes}
 use Rattle.exact.specs.Lists.{keep, any, oneIf, count, sum}
-use Rattle.exact.proofs.Lists.{count-le, count-append, length-keep}
+use Rattle.exact.proofs.Lists.{count-le, length-keep}
 use Rattle.record.specs.Layout.{Record, kind, contract, day}
 use Rattle.record.specs.Ranges.{unusedByte, fieldOutside}
 use Rattle.record.proofs.Tests.{both}
@@ -19,15 +20,18 @@ use Rattle.record.specs.Within.{RowWithin, RateWithin}
 use Rattle.record.proofs.Within.{contract-known, row-within}
 use Rattle.account.specs.Accepted.{Each}
 use Rattle.account.specs.Answers.{numberOf, refusal}
-use Rattle.account.specs.Check.{theOneBefore, unlisted, outOfOrder, overLimit, firstOf, _when_, orElse, mostContracts}
+use Rattle.account.specs.Check.{theOneBefore, unlisted, outOfOrder, overLimit, firstOf, _when_, orElse, mostRecords}
 use Rattle.account.specs.Checked.{rateRefusals, rateFaultOf, checked}
 use Rattle.account.specs.Conversions.{rowAnswer}
-use Rattle.account.specs.Notes.{part, inPart, noContract, noDay}
+use Rattle.account.specs.PartNumbers.{part, ratePart}
+use Rattle.account.specs.code.Notes.{noContract, noDay}
 use Rattle.account.specs.Parts.{ofKind, ofContract, contractsOf, promptsOf, rowsOf, ratesOf}
-use Rattle.account.specs.Products.{hasRate, conversionBeyond, RatesOf}
+use Rattle.account.specs.Products.{hasRate, conversionBeyond}
+use Rattle.account.specs.code.Rates.{RatesOf}
 use Rattle.account.specs.declared.rates.Rates.{Rates}
 use Rattle.account.specs.Records.{records, recordCount}
-use Rattle.account.specs.Standing.{Stands, accountOf, PartOf, Filled, CheckedBy}
+use Rattle.account.specs.code.Standing.{Stands, PartOf, Filled, CheckedBy}
+use Rattle.account.specs.Joined.{accountOf}
 use Rattle.account.specs.declared.accounts.Account.{Account}
 use Rattle.account.specs.declared.answers.Answer.{Answer}
 use Rattle.account.specs.declared.answers.Answer.the-variants.{Accepted, TooLong, CutRecord, UnknownKind}
@@ -38,7 +42,7 @@ use Rattle.account.proofs.Passed.{Passed, passed, Known, known-of}
 use Rattle.account.proofs.Places.{alone}
 use Rattle.account.proofs.Walk.{length-cut}
 use Rattle.tickets.specs.Claims.{Row, OneRowMore}
-use Rattle.tickets.specs.Counts.{Taken, CountsOf, Small, rowFaultBy, OneMore, OneLess}
+use Rattle.tickets.specs.code.Counts.{CountsOf, Small, rowFaultBy, OneMore, OneLess}
 use Rattle.tickets.specs.Ticket.{place, withTicket, withTickets, ahead, rowFault, ticketChecked}
 use Rattle.tickets.specs.declared.counts.Counts.{Counts}
 use Rattle.tickets.proofs.Claims.{shaped, one-row-more, none-told}
@@ -113,10 +117,10 @@ module _ (file : List ℕ) (ts : List Record) (k : Counts) (co : CountsOf file t
         co .many,
       )
 
-  few : recordCount G ≤ 640
+  few : recordCount G ≤ mostRecords
   few = plain G with-ok .few
 
-  pub many-few : k .account .records + k .tickets ≤ 640
+  pub many-few : k .account .records + k .tickets ≤ mostRecords
   many-few = omega (arith, many-with, few)
 
   contracts-same : count (ofKind 1) (records G) ≡ count (ofKind 1) (records file)
@@ -144,7 +148,7 @@ module _ (file : List ℕ) (ts : List Record) (k : Counts) (co : CountsOf file t
         tickets-few = omega (arith, many-with, few);
       }
     where
-      above-most : k .above ≤ 640
+      above-most : k .above ≤ mostRecords
       above-most =
           omega (
             arith,
@@ -218,15 +222,15 @@ module _ (file : List ℕ) (ts : List Record) (k : Counts) (co : CountsOf file t
         fault-by G with-ok t r ∙ ap (λ (n : ℕ). cond (eqb n 0) (rateFaultOf rates t) n) (sym (parts-fault none e r))
 
     -- ---- what the ticket is told
-    pub tell-2 : (length t ≡ 96 → ⊥) → CutRecord ≡ ticketChecked G t
-    tell-2 d = sym (shaped G t false (eqb (kind t) 3) (eqb (rowFault G t) 0) (leb 640 (recordCount G)) (ne-eqb (length t) 96 d) refl refl refl)
+    pub tell-2 : (length t ≡ recordBytes → ⊥) → CutRecord ≡ ticketChecked G t
+    tell-2 d = sym (shaped G t false (eqb (kind t) 3) (eqb (rowFault G t) 0) (leb mostRecords (recordCount G)) (ne-eqb (length t) recordBytes d) refl refl refl)
 
-    pub tell-3 : (p : ℕ) → p ≡ k .above + sum (take (contract t + 1) (k .rows)) → length t ≡ 96 → (kind t ≡ 3 → ⊥) → UnknownKind p ≡ ticketChecked G t
+    pub tell-3 : (p : ℕ) → p ≡ k .above + sum (take (contract t + 1) (k .rows)) → length t ≡ recordBytes → (kind t ≡ 3 → ⊥) → UnknownKind p ≡ ticketChecked G t
     tell-3 p e w d =
         ap UnknownKind (e ∙ sym (place-is t))
-        ∙ sym (shaped G t true false (eqb (rowFault G t) 0) (leb 640 (recordCount G)) (eq-eqb (length t) 96 w) (ne-eqb (kind t) 3 d) refl refl)
+        ∙ sym (shaped G t true false (eqb (rowFault G t) 0) (leb mostRecords (recordCount G)) (eq-eqb (length t) recordBytes w) (ne-eqb (kind t) 3 d) refl refl)
 
-    module _ (none : List ℕ) (nothing : none ≡ []) (w : length t ≡ 96) (row : kind t ≡ 3) where
+    module _ (none : List ℕ) (nothing : none ≡ []) (w : length t ≡ recordBytes) (row : kind t ≡ 3) where
       is-row : Row t
       is-row = record { whole = w; row = row }
 
@@ -238,7 +242,7 @@ module _ (file : List ℕ) (ts : List Record) (k : Counts) (co : CountsOf file t
           fault-is none nothing is-row
           ∙ ap (λ (b : Bool). cond b (rateFaultOf rates t) (by-parts none)) (ne-eqb (by-parts none) 0 (λ z. nz (f ∙ z))) ∙ sym f in
           ap₂ refusal (sym same-n) (e ∙ sym (place-is t))
-          ∙ sym (shaped G t true true false (leb 640 (recordCount G)) (eq-eqb (length t) 96 w) (eq-eqb (kind t) 3 row)
+          ∙ sym (shaped G t true true false (leb mostRecords (recordCount G)) (eq-eqb (length t) recordBytes w) (eq-eqb (kind t) 3 row)
           (ne-eqb (rowFault G t) 0 (λ z. nz (sym same-n ∙ z))) refl)
 
       module _ (n : ℕ) (f : n ≡ by-parts none) (z : n ≡ 0) where
@@ -261,7 +265,7 @@ module _ (file : List ℕ) (ts : List Record) (k : Counts) (co : CountsOf file t
             let some : m ≡ 0 → ⊥ = λ x. nz (ap numberOf i ∙ ap (λ (j : ℕ). numberOf (orElse j p Accepted)) x) in
             i ∙ ap (λ (b : Bool). cond b Accepted (refusal m p)) (ne-eqb m 0 some)
             ∙ ap₂ refusal (sym by-rates) (e ∙ sym (place-is t))
-            ∙ sym (shaped G t true true false (leb 640 (recordCount G)) (eq-eqb (length t) 96 w) (eq-eqb (kind t) 3 row)
+            ∙ sym (shaped G t true true false (leb mostRecords (recordCount G)) (eq-eqb (length t) recordBytes w) (eq-eqb (kind t) 3 row)
             (ne-eqb (rowFault G t) 0 (λ x. some (sym by-rates ∙ x))) refl)
 
         module _ (p : ℕ) (a : Answer) (i : a ≡ rowAnswer rates p t) (none-told : numberOf a ≡ 0) where
@@ -269,18 +273,18 @@ module _ (file : List ℕ) (ts : List Record) (k : Counts) (co : CountsOf file t
           no-fault =
               by-rates ∙ two-none (ofKind 3 t && not (hasRate rates t)) (ofKind 3 t && conversionBeyond rates t) p (sym (ap numberOf i) ∙ none-told)
 
-          pub tell-1 : 640 ≤ k .account .records + k .tickets → TooLong ≡ ticketChecked G t
+          pub tell-1 : mostRecords ≤ k .account .records + k .tickets → TooLong ≡ ticketChecked G t
           tell-1 h =
-              sym (shaped G t true true true true (eq-eqb (length t) 96 w) (eq-eqb (kind t) 3 row)
-              (eq-eqb (rowFault G t) 0 no-fault) (le-leb 640 (recordCount G) (omega (arith, many-with))))
+              sym (shaped G t true true true true (eq-eqb (length t) recordBytes w) (eq-eqb (kind t) 3 row)
+              (eq-eqb (rowFault G t) 0 no-fault) (le-leb mostRecords (recordCount G) (omega (arith, many-with))))
 
-          pub tell-0 : k .account .records + k .tickets < 640 → Accepted ≡ ticketChecked G t
+          pub tell-0 : k .account .records + k .tickets < mostRecords → Accepted ≡ ticketChecked G t
           tell-0 h =
-              sym (shaped G t true true true false (eq-eqb (length t) 96 w) (eq-eqb (kind t) 3 row)
-              (eq-eqb (rowFault G t) 0 no-fault) (lt-leb 640 (recordCount G) (omega (arith, many-with))))
+              sym (shaped G t true true true false (eq-eqb (length t) recordBytes w) (eq-eqb (kind t) 3 row)
+              (eq-eqb (rowFault G t) 0 no-fault) (lt-leb mostRecords (recordCount G) (omega (arith, many-with))))
 
   -- ---- the rates that the code reads
-  pub rates-read : (none : List ℕ) → none ≡ [] → (bytes : List ℕ) → PartOf (accountOf file none) 81 bytes → records bytes ≡ ratesOf (records G)
+  pub rates-read : (none : List ℕ) → none ≡ [] → (bytes : List ℕ) → PartOf (accountOf file none) ratePart bytes → records bytes ≡ ratesOf (records G)
   rates-read none e bytes is =
       is .are ∙ ap (keep (ofKind 6)) (alone file none e (plain file ok .recorded)) ∙ sym (parts .rates)
 
@@ -288,7 +292,8 @@ module _ (file : List ℕ) (ts : List Record) (k : Counts) (co : CountsOf file t
   rates-fit = lawful G with-ok .ranges .rates
 
   pub told-by :
-      (t : Record) (none : List ℕ) → none ≡ [] → (bytes : List ℕ) → PartOf (accountOf file none) 81 bytes → (table : Rates) → RatesOf (records bytes) table
+      (t : Record) (none : List ℕ) → none ≡ [] → (bytes : List ℕ) → PartOf (accountOf file none) ratePart bytes → (table : Rates)
+      → RatesOf (records bytes) table
       → (p : ℕ) (a : Answer) → ((rates : List Record) → RatesOf rates table → Each RateWithin rates → a ≡ rowAnswer rates p t)
       → a ≡ rowAnswer (ratesOf (records G)) p t
   told-by t none e bytes is table held p a told =
@@ -325,7 +330,7 @@ module _ (file : List ℕ) (account : Account) (by : CheckedBy file (record { an
           let l = leb-false 16 c e in
           filled .each c l ∙ count-in file account by n c h (omega arith)
 
-  pub totals-few : (n : ℕ) → n ≤ 4 → (xs : List ℕ) → Filled 16 (λ c. getD (account .counts) (part n c) 0) xs → (c : ℕ) → getD xs c 0 ≤ 640
+  pub totals-few : (n : ℕ) → n ≤ 4 → (xs : List ℕ) → Filled 16 (λ c. getD (account .counts) (part n c) 0) xs → (c : ℕ) → getD xs c 0 ≤ mostRecords
   totals-few n h xs filled c =
       omega (
         arith,
@@ -336,7 +341,7 @@ module _ (file : List ℕ) (account : Account) (by : CheckedBy file (record { an
             (file-ok file account by) .few,
       )
 
-  pub contracts-few : account .contracts ≤ 640
+  pub contracts-few : account .contracts ≤ mostRecords
   contracts-few =
       omega (
         arith,
@@ -347,7 +352,7 @@ module _ (file : List ℕ) (account : Account) (by : CheckedBy file (record { an
             (file-ok file account by) .few,
       )
 
-  pub prompts-few : (xs : List ℕ) → Filled 16 (λ c. getD (account .counts) (part 2 c) 0) xs → sum (take 16 xs) ≤ 640
+  pub prompts-few : (xs : List ℕ) → Filled 16 (λ c. getD (account .counts) (part 2 c) 0) xs → sum (take 16 xs) ≤ mostRecords
   prompts-few xs filled =
       omega (
         arith,

@@ -1,23 +1,23 @@
 -- The place of a ticket and what it is refused for, by how many records the parts of the account have.
 -- Assumes nothing.
-use Prim.Native.Nat.{ℕ, zero, suc, _+_, _≤_, _<_}
-use mathlib.Core.Path.{_≡_, refl, sym, ap, ap₂, _∙_, subst, subst⁻¹}
+use Prim.Native.Nat.{ℕ, zero, suc, _+_, _<_}
+use mathlib.Core.Path.{_≡_, refl, sym, ap, ap₂, _∙_}
 use mathlib.Core.Bool.{Bool, true, false, not, _&&_, _||_, cond}
-use mathlib.Core.List.{List, [], _∷_, _++_}
+use mathlib.Core.List.{List, [], _∷_}
 use lib.Dec.{eqb, leb}
-use lib.ListN.{length, getD, take, drop, take-append-drop}
+use lib.ListN.{getD, take, drop, take-append-drop}
 use native.Mathlib.Omega.{arith}
-use borrow.Author.Tests.{eq-eqb, ne-eqb, eqb-true, eqb-false, leb-true, leb-false, le-leb, lt-leb}
-use Rattle.exact.specs.Lists.{keep, any, oneIf, count, sum}
+use borrow.Author.Tests.{ne-eqb, eqb-true, eqb-false, leb-true, leb-false, le-leb, lt-leb}
+use Rattle.exact.specs.Lists.{any, oneIf, count, sum}
 use Rattle.exact.proofs.Lists.{any-append, count-append}
 use Rattle.record.specs.Layout.{Record, kind, contract, day}
 use Rattle.record.specs.Ranges.{unusedByte, fieldOutside}
 use Rattle.record.proofs.Tests.{both}
 use Rattle.account.specs.Accepted.{Each}
-use Rattle.account.specs.Check.{theOneBefore, none, listsContract, listsDay, unlisted, outOfOrder, overLimit, firstFault, Refusal, firstOf, _when_}
+use Rattle.account.specs.Check.{listsContract, listsDay, unlisted, overLimit, firstFault, Refusal, firstOf, _when_}
 use Rattle.account.specs.Checked.{rateRefusals, rateFaultOf, checked}
-use Rattle.account.specs.Notes.{noDay}
-use Rattle.account.specs.Parts.{ofKind, ofContract, onDay, contractsOf, promptsOf, ratesOf}
+use Rattle.account.specs.code.Notes.{noDay}
+use Rattle.account.specs.Parts.{ofKind, ofContract, onDay, promptsOf, ratesOf}
 use Rattle.account.specs.Records.{records, recordCount, cut}
 use Rattle.account.specs.declared.answers.Answer.the-variants.{Accepted}
 use Rattle.account.proofs.Dispatch.{unlisted-3, over-3}
@@ -25,11 +25,11 @@ use Rattle.account.proofs.Earlier.{any-earlier, count-earlier}
 use Rattle.account.proofs.Lists.{any-keep}
 use Rattle.account.proofs.Passed.{Known, known-of, passed}
 use Rattle.tickets.specs.Claims.{Row}
-use Rattle.tickets.specs.Counts.{rowFaultBy}
+use Rattle.tickets.specs.code.Counts.{rowFaultBy}
 use Rattle.tickets.specs.Ticket.{standsBefore, place, ahead, rowFault}
 use Rattle.tickets.proofs.Claims.{put-in}
-use Rattle.tickets.proofs.Inserted.{Later, accepted-next, Apart}
-use Rattle.tickets.proofs.Placed.{plain, place-within, apart-at, take-cut}
+use Rattle.tickets.proofs.Inserted.{Later, accepted-next}
+use Rattle.tickets.proofs.Placed.{place-within, apart-at, take-cut}
 
 -- ---- counting by kinds and contracts
 count-two :

@@ -1,35 +1,33 @@
 -- A row put into a list of records that the check accepts, after all that stand before it: the check of the longer list says of the row
 -- what it is refused for there, and nothing of the other records; and what it changes of the account's parts.
 -- Assumes nothing.
-use Prim.Native.Nat.{ℕ, zero, suc, _+_, _≤_, _<_}
+use Prim.Native.Nat.{ℕ, suc, _+_, _≤_, _<_}
 use mathlib.Core.Path.{_≡_, refl, sym, ap, ap₂, _∙_, subst, subst⁻¹}
 use mathlib.Core.Bool.{Bool, true, false, not, _&&_, _||_, cond}
 use mathlib.Core.List.{List, [], _∷_, _++_, append-nil}
 use lib.Dec.{eqb, leb, ltb}
-use lib.ListN.{length, take, drop, take-append-drop}
+use lib.ListN.{take, drop, take-append-drop}
 use native.Mathlib.Omega.{arith}
-use native.Mathlib.Numerals.{add-one}
-use native.Mathlib.Nat.{zero-add}
-use borrow.Author.Tests.{eq-eqb, ne-eqb, eqb-true, eqb-false, leb-true, leb-false, ltb-false, le-ltb, le-leb, lt-leb}
+use borrow.Author.Tests.{eq-eqb, ne-eqb, eqb-true, eqb-false, leb-true, leb-false, ltb-false, le-ltb}
 use Rattle.exact.specs.Lists.{keep, any, oneIf, count, consIf}
 use Rattle.exact.proofs.Lists.{keep-append}
 use Rattle.record.specs.Layout.{Record, kind, contract, day, legsOf, legTier, secondContract}
 use Rattle.record.specs.Ranges.{unknownKind, unusedByte, fieldOutside}
 use Rattle.record.proofs.Tests.{both}
-use Rattle.record.proofs.Within.{never, both-true, neither, by-kind}
+use Rattle.record.proofs.Within.{both-true, neither, by-kind}
 use Rattle.account.specs.Accepted.{Each}
 use Rattle.account.specs.Answers.{numberOf, refusal}
-use Rattle.account.specs.Check.{theOneBefore, kindFalls, unlisted, outOfOrder, overLimit, faultOf, orElse, firstFault, none, listsContract, listsDay}
-use Rattle.account.specs.Check.{listsTier, legUnlisted, contractFalls, legsClash, withItself}
+use Rattle.account.specs.Check.{theOneBefore, kindFalls, unlisted, outOfOrder, overLimit, faultOf, orElse, firstFault, none, listsContract, listsDay, listsTier}
+use Rattle.account.specs.Check.{legUnlisted, contractFalls, legsClash}
 use Rattle.account.specs.Parts.{ofKind, ofContract, contractsOf, promptsOf, rowsOf, spreadsOf, entriesOf, ratesOf}
 use Rattle.account.specs.declared.answers.Answer.{Answer}
 use Rattle.account.specs.declared.answers.Answer.the-variants.{Accepted}
 use Rattle.account.proofs.Dispatch.{order-3, order-4, order-5, order-6, unlisted-3, unlisted-4, unlisted-5, over-3, over-4, over-5}
 use Rattle.account.proofs.Firsts.{number-refusal, is-0}
 use Rattle.account.proofs.Lists.{keep-none}
-use Rattle.account.proofs.Passed.{Passed, passed, Known, known-of, right-off}
+use Rattle.account.proofs.Passed.{Passed, passed, known-of, right-off}
 use Rattle.account.proofs.Verdict.{fault-number}
-use Rattle.tickets.specs.Ticket.{standsBefore, place, rowFault}
+use Rattle.tickets.specs.Ticket.{standsBefore, place}
 
 -- ---- the check of a list, one record at a time
 pub accepted-next :

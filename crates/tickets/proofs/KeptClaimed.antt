@@ -1,13 +1,12 @@
 -- One kept account goes with a file and its tickets.
 -- Assumes nothing.
-use Prim.Native.Nat.{ℕ, _+_}
+use Prim.Native.Nat.{ℕ}
 use mathlib.Core.Path.{_≡_, refl, sym, ap, _∙_}
 use mathlib.Core.Bool.{Bool, true, false, cond}
 use mathlib.Core.List.{List}
 use native.Mathlib.Omega.{arith}
 use borrow.Author.Tests.{eqb-true}
 use lib.Dec.{eqb}
-use lib.ListN.{length, getD}
 use lib.Seq.{ext-getD}
 use Rattle.record.specs.Layout.{Record}
 use Rattle.account.specs.Answers.{numberOf, recordOf}
@@ -16,9 +15,9 @@ use Rattle.account.specs.declared.accounts.Checked.{Checked}
 use Rattle.account.specs.declared.answers.Answer.the-variants.{Accepted, NoTicketLeft}
 use Rattle.account.proofs.OneJoined.{one-file}
 use Rattle.margin.proofs.PositionsLaws.{one-positions}
-use Rattle.tickets.specs.Counts.{CountsOf}
-use Rattle.tickets.specs.Kept.{KeptBy, withdrawal}
-use Rattle.tickets.specs.KeptClaims.{KeptClaims}
+use Rattle.tickets.specs.code.Counts.{CountsOf}
+use Rattle.tickets.specs.code.Kept.{KeptBy, withdrawal}
+use Rattle.tickets.specs.code.KeptClaims.{KeptClaims}
 use Rattle.tickets.specs.Ticket.{withTickets}
 use Rattle.tickets.specs.declared.counts.Counts.{Counts}
 use Rattle.tickets.specs.declared.kept.Kept.{Kept}

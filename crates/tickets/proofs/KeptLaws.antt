@@ -1,24 +1,28 @@
 -- A kept account tells of the file with its tickets put in; and its positions with one row more and one less.
 -- Assumes nothing.
 use Prim.Native.Nat.{ℕ, suc, _+_, _-_, _≤_, _<_}
-use mathlib.Core.Path.{_≡_, refl, sym, ap, ap₂, _∙_, subst, subst⁻¹}
+use mathlib.Core.Path.{_≡_, refl, sym, ap, _∙_, subst, subst⁻¹}
 use mathlib.Core.Bool.{Bool, true, false}
 use mathlib.Core.List.{List, [], _∷_, _++_}
 use native.Mathlib.Omega.{arith}
 use borrow.Author.Tests.{eqb-true, eqb-false}
 use lib.Dec.{eqb}
-use lib.ListN.{length, getD, set, take, length-append, length-set}
+use lib.ListN.{length, getD, set, length-append, length-set}
 use lib.Seq.{take-all, getD-set-same, getD-set-other, getD-append-seam}
+use Rattle.account.specs.Check.{mostRecords}
+use Rattle.record.specs.Bytes.{recordBytes}
 use Rattle.record.specs.Layout.{Record, contract, unit, currency}
 use Rattle.record.specs.Within.{RowWithin, RateWithin}
 use Rattle.account.specs.Accepted.{Each}
 use Rattle.account.specs.Checked.{checked}
 use Rattle.account.specs.Lawful.{Lawful}
-use Rattle.account.specs.Notes.{part}
+use Rattle.account.specs.PartNumbers.{part, ratePart}
 use Rattle.account.specs.Parts.{contractsOf, promptsOf, rowsOf, spreadsOf, entriesOf, ratesOf}
-use Rattle.account.specs.Products.{Convertible, RatesOf}
+use Rattle.account.specs.Products.{Convertible}
+use Rattle.account.specs.code.Rates.{RatesOf}
 use Rattle.account.specs.Records.{records, recordCount, recordAt, cut}
-use Rattle.account.specs.Standing.{Stands, accountOf, PartOf}
+use Rattle.account.specs.code.Standing.{Stands, PartOf}
+use Rattle.account.specs.Joined.{accountOf}
 use Rattle.account.specs.declared.accounts.Account.{Account}
 use Rattle.account.specs.declared.rates.Rates.{Rates}
 use Rattle.account.specs.declared.answers.Answer.the-variants.{Accepted}
@@ -27,24 +31,23 @@ use Rattle.account.proofs.Alone.{lawful}
 use Rattle.account.proofs.Orders.{every-at}
 use Rattle.account.proofs.Places.{alone}
 use Rattle.account.proofs.ProductLaws.{factors-within}
-use Rattle.margin.specs.Beside.{ownOf, unitOf, Besides}
-use Rattle.margin.specs.Lined.{PositionAt}
+use Rattle.margin.specs.code.Beside.{unitOf, Besides}
+use Rattle.margin.specs.code.Lined.{PositionAt}
 use Rattle.exact.specs.Lists.{keep}
 use Rattle.margin.specs.Books.{asks}
-use Rattle.margin.specs.Position.{RowFit, RowRated, RowsFit, RatedBy, DaysOf, PositionOf, Bounded, WithRows, HasRows}
-use Rattle.margin.specs.Positions.{noPosition, PositionsOf, Told, Known}
+use Rattle.formulas.specs.code.Position.{RowFit, RowRated, RowsFit, RatedBy, DaysOf, PositionOf, Bounded, WithRows, HasRows}
+use Rattle.margin.specs.code.Positions.{noPosition, PositionsOf, Told, Known}
 use Rattle.margin.specs.declared.positions.Positions.{Positions}
-use Rattle.margin.specs.declared.rows.Days.{Days}
-use Rattle.margin.specs.declared.rows.Position.{Position}
+use Rattle.formulas.specs.declared.rows.Days.{Days}
+use Rattle.formulas.specs.declared.rows.Position.{Position}
 use Rattle.margin.proofs.AcceptLaws.{none-within, contract-within}
 use Rattle.margin.proofs.BesideLaws.{own-fit}
-use Rattle.margin.proofs.PositionBounds.{Rated, bounded, wider}
-use Rattle.margin.proofs.RecordLaws.{count-is}
+use Rattle.formulas.proofs.PositionBounds.{Rated, bounded, wider}
+use Rattle.formulas.proofs.RecordLaws.{count-is}
 use Rattle.margin.proofs.StandLaws.{of-contract, own-by}
 use Rattle.tickets.specs.Claims.{OneRowMore}
-use Rattle.tickets.specs.Counts.{CountsOf}
-use Rattle.tickets.specs.Kept.{KeptBy}
-use Rattle.tickets.specs.Ticket.{withTicket, withTickets, ticketChecked}
+use Rattle.tickets.specs.code.Kept.{KeptBy}
+use Rattle.tickets.specs.Ticket.{withTickets, ticketChecked}
 use Rattle.tickets.specs.declared.kept.Kept.{Kept}
 use Rattle.tickets.proofs.BeforeLaws.{came-to, came-to-is, added-again}
 use Rattle.tickets.proofs.Claims.{one-row-more}
@@ -81,8 +84,8 @@ module _ (file : List ℕ) (ts : List Record) (k : Kept) (kb : KeptBy file ts k)
   pub known-kept : (none : List ℕ) → none ≡ [] → Known (accountOf file none) (k .positions)
   known-kept none e = record { whole = records (withTickets file ts); told = told-kept none e }
 
-  -- an account has at most 640 records
-  pub few-kept : k .positions .records ≤ 640
+  -- an account has at most mostRecords records
+  pub few-kept : k .positions .records ≤ mostRecords
   few-kept = omega (arith, kb .positions .records-are, lawful-kept .limits .all)
 
 -- the account before the latest ticket
@@ -103,10 +106,10 @@ beside-less file ts t k kb none e =
     }
 
 -- ---- one record by itself
-pub records-one : (t : Record) → length t ≡ 96 → records t ≡ t ∷ []
+pub records-one : (t : Record) → length t ≡ recordBytes → records t ≡ t ∷ []
 records-one t w =
     let e : recordCount t ≡ 1 = omega (arith, w) in
-    ap (λ (n : ℕ). cut n t) e ∙ ap (λ (r : Record). r ∷ []) (take-all 96 t (omega (arith, w)))
+    ap (λ (n : ℕ). cut n t) e ∙ ap (λ (r : Record). r ∷ []) (take-all recordBytes t (omega (arith, w)))
 
 -- ---- one row more
 pub same-position :
@@ -343,7 +346,7 @@ module _ (file : List ℕ) (account : Account) (none : List ℕ) (st : Stands fi
   pub days-asked : (prompts : List ℕ) → PartOf standing (32 + n) prompts → recordCount prompts ≤ 32
   days-asked = prompts-count standing whole b (st .lawful) n small
 
-  module _ (own prompts rates : List ℕ) (eo : PartOf standing (16 + n) own) (ep : PartOf standing (32 + n) prompts) (er : PartOf standing 81 rates)
+  module _ (own prompts rates : List ℕ) (eo : PartOf standing (16 + n) own) (ep : PartOf standing (32 + n) prompts) (er : PartOf standing ratePart rates)
       (table : Rates) (held : RatesOf (records rates) table) (days : Days) (known : DaysOf (records prompts) days) (u : ℕ) (read : u ≡ unit own) where
     unit-is : u ≡ unitOf n whole
     unit-is = read ∙ unit-read standing whole b (st .lawful) n small own eo

@@ -1,23 +1,24 @@
 -- A ticket put into the bytes of an accepted file: the records are those of the file with the ticket at its place, and the check of the
 -- longer file says what the ticket is refused for.
 -- Assumes nothing.
-use Prim.Native.Nat.{ℕ, zero, suc, _+_, _-_, _*_, _/_, _%_, _≤_, _<_}
-use mathlib.Core.Path.{_≡_, refl, sym, ap, ap₂, _∙_, subst, subst⁻¹}
+use Prim.Native.Nat.{ℕ, zero, suc, _+_, _-_, _*_, _%_, _≤_, _<_}
+use mathlib.Core.Path.{_≡_, refl, sym, ap, ap₂, _∙_, subst⁻¹}
 use mathlib.Core.Bool.{Bool, true, false, not, _&&_, cond}
 use mathlib.Core.List.{List, [], _∷_, _++_}
-use lib.Dec.{eqb, leb, ltb}
+use lib.Dec.{eqb}
 use lib.ListN.{length, take, drop, take-append-drop, length-append, length-drop}
 use lib.Seq.{take-at, drop-at, length-take-le, take-append-le, drop-append-le}
 use native.Mathlib.Omega.{arith}
-use borrow.Author.Tests.{eq-eqb, ne-eqb, eqb-true, eqb-false, leb-true, leb-false, ltb-true, ltb-false, lt-ltb, le-ltb, le-leb, lt-leb, not-false}
-use Rattle.exact.specs.Lists.{count}
+use borrow.Author.Tests.{eq-eqb, eqb-true, eqb-false, ltb-false, lt-ltb, le-ltb, le-leb, lt-leb, not-false}
+use Rattle.record.specs.Bytes.{recordBytes}
 use Rattle.exact.proofs.Lists.{count-le}
-use Rattle.record.specs.Layout.{Record, recordBytes, kind, contract}
+use Rattle.record.specs.Layout.{Record, kind}
 use Rattle.account.specs.Accepted.{Each}
 use Rattle.account.specs.Answers.{numberOf, recordOf}
 use Rattle.record.specs.Ranges.{unusedByte, fieldOutside}
-use Rattle.account.specs.Check.{theOneBefore, kindFalls, unlisted, outOfOrder, overLimit, Refusal, _when_, firstOf, faultOf, orElse, firstFault}
-use Rattle.account.specs.Check.{tooLong, cutRecord, recordsChecked}
+use Rattle.account.specs.Check.{theOneBefore, kindFalls, unlisted, outOfOrder, overLimit, Refusal, _when_, firstOf, faultOf, orElse, firstFault, tooLong}
+use Rattle.account.specs.Check.{mostRecords}
+use Rattle.account.specs.Check.{cutRecord, recordsChecked}
 use Rattle.account.specs.Checked.{rateRefusals, rateFaultOf, firstRateFault, ratesChecked, checked}
 use Rattle.account.specs.Parts.{ofKind, ratesOf}
 use Rattle.account.specs.Products.{hasRate, conversionBeyond}
@@ -30,30 +31,30 @@ use Rattle.account.proofs.Exactly.{exactly}
 use Rattle.account.proofs.RateLaws.{pass, stop}
 use Rattle.account.proofs.Verdict.{by-records, too-long}
 use Rattle.account.proofs.Walk.{length-cut}
-use Rattle.tickets.specs.Ticket.{standsBefore, place, withTicket, ahead, cutTicket, notRow, rowFault, fullWith, ticketChecked}
+use Rattle.tickets.specs.Ticket.{standsBefore, place, withTicket, ahead, notRow, rowFault, fullWith, ticketChecked}
 use Rattle.tickets.proofs.Inserted.{onto, Before, Apart, apart, inserted, never-4, row-known, no-fault, rates-same}
 
 -- ---- records of bytes put together
 cut-append :
-    (p m : ℕ) (a b : List ℕ) → length a ≡ p * 96 → cut (p + m) (a ++ b) ≡ cut p a ++ cut m b
+    (p m : ℕ) (a b : List ℕ) → length a ≡ p * recordBytes → cut (p + m) (a ++ b) ≡ cut p a ++ cut m b
 cut-append zero m a b h = go a h
   where
-    go : (xs : List ℕ) → length xs ≡ 0 * 96 → cut (0 + m) (xs ++ b) ≡ cut m b
+    go : (xs : List ℕ) → length xs ≡ 0 * recordBytes → cut (0 + m) (xs ++ b) ≡ cut m b
     go [] e =
         let z : 0 + m ≡ m = omega arith in
         ap (λ (n : ℕ). cut n b) z
     go (x ∷ xs) e = absurd (omega arith)
 cut-append (suc p) m a b h =
     let z : suc p + m ≡ suc (p + m) = omega arith in
-    let l : length (drop 96 a) ≡ p * 96 = length-drop 96 a ∙ omega arith in
+    let l : length (drop recordBytes a) ≡ p * recordBytes = length-drop recordBytes a ∙ omega arith in
     ap (λ (n : ℕ). cut n (a ++ b)) z
-    ∙ ap₂ (λ (r : Record) (rest : List ℕ). r ∷ cut (p + m) rest) (take-append-le 96 a b (omega arith)) (drop-append-le 96 a b (omega arith))
-    ∙ ap (λ (rs : List Record). take 96 a ∷ rs) (cut-append p m (drop 96 a) b l)
+    ∙ ap₂ (λ (r : Record) (rest : List ℕ). r ∷ cut (p + m) rest) (take-append-le recordBytes a b (omega arith)) (drop-append-le recordBytes a b (omega arith))
+    ∙ ap (λ (rs : List Record). take recordBytes a ∷ rs) (cut-append p m (drop recordBytes a) b l)
 
 pub take-cut : (n m : ℕ) (file : List ℕ) → n ≤ m → take n (cut m file) ≡ cut n file
 take-cut zero m file h = refl
 take-cut (suc n) zero file h = absurd (omega arith)
-take-cut (suc n) (suc m) file h = ap (λ (l : List Record). take 96 file ∷ l) (take-cut n m (drop 96 file) (omega arith))
+take-cut (suc n) (suc m) file h = ap (λ (l : List Record). take recordBytes file ∷ l) (take-cut n m (drop recordBytes file) (omega arith))
 
 -- ---- the records before a place, the latest first
 onto-last : (xs es : List Record) (r : Record) → onto (xs ++ r ∷ []) es ≡ r ∷ onto xs es
@@ -162,8 +163,8 @@ module _ (file : List ℕ) (ok : checked file ≡ Accepted) where
   pub record Plain : Type 0 where
     pub long : tooLong file ≡ false
     pub whole : cutRecord file ≡ false
-    pub bytes : length file ≡ n * 96
-    pub few : n ≤ 640
+    pub bytes : length file ≡ n * recordBytes
+    pub few : n ≤ mostRecords
     pub recorded : recordsChecked file ≡ Accepted
     pub clean : firstFault 0 [] (records file) ≡ Accepted
     pub rated : ratesChecked (records file) ≡ Accepted
@@ -172,7 +173,7 @@ module _ (file : List ℕ) (ok : checked file ≡ Accepted) where
   plain =
       let r = records-first file ok in
       let g = exactly file .accepted .forth (record { number = ap numberOf (r .0); place = ap recordOf (r .0) }) in
-      let z = eqb-true (length file % 96) 0 (not-false _ (g .whole)) in
+      let z = eqb-true (length file % recordBytes) 0 (not-false _ (g .whole)) in
       let l = ltb-false 61440 (length file) (g .long) in
       record {
         long = g .long;
@@ -194,30 +195,30 @@ module _ (file : List ℕ) (ok : checked file ≡ Accepted) where
     pub ahead-is : ahead file t ≡ onto (take p (records file)) []
     ahead-is = earlier-onto p file ∙ ap (λ (rs : List Record). onto rs []) (sym (take-cut p n file place-within))
 
-    front : length (take (p * 96) file) ≡ p * 96
-    front = length-take-le (p * 96) file (omega (arith, plain .bytes, place-within))
+    front : length (take (p * recordBytes) file) ≡ p * recordBytes
+    front = length-take-le (p * recordBytes) file (omega (arith, plain .bytes, place-within))
 
-    apart-here : records file ≡ cut p (take (p * 96) file) ++ cut (n - p) (drop (p * 96) file)
+    apart-here : records file ≡ cut p (take (p * recordBytes) file) ++ cut (n - p) (drop (p * recordBytes) file)
     apart-here =
         let z : n ≡ p + (n - p) = omega (arith, place-within) in
-        ap₂ cut z (sym (take-append-drop (p * 96) file)) ∙ cut-append p (n - p) (take (p * 96) file) (drop (p * 96) file) front
+        ap₂ cut z (sym (take-append-drop (p * recordBytes) file)) ∙ cut-append p (n - p) (take (p * recordBytes) file) (drop (p * recordBytes) file) front
 
-    front-is : take p (records file) ≡ cut p (take (p * 96) file)
+    front-is : take p (records file) ≡ cut p (take (p * recordBytes) file)
     front-is =
         ap (take p) apart-here
-        ∙ take-at (cut p (take (p * 96) file)) (cut (n - p) (drop (p * 96) file)) p (length-cut p (take (p * 96) file))
+        ∙ take-at (cut p (take (p * recordBytes) file)) (cut (n - p) (drop (p * recordBytes) file)) p (length-cut p (take (p * recordBytes) file))
 
-    back-is : drop p (records file) ≡ cut (n - p) (drop (p * 96) file)
+    back-is : drop p (records file) ≡ cut (n - p) (drop (p * recordBytes) file)
     back-is =
         ap (drop p) apart-here
-        ∙ drop-at (cut p (take (p * 96) file)) (cut (n - p) (drop (p * 96) file)) p (length-cut p (take (p * 96) file))
+        ∙ drop-at (cut p (take (p * recordBytes) file)) (cut (n - p) (drop (p * recordBytes) file)) p (length-cut p (take (p * recordBytes) file))
 
-    module _ (whole : length t ≡ 96) where
-      pub length-with : length (withTicket file t) ≡ length file + 96
+    module _ (whole : length t ≡ recordBytes) where
+      pub length-with : length (withTicket file t) ≡ length file + recordBytes
       length-with =
-          let a = length-append (take (p * 96) file) (t ++ drop (p * 96) file) in
-          let b = length-append t (drop (p * 96) file) in
-          let c = length-drop (p * 96) file in
+          let a = length-append (take (p * recordBytes) file) (t ++ drop (p * recordBytes) file) in
+          let b = length-append t (drop (p * recordBytes) file) in
+          let c = length-drop (p * recordBytes) file in
           omega (arith, front, plain .bytes, place-within)
 
       pub count-with : recordCount (withTicket file t) ≡ n + 1
@@ -225,12 +226,12 @@ module _ (file : List ℕ) (ok : checked file ≡ Accepted) where
 
       pub records-with : records (withTicket file t) ≡ take p (records file) ++ t ∷ drop p (records file)
       records-with =
-          let a = take (p * 96) file in
-          let b = drop (p * 96) file in
+          let a = take (p * recordBytes) file in
+          let b = drop (p * recordBytes) file in
           let z : recordCount (withTicket file t) ≡ p + suc (n - p) = omega (arith, count-with, place-within) in
           ap (λ (i : ℕ). cut i (withTicket file t)) z
           ∙ cut-append p (suc (n - p)) a (t ++ b) front
-          ∙ ap₂ (λ (r : Record) (rest : List ℕ). cut p a ++ r ∷ cut (n - p) rest) (take-at t b 96 whole) (drop-at t b 96 whole)
+          ∙ ap₂ (λ (r : Record) (rest : List ℕ). cut p a ++ r ∷ cut (n - p) rest) (take-at t b recordBytes whole) (drop-at t b recordBytes whole)
           ∙ ap₂ (λ (xs ys : List Record). xs ++ t ∷ ys) (sym front-is) (sym back-is)
 
       -- ---- the check of the longer file
@@ -265,18 +266,18 @@ module _ (file : List ℕ) (ok : checked file ≡ Accepted) where
             ∙ rates-with (ratesOf (records file)) t p (records file) (omega (arith, place-within, length-cut n file)) (plain .rated)
 
         not-cut : cutRecord (withTicket file t) ≡ false
-        not-cut = ap not (eq-eqb (length (withTicket file t) % 96) 0 (omega (arith, length-with, plain .bytes)))
+        not-cut = ap not (eq-eqb (length (withTicket file t) % recordBytes) 0 (omega (arith, length-with, plain .bytes)))
 
         told : (f : Bool) → fullWith file ≡ f → ticketChecked file t ≡ orElse (rowFault file t) p (cond f TooLong Accepted)
         told f e =
             let k = p in
             ap (λ (b : Bool). cond (not b) CutRecord
-            (cond (notRow t) (UnknownKind k) (orElse (rowFault file t) k (cond (fullWith file) TooLong Accepted)))) (eq-eqb (length t) 96 whole)
+            (cond (notRow t) (UnknownKind k) (orElse (rowFault file t) k (cond (fullWith file) TooLong Accepted)))) (eq-eqb (length t) recordBytes whole)
             ∙ ap (λ (b : Bool). cond (not b) (UnknownKind k) (orElse (rowFault file t) k (cond (fullWith file) TooLong Accepted))) (eq-eqb (kind t) 3 row)
             ∙ ap (λ (b : Bool). orElse (rowFault file t) k (cond b TooLong Accepted)) e
 
         -- with room for one record more, the two say the same
-        pub checked-with : n < 640 → checked (withTicket file t) ≡ ticketChecked file t
+        pub checked-with : n < mostRecords → checked (withTicket file t) ≡ ticketChecked file t
         checked-with room =
             let es = ahead file t in
             ap₂ (λ (a b : Answer). cond (eqb (numberOf a) 0) b a)
@@ -284,12 +285,12 @@ module _ (file : List ℕ) (ok : checked file ≡ Accepted) where
             by-rates
             ∙ two-stages (unusedByte t) (fieldOutside t) (unlisted es t) (outOfOrder (theOneBefore es) t) (overLimit es t)
             (rateRefusals (ratesOf (records file)) t) p
-            ∙ sym (told false (lt-leb 640 n room))
+            ∙ sym (told false (lt-leb mostRecords n room))
 
         -- and without, the longer file is too long
-        pub full-with : 640 ≤ n → checked (withTicket file t) ≡ TooLong
+        pub full-with : mostRecords ≤ n → checked (withTicket file t) ≡ TooLong
         full-with full = ap (λ (a : Answer). cond (eqb (numberOf a) 0) (ratesChecked (records (withTicket file t))) a)
             (too-long (withTicket file t) (lt-ltb 61440 (length (withTicket file t)) (omega (arith, length-with, plain .bytes))))
 
-        pub told-full : 640 ≤ n → ticketChecked file t ≡ orElse (rowFault file t) p TooLong
-        told-full full = told true (le-leb 640 n full)
+        pub told-full : mostRecords ≤ n → ticketChecked file t ≡ orElse (rowFault file t) p TooLong
+        told-full full = told true (le-leb mostRecords n full)

@@ -12,7 +12,7 @@ use Rattle.account.specs.Records.{records, cut}
 use Rattle.account.specs.declared.answers.Answer.{Answer}
 use Rattle.account.specs.declared.answers.Answer.the-variants.{Accepted, NoTicketLeft}
 use Rattle.margin.specs.Figures.{accountTotal}
-use Rattle.margin.specs.Questions.{accepted}
+use Rattle.margin.specs.Questions.{notRefused}
 use Rattle.tickets.specs.Ticket.{withTicket, withTickets, ticketChecked}
 use Rattle.tickets.specs.declared.ask.Asked.{Asked}
 use Rattle.tickets.specs.declared.ask.Ticketed.{Ticketed}
@@ -29,11 +29,11 @@ of n a = record { ticket = n; answer = a }
 abbrev pub inTurn : ℕ → List ℕ → List Record → Ticketed
 inTurn n file [] = of n Accepted
 inTurn n file (ticket ∷ tickets) =
-    cond (accepted (ticketChecked file ticket)) (inTurn (n + 1) (withTicket file ticket) tickets) (of (n + 1) (ticketChecked file ticket))
+    cond (notRefused (ticketChecked file ticket)) (inTurn (n + 1) (withTicket file ticket) tickets) (of (n + 1) (ticketChecked file ticket))
 
 -- a file and its tickets
 abbrev pub standing : List ℕ → List Record → Ticketed
-standing file tickets = cond (accepted (checked file)) (inTurn 0 file tickets) (of 0 (checked file))
+standing file tickets = cond (notRefused (checked file)) (inTurn 0 file tickets) (of 0 (checked file))
 
 abbrev pub total : List ℕ → ℕ
 total file = accountTotal (records file)
@@ -50,8 +50,8 @@ abbrev pub askedAbout : List ℕ → List Record → Record → Asked
 askedAbout file tickets ticket =
     let v = standing file tickets in
     let held = withTickets file tickets in
-    cond (accepted (v .answer))
-    (cond (accepted (ticketChecked held ticket))
+    cond (notRefused (v .answer))
+    (cond (notRefused (ticketChecked held ticket))
     (answeredBy (v .ticket + 1) (total held) (total (withTicket held ticket)))
     (refusedBy (of (v .ticket + 1) (ticketChecked held ticket))))
     (refusedBy v)
@@ -60,7 +60,7 @@ askedAbout file tickets ticket =
 abbrev pub withdrawnFrom : List ℕ → List Record → Asked
 withdrawnFrom file tickets =
     let v = standing file tickets in
-    cond (accepted (v .answer))
+    cond (notRefused (v .answer))
     (cond (eqb (v .ticket) 0) (refusedBy (of 0 NoTicketLeft))
     (answeredBy (v .ticket) (total (withTickets file tickets)) (total (withTickets file (take (length tickets - 1) tickets)))))
     (refusedBy v)

@@ -8,14 +8,14 @@ use account::accounts::check_file;
 use account::answers::Answer;
 use account::answers::number_of;
 use account::stretches::record_at;
-use margin::amount::Amount;
+use formulas::amount::Amount;
 use record::bytes::RECORD_BYTES;
 ghost use mathlib.Core.Path.{_≡_};
 ghost use mathlib.Core.List.{[]};
 ghost use lib.ListN.{length};
 ghost use Rattle.tickets.specs.Asked.{ticketsIn, of, refusedBy, askedAbout, withdrawnFrom};
-ghost use Rattle.tickets.specs.Held.{HeldWith};
-ghost use Rattle.tickets.specs.Kept.{KeptBy};
+ghost use Rattle.tickets.specs.code.Held.{HeldWith};
+ghost use Rattle.tickets.specs.code.Kept.{KeptBy};
 
 // What is told, and of which ticket, from 1; 0 is the file.
 pub struct Ticketed {

@@ -28,16 +28,17 @@ ghost use mathlib.Core.Path.{_≡_};
 ghost use mathlib.Core.Bool.{_||_};
 ghost use mathlib.Core.List.{List, []};
 ghost use Prim.Native.Nat.{ℕ, _+_, _≤_, _<_};
-ghost use lib.ListN.{length, getD, take};
+ghost use lib.ListN.{getD, take};
 ghost use Rattle.exact.specs.Lists.{sum};
 ghost use Rattle.record.specs.Layout.{Record, kind, contract, day, mostContract};
 ghost use Rattle.account.specs.Check.{mostContracts, mostRecords};
-ghost use Rattle.account.specs.Notes.{noContract, noDay};
+ghost use Rattle.account.specs.code.Notes.{noContract, noDay};
 ghost use Rattle.account.specs.Parts.{promptsOf};
 ghost use Rattle.account.specs.Records.{records};
-ghost use Rattle.account.specs.Standing.{Stands, accountOf, Filled, CheckedBy};
+ghost use Rattle.account.specs.code.Standing.{Stands, Filled, CheckedBy};
+ghost use Rattle.account.specs.Joined.{accountOf};
 ghost use Rattle.account.specs.declared.answers.Answer.the-variants.{Accepted};
-ghost use Rattle.tickets.specs.Counts.{CountsOf, Counted, Small, rowFaultBy, OneMore, OneLess};
+ghost use Rattle.tickets.specs.code.Counts.{CountsOf, Counted, Small, rowFaultBy, OneMore, OneLess};
 ghost use Rattle.tickets.specs.Ticket.{place, withTickets, ticketChecked};
 
 // The account of the file, how many of its records are of kinds 1 and 2, how many rows each contract has, and how many tickets there

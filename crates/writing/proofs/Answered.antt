@@ -1,14 +1,15 @@
 -- What comes back from the verdict on the written file and the bytes lent.
 -- Assumes nothing.
 use Prim.Native.Nat.{ℕ, _*_, _≤_, _<_}
-use mathlib.Core.Path.{_≡_, refl, sym, ap, _∙_}
+use mathlib.Core.Path.{_≡_, sym, ap, _∙_}
 use mathlib.Core.Bool.{Bool, true, false, cond, _&&_}
-use mathlib.Core.List.{List, [], _++_}
+use mathlib.Core.List.{List, _++_}
 use lib.Dec.{eqb, ltb}
 use lib.ListN.{length, getD, drop}
 use lib.Seq.{take-all}
 use native.Mathlib.Omega.{arith}
 use borrow.Author.Tests.{ne-eqb, eq-eqb, lt-ltb, le-ltb}
+use Rattle.record.specs.Bytes.{recordBytes}
 use Rattle.account.specs.Answers.{numberOf, recordOf, refusal}
 use Rattle.account.specs.Check.{tooLong, cutRecord}
 use Rattle.account.specs.Checked.{ratesChecked, checked}
@@ -18,7 +19,7 @@ use Rattle.account.specs.declared.answers.Answer.the-variants.{Accepted, TooLon
 use Rattle.account.proofs.NoonLaws.{accepted-only}
 use Rattle.account.proofs.Verdict.{too-long, cut-short}
 use Rattle.writing.specs.Order.{places}
-use Rattle.writing.specs.Written.{written, filled, asEntered, verdictOn, fine, answerTo, bytesFor, afterwards, WrittenBy}
+use Rattle.writing.specs.Written.{written, filled, asEntered, verdictOn, fine, answerTo, WrittenBy}
 use Rattle.writing.specs.declared.Written.{Written}
 use Rattle.writing.proofs.Placed.{written-long, nothing-over, long-same, cut-same}
 
@@ -92,12 +93,13 @@ writes entries lent after w whole z l h ha hb =
     ap (λ (b : Bool). cond (b && ltb (length lent) (length (written entries))) TooFewBytes (verdictOn entries)) f
     ∙ ap (λ (b : Bool). cond b TooFewBytes (verdictOn entries)) s ∙ accepted-only (verdictOn entries) z in
     let on : fine (answerTo entries (length lent)) ≡ true = ap fine is in
-    let n : recordCount entries * 96 ≡ length (written entries) = nothing-over entries whole ∙ sym (written-long entries) in
+    let n : recordCount entries * recordBytes ≡ length (written entries) = nothing-over entries whole ∙ sym (written-long entries) in
     record {
       answer = ha ∙ sym is;
       bytes = hb ∙ sym (written-long entries) ∙ sym (ap (λ (b : Bool). cond b (length (written entries)) 0) on);
       out =
-          h ∙ ap (λ (xs : List ℕ). xs ++ drop (recordCount entries * 96) lent) (take-all (recordCount entries * 96) (written entries) (omega arith))
+          h ∙ ap (λ (xs : List ℕ). xs ++ drop (recordCount entries * recordBytes) lent) (take-all (recordCount entries * recordBytes) (written entries)
+          (omega arith))
           ∙ ap (λ (m : ℕ). written entries ++ drop m lent) n
           ∙ sym (ap (λ (b : Bool). cond b (written entries ++ drop (length (written entries)) lent) lent) on);
     }

@@ -2,7 +2,7 @@
 -- Assumes nothing.
 use Prim.Native.Nat.{ℕ, zero, suc, _+_, _*_, _≤_, _<_}
 use mathlib.Core.Logic.{_⊎_, ⊎-elim}
-use mathlib.Core.Path.{_≡_, refl, sym, ap, subst, subst⁻¹, _∙_}
+use mathlib.Core.Path.{_≡_, refl, sym, ap, subst⁻¹, _∙_}
 use mathlib.Core.Bool.{Bool, true, false, cond, _&&_, _||_, false≢true}
 use mathlib.Core.List.{List}
 use lib.Dec.{ltb}
@@ -11,22 +11,22 @@ use lib.Seq.{getD-take, getD-drop}
 use native.Mathlib.Decide.{ℕ-discrete}
 use native.Mathlib.Omega.{arith}
 use borrow.Author.Tests.{eq-eqb, ne-eqb, lt-ltb, le-ltb, ltb-true, ltb-false}
-use Rattle.record.specs.Bytes.{byteAt}
-use Rattle.record.specs.Layout.{Record, kind, contract, day}
+use Rattle.record.specs.Bytes.{byteAt, recordBytes}
+use Rattle.record.specs.Layout.{kind}
 use Rattle.record.specs.Ranges.{unknownKind}
 use Rattle.account.specs.Answers.{numberOf, recordOf, refusal}
 use Rattle.account.specs.Check.{kindFalls, theOneBefore}
 use Rattle.account.specs.Checked.{checked}
-use Rattle.account.specs.Claims.{Iff, Gives, First, Exactly}
-use Rattle.account.specs.Records.{records, recordAt, recordCount, earlier}
+use Rattle.account.specs.Claims.{Gives, First, Exactly}
+use Rattle.account.specs.Records.{recordAt, recordCount, earlier}
 use Rattle.account.specs.declared.answers.Answer.{Answer}
 use Rattle.account.specs.declared.answers.Answer.the-variants.{Accepted, TooFewBytes}
 use Rattle.account.proofs.Claimed as account
 use Rattle.account.proofs.Firsts.{number-refusal, record-refusal}
 use Rattle.account.proofs.NoonLaws.{accepted-only}
 use Rattle.writing.specs.Claims.{Bytes, Answers, FirstEntered, RateEntered, Refuses, Never, RoundTrips, Claims}
-use Rattle.writing.specs.Order.{ofItsKind, rank, rankAt, places}
-use Rattle.writing.specs.Written.{written, asEntered, verdictOn, fine, answerTo}
+use Rattle.writing.specs.Order.{ofItsKind, places}
+use Rattle.writing.specs.Written.{written, verdictOn, answerTo}
 use Rattle.writing.proofs.Placed.{written-long, long-same, cut-same, count-same, record-is, read-back, through, places-long, places-all, all-at}
 use Rattle.writing.proofs.Same.{same-bytes, its-small}
 use Rattle.writing.proofs.Stable.{sorts}
@@ -236,10 +236,10 @@ module _ (entries : List ℕ) where
       false≢true (sym (known (getD (places entries) k 0) (place-in k h)) ∙ ap unknownKind (sym (record-is entries k h)) ∙ u)
 
   -- bytes of a record
-  byte-small : Bytes entries → (p i : ℕ) → i < 96 → byteAt (recordAt entries p) i < 256
+  byte-small : Bytes entries → (p i : ℕ) → i < recordBytes → byteAt (recordAt entries p) i < 256
   byte-small b p i h =
-      subst⁻¹ (λ (x : ℕ). x < 256) (getD-take (1 * 96) (drop (p * 96) entries) i 0 (omega arith) ∙ getD-drop (p * 96) entries i 0)
-      (b (p * 96 + i))
+      subst⁻¹ (λ (x : ℕ). x < 256) (getD-take (1 * recordBytes) (drop (p * recordBytes) entries) i 0 (omega arith) ∙ getD-drop (p * recordBytes) entries i 0)
+      (b (p * recordBytes + i))
 
   kinds-rise :
       Bytes entries → (i j : ℕ) → i < j → j < recordCount entries

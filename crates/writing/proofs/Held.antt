@@ -3,12 +3,13 @@
 use Prim.Native.Nat.{ℕ, _+_, _*_, _≤_, _<_}
 use mathlib.Core.Path.{_≡_, refl, sym, ap, ap₂, subst, _∙_}
 use mathlib.Core.Bool.{Bool, true, false, cond, _&&_, _||_, false≢true}
-use mathlib.Core.List.{List, []}
+use mathlib.Core.List.{List}
 use lib.Dec.{eqb}
 use lib.ListN.{length, getD, take, set, replicate, length-replicate, List·getD-eq-default}
 use lib.Seq.{getD-set-other}
 use native.Mathlib.Omega.{arith}
 use borrow.Author.Tests.{eq-eqb, eqb-true, lt-ltb, ltb-true}
+use Rattle.record.specs.Bytes.{recordBytes}
 use Rattle.exact.specs.Lists.{oneIf, count}
 use Rattle.record.specs.Layout.{Record, kind, contract}
 use Rattle.record.specs.Ranges.{unknownKind, unusedByte, fieldOutside}
@@ -17,7 +18,8 @@ use Rattle.account.specs.Answers.{numberOf, refusal}
 use Rattle.account.specs.Check.{kindFalls, outOfOrder, faultOf, tooLong, cutRecord, recordsChecked}
 use Rattle.account.specs.Checked.{ratesChecked, checked}
 use Rattle.account.specs.Conversions.{Row}
-use Rattle.account.specs.Notes.{part, partOf, inPart, oneMore, startNoted, unlistedBy, overLimitBy, faultBy, beforeAt, partAt, faultAt}
+use Rattle.account.specs.PartNumbers.{part, inPart, ratePart, parts}
+use Rattle.account.specs.code.Notes.{partOf, oneMore, startNoted, unlistedBy, overLimitBy, faultBy, beforeAt, partAt, faultAt}
 use Rattle.account.specs.Parts.{ofKind, ratesOf}
 use Rattle.account.specs.Records.{cut, stretch, records, recordAt, recordCount, earlier}
 use Rattle.account.specs.declared.answers.Answer.the-variants.{Accepted}
@@ -34,7 +36,7 @@ use Rattle.account.proofs.Orders.{fine}
 use Rattle.account.proofs.Passed.{part-other}
 use Rattle.account.proofs.Verdict.{stops, by-records, fault-number}
 use Rattle.account.proofs.Walk.{length-cut}
-use Rattle.writing.specs.Held.{namesPrompts, askedOf, heldPrompts, Holds, Holdable, faultHeld}
+use Rattle.writing.specs.code.Held.{namesPrompts, askedOf, heldPrompts, Holds, Holdable, faultHeld}
 use Rattle.writing.specs.Written.{written, filled}
 use Rattle.writing.proofs.Placed.{count-same, front-filled}
 
@@ -83,7 +85,7 @@ pub record Reading (file first counts prompts : List ℕ) (held k : ℕ) : Type 
   pub going : Going file first counts contracts k
   pub holds : Holds file first counts prompts held
 
-pub reading-start : (file : List ℕ) → Reading file (replicate 82 0) (replicate 82 0) (replicate 3072 0) 82 0
+pub reading-start : (file : List ℕ) → Reading file (replicate parts 0) (replicate parts 0) (replicate 3072 0) parts 0
 reading-start file =
     record { contracts = 0; going = going-start file; holds = record { long = length-replicate {A = ℕ} 3072 0; front = refl } }
 
@@ -107,7 +109,7 @@ module _ {file first counts prompts : List ℕ} {held k : ℕ} (g : Reading file
   holdable : Holdable file first counts (askedOf r)
   holdable = go (namesPrompts r) refl
     where
-      go : (t : Bool) → namesPrompts r ≡ t → Holdable file first counts (cond t (contract r) 82)
+      go : (t : Bool) → namesPrompts r ≡ t → Holdable file first counts (cond t (contract r) parts)
       go true e = holdable-prompts (contract r) (named-contract r e)
       go false e =
           let a = List·getD-eq-default first 0 {n = 114} (omega (arith, g .going .notes .firsts)) in
@@ -118,7 +120,7 @@ module _ {file first counts prompts : List ℕ} {held k : ℕ} (g : Reading file
     fault-held : faultHeld counts prompts′ (askedOf r) (beforeAt file k) r ≡ faultAt file first counts k
     fault-held =
         same-by counts (records (heldPrompts counts prompts′ (askedOf r))) (records (partAt file first counts (part 2 (contract r)))) (beforeAt file k) r
-        (λ t. ap records (h .front) ∙ ap (λ (b : Bool). records (partAt file first counts (part 2 (cond b (contract r) 82)))) t)
+        (λ t. ap records (h .front) ∙ ap (λ (b : Bool). records (partAt file first counts (part 2 (cond b (contract r) parts)))) t)
 
     -- a fault: the verdict
     reading-stops :
@@ -135,7 +137,7 @@ module _ {file first counts prompts : List ℕ} {held k : ℕ} (g : Reading file
       other : part 2 (askedOf r) ≡ partOf r → ⊥
       other = go (namesPrompts r) refl
         where
-          go : (t : Bool) → namesPrompts r ≡ t → part 2 (cond t (contract r) 82) ≡ partOf r → ⊥
+          go : (t : Bool) → namesPrompts r ≡ t → part 2 (cond t (contract r) parts) ≡ partOf r → ⊥
           go true e z =
               let i = named-kind r e in
               let p = part-other r (λ y. omega arith) (λ y. omega arith) in
@@ -152,7 +154,7 @@ module _ {file first counts prompts : List ℕ} {held k : ℕ} (g : Reading file
           let v = part 2 (askedOf r) in
           let a = same-first-note (eqb (getD counts (partOf r) 0) 0) refl in
           let b : getD (oneMore counts (partOf r)) v 0 ≡ getD counts v 0 = getD-set-other counts (partOf r) v (getD counts (partOf r) 0 + 1) 0 other in
-          record { long = h .long; front = ap (λ (n : ℕ). take (n * 96) prompts′) b ∙ h .front ∙ ap₂ (stretch file) (sym a) (sym b) }
+          record { long = h .long; front = ap (λ (n : ℕ). take (n * recordBytes) prompts′) b ∙ h .front ∙ ap₂ (stretch file) (sym a) (sym b) }
 
       reading-next :
           {first′ counts′ : List ℕ} {v : ℕ} → first′ ≡ startNoted first counts v k → counts′ ≡ oneMore counts v → v ≡ partOf r
@@ -175,14 +177,15 @@ held-now entries first counts prompts c {after} {k} {n} hk hn w h l =
     record {
       long = l;
       front =
-          ap (λ (m : ℕ). take (m * 96) after) (sym hn) ∙ ap (take (n * 96)) h ∙ front-filled entries k n prompts (omega (arith, hk, hn, w, count-same entries))
+          ap (λ (m : ℕ). take (m * recordBytes) after) (sym hn) ∙ ap (take (n * recordBytes)) h
+          ∙ front-filled entries k n prompts (omega (arith, hk, hn, w, count-same entries))
           ∙ ap₂ (stretch (written entries)) hk hn;
     }
 
 -- ---- one turn
 -- what the next turn begins with
 pub record Turned (file first counts prompts : List ℕ) (c k : ℕ) (r : Record) : Type 0 where
-  pub part-in : partOf r < 82
+  pub part-in : partOf r < parts
   pub count-small : getD counts (partOf r) 0 ≤ k
   pub next :
       {first′ counts′ : List ℕ} {v : ℕ} → first′ ≡ startNoted first counts v k → counts′ ≡ oneMore counts v → v ≡ partOf r
@@ -225,9 +228,9 @@ module _ {file first counts prompts : List ℕ} {held k c : ℕ} {r : Record} (g
 -- ---- the end
 pub record Ended (file first counts : List ℕ) : Type 0 where
   pub accepted : recordsChecked file ≡ Accepted
-  pub few : getD counts 81 0 ≤ 7
-  pub within : getD first 81 0 + getD counts 81 0 ≤ recordCount file
-  pub rates : records (stretch file (getD first 81 0) (getD counts 81 0)) ≡ ratesOf (records file)
+  pub few : getD counts ratePart 0 ≤ 7
+  pub within : getD first ratePart 0 + getD counts ratePart 0 ≤ recordCount file
+  pub rates : records (stretch file (getD first ratePart 0) (getD counts ratePart 0)) ≡ ratesOf (records file)
 
 pub reading-ends :
     {file first counts prompts : List ℕ} {held k : ℕ} → Reading file first counts prompts held k → recordCount file ≤ k → tooLong file ≡ false →
@@ -237,16 +240,16 @@ reading-ends {file} {first} {counts} {prompts} {held} {k} g done a b =
     let i = g .going in
     let ok = going-ends i done a b in
     let s = surveyed i done (record { answer = Accepted; contracts = g .contracts; first = first; counts = counts }) ok refl refl refl refl in
-    let n : getD counts 81 0 ≡ count (ofKind 6) (cut k file) = i .notes .counted 81 (omega arith) in
+    let n : getD counts ratePart 0 ≡ count (ofKind 6) (cut k file) = i .notes .counted ratePart (omega arith) in
     let e : k ≡ recordCount file = omega (arith, i .inside) in
-    let w = laid file k (i .fine) .parts 81 (omega arith) .within in
+    let w = laid file k (i .fine) .parts ratePart (omega arith) .within in
     let all = ap (λ (m : ℕ). count (ofKind 6) (cut m file)) e in
     let law = accepts file ok in
     record {
       accepted = ok;
       few = omega (arith, length-kept (ofKind 6) (records file), law .limits .rates);
-      within = omega (arith, i .notes .started 81 (omega arith), length-cut k file);
-      rates = ap₂ (λ (x y : ℕ). records (stretch file x y)) (s .first 81 (omega arith)) (s .counts 81 (omega arith)) ∙ law .standing .rates;
+      within = omega (arith, i .notes .started ratePart (omega arith), length-cut k file);
+      rates = ap₂ (λ (x y : ℕ). records (stretch file x y)) (s .first ratePart (omega arith)) (s .counts ratePart (omega arith)) ∙ law .standing .rates;
     }
 
 -- a row of an accepted file is within its ranges

@@ -1,7 +1,7 @@
 -- The entries in the file's order: their places, their bytes, and the file they make.
 -- Assumes nothing.
 use Prim.Native.Nat.{ℕ, zero, suc, _+_, _-_, _*_, _/_, _%_, _≤_, _<_}
-use mathlib.Core.Logic.{_⊎_, ⊎-elim}
+use mathlib.Core.Logic.{⊎-elim}
 use mathlib.Core.Path.{_≡_, refl, sym, ap, subst, subst⁻¹, _∙_}
 use mathlib.Core.Bool.{Bool, true, false, not, cond}
 use mathlib.Core.List.{List, [], _∷_, _++_, map, append-assoc, map-append}
@@ -11,7 +11,7 @@ use lib.Seq.{length-take-le, take-add, take-at, drop-at, take-all, getD-take, dr
 use native.Mathlib.Omega.{arith}
 use borrow.Author.Tests.{eqb-true, not-false, ltb-false}
 use Rattle.exact.proofs.Lists.{getD-map}
-use Rattle.record.specs.Bytes.{countFrom}
+use Rattle.record.specs.Bytes.{countFrom, recordBytes}
 use Rattle.record.specs.Layout.{Record}
 use Rattle.account.specs.Answers.{numberOf, recordOf, refusal}
 use Rattle.account.specs.Check.{tooLong, cutRecord}
@@ -72,10 +72,10 @@ places-all entries =
 pub places-long : (entries : List ℕ) → length (places entries) ≡ recordCount entries
 places-long entries = length-sorted (rankAt entries) (countFrom 0 (recordCount entries)) ∙ length-count 0 (recordCount entries)
 
-pub record-long : (entries : List ℕ) (k : ℕ) → k < recordCount entries → length (recordAt entries k) ≡ 96
+pub record-long : (entries : List ℕ) (k : ℕ) → k < recordCount entries → length (recordAt entries k) ≡ recordBytes
 record-long entries k h =
-    let d : length (drop (k * 96) entries) ≡ length entries - k * 96 = length-drop (k * 96) entries in
-    length-take-le (1 * 96) (drop (k * 96) entries) (omega arith)
+    let d : length (drop (k * recordBytes) entries) ≡ length entries - k * recordBytes = length-drop (k * recordBytes) entries in
+    length-take-le (1 * recordBytes) (drop (k * recordBytes) entries) (omega arith)
 
 -- ---- the records as the places have them
 cut-places : (file : List ℕ) (n : ℕ) → map (recordAt file) (countFrom 0 n) ≡ cut n file
@@ -93,38 +93,38 @@ through entries =
     sorted-map (recordAt entries) rank (countFrom 0 (recordCount entries))
     ∙ ap (sorted rank) (cut-places entries (recordCount entries))
 
-pub records-long : (entries : List ℕ) → All (λ (r : Record). length r ≡ 96) (sorted rank (records entries))
+pub records-long : (entries : List ℕ) → All (λ (r : Record). length r ≡ recordBytes) (sorted rank (records entries))
 records-long entries =
-    subst (All (λ (r : Record). length r ≡ 96)) (through entries)
-    (all-map (λ (r : Record). length r ≡ 96) (recordAt entries) (places entries)
-    (all-weaker (λ (j : ℕ). j < recordCount entries) (λ (j : ℕ). length (recordAt entries j) ≡ 96) (record-long entries) (places entries)
+    subst (All (λ (r : Record). length r ≡ recordBytes)) (through entries)
+    (all-map (λ (r : Record). length r ≡ recordBytes) (recordAt entries) (places entries)
+    (all-weaker (λ (j : ℕ). j < recordCount entries) (λ (j : ℕ). length (recordAt entries j) ≡ recordBytes) (record-long entries) (places entries)
     (places-all entries)))
 
 -- ---- their bytes
-pub together-long : (rs : List Record) → All (λ (r : Record). length r ≡ 96) rs → length (together rs) ≡ length rs * 96
+pub together-long : (rs : List Record) → All (λ (r : Record). length r ≡ recordBytes) rs → length (together rs) ≡ length rs * recordBytes
 together-long [] h = refl
 together-long (r ∷ rs) h = omega (arith, length-append r (together rs), together-long rs (h .1), h .0)
 
-pub together-cut : (n : ℕ) (file : List ℕ) → together (cut n file) ≡ take (n * 96) file
+pub together-cut : (n : ℕ) (file : List ℕ) → together (cut n file) ≡ take (n * recordBytes) file
 together-cut zero file = refl
 together-cut (suc n) file =
-    let e : suc n * 96 ≡ 96 + n * 96 = omega arith in
-    ap (λ (xs : List ℕ). take 96 file ++ xs) (together-cut n (drop 96 file)) ∙ sym (take-add 96 (n * 96) file)
+    let e : suc n * recordBytes ≡ recordBytes + n * recordBytes = omega arith in
+    ap (λ (xs : List ℕ). take recordBytes file ++ xs) (together-cut n (drop recordBytes file)) ∙ sym (take-add recordBytes (n * recordBytes) file)
     ∙ ap (λ (m : ℕ). take m file) (sym e)
 
 pub written-long : (entries : List ℕ) → length (written entries) ≡ length entries
 written-long entries =
     let n = recordCount entries in
     let rs = sorted rank (records entries) in
-    let t : length (together rs) ≡ length rs * 96 = together-long rs (records-long entries) in
+    let t : length (together rs) ≡ length rs * recordBytes = together-long rs (records-long entries) in
     let m : length rs ≡ n =
     ap length (sym (through entries)) ∙ length-map (places entries) (recordAt entries) ∙ places-long entries in
-    let d : length (leftOver entries) ≡ length entries - n * 96 = length-drop (n * 96) entries in
+    let d : length (leftOver entries) ≡ length entries - n * recordBytes = length-drop (n * recordBytes) entries in
     omega (arith, length-append (together rs) (leftOver entries))
 
-pub nothing-over : (entries : List ℕ) → cutRecord entries ≡ false → recordCount entries * 96 ≡ length entries
+pub nothing-over : (entries : List ℕ) → cutRecord entries ≡ false → recordCount entries * recordBytes ≡ length entries
 nothing-over entries e =
-    let z : length entries % 96 ≡ 0 = eqb-true (length entries % 96) 0 (not-false (eqb (length entries % 96) 0) e) in
+    let z : length entries % recordBytes ≡ 0 = eqb-true (length entries % recordBytes) 0 (not-false (eqb (length entries % recordBytes) 0) e) in
     omega arith
 
 -- so it gets 1 and 2 as the list itself would
@@ -133,20 +133,20 @@ module _ (entries : List ℕ) where
   long-same = ap (λ (n : ℕ). ltb 61440 n) (written-long entries)
 
   pub cut-same : cutRecord (written entries) ≡ cutRecord entries
-  cut-same = ap (λ (n : ℕ). not (eqb (n % 96) 0)) (written-long entries)
+  cut-same = ap (λ (n : ℕ). not (eqb (n % recordBytes) 0)) (written-long entries)
 
   pub count-same : recordCount (written entries) ≡ recordCount entries
-  count-same = ap (λ (n : ℕ). n / 96) (written-long entries)
+  count-same = ap (λ (n : ℕ). n / recordBytes) (written-long entries)
 
 -- ---- read back
 pub cut-together :
-    (rs : List Record) (after : List ℕ) → All (λ (r : Record). length r ≡ 96) rs → cut (length rs) (together rs ++ after) ≡ rs
+    (rs : List Record) (after : List ℕ) → All (λ (r : Record). length r ≡ recordBytes) rs → cut (length rs) (together rs ++ after) ≡ rs
 cut-together [] after h = refl
 cut-together (r ∷ rs) after h =
     let e : r ++ together rs ++ after ≡ r ++ (together rs ++ after) = append-assoc r (together rs) after in
-    ap (λ (xs : List ℕ). take 96 xs ∷ cut (length rs) (drop 96 xs)) e
-    ∙ ap (λ (x : Record). x ∷ cut (length rs) (drop 96 (r ++ (together rs ++ after)))) (take-at r (together rs ++ after) 96 (h .0))
-    ∙ ap (λ (xs : List ℕ). r ∷ cut (length rs) xs) (drop-at r (together rs ++ after) 96 (h .0))
+    ap (λ (xs : List ℕ). take recordBytes xs ∷ cut (length rs) (drop recordBytes xs)) e
+    ∙ ap (λ (x : Record). x ∷ cut (length rs) (drop recordBytes (r ++ (together rs ++ after)))) (take-at r (together rs ++ after) recordBytes (h .0))
+    ∙ ap (λ (xs : List ℕ). r ∷ cut (length rs) xs) (drop-at r (together rs ++ after) recordBytes (h .0))
     ∙ ap (λ (xs : List Record). r ∷ xs) (cut-together rs after (h .1))
 
 pub read-back : (entries : List ℕ) → records (written entries) ≡ sorted rank (records entries)
@@ -179,17 +179,17 @@ module _ (entries order : List ℕ) (o : Ordered entries order) where
 
 -- ---- the loop that fills
 module _ (file : List ℕ) (k i : ℕ) where
-  stretch-long : k + i ≤ recordCount file → length (stretch file k i) ≡ i * 96
+  stretch-long : k + i ≤ recordCount file → length (stretch file k i) ≡ i * recordBytes
   stretch-long h =
-      let d : length (drop (k * 96) file) ≡ length file - k * 96 = length-drop (k * 96) file in
-      length-take-le (i * 96) (drop (k * 96) file) (omega arith)
+      let d : length (drop (k * recordBytes) file) ≡ length file - k * recordBytes = length-drop (k * recordBytes) file in
+      length-take-le (i * recordBytes) (drop (k * recordBytes) file) (omega arith)
 
   stretch-more : stretch file k (i + 1) ≡ stretch file k i ++ recordAt file (k + i)
   stretch-more =
-      let e : (i + 1) * 96 ≡ i * 96 + 96 = omega arith in
-      let f : k * 96 + i * 96 ≡ (k + i) * 96 = omega arith in
-      ap (λ (m : ℕ). take m (drop (k * 96) file)) e ∙ take-add (i * 96) 96 (drop (k * 96) file)
-      ∙ ap (λ (xs : List ℕ). stretch file k i ++ take 96 xs) (drop-drop (i * 96) (k * 96) file ∙ ap (λ (m : ℕ). drop m file) f)
+      let e : (i + 1) * recordBytes ≡ i * recordBytes + recordBytes = omega arith in
+      let f : k * recordBytes + i * recordBytes ≡ (k + i) * recordBytes = omega arith in
+      ap (λ (m : ℕ). take m (drop (k * recordBytes) file)) e ∙ take-add (i * recordBytes) recordBytes (drop (k * recordBytes) file)
+      ∙ ap (λ (xs : List ℕ). stretch file k i ++ take recordBytes xs) (drop-drop (i * recordBytes) (k * recordBytes) file ∙ ap (λ (m : ℕ). drop m file) f)
 
 pub record Filling (entries : List ℕ) (k n : ℕ) (out₀ out : List ℕ) (i : ℕ) : Type 0 where
   pub long : length out ≡ length out₀
@@ -200,44 +200,49 @@ pub filling-start : (entries : List ℕ) (k n : ℕ) (out : List ℕ) → Fillin
 filling-start entries k n out = record { long = refl; inside = omega arith; done = refl }
 
 module _ (entries : List ℕ) (k n : ℕ) (out₀ out : List ℕ) (i : ℕ) (f : Filling entries k n out₀ out i) (more : i < n)
-    (within : k + n ≤ recordCount entries) (room : n * 96 ≤ length out₀) where
+    (within : k + n ≤ recordCount entries) (room : n * recordBytes ≤ length out₀) where
   abbrev W : List ℕ
   W = written entries
 
   -- the part that one record takes
   abbrev pub partFor : List ℕ
-  partFor = take (i * 96 + 96 - i * 96) (drop (i * 96) out)
+  partFor = take (i * recordBytes + recordBytes - i * recordBytes) (drop (i * recordBytes) out)
 
-  pub part-long : length partFor ≡ 96
+  pub part-long : length partFor ≡ recordBytes
   part-long =
-      let d : length (drop (i * 96) out) ≡ length out - i * 96 = length-drop (i * 96) out in
-      let e : i * 96 + 96 - i * 96 ≡ 96 = omega arith in
-      length-take-le (i * 96 + 96 - i * 96) (drop (i * 96) out) (omega (arith, f .long)) ∙ e
+      let d : length (drop (i * recordBytes) out) ≡ length out - i * recordBytes = length-drop (i * recordBytes) out in
+      let e : i * recordBytes + recordBytes - i * recordBytes ≡ recordBytes = omega arith in
+      length-take-le (i * recordBytes + recordBytes - i * recordBytes) (drop (i * recordBytes) out) (omega (arith, f .long)) ∙ e
 
   pub filling-next :
       {Y r : List ℕ} → r ≡ recordAt W (k + i) → Y ≡ take (length partFor) r
-      → Filling entries k n out₀ (take (i * 96) out ++ (Y ++ drop (i * 96 + 96 - i * 96) (drop (i * 96) out))) (i + 1)
+      → Filling entries k n out₀ (take (i * recordBytes) out ++ (Y ++ drop (i * recordBytes + recordBytes - i * recordBytes) (drop (i * recordBytes) out)))
+      (i + 1)
   filling-next {Y} {r} hr hY =
-      let e : i * 96 + 96 - i * 96 ≡ 96 = omega arith in
+      let e : i * recordBytes + recordBytes - i * recordBytes ≡ recordBytes = omega arith in
       let s = count-same entries in
-      let rl : length r ≡ 96 = ap length hr ∙ record-long W (k + i) (omega arith) in
-      let whole : Y ≡ recordAt W (k + i) = hY ∙ ap (λ (m : ℕ). take m r) part-long ∙ take-all 96 r (omega arith) ∙ hr in
+      let rl : length r ≡ recordBytes = ap length hr ∙ record-long W (k + i) (omega arith) in
+      let whole : Y ≡ recordAt W (k + i) = hY ∙ ap (λ (m : ℕ). take m r) part-long ∙ take-all recordBytes r (omega arith) ∙ hr in
       let fl = stretch-long W k i (omega arith) in
-      let front : take (i * 96) out ≡ stretch W k i = ap (take (i * 96)) (f .done) ∙ take-at (stretch W k i) (drop (i * 96) out₀) (i * 96) fl in
-      let back : drop (i * 96) out ≡ drop (i * 96) out₀ = ap (drop (i * 96)) (f .done) ∙ drop-at (stretch W k i) (drop (i * 96) out₀) (i * 96) fl in
-      let m : i * 96 + 96 ≡ (i + 1) * 96 = omega arith in
-      let after : drop (i * 96 + 96 - i * 96) (drop (i * 96) out) ≡ drop ((i + 1) * 96) out₀ =
-      ap (λ (m : ℕ). drop m (drop (i * 96) out)) e ∙ ap (drop 96) back ∙ drop-drop 96 (i * 96) out₀ ∙ ap (λ (m : ℕ). drop m out₀) m in
-      let is : take (i * 96) out ++ (Y ++ drop (i * 96 + 96 - i * 96) (drop (i * 96) out)) ≡ filled entries k (i + 1) out₀ =
-      ap (λ (xs : List ℕ). xs ++ (Y ++ drop (i * 96 + 96 - i * 96) (drop (i * 96) out))) front
-      ∙ ap (λ (xs : List ℕ). stretch W k i ++ (xs ++ drop (i * 96 + 96 - i * 96) (drop (i * 96) out))) whole
+      let front : take (i * recordBytes) out ≡ stretch W k i = ap (take (i * recordBytes)) (f .done)
+      ∙ take-at (stretch W k i) (drop (i * recordBytes) out₀) (i * recordBytes) fl in
+      let back : drop (i * recordBytes) out ≡ drop (i * recordBytes) out₀ = ap (drop (i * recordBytes)) (f .done)
+      ∙ drop-at (stretch W k i) (drop (i * recordBytes) out₀) (i * recordBytes) fl in
+      let m : i * recordBytes + recordBytes ≡ (i + 1) * recordBytes = omega arith in
+      let after : drop (i * recordBytes + recordBytes - i * recordBytes) (drop (i * recordBytes) out) ≡ drop ((i + 1) * recordBytes) out₀ =
+      ap (λ (m : ℕ). drop m (drop (i * recordBytes) out)) e ∙ ap (drop recordBytes) back ∙ drop-drop recordBytes (i * recordBytes) out₀
+      ∙ ap (λ (m : ℕ). drop m out₀) m in
+      let is : take (i * recordBytes) out ++ (Y ++ drop (i * recordBytes + recordBytes - i * recordBytes) (drop (i * recordBytes) out)) ≡ filled entries k
+      (i + 1) out₀ =
+      ap (λ (xs : List ℕ). xs ++ (Y ++ drop (i * recordBytes + recordBytes - i * recordBytes) (drop (i * recordBytes) out))) front
+      ∙ ap (λ (xs : List ℕ). stretch W k i ++ (xs ++ drop (i * recordBytes + recordBytes - i * recordBytes) (drop (i * recordBytes) out))) whole
       ∙ ap (λ (xs : List ℕ). stretch W k i ++ (recordAt W (k + i) ++ xs)) after
-      ∙ sym (append-assoc (stretch W k i) (recordAt W (k + i)) (drop ((i + 1) * 96) out₀))
-      ∙ ap (λ (xs : List ℕ). xs ++ drop ((i + 1) * 96) out₀) (sym (stretch-more W k i)) in
+      ∙ sym (append-assoc (stretch W k i) (recordAt W (k + i)) (drop ((i + 1) * recordBytes) out₀))
+      ∙ ap (λ (xs : List ℕ). xs ++ drop ((i + 1) * recordBytes) out₀) (sym (stretch-more W k i)) in
       let l = stretch-long W k (i + 1) (omega arith) in
-      let d : length (drop ((i + 1) * 96) out₀) ≡ length out₀ - (i + 1) * 96 = length-drop ((i + 1) * 96) out₀ in
+      let d : length (drop ((i + 1) * recordBytes) out₀) ≡ length out₀ - (i + 1) * recordBytes = length-drop ((i + 1) * recordBytes) out₀ in
       record {
-        long = ap length is ∙ omega (arith, length-append (stretch W k (i + 1)) (drop ((i + 1) * 96) out₀));
+        long = ap length is ∙ omega (arith, length-append (stretch W k (i + 1)) (drop ((i + 1) * recordBytes) out₀));
         inside = omega arith;
         done = is;
       }
@@ -251,9 +256,10 @@ filling-ends entries k n out₀ out i f past =
 -- what is put at the front is there
 pub front-filled :
     (entries : List ℕ) (k n : ℕ) (out : List ℕ) → k + n ≤ recordCount entries
-    → take (n * 96) (filled entries k n out) ≡ stretch (written entries) k n
+    → take (n * recordBytes) (filled entries k n out) ≡ stretch (written entries) k n
 front-filled entries k n out h =
-    take-at (stretch (written entries) k n) (drop (n * 96) out) (n * 96) (stretch-long (written entries) k n (omega (arith, count-same entries)))
+    take-at (stretch (written entries) k n) (drop (n * recordBytes) out) (n * recordBytes) (stretch-long (written entries) k n (omega
+    (arith, count-same entries)))
 
 -- ---- the record at fault
 pub named-within : (file : List ℕ) → 3 ≤ numberOf (checked file) → recordOf (checked file) < recordCount file

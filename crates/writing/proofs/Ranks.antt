@@ -1,6 +1,6 @@
 -- What an entry goes by, and the keys of all.
 -- Assumes nothing.
-use Prim.Native.Nat.{ℕ, zero, suc, _+_, _-_, _*_, _≤_, _<_}
+use Prim.Native.Nat.{ℕ, zero, suc, _+_, _*_, _≤_, _<_}
 use mathlib.Core.Path.{_≡_, refl, sym, ap, ap₂, _∙_}
 use mathlib.Core.Bool.{Bool, true, false, cond}
 use mathlib.Core.List.{List, [], _∷_, _++_}
@@ -10,11 +10,13 @@ use lib.Seq.{getD-set-same, getD-set-other, take-at}
 use native.Mathlib.Decide.{ℕ-discrete}
 use native.Mathlib.Omega.{arith}
 use borrow.Author.Tests.{ne-eqb}
+use Rattle.account.specs.Check.{mostRecords}
 use Rattle.record.specs.Bytes.{countFrom}
-use Rattle.record.specs.Layout.{Record, byKind, kind, contract, day}
+use Rattle.record.specs.Layout.{Record, kind, contract, day}
 use Rattle.account.specs.Records.{recordAt, recordCount}
 use Rattle.writing.specs.Order.{ofItsKind, rank, rankAt, places, Keyed, Ordered}
-use Rattle.writing.specs.Sorting.{keyAt, putIn, sorted}
+use Rattle.writing.specs.code.Sorting.{keyAt}
+use Rattle.writing.specs.Sorting.{putIn, sorted}
 use Rattle.writing.proofs.Halves.{length-count}
 use Rattle.writing.proofs.Placed.{All, all-sorted, all-weaker, counted-all, places-long}
 
@@ -41,16 +43,16 @@ of-other r h g =
 
 -- ---- the keys, one after the other
 pub record Keying (entries keys : List ℕ) (k : ℕ) : Type 0 where
-  pub long : length keys ≡ 640
+  pub long : length keys ≡ mostRecords
   pub inside : k ≤ recordCount entries
   pub done : (i : ℕ) → i < k → getD keys i 0 ≡ rankAt entries i
 
-pub keying-start : (entries : List ℕ) → Keying entries (replicate 640 0) 0
+pub keying-start : (entries : List ℕ) → Keying entries (replicate mostRecords 0) 0
 keying-start entries =
-    record { long = length-replicate {A = ℕ} 640 0; inside = omega arith; done = λ i h. absurd (omega arith) }
+    record { long = length-replicate {A = ℕ} mostRecords 0; inside = omega arith; done = λ i h. absurd (omega arith) }
 
 pub keying-next :
-    {entries keys : List ℕ} {k : ℕ} → Keying entries keys k → recordCount entries ≤ 640 → {r : Record} {x : ℕ}
+    {entries keys : List ℕ} {k : ℕ} → Keying entries keys k → recordCount entries ≤ mostRecords → {r : Record} {x : ℕ}
     → k < recordCount entries → r ≡ recordAt entries k → x ≡ rank r → Keying entries (set keys k x) (k + 1)
 keying-next {entries} {keys} {k} s room {r} {x} more hr hx =
     record {
@@ -88,17 +90,17 @@ take-count n (suc m) zero h = absurd (omega arith)
 take-count n (suc m) (suc k) h = ap (λ (xs : List ℕ). n ∷ xs) (take-count (n + 1) m k (omega arith))
 
 pub ordered-by :
-    (entries : List ℕ) {keys first sortedFirst : List ℕ} {n : ℕ} → recordCount entries ≤ 640 → Keyed entries keys → n ≡ recordCount entries
-    → first ≡ countFrom 0 640 → sortedFirst ≡ sorted (keyAt keys) (take n first) → Ordered entries (sortedFirst ++ drop n first)
+    (entries : List ℕ) {keys first sortedFirst : List ℕ} {n : ℕ} → recordCount entries ≤ mostRecords → Keyed entries keys → n ≡ recordCount entries
+    → first ≡ countFrom 0 mostRecords → sortedFirst ≡ sorted (keyAt keys) (take n first) → Ordered entries (sortedFirst ++ drop n first)
 ordered-by entries {keys} {first} {sortedFirst} {n} room k hn hf hs =
-    let c : take n first ≡ countFrom 0 n = ap (take n) hf ∙ take-count 0 n 640 (omega arith) in
+    let c : take n first ≡ countFrom 0 n = ap (take n) hf ∙ take-count 0 n mostRecords (omega arith) in
     let is : sortedFirst ≡ places entries =
     hs ∙ ap (sorted (keyAt keys)) (c ∙ ap (countFrom 0) hn)
     ∙ sorted-same (keyAt keys) (rankAt entries) (countFrom 0 (recordCount entries))
     (all-weaker (λ (j : ℕ). j < recordCount entries) (λ (j : ℕ). keyAt keys j ≡ rankAt entries j) (k .each) (countFrom 0 (recordCount entries))
     (counted-all (recordCount entries) 0 (recordCount entries) (omega arith))) in
     let l : length sortedFirst ≡ recordCount entries = ap length is ∙ places-long entries in
-    let fl : length first ≡ 640 = ap length hf ∙ length-count 0 640 in
+    let fl : length first ≡ mostRecords = ap length hf ∙ length-count 0 mostRecords in
     record {
       long = omega (arith, length-append sortedFirst (drop n first), length-drop n first);
       first = take-at sortedFirst (drop n first) (recordCount entries) l ∙ is;

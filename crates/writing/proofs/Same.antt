@@ -1,22 +1,21 @@
 -- An accepted file is in order already: writing what was read gives the same bytes.
 -- Assumes nothing.
-use Prim.Native.Nat.{ℕ, zero, suc, _+_, _*_, _≤_, _<_}
-use mathlib.Core.Path.{_≡_, refl, sym, ap, _∙_}
-use mathlib.Core.Bool.{Bool, true, false, _&&_, _||_}
+use Prim.Native.Nat.{ℕ, suc, _*_, _≤_, _<_}
+use mathlib.Core.Path.{_≡_, sym, ap, _∙_}
+use mathlib.Core.Bool.{false, _&&_}
 use mathlib.Core.List.{List, [], _∷_, _++_}
 use lib.Dec.{eqb, leb, ltb}
-use lib.ListN.{length, getD, drop, take-append-drop}
+use lib.ListN.{length, getD, take-append-drop}
 use native.Mathlib.Decide.{ℕ-discrete}
 use native.Mathlib.Omega.{arith}
-use borrow.Author.Tests.{eq-eqb, eqb-true, eqb-false, leb-false, ltb-false}
+use borrow.Author.Tests.{eq-eqb, leb-false, ltb-false}
+use Rattle.record.specs.Bytes.{recordBytes}
 use Rattle.record.specs.Layout.{Record, kind, contract, day}
-use Rattle.record.specs.Ranges.{unknownKind, fieldOutside}
 use Rattle.record.proofs.Within.{neither, prompt-within}
 use Rattle.account.specs.Answers.{numberOf, recordOf}
 use Rattle.account.specs.Check.{recordsChecked, kindFalls, outOfOrder, dayNotAbove, tierFalls}
 use Rattle.account.specs.Checked.{checked}
-use Rattle.account.specs.Notes.{partOf}
-use Rattle.account.specs.Records.{cut, records, recordAt, recordCount, earlier}
+use Rattle.account.specs.Records.{records, recordAt, recordCount, earlier}
 use Rattle.account.specs.declared.answers.Answer.the-variants.{Accepted}
 use Rattle.account.proofs.Claimed.{claimed}
 use Rattle.account.proofs.Exactly.{exactly}
@@ -127,7 +126,7 @@ module _ (file : List ℕ) (ok : checked file ≡ Accepted) where
       (λ i h. in-file i (omega arith))) in
       ap (λ (rs : List Record). together rs ++ leftOver file) s
       ∙ ap (λ (xs : List ℕ). xs ++ leftOver file) (together-cut n file)
-      ∙ take-append-drop (n * 96) file
+      ∙ take-append-drop (n * recordBytes) file
     where
       in-file : (i : ℕ) → suc i < recordCount file → rank (getD (records file) i []) ≤ rank (getD (records file) (suc i) [])
       in-file i h =

@@ -1,5 +1,5 @@
 pub mod Sorting
 pub mod Order
 pub mod Written
-pub mod Held
 pub mod Claims
+pub mod code

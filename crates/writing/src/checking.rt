@@ -34,10 +34,11 @@ ghost use Rattle.account.specs.Accepted.{Each};
 ghost use Rattle.account.specs.Check.{tooLong, cutRecord, mostPrompts};
 ghost use Rattle.account.specs.Checked.{ratesChecked, checked};
 ghost use Rattle.account.specs.Conversions.{rowAnswer, Row};
-ghost use Rattle.account.specs.Notes.{part, parts, beforeAt};
-ghost use Rattle.account.specs.Products.{RatesOf, HoldsRates};
+ghost use Rattle.account.specs.PartNumbers.{part, parts};
+ghost use Rattle.account.specs.code.Notes.{beforeAt};
+ghost use Rattle.account.specs.code.Rates.{RatesOf, HoldsRates};
 ghost use Rattle.account.specs.Records.{records, stretch, recordCount};
-ghost use Rattle.writing.specs.Held.{namesPrompts, askedOf, Holds, CanChange, faultHeld, Rated};
+ghost use Rattle.writing.specs.code.Held.{namesPrompts, askedOf, Holds, CanChange, faultHeld, Rated};
 ghost use Rattle.writing.specs.Order.{Ordered};
 ghost use Rattle.writing.specs.Written.{written};
 

@@ -12,7 +12,8 @@ ghost use mathlib.Core.Path.{_≡_};
 ghost use Prim.Native.Nat.{_≤_, _<_};
 ghost use Rattle.account.specs.Check.{mostRecords};
 ghost use Rattle.account.specs.Records.{recordCount};
-ghost use Rattle.writing.specs.Order.{ofItsKind, rank, Keyed, Ordered};
+ghost use Rattle.writing.specs.Order as Order;
+ghost use Rattle.writing.specs.Order.{ofItsKind, Keyed, Ordered};
 
 pub(crate) const MOST_BYTES: usize = MOST_RECORDS * RECORD_BYTES;
 
@@ -35,7 +36,7 @@ fn of_its_kind(r: &[u8]) -> usize
 
 // What entries go by: the kind, and then what entries of their kind go by.
 fn rank(r: &[u8]) -> usize
-    ensures { λ n. ⌜ n ≡ rank (now (r .entry)) ⌝ }
+    ensures { λ n. ⌜ n ≡ Order.rank (now (r .entry)) ⌝ }
 {
     kind(r) * FIVE_BYTES + of_its_kind(r)
 }

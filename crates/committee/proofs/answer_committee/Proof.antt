@@ -11,7 +11,7 @@ use lib.ListN.{length, getD, take, drop}
 use Rattle.exact.specs.Lists.{sum}
 use Rattle.committee.specs.Answered.{answered}
 use Rattle.committee.specs.Committee.{mostAccounts, committeeNumbers}
-use Rattle.committee.specs.Sums.{AccountOf}
+use Rattle.committee.specs.code.Sums.{AccountOf}
 use Rattle.committee.proofs.Going.{Going, begin, ends, go-on, end, wider, many, differ, lacking, all}
 use Rattle.committee.proofs.answer_committee.Statement.{statement}
 use Rattle.committee.proofs.answer_committee.Tie as tie
@@ -24,7 +24,8 @@ abbrev μ-loop : tie.MeasureT-loop
 
 returns : tie.Need-returns Inv-loop μ-loop
 returns c =
-    let s = c .before .before .before .args in
+    let start = c .before .before .before in
+    let s = start .args in
     let h = many (s .accounts .now) (s .lengths .now) (s .out .now) (c .if1 .taken) in
     (h .is, h .out-is)
 
@@ -33,18 +34,25 @@ add-up-requires c κs = tt
 
 returns-2 : tie.Need-returns-2 Inv-loop μ-loop
 returns-2 c =
-    let s = c .before .before .before .before .before .args in
-    let few = c .before .before .if1 .left in
-    let h = differ (s .accounts .now) (s .lengths .now) (s .out .now) (omega (arith, few)) (sym (c .before .add-up .ensures) ∙ not-true _ (c .if2 .taken)) in
+    let after-add-up = c .before in
+    let c-2 = after-add-up .before in
+    let start = c-2 .before .before .before in
+    let s = start .args in
+    let few = c-2 .if1 .left in
+    let h = differ (s .accounts .now) (s .lengths .now) (s .out .now) (omega (arith, few)) (sym (after-add-up .add-up .ensures) ∙ not-true _ (c .if2 .taken)) in
     (h .is, h .out-is)
 
 returns-3 : tie.Need-returns-3 Inv-loop μ-loop
 returns-3 c =
-    let s = c .before .before .before .before .before .before .args in
-    let few = c .before .before .before .if1 .left in
+    let c-1 = c .before in
+    let after-add-up = c-1 .before in
+    let c-3 = after-add-up .before in
+    let start = c-3 .before .before .before in
+    let s = start .args in
+    let few = c-3 .if1 .left in
     let h =
     lacking (s .accounts .now) (s .lengths .now) (s .out .now) (omega (arith, few))
-    (sym (c .before .before .add-up .ensures) ∙ not-false _ (c .before .if2 .left)) (c .if3 .taken)
+    (sym (after-add-up .add-up .ensures) ∙ not-false _ (c-1 .if2 .left)) (c .if3 .taken)
     in
     (h .is, h .out-is)
 
@@ -53,10 +61,13 @@ none-requires c κs = tt
 
 loop-holds : tie.Need-loop-holds Inv-loop μ-loop
 loop-holds c =
-    let s = c .before .before .before .before .before .before .before .args in
+    let c-2 = c .before .before in
+    let after-add-up = c-2 .before in
+    let start = after-add-up .before .before .before .before in
+    let s = start .args in
     begin (s .accounts .now) (s .lengths .now) (c .none .result) (c .none .ensures)
     (eqb-true (sum (s .lengths .now)) (length (s .accounts .now))
-    (sym (c .before .before .before .add-up .ensures) ∙ not-false _ (c .before .before .if2 .left)))
+    (sym (after-add-up .add-up .ensures) ∙ not-false _ (c-2 .if2 .left)))
 
 mul-end : tie.Need-mul-end Inv-loop μ-loop
 mul-end c = search needs
@@ -69,9 +80,12 @@ within : (c : tie.After-shared-slice-known3 Inv-loop μ-loop) →
     let s = c .before .before .before .before .before .before .before .before .before .before .args in
     c .before .before .loop .at + getD (s .lengths .now) (c .before .before .loop .i) 0 ≤ length (s .accounts .now)
 within c =
-    let s = c .before .before .before .before .before .before .before .before .before .before .args in
-    let l = c .before .before .loop in
-    ends (s .accounts .now) (s .lengths .now) (l .sums) (l .at) (l .i) (l .inv) (c .before .loop-test .taken)
+    let after-loop-test = c .before in
+    let after-loop = after-loop-test .before in
+    let start = after-loop .before .before .before .before .before .before .before .before in
+    let s = start .args in
+    let l = after-loop .loop in
+    ends (s .accounts .now) (s .lengths .now) (l .sums) (l .at) (l .i) (l .inv) (after-loop-test .loop-test .taken)
 
 add-end : tie.Need-add-end Inv-loop μ-loop
 add-end c =
@@ -92,9 +106,12 @@ answer-account-requires c κs = tt
 
 with-account-requires : tie.Need-with-account-requires Inv-loop μ-loop
 with-account-requires c κs =
-    let l = c .before .before .before .before .loop in
-    let t = c .before .before .before .loop-test .taken in
-    let few = c .before .before .before .before .before .before .before .before .before .if1 .left in
+    let after-loop-test = c .before .before .before in
+    let after-loop = after-loop-test .before in
+    let c-9 = after-loop .before .before .before .before .before in
+    let l = after-loop .loop in
+    let t = after-loop-test .loop-test .taken in
+    let few = c-9 .if1 .left in
     let is = c .answer-account .ensures in
     let margin = is .margin-most in
     (wider (l .i) mostAccounts (l .sums) (omega (arith, t, few)) (l .inv .small), omega (arith, margin), is .credit-most, is .above-most)
@@ -103,27 +120,36 @@ add-i : tie.Need-add-i Inv-loop μ-loop
 add-i c = search needs
 
 loop-less : tie.Need-loop-less Inv-loop μ-loop
-loop-less c = let t = c .before .before .before .before .loop-test .taken in omega (arith, t)
+loop-less c =
+    let after-loop-test = c .before .before .before .before in
+    let t = after-loop-test .loop-test .taken in omega (arith, t)
 
 loop-again : tie.Need-loop-again Inv-loop μ-loop
 loop-again c =
-    let s = c .before .before .before .before .before .before .before .before .before .before .before .before .before .args in
-    let l = c .before .before .before .before .before .loop in
-    let a = c .before .answer-account in
+    let after-answer-account = c .before in
+    let after-loop-test = after-answer-account .before .before .before in
+    let after-loop = after-loop-test .before in
+    let start = after-loop .before .before .before .before .before .before .before .before in
+    let s = start .args in
+    let l = after-loop .loop in
+    let a = after-answer-account .answer-account in
     let w = c .with-account in
     let n = getD (s .lengths .now) (l .i) 0 in
     let part : l .at + n - l .at ≡ n = omega arith in
     let more : l .i + 1 ≡ suc (l .i) = omega arith in
     subst⁻¹ (Going (s .accounts .now) (s .lengths .now) (w .result) (l .at + n)) more
-    (go-on (s .accounts .now) (s .lengths .now) (l .sums) (l .at) (l .i) (l .inv) (c .before .before .before .before .loop-test .taken) (a .result) (w .result)
+    (go-on (s .accounts .now) (s .lengths .now) (l .sums) (l .at) (l .i) (l .inv) (after-loop-test .loop-test .taken) (a .result) (w .result)
     (subst (λ (k : ℕ). AccountOf (answered (take k (drop (l .at) (s .accounts .now)))) (a .result)) part (a .ensures))
     (w .ensures))
 
 put-numbers-requires : tie.Need-put-numbers-requires Inv-loop μ-loop
 put-numbers-requires c κs =
-    let l = c .before .before .loop in
-    let few = c .before .before .before .before .before .before .before .if1 .left in
-    let room = c .before .before .before .before .if3 .left in
+    let after-loop = c .before .before in
+    let after-if3 = after-loop .before .before in
+    let c-7 = after-if3 .before .before .before in
+    let l = after-loop .loop in
+    let few = c-7 .if1 .left in
+    let room = after-if3 .if3 .left in
     let passed = l .inv .within in
     (wider (l .i) mostAccounts (l .sums) (omega (arith, few, passed)) (l .inv .small), omega (arith, room))
 
@@ -132,17 +158,26 @@ same-length c = search needs
 
 returns-4 : tie.Need-returns-4 Inv-loop μ-loop
 returns-4 c =
-    let s = c .before .before .before .before .before .before .before .before .before .before .before .before .args in
-    let l = c .before .before .before .before .loop in
-    let t = c .before .before .before .loop-test .left in
-    let few = c .before .before .before .before .before .before .before .before .before .if1 .left in
-    let room = c .before .before .before .before .before .before .if3 .left in
+    let after-put-numbers = c .before in
+    let after-loop-test = after-put-numbers .before .before in
+    let after-loop = after-loop-test .before in
+    let after-if3 = after-loop .before .before in
+    let c-7 = after-if3 .before in
+    let after-add-up = c-7 .before in
+    let c-9 = after-add-up .before in
+    let start = c-9 .before .before .before in
+    let s = start .args in
+    let l = after-loop .loop in
+    let t = after-loop-test .loop-test .left in
+    let few = c-9 .if1 .left in
+    let room = after-if3 .if3 .left in
     let e = end (s .accounts .now) (s .lengths .now) (l .sums) (l .at) (l .i) (l .inv) (omega (arith, t)) in
     let h =
     all (s .accounts .now) (s .lengths .now) (s .out .now) (omega (arith, few))
-    (sym (c .before .before .before .before .before .before .before .before .add-up .ensures)
-    ∙ not-false _ (c .before .before .before .before .before .before .before .if2 .left)) (omega (arith, room))
-    (c .before .put-numbers .last .1 .0) (c .before .put-numbers .ensures ∙ ap (λ (xs : List ℕ). map pos xs ++ drop committeeNumbers (s .out .now)) e)
+    (sym (after-add-up .add-up .ensures)
+    ∙ not-false _ (c-7 .if2 .left)) (omega (arith, room))
+    (after-put-numbers .put-numbers .last .1 .0) (after-put-numbers .put-numbers .ensures
+    ∙ ap (λ (xs : List ℕ). map pos xs ++ drop committeeNumbers (s .out .now)) e)
     in
     (h .is, h .out-is)
 

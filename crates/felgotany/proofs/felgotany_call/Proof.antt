@@ -8,7 +8,7 @@ use mir.Syntax.{w64}
 use mir.Val.{toZ, ofZ}
 use Rattle.exact.proofs.Integers.{back}
 use Rattle.questions.specs.Noon.{joinedCall}
-use Rattle.felgotany.specs.Outcomes.{TellsCall}
+use Rattle.felgotany.specs.code.Outcomes.{TellsCall}
 use Rattle.felgotany.proofs.felgotany_call.Statement.{statement}
 use Rattle.felgotany.proofs.felgotany_call.Tie as tie
 
@@ -20,8 +20,10 @@ tell-of-requires c κs = search needs
 
 returns : tie.Need-returns
 returns c =
-    let s = c .before .before .before .before .before .before in
-    let m = c .before .before .before .cover-call in
+    let after-cover-call = c .before .before .before in
+    let c-6 = after-cover-call .before .before .before in
+    let s = c-6 in
+    let m = after-cover-call .cover-call in
     let a = joinedCall (s .args .morning .now) (s .args .noon .now) in
     let l = back (s .args .last) (s .fits .last) in
     let t = back (s .args .threshold) (s .fits .threshold) in

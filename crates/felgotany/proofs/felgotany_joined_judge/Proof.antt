@@ -3,7 +3,7 @@
 use borrow.Author.Needs.{needs}
 use mathlib.Core.Path.{refl, subst}
 use Rattle.lists.specs.declared.JudgedPair.{JudgedPair}
-use Rattle.felgotany.specs.Outcomes.{TellsPairList}
+use Rattle.felgotany.specs.code.Outcomes.{TellsPairList}
 use Rattle.felgotany.proofs.felgotany_joined_judge.Statement.{statement}
 use Rattle.felgotany.proofs.felgotany_joined_judge.Tie as tie
 

@@ -3,7 +3,7 @@
 use borrow.Author.Needs.{needs}
 use mathlib.Core.Path.{refl, subst}
 use Rattle.account.specs.declared.noon.Place.{Place}
-use Rattle.felgotany.specs.Outcomes.{TellsPlace}
+use Rattle.felgotany.specs.code.Outcomes.{TellsPlace}
 use Rattle.felgotany.proofs.felgotany_joined_prompts.Statement.{statement}
 use Rattle.felgotany.proofs.felgotany_joined_prompts.Tie as tie
 

@@ -3,7 +3,7 @@
 use borrow.Author.Needs.{needs}
 use mathlib.Core.Path.{subst}
 use Rattle.margin.specs.declared.lists.Judged.{Judged}
-use Rattle.felgotany.specs.Outcomes.{TellsList}
+use Rattle.felgotany.specs.code.Outcomes.{TellsList}
 use Rattle.felgotany.proofs.felgotany_judge.Statement.{statement}
 use Rattle.felgotany.proofs.felgotany_judge.Tie as tie
 

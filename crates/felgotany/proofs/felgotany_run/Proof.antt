@@ -3,7 +3,7 @@
 use borrow.Author.Needs.{needs}
 use mathlib.Core.Path.{subst}
 use Rattle.account.specs.declared.answers.Answer.{Answer}
-use Rattle.felgotany.specs.Outcomes.{Tells}
+use Rattle.felgotany.specs.code.Outcomes.{Tells}
 use Rattle.felgotany.proofs.felgotany_run.Statement.{statement}
 use Rattle.felgotany.proofs.felgotany_run.Tie as tie
 
@@ -21,7 +21,8 @@ same-length-2 c = search needs
 
 returns : tie.Need-returns
 returns c =
-    let f = c .before .before .before .before .answer-run .ensures in
+    let after-answer-run = c .before .before .before .before in
+    let f = after-answer-run .answer-run .ensures in
     (subst (λ (a : Answer). Tells a (c .tell .result)) (f .0) (c .tell .ensures), (f .1 .0, f .1 .1))
 
 pub felgotany-run-spec : {M : Type 1} → statement M

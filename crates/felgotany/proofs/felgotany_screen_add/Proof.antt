@@ -3,7 +3,7 @@
 use borrow.Author.Needs.{needs}
 use mathlib.Core.Path.{subst}
 use Rattle.screen.specs.declared.Added.{Added}
-use Rattle.felgotany.specs.Outcomes.{TellsAdded}
+use Rattle.felgotany.specs.code.Outcomes.{TellsAdded}
 use Rattle.felgotany.proofs.felgotany_screen_add.Statement.{statement}
 use Rattle.felgotany.proofs.felgotany_screen_add.Tie as tie
 
@@ -18,7 +18,8 @@ same-length c = search needs
 
 returns : tie.Need-returns
 returns c =
-    let f = c .before .before .before .add .ensures in
+    let after-add = c .before .before .before in
+    let f = after-add .add .ensures in
     (subst (λ (a : Added). TellsAdded a (c .tell-added .result)) (f .0) (c .tell-added .ensures), f .1)
 
 pub felgotany-screen-add-spec : {M : Type 1} → statement M

@@ -5,7 +5,7 @@ use mathlib.Core.Path.{ap, subst, _∙_}
 use Rattle.exact.proofs.Integers.{back}
 use Rattle.screen.specs.Screen.{limited}
 use Rattle.screen.specs.declared.Limited.{Limited}
-use Rattle.felgotany.specs.Outcomes.{TellsLimit}
+use Rattle.felgotany.specs.code.Outcomes.{TellsLimit}
 use Rattle.felgotany.proofs.felgotany_screen_limit.Statement.{statement}
 use Rattle.felgotany.proofs.felgotany_screen_limit.Tie as tie
 
@@ -17,10 +17,12 @@ tell-limit-requires c κs = search needs
 
 returns : tie.Need-returns
 returns c =
-    let s = c .before .before .before .before in
+    let after-limit = c .before in
+    let c-4 = after-limit .before .before .before in
+    let s = c-4 in
     let a = s .args in
     subst (λ (l : Limited). TellsLimit l (c .tell-limit .result))
-    (c .before .limit .ensures ∙ ap (limited (a .lent .now) (a .named) (a .ticket .now)) (back (a .limit) (s .fits .limit)))
+    (after-limit .limit .ensures ∙ ap (limited (a .lent .now) (a .named) (a .ticket .now)) (back (a .limit) (s .fits .limit)))
     (c .tell-limit .ensures)
 
 pub felgotany-screen-limit-spec : {M : Type 1} → statement M

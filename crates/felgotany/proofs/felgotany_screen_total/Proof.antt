@@ -3,7 +3,7 @@
 use borrow.Author.Needs.{needs}
 use mathlib.Core.Path.{subst}
 use Rattle.screen.specs.declared.Told.{Told}
-use Rattle.felgotany.specs.Outcomes.{TellsTotal}
+use Rattle.felgotany.specs.code.Outcomes.{TellsTotal}
 use Rattle.felgotany.proofs.felgotany_screen_total.Statement.{statement}
 use Rattle.felgotany.proofs.felgotany_screen_total.Tie as tie
 

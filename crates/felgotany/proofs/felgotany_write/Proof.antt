@@ -17,7 +17,8 @@ same-length c = search needs
 
 returns : tie.Need-returns
 returns c =
-    let w = c .before .before .before .write .ensures in
+    let after-write = c .before .before .before in
+    let w = after-write .write .ensures in
     let t = c .tell .ensures in
     record {
       refusal = t .refusal ∙ ap numberOf (w .answer);

@@ -20,12 +20,15 @@ limit-total-requires c κs = search needs
 
 returns : tie.Need-returns
 returns c =
-    let e = c .before .before .before .limit-refusal .ensures in
-    let t = c .before .before .tell .ensures in
+    let after-limit-number = c .before in
+    let after-tell = after-limit-number .before in
+    let after-limit-refusal = after-tell .before in
+    let e = after-limit-refusal .limit-refusal .ensures in
+    let t = after-tell .tell .ensures in
     record {
       refusal = t .refusal ∙ ap numberOf e;
       record-named = t .record-named ∙ ap recordOf e;
-      answer-is = c .before .limit-number .ensures;
+      answer-is = after-limit-number .limit-number .ensures;
       total-is = c .limit-total .ensures;
     }
 

@@ -21,7 +21,8 @@ step-over-requires c κs = search needs
 
 same-uses-requires : tie.Need-same-uses-requires
 same-uses-requires c κs =
-    let s = c .before .before .before .before in
+    let c-4 = c .before .before .before .before in
+    let s = c-4 in
     let p = s .args .prompts in
     let n : p .count ≤ 32 = few p (and-left (soundPrompts p) (soundSpread (s .args .spread)) (s .pre .0)) in
     omega (arith, s .pre .1)
@@ -31,15 +32,18 @@ verdict-of-requires c κs = search needs
 
 returns : tie.Need-returns
 returns c =
-    let s = c .before .before .before .before .before .before in
+    let after-same-uses = c .before in
+    let after-step-over = after-same-uses .before .before .before .before in
+    let c-6 = after-step-over .before in
+    let s = c-6 in
     let a = s .args in
     let p = a .prompts in
-    let st = c .before .before .before .before .before .step-over in
+    let st = after-step-over .step-over in
     let lt : length (p .tier) ≡ 32 = sym (length-map (p .tier) _) ∙ s .good .0 .1 .1 .1 .0 .1 .0 .1 in
     let ln : length (p .net) ≡ 32 = sym (length-map (p .net) _) ∙ s .good .0 .1 .1 .1 .1 .0 .1 .0 .1 in
     compared p (a .spread) (a .second) (st .result) (st .ensures) (s .pre .0) lt ln (a .step) (a .number) (a .uses .now) (s .pre .1)
-    (c .verdict-of .result) (c .before .same-uses .result) (c .before .same-uses .ensures)
-    (seen (λ (z : ℤ). verdictOf (a .step) (st .result .number .0) z (c .before .same-uses .result) Right) (a .number) (s .fits .number)
+    (c .verdict-of .result) (after-same-uses .same-uses .result) (after-same-uses .same-uses .ensures)
+    (seen (λ (z : ℤ). verdictOf (a .step) (st .result .number .0) z (after-same-uses .same-uses .result) Right) (a .number) (s .fits .number)
     (c .verdict-of .ensures))
 
 pub compare-spec : {M : Type 1} → statement M

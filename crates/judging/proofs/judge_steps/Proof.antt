@@ -60,10 +60,13 @@ shared-slice-copy-out-compare c = omega arith
 
 add-compare : tie.Need-add-compare Inv-loop μ-loop
 add-compare c =
-    let s = c .before .before .before .before in
-    let l = c .before .before .before .loop in
+    let after-loop-test = c .before .before in
+    let after-loop = after-loop-test .before in
+    let c-4 = after-loop .before in
+    let s = c-4 in
+    let l = after-loop .loop in
     let r = room-here (s .args .t2) (spreads-32 s) (sound-table s) (s .args .prompts .count) (s .args .numbers .now) (s .args .uses .now)
-    (s .pre .1 .0) _ (l .step) (l .at) (l .left) (l .inv) (c .before .before .loop-test .taken) in
+    (s .pre .1 .0) _ (l .step) (l .at) (l .left) (l .inv) (after-loop-test .loop-test .taken) in
     omega (arith, r, s .good .1 .1 .1 .0)
 
 mul-compare-2 : tie.Need-mul-compare-2 Inv-loop μ-loop
@@ -77,17 +80,23 @@ part-compare-start c = omega arith
 
 part-compare-end : tie.Need-part-compare-end Inv-loop μ-loop
 part-compare-end c =
-    let s = c .before .before .before .before in
-    let l = c .before .before .before .loop in
+    let after-loop-test = c .before .before in
+    let after-loop = after-loop-test .before in
+    let c-4 = after-loop .before in
+    let s = c-4 in
+    let l = after-loop .loop in
     let r = room-here (s .args .t2) (spreads-32 s) (sound-table s) (s .args .prompts .count) (s .args .numbers .now) (s .args .uses .now)
-    (s .pre .1 .0) _ (l .step) (l .at) (l .left) (l .inv) (c .before .before .loop-test .taken) in
+    (s .pre .1 .0) _ (l .step) (l .at) (l .left) (l .inv) (after-loop-test .loop-test .taken) in
     omega (arith, r)
 
 compare-requires : tie.Need-compare-requires Inv-loop μ-loop
 compare-requires c κs =
-    let s = c .before .before .before .before .before in
-    let l = c .before .before .before .before .loop in
-    let h = c .before .before .before .loop-test .taken in (
+    let after-loop-test = c .before .before .before in
+    let after-loop = after-loop-test .before in
+    let c-5 = after-loop .before in
+    let s = c-5 in
+    let l = after-loop .loop in
+    let h = after-loop-test .loop-test .taken in (
       sound-here (s .args .t2) (spreads-32 s) (sound-table s) (s .args .prompts .count) (s .args .numbers .now) (s .args .uses .now) (s .pre .1 .0) _
           (l .step) (l .at) (l .left) (l .inv) h noSpread,
       part-long (s .args .t2) (spreads-32 s) (sound-table s) (s .args .prompts .count) (s .args .numbers .now) (s .args .uses .now) (s .pre .1 .0) _
@@ -104,10 +113,13 @@ said : (b : tie.After-compare Inv-loop μ-loop) →
     ComparedTo (l .left) (getD (s .t2 .spread) (l .step / 2) noSpread) (eqb (l .step % 2) 1) (l .step) (getD (s .numbers .now) (l .step) (pos 0))
     (take (l .at + s .prompts .count - l .at) (drop (l .at) (s .uses .now))) (b .compare .result)
 said b =
-    let l = b .before .before .before .before .before .loop in
-    let s = b .before .before .before .before .before .before .args in
+    let after-compare-arg = b .before .before in
+    let after-loop = after-compare-arg .before .before .before in
+    let start = after-loop .before in
+    let l = after-loop .loop in
+    let s = start .args in
     let z = getD (s .numbers .now) (l .step) (pos 0) in
-    let fits : SFits w64 z = record { sfits = b .before .before .compare-arg .given } in
+    let fits : SFits w64 z = record { sfits = after-compare-arg .compare-arg .given } in
     subst
     (λ (x : ℤ). ComparedTo (l .left) (getD (s .t2 .spread) (l .step / 2) noSpread) (eqb (l .step % 2) 1) (l .step) x
     (take (l .at + s .prompts .count - l .at) (drop (l .at) (s .uses .now))) (b .compare .result))
@@ -126,7 +138,8 @@ returns c =
 
 add-at : tie.Need-add-at Inv-loop μ-loop
 add-at c =
-    let b = c .before .before .before in
+    let c-3 = c .before .before .before in
+    let b = c-3 in
     let s = b .before .before .before .before .before .before in
     let l = b .before .before .before .before .before .loop in
     let r = room-here (s .args .t2) (spreads-32 s) (sound-table s) (s .args .prompts .count) (s .args .numbers .now) (s .args .uses .now)
@@ -141,14 +154,17 @@ loop-less c = omega arith
 
 loop-again : tie.Need-loop-again Inv-loop μ-loop
 loop-again c =
-    let b = c .before .before .before in
+    let c-1 = c .before in
+    let after-is-right = c-1 .before in
+    let c-3 = after-is-right .before in
+    let b = c-3 in
     let s = b .before .before .before .before .before .before in
     let l = b .before .before .before .before .before .loop in
     let h = b .before .before .before .before .loop-test .taken in
     goes (s .args .t2) (spreads-32 s) (sound-table s) (s .args .prompts .count) (s .args .numbers .now) (s .args .uses .now) (s .pre .1 .0) _
     (l .step) (l .at) (l .left) (l .inv) h noSpread
     (b .compare .result) (said b)
-    (sym (c .before .before .is-right .ensures) ∙ not-false (c .before .before .is-right .result) (c .before .if1 .left))
+    (sym (after-is-right .is-right .ensures) ∙ not-false (after-is-right .is-right .result) (c-1 .if1 .left))
 
 returns-2 : tie.Need-returns-2 Inv-loop μ-loop
 returns-2 c =

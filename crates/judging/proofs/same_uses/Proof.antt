@@ -45,17 +45,22 @@ same-use-requires c κs = tt
 
 returns : tie.Need-returns Inv-loop μ-loop
 returns c =
-    let s = c .before .before .before .before .before .before in
-    let l = c .before .before .before .before .before .loop in
+    let after-same-use = c .before in
+    let after-same-use-arg = after-same-use .before .before in
+    let after-loop-test = after-same-use-arg .before in
+    let after-loop = after-loop-test .before in
+    let c-6 = after-loop .before in
+    let s = c-6 in
+    let l = after-loop .loop in
     let us = s .args .uses .now in
     let ds = s .args .t2 in
-    let fits : SFits w64 (getD us (l .i) (pos 0)) = record { sfits = c .before .before .before .same-use-arg .given } in
+    let fits : SFits w64 (getD us (l .i) (pos 0)) = record { sfits = after-same-use-arg .same-use-arg .given } in
     let e : same (getD us (l .i) (pos 0)) (getD ds (l .i) noDelta .0) ≡ false =
-    sym (seen (λ (x : ℤ). same x (getD ds (l .i) noDelta .0)) (getD us (l .i) (pos 0)) fits (c .before .same-use .ensures))
-    ∙ not-true (c .before .same-use .result) (c .if1 .taken) in
+    sym (seen (λ (x : ℤ). same x (getD ds (l .i) noDelta .0)) (getD us (l .i) (pos 0)) fits (after-same-use .same-use .ensures))
+    ∙ not-true (after-same-use .same-use .result) (c .if1 .taken) in
     let few : length us ≤ length ds = omega arith in
     sym
-    (sym (l .inv .0) ∙ uses-at us ds few (l .i) (c .before .before .before .before .loop-test .taken)
+    (sym (l .inv .0) ∙ uses-at us ds few (l .i) (after-loop-test .loop-test .taken)
     ∙ ap (λ (b : Bool). b && alike (drop (suc (l .i)) us) (drop (suc (l .i)) (take (length us) (deltasIn ds)))) e)
 
 add-i : tie.Need-add-i Inv-loop μ-loop
@@ -66,18 +71,23 @@ loop-less c = omega arith
 
 loop-again : tie.Need-loop-again Inv-loop μ-loop
 loop-again c =
-    let s = c .before .before .before .before .before .before in
-    let l = c .before .before .before .before .before .loop in
+    let after-same-use = c .before in
+    let after-same-use-arg = after-same-use .before .before in
+    let after-loop-test = after-same-use-arg .before in
+    let after-loop = after-loop-test .before in
+    let c-6 = after-loop .before in
+    let s = c-6 in
+    let l = after-loop .loop in
     let us = s .args .uses .now in
     let ds = s .args .t2 in
-    let fits : SFits w64 (getD us (l .i) (pos 0)) = record { sfits = c .before .before .before .same-use-arg .given } in
+    let fits : SFits w64 (getD us (l .i) (pos 0)) = record { sfits = after-same-use-arg .same-use-arg .given } in
     let e : same (getD us (l .i) (pos 0)) (getD ds (l .i) noDelta .0) ≡ true =
-    sym (seen (λ (x : ℤ). same x (getD ds (l .i) noDelta .0)) (getD us (l .i) (pos 0)) fits (c .before .same-use .ensures))
-    ∙ not-false (c .before .same-use .result) (c .if1 .left) in
+    sym (seen (λ (x : ℤ). same x (getD ds (l .i) noDelta .0)) (getD us (l .i) (pos 0)) fits (after-same-use .same-use .ensures))
+    ∙ not-false (after-same-use .same-use .result) (c .if1 .left) in
     let few : length us ≤ length ds = omega arith in (
       ap (λ (k : ℕ). alike (drop k us) (drop k (take (length us) (deltasIn ds)))) (add-one (l .i))
           ∙ sym
-          (sym (l .inv .0) ∙ uses-at us ds few (l .i) (c .before .before .before .before .loop-test .taken)
+          (sym (l .inv .0) ∙ uses-at us ds few (l .i) (after-loop-test .loop-test .taken)
           ∙ ap (λ (b : Bool). b && alike (drop (suc (l .i)) us) (drop (suc (l .i)) (take (length us) (deltasIn ds)))) e),
       omega arith,
     )

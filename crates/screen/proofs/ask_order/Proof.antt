@@ -21,17 +21,23 @@ clear c = sym (c .before .number-of .ensures) ∙ omega (arith, c .if1 .left)
 
 returns : tie.Need-returns
 returns c =
-    let a = c .before .before .before .before .before .args in
-    let o = c .before .before .check-file in
-    let some : numberOf (o .result .answer) ≡ 0 → ⊥ = λ z. c .if1 .taken (c .before .number-of .ensures ∙ z) in
+    let after-number-of = c .before in
+    let after-check-file = after-number-of .before in
+    let start = after-check-file .before .before .before in
+    let a = start .args in
+    let o = after-check-file .check-file in
+    let some : numberOf (o .result .answer) ≡ 0 → ⊥ = λ z. c .if1 .taken (after-number-of .number-of .ensures ∙ z) in
     let is = order-refused (a .file .now) (o .result) (o .ensures) (a .ticket .now) some in
     record { answer-is = is; total-is = λ e. absurd (some (ap numberOf (is ∙ e))) }
 
 keep-requires : tie.Need-keep-requires
 keep-requires c κs =
-    let a = c .before .before .before .before .before .before .args in
-    let o = c .before .before .before .check-file in
-    from-check (a .file .now) (o .result) (o .ensures) (clear (c .before))
+    let c-1 = c .before in
+    let after-check-file = c-1 .before .before in
+    let start = after-check-file .before .before .before in
+    let a = start .args in
+    let o = after-check-file .check-file in
+    from-check (a .file .now) (o .result) (o .ensures) (clear (c-1))
 
 add-requires : tie.Need-add-requires
 add-requires c κs = record { tickets = []; kept = c .keep .ensures }
@@ -41,12 +47,18 @@ number-of-requires-2 c κs = search needs
 
 returns-2 : tie.Need-returns-2
 returns-2 c =
-    let a = c .before .before .before .before .before .before .before .before .before .before .args in
-    let o = c .before .before .before .before .before .before .before .check-file in
-    let t = c .before .before .add in
-    let some : numberOf (t .result .answer) ≡ 0 → ⊥ = λ z. c .if2 .taken (c .before .number-of2 .ensures ∙ z) in
-    let is = t .ensures .told [] (c .before .before .before .keep .ensures)
-    ∙ sym (order-accepted (a .file .now) (o .result) (o .ensures) (clear (c .before .before .before .before .before)) (a .ticket .now)) in
+    let after-number-of2 = c .before in
+    let after-add = after-number-of2 .before in
+    let after-keep = after-add .before in
+    let c-5 = after-keep .before .before in
+    let after-check-file = c-5 .before .before in
+    let start = after-check-file .before .before .before in
+    let a = start .args in
+    let o = after-check-file .check-file in
+    let t = after-add .add in
+    let some : numberOf (t .result .answer) ≡ 0 → ⊥ = λ z. c .if2 .taken (after-number-of2 .number-of2 .ensures ∙ z) in
+    let is = t .ensures .told [] (after-keep .keep .ensures)
+    ∙ sym (order-accepted (a .file .now) (o .result) (o .ensures) (clear (c-5)) (a .ticket .now)) in
     record { answer-is = is; total-is = λ e. absurd (some (ap numberOf (is ∙ e))) }
 
 -- nor is the ticket
@@ -55,24 +67,34 @@ taken c = sym (c .before .number-of2 .ensures) ∙ omega (arith, c .if2 .left)
 
 kept-total-requires : tie.Need-kept-total-requires
 kept-total-requires c κs =
-    let a = c .before .before .before .before .before .before .before .before .before .before .before .args in
-    let t = c .before .before .before .add in
+    let c-1 = c .before in
+    let after-add = c-1 .before .before in
+    let after-keep = after-add .before in
+    let start = after-keep .before .before .before .before .before .before .before in
+    let a = start .args in
+    let t = after-add .add in
     record {
       tickets = a .ticket .now ∷ [];
-      kept = t .ensures .accepted (taken (c .before)) [] (c .before .before .before .before .keep .ensures);
+      kept = t .ensures .accepted (taken (c-1)) [] (after-keep .keep .ensures);
     }
 
 returns-3 : tie.Need-returns-3
 returns-3 c =
-    let a = c .before .before .before .before .before .before .before .before .before .before .before .before .args in
-    let o = c .before .before .before .before .before .before .before .before .before .check-file in
-    let t = c .before .before .before .before .add in
-    let k = c .before .before .before .before .before .keep .ensures in
+    let c-2 = c .before .before in
+    let after-add = c-2 .before .before in
+    let after-keep = after-add .before in
+    let c-7 = after-keep .before .before in
+    let after-check-file = c-7 .before .before in
+    let start = after-check-file .before .before .before in
+    let a = start .args in
+    let o = after-check-file .check-file in
+    let t = after-add .add in
+    let k = after-keep .keep .ensures in
     record {
       answer-is =
           t .ensures .told [] k
-          ∙ sym (order-accepted (a .file .now) (o .result) (o .ensures) (clear (c .before .before .before .before .before .before .before)) (a .ticket .now));
-      total-is = λ e. c .kept-total .ensures (a .ticket .now ∷ []) (t .ensures .accepted (taken (c .before .before)) [] k);
+          ∙ sym (order-accepted (a .file .now) (o .result) (o .ensures) (clear (c-7)) (a .ticket .now));
+      total-is = λ e. c .kept-total .ensures (a .ticket .now ∷ []) (t .ensures .accepted (taken (c-2)) [] k);
     }
 
 pub ask-order-spec : {M : Type 1} → statement M

@@ -1,8 +1,8 @@
 -- A ticket asked about: refused, or its total weighed against the limit.
 -- Assumes nothing.
-use mathlib.Core.Path.{_≡_, sym, ap, ap₂, _∙_}
-use mathlib.Core.Bool.{true, false}
-use Prim.Native.Nat.{ℕ, _≤_}
+use mathlib.Core.Path.{_≡_, sym, ap₂, _∙_}
+use mathlib.Core.Bool.{false}
+use Prim.Native.Nat.{_≤_}
 use native.Mathlib.Omega.{arith}
 use borrow.Author.Needs.{needs}
 use lib.IntN.{pos, natAbs}
@@ -13,7 +13,7 @@ use Rattle.exact.proofs.Integers.{seen}
 use Rattle.account.specs.Answers.{numberOf}
 use Rattle.account.specs.declared.answers.Answer.the-variants.{Accepted}
 use Rattle.margin.proofs.QuestionLaws.{accepted-only}
-use Rattle.screen.specs.Held.{orderIn}
+use Rattle.screen.specs.code.Held.{orderIn}
 use Rattle.screen.specs.Screen.{held, weighed}
 use Rattle.screen.proofs.ScreenLaws.{below-zero, limit-lacking, limit-refused, limit-asked}
 use Rattle.screen.proofs.limit.Statement.{statement}
@@ -25,13 +25,16 @@ below-requires c κs = search needs
 -- the limit is tested as it is
 tested : (c : tie.After-below) → c .below .result ≡ ltZ (c .before .before .before .args .limit) (pos 0)
 tested c =
-    let s = c .before .before .before in
+    let c-3 = c .before .before .before in
+    let s = c-3 in
     seen (λ x. ltZ x (pos 0)) (s .args .limit) (s .fits .limit) (c .below .ensures)
 
 returns : tie.Need-returns
 returns c =
-    let a = c .before .before .before .before .args in
-    sym (below-zero (a .lent .now) (a .named) (a .ticket .now) (a .limit) (sym (tested (c .before)) ∙ c .if1 .taken))
+    let c-1 = c .before in
+    let start = c-1 .before .before .before in
+    let a = start .args in
+    sym (below-zero (a .lent .now) (a .named) (a .ticket .now) (a .limit) (sym (tested (c-1)) ∙ c .if1 .taken))
 
 -- it is not below zero
 stands : (c : tie.Else1) → ltZ (c .before .before .before .before .args .limit) (pos 0) ≡ false
@@ -39,18 +42,24 @@ stands c = sym (tested (c .before)) ∙ c .if1 .left
 
 returns-2 : tie.Need-returns-2
 returns-2 c =
-    let a = c .before .before .before .before .before .args in
-    sym (limit-lacking (a .lent .now) (a .named) (a .ticket .now) (a .limit) (stands (c .before)) (c .if2 .taken))
+    let c-1 = c .before in
+    let start = c-1 .before .before .before .before in
+    let a = start .args in
+    sym (limit-lacking (a .lent .now) (a .named) (a .ticket .now) (a .limit) (stands (c-1)) (c .if2 .taken))
 
-named-lent : (c : tie.Else2) → let a = c .before .before .before .before .before .args in a .named ≤ length (a .lent .now)
+named-lent : (c : tie.Else2) → let a =
+    let start = c .before .before .before .before .before in
+    start .args in a .named ≤ length (a .lent .now)
 named-lent c =
     let l = c .if2 .left in
     omega (arith, l)
 
 slice-aggregate-ask-order : tie.Need-slice-aggregate-ask-order
 slice-aggregate-ask-order c =
-    let a = c .before .before .before .before .before .before .args in
-    sym (length-take-le (a .named) (a .lent .now) (named-lent (c .before)))
+    let c-1 = c .before in
+    let start = c-1 .before .before .before .before .before in
+    let a = start .args in
+    sym (length-take-le (a .named) (a .lent .now) (named-lent (c-1)))
 
 ask-order-requires : tie.Need-ask-order-requires
 ask-order-requires c κs = search needs
@@ -60,11 +69,14 @@ number-of-requires c κs = search needs
 
 returns-3 : tie.Need-returns-3
 returns-3 c =
-    let e = c .before .before .before .before in
+    let after-number-of = c .before in
+    let after-ask-order = after-number-of .before in
+    let c-4 = after-ask-order .before .before in
+    let e = c-4 in
     let a = e .before .before .before .before .before .args in
-    let o = c .before .before .ask-order in
+    let o = after-ask-order .ask-order in
     limit-refused (a .lent .now) (a .named) (a .ticket .now) (a .limit) (stands (e .before)) (named-lent e) (o .result .answer) (o .ensures .answer-is)
-    (λ z. c .if3 .taken (c .before .number-of .ensures ∙ z))
+    (λ z. c .if3 .taken (after-number-of .number-of .ensures ∙ z))
 
 magnitude-requires : tie.Need-magnitude-requires
 magnitude-requires c κs = search needs
@@ -74,15 +86,20 @@ weigh-requires c κs = search needs
 
 returns-4 : tie.Need-returns-4
 returns-4 c =
-    let e = c .before .before .before .before .before .before .before in
+    let after-magnitude = c .before in
+    let after-if3 = after-magnitude .before .before in
+    let after-number-of = after-if3 .before in
+    let after-ask-order = after-number-of .before in
+    let c-7 = after-ask-order .before .before in
+    let e = c-7 in
     let s = e .before .before .before .before .before in
     let a = s .args in
-    let o = c .before .before .before .before .before .ask-order in
-    let z : numberOf (o .result .answer) ≡ 0 = sym (c .before .before .before .before .number-of .ensures)
-    ∙ omega (arith, c .before .before .before .if3 .left) in
+    let o = after-ask-order .ask-order in
+    let z : numberOf (o .result .answer) ≡ 0 = sym (after-number-of .number-of .ensures)
+    ∙ omega (arith, after-if3 .if3 .left) in
     let fine : orderIn (held (a .lent .now) (a .named)) (a .ticket .now) ≡ Accepted = sym (o .ensures .answer-is) ∙ accepted-only (o .result .answer) z in
     c .weigh .ensures
-    ∙ ap₂ weighed (seen natAbs (a .limit) (s .fits .limit) (c .before .magnitude .ensures)) (o .ensures .total-is fine)
+    ∙ ap₂ weighed (seen natAbs (a .limit) (s .fits .limit) (after-magnitude .magnitude .ensures)) (o .ensures .total-is fine)
     ∙ limit-asked (a .lent .now) (a .named) (a .ticket .now) (a .limit) (stands (e .before)) (named-lent e) fine
 
 pub limit-spec : {M : Type 1} → statement M

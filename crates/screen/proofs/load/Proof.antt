@@ -1,6 +1,6 @@
 -- The named bytes, where they are lent, are checked.
 -- Assumes nothing.
-use mathlib.Core.Path.{_≡_, sym, _∙_}
+use mathlib.Core.Path.{sym, _∙_}
 use native.Mathlib.Omega.{arith}
 use borrow.Author.Needs.{needs}
 use lib.Seq.{length-take-le}
@@ -15,8 +15,10 @@ returns c =
 
 slice-aggregate-check : tie.Need-slice-aggregate-check
 slice-aggregate-check c =
-    let a = c .before .before .before .args in
-    let l = c .before .if1 .left in
+    let c-1 = c .before in
+    let start = c-1 .before .before in
+    let a = start .args in
+    let l = c-1 .if1 .left in
     sym (length-take-le (a .named) (a .lent .now) (omega (arith, l)))
 
 check-requires : tie.Need-check-requires
@@ -24,8 +26,10 @@ check-requires c κs = search needs
 
 returns-2 : tie.Need-returns-2
 returns-2 c =
-    let a = c .before .before .before .before .args in
-    let l = c .before .before .if1 .left in
+    let c-2 = c .before .before in
+    let start = c-2 .before .before in
+    let a = start .args in
+    let l = c-2 .if1 .left in
     c .check .ensures ∙ sym (all-lent (a .lent .now) (a .named) (omega (arith, l)))
 
 pub load-spec : {M : Type 1} → statement M

@@ -5,7 +5,7 @@ use Prim.Native.Nat.{ℕ}
 use mathlib.Core.Path.{_≡_, sym, subst, _∙_}
 use Rattle.account.specs.Answers.{numberOf}
 use Rattle.account.specs.Checked.{checked}
-use Rattle.account.specs.Standing.{AloneBy, CheckedBy}
+use Rattle.account.specs.code.Standing.{AloneBy, CheckedBy}
 use Rattle.account.specs.declared.answers.Answer.{Answer}
 use Rattle.account.proofs.Alone.{checked-alone, refused-there, none-other}
 use Rattle.account.proofs.accounts.check_file.Statement.{statement}
@@ -27,10 +27,13 @@ number-of-requires c κs = search needs
 with : (c : tie.After-in-one-file) (a : Answer) → a ≡ checked (c .before .before .before .before .args .file .now)
     → CheckedBy (c .before .before .before .before .args .file .now) (record { answer = a; account = c .in-one-file .result })
 with c a e =
-    let file = c .before .before .before .before .args .file .now in
-    let s = c .before .before .take-survey in
+    let after-record-count = c .before in
+    let after-take-survey = after-record-count .before in
+    let start = after-take-survey .before .before in
+    let file = start .args .file .now in
+    let s = after-take-survey .take-survey in
     checked-alone file (s .result) (c .in-one-file .result) (s .ensures)
-    (subst (λ (k : ℕ). AloneBy (s .result) k (c .in-one-file .result)) (c .before .record-count .ensures) (c .in-one-file .ensures)) a e
+    (subst (λ (k : ℕ). AloneBy (s .result) k (c .in-one-file .result)) (after-record-count .record-count .ensures) (c .in-one-file .ensures)) a e
 
 returns : tie.Need-returns
 returns c =
@@ -47,18 +50,26 @@ any-other-row-requires : tie.Need-any-other-row-requires
 any-other-row-requires c κs = search needs
 
 rates-answer-requires : tie.Need-rates-answer-requires
-rates-answer-requires c κs = (c .before .before .before .before .before .before .take-survey .ensures, none (c .before .before))
+rates-answer-requires c κs =
+    let c-2 = c .before .before in
+    let after-take-survey = c-2 .before .before .before .before in
+    (after-take-survey .take-survey .ensures, none (c-2))
 
 returns-2 : tie.Need-returns-2
-returns-2 c = with (c .before .before .before .before .before) (c .rates-answer .result) (c .rates-answer .ensures)
+returns-2 c =
+    let c-5 = c .before .before .before .before .before in
+    with (c-5) (c .rates-answer .result) (c .rates-answer .ensures)
 
 returns-3 : tie.Need-returns-3
 returns-3 c =
-    let a = c .before .before .before .before in
+    let after-any-other-row = c .before in
+    let c-2 = after-any-other-row .before in
+    let c-4 = c-2 .before .before in
+    let a = c-4 in
     let s = a .before .before .take-survey in
     with a (s .result .answer)
-    (none-other (a .before .before .before .before .args .file .now) (s .result .answer) (s .ensures .answer) (none (c .before .before))
-    (sym (c .before .any-other-row .ensures) ∙ c .if2 .left))
+    (none-other (a .before .before .before .before .args .file .now) (s .result .answer) (s .ensures .answer) (none (c-2))
+    (sym (after-any-other-row .any-other-row .ensures) ∙ c .if2 .left))
 
 pub check-file-spec : {M : Type 1} → statement M
 check-file-spec =

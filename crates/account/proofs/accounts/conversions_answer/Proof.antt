@@ -7,20 +7,17 @@ use mathlib.Core.Path.{_≡_, sym, ap, ap₂, subst, subst⁻¹, _∙_}
 use mathlib.Core.List.{List}
 use lib.ListN.{length}
 use Rattle.record.specs.Layout.{Record}
-use Rattle.record.specs.Within.{RateWithin}
 use Rattle.account.specs.Accepted.{Each}
 use Rattle.account.specs.Answers.{numberOf}
 use Rattle.account.specs.Checked.{firstRateFault, ratesChecked}
 use Rattle.account.specs.Conversions.{Row}
-use Rattle.account.specs.Lawful.{Recorded}
 use Rattle.account.specs.Parts.{ratesOf}
-use Rattle.account.specs.Products.{RatesOf, HoldsRates}
+use Rattle.account.specs.code.Rates.{RatesOf}
 use Rattle.account.specs.Records.{records, recordCount}
-use Rattle.account.specs.Standing.{accountOf, PartOf}
-use Rattle.account.specs.declared.rates.Rates.{Rates}
+use Rattle.account.specs.Joined.{accountOf}
 use Rattle.account.proofs.JoinedLaws.{partsOf}
-use Rattle.account.proofs.RateLaws.{rowsOnFrom, turn-start, turn-next, turn-stop, turn-end, rowsBefore, before-next, before-few}
-use Rattle.account.proofs.RateLaws.{before-counted, rows-known}
+use Rattle.account.proofs.RateLaws.{rowsOnFrom, turn-start, turn-next, turn-stop, turn-end, rowsBefore, before-next, before-few, before-counted}
+use Rattle.account.proofs.RateLaws.{rows-known}
 use Rattle.account.proofs.Standing.{row-part, rate-part}
 use Rattle.account.proofs.Walk.{length-cut}
 use Rattle.account.proofs.accounts.conversions_answer.Statement.{statement}
@@ -41,11 +38,14 @@ rates-of-requires : tie.Need-rates-of-requires Inv-loop μ-loop
 rates-of-requires c κs = tt
 
 before-rows-requires : tie.Need-before-rows-requires Inv-loop μ-loop
-before-rows-requires c κs = c .before .before .before .before .pre .0 .sizes
+before-rows-requires c κs =
+    let start = c .before .before .before .before in
+    start .pre .0 .sizes
 
 loop-holds : tie.Need-loop-holds Inv-loop μ-loop
 loop-holds c =
-    let s = c .before .before .before .before .before in
+    let c-5 = c .before .before .before .before .before in
+    let s = c-5 in
     let m = records (s .args .morning .now) in
     let n = records (s .args .noon .now) in
     let k = c .before-rows .ensures ∙ before-counted m n (s .args .account .counts) (s .pre .0 .sizes) (s .pre .0 .counts) in
@@ -56,25 +56,33 @@ held : (c : tie.After-rates-of Inv-loop μ-loop)
     → RatesOf (ratesOf (accountOf (c .before .before .before .before .args .morning .now) (c .before .before .before .before .args .noon .now)))
     (c .rates-of .result)
 held c =
-    let s = c .before .before .before .before in
+    let after-placed-part = c .before in
+    let c-4 = after-placed-part .before .before .before in
+    let s = c-4 in
     let a = accountOf (s .args .morning .now) (s .args .noon .now) in
-    subst (λ (rs : List Record). RatesOf rs (c .rates-of .result)) (c .before .placed-part .ensures .are ∙ rate-part a) (c .rates-of .ensures)
+    subst (λ (rs : List Record). RatesOf rs (c .rates-of .result)) (after-placed-part .placed-part .ensures .are ∙ rate-part a) (c .rates-of .ensures)
 
 add-placed-part : tie.Need-add-placed-part Inv-loop μ-loop
 add-placed-part c = search needs
 
 placed-part-requires-2 : tie.Need-placed-part-requires-2 Inv-loop μ-loop
-placed-part-requires-2 c κs = c .before .before .before .before .before .before .before .pre .0
+placed-part-requires-2 c κs =
+    let start = c .before .before .before .before .before .before .before in
+    start .pre .0
 
 rows-answer-requires : tie.Need-rows-answer-requires Inv-loop μ-loop
 rows-answer-requires c κs =
-    let s = c .before .before .before .before .before .before .before .before in
+    let after-loop-test = c .before in
+    let after-loop = after-loop-test .before in
+    let c-4 = after-loop .before .before in
+    let c-8 = c-4 .before .before .before .before in
+    let s = c-8 in
     let a = accountOf (s .args .morning .now) (s .args .noon .now) in
-    let l = c .before .before .loop in
-    let h = c .before .loop-test .taken in (
+    let l = after-loop .loop in
+    let h = after-loop-test .loop-test .taken in (
       subst⁻¹ (Each Row) (c .placed-part2 .ensures .are ∙ row-part (l .c) (omega arith) a) (rows-known a (s .pre .1) (l .c) (omega arith)),
       (
-        record { rates = ratesOf a; held = held (c .before .before .before .before); within = s .pre .1 .ranges .rates },
+        record { rates = ratesOf a; held = held (c-4); within = s .pre .1 .ranges .rates },
         omega (arith, l .inv .1 .0, before-few (records (s .args .morning .now)) (records (s .args .noon .now)) (l .c) (l .inv .1 .1), s .pre .1 .limits .all),
       ),
     )
@@ -91,21 +99,32 @@ answered : (c : tie.After-rows-answer Inv-loop μ-loop)
     (partsOf (accountOf (c .before .before .before .before .before .before .before .before .before .args .morning .now)
     (c .before .before .before .before .before .before .before .before .before .args .noon .now)) (48 + c .before .before .before .loop .c))
 answered c =
-    let s = c .before .before .before .before .before .before .before .before .before in
+    let after-placed-part2 = c .before in
+    let after-loop-test = after-placed-part2 .before in
+    let after-loop = after-loop-test .before in
+    let c-5 = after-loop .before .before in
+    let c-9 = c-5 .before .before .before .before in
+    let s = c-9 in
     let a = accountOf (s .args .morning .now) (s .args .noon .now) in
-    let l = c .before .before .before .loop in
-    c .rows-answer .ensures (ratesOf a) (held (c .before .before .before .before .before)) (s .pre .1 .ranges .rates)
-    ∙ ap (firstRateFault (l .k) (ratesOf a)) (c .before .placed-part2 .ensures .are ∙ row-part (l .c) (omega (arith, c .before .before .loop-test .taken)) a)
+    let l = after-loop .loop in
+    c .rows-answer .ensures (ratesOf a) (held (c-5)) (s .pre .1 .ranges .rates)
+    ∙ ap (firstRateFault (l .k) (ratesOf a)) (after-placed-part2 .placed-part2 .ensures .are
+    ∙ row-part (l .c) (omega (arith, after-loop-test .loop-test .taken)) a)
 
 returns : tie.Need-returns Inv-loop μ-loop
 returns c =
-    let s = c .before .before .before .before .before .before .before .before .before .before .before in
-    let l = c .before .before .before .before .before .loop in
-    let a = answered (c .before .before) in
+    let after-number-of = c .before in
+    let c-2 = after-number-of .before in
+    let after-loop-test = c-2 .before .before in
+    let after-loop = after-loop-test .before in
+    let c-11 = after-loop .before .before .before .before .before .before in
+    let s = c-11 in
+    let l = after-loop .loop in
+    let a = answered (c-2) in
     a
     ∙ sym (l .inv .0
-    ∙ turn-stop (records (s .args .morning .now)) (records (s .args .noon .now)) (l .k) (l .c) (c .before .before .before .before .loop-test .taken)
-    (λ z. c .if1 .taken (c .before .number-of .ensures ∙ ap numberOf a ∙ z)))
+    ∙ turn-stop (records (s .args .morning .now)) (records (s .args .noon .now)) (l .k) (l .c) (after-loop-test .loop-test .taken)
+    (λ z. c .if1 .taken (after-number-of .number-of .ensures ∙ ap numberOf a ∙ z)))
 
 record-count-requires : tie.Need-record-count-requires Inv-loop μ-loop
 record-count-requires c κs = tt
@@ -117,12 +136,16 @@ counted : (c : tie.After-record-count Inv-loop μ-loop)
     (c .before .before .before .before .before .before .before .before .before .before .before .before .args .noon .now))
     (48 + c .before .before .before .before .before .before .loop .c))
 counted c =
-    let s = c .before .before .before .before .before .before .before .before .before .before .before .before in
+    let after-placed-part2 = c .before .before .before .before in
+    let after-loop-test = after-placed-part2 .before in
+    let after-loop = after-loop-test .before in
+    let c-12 = after-loop .before .before .before .before .before .before in
+    let s = c-12 in
     let a = accountOf (s .args .morning .now) (s .args .noon .now) in
-    let l = c .before .before .before .before .before .before .loop in
-    let rows = c .before .before .before .before .placed-part2 in
+    let l = after-loop .loop in
+    let rows = after-placed-part2 .placed-part2 in
     c .record-count .ensures ∙ sym (length-cut (recordCount (rows .result .now)) (rows .result .now))
-    ∙ ap length (rows .ensures .are ∙ row-part (l .c) (omega (arith, c .before .before .before .before .before .loop-test .taken)) a)
+    ∙ ap length (rows .ensures .are ∙ row-part (l .c) (omega (arith, after-loop-test .loop-test .taken)) a)
 
 next : (c : tie.After-record-count Inv-loop μ-loop)
     → c .before .before .before .before .before .before .loop .k + c .record-count .result
@@ -130,19 +153,24 @@ next : (c : tie.After-record-count Inv-loop μ-loop)
     (records (c .before .before .before .before .before .before .before .before .before .before .before .before .args .noon .now))
     (c .before .before .before .before .before .before .loop .c + 1)
 next c =
-    let s = c .before .before .before .before .before .before .before .before .before .before .before .before in
-    let l = c .before .before .before .before .before .before .loop in
+    let after-loop = c .before .before .before .before .before .before in
+    let c-12 = after-loop .before .before .before .before .before .before in
+    let s = c-12 in
+    let l = after-loop .loop in
     ap₂ _+_ (l .inv .1 .0) (counted c) ∙ sym (before-next (records (s .args .morning .now)) (records (s .args .noon .now)) (l .c))
 
 add-k : tie.Need-add-k Inv-loop μ-loop
 add-k c =
-    let s = c .before .before .before .before .before .before .before .before .before .before .before .before in
-    let l = c .before .before .before .before .before .before .loop in
+    let after-loop-test = c .before .before .before .before .before in
+    let after-loop = after-loop-test .before in
+    let c-12 = after-loop .before .before .before .before .before .before in
+    let s = c-12 in
+    let l = after-loop .loop in
     omega (
       arith,
       next c,
       before-few (records (s .args .morning .now)) (records (s .args .noon .now)) (l .c + 1)
-          (omega (arith, c .before .before .before .before .before .loop-test .taken)),
+          (omega (arith, after-loop-test .loop-test .taken)),
       s .pre .1 .limits .all,
     )
 
@@ -150,26 +178,36 @@ add-c : tie.Need-add-c Inv-loop μ-loop
 add-c c = search needs
 
 loop-less : tie.Need-loop-less Inv-loop μ-loop
-loop-less c = omega (arith, c .before .before .before .before .before .loop-test .taken)
+loop-less c =
+    let after-loop-test = c .before .before .before .before .before in
+    omega (arith, after-loop-test .loop-test .taken)
 
 loop-again : tie.Need-loop-again Inv-loop μ-loop
 loop-again c =
-    let s = c .before .before .before .before .before .before .before .before .before .before .before .before in
-    let l = c .before .before .before .before .before .before .loop in
+    let c-1 = c .before in
+    let after-number-of = c-1 .before in
+    let c-3 = after-number-of .before in
+    let after-loop-test = c-3 .before .before in
+    let after-loop = after-loop-test .before in
+    let c-12 = after-loop .before .before .before .before .before .before in
+    let s = c-12 in
+    let l = after-loop .loop in
     let m = records (s .args .morning .now) in
     let n = records (s .args .noon .now) in
-    let h = c .before .before .before .before .before .loop-test .taken in
-    let a = answered (c .before .before .before) in (
+    let h = after-loop-test .loop-test .taken in
+    let a = answered (c-3) in (
       l .inv .0
-          ∙ turn-next m n (l .k) (l .c) h (sym (c .before .before .number-of .ensures ∙ ap numberOf a) ∙ omega (arith, c .before .if1 .left))
+          ∙ turn-next m n (l .k) (l .c) h (sym (after-number-of .number-of .ensures ∙ ap numberOf a) ∙ omega (arith, c-1 .if1 .left))
           ∙ ap (λ (x : ℕ). rowsOnFrom m n (l .k + x) (l .c + 1)) (sym (counted c)),
       (next c, omega (arith, h)),
     )
 
 returns-2 : tie.Need-returns-2 Inv-loop μ-loop
 returns-2 c =
-    let s = c .before .before .before .before .before .before .before in
-    let l = c .before .loop in
+    let after-loop = c .before in
+    let c-7 = after-loop .before .before .before .before .before .before in
+    let s = c-7 in
+    let l = after-loop .loop in
     let m = records (s .args .morning .now) in
     let n = records (s .args .noon .now) in
     let e : l .c ≡ 16 = omega (arith, c .loop-test .left, l .inv .1 .1) in

@@ -8,7 +8,7 @@ use Rattle.account.specs.Answers.{numberOf}
 use Rattle.account.specs.Checked.{ratesChecked}
 use Rattle.account.specs.Parts.{ratesOf}
 use Rattle.account.specs.Records.{records}
-use Rattle.account.specs.Standing.{accountOf}
+use Rattle.account.specs.Joined.{accountOf}
 use Rattle.account.proofs.JoinedLaws.{partsOf}
 use Rattle.account.proofs.RateLaws.{no-other, rowsOnFrom, turn-start, turn-next, turn-end, rowsBefore, before-next}
 use Rattle.account.proofs.accounts.conversions_checked.Statement.{statement}
@@ -25,14 +25,17 @@ abbrev μ-loop : tie.MeasureT-loop
 
 loop-holds : tie.Need-loop-holds Inv-loop μ-loop
 loop-holds c =
-    let s = c .before .before .before .args in
+    let start = c .before .before .before in
+    let s = start .args in
     (turn-start (records (s .morning .now)) (records (s .noon .now)), omega arith)
 
 add-converts : tie.Need-add-converts Inv-loop μ-loop
 add-converts c = search needs
 
 slice-aggregate-noted : tie.Need-slice-aggregate-noted Inv-loop μ-loop
-slice-aggregate-noted c = sym (c .before .before .before .before .before .before .pre .0 .sizes)
+slice-aggregate-noted c =
+    let start = c .before .before .before .before .before .before in
+    sym (start .pre .0 .sizes)
 
 add-noted : tie.Need-add-noted Inv-loop μ-loop
 add-noted c = search needs
@@ -42,10 +45,14 @@ noted-requires c κs = search needs
 
 converts-requires : tie.Need-converts-requires Inv-loop μ-loop
 converts-requires c κs =
-    (c .before .before .before .before .before .before .before .pre .0, (c .noted .ensures, omega (arith, c .before .before .loop-test .taken)))
+    let after-loop-test = c .before .before in
+    let start = after-loop-test .before .before .before .before .before in
+    (start .pre .0, (c .noted .ensures, omega (arith, after-loop-test .loop-test .taken)))
 
 conversions-answer-requires : tie.Need-conversions-answer-requires Inv-loop μ-loop
-conversions-answer-requires c κs = c .before .before .before .before .before .before .before .before .before .pre
+conversions-answer-requires c κs =
+    let start = c .before .before .before .before .before .before .before .before .before in
+    start .pre
 
 returns : tie.Need-returns Inv-loop μ-loop
 returns c = c .conversions-answer .ensures
@@ -54,28 +61,36 @@ add-c : tie.Need-add-c Inv-loop μ-loop
 add-c c = search needs
 
 loop-less : tie.Need-loop-less Inv-loop μ-loop
-loop-less c = omega (arith, c .before .before .before .before .loop-test .taken)
+loop-less c =
+    let after-loop-test = c .before .before .before .before in
+    omega (arith, after-loop-test .loop-test .taken)
 
 loop-again : tie.Need-loop-again Inv-loop μ-loop
 loop-again c =
-    let s = c .before .before .before .before .before .before .before .before .before .args in
-    let l = c .before .before .before .before .before .loop in
-    let h = c .before .before .before .before .loop-test .taken in
+    let after-converts = c .before in
+    let after-loop-test = after-converts .before .before .before in
+    let after-loop = after-loop-test .before in
+    let start = after-loop .before .before .before .before in
+    let s = start .args in
+    let l = after-loop .loop in
+    let h = after-loop-test .loop-test .taken in
     let m = records (s .morning .now) in
     let n = records (s .noon .now) in
     let a = accountOf (s .morning .now) (s .noon .now) in (
       l .inv .0
           ∙ turn-next m n (rowsBefore m n (l .c)) (l .c) h
           (ap numberOf
-          (no-other (ratesOf a) (rowsBefore m n (l .c)) (partsOf a (48 + l .c)) (sym (c .before .converts .ensures) ∙ c .if1 .left)))
+          (no-other (ratesOf a) (rowsBefore m n (l .c)) (partsOf a (48 + l .c)) (sym (after-converts .converts .ensures) ∙ c .if1 .left)))
           ∙ ap (λ (k : ℕ). rowsOnFrom m n k (l .c + 1)) (sym (before-next m n (l .c))),
       omega (arith, h),
     )
 
 returns-2 : tie.Need-returns-2 Inv-loop μ-loop
 returns-2 c =
-    let s = c .before .before .before .before .before .args in
-    let l = c .before .loop in
+    let after-loop = c .before in
+    let start = after-loop .before .before .before .before in
+    let s = start .args in
+    let l = after-loop .loop in
     let m = records (s .morning .now) in
     let n = records (s .noon .now) in
     let e : l .c ≡ 16 = omega (arith, c .loop-test .left, l .inv .1) in

@@ -2,13 +2,11 @@
 -- Assumes nothing.
 use borrow.Author.Needs.{needs}
 use native.Mathlib.Omega.{arith}
-use mathlib.Core.Path.{_≡_, sym, ap, _∙_}
-use mathlib.Core.List.{List}
+use mathlib.Core.Path.{sym, ap, _∙_}
 use Rattle.exact.specs.Lists.{any}
-use Rattle.record.specs.Layout.{Record}
 use Rattle.account.specs.Conversions.{inAnother}
-use Rattle.account.specs.Notes.{inPart}
-use Rattle.account.specs.Standing.{accountOf}
+use Rattle.account.specs.PartNumbers.{inPart}
+use Rattle.account.specs.Joined.{accountOf}
 use Rattle.account.proofs.Days.{none-kept}
 use Rattle.account.proofs.Standing.{within}
 use Rattle.account.proofs.accounts.converts.Statement.{statement}
@@ -16,24 +14,29 @@ use Rattle.account.proofs.accounts.converts.Tie as tie
 
 returns : tie.Need-returns
 returns c =
-    let s = c .before .before .before in
+    let c-3 = c .before .before .before in
+    let s = c-3 in
     sym
     (ap (any inAnother)
     (none-kept (inPart (s .args .v)) (accountOf (s .args .morning .now) (s .args .noon .now))
     (sym (s .pre .1 .0 ∙ s .pre .0 .counts (s .args .v) (s .pre .1 .1)) ∙ c .if1 .taken)))
 
 placed-part-requires : tie.Need-placed-part-requires
-placed-part-requires c κs = c .before .before .before .pre .0
+placed-part-requires c κs =
+    let start = c .before .before .before in
+    start .pre .0
 
 any-in-another-requires : tie.Need-any-in-another-requires
 any-in-another-requires c κs = search needs
 
 returns-2 : tie.Need-returns-2
 returns-2 c =
-    let s = c .before .before .before .before .before in
+    let after-placed-part = c .before in
+    let c-5 = after-placed-part .before .before .before .before in
+    let s = c-5 in
     c .any-in-another .ensures
     ∙ ap (any inAnother)
-    (c .before .placed-part .ensures .are ∙ within (s .args .v) (omega (arith, s .pre .1 .1)) (accountOf (s .args .morning .now) (s .args .noon .now)))
+    (after-placed-part .placed-part .ensures .are ∙ within (s .args .v) (omega (arith, s .pre .1 .1)) (accountOf (s .args .morning .now) (s .args .noon .now)))
 
 pub converts-spec : {M : Type 1} → statement M
 converts-spec = tie.close (tie.spec returns placed-part-requires any-in-another-requires returns-2)

@@ -6,7 +6,7 @@ use Prim.Native.Nat.{ℕ, _-_, _≤_, _<_}
 use native.Mathlib.Nat.{not-suc-le-zero}
 use native.Mathlib.Omega.{arith}
 use lib.ListN.{length, getD, length-set}
-use Rattle.account.specs.Standing.{eitherNote}
+use Rattle.account.specs.code.Standing.{eitherNote}
 use Rattle.account.proofs.Filled.{filled-next}
 use Rattle.account.proofs.accounts.either_notes.Statement.{statement}
 use Rattle.account.proofs.accounts.either_notes.Tie as tie
@@ -38,9 +38,12 @@ loop-less c = omega (arith, c .before .loop-test .taken, c .before .before .loop
 
 loop-again : tie.Need-loop-again Inv-loop μ-loop
 loop-again c =
-    let s = c .before .before .before .before .before .before .before in
-    let l = c .before .before .loop in
-    let h = c .before .loop-test .taken in (
+    let after-loop-test = c .before in
+    let after-loop = after-loop-test .before in
+    let c-7 = after-loop .before .before .before .before .before in
+    let s = c-7 in
+    let l = after-loop .loop in
+    let h = after-loop-test .loop-test .taken in (
       length-set (l .notes) (l .v) (c .either-note .result) ∙ l .inv .0,
       (
         omega (arith, h, l .inv .0),

@@ -7,7 +7,7 @@ use Prim.Native.Nat.{ℕ, _-_, _≤_, _<_}
 use native.Mathlib.Nat.{not-suc-le-zero}
 use native.Mathlib.Omega.{arith}
 use lib.ListN.{length, getD, length-set}
-use Rattle.account.specs.Standing.{lists}
+use Rattle.account.specs.code.Standing.{lists}
 use Rattle.account.proofs.Filled.{filled-next}
 use Rattle.account.proofs.accounts.flags.Statement.{statement}
 use Rattle.account.proofs.accounts.flags.Tie as tie
@@ -35,12 +35,15 @@ loop-less c = omega (arith, c .before .loop-test .taken)
 
 loop-again : tie.Need-loop-again Inv-loop μ-loop
 loop-again c =
-    let l = c .before .before .loop in
-    let h = c .before .loop-test .taken in (
+    let after-loop-test = c .before in
+    let after-loop = after-loop-test .before in
+    let start = after-loop .before .before in
+    let l = after-loop .loop in
+    let h = after-loop-test .loop-test .taken in (
       length-set (l .listed) (l .c) (c .lists .result) ∙ l .inv .0,
       (
         omega (arith, h),
-        filled-next false (lists (c .before .before .before .before .args .counts .now)) (l .listed) (l .c) (c .lists .result)
+        filled-next false (lists (start .args .counts .now)) (l .listed) (l .c) (c .lists .result)
             (omega (arith, h, l .inv .0)) (c .lists .ensures) (l .inv .1 .1),
       ),
     )

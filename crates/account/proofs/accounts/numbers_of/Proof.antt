@@ -7,7 +7,7 @@ use native.Mathlib.Omega.{arith}
 use lib.ListN.{length, take, drop, replicate}
 use Rattle.exact.specs.Lists.{keep, oneIf}
 use Rattle.record.specs.Bytes.{countFrom}
-use Rattle.account.specs.Standing.{lists}
+use Rattle.account.specs.code.Standing.{lists}
 use Rattle.account.proofs.Filled.{numbers-next, left-after}
 use Rattle.account.proofs.accounts.numbers_of.Statement.{statement}
 use Rattle.account.proofs.accounts.numbers_of.Tie as tie
@@ -30,44 +30,62 @@ lists-requires : tie.Need-lists-requires Inv-loop μ-loop
 lists-requires c κs = c .loop-test .taken
 
 slice-aggregate-put-number : tie.Need-slice-aggregate-put-number Inv-loop μ-loop
-slice-aggregate-put-number c = sym (c .before .before .before .loop .inv .0)
+slice-aggregate-put-number c =
+    let after-loop = c .before .before .before in
+    sym (after-loop .loop .inv .0)
 
 put-number-requires : tie.Need-put-number-requires Inv-loop μ-loop
-put-number-requires c κs = (
-  omega (arith, c .before .before .before .loop .inv .0, c .before .before .before .loop .inv .1 .0, c .before .before .loop-test .taken),
-  c .before .before .loop-test .taken,
-)
+put-number-requires c κs =
+    let after-loop-test = c .before .before in
+    let after-loop = after-loop-test .before in (
+      omega (arith, after-loop .loop .inv .0, after-loop .loop .inv .1 .0, after-loop-test .loop-test .taken),
+      after-loop-test .loop-test .taken,
+    )
 
 one-if-requires : tie.Need-one-if-requires Inv-loop μ-loop
 one-if-requires c κs = tt
 
 add-count : tie.Need-add-count Inv-loop μ-loop
-add-count c = omega (
-  arith,
-  c .one-if .ensures,
-  at-most
-      (c .before .before .before .before .lists .result),
-  c .before .before .before .before .before .before .loop .inv .1 .0,
-  c .before .before .before .before .before .loop-test .taken,
-)
+add-count c =
+    let after-lists = c .before .before .before .before in
+    let after-loop-test = after-lists .before in
+    let after-loop = after-loop-test .before in
+    omega (
+      arith,
+      c .one-if .ensures,
+      at-most
+          (after-lists .lists .result),
+      after-loop .loop .inv .1 .0,
+      after-loop-test .loop-test .taken,
+    )
 
 add-c : tie.Need-add-c Inv-loop μ-loop
-add-c c = omega (arith, c .before .before .before .before .before .loop-test .taken)
+add-c c =
+    let after-loop-test = c .before .before .before .before .before in
+    omega (arith, after-loop-test .loop-test .taken)
 
 loop-less : tie.Need-loop-less Inv-loop μ-loop
-loop-less c = omega (arith, c .before .before .before .before .before .loop-test .taken)
+loop-less c =
+    let after-loop-test = c .before .before .before .before .before in
+    omega (arith, after-loop-test .loop-test .taken)
 
 loop-again : tie.Need-loop-again Inv-loop μ-loop
 loop-again c =
-    let l = c .before .before .before .before .before .before .loop in
-    let h = c .before .before .before .before .before .loop-test .taken in
-    let b = c .before .before .before .before .lists in
-    let u = c .before .before .put-number in
+    let after-number2 = c .before in
+    let after-put-number = after-number2 .before in
+    let after-lists = after-put-number .before .before in
+    let after-loop-test = after-lists .before in
+    let after-loop = after-loop-test .before in
+    let start = after-loop .before .before in
+    let l = after-loop .loop in
+    let h = after-loop-test .loop-test .taken in
+    let b = after-lists .lists in
+    let u = after-put-number .put-number in
     let o = c .one-if .ensures in
     let m = at-most (b .result) in
     let n : l .count < length (l .number) = omega (arith, h, l .inv .0, l .inv .1 .0) in
-    let p = lists (c .before .before .before .before .before .before .before .before .args .counts .now) in (
-      c .before .number2 .given,
+    let p = lists (start .args .counts .now) in (
+      after-number2 .number2 .given,
       (
         omega (arith, o, m, l .inv .1 .0),
         (
@@ -85,12 +103,14 @@ loop-again c =
 
 returns : tie.Need-returns Inv-loop μ-loop
 returns c =
-    let l = c .before .loop in
+    let after-loop = c .before in
+    let start = after-loop .before .before in
+    let l = after-loop .loop in
     let e : l .c ≡ 16 = omega (arith, c .loop-test .left, l .inv .1 .1 .0) in
     record {
       long = l .inv .0;
       few = omega (arith, l .inv .1 .0, l .inv .1 .1 .0);
-      those = l .inv .1 .1 .1 .0 ∙ ap (λ (n : ℕ). keep (lists (c .before .before .before .args .counts .now)) (countFrom 0 n)) e;
+      those = l .inv .1 .1 .1 .0 ∙ ap (λ (n : ℕ). keep (lists (start .args .counts .now)) (countFrom 0 n)) e;
       rest = l .inv .1 .1 .1 .1;
     }
 

@@ -5,7 +5,7 @@ use native.Mathlib.Omega.{arith}
 use lib.ListN.{getD}
 use borrow.Author.Needs.{needs}
 use Rattle.account.specs.Records.{stretch}
-use Rattle.account.specs.Standing.{accountOf}
+use Rattle.account.specs.Joined.{accountOf}
 use Rattle.account.proofs.Standing.{part-past, part-stands}
 use Rattle.account.proofs.accounts.placed_part.Statement.{statement}
 use Rattle.account.proofs.accounts.placed_part.Tie as tie
@@ -15,8 +15,10 @@ slice-aggregate-result c = search needs
 
 returns : tie.Need-returns
 returns c =
-    let s = c .before .before .before .before .args in
-    part-past (accountOf (s .morning .now) (s .noon .now)) (s .v) (c .before .if1 .taken)
+    let c-1 = c .before in
+    let start = c-1 .before .before .before in
+    let s = start .args in
+    part-past (accountOf (s .morning .now) (s .noon .now)) (s .v) (c-1 .if1 .taken)
 
 element-copy-out-late : tie.Need-element-copy-out-late
 element-copy-out-late c = search needs
@@ -47,12 +49,15 @@ stretch-requires c κs = search needs
 
 returns-2 : tie.Need-returns-2
 returns-2 c =
-    let s = c .before .before .before .before .before .before .before .before in
+    let after-supplier = c .before .before .before in
+    let c-5 = after-supplier .before .before in
+    let c-8 = c-5 .before .before .before in
+    let s = c-8 in
     part-stands (s .args .morning .now) (s .args .noon .now) (s .args .t3) (s .pre) (s .args .v)
-    (omega (arith, c .before .before .before .before .before .if1 .left))
+    (omega (arith, c-5 .if1 .left))
     _ refl (c .stretch .result .now)
     (c .stretch .ensures ∙ ap (λ f. stretch f (getD (s .args .t3 .first) (s .args .v) 0) (getD (s .args .t3 .counts) (s .args .v) 0))
-    (c .before .before .before .supplier .ensures))
+    (after-supplier .supplier .ensures))
 
 pub placed-part-spec : {M : Type 1} → statement M
 placed-part-spec =

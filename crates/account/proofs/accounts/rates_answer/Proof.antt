@@ -4,7 +4,7 @@ use borrow.Author.Needs.{needs}
 use Prim.Native.Nat.{ℕ}
 use mathlib.Core.Path.{refl, subst, _∙_}
 use Rattle.account.specs.Records.{recordCount}
-use Rattle.account.specs.Standing.{AloneBy}
+use Rattle.account.specs.code.Standing.{AloneBy}
 use Rattle.account.proofs.Alone.{rated-alone, rates-alone}
 use Rattle.account.proofs.accounts.rates_answer.Statement.{statement}
 use Rattle.account.proofs.accounts.rates_answer.Tie as tie
@@ -20,7 +20,10 @@ slice-aggregate-conversions-answer c = search needs
 
 by : (c : tie.After-in-one-file)
     → AloneBy (c .before .before .before .args .survey) (recordCount (c .before .before .before .args .file .now)) (c .in-one-file .result)
-by c = subst (λ (k : ℕ). AloneBy (c .before .before .before .args .survey) k (c .in-one-file .result)) (c .before .record-count .ensures)
+by c =
+    let after-record-count = c .before in
+    let start = after-record-count .before .before in
+    subst (λ (k : ℕ). AloneBy (start .args .survey) k (c .in-one-file .result)) (after-record-count .record-count .ensures)
     (c .in-one-file .ensures)
 
 conversions-answer-requires : tie.Need-conversions-answer-requires

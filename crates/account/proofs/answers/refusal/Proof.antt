@@ -32,16 +32,25 @@ returns-9 c = rw (c .if9 .taken)
 
 returns-10 : tie.Need-returns-10
 returns-10 c =
-    let n = c .before .before .before .before .before .before .before .before .before .args .number in
+    let after-if8 = c .before in
+    let after-if7 = after-if8 .before in
+    let after-if6 = after-if7 .before in
+    let after-if5 = after-if6 .before in
+    let after-if4 = after-if5 .before in
+    let after-if3 = after-if4 .before in
+    let c-7 = after-if3 .before in
+    let c-8 = c-7 .before in
+    let start = c-8 .before in
+    let n = start .args .number in
     rw (
-      ne-eqb n 3 (c .before .before .before .before .before .before .before .before .if1 .left),
-      ne-eqb n 4 (c .before .before .before .before .before .before .before .if2 .left),
-      ne-eqb n 5 (c .before .before .before .before .before .before .if3 .left),
-      ne-eqb n 6 (c .before .before .before .before .before .if4 .left),
-      ne-eqb n 7 (c .before .before .before .before .if5 .left),
-      ne-eqb n 8 (c .before .before .before .if6 .left),
-      ne-eqb n 9 (c .before .before .if7 .left),
-      ne-eqb n 14 (c .before .if8 .left),
+      ne-eqb n 3 (c-8 .if1 .left),
+      ne-eqb n 4 (c-7 .if2 .left),
+      ne-eqb n 5 (after-if3 .if3 .left),
+      ne-eqb n 6 (after-if4 .if4 .left),
+      ne-eqb n 7 (after-if5 .if5 .left),
+      ne-eqb n 8 (after-if6 .if6 .left),
+      ne-eqb n 9 (after-if7 .if7 .left),
+      ne-eqb n 14 (after-if8 .if8 .left),
       ne-eqb n 15 (c .if9 .left),
     )
 

@@ -8,14 +8,18 @@ use Rattle.account.proofs.check.go_on.Tie as tie
 
 passes-from-requires : tie.Need-passes-from-requires
 passes-from-requires c κs =
-    let pre = c .before .before .before .before .before .pre in
+    let start = c .before .before .before .before .before in
+    let pre = start .pre in
     (pre .inside, pre .sizes)
 
 note-to-requires : tie.Need-note-to-requires
 note-to-requires c κs =
-    let runs = c .before .before .before .passes-from .ensures in
-    let some = c .before .before .if1 .taken in
-    (c .before .before .before .before .before .before .before .before .before .pre, (runs .fine some, (some, runs .high)))
+    let c-2 = c .before .before in
+    let after-passes-from = c-2 .before in
+    let start = after-passes-from .before .before .before .before .before .before in
+    let runs = after-passes-from .passes-from .ensures in
+    let some = c-2 .if1 .taken in
+    (start .pre, (runs .fine some, (some, runs .high)))
 
 same-length : tie.Need-same-length
 same-length c = search needs
@@ -24,8 +28,12 @@ same-length-2 : tie.Need-same-length-2
 same-length-2 c = search needs
 
 returns : tie.Need-returns
-returns c = step-runs (c .before .before .before .before .before .before .before .before .passes-from .ensures)
-    (c .before .before .before .before .before .before .before .if1 .taken) (c .before .before .before .before .note-to .ensures)
+returns c =
+    let after-note-to = c .before .before .before .before in
+    let c-7 = after-note-to .before .before .before in
+    let after-passes-from = c-7 .before in
+    step-runs (after-passes-from .passes-from .ensures)
+    (c-7 .if1 .taken) (after-note-to .note-to .ensures)
 
 fault-at-requires : tie.Need-fault-at-requires
 fault-at-requires c κs = search needs
@@ -44,8 +52,11 @@ add-note-to c = search needs
 
 note-to-requires-2 : tie.Need-note-to-requires-2
 note-to-requires-2 c κs =
-    let pre = c .before .before .before .before .before .before .before .before .before .before .before .before .before .pre in
-    (pre, (sym (c .before .before .before .fault-at .ensures) ∙ c .before .before .if2 .left, (omega arith, omega (arith, pre .inside))))
+    let c-2 = c .before .before in
+    let after-fault-at = c-2 .before in
+    let start = after-fault-at .before .before .before .before .before .before .before .before .before .before in
+    let pre = start .pre in
+    (pre, (sym (after-fault-at .fault-at .ensures) ∙ c-2 .if2 .left, (omega arith, omega (arith, pre .inside))))
 
 add-t26 : tie.Need-add-t26
 add-t26 c = search needs
@@ -64,11 +75,16 @@ same-length-6 c = search needs
 
 returns-3 : tie.Need-returns-3
 returns-3 c =
-    step-alone (c .before .before .before .before .before .before .before .before .before .before .fault-at .ensures)
-    (c .before .before .before .before .before .before .before .before .before .if2 .left)
-    (c .before .before .before .before .before .before .before .before .before .before .before .before .before .before .before .before .before
-    .before .before .before .pre .inside) (c .before .before .before .before .before .before .note-to2 .ensures)
-    (c .one-if-contract .ensures) (c .before .whole-at .ensures)
+    let after-whole-at = c .before in
+    let after-note-to2 = after-whole-at .before .before .before .before .before in
+    let c-9 = after-note-to2 .before .before .before in
+    let after-fault-at = c-9 .before in
+    let c-17 = after-fault-at .before .before .before .before .before .before .before in
+    step-alone (after-fault-at .fault-at .ensures)
+    (c-9 .if2 .left)
+    (c-17
+    .before .before .before .pre .inside) (after-note-to2 .note-to2 .ensures)
+    (c .one-if-contract .ensures) (after-whole-at .whole-at .ensures)
 
 pub go-on-spec : {M : Type 1} → statement M
 go-on-spec =

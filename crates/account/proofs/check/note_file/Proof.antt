@@ -19,9 +19,12 @@ number-of-requires c κs = search needs
 
 returns : tie.Need-returns
 returns c =
-    let file = c .before .before .before .before .args .file .now in
-    let e = c .before .before .length-answer .ensures in
-    let some : (numberOf (c .before .before .length-answer .result) ≡ 0 → ⊥) = λ z. c .if1 .taken (c .before .number-of .ensures ∙ z) in
+    let after-number-of = c .before in
+    let after-length-answer = after-number-of .before in
+    let start = after-length-answer .before .before in
+    let file = start .args .file .now in
+    let e = after-length-answer .length-answer .ensures in
+    let some : (numberOf (after-length-answer .length-answer .result) ≡ 0 → ⊥) = λ z. c .if1 .taken (after-number-of .number-of .ensures ∙ z) in
     record { answer-is = e ∙ length-refused file (λ z. some (ap numberOf e ∙ z)); accepted = λ z. absurd (some z) }
 
 -- the length is accepted
@@ -30,20 +33,26 @@ whole c = accepted-only (c .before .before .length-answer .result) (sym (c .befo
 
 note-records-requires : tie.Need-note-records-requires
 note-records-requires c κs =
-    let l = c .before .before .before .before in
+    let c-2 = c .before .before in
+    let c-4 = c-2 .before .before in
+    let l = c-4 in
     let s = l .before .before in
-    (sym (l .length-answer .ensures) ∙ whole (c .before .before), s .pre)
+    (sym (l .length-answer .ensures) ∙ whole (c-2), s .pre)
 
 returns-2 : tie.Need-returns-2
 returns-2 c =
-    let n = c .before .before .note-records in
-    tallied-as (whole (c .before .before .before .before .before) ∙ ap (λ (x : ℕ). refusal x (n .result .next)) (sym (c .if2 .taken))) (n .ensures)
+    let after-note-records = c .before .before in
+    let c-5 = after-note-records .before .before .before in
+    let n = after-note-records .note-records in
+    tallied-as (whole (c-5) ∙ ap (λ (x : ℕ). refusal x (n .result .next)) (sym (c .if2 .taken))) (n .ensures)
 
 refusal-requires : tie.Need-refusal-requires
 refusal-requires c κs = search needs
 
 returns-3 : tie.Need-returns-3
-returns-3 c = tallied-as (c .refusal .ensures) (c .before .before .before .note-records .ensures)
+returns-3 c =
+    let after-note-records = c .before .before .before in
+    tallied-as (c .refusal .ensures) (after-note-records .note-records .ensures)
 
 pub note-file-spec : {M : Type 1} → statement M
 note-file-spec =

@@ -6,6 +6,8 @@ use mathlib.Core.List.{List}
 use native.Mathlib.Omega.{arith}
 use lib.ListN.{length, replicate}
 use borrow.Author.Tests.{ltb-false}
+use Rattle.account.specs.PartNumbers.{parts}
+use Rattle.account.specs.Check.{mostRecords}
 use Rattle.account.specs.Parts.{ofKind}
 use Rattle.account.specs.Records.{recordAt, recordCount}
 use Rattle.account.proofs.Going.{Going, going-start, going-stops, owned-small, one-at-most, notable, going-over, going-tallied}
@@ -27,54 +29,71 @@ loop-holds c =
     let s = c .before .before in
     let file = s .args .file .now in
     subst⁻¹ (λ (first : List ℕ). Going file first (s .args .counts .now) 0 0) (s .pre .1 .0)
-    (subst⁻¹ (λ (counts : List ℕ). Going file (replicate 82 0) counts 0 0) (s .pre .1 .1) (going-start file))
+    (subst⁻¹ (λ (counts : List ℕ). Going file (replicate parts 0) counts 0 0) (s .pre .1 .1) (going-start file))
 
 go-on-requires : tie.Need-go-on-requires Inv-loop μ-loop
 go-on-requires c κs =
-    let s = c .before .before .before .before .before .before in
+    let after-loop = c .before .before .before in
+    let c-6 = after-loop .before .before .before in
+    let s = c-6 in
     let file = s .args .file .now in
-    let loop = c .before .before .before .loop in
+    let loop = after-loop .loop in
     let more : loop .k < recordCount file = omega arith in
     let short : length file ≤ 61440 = ltb-false 61440 (length file) (length-fine file (s .pre .0) .0) in
-    let few : recordCount file ≤ 640 = omega arith in
+    let few : recordCount file ≤ mostRecords = omega arith in
     notable (loop .inv) more few
 
 returns : tie.Need-returns Inv-loop μ-loop
 returns c =
-    let s = c .before .before .before .before .before .before .before .before .before in
+    let after-go-on = c .before .before in
+    let after-loop = after-go-on .before .before .before .before in
+    let c-9 = after-loop .before .before .before in
+    let s = c-9 in
     let file = s .args .file .now in
-    let loop = c .before .before .before .before .before .before .loop in
-    let step = c .before .before .go-on in
+    let loop = after-loop .loop in
+    let step = after-go-on .go-on in
     let more : loop .k < recordCount file = omega arith in
     let fine = length-fine file (s .pre .0) in
     going-stops (loop .inv) more (step .result .number) (step .ensures .stops (c .if1 .taken)) (c .if1 .taken) (fine .0) (fine .1)
 
 add-contracts : tie.Need-add-contracts Inv-loop μ-loop
 add-contracts c =
-    let file = c .before .before .before .before .before .before .before .before .before .before .args .file .now in
-    let loop = c .before .before .before .before .before .before .before .loop in
+    let c-1 = c .before in
+    let after-go-on = c-1 .before .before in
+    let after-loop = after-go-on .before .before .before .before in
+    let start = after-loop .before .before .before in
+    let file = start .args .file .now in
+    let loop = after-loop .loop in
     let more : loop .k < recordCount file = omega arith in
-    let goes = c .before .before .before .go-on .ensures .goes (c .before .if1 .left) in
+    let goes = after-go-on .go-on .ensures .goes (c-1 .if1 .left) in
     omega (arith, owned-small (loop .inv) more, one-at-most (ofKind 1 (recordAt file (loop .k))), goes .own)
 
 loop-less : tie.Need-loop-less Inv-loop μ-loop
 loop-less c =
-    let goes = c .before .before .before .go-on .ensures .goes (c .before .if1 .left) in
+    let c-1 = c .before in
+    let after-go-on = c-1 .before .before in
+    let goes = after-go-on .go-on .ensures .goes (c-1 .if1 .left) in
     let l = goes .later .low in
     omega arith
 
 loop-again : tie.Need-loop-again Inv-loop μ-loop
 loop-again c =
-    let file = c .before .before .before .before .before .before .before .before .before .before .args .file .now in
-    let loop = c .before .before .before .before .before .before .before .loop in
+    let c-1 = c .before in
+    let after-go-on = c-1 .before .before in
+    let after-loop = after-go-on .before .before .before .before in
+    let start = after-loop .before .before .before in
+    let file = start .args .file .now in
+    let loop = after-loop .loop in
     let more : loop .k < recordCount file = omega arith in
-    going-over (loop .inv) more (c .before .before .before .go-on .ensures .goes (c .before .if1 .left))
+    going-over (loop .inv) more (after-go-on .go-on .ensures .goes (c-1 .if1 .left))
 
 returns-2 : tie.Need-returns-2 Inv-loop μ-loop
 returns-2 c =
-    let s = c .before .before .before .before in
+    let after-loop = c .before in
+    let c-4 = after-loop .before .before .before in
+    let s = c-4 in
     let file = s .args .file .now in
-    let loop = c .before .loop in
+    let loop = after-loop .loop in
     let done : recordCount file ≤ loop .k = omega arith in
     let fine = length-fine file (s .pre .0) in
     going-tallied (loop .inv) done (fine .0) (fine .1)

@@ -6,7 +6,8 @@ use borrow.Author.Needs.{needs}
 use lib.ListN.{length, getD, length-set}
 use lib.Seq.{getD-set-same}
 use native.Mathlib.Omega.{arith}
-use Rattle.account.specs.Notes.{partOf}
+use Rattle.account.specs.Check.{mostRecords}
+use Rattle.account.specs.code.Notes.{partOf}
 use Rattle.account.proofs.Runs.{noted-to}
 use Rattle.account.proofs.check.note_to.Statement.{statement}
 use Rattle.account.proofs.check.note_to.Tie as tie
@@ -19,24 +20,30 @@ part-of-requires c κs = search needs
 
 note-first-requires : tie.Need-note-first-requires
 note-first-requires c κs =
-    let start = c .before .before .before .before .before .before .before in
+    let after-part-of = c .before .before in
+    let after-whole-at = after-part-of .before in
+    let c-7 = after-whole-at .before .before .before .before in
+    let start = c-7 in
     let pre = start .pre .0 in
     let none = start .pre .1 .0 in
-    let v = c .before .before .part-of .ensures ∙ ap partOf (c .before .before .before .whole-at .ensures) in
+    let v = after-part-of .part-of .ensures ∙ ap partOf (after-whole-at .whole-at .ensures) in
     let inside : c .before .before .part-of .result < length (start .args .first .now) = omega (arith, pre .known none, pre .firsts) in
     (inside, omega (arith, pre .inside, pre .few))
 
 note-one-requires : tie.Need-note-one-requires
 note-one-requires c κs =
-    let start = c .before .before .before .before .before .before .before .before .before .before .before in
+    let after-part-of = c .before .before .before .before .before .before in
+    let after-whole-at = after-part-of .before in
+    let c-11 = after-whole-at .before .before .before .before in
+    let start = c-11 in
     let pre = start .pre .0 in
     let none = start .pre .1 .0 in
     let counts = start .args .counts .now in
-    let v = c .before .before .before .before .before .before .part-of .ensures
-    ∙ ap partOf (c .before .before .before .before .before .before .before .whole-at .ensures) in
+    let v = after-part-of .part-of .ensures
+    ∙ ap partOf (after-whole-at .whole-at .ensures) in
     let e = ap (λ (u : ℕ). getD counts u 0) v in
     let inside : c .before .before .before .before .before .before .part-of .result < length counts = omega (arith, pre .known none, pre .sizes) in
-    let few : getD counts (c .before .before .before .before .before .before .part-of .result) 0 < 640 = omega (arith, pre .room none, pre .inside, pre .few) in
+    let few : getD counts (after-part-of .part-of .result) 0 < mostRecords = omega (arith, pre .room none, pre .inside, pre .few) in
     (inside, few)
 
 add-note-more : tie.Need-add-note-more
@@ -47,21 +54,25 @@ sub-note-more c = search needs
 
 note-more-requires : tie.Need-note-more-requires
 note-more-requires c κs =
-    let start = c .before .before .before .before .before .before .before .before .before .before .before .before .before .before .before in
+    let after-note-one = c .before .before .before in
+    let after-part-of = after-note-one .before .before .before .before .before .before .before in
+    let after-whole-at = after-part-of .before in
+    let c-15 = after-whole-at .before .before .before .before in
+    let start = c-15 in
     let pre = start .pre .0 in
     let none = start .pre .1 .0 in
     let counts = start .args .counts .now in
-    let v = c .before .before .before .before .before .before .before .before .before .before .part-of .result in
-    let is = c .before .before .before .before .before .before .before .before .before .before .part-of .ensures
-    ∙ ap partOf (c .before .before .before .before .before .before .before .before .before .before .before .whole-at .ensures) in
+    let v = after-part-of .part-of .result in
+    let is = after-part-of .part-of .ensures
+    ∙ ap partOf (after-whole-at .whole-at .ensures) in
     let e = ap (λ (u : ℕ). getD counts u 0) is in
-    let one = c .before .before .before .note-one in
+    let one = after-note-one .note-one in
     let long : length (one .last .0) ≡ length counts = ap length (one .ensures) ∙ length-set counts v (getD counts v 0 + 1) in
     let here : getD (one .last .0) v 0 ≡ getD counts v 0 + 1 =
     ap (λ (l : List ℕ). getD l v 0) (one .ensures)
     ∙ getD-set-same counts v (getD counts v 0 + 1) 0 (omega (arith, pre .known none, pre .sizes)) in
     let inside : v < length (one .last .0) = omega (arith, pre .known none, pre .sizes) in
-    let few : getD (one .last .0) v 0 ≤ 640 = omega (arith, pre .room none, pre .inside, pre .few) in
+    let few : getD (one .last .0) v 0 ≤ mostRecords = omega (arith, pre .room none, pre .inside, pre .few) in
     (inside, (few, omega (arith, start .pre .1 .1 .1, pre .few)))
 
 same-length : tie.Need-same-length
@@ -72,11 +83,16 @@ same-length-2 c = search needs
 
 returns : tie.Need-returns
 returns c =
-    noted-to (c .before .before .before .before .before .before .before .before .before .before .before .before .before .part-of .ensures
+    let after-note-more = c .before .before in
+    let after-note-one = after-note-more .before .before .before .before in
+    let after-note-first = after-note-one .before .before .before .before in
+    let after-part-of = after-note-first .before .before .before in
+    let after-whole-at = after-part-of .before in
+    noted-to (after-part-of .part-of .ensures
     ∙ ap partOf
-    (c .before .before .before .before .before .before .before .before .before .before .before .before .before .before .whole-at .ensures))
-    (c .before .before .before .before .before .before .before .before .before .before .note-first .ensures)
-    (c .before .before .before .before .before .before .note-one .ensures) (c .before .before .note-more .ensures)
+    (after-whole-at .whole-at .ensures))
+    (after-note-first .note-first .ensures)
+    (after-note-one .note-one .ensures) (after-note-more .note-more .ensures)
 
 pub note-to-spec : {M : Type 1} → statement M
 note-to-spec =

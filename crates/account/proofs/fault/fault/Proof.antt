@@ -2,7 +2,7 @@
 use mathlib.Core.Path.{sym, _∙_}
 use Rattle.record.specs.Ranges.{unknownKind, unusedByte, fieldOutside}
 use Rattle.account.specs.Check.{kindFalls, outOfOrder}
-use Rattle.account.specs.Notes.{unlistedBy, overLimitBy}
+use Rattle.account.specs.code.Notes.{unlistedBy, overLimitBy}
 use Rattle.account.specs.Records.{records}
 use Rattle.account.proofs.Firsts.{is-3, is-4, is-5, is-6, is-7, is-8, is-9, is-0}
 use Rattle.account.proofs.fault.fault.Statement.{statement}
@@ -13,149 +13,219 @@ unknown-kind-requires c κs = tt
 
 returns : tie.Need-returns
 returns c =
-    let args = c .before .before .before .before .before .before .args in
+    let after-unknown-kind = c .before in
+    let start = after-unknown-kind .before .before .before .before .before in
+    let args = start .args in
     let n = args .counts .now in
     let ps = records (args .prompts .now) in
     let e = args .before .now in
     let r = args .r .now in
     is-3 (unknownKind r) (kindFalls e r) (unusedByte r) (fieldOutside r) (unlistedBy n ps r) (outOfOrder e r)
-    (overLimitBy n r) (sym (c .before .unknown-kind .ensures) ∙ c .if1 .taken)
+    (overLimitBy n r) (sym (after-unknown-kind .unknown-kind .ensures) ∙ c .if1 .taken)
 
 kind-falls-requires : tie.Need-kind-falls-requires
 kind-falls-requires c κs = tt
 
 returns-2 : tie.Need-returns-2
 returns-2 c =
-    let args = c .before .before .before .before .before .before .before .before .args in
+    let after-kind-falls = c .before in
+    let c-2 = after-kind-falls .before in
+    let after-unknown-kind = c-2 .before in
+    let start = after-unknown-kind .before .before .before .before .before in
+    let args = start .args in
     let n = args .counts .now in
     let ps = records (args .prompts .now) in
     let e = args .before .now in
     let r = args .r .now in
     is-4 (unknownKind r) (kindFalls e r) (unusedByte r) (fieldOutside r) (unlistedBy n ps r) (outOfOrder e r)
-    (overLimitBy n r) (sym (c .before .before .before .unknown-kind .ensures) ∙ c .before .before .if1 .left)
-    (sym (c .before .kind-falls .ensures) ∙ c .if2 .taken)
+    (overLimitBy n r) (sym (after-unknown-kind .unknown-kind .ensures) ∙ c-2 .if1 .left)
+    (sym (after-kind-falls .kind-falls .ensures) ∙ c .if2 .taken)
 
 unused-byte-requires : tie.Need-unused-byte-requires
 unused-byte-requires c κs = tt
 
 returns-3 : tie.Need-returns-3
 returns-3 c =
-    let args = c .before .before .before .before .before .before .before .before .before .before .args in
+    let after-unused-byte = c .before in
+    let c-2 = after-unused-byte .before in
+    let after-kind-falls = c-2 .before in
+    let c-4 = after-kind-falls .before in
+    let after-unknown-kind = c-4 .before in
+    let start = after-unknown-kind .before .before .before .before .before in
+    let args = start .args in
     let n = args .counts .now in
     let ps = records (args .prompts .now) in
     let e = args .before .now in
     let r = args .r .now in
     is-5 (unknownKind r) (kindFalls e r) (unusedByte r) (fieldOutside r) (unlistedBy n ps r) (outOfOrder e r)
-    (overLimitBy n r) (sym (c .before .before .before .before .before .unknown-kind .ensures)
-    ∙ c .before .before .before .before .if1 .left) (sym (c .before .before .before .kind-falls .ensures)
-    ∙ c .before .before .if2 .left) (sym (c .before .unused-byte .ensures) ∙ c .if3 .taken)
+    (overLimitBy n r) (sym (after-unknown-kind .unknown-kind .ensures)
+    ∙ c-4 .if1 .left) (sym (after-kind-falls .kind-falls .ensures)
+    ∙ c-2 .if2 .left) (sym (after-unused-byte .unused-byte .ensures) ∙ c .if3 .taken)
 
 field-outside-requires : tie.Need-field-outside-requires
 field-outside-requires c κs = tt
 
 returns-4 : tie.Need-returns-4
 returns-4 c =
+    let after-field-outside = c .before in
+    let after-if3 = after-field-outside .before in
+    let after-unused-byte = after-if3 .before in
+    let c-4 = after-unused-byte .before in
+    let after-kind-falls = c-4 .before in
+    let c-6 = after-kind-falls .before in
+    let after-unknown-kind = c-6 .before in
+    let start = after-unknown-kind .before .before .before .before .before in
     let args =
-    c .before .before .before .before .before .before .before .before .before .before .before .before .args in
+    start .args in
     let n = args .counts .now in
     let ps = records (args .prompts .now) in
     let e = args .before .now in
     let r = args .r .now in
     is-6 (unknownKind r) (kindFalls e r) (unusedByte r) (fieldOutside r) (unlistedBy n ps r) (outOfOrder e r)
-    (overLimitBy n r) (sym (c .before .before .before .before .before .before .before .unknown-kind .ensures)
-    ∙ c .before .before .before .before .before .before .if1 .left)
-    (sym (c .before .before .before .before .before .kind-falls .ensures)
-    ∙ c .before .before .before .before .if2 .left) (sym (c .before .before .before .unused-byte .ensures)
-    ∙ c .before .before .if3 .left) (sym (c .before .field-outside .ensures) ∙ c .if4 .taken)
+    (overLimitBy n r) (sym (after-unknown-kind .unknown-kind .ensures)
+    ∙ c-6 .if1 .left)
+    (sym (after-kind-falls .kind-falls .ensures)
+    ∙ c-4 .if2 .left) (sym (after-unused-byte .unused-byte .ensures)
+    ∙ after-if3 .if3 .left) (sym (after-field-outside .field-outside .ensures) ∙ c .if4 .taken)
 
 unlisted-requires : tie.Need-unlisted-requires
 unlisted-requires c κs = tt
 
 returns-5 : tie.Need-returns-5
 returns-5 c =
+    let after-unlisted = c .before in
+    let after-if4 = after-unlisted .before in
+    let after-field-outside = after-if4 .before in
+    let after-if3 = after-field-outside .before in
+    let after-unused-byte = after-if3 .before in
+    let c-6 = after-unused-byte .before in
+    let after-kind-falls = c-6 .before in
+    let c-8 = after-kind-falls .before in
+    let after-unknown-kind = c-8 .before in
+    let start = after-unknown-kind .before .before .before .before .before in
     let args =
-    c .before .before .before .before .before .before .before .before .before .before .before .before .before .before .args in
+    start .args in
     let n = args .counts .now in
     let ps = records (args .prompts .now) in
     let e = args .before .now in
     let r = args .r .now in
     is-7 (unknownKind r) (kindFalls e r) (unusedByte r) (fieldOutside r) (unlistedBy n ps r) (outOfOrder e r)
     (overLimitBy n r) (sym
-    (c .before .before .before .before .before .before .before .before .before .unknown-kind .ensures)
-    ∙ c .before .before .before .before .before .before .before .before .if1 .left)
-    (sym (c .before .before .before .before .before .before .before .kind-falls .ensures)
-    ∙ c .before .before .before .before .before .before .if2 .left)
-    (sym (c .before .before .before .before .before .unused-byte .ensures)
-    ∙ c .before .before .before .before .if3 .left) (sym (c .before .before .before .field-outside .ensures)
-    ∙ c .before .before .if4 .left) (sym (c .before .unlisted .ensures) ∙ c .if5 .taken)
+    (after-unknown-kind .unknown-kind .ensures)
+    ∙ c-8 .if1 .left)
+    (sym (after-kind-falls .kind-falls .ensures)
+    ∙ c-6 .if2 .left)
+    (sym (after-unused-byte .unused-byte .ensures)
+    ∙ after-if3 .if3 .left) (sym (after-field-outside .field-outside .ensures)
+    ∙ after-if4 .if4 .left) (sym (after-unlisted .unlisted .ensures) ∙ c .if5 .taken)
 
 out-of-order-requires : tie.Need-out-of-order-requires
 out-of-order-requires c κs = tt
 
 returns-6 : tie.Need-returns-6
 returns-6 c =
+    let after-out-of-order = c .before in
+    let after-if5 = after-out-of-order .before in
+    let after-unlisted = after-if5 .before in
+    let after-if4 = after-unlisted .before in
+    let after-field-outside = after-if4 .before in
+    let after-if3 = after-field-outside .before in
+    let after-unused-byte = after-if3 .before in
+    let c-8 = after-unused-byte .before in
+    let after-kind-falls = c-8 .before in
+    let c-10 = after-kind-falls .before in
+    let after-unknown-kind = c-10 .before in
+    let start = after-unknown-kind .before .before .before .before .before in
     let args =
-    c .before .before .before .before .before .before .before .before .before .before .before .before .before .before .before .before .args in
+    start .args in
     let n = args .counts .now in
     let ps = records (args .prompts .now) in
     let e = args .before .now in
     let r = args .r .now in
     is-8 (unknownKind r) (kindFalls e r) (unusedByte r) (fieldOutside r) (unlistedBy n ps r) (outOfOrder e r)
     (overLimitBy n r) (sym
-    (c .before .before .before .before .before .before .before .before .before .before .before .unknown-kind .ensures)
-    ∙ c .before .before .before .before .before .before .before .before .before .before .if1 .left)
-    (sym (c .before .before .before .before .before .before .before .before .before .kind-falls .ensures)
-    ∙ c .before .before .before .before .before .before .before .before .if2 .left)
-    (sym (c .before .before .before .before .before .before .before .unused-byte .ensures)
-    ∙ c .before .before .before .before .before .before .if3 .left)
-    (sym (c .before .before .before .before .before .field-outside .ensures)
-    ∙ c .before .before .before .before .if4 .left) (sym (c .before .before .before .unlisted .ensures)
-    ∙ c .before .before .if5 .left) (sym (c .before .out-of-order .ensures) ∙ c .if6 .taken)
+    (after-unknown-kind .unknown-kind .ensures)
+    ∙ c-10 .if1 .left)
+    (sym (after-kind-falls .kind-falls .ensures)
+    ∙ c-8 .if2 .left)
+    (sym (after-unused-byte .unused-byte .ensures)
+    ∙ after-if3 .if3 .left)
+    (sym (after-field-outside .field-outside .ensures)
+    ∙ after-if4 .if4 .left) (sym (after-unlisted .unlisted .ensures)
+    ∙ after-if5 .if5 .left) (sym (after-out-of-order .out-of-order .ensures) ∙ c .if6 .taken)
 
 over-limit-requires : tie.Need-over-limit-requires
 over-limit-requires c κs = tt
 
 returns-7 : tie.Need-returns-7
 returns-7 c =
+    let after-over-limit = c .before in
+    let after-if6 = after-over-limit .before in
+    let after-out-of-order = after-if6 .before in
+    let after-if5 = after-out-of-order .before in
+    let after-unlisted = after-if5 .before in
+    let after-if4 = after-unlisted .before in
+    let after-field-outside = after-if4 .before in
+    let after-if3 = after-field-outside .before in
+    let after-unused-byte = after-if3 .before in
+    let c-10 = after-unused-byte .before in
+    let after-kind-falls = c-10 .before in
+    let c-12 = after-kind-falls .before in
+    let after-unknown-kind = c-12 .before in
+    let start = after-unknown-kind .before .before .before .before .before in
     let args =
-    c .before .before .before .before .before .before .before .before .before .before .before .before .before .before .before .before .before .before .args in
+    start .args in
     let n = args .counts .now in
     let ps = records (args .prompts .now) in
     let e = args .before .now in
     let r = args .r .now in
     is-9 (unknownKind r) (kindFalls e r) (unusedByte r) (fieldOutside r) (unlistedBy n ps r) (outOfOrder e r)
     (overLimitBy n r) (sym
-    (c .before .before .before .before .before .before .before .before .before .before .before .before .before .unknown-kind .ensures)
-    ∙ c .before .before .before .before .before .before .before .before .before .before .before .before .if1 .left)
-    (sym (c .before .before .before .before .before .before .before .before .before .before .before .kind-falls .ensures)
-    ∙ c .before .before .before .before .before .before .before .before .before .before .if2 .left)
-    (sym (c .before .before .before .before .before .before .before .before .before .unused-byte .ensures)
-    ∙ c .before .before .before .before .before .before .before .before .if3 .left)
-    (sym (c .before .before .before .before .before .before .before .field-outside .ensures)
-    ∙ c .before .before .before .before .before .before .if4 .left)
-    (sym (c .before .before .before .before .before .unlisted .ensures) ∙ c .before .before .before .before .if5 .left)
-    (sym (c .before .before .before .out-of-order .ensures) ∙ c .before .before .if6 .left) (sym (c .before .over-limit .ensures) ∙ c .if7 .taken)
+    (after-unknown-kind .unknown-kind .ensures)
+    ∙ c-12 .if1 .left)
+    (sym (after-kind-falls .kind-falls .ensures)
+    ∙ c-10 .if2 .left)
+    (sym (after-unused-byte .unused-byte .ensures)
+    ∙ after-if3 .if3 .left)
+    (sym (after-field-outside .field-outside .ensures)
+    ∙ after-if4 .if4 .left)
+    (sym (after-unlisted .unlisted .ensures) ∙ after-if5 .if5 .left)
+    (sym (after-out-of-order .out-of-order .ensures) ∙ after-if6 .if6 .left) (sym (after-over-limit .over-limit .ensures) ∙ c .if7 .taken)
 
 returns-8 : tie.Need-returns-8
 returns-8 c =
+    let after-over-limit = c .before in
+    let after-if6 = after-over-limit .before in
+    let after-out-of-order = after-if6 .before in
+    let after-if5 = after-out-of-order .before in
+    let after-unlisted = after-if5 .before in
+    let after-if4 = after-unlisted .before in
+    let after-field-outside = after-if4 .before in
+    let after-if3 = after-field-outside .before in
+    let after-unused-byte = after-if3 .before in
+    let c-10 = after-unused-byte .before in
+    let after-kind-falls = c-10 .before in
+    let c-12 = after-kind-falls .before in
+    let after-unknown-kind = c-12 .before in
+    let start = after-unknown-kind .before .before .before .before .before in
     let args =
-    c .before .before .before .before .before .before .before .before .before .before .before .before .before .before .before .before .before .before .args in
+    start .args in
     let n = args .counts .now in
     let ps = records (args .prompts .now) in
     let e = args .before .now in
     let r = args .r .now in
     is-0 (unknownKind r) (kindFalls e r) (unusedByte r) (fieldOutside r) (unlistedBy n ps r) (outOfOrder e r)
     (overLimitBy n r) (sym
-    (c .before .before .before .before .before .before .before .before .before .before .before .before .before .unknown-kind .ensures)
-    ∙ c .before .before .before .before .before .before .before .before .before .before .before .before .if1 .left)
-    (sym (c .before .before .before .before .before .before .before .before .before .before .before .kind-falls .ensures)
-    ∙ c .before .before .before .before .before .before .before .before .before .before .if2 .left)
-    (sym (c .before .before .before .before .before .before .before .before .before .unused-byte .ensures)
-    ∙ c .before .before .before .before .before .before .before .before .if3 .left)
-    (sym (c .before .before .before .before .before .before .before .field-outside .ensures)
-    ∙ c .before .before .before .before .before .before .if4 .left)
-    (sym (c .before .before .before .before .before .unlisted .ensures) ∙ c .before .before .before .before .if5 .left)
-    (sym (c .before .before .before .out-of-order .ensures) ∙ c .before .before .if6 .left) (sym (c .before .over-limit .ensures) ∙ c .if7 .left)
+    (after-unknown-kind .unknown-kind .ensures)
+    ∙ c-12 .if1 .left)
+    (sym (after-kind-falls .kind-falls .ensures)
+    ∙ c-10 .if2 .left)
+    (sym (after-unused-byte .unused-byte .ensures)
+    ∙ after-if3 .if3 .left)
+    (sym (after-field-outside .field-outside .ensures)
+    ∙ after-if4 .if4 .left)
+    (sym (after-unlisted .unlisted .ensures) ∙ after-if5 .if5 .left)
+    (sym (after-out-of-order .out-of-order .ensures) ∙ after-if6 .if6 .left) (sym (after-over-limit .over-limit .ensures) ∙ c .if7 .left)
 
 pub fault-spec : {M : Type 1} → statement M
 fault-spec =

@@ -5,7 +5,7 @@ use mathlib.Core.Path.{_≡_, sym, ap, _∙_}
 use mathlib.Core.List.{List}
 use borrow.Author.Tests.{eqb-true}
 use Rattle.record.specs.Layout.{Record, contract}
-use Rattle.account.specs.Notes.{faultBy, faultAt, partAt, promptsNoted, beforeAt}
+use Rattle.account.specs.code.Notes.{faultBy, faultAt, partAt, promptsNoted, beforeAt}
 use Rattle.account.specs.Records.{records, recordAt}
 use Rattle.account.proofs.fault.fault_at.Statement.{statement}
 use Rattle.account.proofs.fault.fault_at.Tie as tie
@@ -47,9 +47,13 @@ here : (c : tie.After-whole-before)
     (c .before .before .before .before .before .before .before .args .first .now)
     (c .before .before .before .before .before .before .before .args .counts .now) (c .before .before .before .before .before .before .before .args .k)
 here c =
-    let args = c .before .before .before .before .before .before .before .args in
-    joined (args .file .now) (args .first .now) (args .counts .now) (args .k) (c .before .before .before .whole-at .ensures)
-    (c .before .before .contract .ensures .0) (c .before .part-at .ensures) (c .whole-before .ensures)
+    let after-part-at = c .before in
+    let after-contract = after-part-at .before in
+    let after-whole-at = after-contract .before in
+    let start = after-whole-at .before .before .before .before in
+    let args = start .args in
+    joined (args .file .now) (args .first .now) (args .counts .now) (args .k) (after-whole-at .whole-at .ensures)
+    (after-contract .contract .ensures .0) (after-part-at .part-at .ensures) (c .whole-before .ensures)
 
 returns : tie.Need-returns
 returns c = sym (eqb-true _ 0 (sym (c .before .faultless .ensures) ∙ c .if1 .taken)) ∙ here (c .before .before)
@@ -58,7 +62,9 @@ fault-requires : tie.Need-fault-requires
 fault-requires c κs = tt
 
 returns-2 : tie.Need-returns-2
-returns-2 c = c .fault .ensures ∙ here (c .before .before .before)
+returns-2 c =
+    let c-3 = c .before .before .before in
+    c .fault .ensures ∙ here (c-3)
 
 pub fault-at-spec : {M : Type 1} → statement M
 fault-at-spec =

@@ -18,47 +18,65 @@ noted-requires c κs = tt
 
 returns : tie.Need-returns
 returns c =
-    let args = c .before .before .before .before .before .before .args in
+    let after-noted = c .before in
+    let after-part-of = after-noted .before in
+    let after-kind = after-part-of .before in
+    let start = after-kind .before .before .before in
+    let args = start .args in
     let counts = args .counts .now in
-    ap (λ (n : ℕ). leb 32 n) (c .before .noted .ensures ∙ ap (λ (v : ℕ). getD counts v 0)
-    (c .before .before .part-of .ensures)) ∙ sym
-    (limit-2 counts (args .r .now) (sym (c .before .before .before .kind .ensures .0) ∙ c .if1 .taken))
+    ap (λ (n : ℕ). leb 32 n) (after-noted .noted .ensures ∙ ap (λ (v : ℕ). getD counts v 0)
+    (after-part-of .part-of .ensures)) ∙ sym
+    (limit-2 counts (args .r .now) (sym (after-kind .kind .ensures .0) ∙ c .if1 .taken))
 
 returns-2 : tie.Need-returns-2
 returns-2 c =
-    let args = c .before .before .before .before .before .before .before .args in
+    let after-noted = c .before .before in
+    let after-part-of = after-noted .before in
+    let after-kind = after-part-of .before in
+    let start = after-kind .before .before .before in
+    let args = start .args in
     let counts = args .counts .now in
-    ap (λ (n : ℕ). leb 128 n) (c .before .before .noted .ensures ∙ ap (λ (v : ℕ). getD counts v 0)
-    (c .before .before .before .part-of .ensures)) ∙ sym
-    (limit-3 counts (args .r .now) (sym (c .before .before .before .before .kind .ensures .0) ∙ c .if2 .taken))
+    ap (λ (n : ℕ). leb 128 n) (after-noted .noted .ensures ∙ ap (λ (v : ℕ). getD counts v 0)
+    (after-part-of .part-of .ensures)) ∙ sym
+    (limit-3 counts (args .r .now) (sym (after-kind .kind .ensures .0) ∙ c .if2 .taken))
 
 returns-3 : tie.Need-returns-3
 returns-3 c =
-    let args = c .before .before .before .before .before .before .before .before .args in
+    let after-noted = c .before .before .before in
+    let after-part-of = after-noted .before in
+    let after-kind = after-part-of .before in
+    let start = after-kind .before .before .before in
+    let args = start .args in
     let counts = args .counts .now in
-    ap (λ (n : ℕ). leb 32 n) (c .before .before .before .noted .ensures ∙ ap (λ (v : ℕ). getD counts v 0)
-    (c .before .before .before .before .part-of .ensures)) ∙ sym
-    (limit-4 counts (args .r .now) (sym (c .before .before .before .before .before .kind .ensures .0)
+    ap (λ (n : ℕ). leb 32 n) (after-noted .noted .ensures ∙ ap (λ (v : ℕ). getD counts v 0)
+    (after-part-of .part-of .ensures)) ∙ sym
+    (limit-4 counts (args .r .now) (sym (after-kind .kind .ensures .0)
     ∙ c .if3 .taken))
 
 returns-4 : tie.Need-returns-4
 returns-4 c =
-    let args = c .before .before .before .before .before .before .before .before .before .args in
+    let after-noted = c .before .before .before .before in
+    let after-part-of = after-noted .before in
+    let after-kind = after-part-of .before in
+    let start = after-kind .before .before .before in
+    let args = start .args in
     let counts = args .counts .now in
-    ap (λ (n : ℕ). leb 32 n) (c .before .before .before .before .noted .ensures ∙ ap (λ (v : ℕ). getD counts v 0)
-    (c .before .before .before .before .before .part-of .ensures)) ∙ sym
-    (limit-5 counts (args .r .now) (sym (c .before .before .before .before .before .before .kind .ensures .0)
+    ap (λ (n : ℕ). leb 32 n) (after-noted .noted .ensures ∙ ap (λ (v : ℕ). getD counts v 0)
+    (after-part-of .part-of .ensures)) ∙ sym
+    (limit-5 counts (args .r .now) (sym (after-kind .kind .ensures .0)
     ∙ c .if4 .taken))
 
 returns-5 : tie.Need-returns-5
 returns-5 c =
-    let args = c .before .before .before .before .before .before .before .before .before .args in
+    let after-kind = c .before .before .before .before .before .before in
+    let start = after-kind .before .before .before in
+    let args = start .args in
     sym (limit-none (args .counts .now) (args .r .now)
     (λ e. c .before .before .before .if1 .left
-    (c .before .before .before .before .before .before .kind .ensures .0 ∙ e))
-    (λ e. c .before .before .if2 .left (c .before .before .before .before .before .before .kind .ensures .0 ∙ e))
-    (λ e. c .before .if3 .left (c .before .before .before .before .before .before .kind .ensures .0 ∙ e))
-    (λ e. c .if4 .left (c .before .before .before .before .before .before .kind .ensures .0 ∙ e)))
+    (after-kind .kind .ensures .0 ∙ e))
+    (λ e. c .before .before .if2 .left (after-kind .kind .ensures .0 ∙ e))
+    (λ e. c .before .if3 .left (after-kind .kind .ensures .0 ∙ e))
+    (λ e. c .if4 .left (after-kind .kind .ensures .0 ∙ e)))
 
 pub over-limit-spec : {M : Type 1} → statement M
 over-limit-spec =

@@ -1,6 +1,6 @@
 -- `account::listed::no_leg_tier` meets its contract. Assumes nothing.
 use mathlib.Core.Path.{ap, _∙_}
-use Rattle.account.specs.Notes.{noTier}
+use Rattle.account.specs.code.Notes.{noTier}
 use Rattle.account.specs.Records.{records}
 use Rattle.account.proofs.listed.no_leg_tier.Statement.{statement}
 use Rattle.account.proofs.listed.no_leg_tier.Tie as tie
@@ -12,8 +12,11 @@ no-tier-requires : tie.Need-no-tier-requires
 no-tier-requires c κs = tt
 
 returns : tie.Need-returns
-returns c = c .no-tier .ensures ∙ ap (noTier (records (c .before .before .before .before .args .prompts .now)))
-    (c .before .leg-tier .ensures .0)
+returns c =
+    let after-leg-tier = c .before in
+    let start = after-leg-tier .before .before .before in
+    c .no-tier .ensures ∙ ap (noTier (records (start .args .prompts .now)))
+    (after-leg-tier .leg-tier .ensures .0)
 
 pub no-leg-tier-spec : {M : Type 1} → statement M
 no-leg-tier-spec = tie.close (tie.spec leg-tier-requires no-tier-requires returns)

@@ -2,7 +2,7 @@
 use borrow.Author.Needs.{needs}
 use mathlib.Core.Path.{sym, ap, _∙_}
 use Rattle.record.proofs.Tests.{both}
-use Rattle.account.specs.Notes.{noContract, noDay}
+use Rattle.account.specs.code.Notes.{noContract, noDay}
 use Rattle.account.specs.Records.{records}
 use Rattle.account.proofs.Dispatch.{listed-2, listed-3, listed-4, listed-5, listed-none}
 use Rattle.account.proofs.listed.unlisted.Statement.{statement}
@@ -19,10 +19,14 @@ no-contract-requires c κs = search needs
 
 returns : tie.Need-returns
 returns c =
-    let args = c .before .before .before .before .before .before .before .args in
-    (c .no-contract .ensures ∙ ap (noContract (args .counts .now)) (c .before .contract .ensures .0)) ∙ sym
+    let after-contract = c .before in
+    let c-2 = after-contract .before in
+    let after-kind = c-2 .before in
+    let start = after-kind .before .before .before .before in
+    let args = start .args in
+    (c .no-contract .ensures ∙ ap (noContract (args .counts .now)) (after-contract .contract .ensures .0)) ∙ sym
     (listed-2 (args .counts .now) (records (args .prompts .now)) (args .r .now)
-    (sym (c .before .before .before .kind .ensures .0) ∙ c .before .before .if1 .taken))
+    (sym (after-kind .kind .ensures .0) ∙ c-2 .if1 .taken))
 
 contract-requires-2 : tie.Need-contract-requires-2
 contract-requires-2 c κs = tt
@@ -38,13 +42,19 @@ no-day-requires c κs = tt
 
 returns-2 : tie.Need-returns-2
 returns-2 c =
-    let args = c .before .before .before .before .before .before .before .before .before .before .args in
-    both (c .before .before .no-contract2 .ensures ∙ ap (noContract (args .counts .now))
-    (c .before .before .before .contract2 .ensures .0))
-    (c .no-day .ensures ∙ ap (noDay (records (args .prompts .now))) (c .before .day .ensures .0)) ∙ sym
+    let after-day = c .before in
+    let after-no-contract2 = after-day .before in
+    let after-contract2 = after-no-contract2 .before in
+    let c-4 = after-contract2 .before in
+    let after-kind = c-4 .before .before in
+    let start = after-kind .before .before .before .before in
+    let args = start .args in
+    both (after-no-contract2 .no-contract2 .ensures ∙ ap (noContract (args .counts .now))
+    (after-contract2 .contract2 .ensures .0))
+    (c .no-day .ensures ∙ ap (noDay (records (args .prompts .now))) (after-day .day .ensures .0)) ∙ sym
     (listed-3 (args .counts .now) (records (args .prompts .now)) (args .r .now)
-    (sym (c .before .before .before .before .before .before .kind .ensures .0)
-    ∙ c .before .before .before .before .if2 .taken))
+    (sym (after-kind .kind .ensures .0)
+    ∙ c-4 .if2 .taken))
 
 contract-requires-3 : tie.Need-contract-requires-3
 contract-requires-3 c κs = tt
@@ -57,12 +67,17 @@ some-leg-tier-requires c κs = tt
 
 returns-3 : tie.Need-returns-3
 returns-3 c =
-    let args = c .before .before .before .before .before .before .before .before .before .before .args in
-    both (c .before .no-contract3 .ensures ∙ ap (noContract (args .counts .now))
-    (c .before .before .contract3 .ensures .0)) (c .some-leg-tier .ensures) ∙ sym
+    let after-no-contract3 = c .before in
+    let after-contract3 = after-no-contract3 .before in
+    let after-if3 = after-contract3 .before in
+    let after-kind = after-if3 .before .before .before in
+    let start = after-kind .before .before .before .before in
+    let args = start .args in
+    both (after-no-contract3 .no-contract3 .ensures ∙ ap (noContract (args .counts .now))
+    (after-contract3 .contract3 .ensures .0)) (c .some-leg-tier .ensures) ∙ sym
     (listed-4 (args .counts .now) (records (args .prompts .now)) (args .r .now)
-    (sym (c .before .before .before .before .before .before .kind .ensures .0)
-    ∙ c .before .before .before .if3 .taken))
+    (sym (after-kind .kind .ensures .0)
+    ∙ after-if3 .if3 .taken))
 
 contract-requires-4 : tie.Need-contract-requires-4
 contract-requires-4 c κs = tt
@@ -78,23 +93,31 @@ no-contract-requires-5 c κs = search needs
 
 returns-4 : tie.Need-returns-4
 returns-4 c =
+    let after-second-contract = c .before in
+    let after-no-contract4 = after-second-contract .before in
+    let after-contract4 = after-no-contract4 .before in
+    let after-if4 = after-contract4 .before in
+    let after-kind = after-if4 .before .before .before .before in
+    let start = after-kind .before .before .before .before in
     let args =
-    c .before .before .before .before .before .before .before .before .before .before .before .before .args in
-    both (c .before .before .no-contract4 .ensures ∙ ap (noContract (args .counts .now))
-    (c .before .before .before .contract4 .ensures .0))
-    (c .no-contract5 .ensures ∙ ap (noContract (args .counts .now)) (c .before .second-contract .ensures .0))
+    start .args in
+    both (after-no-contract4 .no-contract4 .ensures ∙ ap (noContract (args .counts .now))
+    (after-contract4 .contract4 .ensures .0))
+    (c .no-contract5 .ensures ∙ ap (noContract (args .counts .now)) (after-second-contract .second-contract .ensures .0))
     ∙ sym (listed-5 (args .counts .now) (records (args .prompts .now)) (args .r .now)
-    (sym (c .before .before .before .before .before .before .before .before .kind .ensures .0)
-    ∙ c .before .before .before .before .if4 .taken))
+    (sym (after-kind .kind .ensures .0)
+    ∙ after-if4 .if4 .taken))
 
 returns-5 : tie.Need-returns-5
 returns-5 c =
-    let args = c .before .before .before .before .before .before .before .before .args in
+    let after-kind = c .before .before .before .before in
+    let start = after-kind .before .before .before .before in
+    let args = start .args in
     sym (listed-none (args .counts .now) (records (args .prompts .now)) (args .r .now)
-    (λ e. c .before .before .before .if1 .left (c .before .before .before .before .kind .ensures .0 ∙ e))
-    (λ e. c .before .before .if2 .left (c .before .before .before .before .kind .ensures .0 ∙ e))
-    (λ e. c .before .if3 .left (c .before .before .before .before .kind .ensures .0 ∙ e))
-    (λ e. c .if4 .left (c .before .before .before .before .kind .ensures .0 ∙ e)))
+    (λ e. c .before .before .before .if1 .left (after-kind .kind .ensures .0 ∙ e))
+    (λ e. c .before .before .if2 .left (after-kind .kind .ensures .0 ∙ e))
+    (λ e. c .before .if3 .left (after-kind .kind .ensures .0 ∙ e))
+    (λ e. c .if4 .left (after-kind .kind .ensures .0 ∙ e)))
 
 pub unlisted-spec : {M : Type 1} → statement M
 unlisted-spec =

@@ -4,8 +4,10 @@ use mathlib.Core.Path.{_≡_, sym, ap, _∙_}
 use mathlib.Core.Bool.{Bool, cond}
 use native.Mathlib.Omega.{arith}
 use borrow.Author.Tests.{lt-ltb, le-ltb}
+use Rattle.account.specs.Check.{mostRecords}
 use Rattle.account.specs.Answers.{numberOf}
-use Rattle.account.specs.Noon.{ofJoined, ofMorning, ofNoon, fewJoined, noonSpread, verdictBy}
+use Rattle.account.specs.Noon.{ofJoined, ofMorning, ofNoon, fewJoined}
+use Rattle.account.specs.code.Pair.{noonSpread, verdictBy}
 use Rattle.account.specs.declared.answers.Answer.the-variants.{Accepted, TooManyJoined}
 use Rattle.account.proofs.NoonLaws.{stops, goes}
 use borrow.Author.Needs.{needs}
@@ -32,10 +34,13 @@ number-of-requires-2 c κs = search needs
 
 returns-2 : tie.Need-returns-2
 returns-2 c =
-    let s = c .before .before .before .before in
+    let after-number-of2 = c .before in
+    let c-2 = after-number-of2 .before in
+    let c-4 = c-2 .before .before in
+    let s = c-4 in
     sym
-    (goes (ofMorning (s .args .morning .answer)) _ (first (c .before .before))
-    ∙ stops (ofNoon (s .args .noon .answer)) _ (λ z. c .if2 .taken (c .before .number-of2 .ensures ∙ z)))
+    (goes (ofMorning (s .args .morning .answer)) _ (first (c-2))
+    ∙ stops (ofNoon (s .args .noon .answer)) _ (λ z. c .if2 .taken (after-number-of2 .number-of2 .ensures ∙ z)))
 
 noon-spread-requires : tie.Need-noon-spread-requires
 noon-spread-requires c κs = search needs
@@ -45,14 +50,17 @@ number-of-requires-3 c κs = search needs
 
 returns-3 : tie.Need-returns-3
 returns-3 c =
-    let e = c .before .before .before in
+    let after-number-of3 = c .before in
+    let after-noon-spread = after-number-of3 .before in
+    let c-3 = after-noon-spread .before in
+    let e = c-3 in
     let s = e .before .before .before .before in
-    let third = c .before .before .noon-spread .ensures in
+    let third = after-noon-spread .noon-spread .ensures in
     ap ofNoon third
     ∙ sym
     (goes (ofMorning (s .args .morning .answer)) _ (first (e .before .before))
     ∙ goes (ofNoon (s .args .noon .answer)) _ (second e)
-    ∙ stops (ofNoon (noonSpread (s .args .noon))) _ (λ z. c .if3 .taken (c .before .number-of3 .ensures ∙ ap numberOf third ∙ z)))
+    ∙ stops (ofNoon (noonSpread (s .args .noon))) _ (λ z. c .if3 .taken (after-number-of3 .number-of3 .ensures ∙ ap numberOf third ∙ z)))
 
 -- no kind 5 or 6 either
 third : (c : tie.Else3) → numberOf (noonSpread (c .before .before .before .before .before .before .before .args .noon)) ≡ 0
@@ -65,7 +73,8 @@ joined : (c : tie.Else3)
     (c .before .before .before .before .before .before .before .args .records)
     ≡ ofJoined (fewJoined (c .before .before .before .before .before .before .before .args .records))
 joined c =
-    let e = c .before .before .before in
+    let c-3 = c .before .before .before in
+    let e = c-3 in
     let s = e .before .before .before .before in
     goes (ofMorning (s .args .morning .answer)) _ (first (e .before .before))
     ∙ goes (ofNoon (s .args .noon .answer)) _ (second e)
@@ -73,13 +82,17 @@ joined c =
 
 returns-4 : tie.Need-returns-4
 returns-4 c =
-    let n = c .before .before .before .before .before .before .before .before .args .records in
-    sym (joined (c .before) ∙ ap (λ (t : Bool). ofJoined (cond t (TooManyJoined n) Accepted)) (lt-ltb 640 n (c .if4 .taken)))
+    let c-1 = c .before in
+    let start = c-1 .before .before .before .before .before .before .before in
+    let n = start .args .records in
+    sym (joined (c-1) ∙ ap (λ (t : Bool). ofJoined (cond t (TooManyJoined n) Accepted)) (lt-ltb mostRecords n (c .if4 .taken)))
 
 returns-5 : tie.Need-returns-5
 returns-5 c =
-    let n = c .before .before .before .before .before .before .before .before .args .records in
-    sym (joined (c .before) ∙ ap (λ (t : Bool). ofJoined (cond t (TooManyJoined n) Accepted)) (le-ltb 640 n (omega (arith, c .if4 .left))))
+    let c-1 = c .before in
+    let start = c-1 .before .before .before .before .before .before .before in
+    let n = start .args .records in
+    sym (joined (c-1) ∙ ap (λ (t : Bool). ofJoined (cond t (TooManyJoined n) Accepted)) (le-ltb mostRecords n (omega (arith, c .if4 .left))))
 
 pub verdict-of-spec : {M : Type 1} → statement M
 verdict-of-spec =

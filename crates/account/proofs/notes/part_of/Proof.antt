@@ -19,15 +19,23 @@ add-result : tie.Need-add-result
 add-result c = search needs
 
 returns : tie.Need-returns
-returns c = sym (part-entry (c .before .before .before .args .r .now) (sym (c .before .kind .ensures .0) ∙ c .if1 .taken))
+returns c =
+    let after-kind = c .before in
+    let start = after-kind .before .before in
+    sym (part-entry (start .args .r .now) (sym (after-kind .kind .ensures .0) ∙ c .if1 .taken))
 
 returns-2 : tie.Need-returns-2
-returns-2 c = sym (part-rate (c .before .before .before .before .args .r .now) (sym (c .before .before .kind .ensures .0) ∙ c .if2 .taken))
+returns-2 c =
+    let after-kind = c .before .before in
+    let start = after-kind .before .before in
+    sym (part-rate (start .args .r .now) (sym (after-kind .kind .ensures .0) ∙ c .if2 .taken))
 
 returns-3 : tie.Need-returns-3
 returns-3 c =
-    let r = c .before .before .before .before .before .args .r .now in
-    let kind = c .before .before .before .kind .ensures .0 in
+    let after-kind = c .before .before .before in
+    let start = after-kind .before .before in
+    let r = start .args .r .now in
+    let kind = after-kind .kind .ensures .0 in
     ap₂ (λ (k n : ℕ). 16 * k + n) kind (c .contract .ensures .0)
     ∙ sym (part-other r (λ e. c .before .before .if1 .left (kind ∙ e)) (λ e. c .before .if2 .left (kind ∙ e)))
 

@@ -15,12 +15,16 @@ contract-requires-2 : tie.Need-contract-requires-2
 contract-requires-2 c κs = tt
 
 returns : tie.Need-returns
-returns c = rw (
-  c .before .before .before .kind .ensures .0,
-  c .before .before .kind2 .ensures .0,
-  c .before .contract .ensures .0,
-  c .contract2 .ensures .0,
-)
+returns c =
+    let after-contract = c .before in
+    let after-kind2 = after-contract .before in
+    let after-kind = after-kind2 .before in
+    rw (
+      after-kind .kind .ensures .0,
+      after-kind2 .kind2 .ensures .0,
+      after-contract .contract .ensures .0,
+      c .contract2 .ensures .0,
+    )
 
 pub contract-falls-spec : {M : Type 1} → statement M
 contract-falls-spec =

@@ -18,13 +18,18 @@ day-requires-2 : tie.Need-day-requires-2
 day-requires-2 c κs = tt
 
 returns : tie.Need-returns
-returns c = rw (
-  c .before .before .before .before .contract .ensures .0,
-  c .before .before .before .contract2 .ensures .0,
-  c .before .before .kind .ensures .0,
-  c .before .day .ensures .0,
-  c .day2 .ensures .0,
-)
+returns c =
+    let after-day = c .before in
+    let after-kind = after-day .before in
+    let after-contract2 = after-kind .before in
+    let after-contract = after-contract2 .before in
+    rw (
+      after-contract .contract .ensures .0,
+      after-contract2 .contract2 .ensures .0,
+      after-kind .kind .ensures .0,
+      after-day .day .ensures .0,
+      c .day2 .ensures .0,
+    )
 
 pub day-not-above-spec : {M : Type 1} → statement M
 day-not-above-spec =

@@ -20,7 +20,9 @@ lesser-requires : tie.Need-lesser-requires Inv-loop μ-loop
 lesser-requires c κs = tt
 
 loop-holds : tie.Need-loop-holds Inv-loop μ-loop
-loop-holds c = (days-start (c .before .before .before .args .prompts .now), omega arith)
+loop-holds c =
+    let start = c .before .before .before in
+    (days-start (start .args .prompts .now), omega arith)
 
 whole-at-requires : tie.Need-whole-at-requires Inv-loop μ-loop
 whole-at-requires c κs = omega arith
@@ -41,11 +43,13 @@ loop-less : tie.Need-loop-less Inv-loop μ-loop
 loop-less c = omega arith
 
 loop-again : tie.Need-loop-again Inv-loop μ-loop
-loop-again c = (
-  days-next (c .before .before .before .loop .inv .0) (c .short-day .result) (c .short-day .ensures ∙ ap day (c .before .whole-at .ensures))
-      (omega arith),
-  omega arith,
-)
+loop-again c =
+    let after-whole-at = c .before in
+    let after-loop = after-whole-at .before .before in (
+      days-next (after-loop .loop .inv .0) (c .short-day .result) (c .short-day .ensures ∙ ap day (after-whole-at .whole-at .ensures))
+          (omega arith),
+      omega arith,
+    )
 
 returns : tie.Need-returns Inv-loop μ-loop
 returns c = days-end (c .before .loop .inv .0) (omega arith)

@@ -8,7 +8,7 @@ use native.Mathlib.Omega.{arith}
 use Rattle.exact.specs.Lists.{any}
 use Rattle.record.specs.Bytes.{countFrom}
 use Rattle.record.proofs.Tests.{any-next, any-past}
-use Rattle.account.specs.Passing.{hasDay}
+use Rattle.account.specs.code.Passing.{hasDay}
 use Rattle.account.proofs.passing.has_day.Statement.{statement}
 use Rattle.account.proofs.passing.has_day.Tie as tie
 
@@ -36,8 +36,10 @@ loop-less c = omega arith
 
 loop-again : tie.Need-loop-again Inv-loop μ-loop
 loop-again c =
-    let args = c .before .before .before .args in
-    let l = c .before .before .loop in
+    let after-loop = c .before .before in
+    let start = after-loop .before in
+    let args = start .args in
+    let l = after-loop .loop in
     l .inv ∙ any-next (λ i. eqb (getD (args .days .now) i 0) (args .d)) 32 (l .j) (l .found) (omega arith)
 
 returns : tie.Need-returns Inv-loop μ-loop

@@ -9,7 +9,8 @@ use Rattle.account.proofs.passing.passes_from.Tie as tie
 
 returns : tie.Need-returns
 returns c =
-    let start = c .before .before .before .before in
+    let c-4 = c .before .before .before .before in
+    let start = c-4 in
     none-run (start .args .file .now) (start .args .first .now) (start .args .counts .now) (start .args .k) (omega (arith, start .pre .0))
 
 whole-at-requires : tie.Need-whole-at-requires
@@ -32,52 +33,78 @@ may-run-requires c κs = search needs
 
 returns-2 : tie.Need-returns-2
 returns-2 c =
-    let start = c .before .before .before .before .before .before .before .before .before .before in
+    let c-10 = c .before .before .before .before .before .before .before .before .before .before in
+    let start = c-10 in
     none-run (start .args .file .now) (start .args .first .now) (start .args .counts .now) (start .args .k) (omega (arith, start .pre .0))
 
 prompts-from-requires : tie.Need-prompts-from-requires
 prompts-from-requires c κs =
-    let start = c .before .before .before .before .before .before .before .before .before .before .before in
-    let contract = c .before .before .before .before .contract in
-    begins-read 2 (c .before .before .before .before .before .kind .result) (contract .result) (start .pre .0) (start .pre .1)
-    (c .before .before .before .before .before .before .before .if1 .left) (c .before .before .before .before .before .before .whole-at .ensures)
-    (c .before .before .before .whole-at2 .ensures) (c .before .before .before .before .before .kind .ensures .0) (contract .ensures .0) (contract .ensures .1)
-    (sym (c .before .before .may-run .ensures) ∙ not-false _ (c .before .if2 .left)) (c .if3 .taken)
+    let c-1 = c .before in
+    let after-may-run = c-1 .before in
+    let after-whole-at2 = after-may-run .before in
+    let after-contract = after-whole-at2 .before in
+    let after-kind = after-contract .before in
+    let after-whole-at = after-kind .before in
+    let c-7 = after-whole-at .before in
+    let c-11 = c-7 .before .before .before .before in
+    let start = c-11 in
+    let contract = after-contract .contract in
+    begins-read 2 (after-kind .kind .result) (contract .result) (start .pre .0) (start .pre .1)
+    (c-7 .if1 .left) (after-whole-at .whole-at .ensures)
+    (after-whole-at2 .whole-at2 .ensures) (after-kind .kind .ensures .0) (contract .ensures .0) (contract .ensures .1)
+    (sym (after-may-run .may-run .ensures) ∙ not-false _ (c-1 .if2 .left)) (c .if3 .taken)
 
 returns-3 : tie.Need-returns-3
 returns-3 c = search needs
 
 rows-from-requires : tie.Need-rows-from-requires
 rows-from-requires c κs =
-    let start = c .before .before .before .before .before .before .before .before .before .before .before .before in
-    let contract = c .before .before .before .before .before .contract in
-    begins-read 3 (c .before .before .before .before .before .before .kind .result) (contract .result) (start .pre .0) (start .pre .1)
-    (c .before .before .before .before .before .before .before .before .if1 .left)
-    (c .before .before .before .before .before .before .before .whole-at .ensures)
-    (c .before .before .before .before .whole-at2 .ensures) (c .before .before .before .before .before .before .kind .ensures .0)
+    let c-2 = c .before .before in
+    let after-may-run = c-2 .before in
+    let after-whole-at2 = after-may-run .before in
+    let after-contract = after-whole-at2 .before in
+    let after-kind = after-contract .before in
+    let after-whole-at = after-kind .before in
+    let c-8 = after-whole-at .before in
+    let c-12 = c-8 .before .before .before .before in
+    let start = c-12 in
+    let contract = after-contract .contract in
+    begins-read 3 (after-kind .kind .result) (contract .result) (start .pre .0) (start .pre .1)
+    (c-8 .if1 .left)
+    (after-whole-at .whole-at .ensures)
+    (after-whole-at2 .whole-at2 .ensures) (after-kind .kind .ensures .0)
     (contract .ensures .0) (contract .ensures .1)
-    (sym (c .before .before .before .may-run .ensures) ∙ not-false _ (c .before .before .if2 .left)) (c .if4 .taken)
+    (sym (after-may-run .may-run .ensures) ∙ not-false _ (c-2 .if2 .left)) (c .if4 .taken)
 
 returns-4 : tie.Need-returns-4
 returns-4 c = search needs
 
 spreads-from-requires : tie.Need-spreads-from-requires
 spreads-from-requires c κs =
-    let start = c .before .before .before .before .before .before .before .before .before .before .before .before .before in
-    let contract = c .before .before .before .before .before .before .contract in
-    begins-read 4 (c .before .before .before .before .before .before .before .kind .result) (contract .result) (start .pre .0) (start .pre .1)
-    (c .before .before .before .before .before .before .before .before .before .if1 .left)
-    (c .before .before .before .before .before .before .before .before .whole-at .ensures)
-    (c .before .before .before .before .before .whole-at2 .ensures) (c .before .before .before .before .before .before .before .kind .ensures .0)
+    let c-3 = c .before .before .before in
+    let after-may-run = c-3 .before in
+    let after-whole-at2 = after-may-run .before in
+    let after-contract = after-whole-at2 .before in
+    let after-kind = after-contract .before in
+    let after-whole-at = after-kind .before in
+    let c-9 = after-whole-at .before in
+    let c-13 = c-9 .before .before .before .before in
+    let start = c-13 in
+    let contract = after-contract .contract in
+    begins-read 4 (after-kind .kind .result) (contract .result) (start .pre .0) (start .pre .1)
+    (c-9 .if1 .left)
+    (after-whole-at .whole-at .ensures)
+    (after-whole-at2 .whole-at2 .ensures) (after-kind .kind .ensures .0)
     (contract .ensures .0) (contract .ensures .1)
-    (sym (c .before .before .before .before .may-run .ensures) ∙ not-false _ (c .before .before .before .if2 .left)) (c .if5 .taken)
+    (sym (after-may-run .may-run .ensures) ∙ not-false _ (c-3 .if2 .left)) (c .if5 .taken)
 
 returns-5 : tie.Need-returns-5
 returns-5 c = search needs
 
 returns-6 : tie.Need-returns-6
 returns-6 c =
-    let start = c .before .before .before .before .before .before .before .before .before .before .before .before .before in
+    let c-13 = c .before .before .before .before .before .before .before .before .before .before .before .before .before in
+    let start = c-13 in
     none-run (start .args .file .now) (start .args .first .now) (start .args .counts .now) (start .args .k) (omega (arith, start .pre .0))
 
 pub passes-from-spec : {M : Type 1} → statement M

@@ -5,7 +5,7 @@ use mathlib.Core.Path.{_≡_, sym, _∙_}
 use mathlib.Core.List.{List}
 use native.Mathlib.Omega.{arith}
 use borrow.Author.Tests.{not-false}
-use Rattle.account.specs.Passing.{promptPasses, RunTo}
+use Rattle.account.specs.code.Passing.{promptPasses, RunTo}
 use Rattle.account.specs.Records.{recordAt}
 use Rattle.account.proofs.Runs.{run-start, run-next}
 use Rattle.account.proofs.passing.prompts_to.Statement.{statement}
@@ -36,7 +36,9 @@ prompt-passes-requires : tie.Need-prompt-passes-requires Inv-loop μ-loop
 prompt-passes-requires c κs = tt
 
 returns : tie.Need-returns Inv-loop μ-loop
-returns c = c .before .before .before .before .before .loop .inv
+returns c =
+    let after-loop = c .before .before .before .before .before in
+    after-loop .loop .inv
 
 add-i : tie.Need-add-i Inv-loop μ-loop
 add-i c = omega arith
@@ -46,13 +48,18 @@ loop-less c = omega arith
 
 loop-again : tie.Need-loop-again Inv-loop μ-loop
 loop-again c =
-    let args = c .before .before .before .before .before .before .before .args in
+    let after-prompt-passes = c .before in
+    let after-whole-at2 = after-prompt-passes .before in
+    let after-whole-at = after-whole-at2 .before in
+    let after-loop = after-whole-at .before .before in
+    let start = after-loop .before .before in
+    let args = start .args in
     let file = args .file .now in
-    let l = c .before .before .before .before .before .loop in
-    let met : promptPasses (args .c) (c .before .before .before .whole-at .result .now) (c .before .before .whole-at2 .result .now) ≡ true =
-    sym (c .before .prompt-passes .ensures) ∙ not-false _ (c .if1 .left) in
+    let l = after-loop .loop in
+    let met : promptPasses (args .c) (after-whole-at .whole-at .result .now) (after-whole-at2 .whole-at2 .result .now) ≡ true =
+    sym (after-prompt-passes .prompt-passes .ensures) ∙ not-false _ (c .if1 .left) in
     run-next (passes file (args .c)) (l .inv) (omega arith)
-    (sym (λ i. promptPasses (args .c) (c .before .before .before .whole-at .ensures i) (c .before .before .whole-at2 .ensures i)) ∙ met)
+    (sym (λ i. promptPasses (args .c) (after-whole-at .whole-at .ensures i) (after-whole-at2 .whole-at2 .ensures i)) ∙ met)
 
 returns-2 : tie.Need-returns-2 Inv-loop μ-loop
 returns-2 c = c .before .loop .inv

@@ -3,7 +3,7 @@ use Prim.Native.Nat.{ℕ, _+_, _-_, min}
 use mathlib.Core.Path.{subst, _∙_}
 use mathlib.Core.List.{List}
 use borrow.Author.Needs.{needs}
-use Rattle.account.specs.Passing.{DaysOf, rowPasses, RunTo}
+use Rattle.account.specs.code.Passing.{DaysOf, rowPasses, RunTo}
 use Rattle.account.specs.Records.{recordAt, records}
 use Rattle.account.proofs.Runs.{rows-run}
 use Rattle.account.proofs.passing.rows_from.Statement.{statement}
@@ -35,15 +35,20 @@ rows-to-requires c κs = search needs
 
 returns : tie.Need-returns
 returns c =
-    let start = c .before .before .before .before .before .before .before .before .before .before in
+    let after-days-of = c .before .before in
+    let after-part-at = after-days-of .before in
+    let after-room-to = after-part-at .before in
+    let after-record-count = after-room-to .before .before in
+    let c-10 = after-record-count .before .before .before .before in
+    let start = c-10 in
     let args = start .args in
     let file = args .file .now in
-    let days = c .before .before .days-of in
-    let end = c .before .before .before .before .room-to .ensures
+    let days = after-days-of .days-of in
+    let end = after-room-to .room-to .ensures
     ∙ (λ i. min (args .k + (128 - c .before .before .before .before .before .noted .ensures i))
-    (c .before .before .before .before .before .before .record-count .ensures i)) in
+    (after-record-count .record-count .ensures i)) in
     rows-run file (args .first .now) (args .counts .now) (args .k) (args .c) (start .pre) (days .result)
-    (subst (λ (part : List ℕ). DaysOf (records part) (days .result)) (c .before .before .before .part-at .ensures) (days .ensures))
+    (subst (λ (part : List ℕ). DaysOf (records part) (days .result)) (after-part-at .part-at .ensures) (days .ensures))
     (subst (λ (end : ℕ). RunTo (λ j. rowPasses (args .c) (days .result) (recordAt file j)) (args .k) end (c .rows-to .result))
     end (c .rows-to .ensures))
 

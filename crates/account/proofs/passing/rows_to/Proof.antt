@@ -5,7 +5,7 @@ use mathlib.Core.Path.{sym, ap, _∙_}
 use mathlib.Core.List.{List}
 use native.Mathlib.Omega.{arith}
 use borrow.Author.Tests.{not-false}
-use Rattle.account.specs.Passing.{rowPasses, RunTo}
+use Rattle.account.specs.code.Passing.{rowPasses, RunTo}
 use Rattle.account.specs.Records.{recordAt}
 use Rattle.account.proofs.Runs.{run-start, run-next}
 use Rattle.account.proofs.passing.rows_to.Statement.{statement}
@@ -30,7 +30,9 @@ row-passes-requires : tie.Need-row-passes-requires Inv-loop μ-loop
 row-passes-requires c κs = tt
 
 returns : tie.Need-returns Inv-loop μ-loop
-returns c = c .before .before .before .before .loop .inv
+returns c =
+    let after-loop = c .before .before .before .before in
+    after-loop .loop .inv
 
 add-i : tie.Need-add-i Inv-loop μ-loop
 add-i c = omega arith
@@ -40,11 +42,15 @@ loop-less c = omega arith
 
 loop-again : tie.Need-loop-again Inv-loop μ-loop
 loop-again c =
-    let args = c .before .before .before .before .before .before .args in
-    let l = c .before .before .before .before .loop in
+    let after-row-passes = c .before in
+    let after-whole-at = after-row-passes .before in
+    let after-loop = after-whole-at .before .before in
+    let start = after-loop .before .before in
+    let args = start .args in
+    let l = after-loop .loop in
     run-next (passes (args .file .now) (args .days .now) (args .c)) (l .inv) (omega arith)
-    (ap (rowPasses (args .c) (args .days .now)) (sym (c .before .before .whole-at .ensures))
-    ∙ sym (c .before .row-passes .ensures) ∙ not-false _ (c .if1 .left))
+    (ap (rowPasses (args .c) (args .days .now)) (sym (after-whole-at .whole-at .ensures))
+    ∙ sym (after-row-passes .row-passes .ensures) ∙ not-false _ (c .if1 .left))
 
 returns-2 : tie.Need-returns-2 Inv-loop μ-loop
 returns-2 c = c .before .loop .inv

@@ -3,7 +3,7 @@ use Prim.Native.Nat.{ℕ, _+_, _-_, min}
 use mathlib.Core.Path.{subst, _∙_}
 use mathlib.Core.List.{List}
 use borrow.Author.Needs.{needs}
-use Rattle.account.specs.Passing.{TiersOf, spreadPasses, RunTo}
+use Rattle.account.specs.code.Passing.{TiersOf, spreadPasses, RunTo}
 use Rattle.account.specs.Records.{recordAt, records}
 use Rattle.account.proofs.Runs.{spreads-run}
 use Rattle.account.proofs.passing.spreads_from.Statement.{statement}
@@ -35,15 +35,20 @@ spreads-to-requires c κs = search needs
 
 returns : tie.Need-returns
 returns c =
-    let start = c .before .before .before .before .before .before .before .before .before .before in
+    let after-tiers-of = c .before .before in
+    let after-part-at = after-tiers-of .before in
+    let after-room-to = after-part-at .before in
+    let after-record-count = after-room-to .before .before in
+    let c-10 = after-record-count .before .before .before .before in
+    let start = c-10 in
     let args = start .args in
     let file = args .file .now in
-    let tiers = c .before .before .tiers-of in
-    let end = c .before .before .before .before .room-to .ensures
+    let tiers = after-tiers-of .tiers-of in
+    let end = after-room-to .room-to .ensures
     ∙ (λ i. min (args .k + (32 - c .before .before .before .before .before .noted .ensures i))
-    (c .before .before .before .before .before .before .record-count .ensures i)) in
+    (after-record-count .record-count .ensures i)) in
     spreads-run file (args .first .now) (args .counts .now) (args .k) (args .c) (start .pre) (tiers .result)
-    (subst (λ (part : List ℕ). TiersOf (records part) (tiers .result)) (c .before .before .before .part-at .ensures) (tiers .ensures))
+    (subst (λ (part : List ℕ). TiersOf (records part) (tiers .result)) (after-part-at .part-at .ensures) (tiers .ensures))
     (subst (λ (end : ℕ). RunTo (λ j. spreadPasses (args .c) (tiers .result) (recordAt file j)) (args .k) end (c .spreads-to .result))
     end (c .spreads-to .ensures))
 

@@ -35,11 +35,13 @@ loop-less : tie.Need-loop-less Inv-loop μ-loop
 loop-less c = omega arith
 
 loop-again : tie.Need-loop-again Inv-loop μ-loop
-loop-again c = (
-  tiers-next (c .before .before .before .loop .inv .0) (c .tier .result) (c .tier .ensures .0 ∙ ap tier (c .before .whole-at .ensures))
-      (c .tier .ensures .1),
-  omega arith,
-)
+loop-again c =
+    let after-whole-at = c .before in
+    let after-loop = after-whole-at .before .before in (
+      tiers-next (after-loop .loop .inv .0) (c .tier .result) (c .tier .ensures .0 ∙ ap tier (after-whole-at .whole-at .ensures))
+          (c .tier .ensures .1),
+      omega arith,
+    )
 
 returns : tie.Need-returns Inv-loop μ-loop
 returns c = tiers-end (c .before .loop .inv .0) (omega arith)

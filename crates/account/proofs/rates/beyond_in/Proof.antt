@@ -1,6 +1,6 @@
 -- `beyond_in`: the product, converted, tested.
 -- Assumes nothing.
-use mathlib.Core.Path.{_≡_, refl, sym, _∙_, ap, subst}
+use mathlib.Core.Path.{refl, sym, _∙_, ap, subst}
 use Prim.Native.Nat.{_≤_}
 use native.Mathlib.Omega.{arith}
 use lib.Dec.{ltb}
@@ -8,7 +8,7 @@ use lib.IntN.{ℤ, natAbs, _*ℤ_}
 use borrow.Author.Needs.{needs}
 use Rattle.exact.specs.Signed.{Sized}
 use Rattle.exact.proofs.Integers.{back, seen}
-use Rattle.exact.proofs.SignedCalls.{times-fits, times-is, sized-back}
+use Rattle.exact.proofs.SignedCalls.{times-fits, times-is}
 use Rattle.account.specs.Products.{convertedAt, mostConversion}
 use Rattle.account.proofs.rates.beyond_in.Statement.{statement}
 use Rattle.account.proofs.rates.beyond_in.Tie as tie
@@ -34,13 +34,16 @@ is-beyond-requires c κs = search needs
 
 returns : tie.Need-returns
 returns c =
-    let s = c .before .before .before .args in
-    let t = c .before .before .times in
-    let v = c .before .converted in
+    let after-converted = c .before in
+    let after-times = after-converted .before in
+    let start = after-times .before in
+    let s = start .args in
+    let t = after-times .times in
+    let v = after-converted .converted in
     seen (λ (z : ℤ). ltb mostConversion (natAbs z)) (v .result) (record { sfits = v .ok }) (c .is-beyond .ensures)
     ∙ ap (λ (z : ℤ). ltb mostConversion (natAbs z))
     (seen (convertedAt (s .f .raised) (s .f .lowered)) (t .result) (record { sfits = t .ok }) (v .ensures)
-    ∙ ap (convertedAt (s .f .raised) (s .f .lowered)) (multiplied (c .before .before) .is))
+    ∙ ap (convertedAt (s .f .raised) (s .f .lowered)) (multiplied (after-times) .is))
 
 pub beyond-in-spec : {M : Type 1} → statement M
 beyond-in-spec = tie.close (tie.spec times-requires converted-requires is-beyond-requires returns)

@@ -9,9 +9,8 @@ use lib.IntN.{ℤ, natAbs, _*ℤ_}
 use mir.Syntax.{w64}
 use mir.Val.{toZ, ofZ}
 use denote.Ref.{now}
-use borrow.Author.Needs.{needs}
 use Rattle.exact.specs.Lists.{any}
-use Rattle.exact.proofs.Integers.{back, seen₂}
+use Rattle.exact.proofs.Integers.{back}
 use Rattle.record.specs.Bytes.{countFrom}
 use Rattle.record.specs.Layout.{Record, loss}
 use Rattle.record.specs.Within.{Between}
@@ -55,8 +54,10 @@ loss-requires c κs = tt
 
 beyond-in-requires : tie.Need-beyond-in-requires Inv-loop μ-loop
 beyond-in-requires c κs =
-    let s = c .before .before .before .before in
-    let i = c .before .before .loop in
+    let after-loop = c .before .before in
+    let c-4 = after-loop .before .before in
+    let s = c-4 in
+    let i = after-loop .loop in
     let in-range : Between 1 (i .s + 1) 16 = record { least = omega arith; most = omega arith } in (
       subst (λ (z : ℤ). natAbs z ≤ 1000000000) (sym (back (s .args .each) (s .fits .each))) (s .pre .0),
       (
@@ -74,14 +75,17 @@ loop-less c = omega arith
 
 loop-again : tie.Need-loop-again Inv-loop μ-loop
 loop-again c =
-    let s = c .before .before .before .before .before in
-    let i = c .before .before .before .loop in
+    let after-loss = c .before in
+    let after-loop = after-loss .before .before in
+    let c-5 = after-loop .before .before in
+    let s = c-5 in
+    let i = after-loop .loop in
     let row = s .args .row .now in
     let p = beyond (s .args .f .raised) (s .args .f .lowered) (toZ w64 (ofZ w64 (s .args .each))) row in
     let here : c .beyond-in .result ≡ p (i .s + 1) =
     c .beyond-in .ensures
     ∙ ap (λ (z : ℤ). ltb mostConversion (natAbs (convertedAt (s .args .f .raised) (s .args .f .lowered) (toZ w64 (ofZ w64 (s .args .each)) *ℤ z))))
-    (back (c .before .loss .result) (record { sfits = c .before .loss .ok }) ∙ c .before .loss .ensures) in (
+    (back (after-loss .loss .result) (record { sfits = after-loss .loss .ok }) ∙ after-loss .loss .ensures) in (
       omega arith,
       i .inv .1 ∙ one-more p (i .found) (i .s) (omega arith)
           ∙ ap (λ (t : Bool). (i .found || t) || any p (countFrom (i .s + 1 + 1) (16 - (i .s + 1)))) (sym here),
@@ -89,8 +93,10 @@ loop-again c =
 
 returns : tie.Need-returns Inv-loop μ-loop
 returns c =
-    let s = c .before .before .before in
-    let i = c .before .loop in
+    let after-loop = c .before in
+    let c-3 = after-loop .before .before in
+    let s = c-3 in
+    let i = after-loop .loop in
     let row = s .args .row .now in
     let p : ℤ → ℕ → Bool = λ z. beyond (s .args .f .raised) (s .args .f .lowered) z row in
     let done : 16 - i .s ≡ 0 = omega arith in

@@ -1,7 +1,6 @@
 -- `is_beyond`: by the size.
 -- Assumes nothing.
-use mathlib.Core.Path.{_∙_, ap}
-use Prim.Native.Nat.{ℕ}
+use mathlib.Core.Path.{ap}
 use lib.Dec.{ltb}
 use lib.IntN.{natAbs}
 use borrow.Author.Needs.{needs}

@@ -2,20 +2,21 @@
 -- Assumes nothing.
 use mathlib.Core.Path.{_≡_, _∙_, sym, ap, subst}
 use mathlib.Core.List.{List, [], _∷_}
-use Prim.Native.Nat.{ℕ, _+_, _-_, _*_, _≤_, _<_}
+use Prim.Native.Nat.{ℕ, _+_, _-_, _*_, _≤_}
 use native.Mathlib.Omega.{arith}
 use lib.ListN.{drop}
 use denote.Ref.{now}
 use borrow.Author.Needs.{needs}
+use Rattle.record.specs.Bytes.{recordBytes}
 use Rattle.record.specs.Layout.{Record}
-use Rattle.account.specs.Products.{RatesOf}
-use Rattle.account.specs.Records.{cut, records, recordAt, recordCount}
+use Rattle.account.specs.code.Rates.{RatesOf}
+use Rattle.account.specs.Records.{cut, recordAt, recordCount}
 use Rattle.account.proofs.Walk.{cut-on}
 use Rattle.account.proofs.rates.rates_of.Statement.{statement}
 use Rattle.account.proofs.rates.rates_of.Tie as tie
 
 abbrev from-here : List ℕ → ℕ → List Record
-from-here file i = cut (recordCount file - i) (drop (i * 96) file)
+from-here file i = cut (recordCount file - i) (drop (i * recordBytes) file)
 
 abbrev Inv-loop : tie.InvT-loop
 Inv-loop rates t₀ i₀ t i = (i ≤ recordCount rates) × RatesOf (from-here rates i) t
@@ -31,11 +32,13 @@ record-count-requires c κs = search needs
 
 loop-holds : tie.Need-loop-holds Inv-loop μ-loop
 loop-holds c =
-    let file = c .before .before .before .args .rates .now in
+    let after-no-rates = c .before in
+    let start = after-no-rates .before .before in
+    let file = start .args .rates .now in
     let past : recordCount file - c .record-count .result ≡ 0 = omega (arith, c .record-count .ensures) in
-    let none : from-here file (c .record-count .result) ≡ [] = ap (λ (n : ℕ). cut n (drop (c .record-count .result * 96) file)) past in (
+    let none : from-here file (c .record-count .result) ≡ [] = ap (λ (n : ℕ). cut n (drop (c .record-count .result * recordBytes) file)) past in (
       omega (arith, c .record-count .ensures),
-      subst (λ (rates : List Record). RatesOf rates (c .before .no-rates .result)) (sym none) (c .before .no-rates .ensures),
+      subst (λ (rates : List Record). RatesOf rates (after-no-rates .no-rates .result)) (sym none) (after-no-rates .no-rates .ensures),
     )
 
 sub-i : tie.Need-sub-i Inv-loop μ-loop
@@ -52,22 +55,27 @@ loop-less c = omega arith
 
 loop-again : tie.Need-loop-again Inv-loop μ-loop
 loop-again c =
-    let file = c .before .before .before .before .before .before .before .args .rates .now in
-    let i = c .before .before .before .loop in
+    let after-whole-at = c .before in
+    let after-loop = after-whole-at .before .before in
+    let start = after-loop .before .before .before .before in
+    let file = start .args .rates .now in
+    let i = after-loop .loop in
     let back-one : i .i - 1 + 1 ≡ i .i = omega arith in
     let more : from-here file (i .i - 1) ≡ recordAt file (i .i - 1) ∷ from-here file (i .i) =
     cut-on file (recordCount file) (i .i - 1) (omega (arith, i .inv .0))
     ∙ ap (λ (k : ℕ). recordAt file (i .i - 1) ∷ from-here file k) back-one in (
       omega (arith, i .inv .0),
       subst (λ (rates : List Record). RatesOf rates (c .with-rate .result))
-          (ap (λ (r : Record). r ∷ from-here file (i .i)) (c .before .whole-at .ensures) ∙ sym more)
+          (ap (λ (r : Record). r ∷ from-here file (i .i)) (after-whole-at .whole-at .ensures) ∙ sym more)
           (c .with-rate .ensures (from-here file (i .i)) (i .inv .1)),
     )
 
 returns : tie.Need-returns Inv-loop μ-loop
 returns c =
-    let file = now (c .before .before .before .before .before .args .rates) in
-    let i = c .before .loop in
+    let after-loop = c .before in
+    let start = after-loop .before .before .before .before in
+    let file = now (start .args .rates) in
+    let i = after-loop .loop in
     let none : i .i ≡ 0 = omega arith in
     let all : recordCount file - 0 ≡ recordCount file = omega arith in
     subst (λ (n : ℕ). RatesOf (cut n file) (i .t)) all (subst (λ (k : ℕ). RatesOf (from-here file k) (i .t)) none (i .inv .1))

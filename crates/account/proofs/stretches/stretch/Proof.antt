@@ -36,8 +36,10 @@ part-result-end-2 c = search needs
 
 returns-2 : tie.Need-returns-2
 returns-2 c =
-    let a = c .before .before .before .args in
-    stretch-rest (a .file .now) (a .k) (a .n) (omega arith) (c .before .if2 .taken)
+    let c-1 = c .before in
+    let start = c-1 .before .before in
+    let a = start .args in
+    stretch-rest (a .file .now) (a .k) (a .n) (omega arith) (c-1 .if2 .taken)
 
 mul-end : tie.Need-mul-end
 mul-end c = search needs
@@ -56,7 +58,8 @@ part-result-end-3 c = search needs
 
 returns-3 : tie.Need-returns-3
 returns-3 c =
-    let a = c .before .before .before .args in
+    let start = c .before .before .before in
+    let a = start .args in
     stretch-whole (a .file .now) (a .k) (a .n)
 
 pub stretch-spec : {M : Type 1} → statement M

@@ -16,7 +16,8 @@ add-charged-2 c = search needs
 
 returns : tie.Need-returns
 returns c =
-    let s = c .before .before .before .before .before .before .args in
+    let start = c .before .before .before .before .before .before in
+    let s = start .args in
     let none : s .scanning .0 + s .interprompt .0 + s .prompt .0 - s .credit .0 ≡ 0 = omega arith in
     sym (ap (λ (n : ℕ). ltb n (s .minimum .0)) none)
 

@@ -6,7 +6,7 @@ use mathlib.Core.Path.{ap, _∙_}
 use Prim.Native.Nat.{ℕ}
 use lib.Dec.{ltb}
 use Rattle.exact.specs.Lists.{oneIf}
-use Rattle.margin.specs.Margin.{risk}
+use Rattle.formulas.specs.Margin.{risk}
 use Rattle.committee.proofs.contracts.found_at.Statement.{statement}
 use Rattle.committee.proofs.contracts.found_at.Tie as tie
 
@@ -51,14 +51,18 @@ amount-at-requires-6 c κs = search needs
 
 above-risk-requires : tie.Need-above-risk-requires
 above-risk-requires c κs =
-    let s = c .before .before .before .before .before .before in
+    let after-amount-at3 = c .before .before .before in
+    let after-amount-at2 = after-amount-at3 .before in
+    let after-amount-at = after-amount-at2 .before in
+    let c-6 = after-amount-at .before in
+    let s = c-6 in
     let h = s .pre .0 .risk-within (s .args .i) (s .pre .1) in
     omega (
       arith,
       h,
-      c .before .before .before .before .before .amount-at .ensures,
-      c .before .before .before .before .amount-at2 .ensures,
-      c .before .before .before .amount-at3 .ensures,
+      after-amount-at .amount-at .ensures,
+      after-amount-at2 .amount-at2 .ensures,
+      after-amount-at3 .amount-at3 .ensures,
     )
 
 one-if-requires : tie.Need-one-if-requires
@@ -69,17 +73,25 @@ one-if-requires-2 c κs = search needs
 
 returns : tie.Need-returns
 returns c =
-    let scanning = c .before .before .before .before .before .before .before .before .before .amount-at .ensures in
-    let interprompt = c .before .before .before .before .before .before .before .before .amount-at2 .ensures in
-    let prompt = c .before .before .before .before .before .before .before .amount-at3 .ensures in
-    let credit = c .before .before .before .before .before .before .amount-at4 .ensures in
-    let minimum = c .before .before .before .before .before .amount-at5 .ensures in
+    let after-one-if = c .before in
+    let after-above-risk = after-one-if .before .before in
+    let after-amount-at6 = after-above-risk .before in
+    let after-amount-at5 = after-amount-at6 .before in
+    let after-amount-at4 = after-amount-at5 .before in
+    let after-amount-at3 = after-amount-at4 .before in
+    let after-amount-at2 = after-amount-at3 .before in
+    let after-amount-at = after-amount-at2 .before in
+    let scanning = after-amount-at .amount-at .ensures in
+    let interprompt = after-amount-at2 .amount-at2 .ensures in
+    let prompt = after-amount-at3 .amount-at3 .ensures in
+    let credit = after-amount-at4 .amount-at4 .ensures in
+    let minimum = after-amount-at5 .amount-at5 .ensures in
     record {
-      margin-is = c .before .before .before .before .amount-at6 .ensures;
-      credits-are = c .before .one-if .ensures ∙ ap (λ (n : ℕ). oneIf (ltb 0 n)) credit;
+      margin-is = after-amount-at6 .amount-at6 .ensures;
+      credits-are = after-one-if .one-if .ensures ∙ ap (λ (n : ℕ). oneIf (ltb 0 n)) credit;
       above-is =
           c .one-if2 .ensures
-          ∙ ap oneIf (c .before .before .before .above-risk .ensures ∙ (λ i. ltb (risk (scanning i) (interprompt i) (prompt i) (credit i)) (minimum i)));
+          ∙ ap oneIf (after-above-risk .above-risk .ensures ∙ (λ i. ltb (risk (scanning i) (interprompt i) (prompt i) (credit i)) (minimum i)));
     }
 
 pub found-at-spec : {M : Type 1} → statement M

@@ -20,43 +20,63 @@ found-at-requires c κs = (c .before .before .pre, c .loop-test .taken)
 
 add-margin : tie.Need-add-margin Inv-loop μ-loop
 add-margin c =
-    let s = c .before .before .before .before in
-    let l = c .before .before .before .loop in
-    let t = c .before .before .loop-test .taken in
-    let f = c .before .found-at in
+    let after-found-at = c .before in
+    let after-loop-test = after-found-at .before in
+    let after-loop = after-loop-test .before in
+    let c-4 = after-loop .before in
+    let s = c-4 in
+    let l = after-loop .loop in
+    let t = after-loop-test .loop-test .taken in
+    let f = after-found-at .found-at in
     let small = margin-small (s .args .numbers .now) (s .pre) (l .i) (l .margin) (l .credits) (l .above) (l .inv) t (f .result) (f .ensures) in
     omega (arith, l .inv .margin-most, t, small)
 
 add-credits : tie.Need-add-credits Inv-loop μ-loop
 add-credits c =
-    let s = c .before .before .before .before .before in
-    let l = c .before .before .before .before .loop in
-    let t = c .before .before .before .loop-test .taken in
-    let f = c .before .before .found-at in
+    let after-found-at = c .before .before in
+    let after-loop-test = after-found-at .before in
+    let after-loop = after-loop-test .before in
+    let c-5 = after-loop .before in
+    let s = c-5 in
+    let l = after-loop .loop in
+    let t = after-loop-test .loop-test .taken in
+    let f = after-found-at .found-at in
     let small = credits-small (s .args .numbers .now) (s .pre) (l .i) (l .margin) (l .credits) (l .above) (l .inv) t (f .result) (f .ensures) in
     omega (arith, l .inv .credits-most, t, small)
 
 add-above : tie.Need-add-above Inv-loop μ-loop
 add-above c =
-    let s = c .before .before .before .before .before .before in
-    let l = c .before .before .before .before .before .loop in
-    let t = c .before .before .before .before .loop-test .taken in
-    let f = c .before .before .before .found-at in
+    let after-found-at = c .before .before .before in
+    let after-loop-test = after-found-at .before in
+    let after-loop = after-loop-test .before in
+    let c-6 = after-loop .before in
+    let s = c-6 in
+    let l = after-loop .loop in
+    let t = after-loop-test .loop-test .taken in
+    let f = after-found-at .found-at in
     let small = above-small (s .args .numbers .now) (s .pre) (l .i) (l .margin) (l .credits) (l .above) (l .inv) t (f .result) (f .ensures) in
     omega (arith, l .inv .above-most, t, small)
 
 add-i : tie.Need-add-i Inv-loop μ-loop
-add-i c = let t = c .before .before .before .before .loop-test .taken in omega (arith, t)
+add-i c =
+    let after-loop-test = c .before .before .before .before in
+    let t = after-loop-test .loop-test .taken in omega (arith, t)
 
 loop-less : tie.Need-loop-less Inv-loop μ-loop
-loop-less c = let t = c .before .before .before .before .loop-test .taken in omega (arith, t)
+loop-less c =
+    let after-loop-test = c .before .before .before .before in
+    let t = after-loop-test .loop-test .taken in omega (arith, t)
 
 loop-again : tie.Need-loop-again Inv-loop μ-loop
 loop-again c =
-    let s = c .before .before .before .before .before .before in
-    let l = c .before .before .before .before .before .loop in
-    let t = c .before .before .before .before .loop-test .taken in
-    let f = c .before .before .before .found-at in
+    let after-found-at = c .before .before .before in
+    let after-loop-test = after-found-at .before in
+    let after-loop = after-loop-test .before in
+    let c-6 = after-loop .before in
+    let s = c-6 in
+    let l = after-loop .loop in
+    let t = after-loop-test .loop-test .taken in
+    let f = after-found-at .found-at in
     next (s .args .numbers .now) (s .pre) (l .i) (l .margin) (l .credits) (l .above) (l .inv) t (f .result) (f .ensures)
 
 returns : tie.Need-returns Inv-loop μ-loop

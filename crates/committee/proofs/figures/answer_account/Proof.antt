@@ -5,7 +5,7 @@ use mathlib.Core.List.{List}
 use borrow.Author.Needs.{needs}
 use lib.IntN.{ℤ}
 use Rattle.account.specs.Answers.{numberOf}
-use Rattle.committee.specs.Sums.{Fit, FoundIn}
+use Rattle.committee.specs.code.Sums.{Fit, FoundIn}
 use Rattle.committee.proofs.Padded.{fit, account-is}
 use Rattle.committee.proofs.figures.answer_account.Statement.{statement}
 use Rattle.committee.proofs.figures.answer_account.Tie as tie
@@ -24,18 +24,24 @@ slice-aggregate-found-in c = search needs
 
 found-in-requires : tie.Need-found-in-requires
 found-in-requires c κs =
-    let f = c .before .before .before .answer in
-    subst⁻¹ Fit (f .ensures .1) (fit (c .before .before .before .before .before .before .args .account .now))
+    let after-answer = c .before .before .before in
+    let start = after-answer .before .before .before in
+    let f = after-answer .answer in
+    subst⁻¹ Fit (f .ensures .1) (fit (start .args .account .now))
 
 one-if-requires : tie.Need-one-if-requires
 one-if-requires c κs = search needs
 
 returns : tie.Need-returns
 returns c =
-    let f = c .before .before .before .before .before .before .before .answer in
-    let n = c .before .before .before .before .before .number-of in
-    let found = c .before .before .before .found-in in
-    account-is (c .before .before .before .before .before .before .before .before .before .before .args .account .now) (found .result)
+    let after-found-in = c .before .before .before in
+    let after-number-of = after-found-in .before .before in
+    let after-answer = after-number-of .before .before in
+    let start = after-answer .before .before .before in
+    let f = after-answer .answer in
+    let n = after-number-of .number-of in
+    let found = after-found-in .found-in in
+    account-is (start .args .account .now) (found .result)
     (subst (λ (xs : List ℤ). FoundIn xs 16 (found .result)) (f .ensures .1) (found .ensures))
     (n .result) (c .one-if .result) (n .ensures ∙ ap numberOf (f .ensures .0)) (c .one-if .ensures)
 

@@ -5,7 +5,7 @@ use native.Mathlib.Omega.{arith}
 use Prim.Native.Nat.{ℕ, suc, _≤_, zero-le}
 use mathlib.Core.Path.{_≡_, sym, ap, _∙_}
 use lib.ListN.{getD, List·getD-eq-default}
-use Rattle.committee.specs.Sums.{laterNumbers}
+use Rattle.committee.specs.code.Sums.{laterNumbers}
 use Rattle.committee.proofs.sums.later_number.Statement.{statement}
 use Rattle.committee.proofs.sums.later_number.Tie as tie
 
@@ -32,26 +32,37 @@ mean-requires c κs = search needs
 
 returns-6 : tie.Need-returns-6
 returns-6 c =
+    let after-if6 = c .before in
+    let start = after-if6 .before .before .before .before .before .before in
     c .mean .ensures
-    ∙ sym (ap (λ (n : ℕ). getD (laterNumbers (c .before .before .before .before .before .before .before .args .sums)) n 0) (c .before .if6 .taken))
+    ∙ sym (ap (λ (n : ℕ). getD (laterNumbers (start .args .sums)) n 0) (after-if6 .if6 .taken))
 
 left-over-requires : tie.Need-left-over-requires
 left-over-requires c κs = search needs
 
 returns-7 : tie.Need-returns-7
 returns-7 c =
+    let after-if7 = c .before in
+    let start = after-if7 .before .before .before .before .before .before .before in
     c .left-over .ensures
-    ∙ sym (ap (λ (n : ℕ). getD (laterNumbers (c .before .before .before .before .before .before .before .before .args .sums)) n 0) (c .before .if7 .taken))
+    ∙ sym (ap (λ (n : ℕ). getD (laterNumbers (start .args .sums)) n 0) (after-if7 .if7 .taken))
 
 returns-8 : tie.Need-returns-8
 returns-8 c =
-    let s = c .before .before .before .before .before .before .before .args in
-    let one = above 0 (s .k) zero-le (c .before .before .before .before .before .before .if1 .left) in
-    let two = above 1 (s .k) one (c .before .before .before .before .before .if2 .left) in
-    let three = above 2 (s .k) two (c .before .before .before .before .if3 .left) in
-    let four = above 3 (s .k) three (c .before .before .before .if4 .left) in
-    let five = above 4 (s .k) four (c .before .before .if5 .left) in
-    let six = above 5 (s .k) five (c .before .if6 .left) in
+    let after-if6 = c .before in
+    let after-if5 = after-if6 .before in
+    let after-if4 = after-if5 .before in
+    let after-if3 = after-if4 .before in
+    let c-5 = after-if3 .before in
+    let c-6 = c-5 .before in
+    let start = c-6 .before in
+    let s = start .args in
+    let one = above 0 (s .k) zero-le (c-6 .if1 .left) in
+    let two = above 1 (s .k) one (c-5 .if2 .left) in
+    let three = above 2 (s .k) two (after-if3 .if3 .left) in
+    let four = above 3 (s .k) three (after-if4 .if4 .left) in
+    let five = above 4 (s .k) four (after-if5 .if5 .left) in
+    let six = above 5 (s .k) five (after-if6 .if6 .left) in
     let seven = above 6 (s .k) six (c .if7 .left) in
     sym (List·getD-eq-default (laterNumbers (s .sums)) 0 {n = s .k} seven)
 

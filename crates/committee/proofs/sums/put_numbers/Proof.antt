@@ -11,13 +11,13 @@ use borrow.Author.Needs.{needs}
 use lib.ListN.{length, length-map, length-set, getD, set, drop, List·getD-map}
 use lib.Seq.{paste, paste-suc, take-all}
 use Rattle.exact.proofs.Integers.{back}
-use Rattle.committee.specs.Sums.{numbersOf}
+use Rattle.committee.specs.code.Sums.{sumsNumbers}
 use Rattle.committee.proofs.SumLaws.{numbers-length, number-fits}
 use Rattle.committee.proofs.sums.put_numbers.Statement.{statement}
 use Rattle.committee.proofs.sums.put_numbers.Tie as tie
 
 abbrev Inv-loop : tie.InvT-loop
-Inv-loop sums out₀ k₀ out k = (out ≡ paste out₀ 0 (map pos (numbersOf sums)) k) × ((k ≤ 24) × (length out ≡ length out₀))
+Inv-loop sums out₀ k₀ out k = (out ≡ paste out₀ 0 (map pos (sumsNumbers sums)) k) × ((k ≤ 24) × (length out ≡ length out₀))
 
 abbrev μ-loop : tie.MeasureT-loop
 μ-loop sums out₀ k₀ out k = 24 - k
@@ -30,8 +30,10 @@ number-at-requires c κs = tt
 
 as-signed-requires : tie.Need-as-signed-requires Inv-loop μ-loop
 as-signed-requires c κs =
-    let s = c .before .before .before in
-    let h = number-fits (s .args .sums) (s .pre .0) (c .before .before .loop .k) in
+    let after-loop = c .before .before in
+    let c-3 = after-loop .before in
+    let s = c-3 in
+    let h = number-fits (s .args .sums) (s .pre .0) (after-loop .loop .k) in
     omega (arith, c .number-at .ensures, h)
 
 mul-t7 : tie.Need-mul-t7 Inv-loop μ-loop
@@ -43,9 +45,12 @@ mul-t7 c =
 
 slice-set-from-out : tie.Need-slice-set-from-out Inv-loop μ-loop
 slice-set-from-out c =
-    let h = c .before .before .before .loop .inv .1 .1 in
-    let t = c .before .before .loop-test .taken in
-    let p = c .before .before .before .before .pre .1 in
+    let after-loop-test = c .before .before in
+    let after-loop = after-loop-test .before in
+    let start = after-loop .before in
+    let h = after-loop .loop .inv .1 .1 in
+    let t = after-loop-test .loop-test .taken in
+    let p = start .pre .1 in
     omega (arith, h, t, p)
 
 add-k : tie.Need-add-k Inv-loop μ-loop
@@ -61,7 +66,7 @@ loop-again c =
     let t = c .before .before .loop-test .taken in
     let h = l .inv .1 .1 in
     let p = s .pre .1 in
-    let numbers = numbersOf (s .args .sums) in
+    let numbers = sumsNumbers (s .args .sums) in
     let long : length (s .args .sums .refusals) ≡ 15 = search needs in
     let all = length-map numbers pos ∙ numbers-length (s .args .sums) long in
     let front : 0 + l .k ≡ l .k = omega arith in
@@ -89,7 +94,7 @@ returns c =
     let t = c .loop-test .left in
     let w = l .inv .1 .0 in
     let e : l .k ≡ 24 = omega (arith, t, w) in
-    let numbers = numbersOf (s .args .sums) in
+    let numbers = sumsNumbers (s .args .sums) in
     let long : length (s .args .sums .refusals) ≡ 15 = search needs in
     let all = length-map numbers pos ∙ numbers-length (s .args .sums) long in
     l .inv .0

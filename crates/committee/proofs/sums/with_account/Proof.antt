@@ -24,41 +24,57 @@ one-if-requires c κs = search needs
 
 add-t17 : tie.Need-add-t17
 add-t17 c =
-    let s = c .before .before .before .before .before .before .before .before .before in
-    omega (arith, s .pre .0 .accepted-most, c .before .one-if .ensures, one-most (eqb (s .args .account .refusal) 0))
+    let after-one-if = c .before in
+    let c-9 = after-one-if .before .before .before .before .before .before .before .before in
+    let s = c-9 in
+    omega (arith, s .pre .0 .accepted-most, after-one-if .one-if .ensures, one-most (eqb (s .args .account .refusal) 0))
 
 one-if-requires-2 : tie.Need-one-if-requires-2
 one-if-requires-2 c κs = search needs
 
 add-t19 : tie.Need-add-t19
 add-t19 c =
-    let s = c .before .before .before .before .before .before .before .before .before .before .before in
-    omega (arith, s .pre .0 .refused-most, c .before .one-if2 .ensures, one-most (not (eqb (s .args .account .refusal) 0)))
+    let after-one-if2 = c .before in
+    let c-11 = after-one-if2 .before .before .before .before .before .before .before .before .before .before in
+    let s = c-11 in
+    omega (arith, s .pre .0 .refused-most, after-one-if2 .one-if2 .ensures, one-most (not (eqb (s .args .account .refusal) 0)))
 
 add-t15 : tie.Need-add-t15
-add-t15 c = let s = c .before .before .before .before .before .before .before .before .before .before .before .before .before in omega
+add-t15 c =
+    let c-13 = c .before .before .before .before .before .before .before .before .before .before .before .before .before in
+    let s = c-13 in omega
     (arith, s .pre .0 .margin-most, s .pre .1)
 
 add-t23 : tie.Need-add-t23
-add-t23 c = let s = c .before .before .before .before .before .before .before .before .before .before .before .before .before .before .before in omega
+add-t23 c =
+    let c-15 = c .before .before .before .before .before .before .before .before .before .before .before .before .before .before .before in
+    let s = c-15 in omega
     (arith, s .pre .0 .credits-most, s .pre .2)
 
 add-t24 : tie.Need-add-t24
-add-t24 c = let s =
-    c .before .before .before .before .before .before .before .before .before .before .before .before .before .before .before .before .before in omega
+add-t24 c =
+    let c-17 = c .before .before .before .before .before .before .before .before .before .before .before .before .before .before .before .before .before in
+    let s =
+    c-17 in omega
     (arith, s .pre .0 .above-most, s .pre .3)
 
 returns : tie.Need-returns
 returns c =
-    let s = c .before .before .before .before .before .before .before .before .before .before .before .before .before .before .before .before .before .args in
+    let after-one-if2 = c .before .before .before .before .before .before .before in
+    let after-one-if = after-one-if2 .before .before in
+    let after-either2 = after-one-if .before in
+    let after-either = after-either2 .before in
+    let after-with-refusal = after-either .before .before .before .before in
+    let start = after-with-refusal .before .before in
+    let s = start .args in
     record {
-      accepted-is = ap (λ (n : ℕ). s .sums .accepted + n) (c .before .before .before .before .before .before .before .before .before .one-if .ensures);
-      refused-is = ap (λ (n : ℕ). s .sums .refused + n) (c .before .before .before .before .before .before .before .one-if2 .ensures);
+      accepted-is = ap (λ (n : ℕ). s .sums .accepted + n) (after-one-if .one-if .ensures);
+      refused-is = ap (λ (n : ℕ). s .sums .refused + n) (after-one-if2 .one-if2 .ensures);
       refusals-are =
-          c .before .before .before .before .before .before .before .before .before .before .before .before .before .before .before .with-refusal .ensures;
+          after-with-refusal .with-refusal .ensures;
       margin-is = refl;
-      largest-is = c .before .before .before .before .before .before .before .before .before .before .before .either .ensures;
-      place-is = c .before .before .before .before .before .before .before .before .before .before .either2 .ensures;
+      largest-is = after-either .either .ensures;
+      place-is = after-either2 .either2 .ensures;
       credits-are = refl;
       above-is = refl;
     }

@@ -7,9 +7,9 @@ use native.Mathlib.Omega.{arith}
 use borrow.Author.Needs.{needs}
 use lib.ListN.{length, getD}
 use Rattle.record.specs.Layout.{Record}
-use Rattle.account.specs.Standing.{accountOf}
+use Rattle.account.specs.Joined.{accountOf}
 use Rattle.margin.specs.Places.{questions, afterEach, questionOf, widthOf}
-use Rattle.margin.specs.Positions.{noPosition, Told}
+use Rattle.margin.specs.code.Positions.{noPosition, Told}
 use Rattle.margin.specs.Questions.{afterOver}
 use Rattle.margin.proofs.BesideLaws.{fits-book}
 use Rattle.margin.proofs.PlaceLaws.{next-each, each-too-few, each-accepted, ends-within}
@@ -33,11 +33,13 @@ mul-if1 c = omega (arith, c .width-of .ensures .1)
 
 returns : tie.Need-returns Inv-loop μ-loop
 returns c =
-    let s = c .before .before .before .before in
+    let after-width-of = c .before in
+    let c-4 = after-width-of .before .before .before in
+    let s = c-4 in
     let p = s .args .paid in
     λ whole t.
     each-too-few (widthOf p) (λ k. afterOver whole (questionOf p k)) whole (s .args .out .now) (s .args .t4 .records)
-    (omega (arith, c .before .width-of .ensures .0, c .if1 .taken)) (t .positions .records-are)
+    (omega (arith, after-width-of .width-of .ensures .0, c .if1 .taken)) (t .positions .records-are)
 
 loop-holds : tie.Need-loop-holds Inv-loop μ-loop
 loop-holds c = (λ whole t. refl, (omega arith, refl))
@@ -50,11 +52,16 @@ element-copy-out-place-contract c = omega (arith, c .loop-test .taken)
 
 place-contract-requires : tie.Need-place-contract-requires Inv-loop μ-loop
 place-contract-requires c κs =
-    let s = c .before .before .before .before .before .before .before .before in
+    let after-loop-test = c .before .before in
+    let after-loop = after-loop-test .before in
+    let c-4 = after-loop .before in
+    let after-width-of = c-4 .before in
+    let c-8 = after-width-of .before .before .before in
+    let s = c-8 in
     let x = s .pre .1 in
-    let l = c .before .before .before .loop in
+    let l = after-loop .loop in
     let k = l .c in
-    let h : k ≤ 15 = omega (arith, c .before .before .loop-test .taken) in (
+    let h : k ≤ 15 = omega (arith, after-loop-test .loop-test .taken) in (
       s .pre .0,
       (
         h,
@@ -65,8 +72,8 @@ place-contract-requires c κs =
             arith,
             ends-within (widthOf (s .args .paid)) k questions
                 (omega arith),
-            c .before .before .before .before .before .width-of .ensures .0,
-            c .before .before .before .before .if1 .left,
+            after-width-of .width-of .ensures .0,
+            c-4 .if1 .left,
             l .inv .1 .1,
           ),
         ),
@@ -74,18 +81,26 @@ place-contract-requires c κs =
     )
 
 add-c : tie.Need-add-c Inv-loop μ-loop
-add-c c = omega (arith, c .before .before .before .before .loop-test .taken)
+add-c c =
+    let after-loop-test = c .before .before .before .before in
+    omega (arith, after-loop-test .loop-test .taken)
 
 loop-less : tie.Need-loop-less Inv-loop μ-loop
-loop-less c = omega (arith, c .before .before .before .before .loop-test .taken)
+loop-less c =
+    let after-loop-test = c .before .before .before .before in
+    omega (arith, after-loop-test .loop-test .taken)
 
 loop-again : tie.Need-loop-again Inv-loop μ-loop
 loop-again c =
-    let s = c .before .before .before .before .before .before .before .before .before .before in
+    let after-place-contract = c .before in
+    let after-loop-test = after-place-contract .before .before .before in
+    let after-loop = after-loop-test .before in
+    let c-10 = after-loop .before .before .before .before .before in
+    let s = c-10 in
     let p = s .args .paid in
-    let l = c .before .before .before .before .before .loop in
-    let r = c .before .place-contract in
-    let h : l .c ≤ 15 = omega (arith, c .before .before .before .before .loop-test .taken) in (
+    let l = after-loop .loop in
+    let r = after-place-contract .place-contract in
+    let h : l .c ≤ 15 = omega (arith, after-loop-test .loop-test .taken) in (
       λ whole t.
           next-each (widthOf p) (λ k. afterOver whole (questionOf p k)) (l .c) (s .args .out .now) (l .out) _ (l .inv .0 whole t)
           (r .ensures whole (record { beside = t .beside; records-are = t .positions .records-are; at = t .positions .each (l .c) h })),
@@ -93,39 +108,55 @@ loop-again c =
     )
 
 tiers-from-requires : tie.Need-tiers-from-requires Inv-loop μ-loop
-tiers-from-requires c κs = c .before .before .before .before .before .before .pre
+tiers-from-requires c κs =
+    let start = c .before .before .before .before .before .before in
+    start .pre
 
 place-table-requires : tie.Need-place-table-requires Inv-loop μ-loop
 place-table-requires c κs =
-    let s = c .before .before .before .before .before .before .before .before in
+    let after-tiers-from = c .before in
+    let after-loop = after-tiers-from .before .before in
+    let c-4 = after-loop .before in
+    let after-width-of = c-4 .before in
+    let c-8 = after-width-of .before .before .before in
+    let s = c-8 in
     let x = s .pre .1 in
-    let l = c .before .before .before .loop in (
+    let l = after-loop .loop in (
       s .pre .0,
       (
-        record { whole = x .whole; beside = x .told .beside; is = c .before .tiers-from .ensures (x .whole) (x .told) },
-        omega (arith, c .before .before .before .before .before .width-of .ensures .0, c .before .before .before .before .if1 .left, l .inv .1 .1),
+        record { whole = x .whole; beside = x .told .beside; is = after-tiers-from .tiers-from .ensures (x .whole) (x .told) },
+        omega (arith, after-width-of .width-of .ensures .0, c-4 .if1 .left, l .inv .1 .1),
       ),
     )
 
 same-length : tie.Need-same-length Inv-loop μ-loop
-same-length c = c .out2 .given ∙ c .before .before .before .before .before .loop .inv .1 .1
+same-length c =
+    let after-loop = c .before .before .before .before .before in
+    c .out2 .given ∙ after-loop .loop .inv .1 .1
 
 returns-2 : tie.Need-returns-2 Inv-loop μ-loop
 returns-2 c =
-    let s = c .before .before .before .before .before .before .before .before .before .before in
+    let after-place-table = c .before in
+    let after-tiers-from = after-place-table .before .before in
+    let after-loop-test = after-tiers-from .before in
+    let after-loop = after-loop-test .before in
+    let c-6 = after-loop .before in
+    let after-width-of = c-6 .before in
+    let c-10 = after-width-of .before .before .before in
+    let s = c-10 in
     let p = s .args .paid in
-    let l = c .before .before .before .before .before .loop in
-    let q : l .c ≡ 16 = omega (arith, c .before .before .before .before .loop-test .left, l .inv .1 .0) in
-    let r = c .before .place-table in
+    let l = after-loop .loop in
+    let q : l .c ≡ 16 = omega (arith, after-loop-test .loop-test .left, l .inv .1 .0) in
+    let r = after-place-table .place-table in
     λ whole t.
     let so-far : l .out ≡ afterEach (widthOf p) (λ k. afterOver whole (questionOf p k)) 16 (s .args .out .now) =
     l .inv .0 whole t ∙ ap (λ (n : ℕ). afterEach (widthOf p) (λ k. afterOver whole (questionOf p k)) n (s .args .out .now)) q
     in
     each-accepted (widthOf p) (λ k. afterOver whole (questionOf p k)) whole (s .args .out .now) _
     (omega
-    (arith, c .before .before .before .before .before .before .before .width-of .ensures .0, c .before .before .before .before .before .before .if1 .left))
+    (arith, after-width-of .width-of .ensures .0, c-6 .if1 .left))
     (next-each (widthOf p) (λ k. afterOver whole (questionOf p k)) 16 (s .args .out .now) (l .out) _ so-far
-    (r .ensures whole (t .beside) (c .before .before .before .tiers-from .ensures whole t) (t .positions .records-are)))
+    (r .ensures whole (t .beside) (after-tiers-from .tiers-from .ensures whole t) (t .positions .records-are)))
 
 pub all-from-spec : {M : Type 1} → statement M
 all-from-spec =

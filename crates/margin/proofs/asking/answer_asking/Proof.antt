@@ -17,13 +17,16 @@ same-length c = search needs
 
 returns : tie.Need-returns
 returns c =
-    let s = c .before .before .before .before in
+    let after-answer-uses = c .before in
+    let c-3 = after-answer-uses .before .before in
+    let c-4 = c-3 .before in
+    let s = c-4 in
     let out = s .args .out .now in
-    let r = c .before .answer-uses in
+    let r = after-answer-uses .answer-uses in
     λ whole question h.
     subst⁻¹ (λ (t : Bool). (r .result ≡ answerOver whole (questionOf t question) (length out))
     × (r .last .1 .1 .0 ≡ afterOver whole (questionOf t question) out))
-    (c .before .before .before .if1 .taken) (r .ensures whole question h)
+    (c-3 .if1 .taken) (r .ensures whole question h)
 
 book-by-requires : tie.Need-book-by-requires
 book-by-requires c κs = search needs
@@ -36,13 +39,16 @@ same-length-2 c = search needs
 
 returns-2 : tie.Need-returns-2
 returns-2 c =
-    let s = c .before .before .before .before .before .before .before in
+    let after-answer-book = c .before in
+    let c-6 = after-answer-book .before .before .before .before .before in
+    let c-7 = c-6 .before in
+    let s = c-7 in
     let out = s .args .out .now in
-    let r = c .before .answer-book in
+    let r = after-answer-book .answer-book in
     λ whole question h.
     subst⁻¹ (λ (t : Bool). (r .result ≡ answerOver whole (questionOf t question) (length out))
     × (r .last .1 .1 .1 .0 ≡ afterOver whole (questionOf t question) out))
-    (c .before .before .before .before .before .before .if1 .left) (r .ensures whole question h)
+    (c-6 .if1 .left) (r .ensures whole question h)
 
 pub answer-asking-spec : {M : Type 1} → statement M
 answer-asking-spec =

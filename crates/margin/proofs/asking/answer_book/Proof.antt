@@ -10,7 +10,7 @@ use lib.Seq.{sets}
 use Rattle.record.specs.Layout.{Record}
 use Rattle.account.specs.declared.answers.Answer.the-variants.{TooFewNumbers}
 use Rattle.margin.specs.Books.{book}
-use Rattle.margin.specs.Questions.{AskedBy}
+use Rattle.margin.specs.code.Asked.{AskedBy}
 use Rattle.margin.specs.declared.asking.Question.the-variants.{Book}
 use Rattle.margin.proofs.AnswerLaws.{book-same, book-many}
 use Rattle.margin.proofs.NumberLaws.{sets-front}
@@ -34,12 +34,14 @@ many s whole question h =
 
 returns : tie.Need-returns
 returns c =
-    let s = c .before .before .before .before in
+    let after-book-count = c .before in
+    let c-4 = after-book-count .before .before .before in
+    let s = c-4 in
     let out = s .args .out .now in
     λ whole question h.
     refused-with (TooFewNumbers (s .args .records)) _ (book whole question) out
     (asked-few whole (Book question) (length out) (h .asked-is)
-    (omega (arith, many s whole question h, c .before .book-count .ensures, c .if1 .taken))
+    (omega (arith, many s whole question h, after-book-count .book-count .ensures, c .if1 .taken))
     ∙ ap TooFewNumbers (sym (h .records-are))) (λ e. omega arith)
 
 put-book-requires : tie.Need-put-book-requires
@@ -50,20 +52,24 @@ same-length c = search needs
 
 returns-2 : tie.Need-returns-2
 returns-2 c =
-    let s = c .before .before .before .before .before .before .before in
+    let after-put-book = c .before in
+    let c-3 = after-put-book .before .before in
+    let after-book-count = c-3 .before in
+    let c-7 = after-book-count .before .before .before in
+    let s = c-7 in
     let out = s .args .out .now in
     λ whole question h.
     let enough : length (book whole question) ≤ length out =
     omega (
       arith,
       many s whole question h,
-      c .before .before .before .before .book-count .ensures,
-      c .before .before .before .if1 .left,
+      after-book-count .book-count .ensures,
+      c-3 .if1 .left,
     )
     in
-    accepted-with _ (book whole question) out (c .before .put-book .last .0) (length (book whole question))
+    accepted-with _ (book whole question) out (after-put-book .put-book .last .0) (length (book whole question))
     (asked-many whole (Book question) (length out) (h .asked-is) enough) refl
-    (c .before .put-book .ensures ∙ ap (sets out 0) (book-same whole question (s .args .records) (s .args .asking) h)
+    (after-put-book .put-book .ensures ∙ ap (sets out 0) (book-same whole question (s .args .records) (s .args .asking) h)
     ∙ sets-front (book whole question) out enough)
 
 pub answer-book-spec : {M : Type 1} → statement M

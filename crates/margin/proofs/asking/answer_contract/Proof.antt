@@ -8,13 +8,13 @@ use borrow.Author.Needs.{needs}
 use borrow.Author.Tests.{not-true, not-false, ne-eqb}
 use lib.ListN.{length}
 use Rattle.account.specs.Parts.{entriesOf}
-use Rattle.account.specs.Standing.{accountOf}
+use Rattle.account.specs.Joined.{accountOf}
 use Rattle.account.specs.declared.answers.Answer.the-variants.{NoSuchQuestion}
 use Rattle.margin.specs.Books.{answered}
-use Rattle.margin.specs.Contract.{contracts, partsOf, asTier, stepsOf, opensOf, tableSteps}
+use Rattle.formulas.specs.Contract.{contracts, partsOf, asTier, contractSteps, opensOf, tableSteps}
 use Rattle.margin.specs.Places.{questionOf}
 use Rattle.margin.specs.Questions.{numbersFor}
-use Rattle.margin.specs.Uses.{Asks}
+use Rattle.margin.specs.code.Asking.{Asks}
 use Rattle.margin.proofs.AskedLaws.{asked-is}
 use Rattle.margin.proofs.BesideLaws.{answered-beside, asks-beside}
 use Rattle.margin.proofs.PlaceLaws.{answers-of}
@@ -30,20 +30,23 @@ asked : (c : tie.After-is-asked)
     → let s = c .before .before .before in
     answered (accountOf (s .args .morning .now) (s .args .noon .now)) (s .args .c) ≡ c .is-asked .result
 asked c =
-    let s = c .before .before .before in
+    let c-3 = c .before .before .before in
+    let s = c-3 in
     sym (c .is-asked .ensures ∙ asked-is (accountOf (s .args .morning .now) (s .args .noon .now)) (s .pre .0 .lawful) (s .args .account .counts)
     (s .pre .0 .places .counts) (s .args .c))
 
 returns : tie.Need-returns
 returns c =
-    let s = c .before .before .before .before in
+    let after-is-asked = c .before in
+    let c-4 = after-is-asked .before .before .before in
+    let s = c-4 in
     let a = accountOf (s .args .morning .now) (s .args .noon .now) in
     let k = s .args .c in
     let q = questionOf (s .args .paid) k in
     λ whole t.
     refused-with (NoSuchQuestion (s .args .records)) _ (numbersFor whole q) (s .args .out .now)
-    (not-asked whole q (length (s .args .out .now)) (answers-of whole (s .args .paid) k ∙ answered-beside a whole (t .beside) k ∙ asked (c .before)
-    ∙ not-true (c .before .is-asked .result) (c .if1 .taken))
+    (not-asked whole q (length (s .args .out .now)) (answers-of whole (s .args .paid) k ∙ answered-beside a whole (t .beside) k ∙ asked (after-is-asked)
+    ∙ not-true (after-is-asked .is-asked .result) (c .if1 .taken))
     ∙ ap NoSuchQuestion (sym (t .records-are))) (λ e. omega arith)
 
 asking-with-requires : tie.Need-asking-with-requires
@@ -57,20 +60,24 @@ same-length c = search needs
 
 returns-2 : tie.Need-returns-2
 returns-2 c =
-    let s = c .before .before .before .before .before .before .before .before in
+    let after-asking-with = c .before .before .before in
+    let c-4 = after-asking-with .before in
+    let after-is-asked = c-4 .before in
+    let c-8 = after-is-asked .before .before .before in
+    let s = c-8 in
     let a = accountOf (s .args .morning .now) (s .args .noon .now) in
     let k = s .args .c in
-    let r = c .before .before .before .asking-with in
+    let r = after-asking-with .asking-with in
     λ whole t.
     c .before .answer-asking .ensures whole k
     (record {
       lawful = t .beside .lawful;
-      asked-is = answered-beside a whole (t .beside) k ∙ asked (c .before .before .before .before .before)
-          ∙ not-false (c .before .before .before .before .before .is-asked .result) (c .before .before .before .before .if1 .left);
+      asked-is = answered-beside a whole (t .beside) k ∙ asked (after-is-asked)
+          ∙ not-false (after-is-asked .is-asked .result) (c-4 .if1 .left);
       records-are = t .records-are;
       asks =
           subst
-          (λ (b : Bool). Asks (cond b (tableSteps (entriesOf whole)) (stepsOf (partsOf whole k)))
+          (λ (b : Bool). Asks (cond b (tableSteps (entriesOf whole)) (contractSteps (partsOf whole k)))
           (cond b (map asTier (contracts whole)) (opensOf (partsOf whole k))) (r .result))
           (sym (ne-eqb k 16 (λ e. omega (arith, s .pre .1 .0, e)))) (asks-beside a whole (t .beside) k (s .args .p) (t .at) (r .result) (r .ensures));
     })

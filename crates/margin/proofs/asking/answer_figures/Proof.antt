@@ -2,7 +2,7 @@
 -- Assumes nothing.
 use mathlib.Core.Path.{_∙_}
 use borrow.Author.Needs.{needs}
-use Rattle.account.specs.Standing.{accountOf}
+use Rattle.account.specs.Joined.{accountOf}
 use Rattle.margin.proofs.BesideLaws.{alone}
 use Rattle.margin.proofs.asking.answer_figures.Statement.{statement}
 use Rattle.margin.proofs.asking.answer_figures.Tie as tie
@@ -15,24 +15,30 @@ record-total-requires c κs = search needs
 
 answer-lines-requires : tie.Need-answer-lines-requires
 answer-lines-requires c κs =
-    let s = c .before .before .before .before .before in
+    let after-lines-of = c .before .before in
+    let c-5 = after-lines-of .before .before .before in
+    let s = c-5 in
     let m = s .args .morning .now in
     let n = s .args .noon .now in
-    (s .pre, record { whole = accountOf m n; beside = alone m n (s .args .account) (s .pre); lines = c .before .before .lines-of .ensures })
+    (s .pre, record { whole = accountOf m n; beside = alone m n (s .args .account) (s .pre); lines = after-lines-of .lines-of .ensures })
 
 same-length : tie.Need-same-length
 same-length c = search needs
 
 returns : tie.Need-returns
 returns c =
-    let s = c .before .before .before .before .before .before .before in
+    let after-answer-lines = c .before in
+    let after-record-total = after-answer-lines .before .before in
+    let after-lines-of = after-record-total .before in
+    let c-7 = after-lines-of .before .before .before in
+    let s = c-7 in
     let m = s .args .morning .now in
     let n = s .args .noon .now in
-    c .before .answer-lines .ensures (accountOf m n)
+    after-answer-lines .answer-lines .ensures (accountOf m n)
     (record {
       beside = alone m n (s .args .account) (s .pre);
-      lines = c .before .before .before .before .lines-of .ensures;
-      records-are = c .before .before .before .record-total .ensures ∙ s .pre .places .all;
+      lines = after-lines-of .lines-of .ensures;
+      records-are = after-record-total .record-total .ensures ∙ s .pre .places .all;
     })
 
 pub answer-figures-spec : {M : Type 1} → statement M

@@ -8,9 +8,9 @@ use native.Mathlib.Omega.{arith}
 use borrow.Author.Needs.{needs}
 use lib.ListN.{length}
 use Rattle.record.specs.Layout.{Record}
-use Rattle.account.specs.Standing.{accountOf}
+use Rattle.account.specs.Joined.{accountOf}
 use Rattle.account.specs.declared.answers.Answer.the-variants.{TooFewNumbers}
-use Rattle.margin.specs.Beside.{LinedBy}
+use Rattle.margin.specs.code.Beside.{LinedBy}
 use Rattle.margin.specs.Figures.{figures}
 use Rattle.margin.specs.declared.asking.Question.the-variants.{Figures}
 use Rattle.margin.proofs.NumberLaws.{sets-front}
@@ -32,31 +32,40 @@ many s whole h = omega (arith, figures-length whole, ap length (h .beside .contr
 
 returns : tie.Need-returns
 returns c =
-    let s = c .before .before .before .before in
+    let after-figures-count = c .before in
+    let c-4 = after-figures-count .before .before .before in
+    let s = c-4 in
     let out = s .args .out .now in
     λ whole h.
     refused-with (TooFewNumbers (s .args .records)) _ (figures whole) out
-    (asked-few whole Figures (length out) (λ i. true) (omega (arith, many s whole h, c .before .figures-count .ensures, c .if1 .taken))
+    (asked-few whole Figures (length out) (λ i. true) (omega (arith, many s whole h, after-figures-count .figures-count .ensures, c .if1 .taken))
     ∙ ap TooFewNumbers (sym (h .records-are))) (λ e. omega arith)
 
 put-figures-requires : tie.Need-put-figures-requires
 put-figures-requires c κs =
-    let s = c .before .before .before .before .before in
-    (s .pre .0, (s .pre .1, omega (arith, c .before .before .figures-count .ensures, c .before .if1 .left)))
+    let c-1 = c .before in
+    let after-figures-count = c-1 .before in
+    let c-5 = after-figures-count .before .before .before in
+    let s = c-5 in
+    (s .pre .0, (s .pre .1, omega (arith, after-figures-count .figures-count .ensures, c-1 .if1 .left)))
 
 same-length : tie.Need-same-length
 same-length c = search needs
 
 returns-2 : tie.Need-returns-2
 returns-2 c =
-    let s = c .before .before .before .before .before .before .before in
+    let after-put-figures = c .before in
+    let c-3 = after-put-figures .before .before in
+    let after-figures-count = c-3 .before in
+    let c-7 = after-figures-count .before .before .before in
+    let s = c-7 in
     let out = s .args .out .now in
     λ whole h.
     let enough : length (figures whole) ≤ length out =
-    omega (arith, many s whole h, c .before .before .before .before .figures-count .ensures, c .before .before .before .if1 .left) in
-    accepted-with _ (figures whole) out (c .before .put-figures .last .1 .1 .1 .1 .0) (length (figures whole))
+    omega (arith, many s whole h, after-figures-count .figures-count .ensures, c-3 .if1 .left) in
+    accepted-with _ (figures whole) out (after-put-figures .put-figures .last .1 .1 .1 .1 .0) (length (figures whole))
     (asked-many whole Figures (length out) (λ i. true) enough) refl
-    (c .before .put-figures .ensures whole (h .beside) (h .lines) ∙ sets-front (figures whole) out enough)
+    (after-put-figures .put-figures .ensures whole (h .beside) (h .lines) ∙ sets-front (figures whole) out enough)
 
 pub answer-lines-spec : {M : Type 1} → statement M
 answer-lines-spec =

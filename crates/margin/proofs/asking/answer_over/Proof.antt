@@ -6,7 +6,7 @@ use borrow.Author.Needs.{needs}
 use lib.IntN.{ℤ}
 use lib.ListN.{length}
 use Rattle.record.specs.Layout.{Record}
-use Rattle.account.specs.Standing.{accountOf}
+use Rattle.account.specs.Joined.{accountOf}
 use Rattle.account.specs.declared.answers.Answer.{Answer}
 use Rattle.margin.specs.Questions.{answerOver, afterOver}
 use Rattle.margin.specs.declared.asking.Question.{Question}
@@ -42,30 +42,39 @@ same-length c = search needs
 
 returns : tie.Need-returns
 returns c =
-    let s = c .before .before .before .before .before .before .before in
-    let r = c .before .answer-figures in
+    let after-answer-figures = c .before in
+    let after-enum-told = after-answer-figures .before .before in
+    let c-7 = after-enum-told .before .before .before .before in
+    let s = c-7 in
+    let r = after-answer-figures .answer-figures in
     answered (accountOf (s .args .morning .now) (s .args .noon .now)) (r .result) (r .last .1 .1 .1 .0) (s .args .out .now) _ _
-    (c .before .before .before .enum-told .given .1) (r .ensures)
+    (after-enum-told .enum-told .given .1) (r .ensures)
 
 same-length-2 : tie.Need-same-length-2
 same-length-2 c = search needs
 
 returns-2 : tie.Need-returns-2
 returns-2 c =
-    let s = c .before .before .before .before .before .before .before .before in
-    let r = c .before .answer-question in
+    let after-answer-question = c .before in
+    let after-question = after-answer-question .before .before .before in
+    let c-8 = after-question .before .before .before .before in
+    let s = c-8 in
+    let r = after-answer-question .answer-question in
     answered (accountOf (s .args .morning .now) (s .args .noon .now)) (r .result) (r .last .1 .1 .1 .1 .1 .0) (s .args .out .now) _ _
-    (c .before .before .before .before .question .given .1) (r .ensures)
+    (after-question .question .given .1) (r .ensures)
 
 same-length-3 : tie.Need-same-length-3
 same-length-3 c = search needs
 
 returns-3 : tie.Need-returns-3
 returns-3 c =
-    let s = c .before .before .before .before .before .before .before .before in
-    let r = c .before .answer-question2 in
+    let after-answer-question2 = c .before in
+    let after-question2 = after-answer-question2 .before .before .before in
+    let c-8 = after-question2 .before .before .before .before in
+    let s = c-8 in
+    let r = after-answer-question2 .answer-question2 in
     answered (accountOf (s .args .morning .now) (s .args .noon .now)) (r .result) (r .last .1 .1 .1 .1 .1 .0) (s .args .out .now) _ _
-    (c .before .before .before .before .question2 .given .1) (r .ensures)
+    (after-question2 .question2 .given .1) (r .ensures)
 
 pub answer-over-spec : {M : Type 1} → statement M
 answer-over-spec =

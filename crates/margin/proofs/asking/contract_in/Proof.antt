@@ -5,11 +5,11 @@ use mathlib.Core.List.{map}
 use borrow.Author.Needs.{needs}
 use Rattle.account.specs.Records.{records}
 use Rattle.spread.specs.Steps.{steps}
-use Rattle.margin.specs.Deltas.{opens, interprompt}
-use Rattle.margin.specs.Sums.{deltasIn}
+use Rattle.formulas.specs.Deltas.{opens, interprompt}
+use Rattle.formulas.specs.code.Sums.{deltasIn}
 use Rattle.margin.proofs.BesideLaws.{asked-by}
-use Rattle.margin.proofs.BookLaws.{book-accepted}
-use Rattle.margin.proofs.LineLaws.{opens-first}
+use Rattle.formulas.proofs.BookLaws.{book-accepted}
+use Rattle.formulas.proofs.LineLaws.{opens-first}
 use Rattle.margin.proofs.asking.contract_in.Statement.{statement}
 use Rattle.margin.proofs.asking.contract_in.Tie as tie
 
@@ -27,9 +27,12 @@ lend-uses-requires c κs = search needs
 
 line-by-requires : tie.Need-line-by-requires
 line-by-requires c κs =
-    let b = c .before .before .before .before .before .before .book-by in
-    let a = c .before .before .before .before .before .before .before .before .before .contract-asking in
-    let s = c .before .before .before .before .before .before .before .before .before .before .before .before .before in
+    let after-book-by = c .before .before .before .before .before .before in
+    let after-contract-asking = after-book-by .before .before .before in
+    let c-13 = after-contract-asking .before .before .before .before in
+    let b = after-book-by .book-by in
+    let a = after-contract-asking .contract-asking in
+    let s = c-13 in
     let prompts = records (s .args .prompts .now) in
     let nets = deltasIn (s .args .p .nets) in (
       s .pre .1,
@@ -45,10 +48,14 @@ same-length-2 c = search needs
 
 returns : tie.Need-returns
 returns c =
-    let u = c .before .before .lend-uses in
-    let b = c .before .before .before .before .before .lend-book in
-    let a = c .before .before .before .before .before .before .before .before .before .before .contract-asking in
-    let s = c .before .before .before .before .before .before .before .before .before .before .before .before .before .before in (
+    let after-lend-uses = c .before .before in
+    let after-lend-book = after-lend-uses .before .before .before in
+    let after-contract-asking = after-lend-book .before .before .before .before .before in
+    let c-14 = after-contract-asking .before .before .before .before in
+    let u = after-lend-uses .lend-uses in
+    let b = after-lend-book .lend-book in
+    let a = after-contract-asking .contract-asking in
+    let s = c-14 in (
       c .line-by .ensures,
       λ whole h.
           let is = asked-by whole (s .args .count) (s .args .c) (records (s .args .prompts .now)) (records (s .args .spreads .now)) (s .args .p)

@@ -7,13 +7,13 @@ use Prim.Native.Nat.{ℕ, _≤_}
 use native.Mathlib.Omega.{arith}
 use borrow.Author.Needs.{needs}
 use lib.IntN.{ℤ}
-use lib.ListN.{length, getD}
+use lib.ListN.{getD}
 use Rattle.record.specs.Layout.{contract}
 use Rattle.account.specs.Parts.{contractsOf, ratesOf}
 use Rattle.account.specs.Records.{records}
-use Rattle.account.specs.Standing.{accountOf}
+use Rattle.account.specs.Joined.{accountOf}
 use Rattle.margin.specs.Places.{lentPlace, questionOf, widthOf}
-use Rattle.margin.specs.Positions.{ContractIn}
+use Rattle.margin.specs.code.Positions.{ContractIn}
 use Rattle.margin.specs.Questions.{afterOver}
 use Rattle.margin.proofs.BesideLaws.{position-room, fit-here, line-here, contract-in}
 use Rattle.margin.proofs.StandLaws.{number-at, listed-at, own-number}
@@ -28,13 +28,15 @@ number : (c : tie.After-contract-number) →
     let s = c .before .before .before in
     c .contract-number .result ≡ contract (getD (contractsOf (accountOf (s .args .morning .now) (s .args .noon .now))) (s .args .i) [])
 number c =
-    let s = c .before .before .before in
+    let c-3 = c .before .before .before in
+    let s = c-3 in
     number-at (s .args .morning .now) (s .args .noon .now) (s .args .account) (s .pre .0)
     (s .args .i) (s .pre .1 .0) (c .contract-number .result) (c .contract-number .ensures)
 
 small : (c : tie.After-contract-number) → c .contract-number .result ≤ 15
 small c =
-    let s = c .before .before .before in
+    let c-3 = c .before .before .before in
+    let s = c-3 in
     let m = s .args .morning .now in
     let n = s .args .noon .now in
     let h = listed-at m n (s .args .account) (s .pre .0) (s .args .i) (s .pre .1 .0) in
@@ -59,7 +61,9 @@ part-requires-3 : tie.Need-part-requires-3
 part-requires-3 c κs = search needs
 
 add-part-4 : tie.Need-add-part-4
-add-part-4 c = omega (arith, small (c .before .before .before))
+add-part-4 c =
+    let c-3 = c .before .before .before in
+    omega (arith, small (c-3))
 
 part-requires-4 : tie.Need-part-requires-4
 part-requires-4 c κs = search needs
@@ -69,11 +73,16 @@ unit-requires c κs = search needs
 
 position-of-requires : tie.Need-position-of-requires
 position-of-requires c κs =
-    let ss = c .before .part4 in
-    let rs = c .before .before .part3 in
-    let ps = c .before .before .before .part2 in
-    let own = c .before .before .before .before .part in
-    let k = c .before .before .before .before .before in
+    let after-part4 = c .before in
+    let after-part3 = after-part4 .before in
+    let after-part2 = after-part3 .before in
+    let after-part = after-part2 .before in
+    let c-5 = after-part .before in
+    let ss = after-part4 .part4 in
+    let rs = after-part3 .part3 in
+    let ps = after-part2 .part2 in
+    let own = after-part .part in
+    let k = c-5 in
     let s = k .before .before .before in
     position-room (accountOf (s .args .morning .now) (s .args .noon .now)) (s .pre .0 .lawful) (k .contract-number .result) (small k)
     (own .result .now) (ps .result .now) (rs .result .now) (ss .result .now) (own .ensures) (ps .ensures) (rs .ensures) (ss .ensures)
@@ -84,13 +93,20 @@ record-total-requires c κs = search needs
 
 contract-in-requires : tie.Need-contract-in-requires
 contract-in-requires c κs =
-    let p = c .before .before .before .position-of in
-    let u = c .before .before .before .before .unit in
-    let ss = c .before .before .before .before .before .part4 in
-    let rs = c .before .before .before .before .before .before .part3 in
-    let ps = c .before .before .before .before .before .before .before .part2 in
-    let own = c .before .before .before .before .before .before .before .before .part in
-    let k = c .before .before .before .before .before .before .before .before .before in
+    let after-position-of = c .before .before .before in
+    let after-unit = after-position-of .before in
+    let after-part4 = after-unit .before in
+    let after-part3 = after-part4 .before in
+    let after-part2 = after-part3 .before in
+    let after-part = after-part2 .before in
+    let c-9 = after-part .before in
+    let p = after-position-of .position-of in
+    let u = after-unit .unit in
+    let ss = after-part4 .part4 in
+    let rs = after-part3 .part3 in
+    let ps = after-part2 .part2 in
+    let own = after-part .part in
+    let k = c-9 in
     let s = k .before .before .before in
     let a = accountOf (s .args .morning .now) (s .args .noon .now) in (
       small k,
@@ -107,15 +123,24 @@ same-length-2 c = search needs
 
 returns : tie.Need-returns
 returns c =
-    let r = c .before .before .contract-in in
-    let total = c .before .before .before .before .before .record-total in
-    let p = c .before .before .before .before .before .before .position-of in
-    let u = c .before .before .before .before .before .before .before .unit in
-    let ss = c .before .before .before .before .before .before .before .before .part4 in
-    let rs = c .before .before .before .before .before .before .before .before .before .part3 in
-    let ps = c .before .before .before .before .before .before .before .before .before .before .part2 in
-    let own = c .before .before .before .before .before .before .before .before .before .before .before .part in
-    let k = c .before .before .before .before .before .before .before .before .before .before .before .before in
+    let after-contract-in = c .before .before in
+    let after-record-total = after-contract-in .before .before .before in
+    let after-position-of = after-record-total .before in
+    let after-unit = after-position-of .before in
+    let after-part4 = after-unit .before in
+    let after-part3 = after-part4 .before in
+    let after-part2 = after-part3 .before in
+    let after-part = after-part2 .before in
+    let c-12 = after-part .before in
+    let r = after-contract-in .contract-in in
+    let total = after-record-total .record-total in
+    let p = after-position-of .position-of in
+    let u = after-unit .unit in
+    let ss = after-part4 .part4 in
+    let rs = after-part3 .part3 in
+    let ps = after-part2 .part2 in
+    let own = after-part .part in
+    let k = c-12 in
     let s = k .before .before .before in
     let a = accountOf (s .args .morning .now) (s .args .noon .now) in
     let listed = listed-at (s .args .morning .now) (s .args .noon .now) (s .args .account) (s .pre .0) (s .args .i) (s .pre .1 .0) in

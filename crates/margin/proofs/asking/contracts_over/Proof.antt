@@ -9,8 +9,8 @@ use native.Mathlib.Omega.{arith}
 use borrow.Author.Needs.{needs}
 use Rattle.record.specs.Layout.{Record}
 use Rattle.account.specs.Parts.{ratesOf}
-use Rattle.account.specs.Products.{RatesOf}
-use Rattle.account.specs.Standing.{accountOf}
+use Rattle.account.specs.code.Rates.{RatesOf}
+use Rattle.account.specs.Joined.{accountOf}
 use Rattle.margin.proofs.AccountLaws.{LinedTo, lined-next}
 use Rattle.margin.proofs.LentLaws.{LentTo, lent-none, lent-next, lent-all}
 use Rattle.margin.proofs.StandLaws.{few-contracts, listed-at}
@@ -28,7 +28,8 @@ abbrev μ-loop : tie.MeasureT-loop
 -- an account has at most sixteen contracts
 few : (c : tie.After-contract-total Inv-loop μ-loop) → c .contract-total .result ≤ 16
 few c =
-    let s = c .before .before .before in
+    let c-3 = c .before .before .before in
+    let s = c-3 in
     omega (arith, c .contract-total .ensures, few-contracts (s .args .morning .now) (s .args .noon .now) (s .args .account) (s .pre))
 
 contract-total-requires : tie.Need-contract-total-requires Inv-loop μ-loop
@@ -51,7 +52,8 @@ no-line-requires c κs = search needs
 
 loop-holds : tie.Need-loop-holds Inv-loop μ-loop
 loop-holds c =
-    let s = c .before .before .before .before .before .before in
+    let c-6 = c .before .before .before .before .before .before in
+    let s = c-6 in
     let a = accountOf (s .args .morning .now) (s .args .noon .now) in (
       record { places = refl; each = λ j h. absurd (not-suc-le-zero h) },
       (omega arith, (lent-none a false (s .args .books .now), lent-none a true (s .args .uses .now))),
@@ -59,39 +61,55 @@ loop-holds c =
 
 contract-over-requires : tie.Need-contract-over-requires Inv-loop μ-loop
 contract-over-requires c κs =
-    let r = c .before .before .before .before .before in
+    let after-loop-test = c .before .before in
+    let c-5 = after-loop-test .before .before .before in
+    let r = c-5 in
     let n = r .before .before .contract-total .ensures in
-    (r .before .before .before .before .before .pre, (omega (arith, c .before .before .loop-test .taken, n), table r))
+    (r .before .before .before .before .before .pre, (omega (arith, after-loop-test .loop-test .taken, n), table r))
 
 mul-lines : tie.Need-mul-lines Inv-loop μ-loop
-mul-lines c = let t = c .before .before .before .before .before in let h = few (t .before .before .before .before .before) in omega (arith, t .loop-test .taken)
+mul-lines c =
+    let c-5 = c .before .before .before .before .before in
+    let t = c-5 in let h = few (t .before .before .before .before .before) in omega (arith, t .loop-test .taken)
 
 array-set-from-lines : tie.Need-array-set-from-lines Inv-loop μ-loop
-array-set-from-lines c = let t = c .before .before .before .before .before in let h = few (t .before .before .before .before .before) in omega
+array-set-from-lines c =
+    let c-5 = c .before .before .before .before .before in
+    let t = c-5 in let h = few (t .before .before .before .before .before) in omega
     (arith, t .loop-test .taken)
 
 add-i : tie.Need-add-i Inv-loop μ-loop
-add-i c = let t = c .before .before .before .before .before in let h = few (t .before .before .before .before .before) in omega (arith, t .loop-test .taken)
+add-i c =
+    let c-5 = c .before .before .before .before .before in
+    let t = c-5 in let h = few (t .before .before .before .before .before) in omega (arith, t .loop-test .taken)
 
 loop-less : tie.Need-loop-less Inv-loop μ-loop
-loop-less c = omega (arith, c .before .before .before .before .before .loop-test .taken)
+loop-less c =
+    let after-loop-test = c .before .before .before .before .before in
+    omega (arith, after-loop-test .loop-test .taken)
 
 loop-again : tie.Need-loop-again Inv-loop μ-loop
 loop-again c =
-    let s = c .before .before .before .before .before .before .before .before .before .before .before .before .before in
+    let after-books = c .before in
+    let after-contract-over = after-books .before in
+    let after-loop-test = after-contract-over .before .before .before in
+    let after-loop = after-loop-test .before in
+    let after-contract-total = after-loop .before .before .before .before in
+    let c-13 = after-contract-total .before .before .before in
+    let s = c-13 in
     let m = s .args .morning .now in
     let n = s .args .noon .now in
     let a = accountOf m n in
-    let l = c .before .before .before .before .before .before .loop in
-    let h = few (c .before .before .before .before .before .before .before .before .before .before) in
-    let r = c .before .before .contract-over in
-    let count = c .before .before .before .before .before .before .before .before .before .before .contract-total .ensures in
-    let its = listed-at m n (s .args .account) (s .pre) (l .i) (omega (arith, c .before .before .before .before .before .loop-test .taken, count)) in (
-      lined-next a (l .i) (l .lines) (r .result) (l .inv .0) (omega (arith, c .before .before .before .before .before .loop-test .taken)) (r .ensures .line),
+    let l = after-loop .loop in
+    let h = few (after-contract-total) in
+    let r = after-contract-over .contract-over in
+    let count = after-contract-total .contract-total .ensures in
+    let its = listed-at m n (s .args .account) (s .pre) (l .i) (omega (arith, after-loop-test .loop-test .taken, count)) in (
+      lined-next a (l .i) (l .lines) (r .result) (l .inv .0) (omega (arith, after-loop-test .loop-test .taken)) (r .ensures .line),
       (
-        omega (arith, c .before .before .before .before .before .loop-test .taken),
+        omega (arith, after-loop-test .loop-test .taken),
         (
-          lent-next a (s .pre .lawful) false (l .i) (s .args .books .now) (l .books) _ (l .inv .1 .1 .0) its (c .before .books .given) (r .ensures .book),
+          lent-next a (s .pre .lawful) false (l .i) (s .args .books .now) (l .books) _ (l .inv .1 .1 .0) its (after-books .books .given) (r .ensures .book),
           lent-next a (s .pre .lawful) true (l .i) (s .args .uses .now) (l .uses) _ (l .inv .1 .1 .1) its (c .uses .given) (r .ensures .paid),
         ),
       ),
@@ -105,11 +123,14 @@ same-length-2 c = c .before .loop .inv .1 .1 .1 .same
 
 returns : tie.Need-returns Inv-loop μ-loop
 returns c =
-    let s = c .before .before .before .before .before .before .before .before in
+    let after-loop = c .before in
+    let after-contract-total = after-loop .before .before .before .before in
+    let c-8 = after-contract-total .before .before .before in
+    let s = c-8 in
     let a = accountOf (s .args .morning .now) (s .args .noon .now) in
-    let l = c .before .loop in
-    let h = few (c .before .before .before .before .before) in
-    let n = c .before .before .before .before .before .contract-total .ensures in
+    let l = after-loop .loop in
+    let h = few (after-contract-total) in
+    let n = after-contract-total .contract-total .ensures in
     let e = s .pre .places .contracts in
     record {
       lines =

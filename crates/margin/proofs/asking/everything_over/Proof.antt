@@ -3,7 +3,7 @@
 use mathlib.Core.Path.{_∙_}
 use mathlib.Core.Bool.{true, false}
 use borrow.Author.Needs.{needs}
-use Rattle.account.specs.Standing.{accountOf}
+use Rattle.account.specs.Joined.{accountOf}
 use Rattle.margin.proofs.BesideLaws.{alone}
 use Rattle.margin.proofs.LentLaws.{then-table}
 use Rattle.margin.proofs.asking.everything_over.Statement.{statement}
@@ -20,7 +20,8 @@ record-total-requires c κs = search needs
 
 answer-lines-requires : tie.Need-answer-lines-requires
 answer-lines-requires c κs =
-    let k = c .before .before .before .before .before in
+    let c-5 = c .before .before .before .before .before in
+    let k = c-5 in
     let s = k .before .before .before .before .before in
     let m = s .args .morning .now in
     let n = s .args .noon .now in
@@ -28,14 +29,16 @@ answer-lines-requires c κs =
 
 lend-table-requires : tie.Need-lend-table-requires
 lend-table-requires c κs =
-    let t = c .before .before .before .before .before in
+    let c-5 = c .before .before .before .before .before in
+    let t = c-5 in
     let k = t .before .before .before in
     let s = k .before .before .before .before .before in
     (s .pre, t .tiers-in .ensures (accountOf (s .args .morning .now) (s .args .noon .now)) (k .contracts-over .ensures .lines))
 
 lend-table-requires-2 : tie.Need-lend-table-requires-2
 lend-table-requires-2 c κs =
-    let t = c .before .before .before .before .before .before .before .before in
+    let c-8 = c .before .before .before .before .before .before .before .before in
+    let t = c-8 in
     let k = t .before .before .before in
     let s = k .before .before .before .before .before in
     (s .pre, t .tiers-in .ensures (accountOf (s .args .morning .now) (s .args .noon .now)) (k .contracts-over .ensures .lines))
@@ -44,15 +47,22 @@ same-length : tie.Need-same-length
 same-length c = search needs
 
 same-length-2 : tie.Need-same-length-2
-same-length-2 c = let b = c .before .before .before in b .books2 .given
+same-length-2 c =
+    let c-3 = c .before .before .before in
+    let b = c-3 in b .books2 .given
     ∙ b .before .before .before .before .before .before .before .before .before .books .given
 
 same-length-3 : tie.Need-same-length-3
-same-length-3 c = c .uses2 .given ∙ c .before .before .before .before .before .before .before .before .before .before .before .uses .given
+same-length-3 c =
+    let after-uses = c .before .before .before .before .before .before .before .before .before .before .before in
+    c .uses2 .given ∙ after-uses .uses .given
 
 returns : tie.Need-returns
 returns c =
-    let q = c .before .before .before .before .before .before .before in
+    let after-lend-table2 = c .before in
+    let after-lend-table = after-lend-table2 .before .before .before in
+    let c-7 = after-lend-table .before .before .before in
+    let q = c-7 in
     let k = q .before .before .before .before .before .before in
     let s = k .before .before .before .before .before in
     let m = s .args .morning .now in
@@ -67,8 +77,8 @@ returns c =
       records-are = q .before .before .record-total .ensures ∙ s .pre .places .all;
     })
     in
-    let t = c .before .before .before .before .lend-table .ensures in
-    let v = c .before .lend-table2 .ensures in
+    let t = after-lend-table .lend-table .ensures in
+    let v = after-lend-table2 .lend-table2 .ensures in
     let b = then-table a false (s .args .books .now) _ _ (q .before .before .before .before .before .books .given) _ (l .book) (t .0) (t .1) in
     let u = then-table a true (s .args .uses .now) _ _ (q .before .before .before .before .uses .given) _ (l .paid) (v .0) (v .1) in
     record { figures-answer = p .0; figures-after = p .1; books-answer = b .0; books-after = b .1; uses-answer = u .0; uses-after = u .1 }

@@ -9,18 +9,21 @@ lines-from-requires c κs = search needs
 
 answer-lines-requires : tie.Need-answer-lines-requires
 answer-lines-requires c κs =
-    let s = c .before .before .before .before in
+    let after-lines-from = c .before in
+    let c-4 = after-lines-from .before .before .before in
+    let s = c-4 in
     let x = s .pre .1 in
-    (s .pre .0, record { whole = x .whole; beside = x .told .beside; lines = c .before .lines-from .ensures (x .whole) (x .told) })
+    (s .pre .0, record { whole = x .whole; beside = x .told .beside; lines = after-lines-from .lines-from .ensures (x .whole) (x .told) })
 
 same-length : tie.Need-same-length
 same-length c = search needs
 
 returns : tie.Need-returns
 returns c =
+    let after-lines-from = c .before .before .before in
     λ whole t.
     c .before .answer-lines .ensures whole
-    (record { beside = t .beside; lines = c .before .before .before .lines-from .ensures whole t; records-are = t .positions .records-are })
+    (record { beside = t .beside; lines = after-lines-from .lines-from .ensures whole t; records-are = t .positions .records-are })
 
 pub figures-answer-spec : {M : Type 1} → statement M
 figures-answer-spec =

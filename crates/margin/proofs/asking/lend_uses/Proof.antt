@@ -3,7 +3,7 @@
 use Prim.Native.Nat.{_*_}
 use native.Mathlib.Omega.{arith}
 use borrow.Author.Needs.{needs}
-use Rattle.margin.specs.Bounds.{longestUses}
+use Rattle.formulas.specs.Bounds.{longestUses}
 use Rattle.margin.specs.Questions.{afterOver}
 use Rattle.margin.specs.declared.asking.Question.the-variants.{Uses}
 use Rattle.margin.proofs.LentLaws.{lent-few, lent-enough}
@@ -42,13 +42,16 @@ same-length c = search needs
 
 returns-2 : tie.Need-returns-2
 returns-2 c =
-    let s = c .before .before .before .before in
+    let after-answer-uses = c .before in
+    let c-3 = after-answer-uses .before .before in
+    let c-4 = c-3 .before in
+    let s = c-4 in
     let o = s .args .out .now in
     let k = s .args .c in
-    let r = c .before .answer-uses in
+    let r = after-answer-uses .answer-uses in
     λ whole h.
     let after = afterOver whole (Uses k) in
-    lent-enough longestUses k after o _ (omega (arith, c .before .before .before .if1 .left))
+    lent-enough longestUses k after o _ (omega (arith, c-3 .if1 .left))
     (put-place longestUses (longestUses * k) o (r .last .1 .1 .0) after (r .ensures whole k h .1))
 
 pub lend-uses-spec : {M : Type 1} → statement M

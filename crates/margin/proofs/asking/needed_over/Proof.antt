@@ -6,7 +6,7 @@ use Prim.Native.Nat.{ℕ, _≤_}
 use native.Mathlib.Omega.{arith}
 use borrow.Author.Needs.{needs}
 use Rattle.record.specs.Layout.{Record}
-use Rattle.account.specs.Standing.{accountOf}
+use Rattle.account.specs.Joined.{accountOf}
 use Rattle.margin.specs.Questions.{needOver, mostFor}
 use Rattle.margin.specs.declared.asking.Question.{Question}
 use Rattle.margin.proofs.QuestionLaws.{figures-length}
@@ -23,7 +23,8 @@ enum-told c = search needs
 
 figures-count-requires : tie.Need-figures-count-requires
 figures-count-requires c κs =
-    let s = c .before .before .before .before in
+    let c-4 = c .before .before .before .before in
+    let s = c-4 in
     few-contracts (s .args .morning .now) (s .args .noon .now) (s .args .account) (s .pre)
 
 enum-known-question : tie.Need-enum-known-question
@@ -40,22 +41,28 @@ uses-need-requires c κs = search needs
 
 returns : tie.Need-returns
 returns c =
-    let s = c .before .before .before .before .before in
+    let after-enum-told = c .before in
+    let c-5 = after-enum-told .before .before .before .before in
+    let s = c-5 in
     let a = accountOf (s .args .morning .now) (s .args .noon .now) in
     let n = c .figures-count in
     let few = few-contracts (s .args .morning .now) (s .args .noon .now) (s .args .account) (s .pre) in
-    needed a (n .result) _ _ (c .before .enum-told .given .1)
+    needed a (n .result) _ _ (after-enum-told .enum-told .given .1)
     (sym (figures-length a ∙ omega (arith, n .ensures, s .pre .places .contracts)), omega (arith, n .ensures, few))
 
 returns-2 : tie.Need-returns-2
 returns-2 c =
-    let s = c .before .before .before .before .before .before in
-    needed (accountOf (s .args .morning .now) (s .args .noon .now)) (c .book-need .result) _ _ (c .before .before .question .given .1) (c .book-need .ensures)
+    let after-question = c .before .before in
+    let c-6 = after-question .before .before .before .before in
+    let s = c-6 in
+    needed (accountOf (s .args .morning .now) (s .args .noon .now)) (c .book-need .result) _ _ (after-question .question .given .1) (c .book-need .ensures)
 
 returns-3 : tie.Need-returns-3
 returns-3 c =
-    let s = c .before .before .before .before .before .before in
-    needed (accountOf (s .args .morning .now) (s .args .noon .now)) (c .uses-need .result) _ _ (c .before .before .question2 .given .1) (c .uses-need .ensures)
+    let after-question2 = c .before .before in
+    let c-6 = after-question2 .before .before .before .before in
+    let s = c-6 in
+    needed (accountOf (s .args .morning .now) (s .args .noon .now)) (c .uses-need .result) _ _ (after-question2 .question2 .given .1) (c .uses-need .ensures)
 
 pub needed-over-spec : {M : Type 1} → statement M
 needed-over-spec =

@@ -15,9 +15,12 @@ width-of-requires : tie.Need-width-of-requires
 width-of-requires c κs = search needs
 
 -- the place ends within the lent numbers
-room : (c : tie.After-width-of) → let s = c .before .before .before in c .width-of .result * s .args .c + c .width-of .result ≤ length (s .args .out .now)
+room : (c : tie.After-width-of) → let s =
+    let c-3 = c .before .before .before in
+    c-3 in c .width-of .result * s .args .c + c .width-of .result ≤ length (s .args .out .now)
 room c =
-    let s = c .before .before .before in
+    let c-3 = c .before .before .before in
+    let s = c-3 in
     omega (arith, ap (λ (w : ℕ). w * s .args .c) (c .width-of .ensures .0), c .width-of .ensures .0, s .pre .1 .1 .1)
 
 mul-start : tie.Need-mul-start
@@ -39,19 +42,24 @@ part-answer-contract-end : tie.Need-part-answer-contract-end
 part-answer-contract-end c = omega (arith, room c)
 
 answer-contract-requires : tie.Need-answer-contract-requires
-answer-contract-requires c κs = let s = c .before .before .before .before in (s .pre .0, (s .pre .1 .0, s .pre .1 .1 .0))
+answer-contract-requires c κs =
+    let c-4 = c .before .before .before .before in
+    let s = c-4 in (s .pre .0, (s .pre .1 .0, s .pre .1 .1 .0))
 
 same-length : tie.Need-same-length
 same-length c = search needs
 
 returns : tie.Need-returns
 returns c =
-    let s = c .before .before .before .before .before .before in
+    let after-answer-contract = c .before in
+    let after-width-of = after-answer-contract .before .before in
+    let c-6 = after-width-of .before .before .before in
+    let s = c-6 in
     let o = s .args .out .now in
-    let w = c .before .before .before .width-of in
+    let w = after-width-of .width-of in
     let k = s .args .c in
     let at = w .result * k in
-    let r = c .before .answer-contract in
+    let r = after-answer-contract .answer-contract in
     λ whole t.
     put-place (w .result) at o (r .last .1 .1 .1 .1 .1 .1 .1 .0) (afterOver whole (questionOf (s .args .paid) k)) (r .ensures whole t .1)
     ∙ ap (λ (n : ℕ). atPlace n (n * k) (afterOver whole (questionOf (s .args .paid) k)) o) (w .ensures .0)

@@ -16,7 +16,9 @@ width-of-requires c κs = search needs
 
 -- the place ends within the lent numbers
 room : (c : tie.After-width-of) → c .width-of .result * 16 + c .width-of .result ≤ length (c .before .before .before .args .out .now)
-room c = let s = c .before .before .before in omega (arith, c .width-of .ensures .0, s .pre .1 .1)
+room c =
+    let c-3 = c .before .before .before in
+    let s = c-3 in omega (arith, c .width-of .ensures .0, s .pre .1 .1)
 
 mul-start : tie.Need-mul-start
 mul-start c = omega (arith, c .width-of .ensures .1)
@@ -25,7 +27,9 @@ add-end : tie.Need-add-end
 add-end c = omega (arith, c .width-of .ensures .1)
 
 table-asking-requires : tie.Need-table-asking-requires
-table-asking-requires c κs = let s = c .before .before .before in (s .pre .0, s .pre .1 .0)
+table-asking-requires c κs =
+    let c-3 = c .before .before .before in
+    let s = c-3 in (s .pre .0, s .pre .1 .0)
 
 mul-answer-asking : tie.Need-mul-answer-asking
 mul-answer-asking c = omega (arith, c .before .width-of .ensures .1)
@@ -40,7 +44,10 @@ part-answer-asking-end : tie.Need-part-answer-asking-end
 part-answer-asking-end c = omega (arith, room (c .before))
 
 answer-asking-requires : tie.Need-answer-asking-requires
-answer-asking-requires c κs = let x = c .before .before .before .before .before .pre .1 .0 in c .before .table-asking .ensures (x .whole) (x .beside)
+answer-asking-requires c κs =
+    let after-table-asking = c .before in
+    let start = after-table-asking .before .before .before .before in
+    let x = start .pre .1 .0 in after-table-asking .table-asking .ensures (x .whole) (x .beside)
     (x .is) .accepted
 
 same-length : tie.Need-same-length
@@ -48,11 +55,15 @@ same-length c = search needs
 
 returns : tie.Need-returns
 returns c =
-    let s = c .before .before .before .before .before .before .before in
+    let after-answer-asking = c .before in
+    let after-table-asking = after-answer-asking .before .before in
+    let after-width-of = after-table-asking .before in
+    let c-7 = after-width-of .before .before .before in
+    let s = c-7 in
     let o = s .args .out .now in
-    let w = c .before .before .before .before .width-of in
-    let r = c .before .answer-asking in
-    let a = c .before .before .before .table-asking in
+    let w = after-width-of .width-of in
+    let r = after-answer-asking .answer-asking in
+    let a = after-table-asking .table-asking in
     λ whole beside is n.
     put-place (w .result) (w .result * 16) o (r .last .1 .1 .1 .0) (afterOver whole (questionOf (s .args .paid) 16))
     (r .ensures whole 16 (record { lawful = beside .lawful; asked-is = refl; records-are = n; asks = a .ensures whole beside is }) .1)

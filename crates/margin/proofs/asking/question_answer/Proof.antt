@@ -5,7 +5,7 @@ use native.Mathlib.Omega.{arith}
 use borrow.Author.Needs.{needs}
 use borrow.Author.Tests.{not-true, not-false}
 use lib.ListN.{length}
-use Rattle.account.specs.Standing.{accountOf}
+use Rattle.account.specs.Joined.{accountOf}
 use Rattle.account.specs.declared.answers.Answer.the-variants.{NoSuchQuestion}
 use Rattle.margin.specs.Books.{answered}
 use Rattle.margin.specs.Places.{questionOf}
@@ -25,28 +25,37 @@ asked : (c : tie.After-is-asked)
     → let s = c .before .before .before in
     answered (accountOf (s .args .morning .now) (s .args .noon .now)) (s .args .question) ≡ c .is-asked .result
 asked c =
-    let s = c .before .before .before in
+    let c-3 = c .before .before .before in
+    let s = c-3 in
     sym (c .is-asked .ensures ∙ asked-is (accountOf (s .args .morning .now) (s .args .noon .now)) (s .pre .0 .lawful) (s .args .account .counts)
     (s .pre .0 .places .counts) (s .args .question))
 
 returns : tie.Need-returns
 returns c =
-    let s = c .before .before .before .before in
+    let after-is-asked = c .before in
+    let c-4 = after-is-asked .before .before .before in
+    let s = c-4 in
     let a = accountOf (s .args .morning .now) (s .args .noon .now) in
     let k = s .args .question in
     let q = questionOf (s .args .paid) k in
     λ whole t.
     refused-with (NoSuchQuestion (s .args .positions .records)) _ (numbersFor whole q) (s .args .out .now)
-    (not-asked whole q (length (s .args .out .now)) (answers-of whole (s .args .paid) k ∙ answered-beside a whole (t .beside) k ∙ asked (c .before)
-    ∙ not-true (c .before .is-asked .result) (c .if1 .taken))
+    (not-asked whole q (length (s .args .out .now)) (answers-of whole (s .args .paid) k ∙ answered-beside a whole (t .beside) k ∙ asked (after-is-asked)
+    ∙ not-true (after-is-asked .is-asked .result) (c .if1 .taken))
     ∙ ap NoSuchQuestion (sym (t .positions .records-are))) (λ e. omega arith)
 
 asking-from-requires : tie.Need-asking-from-requires
-asking-from-requires c κs = let s = c .before .before .before .before in
-    (s .pre .0, (s .pre .1, asked (c .before) ∙ not-false (c .before .is-asked .result) (c .if1 .left)))
+asking-from-requires c κs =
+    let after-is-asked = c .before in
+    let c-4 = after-is-asked .before .before .before in
+    let s = c-4 in
+    (s .pre .0, (s .pre .1, asked (after-is-asked) ∙ not-false (after-is-asked .is-asked .result) (c .if1 .left)))
 
 answer-asking-requires : tie.Need-answer-asking-requires
-answer-asking-requires c κs = let x = c .before .before .before .before .before .before .pre .1 in c .before .asking-from .ensures (x .whole)
+answer-asking-requires c κs =
+    let after-asking-from = c .before in
+    let start = after-asking-from .before .before .before .before .before in
+    let x = start .pre .1 in after-asking-from .asking-from .ensures (x .whole)
     (x .told) .accepted
 
 same-length : tie.Need-same-length
@@ -54,17 +63,21 @@ same-length c = search needs
 
 returns-2 : tie.Need-returns-2
 returns-2 c =
-    let s = c .before .before .before .before .before .before .before .before in
+    let after-asking-from = c .before .before .before in
+    let c-4 = after-asking-from .before in
+    let after-is-asked = c-4 .before in
+    let c-8 = after-is-asked .before .before .before in
+    let s = c-8 in
     let k = s .args .question in
     λ whole t.
     c .before .answer-asking .ensures whole k
     (record {
       lawful = t .beside .lawful;
       asked-is = answered-beside (accountOf (s .args .morning .now) (s .args .noon .now)) whole (t .beside) k
-          ∙ asked (c .before .before .before .before .before) ∙ not-false (c .before .before .before .before .before .is-asked .result)
-          (c .before .before .before .before .if1 .left);
+          ∙ asked (after-is-asked) ∙ not-false (after-is-asked .is-asked .result)
+          (c-4 .if1 .left);
       records-are = t .positions .records-are;
-      asks = c .before .before .before .asking-from .ensures whole t;
+      asks = after-asking-from .asking-from .ensures whole t;
     })
 
 pub question-answer-spec : {M : Type 1} → statement M

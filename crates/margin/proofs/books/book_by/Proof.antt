@@ -4,7 +4,7 @@ use mathlib.Core.Path.{refl}
 use borrow.Author.Needs.{needs}
 use Rattle.spread.specs.Accepted.{soundPrompts, soundTable}
 use Rattle.spread.proofs.Both.{and-left}
-use Rattle.margin.proofs.UnspreadLaws.{unspread-booked}
+use Rattle.formulas.proofs.UnspreadLaws.{unspread-booked}
 use Rattle.margin.proofs.books.book_by.Statement.{statement}
 use Rattle.margin.proofs.books.book_by.Tie as tie
 
@@ -13,8 +13,10 @@ nets-in-requires c κs = let s = c .before .before in and-left (soundPrompts (s 
 
 returns : tie.Need-returns
 returns c =
-    let s = c .before .before .before in
-    unspread-booked (s .args .prompts) (s .args .table) _ (c .before .if1 .taken) (s .pre) refl refl refl refl (c .nets-in .ensures)
+    let c-1 = c .before in
+    let c-3 = c-1 .before .before in
+    let s = c-3 in
+    unspread-booked (s .args .prompts) (s .args .table) _ (c-1 .if1 .taken) (s .pre) refl refl refl refl (c .nets-in .ensures)
 
 book-of-accepted-requires : tie.Need-book-of-accepted-requires
 book-of-accepted-requires c κs = search needs

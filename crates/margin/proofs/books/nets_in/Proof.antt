@@ -7,12 +7,12 @@ use native.Mathlib.Omega.{arith}
 use lib.IntN.{pos}
 use lib.ListN.{length, length-map, getD}
 use Rattle.spread.specs.Accepted.{openOf}
-use Rattle.spread.specs.Book.{deltaEntry}
+use Rattle.spread.specs.code.Book.{deltaEntry}
 use Rattle.spread.specs.Steps.{unusedOf}
 use Rattle.spread.specs.declared.Delta.{Delta}
 use Rattle.spread.proofs.Filling.{Filled, filled-none, filled-next, filled-all}
 use Rattle.spread.proofs.Gathering.{few}
-use Rattle.margin.proofs.UnspreadLaws.{net-here, net-beyond}
+use Rattle.formulas.proofs.UnspreadLaws.{net-here, net-beyond}
 use Rattle.margin.proofs.books.nets_in.Statement.{statement}
 use Rattle.margin.proofs.books.nets_in.Tie as tie
 
@@ -42,26 +42,38 @@ element-copy-out-net : tie.Need-element-copy-out-net Inv-loop μ-loop
 element-copy-out-net c = let s = c .before .before in omega (arith, c .loop-test .taken, few (s .args .t1) (s .pre))
 
 mul-nets : tie.Need-mul-nets Inv-loop μ-loop
-mul-nets c = let s = c .before .before .before in omega (arith, c .before .loop-test .taken, few (s .args .t1) (s .pre))
+mul-nets c =
+    let after-loop-test = c .before in
+    let c-3 = after-loop-test .before .before in
+    let s = c-3 in omega (arith, after-loop-test .loop-test .taken, few (s .args .t1) (s .pre))
 
 array-set-from-nets : tie.Need-array-set-from-nets Inv-loop μ-loop
-array-set-from-nets c = let s = c .before .before .before in omega (arith, c .before .loop-test .taken, few (s .args .t1) (s .pre))
+array-set-from-nets c =
+    let after-loop-test = c .before in
+    let c-3 = after-loop-test .before .before in
+    let s = c-3 in omega (arith, after-loop-test .loop-test .taken, few (s .args .t1) (s .pre))
 
 add-k : tie.Need-add-k Inv-loop μ-loop
-add-k c = let s = c .before .before .before in omega (arith, c .before .loop-test .taken, few (s .args .t1) (s .pre))
+add-k c =
+    let after-loop-test = c .before in
+    let c-3 = after-loop-test .before .before in
+    let s = c-3 in omega (arith, after-loop-test .loop-test .taken, few (s .args .t1) (s .pre))
 
 loop-less : tie.Need-loop-less Inv-loop μ-loop
 loop-less c = omega (arith, c .before .loop-test .taken)
 
 loop-again : tie.Need-loop-again Inv-loop μ-loop
 loop-again c =
-    let s = c .before .before .before in
-    let l = c .before .before .loop in
+    let after-loop-test = c .before in
+    let after-loop = after-loop-test .before in
+    let c-3 = after-loop .before in
+    let s = c-3 in
+    let l = after-loop .loop in
     let p = s .args .t1 in (
       filled-next none (deltaEntry (unusedOf [] (openOf p))) (l .k) (l .nets) (getD (p .net) (l .k) none) (l .inv .0)
-          (omega (arith, c .before .loop-test .taken, few p (s .pre)))
-          (net-here p (tiers-32 s) (nets-32 s) (s .pre) (l .k) (c .before .loop-test .taken)),
-      omega (arith, c .before .loop-test .taken),
+          (omega (arith, after-loop-test .loop-test .taken, few p (s .pre)))
+          (net-here p (tiers-32 s) (nets-32 s) (s .pre) (l .k) (after-loop-test .loop-test .taken)),
+      omega (arith, after-loop-test .loop-test .taken),
     )
 
 returns : tie.Need-returns Inv-loop μ-loop

@@ -20,7 +20,8 @@ spreads-32 s = sym (length-map (s .args .table .spread) _) ∙ s .good .1 .1 .0 
 
 put-prompts-requires : tie.Need-put-prompts-requires
 put-prompts-requires c κs =
-    let s = c .before .before .before .before .before .before in
+    let c-6 = c .before .before .before .before .before .before in
+    let s = c-6 in
     (few-prompts (s .args .prompts) (s .args .table) (tiers-32 s) (nets-32 s) (spreads-32 s) (s .pre .0), omega (arith, s .pre .1 .1))
 
 mul-put-spreads : tie.Need-mul-put-spreads
@@ -28,8 +29,10 @@ mul-put-spreads c = search needs
 
 put-spreads-requires : tie.Need-put-spreads-requires
 put-spreads-requires c κs =
-    let s = c .before .before .before .before .before .before .before .before .before in (
-      omega (arith, s .pre .1 .1, c .before .out .given),
+    let after-out = c .before in
+    let c-9 = after-out .before .before .before .before .before .before .before .before in
+    let s = c-9 in (
+      omega (arith, s .pre .1 .1, after-out .out .given),
       signed (s .args .prompts) (s .args .table) (tiers-32 s) (nets-32 s) (spreads-32 s) (s .pre .0) (s .args .book) (s .pre .1 .0),
     )
 
@@ -47,11 +50,15 @@ add-put c = search needs
 
 put-requires : tie.Need-put-requires
 put-requires c κs =
-    let s = c .before .before .before .before .before .before .before .before .before .before .before .before .before in (
-      omega (arith, s .pre .1 .1, c .before .before .before .before .before .out .given, c .before .before .out2 .given),
+    let after-touches-in = c .before in
+    let after-out2 = after-touches-in .before in
+    let after-out = after-out2 .before .before .before in
+    let c-13 = after-out .before .before .before .before .before .before .before .before in
+    let s = c-13 in (
+      omega (arith, s .pre .1 .1, after-out .out .given, after-out2 .out2 .given),
       omega (
         arith,
-        c .before .touches-in .ensures,
+        after-touches-in .touches-in .ensures,
         touched (s .args .prompts) (s .args .table) (tiers-32 s) (nets-32 s) (spreads-32 s) (s .pre .0),
       ),
     )
@@ -61,13 +68,15 @@ same-length c = search needs
 
 returns : tie.Need-returns
 returns c =
-    let t = c .before .before .before in
+    let after-put = c .before in
+    let c-3 = after-put .before .before in
+    let t = c-3 in
     let r = t .before .before in
     let q = r .before .before .before in
     let s = q .before .before .before .before .before .before .before in
     book-written (s .args .prompts) (s .args .table) (tiers-32 s) (nets-32 s) (spreads-32 s) (s .pre .0) (s .args .book) (s .pre .1 .0)
-    (s .args .out .now) (q .put-prompts .last .0) (r .put-spreads .last .0) (c .before .put .last .0)
-    (t .touches-in .result) (t .touches-in .ensures) (q .put-prompts .ensures) (r .put-spreads .ensures) (c .before .put .ensures)
+    (s .args .out .now) (q .put-prompts .last .0) (r .put-spreads .last .0) (after-put .put .last .0)
+    (t .touches-in .result) (t .touches-in .ensures) (q .put-prompts .ensures) (r .put-spreads .ensures) (after-put .put .ensures)
 
 pub put-book-spec : {M : Type 1} → statement M
 put-book-spec =

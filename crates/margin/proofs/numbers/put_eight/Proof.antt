@@ -3,7 +3,7 @@
 use mathlib.Core.List.{map}
 use native.Mathlib.Omega.{arith}
 use lib.IntN.{pos}
-use Rattle.margin.specs.Lines.{eightOf}
+use Rattle.formulas.specs.code.Lines.{eightOf}
 use Rattle.margin.proofs.NumberLaws.{stores-sets}
 use borrow.Author.Needs.{needs}
 use Rattle.margin.proofs.numbers.put_eight.Statement.{statement}

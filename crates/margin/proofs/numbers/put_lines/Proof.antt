@@ -8,10 +8,10 @@ use borrow.Author.Needs.{needs}
 use lib.IntN.{pos}
 use lib.ListN.{length, getD}
 use lib.Seq.{sets}
-use Rattle.margin.specs.Bounds.{mostRisk}
-use Rattle.margin.specs.Lines.{eightOf, noLine}
-use Rattle.margin.specs.Numbers.{amountAt}
-use Rattle.margin.proofs.SumLaws as sums
+use Rattle.formulas.specs.Bounds.{mostRisk}
+use Rattle.formulas.specs.code.Lines.{eightOf, noLine}
+use Rattle.margin.specs.code.Numbers.{amountAt}
+use Rattle.formulas.proofs.SumLaws as sums
 use Rattle.margin.proofs.NumberLaws.{ToWrite, start, next, finish, eightsOn, eights-step, eights-none, totalOn, total-step, total-none, figures-listed}
 use Rattle.margin.proofs.numbers.put_lines.Statement.{statement}
 use Rattle.margin.proofs.numbers.put_lines.Tie as tie
@@ -35,33 +35,47 @@ array-copy-out-line : tie.Need-array-copy-out-line Inv-loop μ-loop
 array-copy-out-line c = omega (arith, c .before .before .pre .0 .most)
 
 mul-credit : tie.Need-mul-credit Inv-loop μ-loop
-mul-credit c = omega (arith, c .before .before .before .pre .0 .most)
+mul-credit c =
+    let start = c .before .before .before in
+    omega (arith, start .pre .0 .most)
 
 array-copy-out-credit : tie.Need-array-copy-out-credit Inv-loop μ-loop
-array-copy-out-credit c = omega (arith, c .before .before .before .pre .0 .most)
+array-copy-out-credit c =
+    let start = c .before .before .before in
+    omega (arith, start .pre .0 .most)
 
 margin-of-requires : tie.Need-margin-of-requires Inv-loop μ-loop
 margin-of-requires c κs =
-    let s = c .before .before .before .before in
-    s .pre .0 .line-within (c .before .before .before .loop .i) (omega arith)
+    let after-loop = c .before .before .before in
+    let c-4 = after-loop .before in
+    let s = c-4 in
+    s .pre .0 .line-within (after-loop .loop .i) (omega arith)
 
 mul-put-eight : tie.Need-mul-put-eight Inv-loop μ-loop
-mul-put-eight c = omega (arith, c .before .before .before .before .before .before .pre .0 .most)
+mul-put-eight c =
+    let start = c .before .before .before .before .before .before in
+    omega (arith, start .pre .0 .most)
 
 put-eight-requires : tie.Need-put-eight-requires Inv-loop μ-loop
 put-eight-requires c κs =
-    let s = c .before .before .before .before .before .before in
-    let l = c .before .before .before .before .before .loop in
+    let after-margin-of = c .before in
+    let after-loop = after-margin-of .before .before .before .before in
+    let c-6 = after-loop .before in
+    let s = c-6 in
+    let l = after-loop .loop in
     let i = l .i in
     let most = s .pre .0 .most in
-    (omega (arith, l .inv .2), (s .pre .0 .line-within i (omega arith), (s .pre .0 .credit-within i (omega arith), c .before .margin-of .ensures)))
+    (omega (arith, l .inv .2), (s .pre .0 .line-within i (omega arith), (s .pre .0 .credit-within i (omega arith), after-margin-of .margin-of .ensures)))
 
 add-total : tie.Need-add-total Inv-loop μ-loop
 add-total c =
-    let s = c .before .before .before .before .before .before .before .before .before in
-    let small = c .before .before .before .before .before .before .before .before .loop .inv .1 .small in
+    let after-margin-of = c .before .before .before .before in
+    let after-loop = after-margin-of .before .before .before .before in
+    let c-9 = after-loop .before in
+    let s = c-9 in
+    let small = after-loop .loop .inv .1 .small in
     let most = s .pre .0 .most in
-    let margin = c .before .before .before .before .margin-of .ensures .1 in
+    let margin = after-margin-of .margin-of .ensures .1 in
     omega arith
 
 add-i : tie.Need-add-i Inv-loop μ-loop
@@ -91,19 +105,25 @@ loop-again c =
     )
 
 mul-put : tie.Need-mul-put Inv-loop μ-loop
-mul-put c = omega (arith, c .before .before .before .pre .0 .most)
+mul-put c =
+    let start = c .before .before .before in
+    omega (arith, start .pre .0 .most)
 
 put-requires : tie.Need-put-requires Inv-loop μ-loop
 put-requires c κs =
-    let s = c .before .before .before in
-    let l = c .before .before .loop in
+    let after-loop = c .before .before in
+    let c-3 = after-loop .before in
+    let s = c-3 in
+    let l = after-loop .loop in
     let small = l .inv .1 .small in
     let within = l .inv .1 .within in
     let most = s .pre .0 .most in
     (omega (arith, s .pre .1, l .inv .2), omega arith)
 
 same-length : tie.Need-same-length Inv-loop μ-loop
-same-length c = c .out2 .given ∙ c .before .before .before .before .loop .inv .2
+same-length c =
+    let after-loop = c .before .before .before .before in
+    c .out2 .given ∙ after-loop .loop .inv .2
 
 returns : tie.Need-returns Inv-loop μ-loop
 returns c =

@@ -7,7 +7,7 @@ use native.Mathlib.Omega.{arith}
 use borrow.Author.Needs.{needs}
 use lib.ListN.{length}
 use lib.Seq.{sets}
-use Rattle.margin.specs.Sums.{deltaAt}
+use Rattle.formulas.specs.code.Sums.{deltaAt}
 use Rattle.margin.proofs.NumberLaws.{ToWrite, start, next, finish, threesOn, threes-step, threes-none}
 use Rattle.margin.proofs.numbers.put_prompts.Statement.{statement}
 use Rattle.margin.proofs.numbers.put_prompts.Tie as tie
@@ -44,7 +44,9 @@ array-copy-out-put-three-3 : tie.Need-array-copy-out-put-three-3 Inv-loop μ-loo
 array-copy-out-put-three-3 c = omega arith
 
 put-three-requires : tie.Need-put-three-requires Inv-loop μ-loop
-put-three-requires c κs = let l = c .before .before .before .before .before .loop in omega (arith, l .inv .1)
+put-three-requires c κs =
+    let after-loop = c .before .before .before .before .before in
+    let l = after-loop .loop in omega (arith, l .inv .1)
 
 add-i : tie.Need-add-i Inv-loop μ-loop
 add-i c = omega arith

@@ -8,7 +8,7 @@ use borrow.Author.Needs.{needs}
 use lib.IntN.{pos}
 use lib.ListN.{length}
 use lib.Seq.{sets}
-use Rattle.margin.specs.Sums.{spreadsAt}
+use Rattle.formulas.specs.code.Sums.{spreadsAt}
 use Rattle.margin.proofs.NumberLaws.{ToWrite, start, next, finish, twosOn, twos-step, twos-none}
 use Rattle.margin.proofs.numbers.put_spreads.Statement.{statement}
 use Rattle.margin.proofs.numbers.put_spreads.Tie as tie
@@ -43,8 +43,10 @@ array-copy-out-put-two-2 c = omega arith
 
 put-two-requires : tie.Need-put-two-requires Inv-loop μ-loop
 put-two-requires c κs =
-    let s = c .before .before .before .before .before in
-    let l = c .before .before .before .before .loop in
+    let after-loop = c .before .before .before .before in
+    let c-5 = after-loop .before in
+    let s = c-5 in
+    let l = after-loop .loop in
     let i = l .i in
     (omega (arith, l .inv .1), (s .pre .1 .first-within i (omega arith), s .pre .1 .second-within i (omega arith)))
 

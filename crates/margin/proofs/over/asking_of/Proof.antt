@@ -4,9 +4,9 @@ use mathlib.Core.Path.{subst}
 use mathlib.Core.List.{[]}
 use borrow.Author.Needs.{needs}
 use lib.Dec.{lit≤}
-use Rattle.account.specs.Standing.{accountOf}
-use Rattle.margin.specs.Contract.{Contract, stepsOf, opensOf}
-use Rattle.margin.specs.Uses.{Asks}
+use Rattle.account.specs.Joined.{accountOf}
+use Rattle.formulas.specs.Contract.{Contract, contractSteps, opensOf}
+use Rattle.margin.specs.code.Asking.{Asks}
 use Rattle.margin.proofs.AcceptLaws.{rows-unrated}
 use Rattle.margin.proofs.StandLaws.{book-fits, by-number}
 use Rattle.margin.proofs.over.asking_of.Statement.{statement}
@@ -17,30 +17,36 @@ no-rates-requires c κs = search needs
 
 position-at-requires : tie.Need-position-at-requires
 position-at-requires c κs =
-    let s = c .before .before .before in
+    let c-3 = c .before .before .before in
+    let s = c-3 in
     let all = accountOf (s .args .morning .now) (s .args .noon .now) in
     (s .pre .0, (s .pre .1, (lit≤ tt, rows-unrated all (s .pre .0 .lawful) (s .args .c) (c .no-rates .result) (c .no-rates .ensures))))
 
 asking-with-requires : tie.Need-asking-with-requires
 asking-with-requires c κs =
-    let s = c .before .before .before .before in
+    let after-no-rates = c .before in
+    let c-4 = after-no-rates .before .before .before in
+    let s = c-4 in
     let p = c .position-at in (
       s .pre .0,
       (
         s .pre .1,
         book-fits (accountOf (s .args .morning .now) (s .args .noon .now)) (s .pre .0 .lawful) (s .args .c) (s .pre .1)
-            (p .result) (p .ensures [] (c .before .no-rates .ensures)),
+            (p .result) (p .ensures [] (after-no-rates .no-rates .ensures)),
       ),
     )
 
 returns : tie.Need-returns
 returns c =
-    let s = c .before .before .before .before .before in
-    let p = c .before .position-at in
+    let after-position-at = c .before in
+    let after-no-rates = after-position-at .before in
+    let c-5 = after-no-rates .before .before .before in
+    let s = c-5 in
+    let p = after-position-at .position-at in
     let r = c .asking-with in
-    subst (λ (k : Contract). Asks (stepsOf k) (opensOf k) (r .result))
+    subst (λ (k : Contract). Asks (contractSteps k) (opensOf k) (r .result))
     (by-number (accountOf (s .args .morning .now) (s .args .noon .now)) (s .pre .0 .lawful) (s .args .c) (s .pre .1) (p .result)
-    (p .ensures [] (c .before .before .no-rates .ensures))) (r .ensures)
+    (p .ensures [] (after-no-rates .no-rates .ensures))) (r .ensures)
 
 pub asking-of-spec : {M : Type 1} → statement M
 asking-of-spec =

@@ -5,9 +5,9 @@ use mathlib.Core.List.{List}
 use borrow.Author.Needs.{needs}
 use Rattle.record.specs.Layout.{Record}
 use Rattle.account.specs.Records.{records}
-use Rattle.account.specs.Standing.{accountOf}
-use Rattle.margin.specs.Beside.{ownOf}
-use Rattle.margin.specs.Promised.{LineOf, PositionFit, contractWith}
+use Rattle.account.specs.Joined.{accountOf}
+use Rattle.margin.specs.code.Beside.{ownOf}
+use Rattle.formulas.specs.code.Promised.{LineOf, PositionFit, contractWith}
 use Rattle.margin.proofs.StandLaws.{own-by, parts-read, parts-told}
 use Rattle.margin.proofs.over.line_with.Statement.{statement}
 use Rattle.margin.proofs.over.line_with.Tie as tie
@@ -32,10 +32,13 @@ part-requires-3 c κs = search needs
 
 line-of-requires : tie.Need-line-of-requires
 line-of-requires c κs =
-    let s = c .before .before .before .before .before in
+    let after-part2 = c .before in
+    let after-part = after-part2 .before in
+    let c-5 = after-part .before .before .before in
+    let s = c-5 in
     let a = accountOf (s .args .morning .now) (s .args .noon .now) in
-    let own = c .before .before .part in
-    let ps = c .before .part2 in
+    let own = after-part .part in
+    let ps = after-part2 .part2 in
     let ss = c .part3 in
     subst⁻¹ (λ (o : Record). PositionFit o (records (ps .result .now)) (records (ss .result .now)) (s .args .p))
     (own-by a (s .pre .0 .lawful) (s .args .c) (s .pre .1 .0) (own .result .now) (own .ensures))
@@ -44,11 +47,15 @@ line-of-requires c κs =
 
 returns : tie.Need-returns
 returns c =
-    let s = c .before .before .before .before .before .before in
+    let after-part3 = c .before in
+    let after-part2 = after-part3 .before in
+    let after-part = after-part2 .before in
+    let c-6 = after-part .before .before .before in
+    let s = c-6 in
     let a = accountOf (s .args .morning .now) (s .args .noon .now) in
-    let own = c .before .before .before .part in
-    let ps = c .before .before .part2 in
-    let ss = c .before .part3 in
+    let own = after-part .part in
+    let ps = after-part2 .part2 in
+    let ss = after-part3 .part3 in
     let l = c .line-of in
     parts-told a (s .pre .0 .lawful) (s .args .c) (s .pre .1 .0) (ps .result .now) (ss .result .now) (ps .ensures) (ss .ensures)
     (λ (xs ys : List Record). LineOf (contractWith (ownOf (s .args .c) a) xs ys (s .args .p)) (l .result))

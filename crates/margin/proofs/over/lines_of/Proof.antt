@@ -8,8 +8,8 @@ use native.Mathlib.Omega.{arith}
 use borrow.Author.Needs.{needs}
 use Rattle.record.specs.Layout.{Record}
 use Rattle.account.specs.Parts.{ratesOf}
-use Rattle.account.specs.Products.{RatesOf}
-use Rattle.account.specs.Standing.{accountOf}
+use Rattle.account.specs.code.Rates.{RatesOf}
+use Rattle.account.specs.Joined.{accountOf}
 use Rattle.margin.proofs.StandLaws.{few-contracts}
 use Rattle.margin.proofs.AccountLaws.{LinedTo, lined-next}
 use Rattle.margin.proofs.over.lines_of.Statement.{statement}
@@ -24,7 +24,8 @@ abbrev μ-loop : tie.MeasureT-loop
 -- an account has at most sixteen contracts
 few : (c : tie.After-contract-total Inv-loop μ-loop) → c .contract-total .result ≤ 16
 few c =
-    let s = c .before .before .before in
+    let c-3 = c .before .before .before in
+    let s = c-3 in
     omega (arith, c .contract-total .ensures, few-contracts (s .args .morning .now) (s .args .noon .now) (s .args .account) (s .pre))
 
 contract-total-requires : tie.Need-contract-total-requires Inv-loop μ-loop
@@ -49,28 +50,40 @@ loop-holds : tie.Need-loop-holds Inv-loop μ-loop
 loop-holds c = (record { places = refl; each = λ j h. absurd (not-suc-le-zero h) }, omega arith)
 
 line-at-requires : tie.Need-line-at-requires Inv-loop μ-loop
-line-at-requires c κs = (
-  c .before .before .before .before .before .before .before .before .pre,
-  (omega (arith, c .loop-test .taken, c .before .before .before .before .before .contract-total .ensures), table (c .before .before .before)),
-)
+line-at-requires c κs =
+    let c-3 = c .before .before .before in
+    let after-contract-total = c-3 .before .before in
+    let start = after-contract-total .before .before .before in (
+      start .pre,
+      (omega (arith, c .loop-test .taken, after-contract-total .contract-total .ensures), table (c-3)),
+    )
 
 mul-lines : tie.Need-mul-lines Inv-loop μ-loop
-mul-lines c = let h = few (c .before .before .before .before .before .before) in omega arith
+mul-lines c =
+    let c-6 = c .before .before .before .before .before .before in
+    let h = few (c-6) in omega arith
 
 array-set-from-lines : tie.Need-array-set-from-lines Inv-loop μ-loop
-array-set-from-lines c = let h = few (c .before .before .before .before .before .before) in omega arith
+array-set-from-lines c =
+    let c-6 = c .before .before .before .before .before .before in
+    let h = few (c-6) in omega arith
 
 add-i : tie.Need-add-i Inv-loop μ-loop
-add-i c = let h = few (c .before .before .before .before .before .before) in omega arith
+add-i c =
+    let c-6 = c .before .before .before .before .before .before in
+    let h = few (c-6) in omega arith
 
 loop-less : tie.Need-loop-less Inv-loop μ-loop
 loop-less c = omega arith
 
 loop-again : tie.Need-loop-again Inv-loop μ-loop
 loop-again c =
-    let s = c .before .before .before .before .before .before .before .before .before in
-    let l = c .before .before .loop in
-    let h = few (c .before .before .before .before .before .before) in (
+    let after-loop = c .before .before in
+    let c-6 = after-loop .before .before .before .before in
+    let c-9 = c-6 .before .before .before in
+    let s = c-9 in
+    let l = after-loop .loop in
+    let h = few (c-6) in (
       lined-next (accountOf (s .args .morning .now) (s .args .noon .now)) (l .i) (l .lines) (c .line-at .result) (l .inv .0) (omega arith)
           (c .line-at .ensures),
       omega arith,
@@ -78,11 +91,14 @@ loop-again c =
 
 returns : tie.Need-returns Inv-loop μ-loop
 returns c =
-    let l = c .before .loop in
-    let h = few (c .before .before .before .before .before) in
+    let after-loop = c .before in
+    let after-contract-total = after-loop .before .before .before .before in
+    let start = after-contract-total .before .before .before in
+    let l = after-loop .loop in
+    let h = few (after-contract-total) in
     record {
-      count-is = c .before .before .before .before .before .contract-total .ensures
-          ∙ c .before .before .before .before .before .before .before .before .pre .places .contracts;
+      count-is = after-contract-total .contract-total .ensures
+          ∙ start .pre .places .contracts;
       few = h;
       places = l .inv .0 .places;
       each = λ i m. l .inv .0 .each i (omega arith);

@@ -8,11 +8,11 @@ use lib.Dec.{lit≤}
 use lib.ListN.{length}
 use Rattle.record.specs.Layout.{Record}
 use Rattle.account.specs.Records.{records}
-use Rattle.account.specs.Standing.{accountOf}
-use Rattle.margin.specs.Lined.{PositionAt}
-use Rattle.margin.specs.Position.{withNets}
+use Rattle.account.specs.Joined.{accountOf}
+use Rattle.margin.specs.code.Lined.{PositionAt}
+use Rattle.formulas.specs.code.Position.{withNets}
 use Rattle.margin.proofs.AcceptLaws.{each-unrated}
-use Rattle.margin.proofs.PositionBounds.{Rated, bounded, wider}
+use Rattle.formulas.proofs.PositionBounds.{Rated, bounded, wider}
 use Rattle.margin.proofs.StandLaws.{of-contract, rows-room, prompts-few, position-is}
 use Rattle.margin.proofs.over.nets_at.Statement.{statement}
 use Rattle.margin.proofs.over.nets_at.Tie as tie
@@ -31,9 +31,11 @@ part-requires-2 c κs = search needs
 
 nets-of-requires : tie.Need-nets-of-requires
 nets-of-requires c κs =
-    let s = c .before .before .before .before in
+    let after-part = c .before in
+    let c-4 = after-part .before .before .before in
+    let s = c-4 in
     let a = accountOf (s .args .morning .now) (s .args .noon .now) in
-    let ps = c .before .part in
+    let ps = after-part .part in
     let rs = c .part2 in (
       prompts-few a (s .pre .0 .lawful) (s .args .c) (s .pre .1) (ps .result .now) (rs .result .now) (ps .ensures) (rs .ensures),
       rows-room a (s .pre .0 .lawful) (s .args .c) (s .pre .1) (ps .result .now) (rs .result .now) (ps .ensures) (rs .ensures) .rows-within,
@@ -41,11 +43,14 @@ nets-of-requires c κs =
 
 returns : tie.Need-returns
 returns c =
-    let s = c .before .before .before .before .before in
+    let after-part2 = c .before in
+    let after-part = after-part2 .before in
+    let c-5 = after-part .before .before .before in
+    let s = c-5 in
     let a = accountOf (s .args .morning .now) (s .args .noon .now) in
     let law = s .pre .0 .lawful in
-    let ps = c .before .before .part in
-    let rs = c .before .part2 in
+    let ps = after-part .part in
+    let rs = after-part2 .part2 in
     let rows = records (rs .result .now) in
     let same = of-contract a law (s .args .c) (s .pre .1) 3 (lit≤ tt) (rs .result .now) (rs .ensures) in
     let fit = rows-room a law (s .args .c) (s .pre .1) (ps .result .now) (rs .result .now) (ps .ensures) (rs .ensures) .rows-within in

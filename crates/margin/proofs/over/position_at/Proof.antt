@@ -1,7 +1,7 @@
 -- What a contract's rows come to, by its number: its prompts and rows are the account's.
 -- Assumes nothing.
 use borrow.Author.Needs.{needs}
-use Rattle.account.specs.Standing.{accountOf}
+use Rattle.account.specs.Joined.{accountOf}
 use Rattle.margin.proofs.StandLaws.{rows-room, rows-rated-by, prompts-few, position-is}
 use Rattle.margin.proofs.over.position_at.Statement.{statement}
 use Rattle.margin.proofs.over.position_at.Tie as tie
@@ -20,9 +20,11 @@ part-requires-2 c κs = search needs
 
 position-of-requires : tie.Need-position-of-requires
 position-of-requires c κs =
-    let s = c .before .before .before .before in
+    let after-part = c .before in
+    let c-4 = after-part .before .before .before in
+    let s = c-4 in
     let a = accountOf (s .args .morning .now) (s .args .noon .now) in
-    let ps = c .before .part in
+    let ps = after-part .part in
     let rs = c .part2 in (
       s .pre .1 .1 .0,
       (
@@ -37,10 +39,13 @@ position-of-requires c κs =
 
 returns : tie.Need-returns
 returns c =
-    let s = c .before .before .before .before .before in
+    let after-part2 = c .before in
+    let after-part = after-part2 .before in
+    let c-5 = after-part .before .before .before in
+    let s = c-5 in
     let a = accountOf (s .args .morning .now) (s .args .noon .now) in
-    let ps = c .before .before .part in
-    let rs = c .before .part2 in
+    let ps = after-part .part in
+    let rs = after-part2 .part2 in
     let p = c .position-of in
     λ held is.
     position-is a (s .pre .0 .lawful) (s .args .c) (s .pre .1 .0) (ps .result .now) (rs .result .now) (ps .ensures) (rs .ensures) held (s .args .unit)

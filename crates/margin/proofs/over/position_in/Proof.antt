@@ -6,9 +6,9 @@ use native.Mathlib.Omega.{arith}
 use borrow.Author.Needs.{needs}
 use Rattle.record.specs.Layout.{unit}
 use Rattle.account.specs.Parts.{ratesOf}
-use Rattle.account.specs.Standing.{accountOf}
-use Rattle.margin.specs.Beside.{unitOf}
-use Rattle.margin.specs.Lined.{PositionAt}
+use Rattle.account.specs.Joined.{accountOf}
+use Rattle.margin.specs.code.Beside.{unitOf}
+use Rattle.margin.specs.code.Lined.{PositionAt}
 use Rattle.margin.proofs.AcceptLaws.{rows-rated}
 use Rattle.margin.proofs.BesideLaws.{own-fit}
 use Rattle.margin.proofs.StandLaws.{own-by}
@@ -29,15 +29,18 @@ its-unit : (c : tie.After-unit)
     → let s = c .before .before .before .before in
     c .unit .result ≡ unitOf (s .args .c) (accountOf (s .args .morning .now) (s .args .noon .now))
 its-unit c =
-    let s = c .before .before .before .before in
-    let own = c .before .part in
+    let after-part = c .before in
+    let c-4 = after-part .before .before .before in
+    let s = c-4 in
+    let own = after-part .part in
     c .unit .ensures .0
     ∙ ap unit (own-by (accountOf (s .args .morning .now) (s .args .noon .now)) (s .pre .0 .lawful) (s .args .c) (s .pre .1 .0) (own .result .now)
     (own .ensures))
 
 position-at-requires : tie.Need-position-at-requires
 position-at-requires c κs =
-    let s = c .before .before .before .before in
+    let c-4 = c .before .before .before .before in
+    let s = c-4 in
     let w = own-fit (accountOf (s .args .morning .now) (s .args .noon .now)) (s .pre .0 .lawful) (s .args .c) in (
       s .pre .0,
       (
@@ -52,10 +55,12 @@ position-at-requires c κs =
 
 returns : tie.Need-returns
 returns c =
-    let s = c .before .before .before .before .before in
+    let c-1 = c .before in
+    let c-5 = c-1 .before .before .before .before in
+    let s = c-5 in
     let p = c .position-at in
     let a = accountOf (s .args .morning .now) (s .args .noon .now) in
-    subst (λ (u : ℕ). PositionAt (ratesOf a) u a (s .args .c) (p .result)) (its-unit (c .before)) (p .ensures (ratesOf a) (s .pre .1 .1))
+    subst (λ (u : ℕ). PositionAt (ratesOf a) u a (s .args .c) (p .result)) (its-unit (c-1)) (p .ensures (ratesOf a) (s .pre .1 .1))
 
 pub position-in-spec : {M : Type 1} → statement M
 position-in-spec =

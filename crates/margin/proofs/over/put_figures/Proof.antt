@@ -5,7 +5,7 @@ use native.Mathlib.Omega.{arith}
 use borrow.Author.Needs.{needs}
 use lib.ListN.{length}
 use lib.Seq.{sets}
-use Rattle.account.specs.Standing.{accountOf}
+use Rattle.account.specs.Joined.{accountOf}
 use Rattle.margin.proofs.AccountLaws.{table-room, its, its-book, credits-room, lines-within, answer-is}
 use Rattle.margin.proofs.BesideLaws.{entries-beside}
 use Rattle.margin.proofs.over.put_figures.Statement.{statement}
@@ -16,7 +16,8 @@ part-requires c κs = search needs
 
 table-credits-requires : tie.Need-table-credits-requires
 table-credits-requires c κs =
-    let s = c .before .before .before .before in
+    let c-4 = c .before .before .before .before in
+    let s = c-4 in
     let x = s .pre .1 .0 in
     let l = s .args .all in
     let p = c .part in
@@ -27,11 +28,14 @@ table-credits-requires c κs =
 
 put-lines-requires : tie.Need-put-lines-requires
 put-lines-requires c κs =
-    let s = c .before .before .before .before .before .before in
+    let after-table-credits = c .before in
+    let after-part = after-table-credits .before in
+    let c-6 = after-part .before .before .before .before in
+    let s = c-6 in
     let x = s .pre .1 .0 in
     let l = s .args .all in
-    let p = c .before .before .part in
-    let t = c .before .table-credits in
+    let p = after-part .part in
+    let t = after-table-credits .table-credits in
     let e = entries-beside (accountOf (s .args .morning .now) (s .args .noon .now)) (x .whole) (x .beside) (p .result .now) (p .ensures) in
     let b = its (x .whole) (x .beside .lawful) l (x .lines) (p .result .now) e in
     let k = its-book (x .whole) (x .beside .lawful) l (x .lines) (p .result .now) e in (
@@ -44,14 +48,18 @@ same-length c = search needs
 
 returns : tie.Need-returns
 returns c =
-    let s = c .before .before .before .before .before .before .before .before in
+    let after-put-lines = c .before in
+    let after-table-credits = after-put-lines .before .before in
+    let after-part = after-table-credits .before in
+    let c-8 = after-part .before .before .before .before in
+    let s = c-8 in
     let a = accountOf (s .args .morning .now) (s .args .noon .now) in
     let l = s .args .all in
-    let p = c .before .before .before .before .part in
-    let t = c .before .before .before .table-credits in
+    let p = after-part .part in
+    let t = after-table-credits .table-credits in
     λ whole beside is.
     let e = entries-beside a whole beside (p .result .now) (p .ensures) in
-    c .before .put-lines .ensures
+    after-put-lines .put-lines .ensures
     ∙ ap (sets (s .args .out .now) 0) (answer-is whole (beside .lawful) l is (p .result .now) e (its whole (beside .lawful) l is (p .result .now) e)
     (its-book whole (beside .lawful) l is (p .result .now) e) (t .result) (t .ensures))
 

@@ -1,7 +1,7 @@
 -- The contracts and the intercontract spreads are accepted by the steps, and are those that the table's uses go by.
 -- Assumes nothing.
 use borrow.Author.Needs.{needs}
-use Rattle.account.specs.Standing.{accountOf}
+use Rattle.account.specs.Joined.{accountOf}
 use Rattle.margin.proofs.BesideLaws.{entries-beside}
 use Rattle.margin.proofs.TierLaws.{entries-few}
 use Rattle.margin.proofs.UsesLaws.{table-asks}
@@ -13,7 +13,8 @@ part-requires c κs = search needs
 
 intercontract-table-requires : tie.Need-intercontract-table-requires
 intercontract-table-requires c κs =
-    let s = c .before .before .before in
+    let c-3 = c .before .before .before in
+    let s = c-3 in
     let x = s .pre .1 in
     let e = c .part in
     entries-few (x .whole) (x .beside .lawful) (s .args .tiers) (x .is) (e .result .now)
@@ -21,8 +22,10 @@ intercontract-table-requires c κs =
 
 returns : tie.Need-returns
 returns c =
-    let s = c .before .before .before .before in
-    let e = c .before .part in
+    let after-part = c .before in
+    let c-4 = after-part .before .before .before in
+    let s = c-4 in
+    let e = after-part .part in
     let t = c .intercontract-table in
     λ whole beside is.
     table-asks whole (beside .lawful) (s .args .tiers) is (e .result .now)

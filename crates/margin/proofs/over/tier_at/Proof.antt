@@ -1,16 +1,15 @@
 -- The i-th contract as a tier: its number, and what its rows' deltas come to.
 -- Assumes nothing.
 use Prim.Native.Nat.{_≤_}
-use mathlib.Core.Path.{_≡_}
 use mathlib.Core.List.{List, []}
 use native.Mathlib.Omega.{arith}
 use borrow.Author.Needs.{needs}
 use lib.ListN.{getD}
 use Rattle.record.specs.Layout.{Record}
 use Rattle.account.specs.Parts.{contractsOf, rowsOf}
-use Rattle.account.specs.Standing.{accountOf}
-use Rattle.margin.specs.declared.rows.Position.{Position}
-use Rattle.margin.specs.Position.{withNets}
+use Rattle.account.specs.Joined.{accountOf}
+use Rattle.formulas.specs.declared.rows.Position.{Position}
+use Rattle.formulas.specs.code.Position.{withNets}
 use Rattle.margin.proofs.AcceptLaws.{none-within}
 use Rattle.margin.proofs.StandLaws.{number-at, listed-at, own-number}
 use Rattle.margin.proofs.TierLaws.{tier-sizes, tier-is}
@@ -23,7 +22,8 @@ contract-number-requires c κs = search needs
 -- the contract's number
 small : (c : tie.After-contract-number) → c .contract-number .result ≤ 15
 small c =
-    let s = c .before .before .before in
+    let c-3 = c .before .before .before in
+    let s = c-3 in
     let m = s .args .morning .now in
     let n = s .args .noon .now in
     omega (
@@ -33,7 +33,9 @@ small c =
     )
 
 nets-at-requires : tie.Need-nets-at-requires
-nets-at-requires c κs = let s = c .before .before .before in (s .pre .0, small c)
+nets-at-requires c κs =
+    let c-3 = c .before .before .before in
+    let s = c-3 in (s .pre .0, small c)
 
 -- the position that has these net deltas
 module _ (c : tie.After-nets-at) where
@@ -45,21 +47,26 @@ module _ (c : tie.After-nets-at) where
 
 contract-net-requires : tie.Need-contract-net-requires
 contract-net-requires c κs =
-    let s = c .before .before .before .before in
-    tier-sizes (whole c) (s .pre .0 .lawful) [] [] none-within (c .before .contract-number .result) (its c) (c .nets-at .ensures)
+    let after-contract-number = c .before in
+    let c-4 = after-contract-number .before .before .before in
+    let s = c-4 in
+    tier-sizes (whole c) (s .pre .0 .lawful) [] [] none-within (after-contract-number .contract-number .result) (its c) (c .nets-at .ensures)
 
 cast-t8 : tie.Need-cast-t8
 cast-t8 c = omega (arith, small (c .before .before))
 
 returns : tie.Need-returns
 returns c =
-    let s = c .before .before .before .before .before in
+    let after-nets-at = c .before in
+    let after-contract-number = after-nets-at .before in
+    let c-5 = after-contract-number .before .before .before in
+    let s = c-5 in
     let m = s .args .morning .now in
     let n = s .args .noon .now in
-    let k = c .before .before .contract-number in
-    tier-is (accountOf m n) (s .pre .0 .lawful) [] [] none-within (k .result) (its (c .before)) (c .before .nets-at .ensures)
+    let k = after-contract-number .contract-number in
+    tier-is (accountOf m n) (s .pre .0 .lawful) [] [] none-within (k .result) (its (after-nets-at)) (after-nets-at .nets-at .ensures)
     (getD (contractsOf (accountOf m n)) (s .args .i) []) (c .contract-net .result .0)
-    (number-at m n (s .args .account) (s .pre .0) (s .args .i) (s .pre .1) (k .result) (k .ensures)) (small (c .before .before)) (c .contract-net .ensures)
+    (number-at m n (s .args .account) (s .pre .0) (s .args .i) (s .pre .1) (k .result) (k .ensures)) (small (after-contract-number)) (c .contract-net .ensures)
 
 pub tier-at-spec : {M : Type 1} → statement M
 tier-at-spec =

@@ -6,8 +6,8 @@ use Prim.Native.Nat.{_-_, _≤_}
 use native.Mathlib.Omega.{arith}
 use lib.ListN.{getD}
 use Rattle.record.specs.Layout.{Record}
-use Rattle.margin.specs.Lined.{LinesOf}
-use Rattle.margin.specs.Lines.{noLine}
+use Rattle.margin.specs.code.Lined.{LinesOf}
+use Rattle.formulas.specs.code.Lines.{noLine}
 use Rattle.margin.proofs.TierLaws.{TieredTo, tiers-none, tiers-next, tiers-all, line-tier}
 use Rattle.margin.proofs.over.tiers_in.Statement.{statement}
 use Rattle.margin.proofs.over.tiers_in.Tie as tie
@@ -30,29 +30,49 @@ element-copy-out-line c = omega (arith, c .loop-test .taken, c .before .before .
 
 cast-tiers : tie.Need-cast-tiers Inv-loop μ-loop
 cast-tiers c =
-    let s = c .before .before .before .before in
-    omega (arith, s .pre .1 (c .before .before .before .loop .i) (c .before .before .loop-test .taken) .contract-within)
+    let after-loop-test = c .before .before in
+    let after-loop = after-loop-test .before in
+    let c-4 = after-loop .before in
+    let s = c-4 in
+    omega (arith, s .pre .1 (after-loop .loop .i) (after-loop-test .loop-test .taken) .contract-within)
 
 array-write-tiers : tie.Need-array-write-tiers Inv-loop μ-loop
-array-write-tiers c = omega (arith, c .before .before .loop-test .taken, c .before .before .before .before .pre .0)
+array-write-tiers c =
+    let after-loop-test = c .before .before in
+    let start = after-loop-test .before .before in
+    omega (arith, after-loop-test .loop-test .taken, start .pre .0)
 
 mul-nets : tie.Need-mul-nets Inv-loop μ-loop
-mul-nets c = omega (arith, c .before .before .before .loop-test .taken, c .before .before .before .before .before .pre .0)
+mul-nets c =
+    let after-loop-test = c .before .before .before in
+    let start = after-loop-test .before .before in
+    omega (arith, after-loop-test .loop-test .taken, start .pre .0)
 
 array-set-from-nets : tie.Need-array-set-from-nets Inv-loop μ-loop
-array-set-from-nets c = omega (arith, c .before .before .before .loop-test .taken, c .before .before .before .before .before .pre .0)
+array-set-from-nets c =
+    let after-loop-test = c .before .before .before in
+    let start = after-loop-test .before .before in
+    omega (arith, after-loop-test .loop-test .taken, start .pre .0)
 
 add-i : tie.Need-add-i Inv-loop μ-loop
-add-i c = omega (arith, c .before .before .before .loop-test .taken, c .before .before .before .before .before .pre .0)
+add-i c =
+    let after-loop-test = c .before .before .before in
+    let start = after-loop-test .before .before in
+    omega (arith, after-loop-test .loop-test .taken, start .pre .0)
 
 loop-less : tie.Need-loop-less Inv-loop μ-loop
-loop-less c = omega (arith, c .before .before .before .loop-test .taken)
+loop-less c =
+    let after-loop-test = c .before .before .before in
+    omega (arith, after-loop-test .loop-test .taken)
 
 loop-again : tie.Need-loop-again Inv-loop μ-loop
 loop-again c =
-    let s = c .before .before .before .before .before in
-    let l = c .before .before .before .before .loop in
-    let taken = c .before .before .before .loop-test .taken in
+    let after-loop-test = c .before .before .before in
+    let after-loop = after-loop-test .before in
+    let c-5 = after-loop .before in
+    let s = c-5 in
+    let l = after-loop .loop in
+    let taken = after-loop-test .loop-test .taken in
     let x = getD (s .args .t1 .line) (l .i) noLine in (
       λ whole is.
           tiers-next whole (l .i) (l .tiers) (l .nets) (x .contract) (x .net) (l .inv .0 whole is) (omega (arith, taken, s .pre .0))

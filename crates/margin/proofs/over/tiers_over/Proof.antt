@@ -4,7 +4,7 @@ use mathlib.Core.Path.{refl}
 use Prim.Native.Nat.{_-_, _≤_}
 use native.Mathlib.Omega.{arith}
 use borrow.Author.Needs.{needs}
-use Rattle.account.specs.Standing.{accountOf}
+use Rattle.account.specs.Joined.{accountOf}
 use Rattle.margin.proofs.StandLaws.{few-contracts}
 use Rattle.margin.proofs.TierLaws.{TieredTo, tiers-none, tiers-next, tiers-all}
 use Rattle.margin.proofs.over.tiers_over.Statement.{statement}
@@ -19,41 +19,59 @@ abbrev μ-loop : tie.MeasureT-loop
 -- an account has at most sixteen contracts
 few : (c : tie.After-contract-total Inv-loop μ-loop) → c .contract-total .result ≤ 16
 few c =
-    let s = c .before .before .before in
+    let c-3 = c .before .before .before in
+    let s = c-3 in
     omega (arith, c .contract-total .ensures, few-contracts (s .args .morning .now) (s .args .noon .now) (s .args .account) (s .pre))
 
 contract-total-requires : tie.Need-contract-total-requires Inv-loop μ-loop
 contract-total-requires c κs = search needs
 
 loop-holds : tie.Need-loop-holds Inv-loop μ-loop
-loop-holds c = (tiers-none (accountOf (c .before .before .before .args .morning .now) (c .before .before .before .args .noon .now)) _ _ refl refl, omega arith)
+loop-holds c =
+    let start = c .before .before .before in
+    (tiers-none (accountOf (start .args .morning .now) (start .args .noon .now)) _ _ refl refl, omega arith)
 
 tier-at-requires : tie.Need-tier-at-requires Inv-loop μ-loop
-tier-at-requires c κs = (c .before .before .before .before .before .pre, omega (arith, c .loop-test .taken, c .before .before .contract-total .ensures))
+tier-at-requires c κs =
+    let after-contract-total = c .before .before in
+    let start = after-contract-total .before .before .before in
+    (start .pre, omega (arith, c .loop-test .taken, after-contract-total .contract-total .ensures))
 
 array-write-tiers : tie.Need-array-write-tiers Inv-loop μ-loop
-array-write-tiers c = let h = few (c .before .before .before) in omega arith
+array-write-tiers c =
+    let c-3 = c .before .before .before in
+    let h = few (c-3) in omega arith
 
 mul-nets : tie.Need-mul-nets Inv-loop μ-loop
-mul-nets c = let h = few (c .before .before .before .before) in omega arith
+mul-nets c =
+    let c-4 = c .before .before .before .before in
+    let h = few (c-4) in omega arith
 
 array-set-from-nets : tie.Need-array-set-from-nets Inv-loop μ-loop
-array-set-from-nets c = let h = few (c .before .before .before .before) in omega arith
+array-set-from-nets c =
+    let c-4 = c .before .before .before .before in
+    let h = few (c-4) in omega arith
 
 add-i : tie.Need-add-i Inv-loop μ-loop
-add-i c = let h = few (c .before .before .before .before) in omega arith
+add-i c =
+    let c-4 = c .before .before .before .before in
+    let h = few (c-4) in omega arith
 
 loop-less : tie.Need-loop-less Inv-loop μ-loop
 loop-less c = omega arith
 
 loop-again : tie.Need-loop-again Inv-loop μ-loop
 loop-again c =
-    let s = c .before .before .before .before .before .before .before in
-    let l = c .before .before .before .loop in
-    let t = c .before .tier-at in
-    let h = few (c .before .before .before .before) in
+    let after-tier-at = c .before in
+    let after-loop = after-tier-at .before .before in
+    let after-contract-total = after-loop .before in
+    let c-7 = after-contract-total .before .before .before in
+    let s = c-7 in
+    let l = after-loop .loop in
+    let t = after-tier-at .tier-at in
+    let h = few (after-contract-total) in
     let e = s .pre .places .contracts in
-    let n = c .before .before .before .before .contract-total .ensures in (
+    let n = after-contract-total .contract-total .ensures in (
       tiers-next (accountOf (s .args .morning .now) (s .args .noon .now)) (l .i) (l .tiers) (l .nets) (t .result .contract) (t .result .net)
           (l .inv .0) (omega arith) (omega arith) (t .ensures),
       omega arith,
@@ -61,11 +79,14 @@ loop-again c =
 
 returns : tie.Need-returns Inv-loop μ-loop
 returns c =
-    let s = c .before .before .before .before .before in
-    let l = c .before .loop in
-    let h = few (c .before .before) in
+    let after-loop = c .before in
+    let after-contract-total = after-loop .before in
+    let c-5 = after-contract-total .before .before .before in
+    let s = c-5 in
+    let l = after-loop .loop in
+    let h = few (after-contract-total) in
     let e = s .pre .places .contracts in
-    let n = c .before .before .contract-total .ensures in
+    let n = after-contract-total .contract-total .ensures in
     tiers-all (accountOf (s .args .morning .now) (s .args .noon .now)) (l .i) _ (l .inv .0) (omega arith) (omega arith) (omega arith)
 
 pub tiers-over-spec : {M : Type 1} → statement M

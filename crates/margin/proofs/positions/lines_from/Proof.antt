@@ -9,9 +9,9 @@ use native.Mathlib.Omega.{arith}
 use borrow.Author.Needs.{needs}
 use Rattle.record.specs.Layout.{Record, contract}
 use Rattle.account.specs.Parts.{contractsOf}
-use Rattle.account.specs.Standing.{accountOf}
-use Rattle.margin.specs.Beside.{Besides}
-use Rattle.margin.specs.Positions.{noPosition, Told}
+use Rattle.account.specs.Joined.{accountOf}
+use Rattle.margin.specs.code.Beside.{Besides}
+use Rattle.margin.specs.code.Positions.{noPosition, Told}
 use Rattle.margin.proofs.AccountLaws.{LinedTo, lined-next}
 use Rattle.margin.proofs.BesideLaws.{fits, line-is}
 use Rattle.margin.proofs.StandLaws.{few-contracts, number-at, listed-at, own-number}
@@ -28,39 +28,49 @@ abbrev μ-loop : tie.MeasureT-loop
 -- an account has at most sixteen contracts
 few : (c : tie.After-contract-total Inv-loop μ-loop) → c .contract-total .result ≤ 16
 few c =
-    let s = c .before .before .before in
+    let c-3 = c .before .before .before in
+    let s = c-3 in
     omega (arith, c .contract-total .ensures, few-contracts (s .args .morning .now) (s .args .noon .now) (s .args .account) (s .pre .0))
 
 -- the turn's contract is listed, and has this number
 within : (c : tie.After-contract-number Inv-loop μ-loop)
     → c .before .before .loop .i < c .before .before .before .before .before .before .before .args .account .contracts
-within c = omega (arith, c .before .loop-test .taken, c .before .before .before .before .contract-total .ensures)
+within c =
+    let after-loop-test = c .before in
+    let after-contract-total = after-loop-test .before .before .before in
+    omega (arith, after-loop-test .loop-test .taken, after-contract-total .contract-total .ensures)
 
 number : (c : tie.After-contract-number Inv-loop μ-loop)
     → let s = c .before .before .before .before .before .before .before in
     c .contract-number .result ≡ contract (getD (contractsOf (accountOf (s .args .morning .now) (s .args .noon .now))) (c .before .before .loop .i) [])
 number c =
-    let s = c .before .before .before .before .before .before .before in
-    number-at (s .args .morning .now) (s .args .noon .now) (s .args .account) (s .pre .0) (c .before .before .loop .i) (within c)
+    let after-loop = c .before .before in
+    let c-7 = after-loop .before .before .before .before .before in
+    let s = c-7 in
+    number-at (s .args .morning .now) (s .args .noon .now) (s .args .account) (s .pre .0) (after-loop .loop .i) (within c)
     (c .contract-number .result) (c .contract-number .ensures)
 
 small : (c : tie.After-contract-number Inv-loop μ-loop) → c .contract-number .result ≤ 15
 small c =
-    let s = c .before .before .before .before .before .before .before in
+    let after-loop = c .before .before in
+    let c-7 = after-loop .before .before .before .before .before in
+    let s = c-7 in
     let m = s .args .morning .now in
     let n = s .args .noon .now in
     omega (
       arith,
       number c,
-      own-number (accountOf m n) (s .pre .0 .lawful) (c .before .before .loop .i)
-          (listed-at m n (s .args .account) (s .pre .0) (c .before .before .loop .i) (within c)),
+      own-number (accountOf m n) (s .pre .0 .lawful) (after-loop .loop .i)
+          (listed-at m n (s .args .account) (s .pre .0) (after-loop .loop .i) (within c)),
     )
 
 -- and is so in every account beside
 listed : (c : tie.After-contract-number Inv-loop μ-loop)
     → let s = c .before .before .before .before .before .before .before in
     (whole : List Record) → Besides (accountOf (s .args .morning .now) (s .args .noon .now)) whole → c .before .before .loop .i < length (contractsOf whole)
-listed c whole b = let s = c .before .before .before .before .before .before .before in omega
+listed c whole b =
+    let c-7 = c .before .before .before .before .before .before .before in
+    let s = c-7 in omega
     (arith, within c, ap length (b .contracts), s .pre .0 .places .contracts)
 
 number-in : (c : tie.After-contract-number Inv-loop μ-loop)
@@ -89,10 +99,12 @@ element-copy-out-line-with c = let h = small c in omega arith
 
 line-with-requires : tie.Need-line-with-requires Inv-loop μ-loop
 line-with-requires c κs =
-    let s = c .before .before .before .before .before .before .before .before in
+    let after-contract-number = c .before in
+    let c-8 = after-contract-number .before .before .before .before .before .before .before in
+    let s = c-8 in
     let x = s .pre .1 in
-    let k = c .before .contract-number .result in
-    let h = small (c .before) in (
+    let k = after-contract-number .contract-number .result in
+    let h = small (after-contract-number) in (
       s .pre .0,
       (
         h,
@@ -102,40 +114,59 @@ line-with-requires c κs =
     )
 
 mul-lines : tie.Need-mul-lines Inv-loop μ-loop
-mul-lines c = let h = few (c .before .before .before .before .before .before) in omega (arith, c .before .before .before .loop-test .taken)
+mul-lines c =
+    let after-loop-test = c .before .before .before in
+    let c-6 = after-loop-test .before .before .before in
+    let h = few (c-6) in omega (arith, after-loop-test .loop-test .taken)
 
 array-set-from-lines : tie.Need-array-set-from-lines Inv-loop μ-loop
-array-set-from-lines c = let h = few (c .before .before .before .before .before .before) in omega (arith, c .before .before .before .loop-test .taken)
+array-set-from-lines c =
+    let after-loop-test = c .before .before .before in
+    let c-6 = after-loop-test .before .before .before in
+    let h = few (c-6) in omega (arith, after-loop-test .loop-test .taken)
 
 add-i : tie.Need-add-i Inv-loop μ-loop
-add-i c = let h = few (c .before .before .before .before .before .before) in omega (arith, c .before .before .before .loop-test .taken)
+add-i c =
+    let after-loop-test = c .before .before .before in
+    let c-6 = after-loop-test .before .before .before in
+    let h = few (c-6) in omega (arith, after-loop-test .loop-test .taken)
 
 loop-less : tie.Need-loop-less Inv-loop μ-loop
-loop-less c = omega (arith, c .before .before .before .loop-test .taken)
+loop-less c =
+    let after-loop-test = c .before .before .before in
+    omega (arith, after-loop-test .loop-test .taken)
 
 loop-again : tie.Need-loop-again Inv-loop μ-loop
 loop-again c =
-    let s = c .before .before .before .before .before .before .before .before .before in
-    let l = c .before .before .before .before .loop in
-    let n = c .before .before in
+    let c-2 = c .before .before in
+    let after-loop-test = c-2 .before in
+    let after-loop = after-loop-test .before in
+    let c-6 = after-loop .before .before in
+    let c-9 = c-6 .before .before .before in
+    let s = c-9 in
+    let l = after-loop .loop in
+    let n = c-2 in
     let k = n .contract-number .result in
-    let h = few (c .before .before .before .before .before .before) in (
+    let h = few (c-6) in (
       λ whole t.
-          lined-next whole (l .i) (l .lines) (c .line-with .result) (l .inv .0 whole t) (omega (arith, c .before .before .before .loop-test .taken))
+          lined-next whole (l .i) (l .lines) (c .line-with .result) (l .inv .0 whole t) (omega (arith, after-loop-test .loop-test .taken))
           (line-is (accountOf (s .args .morning .now) (s .args .noon .now)) whole (t .beside) k (getD (s .args .t4 .at) k noPosition)
           (t .positions .each k (small n)) (l .i) (listed n whole (t .beside)) (number-in n whole (t .beside)) (c .line-with .result)
           (c .line-with .ensures)),
-      omega (arith, c .before .before .before .loop-test .taken),
+      omega (arith, after-loop-test .loop-test .taken),
     )
 
 returns : tie.Need-returns Inv-loop μ-loop
 returns c =
-    let s = c .before .before .before .before .before .before in
-    let l = c .before .loop in
-    let h = few (c .before .before .before) in
+    let after-loop = c .before in
+    let after-contract-total = after-loop .before .before in
+    let c-6 = after-contract-total .before .before .before in
+    let s = c-6 in
+    let l = after-loop .loop in
+    let h = few (after-contract-total) in
     λ whole t.
     record {
-      count-is = c .before .before .before .contract-total .ensures ∙ s .pre .0 .places .contracts ∙ sym (ap length (t .beside .contracts));
+      count-is = after-contract-total .contract-total .ensures ∙ s .pre .0 .places .contracts ∙ sym (ap length (t .beside .contracts));
       few = h;
       places = l .inv .0 whole t .places;
       each = λ i m. l .inv .0 whole t .each i (omega (arith, c .loop-test .left));

@@ -8,11 +8,11 @@ use native.Mathlib.Omega.{arith}
 use borrow.Author.Needs.{needs}
 use Rattle.record.specs.Layout.{Record, contract}
 use Rattle.account.specs.Parts.{contractsOf}
-use Rattle.account.specs.Standing.{accountOf}
-use Rattle.margin.specs.Beside.{Besides}
-use Rattle.margin.specs.Contract.{partsIn}
-use Rattle.margin.specs.Lined.{TierIs}
-use Rattle.margin.specs.Positions.{noPosition, Told}
+use Rattle.account.specs.Joined.{accountOf}
+use Rattle.margin.specs.code.Beside.{Besides}
+use Rattle.formulas.specs.Contract.{partsIn}
+use Rattle.margin.specs.code.Lined.{TierIs}
+use Rattle.margin.specs.code.Positions.{noPosition, Told}
 use Rattle.margin.proofs.BesideLaws.{tier-sizes, tier-is}
 use Rattle.margin.proofs.StandLaws.{few-contracts, number-at, listed-at, own-number}
 use Rattle.margin.proofs.TierLaws.{TieredTo, tiers-none, tiers-next, tiers-all}
@@ -29,39 +29,49 @@ abbrev μ-loop : tie.MeasureT-loop
 -- an account has at most sixteen contracts
 few : (c : tie.After-contract-total Inv-loop μ-loop) → c .contract-total .result ≤ 16
 few c =
-    let s = c .before .before .before in
+    let c-3 = c .before .before .before in
+    let s = c-3 in
     omega (arith, c .contract-total .ensures, few-contracts (s .args .morning .now) (s .args .noon .now) (s .args .account) (s .pre .0))
 
 -- the turn's contract is listed, and has this number
 within : (c : tie.After-contract-number Inv-loop μ-loop)
     → c .before .before .loop .i < c .before .before .before .before .before .before .args .account .contracts
-within c = omega (arith, c .before .loop-test .taken, c .before .before .before .contract-total .ensures)
+within c =
+    let after-loop-test = c .before in
+    let after-contract-total = after-loop-test .before .before in
+    omega (arith, after-loop-test .loop-test .taken, after-contract-total .contract-total .ensures)
 
 number : (c : tie.After-contract-number Inv-loop μ-loop)
     → let s = c .before .before .before .before .before .before in
     c .contract-number .result ≡ contract (getD (contractsOf (accountOf (s .args .morning .now) (s .args .noon .now))) (c .before .before .loop .i) [])
 number c =
-    let s = c .before .before .before .before .before .before in
-    number-at (s .args .morning .now) (s .args .noon .now) (s .args .account) (s .pre .0) (c .before .before .loop .i) (within c)
+    let after-loop = c .before .before in
+    let c-6 = after-loop .before .before .before .before in
+    let s = c-6 in
+    number-at (s .args .morning .now) (s .args .noon .now) (s .args .account) (s .pre .0) (after-loop .loop .i) (within c)
     (c .contract-number .result) (c .contract-number .ensures)
 
 small : (c : tie.After-contract-number Inv-loop μ-loop) → c .contract-number .result ≤ 15
 small c =
-    let s = c .before .before .before .before .before .before in
+    let after-loop = c .before .before in
+    let c-6 = after-loop .before .before .before .before in
+    let s = c-6 in
     let m = s .args .morning .now in
     let n = s .args .noon .now in
     omega (
       arith,
       number c,
-      own-number (accountOf m n) (s .pre .0 .lawful) (c .before .before .loop .i)
-          (listed-at m n (s .args .account) (s .pre .0) (c .before .before .loop .i) (within c)),
+      own-number (accountOf m n) (s .pre .0 .lawful) (after-loop .loop .i)
+          (listed-at m n (s .args .account) (s .pre .0) (after-loop .loop .i) (within c)),
     )
 
 -- and is so in every account beside
 listed : (c : tie.After-contract-number Inv-loop μ-loop)
     → let s = c .before .before .before .before .before .before in
     (whole : List Record) → Besides (accountOf (s .args .morning .now) (s .args .noon .now)) whole → c .before .before .loop .i < length (contractsOf whole)
-listed c whole b = let s = c .before .before .before .before .before .before in omega (arith, within c, ap length (b .contracts), s .pre .0 .places .contracts)
+listed c whole b =
+    let c-6 = c .before .before .before .before .before .before in
+    let s = c-6 in omega (arith, within c, ap length (b .contracts), s .pre .0 .places .contracts)
 
 number-in : (c : tie.After-contract-number Inv-loop μ-loop)
     → let s = c .before .before .before .before .before .before in
@@ -86,55 +96,80 @@ element-copy-out-tier-with c = let h = small c in omega arith
 
 tier-with-requires : tie.Need-tier-with-requires Inv-loop μ-loop
 tier-with-requires c κs =
-    let s = c .before .before .before .before .before .before .before in
+    let after-contract-number = c .before in
+    let c-7 = after-contract-number .before .before .before .before .before .before in
+    let s = c-7 in
     let x = s .pre .1 in
-    let k = c .before .contract-number .result in
-    let h = small (c .before) in (
+    let k = after-contract-number .contract-number .result in
+    let h = small (after-contract-number) in (
       h,
       tier-sizes (accountOf (s .args .morning .now) (s .args .noon .now)) (x .whole) (x .told .beside) k (getD (s .args .t4 .at) k noPosition)
           (x .told .positions .each k h),
     )
 
 array-write-tiers : tie.Need-array-write-tiers Inv-loop μ-loop
-array-write-tiers c = let h = few (c .before .before .before .before .before) in omega (arith, c .before .before .before .loop-test .taken)
+array-write-tiers c =
+    let after-loop-test = c .before .before .before in
+    let c-5 = after-loop-test .before .before in
+    let h = few (c-5) in omega (arith, after-loop-test .loop-test .taken)
 
 mul-nets : tie.Need-mul-nets Inv-loop μ-loop
-mul-nets c = let h = few (c .before .before .before .before .before .before) in omega (arith, c .before .before .before .before .loop-test .taken)
+mul-nets c =
+    let after-loop-test = c .before .before .before .before in
+    let c-6 = after-loop-test .before .before in
+    let h = few (c-6) in omega (arith, after-loop-test .loop-test .taken)
 
 array-set-from-nets : tie.Need-array-set-from-nets Inv-loop μ-loop
-array-set-from-nets c = let h = few (c .before .before .before .before .before .before) in omega (arith, c .before .before .before .before .loop-test .taken)
+array-set-from-nets c =
+    let after-loop-test = c .before .before .before .before in
+    let c-6 = after-loop-test .before .before in
+    let h = few (c-6) in omega (arith, after-loop-test .loop-test .taken)
 
 add-i : tie.Need-add-i Inv-loop μ-loop
-add-i c = let h = few (c .before .before .before .before .before .before) in omega (arith, c .before .before .before .before .loop-test .taken)
+add-i c =
+    let after-loop-test = c .before .before .before .before in
+    let c-6 = after-loop-test .before .before in
+    let h = few (c-6) in omega (arith, after-loop-test .loop-test .taken)
 
 loop-less : tie.Need-loop-less Inv-loop μ-loop
-loop-less c = omega (arith, c .before .before .before .before .loop-test .taken)
+loop-less c =
+    let after-loop-test = c .before .before .before .before in
+    omega (arith, after-loop-test .loop-test .taken)
 
 loop-again : tie.Need-loop-again Inv-loop μ-loop
 loop-again c =
-    let s = c .before .before .before .before .before .before .before .before .before in
-    let l = c .before .before .before .before .before .loop in
-    let n = c .before .before .before in
+    let after-tier-with = c .before in
+    let c-3 = after-tier-with .before .before in
+    let after-loop-test = c-3 .before in
+    let after-loop = after-loop-test .before in
+    let c-6 = after-loop .before in
+    let c-9 = c-6 .before .before .before in
+    let s = c-9 in
+    let l = after-loop .loop in
+    let n = c-3 in
     let k = n .contract-number .result in
-    let r = c .before .tier-with in
-    let h = few (c .before .before .before .before .before .before) in (
+    let r = after-tier-with .tier-with in
+    let h = few (c-6) in (
       λ whole t.
           tiers-next whole (l .i) (l .tiers) (l .nets) (r .result .contract) (r .result .net) (l .inv .0 whole t)
-          (omega (arith, c .before .before .before .before .loop-test .taken)) (listed n whole (t .beside))
+          (omega (arith, after-loop-test .loop-test .taken)) (listed n whole (t .beside))
           (subst⁻¹ (λ (m : ℕ). TierIs (partsIn whole (getD (contractsOf whole) (l .i) [])) m (r .result .net .0)) (r .ensures .0)
           (tier-is (accountOf (s .args .morning .now) (s .args .noon .now)) whole (t .beside) k (getD (s .args .t4 .at) k noPosition)
           (t .positions .each k (small n)) (l .i) (listed n whole (t .beside)) (number-in n whole (t .beside)) (r .result .net .0) (small n)
           (r .ensures .1))),
-      omega (arith, c .before .before .before .before .loop-test .taken),
+      omega (arith, after-loop-test .loop-test .taken),
     )
 
 returns : tie.Need-returns Inv-loop μ-loop
 returns c =
-    let s = c .before .before .before .before .before in
-    let l = c .before .loop in
-    let h = few (c .before .before) in
+    let after-loop = c .before in
+    let after-contract-total = after-loop .before in
+    let c-5 = after-contract-total .before .before .before in
+    let s = c-5 in
+    let l = after-loop .loop in
+    let h = few (after-contract-total) in
     let e = s .pre .0 .places .contracts in
-    let n = c .before .before .contract-total .ensures in
+    let n = after-contract-total .contract-total .ensures in
     λ whole t.
     let same = ap length (t .beside .contracts) in
     tiers-all whole (l .i) _ (l .inv .0 whole t) (omega (arith, c .loop-test .left, l .inv .1)) (omega (arith, c .loop-test .left, l .inv .1))

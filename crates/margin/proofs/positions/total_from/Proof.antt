@@ -20,19 +20,22 @@ slice-aggregate-put-figures c = search needs
 -- at most 16 contracts
 few : (c : tie.After-lines-from) → c .before .before .before .args .account .contracts ≤ 16
 few c =
-    let s = c .before .before .before in
+    let c-3 = c .before .before .before in
+    let s = c-3 in
     let x = s .pre .1 in
     let l = c .lines-from .ensures (x .whole) (x .told) in
     omega (arith, l .few, l .count-is, ap length (x .told .beside .contracts), s .pre .0 .places .contracts)
 
 put-figures-requires : tie.Need-put-figures-requires
 put-figures-requires c κs =
-    let s = c .before .before .before .before in
+    let after-lines-from = c .before in
+    let c-4 = after-lines-from .before .before .before in
+    let s = c-4 in
     let x = s .pre .1 in (
       s .pre .0,
       (
-        record { whole = x .whole; beside = x .told .beside; lines = c .before .lines-from .ensures (x .whole) (x .told) },
-        omega (arith, few (c .before)),
+        record { whole = x .whole; beside = x .told .beside; lines = after-lines-from .lines-from .ensures (x .whole) (x .told) },
+        omega (arith, few (after-lines-from)),
       ),
     )
 
@@ -40,29 +43,40 @@ contract-total-requires : tie.Need-contract-total-requires
 contract-total-requires c κs = search needs
 
 mul-last : tie.Need-mul-last
-mul-last c = omega (arith, c .contract-total .ensures, few (c .before .before .before .before))
+mul-last c =
+    let c-4 = c .before .before .before .before in
+    omega (arith, c .contract-total .ensures, few (c-4))
 
 mul-magnitude : tie.Need-mul-magnitude
-mul-magnitude c = omega (arith, c .contract-total .ensures, few (c .before .before .before .before))
+mul-magnitude c =
+    let c-4 = c .before .before .before .before in
+    omega (arith, c .contract-total .ensures, few (c-4))
 
 array-copy-out-magnitude : tie.Need-array-copy-out-magnitude
-array-copy-out-magnitude c = omega (arith, c .contract-total .ensures, few (c .before .before .before .before))
+array-copy-out-magnitude c =
+    let c-4 = c .before .before .before .before in
+    omega (arith, c .contract-total .ensures, few (c-4))
 
 magnitude-requires : tie.Need-magnitude-requires
 magnitude-requires c κs = search needs
 
 returns : tie.Need-returns
 returns c =
-    let s = c .before .before .before .before .before .before .before .before .before in
-    let f = c .before .before .before .before .put-figures in
-    let n = c .before .before .contract-total in
+    let after-magnitude-arg = c .before in
+    let after-contract-total = after-magnitude-arg .before in
+    let after-put-figures = after-contract-total .before .before in
+    let after-lines-from = after-put-figures .before .before in
+    let c-9 = after-lines-from .before .before .before in
+    let s = c-9 in
+    let f = after-put-figures .put-figures in
+    let n = after-contract-total .contract-total in
     λ whole t.
-    seen natAbs (getD (f .last .1 .1 .1 .1 .0) (8 * n .result) (pos 0)) (record { sfits = c .before .magnitude-arg .given }) (c .magnitude .ensures)
+    seen natAbs (getD (f .last .1 .1 .1 .1 .0) (8 * n .result) (pos 0)) (record { sfits = after-magnitude-arg .magnitude-arg .given }) (c .magnitude .ensures)
     ∙ total-last whole _ (f .last .1 .1 .1 .1 .0) (8 * n .result)
-    (f .ensures whole (t .beside) (c .before .before .before .before .before .before .lines-from .ensures whole t))
+    (f .ensures whole (t .beside) (after-lines-from .lines-from .ensures whole t))
     (omega (
       arith,
-      few (c .before .before .before .before .before .before),
+      few (after-lines-from),
       figures-length whole,
       ap length (t .beside .contracts),
       s .pre .0 .places .contracts,

@@ -11,8 +11,8 @@ use lib.IntN.{ℤ, pos}
 use lib.ListN.{length, length-map, take, set, length-set}
 use lib.Seq.{sets, slice, slice-cons, slice-empty}
 use Rattle.exact.proofs.Integers.{back}
-use Rattle.margin.specs.Sums.{deltaAt, deltasIn}
-use Rattle.margin.proofs.AddedLaws.{delta-at}
+use Rattle.formulas.specs.code.Sums.{deltaAt, deltasIn}
+use Rattle.formulas.proofs.AddedLaws.{delta-at}
 use Rattle.margin.proofs.NumberLaws.{ToWrite, start, next, finish}
 use Rattle.margin.proofs.uses.put_deltas.Statement.{statement}
 use Rattle.margin.proofs.uses.put_deltas.Tie as tie

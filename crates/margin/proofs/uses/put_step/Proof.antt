@@ -16,7 +16,8 @@ step-over-requires c κs = search needs
 
 put-deltas-requires : tie.Need-put-deltas-requires
 put-deltas-requires c κs =
-    let s = c .before .before .before in
+    let c-3 = c .before .before .before in
+    let s = c-3 in
     let p = s .args .prompts in
     (few p (and-left (soundPrompts p) (soundSpread (s .args .spread)) (s .pre .0)), s .pre .1)
 
@@ -25,14 +26,17 @@ same-length c = search needs
 
 returns : tie.Need-returns
 returns c =
-    let s = c .before .before .before .before .before .before in
+    let after-put-deltas = c .before .before in
+    let after-step-over = after-put-deltas .before .before .before in
+    let c-6 = after-step-over .before in
+    let s = c-6 in
     let p = s .args .prompts in
     let d = s .args .spread in
-    let step = c .before .before .before .before .before .step-over in
+    let step = after-step-over .step-over in
     let lt : length (p .tier) ≡ 32 = sym (length-map (p .tier) _) ∙ s .good .1 .1 .0 .1 .1 .1 .0 .1 .0 .1 in
     let ln : length (p .net) ≡ 32 = sym (length-map (p .net) _) ∙ s .good .1 .1 .0 .1 .1 .1 .1 .0 .1 .0 .1 in (
       left-by p d (s .args .second) (step .result) (step .ensures) (s .pre .0),
-      c .before .before .put-deltas .ensures ∙ ap (sets (s .args .out .now) (s .args .at))
+      after-put-deltas .put-deltas .ensures ∙ ap (sets (s .args .out .now) (s .args .at))
           (taken-is p d (s .args .second) (step .result) (step .ensures) (s .pre .0) lt ln (few p (and-left (soundPrompts p) (soundSpread d) (s .pre .0)))),
     )
 

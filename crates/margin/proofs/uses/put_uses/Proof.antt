@@ -11,8 +11,8 @@ use Rattle.spread.specs.Accepted.{openOf, stepsOf, soundPrompts, soundTable}
 use Rattle.spread.specs.Uses.{usesOf}
 use Rattle.spread.specs.declared.Spread.{Spread}
 use Rattle.spread.proofs.Both.{and-right}
-use Rattle.margin.proofs.UsesLaws.{Putting, few-in-table, put-none, room-here, first-room, first-sound, second-room, second-sound, put-next}
-use Rattle.margin.proofs.UsesLaws.{put-length, put-all}
+use Rattle.margin.proofs.UsesLaws.{Putting, few-in-table, put-none, room-here, first-room, first-sound, second-room, second-sound, put-next, put-length}
+use Rattle.margin.proofs.UsesLaws.{put-all}
 use Rattle.margin.proofs.uses.put_uses.Statement.{statement}
 use Rattle.margin.proofs.uses.put_uses.Tie as tie
 
@@ -69,7 +69,8 @@ put-step-requires c κs =
 
 add-put-step : tie.Need-add-put-step Inv-loop μ-loop
 add-put-step c =
-    let b = c .before .before .before in
+    let c-3 = c .before .before .before in
+    let b = c-3 in
     let s = b .before .before .before .before in
     let l = b .before .before .before .loop in
     omega (
@@ -82,21 +83,24 @@ add-put-step c =
 
 put-step-requires-2 : tie.Need-put-step-requires-2 Inv-loop μ-loop
 put-step-requires-2 c κs =
-    let b = c .before .before .before in
+    let after-put-step = c .before .before in
+    let c-3 = after-put-step .before in
+    let b = c-3 in
     let s = b .before .before .before .before in
     let l = b .before .before .before .loop in (
       second-sound (s .args .t3) (spreads-32 s) (sound-table s) (s .args .prompts .count) _ (l .i) (l .at) (l .left)
-          (c .before .before .put-step .result) (l .left) (l .out) (c .before .before .put-step .last .0) (l .out) noSpread (l .inv .0)
-          (b .before .before .loop-test .taken) (c .before .before .put-step .ensures .0) (c .before .before .put-step .ensures .1),
+          (after-put-step .put-step .result) (l .left) (l .out) (after-put-step .put-step .last .0) (l .out) noSpread (l .inv .0)
+          (b .before .before .loop-test .taken) (after-put-step .put-step .ensures .0) (after-put-step .put-step .ensures .1),
       second-room
-          (s .args .t3) (spreads-32 s) (sound-table s) (s .args .prompts .count) _ (l .i) (l .at) (l .left) (c .before .before .put-step .result)
-          (l .left) (l .out) (c .before .before .put-step .last .0) (l .out) noSpread (l .inv .0) (b .before .before .loop-test .taken)
-          (c .before .before .put-step .ensures .0) (c .before .before .put-step .ensures .1),
+          (s .args .t3) (spreads-32 s) (sound-table s) (s .args .prompts .count) _ (l .i) (l .at) (l .left) (after-put-step .put-step .result)
+          (l .left) (l .out) (after-put-step .put-step .last .0) (l .out) noSpread (l .inv .0) (b .before .before .loop-test .taken)
+          (after-put-step .put-step .ensures .0) (after-put-step .put-step .ensures .1),
     )
 
 mul-at : tie.Need-mul-at Inv-loop μ-loop
 mul-at c =
-    let b = c .before .before .before .before .before in
+    let c-5 = c .before .before .before .before .before in
+    let b = c-5 in
     let s = b .before .before .before .before in
     let l = b .before .before .before .loop in
     let r = room-here (s .args .t3) (spreads-32 s) (sound-table s) (s .args .prompts .count) _ (l .i) (l .at) (l .left) (l .left) (l .left) (l .out)
@@ -105,7 +109,8 @@ mul-at c =
 
 add-at : tie.Need-add-at Inv-loop μ-loop
 add-at c =
-    let b = c .before .before .before .before .before in
+    let c-5 = c .before .before .before .before .before in
+    let b = c-5 in
     let s = b .before .before .before .before in
     let l = b .before .before .before .loop in
     let r = room-here (s .args .t3) (spreads-32 s) (sound-table s) (s .args .prompts .count) _ (l .i) (l .at) (l .left) (l .left) (l .left) (l .out)
@@ -120,20 +125,23 @@ loop-less c = omega arith
 
 loop-again : tie.Need-loop-again Inv-loop μ-loop
 loop-again c =
-    let b = c .before .before .before .before .before in
+    let after-put-step2 = c .before in
+    let after-put-step = after-put-step2 .before .before .before in
+    let c-5 = after-put-step .before in
+    let b = c-5 in
     let s = b .before .before .before .before in
     let l = b .before .before .before .loop in (
       put-next (s .args .t3) (spreads-32 s) (sound-table s) (s .args .prompts .count) _ (l .i) (l .at) (l .left)
-          (c .before .before .before .before .put-step .result) (c .before .put-step2 .result) (l .out)
-          (c .before .before .before .before .put-step .last .0) (c .before .put-step2 .last .0) noSpread (l .inv .0)
-          (b .before .before .loop-test .taken) (c .before .before .before .before .put-step .ensures .0)
-          (c .before .before .before .before .put-step .ensures .1) (c .before .put-step2 .ensures .0) (c .before .put-step2 .ensures .1),
+          (after-put-step .put-step .result) (after-put-step2 .put-step2 .result) (l .out)
+          (after-put-step .put-step .last .0) (after-put-step2 .put-step2 .last .0) noSpread (l .inv .0)
+          (b .before .before .loop-test .taken) (after-put-step .put-step .ensures .0)
+          (after-put-step .put-step .ensures .1) (after-put-step2 .put-step2 .ensures .0) (after-put-step2 .put-step2 .ensures .1),
       put-length
           (s .args .t3) (spreads-32 s) (sound-table s) (s .args .prompts .count) _ (l .i) (l .at) (l .left)
-          (c .before .before .before .before .put-step .result) (c .before .put-step2 .result) (l .out)
-          (c .before .before .before .before .put-step .last .0) (c .before .put-step2 .last .0) noSpread (l .inv .0)
-          (b .before .before .loop-test .taken) (c .before .before .before .before .put-step .ensures .0)
-          (c .before .before .before .before .put-step .ensures .1) (c .before .put-step2 .ensures .0) (c .before .put-step2 .ensures .1) ∙ l .inv .1,
+          (after-put-step .put-step .result) (after-put-step2 .put-step2 .result) (l .out)
+          (after-put-step .put-step .last .0) (after-put-step2 .put-step2 .last .0) noSpread (l .inv .0)
+          (b .before .before .loop-test .taken) (after-put-step .put-step .ensures .0)
+          (after-put-step .put-step .ensures .1) (after-put-step2 .put-step2 .ensures .0) (after-put-step2 .put-step2 .ensures .1) ∙ l .inv .1,
     )
 
 same-length : tie.Need-same-length Inv-loop μ-loop

@@ -19,11 +19,15 @@ number-of-requires c κs = search needs
 
 returns : tie.Need-returns
 returns c =
-    let s = c .before .before .before in
-    let f = answer-refused (s .args .file .now) (s .args .checked) (s .pre) (λ e. c .if1 .taken (c .before .number-of .ensures ∙ e)) Figures
+    let after-number-of = c .before in
+    let c-3 = after-number-of .before .before in
+    let s = c-3 in
+    let f = answer-refused (s .args .file .now) (s .args .checked) (s .pre) (λ e. c .if1 .taken (after-number-of .number-of .ensures ∙ e)) Figures
     (s .args .figures .now) in
-    let b = all-refused (s .args .file .now) (s .args .checked) (s .pre) (λ e. c .if1 .taken (c .before .number-of .ensures ∙ e)) false (s .args .books .now) in
-    let u = all-refused (s .args .file .now) (s .args .checked) (s .pre) (λ e. c .if1 .taken (c .before .number-of .ensures ∙ e)) true (s .args .uses .now) in
+    let b = all-refused (s .args .file .now) (s .args .checked) (s .pre) (λ e. c .if1 .taken (after-number-of .number-of .ensures
+    ∙ e)) false (s .args .books .now) in
+    let u = all-refused (s .args .file .now) (s .args .checked) (s .pre) (λ e. c .if1 .taken (after-number-of .number-of .ensures
+    ∙ e)) true (s .args .uses .now) in
     record { figures-answer = f .0; figures-after = f .1; books-answer = b .0; books-after = b .1; uses-answer = u .0; uses-after = u .1 }
 
 nothing-of-requires : tie.Need-nothing-of-requires
@@ -31,9 +35,12 @@ nothing-of-requires c κs = search needs
 
 everything-over-requires : tie.Need-everything-over-requires
 everything-over-requires c κs =
-    let s = c .before .before .before .before .before .before .before .before in
-    let n = c .before .before .before .nothing-of in
-    file-stands (s .args .file .now) (s .args .checked) (s .pre) (clear (c .before .before .before .before .before)) (n .result .now) (n .ensures)
+    let after-nothing-of = c .before .before .before in
+    let c-5 = after-nothing-of .before .before in
+    let c-8 = c-5 .before .before .before in
+    let s = c-8 in
+    let n = after-nothing-of .nothing-of in
+    file-stands (s .args .file .now) (s .args .checked) (s .pre) (clear (c-5)) (n .result .now) (n .ensures)
 
 same-length : tie.Need-same-length
 same-length c = search needs
@@ -46,11 +53,15 @@ same-length-3 c = search needs
 
 returns-2 : tie.Need-returns-2
 returns-2 c =
-    let s = c .before .before .before .before .before .before .before .before .before .before .before .before in
+    let after-everything-over = c .before .before .before in
+    let after-nothing-of = after-everything-over .before .before .before .before in
+    let c-9 = after-nothing-of .before .before in
+    let c-12 = c-9 .before .before .before in
+    let s = c-12 in
     let file = s .args .file .now in
-    let n = c .before .before .before .before .before .before .before .nothing-of in
-    let z = clear (c .before .before .before .before .before .before .before .before .before) in
-    let r = c .before .before .before .everything-over in
+    let n = after-nothing-of .nothing-of in
+    let z = clear (c-9) in
+    let r = after-everything-over .everything-over in
     let x = r .ensures in
     let f = answer-accepted file (s .args .checked) (s .pre) z (n .result .now) (n .ensures) Figures (s .args .figures .now) (r .result .figures) _
     (x .figures-answer, x .figures-after) in

@@ -19,11 +19,11 @@ use ghost.Atoms.{Atoms, sem}
 use contract.Lifetimes.{Lfts}
 use contract.Monad.{Fun, fact}
 use contract.Running.{givenOf, tables, tablesOf}
-use types.Kit.{Given, ‵, raw, _⊛_, given, ⋆, some, later, _$_, _∵_, !, qed, by, move, drop, use1, use2, split, learn, pick, fsplit, fjoin, suffices}
-use types.Kit.{frame, await, done}
+use types.Kit.{Given, ‵, raw, _⊛_, given, ⋆, some, later, _$_, _∵_, !, qed, by, move, drop, use1, use2, split, learn, pick, fsplit, fjoin, suffices, frame}
+use types.Kit.{await, done}
 use types.Part.{whole, sub, look-in}
-use types.Run.{look, init, forget, stop, fld, from, load, of-opd, and-then, no-more, assigns, land, returns, enter, alloc1, alloc0, params1, pass1}
-use types.Run.{pass0, free1, free0}
+use types.Run.{look, init, forget, stop, fld, from, load, of-opd, and-then, no-more, assigns, land, returns, enter, alloc1, alloc0, params1, pass1, pass0}
+use types.Run.{free1, free0}
 use sound.WpLaws.{FmC, fmOf, WpFn-mono}
 use denote.RattleType.{RattleType, owns}
 use denote.Laws.{Is, shows}
@@ -46,7 +46,7 @@ use denote.Triple.Table.{entered, cited}
 use denote.Triple.Walked.{says, needs, Stays, stay-none, walkOf, goes-none, Walks, ends-at, walked, walk-meets}
 use denote.Exit.{yes}
 use denote.Triple.Clauses.{ensured, lasts}
-use Rattle.account.specs.Standing.{CheckedBy}
+use Rattle.account.specs.code.Standing.{CheckedBy}
 use Rattle.account.specs.declared.accounts.Checked.{Checked}
 use Rattle.account.proofs.accounts.Checked as S
 use Rattle.account.proofs.accounts.Checked.Laws as S′
@@ -54,7 +54,7 @@ use Rattle.margin.specs.declared.asking.Question.{Question}
 use Rattle.margin.specs.Questions.{mostFor}
 use Rattle.margin.proofs.asking.Question as Q
 use Rattle.margin.proofs.asking.Question.Laws as Q′
-use Rattle.questions.specs.Held.{FromCheck}
+use Rattle.questions.specs.code.Held.{FromCheck}
 use Rattle.questions.specs.Questions.{needTo}
 use Rattle.questions.specs.declared.held.Held.{Held}
 use Rattle.questions.proofs.held.Held as T

@@ -38,7 +38,7 @@ use denote.Triple.Table.{entered, cited}
 use denote.Triple.Walked.{says, Stays, stay-none-slice, walkOf, goes-none-slice, Walks, ends-at, walked, walk-meets}
 use denote.Exit.{yes}
 use denote.Triple.Clauses.{ensured, lasts}
-use Rattle.account.specs.Standing.{CheckedBy}
+use Rattle.account.specs.code.Standing.{CheckedBy}
 use Rattle.account.specs.declared.accounts.Checked.{Checked}
 use Rattle.account.proofs.accounts.Checked as S
 use Rattle.account.proofs.accounts.Checked.Laws as S′

@@ -22,20 +22,26 @@ clear c = sym (c .before .number-of .ensures) ∙ omega (arith, c .if1 .left)
 
 returns : tie.Need-returns
 returns c =
-    let s = c .before .before .before .before .before .before in
+    let after-number-of = c .before in
+    let after-check-pair = after-number-of .before .before in
+    let c-6 = after-check-pair .before .before .before in
+    let s = c-6 in
     let m = s .args .morning .now in
     let n = s .args .noon .now in
-    let k = c .before .before .before .check-pair in
-    let f = answer-refused m n (k .result) (k .ensures) (λ e. c .if1 .taken (c .before .number-of .ensures ∙ e)) Figures (s .args .figures .now) in
-    let b = all-refused m n (k .result) (k .ensures) (λ e. c .if1 .taken (c .before .number-of .ensures ∙ e)) false (s .args .books .now) in
-    let u = all-refused m n (k .result) (k .ensures) (λ e. c .if1 .taken (c .before .number-of .ensures ∙ e)) true (s .args .uses .now) in
+    let k = after-check-pair .check-pair in
+    let f = answer-refused m n (k .result) (k .ensures) (λ e. c .if1 .taken (after-number-of .number-of .ensures ∙ e)) Figures (s .args .figures .now) in
+    let b = all-refused m n (k .result) (k .ensures) (λ e. c .if1 .taken (after-number-of .number-of .ensures ∙ e)) false (s .args .books .now) in
+    let u = all-refused m n (k .result) (k .ensures) (λ e. c .if1 .taken (after-number-of .number-of .ensures ∙ e)) true (s .args .uses .now) in
     record { figures-answer = f .0; figures-after = f .1; books-answer = b .0; books-after = b .1; uses-answer = u .0; uses-after = u .1 }
 
 everything-over-requires : tie.Need-everything-over-requires
 everything-over-requires c κs =
-    let s = c .before .before .before .before .before .before .before .before .before .before in
-    let k = c .before .before .before .before .before .before .before .check-pair in
-    pair-stands (s .args .morning .now) (s .args .noon .now) (k .result) (k .ensures) (clear (c .before .before .before .before))
+    let c-4 = c .before .before .before .before in
+    let after-check-pair = c-4 .before .before .before in
+    let c-10 = after-check-pair .before .before .before in
+    let s = c-10 in
+    let k = after-check-pair .check-pair in
+    pair-stands (s .args .morning .now) (s .args .noon .now) (k .result) (k .ensures) (clear (c-4))
 
 of-joined-requires : tie.Need-of-joined-requires
 of-joined-requires c κs = search needs
@@ -57,17 +63,23 @@ same-length-3 c = search needs
 
 returns-2 : tie.Need-returns-2
 returns-2 c =
-    let s = c .before .before .before .before .before .before .before .before .before .before .before .before .before .before .before .before .before in
+    let after-of-joined2 = c .before in
+    let after-of-joined = after-of-joined2 .before in
+    let after-everything-over = after-of-joined .before .before .before .before in
+    let c-11 = after-everything-over .before .before .before .before .before in
+    let after-check-pair = c-11 .before .before .before in
+    let c-17 = after-check-pair .before .before .before in
+    let s = c-17 in
     let m = s .args .morning .now in
     let n = s .args .noon .now in
-    let k = c .before .before .before .before .before .before .before .before .before .before .before .before .before .before .check-pair in
-    let z = clear (c .before .before .before .before .before .before .before .before .before .before .before) in
-    let r = c .before .before .before .before .before .before .everything-over in
+    let k = after-check-pair .check-pair in
+    let z = clear (c-11) in
+    let r = after-everything-over .everything-over in
     let x = r .ensures in
     let f = answer-accepted m n (k .result) (k .ensures) z Figures (s .args .figures .now) _ (r .result .figures)
-    (c .before .before .of-joined .result) (c .before .before .of-joined .ensures) (x .figures-answer, x .figures-after) in
-    let b = all-accepted m n (k .result) (k .ensures) z false (s .args .books .now) _ (r .result .books) (c .before .of-joined2 .result)
-    (c .before .of-joined2 .ensures) (x .books-answer, x .books-after) in
+    (after-of-joined .of-joined .result) (after-of-joined .of-joined .ensures) (x .figures-answer, x .figures-after) in
+    let b = all-accepted m n (k .result) (k .ensures) z false (s .args .books .now) _ (r .result .books) (after-of-joined2 .of-joined2 .result)
+    (after-of-joined2 .of-joined2 .ensures) (x .books-answer, x .books-after) in
     let u = all-accepted m n (k .result) (k .ensures) z true (s .args .uses .now) _ (r .result .uses) (c .of-joined3 .result) (c .of-joined3 .ensures)
     (x .uses-answer, x .uses-after) in
     record { figures-answer = f .0; figures-after = f .1; books-answer = b .0; books-after = b .1; uses-answer = u .0; uses-after = u .1 }

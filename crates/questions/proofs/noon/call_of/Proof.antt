@@ -12,24 +12,29 @@ add-if1 c = search needs
 
 returns : tie.Need-returns
 returns c =
-    let a = c .before .before .before .before .args in
+    let start = c .before .before .before .before in
+    let a = start .args in
     sym (no-call (a .required .0) (a .last .0) (a .threshold .0) (a .collateral .0) (c .if1 .taken))
 
 returns-2 : tie.Need-returns-2
 returns-2 c =
-    let a = c .before .before .before .before .before .before .before .args in
-    sym (covered (a .required .0) (a .last .0) (a .threshold .0) (a .collateral .0) (omega (arith, c .before .before .before .if1 .left)) (c .if2 .taken))
+    let c-3 = c .before .before .before in
+    let start = c-3 .before .before .before .before in
+    let a = start .args in
+    sym (covered (a .required .0) (a .last .0) (a .threshold .0) (a .collateral .0) (omega (arith, c-3 .if1 .left)) (c .if2 .taken))
 
 sub-t5 : tie.Need-sub-t5
 sub-t5 c = search needs
 
 returns-3 : tie.Need-returns-3
 returns-3 c =
-    let e = c .before .before .before .before .before in
+    let c-2 = c .before .before in
+    let c-5 = c-2 .before .before .before in
+    let e = c-5 in
     let a = e .before .before .before .before .args in
     sym
     (called (a .required .0) (a .last .0) (a .threshold .0) (a .collateral .0) (omega (arith, e .if1 .left))
-    (omega (arith, c .before .before .if2 .left)))
+    (omega (arith, c-2 .if2 .left)))
 
 pub call-of-spec : {M : Type 1} → statement M
 call-of-spec = tie.close (tie.spec add-if1 returns returns-2 sub-t5 returns-3)

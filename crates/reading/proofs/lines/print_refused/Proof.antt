@@ -30,10 +30,11 @@ end-line-requires c κs = search needs
 
 returns-2 : tie.Need-returns-2
 returns-2 c =
+    let c-6 = c .before .before .before .before .before .before in
     rw (
       ← c .before .before .before .before .before .before .before .number-of .ensures,
       ne-eqb _ _
-          (c .before .before .before .before .before .before .if1 .left),
+          (c-6 .if1 .left),
     )
 
 pub print-refused-spec : {M : Type 1} → statement M

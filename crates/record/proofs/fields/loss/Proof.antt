@@ -13,7 +13,8 @@ i32-at-requires c κs = tt
 
 returns : tie.Need-returns
 returns c =
-    let a = c .before .before .before .args in
+    let start = c .before .before .before in
+    let a = start .args in
     back (c .i32-at .result) (c .i32-at .ok) ∙ c .i32-at .ensures ∙ ap (i32At (a .r .now)) (omega arith)
 
 mul-i32-at : tie.Need-mul-i32-at
@@ -27,7 +28,8 @@ i32-at-requires-2 c κs = tt
 
 returns-2 : tie.Need-returns-2
 returns-2 c =
-    let a = c .before .before .before .args in
+    let start = c .before .before .before in
+    let a = start .args in
     sym (i32-past (a .r .now) (24 + 4 * (a .scenario - 1)) (omega arith))
 
 returns-3 : tie.Need-returns-3

@@ -11,14 +11,14 @@ use Rattle.record.proofs.ranges.contract_outside.Tie as tie
 byte-in-requires : tie.Need-byte-in-requires
 byte-in-requires c κs = search needs
 
-no-contract-requires : tie.Need-no-contract-requires
-no-contract-requires c κs = search needs
+contract-beyond-requires : tie.Need-contract-beyond-requires
+contract-beyond-requires c κs = search needs
 
 u32-in-requires : tie.Need-u32-in-requires
 u32-in-requires c κs = search needs
 
-no-rate-requires : tie.Need-no-rate-requires
-no-rate-requires c κs = search needs
+rate-beyond-requires : tie.Need-rate-beyond-requires
+rate-beyond-requires c κs = search needs
 
 u16-in-requires : tie.Need-u16-in-requires
 u16-in-requires c κs = search needs
@@ -28,18 +28,23 @@ beyond-requires c κs = search needs
 
 returns : tie.Need-returns
 returns c =
-    both (c .before .before .before .before .no-contract .ensures ∙ ap (beyond contractRange) (c .before .before .before .before .before .byte-in .ensures .0))
-    (both (c .before .before .no-rate .ensures ∙ ap (beyond rateRange) (c .before .before .before .u32-in .ensures .0))
-    (last (c .beyond .ensures ∙ ap (beyond (plain 0 1000)) (c .before .u16-in .ensures .0))))
+    let after-u16-in = c .before in
+    let after-rate-beyond = after-u16-in .before in
+    let after-u32-in = after-rate-beyond .before in
+    let after-contract-beyond = after-u32-in .before in
+    let after-byte-in = after-contract-beyond .before in
+    both (after-contract-beyond .contract-beyond .ensures ∙ ap (beyond contractRange) (after-byte-in .byte-in .ensures .0))
+    (both (after-rate-beyond .rate-beyond .ensures ∙ ap (beyond rateRange) (after-u32-in .u32-in .ensures .0))
+    (last (c .beyond .ensures ∙ ap (beyond (plain 0 1000)) (after-u16-in .u16-in .ensures .0))))
 
 pub contract-outside-spec : {M : Type 1} → statement M
 contract-outside-spec =
     tie.close
     (tie.spec
     byte-in-requires
-    no-contract-requires
+    contract-beyond-requires
     u32-in-requires
-    no-rate-requires
+    rate-beyond-requires
     u16-in-requires
     beyond-requires
     returns)

@@ -51,16 +51,21 @@ loop-less c = omega arith
 
 loop-again : tie.Need-loop-again Inv-loop μ-loop
 loop-again c =
-    let l = c .before .before .before .loop in
-    let r = c .before .before .before .before .before .args .r .now in
+    let after-u32-in = c .before in
+    let after-loop = after-u32-in .before .before in
+    let start = after-loop .before .before in
+    let l = after-loop .loop in
+    let r = start .args .r .now in
     l .inv ∙ any-next (wrong r) 17 (l .k + 1) (l .outside) (omega arith)
     ∙ ap (λ b. (l .outside || b) || any (wrong r) (countFrom (l .k + 1 + 1) (17 - (l .k + 1 + 1))))
-    (sym (told r (l .k) (c .before .u32-in .ensures .0) (c .too-many .ensures)))
+    (sym (told r (l .k) (after-u32-in .u32-in .ensures .0) (c .too-many .ensures)))
 
 returns : tie.Need-returns Inv-loop μ-loop
 returns c =
-    let l = c .before .loop in
-    sym (l .inv ∙ any-past (wrong (c .before .before .before .args .r .now)) 17 (l .k + 1) (l .outside) (omega arith))
+    let after-loop = c .before in
+    let start = after-loop .before .before in
+    let l = after-loop .loop in
+    sym (l .inv ∙ any-past (wrong (start .args .r .now)) 17 (l .k + 1) (l .outside) (omega arith))
 
 pub losses-beyond-spec : {M : Type 1} → statement M
 losses-beyond-spec =

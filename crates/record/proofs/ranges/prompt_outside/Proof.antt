@@ -10,57 +10,67 @@ use Rattle.record.proofs.ranges.prompt_outside.Tie as tie
 byte-in-requires : tie.Need-byte-in-requires
 byte-in-requires c κs = search needs
 
-no-contract-requires : tie.Need-no-contract-requires
-no-contract-requires c κs = search needs
+contract-beyond-requires : tie.Need-contract-beyond-requires
+contract-beyond-requires c κs = search needs
 
 byte-in-requires-2 : tie.Need-byte-in-requires-2
 byte-in-requires-2 c κs = search needs
 
-no-tier-requires : tie.Need-no-tier-requires
-no-tier-requires c κs = search needs
+tier-beyond-requires : tie.Need-tier-beyond-requires
+tier-beyond-requires c κs = search needs
 
 u32-in-requires : tie.Need-u32-in-requires
 u32-in-requires c κs = search needs
 
-no-day-requires : tie.Need-no-day-requires
-no-day-requires c κs = search needs
+day-beyond-requires : tie.Need-day-beyond-requires
+day-beyond-requires c κs = search needs
 
 u32-in-requires-2 : tie.Need-u32-in-requires-2
 u32-in-requires-2 c κs = search needs
 
-no-rate-requires : tie.Need-no-rate-requires
-no-rate-requires c κs = search needs
+rate-beyond-requires : tie.Need-rate-beyond-requires
+rate-beyond-requires c κs = search needs
 
 u32-in-requires-3 : tie.Need-u32-in-requires-3
 u32-in-requires-3 c κs = search needs
 
-no-rate-requires-2 : tie.Need-no-rate-requires-2
-no-rate-requires-2 c κs = search needs
+rate-beyond-requires-2 : tie.Need-rate-beyond-requires-2
+rate-beyond-requires-2 c κs = search needs
 
 returns : tie.Need-returns
-returns c = both (c .before .before .before .before .before .before .before .before .no-contract .ensures ∙ ap
+returns c =
+    let after-u32-in3 = c .before in
+    let after-rate-beyond = after-u32-in3 .before in
+    let after-u32-in2 = after-rate-beyond .before in
+    let after-day-beyond = after-u32-in2 .before in
+    let after-u32-in = after-day-beyond .before in
+    let after-tier-beyond = after-u32-in .before in
+    let after-byte-in2 = after-tier-beyond .before in
+    let after-contract-beyond = after-byte-in2 .before in
+    let after-byte-in = after-contract-beyond .before in
+    both (after-contract-beyond .contract-beyond .ensures ∙ ap
     (beyond contractRange)
-    (c .before .before .before .before .before .before .before .before .before .byte-in .ensures .0))
-    (both (c .before .before .before .before .before .before .no-tier .ensures ∙ ap (beyond tierRange)
-    (c .before .before .before .before .before .before .before .byte-in2 .ensures .0))
-    (both (c .before .before .before .before .no-day .ensures ∙ ap (beyond dayRange)
-    (c .before .before .before .before .before .u32-in .ensures .0))
-    (both (c .before .before .no-rate .ensures ∙ ap (beyond rateRange)
-    (c .before .before .before .u32-in2 .ensures .0))
-    (last (c .no-rate2 .ensures ∙ ap (beyond rateRange) (c .before .u32-in3 .ensures .0))))))
+    (after-byte-in .byte-in .ensures .0))
+    (both (after-tier-beyond .tier-beyond .ensures ∙ ap (beyond tierRange)
+    (after-byte-in2 .byte-in2 .ensures .0))
+    (both (after-day-beyond .day-beyond .ensures ∙ ap (beyond dayRange)
+    (after-u32-in .u32-in .ensures .0))
+    (both (after-rate-beyond .rate-beyond .ensures ∙ ap (beyond rateRange)
+    (after-u32-in2 .u32-in2 .ensures .0))
+    (last (c .rate-beyond2 .ensures ∙ ap (beyond rateRange) (after-u32-in3 .u32-in3 .ensures .0))))))
 
 pub prompt-outside-spec : {M : Type 1} → statement M
 prompt-outside-spec =
     tie.close
     (tie.spec
     byte-in-requires
-    no-contract-requires
+    contract-beyond-requires
     byte-in-requires-2
-    no-tier-requires
+    tier-beyond-requires
     u32-in-requires
-    no-day-requires
+    day-beyond-requires
     u32-in-requires-2
-    no-rate-requires
+    rate-beyond-requires
     u32-in-requires-3
-    no-rate-requires-2
+    rate-beyond-requires-2
     returns)

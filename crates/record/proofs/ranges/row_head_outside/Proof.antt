@@ -11,8 +11,8 @@ use Rattle.record.proofs.ranges.row_head_outside.Tie as tie
 byte-in-requires : tie.Need-byte-in-requires
 byte-in-requires c κs = search needs
 
-no-contract-requires : tie.Need-no-contract-requires
-no-contract-requires c κs = search needs
+contract-beyond-requires : tie.Need-contract-beyond-requires
+contract-beyond-requires c κs = search needs
 
 byte-in-requires-2 : tie.Need-byte-in-requires-2
 byte-in-requires-2 c κs = search needs
@@ -29,11 +29,11 @@ beyond-requires-2 c κs = search needs
 u32-in-requires : tie.Need-u32-in-requires
 u32-in-requires c κs = search needs
 
-no-day-requires : tie.Need-no-day-requires
-no-day-requires c κs = search needs
+day-beyond-requires : tie.Need-day-beyond-requires
+day-beyond-requires c κs = search needs
 
-no-strike-requires : tie.Need-no-strike-requires
-no-strike-requires c κs = search needs
+strike-beyond-requires : tie.Need-strike-beyond-requires
+strike-beyond-requires c κs = search needs
 
 u32-in-requires-2 : tie.Need-u32-in-requires-2
 u32-in-requires-2 c κs = search needs
@@ -41,8 +41,8 @@ u32-in-requires-2 c κs = search needs
 too-many-requires : tie.Need-too-many-requires
 too-many-requires c κs = search needs
 
-no-delta-requires : tie.Need-no-delta-requires
-no-delta-requires c κs = search needs
+delta-beyond-requires : tie.Need-delta-beyond-requires
+delta-beyond-requires c κs = search needs
 
 u32-in-requires-3 : tie.Need-u32-in-requires-3
 u32-in-requires-3 c κs = search needs
@@ -52,35 +52,38 @@ beyond-requires-3 c κs = search needs
 
 returns : tie.Need-returns
 returns c =
-    let lots = c .before .before .before in
+    let after-u32-in3 = c .before in
+    let after-delta-beyond = after-u32-in3 .before in
+    let c-3 = after-delta-beyond .before in
+    let lots = c-3 in
     let day = lots .before .before .before in
     let currency = day .before .before in
     let type = currency .before .before in
     let contract = type .before .before in
-    both (contract .no-contract .ensures ∙ ap (beyond contractRange) (contract .before .byte-in .ensures .0))
+    both (contract .contract-beyond .ensures ∙ ap (beyond contractRange) (contract .before .byte-in .ensures .0))
     (both (type .beyond .ensures ∙ ap (beyond (plain 0 2)) (type .before .byte-in2 .ensures .0))
     (both (currency .beyond2 .ensures ∙ ap (beyond (plain 0 7)) (currency .before .byte-in3 .ensures .0))
-    (both (day .no-day .ensures ∙ ap (beyond dayRange) (day .before .u32-in .ensures .0))
-    (both (lots .before .before .no-strike .ensures)
+    (both (day .day-beyond .ensures ∙ ap (beyond dayRange) (day .before .u32-in .ensures .0))
+    (both (lots .before .before .strike-beyond .ensures)
     (both (lots .too-many .ensures ∙ ap (beyond hundredThousands) (lots .before .u32-in2 .ensures .0))
-    (both (c .before .before .no-delta .ensures) (last (c .beyond3 .ensures ∙ ap (beyond valueRange) (c .before .u32-in3 .ensures .0)))))))))
+    (both (after-delta-beyond .delta-beyond .ensures) (last (c .beyond3 .ensures ∙ ap (beyond valueRange) (after-u32-in3 .u32-in3 .ensures .0)))))))))
 
 pub row-head-outside-spec : {M : Type 1} → statement M
 row-head-outside-spec =
     tie.close
     (tie.spec
     byte-in-requires
-    no-contract-requires
+    contract-beyond-requires
     byte-in-requires-2
     beyond-requires
     byte-in-requires-3
     beyond-requires-2
     u32-in-requires
-    no-day-requires
-    no-strike-requires
+    day-beyond-requires
+    strike-beyond-requires
     u32-in-requires-2
     too-many-requires
-    no-delta-requires
+    delta-beyond-requires
     u32-in-requires-3
     beyond-requires-3
     returns)

@@ -18,8 +18,8 @@ joined p a b d = rw (any-append p a (b ++ d), any-append p b d)
 byte-in-requires : tie.Need-byte-in-requires
 byte-in-requires c κs = search needs
 
-no-contract-requires : tie.Need-no-contract-requires
-no-contract-requires c κs = search needs
+contract-beyond-requires : tie.Need-contract-beyond-requires
+contract-beyond-requires c κs = search needs
 
 byte-in-requires-2 : tie.Need-byte-in-requires-2
 byte-in-requires-2 c κs = search needs
@@ -30,28 +30,37 @@ beyond-requires c κs = search needs
 u32-in-requires : tie.Need-u32-in-requires
 u32-in-requires c κs = search needs
 
-no-rate-requires : tie.Need-no-rate-requires
-no-rate-requires c κs = search needs
+rate-beyond-requires : tie.Need-rate-beyond-requires
+rate-beyond-requires c κs = search needs
 
-no-leg-requires : tie.Need-no-leg-requires
-no-leg-requires c κs = search needs
+leg-beyond-requires : tie.Need-leg-beyond-requires
+leg-beyond-requires c κs = search needs
 
-no-leg-requires-2 : tie.Need-no-leg-requires-2
-no-leg-requires-2 c κs = search needs
+leg-beyond-requires-2 : tie.Need-leg-beyond-requires-2
+leg-beyond-requires-2 c κs = search needs
 
-no-third-leg-requires : tie.Need-no-third-leg-requires
-no-third-leg-requires c κs = search needs
+third-leg-beyond-requires : tie.Need-third-leg-beyond-requires
+third-leg-beyond-requires c κs = search needs
 
 returns : tie.Need-returns
 returns c =
-    let r = c .before .before .before .before .before .before .before .before .before .before .args .r .now in
-    both (c .before .before .before .before .before .before .before .no-contract .ensures ∙ ap (beyond contractRange)
-    (c .before .before .before .before .before .before .before .before .byte-in .ensures .0))
-    (both (c .before .before .before .before .before .beyond .ensures ∙ ap (beyond (plain 2 3))
-    (c .before .before .before .before .before .before .byte-in2 .ensures .0))
-    (both (c .before .before .before .no-rate .ensures ∙ ap (beyond rateRange)
-    (c .before .before .before .before .u32-in .ensures .0))
-    (both (c .before .before .no-leg .ensures) (both (c .before .no-leg2 .ensures) (c .no-third-leg .ensures))
+    let after-leg-beyond2 = c .before in
+    let after-leg-beyond = after-leg-beyond2 .before in
+    let after-rate-beyond = after-leg-beyond .before in
+    let after-u32-in = after-rate-beyond .before in
+    let after-beyond = after-u32-in .before in
+    let after-byte-in2 = after-beyond .before in
+    let after-contract-beyond = after-byte-in2 .before in
+    let after-byte-in = after-contract-beyond .before in
+    let start = after-byte-in .before .before in
+    let r = start .args .r .now in
+    both (after-contract-beyond .contract-beyond .ensures ∙ ap (beyond contractRange)
+    (after-byte-in .byte-in .ensures .0))
+    (both (after-beyond .beyond .ensures ∙ ap (beyond (plain 2 3))
+    (after-byte-in2 .byte-in2 .ensures .0))
+    (both (after-rate-beyond .rate-beyond .ensures ∙ ap (beyond rateRange)
+    (after-u32-in .u32-in .ensures .0))
+    (both (after-leg-beyond .leg-beyond .ensures) (both (after-leg-beyond2 .leg-beyond2 .ensures) (c .third-leg-beyond .ensures))
     ∙ sym (joined (outside r) (legFields 0) (legFields 1) (thirdLeg r)))))
 
 pub spread-outside-spec : {M : Type 1} → statement M
@@ -59,12 +68,12 @@ spread-outside-spec =
     tie.close
     (tie.spec
     byte-in-requires
-    no-contract-requires
+    contract-beyond-requires
     byte-in-requires-2
     beyond-requires
     u32-in-requires
-    no-rate-requires
-    no-leg-requires
-    no-leg-requires-2
-    no-third-leg-requires
+    rate-beyond-requires
+    leg-beyond-requires
+    leg-beyond-requires-2
+    third-leg-beyond-requires
     returns)

@@ -2,6 +2,7 @@
 use borrow.Author.Needs.{needs}
 use lib.ListN.{length}
 use borrow.Author.Tests.{lt-leb, le-leb}
+use Rattle.record.specs.Bytes.{recordBytes}
 use Rattle.record.specs.Layout.{promptFields}
 use Rattle.record.proofs.Dispatch.{of-prompt}
 use Rattle.record.proofs.Sound.{sound-short, sound-whole}
@@ -11,7 +12,7 @@ use Rattle.record.proofs.refusals.sound_prompt.Tie as tie
 returns : tie.Need-returns
 returns c =
     let r = c .before .before .args .r .now in
-    sound-short 2 (c .before .before .args .c) r (lt-leb 96 (length r) (c .if1 .taken))
+    sound-short 2 (c .before .before .args .c) r (lt-leb recordBytes (length r) (c .if1 .taken))
 
 is-of-requires : tie.Need-is-of-requires
 is-of-requires c κs = search needs
@@ -24,10 +25,14 @@ prompt-outside-requires c κs = search needs
 
 returns-2 : tie.Need-returns-2
 returns-2 c =
-    let start = c .before .before .before .before .before in
+    let after-beside-prompt = c .before in
+    let after-is-of = after-beside-prompt .before in
+    let c-3 = after-is-of .before in
+    let c-5 = c-3 .before .before in
+    let start = c-5 in
     let r = start .args .r .now in
-    sound-whole 2 (start .args .c) r promptFields (of-prompt r) (le-leb 96 (length r) (c .before .before .before .if1 .left))
-    (c .before .before .is-of .ensures) (c .before .beside-prompt .ensures) (c .prompt-outside .ensures)
+    sound-whole 2 (start .args .c) r promptFields (of-prompt r) (le-leb recordBytes (length r) (c-3 .if1 .left))
+    (after-is-of .is-of .ensures) (after-beside-prompt .beside-prompt .ensures) (c .prompt-outside .ensures)
 
 pub sound-prompt-spec : {M : Type 1} → statement M
 sound-prompt-spec =

@@ -2,6 +2,7 @@
 use borrow.Author.Needs.{needs}
 use lib.ListN.{length}
 use borrow.Author.Tests.{lt-leb, le-leb}
+use Rattle.record.specs.Bytes.{recordBytes}
 use Rattle.record.specs.Layout.{rowFields}
 use Rattle.record.proofs.Dispatch.{of-row, row-fields-outside}
 use Rattle.record.proofs.Sound.{sound-short, sound-whole}
@@ -11,7 +12,7 @@ use Rattle.record.proofs.refusals.sound_row.Tie as tie
 returns : tie.Need-returns
 returns c =
     let r = c .before .before .args .r .now in
-    sound-short 3 (c .before .before .args .c) r (lt-leb 96 (length r) (c .if1 .taken))
+    sound-short 3 (c .before .before .args .c) r (lt-leb recordBytes (length r) (c .if1 .taken))
 
 is-of-requires : tie.Need-is-of-requires
 is-of-requires c κs = search needs
@@ -27,11 +28,16 @@ losses-beyond-requires c κs = search needs
 
 returns-2 : tie.Need-returns-2
 returns-2 c =
-    let start = c .before .before .before .before .before .before in
+    let after-row-head-outside = c .before in
+    let after-beside-row = after-row-head-outside .before in
+    let after-is-of = after-beside-row .before in
+    let c-4 = after-is-of .before in
+    let c-6 = c-4 .before .before in
+    let start = c-6 in
     let r = start .args .r .now in
-    sound-whole 3 (start .args .c) r (rowFields r) (of-row r) (le-leb 96 (length r) (c .before .before .before .before .if1 .left))
-    (c .before .before .before .is-of .ensures) (c .before .before .beside-row .ensures)
-    (row-fields-outside r (c .before .row-head-outside .ensures) (c .losses-beyond .ensures))
+    sound-whole 3 (start .args .c) r (rowFields r) (of-row r) (le-leb recordBytes (length r) (c-4 .if1 .left))
+    (after-is-of .is-of .ensures) (after-beside-row .beside-row .ensures)
+    (row-fields-outside r (after-row-head-outside .row-head-outside .ensures) (c .losses-beyond .ensures))
 
 pub sound-row-spec : {M : Type 1} → statement M
 sound-row-spec =

@@ -31,9 +31,12 @@ loop-less c = omega arith
 
 loop-again : tie.Need-loop-again Inv-loop μ-loop
 loop-again c =
-    let l = c .before .before .loop in
-    let s = c .before .before .before in
-    l .inv ∙ any-next (notZero (s .args .r .now)) (s .args .end) (l .i) (l .set) (c .before .loop-test .taken)
+    let after-loop-test = c .before in
+    let after-loop = after-loop-test .before in
+    let c-3 = after-loop .before in
+    let l = after-loop .loop in
+    let s = c-3 in
+    l .inv ∙ any-next (notZero (s .args .r .now)) (s .args .end) (l .i) (l .set) (after-loop-test .loop-test .taken)
 
 returns : tie.Need-returns Inv-loop μ-loop
 returns c =

@@ -1,6 +1,6 @@
 -- The later bytes moved up, then the record put in their place.
 -- Assumes nothing.
-use mathlib.Core.Path.{_≡_, ap, _∙_}
+use mathlib.Core.Path.{ap, _∙_}
 use mathlib.Core.List.{List, _++_}
 use Prim.Native.Nat.{ℕ, _+_}
 use native.Mathlib.Omega.{arith}
@@ -21,14 +21,17 @@ same-length c = search needs
 
 returns : tie.Need-returns
 returns c =
-    let s = c .before .before .before .before .before .before .before .before .before .before in
+    let after-put = c .before .before in
+    let after-move-up = after-put .before .before .before .before in
+    let c-10 = after-move-up .before .before .before .before in
+    let s = c-10 in
     let at = s .args .at in
     let row = s .args .row .now in
     let lent = s .args .lent .now in
     let a = s .pre .1 .0 in
     let b = s .pre .1 .1 in
-    c .before .before .put .ensures
-    ∙ ap (λ (xs : List ℕ). take at xs ++ (row ++ drop (at + length row) xs)) (c .before .before .before .before .before .before .move-up .ensures)
+    after-put .put .ensures
+    ∙ ap (λ (xs : List ℕ). take at xs ++ (row ++ drop (at + length row) xs)) (after-move-up .move-up .ensures)
     ∙ then-put at (s .args .end) row lent (s .pre .0) (omega (arith, a, b))
 
 pub insert-spec : {M : Type 1} → statement M

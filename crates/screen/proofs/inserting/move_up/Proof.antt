@@ -27,8 +27,10 @@ sub-i c =
 -- the byte that is moved, and its new place, are lent
 room : (c : tie.After-slice-known Inv-loop μ-loop) → c .before .before .loop .i + recordBytes ≤ length (c .before .before .loop .lent)
 room c =
-    let s = c .before .before .before in
-    let l = c .before .before .loop in
+    let after-loop = c .before .before in
+    let c-3 = after-loop .before in
+    let s = c-3 in
+    let l = after-loop .loop in
     let p = s .pre .1 in
     let w = l .inv .1 .within in
     let n = as-long (s .args .end) (s .args .lent .now) p (l .lent) (l .i) (l .inv .1) in
@@ -59,9 +61,12 @@ loop-less c =
 
 loop-again : tie.Need-loop-again Inv-loop μ-loop
 loop-again c =
-    let s = c .before .before .before in
-    let l = c .before .before .loop in
-    let t = c .before .loop-test .taken in
+    let after-loop-test = c .before in
+    let after-loop = after-loop-test .before in
+    let c-3 = after-loop .before in
+    let s = c-3 in
+    let l = after-loop .loop in
+    let t = after-loop-test .loop-test .taken in
     (omega (arith, t), one-more (s .args .end) (s .args .lent .now) (s .pre .1) (l .lent) (l .i) (omega (arith, t)) (l .inv .1))
 
 same-length : tie.Need-same-length Inv-loop μ-loop

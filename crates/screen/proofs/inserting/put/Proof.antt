@@ -1,6 +1,6 @@
 -- The record's bytes are put one after the other.
 -- Assumes nothing.
-use mathlib.Core.Path.{_≡_, sym, ap, _∙_}
+use mathlib.Core.Path.{_≡_, ap, _∙_}
 use mathlib.Core.List.{List, _++_, append-assoc}
 use Prim.Native.Nat.{ℕ, suc, _+_, _-_, _≤_}
 use native.Mathlib.Omega.{arith}
@@ -25,8 +25,10 @@ shared-slice-read-lent c = search needs
 -- what is lent stays as long, and the byte's place is lent
 long : (c : tie.After-shared-slice-known Inv-loop μ-loop) → length (c .before .before .loop .lent) ≡ length (c .before .before .before .args .lent .now)
 long c =
-    let s = c .before .before .before in
-    let l = c .before .before .loop in
+    let after-loop = c .before .before in
+    let c-3 = after-loop .before in
+    let s = c-3 in
+    let l = after-loop .loop in
     let p = s .pre in
     let w = l .inv .0 in
     ap length (l .inv .1) ∙ length-paste (s .args .lent .now) (s .args .at) (s .args .row .now) (l .i) (omega (arith, p, w)) w
@@ -39,8 +41,10 @@ add-lent c =
 
 slice-write-lent : tie.Need-slice-write-lent Inv-loop μ-loop
 slice-write-lent c =
-    let p = c .before .before .before .pre in
-    let t = c .before .loop-test .taken in
+    let after-loop-test = c .before in
+    let start = after-loop-test .before .before in
+    let p = start .pre in
+    let t = after-loop-test .loop-test .taken in
     let n = long c in
     omega (arith, p, t, n)
 
@@ -54,10 +58,13 @@ loop-less c =
 
 loop-again : tie.Need-loop-again Inv-loop μ-loop
 loop-again c =
-    let s = c .before .before .before in
-    let l = c .before .before .loop in
+    let after-loop-test = c .before in
+    let after-loop = after-loop-test .before in
+    let c-3 = after-loop .before in
+    let s = c-3 in
+    let l = after-loop .loop in
     let p = s .pre in
-    let t = c .before .loop-test .taken in
+    let t = after-loop-test .loop-test .taken in
     let row = s .args .row .now in
     let at = s .args .at in
     let more : suc (l .i) ≡ l .i + 1 = omega arith in (

@@ -44,25 +44,32 @@ loop-less : tie.Need-loop-less Inv-loop μ-loop
 loop-less c = omega arith
 
 loop-again : tie.Need-loop-again Inv-loop μ-loop
-loop-again c = let s = c .before .before .before .before .before .before in
+loop-again c =
+    let after-loop-test = c .before .before .before in
+    let after-loop = after-loop-test .before in
+    let c-6 = after-loop .before .before in
+    let s = c-6 in
     let p = s .args .t1 in
-    let i = c .before .before .before .before .loop .i in
+    let i = after-loop .loop .i in
     let lt : length (p .tier) ≡ 32 = sym (length-map (p .tier) _) ∙ s .good .0 .1 .1 .1 .0 .1 .0 .1 in
     let ln : length (p .net) ≡ 32 = sym (length-map (p .net) _) ∙ s .good .0 .1 .1 .1 .1 .0 .1 .0 .1 in
     let n = open-length p lt ln (omega arith) in (
       omega arith,
-      tested-next soundPrompt (openOf p) i (record { tier = 0; unused = pos 0 }) (c .before .before .before .before .loop .sound) _ (omega arith)
-          (c .before .before .before .before .loop .inv .1)
-          (c .sound-prompt .ensures ∙ sym (ap soundPrompt (open-at p i _ _ _ lt ln (omega arith) (c .before .before .before .loop-test .taken)))),
+      tested-next soundPrompt (openOf p) i (record { tier = 0; unused = pos 0 }) (after-loop .loop .sound) _ (omega arith)
+          (after-loop .loop .inv .1)
+          (c .sound-prompt .ensures ∙ sym (ap soundPrompt (open-at p i _ _ _ lt ln (omega arith) (after-loop-test .loop-test .taken)))),
     )
 
 returns-2 : tie.Need-returns-2 Inv-loop μ-loop
-returns-2 c = let s = c .before .before .before in
+returns-2 c =
+    let after-loop = c .before in
+    let c-3 = after-loop .before .before in
+    let s = c-3 in
     let p = s .args .t1 in
     let lt : length (p .tier) ≡ 32 = sym (length-map (p .tier) _) ∙ s .good .0 .1 .1 .1 .0 .1 .0 .1 in
     let ln : length (p .net) ≡ 32 = sym (length-map (p .net) _) ∙ s .good .0 .1 .1 .1 .1 .0 .1 .0 .1 in
     let n = open-length p lt ln (omega arith) in
-    tested-end soundPrompt (openOf p) (c .before .loop .i) _ (omega arith) (c .before .loop .inv .1)
+    tested-end soundPrompt (openOf p) (after-loop .loop .i) _ (omega arith) (after-loop .loop .inv .1)
     ∙ sym (ap (λ (b : Bool). b && every soundPrompt (openOf p)) (le-leb (p .count) 32 (omega arith)))
 
 pub sound-prompts-spec : {M : Type 1} → statement M

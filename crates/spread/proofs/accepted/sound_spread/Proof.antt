@@ -18,9 +18,12 @@ sound-two-requires : tie.Need-sound-two-requires
 sound-two-requires c κs = search needs
 
 returns : tie.Need-returns
-returns c = let s = c .before .before .before .before in
+returns c =
+    let c-3 = c .before .before .before in
+    let c-4 = c-3 .before in
+    let s = c-4 in
     let l : length (s .args .t1 .leg) ≡ 3 = sym (length-map (s .args .t1 .leg) _) ∙ s .good .0 .1 .1 .1 .0 .1 .0 .1 in
-    c .sound-two .ensures ∙ sym (with-two (s .args .t1) _ l (c .before .before .before .if1 .taken))
+    c .sound-two .ensures ∙ sym (with-two (s .args .t1) _ l (c-3 .if1 .taken))
 
 element-copy-out-sound-three : tie.Need-element-copy-out-sound-three
 element-copy-out-sound-three c = search needs
@@ -35,9 +38,12 @@ sound-three-requires : tie.Need-sound-three-requires
 sound-three-requires c κs = search needs
 
 returns-2 : tie.Need-returns-2
-returns-2 c = let s = c .before .before .before .before .before .before in
+returns-2 c =
+    let c-4 = c .before .before .before .before in
+    let c-6 = c-4 .before .before in
+    let s = c-6 in
     let l : length (s .args .t1 .leg) ≡ 3 = sym (length-map (s .args .t1 .leg) _) ∙ s .good .0 .1 .1 .1 .0 .1 .0 .1 in
-    c .sound-three .ensures ∙ sym (with-three (s .args .t1) _ l (c .before .before .before .before .if2 .taken))
+    c .sound-three .ensures ∙ sym (with-three (s .args .t1) _ l (c-4 .if2 .taken))
 
 returns-3 : tie.Need-returns-3
 returns-3 c = let s = c .before .before in

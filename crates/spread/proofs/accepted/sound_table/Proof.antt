@@ -41,23 +41,30 @@ loop-less : tie.Need-loop-less Inv-loop μ-loop
 loop-less c = omega arith
 
 loop-again : tie.Need-loop-again Inv-loop μ-loop
-loop-again c = let s = c .before .before .before .before .before in
+loop-again c =
+    let after-loop-test = c .before .before in
+    let after-loop = after-loop-test .before in
+    let c-5 = after-loop .before .before in
+    let s = c-5 in
     let t = s .args .t1 in
-    let i = c .before .before .before .loop .i in
+    let i = after-loop .loop .i in
     let l : length (t .spread) ≡ 32 = sym (length-map (t .spread) _) ∙ s .good .0 .1 .1 .1 .0 .1 .0 .1 in
     let n = length-take-le (t .count) (t .spread) (omega arith) in (
       omega arith,
-      tested-next soundSpread (take (t .count) (t .spread)) i _ (c .before .before .before .loop .sound) _ (omega arith)
-          (c .before .before .before .loop .inv .1)
-          (c .sound-spread .ensures ∙ sym (ap soundSpread (getD-take (t .count) (t .spread) i _ (c .before .before .loop-test .taken)))),
+      tested-next soundSpread (take (t .count) (t .spread)) i _ (after-loop .loop .sound) _ (omega arith)
+          (after-loop .loop .inv .1)
+          (c .sound-spread .ensures ∙ sym (ap soundSpread (getD-take (t .count) (t .spread) i _ (after-loop-test .loop-test .taken)))),
     )
 
 returns-2 : tie.Need-returns-2 Inv-loop μ-loop
-returns-2 c = let s = c .before .before .before in
+returns-2 c =
+    let after-loop = c .before in
+    let c-3 = after-loop .before .before in
+    let s = c-3 in
     let t = s .args .t1 in
     let l : length (t .spread) ≡ 32 = sym (length-map (t .spread) _) ∙ s .good .0 .1 .1 .1 .0 .1 .0 .1 in
     let n = length-take-le (t .count) (t .spread) (omega arith) in
-    tested-end soundSpread (take (t .count) (t .spread)) (c .before .loop .i) _ (omega arith) (c .before .loop .inv .1)
+    tested-end soundSpread (take (t .count) (t .spread)) (after-loop .loop .i) _ (omega arith) (after-loop .loop .inv .1)
     ∙ sym (ap (λ (b : Bool). b && every soundSpread (take (t .count) (t .spread))) (le-leb (t .count) 32 (omega arith)))
 
 pub sound-table-spec : {M : Type 1} → statement M

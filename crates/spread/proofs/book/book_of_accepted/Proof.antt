@@ -23,14 +23,19 @@ run-requires c κs =
     )
 
 paid-by-requires : tie.Need-paid-by-requires
-paid-by-requires c κs = let s = c .before .before .before .before .before in
-    let r = c .before .before .before .run in (
+paid-by-requires c κs =
+    let after-run = c .before .before .before in
+    let c-5 = after-run .before .before in
+    let s = c-5 in
+    let r = after-run .run in (
       and-left (soundPrompts (s .args .prompts)) (soundTable (s .args .table)) (s .pre),
       sym (length-map (r .result .left .cell) _) ∙ r .ok .1 .1 .0 .1 .1 .0 .1 .0 .1,
     )
 
 returns : tie.Need-returns
-returns c = let b = c .before .before .before .before in
+returns c =
+    let c-4 = c .before .before .before .before in
+    let b = c-4 in
     let r = b .before .before .before .before in
     let s = r .before .before in
     booked-accepted (s .args .prompts) (s .args .table) _ _ _ _ _ _ (s .pre) (r .before .pools-of .ensures) (r .run .ensures) (b .paid-by .ensures)

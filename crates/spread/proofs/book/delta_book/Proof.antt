@@ -14,9 +14,13 @@ refused-requires : tie.Need-refused-requires
 refused-requires c κs = search needs
 
 returns : tie.Need-returns
-returns c = let s = c .before .before .before in
+returns c =
+    let c-1 = c .before in
+    let after-accepted = c-1 .before in
+    let c-3 = after-accepted .before in
+    let s = c-3 in
     booked-refused (s .args .prompts) (s .args .table) (c .refused .result)
-    (sym (c .before .before .accepted .ensures) ∙ not-true _ (c .before .if1 .taken)) (c .refused .ensures)
+    (sym (after-accepted .accepted .ensures) ∙ not-true _ (c-1 .if1 .taken)) (c .refused .ensures)
 
 book-of-accepted-requires : tie.Need-book-of-accepted-requires
 book-of-accepted-requires c κs = sym (c .before .accepted .ensures) ∙ not-false _ (c .if1 .left)

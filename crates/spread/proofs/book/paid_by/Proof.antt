@@ -28,8 +28,11 @@ nets s = sym (length-map (s .args .t1 .net) _) ∙ s .good .0 .1 .1 .1 .1 .0 .1 
 here : (c : tie.After-pool-of Inv-loop μ-loop)
     → let p = c .before .before .before .before .before .before .before .args .t1 in let k = c .before .before .before .before .loop .k in Placed (openOf p) k
     (netOf p k) (c .pool-of .result)
-here c = let s = c .before .before .before .before .before .before .before in
-    placed (s .args .t1) _ (c .pool-of .result) (tiers s) (nets s) (s .pre .0) (c .before .before .before .loop-test .taken) (c .pool-of .ensures)
+here c =
+    let after-loop-test = c .before .before .before in
+    let c-7 = after-loop-test .before .before .before .before in
+    let s = c-7 in
+    placed (s .args .t1) _ (c .pool-of .result) (tiers s) (nets s) (s .pre .0) (after-loop-test .loop-test .taken) (c .pool-of .ensures)
 
 within : (c : tie.After-pool-of Inv-loop μ-loop) → c .pool-of .result < 32
 within c = placed-within _ _ _ _ (here c)
@@ -61,13 +64,16 @@ mul-beyond-2 : tie.Need-mul-beyond-2 Inv-loop μ-loop
 mul-beyond-2 c = let h = within c in omega arith
 
 shared-slice-read-beyond : tie.Need-shared-slice-read-beyond Inv-loop μ-loop
-shared-slice-read-beyond c = let s = c .before .before .before .before .before .before .before .before in omega (arith, within (c .before), s .pre .1)
+shared-slice-read-beyond c =
+    let c-1 = c .before in
+    let c-8 = c-1 .before .before .before .before .before .before .before in
+    let s = c-8 in omega (arith, within (c-1), s .pre .1)
 
 beyond-requires : tie.Need-beyond-requires Inv-loop μ-loop
 beyond-requires c κs = search needs
 
-parts-of-requires : tie.Need-parts-of-requires Inv-loop μ-loop
-parts-of-requires c κs = search needs
+split-of-requires : tie.Need-split-of-requires Inv-loop μ-loop
+split-of-requires c κs = search needs
 
 mul-taken : tie.Need-mul-taken Inv-loop μ-loop
 mul-taken c = omega arith
@@ -82,10 +88,14 @@ element-set-from-kept : tie.Need-element-set-from-kept Inv-loop μ-loop
 element-set-from-kept c = omega arith
 
 mul-beyond-3 : tie.Need-mul-beyond-3 Inv-loop μ-loop
-mul-beyond-3 c = let h = within (c .before .before .before .before .before) in omega arith
+mul-beyond-3 c =
+    let c-5 = c .before .before .before .before .before in
+    let h = within (c-5) in omega arith
 
 array-read-beyond-2 : tie.Need-array-read-beyond-2 Inv-loop μ-loop
-array-read-beyond-2 c = within (c .before .before .before .before .before)
+array-read-beyond-2 c =
+    let c-5 = c .before .before .before .before .before in
+    within (c-5)
 
 size-requires : tie.Need-size-requires Inv-loop μ-loop
 size-requires c κs = search needs
@@ -94,10 +104,14 @@ beyond-requires-2 : tie.Need-beyond-requires-2 Inv-loop μ-loop
 beyond-requires-2 c κs = search needs
 
 mul-had : tie.Need-mul-had Inv-loop μ-loop
-mul-had c = let h = within (c .before .before .before .before .before .before .before) in omega arith
+mul-had c =
+    let c-7 = c .before .before .before .before .before .before .before in
+    let h = within (c-7) in omega arith
 
 array-write-had : tie.Need-array-write-had Inv-loop μ-loop
-array-write-had c = within (c .before .before .before .before .before .before .before)
+array-write-had c =
+    let c-7 = c .before .before .before .before .before .before .before in
+    within (c-7)
 
 add-k : tie.Need-add-k Inv-loop μ-loop
 add-k c = omega arith
@@ -106,25 +120,33 @@ loop-less : tie.Need-loop-less Inv-loop μ-loop
 loop-less c = omega arith
 
 loop-again : tie.Need-loop-again Inv-loop μ-loop
-loop-again c = let p = c .before .before .before .before .before .before .before in
+loop-again c =
+    let after-size = c .before in
+    let after-split-of = after-size .before .before .before in
+    let after-beyond = after-split-of .before in
+    let c-7 = after-beyond .before .before in
+    let p = c-7 in
     let l = p .before .before .before .before .loop in
     let s = p .before .before .before .before .before .before .before in
     let cell = p .pool-of .result in
-    let due = c .before .before .before .before .before .beyond .ensures in
-    let parts = c .before .before .before .before .parts-of in (
+    let due = after-beyond .beyond .ensures in
+    let parts = after-split-of .split-of in (
       omega arith,
       l .inv .1,
       pay-next (s .args .pools .cell) (s .args .left .now) (openOf (s .args .t1)) (l .k) (l .had) _ (l .paid .used) (l .paid .unused) _ cell _
           (parts .result .used) (parts .result .unused) (omega arith)
           (here p) due (parts .ensures .0) (parts .ensures .1)
-          (ap (set (l .had) cell) (c .beyond2 .ensures ∙ ap (λ (a : ℕ). getD (l .had) cell 0 - a) (c .before .size .ensures)))
+          (ap (set (l .had) cell) (c .beyond2 .ensures ∙ ap (λ (a : ℕ). getD (l .had) cell 0 - a) (after-size .size .ensures)))
           (l .inv .2),
     )
 
 returns : tie.Need-returns Inv-loop μ-loop
-returns c = let s = c .before .before .before .before in
+returns c =
+    let after-loop = c .before in
+    let c-4 = after-loop .before .before .before in
+    let s = c-4 in
     let p = s .args .t1 in
-    let l = c .before .loop in
+    let l = after-loop .loop in
     let n = open-length p (tiers s) (nets s) (l .inv .1) in
     paying-all (s .args .pools .cell) (s .args .left .now) (openOf p) (l .k) (l .had) (l .paid .used) (l .paid .unused) (omega arith) (l .inv .2)
 
@@ -144,7 +166,7 @@ paid-by-spec =
     mul-beyond-2
     shared-slice-read-beyond
     beyond-requires
-    parts-of-requires
+    split-of-requires
     mul-taken
     element-set-from-taken
     mul-kept

@@ -2,7 +2,7 @@
 -- Assumes nothing.
 use mathlib.Core.Path.{_∙_, ap}
 use borrow.Author.Needs.{needs}
-use Rattle.spread.specs.Cells.{cellOf, shortIf}
+use Rattle.spread.specs.code.Cells.{cellOf, shortIf}
 use Rattle.spread.specs.Steps.{Market}
 use Rattle.spread.proofs.Gathering.{side-market}
 use Rattle.spread.proofs.book.pool_of.Statement.{statement}

@@ -8,7 +8,7 @@ use lib.ListN.{length, length-map, getD, set, take}
 use lib.Seq.{take-all}
 use borrow.Author.Needs.{needs}
 use Rattle.spread.specs.Accepted.{openOf}
-use Rattle.spread.specs.Cells.{Pooled}
+use Rattle.spread.specs.code.Cells.{Pooled}
 use Rattle.spread.specs.Steps.{Open}
 use Rattle.spread.proofs.Every.{open-length}
 use Rattle.spread.proofs.Gathering.{few, Placed, netOf, placed, placed-within, pooled-none, pools-fit, pools-next}
@@ -31,8 +31,11 @@ nets s = sym (length-map (s .args .t1 .net) _) ∙ s .good .0 .1 .1 .1 .1 .0 .1 
 here : (c : tie.After-pool-of Inv-loop μ-loop)
     → let p = c .before .before .before .before .before .args .t1 in let i = c .before .before .before .before .loop .i in Placed (openOf p) i
     (netOf p i) (c .pool-of .result)
-here c = let s = c .before .before .before .before .before in
-    placed (s .args .t1) _ (c .pool-of .result) (tiers s) (nets s) (s .pre) (c .before .before .before .loop-test .taken) (c .pool-of .ensures)
+here c =
+    let after-loop-test = c .before .before .before in
+    let c-5 = after-loop-test .before .before in
+    let s = c-5 in
+    placed (s .args .t1) _ (c .pool-of .result) (tiers s) (nets s) (s .pre) (after-loop-test .loop-test .taken) (c .pool-of .ensures)
 
 within : (c : tie.After-pool-of Inv-loop μ-loop) → c .pool-of .result < 32
 within c = placed-within _ _ _ _ (here c)
@@ -62,10 +65,14 @@ size-requires : tie.Need-size-requires Inv-loop μ-loop
 size-requires c κs = search needs
 
 add-cells : tie.Need-add-cells Inv-loop μ-loop
-add-cells c = let s = c .before .before .before .before .before .before in
-    let l = c .before .before .before .before .before .loop in
+add-cells c =
+    let after-pool-of = c .before in
+    let after-loop = after-pool-of .before .before .before .before in
+    let c-6 = after-loop .before in
+    let s = c-6 in
+    let l = after-loop .loop in
     let e = c .size .ensures in
-    let h = pools-fit (s .args .t1) (l .i) _ (c .before .pool-of .result) (here (c .before)) (l .cells) (l .inv .2) (s .pre) (omega arith) in
+    let h = pools-fit (s .args .t1) (l .i) _ (after-pool-of .pool-of .result) (here (after-pool-of)) (l .cells) (l .inv .2) (s .pre) (omega arith) in
     omega arith
 
 mul-cells-2 : tie.Need-mul-cells-2 Inv-loop μ-loop
@@ -81,12 +88,16 @@ loop-less : tie.Need-loop-less Inv-loop μ-loop
 loop-less c = omega arith
 
 loop-again : tie.Need-loop-again Inv-loop μ-loop
-loop-again c = let s = c .before .before .before .before .before .before in
-    let l = c .before .before .before .before .before .loop in
-    let cell = c .before .pool-of .result in (
+loop-again c =
+    let after-pool-of = c .before in
+    let after-loop = after-pool-of .before .before .before .before in
+    let c-6 = after-loop .before in
+    let s = c-6 in
+    let l = after-loop .loop in
+    let cell = after-pool-of .pool-of .result in (
       omega arith,
       l .inv .1,
-      pools-next (s .args .t1) (l .i) _ cell (here (c .before)) (l .cells) (l .inv .2) _
+      pools-next (s .args .t1) (l .i) _ cell (here (after-pool-of)) (l .cells) (l .inv .2) _
           (ap (λ (x : ℕ). set (l .cells) cell (getD (l .cells) cell 0 + x)) (c .size .ensures)),
     )
 

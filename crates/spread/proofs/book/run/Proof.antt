@@ -9,7 +9,8 @@ use mathlib.Core.Path.{_≡_, sym, _∙_}
 use lib.ListN.{length, length-map, getD}
 use borrow.Author.Needs.{needs}
 use Rattle.spread.specs.Accepted.{spreadsOf, soundSpread}
-use Rattle.spread.specs.Cells.{Small, Taken, stepOf}
+use Rattle.spread.specs.code.Cells.{Small, Taken}
+use Rattle.spread.specs.Steps.{stepOf}
 use Rattle.spread.specs.declared.Spread.{Spread}
 use Rattle.spread.specs.declared.Table.{Table}
 use Rattle.spread.proofs.Bounds.{small-taken}
@@ -58,7 +59,9 @@ second-step c =
 
 -- what the first step leaves is small
 between : (c : tie.Joined1 Inv-loop μ-loop) → Small (c .if1 .left .cell)
-between c = let l = c .before .before .before .before .before .before .before .loop in small-taken _ (l .left .cell) _ _ (first-step c) (l .inv .2)
+between c =
+    let after-loop = c .before .before .before .before .before .before .before in
+    let l = after-loop .loop in small-taken _ (l .left .cell) _ _ (first-step c) (l .inv .2)
 
 loop-holds : tie.Need-loop-holds Inv-loop μ-loop
 loop-holds c = (omega arith, table-few (c .args .t2) (c .pre .0), c .pre .1, running-none (c .args .pools .cell) (spreadsOf (c .args .t2)))
@@ -73,13 +76,17 @@ has-room-requires : tie.Need-has-room-requires Inv-loop μ-loop
 has-room-requires c κs = (search needs, here (c .before .before .before .before))
 
 take-requires : tie.Need-take-requires Inv-loop μ-loop
-take-requires c κs = let t = c .before .before .before .before .before .before in (here t, t .before .loop .inv .2)
+take-requires c κs =
+    let c-6 = c .before .before .before .before .before .before in
+    let t = c-6 in (here t, t .before .loop .inv .2)
 
 has-room-requires-2 : tie.Need-has-room-requires-2 Inv-loop μ-loop
 has-room-requires-2 c κs = (search needs, here (c .before .before .before .before .before .before .before .before .before))
 
 take-requires-2 : tie.Need-take-requires-2 Inv-loop μ-loop
-take-requires-2 c κs = let j = c .before .before .before .before .before in (here (j .before .before .before .before .before .before), between j)
+take-requires-2 c κs =
+    let c-5 = c .before .before .before .before .before in
+    let j = c-5 in (here (j .before .before .before .before .before .before), between j)
 
 mul-formed : tie.Need-mul-formed Inv-loop μ-loop
 mul-formed c = omega arith
@@ -100,7 +107,9 @@ loop-less : tie.Need-loop-less Inv-loop μ-loop
 loop-less c = omega arith
 
 loop-again : tie.Need-loop-again Inv-loop μ-loop
-loop-again c = let j = c .before .before .before .before .before in
+loop-again c =
+    let c-5 = c .before .before .before .before .before in
+    let j = c-5 in
     let l = j .before .before .before .before .before .before .before .loop in
     let s = j .before .before .before .before .before .before .before .before in
     let t = s .args .t2 in (

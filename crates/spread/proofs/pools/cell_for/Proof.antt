@@ -2,7 +2,7 @@
 -- Assumes nothing.
 use mathlib.Core.Path.{_∙_, ap}
 use borrow.Author.Needs.{needs}
-use Rattle.spread.specs.Cells.{cellOf}
+use Rattle.spread.specs.code.Cells.{cellOf}
 use Rattle.spread.specs.Steps.{Market}
 use Rattle.spread.proofs.Pooling.{side-market}
 use Rattle.spread.proofs.pools.cell_for.Statement.{statement}

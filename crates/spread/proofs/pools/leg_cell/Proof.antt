@@ -21,13 +21,17 @@ mul-result-2 : tie.Need-mul-result-2
 mul-result-2 c = search needs
 
 returns : tie.Need-returns
-returns c = let s = c .before .before .before in
+returns c =
+    let c-3 = c .before .before .before in
+    let s = c-3 in
     let h = tier-of (s .args .leg) (s .pre) in
     let e = cell-in-step (s .args .leg) (s .args .second) true h (c .if1 .taken) in
     (omega arith, omega arith)
 
 returns-2 : tie.Need-returns-2
-returns-2 c = let s = c .before .before .before in
+returns-2 c =
+    let c-3 = c .before .before .before in
+    let s = c-3 in
     let h = tier-of (s .args .leg) (s .pre) in
     let e = cell-in-step (s .args .leg) (s .args .second) false h (c .if1 .left) in
     (omega arith, omega arith)

@@ -22,16 +22,24 @@ mul-beyond : tie.Need-mul-beyond
 mul-beyond c = omega (arith, c .before .leg-cell .ensures .1)
 
 slice-read-beyond : tie.Need-slice-read-beyond
-slice-read-beyond c = omega (arith, c .before .before .leg-cell .ensures .1, c .before .before .before .before .pre .0)
+slice-read-beyond c =
+    let after-leg-cell = c .before .before in
+    let start = after-leg-cell .before .before in
+    omega (arith, after-leg-cell .leg-cell .ensures .1, start .pre .0)
 
 beyond-requires : tie.Need-beyond-requires
 beyond-requires c κs = search needs
 
 mul-cells : tie.Need-mul-cells
-mul-cells c = omega (arith, c .before .before .before .leg-cell .ensures .1)
+mul-cells c =
+    let after-leg-cell = c .before .before .before in
+    omega (arith, after-leg-cell .leg-cell .ensures .1)
 
 slice-write-cells : tie.Need-slice-write-cells
-slice-write-cells c = omega (arith, c .before .before .before .leg-cell .ensures .1, c .before .before .before .before .before .pre .0)
+slice-write-cells c =
+    let after-leg-cell = c .before .before .before in
+    let start = after-leg-cell .before .before in
+    omega (arith, after-leg-cell .leg-cell .ensures .1, start .pre .0)
 
 same-length : tie.Need-same-length
 same-length c = search needs

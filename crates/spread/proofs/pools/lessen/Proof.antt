@@ -15,7 +15,9 @@ element-copy-out-less : tie.Need-element-copy-out-less
 element-copy-out-less c = search needs
 
 less-requires : tie.Need-less-requires
-less-requires c κs = let s = c .before .before .before in (s .pre .0, first-leg (s .args .t2) _ (legs s) (s .pre .1), s .pre .2)
+less-requires c κs =
+    let c-3 = c .before .before .before in
+    let s = c-3 in (s .pre .0, first-leg (s .args .t2) _ (legs s) (s .pre .1), s .pre .2)
 
 element-copy-out-less-2 : tie.Need-element-copy-out-less-2
 element-copy-out-less-2 c = search needs
@@ -52,7 +54,9 @@ same-length-2 : tie.Need-same-length-2
 same-length-2 c = search needs
 
 returns-2 : tie.Need-returns-2
-returns-2 c = let second = c .before .before .before in
+returns-2 c =
+    let c-3 = c .before .before .before in
+    let second = c-3 in
     let first = second .before .before .before .before .before in
     let s = first .before .before .before .before in
     after-two (s .args .second) (s .args .t2) _ _ _ (three _ (s .args .t2 .leg) (legs s)) (s .args .number) (s .args .cells .now) _ _

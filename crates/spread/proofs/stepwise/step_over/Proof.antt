@@ -19,9 +19,12 @@ not-taken-requires c κs = search needs
 
 returns : tie.Need-returns
 returns c =
-    let s = c .before .before .before in
+    let c-1 = c .before in
+    let after-can-step = c-1 .before in
+    let c-3 = after-can-step .before in
+    let s = c-3 in
     stepped-refused (s .args .prompts) (s .args .spread) (s .args .second) (c .not-taken .result)
-    (sym (c .before .before .can-step .ensures) ∙ not-true _ (c .before .if1 .taken)) (c .not-taken .ensures)
+    (sym (after-can-step .can-step .ensures) ∙ not-true _ (c-1 .if1 .taken)) (c .not-taken .ensures)
 
 pools-of-requires : tie.Need-pools-of-requires
 pools-of-requires c κs =
@@ -30,27 +33,33 @@ pools-of-requires c κs =
 
 take-requires : tie.Need-take-requires
 take-requires c κs =
-    let s = c .before .before .before in
+    let c-1 = c .before in
+    let after-can-step = c-1 .before in
+    let c-3 = after-can-step .before in
+    let s = c-3 in
     let q = s .args .prompts in
     let lt : length (q .tier) ≡ 32 = sym (length-map (q .tier) _) ∙ s .good .0 .1 .1 .1 .0 .1 .0 .1 in
     let ln : length (q .net) ≡ 32 = sym (length-map (q .net) _) ∙ s .good .0 .1 .1 .1 .1 .0 .1 .0 .1 in
-    let e = sym (c .before .before .can-step .ensures) ∙ not-false _ (c .before .if1 .left) in (
+    let e = sym (after-can-step .can-step .ensures) ∙ not-false _ (c-1 .if1 .left) in (
       and-right (soundPrompts q) (soundSpread (s .args .spread)) e,
       pooled-small q _ lt ln (and-left (soundPrompts q) (soundSpread (s .args .spread)) e) (c .pools-of .ensures),
     )
 
 paid-by-requires : tie.Need-paid-by-requires
 paid-by-requires c κs =
-    let b = c .before .before .before .before .before .before in
+    let after-take = c .before .before .before .before in
+    let c-6 = after-take .before .before in
+    let b = c-6 in
     let s = b .before .before in
-    let t = c .before .before .before .before .take in (
+    let t = after-take .take in (
       and-left (soundPrompts (s .args .prompts)) (soundSpread (s .args .spread)) (sym (b .before .can-step .ensures) ∙ not-false _ (b .if1 .left)),
       sym (length-map (t .result .left .cell) _) ∙ t .ok .1 .1 .0 .1 .1 .0 .1 .0 .1,
     )
 
 returns-2 : tie.Need-returns-2
 returns-2 c =
-    let b = c .before .before .before .before in
+    let c-4 = c .before .before .before .before in
+    let b = c-4 in
     let t = b .before .before .before .before .before in
     let p = t .before in
     let s = p .before .before .before in

@@ -29,18 +29,23 @@ nets s = sym (length-map (s .args .t4 .net) _) ∙ s .good .1 .1 .1 .0 .1 .1 .1 
 here : (c : tie.After-pool-of Inv-loop μ-loop)
     → let l = c .before .before .before .before in let p = l .before .before .before .before .args .t4 in let k = l .loop .k in Placed (openOf p) k
     (netOf p k) (c .pool-of .result)
-here c = let s = c .before .before .before .before .before .before .before .before in
-    placed (s .args .t4) _ (c .pool-of .result) (tiers s) (nets s) (s .pre .0) (c .before .before .before .loop-test .taken) (c .pool-of .ensures)
+here c =
+    let after-loop-test = c .before .before .before in
+    let c-8 = after-loop-test .before .before .before .before .before in
+    let s = c-8 in
+    placed (s .args .t4) _ (c .pool-of .result) (tiers s) (nets s) (s .pre .0) (after-loop-test .loop-test .taken) (c .pool-of .ensures)
 
 within : (c : tie.After-pool-of Inv-loop μ-loop) → c .pool-of .result < 32
 within c = placed-within _ _ _ _ (here c)
 
 loop-holds : tie.Need-loop-holds Inv-loop μ-loop
-loop-holds c = let s = c .before .before .before in (
-  omega arith,
-  few (s .args .t4) (s .pre .0),
-  laying-none (openOf (s .args .t4)) (s .args .pool .now) (s .args .size .now) (s .args .at .now) (s .pre .1) (s .pre .2) (s .pre .3),
-)
+loop-holds c =
+    let c-3 = c .before .before .before in
+    let s = c-3 in (
+      omega arith,
+      few (s .args .t4) (s .pre .0),
+      laying-none (openOf (s .args .t4)) (s .args .pool .now) (s .args .size .now) (s .args .at .now) (s .pre .1) (s .pre .2) (s .pre .3),
+    )
 
 mul-net : tie.Need-mul-net Inv-loop μ-loop
 mul-net c = omega arith
@@ -58,7 +63,9 @@ mul-pool : tie.Need-mul-pool Inv-loop μ-loop
 mul-pool c = omega arith
 
 slice-write-pool : tie.Need-slice-write-pool Inv-loop μ-loop
-slice-write-pool c = let t = c .before .before .before in
+slice-write-pool c =
+    let c-3 = c .before .before .before in
+    let t = c-3 in
     let l = t .before .loop in omega (arith, l .inv .0, l .inv .1, l .inv .2 .pools, t .loop-test .taken)
 
 size-requires : tie.Need-size-requires Inv-loop μ-loop
@@ -68,23 +75,33 @@ mul-size : tie.Need-mul-size Inv-loop μ-loop
 mul-size c = omega arith
 
 slice-write-size : tie.Need-slice-write-size Inv-loop μ-loop
-slice-write-size c = let t = c .before .before .before .before in
+slice-write-size c =
+    let c-4 = c .before .before .before .before in
+    let t = c-4 in
     let l = t .before .loop in omega (arith, l .inv .0, l .inv .1, l .inv .2 .sizes, t .loop-test .taken)
 
 mul-earlier : tie.Need-mul-earlier Inv-loop μ-loop
 mul-earlier c = let h = within (c .before) in omega arith
 
 slice-read-earlier : tie.Need-slice-read-earlier Inv-loop μ-loop
-slice-read-earlier c = omega (arith, within (c .before .before), c .before .before .before .before .before .before .loop .inv .2 .places)
+slice-read-earlier c =
+    let c-2 = c .before .before in
+    let after-loop = c-2 .before .before .before .before in
+    omega (arith, within (c-2), after-loop .loop .inv .2 .places)
 
 earlier-requires : tie.Need-earlier-requires Inv-loop μ-loop
 earlier-requires c κs = search needs
 
 mul-at : tie.Need-mul-at Inv-loop μ-loop
-mul-at c = let h = within (c .before .before .before) in omega arith
+mul-at c =
+    let c-3 = c .before .before .before in
+    let h = within (c-3) in omega arith
 
 slice-write-at : tie.Need-slice-write-at Inv-loop μ-loop
-slice-write-at c = omega (arith, within (c .before .before .before), c .before .before .before .before .before .before .before .loop .inv .2 .places)
+slice-write-at c =
+    let c-3 = c .before .before .before in
+    let after-loop = c-3 .before .before .before .before in
+    omega (arith, within (c-3), after-loop .loop .inv .2 .places)
 
 add-k : tie.Need-add-k Inv-loop μ-loop
 add-k c = omega arith
@@ -94,7 +111,9 @@ loop-less c = omega arith
 
 loop-again : tie.Need-loop-again Inv-loop μ-loop
 loop-again c =
-    let p = c .before .before .before in
+    let after-size = c .before .before in
+    let c-3 = after-size .before in
+    let p = c-3 in
     let l = p .before .before .before .before .loop in
     let s = p .before .before .before .before .before .before .before .before in
     let q = openOf (s .args .t4) in
@@ -102,7 +121,7 @@ loop-again c =
       omega arith,
       l .inv .1,
       subst (λ (a : ℕ). Laying q (l .k + 1) (set (l .pool) (l .k) cell) (set (l .size) (l .k) a) (set (l .at) cell (c .earlier .result))) (sym
-          (c .before .before .size .ensures))
+          (after-size .size .ensures))
           (subst (λ (a : ℕ). Laying q (l .k + 1) (set (l .pool) (l .k) cell) (set (l .size) (l .k) (natAbs (netOf (s .args .t4) (l .k)))) (set
           (l .at) cell a)) (sym (c .earlier .ensures))
           (laying-next q (l .k) _ cell (here p) (l .pool) (l .size) (l .at) (omega arith) (l .inv .2))),
@@ -118,9 +137,12 @@ same-length-3 : tie.Need-same-length-3 Inv-loop μ-loop
 same-length-3 c = search needs
 
 returns : tie.Need-returns Inv-loop μ-loop
-returns c = let s = c .before .before .before .before .before in
+returns c =
+    let after-loop = c .before in
+    let c-5 = after-loop .before .before .before .before in
+    let s = c-5 in
     let p = s .args .t4 in
-    let l = c .before .loop in
+    let l = after-loop .loop in
     let n = open-length p (tiers s) (nets s) (l .inv .1) in
     laying-all (openOf p) (l .k) (l .pool) (l .size) (l .at) (omega (arith, n, c .loop-test .left, l .inv .0)) (omega arith) (l .inv .2)
 

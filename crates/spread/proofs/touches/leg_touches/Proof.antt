@@ -1,9 +1,9 @@
 -- `leg_touches`: the walk from the place kept for the leg's cell.
 -- Assumes nothing.
-use Prim.Native.Nat.{ℕ, _≤_}
+use Prim.Native.Nat.{_≤_}
 use native.Mathlib.Omega.{arith}
 use borrow.Author.Needs.{needs}
-use Rattle.spread.specs.Cells.{marketIn}
+use Rattle.spread.specs.Steps.{marketIn}
 use Rattle.spread.proofs.Passing.{leg-taken}
 use Rattle.spread.proofs.Pooling.{cell-most}
 use Rattle.spread.proofs.touches.leg_touches.Statement.{statement}
@@ -14,26 +14,37 @@ cell-for-requires c κs = search needs
 
 most : (c : tie.After-cell-for) → c .cell-for .result ≤ 32
 most c =
-    let s = c .before .before .before .before in
+    let c-4 = c .before .before .before .before in
+    let s = c-4 in
     omega (arith, c .cell-for .ensures, cell-most (marketIn (s .args .second) (s .args .leg .side)) (s .args .leg .tier))
 
 mul-start : tie.Need-mul-start
 mul-start c = let h = most c in omega arith
 
 slice-read-start : tie.Need-slice-read-start
-slice-read-start c = let s = c .before .before .before .before .before in omega (arith, most (c .before), s .pre .places)
+slice-read-start c =
+    let c-1 = c .before in
+    let c-5 = c-1 .before .before .before .before in
+    let s = c-5 in omega (arith, most (c-1), s .pre .places)
 
 pass-requires : tie.Need-pass-requires
-pass-requires c κs = let s = c .before .before .before .before .before .before in
-    (s .pre .pools, s .pre .sizes, s .pre .begun (c .before .before .cell-for .result))
+pass-requires c κs =
+    let after-cell-for = c .before .before in
+    let c-6 = after-cell-for .before .before .before .before in
+    let s = c-6 in
+    (s .pre .pools, s .pre .sizes, s .pre .begun (after-cell-for .cell-for .result))
 
 mul-at : tie.Need-mul-at
-mul-at c = let h = most (c .before .before .before .before .before) in omega arith
+mul-at c =
+    let c-5 = c .before .before .before .before .before in
+    let h = most (c-5) in omega arith
 
 slice-write-at : tie.Need-slice-write-at
 slice-write-at c =
-    let s = c .before .before .before .before .before .before .before .before .before in
-    omega (arith, most (c .before .before .before .before .before), s .pre .places)
+    let c-5 = c .before .before .before .before .before in
+    let c-9 = c-5 .before .before .before .before in
+    let s = c-9 in
+    omega (arith, most (c-5), s .pre .places)
 
 same-length : tie.Need-same-length
 same-length c = search needs
@@ -43,9 +54,12 @@ same-length-2 c = search needs
 
 returns : tie.Need-returns
 returns c =
-    let s = c .before .before .before .before .before .before .before .before .before in
+    let after-pass = c .before .before in
+    let after-cell-for = after-pass .before .before .before in
+    let c-9 = after-cell-for .before .before .before .before in
+    let s = c-9 in
     leg-taken (s .args .at .now) (s .args .pool .now) (s .args .size .now) _ _ _ (s .args .wanted) _ _
-    (c .before .before .before .before .before .cell-for .ensures) (s .pre) (c .before .before .pass .ensures)
+    (after-cell-for .cell-for .ensures) (s .pre) (after-pass .pass .ensures)
 
 pub leg-touches-spec : {M : Type 1} → statement M
 leg-touches-spec =

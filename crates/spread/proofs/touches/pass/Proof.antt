@@ -1,10 +1,9 @@
 -- `pass`: what is still due is taken of the sizes as they are now, from the place on.
 -- Assumes nothing.
-use Prim.Native.Nat.{ℕ, _+_, _-_, _≤_, _<_, min}
+use Prim.Native.Nat.{ℕ, _+_, _-_, _≤_, _<_}
 use native.Mathlib.Omega.{arith}
-use mathlib.Core.Bool.{Bool, true, false, _&&_}
-use mathlib.Core.List.{List}
-use mathlib.Core.Path.{_≡_, sym, _∙_, ap, subst}
+use mathlib.Core.Bool.{_&&_}
+use mathlib.Core.Path.{sym, _∙_, ap}
 use lib.Dec.{ltb}
 use lib.ListN.{length, getD}
 use borrow.Author.Needs.{needs}
@@ -34,37 +33,51 @@ mul-gives : tie.Need-mul-gives Inv-loop μ-loop
 mul-gives c = let h = place c in omega arith
 
 shared-slice-read-gives : tie.Need-shared-slice-read-gives Inv-loop μ-loop
-shared-slice-read-gives c = let s = c .before .before .before .before .before in omega (arith, place (c .before), s .pre .0)
+shared-slice-read-gives c =
+    let c-1 = c .before in
+    let c-5 = c-1 .before .before .before .before in
+    let s = c-5 in omega (arith, place (c-1), s .pre .0)
 
 mul-gives-2 : tie.Need-mul-gives-2 Inv-loop μ-loop
 mul-gives-2 c = let h = place (c .before) in omega arith
 
 slice-read-gives : tie.Need-slice-read-gives Inv-loop μ-loop
 slice-read-gives c =
-    let l = c .before .before .before .loop in
-    let s = c .before .before .before .before .before .before in
-    omega (arith, place (c .before .before), s .pre .1, l .inv .size)
+    let c-2 = c .before .before in
+    let after-loop = c-2 .before in
+    let c-6 = after-loop .before .before .before in
+    let l = after-loop .loop in
+    let s = c-6 in
+    omega (arith, place (c-2), s .pre .1, l .inv .size)
 
 gives-requires : tie.Need-gives-requires Inv-loop μ-loop
 gives-requires c κs = search needs
 
 mul-size : tie.Need-mul-size Inv-loop μ-loop
-mul-size c = let h = place (c .before .before .before) in omega arith
+mul-size c =
+    let c-3 = c .before .before .before in
+    let h = place (c-3) in omega arith
 
 in-size : (c : tie.After-slice-known3 Inv-loop μ-loop)
     → c .before .before .before .before .before .loop .k < length (c .before .before .before .before .before .loop .size)
 in-size c =
-    let l = c .before .before .before .before .before .loop in
-    let s = c .before .before .before .before .before .before .before .before in
-    omega (arith, place (c .before .before .before .before), s .pre .1, l .inv .size)
+    let c-4 = c .before .before .before .before in
+    let after-loop = c-4 .before in
+    let c-8 = after-loop .before .before .before in
+    let l = after-loop .loop in
+    let s = c-8 in
+    omega (arith, place (c-4), s .pre .1, l .inv .size)
 
 -- what is given is due, and there
 given-most : (c : tie.After-slice-known3 Inv-loop μ-loop)
     → let l = c .before .before .before .before .before .loop in (c .before .gives .result ≤ l .due) × (c .before .gives .result ≤ getD (l .size) (l .k) 0)
 given-most c =
-    let l = c .before .before .before .before .before .loop in
-    let s = c .before .before .before .before .before .before .before .before in
-    gives-most (s .args .cell) (l .due) (getD (s .args .pool .now) (l .k) 0) (getD (l .size) (l .k) 0) (c .before .gives .ensures)
+    let after-gives = c .before in
+    let after-loop = after-gives .before .before .before .before in
+    let c-8 = after-loop .before .before .before in
+    let l = after-loop .loop in
+    let s = c-8 in
+    gives-most (s .args .cell) (l .due) (getD (s .args .pool .now) (l .k) 0) (getD (l .size) (l .k) 0) (after-gives .gives .ensures)
 
 slice-read-size : tie.Need-slice-read-size Inv-loop μ-loop
 slice-read-size c = in-size c
@@ -73,7 +86,9 @@ sub-size : tie.Need-sub-size Inv-loop μ-loop
 sub-size c = given-most c .1
 
 mul-size-2 : tie.Need-mul-size-2 Inv-loop μ-loop
-mul-size-2 c = let h = place (c .before .before .before .before) in omega arith
+mul-size-2 c =
+    let c-4 = c .before .before .before .before in
+    let h = place (c-4) in omega arith
 
 slice-write-size : tie.Need-slice-write-size Inv-loop μ-loop
 slice-write-size c = in-size c
@@ -86,38 +101,53 @@ one-if-requires c κs = search needs
 
 add-touches : tie.Need-add-touches Inv-loop μ-loop
 add-touches c =
-    let l = c .before .before .before .before .before .before .loop in
-    let s = c .before .before .before .before .before .before .before .before .before in
+    let after-gives = c .before .before in
+    let after-loop = after-gives .before .before .before .before in
+    let c-9 = after-loop .before .before .before in
+    let l = after-loop .loop in
+    let s = c-9 in
     let f = touches-few (s .args .cell) (s .args .wanted) (s .args .pool .now) (s .args .size .now) (l .due) (l .k) (l .size) (l .touches) (l .inv) in
-    let o = one-most (ltb 0 (c .before .before .gives .result)) (c .one-if .result) (c .one-if .ensures) in
+    let o = one-most (ltb 0 (after-gives .gives .result)) (c .one-if .result) (c .one-if .ensures) in
     omega (arith, f, o, s .pre .0)
 
 further-requires : tie.Need-further-requires Inv-loop μ-loop
-further-requires c κs = let h = place (c .before .before .before .before .before) in omega arith
+further-requires c κs =
+    let c-5 = c .before .before .before .before .before in
+    let h = place (c-5) in omega arith
 
 loop-less : tie.Need-loop-less Inv-loop μ-loop
 loop-less c =
-    let l = c .before .before .before .before .before .before .before .loop in
-    let i = c .before .before .before .before .before .before in
-    turn-less (l .due) (l .k) (c .before .before .before .gives .result) (c .further .result) (more i) (place i) (c .further .ensures)
+    let after-gives = c .before .before .before in
+    let c-6 = after-gives .before .before .before in
+    let after-loop = c-6 .before in
+    let l = after-loop .loop in
+    let i = c-6 in
+    turn-less (l .due) (l .k) (after-gives .gives .result) (c .further .result) (more i) (place i) (c .further .ensures)
 
 loop-again : tie.Need-loop-again Inv-loop μ-loop
 loop-again c =
-    let l = c .before .before .before .before .before .before .before .loop in
-    let i = c .before .before .before .before .before .before in
-    let s = c .before .before .before .before .before .before .before .before .before .before in
+    let after-one-if = c .before in
+    let after-gives = after-one-if .before .before in
+    let c-6 = after-gives .before .before .before in
+    let after-loop = c-6 .before in
+    let c-10 = after-loop .before .before .before in
+    let l = after-loop .loop in
+    let i = c-6 in
+    let s = c-10 in
     pass-turn (s .args .cell) (s .args .wanted) (s .args .pool .now) (s .args .size .now) (l .due) (l .k) (l .size) (l .touches)
-    (c .before .before .before .gives .result) (c .further .result) (c .before .one-if .result)
+    (after-gives .gives .result) (c .further .result) (after-one-if .one-if .result)
     (omega (arith, place i, s .pre .0)) (s .pre .0
-    ∙ sym (s .pre .1)) (c .before .before .before .gives .ensures) (c .further .ensures) (c .before .one-if .ensures) (l .inv)
+    ∙ sym (s .pre .1)) (after-gives .gives .ensures) (c .further .ensures) (after-one-if .one-if .ensures) (l .inv)
 
 same-length : tie.Need-same-length Inv-loop μ-loop
 same-length c = c .before .loop .inv .size
 
 returns : tie.Need-returns Inv-loop μ-loop
 returns c =
-    let l = c .before .loop in
-    let s = c .before .before .before .before in
+    let after-loop = c .before in
+    let c-4 = after-loop .before .before .before in
+    let l = after-loop .loop in
+    let s = c-4 in
     pass-end (s .args .cell) (s .args .wanted) (s .args .pool .now) (s .args .size .now) (l .due) (l .k) (l .size) (l .touches)
     (ap (λ (n : ℕ). ltb 0 (l .due) && ltb (l .k) n) (s .pre .0) ∙ c .loop-test .left) (l .inv)
 

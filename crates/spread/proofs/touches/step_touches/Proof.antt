@@ -9,7 +9,9 @@ use Rattle.spread.proofs.touches.step_touches.Statement.{statement}
 use Rattle.spread.proofs.touches.step_touches.Tie as tie
 
 returns : tie.Need-returns
-returns c = step-idle _ _ _ _ _ (c .if1 .taken) (c .before .before .before .before .pre .0)
+returns c =
+    let start = c .before .before .before .before in
+    step-idle _ _ _ _ _ (c .if1 .taken) (start .pre .0)
 
 element-copy-out-one : tie.Need-element-copy-out-one
 element-copy-out-one c = search needs
@@ -52,7 +54,8 @@ same-length-2 c = search needs
 
 returns-2 : tie.Need-returns-2
 returns-2 c =
-    let third = c .before .before .before .before in
+    let c-4 = c .before .before .before .before in
+    let third = c-4 in
     let second = third .before .before .before .before .before .before .before .before in
     let first = second .before .before .before .before .before .before .before .before in
     let s = first .before .before .before .before .before .before .before .before .before .before .before in

@@ -9,8 +9,8 @@ use lib.ListN.{length, length-map, getD}
 use borrow.Author.Needs.{needs}
 use borrow.Author.Tests.{leb-true}
 use Rattle.spread.specs.Accepted.{openOf, spreadsOf, every, soundSpread, soundPrompts, soundTable}
-use Rattle.spread.specs.Cells.{mostNumber}
-use Rattle.spread.specs.Passing.{Ready, Laid}
+use Rattle.spread.specs.code.Cells.{mostNumber}
+use Rattle.spread.specs.code.Passing.{Ready, Laid}
 use Rattle.spread.specs.Steps.{Open}
 use Rattle.spread.proofs.Both.{and-left, and-right}
 use Rattle.spread.proofs.Counting.{Formed, formed-by, numbers-small, Counting, counting-none, counting-all, table-counting}
@@ -117,12 +117,15 @@ slice-aggregate-step-touches-3 : tie.Need-slice-aggregate-step-touches-3 Inv-loo
 slice-aggregate-step-touches-3 c = search needs
 
 step-touches-requires : tie.Need-step-touches-requires Inv-loop μ-loop
-step-touches-requires c κs = (
-  c .before .before .before .before .before .before .before .loop .inv .3,
-  first-small
-      (c .before .before .before .before .before .before .before .before .before .before .before .before .before .before .before)
-      (c .before .before .before .before .before .before .before .loop .i) (within (c .before .before .before .before .before .before)),
-)
+step-touches-requires c κs =
+    let c-6 = c .before .before .before .before .before .before in
+    let after-loop = c-6 .before in
+    let c-15 = after-loop .before .before .before .before .before .before .before .before in (
+      after-loop .loop .inv .3,
+      first-small
+          (c-15)
+          (after-loop .loop .i) (within (c-6)),
+    )
 
 slice-aggregate-step-touches-4 : tie.Need-slice-aggregate-step-touches-4 Inv-loop μ-loop
 slice-aggregate-step-touches-4 c = search needs
@@ -134,7 +137,9 @@ slice-aggregate-step-touches-6 : tie.Need-slice-aggregate-step-touches-6 Inv-loo
 slice-aggregate-step-touches-6 c = search needs
 
 step-touches-requires-2 : tie.Need-step-touches-requires-2 Inv-loop μ-loop
-step-touches-requires-2 c κs = let one = c .before .before .before .before .before in
+step-touches-requires-2 c κs =
+    let c-5 = c .before .before .before .before .before in
+    let one = c-5 in
     let t = one .before .before .before .before .before .before .before in (
       one .step-touches .ensures .ready,
       second-small (t .before .before .before .before .before .before .before .before .before) (t .before .loop .i) (within t),
@@ -142,18 +147,25 @@ step-touches-requires-2 c κs = let one = c .before .before .before .before .bef
 
 -- the turn that ends
 abbrev in-turn : tie.After-at6 Inv-loop μ-loop → tie.In-loop Inv-loop μ-loop
-in-turn c = c .before .before .before .before .before .before .before .before .before .before .before .before .before .before .before
+in-turn c =
+    let c-15 = c .before .before .before .before .before .before .before .before .before .before .before .before .before .before .before in
+    c-15
 
 add-touches : tie.Need-add-touches Inv-loop μ-loop
-add-touches c = omega
-    (arith, c .before .before .step-touches2 .ensures .few, c .before .before .before .before .before .before .before .before .step-touches .ensures .few)
+add-touches c =
+    let after-step-touches2 = c .before .before in
+    let after-step-touches = after-step-touches2 .before .before .before .before .before .before in
+    omega
+    (arith, after-step-touches2 .step-touches2 .ensures .few, after-step-touches .step-touches .ensures .few)
 
 add-touches-2 : tie.Need-add-touches-2 Inv-loop μ-loop
 add-touches-2 c =
+    let after-step-touches2 = c .before .before in
+    let after-step-touches = after-step-touches2 .before .before .before .before .before .before in
     omega (
       arith,
-      c .before .before .step-touches2 .ensures .few,
-      c .before .before .before .before .before .before .before .before .step-touches .ensures .few,
+      after-step-touches2 .step-touches2 .ensures .few,
+      after-step-touches .step-touches .ensures .few,
       in-turn c .before .loop .inv .2,
       within (in-turn c),
     )
@@ -166,8 +178,10 @@ loop-less c = omega (arith, in-turn c .loop-test .taken)
 
 loop-again : tie.Need-loop-again Inv-loop μ-loop
 loop-again c =
-    let two = c .before .before .step-touches2 in
-    let one = c .before .before .before .before .before .before .before .before .step-touches in
+    let after-step-touches2 = c .before .before in
+    let after-step-touches = after-step-touches2 .before .before .before .before .before .before in
+    let two = after-step-touches2 .step-touches2 in
+    let one = after-step-touches .step-touches in
     let l = in-turn c .before .loop in
     let s = in-turn c .before .before .before .before .before .before .before .before .before in
     let t = s .args .t2 in (
@@ -184,11 +198,14 @@ loop-again c =
 
 returns : tie.Need-returns Inv-loop μ-loop
 returns c =
-    let l = c .before .loop in
-    let s = c .before .before .before .before .before .before .before .before .before in
+    let after-loop = c .before in
+    let after-lay = after-loop .before .before .before .before in
+    let c-9 = after-lay .before .before .before .before in
+    let l = after-loop .loop in
+    let s = c-9 in
     let n = table-length (s .args .t2) (tables s) (few s) in
     counting-all (spreadsOf (s .args .t2)) (openOf (s .args .prompts)) (l .i) _ _ _ (omega (arith, n, c .loop-test .left))
-    (l .inv .4 (openOf (s .args .prompts)) (c .before .before .before .before .before .lay .ensures .0) (formed s))
+    (l .inv .4 (openOf (s .args .prompts)) (after-lay .lay .ensures .0) (formed s))
 
 pub touches-of-spec : {M : Type 1} → statement M
 touches-of-spec =

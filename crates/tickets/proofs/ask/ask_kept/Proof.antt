@@ -1,18 +1,12 @@
 -- The file with its tickets, then one more.
 -- Assumes nothing.
 use borrow.Author.Needs.{needs}
-use mathlib.Core.Path.{_≡_, refl, sym, ap, _∙_, subst, subst⁻¹}
-use mathlib.Core.List.{List, [], _∷_, _++_}
-use Prim.Native.Nat.{ℕ, _+_, _-_}
+use mathlib.Core.Path.{_≡_, refl, sym, ap, _∙_}
+use mathlib.Core.List.{[], _∷_, _++_}
+use Prim.Native.Nat.{_+_}
 use native.Mathlib.Omega.{arith}
-use lib.ListN.{length}
-use Rattle.record.specs.Layout.{Record}
 use Rattle.account.specs.Answers.{numberOf}
-use Rattle.account.specs.Records.{records, cut}
-use Rattle.account.proofs.AcceptedOnly.{accepted-only}
 use Rattle.tickets.specs.Asked.{ticketsIn, total}
-use Rattle.tickets.specs.Kept.{KeptBy, Keeps}
-use Rattle.tickets.specs.Ticket.{withTickets}
 use Rattle.tickets.proofs.AskLaws.{few-tickets, ask-no-ticket, ask-refused, ask-answered}
 use Rattle.tickets.proofs.CountLaws.{file-ok}
 use Rattle.tickets.proofs.Taken.{tickets-last}
@@ -30,36 +24,47 @@ refused-requires c κs = search needs
 
 returns : tie.Need-returns
 returns c =
-    let s = c .before .before .before .before .before .before .before in
+    let after-number-of = c .before .before in
+    let after-put-in = after-number-of .before in
+    let c-7 = after-put-in .before .before .before .before in
+    let s = c-7 in
     let file = s .args .file .now in
     let bytes = s .args .tickets .now in
     let ts = ticketsIn bytes in
     let ok = file-ok file (s .args .kept .counts .account) (s .pre .counts .from-check) in
-    let h = c .before .before .before .put-in in
+    let h = after-put-in .put-in in
     c .refused .ensures
     ∙ ask-no-ticket file ts ok (h .result .ticket) (h .result .answer) (h .ensures .told)
-    (λ z. c .before .if1 .taken (c .before .before .number-of .ensures ∙ z)) (s .args .ticket .now)
+    (λ z. c .before .if1 .taken (after-number-of .number-of .ensures ∙ z)) (s .args .ticket .now)
 
 add-requires : tie.Need-add-requires
 add-requires c κs =
-    let s = c .before .before .before .before .before .before .before in
-    let z : numberOf (c .before .before .before .put-in .result .answer) ≡ 0 = sym (c .before .before .number-of .ensures) ∙ c .before .if1 .left in
-    record { tickets = ticketsIn (s .args .tickets .now); kept = c .before .before .before .put-in .ensures .kept z }
+    let c-1 = c .before in
+    let after-number-of = c-1 .before in
+    let after-put-in = after-number-of .before in
+    let c-7 = after-put-in .before .before .before .before in
+    let s = c-7 in
+    let z : numberOf (after-put-in .put-in .result .answer) ≡ 0 = sym (after-number-of .number-of .ensures) ∙ c-1 .if1 .left in
+    record { tickets = ticketsIn (s .args .tickets .now); kept = after-put-in .put-in .ensures .kept z }
 
 number-of-requires-2 : tie.Need-number-of-requires-2
 number-of-requires-2 c κs = search needs
 
 add-refused : tie.Need-add-refused
 add-refused c =
-    let s = c .before .before .before .before .before .before .before .before .before .before in
+    let c-4 = c .before .before .before .before in
+    let after-number-of = c-4 .before in
+    let after-put-in = after-number-of .before in
+    let c-10 = after-put-in .before .before .before .before in
+    let s = c-10 in
     let file = s .args .file .now in
     let bytes = s .args .tickets .now in
     let ts = ticketsIn bytes in
     let ok = file-ok file (s .args .kept .counts .account) (s .pre .counts .from-check) in
-    let h = c .before .before .before .before .before .before .put-in in
-    let z : numberOf (c .before .before .before .before .before .before .put-in .result .answer) ≡ 0 = sym
-    (c .before .before .before .before .before .number-of .ensures) ∙ c .before .before .before .before .if1 .left in
-    let kb = c .before .before .before .before .before .before .put-in .ensures .kept z in
+    let h = after-put-in .put-in in
+    let z : numberOf (after-put-in .put-in .result .answer) ≡ 0 = sym
+    (after-number-of .number-of .ensures) ∙ c-4 .if1 .left in
+    let kb = after-put-in .put-in .ensures .kept z in
     omega (arith, h .ensures .many z, few-tickets file bytes (h .result .kept) kb)
 
 refused-requires-2 : tie.Need-refused-requires-2
@@ -67,81 +72,110 @@ refused-requires-2 c κs = search needs
 
 returns-2 : tie.Need-returns-2
 returns-2 c =
-    let s = c .before .before .before .before .before .before .before .before .before .before .before in
+    let after-number-of2 = c .before .before in
+    let after-add = after-number-of2 .before in
+    let c-5 = after-add .before .before in
+    let after-number-of = c-5 .before in
+    let after-put-in = after-number-of .before in
+    let c-11 = after-put-in .before .before .before .before in
+    let s = c-11 in
     let file = s .args .file .now in
     let bytes = s .args .tickets .now in
     let ts = ticketsIn bytes in
     let ok = file-ok file (s .args .kept .counts .account) (s .pre .counts .from-check) in
-    let h = c .before .before .before .before .before .before .before .put-in in
-    let z : numberOf (c .before .before .before .before .before .before .before .put-in .result .answer) ≡ 0 = sym
-    (c .before .before .before .before .before .before .number-of .ensures) ∙ c .before .before .before .before .before .if1 .left in
-    let kb = c .before .before .before .before .before .before .before .put-in .ensures .kept z in
+    let h = after-put-in .put-in in
+    let z : numberOf (after-put-in .put-in .result .answer) ≡ 0 = sym
+    (after-number-of .number-of .ensures) ∙ c-5 .if1 .left in
+    let kb = after-put-in .put-in .ensures .kept z in
     c .refused2 .ensures
     ∙ ask-refused file ts ok (h .result .ticket) (h .result .answer) (h .ensures .told) z (s .args .ticket .now)
-    (c .before .before .before .add .result .answer)
-    (c .before .before .before .add .ensures .told ts kb) (λ y. c .before .if2 .taken (c .before .before .number-of2 .ensures ∙ y))
+    (after-add .add .result .answer)
+    (after-add .add .ensures .told ts kb) (λ y. c .before .if2 .taken (after-number-of2 .number-of2 .ensures ∙ y))
 
 add-t12 : tie.Need-add-t12
 add-t12 c =
-    let s = c .before .before .before .before .before .before .before .before .before .before .before in
+    let c-5 = c .before .before .before .before .before in
+    let after-number-of = c-5 .before in
+    let after-put-in = after-number-of .before in
+    let c-11 = after-put-in .before .before .before .before in
+    let s = c-11 in
     let file = s .args .file .now in
     let bytes = s .args .tickets .now in
     let ts = ticketsIn bytes in
     let ok = file-ok file (s .args .kept .counts .account) (s .pre .counts .from-check) in
-    let h = c .before .before .before .before .before .before .before .put-in in
-    let z : numberOf (c .before .before .before .before .before .before .before .put-in .result .answer) ≡ 0 = sym
-    (c .before .before .before .before .before .before .number-of .ensures) ∙ c .before .before .before .before .before .if1 .left in
-    let kb = c .before .before .before .before .before .before .before .put-in .ensures .kept z in
+    let h = after-put-in .put-in in
+    let z : numberOf (after-put-in .put-in .result .answer) ≡ 0 = sym
+    (after-number-of .number-of .ensures) ∙ c-5 .if1 .left in
+    let kb = after-put-in .put-in .ensures .kept z in
     omega (arith, h .ensures .many z, few-tickets file bytes (h .result .kept) kb)
 
 kept-total-requires : tie.Need-kept-total-requires
 kept-total-requires c κs =
-    let s = c .before .before .before .before .before .before .before .before .before .before .before in
-    let z : numberOf (c .before .before .before .before .before .before .before .put-in .result .answer) ≡ 0 = sym
-    (c .before .before .before .before .before .before .number-of .ensures) ∙ c .before .before .before .before .before .if1 .left in
-    record { tickets = ticketsIn (s .args .tickets .now); kept = c .before .before .before .before .before .before .before .put-in .ensures .kept z }
+    let c-5 = c .before .before .before .before .before in
+    let after-number-of = c-5 .before in
+    let after-put-in = after-number-of .before in
+    let c-11 = after-put-in .before .before .before .before in
+    let s = c-11 in
+    let z : numberOf (after-put-in .put-in .result .answer) ≡ 0 = sym
+    (after-number-of .number-of .ensures) ∙ c-5 .if1 .left in
+    record { tickets = ticketsIn (s .args .tickets .now); kept = after-put-in .put-in .ensures .kept z }
 
 kept-total-requires-2 : tie.Need-kept-total-requires-2
 kept-total-requires-2 c κs =
-    let s = c .before .before .before .before .before .before .before .before .before .before .before .before in
+    let c-2 = c .before .before in
+    let after-number-of2 = c-2 .before in
+    let after-add = after-number-of2 .before in
+    let c-6 = after-add .before .before in
+    let after-number-of = c-6 .before in
+    let after-put-in = after-number-of .before in
+    let c-12 = after-put-in .before .before .before .before in
+    let s = c-12 in
     let file = s .args .file .now in
     let bytes = s .args .tickets .now in
     let ts = ticketsIn bytes in
     let ok = file-ok file (s .args .kept .counts .account) (s .pre .counts .from-check) in
-    let h = c .before .before .before .before .before .before .before .before .put-in in
-    let z : numberOf (c .before .before .before .before .before .before .before .before .put-in .result .answer) ≡ 0 = sym
-    (c .before .before .before .before .before .before .before .number-of .ensures) ∙ c .before .before .before .before .before .before .if1 .left in
-    let kb = c .before .before .before .before .before .before .before .before .put-in .ensures .kept z in
-    let y : numberOf (c .before .before .before .before .add .result .answer) ≡ 0 = sym (c .before .before .before .number-of2 .ensures)
-    ∙ c .before .before .if2 .left in
-    record { tickets = ts ++ s .args .ticket .now ∷ []; kept = c .before .before .before .before .add .ensures .accepted y ts kb }
+    let h = after-put-in .put-in in
+    let z : numberOf (after-put-in .put-in .result .answer) ≡ 0 = sym
+    (after-number-of .number-of .ensures) ∙ c-6 .if1 .left in
+    let kb = after-put-in .put-in .ensures .kept z in
+    let y : numberOf (after-add .add .result .answer) ≡ 0 = sym (after-number-of2 .number-of2 .ensures)
+    ∙ c-2 .if2 .left in
+    record { tickets = ts ++ s .args .ticket .now ∷ []; kept = after-add .add .ensures .accepted y ts kb }
 
 returns-3 : tie.Need-returns-3
 returns-3 c =
-    let s = c .before .before .before .before .before .before .before .before .before .before .before .before .before in
+    let after-kept-total = c .before in
+    let c-3 = after-kept-total .before .before in
+    let after-number-of2 = c-3 .before in
+    let after-add = after-number-of2 .before in
+    let c-7 = after-add .before .before in
+    let after-number-of = c-7 .before in
+    let after-put-in = after-number-of .before in
+    let c-13 = after-put-in .before .before .before .before in
+    let s = c-13 in
     let file = s .args .file .now in
     let bytes = s .args .tickets .now in
     let ts = ticketsIn bytes in
     let ok = file-ok file (s .args .kept .counts .account) (s .pre .counts .from-check) in
-    let h = c .before .before .before .before .before .before .before .before .before .put-in in
-    let z : numberOf (c .before .before .before .before .before .before .before .before .before .put-in .result .answer) ≡ 0 = sym
-    (c .before .before .before .before .before .before .before .before .number-of .ensures)
-    ∙ c .before .before .before .before .before .before .before .if1 .left in
-    let kb = c .before .before .before .before .before .before .before .before .before .put-in .ensures .kept z in
+    let h = after-put-in .put-in in
+    let z : numberOf (after-put-in .put-in .result .answer) ≡ 0 = sym
+    (after-number-of .number-of .ensures)
+    ∙ c-7 .if1 .left in
+    let kb = after-put-in .put-in .ensures .kept z in
     let t = s .args .ticket .now in
-    let y : numberOf (c .before .before .before .before .before .add .result .answer) ≡ 0 = sym
-    (c .before .before .before .before .number-of2 .ensures) ∙ c .before .before .before .if2 .left in
-    ask-answered file ts ok (h .result .ticket) (h .result .answer) (h .ensures .told) z t (c .before .before .before .before .before .add .result .answer)
-    (c .before .before .before .before .before .add .ensures .told ts kb) y
+    let y : numberOf (after-add .add .result .answer) ≡ 0 = sym
+    (after-number-of2 .number-of2 .ensures) ∙ c-3 .if2 .left in
+    ask-answered file ts ok (h .result .ticket) (h .result .answer) (h .ensures .told) z t (after-add .add .result .answer)
+    (after-add .add .ensures .told ts kb) y
     (record {
       ticket = h .result .ticket + 1;
-      answer = c .before .before .before .before .before .add .result .answer;
+      answer = after-add .add .result .answer;
       before =
-          c .before .kept-total .result;
+          after-kept-total .kept-total .result;
       after = c .kept-total2 .result;
     })
-    refl refl (c .before .kept-total .ensures ts kb)
-    (c .kept-total2 .ensures (ts ++ t ∷ []) (c .before .before .before .before .before .add .ensures .accepted y ts kb) ∙ ap total (tickets-last file ts t))
+    refl refl (after-kept-total .kept-total .ensures ts kb)
+    (c .kept-total2 .ensures (ts ++ t ∷ []) (after-add .add .ensures .accepted y ts kb) ∙ ap total (tickets-last file ts t))
 
 pub ask-kept-spec : {M : Type 1} → statement M
 ask-kept-spec =

@@ -1,7 +1,6 @@
 -- Whole tickets, and one more where bytes are left.
 -- Assumes nothing.
 use borrow.Author.Needs.{needs}
-use mathlib.Core.Path.{_≡_}
 use Rattle.tickets.proofs.AskLaws.{whole-count, part-count}
 use Rattle.tickets.proofs.ask.ticket_count.Statement.{statement}
 use Rattle.tickets.proofs.ask.ticket_count.Tie as tie

@@ -1,17 +1,14 @@
 -- The file with its tickets, then without the latest.
 -- Assumes nothing.
 use borrow.Author.Needs.{needs}
-use mathlib.Core.Path.{_≡_, refl, sym, ap, _∙_, subst, subst⁻¹}
-use mathlib.Core.List.{List, [], _∷_, _++_}
-use Prim.Native.Nat.{ℕ, _+_, _-_}
-use native.Mathlib.Omega.{arith}
-use lib.ListN.{length}
+use mathlib.Core.Path.{_≡_, refl, sym, ap, _∙_}
+use mathlib.Core.List.{List}
+use Prim.Native.Nat.{_-_}
 use Rattle.record.specs.Layout.{Record}
 use Rattle.account.specs.Answers.{numberOf}
-use Rattle.account.specs.Records.{records, cut}
+use Rattle.account.specs.Records.{cut}
 use Rattle.account.proofs.AcceptedOnly.{accepted-only}
 use Rattle.tickets.specs.Asked.{ticketsIn, total}
-use Rattle.tickets.specs.Kept.{KeptBy, Keeps}
 use Rattle.tickets.specs.Ticket.{withTickets}
 use Rattle.tickets.proofs.AskLaws.{kept-cut, but-last, nothing-left, some-left, withdraw-no-ticket, withdraw-none, withdraw-answered}
 use Rattle.tickets.proofs.CountLaws.{file-ok}
@@ -29,26 +26,33 @@ refused-requires c κs = search needs
 
 returns : tie.Need-returns
 returns c =
-    let s = c .before .before .before .before .before .before in
+    let after-number-of = c .before .before in
+    let after-put-in = after-number-of .before in
+    let c-6 = after-put-in .before .before .before in
+    let s = c-6 in
     let file = s .args .file .now in
     let bytes = s .args .tickets .now in
     let ts = ticketsIn bytes in
     let ok = file-ok file (s .args .kept .counts .account) (s .pre .counts .from-check) in
-    let h = c .before .before .before .put-in in
+    let h = after-put-in .put-in in
     c .refused .ensures
     ∙ withdraw-no-ticket file ts ok (h .result .ticket) (h .result .answer) (h .ensures .told)
-    (λ z. c .before .if1 .taken (c .before .before .number-of .ensures ∙ z))
+    (λ z. c .before .if1 .taken (after-number-of .number-of .ensures ∙ z))
 
 withdraw-requires : tie.Need-withdraw-requires
 withdraw-requires c κs =
-    let s = c .before .before .before .before .before .before in
+    let c-1 = c .before in
+    let after-number-of = c-1 .before in
+    let after-put-in = after-number-of .before in
+    let c-6 = after-put-in .before .before .before in
+    let s = c-6 in
     let file = s .args .file .now in
     let bytes = s .args .tickets .now in
     let ts = ticketsIn bytes in
     let ok = file-ok file (s .args .kept .counts .account) (s .pre .counts .from-check) in
-    let h = c .before .before .before .put-in in
-    let z : numberOf (c .before .before .before .put-in .result .answer) ≡ 0 = sym (c .before .before .number-of .ensures) ∙ c .before .if1 .left in
-    let kb = c .before .before .before .put-in .ensures .kept z in
+    let h = after-put-in .put-in in
+    let z : numberOf (after-put-in .put-in .result .answer) ≡ 0 = sym (after-number-of .number-of .ensures) ∙ c-1 .if1 .left in
+    let kb = after-put-in .put-in .ensures .kept z in
     kept-cut file bytes (h .result .kept) kb
 
 number-of-requires-2 : tie.Need-number-of-requires-2
@@ -59,62 +63,87 @@ refused-requires-2 c κs = search needs
 
 returns-2 : tie.Need-returns-2
 returns-2 c =
-    let s = c .before .before .before .before .before .before .before .before .before .before in
+    let after-number-of2 = c .before .before in
+    let after-withdraw = after-number-of2 .before in
+    let c-5 = after-withdraw .before .before in
+    let after-number-of = c-5 .before in
+    let after-put-in = after-number-of .before in
+    let c-10 = after-put-in .before .before .before in
+    let s = c-10 in
     let file = s .args .file .now in
     let bytes = s .args .tickets .now in
     let ts = ticketsIn bytes in
     let ok = file-ok file (s .args .kept .counts .account) (s .pre .counts .from-check) in
-    let h = c .before .before .before .before .before .before .before .put-in in
-    let z : numberOf (c .before .before .before .before .before .before .before .put-in .result .answer) ≡ 0 = sym
-    (c .before .before .before .before .before .before .number-of .ensures) ∙ c .before .before .before .before .before .if1 .left in
-    let kb = c .before .before .before .before .before .before .before .put-in .ensures .kept z in
-    let w = c .before .before .before .withdraw in
+    let h = after-put-in .put-in in
+    let z : numberOf (after-put-in .put-in .result .answer) ≡ 0 = sym
+    (after-number-of .number-of .ensures) ∙ c-5 .if1 .left in
+    let kb = after-put-in .put-in .ensures .kept z in
+    let w = after-withdraw .withdraw in
     let none = nothing-left file bytes (h .result .kept) kb (w .result .answer) (w .ensures .told)
-    (λ y. c .before .if2 .taken (c .before .before .number-of2 .ensures ∙ y)) in
+    (λ y. c .before .if2 .taken (after-number-of2 .number-of2 .ensures ∙ y)) in
     c .refused2 .ensures
     ∙ withdraw-none file ts ok (h .result .ticket) (h .result .answer) (h .ensures .told) z (w .result .answer) (h .ensures .many z ∙ none .0) (none .1)
 
 kept-total-requires : tie.Need-kept-total-requires
 kept-total-requires c κs =
-    let s = c .before .before .before .before .before .before .before .before .before .before in
-    let z : numberOf (c .before .before .before .before .before .before .before .put-in .result .answer) ≡ 0 = sym
-    (c .before .before .before .before .before .before .number-of .ensures) ∙ c .before .before .before .before .before .if1 .left in
-    record { tickets = ticketsIn (s .args .tickets .now); kept = c .before .before .before .before .before .before .before .put-in .ensures .kept z }
+    let c-5 = c .before .before .before .before .before in
+    let after-number-of = c-5 .before in
+    let after-put-in = after-number-of .before in
+    let c-10 = after-put-in .before .before .before in
+    let s = c-10 in
+    let z : numberOf (after-put-in .put-in .result .answer) ≡ 0 = sym
+    (after-number-of .number-of .ensures) ∙ c-5 .if1 .left in
+    record { tickets = ticketsIn (s .args .tickets .now); kept = after-put-in .put-in .ensures .kept z }
 
 kept-total-requires-2 : tie.Need-kept-total-requires-2
 kept-total-requires-2 c κs =
-    let s = c .before .before .before .before .before .before .before .before .before .before .before in
+    let c-2 = c .before .before in
+    let after-number-of2 = c-2 .before in
+    let after-withdraw = after-number-of2 .before in
+    let c-6 = after-withdraw .before .before in
+    let after-number-of = c-6 .before in
+    let after-put-in = after-number-of .before in
+    let c-11 = after-put-in .before .before .before in
+    let s = c-11 in
     let file = s .args .file .now in
     let bytes = s .args .tickets .now in
     let ts = ticketsIn bytes in
     let ok = file-ok file (s .args .kept .counts .account) (s .pre .counts .from-check) in
-    let h = c .before .before .before .before .before .before .before .before .put-in in
-    let z : numberOf (c .before .before .before .before .before .before .before .before .put-in .result .answer) ≡ 0 = sym
-    (c .before .before .before .before .before .before .before .number-of .ensures) ∙ c .before .before .before .before .before .before .if1 .left in
-    let kb = c .before .before .before .before .before .before .before .before .put-in .ensures .kept z in
-    let y : numberOf (c .before .before .before .before .withdraw .result .answer) ≡ 0 = sym (c .before .before .before .number-of2 .ensures)
-    ∙ c .before .before .if2 .left in
-    record { tickets = cut (h .result .kept .counts .tickets - 1) bytes; kept = c .before .before .before .before .withdraw .ensures .accepted y }
+    let h = after-put-in .put-in in
+    let z : numberOf (after-put-in .put-in .result .answer) ≡ 0 = sym
+    (after-number-of .number-of .ensures) ∙ c-6 .if1 .left in
+    let kb = after-put-in .put-in .ensures .kept z in
+    let y : numberOf (after-withdraw .withdraw .result .answer) ≡ 0 = sym (after-number-of2 .number-of2 .ensures)
+    ∙ c-2 .if2 .left in
+    record { tickets = cut (h .result .kept .counts .tickets - 1) bytes; kept = after-withdraw .withdraw .ensures .accepted y }
 
 returns-3 : tie.Need-returns-3
 returns-3 c =
-    let s = c .before .before .before .before .before .before .before .before .before .before .before .before in
+    let after-kept-total = c .before in
+    let c-3 = after-kept-total .before .before in
+    let after-number-of2 = c-3 .before in
+    let after-withdraw = after-number-of2 .before in
+    let c-7 = after-withdraw .before .before in
+    let after-number-of = c-7 .before in
+    let after-put-in = after-number-of .before in
+    let c-12 = after-put-in .before .before .before in
+    let s = c-12 in
     let file = s .args .file .now in
     let bytes = s .args .tickets .now in
     let ts = ticketsIn bytes in
     let ok = file-ok file (s .args .kept .counts .account) (s .pre .counts .from-check) in
-    let h = c .before .before .before .before .before .before .before .before .before .put-in in
-    let z : numberOf (c .before .before .before .before .before .before .before .before .before .put-in .result .answer) ≡ 0 = sym
-    (c .before .before .before .before .before .before .before .before .number-of .ensures)
-    ∙ c .before .before .before .before .before .before .before .if1 .left in
-    let kb = c .before .before .before .before .before .before .before .before .before .put-in .ensures .kept z in
-    let w = c .before .before .before .before .before .withdraw in
-    let y : numberOf (w .result .answer) ≡ 0 = sym (c .before .before .before .before .number-of2 .ensures) ∙ c .before .before .before .if2 .left in
+    let h = after-put-in .put-in in
+    let z : numberOf (after-put-in .put-in .result .answer) ≡ 0 = sym
+    (after-number-of .number-of .ensures)
+    ∙ c-7 .if1 .left in
+    let kb = after-put-in .put-in .ensures .kept z in
+    let w = after-withdraw .withdraw in
+    let y : numberOf (w .result .answer) ≡ 0 = sym (after-number-of2 .number-of2 .ensures) ∙ c-3 .if2 .left in
     let m = h .result .kept .counts .tickets in
     withdraw-answered file ts ok (h .result .ticket) (h .result .answer) (h .ensures .told) z
     (λ e. some-left m (sym (ap numberOf (w .ensures .told)) ∙ y) (kb .counts .many ∙ sym (h .ensures .many z) ∙ e))
-    (record { ticket = h .result .ticket; answer = w .result .answer; before = c .before .kept-total .result; after = c .kept-total2 .result })
-    refl (accepted-only (w .result .answer) y) (c .before .kept-total .ensures ts kb)
+    (record { ticket = h .result .ticket; answer = w .result .answer; before = after-kept-total .kept-total .result; after = c .kept-total2 .result })
+    refl (accepted-only (w .result .answer) y) (after-kept-total .kept-total .ensures ts kb)
     (c .kept-total2 .ensures (cut (m - 1) bytes) (w .ensures .accepted y)
     ∙ ap (λ (rs : List Record). total (withTickets file rs)) (but-last file bytes (h .result .kept) kb))
 

@@ -1,7 +1,7 @@
 -- The parts of the account, counted.
 -- Assumes nothing.
 use borrow.Author.Needs.{needs}
-use mathlib.Core.Path.{_≡_, refl, ap, ap₂, _∙_}
+use mathlib.Core.Path.{refl, ap₂}
 use Prim.Native.Nat.{ℕ, _+_}
 use native.Mathlib.Omega.{arith}
 use Rattle.tickets.proofs.CountLaws.{totals-few, contracts-few, prompts-few, counts-start}
@@ -19,22 +19,27 @@ slice-aggregate-sum-of c = search needs
 
 sum-of-requires : tie.Need-sum-of-requires
 sum-of-requires c κs =
-    let s = c .before .before .before .before .before in (
+    let after-totals-of = c .before .before in
+    let c-5 = after-totals-of .before .before .before in
+    let s = c-5 in (
       omega arith,
-      totals-few (s .args .file .now) (s .args .account) (s .pre .1) 2 (omega arith) (c .before .before .totals-of .result)
-          (c .before .before .totals-of .ensures),
+      totals-few (s .args .file .now) (s .args .account) (s .pre .1) 2 (omega arith) (after-totals-of .totals-of .result)
+          (after-totals-of .totals-of .ensures),
     )
 
 add-above : tie.Need-add-above
 add-above c =
-    let s = c .before .before .before .before .before .before in
+    let after-contract-total = c .before .before in
+    let after-totals-of = after-contract-total .before in
+    let c-6 = after-totals-of .before .before .before in
+    let s = c-6 in
     omega (
       arith,
       c .sum-of .ensures,
-      c .before .before .contract-total .ensures,
+      after-contract-total .contract-total .ensures,
       contracts-few (s .args .file .now) (s .args .account) (s .pre .1),
-      prompts-few (s .args .file .now) (s .args .account) (s .pre .1) (c .before .before .before .totals-of .result)
-          (c .before .before .before .totals-of .ensures),
+      prompts-few (s .args .file .now) (s .args .account) (s .pre .1) (after-totals-of .totals-of .result)
+          (after-totals-of .totals-of .ensures),
     )
 
 totals-of-requires-2 : tie.Need-totals-of-requires-2
@@ -42,10 +47,14 @@ totals-of-requires-2 c κs = search needs
 
 returns : tie.Need-returns
 returns c =
-    let s = c .before .before .before .before .before .before .before in
-    counts-start (s .args .file .now) (s .args .account) (s .pre .1) _ (c .before .before .before .before .totals-of .result) refl refl
-    (c .before .before .before .before .totals-of .ensures)
-    (ap₂ (λ (x y : ℕ). x + y) (c .before .before .before .contract-total .ensures) (c .before .sum-of .ensures)) (c .totals-of2 .ensures)
+    let after-sum-of = c .before in
+    let after-contract-total = after-sum-of .before .before in
+    let after-totals-of = after-contract-total .before in
+    let c-7 = after-totals-of .before .before .before in
+    let s = c-7 in
+    counts-start (s .args .file .now) (s .args .account) (s .pre .1) _ (after-totals-of .totals-of .result) refl refl
+    (after-totals-of .totals-of .ensures)
+    (ap₂ (λ (x y : ℕ). x + y) (after-contract-total .contract-total .ensures) (after-sum-of .sum-of .ensures)) (c .totals-of2 .ensures)
 
 pub counts-of-spec : {M : Type 1} → statement M
 counts-of-spec =

@@ -1,7 +1,7 @@
 -- The contract's own record and its prompts, by the parts of the account.
 -- Assumes nothing.
 use borrow.Author.Needs.{needs}
-use mathlib.Core.Path.{_≡_, ap, ap₂, _∙_}
+use mathlib.Core.Path.{ap, ap₂, _∙_}
 use Prim.Native.Nat.{ℕ, _+_}
 use native.Mathlib.Omega.{arith}
 use mathlib.Core.List.{List}
@@ -9,9 +9,9 @@ use lib.Dec.{eqb}
 use lib.ListN.{getD}
 use Rattle.record.specs.Layout.{Record, contract}
 use Rattle.record.proofs.Tests.{both}
-use Rattle.account.specs.Notes.{part, partRecords, noDay}
-use Rattle.account.specs.Parts.{promptsOf}
-use Rattle.account.specs.Standing.{accountOf}
+use Rattle.account.specs.PartNumbers.{part, partRecords}
+use Rattle.account.specs.code.Notes.{noDay}
+use Rattle.account.specs.Joined.{accountOf}
 use Rattle.account.proofs.Standing.{contract-part}
 use Rattle.tickets.proofs.counts.missing.Statement.{statement}
 use Rattle.tickets.proofs.counts.missing.Tie as tie
@@ -39,16 +39,21 @@ no-day-requires c κs = search needs
 
 returns : tie.Need-returns
 returns c =
-    let s = c .before .before .before .before .before .before .before .before in
+    let after-day = c .before in
+    let after-part-total = after-day .before in
+    let after-part = after-part-total .before in
+    let after-contract = after-part .before in
+    let c-8 = after-contract .before .before .before .before in
+    let s = c-8 in
     let account = accountOf (s .args .file .now) (s .args .none .now) in
     let number = contract (s .args .row .now) in
-    let e = c .before .before .before .before .contract .ensures .0 in
+    let e = after-contract .contract .ensures .0 in
     both
-    (ap (λ (n : ℕ). eqb n 0) (c .before .before .part-total .ensures ∙ ap (λ (n : ℕ). getD (s .args .account .counts) (16 + n) 0) e))
+    (ap (λ (n : ℕ). eqb n 0) (after-part-total .part-total .ensures ∙ ap (λ (n : ℕ). getD (s .args .account .counts) (16 + n) 0) e))
     (c .no-day .ensures
     ∙ ap₂ (λ (rs : List Record) (d : ℕ). noDay rs d)
-    (c .before .before .before .part .ensures .are ∙ ap (λ (n : ℕ). partRecords (32 + n) account) e ∙ contract-part 2 number (omega arith) (s .pre .1) account)
-    (c .before .day .ensures .0))
+    (after-part .part .ensures .are ∙ ap (λ (n : ℕ). partRecords (32 + n) account) e ∙ contract-part 2 number (omega arith) (s .pre .1) account)
+    (after-day .day .ensures .0))
 
 pub missing-spec : {M : Type 1} → statement M
 missing-spec =

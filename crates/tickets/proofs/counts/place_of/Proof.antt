@@ -1,10 +1,9 @@
 -- The records of kinds 1 and 2, and the rows up to the contract.
 -- Assumes nothing.
 use borrow.Author.Needs.{needs}
-use Prim.Native.Nat.{ℕ, _+_}
+use Prim.Native.Nat.{_+_}
 use native.Mathlib.Omega.{arith}
-use lib.ListN.{take}
-use Rattle.exact.specs.Lists.{sum}
+use Rattle.account.specs.Check.{mostRecords}
 use Rattle.exact.proofs.Lists.{sum-take, sum-bound}
 use Rattle.tickets.proofs.counts.place_of.Statement.{statement}
 use Rattle.tickets.proofs.counts.place_of.Tie as tie
@@ -20,13 +19,15 @@ sum-of-requires c κs = search needs
 
 add-result : tie.Need-add-result
 add-result c =
-    let s = c .before .before .before .before in
+    let after-sum-of = c .before in
+    let c-4 = after-sum-of .before .before .before in
+    let s = c-4 in
     let xs = s .args .counts .rows in
     omega (
       arith,
-      c .before .sum-of .ensures,
+      after-sum-of .sum-of .ensures,
       sum-take (s .args .c + 1) xs,
-      sum-bound 640 xs (λ k h. s .pre .0 .rows-few k),
+      sum-bound mostRecords xs (λ k h. s .pre .0 .rows-few k),
       s .pre .0 .places,
       s .pre .0 .above-few,
     )

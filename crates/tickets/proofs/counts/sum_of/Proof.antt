@@ -2,17 +2,18 @@
 -- Assumes nothing.
 use borrow.Author.Needs.{needs}
 use mathlib.Core.Path.{_≡_, refl, sym, ap, _∙_}
-use Prim.Native.Nat.{ℕ, suc, _+_, _-_, _*_, _≤_}
+use Prim.Native.Nat.{ℕ, _-_, _*_, _≤_}
 use native.Mathlib.Omega.{arith}
 use native.Mathlib.Numerals.{add-one}
 use lib.ListN.{take}
+use Rattle.account.specs.Check.{mostRecords}
 use Rattle.exact.specs.Lists.{sum}
 use Rattle.tickets.proofs.Counting.{next-sum}
 use Rattle.tickets.proofs.counts.sum_of.Statement.{statement}
 use Rattle.tickets.proofs.counts.sum_of.Tie as tie
 
 abbrev Inv-loop : tie.InvT-loop
-Inv-loop numbers n total₀ i₀ total i = (total ≡ sum (take i numbers)) × ((i ≤ n) × (total ≤ 640 * i))
+Inv-loop numbers n total₀ i₀ total i = (total ≡ sum (take i numbers)) × ((i ≤ n) × (total ≤ mostRecords * i))
 
 abbrev μ-loop : tie.MeasureT-loop
 μ-loop numbers n total₀ i₀ total i = n - i
@@ -25,36 +26,46 @@ number-at-requires c κs = search needs
 
 add-total : tie.Need-add-total Inv-loop μ-loop
 add-total c =
-    let l = c .before .before .loop in
+    let after-loop = c .before .before in
+    let start = after-loop .before .before in
+    let l = after-loop .loop in
     omega (
       arith,
       c .number-at .ensures,
-      c .before .before .before .before .pre .1
+      start .pre .1
           (l .i),
       l .inv .1 .1,
       l .inv .1 .0,
-      c .before .before .before .before .pre .0,
+      start .pre .0,
     )
 
 add-i : tie.Need-add-i Inv-loop μ-loop
-add-i c = omega (arith, c .before .before .loop .inv .1 .0, c .before .before .before .before .pre .0)
+add-i c =
+    let after-loop = c .before .before in
+    let start = after-loop .before .before in
+    omega (arith, after-loop .loop .inv .1 .0, start .pre .0)
 
 loop-less : tie.Need-loop-less Inv-loop μ-loop
 loop-less c = omega (arith, c .before .loop-test .taken)
 
 loop-again : tie.Need-loop-again Inv-loop μ-loop
 loop-again c =
-    let l = c .before .before .loop in
-    let xs = c .before .before .before .before .args .numbers .now in
+    let after-loop-test = c .before in
+    let after-loop = after-loop-test .before in
+    let start = after-loop .before .before in
+    let l = after-loop .loop in
+    let xs = start .args .numbers .now in
     let e = c .number-at .ensures in (
       omega (arith, e, l .inv .0, next-sum xs (l .i)) ∙ ap (λ (m : ℕ). sum (take m xs)) (sym (add-one (l .i))),
-      (omega (arith, c .before .loop-test .taken), omega (arith, e, c .before .before .before .before .pre .1 (l .i), l .inv .1 .1)),
+      (omega (arith, after-loop-test .loop-test .taken), omega (arith, e, start .pre .1 (l .i), l .inv .1 .1)),
     )
 
 returns : tie.Need-returns Inv-loop μ-loop
 returns c =
-    let l = c .before .loop in
-    let s = c .before .before .before in
+    let after-loop = c .before in
+    let c-3 = after-loop .before .before in
+    let l = after-loop .loop in
+    let s = c-3 in
     let e : l .i ≡ s .args .n = omega (arith, l .inv .1 .0, c .loop-test .left) in
     l .inv .0 ∙ ap (λ (m : ℕ). sum (take m (s .args .numbers .now))) e
 

@@ -1,7 +1,7 @@
 -- The place by the ticket's own byte, as the counts tell it.
 -- Assumes nothing.
 use borrow.Author.Needs.{needs}
-use mathlib.Core.Path.{_≡_, sym, ap, _∙_}
+use mathlib.Core.Path.{sym, ap, _∙_}
 use Prim.Native.Nat.{ℕ, _+_}
 use lib.ListN.{take}
 use Rattle.exact.specs.Lists.{sum}
@@ -14,17 +14,20 @@ contract-requires c κs = search needs
 
 place-of-requires : tie.Need-place-of-requires
 place-of-requires c κs =
-    let s = c .before .before .before in
+    let c-3 = c .before .before .before in
+    let s = c-3 in
     let p = s .pre in
     (small (s .args .file .now) (p .tickets) (s .args .counts) (p .counts), c .contract .ensures .1)
 
 returns : tie.Need-returns
 returns c =
-    let a = c .before .before .before .before .args in
+    let after-contract = c .before in
+    let start = after-contract .before .before .before in
+    let a = start .args in
     let k = a .counts in
     λ ts co.
     c .place-of .ensures
-    ∙ ap (λ (i : ℕ). k .above + sum (take (i + 1) (k .rows))) (c .before .contract .ensures .0)
+    ∙ ap (λ (i : ℕ). k .above + sum (take (i + 1) (k .rows))) (after-contract .contract .ensures .0)
     ∙ sym (place-is (a .file .now) ts k co (a .ticket .now))
 
 pub ticket-place-spec : {M : Type 1} → statement M

@@ -40,9 +40,12 @@ loop-less c = omega (arith, c .before .loop-test .taken)
 
 loop-again : tie.Need-loop-again Inv-loop μ-loop
 loop-again c =
-    let l = c .before .before .loop in
-    let h = c .before .loop-test .taken in
-    let s = c .before .before .before in (
+    let after-loop-test = c .before in
+    let after-loop = after-loop-test .before in
+    let c-3 = after-loop .before in
+    let l = after-loop .loop in
+    let h = after-loop-test .loop-test .taken in
+    let s = c-3 in (
       length-set (l .totals) (l .c) (c .part-total .result) ∙ l .inv .0,
       (
         omega (arith, h),

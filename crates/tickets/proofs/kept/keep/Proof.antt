@@ -1,19 +1,10 @@
 -- The counts and the positions of the file.
 -- Assumes nothing.
 use borrow.Author.Needs.{needs}
-use mathlib.Core.Path.{_≡_, refl, sym, ap, ap₂, _∙_, subst, subst⁻¹}
-use mathlib.Core.List.{List, [], _∷_, _++_}
-use Prim.Native.Nat.{ℕ, _+_, _-_, _≤_, _<_}
-use native.Mathlib.Omega.{arith}
-use lib.ListN.{length, getD}
-use Rattle.record.specs.Layout.{Record, contract}
-use Rattle.account.specs.Answers.{numberOf}
-use Rattle.account.specs.Records.{records, recordAt, cut}
-use Rattle.account.specs.Standing.{Stands, accountOf}
-use Rattle.account.specs.declared.accounts.Account.{Account}
-use Rattle.tickets.specs.Kept.{KeptBy}
-use Rattle.tickets.specs.Ticket.{withTickets}
-use Rattle.margin.specs.Positions.{PositionsOf}
+use mathlib.Core.Path.{subst}
+use mathlib.Core.List.{List}
+use Rattle.record.specs.Layout.{Record}
+use Rattle.margin.specs.code.Positions.{PositionsOf}
 use Rattle.account.proofs.Places.{alone}
 use Rattle.tickets.proofs.CountLaws.{file-ok, stands-in}
 use Rattle.tickets.proofs.Placed.{plain}
@@ -28,17 +19,22 @@ counts-of-requires c κs = search needs
 
 positions-over-requires : tie.Need-positions-over-requires
 positions-over-requires c κs =
-    let s = c .before .before .before in
-    stands-in (s .args .file .now) (s .args .account) (s .pre) (c .before .nothing-of .result .now) (c .before .nothing-of .ensures)
+    let after-nothing-of = c .before in
+    let c-3 = after-nothing-of .before .before in
+    let s = c-3 in
+    stands-in (s .args .file .now) (s .args .account) (s .pre) (after-nothing-of .nothing-of .result .now) (after-nothing-of .nothing-of .ensures)
 
 returns : tie.Need-returns
 returns c =
-    let s = c .before .before .before .before in
+    let after-counts-of = c .before in
+    let after-nothing-of = after-counts-of .before in
+    let c-4 = after-nothing-of .before .before in
+    let s = c-4 in
     record {
-      counts = c .before .counts-of .ensures;
+      counts = after-counts-of .counts-of .ensures;
       positions =
           subst (λ (rs : List Record). PositionsOf rs (c .positions-over .result))
-          (alone (s .args .file .now) (c .before .before .nothing-of .result .now) (c .before .before .nothing-of .ensures)
+          (alone (s .args .file .now) (after-nothing-of .nothing-of .result .now) (after-nothing-of .nothing-of .ensures)
           (plain (s .args .file .now) (file-ok (s .args .file .now) (s .args .account) (s .pre)) .recorded))
           (c .positions-over .ensures);
     }

@@ -1,20 +1,15 @@
 -- Without a ticket nothing changes; else counts and positions are without the latest row.
 -- Assumes nothing.
 use borrow.Author.Needs.{needs}
-use mathlib.Core.Path.{_≡_, refl, sym, ap, ap₂, _∙_, subst, subst⁻¹}
+use mathlib.Core.Path.{_≡_, refl, sym, ap, _∙_, subst, subst⁻¹}
 use mathlib.Core.List.{List, [], _∷_, _++_}
-use Prim.Native.Nat.{ℕ, _+_, _-_, _≤_, _<_}
+use Prim.Native.Nat.{ℕ, _-_, _≤_}
 use native.Mathlib.Omega.{arith}
-use lib.ListN.{length, getD}
+use lib.ListN.{getD}
 use Rattle.record.specs.Layout.{Record, contract}
-use Rattle.account.specs.Answers.{numberOf}
-use Rattle.account.specs.Records.{records, recordAt, cut}
-use Rattle.account.specs.Standing.{Stands, accountOf}
-use Rattle.account.specs.declared.accounts.Account.{Account}
-use Rattle.tickets.specs.Kept.{KeptBy}
-use Rattle.tickets.specs.Ticket.{withTickets}
-use Rattle.tickets.specs.Counts.{Small, OneLess}
-use Rattle.tickets.specs.Kept.{withdrawal}
+use Rattle.account.specs.Records.{recordAt, cut}
+use Rattle.tickets.specs.code.Kept.{KeptBy, withdrawal}
+use Rattle.tickets.specs.code.Counts.{Small, OneLess}
 use Rattle.tickets.specs.declared.kept.Kept.{Kept}
 use Rattle.tickets.proofs.CountLaws.{small, known-low, some-rows, some-tickets, counts-less}
 use Rattle.tickets.proofs.KeptLaws.{cut-last}
@@ -53,12 +48,16 @@ record-at-requires c κs = search needs
 
 without-row-requires : tie.Need-without-row-requires
 without-row-requires c κs =
-    let s = c .before .before .before .before .before .before .before in (
-      c .before .nothing-of .ensures,
+    let after-nothing-of = c .before in
+    let c-2 = after-nothing-of .before in
+    let after-tickets-of = c-2 .before in
+    let c-7 = after-tickets-of .before .before .before .before in
+    let s = c-7 in (
+      after-nothing-of .nothing-of .ensures,
       record {
-        tickets = cut (c .before .before .before .tickets-of .result - 1) (s .args .tickets .now);
-        kept = latest (s .args .file .now) (s .args .tickets .now) (s .args .kept) (c .before .before .before .tickets-of .result)
-            (c .record-at .result .now) (c .before .before .before .tickets-of .ensures) (c .before .before .if1 .left) (c .record-at .ensures) (s .pre);
+        tickets = cut (after-tickets-of .tickets-of .result - 1) (s .args .tickets .now);
+        kept = latest (s .args .file .now) (s .args .tickets .now) (s .args .kept) (after-tickets-of .tickets-of .result)
+            (c .record-at .result .now) (after-tickets-of .tickets-of .ensures) (c-2 .if1 .left) (c .record-at .ensures) (s .pre);
       },
     )
 
@@ -67,13 +66,17 @@ contract-requires c κs = search needs
 
 one-less-requires : tie.Need-one-less-requires
 one-less-requires c κs =
-    let s = c .before .before .before .before .before .before .before .before .before in
+    let after-record-at = c .before .before in
+    let c-4 = after-record-at .before .before in
+    let after-tickets-of = c-4 .before in
+    let c-9 = after-tickets-of .before .before .before .before in
+    let s = c-9 in
     let file = s .args .file .now in
-    let n = c .before .before .before .before .before .tickets-of .result in
+    let n = after-tickets-of .tickets-of .result in
     let ts = cut (n - 1) (s .args .tickets .now) in
-    let t = c .before .before .record-at .result .now in
-    let kb = latest file (s .args .tickets .now) (s .args .kept) n t (c .before .before .before .before .before .tickets-of .ensures)
-    (c .before .before .before .before .if1 .left) (c .before .before .record-at .ensures) (s .pre) in
+    let t = after-record-at .record-at .result .now in
+    let kb = latest file (s .args .tickets .now) (s .args .kept) n t (after-tickets-of .tickets-of .ensures)
+    (c-4 .if1 .left) (after-record-at .record-at .ensures) (s .pre) in
     subst⁻¹ (λ (i : ℕ). Small (s .args .kept .counts)
     × ((i ≤ 15) × ((1 ≤ getD (s .args .kept .counts .rows) i 0) × (1 ≤ s .args .kept .counts .tickets)))) (c .contract .ensures .0) (
       small file (ts ++ t ∷ []) (s .args .kept .counts) (kb .counts),
@@ -85,27 +88,33 @@ one-less-requires c κs =
 
 returns-2 : tie.Need-returns-2
 returns-2 c =
-    let s = c .before .before .before .before .before .before .before .before .before .before in
+    let after-contract = c .before in
+    let after-without-row = after-contract .before in
+    let after-record-at = after-without-row .before in
+    let c-5 = after-record-at .before .before in
+    let after-tickets-of = c-5 .before in
+    let c-10 = after-tickets-of .before .before .before .before in
+    let s = c-10 in
     let file = s .args .file .now in
-    let n = c .before .before .before .before .before .before .tickets-of .result in
+    let n = after-tickets-of .tickets-of .result in
     let ts = cut (n - 1) (s .args .tickets .now) in
-    let t = c .before .before .before .record-at .result .now in
-    let kb = latest file (s .args .tickets .now) (s .args .kept) n t (c .before .before .before .before .before .before .tickets-of .ensures)
-    (c .before .before .before .before .before .if1 .left) (c .before .before .before .record-at .ensures) (s .pre) in
+    let t = after-record-at .record-at .result .now in
+    let kb = latest file (s .args .tickets .now) (s .args .kept) n t (after-tickets-of .tickets-of .ensures)
+    (c-5 .if1 .left) (after-record-at .record-at .ensures) (s .pre) in
     let nz : s .args .kept .counts .tickets ≡ 0 → ⊥ = λ z. c .before .before .before .before .before .if1 .left
-    (c .before .before .before .before .before .before .tickets-of .ensures ∙ z) in
+    (after-tickets-of .tickets-of .ensures ∙ z) in
     record {
       told = sym (ap (λ (b : Bool). cond b NoTicketLeft Accepted) (ne-eqb (s .args .kept .counts .tickets) 0 nz));
       refused = λ m. absurd (m refl);
       accepted = λ z.
           subst (λ (i : ℕ). KeptBy file (cut (i - 1) (s .args .tickets .now))
-          (record { counts = c .one-less .result; positions = c .before .before .without-row .result }))
-          (c .before .before .before .before .before .before .tickets-of .ensures)
+          (record { counts = c .one-less .result; positions = after-without-row .without-row .result }))
+          (after-tickets-of .tickets-of .ensures)
           (record {
             counts =
                 counts-less file ts t (s .args .kept .counts) (kb .counts) (c .one-less .result)
-                (subst (λ (i : ℕ). OneLess i (s .args .kept .counts) (c .one-less .result)) (c .before .contract .ensures .0) (c .one-less .ensures));
-            positions = c .before .before .without-row .ensures ts kb;
+                (subst (λ (i : ℕ). OneLess i (s .args .kept .counts) (c .one-less .result)) (after-contract .contract .ensures .0) (c .one-less .ensures));
+            positions = after-without-row .without-row .ensures ts kb;
           });
     }
 

@@ -6,10 +6,11 @@ use mathlib.Core.List.{List}
 use native.Mathlib.Omega.{arith}
 use lib.ListN.{length, getD}
 use borrow.Author.Tests.{ltb-false}
+use Rattle.account.specs.Check.{mostRecords}
 use Rattle.record.specs.Layout.{Record}
-use Rattle.account.specs.Products.{RatesOf}
+use Rattle.account.specs.code.Rates.{RatesOf}
 use Rattle.account.specs.Records.{records, stretch, recordCount}
-use Rattle.writing.specs.Held.{Holdable}
+use Rattle.writing.specs.code.Held.{Holdable}
 use Rattle.writing.specs.Written.{written}
 use Rattle.writing.proofs.Held.{Reading, reading-start, Turned, turn-holdable, turn-stops, turned, Ended, reading-ends, rates-decide}
 use Rattle.writing.proofs.Placed.{long-same, cut-same, count-same}
@@ -26,57 +27,80 @@ record-count-requires : tie.Need-record-count-requires Inv-loop μ-loop
 record-count-requires c κs = tt
 
 loop-holds : tie.Need-loop-holds Inv-loop μ-loop
-loop-holds c = reading-start (written (c .before .before .before .args .entries .now))
+loop-holds c =
+    let start = c .before .before .before in
+    reading-start (written (start .args .entries .now))
 
 -- the record is one of the file
 inside : (c : tie.In-loop Inv-loop μ-loop) → c .before .loop .k < recordCount (written (c .before .before .before .before .before .args .entries .now))
 inside c =
-    let e = c .before .before .before .before .before .args .entries .now in
-    omega (arith, c .loop-test .taken, c .before .before .record-count .ensures, count-same e)
+    let after-record-count = c .before .before in
+    let start = after-record-count .before .before .before in
+    let e = start .args .entries .now in
+    omega (arith, c .loop-test .taken, after-record-count .record-count .ensures, count-same e)
 
 entry-at-requires : tie.Need-entry-at-requires Inv-loop μ-loop
 entry-at-requires c κs =
-    let s = c .before .before .before .before .before in
+    let c-5 = c .before .before .before .before .before in
+    let s = c-5 in
     (s .pre .0, omega (arith, inside c, count-same (s .args .entries .now)))
 
 asked-of-requires : tie.Need-asked-of-requires Inv-loop μ-loop
 asked-of-requires c κs = tt
 
 slice-aggregate-hold : tie.Need-slice-aggregate-hold Inv-loop μ-loop
-slice-aggregate-hold c = sym (c .before .before .before .before .loop .inv .going .notes .firsts)
+slice-aggregate-hold c =
+    let after-loop = c .before .before .before .before in
+    sym (after-loop .loop .inv .going .notes .firsts)
 
 slice-aggregate-hold-2 : tie.Need-slice-aggregate-hold-2 Inv-loop μ-loop
-slice-aggregate-hold-2 c = sym (c .before .before .before .before .before .loop .inv .going .notes .sizes)
+slice-aggregate-hold-2 c =
+    let after-loop = c .before .before .before .before .before in
+    sym (after-loop .loop .inv .going .notes .sizes)
 
 slice-aggregate-hold-3 : tie.Need-slice-aggregate-hold-3 Inv-loop μ-loop
-slice-aggregate-hold-3 c = sym (c .before .before .before .before .before .before .loop .inv .holds .long)
+slice-aggregate-hold-3 c =
+    let after-loop = c .before .before .before .before .before .before in
+    sym (after-loop .loop .inv .holds .long)
 
 room-for : (c : tie.After-asked-of Inv-loop μ-loop)
     → Holdable (written (c .before .before .before .before .before .before .before .args .entries .now)) (c .before .before .before .loop .first)
     (c .before .before .before .loop .counts)
     (c .asked-of .result)
-room-for c = turn-holdable (c .before .before .before .loop .inv) (inside (c .before .before)) (c .before .entry-at .ensures) (c .asked-of .ensures)
+room-for c =
+    let after-entry-at = c .before in
+    let c-2 = after-entry-at .before in
+    let after-loop = c-2 .before in
+    turn-holdable (after-loop .loop .inv) (inside (c-2)) (after-entry-at .entry-at .ensures) (c .asked-of .ensures)
 
 hold-requires : tie.Need-hold-requires Inv-loop μ-loop
 hold-requires c κs =
-    let l = c .before .before .before .before .before .before in
-    (l .before .before .before .before .pre .0, record { holds = l .loop .inv .holds; holdable = room-for (c .before .before .before) })
+    let c-3 = c .before .before .before in
+    let c-6 = c-3 .before .before .before in
+    let l = c-6 in
+    (l .before .before .before .before .pre .0, record { holds = l .loop .inv .holds; holdable = room-for (c-3) })
 
 slice-aggregate-fault-by : tie.Need-slice-aggregate-fault-by Inv-loop μ-loop
-slice-aggregate-fault-by c = sym (c .before .before .before .before .before .before .before .before .before .loop .inv .going .notes .sizes)
+slice-aggregate-fault-by c =
+    let after-loop = c .before .before .before .before .before .before .before .before .before in
+    sym (after-loop .loop .inv .going .notes .sizes)
 
 slice-aggregate-fault-by-2 : tie.Need-slice-aggregate-fault-by-2 Inv-loop μ-loop
-slice-aggregate-fault-by-2 c = sym (c .before .before .before .hold .ensures .long)
+slice-aggregate-fault-by-2 c =
+    let after-hold = c .before .before .before in
+    sym (after-hold .hold .ensures .long)
 
 entry-before-requires : tie.Need-entry-before-requires Inv-loop μ-loop
 entry-before-requires c κs =
-    let l = c .before .before .before .before .before .before .before .before .before in
+    let c-9 = c .before .before .before .before .before .before .before .before .before in
+    let l = c-9 in
     let s = l .before .before .before .before .before in
     (s .pre .0, omega (arith, inside l, count-same (s .args .entries .now)))
 
 fault-by-requires : tie.Need-fault-by-requires Inv-loop μ-loop
 fault-by-requires c κs =
-    let h = c .before .before .before .before in
+    let c-4 = c .before .before .before .before in
+    let h = c-4 in
     let r = room-for (h .before .before .before .before) in
     (r .number, (r .few, h .hold .ensures .long))
 
@@ -124,50 +148,63 @@ slice-aggregate-note-first c =
 
 slice-aggregate-note-first-2 : tie.Need-slice-aggregate-note-first-2 Inv-loop μ-loop
 slice-aggregate-note-first-2 c =
-    let p = c .before .before .before in
+    let c-3 = c .before .before .before in
+    let p = c-3 in
     sym (p .before .before .before .before .before .before .before .before .before .before .before .before .before .loop .inv .going .notes .sizes)
 
 -- fewer than 640 records stand before it
-few-before : (c : tie.In-loop Inv-loop μ-loop) → c .before .loop .k < 640
+few-before : (c : tie.In-loop Inv-loop μ-loop) → c .before .loop .k < mostRecords
 few-before c =
-    let s = c .before .before .before .before .before in
+    let c-5 = c .before .before .before .before .before in
+    let s = c-5 in
     let e = s .args .entries .now in
     omega (arith, inside c, count-same e, ltb-false 61440 (length e) (s .pre .1 .0))
 
 note-first-requires : tie.Need-note-first-requires Inv-loop μ-loop
 note-first-requires c κs =
-    let p = c .before .before .before in
+    let after-part-of = c .before .before in
+    let c-3 = after-part-of .before in
+    let p = c-3 in
     let l = p .before .before .before .before .before .before .before .before .before .before .before .before in
-    (omega (arith, passed p .part-in, c .before .before .part-of .ensures, l .before .loop .inv .going .notes .firsts), few-before l)
+    (omega (arith, passed p .part-in, after-part-of .part-of .ensures, l .before .loop .inv .going .notes .firsts), few-before l)
 
 slice-aggregate-note-one : tie.Need-slice-aggregate-note-one Inv-loop μ-loop
 slice-aggregate-note-one c =
-    let p = c .before .before .before .before .before .before in
+    let c-6 = c .before .before .before .before .before .before in
+    let p = c-6 in
     sym (p .before .before .before .before .before .before .before .before .before .before .before .before .before .loop .inv .going .notes .sizes)
 
 note-one-requires : tie.Need-note-one-requires Inv-loop μ-loop
 note-one-requires c κs =
-    let p = c .before .before .before .before .before .before in
+    let after-part-of = c .before .before .before .before .before in
+    let c-6 = after-part-of .before in
+    let p = c-6 in
     let l = p .before .before .before .before .before .before .before .before .before .before .before .before in
-    let v = c .before .before .before .before .before .part-of .ensures in
+    let v = after-part-of .part-of .ensures in
     let same = ap (λ (v : ℕ). getD (l .before .loop .counts) v 0) v in
     (omega (arith, passed p .part-in, v, l .before .loop .inv .going .notes .sizes), omega (arith, passed p .count-small, same, few-before l))
 
 add-k : tie.Need-add-k Inv-loop μ-loop
 add-k c =
-    let p = c .before .before .before .before .before .before .before .before in
+    let c-8 = c .before .before .before .before .before .before .before .before in
+    let p = c-8 in
     omega (arith, few-before (p .before .before .before .before .before .before .before .before .before .before .before .before))
 
 loop-less : tie.Need-loop-less Inv-loop μ-loop
 loop-less c =
-    let p = c .before .before .before .before .before .before .before .before in
+    let c-8 = c .before .before .before .before .before .before .before .before in
+    let p = c-8 in
     omega (arith, p .before .before .before .before .before .before .before .before .before .before .before .before .loop-test .taken)
 
 loop-again : tie.Need-loop-again Inv-loop μ-loop
 loop-again c =
-    let p = c .before .before .before .before .before .before .before .before in
-    passed p .next (c .before .before .before .before .note-first .ensures) (c .before .note-one .ensures)
-    (c .before .before .before .before .before .before .before .part-of .ensures)
+    let after-note-one = c .before in
+    let after-note-first = after-note-one .before .before .before in
+    let after-part-of = after-note-first .before .before .before in
+    let c-8 = after-part-of .before in
+    let p = c-8 in
+    passed p .next (after-note-first .note-first .ensures) (after-note-one .note-one .ensures)
+    (after-part-of .part-of .ensures)
 
 slice-aggregate-noted : tie.Need-slice-aggregate-noted Inv-loop μ-loop
 slice-aggregate-noted c = sym (c .before .before .loop .inv .going .notes .firsts)
@@ -176,7 +213,9 @@ noted-requires : tie.Need-noted-requires Inv-loop μ-loop
 noted-requires c κs = tt
 
 slice-aggregate-noted-2 : tie.Need-slice-aggregate-noted-2 Inv-loop μ-loop
-slice-aggregate-noted-2 c = sym (c .before .before .before .before .loop .inv .going .notes .sizes)
+slice-aggregate-noted-2 c =
+    let after-loop = c .before .before .before .before in
+    sym (after-loop .loop .inv .going .notes .sizes)
 
 noted-requires-2 : tie.Need-noted-requires-2 Inv-loop μ-loop
 noted-requires-2 c κs = tt
@@ -185,32 +224,42 @@ noted-requires-2 c κs = tt
 ended : (c : tie.After-loop Inv-loop μ-loop)
     → Ended (written (c .before .before .before .before .before .args .entries .now)) (c .before .loop .first) (c .before .loop .counts)
 ended c =
-    let s = c .before .before .before .before .before in
+    let after-loop = c .before in
+    let after-record-count = after-loop .before in
+    let c-5 = after-record-count .before .before .before in
+    let s = c-5 in
     let e = s .args .entries .now in
-    let done : recordCount (written e) ≤ c .before .loop .k = omega (arith, c .loop-test .left, c .before .before .record-count .ensures, count-same e) in
-    reading-ends (c .before .loop .inv) done (long-same e ∙ s .pre .1 .0) (cut-same e ∙ s .pre .1 .1)
+    let done : recordCount (written e) ≤ c .before .loop .k = omega (arith, c .loop-test .left, after-record-count .record-count .ensures, count-same e) in
+    reading-ends (after-loop .loop .inv) done (long-same e ∙ s .pre .1 .0) (cut-same e ∙ s .pre .1 .1)
 
 rates-in-requires : tie.Need-rates-in-requires Inv-loop μ-loop
 rates-in-requires c κs =
-    let l = c .before .before .before .before in
+    let after-noted = c .before .before in
+    let c-4 = after-noted .before .before in
+    let l = c-4 in
     let s = l .before .before .before .before .before in
     let t = ended l in
-    let k = c .before .before .noted .ensures in
+    let k = after-noted .noted .ensures in
     let n = c .noted2 .ensures in
     (s .pre .0, (omega (arith, t .few, n), omega (arith, t .within, k, n, count-same (s .args .entries .now))))
 
 conversions-written-requires : tie.Need-conversions-written-requires Inv-loop μ-loop
 conversions-written-requires c κs =
-    let l = c .before .before .before .before .before in
+    let after-noted2 = c .before in
+    let after-noted = after-noted2 .before .before in
+    let c-5 = after-noted .before .before in
+    let l = c-5 in
     let s = l .before .before .before .before .before in
     let w = written (s .args .entries .now) in
     let t = ended l in
-    let same = ap₂ (λ (x y : ℕ). records (stretch w x y)) (c .before .before .before .noted .ensures) (c .before .noted2 .ensures) in
+    let same = ap₂ (λ (x y : ℕ). records (stretch w x y)) (after-noted .noted .ensures) (after-noted2 .noted2 .ensures) in
     let rates = subst (λ (rs : List Record). RatesOf rs (c .rates-in .result)) (same ∙ t .rates) (c .rates-in .ensures) in
     (s .pre .0, record { accepted = t .accepted; rates = rates })
 
 returns-2 : tie.Need-returns-2 Inv-loop μ-loop
-returns-2 c = c .conversions-written .ensures ∙ rates-decide (ended (c .before .before .before .before .before .before))
+returns-2 c =
+    let c-6 = c .before .before .before .before .before .before in
+    c .conversions-written .ensures ∙ rates-decide (ended (c-6))
 
 pub check-written-spec : {M : Type 1} → statement M
 check-written-spec =

@@ -1,10 +1,9 @@
 -- The entry before it in the order, or none.
 -- Assumes nothing.
 use borrow.Author.Needs.{needs}
-use Prim.Native.Nat.{_-_}
 use mathlib.Core.Path.{sym, ap, _∙_}
 use native.Mathlib.Omega.{arith}
-use Rattle.account.specs.Notes.{beforeAt}
+use Rattle.account.specs.code.Notes.{beforeAt}
 use Rattle.account.proofs.Walk.{before-is}
 use Rattle.writing.specs.Written.{written}
 use Rattle.writing.proofs.checking.entry_before.Statement.{statement}
@@ -14,18 +13,25 @@ slice-aggregate-result : tie.Need-slice-aggregate-result
 slice-aggregate-result c = search needs
 
 returns : tie.Need-returns
-returns c = ap (beforeAt (written (c .before .before .before .before .args .entries .now))) (sym (c .before .if1 .taken))
+returns c =
+    let c-1 = c .before in
+    let start = c-1 .before .before .before in
+    ap (beforeAt (written (start .args .entries .now))) (sym (c-1 .if1 .taken))
 
 sub-entry-at : tie.Need-sub-entry-at
 sub-entry-at c = search needs
 
 entry-at-requires : tie.Need-entry-at-requires
-entry-at-requires c κs = let s = c .before .before .before in (s .pre .0, omega (arith, s .pre .1))
+entry-at-requires c κs =
+    let c-3 = c .before .before .before in
+    let s = c-3 in (s .pre .0, omega (arith, s .pre .1))
 
 returns-2 : tie.Need-returns-2
 returns-2 c =
-    let a = c .before .before .before .before .args in
-    c .entry-at .ensures ∙ before-is (written (a .entries .now)) (a .k) (c .before .if1 .left)
+    let c-1 = c .before in
+    let start = c-1 .before .before .before in
+    let a = start .args in
+    c .entry-at .ensures ∙ before-is (written (a .entries .now)) (a .k) (c-1 .if1 .left)
 
 pub entry-before-spec : {M : Type 1} → statement M
 entry-before-spec =

@@ -6,7 +6,8 @@ use mathlib.Core.Path.{sym, ap, _∙_}
 use native.Mathlib.Omega.{arith}
 use lib.ListN.{take}
 use lib.Seq.{length-take-le}
-use Rattle.account.specs.Notes.{faultBy}
+use Rattle.record.specs.Bytes.{recordBytes}
+use Rattle.account.specs.code.Notes.{faultBy}
 use Rattle.account.specs.Records.{records}
 use Rattle.writing.proofs.checking.fault_by.Statement.{statement}
 use Rattle.writing.proofs.checking.fault_by.Tie as tie
@@ -22,18 +23,23 @@ mul-size c = search needs
 
 slice-aggregate-fault : tie.Need-slice-aggregate-fault
 slice-aggregate-fault c =
-    let s = c .before .before .before .before .before .before in
-    sym (length-take-le (c .before .noted .result * 96) (s .args .prompts .now) (omega (arith, c .before .noted .ensures, s .pre .1 .0, s .pre .1 .1)))
+    let after-noted = c .before in
+    let c-6 = after-noted .before .before .before .before .before in
+    let s = c-6 in
+    sym (length-take-le (after-noted .noted .result * recordBytes) (s .args .prompts .now) (omega
+    (arith, after-noted .noted .ensures, s .pre .1 .0, s .pre .1 .1)))
 
 fault-requires : tie.Need-fault-requires
 fault-requires c κs = search needs
 
 returns : tie.Need-returns
 returns c =
-    let s = c .before .before .before .before .before .before .before in
+    let after-noted = c .before .before in
+    let c-7 = after-noted .before .before .before .before .before in
+    let s = c-7 in
     let a = s .args in
-    let same = c .before .before .noted .ensures in
-    c .fault .ensures ∙ ap (λ (n : ℕ). faultBy (a .counts .now) (records (take (n * 96) (a .prompts .now))) (a .before .now) (a .r .now)) same
+    let same = after-noted .noted .ensures in
+    c .fault .ensures ∙ ap (λ (n : ℕ). faultBy (a .counts .now) (records (take (n * recordBytes) (a .prompts .now))) (a .before .now) (a .r .now)) same
 
 pub fault-by-spec : {M : Type 1} → statement M
 fault-by-spec =

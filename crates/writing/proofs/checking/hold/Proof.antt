@@ -4,7 +4,7 @@ use borrow.Author.Needs.{needs}
 use Prim.Native.Nat.{ℕ}
 use mathlib.Core.Path.{sym, subst, _∙_}
 use native.Mathlib.Omega.{arith}
-use Rattle.writing.specs.Held.{Holds}
+use Rattle.writing.specs.code.Held.{Holds}
 use Rattle.writing.specs.Written.{written}
 use Rattle.writing.proofs.Held.{held-now}
 use Rattle.writing.proofs.Placed.{count-same}
@@ -13,12 +13,15 @@ use Rattle.writing.proofs.checking.hold.Tie as tie
 
 returns : tie.Need-returns
 returns c =
-    let s = c .before .before .before .before .before .before in
+    let c-6 = c .before .before .before .before .before .before in
+    let s = c-6 in
     subst (λ (n : ℕ). Holds (written (s .args .entries .now)) (s .args .first .now) (s .args .counts .now) (s .args .prompts .now) n) (sym (c .if1 .taken))
     (s .pre .1 .holds)
 
 add-v : tie.Need-add-v
-add-v c = omega (arith, c .before .before .before .before .before .before .pre .1 .holdable .number)
+add-v c =
+    let start = c .before .before .before .before .before .before in
+    omega (arith, start .pre .1 .holdable .number)
 
 noted-requires : tie.Need-noted-requires
 noted-requires c κs = search needs
@@ -28,11 +31,14 @@ noted-requires-2 c κs = search needs
 
 fill-requires : tie.Need-fill-requires
 fill-requires c κs =
-    let s = c .before .before .before .before .before .before .before .before .before in (
+    let after-noted2 = c .before in
+    let after-noted = after-noted2 .before in
+    let c-9 = after-noted .before .before .before .before .before .before .before in
+    let s = c-9 in (
       s .pre .0,
       (
-        omega (arith, c .before .before .noted .ensures, c .before .noted2 .ensures, s .pre .1 .holdable .within, count-same (s .args .entries .now)),
-        omega (arith, c .before .noted2 .ensures, s .pre .1 .holdable .few, s .pre .1 .holds .long),
+        omega (arith, after-noted .noted .ensures, after-noted2 .noted2 .ensures, s .pre .1 .holdable .within, count-same (s .args .entries .now)),
+        omega (arith, after-noted2 .noted2 .ensures, s .pre .1 .holdable .few, s .pre .1 .holds .long),
       ),
     )
 
@@ -41,10 +47,14 @@ same-length c = c .before .before .fill .kept .1 .1 .1 .1 .0
 
 returns-2 : tie.Need-returns-2
 returns-2 c =
-    let s = c .before .before .before .before .before .before .before .before .before .before .before .before in
+    let after-fill = c .before .before in
+    let after-noted2 = after-fill .before .before in
+    let after-noted = after-noted2 .before in
+    let c-12 = after-noted .before .before .before .before .before .before .before in
+    let s = c-12 in
     held-now (s .args .entries .now) (s .args .first .now) (s .args .counts .now) (s .args .prompts .now) (s .args .c)
-    (c .before .before .before .before .before .noted .ensures) (c .before .before .before .before .noted2 .ensures) (s .pre .1 .holdable .within)
-    (c .before .before .fill .ensures) (c .before .before .fill .kept .1 .1 .1 .1 .0 ∙ s .pre .1 .holds .long)
+    (after-noted .noted .ensures) (after-noted2 .noted2 .ensures) (s .pre .1 .holdable .within)
+    (after-fill .fill .ensures) (after-fill .fill .kept .1 .1 .1 .1 .0 ∙ s .pre .1 .holds .long)
 
 pub hold-spec : {M : Type 1} → statement M
 hold-spec =

@@ -7,7 +7,8 @@ use mathlib.Core.List.{List}
 use native.Mathlib.Omega.{arith}
 use lib.ListN.{take}
 use lib.Seq.{length-take-le}
-use Rattle.account.specs.Products.{RatesOf}
+use Rattle.record.specs.Bytes.{recordBytes}
+use Rattle.account.specs.code.Rates.{RatesOf}
 use Rattle.account.specs.Records.{records}
 use Rattle.writing.proofs.Placed.{front-filled}
 use Rattle.writing.proofs.checking.rates_in.Statement.{statement}
@@ -27,19 +28,23 @@ array-share-prefix-rates c = search needs
 
 slice-aggregate-rates-of : tie.Need-slice-aggregate-rates-of
 slice-aggregate-rates-of c =
-    let s = c .before .before .before .before .before .before in
-    let f = c .before .before .fill in
-    sym (length-take-le (s .args .n * 96) (f .last .1 .1 .1 .1 .0) (omega (arith, s .pre .1 .0, f .kept .1 .1 .1 .1 .0)))
+    let after-fill = c .before .before in
+    let c-6 = after-fill .before .before .before .before in
+    let s = c-6 in
+    let f = after-fill .fill in
+    sym (length-take-le (s .args .n * recordBytes) (f .last .1 .1 .1 .1 .0) (omega (arith, s .pre .1 .0, f .kept .1 .1 .1 .1 .0)))
 
 rates-of-requires : tie.Need-rates-of-requires
 rates-of-requires c κs = search needs
 
 returns : tie.Need-returns
 returns c =
-    let s = c .before .before .before .before .before .before .before in
+    let after-fill = c .before .before .before in
+    let c-7 = after-fill .before .before .before .before in
+    let s = c-7 in
     let a = s .args in
     subst (λ (bytes : List ℕ). RatesOf (records bytes) (c .rates-of .result))
-    (ap (take (a .n * 96)) (c .before .before .before .fill .ensures) ∙ front-filled (a .entries .now) (a .k) (a .n) _ (s .pre .1 .1)) (c .rates-of .ensures)
+    (ap (take (a .n * recordBytes)) (after-fill .fill .ensures) ∙ front-filled (a .entries .now) (a .k) (a .n) _ (s .pre .1 .1)) (c .rates-of .ensures)
 
 pub rates-in-spec : {M : Type 1} → statement M
 rates-in-spec =

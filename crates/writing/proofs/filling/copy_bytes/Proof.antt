@@ -1,9 +1,9 @@
 -- One byte after the other.
 -- Assumes nothing.
 use borrow.Author.Needs.{needs}
-use Prim.Native.Nat.{ℕ, _-_, _≤_, _<_}
-use mathlib.Core.Path.{_≡_, refl, sym, ap, subst, _∙_}
-use mathlib.Core.List.{List, [], _++_, append-nil}
+use Prim.Native.Nat.{ℕ, _-_, _≤_}
+use mathlib.Core.Path.{_≡_, refl, ap, _∙_}
+use mathlib.Core.List.{List, _++_, append-nil}
 use native.Mathlib.Omega.{arith}
 use lib.ListN.{length, getD, take, drop, set, length-set, drop-of-length-le}
 use Rattle.writing.proofs.Halves.{copy-next}
@@ -21,7 +21,10 @@ loop-holds c = (refl, (omega arith, refl))
 
 shared-slice-read-to : tie.Need-shared-slice-read-to Inv-loop μ-loop
 shared-slice-read-to c =
-    omega (arith, c .before .loop-test .taken, c .before .before .loop .inv .0, c .before .before .before .pre)
+    let after-loop-test = c .before in
+    let after-loop = after-loop-test .before in
+    let start = after-loop .before in
+    omega (arith, after-loop-test .loop-test .taken, after-loop .loop .inv .0, start .pre)
 
 slice-write-to : tie.Need-slice-write-to Inv-loop μ-loop
 slice-write-to c = search needs
@@ -34,11 +37,14 @@ loop-less c = omega (arith, c .before .loop-test .taken, c .before .before .loop
 
 loop-again : tie.Need-loop-again Inv-loop μ-loop
 loop-again c =
-    let a = c .before .before .before .args in
-    let l = c .before .before .loop in
-    let h = c .before .loop-test .taken in
+    let after-loop-test = c .before in
+    let after-loop = after-loop-test .before in
+    let start = after-loop .before in
+    let a = start .args in
+    let l = after-loop .loop in
+    let h = after-loop-test .loop-test .taken in
     let e = l .inv .0 in
-    let p = c .before .before .before .pre in (
+    let p = start .pre in (
       length-set (l .to) (l .i) (getD (a .from .now) (l .i) 0) ∙ e,
       (
         omega (arith, h, e),

@@ -1,10 +1,8 @@
 -- One key after the other.
 -- Assumes nothing.
 use borrow.Author.Needs.{needs}
-use Prim.Native.Nat.{ℕ, _-_, _+_, _*_, _≤_, _<_}
-use mathlib.Core.Path.{_≡_, refl, sym, ap, _∙_}
+use Prim.Native.Nat.{_-_}
 use native.Mathlib.Omega.{arith}
-use Rattle.account.specs.Records.{recordCount}
 use Rattle.writing.proofs.Ranks.{Keying, keying-start, keying-next, keying-ends}
 use Rattle.writing.proofs.order.keys_of.Statement.{statement}
 use Rattle.writing.proofs.order.keys_of.Tie as tie
@@ -31,12 +29,16 @@ mul-keys : tie.Need-mul-keys Inv-loop μ-loop
 mul-keys c = search needs
 
 array-write-keys : tie.Need-array-write-keys Inv-loop μ-loop
-array-write-keys c = omega (
-  arith,
-  c .before .before .loop-test .taken,
-  c .before .before .before .before .record-count .ensures,
-  c .before .before .before .before .before .before .pre,
-)
+array-write-keys c =
+    let after-loop-test = c .before .before in
+    let after-record-count = after-loop-test .before .before in
+    let start = after-record-count .before .before in
+    omega (
+      arith,
+      after-loop-test .loop-test .taken,
+      after-record-count .record-count .ensures,
+      start .pre,
+    )
 
 add-k : tie.Need-add-k Inv-loop μ-loop
 add-k c = omega (arith, c .before .before .loop-test .taken)
@@ -46,8 +48,13 @@ loop-less c = omega (arith, c .before .before .loop-test .taken)
 
 loop-again : tie.Need-loop-again Inv-loop μ-loop
 loop-again c =
-    keying-next (c .before .before .before .loop .inv) (c .before .before .before .before .before .before .pre)
-    (omega (arith, c .before .before .loop-test .taken, c .before .before .before .before .record-count .ensures)) (c .before .record-at .ensures)
+    let after-record-at = c .before in
+    let after-loop-test = after-record-at .before in
+    let after-loop = after-loop-test .before in
+    let after-record-count = after-loop .before in
+    let start = after-record-count .before .before in
+    keying-next (after-loop .loop .inv) (start .pre)
+    (omega (arith, after-loop-test .loop-test .taken, after-record-count .record-count .ensures)) (after-record-at .record-at .ensures)
     (c .rank .ensures)
 
 returns : tie.Need-returns Inv-loop μ-loop

@@ -1,8 +1,6 @@
 -- By kind.
 -- Assumes nothing.
-use borrow.Author.Needs.{needs}
-use Prim.Native.Nat.{ℕ, _-_, _+_, _*_, _≤_, _<_}
-use mathlib.Core.Path.{_≡_, refl, sym, ap, _∙_}
+use mathlib.Core.Path.{sym, _∙_}
 use native.Mathlib.Omega.{arith}
 use Rattle.writing.proofs.Ranks.{of-prompt, of-entry, of-other}
 use Rattle.writing.proofs.order.of_its_kind.Statement.{statement}
@@ -25,24 +23,32 @@ add-result c = omega (arith, c .before .contract .ensures .1, c .day .ensures .1
 
 returns : tie.Need-returns
 returns c =
-    let r = c .before .before .before .before .before .args .r .now in
-    let e = of-prompt r (sym (c .before .before .before .kind .ensures .0) ∙ c .before .before .if1 .taken) in (
-      omega (arith, e, c .before .contract .ensures .0, c .day .ensures .0),
-      omega (arith, c .before .contract .ensures .1, c .day .ensures .1),
+    let after-contract = c .before in
+    let c-2 = after-contract .before in
+    let after-kind = c-2 .before in
+    let start = after-kind .before .before in
+    let r = start .args .r .now in
+    let e = of-prompt r (sym (after-kind .kind .ensures .0) ∙ c-2 .if1 .taken) in (
+      omega (arith, e, after-contract .contract .ensures .0, c .day .ensures .0),
+      omega (arith, after-contract .contract .ensures .1, c .day .ensures .1),
     )
 
 returns-2 : tie.Need-returns-2
 returns-2 c =
-    let r = c .before .before .before .before .args .r .now in
-    (sym (of-entry r (sym (c .before .before .kind .ensures .0) ∙ c .if2 .taken)), omega arith)
+    let after-kind = c .before .before in
+    let start = after-kind .before .before in
+    let r = start .args .r .now in
+    (sym (of-entry r (sym (after-kind .kind .ensures .0) ∙ c .if2 .taken)), omega arith)
 
 contract-requires-2 : tie.Need-contract-requires-2
 contract-requires-2 c κs = tt
 
 returns-3 : tie.Need-returns-3
 returns-3 c =
-    let r = c .before .before .before .before .before .args .r .now in
-    let k = c .before .before .before .kind .ensures .0 in (
+    let after-kind = c .before .before .before in
+    let start = after-kind .before .before in
+    let r = start .args .r .now in
+    let k = after-kind .kind .ensures .0 in (
       c .contract2 .ensures .0 ∙ sym (of-other r (λ e. c .before .before .if1 .left (k ∙ e)) (λ e. c .before .if2 .left (k ∙ e))),
       omega (arith, c .contract2 .ensures .1),
     )

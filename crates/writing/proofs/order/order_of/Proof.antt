@@ -1,12 +1,11 @@
 -- Places from 0 on, the first of them sorted.
 -- Assumes nothing.
-use borrow.Author.Needs.{needs}
-use Prim.Native.Nat.{ℕ, _-_, _+_, _*_, _≤_, _<_}
-use mathlib.Core.Path.{_≡_, refl, sym, ap, _∙_}
+use Prim.Native.Nat.{ℕ, _≤_}
+use mathlib.Core.Path.{refl, sym}
 use native.Mathlib.Omega.{arith}
 use lib.ListN.{length-replicate}
 use lib.Seq.{length-take-le}
-use Rattle.account.specs.Records.{recordCount}
+use Rattle.account.specs.Check.{mostRecords}
 use Rattle.writing.proofs.Ranks.{ordered-by}
 use Rattle.writing.proofs.order.order_of.Statement.{statement}
 use Rattle.writing.proofs.order.order_of.Tie as tie
@@ -18,26 +17,36 @@ record-count-requires : tie.Need-record-count-requires
 record-count-requires c κs = tt
 
 slice-aggregate-number-up : tie.Need-slice-aggregate-number-up
-slice-aggregate-number-up c = sym (length-replicate {A = ℕ} 640 0)
+slice-aggregate-number-up c = sym (length-replicate {A = ℕ} mostRecords 0)
 
 number-up-requires : tie.Need-number-up-requires
 number-up-requires c κs = omega arith
 
 slice-aggregate-sort : tie.Need-slice-aggregate-sort
-slice-aggregate-sort c = sym (c .before .before .before .before .before .keys-of .ensures .long)
+slice-aggregate-sort c =
+    let after-keys-of = c .before .before .before .before .before in
+    sym (after-keys-of .keys-of .ensures .long)
 
 array-borrow-prefix-order : tie.Need-array-borrow-prefix-order
-array-borrow-prefix-order c = omega
-    (arith, c .before .order2 .given, c .before .before .before .before .record-count .ensures, c .before .before .before .before .before .before .before .pre)
+array-borrow-prefix-order c =
+    let after-order2 = c .before in
+    let after-record-count = after-order2 .before .before .before in
+    let start = after-record-count .before .before .before in
+    omega
+    (arith, after-order2 .order2 .given, after-record-count .record-count .ensures, start .pre)
 
 slice-aggregate-sort-2 : tie.Need-slice-aggregate-sort-2
 slice-aggregate-sort-2 c =
-    sym (length-take-le (c .before .before .before .before .before .record-count .result) (c .before .before .before .number-up .last .0)
+    let after-order2 = c .before .before in
+    let after-number-up = after-order2 .before in
+    let after-record-count = after-number-up .before .before in
+    let start = after-record-count .before .before .before in
+    sym (length-take-le (after-record-count .record-count .result) (after-number-up .number-up .last .0)
     (omega (
       arith,
-      c .before .before .order2 .given,
-      c .before .before .before .before .before .record-count .ensures,
-      c .before .before .before .before .before .before .before .before .pre,
+      after-order2 .order2 .given,
+      after-record-count .record-count .ensures,
+      start .pre,
     )))
 
 slice-aggregate-sort-3 : tie.Need-slice-aggregate-sort-3
@@ -45,22 +54,31 @@ slice-aggregate-sort-3 c = refl
 
 sort-requires : tie.Need-sort-requires
 sort-requires c κs =
-    let h : c .before .before .before .before .before .before .record-count .result ≤ 640 = omega (
+    let after-order2 = c .before .before .before in
+    let after-number-up = after-order2 .before in
+    let after-record-count = after-number-up .before .before in
+    let start = after-record-count .before .before .before in
+    let h : c .before .before .before .before .before .before .record-count .result ≤ mostRecords = omega (
       arith,
-      c .before .before .before .before .before .before .record-count .ensures,
-      c .before .before .before .before .before .before .before .before .before .pre,
+      after-record-count .record-count .ensures,
+      start .pre,
     ) in
-    let l = length-take-le (c .before .before .before .before .before .before .record-count .result)
-    (c .before .before .before .before .number-up .last .0) (omega (arith, h, c .before .before .before .order2 .given)) in
+    let l = length-take-le (after-record-count .record-count .result)
+    (after-number-up .number-up .last .0) (omega (arith, h, after-order2 .order2 .given)) in
     omega (arith, h, l)
 
 returns : tie.Need-returns
 returns c =
-    ordered-by (c .before .before .before .before .before .before .before .before .before .before .before .before .args .entries .now)
-    (c .before .before .before .before .before .before .before .before .before .before .before .before .pre)
-    (c .before .before .before .before .before .before .before .before .before .before .keys-of .ensures)
-    (c .before .before .before .before .before .before .before .before .before .record-count .ensures)
-    (c .before .before .before .before .before .before .before .number-up .ensures) (c .before .before .sort .ensures)
+    let after-sort = c .before .before in
+    let after-number-up = after-sort .before .before .before .before .before in
+    let after-record-count = after-number-up .before .before in
+    let after-keys-of = after-record-count .before in
+    let start = after-keys-of .before .before in
+    ordered-by (start .args .entries .now)
+    (start .pre)
+    (after-keys-of .keys-of .ensures)
+    (after-record-count .record-count .ensures)
+    (after-number-up .number-up .ensures) (after-sort .sort .ensures)
 
 pub order-of-spec : {M : Type 1} → statement M
 order-of-spec =

@@ -1,8 +1,5 @@
 -- The kind, and then what its kind goes by.
 -- Assumes nothing.
-use borrow.Author.Needs.{needs}
-use Prim.Native.Nat.{ℕ, _-_, _+_, _*_, _≤_, _<_}
-use mathlib.Core.Path.{_≡_, refl, sym, ap, _∙_}
 use native.Mathlib.Omega.{arith}
 use Rattle.writing.proofs.order.rank.Statement.{statement}
 use Rattle.writing.proofs.order.rank.Tie as tie

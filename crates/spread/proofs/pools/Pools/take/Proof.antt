@@ -5,7 +5,8 @@ use native.Mathlib.Omega.{arith}
 use mathlib.Core.Path.{_≡_, sym, _∙_, ap}
 use lib.ListN.{length, length-map}
 use borrow.Author.Needs.{needs}
-use Rattle.spread.specs.Cells.{stepOf, afterIn}
+use Rattle.spread.specs.Steps.{stepOf}
+use Rattle.spread.specs.code.Cells.{afterIn}
 use Rattle.spread.proofs.Bounds.{formed-most}
 use Rattle.spread.proofs.pools.Pools.take.Statement.{statement}
 use Rattle.spread.proofs.pools.Pools.take.Tie as tie
@@ -24,18 +25,24 @@ slice-aggregate-lessen c = search needs
 
 lessen-requires : tie.Need-lessen-requires
 lessen-requires c κs =
-    let s = c .before .before .before .before in (
+    let after-formed = c .before in
+    let c-4 = after-formed .before .before .before in
+    let s = c-4 in (
       size s,
       s .pre .0,
-      omega (arith, c .before .formed .ensures, formed-most (stepOf (s .args .second) (s .args .spread)) (s .args .self .cell) (s .pre .1)),
+      omega (arith, after-formed .formed .ensures, formed-most (stepOf (s .args .second) (s .args .spread)) (s .args .self .cell) (s .pre .1)),
     )
 
 returns : tie.Need-returns
-returns c = let s = c .before .before .before .before .before .before in
-    let number = c .before .before .before .formed .ensures in
+returns c =
+    let after-lessen = c .before in
+    let after-formed = after-lessen .before .before in
+    let c-6 = after-formed .before .before .before in
+    let s = c-6 in
+    let number = after-formed .formed .ensures in
     record {
       formed = number;
-      leaves = c .before .lessen .ensures ∙ ap (λ (n : ℕ). afterIn (stepOf (s .args .second) (s .args .spread)) n (s .args .self .cell)) number;
+      leaves = after-lessen .lessen .ensures ∙ ap (λ (n : ℕ). afterIn (stepOf (s .args .second) (s .args .spread)) n (s .args .self .cell)) number;
     }
 
 pub take-spec : {M : Type 1} → statement M

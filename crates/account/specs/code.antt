@@ -1,0 +1,7 @@
+pub mod Determined
+pub mod Notes
+pub mod Pair
+pub mod Passing
+pub mod Rates
+pub mod Standing
+pub mod Surveyed

@@ -1,0 +1,33 @@
+-- What the check hands out with its verdict: how many contracts an accepted file lists, and of each part where it begins
+-- and how many records it has; all 0 for a refused file.
+-- Assumes nothing.
+use Prim.Native.Nat.{ℕ, _<_}
+use mathlib.Core.Path.{_≡_}
+use mathlib.Core.List.{List}
+use lib.ListN.{length, getD, replicate}
+use Rattle.account.specs.Answers.{numberOf}
+use Rattle.account.specs.Check.{recordsChecked}
+use Rattle.account.specs.PartNumbers.{parts, contractCount, partStart, partCount}
+use Rattle.account.specs.declared.answers.Answer.{Answer}
+use Rattle.account.specs.declared.check.Survey.{Survey}
+
+pub record Surveyed (file : List ℕ) (s : Survey) : Type 0 where
+  pub answer : s .answer ≡ recordsChecked file
+  pub contracts : s .contracts ≡ contractCount file
+  pub firsts : length (s .first) ≡ parts
+  pub first : (v : ℕ) → v < parts → getD (s .first) v 0 ≡ partStart file v
+  pub sizes : length (s .counts) ≡ parts
+  pub counts : (v : ℕ) → v < parts → getD (s .counts) v 0 ≡ partCount file v
+
+-- a verdict with no parts
+pub record Empty (a : Answer) (s : Survey) : Type 0 where
+  pub answer : s .answer ≡ a
+  pub contracts : s .contracts ≡ 0
+  pub first : s .first ≡ replicate parts 0
+  pub counts : s .counts ≡ replicate parts 0
+
+-- a verdict on a file beside notes that are the survey's where nothing is refused
+pub record Tallied (file : List ℕ) (answer : Answer) (contracts : ℕ) (first counts : List ℕ) : Type 0 where
+  pub answer-is : answer ≡ recordsChecked file
+  pub accepted : numberOf answer ≡ 0
+      → Surveyed file (record { answer = answer; contracts = contracts; first = first; counts = counts })

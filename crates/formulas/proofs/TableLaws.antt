@@ -1,0 +1,173 @@
+-- The intercontract table: contracts as tiers, filled place by place; what entries use is within what contracts have.
+-- Assumes nothing.
+use Prim.Native.Nat.{ℕ, zero, suc, _+_, _/_, _≤_, _<_, zero-le, suc-le-suc}
+use native.Mathlib.Numerals.{add-one}
+use native.Mathlib.Decide.{ℕ-discrete}
+use native.Mathlib.Omega.{arith}
+use mathlib.Core.Path.{_≡_, refl, sym, ap, ap₂, _∙_, subst, subst⁻¹}
+use mathlib.Core.Bool.{Bool, true, false, not, _&&_, _||_}
+use mathlib.Core.List.{List, [], _∷_, _++_, map, map-map}
+use lib.IntN.{ℤ, natAbs}
+use lib.ListN.{length, getD, take, set, replicate, length-set, length-map}
+use lib.Seq.{take-suc, take-suc-set, getD-set-same, getD-set-other}
+use Rattle.record.specs.Bytes.{recordBytes}
+use Rattle.exact.proofs.Lists.{map-take, getD-map}
+use borrow.Author.Tests.{lt-ltb}
+use lib.Dec.{eqb}
+use Rattle.record.specs.Layout.{Record, contract, secondContract, firstRatio, secondRatio}
+use Rattle.spread.specs.Accepted as given
+use Rattle.spread.specs.Steps.{Open, steps}
+use Rattle.spread.specs.declared.Delta.{Delta}
+use Rattle.spread.specs.declared.Prompts.{Prompts}
+use Rattle.account.specs.Records.{cut, records}
+use Rattle.spread.specs.code.Book.{Booked}
+use Rattle.spread.proofs.Every.{opens-length}
+use Rattle.spread.proofs.Filling.{getD-same}
+use Rattle.spread.specs.declared.Spreads.{Spreads}
+use Rattle.spread.specs.declared.Table.{Table}
+use Rattle.spread.specs.declared.book.Book.{Book}
+use Rattle.formulas.specs.declared.amount.Amount.{Amount}
+use Rattle.formulas.specs.declared.charges.Earner.{Earner}
+use Rattle.formulas.specs.declared.line.Line.{Line}
+use Rattle.formulas.specs.Bounds.{mostCredits}
+use Rattle.formulas.specs.Credit.{creditsBy}
+use Rattle.formulas.specs.Deltas.{intercontract}
+use Rattle.formulas.specs.code.Lines.{noLine}
+use Rattle.formulas.specs.code.Within.{EntryFit}
+use Rattle.formulas.specs.code.Sums.{interleaved, deltasIn, EntriesRoom}
+use Rattle.formulas.specs.code.Table.{tierOf, TiersFrom, TableRoom, earns, EarnerOf, CreditsOf}
+use Rattle.formulas.specs.code.Tables.{TableOf}
+use Rattle.formulas.specs.code.Promised.{BookOf}
+use Rattle.formulas.proofs.BookLaws.{book-accepted, handed-sound}
+use Rattle.formulas.proofs.LineLaws.{spreads-sound}
+use Rattle.formulas.proofs.RecordLaws.{count-is}
+
+opens-set : (ts : List ℕ) (ds : List Delta) (i t : ℕ) (d : Delta) → given.opens (set ts i t) (set ds i d) ≡ set (given.opens ts ds) i
+    (record { tier = t; unused = d .0 })
+opens-set [] ds i t d = refl
+opens-set (x ∷ ts) [] zero t d = refl
+opens-set (x ∷ ts) [] (suc i) t d = refl
+opens-set (x ∷ ts) (y ∷ ds) zero t d = refl
+opens-set (x ∷ ts) (y ∷ ds) (suc i) t d = ap (λ (ps : List Open). record { tier = x; unused = y .0 } ∷ ps) (opens-set ts ds i t d)
+
+-- the first i contracts stand in the arrays
+pub record Tiered (lines : List Line) (i : ℕ) (ts : List ℕ) (ds : List Delta) : Type 0 where
+  pub tiers : length ts ≡ 32
+  pub nets : length ds ≡ 32
+  pub so-far : take i (given.opens ts ds) ≡ map tierOf (take i lines)
+
+pub tiered-next : (lines : List Line) (i : ℕ) (ts : List ℕ) (ds : List Delta) (t : ℕ) (d : Delta) → Tiered lines i ts ds → i < 32 → i < length lines
+    → record { tier = t; unused = d .0 } ≡ tierOf (getD lines i noLine)
+    → Tiered lines (i + 1) (set ts i t) (set ds i d)
+tiered-next lines i ts ds t d is h l e =
+    let n = opens-length ts ds 32 (is .tiers) (is .nets) in
+    record {
+      tiers = rw length-set (is .tiers);
+      nets = rw length-set (is .nets);
+      so-far =
+          ap₂ take (add-one i) (opens-set ts ds i t d)
+          ∙ take-suc-set (given.opens ts ds) i (record { tier = t; unused = d .0 }) (omega arith)
+          ∙ ap₂ (λ (ps : List Open) (p : Open). ps ++ (p ∷ [])) (is .so-far ∙ map-take tierOf i lines)
+          (e ∙ sym (getD-map tierOf lines i noLine (tierOf noLine) l))
+          ∙ sym (take-suc (map tierOf lines) i (tierOf noLine) (rw length-map l))
+          ∙ ap (λ (k : ℕ). take k (map tierOf lines)) (sym (add-one i))
+          ∙ sym (map-take tierOf (i + 1) lines);
+    }
+
+-- the net deltas of what stands open
+open-deltas : (ts : List ℕ) (ds : List Delta) → length ts ≡ length ds → map (λ p. p .unused) (given.opens ts ds) ≡ deltasIn ds
+open-deltas [] [] e = refl
+open-deltas [] (d ∷ ds) e = absurd (omega arith)
+open-deltas (t ∷ ts) [] e = absurd (omega arith)
+open-deltas (t ∷ ts) (d ∷ ds) e = ap (λ (zs : List ℤ). d .0 ∷ zs) (open-deltas ts ds (omega arith))
+
+pub tiered-all : (lines : List Line) (i count : ℕ) (p : Prompts) → Tiered lines i (p .tier) (p .net) → i ≡ count → p .count ≡ count → TiersFrom count lines p
+tiered-all lines i count p is e c =
+    let o = is .so-far in
+    record {
+      count-is = c;
+      opens-are = ap (λ (n : ℕ). take n (given.opens (p .tier) (p .net))) (c ∙ sym e) ∙ o ∙ ap (λ (n : ℕ). map tierOf (take n lines)) e;
+      nets-are =
+          ap (λ (n : ℕ). take n (deltasIn (p .net))) (sym e)
+          ∙ ap (take i) (sym (open-deltas (p .tier) (p .net) (is .tiers ∙ sym (is .nets))))
+          ∙ sym (map-take (λ q. q .unused) i (given.opens (p .tier) (p .net)))
+          ∙ ap (map (λ q. q .unused)) o
+          ∙ map-map (λ q. q .unused) tierOf (take i lines)
+          ∙ ap (λ (n : ℕ). map (λ l. l .net .0) (take n lines)) e;
+    }
+
+-- the first i contracts' credits stand in the array
+pub earned-next : (i : ℕ) (lines : List Line) (entries : List Record) (f g : List Spreads) (xs : List Amount) (a : Amount)
+    → CreditsOf i lines entries f g xs → i < 16 → a .0 ≡ earns (getD lines i noLine) entries f g → a .0 ≤ mostCredits
+    → CreditsOf (i + 1) lines entries f g (set xs i a)
+earned-next i lines entries f g xs a is h e m =
+    record {
+      places = rw length-set (is .places);
+      each = λ j l. at j l (λ (x : Amount). x .0 ≡ earns (getD lines j noLine) entries f g)
+          (λ q. subst (λ (k : ℕ). a .0 ≡ earns (getD lines k noLine) entries f g) (sym q) e) (is .each j);
+      most = λ j l. at j l (λ (x : Amount). x .0 ≤ mostCredits) (λ q. m) (is .most j);
+    }
+  where
+    at : (j : ℕ) → j < i + 1 → (P : Amount → Type 0) → (j ≡ i → P a) → (j < i → P (getD xs j (record { 0 = 0 }))) → P (getD (set xs i a) j (record { 0 = 0 }))
+    at j l P same before = go (ℕ-discrete j i)
+      where
+        go : Dec (j ≡ i) → P (getD (set xs i a) j (record { 0 = 0 }))
+        go (yes q) = subst⁻¹ P
+            (ap (λ (k : ℕ). getD (set xs i a) k (record { 0 = 0 })) q ∙ getD-set-same xs i a (record { 0 = 0 }) (omega (arith, is .places))) (same q)
+        go (no q) = subst⁻¹ P (getD-set-other xs i j a (record { 0 = 0 }) q) (before (omega (arith, q)))
+
+module _ (l : Line) (e : Earner) (entries : List Record) (f g : List Spreads) (is : EarnerOf l e) where
+  pub earner-room : EntriesRoom (l .unit) (l .contract) (l .«twice_price») (natAbs (l .net .0)) entries f g
+      → EntriesRoom (e .unit) (e .contract) (e .«twice_price») (e .net) entries f g
+  earner-room h = rw (is .unit-is, is .contract-is, is .price-is, is .net-is) h
+
+  pub earner-earns : (r : ℕ) → r ≡ creditsBy (e .unit) (e .contract) (e .«twice_price») (e .net) entries (interleaved f g) → r ≡ earns l entries f g
+  earner-earns r h =
+      h
+      ∙ ap₂ (λ (u c : ℕ). creditsBy u c (e .«twice_price») (e .net) entries (interleaved f g)) (is .unit-is) (is .contract-is)
+      ∙ ap₂ (λ (t n : ℕ). creditsBy (l .unit) (l .contract) t n entries (interleaved f g)) (is .price-is) (is .net-is)
+
+-- without entries there is nothing to earn
+pub none-earned : (count : ℕ) (lines : List Line) (part : List ℕ) (f g : List Spreads) → length part < recordBytes → CreditsOf count lines (records part) f g
+    (replicate 16 (record { 0 = 0 }))
+none-earned count lines part f g h =
+    let e : length part / recordBytes ≡ 0 = omega arith in
+    subst⁻¹ (λ (es : List Record). CreditsOf count lines es f g (replicate 16 (record { 0 = 0 }))) (ap (λ (n : ℕ). cut n part) e)
+    (record {
+      places = refl;
+      each = λ i l. ap (λ (a : Amount). a .0) (getD-same 16 (record { 0 = 0 }) i);
+      most = λ i l. subst⁻¹ (λ (a : Amount). a .0 ≤ mostCredits) (getD-same 16 (record { 0 = 0 }) i) zero-le;
+    })
+
+-- the entries of a table are spreads that the steps accept
+pub entry-accepted : (e : Record) → EntryFit e → given.soundSpread (intercontract e) ≡ true
+entry-accepted e w =
+    rw (
+      lt-ltb (contract e) 16 (le-suc (w .first-number)),
+      lt-ltb (secondContract e) 16 (le-suc (w .second-number)),
+      lt-ltb 0 (firstRatio e)
+          (w .first-ratio),
+      lt-ltb 0 (secondRatio e) (w .second-ratio),
+    )
+    (last (eqb (contract e) (secondContract e)))
+  where
+    le-suc : {n m : ℕ} → n ≤ m → suc n ≤ suc m
+    le-suc h = suc-le-suc h
+
+    last : (b : Bool) → not (b && false || false) && true ≡ true
+    last true = refl
+    last false = refl
+
+pub table-sound : (count : ℕ) (lines : List Line) (entries : List ℕ) (p : Prompts) (t : Table) → TiersFrom count lines p
+    → TableOf intercontract entries t → TableRoom count lines (records entries) → given.sound p t ≡ true
+table-sound count lines entries p t tiers table room =
+    handed-sound p t (map tierOf (take count lines)) (map intercontract (records entries)) (tiers .opens-are) (table .spreads-are)
+    (omega (arith, tiers .count-is, room .few)) (omega (arith, table .count-is, room .entries-within .few, count-is entries)) (room .tiers-sound)
+    (spreads-sound intercontract (records entries) (λ k h. entry-accepted (getD (records entries) k []) (room .entries-within .each k h)))
+
+pub table-book-is : (count : ℕ) (lines : List Line) (entries : List ℕ) (p : Prompts) (t : Table) (b : Book) → TiersFrom count lines p
+    → TableOf intercontract entries t → TableRoom count lines (records entries) → Booked p t b
+    → BookOf (steps (map intercontract (records entries))) (map tierOf (take count lines)) b
+table-book-is count lines entries p t b tiers table room is =
+    book-accepted (steps (map intercontract (records entries))) (map tierOf (take count lines)) p t b (tiers .opens-are) (ap steps (table .spreads-are))
+    (table-sound count lines entries p t tiers table room) is

@@ -1,0 +1,62 @@
+-- The credit from an entry, from what the entry uses and its percent.
+-- Assumes nothing.
+use mathlib.Core.Path.{_≡_, refl, sym, _∙_, ap, ap₂}
+use mathlib.Core.Bool.{Bool, true, false, cond}
+use Prim.Native.Nat.{ℕ, _*_}
+use native.Mathlib.Nat.{zero-mul, mul-zero}
+use native.Mathlib.Omega.{arith}
+use lib.Dec.{eqb}
+use Rattle.exact.specs.Rounding.{halfUpTo}
+use Rattle.exact.proofs.UnitLaws.{up-none}
+use Rattle.formulas.specs.Credit.{fromUnit, unitPriceRisk, creditAt, credit}
+use borrow.Author.Needs.{needs}
+use Rattle.formulas.proofs.charges.credit_from.Statement.{statement}
+use Rattle.formulas.proofs.charges.credit_from.Tie as tie
+
+-- nothing used, nothing earned
+nothing-used : (unit twice used percent net : ℕ) → used ≡ 0 → 0 ≡ credit unit twice used percent net
+nothing-used unit twice used percent net e = go (eqb net 0)
+  where
+    none : creditAt unit (unitPriceRisk twice net) used percent ≡ 0
+    none =
+        ap (λ (u : ℕ). creditAt unit (unitPriceRisk twice net) u percent) e
+        ∙ ap (λ (x : ℕ). halfUpTo x fromUnit unit) (ap (λ (x : ℕ). x * percent) (mul-zero (unitPriceRisk twice net)) ∙ zero-mul percent)
+        ∙ up-none unit fromUnit
+
+    go : (b : Bool) → 0 ≡ cond b 0 (creditAt unit (unitPriceRisk twice net) used percent)
+    go true = refl
+    go false = sym none
+
+entry-use-requires : tie.Need-entry-use-requires
+entry-use-requires c κs = search needs
+
+returns : tie.Need-returns
+returns c =
+    let after-entry-use = c .before in
+    let c-3 = after-entry-use .before .before in
+    let s = c-3 in (
+      nothing-used (s .args .earner .unit) (s .args .earner .«twice_price») _ _ (s .args .earner .net)
+          (sym (after-entry-use .entry-use .ensures) ∙ c .if1 .taken),
+      omega arith,
+    )
+
+percent-requires : tie.Need-percent-requires
+percent-requires c κs = search needs
+
+credit-requires : tie.Need-credit-requires
+credit-requires c κs = search needs
+
+returns-2 : tie.Need-returns-2
+returns-2 c =
+    let after-percent = c .before in
+    let after-entry-use = after-percent .before .before in
+    let c-5 = after-entry-use .before .before in
+    let s = c-5 in (
+      c .credit .ensures .0
+          ∙ ap₂ (λ (u p : ℕ). credit (s .args .earner .unit) (s .args .earner .«twice_price») u p (s .args .earner .net))
+          (after-entry-use .entry-use .ensures) (after-percent .percent .ensures .0),
+      c .credit .ensures .1,
+    )
+
+pub credit-from-spec : {M : Type 1} → statement M
+credit-from-spec = tie.close (tie.spec entry-use-requires returns percent-requires credit-requires returns-2)

@@ -1,0 +1,143 @@
+-- The charges of the spreads, one after the other.
+-- Assumes nothing.
+use mathlib.Core.Path.{_≡_, _∙_, sym, ap, subst⁻¹}
+use Prim.Native.Nat.{ℕ, _+_, _-_}
+use native.Mathlib.Omega.{arith}
+use borrow.Author.Needs.{needs}
+use lib.ListN.{length, getD}
+use Rattle.record.specs.Layout.{Record, ratePerSpread}
+use Rattle.account.specs.Records.{records, recordCount}
+use Rattle.formulas.specs.Bounds.{mostCharge}
+use Rattle.formulas.specs.Charges.{spreadCharge}
+use Rattle.formulas.specs.code.Sums.{SpreadRoom}
+use Rattle.formulas.proofs.RecordLaws.{lent-at, below-records, length-cut}
+use Rattle.formulas.proofs.SumLaws.{ToGo, start, next, finish, chargeFrom, charge-step, charge-none}
+use Rattle.formulas.proofs.charges.interprompt_charge.Statement.{statement}
+use Rattle.formulas.proofs.charges.interprompt_charge.Tie as tie
+
+abbrev Inv-loop : tie.InvT-loop
+Inv-loop unit spreads first second count sum₀ i₀ sum i = ToGo (recordCount spreads) mostCharge (chargeFrom unit (records spreads) first second) i sum
+
+abbrev μ-loop : tie.MeasureT-loop
+μ-loop unit spreads first second count sum₀ i₀ sum i = count - i
+
+loop-holds : tie.Need-loop-holds Inv-loop μ-loop
+loop-holds c = start _ _ _
+
+mul-at : tie.Need-mul-at Inv-loop μ-loop
+mul-at c = omega arith
+
+add-charge-of-spread : tie.Need-add-charge-of-spread Inv-loop μ-loop
+add-charge-of-spread c = omega arith
+
+sub-charge-of-spread : tie.Need-sub-charge-of-spread Inv-loop μ-loop
+sub-charge-of-spread c = omega arith
+
+part-charge-of-spread-start : tie.Need-part-charge-of-spread-start Inv-loop μ-loop
+part-charge-of-spread-start c = omega arith
+
+part-charge-of-spread-end : tie.Need-part-charge-of-spread-end Inv-loop μ-loop
+part-charge-of-spread-end c = omega arith
+
+mul-charge-of-spread : tie.Need-mul-charge-of-spread Inv-loop μ-loop
+mul-charge-of-spread c = omega arith
+
+array-copy-out-charge-of-spread : tie.Need-array-copy-out-charge-of-spread Inv-loop μ-loop
+array-copy-out-charge-of-spread c =
+    let c-4 = c .before .before .before .before in
+    let s = c-4 in omega
+    (arith, s .pre .most, length-cut (recordCount (s .args .spreads .now)) (s .args .spreads .now))
+
+mul-charge-of-spread-2 : tie.Need-mul-charge-of-spread-2 Inv-loop μ-loop
+mul-charge-of-spread-2 c = omega arith
+
+array-copy-out-charge-of-spread-2 : tie.Need-array-copy-out-charge-of-spread-2 Inv-loop μ-loop
+array-copy-out-charge-of-spread-2 c =
+    let c-5 = c .before .before .before .before .before in
+    let s = c-5 in omega
+    (arith, s .pre .most, length-cut (recordCount (s .args .spreads .now)) (s .args .spreads .now))
+
+charge-of-spread-requires : tie.Need-charge-of-spread-requires Inv-loop μ-loop
+charge-of-spread-requires c κs =
+    let after-loop = c .before .before .before .before in
+    let c-6 = after-loop .before .before in
+    let s = c-6 in
+    let l = after-loop .loop in
+    subst⁻¹ (λ (r : Record). SpreadRoom (s .args .unit) r (getD (s .args .t3) (l .i) (record { 0 = 0 }) .0)
+    (getD (s .args .t4) (l .i) (record { 0 = 0 }) .0)) (lent-at (s .args .spreads .now) (l .i) (omega arith))
+    (s .pre .each (l .i) (below-records (s .args .spreads .now) (l .i) (omega arith)))
+
+add-sum : tie.Need-add-sum Inv-loop μ-loop
+add-sum c =
+    let after-charge-of-spread = c .before in
+    let after-loop = after-charge-of-spread .before .before .before .before .before in
+    let c-8 = after-loop .before .before in
+    let s = c-8 in
+    let t = after-loop .loop .inv .small in
+    let h = s .pre .most in
+    let k = length-cut (recordCount (s .args .spreads .now)) (s .args .spreads .now) in
+    let m = after-charge-of-spread .charge-of-spread .ensures .1 in
+    omega arith
+
+add-i : tie.Need-add-i Inv-loop μ-loop
+add-i c = omega arith
+
+loop-less : tie.Need-loop-less Inv-loop μ-loop
+loop-less c = omega arith
+
+loop-again : tie.Need-loop-again Inv-loop μ-loop
+loop-again c =
+    let s = c .before .before .before .before .before .before .before .before in
+    let l = c .before .before .before .before .before .before .loop in
+    let f = s .args .spreads .now in
+    let n = length-cut (recordCount f) f in
+    let h = s .pre .most in
+    let first : length (s .args .t3) ≡ 32 = search needs in
+    let second : length (s .args .t4) ≡ 32 = search needs in
+    next (l .i) (l .sum) (c .before .charge-of-spread .result .0) (l .inv) (omega arith)
+    (charge-step (s .args .unit) (records (s .args .spreads .now)) (s .args .t3) (s .args .t4) (omega arith) (omega arith) (l .i)
+    (below-records f (l .i) (omega arith))
+    ∙ ap (λ (x : ℕ). x + chargeFrom (s .args .unit) (records (s .args .spreads .now)) (s .args .t3) (s .args .t4) (l .i + 1))
+    (sym (c .before .charge-of-spread .ensures .0
+    ∙ ap (λ (r : Record). spreadCharge (s .args .unit) (ratePerSpread r) (getD (s .args .t3) (l .i) (record { 0 = 0 }) .0)
+    (getD (s .args .t4) (l .i) (record { 0 = 0 }) .0)) (lent-at f (l .i) (omega arith)))))
+    (c .before .charge-of-spread .ensures .1)
+
+returns : tie.Need-returns Inv-loop μ-loop
+returns c =
+    let after-loop = c .before in
+    let c-3 = after-loop .before .before in
+    let s = c-3 in
+    let l = after-loop .loop in
+    let f = s .args .spreads .now in
+    let n = length-cut (recordCount f) f in
+    let h = s .pre .most in
+    let t = l .inv .small in
+    let w = l .inv .within in (
+      finish (l .i) (l .sum) (l .inv) (omega arith)
+          (charge-none (s .args .unit) (records (s .args .spreads .now)) (s .args .t3) (s .args .t4) (l .i) (omega arith)),
+      omega arith,
+    )
+
+pub interprompt-charge-spec : {M : Type 1} → statement M
+interprompt-charge-spec =
+    tie.close
+    (tie.spec
+    Inv-loop
+    μ-loop
+    loop-holds
+    mul-at
+    add-charge-of-spread
+    sub-charge-of-spread
+    part-charge-of-spread-start
+    part-charge-of-spread-end
+    mul-charge-of-spread
+    array-copy-out-charge-of-spread
+    mul-charge-of-spread-2
+    array-copy-out-charge-of-spread-2
+    charge-of-spread-requires
+    add-sum
+    add-i
+    loop-less
+    loop-again
+    returns)

@@ -1,0 +1,144 @@
+-- The charges of the prompts, one after the other.
+-- Assumes nothing.
+use mathlib.Core.Path.{_≡_, _∙_, sym, ap, subst⁻¹}
+use Prim.Native.Nat.{ℕ, _+_, _-_}
+use native.Mathlib.Omega.{arith}
+use borrow.Author.Needs.{needs}
+use lib.ListN.{length, getD}
+use Rattle.record.specs.Layout.{Record, spreadRate, outrightRate}
+use Rattle.account.specs.Records.{records, recordCount}
+use lib.IntN.{pos}
+use Rattle.formulas.specs.Bounds.{mostCharge}
+use Rattle.formulas.specs.Charges.{promptCharge}
+use Rattle.formulas.specs.code.Sums.{PromptRoom}
+use Rattle.formulas.proofs.RecordLaws.{lent-at, below-records, length-cut}
+use Rattle.formulas.proofs.SumLaws.{ToGo, start, next, finish, promptFrom, prompt-step, prompt-none}
+use Rattle.formulas.proofs.charges.prompt_charges.Statement.{statement}
+use Rattle.formulas.proofs.charges.prompt_charges.Tie as tie
+
+abbrev Inv-loop : tie.InvT-loop
+Inv-loop unit prompts used unused count sum₀ i₀ sum i = ToGo (recordCount prompts) mostCharge (promptFrom unit (records prompts) used unused) i sum
+
+abbrev μ-loop : tie.MeasureT-loop
+μ-loop unit prompts used unused count sum₀ i₀ sum i = count - i
+
+loop-holds : tie.Need-loop-holds Inv-loop μ-loop
+loop-holds c = start _ _ _
+
+mul-at : tie.Need-mul-at Inv-loop μ-loop
+mul-at c = omega arith
+
+add-charge-of-prompt : tie.Need-add-charge-of-prompt Inv-loop μ-loop
+add-charge-of-prompt c = omega arith
+
+sub-charge-of-prompt : tie.Need-sub-charge-of-prompt Inv-loop μ-loop
+sub-charge-of-prompt c = omega arith
+
+part-charge-of-prompt-start : tie.Need-part-charge-of-prompt-start Inv-loop μ-loop
+part-charge-of-prompt-start c = omega arith
+
+part-charge-of-prompt-end : tie.Need-part-charge-of-prompt-end Inv-loop μ-loop
+part-charge-of-prompt-end c = omega arith
+
+mul-charge-of-prompt : tie.Need-mul-charge-of-prompt Inv-loop μ-loop
+mul-charge-of-prompt c = omega arith
+
+array-copy-out-charge-of-prompt : tie.Need-array-copy-out-charge-of-prompt Inv-loop μ-loop
+array-copy-out-charge-of-prompt c =
+    let c-4 = c .before .before .before .before in
+    let s = c-4 in omega
+    (arith, s .pre .most, length-cut (recordCount (s .args .prompts .now)) (s .args .prompts .now))
+
+mul-charge-of-prompt-2 : tie.Need-mul-charge-of-prompt-2 Inv-loop μ-loop
+mul-charge-of-prompt-2 c = omega arith
+
+array-copy-out-charge-of-prompt-2 : tie.Need-array-copy-out-charge-of-prompt-2 Inv-loop μ-loop
+array-copy-out-charge-of-prompt-2 c =
+    let c-5 = c .before .before .before .before .before in
+    let s = c-5 in omega
+    (arith, s .pre .most, length-cut (recordCount (s .args .prompts .now)) (s .args .prompts .now))
+
+charge-of-prompt-requires : tie.Need-charge-of-prompt-requires Inv-loop μ-loop
+charge-of-prompt-requires c κs =
+    let after-loop = c .before .before .before .before in
+    let c-6 = after-loop .before .before in
+    let s = c-6 in
+    let l = after-loop .loop in
+    subst⁻¹ (λ (r : Record). PromptRoom (s .args .unit) r (getD (s .args .t3) (l .i) (record { 0 = pos 0 }) .0)
+    (getD (s .args .t4) (l .i) (record { 0 = pos 0 }) .0)) (lent-at (s .args .prompts .now) (l .i) (omega arith))
+    (s .pre .each (l .i) (below-records (s .args .prompts .now) (l .i) (omega arith)))
+
+add-sum : tie.Need-add-sum Inv-loop μ-loop
+add-sum c =
+    let after-charge-of-prompt = c .before in
+    let after-loop = after-charge-of-prompt .before .before .before .before .before in
+    let c-8 = after-loop .before .before in
+    let s = c-8 in
+    let t = after-loop .loop .inv .small in
+    let h = s .pre .most in
+    let k = length-cut (recordCount (s .args .prompts .now)) (s .args .prompts .now) in
+    let m = after-charge-of-prompt .charge-of-prompt .ensures .1 in
+    omega arith
+
+add-i : tie.Need-add-i Inv-loop μ-loop
+add-i c = omega arith
+
+loop-less : tie.Need-loop-less Inv-loop μ-loop
+loop-less c = omega arith
+
+loop-again : tie.Need-loop-again Inv-loop μ-loop
+loop-again c =
+    let s = c .before .before .before .before .before .before .before .before in
+    let l = c .before .before .before .before .before .before .loop in
+    let f = s .args .prompts .now in
+    let n = length-cut (recordCount f) f in
+    let h = s .pre .most in
+    let first : length (s .args .t3) ≡ 32 = search needs in
+    let second : length (s .args .t4) ≡ 32 = search needs in
+    next (l .i) (l .sum) (c .before .charge-of-prompt .result .0) (l .inv) (omega arith)
+    (prompt-step (s .args .unit) (records (s .args .prompts .now)) (s .args .t3) (s .args .t4) (omega arith) (omega arith) (l .i)
+    (below-records f (l .i) (omega arith))
+    ∙ ap (λ (x : ℕ). x + promptFrom (s .args .unit) (records (s .args .prompts .now)) (s .args .t3) (s .args .t4) (l .i + 1))
+    (sym (c .before .charge-of-prompt .ensures .0
+    ∙ ap (λ (r : Record). promptCharge (s .args .unit) (spreadRate r) (outrightRate r) (getD (s .args .t3) (l .i) (record { 0 = pos 0 }) .0)
+    (getD (s .args .t4) (l .i) (record { 0 = pos 0 }) .0)) (lent-at f (l .i) (omega arith)))))
+    (c .before .charge-of-prompt .ensures .1)
+
+returns : tie.Need-returns Inv-loop μ-loop
+returns c =
+    let after-loop = c .before in
+    let c-3 = after-loop .before .before in
+    let s = c-3 in
+    let l = after-loop .loop in
+    let f = s .args .prompts .now in
+    let n = length-cut (recordCount f) f in
+    let h = s .pre .most in
+    let t = l .inv .small in
+    let w = l .inv .within in (
+      finish (l .i) (l .sum) (l .inv) (omega arith)
+          (prompt-none (s .args .unit) (records (s .args .prompts .now)) (s .args .t3) (s .args .t4) (l .i) (omega arith)),
+      omega arith,
+    )
+
+pub prompt-charges-spec : {M : Type 1} → statement M
+prompt-charges-spec =
+    tie.close
+    (tie.spec
+    Inv-loop
+    μ-loop
+    loop-holds
+    mul-at
+    add-charge-of-prompt
+    sub-charge-of-prompt
+    part-charge-of-prompt-start
+    part-charge-of-prompt-end
+    mul-charge-of-prompt
+    array-copy-out-charge-of-prompt
+    mul-charge-of-prompt-2
+    array-copy-out-charge-of-prompt-2
+    charge-of-prompt-requires
+    add-sum
+    add-i
+    loop-less
+    loop-again
+    returns)

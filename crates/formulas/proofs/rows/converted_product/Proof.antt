@@ -1,0 +1,80 @@
+-- `converted_product`: at most what 15 lets pass, and half of a unit more.
+-- Assumes nothing.
+use mathlib.Core.Path.{_≡_, refl, sym, _∙_, ap, subst}
+use Prim.Native.Nat.{ℕ, _≤_}
+use native.Mathlib.Omega.{arith}
+use lib.IntN.{ℤ, natAbs, _*ℤ_}
+use Rattle.exact.specs.Rounding.{halfUpTo, halfAwayTo}
+use Rattle.exact.proofs.Integers.{back, seen, abs-sign}
+use Rattle.exact.proofs.UnitLaws.{away-above}
+use Rattle.account.specs.Products.{convertedAt, mostConversion}
+use Rattle.formulas.specs.Bounds.{mostProduct}
+use Rattle.formulas.specs.code.Position.{Sized}
+use Rattle.formulas.proofs.SignedCalls.{times-fits, times-is, sized-back}
+use Rattle.formulas.proofs.rows.converted_product.Statement.{statement}
+use Rattle.formulas.proofs.rows.converted_product.Tie as tie
+
+times-requires : tie.Need-times-requires
+times-requires c κs =
+    times-fits (c .args .each) (c .args .loss) (c .args .each) (c .args .loss) 1000000000 100000 (c .fits .each) (c .fits .loss) refl refl
+    (c .pre .0) (c .pre .1 .0) (omega arith)
+
+-- what the call of `times` left
+multiplied : (c : tie.After-times) → Sized 100000000000000 (c .before .args .each *ℤ c .before .args .loss) (c .times .result)
+multiplied c =
+    let s = c .before in
+    times-is (s .args .each) (s .args .loss) (s .args .each) (s .args .loss) 1000000000 100000 (s .fits .each) (s .fits .loss) refl refl
+    (s .pre .0) (s .pre .1 .0) (c .times .result) (c .times .ensures)
+
+converted-requires : tie.Need-converted-requires
+converted-requires c κs =
+    let s = c .before in (
+      subst (λ (z : ℤ). natAbs z ≤ mostConversion) (sym (back (c .times .result) (record { sfits = c .times .ok }))) (multiplied c .size),
+      (s .pre .1 .1 .1 .0, s .pre .1 .1 .1 .1 .0),
+    )
+
+-- what the call of `converted` left
+changed : (c : tie.After-converted) →
+    let s = c .before .before in
+    Sized mostConversion (convertedAt (s .args .f .raised) (s .args .f .lowered) (s .args .each *ℤ s .args .loss)) (c .converted .result)
+changed c =
+    let s = c .before .before in
+    let t = c .before .times in
+    let is : c .converted .result ≡ convertedAt (s .args .f .raised) (s .args .f .lowered) (s .args .each *ℤ s .args .loss) =
+    seen (convertedAt (s .args .f .raised) (s .args .f .lowered)) (t .result) (record { sfits = t .ok }) (c .converted .ensures)
+    ∙ ap (convertedAt (s .args .f .raised) (s .args .f .lowered)) (multiplied (c .before) .is) in
+    record { is = is; size = subst (λ (z : ℤ). natAbs z ≤ mostConversion) (sym is) (s .pre .1 .1 .1 .1 .1) }
+
+-- how large it is, rounded
+rounded : (unit : ℕ) (z : ℤ) → unit ≤ 1000 → natAbs z ≤ 100000000000000 → natAbs (halfAwayTo z unit) ≤ mostProduct
+rounded unit z hu h = omega (arith, away-above unit z)
+
+half-away-to-requires : tie.Need-half-away-to-requires
+half-away-to-requires c κs =
+    let s = c .before .before in
+    let z = c .converted .result in
+    let e = ap (λ (x : ℤ). halfUpTo (natAbs x) 1 (s .args .unit)) (back z (record { sfits = c .converted .ok })) in
+    omega (arith, e, abs-sign z (halfUpTo (natAbs z) 1 (s .args .unit)), rounded (s .args .unit) z (s .pre .1 .1 .0) (changed c .size))
+
+returns : tie.Need-returns
+returns c =
+    let after-converted = c .before in
+    let c-3 = after-converted .before .before in
+    let s = c-3 in
+    let t = after-converted .converted in
+    let m = changed (after-converted) in
+    let is : c .half-away-to .result ≡ halfAwayTo (convertedAt (s .args .f .raised) (s .args .f .lowered) (s .args .each *ℤ s .args .loss)) (s .args .unit) =
+    seen (λ (z : ℤ). halfAwayTo z (s .args .unit)) (t .result) (record { sfits = t .ok }) (c .half-away-to .ensures)
+    ∙ ap (λ (z : ℤ). halfAwayTo z (s .args .unit)) (m .is)
+    in
+    sized-back (c .half-away-to .result) (record { sfits = c .half-away-to .ok })
+    (record {
+      is = is;
+      size =
+          subst (λ (z : ℤ). natAbs z ≤ mostProduct)
+          (sym (seen (λ (z : ℤ). halfAwayTo z (s .args .unit)) (t .result) (record { sfits = t .ok }) (c .half-away-to .ensures)))
+          (rounded (s .args .unit) (t .result) (s .pre .1 .1 .0) (m .size));
+    })
+
+pub converted-product-spec : {M : Type 1} → statement M
+converted-product-spec = tie.close (tie.spec times-requires converted-requires half-away-to-requires returns)

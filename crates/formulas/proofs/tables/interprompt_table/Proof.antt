@@ -1,0 +1,93 @@
+-- The table is filled record by record.
+-- Assumes nothing.
+use mathlib.Core.Path.{_≡_, _∙_, ap, refl}
+use Prim.Native.Nat.{_-_}
+use native.Mathlib.Omega.{arith}
+use borrow.Author.Needs.{needs}
+use lib.ListN.{length, length-set}
+use Rattle.formulas.specs.Deltas.{interprompt}
+use Rattle.formulas.proofs.RecordLaws.{lent-record, Filled, start, next, finish}
+use Rattle.formulas.proofs.tables.interprompt_table.Statement.{statement}
+use Rattle.formulas.proofs.tables.interprompt_table.Tie as tie
+
+abbrev Inv-loop : tie.InvT-loop
+Inv-loop spreads count table₀ i₀ table i = Filled interprompt spreads i table × (length table ≡ 32)
+
+abbrev μ-loop : tie.MeasureT-loop
+μ-loop spreads count table₀ i₀ table i = count - i
+
+no-spread-requires : tie.Need-no-spread-requires Inv-loop μ-loop
+no-spread-requires c κs = search needs
+
+loop-holds : tie.Need-loop-holds Inv-loop μ-loop
+loop-holds c = (start interprompt (c .before .before .args .spreads .now) _ (c .before .before .pre), refl)
+
+mul-at : tie.Need-mul-at Inv-loop μ-loop
+mul-at c = omega arith
+
+add-interprompt : tie.Need-add-interprompt Inv-loop μ-loop
+add-interprompt c = omega arith
+
+sub-interprompt : tie.Need-sub-interprompt Inv-loop μ-loop
+sub-interprompt c = omega arith
+
+part-interprompt-start : tie.Need-part-interprompt-start Inv-loop μ-loop
+part-interprompt-start c = omega arith
+
+part-interprompt-end : tie.Need-part-interprompt-end Inv-loop μ-loop
+part-interprompt-end c = omega arith
+
+interprompt-requires : tie.Need-interprompt-requires Inv-loop μ-loop
+interprompt-requires c κs = search needs
+
+mul-table : tie.Need-mul-table Inv-loop μ-loop
+mul-table c = omega arith
+
+array-set-from-table : tie.Need-array-set-from-table Inv-loop μ-loop
+array-set-from-table c = omega arith
+
+add-i : tie.Need-add-i Inv-loop μ-loop
+add-i c = omega arith
+
+loop-less : tie.Need-loop-less Inv-loop μ-loop
+loop-less c = omega arith
+
+loop-again : tie.Need-loop-again Inv-loop μ-loop
+loop-again c =
+    let after-loop = c .before .before .before in
+    let c-6 = after-loop .before .before .before in
+    let s = c-6 in
+    let l = after-loop .loop in (
+      next interprompt (s .args .spreads .now) (l .i) (l .table) (c .interprompt .result) (l .inv .0) (omega arith)
+          (c .interprompt .ensures ∙ ap interprompt (lent-record (s .args .spreads .now) (l .i))),
+      simp length-set (l .inv .1),
+    )
+
+returns : tie.Need-returns Inv-loop μ-loop
+returns c =
+    let after-loop = c .before in
+    let c-4 = after-loop .before .before .before in
+    let s = c-4 in
+    let l = after-loop .loop in
+    record { count-is = refl; spreads-are = finish interprompt (s .args .spreads .now) (l .i) (l .table) (l .inv .0) (omega arith) }
+
+pub interprompt-table-spec : {M : Type 1} → statement M
+interprompt-table-spec =
+    tie.close
+    (tie.spec
+    Inv-loop
+    μ-loop
+    no-spread-requires
+    loop-holds
+    mul-at
+    add-interprompt
+    sub-interprompt
+    part-interprompt-start
+    part-interprompt-end
+    interprompt-requires
+    mul-table
+    array-set-from-table
+    add-i
+    loop-less
+    loop-again
+    returns)

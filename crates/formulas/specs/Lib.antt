@@ -1,0 +1,9 @@
+pub mod Bounds
+pub mod Charges
+pub mod Contract
+pub mod Credit
+pub mod Deltas
+pub mod Margin
+pub mod Pairs
+pub mod Scanning
+pub mod code

@@ -1,0 +1,412 @@
+// What a contract's rows come to: its sixteen totals, its prompts' net deltas and its short lots.
+ghost use mathlib.Core.Path.{_≡_};
+ghost use mathlib.Core.Bool.{true};
+ghost use mathlib.Core.List.{List, [], _∷_, _++_};
+ghost use Prim.Native.Nat.{ℕ, _<_, _≤_, _+_, _-_, _*_};
+ghost use lib.IntN.{pos, natAbs, negℤ, _+ℤ_, _-ℤ_, _*ℤ_};
+ghost use Rattle.exact.specs.Rounding.{halfAwayTo};
+ghost use lib.ListN.{length, getD};
+ghost use Rattle.record.specs.Layout.{Record, day, hundredThousand, mostUnit};
+ghost use Rattle.account.specs.Check.{mostPrompts, mostRows};
+ghost use Rattle.account.specs.Products.{convertedAt, mostConversion, mostFactor};
+ghost use Rattle.account.specs.code.Rates.{RatesOf};
+ghost use Rattle.account.specs.Records.{records, recordCount};
+ghost use Rattle.formulas.specs.Bounds.{mostDelta, mostProduct};
+ghost use Rattle.formulas.specs.Deltas.{rowDelta};
+ghost use Rattle.formulas.specs.Margin as Margin;
+ghost use Rattle.formulas.specs.Margin.{shortOptions};
+ghost use Rattle.formulas.specs.code.Position.{RowFit, RowsFit, RatedBy, FactorsFit, Sized, AtMost, Added, DaysOf, products, ownProducts};
+ghost use Rattle.formulas.specs.code.Position.{convertedProducts, netOn, withNets, FirstPlace, Rising, PositionOf, Bounded, WithRows, HasRows, deltasIn};
+ghost use Rattle.formulas.specs.declared.rows.Position.{Position};
+use account::rates::Factors;
+use account::rates::Rates;
+use account::rates::converted;
+use account::rates::factors_of;
+use account::rates::per_tick;
+use exact::rounding::half_away_to;
+use exact::signed::is_negative;
+use exact::signed::magnitude;
+use exact::signed::minus;
+use exact::signed::plus;
+use exact::signed::times;
+use record::bytes::RECORD_BYTES;
+use record::fields::SCENARIOS;
+use record::fields::currency;
+use record::fields::day;
+use record::fields::delta;
+use record::fields::loss;
+use record::fields::lots;
+use record::fields::row_type;
+use spread::Delta;
+use spread::MOST_PROMPTS;
+
+// The sixteen totals, in hundredths of the currency, scenario 1 first.
+pub struct Totals(pub [i64; SCENARIOS]);
+
+// What a contract's rows come to. The net deltas are those of its prompts in file order, and 0 beyond them.
+pub struct Position {
+    pub totals: Totals,
+    pub nets: [Delta; MOST_PROMPTS],
+    pub shorts: u64,
+}
+
+// The days of a contract's prompts, the first `count`. Beyond them stands the latest day of all.
+pub struct Days {
+    pub count: usize,
+    pub day: [u32; MOST_PROMPTS],
+}
+
+// Every day is as early, or earlier.
+const LATEST: u32 = 4_294_967_295;
+
+// Lots × value × loss, rounded to the contract's unit.
+fn product(each: i64, loss: i64, unit: u64) -> i64
+    requires { ⌜ (natAbs each ≤ 1000000000) × (natAbs loss ≤ hundredThousand) × (unit ≤ mostUnit) ⌝ }
+    ensures { λ r. ⌜ Sized mostProduct (halfAwayTo (each *ℤ loss) unit) r ⌝ }
+{
+    half_away_to(times(each, loss), unit)
+}
+
+// The same in another currency, converted at its rate.
+fn converted_product(f: Factors, each: i64, loss: i64, unit: u64) -> i64
+    requires { ⌜ (natAbs each ≤ 1000000000)
+        × ((natAbs loss ≤ hundredThousand)
+        × ((unit ≤ mostUnit)
+        × ((f .raised ≤ mostFactor) × ((f .lowered ≤ mostFactor) × (natAbs (convertedAt (f .raised) (f .lowered) (each *ℤ loss)) ≤ mostConversion))))) ⌝ }
+    ensures { λ r. ⌜ Sized mostProduct (halfAwayTo (convertedAt (f .raised) (f .lowered) (each *ℤ loss)) unit) r ⌝ }
+{
+    half_away_to(converted(f, times(each, loss)), unit)
+}
+
+// Lots × delta.
+fn row_delta(row: &[u8]) -> Delta
+    requires { ⌜ RowFit (now row) ⌝ }
+    ensures { λ r. ⌜ Sized 1000000000 (rowDelta (now (row .entry))) (r .0) ⌝ }
+{
+    Delta(times(lots(row), delta(row)))
+}
+
+// The lots of a short position, 0 of a long one.
+fn short(lots: i64) -> u64
+    ensures { λ r. ⌜ r ≡ Margin.short lots ⌝ }
+{
+    if is_negative(lots) {
+        magnitude(lots)
+    } else {
+        0
+    }
+}
+
+// The short lots of a call or put, 0 of a forward.
+fn short_options(row: &[u8]) -> u64
+    ensures { λ r. ⌜ r ≡ shortOptions (now (row .entry)) ⌝ }
+{
+    let lots_short = short(lots(row));
+    if row_type(row) == 0 { 0 } else { lots_short }
+}
+
+// A prompt's net delta with more added to it.
+fn net_with(net: Delta, more: Delta) -> Delta
+    requires { ⌜ (natAbs (net .0) ≤ mostDelta) × (natAbs (more .0) ≤ mostDelta) ⌝ }
+    ensures { λ r. ⌜ r .0 ≡ net .0 +ℤ more .0 ⌝ }
+{
+    Delta(plus(net.0, more.0))
+}
+
+// One row more in the margin currency, added to each total.
+fn add_own(totals: &mut [i64; SCENARIOS], unit: u64, row: &[u8])
+    requires { ⌜ (unit ≤ mostUnit) × (RowFit (now row) × AtMost 16 (127 * mostProduct) (now totals)) ⌝ }
+    ensures { λ r. ⌜ Added 16 (ownProducts unit (now (row .entry))) (now (totals .entry)) (now (totals .exit)) ⌝ }
+{
+    let each = per_tick(row);
+    let mut s = 0;
+    while s < SCENARIOS {
+        let more = product(each, loss(row, s + 1), unit);
+        totals[s] = plus(totals[s], more);
+        s += 1;
+    }
+}
+
+// The same with a row in another currency.
+fn add_converted(totals: &mut [i64; SCENARIOS], f: Factors, unit: u64, row: &[u8])
+    requires { ⌜ (unit ≤ mostUnit) × (RowFit (now row) × (FactorsFit (f .raised) (f .lowered) (now row) × AtMost 16 (127 * mostProduct) (now totals))) ⌝ }
+    ensures { λ r. ⌜ Added 16 (convertedProducts (f .raised) (f .lowered) unit (now (row .entry))) (now (totals .entry)) (now (totals .exit)) ⌝ }
+{
+    let each = per_tick(row);
+    let mut s = 0;
+    while s < SCENARIOS {
+        let more = converted_product(f, each, loss(row, s + 1), unit);
+        totals[s] = plus(totals[s], more);
+        s += 1;
+    }
+}
+
+// Each total with one row more: whether it is converted is decided once.
+fn add_row(totals: &mut [i64; SCENARIOS], rates: Rates, unit: u64, row: &[u8])
+    requires { ⌜ (unit ≤ mostUnit) × (RowFit (now row) × (RatedBy rates (now row ∷ []) × AtMost 16 (127 * mostProduct) (now totals))) ⌝ }
+    ensures { λ r. ⌜
+        ((held : List Record) → RatesOf held rates → Added 16 (products held unit (now (row .entry))) (now (totals .entry)) (now (totals .exit))) ⌝ }
+{
+    let c = currency(row);
+    if c == 0 {
+        add_own(totals, unit, row);
+    } else {
+        add_converted(totals, factors_of(rates, c), unit, row);
+    }
+}
+
+// The day of a row or of a prompt.
+fn day_of(r: &[u8]) -> u32
+    ensures { λ d. ⌜ d ≡ day (now (r .entry)) ⌝ }
+{
+    day(r) as u32
+}
+
+// The days of a contract's prompts.
+pub fn days_of(prompts: &[u8]) -> Days
+    requires { ⌜ recordCount (now prompts) ≤ mostPrompts ⌝ }
+    ensures { λ d. ⌜ DaysOf (records (now (prompts .entry))) d ⌝ }
+{
+    let count = prompts.len() / RECORD_BYTES;
+    let mut days = [LATEST; MOST_PROMPTS];
+    let mut j = 0;
+    while j < count {
+        let at = j * RECORD_BYTES;
+        days[j] = day_of(&prompts[at..at + RECORD_BYTES]);
+        j += 1;
+    }
+    Days { count, day: days }
+}
+
+// What no rows come to.
+pub fn flat() -> Position
+    ensures { λ p. ⌜ ((rates : List Record) (unit : ℕ) (prompts : List Record) → length prompts ≤ mostPrompts → PositionOf rates unit prompts [] p) ⌝ }
+{
+    let totals = [0i64; SCENARIOS];
+    let none = Delta(0);
+    let nets = [none; MOST_PROMPTS];
+    Position {
+        totals: Totals(totals),
+        nets,
+        shorts: 0,
+    }
+}
+
+// Where a day stands if they rise: by halves, how many are earlier.
+fn earlier(days: &[u32; MOST_PROMPTS], d: u32) -> u32
+    ensures { λ n. ⌜ n ≤ mostPrompts ⌝ }
+{
+    let mut n: u32 = 0;
+    let mut half: u32 = 16;
+    while 0 < half {
+        let more = n + half;
+        if days[(more - 1) as usize] < d {
+            n = more;
+        }
+        half = half / 2;
+    }
+    n
+}
+
+// Whether days rise.
+fn rise(days: &[u32; MOST_PROMPTS], count: usize) -> bool
+    requires { ⌜ count ≤ mostPrompts ⌝ }
+    ensures { λ r. ⌜ (r ≡ true → Rising count (now (days .entry))) ⌝ }
+{
+    let mut j = 1;
+    while j < count {
+        if days[j] <= days[j - 1] {
+            return false;
+        }
+        j += 1;
+    }
+    true
+}
+
+// The first place of a day from a place on, and the number of days where there is none.
+fn first_place(days: &[u32; MOST_PROMPTS], start: usize, count: usize, d: u32) -> usize
+    requires { ⌜ (start ≤ count) × (count ≤ mostPrompts) ⌝ }
+    ensures { λ r. ⌜ FirstPlace (now (days .entry)) start count d r ⌝ }
+{
+    let mut j = start;
+    while j < count {
+        if days[j] == d {
+            return j;
+        }
+        j += 1;
+    }
+    j
+}
+
+// The first place of a day. Where the days rise it is looked for at once where it must stand.
+fn place_of(days: &[u32; MOST_PROMPTS], count: usize, rising: bool, d: u32) -> usize
+    requires { ⌜ (count ≤ mostPrompts) × (rising ≡ true → Rising count (now days)) ⌝ }
+    ensures { λ r. ⌜ FirstPlace (now (days .entry)) 0 count d r ⌝ }
+{
+    if rising {
+        let place = earlier(days, d) as usize;
+        if place < count {
+            if days[place] == d {
+                return place;
+            }
+        }
+    }
+    first_place(days, 0, count, d)
+}
+
+// The next place of the same day: there is none where the days rise.
+fn next_place(days: &[u32; MOST_PROMPTS], count: usize, rising: bool, j: usize) -> usize
+    requires { ⌜ (j < count) × ((count ≤ mostPrompts) × (rising ≡ true → Rising count (now days))) ⌝ }
+    ensures { λ r. ⌜ FirstPlace (now (days .entry)) (j + 1) count (getD (now (days .entry)) j 0) r ⌝ }
+{
+    if rising {
+        return count;
+    }
+    first_place(days, j + 1, count, days[j])
+}
+
+// What rows come to with more rows, in one walk over these. A ticket is one row more.
+pub fn with_rows(p: Position, days: Days, rates: Rates, unit: u64, rows: &[u8]) -> Position
+    requires { ⌜ (unit ≤ mostUnit)
+        × ((days .count ≤ mostPrompts)
+        × (RowsFit (records (now rows)) × (RatedBy rates (records (now rows)) × Bounded (mostRows - length (records (now rows))) p))) ⌝ }
+    ensures added { λ q. ⌜ ((held : List Record) → RatesOf held rates → WithRows held unit days p (records (now (rows .entry))) q) ⌝ }
+    ensures more { λ q. ⌜ ((held prompts earlier : List Record) → RatesOf held rates → DaysOf prompts days → PositionOf held unit prompts earlier p
+        → PositionOf held unit prompts (earlier ++ records (now (rows .entry))) q) ⌝ }
+    ensures most { λ q. ⌜ Bounded mostRows q ⌝ }
+{
+    let count = rows.len() / RECORD_BYTES;
+    let prompts = days.count;
+    let its_days = days.day;
+    let rising = rise(&its_days, prompts);
+    let its_totals = p.totals;
+    let mut totals = its_totals.0;
+    let mut nets = p.nets;
+    let mut shorts = p.shorts;
+    let mut i = 0;
+    while i < count {
+        let at = i * RECORD_BYTES;
+        let row = &rows[at..at + RECORD_BYTES];
+        let row_day = day_of(row);
+        let more = row_delta(row);
+        let mut j = place_of(&its_days, prompts, rising, row_day);
+        while j < prompts {
+            let net = net_with(nets[j], more);
+            nets[j] = net;
+            j = next_place(&its_days, prompts, rising, j);
+        }
+        add_row(&mut totals, rates, unit, row);
+        shorts = shorts + short_options(row);
+        i += 1;
+    }
+    Position {
+        totals: Totals(totals),
+        nets,
+        shorts,
+    }
+}
+
+// Net deltas with more rows, in one walk over these: where nothing but they are asked for.
+fn nets_with(before: [Delta; MOST_PROMPTS], days: Days, rows: &[u8]) -> [Delta; MOST_PROMPTS]
+    requires { ⌜ (days .count ≤ mostPrompts)
+        × (RowsFit (records (now rows)) × AtMost 32 ((mostRows - length (records (now rows))) * 1000000000) (deltasIn before)) ⌝ }
+    ensures { λ r. ⌜ Added (days .count) (λ j. netOn (records (now (rows .entry))) (getD (days .day) j 0)) (deltasIn before) (deltasIn r) ⌝ }
+{
+    let count = rows.len() / RECORD_BYTES;
+    let prompts = days.count;
+    let its_days = days.day;
+    let rising = rise(&its_days, prompts);
+    let mut nets = before;
+    let mut i = 0;
+    while i < count {
+        let at = i * RECORD_BYTES;
+        let row = &rows[at..at + RECORD_BYTES];
+        let row_day = day_of(row);
+        let more = row_delta(row);
+        let mut j = place_of(&its_days, prompts, rising, row_day);
+        while j < prompts {
+            let net = net_with(nets[j], more);
+            nets[j] = net;
+            j = next_place(&its_days, prompts, rising, j);
+        }
+        i += 1;
+    }
+    nets
+}
+
+// The net deltas alone of what a contract's rows come to.
+pub fn nets_of(prompts: &[u8], rows: &[u8]) -> [Delta; MOST_PROMPTS]
+    requires { ⌜ (recordCount (now prompts) ≤ mostPrompts) × RowsFit (records (now rows)) ⌝ }
+    ensures { λ r. ⌜ ((rates : List Record) (unit : ℕ) → PositionOf rates unit (records (now (prompts .entry))) (records (now (rows .entry)))
+        (withNets rates unit (records (now (rows .entry))) r)) ⌝ }
+{
+    let none = flat();
+    let no_nets = none.nets;
+    nets_with(no_nets, days_of(prompts), rows)
+}
+
+// Totals with others taken away, one by one.
+fn totals_without(t: Totals, gone: Totals) -> Totals
+    requires { ⌜ AtMost 16 (mostRows * mostProduct) (t .0) × AtMost 16 (mostRows * mostProduct) (gone .0) ⌝ }
+    ensures { λ r. ⌜ Added 16 (λ k. negℤ (getD (gone .0) k (pos 0))) (t .0) (r .0) ⌝ }
+{
+    let gone_from = gone.0;
+    let mut totals = t.0;
+    let mut s = 0;
+    while s < SCENARIOS {
+        totals[s] = minus(totals[s], gone_from[s]);
+        s += 1;
+    }
+    Totals(totals)
+}
+
+fn net_without(net: Delta, gone: Delta) -> Delta
+    requires { ⌜ (natAbs (net .0) ≤ mostDelta) × (natAbs (gone .0) ≤ mostDelta) ⌝ }
+    ensures { λ r. ⌜ r .0 ≡ net .0 -ℤ gone .0 ⌝ }
+{
+    Delta(minus(net.0, gone.0))
+}
+
+// Net deltas with others taken away, one by one.
+fn nets_without(nets: [Delta; MOST_PROMPTS], gone: [Delta; MOST_PROMPTS]) -> [Delta; MOST_PROMPTS]
+    requires { ⌜ AtMost 32 mostDelta (deltasIn nets) × AtMost 32 mostDelta (deltasIn gone) ⌝ }
+    ensures { λ r. ⌜ Added 32 (λ j. negℤ (getD (deltasIn gone) j (pos 0))) (deltasIn nets) (deltasIn r) ⌝ }
+{
+    let mut left = nets;
+    let mut j = 0;
+    while j < MOST_PROMPTS {
+        let net = net_without(left[j], gone[j]);
+        left[j] = net;
+        j += 1;
+    }
+    left
+}
+
+// What rows come to without the last of them, which it has: the position before these rows, in every number.
+pub fn without_rows(p: Position, days: Days, rates: Rates, unit: u64, rows: &[u8]) -> Position
+    requires { ⌜ (unit ≤ mostUnit)
+        × ((days .count ≤ mostPrompts)
+        × (RowsFit (records (now rows)) × (RatedBy rates (records (now rows)) × (Bounded mostRows p × HasRows rates unit days (records (now rows)) p)))) ⌝ }
+    ensures { λ q. ⌜ ((held : List Record) (before : Position) → RatesOf held rates → WithRows held unit days before (records (now (rows .entry))) p
+        → q ≡ before) ⌝ }
+{
+    let gone = with_rows(flat(), days, rates, unit, rows);
+    let its_totals = p.totals;
+    let gone_totals = gone.totals;
+    let its_nets = p.nets;
+    let gone_nets = gone.nets;
+    Position {
+        totals: totals_without(its_totals, gone_totals),
+        nets: nets_without(its_nets, gone_nets),
+        shorts: p.shorts - gone.shorts,
+    }
+}
+
+// What a contract's rows come to, at the account's rates, by its unit and its prompts' days.
+pub fn position_of(rates: Rates, unit: u64, prompts: &[u8], rows: &[u8]) -> Position
+    requires { ⌜ (unit ≤ mostUnit) × ((recordCount (now prompts) ≤ mostPrompts) × (RowsFit (records (now rows)) × RatedBy rates (records (now rows)))) ⌝ }
+    ensures is { λ p. ⌜ ((held : List Record) → RatesOf held rates → PositionOf held unit (records (now (prompts .entry))) (records (now (rows .entry))) p) ⌝ }
+    ensures most { λ p. ⌜ Bounded mostRows p ⌝ }
+{
+    with_rows(flat(), days_of(prompts), rates, unit, rows)
+}

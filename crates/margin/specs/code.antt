@@ -1,0 +1,7 @@
+pub mod Asked
+pub mod Asking
+pub mod Beside
+pub mod Lent
+pub mod Lined
+pub mod Numbers
+pub mod Positions

@@ -1,0 +1,48 @@
+-- An account that but for its rows stands in the files: tickets may have been put among them.
+-- Assumes nothing.
+use Prim.Native.Nat.{ℕ}
+use mathlib.Core.Path.{_≡_}
+use mathlib.Core.List.{List, []}
+use lib.ListN.{length, getD}
+use Rattle.exact.specs.Lists.{keep}
+use Rattle.record.specs.Layout.{Record, unit}
+use Rattle.account.specs.Lawful.{Lawful}
+use Rattle.account.specs.Parts.{contractsOf, promptsOf, spreadsOf, entriesOf, ratesOf}
+use Rattle.spread.specs.declared.Prompts.{Prompts}
+use Rattle.margin.specs.declared.over.Lines.{Lines}
+use Rattle.margin.specs.Books.{asks}
+use Rattle.margin.specs.code.Lined.{LinesOf, TiersIn}
+
+-- the own record of a contract, by its number
+abbrev pub ownOf : ℕ → List Record → Record
+ownOf c account = getD (keep (asks c) (contractsOf account)) 0 []
+
+-- and its unit
+abbrev pub unitOf : ℕ → List Record → ℕ
+unitOf c account = unit (ownOf c account)
+
+-- a lawful account with the records of another, but for its rows
+pub record Besides (standing whole : List Record) : Type 0 where
+  pub lawful : Lawful whole
+  pub contracts : contractsOf whole ≡ contractsOf standing
+  pub prompts : (c : ℕ) → promptsOf c whole ≡ promptsOf c standing
+  pub spreads : (c : ℕ) → spreadsOf c whole ≡ spreadsOf c standing
+  pub entries : entriesOf whole ≡ entriesOf standing
+  pub rates : ratesOf whole ≡ ratesOf standing
+
+-- one with these lines, and one with these tiers
+pub record LinesKnown (standing : List Record) (ls : Lines) : Type 0 where
+  pub whole : List Record
+  pub beside : Besides standing whole
+  pub lines : LinesOf whole ls
+
+-- such a one, of so many records
+pub record LinedBy (standing : List Record) (ls : Lines) (records : ℕ) (whole : List Record) : Type 0 where
+  pub beside : Besides standing whole
+  pub lines : LinesOf whole ls
+  pub records-are : records ≡ length whole
+
+pub record TiersKnown (standing : List Record) (tiers : Prompts) : Type 0 where
+  pub whole : List Record
+  pub beside : Besides standing whole
+  pub is : TiersIn whole tiers

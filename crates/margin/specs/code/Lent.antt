@@ -1,0 +1,46 @@
+-- What everything asked at once leaves in lent memory, contract by contract.
+-- Assumes nothing.
+use Prim.Native.Nat.{ℕ}
+use mathlib.Core.Path.{_≡_}
+use mathlib.Core.Bool.{true, false}
+use mathlib.Core.List.{List, []}
+use lib.IntN.{ℤ}
+use lib.ListN.{length, getD}
+use Rattle.record.specs.Layout.{Record, contract}
+use Rattle.account.specs.Parts.{contractsOf}
+use Rattle.margin.specs.declared.asking.Everything.{Everything}
+use Rattle.margin.specs.declared.asking.Question.the-variants.{Figures, Book, Uses}
+use Rattle.formulas.specs.declared.line.Line.{Line}
+use Rattle.margin.specs.declared.over.Lines.{Lines}
+use Rattle.margin.specs.Books.{tableQuestion}
+use Rattle.formulas.specs.Bounds.{longestBook, longestUses}
+use Rattle.formulas.specs.Contract.{partsIn}
+use Rattle.margin.specs.code.Lined.{LinesOf}
+use Rattle.formulas.specs.code.Promised.{LineOf}
+use Rattle.margin.specs.Questions.{answerOver, afterOver}
+use Rattle.margin.specs.Places.{lentPlace, lentEach, allOver, afterAllOver}
+
+-- the line of the i-th contract, and its book and its uses in their places
+pub record ContractLent (account : List Record) (i : ℕ) (l : Line) (books uses books′ uses′ : List ℤ) : Type 0 where
+  pub line : LineOf (partsIn account (getD (contractsOf account) i [])) l
+  pub book :
+      let c = contract (getD (contractsOf account) i []) in
+      books′ ≡ lentPlace longestBook c (afterOver account (Book c)) books
+  pub paid :
+      let c = contract (getD (contractsOf account) i []) in
+      uses′ ≡ lentPlace longestUses c (afterOver account (Uses c)) uses
+
+-- and of all contracts
+pub record ContractsLent (account : List Record) (ls : Lines) (books uses books′ uses′ : List ℤ) : Type 0 where
+  pub lines : LinesOf account ls
+  pub book : books′ ≡ lentEach longestBook (λ q. afterOver account (Book q)) tableQuestion books
+  pub paid : uses′ ≡ lentEach longestUses (λ q. afterOver account (Uses q)) tableQuestion uses
+
+-- the figures, and the books and uses of all questions
+pub record EverythingOf (account : List Record) (figures books uses : List ℤ) (r : Everything) (figures′ books′ uses′ : List ℤ) : Type 0 where
+  pub figures-answer : r .figures ≡ answerOver account Figures (length figures)
+  pub figures-after : figures′ ≡ afterOver account Figures figures
+  pub books-answer : r .books ≡ allOver false account (length books)
+  pub books-after : books′ ≡ afterAllOver false account books
+  pub uses-answer : r .uses ≡ allOver true account (length uses)
+  pub uses-after : uses′ ≡ afterAllOver true account uses

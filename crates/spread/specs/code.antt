@@ -1,0 +1,4 @@
+pub mod Book
+pub mod Cells
+pub mod Passing
+pub mod Step

@@ -1,0 +1,4 @@
+pub mod Counts
+pub mod Held
+pub mod Kept
+pub mod KeptClaims

@@ -9,12 +9,12 @@ use lib.Dec.{leb}
 use native.Mathlib.Omega.{arith}
 use borrow.Author.Tests.{eqb-true, eqb-false, leb-false, ltb-false, not-false}
 use Rattle.exact.specs.Lists.{any, keep, count}
-use Rattle.record.specs.Layout.{Record, kind, contract, day, rateCurrency}
+use Rattle.record.specs.Layout.{Record, kind, contract, day, rateCurrency, mostContract}
 use Rattle.record.specs.Within.{ContractWithin, PromptWithin, RowWithin, SpreadWithin, EntryWithin, RateWithin}
 use Rattle.record.proofs.Within.{neither, contract-within, prompt-within, row-within, spread-within, entry-within, rate-within}
 use Rattle.account.specs.Accepted.{Each, partBytes, Ranges, Limits, OnePrompt, Accepts}
 use Rattle.account.specs.Answers.{numberOf, recordOf}
-use Rattle.account.specs.Check.{recordsChecked, none, listsContract, listsDay, overLimit, mostRecords}
+use Rattle.account.specs.Check.{recordsChecked, none, listsContract, listsDay, overLimit, mostRecords, mostPrompts, mostRows, mostSpreads, mostEntries}
 use Rattle.account.specs.PartNumbers.{part, inPart, contractCount, partCount, entryPart, ratePart, parts}
 use Rattle.account.specs.Orders.{RatesRise}
 use Rattle.account.specs.Parts.{ofKind, ofContract, onDay, startOf, promptsOf, ratesOf}
@@ -90,7 +90,7 @@ module _ (file : List ℕ) (ok : recordsChecked file ≡ Accepted) where
       ∙ sym (s .kept)
 
   pub part-stands :
-      (n c : ℕ) → n ≤ 4 → c ≤ 15 → records (partBytes file (part n c)) ≡ keep (ofContract n c) (records file)
+      (n c : ℕ) → n ≤ 4 → c ≤ mostContract → records (partBytes file (part n c)) ≡ keep (ofContract n c) (records file)
   part-stands n c hn hc =
       stands (part n c) (omega arith) ∙ ap (λ (p : Record → Bool). keep p (records file)) (part-is n c hn hc)
 
@@ -140,15 +140,15 @@ module _ (file : List ℕ) (ok : recordsChecked file ≡ Accepted) where
       record {
         all = short;
         contracts = omega (arith, length-kept (ofKind 1) (records file), own file m fine .most);
-        prompts = λ c. omega (arith, length-kept (ofContract 2 c) (records file), part-few file m fine 2 c 32 over-2);
-        rows = λ c. omega (arith, length-kept (ofContract 3 c) (records file), part-few file m fine 3 c 128 over-3);
-        spreads = λ c. omega (arith, length-kept (ofContract 4 c) (records file), part-few file m fine 4 c 32 over-4);
+        prompts = λ c. omega (arith, length-kept (ofContract 2 c) (records file), part-few file m fine 2 c mostPrompts over-2);
+        rows = λ c. omega (arith, length-kept (ofContract 3 c) (records file), part-few file m fine 3 c mostRows over-3);
+        spreads = λ c. omega (arith, length-kept (ofContract 4 c) (records file), part-few file m fine 4 c mostSpreads over-4);
         entries =
             omega (
               arith,
               length-kept (ofKind 5) (records file),
-              few (ofKind 5) file 32 m (λ k h e.
-                  leb-false 32 (count (ofKind 5) (earlier file k))
+              few (ofKind 5) file mostEntries m (λ k h e.
+                  leb-false mostEntries (count (ofKind 5) (earlier file k))
                   (sym (over-5 (earlier file k) (recordAt file k) (eqb-true _ _ e)) ∙ at k h .room)),
             );
         rates = few-rates (ratesOf (records file)) (rates-rise file ok) (ranges-hold .rates);

@@ -1,6 +1,6 @@
 -- An account that stands in one file, joined with an empty noon file, of which the check hands out nothing.
 -- Assumes nothing.
-use Prim.Native.Nat.{ℕ, _+_, _%_, _<_}
+use Prim.Native.Nat.{ℕ, _%_, _<_}
 use native.Mathlib.Omega.{arith}
 use mathlib.Core.Path.{_≡_, refl, sym, ap, _∙_, subst, subst⁻¹}
 use mathlib.Core.Bool.{Bool, true, false, not, _&&_, cond}
@@ -15,7 +15,7 @@ use Rattle.account.specs.Checked.{ratesChecked, checked}
 use Rattle.account.specs.Conversions.{otherRow}
 use Rattle.account.specs.Lawful.{Recorded, Lawful}
 use Rattle.account.specs.declared.answers.Answer.{Answer}
-use Rattle.account.specs.PartNumbers.{parts, entryPart}
+use Rattle.account.specs.PartNumbers.{parts, entryPart, part}
 use Rattle.account.specs.Parts.{ratesOf}
 use Rattle.account.specs.Records.{records, recordCount}
 use Rattle.account.specs.code.Standing.{lists, fromNoon, eitherNote, Filled, Flagged, JoinedBy, AloneBy, Places, Stands, CheckedBy}
@@ -51,10 +51,10 @@ nothing-surveyed =
 
 -- an empty file lists nothing and supplies nothing
 none-listed : (c : ℕ) → c < mostContracts → lists zeros c ≡ false
-none-listed c h = ap (λ (n : ℕ). not (eqb n 0)) (getD-replicate {A = ℕ} parts (16 + c) 0 0 (omega arith))
+none-listed c h = ap (λ (n : ℕ). not (eqb n 0)) (getD-replicate {A = ℕ} parts (part 1 c) 0 0 (omega arith))
 
 none-supplied : (v : ℕ) → fromNoon zeros v ≡ false
-none-supplied v = ap (λ (t : Bool). ltb v entryPart && t) (none-listed (v % 16) (omega arith)) ∙ go (ltb v entryPart)
+none-supplied v = ap (λ (t : Bool). ltb v entryPart && t) (none-listed (v % mostContracts) (omega arith)) ∙ go (ltb v entryPart)
   where
     go : (t : Bool) → t && false ≡ false
     go true = refl

@@ -8,10 +8,11 @@ use lib.Dec.{eqb, leb, ltb}
 use native.Mathlib.Omega.{arith}
 use borrow.Author.Tests.{eq-eqb, ne-eqb, eqb-true, eqb-false, ltb-false}
 use Rattle.exact.specs.Lists.{oneIf, count}
-use Rattle.record.specs.Layout.{Record, kind, contract, day, tier, rateCurrency}
+use Rattle.record.specs.Layout.{Record, kind, contract, day, tier, rateCurrency, mostContract}
 use Rattle.record.proofs.Tests.{both}
 use Rattle.record.proofs.Within.{neither, by-kind, kind-known, contract-known}
 use Rattle.account.specs.Check.{theOneBefore, numberNotAbove, dayNotAbove, tierFalls, contractFalls, legsClash, withItself, currencyNotAbove, outOfOrder}
+use Rattle.account.specs.Check.{mostContracts}
 use Rattle.account.specs.Claims.{latest, outOfOrderByKind, ByKind}
 use Rattle.account.specs.PartNumbers.{part, inPart}
 use Rattle.account.specs.code.Notes.{partOf, beforeAt}
@@ -84,7 +85,7 @@ module _ (file : List ℕ) where
 
   -- the tier, where the contract does not fall
   same-tier :
-      (k : ℕ) → Faultless file k → (r : Record) → kind r ≡ 2 → contract r ≤ 15 → kind (beforeAt file k) ≤ 2
+      (k : ℕ) → Faultless file k → (r : Record) → kind r ≡ 2 → contract r ≤ mostContract → kind (beforeAt file k) ≤ 2
       → (kind (beforeAt file k) ≡ 2 → contract (beforeAt file k) ≤ contract r)
       → tierFalls (beforeAt file k) r ≡ tierFalls (latest (ofContract 2 (contract r)) (earlier file k)) r
   same-tier k fine r i hc hk rise = go (ofContract 2 (contract r) (beforeAt file k)) refl
@@ -107,8 +108,8 @@ module _ (file : List ℕ) where
             where
               split :
                   part 2 (contract r) ≤ partOf (beforeAt file k)
-                  → partOf (beforeAt file k) ≡ 16 * kind (beforeAt file k) + contract (beforeAt file k)
-                  → contract (beforeAt file k) ≤ 15 → (t : Bool) → eqb (kind (beforeAt file k)) 2 ≡ t → ⊥
+                  → partOf (beforeAt file k) ≡ mostContracts * kind (beforeAt file k) + contract (beforeAt file k)
+                  → contract (beforeAt file k) ≤ mostContract → (t : Bool) → eqb (kind (beforeAt file k)) 2 ≡ t → ⊥
               split up q c true t =
                   let i = eqb-true (kind (beforeAt file k)) 2 t in
                   let l = rise i in

@@ -11,7 +11,7 @@ use native.Mathlib.Nat.{le-refl}
 use borrow.Author.Tests.{eq-eqb, ne-eqb, eqb-true, leb-false, ltb-false}
 use Rattle.exact.specs.Lists.{consIf, keep, count}
 use Rattle.exact.proofs.Lists.{keep-append}
-use Rattle.record.specs.Layout.{Record, kind, contract, tier, day}
+use Rattle.record.specs.Layout.{Record, kind, contract, tier, day, mostContract}
 use Rattle.record.proofs.Within.{never, both-true, neither}
 use Rattle.account.specs.Accepted.{Each}
 use Rattle.account.specs.Check.{dayNotAbove, tierFalls, outOfOrder}
@@ -109,7 +109,7 @@ module _ (c : ℕ) (xs : List Record) (before r : Record) where
       ltb-false (tier r) (tier before)
       (right-off (ap (λ (n : ℕ). ofContract 2 n before) (eqb-true (contract r) c (y .1)) ∙ b) t)
 
-module _ (file : List ℕ) (c : ℕ) (hc : c ≤ 15) where
+module _ (file : List ℕ) (c : ℕ) (hc : c ≤ mostContract) where
   -- where the contract has prompts before another of its prompts, the record before is one of them
   adjacent :
       (k : ℕ) → Faultless file (suc k) → ofContract 2 c (recordAt file k) ≡ true

@@ -57,7 +57,7 @@ drop-cut (suc f) (suc k) file h =
     ∙ ap (cut (k - f)) (drop-drop (f * recordBytes) recordBytes file ∙ ap (λ (n : ℕ). drop n file) d)
     ∙ ap (λ (n : ℕ). cut n (drop (suc f * recordBytes) file)) (sym e)
 
-take-cut : (n m : ℕ) (file : List ℕ) → n ≤ m → take n (cut m file) ≡ cut n file
+pub take-cut : (n m : ℕ) (file : List ℕ) → n ≤ m → take n (cut m file) ≡ cut n file
 take-cut zero m file h = refl
 take-cut (suc n) zero file h = absurd (omega arith)
 take-cut (suc n) (suc m) file h = ap (λ (l : List Record). take recordBytes file ∷ l)

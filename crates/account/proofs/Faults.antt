@@ -8,11 +8,12 @@ use lib.ListN.{getD}
 use lib.Dec.{eqb, leb}
 use native.Mathlib.Omega.{arith}
 use Rattle.exact.specs.Lists.{keep, any, count}
-use Rattle.record.specs.Layout.{Record, kind, contract, day, legsOf, legTier, secondContract}
+use Rattle.record.specs.Layout.{Record, kind, contract, day, legsOf, legTier, secondContract, mostContract}
 use Rattle.record.specs.Ranges.{unknownKind, unusedByte, fieldOutside}
 use Rattle.record.proofs.Tests.{both}
 use Rattle.record.proofs.Within.{by-kind, kind-known, contract-known, entry-within}
-use Rattle.account.specs.Check.{kindFalls, outOfOrder, none, listsContract, legUnlisted, unlisted, overLimit, faultOf}
+use Rattle.account.specs.Check.{kindFalls, outOfOrder, none, listsContract, legUnlisted, unlisted, overLimit, faultOf, mostContracts, mostPrompts}
+use Rattle.account.specs.Check.{mostRows, mostSpreads, mostEntries}
 use Rattle.account.specs.PartNumbers.{part, inPart, entryPart, parts}
 use Rattle.account.specs.code.Notes.{partOf, noContract, noTier, unlistedBy, overLimitBy, promptsNoted, beforeAt, faultAt}
 use Rattle.account.specs.Parts.{ofKind, ofContract, onDay, onTier, startOf}
@@ -34,17 +35,17 @@ any-same p q (x ∷ xs) h = both (h x) (any-same p q xs h)
 module _
     (file first counts : List ℕ) (k : ℕ) (notes : Noted first counts (cut k file)) (fine : Faultless file k)
     (inside : k ≤ recordCount file) where
-  pub counted-part : (n c : ℕ) → n ≤ 4 → c ≤ 15 → getD counts (part n c) 0 ≡ count (ofContract n c) (earlier file k)
+  pub counted-part : (n c : ℕ) → n ≤ 4 → c ≤ mostContract → getD counts (part n c) 0 ≡ count (ofContract n c) (earlier file k)
   counted-part n c hn hc =
       notes .counted (part n c) (omega arith)
       ∙ ap (λ (p : Record → Bool). count p (cut k file)) (part-is n c hn hc)
       ∙ sym (count-earlier (ofContract n c) file k)
 
-  none-listed : (c : ℕ) → c ≤ 15 → noContract counts c ≡ none (listsContract c) (earlier file k)
+  none-listed : (c : ℕ) → c ≤ mostContract → noContract counts c ≡ none (listsContract c) (earlier file k)
   none-listed c hc =
       ap (λ (n : ℕ). eqb n 0) (counted-part 1 c (omega arith) hc) ∙ none-counted (ofContract 1 c) (earlier file k)
 
-  pub prompts-are : (c : ℕ) → c ≤ 15 → promptsNoted file first counts c ≡ keep (ofContract 2 c) (cut k file)
+  pub prompts-are : (c : ℕ) → c ≤ mostContract → promptsNoted file first counts c ≡ keep (ofContract 2 c) (cut k file)
   prompts-are c hc =
       let v = part 2 c in
       let h : v < parts = omega arith in
@@ -58,7 +59,7 @@ module _
       ∙ ap (λ (p : Record → Bool). keep p (cut k file)) (part-is 2 c (omega arith) hc)
 
   none-among :
-      (c : ℕ) → c ≤ 15 → (q : Record → Bool)
+      (c : ℕ) → c ≤ mostContract → (q : Record → Bool)
       → not (any q (promptsNoted file first counts c)) ≡ none (λ e. ofContract 2 c e && q e) (earlier file k)
   none-among c hc q =
       ap (λ (rs : List Record). not (any q rs)) (prompts-are c hc) ∙ ap not (any-keep (ofContract 2 c) q (cut k file))
@@ -100,20 +101,20 @@ module _
       let hc = contract-known r u h in
       by-kind (λ n. kind r ≡ n → overLimitBy counts r ≡ overLimit es r)
       (λ e. rw e)
-      (λ e. limit-2 counts r e ∙ ap (leb 32) (counts-of 2 (omega arith) (omega arith) hc e) ∙ sym (over-2 es r e))
-      (λ e. limit-3 counts r e ∙ ap (leb 128) (counts-of 3 (omega arith) (omega arith) hc e) ∙ sym (over-3 es r e))
-      (λ e. limit-4 counts r e ∙ ap (leb 32) (counts-of 4 (omega arith) (omega arith) hc e) ∙ sym (over-4 es r e))
-      (λ e. limit-5 counts r e ∙ ap (leb 32) (entries e) ∙ sym (over-5 es r e))
+      (λ e. limit-2 counts r e ∙ ap (leb mostPrompts) (counts-of 2 (omega arith) (omega arith) hc e) ∙ sym (over-2 es r e))
+      (λ e. limit-3 counts r e ∙ ap (leb mostRows) (counts-of 3 (omega arith) (omega arith) hc e) ∙ sym (over-3 es r e))
+      (λ e. limit-4 counts r e ∙ ap (leb mostSpreads) (counts-of 4 (omega arith) (omega arith) hc e) ∙ sym (over-4 es r e))
+      (λ e. limit-5 counts r e ∙ ap (leb mostEntries) (entries e) ∙ sym (over-5 es r e))
       (λ e. rw e)
       (kind r) (i .least) (i .most) refl
     where
       counts-of :
-          (n : ℕ) → n ≤ 4 → n < 5 → contract (recordAt file k) ≤ 15 → kind (recordAt file k) ≡ n
+          (n : ℕ) → n ≤ 4 → n < 5 → contract (recordAt file k) ≤ mostContract → kind (recordAt file k) ≡ n
           → getD counts (partOf (recordAt file k)) 0 ≡ count (ofContract n (contract (recordAt file k)))
           (earlier file k)
       counts-of n hn hs hc e =
           let r = recordAt file k in
-          ap (λ (v : ℕ). getD counts v 0) (part-other r (λ z. omega arith) (λ z. omega arith) ∙ ap (λ (m : ℕ). 16 * m + contract r) e)
+          ap (λ (v : ℕ). getD counts v 0) (part-other r (λ z. omega arith) (λ z. omega arith) ∙ ap (λ (m : ℕ). mostContracts * m + contract r) e)
           ∙ counted-part n (contract r) hn hc
 
       entries :

@@ -41,10 +41,6 @@ count-most p (x ∷ xs) = go (p x) refl (count-most p xs)
     go true e h = rw e (omega arith)
     go false e h = rw e (omega arith)
 
-pub one-at-most : (t : Bool) → oneIf t ≤ 1
-one-at-most true = omega arith
-one-at-most false = omega arith
-
 pub record Going (file first counts : List ℕ) (contracts k : ℕ) : Type 0 where
   pub inside : k ≤ recordCount file
   pub fine : Faultless file k

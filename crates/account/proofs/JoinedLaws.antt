@@ -16,10 +16,10 @@ use Rattle.record.specs.Layout.{Record, kind, contract, day, secondContract, mo
 use Rattle.record.specs.Within.{ContractWithin, PromptWithin, RowWithin, SpreadWithin, EntryWithin, RateWithin}
 use Rattle.record.proofs.Within.{by-kind}
 use Rattle.account.specs.Accepted.{Each, OnePrompt, listed, EntryNamed}
-use Rattle.account.specs.Check.{recordsChecked, mostRecords, legsClash, withItself}
+use Rattle.account.specs.Check.{recordsChecked, mostRecords, legsClash, withItself, mostContracts, mostPrompts, mostRows, mostSpreads, mostEntries}
 use Rattle.account.specs.Joined.{supplier, inTurn, joinedOf, fromMorning, joined}
 use Rattle.account.specs.Lawful.{Recorded}
-use Rattle.account.specs.PartNumbers.{parts, inPart, entryPart, ratePart}
+use Rattle.account.specs.PartNumbers.{parts, inPart, entryPart, ratePart, part}
 use Rattle.account.specs.code.Notes.{partOf}
 use Rattle.account.specs.Orders.{Rising, Later, RatesRise}
 use Rattle.account.specs.Parts.{ofKind, ofContract, onDay, contractsOf, promptsOf, rowsOf, entriesOf, ratesOf}
@@ -118,7 +118,7 @@ other-contract k c d r h e =
 module _ (m n : List Record) where
   pub joined-kind : (k : ℕ) → Each (λ r. kind r ≡ k) (joinedOf m n k)
   joined-kind k =
-      every-turn (λ c. keep (ofContract k c) (supplier m n c)) (λ r. kind r ≡ k) 0 16
+      every-turn (λ c. keep (ofContract k c) (supplier m n c)) (λ r. kind r ≡ k) 0 mostContracts
       (λ c l h. every-weaker (keep (ofContract k c) (supplier m n c)) (λ r e. kind-of k c r e .0)
       (kept-pass (ofContract k c) (supplier m n c)))
 
@@ -176,10 +176,10 @@ module _ (m n : List Record) where
   kept-turn :
       (k c : ℕ) → 1 ≤ k → k ≤ 4
       → keep (ofContract k c) (joined m n)
-      ≡ inTurn (λ d. keep (ofContract k c) (keep (ofContract k d) (supplier m n d))) 0 16
+      ≡ inTurn (λ d. keep (ofContract k c) (keep (ofContract k d) (supplier m n d))) 0 mostContracts
   kept-turn k c l h =
       of-kind (ofContract k c) k l (omega arith) h (λ r d. other-kind k c r d)
-      ∙ keep-turn (λ d. keep (ofContract k d) (supplier m n d)) (ofContract k c) 0 16
+      ∙ keep-turn (λ d. keep (ofContract k d) (supplier m n d)) (ofContract k c) 0 mostContracts
 
   apart :
       (k c d : ℕ) → (d ≡ c → ⊥) → keep (ofContract k c) (keep (ofContract k d) (supplier m n d)) ≡ []
@@ -193,15 +193,15 @@ module _ (m n : List Record) where
       → keep (ofContract k c) (joined m n) ≡ keep (ofContract k c) (supplier m n c)
   part-joined k c l h most =
       kept-turn k c l h
-      ∙ only-turn (λ d. keep (ofContract k c) (keep (ofContract k d) (supplier m n d))) c 0 16 (omega arith)
+      ∙ only-turn (λ d. keep (ofContract k c) (keep (ofContract k d) (supplier m n d))) c 0 mostContracts (omega arith)
       (omega arith) (λ d e. apart k c d e)
       ∙ keep-all (ofContract k c) (keep (ofContract k c) (supplier m n c)) (kept-pass (ofContract k c) (supplier m n c))
 
   -- no contract has a number above 15
-  part-beyond : (k c : ℕ) → 1 ≤ k → k ≤ 4 → 15 < c → keep (ofContract k c) (joined m n) ≡ []
+  part-beyond : (k c : ℕ) → 1 ≤ k → k ≤ 4 → mostContract < c → keep (ofContract k c) (joined m n) ≡ []
   part-beyond k c l h beyond =
       kept-turn k c l h
-      ∙ none-turn (λ d. keep (ofContract k c) (keep (ofContract k d) (supplier m n d))) 0 16
+      ∙ none-turn (λ d. keep (ofContract k c) (keep (ofContract k d) (supplier m n d))) 0 mostContracts
       (λ d i j. apart k c d (λ e. omega arith))
 
   pub contracts-joined : contractsOf (joined m n) ≡ joinedOf m n 1
@@ -276,7 +276,7 @@ entry-part r k = counted-once (λ v. inPart v r) entryPart 0 parts (omega arith)
     go v h false e false f =
         let d = eqb-false v entryPart e in
         let i = eqb-false v ratePart f in
-        rw (e, f) (other-kind (v / 16) (v % 16) r (λ z. omega arith) ∙ sym (ne-eqb entryPart v (λ z. d (sym z))))
+        rw (e, f) (other-kind (v / mostContracts) (v % mostContracts) r (λ z. omega arith) ∙ sym (ne-eqb entryPart v (λ z. d (sym z))))
 
 rate-part : (r : Record) → kind r ≡ 6 → OnePart r
 rate-part r k = counted-once (λ v. inPart v r) ratePart 0 parts (omega arith) (omega arith) (λ v h. go v h (eqb v entryPart) refl (eqb v ratePart) refl)
@@ -289,7 +289,7 @@ rate-part r k = counted-once (λ v. inPart v r) ratePart 0 parts (omega arith) (
     go v h false e false f =
         let d = eqb-false v entryPart e in
         let i = eqb-false v ratePart f in
-        rw (e, f) (other-kind (v / 16) (v % 16) r (λ z. omega arith) ∙ sym (ne-eqb ratePart v (λ z. i (sym z))))
+        rw (e, f) (other-kind (v / mostContracts) (v % mostContracts) r (λ z. omega arith) ∙ sym (ne-eqb ratePart v (λ z. i (sym z))))
 
 length-parts :
     (xs : List Record) → Each OnePart xs → length xs ≡ sum (map (λ v. count (inPart v) xs) (countFrom 0 parts))
@@ -319,7 +319,7 @@ length-parts xs one = go (countFrom 0 parts) xs one
 module _ (m n : List Record) where
   kind-one : (k : ℕ) → 1 ≤ k → k ≤ 4 → Each OnePart (joinedOf m n k)
   kind-one k l h =
-      every-turn (λ c. keep (ofContract k c) (supplier m n c)) OnePart 0 16
+      every-turn (λ c. keep (ofContract k c) (supplier m n c)) OnePart 0 mostContracts
       (λ c i j. every-weaker (keep (ofContract k c) (supplier m n c))
       (λ r e.
       let is = kind-of k c r e in
@@ -380,19 +380,19 @@ module _ (m n : List Record) (morning : Recorded m) (noon : Recorded n) where
   by-part :
       (Q : List Record → Type 0) (k c : ℕ) → 1 ≤ k → k ≤ 4 → Q [] → Q (keep (ofContract k c) (supplier m n c))
       → Q (keep (ofContract k c) (joined m n))
-  by-part Q k c l h none some = go (leb c 15) refl
+  by-part Q k c l h none some = go (leb c mostContract) refl
     where
-      go : (t : Bool) → leb c 15 ≡ t → Q (keep (ofContract k c) (joined m n))
-      go true e = subst⁻¹ Q (part-joined m n k c l h (leb-true c 15 e)) some
-      go false e = subst⁻¹ Q (part-beyond m n k c l h (leb-false c 15 e)) none
+      go : (t : Bool) → leb c mostContract ≡ t → Q (keep (ofContract k c) (joined m n))
+      go true e = subst⁻¹ Q (part-joined m n k c l h (leb-true c mostContract e)) some
+      go false e = subst⁻¹ Q (part-beyond m n k c l h (leb-false c mostContract e)) none
 
-  listed-joined : (c : ℕ) → c ≤ 15 → listed c (joined m n) ≡ listed c (supplier m n c)
+  listed-joined : (c : ℕ) → c ≤ mostContract → listed c (joined m n) ≡ listed c (supplier m n c)
   listed-joined c h =
       any-kept (ofContract 1 c) (joined m n)
       ∙ ap (any (λ r. true)) (part-joined m n 1 c (omega arith) (omega arith) h)
       ∙ sym (any-kept (ofContract 1 c) (supplier m n c))
 
-  still-listed : (c : ℕ) → c ≤ 15 → listed c m ≡ true → listed c (joined m n) ≡ true
+  still-listed : (c : ℕ) → c ≤ mostContract → listed c m ≡ true → listed c (joined m n) ≡ true
   still-listed c h old = listed-joined c h ∙ go (listed c n) refl
     where
       go : (t : Bool) → listed c n ≡ t → listed c (cond t n m) ≡ true
@@ -402,30 +402,30 @@ module _ (m n : List Record) (morning : Recorded m) (noon : Recorded n) where
   named-part :
       (k c : ℕ) → 1 ≤ k → k ≤ 4 → Each (λ r. listed c (supplier m n c) ≡ true) (keep (ofContract k c) (supplier m n c))
       → Each (λ r. listed c (joined m n) ≡ true) (keep (ofContract k c) (joined m n))
-  named-part k c l h old = go (leb c 15) refl
+  named-part k c l h old = go (leb c mostContract) refl
     where
-      go : (t : Bool) → leb c 15 ≡ t → Each (λ r. listed c (joined m n) ≡ true) (keep (ofContract k c) (joined m n))
+      go : (t : Bool) → leb c mostContract ≡ t → Each (λ r. listed c (joined m n) ≡ true) (keep (ofContract k c) (joined m n))
       go true e =
-          let most = leb-true c 15 e in
+          let most = leb-true c mostContract e in
           subst₂ (λ (b : Bool) (rs : List Record). Each (λ r. b ≡ true) rs) (sym (listed-joined c most))
           (sym (part-joined m n k c l h most)) old
       go false e =
-          subst⁻¹ (Each (λ r. listed c (joined m n) ≡ true)) (part-beyond m n k c l h (leb-false c 15 e)) tt
+          subst⁻¹ (Each (λ r. listed c (joined m n) ≡ true)) (part-beyond m n k c l h (leb-false c mostContract e)) tt
 
   one-prompt : OnePrompt (joined m n)
-  one-prompt c = go (leb c 15) refl
+  one-prompt c = go (leb c mostContract) refl
     where
       go :
-          (t : Bool) → leb c 15 ≡ t
+          (t : Bool) → leb c mostContract ≡ t
           → Each (λ r. count (onDay (day r)) (promptsOf c (joined m n)) ≡ 1) (rowsOf c (joined m n))
       go true e =
-          let most = leb-true c 15 e in
+          let most = leb-true c mostContract e in
           subst₂ (λ (ps rs : List Record). Each (λ r. count (onDay (day r)) ps ≡ 1) rs)
           (sym (part-joined m n 2 c (omega arith) (omega arith) most))
           (sym (part-joined m n 3 c (omega arith) (omega arith) most)) (supplied c .onePrompt c)
       go false e =
           subst⁻¹ (Each (λ r. count (onDay (day r)) (promptsOf c (joined m n)) ≡ 1))
-          (part-beyond m n 3 c (omega arith) (omega arith) (leb-false c 15 e)) tt
+          (part-beyond m n 3 c (omega arith) (omega arith) (leb-false c mostContract e)) tt
 
   once : (c : ℕ) → length (keep (ofContract 1 c) (supplier m n c)) ≤ 1
   once c = omega (arith, length-kept (ofContract 1 c) (supplier m n c), supplied c .named .once c)
@@ -442,7 +442,7 @@ module _ (m n : List Record) (morning : Recorded m) (noon : Recorded n) where
             record {
               contracts =
                   subst⁻¹ (Each ContractWithin) (contracts-joined m n)
-                  (every-turn (λ c. keep (ofContract 1 c) (supplier m n c)) ContractWithin 0 16
+                  (every-turn (λ c. keep (ofContract 1 c) (supplier m n c)) ContractWithin 0 mostContracts
                   (λ c l h. every-stricter (ofKind 1) ContractWithin (ofContract 1 c)
                   (λ r e. eq-eqb (kind r) 1 (kind-of 1 c r e .0)) (supplier m n c) (supplied c .ranges .contracts)));
               prompts = λ c. by-part (Each PromptWithin) 2 c (omega arith) (omega arith) tt (supplied c .ranges .prompts c);
@@ -455,19 +455,19 @@ module _ (m n : List Record) (morning : Recorded m) (noon : Recorded n) where
             record {
               all = short;
               contracts =
-                  subst⁻¹ (λ (rs : List Record). length rs ≤ 16) (contracts-joined m n)
-                  (short-turn (λ c. keep (ofContract 1 c) (supplier m n c)) once numbered-so 0 16);
+                  subst⁻¹ (λ (rs : List Record). length rs ≤ mostContracts) (contracts-joined m n)
+                  (short-turn (λ c. keep (ofContract 1 c) (supplier m n c)) once numbered-so 0 mostContracts);
               prompts =
-                  λ c. by-part (λ rs. length rs ≤ 32) 2 c (omega arith) (omega arith) (omega arith)
+                  λ c. by-part (λ rs. length rs ≤ mostPrompts) 2 c (omega arith) (omega arith) (omega arith)
                   (supplied c .limits .prompts c);
               rows =
-                  λ c. by-part (λ rs. length rs ≤ 128) 3 c (omega arith) (omega arith) (omega arith)
+                  λ c. by-part (λ rs. length rs ≤ mostRows) 3 c (omega arith) (omega arith) (omega arith)
                   (supplied c .limits .rows c);
               spreads =
-                  λ c. by-part (λ rs. length rs ≤ 32) 4 c (omega arith) (omega arith) (omega arith)
+                  λ c. by-part (λ rs. length rs ≤ mostSpreads) 4 c (omega arith) (omega arith) (omega arith)
                   (supplied c .limits .spreads c);
               entries =
-                  subst⁻¹ (λ (rs : List Record). length rs ≤ 32) (entries-joined m n) (morning .limits .entries);
+                  subst⁻¹ (λ (rs : List Record). length rs ≤ mostEntries) (entries-joined m n) (morning .limits .entries);
               rates = subst⁻¹ (λ (rs : List Record). length rs ≤ 7) (rates-joined m n) (morning .limits .rates);
             };
         onePrompt = one-prompt;
@@ -494,7 +494,7 @@ module _ (m n : List Record) (morning : Recorded m) (noon : Recorded n) where
             record {
               contracts =
                   subst⁻¹ Rising (contracts-joined m n)
-                  (rising-turn (λ c. keep (ofContract 1 c) (supplier m n c)) once numbered-so 0 16);
+                  (rising-turn (λ c. keep (ofContract 1 c) (supplier m n c)) once numbered-so 0 mostContracts);
               prompts =
                   λ c h. subst⁻¹ Later (part-joined m n 2 c (omega arith) (omega arith) h) (supplied c .orders .prompts c h);
               spreads =
@@ -563,21 +563,21 @@ none-some (suc n) h = absurd (h (omega arith))
 abbrev pub partsOf : List Record → ℕ → List Record
 partsOf rs v = keep (inPart v) rs
 
-in-parts : (file : List ℕ) (k : ℕ) → Faultless file k → inTurn (partsOf (cut k file)) 16 66 ≡ cut k file
-in-parts file zero fine = none-turn (partsOf []) 16 66 (λ v l h. refl)
+in-parts : (file : List ℕ) (k : ℕ) → Faultless file k → inTurn (partsOf (cut k file)) mostContracts 66 ≡ cut k file
+in-parts file zero fine = none-turn (partsOf []) mostContracts 66 (λ v l h. refl)
 in-parts file (suc k) fine =
     more (in-parts file k (λ j h. fine j (omega arith)))
     (known-of (recordAt file k) (passed-at file (suc k) fine k (omega arith)))
   where
     more :
-        inTurn (partsOf (cut k file)) 16 66 ≡ cut k file → Known (recordAt file k)
-        → inTurn (partsOf (cut (suc k) file)) 16 66 ≡ cut (suc k) file
+        inTurn (partsOf (cut k file)) mostContracts 66 ≡ cut k file → Known (recordAt file k)
+        → inTurn (partsOf (cut (suc k) file)) mostContracts 66 ≡ cut (suc k) file
     more old known =
         let r = recordAt file k in
         let t = partOf r in
         let bound = part-bound r known in
-        let above : 16 ≤ t =
-        part-cases r known (16 ≤ t) (λ e i. omega arith) (λ e i. omega arith) (λ l i. omega (arith, known .low)) in
+        let above : mostContracts ≤ t =
+        part-cases r known (mostContracts ≤ t) (λ e i. omega arith) (λ e i. omega arith) (λ l i. omega (arith, known .low)) in
         let grown : (v : ℕ) → keep (inPart v) (cut (suc k) file) ≡ keep (inPart v) (cut k file ++ r ∷ []) =
         λ v. ap (keep (inPart v)) (cut-more k file) in
         turn-more (partsOf (cut k file)) (partsOf (cut (suc k) file)) r t parts
@@ -586,28 +586,31 @@ in-parts file (suc k) fine =
         (λ v h l.
         none-kept (inPart v) (cut (suc k) file)
         (none-some (count (inPart v) (cut (suc k) file)) (λ some. omega (arith, laid file (suc k) fine .upto v h some))))
-        16 66 above (omega arith) (omega arith)
+        mostContracts 66 above (omega arith) (omega arith)
         ∙ ap (λ (rs : List Record). rs ++ r ∷ []) old
         ∙ sym (cut-more k file)
 
 module _ (m : List Record) where
-  kind-turn : (k : ℕ) → k ≤ 4 → joinedOf m [] k ≡ inTurn (partsOf m) (16 * k + 0) 16
+  kind-turn : (k : ℕ) → k ≤ 4 → joinedOf m [] k ≡ inTurn (partsOf m) (mostContracts * k + 0) mostContracts
   kind-turn k h =
-      turn-shift (λ c. keep (ofContract k c) m) (partsOf m) (16 * k) 0 16
+      turn-shift (λ c. keep (ofContract k c) m) (partsOf m) (mostContracts * k) 0 mostContracts
       (λ c l. ap (λ (p : Record → Bool). keep p m) (sym (part-is k c h (omega arith))))
 
   abbrev turn : ℕ → ℕ → List Record
   turn = inTurn (partsOf m)
 
-  all-turn : five (turn 16 16) (turn 32 16) (turn 48 16) (turn 64 16) (fromMorning m) ≡ turn 16 66
+  all-turn : five (turn (part 1 0) mostContracts) (turn (part 2 0) mostContracts) (turn (part 3 0) mostContracts) (turn (part 4 0) mostContracts)
+      (fromMorning m) ≡ turn (part 1 0) 66
   all-turn =
-      ap (λ (rs : List Record). five (turn 16 16) (turn 32 16) (turn 48 16) (turn 64 16) (entriesOf m ++ rs)) (sym (append-nil (ratesOf m)))
-      ∙ ap (λ (rs : List Record). turn 16 16 ++ (turn 32 16 ++ (turn 48 16 ++ rs))) (turn-join (partsOf m) 64 16 2)
-      ∙ ap (λ (rs : List Record). turn 16 16 ++ (turn 32 16 ++ rs)) (turn-join (partsOf m) 48 16 18)
-      ∙ ap (λ (rs : List Record). turn 16 16 ++ rs) (turn-join (partsOf m) 32 16 34)
-      ∙ turn-join (partsOf m) 16 16 50
+      ap (λ (rs : List Record). five (turn (part 1 0) mostContracts) (turn (part 2 0) mostContracts) (turn (part 3 0) mostContracts)
+      (turn (part 4 0) mostContracts) (entriesOf m ++ rs)) (sym (append-nil (ratesOf m)))
+      ∙ ap (λ (rs : List Record). turn (part 1 0) mostContracts ++ (turn (part 2 0) mostContracts ++ (turn (part 3 0) mostContracts ++ rs)))
+      (turn-join (partsOf m) (part 4 0) mostContracts 2)
+      ∙ ap (λ (rs : List Record). turn (part 1 0) mostContracts ++ (turn (part 2 0) mostContracts ++ rs)) (turn-join (partsOf m) (part 3 0) mostContracts 18)
+      ∙ ap (λ (rs : List Record). turn (part 1 0) mostContracts ++ rs) (turn-join (partsOf m) (part 2 0) mostContracts 34)
+      ∙ turn-join (partsOf m) (part 1 0) mostContracts 50
 
-  alone-turn : joined m [] ≡ inTurn (partsOf m) 16 66
+  alone-turn : joined m [] ≡ inTurn (partsOf m) mostContracts 66
   alone-turn =
       rw (
         kind-turn 1 (omega arith),
@@ -618,9 +621,9 @@ module _ (m : List Record) where
 
 -- a joined account is its own parts in the order of their numbers
 module _ (m n : List Record) where
-  own-turn : (k : ℕ) → 1 ≤ k → k ≤ 4 → joinedOf m n k ≡ inTurn (partsOf (joined m n)) (16 * k + 0) 16
+  own-turn : (k : ℕ) → 1 ≤ k → k ≤ 4 → joinedOf m n k ≡ inTurn (partsOf (joined m n)) (mostContracts * k + 0) mostContracts
   own-turn k l h =
-      turn-shift (λ c. keep (ofContract k c) (supplier m n c)) (partsOf (joined m n)) (16 * k) 0 16
+      turn-shift (λ c. keep (ofContract k c) (supplier m n c)) (partsOf (joined m n)) (mostContracts * k) 0 mostContracts
       (λ c i.
       sym (part-joined m n k c l h (omega arith))
       ∙ ap (λ (p : Record → Bool). keep p (joined m n)) (sym (part-is k c h (omega arith))))
@@ -628,7 +631,7 @@ module _ (m n : List Record) where
   mornings : fromMorning m ≡ fromMorning (joined m n)
   mornings = ap₂ (λ (a b : List Record). a ++ b) (sym (entries-joined m n)) (sym (rates-joined m n))
 
-  pub joined-turn : joined m n ≡ inTurn (partsOf (joined m n)) 16 66
+  pub joined-turn : joined m n ≡ inTurn (partsOf (joined m n)) mostContracts 66
   joined-turn =
       let one = own-turn 1 (omega arith) (omega arith) in
       let two = own-turn 2 (omega arith) (omega arith) in

@@ -10,7 +10,7 @@ use native.Mathlib.Omega.{arith}
 use native.Mathlib.Nat.{le-refl}
 use borrow.Author.Tests.{eq-eqb, eqb-true}
 use Rattle.exact.specs.Lists.{count}
-use Rattle.record.specs.Layout.{Record, kind, contract}
+use Rattle.record.specs.Layout.{Record, kind, contract, mostContract}
 use Rattle.account.specs.Check.{faultOf}
 use Rattle.account.specs.code.Notes.{partOf, beforeAt}
 use Rattle.account.specs.PartNumbers.{inPart, parts as allParts}
@@ -78,7 +78,7 @@ module _ (file : List ℕ) where
   passed-at k fine j h = passed (earlier file j) (recordAt file j) (fine j h)
 
   -- what the record before is known to be
-  pub before-known : (k : ℕ) → Faultless file k → (kind (beforeAt file k) ≤ 6) × (contract (beforeAt file k) ≤ 15)
+  pub before-known : (k : ℕ) → Faultless file k → (kind (beforeAt file k) ≤ 6) × (contract (beforeAt file k) ≤ mostContract)
   before-known zero fine = (omega arith, omega arith)
   before-known (suc k) fine =
       let b = known-of (recordAt file k) (passed-at (suc k) fine k (omega arith)) in

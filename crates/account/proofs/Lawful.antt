@@ -101,6 +101,6 @@ pub numbered :
     (rs : List Record) → Recorded rs
     → map contract (contractsOf rs) ≡ keep (λ c. listed c rs) (countFrom 0 mostContracts)
 numbered rs law =
-    numbers-kept 16 0 (contractsOf rs) (all-from (contractsOf rs) (law .orders .contracts))
+    numbers-kept mostContracts 0 (contractsOf rs) (all-from (contractsOf rs) (law .orders .contracts))
     (every-weaker (contractsOf rs) (λ r w. omega (arith, w .contracts)) (law .ranges .contracts))
-    ∙ same-kept (has (contractsOf rs)) (λ c. listed c rs) 0 16 (λ c h. any-keep (ofKind 1) (λ r. eqb (contract r) c) rs)
+    ∙ same-kept (has (contractsOf rs)) (λ c. listed c rs) 0 mostContracts (λ c h. any-keep (ofKind 1) (λ r. eqb (contract r) c) rs)

@@ -309,11 +309,11 @@ by-survey k file s c sv h =
 
 -- whether a file lists a contract, by its survey
 own-listed : (file : List ℕ) (s : Survey) (c : ℕ) → Surveyed file s → recordsChecked file ≡ Accepted → c < mostContracts
-    → not (eqb (getD (s .counts) (16 + c) 0) 0) ≡ listed c (records file)
+    → not (eqb (getD (s .counts) (part 1 c) 0) 0) ≡ listed c (records file)
 own-listed file s c sv ok h =
     ap (λ (x : ℕ). not (eqb x 0))
-    (sv .counts (16 + c) (omega arith)
-    ∙ ap (λ (a : Answer). ofAccepted a (count (inPart (16 + c)) (records file))) ok
+    (sv .counts (part 1 c) (omega arith)
+    ∙ ap (λ (a : Answer). ofAccepted a (count (inPart (part 1 c)) (records file))) ok
     ∙ ap (λ (p : Record → Bool). count p (records file)) (part-is 1 c (omega arith) (omega arith)))
     ∙ ap not (none-counted (ofContract 1 c) (records file))
     ∙ Bool·not-not (any (ofContract 1 c) (records file))
@@ -366,25 +366,25 @@ module _ (morning noon : List ℕ) (known : Joining morning noon) (c : ℕ) wher
         ap (λ (t : Bool). cond (t && ltb c mostContracts) there nowhere) unrefused
         ∙ ap (λ (u : Bool). cond u there nowhere) (lt-ltb c mostContracts h)
 
-    pub place-noon : (getD (n .counts) (16 + c) 0 ≡ 0 → ⊥) → placeBy 2 n c ≡ promptPlace morning noon c
+    pub place-noon : (getD (n .counts) (part 1 c) 0 ≡ 0 → ⊥) → placeBy 2 n c ≡ promptPlace morning noon c
     place-noon s =
         by-survey 2 noon n c (known .second-is) h
         ∙ sym (place-there ∙ ap (λ (t : Bool). cond t (placeIn 2 noon c) (cond (listed c (records morning)) (placeIn 1 morning c) nowhere))
         (sym (own-listed noon n c (known .second-is) (noon-accepted morning noon unrefused) h) ∙ ap not (ne-eqb _ 0 s)))
 
-    module _ (s : getD (n .counts) (16 + c) 0 ≡ 0) where
+    module _ (s : getD (n .counts) (part 1 c) 0 ≡ 0) where
       place-else : promptPlace morning noon c ≡ cond (listed c (records morning)) (placeIn 1 morning c) nowhere
       place-else =
           place-there ∙ ap (λ (t : Bool). cond t (placeIn 2 noon c) (cond (listed c (records morning)) (placeIn 1 morning c) nowhere))
           (sym (own-listed noon n c (known .second-is) (noon-accepted morning noon unrefused) h) ∙ ap not (eq-eqb _ 0 s))
 
-      abbrev ours : not (eqb (getD (m .counts) (16 + c) 0) 0) ≡ listed c (records morning)
+      abbrev ours : not (eqb (getD (m .counts) (part 1 c) 0) 0) ≡ listed c (records morning)
       ours = own-listed morning m c (known .first-is) (morning-accepted morning noon unrefused) h
 
-      pub place-morning : (getD (m .counts) (16 + c) 0 ≡ 0 → ⊥) → placeBy 1 m c ≡ promptPlace morning noon c
+      pub place-morning : (getD (m .counts) (part 1 c) 0 ≡ 0 → ⊥) → placeBy 1 m c ≡ promptPlace morning noon c
       place-morning k =
           by-survey 1 morning m c (known .first-is) h
           ∙ sym (place-else ∙ ap (λ (t : Bool). cond t (placeIn 1 morning c) nowhere) (sym ours ∙ ap not (ne-eqb _ 0 k)))
 
-      pub place-nowhere : getD (m .counts) (16 + c) 0 ≡ 0 → promptPlace morning noon c ≡ nowhere
+      pub place-nowhere : getD (m .counts) (part 1 c) 0 ≡ 0 → promptPlace morning noon c ≡ nowhere
       place-nowhere k = place-else ∙ ap (λ (t : Bool). cond t (placeIn 1 morning c) nowhere) (sym ours ∙ ap not (eq-eqb _ 0 k))

@@ -10,10 +10,11 @@ use lib.Dec.{eqb}
 use native.Mathlib.Omega.{arith}
 use borrow.Author.Tests.{ne-eqb, eqb-true, eqb-false}
 use Rattle.exact.specs.Lists.{count}
-use Rattle.record.specs.Layout.{Record}
+use Rattle.record.specs.Layout.{Record, mostContract}
 use Rattle.account.specs.PartNumbers.{part, inPart, entryPart, ratePart, parts}
 use Rattle.account.specs.code.Notes.{partOf, oneMore, startNoted}
 use Rattle.account.specs.Parts.{ofKind, ofContract, startOf}
+use Rattle.account.specs.Check.{mostContracts}
 use Rattle.account.proofs.Lists.{counts-not, counts-one, starts-same-not, starts-same, starts-here}
 use Rattle.account.proofs.Passed.{Known, part-bound, mine}
 
@@ -35,15 +36,16 @@ noted-none =
 abbrev choice : Bool → Bool → ℕ → ℕ → Record → Bool
 choice a b n c = λ r. cond a (ofKind 5 r) (cond b (ofKind 6 r) (ofContract n c r))
 
-pub part-is : (n c : ℕ) → n ≤ 4 → c ≤ 15 → inPart (part n c) ≡ ofContract n c
+pub part-is : (n c : ℕ) → n ≤ 4 → c ≤ mostContract → inPart (part n c) ≡ ofContract n c
 part-is n c hn hc =
     let v = part n c in
     let e : eqb v entryPart ≡ false = ne-eqb v entryPart (λ z. omega arith) in
     let f : eqb v ratePart ≡ false = ne-eqb v ratePart (λ z. omega arith) in
-    let d : v / 16 ≡ n = omega arith in
-    let m : v % 16 ≡ c = omega arith in
-    ap (λ (b : Bool). choice b (eqb v ratePart) (v / 16) (v % 16)) e ∙ ap (λ (b : Bool). choice false b (v / 16) (v % 16)) f
-    ∙ ap (λ (x : ℕ). choice false false x (v % 16)) d ∙ ap (λ (x : ℕ). choice false false n x) m
+    let d : v / mostContracts ≡ n = omega arith in
+    let m : v % mostContracts ≡ c = omega arith in
+    ap (λ (b : Bool). choice b (eqb v ratePart) (v / mostContracts) (v % mostContracts)) e
+    ∙ ap (λ (b : Bool). choice false b (v / mostContracts) (v % mostContracts)) f
+    ∙ ap (λ (x : ℕ). choice false false x (v % mostContracts)) d ∙ ap (λ (x : ℕ). choice false false n x) m
 
 module _
     (first counts : List ℕ) (xs : List Record) (old : Noted first counts xs) (r : Record) (k : Known r) where

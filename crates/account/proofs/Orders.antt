@@ -12,7 +12,7 @@ use lib.ListN.{length, getD, take, drop}
 use lib.Seq.{getD-take, getD-drop, drop-drop}
 use Rattle.record.specs.Bytes.{recordBytes}
 use Rattle.exact.specs.Lists.{count, keep}
-use Rattle.record.specs.Layout.{Record, kind, contract, tier, day, rateCurrency}
+use Rattle.record.specs.Layout.{Record, kind, contract, tier, day, rateCurrency, mostContract}
 use Rattle.record.proofs.Within.{both-true, neither}
 use Rattle.account.specs.Accepted.{Each}
 use Rattle.account.specs.Answers.{numberOf, recordOf}
@@ -123,7 +123,7 @@ module _ (file : List ℕ) (ok : recordsChecked file ≡ Accepted) where
   part-laid : (v : ℕ) → v < parts → Stretch (inPart v) (records file)
   part-laid v h = laid file (recordCount file) fine .parts v h
 
-  later : (c : ℕ) → c ≤ 15 → Later (promptsOf c (records file))
+  later : (c : ℕ) → c ≤ mostContract → Later (promptsOf c (records file))
   later c hc =
       let s = subst (λ (p : Record → Bool). Stretch p (records file)) (part-is 2 c (omega arith) hc) (part-laid (part 2 c) (omega arith)) in
       record {

@@ -14,6 +14,7 @@ use Rattle.record.specs.Layout.{Record, kind, contract}
 use Rattle.account.specs.code.Notes.{beforeAt}
 use Rattle.account.specs.Parts.{ofKind, startOf}
 use Rattle.account.specs.Records.{cut, recordAt, earlier}
+use Rattle.account.specs.Check.{mostContracts}
 use Rattle.account.proofs.Dispatch.{order-1}
 use Rattle.account.proofs.Earlier.{cut-more}
 use Rattle.account.proofs.Laid.{Faultless, passed-at}
@@ -27,7 +28,7 @@ pub record Own (xs : List Record) (before : Record) : Type 0 where
   pub all : kind before ≤ 1 → count (ofKind 1) xs ≡ length xs
   pub none : kind before ≡ 0 → count (ofKind 1) xs ≡ 0
   pub few : kind before ≡ 1 → count (ofKind 1) xs ≤ contract before + 1
-  pub most : count (ofKind 1) xs ≤ 16
+  pub most : count (ofKind 1) xs ≤ mostContracts
 
 own-none : Own [] []
 own-none =

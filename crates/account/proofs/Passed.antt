@@ -8,10 +8,11 @@ use mathlib.Core.List.{List}
 use lib.Dec.{eqb, ltb}
 use native.Mathlib.Omega.{arith}
 use borrow.Author.Tests.{eq-eqb, ne-eqb, eqb-true, eqb-false, leb-false, ltb-false}
-use Rattle.record.specs.Layout.{Record, kind, contract}
+use Rattle.record.specs.Layout.{Record, kind, contract, mostContract}
 use Rattle.record.specs.Ranges.{unknownKind, unusedByte, fieldOutside}
 use Rattle.record.proofs.Within.{both-true, neither, by-kind, kind-known, contract-known}
 use Rattle.account.specs.Check.{theOneBefore, kindFalls, unlisted, outOfOrder, overLimit, faultOf, dayNotAbove, tierFalls, contractFalls, legsClash}
+use Rattle.account.specs.Check.{mostContracts}
 use Rattle.account.specs.code.Notes.{partOf}
 use Rattle.account.specs.PartNumbers.{inPart, entryPart, ratePart, parts}
 use Rattle.account.specs.Parts.{ofContract}
@@ -58,7 +59,7 @@ passed earlier r h =
 pub record Known (r : Record) : Type 0 where
   pub low : 1 ≤ kind r
   pub high : kind r ≤ 6
-  pub contracts : contract r ≤ 15
+  pub contracts : contract r ≤ mostContract
 
 pub known-of : {earlier : List Record} (r : Record) → Passed earlier r → Known r
 known-of r p =
@@ -71,13 +72,13 @@ part-entry r e = rw e
 pub part-rate : (r : Record) → kind r ≡ 6 → partOf r ≡ ratePart
 part-rate r e = rw e
 
-pub part-other : (r : Record) → (kind r ≡ 5 → ⊥) → (kind r ≡ 6 → ⊥) → partOf r ≡ 16 * kind r + contract r
+pub part-other : (r : Record) → (kind r ≡ 5 → ⊥) → (kind r ≡ 6 → ⊥) → partOf r ≡ mostContracts * kind r + contract r
 part-other r h i = rw (ne-eqb (kind r) 5 h, ne-eqb (kind r) 6 i)
 
 -- the part by the kind, of a known kind or of none
 pub kind-cases :
     (r : Record) → kind r ≤ 6 → (P : Type 0)
-    → (kind r ≡ 5 → partOf r ≡ entryPart → P) → (kind r ≡ 6 → partOf r ≡ ratePart → P) → (kind r < 5 → partOf r ≡ 16 * kind r + contract r → P)
+    → (kind r ≡ 5 → partOf r ≡ entryPart → P) → (kind r ≡ 6 → partOf r ≡ ratePart → P) → (kind r < 5 → partOf r ≡ mostContracts * kind r + contract r → P)
     → P
 kind-cases r high P f g h = go (eqb (kind r) 5) refl (eqb (kind r) 6) refl
   where
@@ -100,7 +101,7 @@ both-hold p q = rw (p, q)
 module _ (r : Record) (k : Known r) where
   pub part-cases :
       (P : Type 0) → (kind r ≡ 5 → partOf r ≡ entryPart → P) → (kind r ≡ 6 → partOf r ≡ ratePart → P)
-      → (kind r < 5 → partOf r ≡ 16 * kind r + contract r → P) → P
+      → (kind r < 5 → partOf r ≡ mostContracts * kind r + contract r → P) → P
   part-cases = kind-cases r (k .high)
 
   pub part-bound : partOf r < parts
@@ -127,19 +128,19 @@ module _ (r : Record) (k : Known r) where
           let c = k .contracts in
           part-cases (eqb (kind r) 6 ≡ true) (λ i q. absurd (omega arith)) (λ i q. eq-eqb _ _ i) (λ l q. absurd (omega arith)))
 
-      others : (v ≡ entryPart → ⊥) → (v ≡ ratePart → ⊥) → ofContract (v / 16) (v % 16) r ≡ eqb (partOf r) v
+      others : (v ≡ entryPart → ⊥) → (v ≡ ratePart → ⊥) → ofContract (v / mostContracts) (v % mostContracts) r ≡ eqb (partOf r) v
       others n m =
           let c = k .contracts in
-          same-tests (ofContract (v / 16) (v % 16) r) (eqb (partOf r) v)
+          same-tests (ofContract (v / mostContracts) (v % mostContracts) r) (eqb (partOf r) v)
           (λ t.
-          let b = both-true (eqb (kind r) (v / 16)) (eqb (contract r) (v % 16)) t in
-          let i : kind r ≡ v / 16 = eqb-true (kind r) (v / 16) (b .0) in
-          let j : contract r ≡ v % 16 = eqb-true (contract r) (v % 16) (b .1) in
+          let b = both-true (eqb (kind r) (v / mostContracts)) (eqb (contract r) (v % mostContracts)) t in
+          let i : kind r ≡ v / mostContracts = eqb-true (kind r) (v / mostContracts) (b .0) in
+          let j : contract r ≡ v % mostContracts = eqb-true (contract r) (v % mostContracts) (b .1) in
           eq-eqb _ _ (part-cases (partOf r ≡ v) (λ a q. absurd (omega arith)) (λ a q. absurd (omega arith)) (λ l q. omega arith)))
           (λ t.
           let p = eqb-true (partOf r) v t in
-          part-cases (ofContract (v / 16) (v % 16) r ≡ true) (λ a q. absurd (omega arith)) (λ a q. absurd (omega arith))
-          (λ l q. both-hold (eq-eqb (kind r) (v / 16) (omega arith)) (eq-eqb (contract r) (v % 16) (omega arith))))
+          part-cases (ofContract (v / mostContracts) (v % mostContracts) r ≡ true) (λ a q. absurd (omega arith)) (λ a q. absurd (omega arith))
+          (λ l q. both-hold (eq-eqb (kind r) (v / mostContracts) (omega arith)) (eq-eqb (contract r) (v % mostContracts) (omega arith))))
 
       go : (s : Bool) → eqb v entryPart ≡ s → (t : Bool) → eqb v ratePart ≡ t → inPart v r ≡ eqb (partOf r) v
       go true e t f = rw e (entries (eqb-true _ _ e))
@@ -172,7 +173,7 @@ module _ (before r : Record) (off : outOfOrder before r ≡ false) where
       falls e t = ltb-false (contract r) (contract before) (right-off (eq-eqb _ _ e) t)
 
   pub part-rises :
-      Known r → kind before ≤ 6 → contract before ≤ 15 → kindFalls before r ≡ false → partOf before ≤ partOf r
+      Known r → kind before ≤ 6 → contract before ≤ mostContract → kindFalls before r ≡ false → partOf before ≤ partOf r
   part-rises k hb cb f = go (eqb (kind before) (kind r)) refl
     where
       up : kind before ≤ kind r

@@ -12,9 +12,9 @@ use borrow.Author.Tests.{ne-eqb, eqb-true, eqb-false, lt-ltb, ltb-true, ltb-fals
 use Rattle.exact.specs.Lists.{keep, count, sum}
 use Rattle.exact.proofs.Lists.{getD-map}
 use Rattle.record.specs.Bytes.{countFrom}
-use Rattle.record.specs.Layout.{Record, kind, contract}
+use Rattle.record.specs.Layout.{Record, kind, contract, mostContract}
 use Rattle.account.specs.Accepted.{listed}
-use Rattle.account.specs.Check.{recordsChecked}
+use Rattle.account.specs.Check.{recordsChecked, mostContracts}
 use Rattle.account.specs.Joined.{supplier, joinedOf, fromMorning, joined, accountOf}
 use Rattle.account.specs.Lawful.{Recorded}
 use Rattle.account.specs.PartNumbers.{part, parts, inPart, partStart, partCount, entryPart, ratePart}
@@ -42,9 +42,10 @@ pub alone-recorded : (file none : List ℕ) → none ≡ [] → recordsChecked f
 alone-recorded file none e ok = subst⁻¹ Recorded (alone file none e ok) (recorded file ok)
 
 -- ---- no record is of kind 0
-module _ (v : ℕ) (low : v < 16) where
+module _ (v : ℕ) (low : v < mostContracts) where
   not-low : (r : Record) → (kind r ≡ 0 → ⊥) → inPart v r ≡ false
-  not-low r d = rw (ne-eqb v entryPart (λ z. omega arith), ne-eqb v ratePart (λ z. omega arith)) (other-kind (v / 16) (v % 16) r (λ z. d (omega arith)))
+  not-low r d = rw (ne-eqb v entryPart (λ z. omega arith), ne-eqb v ratePart (λ z. omega arith))
+      (other-kind (v / mostContracts) (v % mostContracts) r (λ z. d (omega arith)))
 
   pub none-low : (m n : List Record) → keep (inPart v) (joined m n) ≡ []
   none-low m n =
@@ -68,17 +69,17 @@ counted file ok v = if-accepted (recordsChecked file) (count (inPart v) (records
 
 -- which contracts are listed, by the counts
 lists-is :
-    (counts : List ℕ) (rs : List Record) (c : ℕ) → c ≤ 15 → getD counts (part 1 c) 0 ≡ count (inPart (part 1 c)) rs
+    (counts : List ℕ) (rs : List Record) (c : ℕ) → c ≤ mostContract → getD counts (part 1 c) 0 ≡ count (inPart (part 1 c)) rs
     → lists counts c ≡ listed c rs
 lists-is counts rs c h e =
     ap (λ (i : ℕ). not (eqb i 0)) (e ∙ ap (λ (p : Record → Bool). count p rs) (part-is 1 c (omega arith) h))
     ∙ ap not (none-counted (ofContract 1 c) rs)
     ∙ Bool·not-not (listed c rs)
 
-from-noon : (counts : List ℕ) (k c : ℕ) → k ≤ 4 → c ≤ 15 → fromNoon counts (part k c) ≡ lists counts c
+from-noon : (counts : List ℕ) (k c : ℕ) → k ≤ 4 → c ≤ mostContract → fromNoon counts (part k c) ≡ lists counts c
 from-noon counts k c hk hc =
-    let e : part k c % 16 ≡ c = omega arith in
-    ap (λ (b : Bool). b && lists counts (part k c % 16)) (lt-ltb (part k c) entryPart (omega arith)) ∙ ap (lists counts) e
+    let e : part k c % mostContracts ≡ c = omega arith in
+    ap (λ (b : Bool). b && lists counts (part k c % mostContracts)) (lt-ltb (part k c) entryPart (omega arith)) ∙ ap (lists counts) e
 
 -- ---- lists of numbers
 from-places :
@@ -101,7 +102,7 @@ same-below p q a (suc n) f = rw (f a (omega arith), same-below p q (a + 1) n (λ
 -- ---- a part of either of two accepted files
 module _ (morning noon : List ℕ) (okm : recordsChecked morning ≡ Accepted) (okn : recordsChecked noon ≡ Accepted) where
   either-stands :
-      (b : Bool) (k c : ℕ) → k ≤ 4 → c ≤ 15
+      (b : Bool) (k c : ℕ) → k ≤ 4 → c ≤ mostContract
       → records (stretch (cond b noon morning) (cond b (partStart noon (part k c)) (partStart morning (part k c)))
       (cond b (partCount noon (part k c)) (partCount morning (part k c))))
       ≡ keep (ofContract k c) (cond b (records noon) (records morning))
@@ -112,14 +113,14 @@ module _ (morning noon : List ℕ) (okm : recordsChecked morning ≡ Accepted) (
 module _
     (morning noon : List ℕ) (m n : Survey) (j : Account) (sm : Surveyed morning m) (sn : Surveyed noon n)
     (okm : recordsChecked morning ≡ Accepted) (okn : recordsChecked noon ≡ Accepted) (by : JoinedBy m n j) where
-  noon-lists : (c : ℕ) → c ≤ 15 → lists (n .counts) c ≡ listed c (records noon)
+  noon-lists : (c : ℕ) → c ≤ mostContract → lists (n .counts) c ≡ listed c (records noon)
   noon-lists c h =
       lists-is (n .counts) (records noon) c h (sn .counts (part 1 c) (omega arith) ∙ counted noon okn (part 1 c))
 
-  part-from : (k c : ℕ) → k ≤ 4 → c ≤ 15 → fromNoon (n .counts) (part k c) ≡ listed c (records noon)
+  part-from : (k c : ℕ) → k ≤ 4 → c ≤ mostContract → fromNoon (n .counts) (part k c) ≡ listed c (records noon)
   part-from k c hk hc = from-noon (n .counts) k c hk hc ∙ noon-lists c hc
 
-  flag-is : (c : ℕ) → c ≤ 15 → getD (j .noon) c false ≡ listed c (records noon)
+  flag-is : (c : ℕ) → c ≤ mostContract → getD (j .noon) c false ≡ listed c (records noon)
   flag-is c h = by .noon .each c (omega arith) ∙ noon-lists c h
 
   count-from :
@@ -137,7 +138,7 @@ module _
       ∙ ap₂ (λ (x y : ℕ). cond (fromNoon (n .counts) v) x y) (sn .first v h) (sm .first v h)
 
   each-stands :
-      (k c : ℕ) → 1 ≤ k → k ≤ 4 → c ≤ 15
+      (k c : ℕ) → 1 ≤ k → k ≤ 4 → c ≤ mostContract
       → records (stretch (supplies morning noon j c) (getD (j .first) (part k c) 0) (getD (j .counts) (part k c) 0))
       ≡ keep (ofContract k c) (accountOf morning noon)
   each-stands k c low hk hc =
@@ -158,7 +159,7 @@ module _
   account = accountOf morning noon
 
   count-part :
-      (k c : ℕ) → 1 ≤ k → k ≤ 4 → c ≤ 15 → getD (j .counts) (part k c) 0 ≡ count (inPart (part k c)) account
+      (k c : ℕ) → 1 ≤ k → k ≤ 4 → c ≤ mostContract → getD (j .counts) (part k c) 0 ≡ count (inPart (part k c)) account
   count-part k c low hk hc =
       let p = ofContract k c in
       let v = part k c in
@@ -197,7 +198,7 @@ module _
       ∙ ap length (sym (rates-joined (records morning) (records noon)))
       ∙ length-kept (ofKind 6) account
 
-  count-none : (v : ℕ) → v < 16 → getD (j .counts) v 0 ≡ count (inPart v) account
+  count-none : (v : ℕ) → v < mostContracts → getD (j .counts) v 0 ≡ count (inPart v) account
   count-none v low =
       count-from v (omega arith)
       ∙ ap₂ (λ (x y : ℕ). cond (fromNoon (n .counts) v) x y) (none noon okn) (none morning okm)
@@ -212,14 +213,14 @@ module _
       either false = refl
 
   pub counts-are : (v : ℕ) → v < parts → getD (j .counts) v 0 ≡ count (inPart v) (accountOf morning noon)
-  counts-are v h = low (ltb v 16) refl
+  counts-are v h = low (ltb v mostContracts) refl
     where
-      middle : 16 ≤ v → (t : Bool) → ltb v entryPart ≡ t → getD (j .counts) v 0 ≡ count (inPart v) account
+      middle : mostContracts ≤ v → (t : Bool) → ltb v entryPart ≡ t → getD (j .counts) v 0 ≡ count (inPart v) account
       middle above true e =
           let below = ltb-true v entryPart e in
-          let d : part (v / 16) (v % 16) ≡ v = omega arith in
+          let d : part (v / mostContracts) (v % mostContracts) ≡ v = omega arith in
           subst (λ (i : ℕ). getD (j .counts) i 0 ≡ count (inPart i) account) d
-          (count-part (v / 16) (v % 16) (omega arith) (omega arith) (omega arith))
+          (count-part (v / mostContracts) (v % mostContracts) (omega arith) (omega arith) (omega arith))
       middle above false e =
           last (ltb-false v entryPart e) (eqb v entryPart) refl
         where
@@ -231,9 +232,9 @@ module _
               let d : ratePart ≡ v = omega arith in
               subst (λ (i : ℕ). getD (j .counts) i 0 ≡ count (inPart i) account) d count-rates
 
-      low : (t : Bool) → ltb v 16 ≡ t → getD (j .counts) v 0 ≡ count (inPart v) account
-      low true e = count-none v (ltb-true v 16 e)
-      low false e = middle (ltb-false v 16 e) (ltb v entryPart) refl
+      low : (t : Bool) → ltb v mostContracts ≡ t → getD (j .counts) v 0 ≡ count (inPart v) account
+      low true e = count-none v (ltb-true v mostContracts e)
+      low false e = middle (ltb-false v mostContracts e) (ltb v entryPart) refl
 
   pub records-are : j .records ≡ length (accountOf morning noon)
   records-are =
@@ -252,7 +253,7 @@ module _
   numbers-are : Recorded account → take (j .contracts) (j .numbers) ≡ map contract (contractsOf account)
   numbers-are law =
       by .numbers .those
-      ∙ same-below (lists (j .counts)) (λ c. listed c account) 0 16
+      ∙ same-below (lists (j .counts)) (λ c. listed c account) 0 mostContracts
       (λ c h. lists-is (j .counts) account c (omega arith) (counts-are (part 1 c) (omega arith)))
       ∙ sym (numbered account law)
 

@@ -31,10 +31,10 @@ abbrev pub Held : (Record → ℕ) → List Record → List ℕ → Type 0
 Held f rates xs = (c : ℕ) → c ≤ mostCurrency → getD xs c 0 ≡ f (rateFor rates c)
 
 module _ (f : Record → ℕ) where
-  pub held-none : f [] ≡ 0 → Held f [] (replicate 8 0)
-  held-none e c h = getD-replicate 8 c 0 0 (omega arith) ∙ sym e
+  pub held-none : f [] ≡ 0 → Held f [] (replicate (mostCurrency + 1) 0)
+  held-none e c h = getD-replicate (mostCurrency + 1) c 0 0 (omega arith) ∙ sym e
 
-  pub held-more : (rate : Record) (rates : List Record) (xs : List ℕ) (x : ℕ) → length xs ≡ 8 → rateCurrency rate ≤ mostCurrency
+  pub held-more : (rate : Record) (rates : List Record) (xs : List ℕ) (x : ℕ) → length xs ≡ mostCurrency + 1 → rateCurrency rate ≤ mostCurrency
       → x ≡ f rate → Held f rates xs → Held f (rate ∷ rates) (set xs (rateCurrency rate) x)
   held-more rate rates xs x long small e held c h = go (eqb (rateCurrency rate) c) refl
     where
@@ -124,7 +124,8 @@ unrated-within row s w b = go (eqb (currency row) 0)
 
 -- ---- one table
 
-one-list : (f : Record → ℕ) (rates : List Record) (xs ys : List ℕ) → length xs ≡ 8 → length ys ≡ 8 → Held f rates xs → Held f rates ys → xs ≡ ys
+one-list : (f : Record → ℕ) (rates : List Record) (xs ys : List ℕ) → length xs ≡ mostCurrency + 1 → length ys ≡ mostCurrency + 1 → Held f rates xs
+    → Held f rates ys → xs ≡ ys
 one-list f rates xs ys ex ey hx hy = ext-getD 0 xs ys (ex ∙ sym ey) (λ c h. hx c (omega arith) ∙ sym (hy c (omega arith)))
 
 -- two tables of the same rates are the same

@@ -18,12 +18,12 @@ use Rattle.record.proofs.Tests.{or-false}
 use Rattle.record.proofs.Within.{never, neither}
 use Rattle.account.specs.Accepted.{Each}
 use Rattle.account.specs.Answers.{numberOf}
-use Rattle.account.specs.Check.{orElse}
+use Rattle.account.specs.Check.{orElse, mostContracts}
 use Rattle.account.specs.Checked.{rateFaultOf, firstRateFault, ratesChecked}
 use Rattle.account.specs.Conversions.{inAnother, otherRow, rowAnswer, Row}
 use Rattle.account.specs.Joined.{inTurn, joined}
 use Rattle.account.specs.Lawful.{Recorded, Lawful}
-use Rattle.account.specs.PartNumbers.{inPart, entryPart, ratePart, parts}
+use Rattle.account.specs.PartNumbers.{inPart, entryPart, ratePart, parts, rowPart, part}
 use Rattle.account.specs.Parts.{ofKind, ofContract, rowsOf, ratesOf}
 use Rattle.account.specs.Products.{ofCurrency, hasRate, beyondIn, conversionBeyond, Convertible}
 use Rattle.account.specs.Records.{cut, recordAt, records, recordCount}
@@ -236,13 +236,13 @@ lawful-of rs r e =
     }
 
 -- ---- the parts in the order of their numbers
-in-kind : (v : ℕ) (r : Record) → inPart v r ≡ true → kind r ≡ 3 → v / 16 ≡ 3
+in-kind : (v : ℕ) (r : Record) → inPart v r ≡ true → kind r ≡ 3 → v / mostContracts ≡ 3
 in-kind v r e k = go (eqb v entryPart) (eqb v ratePart) e
   where
-    go : (a b : Bool) → cond a (ofKind 5 r) (cond b (ofKind 6 r) (ofContract (v / 16) (v % 16) r)) ≡ true → v / 16 ≡ 3
+    go : (a b : Bool) → cond a (ofKind 5 r) (cond b (ofKind 6 r) (ofContract (v / mostContracts) (v % mostContracts) r)) ≡ true → v / mostContracts ≡ 3
     go true b t = let i = eqb-true (kind r) 5 t in absurd (omega arith)
     go false true t = let i = eqb-true (kind r) 6 t in absurd (omega arith)
-    go false false t = sym (kind-of (v / 16) (v % 16) r t .0) ∙ k
+    go false false t = sym (kind-of (v / mostContracts) (v % mostContracts) r t .0) ∙ k
 
 -- lengths in turn
 sum-turn : (f : ℕ → List Record) (xs : List ℕ) (a : ℕ) → ((v : ℕ) → v < length xs → getD xs v 0 ≡ length (f (a + v))) → sum xs ≡ length (inTurn f a (length xs))
@@ -268,81 +268,81 @@ module _ (m n : List Record) where
   split v w e =
       let z : v ≡ 0 + v = omega arith in
       ap (λ (x : ℕ). turn 0 v ++ turn x w) z ∙ turn-join (partsOf account) 0 v w ∙ ap (turn 0) e
-      ∙ sym (turn-join (partsOf account) 0 16 66)
-      ∙ ap (λ (rs : List Record). rs ++ turn 16 66) (none-turn (partsOf account) 0 16 (λ x l h. none-low x h m n))
+      ∙ sym (turn-join (partsOf account) 0 mostContracts 66)
+      ∙ ap (λ (rs : List Record). rs ++ turn mostContracts 66) (none-turn (partsOf account) 0 mostContracts (λ x l h. none-low x h m n))
       ∙ sym (joined-turn m n)
 
-  unrowed : (a w : ℕ) → ((v : ℕ) → a ≤ v → v < a + w → v / 16 ≡ 3 → ⊥) → Each (λ r. kind r ≡ 3 → ⊥) (turn a w)
+  unrowed : (a w : ℕ) → ((v : ℕ) → a ≤ v → v < a + w → v / mostContracts ≡ 3 → ⊥) → Each (λ r. kind r ≡ 3 → ⊥) (turn a w)
   unrowed a w h =
       every-turn (partsOf account) (λ r. kind r ≡ 3 → ⊥) a w
       (λ v l u. every-weaker (partsOf account v) (λ r e k. h v l u (in-kind v r e k)) (kept-pass (inPart v) account))
 
   -- from contract c's rows on, the first of which is record k
   abbrev pub rowsOnFrom : ℕ → ℕ → Answer
-  rowsOnFrom k c = firstRateFault k rates (turn (48 + c) (34 - c))
+  rowsOnFrom k c = firstRateFault k rates (turn (rowPart + c) (34 - c))
 
-  pub turn-start : ratesChecked account ≡ rowsOnFrom (length (turn 0 48)) 0
+  pub turn-start : ratesChecked account ≡ rowsOnFrom (length (turn 0 rowPart)) 0
   turn-start =
-      ap (firstRateFault 0 rates) (sym (split 48 34 refl))
-      ∙ pass rates 0 (turn 0 48) (turn 48 34) (ap numberOf (no-rows rates 0 (turn 0 48) (unrowed 0 48 (λ v l h e. omega arith))))
-      ∙ ap (λ (k : ℕ). firstRateFault k rates (turn 48 34)) (zero-add (length (turn 0 48)))
+      ap (firstRateFault 0 rates) (sym (split rowPart 34 refl))
+      ∙ pass rates 0 (turn 0 rowPart) (turn rowPart 34) (ap numberOf (no-rows rates 0 (turn 0 rowPart) (unrowed 0 rowPart (λ v l h e. omega arith))))
+      ∙ ap (λ (k : ℕ). firstRateFault k rates (turn rowPart 34)) (zero-add (length (turn 0 rowPart)))
 
-  one-on : (c : ℕ) → c < 16 → turn (48 + c) (34 - c) ≡ partsOf account (48 + c) ++ turn (48 + (c + 1)) (34 - (c + 1))
+  one-on : (c : ℕ) → c < mostContracts → turn (rowPart + c) (34 - c) ≡ partsOf account (rowPart + c) ++ turn (rowPart + (c + 1)) (34 - (c + 1))
   one-on c h =
       let e : 34 - c ≡ suc (34 - (c + 1)) = omega arith in
-      let d : 48 + c + 1 ≡ 48 + (c + 1) = omega arith in
-      ap (turn (48 + c)) e ∙ ap (λ (v : ℕ). partsOf account (48 + c) ++ turn v (34 - (c + 1))) d
+      let d : rowPart + c + 1 ≡ rowPart + (c + 1) = omega arith in
+      ap (turn (rowPart + c)) e ∙ ap (λ (v : ℕ). partsOf account (rowPart + c) ++ turn v (34 - (c + 1))) d
 
-  module _ (k c : ℕ) (h : c < 16) where
-    pub turn-next : numberOf (firstRateFault k rates (partsOf account (48 + c))) ≡ 0
-        → rowsOnFrom k c ≡ rowsOnFrom (k + length (partsOf account (48 + c))) (c + 1)
+  module _ (k c : ℕ) (h : c < mostContracts) where
+    pub turn-next : numberOf (firstRateFault k rates (partsOf account (rowPart + c))) ≡ 0
+        → rowsOnFrom k c ≡ rowsOnFrom (k + length (partsOf account (rowPart + c))) (c + 1)
     turn-next e =
         ap (firstRateFault k rates) (one-on c h)
-        ∙ pass rates k (partsOf account (48 + c)) (turn (48 + (c + 1)) (34 - (c + 1))) e
+        ∙ pass rates k (partsOf account (rowPart + c)) (turn (rowPart + (c + 1)) (34 - (c + 1))) e
 
-    pub turn-stop : (numberOf (firstRateFault k rates (partsOf account (48 + c))) ≡ 0 → ⊥)
-        → rowsOnFrom k c ≡ firstRateFault k rates (partsOf account (48 + c))
+    pub turn-stop : (numberOf (firstRateFault k rates (partsOf account (rowPart + c))) ≡ 0 → ⊥)
+        → rowsOnFrom k c ≡ firstRateFault k rates (partsOf account (rowPart + c))
     turn-stop d =
         ap (firstRateFault k rates) (one-on c h)
-        ∙ stop rates k (partsOf account (48 + c)) (turn (48 + (c + 1)) (34 - (c + 1))) d
+        ∙ stop rates k (partsOf account (rowPart + c)) (turn (rowPart + (c + 1)) (34 - (c + 1))) d
 
-  pub turn-end : (k : ℕ) → rowsOnFrom k 16 ≡ Accepted
-  turn-end k = no-rows rates k (turn 64 18) (unrowed 64 18 (λ v l h e. omega arith))
+  pub turn-end : (k : ℕ) → rowsOnFrom k mostContracts ≡ Accepted
+  turn-end k = no-rows rates k (turn (part 4 0) 18) (unrowed (part 4 0) 18 (λ v l h e. omega arith))
 
   -- how many records stand before contract c's rows
   abbrev pub rowsBefore : ℕ → ℕ
-  rowsBefore c = length (turn 0 (48 + c))
+  rowsBefore c = length (turn 0 (rowPart + c))
 
-  pub before-next : (c : ℕ) → rowsBefore (c + 1) ≡ rowsBefore c + length (partsOf account (48 + c))
+  pub before-next : (c : ℕ) → rowsBefore (c + 1) ≡ rowsBefore c + length (partsOf account (rowPart + c))
   before-next c =
-      let z : 0 + (48 + c) ≡ 48 + c = omega arith in
-      let e : 48 + c + 1 ≡ 48 + (c + 1) = omega arith in
-      let last : turn (0 + (48 + c)) 1 ≡ partsOf account (48 + c) = ap (λ (v : ℕ). turn v 1) z ∙ append-nil (partsOf account (48 + c)) in
+      let z : 0 + (rowPart + c) ≡ rowPart + c = omega arith in
+      let e : rowPart + c + 1 ≡ rowPart + (c + 1) = omega arith in
+      let last : turn (0 + (rowPart + c)) 1 ≡ partsOf account (rowPart + c) = ap (λ (v : ℕ). turn v 1) z ∙ append-nil (partsOf account (rowPart + c)) in
       omega (
         arith,
         ap (λ (v : ℕ). length (turn 0 v)) e,
-        ap length (turn-join (partsOf account) 0 (48 + c) 1),
-        length-append (turn 0 (48 + c)) (turn (0 + (48 + c)) 1),
+        ap length (turn-join (partsOf account) 0 (rowPart + c) 1),
+        length-append (turn 0 (rowPart + c)) (turn (0 + (rowPart + c)) 1),
         ap length last,
       )
 
-  pub before-few : (c : ℕ) → c ≤ 16 → rowsBefore c ≤ length account
+  pub before-few : (c : ℕ) → c ≤ mostContracts → rowsBefore c ≤ length account
   before-few c h =
-      let e : 48 + c + (34 - c) ≡ parts = omega arith in
-      omega (arith, ap length (split (48 + c) (34 - c) e), length-append (turn 0 (48 + c)) (turn (48 + c) (34 - c)))
+      let e : rowPart + c + (34 - c) ≡ parts = omega arith in
+      omega (arith, ap length (split (rowPart + c) (34 - c) e), length-append (turn 0 (rowPart + c)) (turn (rowPart + c) (34 - c)))
 
   pub before-counted : (counts : List ℕ) → length counts ≡ parts → ((v : ℕ) → v < parts → getD counts v 0 ≡ count (inPart v) account)
-      → sum (take 48 counts) ≡ rowsBefore 0
+      → sum (take rowPart counts) ≡ rowsBefore 0
   before-counted counts l are =
-      let long : length (take 48 counts) ≡ 48 = length-take-le 48 counts (omega arith) in
-      sum-turn (partsOf account) (take 48 counts) 0
+      let long : length (take rowPart counts) ≡ rowPart = length-take-le rowPart counts (omega arith) in
+      sum-turn (partsOf account) (take rowPart counts) 0
       (λ v h.
       let z : v ≡ 0 + v = omega arith in
-      getD-take 48 counts v 0 (omega arith) ∙ are v (omega arith) ∙ sym (length-kept (inPart v) account) ∙ ap (λ (x : ℕ). length (partsOf account x)) z)
+      getD-take rowPart counts v 0 (omega arith) ∙ are v (omega arith) ∙ sym (length-kept (inPart v) account) ∙ ap (λ (x : ℕ). length (partsOf account x)) z)
       ∙ ap (λ (w : ℕ). length (turn 0 w)) long
 
 -- the rows of contract c, within their ranges
-pub rows-known : (rs : List Record) → Recorded rs → (c : ℕ) → c < 16 → Each Row (partsOf rs (48 + c))
+pub rows-known : (rs : List Record) → Recorded rs → (c : ℕ) → c < mostContracts → Each Row (partsOf rs (rowPart + c))
 rows-known rs known c h =
     subst⁻¹ (λ (p : Record → Bool). Each Row (keep p rs)) (part-is 3 c (omega arith) (omega arith))
     (every-weaker (rowsOf c rs) (λ r f. record { isRow = kind-of 3 c r (f .0) .0; within = f .1 })

@@ -27,7 +27,7 @@ use Rattle.account.proofs.RateLaws.{fault-on}
 rises : (rates : List Record) (r : Record) → Rising 0 (rateRefusals rates r)
 rises rates r = (lit< tt, (lit< tt, tt))
 
-by-two : (P : ℕ → Type 0) → P 14 → P 15 → (n : ℕ) → 14 ≤ n → n ≤ 15 → P n
+pub by-two : (P : ℕ → Type 0) → P 14 → P 15 → (n : ℕ) → 14 ≤ n → n ≤ 15 → P n
 by-two P a b n l h = go (eqb n 14) refl
   where
     go : (t : Bool) → eqb n 14 ≡ t → P n

@@ -13,14 +13,15 @@ use borrow.Author.Tests.{ltb-true, ltb-false, eqb-true, eqb-false, eq-eqb, ne-eq
 use Rattle.exact.specs.Lists.{any, oneIf}
 use Rattle.exact.proofs.Lists.{any-at, any-true, getD-map}
 use Rattle.record.specs.Bytes.{countFrom}
-use Rattle.record.specs.Layout.{Record, kind, contract, tier, day, legCount, twoLegs, legsOf, legTier}
+use Rattle.record.specs.Layout.{Record, kind, contract, tier, day, legCount, twoLegs, legsOf, legTier, mostContract, mostTier}
 use Rattle.record.specs.Ranges.{unknownKind, unusedByte, fieldOutside, sound}
 use Rattle.record.specs.Within.{SpreadWithin}
 use Rattle.record.proofs.Reading.{byte-past}
 use Rattle.record.proofs.Sound.{Sound, sound-known}
 use Rattle.record.proofs.Tests.{any-append, or-false, both}
 use Rattle.record.proofs.Within.{both-true, neither, row-within, spread-within, contract-known}
-use Rattle.account.specs.Check.{kindFalls, dayNotAbove, tierFalls, contractFalls, legsClash, outOfOrder}
+use Rattle.account.specs.Check.{kindFalls, dayNotAbove, tierFalls, contractFalls, legsClash, outOfOrder, mostContracts, mostPrompts, mostRows}
+use Rattle.account.specs.Check.{mostSpreads}
 use Rattle.account.specs.PartNumbers.{part, parts}
 use Rattle.account.specs.code.Notes.{partOf, oneMore, startNoted, noContract, noDay, noTier, unlistedBy, overLimitBy, faultBy, promptsNoted, beforeAt}
 use Rattle.account.specs.code.Notes.{faultAt}
@@ -37,26 +38,26 @@ use Rattle.account.proofs.Walk.{before-is, length-cut}
 
 -- ---- the days of prompts, the first j of them so far
 pub record DaysTo (prompts days : List ℕ) (j : ℕ) : Type 0 where
-  pub long : length days ≡ 32
+  pub long : length days ≡ mostPrompts
   pub noted : (i : ℕ) → i < j → getD days i 0 ≡ day (recordAt prompts i)
   pub zeros : (i : ℕ) → j ≤ i → getD days i 0 ≡ 0
 
-pub days-start : (prompts : List ℕ) → DaysTo prompts (replicate 32 0) 0
+pub days-start : (prompts : List ℕ) → DaysTo prompts (replicate mostPrompts 0) 0
 days-start prompts =
     record {
-      long = length-replicate {A = ℕ} 32 0;
+      long = length-replicate {A = ℕ} mostPrompts 0;
       noted = λ i h. absurd (omega arith);
-      zeros = λ i h. go i (ltb i 32) refl;
+      zeros = λ i h. go i (ltb i mostPrompts) refl;
     }
   where
-    go : (i : ℕ) (t : Bool) → ltb i 32 ≡ t → _≡_ {A = ℕ} (getD (replicate 32 0) i 0) 0
-    go i true e = getD-replicate {A = ℕ} 32 i 0 0 (ltb-true i 32 e)
+    go : (i : ℕ) (t : Bool) → ltb i mostPrompts ≡ t → _≡_ {A = ℕ} (getD (replicate mostPrompts 0) i 0) 0
+    go i true e = getD-replicate {A = ℕ} mostPrompts i 0 0 (ltb-true i mostPrompts e)
     go i false e =
-        let l : length (replicate {A = ℕ} 32 0) ≤ i = omega (arith, ltb-false i 32 e, length-replicate {A = ℕ} 32 0) in
-        byte-past (replicate 32 0) i l
+        let l : length (replicate {A = ℕ} mostPrompts 0) ≤ i = omega (arith, ltb-false i mostPrompts e, length-replicate {A = ℕ} mostPrompts 0) in
+        byte-past (replicate mostPrompts 0) i l
 
 module _ {prompts days : List ℕ} {j : ℕ} (t : DaysTo prompts days j) where
-  pub days-next : (d : ℕ) → d ≡ day (recordAt prompts j) → j < 32 → DaysTo prompts (set days j d) (j + 1)
+  pub days-next : (d : ℕ) → d ≡ day (recordAt prompts j) → j < mostPrompts → DaysTo prompts (set days j d) (j + 1)
   days-next d e h =
       record {
         long = length-set days j d ∙ t .long;
@@ -73,13 +74,13 @@ module _ {prompts days : List ℕ} {j : ℕ} (t : DaysTo prompts days j) where
           let n = eqb-false i j b in
           getD-set-other days j i d 0 n ∙ t .noted i (omega arith)
 
-  pub days-end : j ≡ min (recordCount prompts) 32 → DaysOf (records prompts) days
+  pub days-end : j ≡ min (recordCount prompts) mostPrompts → DaysOf (records prompts) days
   days-end e = record { long = t .long; each = λ i h. go i h (ltb i j) refl }
     where
       many : length (records prompts) ≡ recordCount prompts
       many = length-cut (recordCount prompts) prompts
 
-      go : (i : ℕ) → i < 32 → (b : Bool) → ltb i j ≡ b → getD days i 0 ≡ getD (map day (records prompts)) i 0
+      go : (i : ℕ) → i < mostPrompts → (b : Bool) → ltb i j ≡ b → getD days i 0 ≡ getD (map day (records prompts)) i 0
       go i h true b =
           let l = ltb-true i j b in
           let m : i < recordCount prompts = omega arith in
@@ -93,25 +94,25 @@ module _ {prompts days : List ℕ} {j : ℕ} (t : DaysTo prompts days j) where
 -- a day above 0 that is noted is the day of a prompt
 pub day-listed : (prompts : List Record) (days : List ℕ) (d : ℕ) → DaysOf prompts days → 1 ≤ d → hasDay days d ≡ true → noDay prompts d ≡ false
 day-listed prompts days d t low h =
-    let p = any-true (λ j. eqb (getD days j 0) d) (countFrom 0 32) 0 h in
-    let j = getD (countFrom 0 32) (p .place) 0 in
+    let p = any-true (λ j. eqb (getD days j 0) d) (countFrom 0 mostPrompts) 0 h in
+    let j = getD (countFrom 0 mostPrompts) (p .place) 0 in
     let e : getD days j 0 ≡ d = eqb-true _ _ (p .passes) in
-    found j e (ltb j 32) refl (ltb j (length prompts)) refl
+    found j e (ltb j mostPrompts) refl (ltb j (length prompts)) refl
   where
     found :
-        (j : ℕ) → getD days j 0 ≡ d → (b : Bool) → ltb j 32 ≡ b → (l : Bool) → ltb j (length prompts) ≡ l
+        (j : ℕ) → getD days j 0 ≡ d → (b : Bool) → ltb j mostPrompts ≡ b → (l : Bool) → ltb j (length prompts) ≡ l
         → noDay prompts d ≡ false
     found j e true b true l =
         let m = ltb-true j (length prompts) l in
-        let s : day (getD prompts j []) ≡ d = sym (getD-map day prompts j [] 0 m) ∙ sym (t .each j (ltb-true j 32 b)) ∙ e in
+        let s : day (getD prompts j []) ≡ d = sym (getD-map day prompts j [] 0 m) ∙ sym (t .each j (ltb-true j mostPrompts b)) ∙ e in
         ap not (any-at (onDay d) prompts j [] m (eq-eqb _ _ s))
     found j e true b false l =
         let m = ltb-false j (length prompts) l in
         let z = byte-past (map day prompts) j (omega (arith, length-map prompts day)) in
-        let s = t .each j (ltb-true j 32 b) in
+        let s = t .each j (ltb-true j mostPrompts b) in
         absurd (omega arith)
     found j e false b w l =
-        let z = byte-past days j (omega (arith, ltb-false j 32 b, t .long)) in
+        let z = byte-past days j (omega (arith, ltb-false j mostPrompts b, t .long)) in
         absurd (omega arith)
 
 -- ---- the tiers of prompts, of the first j so far
@@ -184,12 +185,12 @@ and-off false q = refl
 
 part-of-sound : (n c : ℕ) (r : Record) → 2 ≤ n → n ≤ 4 → kind r ≡ n → contract r ≡ c → partOf r ≡ part n c
 part-of-sound n c r low high k e =
-    part-other r (λ z. omega arith) (λ z. omega arith) ∙ (λ i. 16 * k i + e i)
+    part-other r (λ z. omega arith) (λ z. omega arith) ∙ (λ i. mostContracts * k i + e i)
 
 known-kind : (n : ℕ) (r : Record) → 2 ≤ n → n ≤ 4 → kind r ≡ n → unknownKind r ≡ false
 known-kind n r low high k = rw (le-leb 1 (kind r) (omega arith), le-leb (kind r) 6 (omega arith))
 
-contract-small : (n c : ℕ) (r : Record) → 2 ≤ n → n ≤ 4 → Sound n c r → c ≤ 15
+contract-small : (n c : ℕ) (r : Record) → 2 ≤ n → n ≤ 4 → Sound n c r → c ≤ mostContract
 contract-small n c r low high s =
     let h = contract-known r (known-kind n r low high (s .kinds)) (s .within) in
     let x = s .contracts in
@@ -231,7 +232,7 @@ module _ {n most : ℕ} {file counts : List ℕ} {k c : ℕ} {passes : ℕ → B
     its : Sound n c (recordAt file j)
     its = f .soundAt j (f .run .each j (omega arith) before)
 
-    small : c ≤ 15
+    small : c ≤ mostContract
     small = contract-small n c (recordAt file j) (f .low) (f .high) its
 
     -- the notes of the other parts stand
@@ -318,7 +319,7 @@ module _ {n most : ℕ} {file counts : List ℕ} {k c : ℕ} {passes : ℕ → B
 
 -- the legs whose tier has no prompt, by the prompts and by the tiers noted of them
 module _ (prompts : List Record) (listed : List Bool) (t : TiersOf prompts listed) (r : Record) where
-  leg-same : (leg : ℕ) → legTier r leg ≤ 8 → noTier prompts (legTier r leg) ≡ legUnlistedIn listed r leg
+  leg-same : (leg : ℕ) → legTier r leg ≤ mostTier → noTier prompts (legTier r leg) ≡ legUnlistedIn listed r leg
   leg-same leg h = ap not (sym (t .each (legTier r leg) (omega arith)))
 
   legs-same :
@@ -345,7 +346,7 @@ module _ (file first counts : List ℕ) (k c : ℕ) {i : ℕ} where
   pub prompts-pass :
       After 2 file counts k c
       → RunTo (λ j. promptPasses c (recordAt file (j - 1)) (recordAt file j)) (k + 1)
-      (min (k + 1 + (32 - getD counts (part 2 c) 0)) (recordCount file)) i
+      (min (k + 1 + (mostPrompts - getD counts (part 2 c) 0)) (recordCount file)) i
       → Passes file first counts k i
   prompts-pass a run = run-passes following first each
     where
@@ -355,7 +356,7 @@ module _ (file first counts : List ℕ) (k c : ℕ) {i : ℕ} where
       soundAt : (j : ℕ) → passes j ≡ true → Sound 2 c (recordAt file j)
       soundAt j e = sound-known 2 c (recordAt file j) (both-true (sound 2 c (recordAt file j)) _ e .0)
 
-      following : Following 2 32 file counts k c passes i
+      following : Following 2 mostPrompts file counts k c passes i
       following = record { low = omega arith; high = omega arith; after = a; soundAt = soundAt; run = run }
 
       each : (j : ℕ) → k < j → j < i → PassesAt file first counts k j
@@ -373,7 +374,7 @@ module _ (file first counts : List ℕ) (k c : ℕ) {i : ℕ} where
 
   pub rows-pass :
       After 3 file counts k c → (days : List ℕ) → DaysOf (promptsNoted file first counts c) days
-      → RunTo (λ j. rowPasses c days (recordAt file j)) (k + 1) (min (k + 1 + (128 - getD counts (part 3 c) 0)) (recordCount file)) i
+      → RunTo (λ j. rowPasses c days (recordAt file j)) (k + 1) (min (k + 1 + (mostRows - getD counts (part 3 c) 0)) (recordCount file)) i
       → Passes file first counts k i
   rows-pass a days t run = run-passes following first each
     where
@@ -383,7 +384,7 @@ module _ (file first counts : List ℕ) (k c : ℕ) {i : ℕ} where
       soundAt : (j : ℕ) → passes j ≡ true → Sound 3 c (recordAt file j)
       soundAt j e = sound-known 3 c (recordAt file j) (both-true (sound 3 c (recordAt file j)) _ e .0)
 
-      following : Following 3 128 file counts k c passes i
+      following : Following 3 mostRows file counts k c passes i
       following = record { low = omega arith; high = omega arith; after = a; soundAt = soundAt; run = run }
 
       each : (j : ℕ) → k < j → j < i → PassesAt file first counts k j
@@ -403,7 +404,7 @@ module _ (file first counts : List ℕ) (k c : ℕ) {i : ℕ} where
 
   pub spreads-pass :
       After 4 file counts k c → (listed : List Bool) → TiersOf (promptsNoted file first counts c) listed
-      → RunTo (λ j. spreadPasses c listed (recordAt file j)) (k + 1) (min (k + 1 + (32 - getD counts (part 4 c) 0)) (recordCount file)) i
+      → RunTo (λ j. spreadPasses c listed (recordAt file j)) (k + 1) (min (k + 1 + (mostSpreads - getD counts (part 4 c) 0)) (recordCount file)) i
       → Passes file first counts k i
   spreads-pass a listed t run = run-passes following first each
     where
@@ -413,7 +414,7 @@ module _ (file first counts : List ℕ) (k c : ℕ) {i : ℕ} where
       soundAt : (j : ℕ) → passes j ≡ true → Sound 4 c (recordAt file j)
       soundAt j e = sound-known 4 c (recordAt file j) (both-true (sound 4 c (recordAt file j)) _ e .0)
 
-      following : Following 4 32 file counts k c passes i
+      following : Following 4 mostSpreads file counts k c passes i
       following = record { low = omega arith; high = omega arith; after = a; soundAt = soundAt; run = run }
 
       each : (j : ℕ) → k < j → j < i → PassesAt file first counts k j
@@ -463,7 +464,7 @@ module _ {n most : ℕ} {file counts : List ℕ} {k c : ℕ} {passes : ℕ → B
   part-it : v ≡ part n c
   part-it = part-of-sound n c (recordAt file k) (f .low) (f .high) (f .begins .after .kinds) (f .begins .after .contracts)
 
-  small-it : c ≤ 15
+  small-it : c ≤ mostContract
   small-it = contract-small n c (recordAt file k) (f .low) (f .high) it
 
   room-it : getD counts (part n c) 0 < most
@@ -579,7 +580,7 @@ module _ (file first counts : List ℕ) (k c : ℕ) {i : ℕ} where
   pub prompts-run :
       Begins 2 file counts k c
       → RunTo (λ j. promptPasses c (recordAt file (j - 1)) (recordAt file j)) k
-      (min (k + (32 - getD counts (part 2 c) 0)) (recordCount file)) i
+      (min (k + (mostPrompts - getD counts (part 2 c) 0)) (recordCount file)) i
       → Runs file first counts k i
   prompts-run b run = or-none (omega (arith, b .after .inside)) (run .low) go
     where
@@ -591,7 +592,7 @@ module _ (file first counts : List ℕ) (k c : ℕ) {i : ℕ} where
 
       go : k < i → Runs file first counts k i
       go h =
-          let f : Beginning 2 32 file counts k c passes i =
+          let f : Beginning 2 mostPrompts file counts k c passes i =
           record { low = omega arith; high = omega arith; begins = b; soundAt = soundAt; run = run; some = h } in
           let r = recordAt file k in
           let e = b .after .kinds in
@@ -606,7 +607,7 @@ module _ (file first counts : List ℕ) (k c : ℕ) {i : ℕ} where
 
   pub rows-run :
       Begins 3 file counts k c → (days : List ℕ) → DaysOf (promptsNoted file first counts c) days
-      → RunTo (λ j. rowPasses c days (recordAt file j)) k (min (k + (128 - getD counts (part 3 c) 0)) (recordCount file)) i
+      → RunTo (λ j. rowPasses c days (recordAt file j)) k (min (k + (mostRows - getD counts (part 3 c) 0)) (recordCount file)) i
       → Runs file first counts k i
   rows-run b days t run = or-none (omega (arith, b .after .inside)) (run .low) go
     where
@@ -618,7 +619,7 @@ module _ (file first counts : List ℕ) (k c : ℕ) {i : ℕ} where
 
       go : k < i → Runs file first counts k i
       go h =
-          let f : Beginning 3 128 file counts k c passes i =
+          let f : Beginning 3 mostRows file counts k c passes i =
           record { low = omega arith; high = omega arith; begins = b; soundAt = soundAt; run = run; some = h } in
           let r = recordAt file k in
           let e = b .after .kinds in
@@ -637,7 +638,7 @@ module _ (file first counts : List ℕ) (k c : ℕ) {i : ℕ} where
 
   pub spreads-run :
       Begins 4 file counts k c → (listed : List Bool) → TiersOf (promptsNoted file first counts c) listed
-      → RunTo (λ j. spreadPasses c listed (recordAt file j)) k (min (k + (32 - getD counts (part 4 c) 0)) (recordCount file)) i
+      → RunTo (λ j. spreadPasses c listed (recordAt file j)) k (min (k + (mostSpreads - getD counts (part 4 c) 0)) (recordCount file)) i
       → Runs file first counts k i
   spreads-run b listed t run = or-none (omega (arith, b .after .inside)) (run .low) go
     where
@@ -649,7 +650,7 @@ module _ (file first counts : List ℕ) (k c : ℕ) {i : ℕ} where
 
       go : k < i → Runs file first counts k i
       go h =
-          let f : Beginning 4 32 file counts k c passes i =
+          let f : Beginning 4 mostSpreads file counts k c passes i =
           record { low = omega arith; high = omega arith; begins = b; soundAt = soundAt; run = run; some = h } in
           let r = recordAt file k in
           let e = b .after .kinds in

@@ -11,13 +11,14 @@ use lib.ListN.{length, getD, drop, length-take}
 use lib.Seq.{take-all}
 use Rattle.record.specs.Bytes.{recordBytes}
 use Rattle.exact.specs.Lists.{keep}
-use Rattle.record.specs.Layout.{Record}
-use Rattle.account.specs.PartNumbers.{part, entryPart, ratePart, inPart, partRecords}
+use Rattle.record.specs.Layout.{Record, mostContract}
+use Rattle.account.specs.PartNumbers.{part, entryPart, ratePart, inPart, partRecords, rowPart}
 use Rattle.account.specs.Parts.{ofKind, ofContract}
 use Rattle.account.specs.Records.{cut, records, recordCount, stretch}
 use Rattle.account.specs.Joined.{accountOf}
 use Rattle.account.specs.code.Standing.{Places, PartOf}
 use Rattle.account.specs.declared.accounts.Account.{Account}
+use Rattle.account.specs.Check.{mostContracts}
 use Rattle.account.proofs.Every.{length-kept}
 use Rattle.account.proofs.Noted.{part-is}
 use Rattle.account.proofs.Places.{none-low}
@@ -32,13 +33,13 @@ pub within : (v : ℕ) → v ≤ ratePart → (account : List Record) → partRe
 within v h account = ap (λ (t : Bool). cond t [] (keep (inPart v) account)) (le-ltb ratePart v h)
 
 -- a contract's part has its records of a kind
-pub contract-part : (k c : ℕ) → k ≤ 4 → c ≤ 15 → (account : List Record) → partRecords (part k c) account ≡ keep (ofContract k c) account
+pub contract-part : (k c : ℕ) → k ≤ 4 → c ≤ mostContract → (account : List Record) → partRecords (part k c) account ≡ keep (ofContract k c) account
 contract-part k c hk hc account =
     within (part k c) (omega arith) account ∙ ap (λ (p : Record → Bool). keep p account) (part-is k c hk hc)
 
 -- the rows of contract c, and the rates
-pub row-part : (c : ℕ) → c < 16 → (account : List Record) → partRecords (48 + c) account ≡ keep (inPart (48 + c)) account
-row-part c h account = within (48 + c) (omega arith) account
+pub row-part : (c : ℕ) → c < mostContracts → (account : List Record) → partRecords (rowPart + c) account ≡ keep (inPart (rowPart + c)) account
+row-part c h account = within (rowPart + c) (omega arith) account
 
 pub rate-part : (account : List Record) → partRecords ratePart account ≡ keep (ofKind 6) account
 rate-part account = within ratePart (omega arith) account
@@ -69,25 +70,26 @@ module _ (morning noon : List ℕ) (a : Account) (st : Places morning noon a) (v
   counted = st .counts v (omega arith) ∙ sym (length-kept (inPart v) account)
 
   abbrev late : Bool
-  late = ltb v entryPart && getD (a .noon) (v % 16) false
+  late = ltb v entryPart && getD (a .noon) (v % mostContracts) false
 
   are : records (bytes late) ≡ keep (inPart v) account
-  are = go (ltb v 16) refl (ltb v entryPart) refl
+  are = go (ltb v mostContracts) refl (ltb v entryPart) refl
     where
-      go : (t : Bool) → ltb v 16 ≡ t → (u : Bool) → ltb v entryPart ≡ u → records (bytes late) ≡ keep (inPart v) account
+      go : (t : Bool) → ltb v mostContracts ≡ t → (u : Bool) → ltb v entryPart ≡ u → records (bytes late) ≡ keep (inPart v) account
       go true e u f =
-          let z : keep (inPart v) account ≡ [] = none-low v (ltb-true v 16 e) (records morning) (records noon) in
+          let z : keep (inPart v) account ≡ [] = none-low v (ltb-true v mostContracts e) (records morning) (records noon) in
           ap (λ (n : ℕ). records (stretch (file late) (getD (a .first) v 0) n)) (counted ∙ ap length z) ∙ sym z
       go false e true f =
-          let low = ltb-false v 16 e in
+          let low = ltb-false v mostContracts e in
           let high = ltb-true v entryPart f in
-          let d : part (v / 16) (v % 16) ≡ v = omega arith in
-          ap (λ (t : Bool). records (bytes (t && getD (a .noon) (v % 16) false))) f
-          ∙ subst (λ (i : ℕ). records (stretch (file (getD (a .noon) (v % 16) false)) (getD (a .first) i 0) (getD (a .counts) i 0)) ≡ keep (inPart i) account) d
-          (st .each (v / 16) (v % 16) (omega arith) (omega arith) (omega arith)
-          ∙ ap (λ (p : Record → Bool). keep p account) (sym (part-is (v / 16) (v % 16) (omega arith) (omega arith))))
+          let d : part (v / mostContracts) (v % mostContracts) ≡ v = omega arith in
+          ap (λ (t : Bool). records (bytes (t && getD (a .noon) (v % mostContracts) false))) f
+          ∙ subst (λ (i : ℕ). records (stretch (file (getD (a .noon) (v % mostContracts) false)) (getD (a .first) i 0) (getD (a .counts) i 0))
+          ≡ keep (inPart i) account) d
+          (st .each (v / mostContracts) (v % mostContracts) (omega arith) (omega arith) (omega arith)
+          ∙ ap (λ (p : Record → Bool). keep p account) (sym (part-is (v / mostContracts) (v % mostContracts) (omega arith) (omega arith))))
       go false e false f =
-          ap (λ (t : Bool). records (bytes (t && getD (a .noon) (v % 16) false))) f ∙ last (eqb v entryPart) refl
+          ap (λ (t : Bool). records (bytes (t && getD (a .noon) (v % mostContracts) false))) f ∙ last (eqb v entryPart) refl
         where
           last : (t : Bool) → eqb v entryPart ≡ t → records (stretch morning (getD (a .first) v 0) (getD (a .counts) v 0)) ≡ keep (inPart v) account
           last true i =

@@ -23,7 +23,7 @@ module _ (file : List ℕ) (k n : ℕ) where
       length file / recordBytes < k → take (length file - length file) (drop (length file) file) ≡ stretch file k n
   stretch-past h =
       let z : length file - length file ≡ 0 = omega arith in
-      let d : drop (k * recordBytes) file ≡ [] = drop-of-length-le file {i = k * 96} (omega arith) in
+      let d : drop (k * recordBytes) file ≡ [] = drop-of-length-le file {i = k * recordBytes} (omega arith) in
       rw (z, d) (sym (take-nil (n * recordBytes)))
 
   pub stretch-rest :

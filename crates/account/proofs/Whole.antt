@@ -2,7 +2,7 @@
 -- Assumes nothing.
 use Prim.Native.Nat.{ℕ, _+_, _≤_, _<_}
 use mathlib.Core.Path.{_≡_, refl, sym, ap, ap₂, subst, _∙_}
-use mathlib.Core.Bool.{Bool, true, false, not, _&&_, _||_, or-true, false≢true}
+use mathlib.Core.Bool.{Bool, true, false, not, _&&_, _||_, or-true}
 use mathlib.Core.List.{List, [], _∷_, map}
 use lib.ListN.{length}
 use lib.Dec.{eqb, leb}
@@ -10,6 +10,7 @@ use native.Mathlib.Omega.{arith}
 use borrow.Author.Tests.{eq-eqb, ne-eqb, eqb-true, eqb-false, leb-true, leb-false}
 use Rattle.exact.specs.Lists.{consIf, keep, oneIf, count, sum}
 use Rattle.exact.proofs.Lists.{sum-map-add}
+use Rattle.exact.proofs.Tests.{eqb-turned}
 use Rattle.record.specs.Layout.{Record, kind, contract}
 use Rattle.record.specs.Within.{Between}
 use Rattle.record.proofs.Within.{by-kind}
@@ -91,13 +92,6 @@ in-last (own ∷ owns) r l h =
 abbrev pub owners : Record → List Record → ℕ
 owners r owns = count (λ own. eqb (contract own) (contract r)) owns
 
-turned : (a b : ℕ) → eqb a b ≡ eqb b a
-turned a b = go (eqb b a) refl
-  where
-    go : (t : Bool) → eqb b a ≡ t → eqb a b ≡ t
-    go true e = eq-eqb a b (sym (eqb-true b a e))
-    go false e = ne-eqb a b (λ z. false≢true (sym e ∙ eq-eqb b a (sym z)))
-
 module _ (r : Record) where
   abbrev here : Record → ℕ → ℕ
   here own k = oneIf (ofContract k (contract own) r)
@@ -105,7 +99,7 @@ module _ (r : Record) where
   mine : (own : Record) (k : ℕ) → kind r ≡ k → here own k ≡ oneIf (eqb (contract own) (contract r))
   mine own k e =
       ap (λ (b : Bool). oneIf (b && eqb (contract r) (contract own))) (eq-eqb (kind r) k e)
-      ∙ ap oneIf (turned (contract r) (contract own))
+      ∙ ap oneIf (eqb-turned (contract r) (contract own))
 
   other : (own : Record) (k : ℕ) → (kind r ≡ k → ⊥) → here own k ≡ 0
   other own k d = ap oneIf (other-kind k (contract own) r d)

@@ -6,7 +6,7 @@ use mathlib.Core.Path.{_≡_}
 use mathlib.Core.Bool.{false}
 use mathlib.Core.List.{List, []}
 use lib.ListN.{length, getD}
-use Rattle.record.specs.Layout.{Record, contract, tier, day, rateCurrency}
+use Rattle.record.specs.Layout.{Record, contract, tier, day, rateCurrency, mostContract}
 use Rattle.account.specs.Accepted.{Each}
 use Rattle.account.specs.Check.{legsClash, withItself}
 use Rattle.account.specs.Parts.{contractsOf, promptsOf, spreadsOf, entriesOf, ratesOf}
@@ -26,7 +26,7 @@ RatesRise rs = (k : ℕ) → suc k < length rs → rateCurrency (getD rs k []) <
 
 pub record Orders (rs : List Record) : Type 0 where
   pub contracts : Rising (contractsOf rs)
-  pub prompts : (c : ℕ) → c ≤ 15 → Later (promptsOf c rs)
+  pub prompts : (c : ℕ) → c ≤ mostContract → Later (promptsOf c rs)
   pub spreads : (c : ℕ) → Each (λ s. legsClash s ≡ false) (spreadsOf c rs)
   pub entries : Each (λ e. withItself e ≡ false) (entriesOf rs)
   pub rates : RatesRise (ratesOf rs)

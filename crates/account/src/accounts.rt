@@ -33,8 +33,7 @@ ghost use Rattle.account.specs.Lawful.{Recorded};
 ghost use Rattle.account.specs.PartNumbers.{inPart, parts, rowPart};
 ghost use Rattle.account.specs.Joined.{accountOf};
 ghost use Rattle.account.specs.code.Standing as Standing;
-ghost use Rattle.account.specs.code.Standing.{Places, Stands, PartOf, CheckedBy, fromNoon, eitherNote, Filled, Flagged, Numbered, JoinedBy};
-ghost use Rattle.account.specs.code.Standing.{AloneBy};
+ghost use Rattle.account.specs.code.Standing.{Places, Stands, PartOf, CheckedBy, fromNoon, eitherNote, Filled, Flagged, Numbered, JoinedBy, AloneBy};
 ghost use Rattle.account.specs.code.Surveyed.{Surveyed};
 
 // An account: how many records it has, its contracts' numbers in order, which of them the noon file supplies, and of each

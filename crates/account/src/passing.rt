@@ -6,7 +6,7 @@ ghost use Prim.Native.Nat.{_+_, _≤_, _<_, _-_, min};
 ghost use lib.ListN.{length};
 ghost use Rattle.exact.specs.Lists.{any};
 ghost use Rattle.record.specs.Layout.{day, legsOf};
-ghost use Rattle.account.specs.Check.{kindFalls, contractFalls};
+ghost use Rattle.account.specs.Check.{kindFalls, contractFalls, mostRows};
 ghost use Rattle.account.specs.PartNumbers.{parts};
 ghost use Rattle.account.specs.code.Notes.{noContract};
 ghost use Rattle.account.specs.code.Passing.{DaysOf, hasDay, TiersOf, legUnlistedIn, promptPasses, rowPasses, spreadPasses, RunTo, Begins, Runs};
@@ -176,7 +176,7 @@ fn spreads_to(file: &[u8], listed: &[bool; TIER_BYTES], c: usize, k: usize, end:
 
 // Up to where records from `k` on may be of a part that has `n` records and may have `most`.
 fn room_to(k: usize, count: usize, n: usize, most: usize) -> usize
-    requires { ⌜ (k ≤ count) × (most ≤ 128) ⌝ }
+    requires { ⌜ (k ≤ count) × (most ≤ mostRows) ⌝ }
     ensures { λ r. ⌜ r ≡ min (k + (most - n)) count ⌝ }
 {
     if most <= n {

@@ -13,6 +13,7 @@ use lib.ListN.{length, length-append, getD, take, drop, drop-of-length-le, List�
 use lib.Seq.{ext-getD}
 use Rattle.exact.specs.Lists.{oneIf, sum}
 use Rattle.exact.proofs.Lists.{getD-map}
+use Rattle.exact.proofs.Tests.{one-at-most}
 use Rattle.record.specs.Bytes.{countFrom}
 use Rattle.account.specs.Answers.{numberOf}
 use Rattle.account.specs.declared.answers.Answer.{Answer}
@@ -25,7 +26,6 @@ use Rattle.committee.specs.code.Sums.{mostTotal, AccountOf, SumsOf, With
 use Rattle.committee.specs.declared.figures.Account.{Account}
 use Rattle.committee.specs.declared.sums.Sums.{Sums}
 use Rattle.committee.proofs.Adding.{count-next, summed-next, takesOver, taken}
-use Rattle.committee.proofs.OverContracts.{one-most}
 
 -- ---- one account more
 module _ (run : List Answered) (a : Answered) (s t : Sums) (r : Account) (is : AccountOf a r) (added : Added s r (length run) t) where
@@ -72,7 +72,7 @@ module _ (run : List Answered) (a : Answered) (s t : Sums) (r : Account) (is : A
       go (yes h) =
           let e = added .refusals-are .each k h in
           let m = w .refusals-most k in
-          let o = one-most (eqb (r .refusal) (suc k)) in
+          let o = one-at-most (eqb (r .refusal) (suc k)) in
           omega arith
       go (no h) =
           let long = added .refusals-are .as-many in
@@ -85,8 +85,8 @@ module _ (run : List Answered) (a : Answered) (s t : Sums) (r : Account) (is : A
       let c = is .credit-most in
       let b = is .above-most in
       record {
-        accepted-most = let h = w .accepted-most in let x = added .accepted-is in let o = one-most (eqb (r .refusal) 0) in omega arith;
-        refused-most = let h = w .refused-most in let x = added .refused-is in let o = one-most (not (eqb (r .refusal) 0)) in omega arith;
+        accepted-most = let h = w .accepted-most in let x = added .accepted-is in let o = one-at-most (eqb (r .refusal) 0) in omega arith;
+        refused-most = let h = w .refused-most in let x = added .refused-is in let o = one-at-most (not (eqb (r .refusal) 0)) in omega arith;
         refusals-most = refusal-most n w;
         margin-most = let h = w .margin-most in let x = added .margin-is in omega arith;
         largest-most =

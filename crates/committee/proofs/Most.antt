@@ -2,27 +2,25 @@
 -- 134,000,000,001,000, and an account has at most 640 records.
 -- Assumes nothing.
 use Prim.Native.Nat.{ℕ, zero, suc, _+_, _-_, _*_, _≤_, _<_, max, zero-le}
-use native.Mathlib.Nat.{le-refl, le-trans, mul-le-mul, mul-le-mul-left, mul-le-mul-right, mul-assoc, mul-add}
+use native.Mathlib.Nat.{le-trans, mul-le-mul, mul-le-mul-left, mul-le-mul-right, mul-assoc, mul-add}
 use native.Mathlib.Omega.{arith}
 use mathlib.Core.Path.{_≡_, sym, ap, subst, _∙_}
 use mathlib.Core.List.{List, [], _∷_, map, map-map}
-use lib.IntN.{ℤ, pos, negsuc, natAbs}
+use lib.IntN.{ℤ, pos, natAbs}
 use lib.ListN.{length, getD}
 use Rattle.exact.specs.Largest.{largest}
 use Rattle.exact.specs.Lists.{sum, count}
-use Rattle.exact.specs.Signed.{orZero}
 use Rattle.exact.proofs.Lists.{length-keep}
 use Rattle.exact.proofs.Totals.{largest-held}
 use Rattle.exact.proofs.UnitLaws.{up-above}
-use Rattle.record.specs.Layout.{Record, contract, currency, unit, ratePerSpread, spreadRate, outrightRate, mostRate}
-use Rattle.record.specs.Within.{ContractWithin, RowWithin}
+use Rattle.exact.proofs.Integers.{or-zero-abs}
+use Rattle.record.specs.Layout.{Record, contract, unit, ratePerSpread, spreadRate, outrightRate, mostRate}
+use Rattle.record.specs.Within.{ContractWithin}
 use Rattle.account.specs.Accepted.{Each}
 use Rattle.account.specs.Lawful.{Lawful}
 use Rattle.account.specs.Parts.{ofContract, contractsOf, promptsOf, rowsOf, spreadsOf, ratesOf}
-use Rattle.account.specs.Products.{Convertible}
 use Rattle.account.specs.Whole.{partsBy, Whole}
-use Rattle.account.proofs.Orders.{every-at}
-use Rattle.account.proofs.ProductLaws.{factors-within}
+use Rattle.account.specs.Check.{mostRows, mostSpreads}
 use Rattle.spread.specs.Steps.{Open}
 use Rattle.formulas.specs.Charges.{charged, promptCharges}
 use Rattle.formulas.specs.Contract.{Contract, contractFrom, partsIn, contracts, contractSteps, opensOf, stepNumbers, usedDeltas, unusedDeltas, scanningOf}
@@ -32,7 +30,7 @@ use Rattle.margin.specs.Figures.{totalMargin}
 use Rattle.formulas.specs.Scanning.{totals}
 use Rattle.margin.specs.Skipped.{overPlaces, spreadAt, NothingOver}
 use Rattle.formulas.specs.code.Within.{PromptFit, ContractFit}
-use Rattle.margin.proofs.AcceptLaws.{contract-within}
+use Rattle.margin.proofs.AcceptLaws.{contract-within, its-rated}
 use Rattle.formulas.proofs.LineLaws.{opens-sizes, interprompt-whole}
 use Rattle.formulas.proofs.NetLaws.{sizes-sum}
 use Rattle.formulas.proofs.PositionBounds.{Rated, total-most, short-lots-most}
@@ -84,10 +82,6 @@ prompts-most unit o (p ∷ ps) (u ∷ used) (n ∷ unused) (z ∷ nets) fit hu h
 
 -- ---- one contract
 
-or-zero-most : (z : ℤ) → orZero z ≤ natAbs z
-or-zero-most (pos n) = le-refl n
-or-zero-most (negsuc n) = zero-le
-
 -- what prompts, rows and spreads bring, over plain numbers
 risk-most : (p r s scanning interprompt prompt : ℕ) → scanning ≤ r * 100000000000500 → interprompt ≤ r * 32000000000000 + s * 128000000000500
     → prompt ≤ r * 2000000000000 + p * 500 → scanning + interprompt + prompt ≤ (p + r + s) * 134000000001000
@@ -109,7 +103,7 @@ module _ (rates : List Record) (own : Record) (prompts rows spreads : List Recor
       subst (λ (z : ℤ). natAbs z ≤ length rows * 100000000000500) (sym (totals-at rates (unit own) rows (held .place) (held .within)))
       (total-most rates (unit own) (w .unit-within .most) rows rated (held .place + 1) (omega arith) (let l = held .within in omega arith))
       in
-      le-trans (or-zero-most (largest (totals rates (unit own) rows)))
+      le-trans (or-zero-abs (largest (totals rates (unit own) rows)))
       (subst (λ (z : ℤ). natAbs z ≤ length rows * 100000000000500) (held .holds) here)
 
   -- all deltas of its prompts together
@@ -148,8 +142,8 @@ module _ (rates : List Record) (own : Record) (prompts rows spreads : List Recor
       let apart : length spreads * (2000 * (length rows * 1000000000) + 500) ≡ length spreads * length rows * 2000000000000 + length spreads * 500 =
       product (length spreads) (length rows)
       in
-      let by-rows : length spreads * length rows ≤ 32 * length rows = mul-le-mul-right (length rows) (w .few-spreads) in
-      let by-spreads : length spreads * length rows ≤ length spreads * 128 = mul-le-mul-left (length spreads) (w .rows-within .few) in
+      let by-rows : length spreads * length rows ≤ mostSpreads * length rows = mul-le-mul-right (length rows) (w .few-spreads) in
+      let by-spreads : length spreads * length rows ≤ length spreads * mostRows = mul-le-mul-left (length spreads) (w .rows-within .few) in
       omega arith
     where
       product : (s r : ℕ) → s * (2000 * (r * 1000000000) + 500) ≡ s * r * 2000000000000 + s * 500
@@ -186,19 +180,6 @@ all-parts account (own ∷ owns) =
     let r = length-keep (ofContract 3 (contract own)) account in
     let s = length-keep (ofContract 4 (contract own)) account in
     omega arith
-
--- the rows of a contract at the account's rates
-pub its-rated : (account : List Record) → Lawful account → (c : ℕ) → Rated (ratesOf account) (rowsOf c account)
-its-rated account law c k h =
-    let w = every-at RowWithin (rowsOf c account) (law .ranges .rows c) k h in
-    let f = factors-within (ratesOf account) (currency (getD (rowsOf c account) k [])) (law .ranges .rates) in
-    let converts = every-at (Convertible (ratesOf account)) (rowsOf c account) (law .conversions c) k h in
-    record {
-      currency-within = w .currencies;
-      raised-within = f .up;
-      lowered-within = f .down;
-      conversion-within = λ s l m. converts .within s (record { least = l; most = m });
-    }
 
 module _ (account : List Record) (law : Lawful account) (over : (own : Record) → NothingOver (partsIn account own)) (entries : List Record)
     (table : List Open) where

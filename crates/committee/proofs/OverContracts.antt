@@ -4,18 +4,15 @@ use Prim.Native.Nat.{ℕ, zero, suc, _+_, _-_, _*_, _≤_, _<_, zero-le}
 use native.Mathlib.Decide.{decLt}
 use native.Mathlib.Omega.{arith}
 use mathlib.Core.Path.{_≡_, refl, ap, ap₂, _∙_}
-use mathlib.Core.Bool.{Bool, true, false}
 use mathlib.Core.List.{List, [], _∷_, map}
 use lib.IntN.{ℤ}
 use lib.ListN.{length, getD}
+use Rattle.account.specs.Check.{mostContracts}
 use Rattle.exact.specs.Lists.{oneIf, sum}
+use Rattle.exact.proofs.Tests.{one-at-most}
 use Rattle.committee.specs.Committee.{overContracts, marginAt, hasCredit, isAbove}
 use Rattle.committee.specs.code.Sums.{mostTotal, Fit, FoundAt, FoundIn}
 use Rattle.committee.specs.declared.contracts.Found.{Found}
-
-pub one-most : (b : Bool) → oneIf b ≤ 1
-one-most true = omega arith
-one-most false = omega arith
 
 -- each is no more than all together
 pub over-at : (f : ℕ → ℕ) (n i : ℕ) → i < n → f i ≤ overContracts n f
@@ -67,7 +64,7 @@ pub record SoFar (numbers : List ℤ) (i margin credits above : ℕ) : Type 0 wh
   pub margin-most : margin ≤ i * mostTotal
   pub credits-most : credits ≤ i
   pub above-most : above ≤ i
-  pub within : i ≤ 16
+  pub within : i ≤ mostContracts
 
 pub start : (numbers : List ℤ) → SoFar numbers 0 0 0 0
 start numbers = record {
@@ -80,17 +77,17 @@ start numbers = record {
   within = zero-le;
 }
 
-module _ (numbers : List ℤ) (fit : Fit numbers) (i margin credits above : ℕ) (s : SoFar numbers i margin credits above) (l : i < 16)
+module _ (numbers : List ℤ) (fit : Fit numbers) (i margin credits above : ℕ) (s : SoFar numbers i margin credits above) (l : i < mostContracts)
     (r : Found) (is : FoundAt numbers i r) where
   -- what the next contract adds is small
   pub margin-small : r .margin .0 ≤ mostTotal
   margin-small = let e = is .margin-is in let h = fit .margin-within i l in omega arith
 
   pub credits-small : r .credits ≤ 1
-  credits-small = let e = is .credits-are in let h = one-most (hasCredit numbers i) in omega arith
+  credits-small = let e = is .credits-are in let h = one-at-most (hasCredit numbers i) in omega arith
 
   pub above-small : r .above ≤ 1
-  above-small = let e = is .above-is in let h = one-most (isAbove numbers i) in omega arith
+  above-small = let e = is .above-is in let h = one-at-most (isAbove numbers i) in omega arith
 
   pub next : SoFar numbers (i + 1) (margin + r .margin .0) (credits + r .credits) (above + r .above)
   next =
@@ -108,11 +105,11 @@ module _ (numbers : List ℤ) (fit : Fit numbers) (i margin credits above : ℕ)
         within = omega arith;
       }
 
-pub finish : (numbers : List ℤ) (i margin credits above : ℕ) → SoFar numbers i margin credits above → 16 ≤ i
-    → FoundIn numbers 16 (record { margin = record { 0 = margin }; credits = credits; above = above })
+pub finish : (numbers : List ℤ) (i margin credits above : ℕ) → SoFar numbers i margin credits above → mostContracts ≤ i
+    → FoundIn numbers mostContracts (record { margin = record { 0 = margin }; credits = credits; above = above })
 finish numbers i margin credits above s h =
     let w = s .within in
-    let e : i ≡ 16 = omega arith in
+    let e : i ≡ mostContracts = omega arith in
     let a = s .above-most in
     record {
       margin-is = s .margin-is ∙ ap (λ (n : ℕ). overContracts n (marginAt numbers)) e;

@@ -16,6 +16,7 @@ use lib.ListN.{List·getD-map}
 use lib.Seq.{getD-append-add, getD-drop, getD-at}
 use Rattle.exact.specs.Lists.{oneIf, sum}
 use Rattle.exact.specs.Signed.{orZero}
+use Rattle.exact.proofs.Tests.{one-at-most}
 use Rattle.record.specs.Layout.{Record, contract}
 use Rattle.account.specs.Answers.{numberOf}
 use Rattle.account.specs.Checked.{checked}
@@ -25,14 +26,15 @@ use Rattle.account.specs.declared.answers.Answer.the-variants.{Accepted}
 use Rattle.account.proofs.Claimed.{claimed}
 use Rattle.account.proofs.Alone.{lawful}
 use Rattle.account.proofs.NoonLaws.{accepted-only}
+use Rattle.account.specs.Check.{mostContracts}
 use Rattle.spread.specs.Steps.{Open}
-use Rattle.formulas.specs.Bounds.{longestFigures}
+use Rattle.formulas.specs.Bounds.{longestFigures, figuresEach}
 use Rattle.formulas.specs.Contract.{Contract, contracts, partsIn, asTier, marginOf}
 use Rattle.margin.specs.Figures.{eight, eights, figures, figuresOver, totalMargin}
 use Rattle.formulas.specs.Margin.{risk}
 use Rattle.questions.specs.Questions.{figuresAnswer, afterFigures}
 use Rattle.margin.specs.Skipped.{NoneSkipped}
-use Rattle.margin.proofs.AcceptLaws.{contract-within, own-within}
+use Rattle.margin.proofs.AcceptLaws.{contract-within, own-within, its-rated}
 use Rattle.margin.proofs.QuestionLaws.{figures-length}
 use Rattle.margin.proofs.Skipped.{file-skips-none}
 use Rattle.runs.proofs.RunLaws.{verdict}
@@ -43,13 +45,13 @@ use Rattle.committee.specs.code.Sums.{mostTotal, Fit, FoundIn, AccountOf
 use Rattle.committee.specs.declared.contracts.Found.{Found}
 use Rattle.committee.specs.declared.figures.Account.{Account}
 use Rattle.committee.proofs.Adding.{none-of, all-of}
-use Rattle.committee.proofs.Most.{its-rated, margin-within, scanning-most, interprompt-most, prompt-most}
-use Rattle.committee.proofs.OverContracts.{one-most, over-at, same-over, over-padded, over-none, over-list}
+use Rattle.committee.proofs.Most.{margin-within, scanning-most, interprompt-most, prompt-most}
+use Rattle.committee.proofs.OverContracts.{over-at, same-over, over-padded, over-none, over-list}
 
 -- ---- numbers as the figures have them: those of n contracts, then the total, which is their margins together
 pub record Listed (n : ℕ) (numbers : List ℤ) : Type 0 where
-  pub few : n ≤ 16
-  pub long : length numbers ≡ 8 * n + 1
+  pub few : n ≤ mostContracts
+  pub long : length numbers ≡ figuresEach * n + 1
   pub total : overContracts n (marginAt numbers) ≡ totalOf numbers
   pub risks : (i : ℕ) → i < n → scanningAt numbers i + interpromptAt numbers i + promptAt numbers i < 2 ^ 64
   pub most : totalOf numbers ≤ mostTotal
@@ -66,27 +68,27 @@ zero-at k = go (decLt k longestFigures)
     go (no h) = List·getD-eq-default zeros (pos 0) {n = k} (omega (arith, h, length-replicate longestFigures (pos 0)))
 
 -- numbers that are all 0 are within the bounds, and add nothing
-module _ (numbers : List ℤ) (n : ℕ) (none : (k : ℕ) → 8 * n < k → numberAt numbers k ≡ 0) (i : ℕ) (h : n ≤ i) where
+module _ (numbers : List ℤ) (n : ℕ) (none : (k : ℕ) → figuresEach * n < k → numberAt numbers k ≡ 0) (i : ℕ) (h : n ≤ i) where
   risk-none : scanningAt numbers i + interpromptAt numbers i + promptAt numbers i ≡ 0
   risk-none =
-      let a = none (8 * i + 2) (omega arith) in
-      let b = none (8 * i + 3) (omega arith) in
-      let c = none (8 * i + 4) (omega arith) in
+      let a = none (figuresEach * i + 2) (omega arith) in
+      let b = none (figuresEach * i + 3) (omega arith) in
+      let c = none (figuresEach * i + 4) (omega arith) in
       omega arith
 
   margin-none : marginAt numbers i ≡ 0
-  margin-none = none (8 * i + 7) (omega arith)
+  margin-none = none (figuresEach * i + 7) (omega arith)
 
   credit-none : oneIf (hasCredit numbers i) ≡ 0
-  credit-none = ap (λ (x : ℕ). oneIf (ltb 0 x)) (none (8 * i + 5) (omega arith))
+  credit-none = ap (λ (x : ℕ). oneIf (ltb 0 x)) (none (figuresEach * i + 5) (omega arith))
 
   above-none : oneIf (isAbove numbers i) ≡ 0
   above-none =
-      let a = none (8 * i + 2) (omega arith) in
-      let b = none (8 * i + 3) (omega arith) in
-      let c = none (8 * i + 4) (omega arith) in
-      let d = none (8 * i + 5) (omega arith) in
-      let e = none (8 * i + 6) (omega arith) in
+      let a = none (figuresEach * i + 2) (omega arith) in
+      let b = none (figuresEach * i + 3) (omega arith) in
+      let c = none (figuresEach * i + 4) (omega arith) in
+      let d = none (figuresEach * i + 5) (omega arith) in
+      let e = none (figuresEach * i + 6) (omega arith) in
       λ j. oneIf (ltb (risk (a j) (b j) (c j) (d j)) (e j))
 
 -- ---- the numbers of n contracts, in 129
@@ -97,10 +99,10 @@ module _ (n : ℕ) (numbers : List ℤ) (is : Listed n numbers) where
   count-is : contractCount numbers ≡ n
   count-is = let l = is .long in omega arith
 
-  front : (k : ℕ) → k ≤ 8 * n → numberAt lent k ≡ numberAt numbers k
+  front : (k : ℕ) → k ≤ figuresEach * n → numberAt lent k ≡ numberAt numbers k
   front k h = let l = is .long in ap orZero (List·getD-append numbers (drop (length numbers) zeros) (pos 0) k (omega arith))
 
-  past : (k : ℕ) → 8 * n < k → numberAt lent k ≡ 0
+  past : (k : ℕ) → figuresEach * n < k → numberAt lent k ≡ 0
   past k h =
       let l = is .long in
       let e : k ≡ length numbers + (k - length numbers) = omega arith in
@@ -126,15 +128,15 @@ module _ (n : ℕ) (numbers : List ℤ) (is : Listed n numbers) where
       risk-fits : (i : ℕ) → Dec (i < n) → scanningAt lent i + interpromptAt lent i + promptAt lent i < 2 ^ 64
       risk-fits i (yes h) =
           let r = is .risks i h in
-          let a = front (8 * i + 2) (omega arith) in
-          let b = front (8 * i + 3) (omega arith) in
-          let c = front (8 * i + 4) (omega arith) in
+          let a = front (figuresEach * i + 2) (omega arith) in
+          let b = front (figuresEach * i + 3) (omega arith) in
+          let c = front (figuresEach * i + 4) (omega arith) in
           omega arith
       risk-fits i (no h) = let r = risk-none lent n past i (omega (arith, h)) in omega arith
 
       margin-fits : (i : ℕ) → Dec (i < n) → marginAt lent i ≤ mostTotal
       margin-fits i (yes h) =
-          let e = front (8 * i + 7) (omega arith) in
+          let e = front (figuresEach * i + 7) (omega arith) in
           let a = over-at (marginAt numbers) n i h in
           let t = is .total in
           let m = is .most in
@@ -142,46 +144,47 @@ module _ (n : ℕ) (numbers : List ℤ) (is : Listed n numbers) where
       margin-fits i (no h) = let r = margin-none lent n past i (omega (arith, h)) in omega arith
 
   -- what all places add is what the contracts add
-  margins-are : overContracts 16 (marginAt lent) ≡ totalOf numbers
+  margins-are : overContracts mostContracts (marginAt lent) ≡ totalOf numbers
   margins-are =
-      over-padded (marginAt numbers) (marginAt lent) n 16 (is .few) (λ i h. front (8 * i + 7) (omega arith)) (margin-none lent n past) ∙ is .total
+      over-padded (marginAt numbers) (marginAt lent) n mostContracts (is .few) (λ i h. front (figuresEach * i + 7) (omega arith)) (margin-none lent n past)
+      ∙ is .total
 
-  credits-are : overContracts 16 (λ i. oneIf (hasCredit lent i)) ≡ overContracts (contractCount numbers) (λ i. oneIf (hasCredit numbers i))
+  credits-are : overContracts mostContracts (λ i. oneIf (hasCredit lent i)) ≡ overContracts (contractCount numbers) (λ i. oneIf (hasCredit numbers i))
   credits-are =
-      over-padded (λ i. oneIf (hasCredit numbers i)) (λ i. oneIf (hasCredit lent i)) n 16 (is .few)
-      (λ i h. ap (λ (x : ℕ). oneIf (ltb 0 x)) (front (8 * i + 5) (omega arith))) (credit-none lent n past)
+      over-padded (λ i. oneIf (hasCredit numbers i)) (λ i. oneIf (hasCredit lent i)) n mostContracts (is .few)
+      (λ i h. ap (λ (x : ℕ). oneIf (ltb 0 x)) (front (figuresEach * i + 5) (omega arith))) (credit-none lent n past)
       ∙ ap (λ (m : ℕ). overContracts m (λ i. oneIf (hasCredit numbers i))) (sym count-is)
 
-  above-are : overContracts 16 (λ i. oneIf (isAbove lent i)) ≡ aboveRisk numbers
+  above-are : overContracts mostContracts (λ i. oneIf (isAbove lent i)) ≡ aboveRisk numbers
   above-are =
-      over-padded (λ i. oneIf (isAbove numbers i)) (λ i. oneIf (isAbove lent i)) n 16 (is .few) same (above-none lent n past)
+      over-padded (λ i. oneIf (isAbove numbers i)) (λ i. oneIf (isAbove lent i)) n mostContracts (is .few) same (above-none lent n past)
       ∙ ap (λ (m : ℕ). overContracts m (λ i. oneIf (isAbove numbers i))) (sym count-is)
     where
       same : (i : ℕ) → i < n → oneIf (isAbove lent i) ≡ oneIf (isAbove numbers i)
       same i h =
-          let a = front (8 * i + 2) (omega arith) in
-          let b = front (8 * i + 3) (omega arith) in
-          let c = front (8 * i + 4) (omega arith) in
-          let d = front (8 * i + 5) (omega arith) in
-          let e = front (8 * i + 6) (omega arith) in
+          let a = front (figuresEach * i + 2) (omega arith) in
+          let b = front (figuresEach * i + 3) (omega arith) in
+          let c = front (figuresEach * i + 4) (omega arith) in
+          let d = front (figuresEach * i + 5) (omega arith) in
+          let e = front (figuresEach * i + 6) (omega arith) in
           λ j. oneIf (ltb (risk (a j) (b j) (c j) (d j)) (e j))
 
 -- ---- the figures of an accepted account, number by number
 module _ (entries : List Record) (table : List Open) where
-  eight-at : (ks : List Contract) (rest : List ℕ) (d : Contract) (i j : ℕ) → i < length ks → j < 8
-      → getD (eights entries table ks ++ rest) (8 * i + j) 0 ≡ getD (eight entries table (getD ks i d)) j 0
+  eight-at : (ks : List Contract) (rest : List ℕ) (d : Contract) (i j : ℕ) → i < length ks → j < figuresEach
+      → getD (eights entries table ks ++ rest) (figuresEach * i + j) 0 ≡ getD (eight entries table (getD ks i d)) j 0
   eight-at [] rest d i j h l = absurd (omega arith)
   eight-at (k ∷ ks) rest d zero j h l =
-      let e : 8 * 0 + j ≡ j = omega arith in
+      let e : figuresEach * 0 + j ≡ j = omega arith in
       ap (λ (m : ℕ). getD (eights entries table (k ∷ ks) ++ rest) m 0) e
       ∙ List·getD-append (eight entries table k) (eights entries table ks ++ rest) 0 j l
   eight-at (k ∷ ks) rest d (suc i) j h l =
-      let e : 8 * suc i + j ≡ 8 + (8 * i + j) = omega arith in
+      let e : figuresEach * suc i + j ≡ figuresEach + (figuresEach * i + j) = omega arith in
       ap (λ (m : ℕ). getD (eights entries table (k ∷ ks) ++ rest) m 0) e
-      ∙ getD-append-add (eight entries table k) (eights entries table ks ++ rest) (8 * i + j) 0
+      ∙ getD-append-add (eight entries table k) (eights entries table ks ++ rest) (figuresEach * i + j) 0
       ∙ eight-at ks rest d i j (omega arith) l
 
-  eights-length : (ks : List Contract) → length (eights entries table ks) ≡ 8 * length ks
+  eights-length : (ks : List Contract) → length (eights entries table ks) ≡ figuresEach * length ks
   eights-length [] = refl
   eights-length (k ∷ ks) = let rest = eights-length ks in omega arith
 
@@ -211,17 +214,18 @@ module _ (account : List ℕ) (ok : checked account ≡ Accepted) where
   contractAt i = partsIn rs (getD (contractsOf rs) i [])
 
   -- number j of contract i
-  place-is : (i j : ℕ) → i < n → j < 8 → numberAt (figures rs) (8 * i + j) ≡ getD (eight es table (contractAt i)) j 0
+  place-is : (i j : ℕ) → i < n → j < figuresEach → numberAt (figures rs) (figuresEach * i + j) ≡ getD (eight es table (contractAt i)) j 0
   place-is i j h l =
       let c = contracts-length in
-      number-is (8 * i + j)
+      number-is (figuresEach * i + j)
       ∙ eight-at es table ks (totalMargin es table ks ∷ []) (partsIn rs []) i j (omega arith) l
       ∙ ap (λ (k : Contract). getD (eight es table k) j 0) (List·getD-map (partsIn rs) (contractsOf rs) i [])
 
-  total-is : numberAt (figures rs) (8 * n) ≡ totalMargin es table ks
+  total-is : numberAt (figures rs) (figuresEach * n) ≡ totalMargin es table ks
   total-is =
-      number-is (8 * n)
-      ∙ getD-at (eights es table ks) (totalMargin es table ks) [] 0 (8 * n) (eights-length es table ks ∙ ap (λ (m : ℕ). 8 * m) contracts-length)
+      number-is (figuresEach * n)
+      ∙ getD-at (eights es table ks) (totalMargin es table ks) [] 0 (figuresEach * n)
+      (eights-length es table ks ∙ ap (λ (m : ℕ). figuresEach * m) contracts-length)
 
   abbrev skipped : NoneSkipped rs
   skipped = file-skips-none account ok
@@ -251,7 +255,7 @@ module _ (account : List ℕ) (ok : checked account ≡ Accepted) where
       let law = lawful account ok in
       let long = figures-length rs in
       let counted : contractCount (figures rs) ≡ n = omega arith in
-      let total : totalOf (figures rs) ≡ totalMargin es table ks = ap (λ (m : ℕ). numberAt (figures rs) (8 * m)) counted ∙ total-is in
+      let total : totalOf (figures rs) ≡ totalMargin es table ks = ap (λ (m : ℕ). numberAt (figures rs) (figuresEach * m)) counted ∙ total-is in
       record {
         few = law .limits .contracts;
         long = long;
@@ -300,7 +304,8 @@ module _ (account : List ℕ) where
       go false e = subst⁻¹ Fit (left-by false e) zeros-fit
 
   -- what is found in it is what the account adds
-  module _ (f : Found) (found : FoundIn (afterFigures account zeros) 16 f) (refusal credit : ℕ) (er : refusal ≡ numberOf (figuresAnswer account longestFigures))
+  module _ (f : Found) (found : FoundIn (afterFigures account zeros) mostContracts f) (refusal credit : ℕ)
+      (er : refusal ≡ numberOf (figuresAnswer account longestFigures))
       (ec : credit ≡ oneIf (ltb 0 (f .credits))) where
     abbrev a : Answered
     a = answered account
@@ -316,7 +321,7 @@ module _ (account : List ℕ) where
       credit-is = ec ∙ ek;
       above-is = ea;
       margin-most = most;
-      credit-most = let o = one-most (ltb 0 (f .credits)) in omega arith;
+      credit-most = let o = one-at-most (ltb 0 (f .credits)) in omega arith;
       above-most = found .few;
     }
 
@@ -327,20 +332,21 @@ module _ (account : List ℕ) where
         go true e =
             let m = length (contractsOf (records account)) in
             let l = listed account (was-accepted e) in
-            let at = subst (λ (xs : List ℤ). FoundIn xs 16 f) (left-by true e) found in
+            let at = subst (λ (xs : List ℤ). FoundIn xs mostContracts f) (left-by true e) found in
             let margin : f .margin .0 ≡ totalOf numbers = at .margin-is ∙ margins-are m numbers l in
             let most = l .most in
             made (omega arith) (margin ∙ sym (all-of totalOf a e))
             (ap (λ (x : ℕ). oneIf (ltb 0 x)) (at .credits-are ∙ credits-are m numbers l) ∙ sym (all-of (λ xs. oneIf (hadCredit xs)) a e))
             (at .above-is ∙ above-are m numbers l ∙ sym (all-of aboveRisk a e))
         go false e =
-            let at = subst (λ (xs : List ℤ). FoundIn xs 16 f) (left-by false e) found in
-            let none : (k : ℕ) → 8 * 0 < k → numberAt zeros k ≡ 0 = λ k l. ap orZero (zero-at k) in
-            let margin : f .margin .0 ≡ 0 = at .margin-is ∙ over-none (marginAt zeros) 16 (λ i. margin-none zeros 0 none i zero-le) in
+            let at = subst (λ (xs : List ℤ). FoundIn xs mostContracts f) (left-by false e) found in
+            let none : (k : ℕ) → figuresEach * 0 < k → numberAt zeros k ≡ 0 = λ k l. ap orZero (zero-at k) in
+            let margin : f .margin .0 ≡ 0 = at .margin-is ∙ over-none (marginAt zeros) mostContracts (λ i. margin-none zeros 0 none i zero-le) in
             made (omega arith) (margin ∙ sym (none-of totalOf a e))
-            (ap (λ (x : ℕ). oneIf (ltb 0 x)) (at .credits-are ∙ over-none (λ i. oneIf (hasCredit zeros i)) 16 (λ i. credit-none zeros 0 none i zero-le))
+            (ap (λ (x : ℕ). oneIf (ltb 0 x)) (at .credits-are
+            ∙ over-none (λ i. oneIf (hasCredit zeros i)) mostContracts (λ i. credit-none zeros 0 none i zero-le))
             ∙ sym (none-of (λ xs. oneIf (hadCredit xs)) a e))
-            (at .above-is ∙ over-none (λ i. oneIf (isAbove zeros i)) 16 (λ i. above-none zeros 0 none i zero-le) ∙ sym (none-of aboveRisk a e))
+            (at .above-is ∙ over-none (λ i. oneIf (isAbove zeros i)) mostContracts (λ i. above-none zeros 0 none i zero-le) ∙ sym (none-of aboveRisk a e))
 
   -- its margin, and the number of its refusal
   pub total-most : ofAccepted totalOf (answered account) ≤ mostTotal

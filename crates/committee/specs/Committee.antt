@@ -13,6 +13,7 @@ use Rattle.account.specs.Answers.{numberOf}
 use Rattle.account.specs.declared.answers.Answer.{Answer}
 use Rattle.account.specs.declared.answers.Answer.the-variants.{Accepted, TooFewNumbers, LengthsDiffer, TooManyAccounts}
 use Rattle.formulas.specs.Margin.{risk}
+use Rattle.formulas.specs.Bounds.{figuresEach}
 use Rattle.runs.specs.Runs.{accountsOf}
 use Rattle.committee.specs.Answered.{Answered, answered}
 
@@ -24,28 +25,28 @@ numberAt numbers k = orZero (getD numbers k (pos 0))
 
 -- "for each contract in file order eight numbers .., then the total"
 abbrev pub contractCount : List ℤ → ℕ
-contractCount numbers = length numbers / 8
+contractCount numbers = length numbers / figuresEach
 
 abbrev pub scanningAt : List ℤ → ℕ → ℕ
-scanningAt numbers i = numberAt numbers (8 * i + 2)
+scanningAt numbers i = numberAt numbers (figuresEach * i + 2)
 
 abbrev pub interpromptAt : List ℤ → ℕ → ℕ
-interpromptAt numbers i = numberAt numbers (8 * i + 3)
+interpromptAt numbers i = numberAt numbers (figuresEach * i + 3)
 
 abbrev pub promptAt : List ℤ → ℕ → ℕ
-promptAt numbers i = numberAt numbers (8 * i + 4)
+promptAt numbers i = numberAt numbers (figuresEach * i + 4)
 
 abbrev pub creditAt : List ℤ → ℕ → ℕ
-creditAt numbers i = numberAt numbers (8 * i + 5)
+creditAt numbers i = numberAt numbers (figuresEach * i + 5)
 
 abbrev pub minimumAt : List ℤ → ℕ → ℕ
-minimumAt numbers i = numberAt numbers (8 * i + 6)
+minimumAt numbers i = numberAt numbers (figuresEach * i + 6)
 
 abbrev pub marginAt : List ℤ → ℕ → ℕ
-marginAt numbers i = numberAt numbers (8 * i + 7)
+marginAt numbers i = numberAt numbers (figuresEach * i + 7)
 
 abbrev pub totalOf : List ℤ → ℕ
-totalOf numbers = numberAt numbers (8 * contractCount numbers)
+totalOf numbers = numberAt numbers (figuresEach * contractCount numbers)
 
 -- the first n contracts together
 abbrev pub overContracts : ℕ → (ℕ → ℕ) → ℕ

@@ -2,10 +2,12 @@
 use account::parts::CONTRACTS;
 use exact::signed::or_zero;
 use formulas::amount::Amount;
+use margin::numbers::FIGURES_EACH;
 ghost use mathlib.Core.Path.{_≡_};
 ghost use Prim.Native.Nat.{_+_, _^_, _<_};
 ghost use lib.Dec.{ltb};
 ghost use lib.ListN.{length};
+ghost use Rattle.account.specs.Check.{mostContracts};
 ghost use Rattle.exact.specs.Lists.{oneIf};
 ghost use Rattle.formulas.specs.Margin.{risk};
 ghost use Rattle.committee.specs.Committee.{numberAt};
@@ -52,10 +54,10 @@ fn above_risk(
 
 // What the contract at a place adds.
 fn found_at(numbers: &[i64], i: usize) -> Found
-    requires { ⌜ Fit (now numbers) × (i < 16) ⌝ }
+    requires { ⌜ Fit (now numbers) × (i < mostContracts) ⌝ }
     ensures { λ r. ⌜ FoundAt (now (numbers .entry)) i r ⌝ }
 {
-    let at = 8 * i;
+    let at = FIGURES_EACH * i;
     let scanning = amount_at(numbers, at + 2);
     let interprompt = amount_at(numbers, at + 3);
     let prompt = amount_at(numbers, at + 4);
@@ -73,7 +75,7 @@ fn found_at(numbers: &[i64], i: usize) -> Found
 // What all contracts add. Of places at which no contract stands the numbers are 0, and add nothing.
 pub(crate) fn found_in(numbers: &[i64]) -> Found
     requires { ⌜ Fit (now numbers) ⌝ }
-    ensures { λ r. ⌜ FoundIn (now (numbers .entry)) 16 r ⌝ }
+    ensures { λ r. ⌜ FoundIn (now (numbers .entry)) mostContracts r ⌝ }
 {
     let mut margin: u64 = 0;
     let mut credits = 0;

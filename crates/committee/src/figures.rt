@@ -4,12 +4,10 @@ use crate::contracts::one_if;
 use account::answers::number_of;
 use formulas::amount::Amount;
 use margin::asking::Question;
+use margin::numbers::LONGEST_FIGURES;
 use questions::plain::answer;
 ghost use Rattle.committee.specs.Answered.{answered};
 ghost use Rattle.committee.specs.code.Sums.{AccountOf};
-
-// The most numbers that the figures have.
-const FIGURES: usize = 129;
 
 // What an account adds: the number of its refusal, 0 where it is accepted; its margin; whether it has credit; and how many of its
 // contracts have a short option minimum above the risk. A refused account adds its refusal alone.
@@ -23,7 +21,7 @@ pub struct Account {
 pub(crate) fn answer_account(account: &[u8]) -> Account
     ensures { λ r. ⌜ AccountOf (answered (now (account .entry))) r ⌝ }
 {
-    let mut numbers = [0i64; FIGURES];
+    let mut numbers = [0i64; LONGEST_FIGURES];
     let told = answer(account, Question::Figures, &mut numbers);
     let refusal = number_of(told);
     let found = found_in(&numbers);

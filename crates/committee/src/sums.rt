@@ -10,6 +10,7 @@ ghost use Prim.Native.Nat.{_-_, _/_, _%_, _^_, _≤_, _<_};
 ghost use lib.Dec.{eqb};
 ghost use lib.IntN.{pos};
 ghost use lib.ListN.{length, getD, drop};
+ghost use Rattle.account.specs.Check.{mostContracts};
 ghost use Rattle.committee.specs.Committee.{committeeNumbers, mostAccounts};
 ghost use Rattle.committee.specs.code.Sums.{Counted, Added, SumsOf, Within, laterNumbers, sumsNumbers};
 
@@ -70,7 +71,7 @@ fn either(b: bool, x: u64, y: u64) -> u64
 
 // The sums with an account more, which stands at a place of the run.
 pub(crate) fn with_account(sums: Sums, account: Account, place: usize) -> Sums
-    requires { ⌜ Within mostAccounts sums × (account .margin .0 < 2 ^ 62) × (account .credit ≤ 1) × (account .above ≤ 16) ⌝ }
+    requires { ⌜ Within mostAccounts sums × (account .margin .0 < 2 ^ 62) × (account .credit ≤ 1) × (account .above ≤ mostContracts) ⌝ }
     ensures { λ r. ⌜ Added sums account place r ⌝ }
 {
     let refusal = account.refusal;

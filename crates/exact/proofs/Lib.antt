@@ -8,4 +8,5 @@ pub mod Lists
 pub mod SignedCalls
 pub mod Totals
 pub mod Table
+pub mod Tests
 pub mod UnitLaws

@@ -13,7 +13,7 @@ use lib.Dec.{leb}
 use Rattle.record.specs.Layout.{Record, tier, spreadRate, outrightRate}
 use Rattle.account.specs.Records.{records}
 use Rattle.spread.specs.Accepted as given
-use Rattle.spread.specs.Accepted.{every, soundPrompt, soundSpread}
+use Rattle.spread.specs.Accepted.{every, soundPrompt, soundSpread, promptPlaces, spreadPlaces}
 use Rattle.spread.specs.Steps.{Open, Taker, steps, numbers, usedOf, unusedOf}
 use Rattle.spread.specs.declared.Spread.{Spread}
 use Rattle.spread.specs.declared.Table.{Table}
@@ -117,19 +117,19 @@ book-accepted ss ps p t b eo es sound is =
     let u : usedIn p t ≡ usedOf ss ps = ap (λ (x : Bool). cond x (usedOf (given.stepsOf t) (given.openOf p)) []) sound ∙ ap₂ usedOf es eo in
     let l : unusedIn p t ≡ unusedOf ss ps = ap (λ (x : Bool). cond x (unusedOf (given.stepsOf t) (given.openOf p)) []) sound ∙ ap₂ unusedOf es eo in
     record {
-      first-is = is .first ∙ ap (λ (xs : List ℕ). byPlace 32 (λ k. spreadsEntry xs (2 * k))) n;
-      second-is = is .second ∙ ap (λ (xs : List ℕ). byPlace 32 (λ k. spreadsEntry xs (2 * k + 1))) n;
-      used-is = is .used ∙ ap (λ (xs : List ℤ). byPlace 32 (deltaEntry xs)) u;
-      unused-is = is .unused ∙ ap (λ (xs : List ℤ). byPlace 32 (deltaEntry xs)) l;
+      first-is = is .first ∙ ap (λ (xs : List ℕ). byPlace spreadPlaces (λ k. spreadsEntry xs (2 * k))) n;
+      second-is = is .second ∙ ap (λ (xs : List ℕ). byPlace spreadPlaces (λ k. spreadsEntry xs (2 * k + 1))) n;
+      used-is = is .used ∙ ap (λ (xs : List ℤ). byPlace promptPlaces (deltaEntry xs)) u;
+      unused-is = is .unused ∙ ap (λ (xs : List ℤ). byPlace promptPlaces (deltaEntry xs)) l;
     }
 
 pub handed-sound : (p : Prompts) (t : Table) (ps : List Open) (spreads : List Spread) → given.openOf p ≡ ps → given.spreadsOf t ≡ spreads
-    → p .count ≤ 32 → t .count ≤ 32
+    → p .count ≤ promptPlaces → t .count ≤ spreadPlaces
     → every soundPrompt ps ≡ true → every soundSpread spreads ≡ true → given.sound p t ≡ true
 handed-sound p t ps spreads eo es np nt hp ht =
-    and-both (leb (p .count) 32 && every soundPrompt (given.openOf p)) (leb (t .count) 32 && every soundSpread (given.spreadsOf t))
-    (and-both (leb (p .count) 32) (every soundPrompt (given.openOf p)) (le-leb (p .count) 32 np) (ap (every soundPrompt) eo ∙ hp))
-    (and-both (leb (t .count) 32) (every soundSpread (given.spreadsOf t)) (le-leb (t .count) 32 nt) (ap (every soundSpread) es ∙ ht))
+    and-both (leb (p .count) promptPlaces && every soundPrompt (given.openOf p)) (leb (t .count) spreadPlaces && every soundSpread (given.spreadsOf t))
+    (and-both (leb (p .count) promptPlaces) (every soundPrompt (given.openOf p)) (le-leb (p .count) promptPlaces np) (ap (every soundPrompt) eo ∙ hp))
+    (and-both (leb (t .count) spreadPlaces) (every soundSpread (given.spreadsOf t)) (le-leb (t .count) spreadPlaces nt) (ap (every soundSpread) es ∙ ht))
 
 pub contract-sound : (part spreads : List ℕ) (ds : List Delta) (p : Prompts) (t : Table) → TiersOf part ds p → TableOf interprompt spreads t
     → BookRoom (records part) (deltasIn ds) (records spreads) → given.sound p t ≡ true
@@ -153,15 +153,6 @@ touches-accepted ss ps p t eo es sound = ap (λ (x : Bool). cond x (touches (giv
 
 -- ---- a book's arrays, cut to its prompts and spreads
 
-pub take-deltas : (zs : List ℤ) (n m : ℕ) → length zs ≡ n → n ≤ m → take n (deltasIn (byPlace m (deltaEntry zs))) ≡ zs
-take-deltas [] zero m e h = refl
-take-deltas [] (suc n) m e h = absurd (omega arith)
-take-deltas (z ∷ zs) zero m e h = absurd (omega arith)
-take-deltas (z ∷ zs) (suc n) zero e h = absurd (not-suc-le-zero h)
-take-deltas (z ∷ zs) (suc n) (suc m) e h =
-    ap (λ (ds : List Delta). take (suc n) (deltasIn ds)) (deltas-next m z zs)
-    ∙ ap (λ (xs : List ℤ). z ∷ xs) (take-deltas zs n m (omega arith) (le-of-suc-le-suc h))
-
 pub take-numbers : (numbers : List ℕ) (n m : ℕ) → length numbers ≡ 2 * n → n ≤ m → interleaved (take n (firsts m numbers))
     (take n (seconds m numbers)) ≡ numbers
 take-numbers [] zero m e h = refl
@@ -175,11 +166,11 @@ take-numbers (a ∷ b ∷ numbers) (suc n) (suc m) e h =
 
 -- ---- the numbers that a book's spreads formed, place by place
 
-module _ {ss : List (List Taker)} {ps : List Open} {b : Book} (is : BookOf ss ps b) (k : ℕ) (h : k < 32) where
+module _ {ss : List (List Taker)} {ps : List Open} {b : Book} (is : BookOf ss ps b) (k : ℕ) (h : k < spreadPlaces) where
   pub first-at : spreadsAt (b .first) k ≡ getD (numbers ss ps) (2 * k) 0
   first-at = ap (λ (xs : List Spreads). spreadsAt xs k) (is .first-is)
-      ∙ ap (λ (x : Spreads). x .0) (entries-at 32 (λ i. spreadsEntry (numbers ss ps) (2 * i)) k (record { 0 = 0 }) h)
+      ∙ ap (λ (x : Spreads). x .0) (entries-at spreadPlaces (λ i. spreadsEntry (numbers ss ps) (2 * i)) k (record { 0 = 0 }) h)
 
   pub second-at : spreadsAt (b .second) k ≡ getD (numbers ss ps) (2 * k + 1) 0
   second-at = ap (λ (xs : List Spreads). spreadsAt xs k) (is .second-is)
-      ∙ ap (λ (x : Spreads). x .0) (entries-at 32 (λ i. spreadsEntry (numbers ss ps) (2 * i + 1)) k (record { 0 = 0 }) h)
+      ∙ ap (λ (x : Spreads). x .0) (entries-at spreadPlaces (λ i. spreadsEntry (numbers ss ps) (2 * i + 1)) k (record { 0 = 0 }) h)

@@ -9,14 +9,17 @@ use mathlib.Core.Path.{_≡_, refl, ap, ap₂, _∙_, subst⁻¹, sym, subst}
 use mathlib.Core.List.{List, map}
 use lib.IntN.{ℤ, pos, natAbs}
 use lib.ListN.{length, getD, length-map, List·getD-eq-default}
+use Rattle.account.specs.Check.{mostRows}
 use Rattle.exact.specs.Lists.{sum, sumℤ}
 use Rattle.exact.proofs.Lists.{abs-sum}
 use Rattle.exact.proofs.Totals.{first-within as first-holding}
-use Rattle.record.specs.Layout.{Record, contract, shortOptionRate, unit, ratePerSpread}
+use Rattle.record.specs.Layout.{Record, contract, shortOptionRate, unit, ratePerSpread, scenarioCount}
 use Rattle.spread.specs.Steps.{Open, Taker, steps, numbers, usedOf, unusedOf}
 use Rattle.spread.specs.declared.Spreads.{Spreads}
 use Rattle.spread.specs.declared.Delta.{Delta}
 use Rattle.spread.specs.declared.book.Book.{Book}
+use Rattle.spread.specs.Accepted.{promptPlaces, spreadPlaces}
+use Rattle.spread.proofs.Lengths.{used-length, unused-length}
 use Rattle.formulas.specs.declared.rows.Position.{Position}
 use Rattle.formulas.specs.declared.line.Line.{Line}
 use Rattle.formulas.specs.Bounds.{mostDelta, mostRisk, mostLots, mostRate}
@@ -32,8 +35,8 @@ use Rattle.formulas.specs.code.Risks.{TotalsWithin, Scanned}
 use Rattle.formulas.specs.code.Sums.{interleaved, deltasIn, SpreadsWithin, PromptsWithin}
 use Rattle.formulas.specs.code.Within.{ContractFit}
 use Rattle.formulas.proofs.BookLaws.{over-arrays, prompts-arrays}
-use Rattle.formulas.proofs.LineLaws.{opens-first, opens-length, opens-sizes, opens-sound, spreads-sound, interprompt-whole, numbers-length, used-length}
-use Rattle.formulas.proofs.LineLaws.{unused-length, sum-zeros, size-zeros, first-within, delta-within}
+use Rattle.formulas.proofs.LineLaws.{opens-first, opens-length, opens-sizes, opens-sound, spreads-sound, interprompt-whole, numbers-length, sum-zeros}
+use Rattle.formulas.proofs.LineLaws.{size-zeros, first-within, delta-within}
 use Rattle.formulas.proofs.NetLaws.{net-sizes-most}
 use Rattle.formulas.proofs.StepBounds.{sizes, whole-number-within, used-within, unused-within, size-at}
 
@@ -46,7 +49,7 @@ everywhere n most zs e h k = go (decLt k n)
     go (no l) = subst⁻¹ (λ (z : ℤ). natAbs z ≤ most) (List·getD-eq-default zs (pos 0) (omega (arith, l))) zero-le
 
 module _ (rates : List Record) (own : Record) (prompts rows spreads : List Record) (w : ContractFit own prompts rows spreads) (q : Position)
-    (is : PositionOf rates (unit own) prompts rows q) (most : Bounded 128 q) where
+    (is : PositionOf rates (unit own) prompts rows q) (most : Bounded mostRows q) where
   abbrev nets : List ℤ
   nets = deltasIn (q .nets)
 
@@ -60,7 +63,7 @@ module _ (rates : List Record) (own : Record) (prompts rows spreads : List Recor
   ss = steps (map interprompt spreads)
 
   net-most : (j : ℕ) → natAbs (getD nets j (pos 0)) ≤ mostDelta
-  net-most = everywhere 32 mostDelta nets (most .nets-most .as-many) (most .nets-most .size)
+  net-most = everywhere promptPlaces mostDelta nets (most .nets-most .as-many) (most .nets-most .size)
 
   pub book-room : BookRoom prompts nets spreads
   book-room =
@@ -73,7 +76,7 @@ module _ (rates : List Record) (own : Record) (prompts rows spreads : List Recor
       }
 
   pub totals-room : TotalsWithin (q .totals .0)
-  totals-room = record { each = λ s. everywhere 16 mostRisk (q .totals .0) (most .totals-most .as-many) (most .totals-most .size) (s - 1) }
+  totals-room = record { each = λ s. everywhere scenarioCount mostRisk (q .totals .0) (most .totals-most .as-many) (most .totals-most .size) (s - 1) }
 
   pub nets-are : opens prompts nets ≡ opens prompts (netDeltas prompts rows)
   nets-are = opens-first prompts nets ∙ ap (opens prompts) (is .nets-are)
@@ -111,7 +114,7 @@ module _ (rates : List Record) (own : Record) (prompts rows spreads : List Recor
           most = w .few-spreads;
           each =
               λ j h.
-              let l : j < 32 = omega (arith, w .few-spreads) in
+              let l : j < spreadPlaces = omega (arith, w .few-spreads) in
               record {
                 unit-within = w .unit-within .most;
                 rate = w .each-spread j h .rate;
@@ -126,7 +129,7 @@ module _ (rates : List Record) (own : Record) (prompts rows spreads : List Recor
           most = w .few-prompts;
           each =
               λ j h.
-              let l : j < 32 = omega (arith, w .few-prompts) in
+              let l : j < promptPlaces = omega (arith, w .few-prompts) in
               record {
                 unit-within = w .unit-within .most;
                 spread-rate = w .each-prompt j h .spread-rate;
@@ -139,13 +142,14 @@ module _ (rates : List Record) (own : Record) (prompts rows spreads : List Recor
     pub interprompt-is : interpromptCharge (unit own) spreads (interleaved (b .first) (b .second)) ≡ interpromptOf k
     interprompt-is =
         ap₂ (λ (x y : List Spreads). interpromptCharge (unit own) spreads (interleaved x y)) (bk .first-is) (bk .second-is)
-        ∙ over-arrays (λ s. spreadCharge (unit own) (ratePerSpread s)) spreads (numbers ss ps) 32 (numbers-length interprompt spreads ps) (w .few-spreads)
+        ∙ over-arrays (λ s. spreadCharge (unit own) (ratePerSpread s)) spreads (numbers ss ps) spreadPlaces (numbers-length interprompt spreads ps)
+        (w .few-spreads)
         ∙ ap (λ (x : List Open). interpromptCharge (unit own) spreads (numbers ss x)) nets-are
 
     pub prompt-is : promptCharges (unit own) prompts (deltasIn (b .used)) (deltasIn (b .unused)) ≡ promptOf k
     prompt-is =
         ap₂ (λ (x y : List Delta). promptCharges (unit own) prompts (deltasIn x) (deltasIn y)) (bk .used-is) (bk .unused-is)
-        ∙ prompts-arrays (unit own) prompts (usedOf ss ps) (unusedOf ss ps) 32 (used-length ss ps ∙ prompts-open) (unused-length ss ps ∙ prompts-open)
+        ∙ prompts-arrays (unit own) prompts (usedOf ss ps) (unusedOf ss ps) promptPlaces (used-length ss ps ∙ prompts-open) (unused-length ss ps ∙ prompts-open)
         (w .few-prompts)
         ∙ ap (λ (x : List Open). promptCharges (unit own) prompts (usedOf ss x) (unusedOf ss x)) nets-are
 
@@ -156,8 +160,8 @@ module _ (rates : List Record) (own : Record) (prompts rows spreads : List Recor
         → l .net .0 ≡ sumℤ nets → LineOf k l
     line-is l rate ec eu sc ch er em hm en =
         let active : l .active ≡ activeScenario (totals rates (unit own) rows) = sc .active-is ∙ ap activeScenario (is .totals-are) in
-        let sixteen : length (totals rates (unit own) rows) ≡ 16 = refl in
-        let few : activeScenario (totals rates (unit own) rows) ≤ 16 = first-holding (totals rates (unit own) rows) (omega arith) in
+        let sixteen : length (totals rates (unit own) rows) ≡ scenarioCount = refl in
+        let few : activeScenario (totals rates (unit own) rows) ≤ scenarioCount = first-holding (totals rates (unit own) rows) (omega arith) in
         record {
           contract-is = ec;
           unit-is = eu;

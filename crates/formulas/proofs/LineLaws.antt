@@ -13,18 +13,18 @@ use lib.ListN.{length, getD, take, length-map}
 use Rattle.exact.specs.Lists.{sum, sumℤ}
 use Rattle.exact.proofs.Lists.{abs-sum, map-take, sum-take, sum-at, getD-map, sumℤ-take-suc}
 use Rattle.record.specs.Layout.{Record, tier}
-use Rattle.spread.specs.Accepted.{every, whole, soundPrompt, soundSpread}
+use Rattle.spread.specs.Accepted.{every, whole, soundPrompt, soundSpread, tierCount, promptPlaces, spreadPlaces}
 use Rattle.spread.specs.code.Book.{byPlace, spreadsEntry, deltaEntry}
 use Rattle.spread.specs.Demand.{wholeSteps}
-use Rattle.spread.specs.Steps.{Open, Taker, steps, numbers, left, minus, usedOf, unusedOf}
+use Rattle.spread.specs.Steps.{Open, steps, numbers}
 use Rattle.spread.specs.declared.Spread.{Spread}
 use Rattle.spread.specs.declared.Spreads.{Spreads}
 use Rattle.spread.specs.declared.Delta.{Delta}
 use Rattle.spread.proofs.Both.{and-both}
 use Rattle.spread.proofs.Demand3.{one-per-step}
 use Rattle.spread.proofs.Soundness.{whole-steps}
-use Rattle.spread.proofs.Stepping.{left-length}
 use Rattle.spread.proofs.Filling.{entries-at}
+use Rattle.spread.proofs.Lengths.{steps-length}
 use Rattle.formulas.specs.Bounds.{mostDelta}
 use Rattle.formulas.specs.Deltas.{opens, interprompt}
 use Rattle.formulas.specs.code.Sums.{spreadsAt, deltaAt}
@@ -48,13 +48,13 @@ opens-sizes (r ∷ rs) [] = zero-le
 opens-sizes (r ∷ rs) (d ∷ ds) = let h = opens-sizes rs ds in omega arith
 
 -- the spread steps accept them
-pub opens-sound : (rs : List Record) (ds : List ℤ) → ((k : ℕ) → k < length rs → tier (getD rs k []) < 16)
+pub opens-sound : (rs : List Record) (ds : List ℤ) → ((k : ℕ) → k < length rs → tier (getD rs k []) < tierCount)
     → ((k : ℕ) → natAbs (getD ds k (pos 0)) ≤ mostDelta) → every soundPrompt (opens rs ds) ≡ true
 opens-sound [] ds ht hd = refl
 opens-sound (r ∷ rs) [] ht hd = refl
 opens-sound (r ∷ rs) (d ∷ ds) ht hd =
-    and-both (ltb (tier r) 16 && leb (natAbs d) mostDelta) (every soundPrompt (opens rs ds))
-    (and-both (ltb (tier r) 16) (leb (natAbs d) mostDelta) (lt-ltb (tier r) 16 (ht 0 (suc-le-suc zero-le))) (le-leb (natAbs d) mostDelta (hd 0)))
+    and-both (ltb (tier r) tierCount && leb (natAbs d) mostDelta) (every soundPrompt (opens rs ds))
+    (and-both (ltb (tier r) tierCount) (leb (natAbs d) mostDelta) (lt-ltb (tier r) tierCount (ht 0 (suc-le-suc zero-le))) (le-leb (natAbs d) mostDelta (hd 0)))
     (opens-sound rs ds (λ k h. ht (suc k) (suc-le-suc h)) (λ k. hd (suc k)))
 
 pub spreads-sound : (made : Record → Spread) (rs : List Record) → ((k : ℕ) → k < length rs → soundSpread (made (getD rs k [])) ≡ true)
@@ -73,25 +73,8 @@ interprompt-whole rs = whole-steps (map interprompt rs) (each rs)
 
 -- ---- how many numbers and deltas there are
 
-pub steps-length : (ss : List Spread) → length (steps ss) ≡ 2 * length ss
-steps-length [] = refl
-steps-length (s ∷ ss) = let h = steps-length ss in omega arith
-
 pub numbers-length : (made : Record → Spread) (rs : List Record) (ps : List Open) → length (numbers (steps (map made rs)) ps) ≡ 2 * length rs
 numbers-length made rs ps = one-per-step (steps (map made rs)) ps ∙ steps-length (map made rs) ∙ ap (λ (n : ℕ). 2 * n) (length-map rs made)
-
-minus-length : (xs ys : List ℤ) → length xs ≡ length ys → length (minus xs ys) ≡ length xs
-minus-length [] ys e = refl
-minus-length (x ∷ xs) [] e = absurd (omega arith)
-minus-length (x ∷ xs) (y ∷ ys) e = ap suc (minus-length xs ys (omega arith))
-
-pub unused-length : (ss : List (List Taker)) (ps : List Open) → length (unusedOf ss ps) ≡ length ps
-unused-length ss ps = length-map (left ss ps) (λ p. p .unused) ∙ left-length ss ps
-
-pub used-length : (ss : List (List Taker)) (ps : List Open) → length (usedOf ss ps) ≡ length ps
-used-length ss ps =
-    minus-length (map (λ p. p .unused) ps) (unusedOf ss ps) (length-map ps (λ p. p .unused) ∙ sym (unused-length ss ps))
-    ∙ length-map ps (λ p. p .unused)
 
 -- ---- sums that run on into zeros
 
@@ -115,15 +98,15 @@ size-zeros (suc n) (z ∷ zs) h = ap (λ (x : ℕ). natAbs z + x) (size-zeros n 
 
 -- ---- the arrays of a book, within their bounds
 
-pub first-within : (numbers : List ℕ) (f : ℕ → ℕ) (most : ℕ) → ((j : ℕ) → getD numbers j 0 ≤ most) → (k : ℕ) → k < 32
-    → spreadsAt (byPlace 32 (λ i. spreadsEntry numbers (f i))) k ≤ most
+pub first-within : (numbers : List ℕ) (f : ℕ → ℕ) (most : ℕ) → ((j : ℕ) → getD numbers j 0 ≤ most) → (k : ℕ) → k < spreadPlaces
+    → spreadsAt (byPlace spreadPlaces (λ i. spreadsEntry numbers (f i))) k ≤ most
 first-within numbers f most h k l =
-    subst⁻¹ (λ (x : Spreads). x .0 ≤ most) (entries-at 32 (λ i. spreadsEntry numbers (f i)) k (record { 0 = 0 }) l) (h (f k))
+    subst⁻¹ (λ (x : Spreads). x .0 ≤ most) (entries-at spreadPlaces (λ i. spreadsEntry numbers (f i)) k (record { 0 = 0 }) l) (h (f k))
 
-pub delta-within : (zs : List ℤ) (most : ℕ) → ((j : ℕ) → natAbs (getD zs j (pos 0)) ≤ most) → (k : ℕ) → k < 32
-    → natAbs (deltaAt (byPlace 32 (deltaEntry zs)) k) ≤ most
+pub delta-within : (zs : List ℤ) (most : ℕ) → ((j : ℕ) → natAbs (getD zs j (pos 0)) ≤ most) → (k : ℕ) → k < promptPlaces
+    → natAbs (deltaAt (byPlace promptPlaces (deltaEntry zs)) k) ≤ most
 delta-within zs most h k l =
-    subst⁻¹ (λ (d : Delta). natAbs (d .0) ≤ most) (entries-at 32 (deltaEntry zs) k (record { 0 = pos 0 }) l) (h k)
+    subst⁻¹ (λ (d : Delta). natAbs (d .0) ≤ most) (entries-at promptPlaces (deltaEntry zs) k (record { 0 = pos 0 }) l) (h k)
 
 -- ---- net deltas added up, one after the other
 

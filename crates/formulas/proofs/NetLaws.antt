@@ -14,8 +14,9 @@ use Rattle.account.specs.Accepted.{Each}
 use Rattle.account.specs.Parts.{onDay}
 use Rattle.exact.proofs.Integers.{abs-add}
 use Rattle.exact.proofs.Lists.{sum-map-le, sum-map-add}
+use Rattle.exact.proofs.Tests.{eqb-turned}
 use Rattle.record.specs.Layout.{Record, day}
-use Rattle.spread.proofs.Gathering.{eqb-turned}
+use Rattle.formulas.specs.Bounds.{mostDelta}
 use Rattle.formulas.specs.Deltas.{rowDelta, ofDay, netDelta, netDeltas}
 use Rattle.formulas.specs.code.Position.{RowFit, RowsFit, OneDay}
 use Rattle.formulas.proofs.PositionBounds.{delta-most}
@@ -71,7 +72,7 @@ sizes-sum prompts (row ∷ rows) r e =
     let both = sum-map-add (addedSize row) (netSize rows) prompts in
     omega arith
 
-pub net-sizes-most : (prompts rows : List Record) → OneDay prompts rows → RowsFit rows → sum (map natAbs (netDeltas prompts rows)) ≤ 128000000000
+pub net-sizes-most : (prompts rows : List Record) → OneDay prompts rows → RowsFit rows → sum (map natAbs (netDeltas prompts rows)) ≤ mostDelta
 net-sizes-most prompts rows r w =
     let e : map natAbs (netDeltas prompts rows) ≡ map (netSize rows) prompts = map-map natAbs (netDelta rows) prompts in
     let s = sizes-sum prompts rows r (w .each) in

@@ -13,7 +13,7 @@ use lib.ListN.{length, getD, take, length-take}
 use lib.Seq.{getD-take}
 use borrow.Author.Tests.{ltb-true, ltb-false}
 use Rattle.exact.specs.Lists.{consIf, keep, sumℤ}
-use Rattle.record.specs.Layout.{Record, day, lots, delta, rowType}
+use Rattle.record.specs.Layout.{Record, day, lots, delta, rowType, scenarioCount}
 use Rattle.formulas.specs.declared.rows.Position.{Position}
 use Rattle.formulas.specs.Bounds.{mostProduct}
 use Rattle.formulas.specs.Scanning.{inHundredths, product, total}
@@ -25,7 +25,7 @@ use Rattle.formulas.proofs.PositionLaws.{totals-at, net-here}
 
 -- ---- of one row
 
-pub product-most : (rates : List Record) (unit : ℕ) → unit ≤ 1000 → (row : Record) → RowRated rates row → (s : ℕ) → 1 ≤ s → s ≤ 16
+pub product-most : (rates : List Record) (unit : ℕ) → unit ≤ 1000 → (row : Record) → RowRated rates row → (s : ℕ) → 1 ≤ s → s ≤ scenarioCount
     → natAbs (product rates unit s row) ≤ mostProduct
 product-most rates unit hu row w s l h = omega (arith, w .conversion-within s l h, away-above unit (inHundredths rates s row))
 
@@ -52,7 +52,7 @@ Each rows = (k : ℕ) → k < length rows → RowFit (getD rows k [])
 abbrev pub Rated : List Record → List Record → Type 0
 Rated rates rows = (k : ℕ) → k < length rows → RowRated rates (getD rows k [])
 
-pub total-most : (rates : List Record) (unit : ℕ) → unit ≤ 1000 → (rows : List Record) → Rated rates rows → (s : ℕ) → 1 ≤ s → s ≤ 16
+pub total-most : (rates : List Record) (unit : ℕ) → unit ≤ 1000 → (rows : List Record) → Rated rates rows → (s : ℕ) → 1 ≤ s → s ≤ scenarioCount
     → natAbs (total rates unit rows s) ≤ length rows * mostProduct
 total-most rates unit hu [] e s l h = zero-le
 total-most rates unit hu (row ∷ rows) e s l h =

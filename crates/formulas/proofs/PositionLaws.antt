@@ -13,8 +13,9 @@ use lib.Seq.{ext-getD, getD-take, length-take-le}
 use Rattle.exact.specs.Lists.{consIf, keep, sum, sumℤ}
 use Rattle.exact.proofs.Table.{at}
 use Rattle.exact.proofs.Lists.{keep-append, sum-append, sumℤ-append, getD-map}
-use Rattle.record.specs.Layout.{Record, day}
+use Rattle.record.specs.Layout.{Record, day, scenarioCount}
 use Rattle.spread.specs.declared.Delta.{Delta}
+use Rattle.spread.specs.Accepted.{promptPlaces}
 use Rattle.formulas.specs.declared.rows.Days.{Days}
 use Rattle.formulas.specs.declared.rows.Position.{Position}
 use Rattle.formulas.specs.Scanning.{product, total, scenarios, totals}
@@ -56,11 +57,12 @@ net-one row d = go (ofDay d row)
 numbered : ℕ → ℕ → Bool
 numbered k s = eqb s (k + 1)
 
-scenario-at : (k : ℕ) → k < 16 → getD scenarios k 0 ≡ k + 1
+scenario-at : (k : ℕ) → k < scenarioCount → getD scenarios k 0 ≡ k + 1
 unfolding numbered
 scenario-at k h = eqb→eq (getD scenarios k 0) (k + 1) (at numbered scenarios tt k h)
 
-pub totals-at : (rates : List Record) (unit : ℕ) (rows : List Record) (k : ℕ) → k < 16 → getD (totals rates unit rows) k (pos 0) ≡ total rates unit rows (k + 1)
+pub totals-at : (rates : List Record) (unit : ℕ) (rows : List Record) (k : ℕ) → k < scenarioCount
+    → getD (totals rates unit rows) k (pos 0) ≡ total rates unit rows (k + 1)
 totals-at rates unit rows k h = getD-map (total rates unit rows) scenarios k 0 (pos 0) h ∙ ap (total rates unit rows) (scenario-at k h)
 
 pub nets-at : (prompts rows : List Record) (j : ℕ) → j < length prompts → getD (netDeltas prompts rows) j (pos 0) ≡ netDelta rows (getD prompts j [])
@@ -81,11 +83,12 @@ zeros zero j = refl
 zeros (suc n) zero = refl
 zeros (suc n) (suc j) = zeros n j
 
-pub nothing : (rates : List Record) (unit : ℕ) (prompts : List Record) (p : Position) → length prompts ≤ 32 → p .totals .0 ≡ replicate 16 (pos 0)
-    → deltasIn (p .nets) ≡ replicate 32 (pos 0) → p .shorts ≡ 0 → PositionOf rates unit prompts [] p
+pub nothing : (rates : List Record) (unit : ℕ) (prompts : List Record) (p : Position) → length prompts ≤ promptPlaces
+    → p .totals .0 ≡ replicate scenarioCount (pos 0)
+    → deltasIn (p .nets) ≡ replicate promptPlaces (pos 0) → p .shorts ≡ 0 → PositionOf rates unit prompts [] p
 nothing rates unit prompts p few et en es =
-    let thirty-two : length (deltasIn (p .nets)) ≡ 32 = ap length en in
-    let here : (j : ℕ) → getD (deltasIn (p .nets)) j (pos 0) ≡ pos 0 = λ j. ap (λ (zs : List ℤ). getD zs j (pos 0)) en ∙ zeros 32 j in
+    let thirty-two : length (deltasIn (p .nets)) ≡ promptPlaces = ap length en in
+    let here : (j : ℕ) → getD (deltasIn (p .nets)) j (pos 0) ≡ pos 0 = λ j. ap (λ (zs : List ℤ). getD zs j (pos 0)) en ∙ zeros promptPlaces j in
     let as-many : length (take (length prompts) (deltasIn (p .nets))) ≡ length prompts = length-take-le (length prompts) (deltasIn (p .nets)) (omega arith) in
     record {
       totals-are = et;
@@ -124,10 +127,10 @@ module _ (rates : List Record) (unit : ℕ) (prompts earlier rows : List Record)
     (is : PositionOf rates unit prompts earlier p) (w : WithRows rates unit days p rows q) where
   same-totals : q .totals .0 ≡ totals rates unit (earlier ++ rows)
   same-totals =
-      let sixteen : length (q .totals .0) ≡ 16 = w .totals-added .as-many ∙ ap length (is .totals-are) in
+      let sixteen : length (q .totals .0) ≡ scenarioCount = w .totals-added .as-many ∙ ap length (is .totals-are) in
       ext-getD (pos 0) (q .totals .0) (totals rates unit (earlier ++ rows)) sixteen (λ k h. here k (omega arith))
     where
-      here : (k : ℕ) → k < 16 → getD (q .totals .0) k (pos 0) ≡ getD (totals rates unit (earlier ++ rows)) k (pos 0)
+      here : (k : ℕ) → k < scenarioCount → getD (q .totals .0) k (pos 0) ≡ getD (totals rates unit (earlier ++ rows)) k (pos 0)
       here k h =
           w .totals-added .added k h
           ∙ ap (λ (zs : List ℤ). getD zs k (pos 0) +ℤ total rates unit rows (k + 1)) (is .totals-are)
@@ -137,7 +140,7 @@ module _ (rates : List Record) (unit : ℕ) (prompts earlier rows : List Record)
 
   same-nets : take (length prompts) (deltasIn (q .nets)) ≡ netDeltas prompts (earlier ++ rows)
   same-nets =
-      let thirty-two : length (deltasIn (q .nets)) ≡ 32 = w .nets-added .as-many ∙ is .places in
+      let thirty-two : length (deltasIn (q .nets)) ≡ promptPlaces = w .nets-added .as-many ∙ is .places in
       let as-many : length (take (length prompts) (deltasIn (q .nets))) ≡ length prompts = length-take-le (length prompts) (deltasIn (q .nets))
       (omega (arith, known .few, known .count-is)) in
       ext-getD (pos 0) (take (length prompts) (deltasIn (q .nets))) (netDeltas prompts (earlier ++ rows))
@@ -167,7 +170,7 @@ module _ (rates : List Record) (unit : ℕ) (prompts earlier rows : List Record)
 
 module _ (rates : List Record) (unit : ℕ) (prompts rows : List Record) (days : Days) (p : Position) (nets : List Delta) (known : DaysOf prompts days)
     (is : PositionOf rates unit prompts [] p) (added : Added (days .count) (λ j. netOn rows (getD (days .day) j 0)) (deltasIn (p .nets)) (deltasIn nets)) where
-  its-totals : Added 16 (λ k. total rates unit rows (k + 1)) (totals rates unit []) (totals rates unit rows)
+  its-totals : Added scenarioCount (λ k. total rates unit rows (k + 1)) (totals rates unit []) (totals rates unit rows)
   its-totals =
       record {
         as-many = refl;
@@ -182,7 +185,8 @@ module _ (rates : List Record) (unit : ℕ) (prompts rows : List Record) (days :
   nets-alone =
       joined rates unit prompts [] rows days p (withNets rates unit rows nets) known is
       (record {
-        totals-added = subst (λ (ts : List ℤ). Added 16 (λ k. total rates unit rows (k + 1)) ts (totals rates unit rows)) (sym (is .totals-are)) its-totals;
+        totals-added = subst (λ (ts : List ℤ). Added scenarioCount (λ k. total rates unit rows (k + 1)) ts (totals rates unit rows))
+            (sym (is .totals-are)) its-totals;
         nets-added = added;
         shorts-added = omega (arith, is .shorts-are);
       })

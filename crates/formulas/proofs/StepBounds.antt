@@ -9,7 +9,7 @@ use mathlib.Core.List.{List, [], _∷_, map}
 use lib.Dec.{eqb}
 use lib.IntN.{ℤ, pos, negsuc, natAbs}
 use lib.ListN.{getD}
-use Rattle.exact.specs.Lists.{any, sum, least}
+use Rattle.exact.specs.Lists.{any, sum}
 use borrow.Author.Tests.{not-true}
 use Rattle.exact.proofs.Integers.{abs-towards-zero, taken-sign, abs-sign}
 use Rattle.spread.specs.Steps.{Market, long, short, Open, Taker, onSide, inTier, pool, room, roomFor, formed, after, numbers, minus, usedOf, unusedOf}
@@ -17,6 +17,7 @@ use Rattle.spread.specs.Spend.{marketOf, spend}
 use Rattle.spread.specs.Demand.{stepUse, totalUse, wholeStep, wholeSteps}
 use Rattle.spread.proofs.Both.{and-left, and-right}
 use Rattle.spread.proofs.Spending.{after-spend, left-spend}
+use Rattle.spread.proofs.Bounds.{least-first}
 
 -- all deltas together, without their signs
 abbrev pub sizes : List Open → ℕ
@@ -38,10 +39,6 @@ tier-most m t p = go (eqb (p .tier) t)
 pub pool-within : (m : Market) (t : ℕ) (ps : List Open) → pool m t ps ≤ sizes ps
 pool-within m t [] = zero-le
 pool-within m t (p ∷ ps) = add-le-add (tier-most m t p) (pool-within m t ps)
-
-least-first : (x : ℕ) (xs : List ℕ) → least (x ∷ xs) ≤ x
-least-first x [] = le-refl x
-least-first x (y ∷ ys) = omega arith
 
 room-within : (tenths : Bool) (p ratio : ℕ) → room tenths p ratio ≤ 10 * p
 room-within false p ratio = let d = div-le-self p ratio in omega arith

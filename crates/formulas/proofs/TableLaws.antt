@@ -20,12 +20,14 @@ use Rattle.spread.specs.Steps.{Open, steps}
 use Rattle.spread.specs.declared.Delta.{Delta}
 use Rattle.spread.specs.declared.Prompts.{Prompts}
 use Rattle.account.specs.Records.{cut, records}
+use Rattle.account.specs.Check.{mostContracts}
 use Rattle.spread.specs.code.Book.{Booked}
 use Rattle.spread.proofs.Every.{opens-length}
 use Rattle.spread.proofs.Filling.{getD-same}
 use Rattle.spread.specs.declared.Spreads.{Spreads}
 use Rattle.spread.specs.declared.Table.{Table}
 use Rattle.spread.specs.declared.book.Book.{Book}
+use Rattle.spread.specs.Accepted.{tierCount, promptPlaces}
 use Rattle.formulas.specs.declared.amount.Amount.{Amount}
 use Rattle.formulas.specs.declared.charges.Earner.{Earner}
 use Rattle.formulas.specs.declared.line.Line.{Line}
@@ -52,15 +54,15 @@ opens-set (x ∷ ts) (y ∷ ds) (suc i) t d = ap (λ (ps : List Open). record { 
 
 -- the first i contracts stand in the arrays
 pub record Tiered (lines : List Line) (i : ℕ) (ts : List ℕ) (ds : List Delta) : Type 0 where
-  pub tiers : length ts ≡ 32
-  pub nets : length ds ≡ 32
+  pub tiers : length ts ≡ promptPlaces
+  pub nets : length ds ≡ promptPlaces
   pub so-far : take i (given.opens ts ds) ≡ map tierOf (take i lines)
 
-pub tiered-next : (lines : List Line) (i : ℕ) (ts : List ℕ) (ds : List Delta) (t : ℕ) (d : Delta) → Tiered lines i ts ds → i < 32 → i < length lines
+pub tiered-next : (lines : List Line) (i : ℕ) (ts : List ℕ) (ds : List Delta) (t : ℕ) (d : Delta) → Tiered lines i ts ds → i < promptPlaces → i < length lines
     → record { tier = t; unused = d .0 } ≡ tierOf (getD lines i noLine)
     → Tiered lines (i + 1) (set ts i t) (set ds i d)
 tiered-next lines i ts ds t d is h l e =
-    let n = opens-length ts ds 32 (is .tiers) (is .nets) in
+    let n = opens-length ts ds promptPlaces (is .tiers) (is .nets) in
     record {
       tiers = rw length-set (is .tiers);
       nets = rw length-set (is .nets);
@@ -98,7 +100,7 @@ tiered-all lines i count p is e c =
 
 -- the first i contracts' credits stand in the array
 pub earned-next : (i : ℕ) (lines : List Line) (entries : List Record) (f g : List Spreads) (xs : List Amount) (a : Amount)
-    → CreditsOf i lines entries f g xs → i < 16 → a .0 ≡ earns (getD lines i noLine) entries f g → a .0 ≤ mostCredits
+    → CreditsOf i lines entries f g xs → i < mostContracts → a .0 ≡ earns (getD lines i noLine) entries f g → a .0 ≤ mostCredits
     → CreditsOf (i + 1) lines entries f g (set xs i a)
 earned-next i lines entries f g xs a is h e m =
     record {
@@ -129,22 +131,22 @@ module _ (l : Line) (e : Earner) (entries : List Record) (f g : List Spreads) (i
 
 -- without entries there is nothing to earn
 pub none-earned : (count : ℕ) (lines : List Line) (part : List ℕ) (f g : List Spreads) → length part < recordBytes → CreditsOf count lines (records part) f g
-    (replicate 16 (record { 0 = 0 }))
+    (replicate mostContracts (record { 0 = 0 }))
 none-earned count lines part f g h =
     let e : length part / recordBytes ≡ 0 = omega arith in
-    subst⁻¹ (λ (es : List Record). CreditsOf count lines es f g (replicate 16 (record { 0 = 0 }))) (ap (λ (n : ℕ). cut n part) e)
+    subst⁻¹ (λ (es : List Record). CreditsOf count lines es f g (replicate mostContracts (record { 0 = 0 }))) (ap (λ (n : ℕ). cut n part) e)
     (record {
       places = refl;
-      each = λ i l. ap (λ (a : Amount). a .0) (getD-same 16 (record { 0 = 0 }) i);
-      most = λ i l. subst⁻¹ (λ (a : Amount). a .0 ≤ mostCredits) (getD-same 16 (record { 0 = 0 }) i) zero-le;
+      each = λ i l. ap (λ (a : Amount). a .0) (getD-same mostContracts (record { 0 = 0 }) i);
+      most = λ i l. subst⁻¹ (λ (a : Amount). a .0 ≤ mostCredits) (getD-same mostContracts (record { 0 = 0 }) i) zero-le;
     })
 
 -- the entries of a table are spreads that the steps accept
 pub entry-accepted : (e : Record) → EntryFit e → given.soundSpread (intercontract e) ≡ true
 entry-accepted e w =
     rw (
-      lt-ltb (contract e) 16 (le-suc (w .first-number)),
-      lt-ltb (secondContract e) 16 (le-suc (w .second-number)),
+      lt-ltb (contract e) tierCount (le-suc (w .first-number)),
+      lt-ltb (secondContract e) tierCount (le-suc (w .second-number)),
       lt-ltb 0 (firstRatio e)
           (w .first-ratio),
       lt-ltb 0 (secondRatio e) (w .second-ratio),

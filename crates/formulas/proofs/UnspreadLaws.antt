@@ -11,7 +11,7 @@ use lib.Seq.{getD-take}
 use Rattle.record.specs.Bytes.{recordBytes}
 use Rattle.record.specs.Layout.{Record}
 use Rattle.account.specs.Records.{cut, records}
-use Rattle.spread.specs.Accepted.{openOf, stepsOf, soundPrompts, sound}
+use Rattle.spread.specs.Accepted.{openOf, stepsOf, soundPrompts, sound, promptPlaces, spreadPlaces}
 use Rattle.spread.specs.code.Book.{Booked, numbersOf, usedIn, unusedIn, byPlace, spreadsEntry, deltaEntry}
 use Rattle.spread.specs.Steps.{Taker, minus, steps, numbers, usedOf, unusedOf}
 use Rattle.spread.specs.declared.Delta.{Delta}
@@ -50,9 +50,10 @@ all-unused [] (d ∷ ds) (suc n) e h =
 all-unused (r ∷ rs) (d ∷ ds) (suc n) e h =
     ap (λ (xs : List Delta). d ∷ xs) (all-unused rs ds n (omega arith) (λ j l. h (suc j) (suc-le-suc l)))
 
-pub unspread : (rs : List Record) (part : List ℕ) (nets : List Delta) (b : Book) → length part < recordBytes → length nets ≡ 32
+pub unspread : (rs : List Record) (part : List ℕ) (nets : List Delta) (b : Book) → length part < recordBytes → length nets ≡ promptPlaces
     → ((j : ℕ) → length rs ≤ j → getD (deltasIn nets) j (pos 0) ≡ pos 0)
-    → b .first ≡ replicate 32 (record { 0 = 0 }) → b .second ≡ replicate 32 (record { 0 = 0 }) → b .used ≡ replicate 32 (record { 0 = pos 0 })
+    → b .first ≡ replicate spreadPlaces (record { 0 = 0 }) → b .second ≡ replicate spreadPlaces (record { 0 = 0 })
+    → b .used ≡ replicate promptPlaces (record { 0 = pos 0 })
     → b .unused ≡ nets
     → BookOf (steps (map interprompt (records part))) (opens rs (deltasIn nets)) b
 unspread rs part nets b short len beyond f s u v =
@@ -60,20 +61,23 @@ unspread rs part nets b short len beyond f s u v =
     let ps = opens rs (deltasIn nets) in
     subst⁻¹ (λ (es : List Record). BookOf (steps (map interprompt es)) ps b) (ap (λ (n : ℕ). cut n part) e)
     (record {
-      first-is = f ∙ filled-all (record { 0 = 0 }) (λ k. spreadsEntry [] (2 * k)) 0 _ (filled-none (record { 0 = 0 }) (λ k. spreadsEntry [] (2 * k)))
+      first-is = f ∙ filled-all spreadPlaces (record { 0 = 0 }) (λ k. spreadsEntry [] (2 * k)) 0 _
+          (filled-none spreadPlaces (record { 0 = 0 }) (λ k. spreadsEntry [] (2 * k)))
           (λ k l. refl);
-      second-is = s ∙ filled-all (record { 0 = 0 }) (λ k. spreadsEntry [] (2 * k + 1)) 0 _
-          (filled-none (record { 0 = 0 }) (λ k. spreadsEntry [] (2 * k + 1))) (λ k l. refl);
-      used-is = u ∙ filled-all (record { 0 = pos 0 }) (deltaEntry (usedOf [] ps)) 0 _ (filled-none (record { 0 = pos 0 }) (deltaEntry (usedOf [] ps)))
+      second-is = s ∙ filled-all spreadPlaces (record { 0 = 0 }) (λ k. spreadsEntry [] (2 * k + 1)) 0 _
+          (filled-none spreadPlaces (record { 0 = 0 }) (λ k. spreadsEntry [] (2 * k + 1))) (λ k l. refl);
+      used-is = u ∙ filled-all promptPlaces (record { 0 = pos 0 }) (deltaEntry (usedOf [] ps)) 0 _
+          (filled-none promptPlaces (record { 0 = pos 0 }) (deltaEntry (usedOf [] ps)))
           (λ k l i. record { 0 = none-used (map (λ p. p .unused) ps) k i });
-      unused-is = v ∙ all-unused rs nets 32 len beyond;
+      unused-is = v ∙ all-unused rs nets promptPlaces len beyond;
     })
 
 -- ---- the same of accepted prompts and no spreads
 
 pub unspread-booked : (p : Prompts) (t : Table) (b : Book) → t .count ≡ 0 → sound p t ≡ true → b .accepted ≡ true
-    → b .first ≡ replicate 32 (record { 0 = 0 }) → b .second ≡ replicate 32 (record { 0 = 0 }) → b .used ≡ replicate 32 (record { 0 = pos 0 })
-    → b .unused ≡ byPlace 32 (deltaEntry (unusedOf [] (openOf p))) → Booked p t b
+    → b .first ≡ replicate spreadPlaces (record { 0 = 0 }) → b .second ≡ replicate spreadPlaces (record { 0 = 0 })
+    → b .used ≡ replicate promptPlaces (record { 0 = pos 0 })
+    → b .unused ≡ byPlace promptPlaces (deltaEntry (unusedOf [] (openOf p))) → Booked p t b
 unspread-booked p t b e ok a f s u v =
     let ps = openOf p in
     let none : stepsOf t ≡ [] = ap (λ (n : ℕ). steps (take n (t .spread))) e in
@@ -85,22 +89,25 @@ unspread-booked p t b e ok a f s u v =
       accepted = a ∙ sym ok;
       first =
           f
-          ∙ filled-all (record { 0 = 0 }) (λ k. spreadsEntry [] (2 * k)) 0 _ (filled-none (record { 0 = 0 }) (λ k. spreadsEntry [] (2 * k))) (λ k l. refl)
-          ∙ ap (λ (xs : List ℕ). byPlace 32 (λ k. spreadsEntry xs (2 * k))) (sym ns);
+          ∙ filled-all spreadPlaces (record { 0 = 0 }) (λ k. spreadsEntry [] (2 * k)) 0 _ (filled-none spreadPlaces (record { 0 = 0 }) (λ k. spreadsEntry []
+          (2 * k))) (λ k l. refl)
+          ∙ ap (λ (xs : List ℕ). byPlace spreadPlaces (λ k. spreadsEntry xs (2 * k))) (sym ns);
       second =
           s
-          ∙ filled-all (record { 0 = 0 }) (λ k. spreadsEntry [] (2 * k + 1)) 0 _ (filled-none (record { 0 = 0 }) (λ k. spreadsEntry [] (2 * k + 1)))
+          ∙ filled-all spreadPlaces (record { 0 = 0 }) (λ k. spreadsEntry [] (2 * k + 1)) 0 _ (filled-none spreadPlaces (record { 0 = 0 })
+          (λ k. spreadsEntry [] (2 * k + 1)))
           (λ k l. refl)
-          ∙ ap (λ (xs : List ℕ). byPlace 32 (λ k. spreadsEntry xs (2 * k + 1))) (sym ns);
+          ∙ ap (λ (xs : List ℕ). byPlace spreadPlaces (λ k. spreadsEntry xs (2 * k + 1))) (sym ns);
       used =
           u
-          ∙ filled-all (record { 0 = pos 0 }) (deltaEntry (usedOf [] ps)) 0 _ (filled-none (record { 0 = pos 0 }) (deltaEntry (usedOf [] ps)))
+          ∙ filled-all promptPlaces (record { 0 = pos 0 }) (deltaEntry (usedOf [] ps)) 0 _ (filled-none promptPlaces (record { 0 = pos 0 }) (deltaEntry
+          (usedOf [] ps)))
           (λ k l i. record { 0 = none-used (map (λ p. p .unused) ps) k i })
-          ∙ ap (λ (zs : List ℤ). byPlace 32 (deltaEntry zs)) (sym us);
-      unused = v ∙ ap (λ (zs : List ℤ). byPlace 32 (deltaEntry zs)) (sym ls);
+          ∙ ap (λ (zs : List ℤ). byPlace promptPlaces (deltaEntry zs)) (sym us);
+      unused = v ∙ ap (λ (zs : List ℤ). byPlace promptPlaces (deltaEntry zs)) (sym ls);
     }
 
-module _ (p : Prompts) (lt : length (p .tier) ≡ 32) (ln : length (p .net) ≡ 32) (ok : soundPrompts p ≡ true) where
+module _ (p : Prompts) (lt : length (p .tier) ≡ promptPlaces) (ln : length (p .net) ≡ promptPlaces) (ok : soundPrompts p ≡ true) where
   nets-first : unusedOf [] (openOf p) ≡ take (p .count) (deltasIn (p .net))
   nets-first = unused-given (p .count) (p .tier) (p .net) (omega (arith, lt, ln))
 

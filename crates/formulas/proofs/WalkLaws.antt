@@ -8,7 +8,9 @@ use native.Mathlib.Omega.{arith}
 use lib.IntN.{ℤ, _+ℤ_}
 use lib.ListN.{length, getD, take, length-take}
 use lib.Seq.{take-suc, take-all}
-use Rattle.record.specs.Layout.{Record, day}
+use Rattle.account.specs.Check.{mostRows}
+use Rattle.spread.specs.Accepted.{promptPlaces}
+use Rattle.record.specs.Layout.{Record, day, scenarioCount}
 use Rattle.formulas.specs.Bounds.{mostProduct}
 use Rattle.formulas.specs.Scanning.{total}
 use Rattle.formulas.specs.Deltas.{rowDelta}
@@ -34,19 +36,21 @@ nets-next rows count days i ns ms ms′ row h e =
     ∙ sym (net-append (take i rows) (row ∷ []) (getD days j 0))
     ∙ ap (λ (rs : List Record). netOn rs (getD days j 0)) (passed-row rows i row h e))
 
-pub nets-room : (rows : List Record) (count : ℕ) (days : List ℕ) (ns : List ℤ) → RowsFit rows → AtMost 32 ((128 - length rows) * 1000000000) ns
-    → (i n : ℕ) (ms : List ℤ) → Added count (λ j. netOn (take i rows) (getD days j 0)) ns ms → 128 - length rows + i ≤ n → AtMost 32 (n * 1000000000) ms
+pub nets-room : (rows : List Record) (count : ℕ) (days : List ℕ) (ns : List ℤ) → RowsFit rows → AtMost promptPlaces ((mostRows - length rows) * 1000000000) ns
+    → (i n : ℕ) (ms : List ℤ) → Added count (λ j. netOn (take i rows) (getD days j 0)) ns ms → mostRows - length rows + i ≤ n
+    → AtMost promptPlaces (n * 1000000000) ms
 nets-room rows count days ns w most i n ms a h =
     let few : length (take i rows) ≤ i = omega (arith, length-take i rows) in
-    at-most-wider 32 ((128 - length rows) * 1000000000 + length (take i rows) * 1000000000) (n * 1000000000) ms (omega arith)
-    (at-most-added 32 count ((128 - length rows) * 1000000000) (length (take i rows) * 1000000000) (λ j. netOn (take i rows) (getD days j 0)) ns ms
+    at-most-wider promptPlaces ((mostRows - length rows) * 1000000000 + length (take i rows) * 1000000000) (n * 1000000000) ms (omega arith)
+    (at-most-added promptPlaces count ((mostRows - length rows) * 1000000000) (length (take i rows) * 1000000000)
+    (λ j. netOn (take i rows) (getD days j 0)) ns ms
     most a (λ j l. net-most (take i rows) (each-take RowFit rows i (w .each)) (getD days j 0)))
 
 -- totals us, nets ms and short lots v are ts, ns and u with the first i rows
 pub record SoFar (rates : List Record) (unit : ℕ) (rows : List Record) (count : ℕ) (days : List ℕ) (ts ns : List ℤ) (u i : ℕ) (us ms : List ℤ)
     (v : ℕ) : Type 0 where
   pub passed : i ≤ length rows
-  pub totals-so-far : Added 16 (λ k. total rates unit (take i rows) (k + 1)) ts us
+  pub totals-so-far : Added scenarioCount (λ k. total rates unit (take i rows) (k + 1)) ts us
   pub nets-so-far : Added count (λ j. netOn (take i rows) (getD days j 0)) ns ms
   pub shorts-so-far : v ≡ u + shortLots (take i rows)
 
@@ -55,20 +59,21 @@ module _ (rates : List Record) (unit : ℕ) (rows : List Record) (count : ℕ) (
   start =
       record {
         passed = omega arith;
-        totals-so-far = nothing-added 16 (λ k. total rates unit [] (k + 1)) ts (λ k. refl);
+        totals-so-far = nothing-added scenarioCount (λ k. total rates unit [] (k + 1)) ts (λ k. refl);
         nets-so-far = nothing-added count (λ j. netOn [] (getD days j 0)) ns (λ j. refl);
         shorts-so-far = omega arith;
       }
 
   pub next : (i : ℕ) (us ms us′ ms′ : List ℤ) (v v′ : ℕ) (row : Record) → SoFar rates unit rows count days ts ns u i us ms v → i < length rows
-      → getD rows i [] ≡ row → Added 16 (products rates unit row) us us′ → Added count (addsOn days (day row) (rowDelta row)) ms ms′
+      → getD rows i [] ≡ row → Added scenarioCount (products rates unit row) us us′ → Added count (addsOn days (day row) (rowDelta row)) ms ms′
       → v′ ≡ v + shortOptions row → SoFar rates unit rows count days ts ns u (i + 1) us′ ms′ v′
   next i us ms us′ ms′ v v′ row s h e t n o =
       let passed = passed-row rows i row h e in
       record {
         passed = omega arith;
         totals-so-far =
-            twice 16 (λ k. total rates unit (take i rows) (k + 1)) (products rates unit row) (λ k. total rates unit (take (i + 1) rows) (k + 1)) ts us us′
+            twice scenarioCount (λ k. total rates unit (take i rows) (k + 1)) (products rates unit row)
+            (λ k. total rates unit (take (i + 1) rows) (k + 1)) ts us us′
             (λ k l.
             ap (λ (z : ℤ). total rates unit (take i rows) (k + 1) +ℤ z) (total-one rates unit row (k + 1))
             ∙ sym (total-append rates unit (take i rows) (row ∷ []) (k + 1))
@@ -83,22 +88,23 @@ module _ (rates : List Record) (unit : ℕ) (rows : List Record) (count : ℕ) (
 
 -- what is within the bounds of n rows
 pub record Most (n : ℕ) (us ms : List ℤ) (v : ℕ) : Type 0 where
-  pub totals-most : AtMost 16 (n * mostProduct) us
-  pub nets-most : AtMost 32 (n * 1000000000) ms
+  pub totals-most : AtMost scenarioCount (n * mostProduct) us
+  pub nets-most : AtMost promptPlaces (n * 1000000000) ms
   pub shorts-most : v ≤ n * 100000
 
 module _ (rates : List Record) (unit : ℕ) (hu : unit ≤ 1000) (rows : List Record) (count : ℕ) (days : List ℕ) (ts ns : List ℤ) (u : ℕ)
-    (w : RowsFit rows) (rated : Rated rates rows) (m : Most (128 - length rows) ts ns u) where
+    (w : RowsFit rows) (rated : Rated rates rows) (m : Most (mostRows - length rows) ts ns u) where
   -- room for what n rows in all can come to
-  pub room : (i n : ℕ) (us ms : List ℤ) (v : ℕ) → SoFar rates unit rows count days ts ns u i us ms v → 128 - length rows + i ≤ n → Most n us ms v
+  pub room : (i n : ℕ) (us ms : List ℤ) (v : ℕ) → SoFar rates unit rows count days ts ns u i us ms v → mostRows - length rows + i ≤ n → Most n us ms v
   room i n us ms v s h =
       let few : length (take i rows) ≤ i = omega (arith, length-take i rows) in
       let each = each-take RowFit rows i (w .each) in
       let each-rated = each-take (RowRated rates) rows i rated in
       record {
         totals-most =
-            at-most-wider 16 ((128 - length rows) * mostProduct + length (take i rows) * mostProduct) (n * mostProduct) us (omega arith)
-            (at-most-added 16 16 ((128 - length rows) * mostProduct) (length (take i rows) * mostProduct) (λ k. total rates unit (take i rows) (k + 1)) ts us
+            at-most-wider scenarioCount ((mostRows - length rows) * mostProduct + length (take i rows) * mostProduct) (n * mostProduct) us (omega arith)
+            (at-most-added scenarioCount scenarioCount ((mostRows - length rows) * mostProduct) (length (take i rows) * mostProduct)
+            (λ k. total rates unit (take i rows) (k + 1)) ts us
             (m .totals-most) (s .totals-so-far) (λ k l. total-most rates unit hu (take i rows) each-rated (k + 1) (omega arith) (omega arith)));
         nets-most = nets-room rows count days ns w (m .nets-most) i n ms (s .nets-so-far) h;
         shorts-most = omega (arith, s .shorts-so-far, m .shorts-most, short-lots-most (take i rows) each);
@@ -106,9 +112,9 @@ module _ (rates : List Record) (unit : ℕ) (hu : unit ≤ 1000) (rows : List Re
 
 -- all rows
 pub finish : (rates : List Record) (unit : ℕ) (rows : List Record) (count : ℕ) (days : List ℕ) (ts ns : List ℤ) (u i : ℕ) (us ms : List ℤ) (v : ℕ)
-    → length rows ≤ i → SoFar rates unit rows count days ts ns u i us ms v → (Added 16 (λ k. total rates unit rows (k + 1)) ts us)
+    → length rows ≤ i → SoFar rates unit rows count days ts ns u i us ms v → (Added scenarioCount (λ k. total rates unit rows (k + 1)) ts us)
     × ((Added count (λ j. netOn rows (getD days j 0)) ns ms) × (v ≡ u + shortLots rows))
 finish rates unit rows count days ts ns u i us ms v h s =
-    subst (λ (rs : List Record). (Added 16 (λ k. total rates unit rs (k + 1)) ts us)
+    subst (λ (rs : List Record). (Added scenarioCount (λ k. total rates unit rs (k + 1)) ts us)
     × ((Added count (λ j. netOn rs (getD days j 0)) ns ms) × (v ≡ u + shortLots rs)))
     (take-all i rows h) (s .totals-so-far, (s .nets-so-far, s .shorts-so-far))

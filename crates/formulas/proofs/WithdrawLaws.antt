@@ -10,7 +10,9 @@ use lib.Dec.{ltb}
 use lib.IntN.{ℤ, pos, negℤ, _+ℤ_, +ℤ-idl, +ℤ-idr, +ℤ-negℤ-cancel}
 use lib.ListN.{length, getD}
 use lib.Seq.{ext-getD}
-use Rattle.record.specs.Layout.{Record}
+use Rattle.account.specs.Check.{mostRows}
+use Rattle.spread.specs.Accepted.{promptPlaces}
+use Rattle.record.specs.Layout.{Record, scenarioCount}
 use Rattle.formulas.specs.declared.rows.Days.{Days}
 use Rattle.formulas.specs.declared.rows.Position.{Position}
 use Rattle.formulas.specs.code.Position.{PositionOf, Bounded, Added, WithRows, deltasIn, netOn}
@@ -36,22 +38,23 @@ undone n m more xs ys zs none gone h l a flat g b =
 
 module _ (rates : List Record) (unit : ℕ) (days : Days) (rows : List Record) (before p flat gone q : Position)
     (w : WithRows rates unit days before rows p) (g : WithRows rates unit days flat rows gone)
-    (none : PositionOf rates unit [] [] flat) (most : Bounded 128 p) (few : days .count ≤ 32)
-    (et : Added 16 (λ k. negℤ (getD (gone .totals .0) k (pos 0))) (p .totals .0) (q .totals .0))
-    (en : Added 32 (λ j. negℤ (getD (deltasIn (gone .nets)) j (pos 0))) (deltasIn (p .nets)) (deltasIn (q .nets)))
+    (none : PositionOf rates unit [] [] flat) (most : Bounded mostRows p) (few : days .count ≤ promptPlaces)
+    (et : Added scenarioCount (λ k. negℤ (getD (gone .totals .0) k (pos 0))) (p .totals .0) (q .totals .0))
+    (en : Added promptPlaces (λ j. negℤ (getD (deltasIn (gone .nets)) j (pos 0))) (deltasIn (p .nets)) (deltasIn (q .nets)))
     (es : q .shorts ≡ p .shorts - gone .shorts) where
   totals-back : q .totals .0 ≡ before .totals .0
   totals-back =
-      undone 16 16 (λ k. total rates unit rows (k + 1)) (before .totals .0) (p .totals .0) (q .totals .0) (flat .totals .0) (gone .totals .0)
+      undone scenarioCount scenarioCount (λ k. total rates unit rows (k + 1)) (before .totals .0) (p .totals .0) (q .totals .0) (flat .totals .0)
+      (gone .totals .0)
       (omega arith) (most .totals-most .as-many)
-      (w .totals-added) (λ k. ap (λ (zs : List ℤ). getD zs k (pos 0)) (none .totals-are) ∙ zeros 16 k) (g .totals-added) et
+      (w .totals-added) (λ k. ap (λ (zs : List ℤ). getD zs k (pos 0)) (none .totals-are) ∙ zeros scenarioCount k) (g .totals-added) et
 
   shorts-back : q .shorts ≡ before .shorts
   shorts-back = omega (arith, es, w .shorts-added, g .shorts-added, none .shorts-are)
 
   nets-back : deltasIn (q .nets) ≡ deltasIn (before .nets)
   nets-back =
-      undone (days .count) 32 (λ j. netOn rows (getD (days .day) j 0)) (deltasIn (before .nets)) (deltasIn (p .nets)) (deltasIn (q .nets))
+      undone (days .count) promptPlaces (λ j. netOn rows (getD (days .day) j 0)) (deltasIn (before .nets)) (deltasIn (p .nets)) (deltasIn (q .nets))
       (deltasIn (flat .nets)) (deltasIn (gone .nets)) few (most .nets-most .as-many)
       (w .nets-added) (λ j. none .nets-beyond j zero-le) (g .nets-added) en
 

@@ -4,9 +4,10 @@ ghost use mathlib.Core.Bool.{true};
 ghost use mathlib.Core.List.{List, [], _∷_, _++_};
 ghost use Prim.Native.Nat.{ℕ, _<_, _≤_, _+_, _-_, _*_};
 ghost use lib.IntN.{pos, natAbs, negℤ, _+ℤ_, _-ℤ_, _*ℤ_};
+ghost use Rattle.spread.specs.Accepted.{promptPlaces};
 ghost use Rattle.exact.specs.Rounding.{halfAwayTo};
 ghost use lib.ListN.{length, getD};
-ghost use Rattle.record.specs.Layout.{Record, day, hundredThousand, mostUnit};
+ghost use Rattle.record.specs.Layout.{Record, day, hundredThousand, mostUnit, scenarioCount};
 ghost use Rattle.account.specs.Check.{mostPrompts, mostRows};
 ghost use Rattle.account.specs.Products.{convertedAt, mostConversion, mostFactor};
 ghost use Rattle.account.specs.code.Rates.{RatesOf};
@@ -115,8 +116,8 @@ fn net_with(net: Delta, more: Delta) -> Delta
 
 // One row more in the margin currency, added to each total.
 fn add_own(totals: &mut [i64; SCENARIOS], unit: u64, row: &[u8])
-    requires { ⌜ (unit ≤ mostUnit) × (RowFit (now row) × AtMost 16 (127 * mostProduct) (now totals)) ⌝ }
-    ensures { λ r. ⌜ Added 16 (ownProducts unit (now (row .entry))) (now (totals .entry)) (now (totals .exit)) ⌝ }
+    requires { ⌜ (unit ≤ mostUnit) × (RowFit (now row) × AtMost scenarioCount ((mostRows - 1) * mostProduct) (now totals)) ⌝ }
+    ensures { λ r. ⌜ Added scenarioCount (ownProducts unit (now (row .entry))) (now (totals .entry)) (now (totals .exit)) ⌝ }
 {
     let each = per_tick(row);
     let mut s = 0;
@@ -129,8 +130,9 @@ fn add_own(totals: &mut [i64; SCENARIOS], unit: u64, row: &[u8])
 
 // The same with a row in another currency.
 fn add_converted(totals: &mut [i64; SCENARIOS], f: Factors, unit: u64, row: &[u8])
-    requires { ⌜ (unit ≤ mostUnit) × (RowFit (now row) × (FactorsFit (f .raised) (f .lowered) (now row) × AtMost 16 (127 * mostProduct) (now totals))) ⌝ }
-    ensures { λ r. ⌜ Added 16 (convertedProducts (f .raised) (f .lowered) unit (now (row .entry))) (now (totals .entry)) (now (totals .exit)) ⌝ }
+    requires { ⌜ (unit ≤ mostUnit) × (RowFit (now row) × (FactorsFit (f .raised) (f .lowered) (now row)
+        × AtMost scenarioCount ((mostRows - 1) * mostProduct) (now totals))) ⌝ }
+    ensures { λ r. ⌜ Added scenarioCount (convertedProducts (f .raised) (f .lowered) unit (now (row .entry))) (now (totals .entry)) (now (totals .exit)) ⌝ }
 {
     let each = per_tick(row);
     let mut s = 0;
@@ -143,9 +145,9 @@ fn add_converted(totals: &mut [i64; SCENARIOS], f: Factors, unit: u64, row: &[u8
 
 // Each total with one row more: whether it is converted is decided once.
 fn add_row(totals: &mut [i64; SCENARIOS], rates: Rates, unit: u64, row: &[u8])
-    requires { ⌜ (unit ≤ mostUnit) × (RowFit (now row) × (RatedBy rates (now row ∷ []) × AtMost 16 (127 * mostProduct) (now totals))) ⌝ }
+    requires { ⌜ (unit ≤ mostUnit) × (RowFit (now row) × (RatedBy rates (now row ∷ []) × AtMost scenarioCount ((mostRows - 1) * mostProduct) (now totals))) ⌝ }
     ensures { λ r. ⌜
-        ((held : List Record) → RatesOf held rates → Added 16 (products held unit (now (row .entry))) (now (totals .entry)) (now (totals .exit))) ⌝ }
+        ((held : List Record) → RatesOf held rates → Added scenarioCount (products held unit (now (row .entry))) (now (totals .entry)) (now (totals .exit))) ⌝ }
 {
     let c = currency(row);
     if c == 0 {
@@ -309,7 +311,7 @@ pub fn with_rows(p: Position, days: Days, rates: Rates, unit: u64, rows: &[u8]) 
 // Net deltas with more rows, in one walk over these: where nothing but they are asked for.
 fn nets_with(before: [Delta; MOST_PROMPTS], days: Days, rows: &[u8]) -> [Delta; MOST_PROMPTS]
     requires { ⌜ (days .count ≤ mostPrompts)
-        × (RowsFit (records (now rows)) × AtMost 32 ((mostRows - length (records (now rows))) * 1000000000) (deltasIn before)) ⌝ }
+        × (RowsFit (records (now rows)) × AtMost promptPlaces ((mostRows - length (records (now rows))) * 1000000000) (deltasIn before)) ⌝ }
     ensures { λ r. ⌜ Added (days .count) (λ j. netOn (records (now (rows .entry))) (getD (days .day) j 0)) (deltasIn before) (deltasIn r) ⌝ }
 {
     let count = rows.len() / RECORD_BYTES;
@@ -347,8 +349,8 @@ pub fn nets_of(prompts: &[u8], rows: &[u8]) -> [Delta; MOST_PROMPTS]
 
 // Totals with others taken away, one by one.
 fn totals_without(t: Totals, gone: Totals) -> Totals
-    requires { ⌜ AtMost 16 (mostRows * mostProduct) (t .0) × AtMost 16 (mostRows * mostProduct) (gone .0) ⌝ }
-    ensures { λ r. ⌜ Added 16 (λ k. negℤ (getD (gone .0) k (pos 0))) (t .0) (r .0) ⌝ }
+    requires { ⌜ AtMost scenarioCount (mostRows * mostProduct) (t .0) × AtMost scenarioCount (mostRows * mostProduct) (gone .0) ⌝ }
+    ensures { λ r. ⌜ Added scenarioCount (λ k. negℤ (getD (gone .0) k (pos 0))) (t .0) (r .0) ⌝ }
 {
     let gone_from = gone.0;
     let mut totals = t.0;
@@ -369,8 +371,8 @@ fn net_without(net: Delta, gone: Delta) -> Delta
 
 // Net deltas with others taken away, one by one.
 fn nets_without(nets: [Delta; MOST_PROMPTS], gone: [Delta; MOST_PROMPTS]) -> [Delta; MOST_PROMPTS]
-    requires { ⌜ AtMost 32 mostDelta (deltasIn nets) × AtMost 32 mostDelta (deltasIn gone) ⌝ }
-    ensures { λ r. ⌜ Added 32 (λ j. negℤ (getD (deltasIn gone) j (pos 0))) (deltasIn nets) (deltasIn r) ⌝ }
+    requires { ⌜ AtMost promptPlaces mostDelta (deltasIn nets) × AtMost promptPlaces mostDelta (deltasIn gone) ⌝ }
+    ensures { λ r. ⌜ Added promptPlaces (λ j. negℤ (getD (deltasIn gone) j (pos 0))) (deltasIn nets) (deltasIn r) ⌝ }
 {
     let mut left = nets;
     let mut j = 0;

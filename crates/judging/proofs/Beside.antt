@@ -1,14 +1,14 @@
 -- What is sent beside the numbers and uses of the steps, two lists: the first step that is wrong decides.
 -- Assumes nothing.
 use Prim.Native.Nat.{ℕ, zero, suc, _+_, _*_, _<_}
-use native.Mathlib.Nat.{add-zero, add-comm, zero-mul, suc-mul}
+use native.Mathlib.Nat.{add-zero, suc-mul}
 use native.Mathlib.Omega.{arith}
 use mathlib.Core.Bool.{Bool, true, false, not, _&&_, false≢true}
 use mathlib.Core.List.{List, [], _∷_, _++_, map}
 use mathlib.Core.Logic.{_⊎_, inl, inr}
 use mathlib.Core.Path.{_≡_, refl, sym, ap, ap₂, _∙_, subst}
 use lib.IntN.{ℤ, pos, negsuc}
-use lib.ListN.{length, length-append, length-drop, getD, take, drop, take-append-drop}
+use lib.ListN.{length, length-drop, getD, take, drop, take-append-drop}
 use lib.Seq.{take-at, drop-at}
 use lib.Signed.{ltZ}
 use borrow.Author.Tests.{ltb-false, le-ltb, not-true}
@@ -16,12 +16,12 @@ use Rattle.spread.specs.Steps.{Open, Taker, formed, after, numbers}
 use Rattle.spread.specs.Uses.{takenOf, takings, inOneList, usesOf}
 use Rattle.spread.proofs.Both.{and-left, and-right}
 use Rattle.spread.proofs.Stepping.{after-length}
+use Rattle.spread.proofs.Lengths.{used-length}
 use Rattle.judging.specs.Claims.{numbersTold, usesTold, numberTold, useTold, ToldWhole}
 use Rattle.judging.specs.Judged.{Told, toldOf, same, alike, verdictOf, judgedFrom}
 use Rattle.judging.specs.declared.Verdict.{Verdict}
 use Rattle.judging.specs.declared.Verdict.the-variants.{Right, OtherCounts}
 use Rattle.judging.proofs.Comparing.{says-none}
-use Rattle.judging.proofs.Walking.{taken-length}
 
 -- ---- numbers that are the same
 
@@ -78,21 +78,13 @@ told-whole n xs us e = record { numbers = numbers-told n xs us; uses = uses-told
 
 -- ---- the uses of the steps as one list
 
-pub uses-length : (ss : List (List Taker)) (ps : List Open) → length (usesOf ss ps) ≡ length ss * length ps
-uses-length [] ps = sym (zero-mul (length ps))
-uses-length (s ∷ ss) ps =
-    length-append (takenOf s ps) (usesOf ss (after s (formed s ps) ps))
-    ∙ ap₂ _+_ (taken-length s ps) (uses-length ss (after s (formed s ps) ps) ∙ ap (λ (n : ℕ). length ss * n) (after-length s (formed s ps) ps))
-    ∙ add-comm (length ps) (length ss * length ps)
-    ∙ sym (suc-mul (length ss) (length ps))
-
 pub takings-told : (n : ℕ) (xs : List ℤ) (ss : List (List Taker)) (ps : List Open) → n ≡ length ps → length xs ≡ length ss
     → usesTold (toldOf n xs (usesOf ss ps)) ≡ takings ss ps
 takings-told n [] [] ps e l = refl
 takings-told n [] (s ∷ ss) ps e l = absurd (omega arith)
 takings-told n (x ∷ xs) [] ps e l = absurd (omega arith)
 takings-told n (x ∷ xs) (s ∷ ss) ps e l =
-    let many = taken-length s ps ∙ sym e in
+    let many = used-length (s ∷ []) ps ∙ sym e in
     ap₂ (λ (u vs : List ℤ). u ∷ usesTold (toldOf n xs vs)) (take-at (takenOf s ps) (usesOf ss (after s (formed s ps) ps)) n many)
     (drop-at (takenOf s ps) (usesOf ss (after s (formed s ps) ps)) n many)
     ∙ ap (λ (vs : List (List ℤ)). takenOf s ps ∷ vs)

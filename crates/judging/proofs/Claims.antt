@@ -23,13 +23,14 @@ use Rattle.spread.specs.declared.Table.{Table}
 use Rattle.spread.proofs.Both.{and-left, and-right, and-both}
 use Rattle.spread.proofs.Demand3.{demand3, one-per-step}
 use Rattle.spread.proofs.Soundness.{table-sound}
+use Rattle.spread.proofs.Lengths.{uses-length}
 use Rattle.judging.specs.Claims.{Iff, usesTold, numberTold, useTold, Picked, Reached, IsRight, IsMore, IsLess, IsWrongUse, Says, SameCounts, TheList}
 use Rattle.judging.specs.Claims.{Claims}
 use Rattle.judging.specs.Judged.{Told, toldOf, alike, verdictOf, judgedFrom, sameCounts, judgedList}
 use Rattle.judging.specs.declared.Verdict.{Verdict}
 use Rattle.judging.specs.declared.Verdict.the-variants.{Right, MoreThanFormed, LessThanFormed, WrongUse, OtherCounts}
-use Rattle.judging.proofs.Beside.{same-alike, alike-same, told-length, numbers-told, told-whole, uses-length, takings-told, judged-beside}
-use Rattle.judging.proofs.Beside.{takings-length, Before, reaches, all-right, Wrong, AllRight, first-wrong}
+use Rattle.judging.proofs.Beside.{same-alike, alike-same, told-length, numbers-told, told-whole, takings-told, judged-beside, takings-length, Before}
+use Rattle.judging.proofs.Beside.{reaches, all-right, Wrong, AllRight, first-wrong}
 use Rattle.judging.proofs.Comparing.{says-more, says-less, says-use}
 
 -- ---- order

@@ -5,16 +5,16 @@ use native.Mathlib.Nat.{suc-mul}
 use native.Mathlib.Numerals.{add-one}
 use native.Mathlib.Omega.{arith}
 use mathlib.Core.Bool.{Bool, true, false, cond, _&&_}
-use mathlib.Core.List.{List, [], _∷_, map}
+use mathlib.Core.List.{List, [], _∷_}
 use mathlib.Core.Path.{_≡_, refl, sym, ap, ap₂, _∙_, subst}
-use lib.Dec.{eqb, leb}
+use lib.Dec.{eqb}
 use lib.IntN.{ℤ, pos}
-use lib.ListN.{length, length-map, length-drop, getD, take, drop, drop-of-length-le}
+use lib.ListN.{length, length-drop, getD, take, drop, drop-of-length-le}
 use lib.Seq.{drop-cons, drop-drop, getD-take, length-take-le}
-use borrow.Author.Tests.{leb-true, eqb-true}
-use Rattle.spread.specs.Accepted.{every, openOf, spreadsOf, stepsOf, soundSpread, soundPrompts, soundTable, sound}
+use borrow.Author.Tests.{eqb-true}
+use Rattle.spread.specs.Accepted.{openOf, spreadsOf, stepsOf, soundSpread, soundPrompts, soundTable, sound, promptPlaces, spreadPlaces}
 use Rattle.spread.specs.code.Book.{byPlace, deltaEntry}
-use Rattle.spread.specs.Steps.{stepOf, Open, Taker, steps, formed, after, minus, left}
+use Rattle.spread.specs.Steps.{stepOf, Open, Taker, steps, formed, after, left}
 use Rattle.spread.specs.Uses.{takenOf, soundFor}
 use Rattle.spread.specs.code.Step.{Stepped}
 use Rattle.spread.specs.declared.Delta.{Delta}
@@ -24,8 +24,10 @@ use Rattle.spread.specs.declared.Table.{Table}
 use Rattle.spread.specs.declared.stepwise.Step.{Step}
 use Rattle.spread.proofs.Both.{and-left, and-right, and-both}
 use Rattle.spread.proofs.Every.{open-length}
-use Rattle.spread.proofs.Gathering.{few}
-use Rattle.spread.proofs.Stepping.{left-length}
+use Rattle.spread.proofs.Gathering.{few, few-in-table, sound-in-table}
+use Rattle.spread.proofs.Lengths.{steps-length, used-length}
+use Rattle.spread.proofs.Filling.{take-deltas}
+use Rattle.spread.proofs.Running.{table-length}
 use Rattle.judging.specs.Compared.{isRight, deltasIn, ComparedTo}
 use Rattle.judging.specs.Judged.{Told, alike, toldOf, verdictOf, judgedFrom, sameCounts, judgedList, judged}
 use Rattle.judging.specs.declared.Compared.{Compared}
@@ -35,29 +37,9 @@ use Rattle.judging.proofs.Comparing.{goes-on}
 
 -- ---- one step
 
-minus-length : (xs ys : List ℤ) → length xs ≡ length ys → length (minus xs ys) ≡ length xs
-minus-length [] ys e = refl
-minus-length (x ∷ xs) [] e = absurd (omega arith)
-minus-length (x ∷ xs) (y ∷ ys) e = ap suc (minus-length xs ys (omega arith))
-
--- a step takes something, or nothing, of each prompt
-pub taken-length : (s : List Taker) (ps : List Open) → length (takenOf s ps) ≡ length ps
-taken-length s ps =
-    minus-length (map (λ p. p .unused) ps) (map (λ p. p .unused) (left (s ∷ []) ps))
-    (length-map ps (λ p. p .unused) ∙ sym (length-map (left (s ∷ []) ps) (λ p. p .unused) ∙ left-length (s ∷ []) ps))
-    ∙ length-map ps (λ p. p .unused)
-
-take-deltas : (zs : List ℤ) (n m : ℕ) → length zs ≡ n → n ≤ m → take n (deltasIn (byPlace m (deltaEntry zs))) ≡ zs
-unfolding byPlace
-take-deltas [] zero m e h = refl
-take-deltas [] (suc n) m e h = absurd (omega arith)
-take-deltas (z ∷ zs) zero m e h = absurd (omega arith)
-take-deltas (z ∷ zs) (suc n) zero e h = absurd (omega arith)
-take-deltas (z ∷ zs) (suc n) (suc m) e h = ap (λ (xs : List ℤ). z ∷ xs) (take-deltas zs n m (omega arith) (omega arith))
-
 module _ (p : Prompts) (s : Spread) (second : Bool) (st : Step) (is : Stepped p s second st) (e : soundFor p s ≡ true)
-    (lt : length (p .tier) ≡ 32) (ln : length (p .net) ≡ 32) (step : ℕ) (z : ℤ) (uses : List ℤ) (many : length uses ≡ p .count) where
-  few-prompts : p .count ≤ 32
+    (lt : length (p .tier) ≡ promptPlaces) (ln : length (p .net) ≡ promptPlaces) (step : ℕ) (z : ℤ) (uses : List ℤ) (many : length uses ≡ p .count) where
+  few-prompts : p .count ≤ promptPlaces
   few-prompts = few p (and-left (soundPrompts p) (soundSpread s) e)
 
   number-is : st .number .0 ≡ formed (stepOf second s) (openOf p)
@@ -66,9 +48,9 @@ module _ (p : Prompts) (s : Spread) (second : Bool) (st : Step) (is : Stepped p 
   taken-is : take (length uses) (deltasIn (st .taken)) ≡ takenOf (stepOf second s) (openOf p)
   taken-is =
       ap₂ (λ (n : ℕ) (ds : List Delta). take n (deltasIn ds)) many
-      (is .taken ∙ ap (λ (b : Bool). byPlace 32 (deltaEntry (cond b (takenOf (stepOf second s) (openOf p)) []))) e)
-      ∙ take-deltas (takenOf (stepOf second s) (openOf p)) (p .count) 32
-      (taken-length (stepOf second s) (openOf p) ∙ open-length p lt ln few-prompts) few-prompts
+      (is .taken ∙ ap (λ (b : Bool). byPlace promptPlaces (deltaEntry (cond b (takenOf (stepOf second s) (openOf p)) []))) e)
+      ∙ take-deltas (takenOf (stepOf second s) (openOf p)) (p .count) promptPlaces
+      (used-length (stepOf second s ∷ []) (openOf p) ∙ open-length p lt ln few-prompts) few-prompts
 
   pub compared : (v : Verdict) (b : Bool) → b ≡ alike uses (take (length uses) (deltasIn (st .taken))) → v ≡ verdictOf step (st .number .0) z b Right
       → ComparedTo p s second step z uses (record { verdict = v; left = st .left })
@@ -84,10 +66,6 @@ module _ (p : Prompts) (s : Spread) (second : Bool) (st : Step) (is : Stepped p 
 
 -- ---- a table's steps
 
-pub steps-length : (ss : List Spread) → length (steps ss) ≡ 2 * length ss
-steps-length [] = refl
-steps-length (s ∷ ss) = let h = steps-length ss in omega arith
-
 -- the first step of each spread at its even place, the second at its odd one
 pub steps-at : (ss : List Spread) (j : ℕ) (d : Spread) → j < 2 * length ss
     → drop j (steps ss) ≡ stepOf (eqb (j % 2) 1) (getD ss (j / 2) d) ∷ drop (suc j) (steps ss)
@@ -100,25 +78,12 @@ steps-at (s ∷ ss) (suc (suc j)) d h =
     steps-at ss j d (omega arith)
     ∙ ap₂ (λ (r q : ℕ). stepOf (eqb r 1) (getD (s ∷ ss) q d) ∷ drop (suc j) (steps ss)) (sym odd) (sym half)
 
-every-at : {A : Type 0} (p : A → Bool) (xs : List A) (i : ℕ) (d : A) → every p xs ≡ true → i < length xs → p (getD xs i d) ≡ true
-every-at p [] i d e h = absurd (omega arith)
-every-at p (x ∷ xs) zero d e h = and-left (p x) (every p xs) e
-every-at p (x ∷ xs) (suc i) d e h = every-at p xs i d (and-right (p x) (every p xs) e) (omega arith)
-
-pub few-spreads : (t : Table) → soundTable t ≡ true → t .count ≤ 32
-few-spreads t e = leb-true (t .count) 32 (and-left (leb (t .count) 32) (every soundSpread (spreadsOf t)) e)
-
-module _ (t : Table) (len : length (t .spread) ≡ 32) (ok : soundTable t ≡ true) where
+module _ (t : Table) (len : length (t .spread) ≡ spreadPlaces) (ok : soundTable t ≡ true) where
   spreads-there : length (spreadsOf t) ≡ t .count
-  spreads-there = length-take-le (t .count) (t .spread) (omega (arith, len, few-spreads t ok))
+  spreads-there = table-length t len (few-in-table t ok)
 
   pub table-steps : length (stepsOf t) ≡ 2 * t .count
   table-steps = let a = steps-length (spreadsOf t) in let b = spreads-there in omega arith
-
-  pub spread-sound : (i : ℕ) (d : Spread) → i < t .count → soundSpread (getD (t .spread) i d) ≡ true
-  spread-sound i d h =
-      subst (λ (s : Spread). soundSpread s ≡ true) (getD-take (t .count) (t .spread) i d h)
-      (every-at soundSpread (spreadsOf t) i d (and-right (leb (t .count) 32) (every soundSpread (spreadsOf t)) ok) (omega (arith, spreads-there)))
 
   table-at : (j : ℕ) (d : Spread) → j < 2 * t .count → drop j (stepsOf t) ≡ stepOf (eqb (j % 2) 1) (getD (t .spread) (j / 2) d) ∷ drop (suc j) (stepsOf t)
   table-at j d h =
@@ -143,7 +108,8 @@ pub record Judging (n : ℕ) (t : Table) (xs us : List ℤ) (all : Verdict) (ste
   pub room : at + (length xs - step) * n ≡ length us
   pub within : step ≤ length xs
 
-module _ (t : Table) (len : length (t .spread) ≡ 32) (ok : soundTable t ≡ true) (n : ℕ) (xs us : List ℤ) (many : length xs ≡ 2 * t .count) (all : Verdict)
+module _ (t : Table) (len : length (t .spread) ≡ spreadPlaces) (ok : soundTable t ≡ true) (n : ℕ) (xs us : List ℤ) (many : length xs ≡ 2 * t .count)
+    (all : Verdict)
     (step at : ℕ) (left : Prompts) (is : Judging n t xs us all step at left) where
   module _ (h : step < length xs) where
     pub in-table : step / 2 < t .count
@@ -166,7 +132,7 @@ module _ (t : Table) (len : length (t .spread) ≡ 32) (ok : soundTable t ≡ tr
       second = eqb (step % 2) 1
 
       pub sound-here : soundFor left s ≡ true
-      sound-here = and-both (soundPrompts left) (soundSpread s) (is .sound) (spread-sound t len ok (step / 2) d in-table)
+      sound-here = and-both (soundPrompts left) (soundSpread s) (is .sound) (sound-in-table t len ok (step / 2) d in-table)
 
       -- the part of the uses that the code lends
       pub part-is : at + n - at ≡ n
@@ -236,9 +202,9 @@ module _ (p : Prompts) (t : Table) (sent : ℕ) (xs us : List ℤ) where
   pub not-accepted : sound p t ≡ false → OtherCounts ≡ judged p t sent xs us
   not-accepted e = sym (ap (λ (b : Bool). cond b (judgedList (stepsOf t) (openOf p) sent xs us) OtherCounts) e)
 
-  module _ (ok : sound p t ≡ true) (lt : length (p .tier) ≡ 32) (ln : length (p .net) ≡ 32) (len : length (t .spread) ≡ 32) where
-    pub few-of-each : (t .count ≤ 32) × (p .count ≤ 32)
-    few-of-each = (few-spreads t (and-right (soundPrompts p) (soundTable t) ok), few p (and-left (soundPrompts p) (soundTable t) ok))
+  module _ (ok : sound p t ≡ true) (lt : length (p .tier) ≡ promptPlaces) (ln : length (p .net) ≡ promptPlaces) (len : length (t .spread) ≡ spreadPlaces) where
+    pub few-of-each : (t .count ≤ spreadPlaces) × (p .count ≤ promptPlaces)
+    few-of-each = (few-in-table t (and-right (soundPrompts p) (soundTable t) ok), few p (and-left (soundPrompts p) (soundTable t) ok))
 
     -- the counts as the code has them
     abbrev tested : Bool

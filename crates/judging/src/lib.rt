@@ -16,7 +16,7 @@ ghost use lib.Dec.{eqb};
 ghost use lib.IntN.{pos};
 ghost use lib.ListN.{length, take};
 ghost use lib.Signed.{ltZ};
-ghost use Rattle.spread.specs.Accepted.{openOf, stepsOf, sound};
+ghost use Rattle.spread.specs.Accepted.{openOf, stepsOf, sound, promptPlaces, spreadPlaces};
 ghost use Rattle.spread.specs.Uses.{soundFor};
 ghost use Rattle.judging.specs.Judged.{same, alike, toldOf, verdictOf, judgedFrom, judged};
 ghost use Rattle.judging.specs.Compared.{isRight, deltasIn, ComparedTo};
@@ -58,7 +58,7 @@ fn same_use(sent: i64, taken: Delta) -> bool
 
 // Whether the uses sent for a step are those that it makes.
 fn same_uses(uses: &[i64], taken: [Delta; MOST_PROMPTS]) -> bool
-    requires { ⌜ length (now uses) ≤ 32 ⌝ }
+    requires { ⌜ length (now uses) ≤ promptPlaces ⌝ }
     ensures { λ r. ⌜ r ≡ alike (now (uses .entry)) (take (length (now (uses .entry))) (deltasIn taken)) ⌝ }
 {
     let mut i = 0;
@@ -145,7 +145,7 @@ fn judge_steps(prompts: Prompts, table: Table, numbers: &[i64], uses: &[i64]) ->
 
 // Whether a list speaks of as many steps and prompts as there are.
 fn same_counts(spreads: usize, prompts: usize, sent: usize, numbers: usize, uses: usize) -> bool
-    requires { ⌜ (spreads ≤ 32) × (prompts ≤ 32) ⌝ }
+    requires { ⌜ (spreads ≤ spreadPlaces) × (prompts ≤ promptPlaces) ⌝ }
     ensures { λ r. ⌜ r ≡ eqb numbers (2 * spreads) && (eqb sent prompts && eqb uses (2 * spreads * prompts)) ⌝ }
 {
     (numbers == 2 * spreads) & ((sent == prompts) & (uses == 2 * spreads * prompts))

@@ -27,7 +27,7 @@ use Rattle.judging.specs.declared.Verdict.the-variants as verdict
 use Rattle.judging.proofs.Claims.{claims}
 use Rattle.spread.specs.Demand.{soundSteps}
 use Rattle.spread.proofs.Soundness.{steps-sound}
-use Rattle.margin.specs.Books.{answered}
+use Rattle.margin.specs.Books.{answered, tableQuestion}
 use Rattle.formulas.specs.Contract.{partsOf, contractSteps, tableSteps}
 use Rattle.formulas.specs.Deltas.{interprompt, intercontract}
 use Rattle.margin.specs.Lists.{saidOf, judgedOver}
@@ -44,7 +44,7 @@ use Rattle.lists.specs.declared.JudgedPair.{JudgedPair}
 
 -- the steps of every question of a lawful account are sound
 sound-steps : (account : List Record) → Lawful account → (question : ℕ) → soundSteps (stepsFor account question) ≡ true
-sound-steps account law question = go (eqb question 16)
+sound-steps account law question = go (eqb question tableQuestion)
   where
     go : (t : Bool) → soundSteps (cond t (tableSteps (entriesOf account)) (contractSteps (partsOf account question))) ≡ true
     go true =

@@ -22,10 +22,11 @@ use Rattle.account.specs.Products.{Convertible}
 use Rattle.account.specs.declared.rates.Rates.{Rates}
 use Rattle.account.proofs.Orders.{every-at}
 use Rattle.account.proofs.ProductLaws.{factors-within, unrated-within}
-use Rattle.spread.specs.Accepted.{soundLeg, soundSpread}
+use Rattle.spread.specs.Accepted.{soundLeg, soundSpread, tierCount}
 use Rattle.formulas.specs.Deltas.{legOf, interprompt}
 use Rattle.formulas.specs.code.Position.{RowFit, RowRated, RatedBy}
 use Rattle.formulas.specs.code.Within.{SpreadFit, ContractFit, EntriesFit}
+use Rattle.formulas.proofs.PositionBounds.{Rated}
 
 -- a leg within its ranges is one that the spread steps accept
 side-sound : (s : ℕ) → 1 ≤ s → s ≤ 2 → eqb s 1 || eqb s 2 ≡ true
@@ -37,7 +38,7 @@ side-sound (suc (suc (suc s))) l h = absurd (omega arith)
 leg-sound : (s : Record) (i : ℕ) → ranges.LegWithin s i → soundLeg (legOf s i) ≡ true
 leg-sound s i w =
     rw (
-      lt-ltb (legTier s i) 16 (omega (arith, w .tiers .most)),
+      lt-ltb (legTier s i) tierCount (omega (arith, w .tiers .most)),
       side-sound (legSide s i) (w .sides .least) (w .sides .most),
       lt-ltb 0 (legRatio s i)
           (w .ratios .least),
@@ -146,16 +147,13 @@ module _ (account : List Record) (ok : Lawful account) where
   its-row c k h = every-at ranges.RowWithin (rowsOf c account) (ok .ranges .rows c) k h
 
   -- its rows at the rates of the account, and at none
+  pub its-rated : (c : ℕ) → Rated (ratesOf account) (rowsOf c account)
+  its-rated c k h =
+      row-rated (getD (rowsOf c account) k []) (its-row c k h) (ratesOf account) (ok .ranges .rates)
+      (every-at (Convertible (ratesOf account)) (rowsOf c account) (ok .conversions c) k h)
+
   pub rows-rated : (c : ℕ) (t : Rates) → RatesOf (ratesOf account) t → RatedBy t (rowsOf c account)
-  rows-rated c t held =
-      record {
-        rates = ratesOf account;
-        held = held;
-        each =
-            λ k h.
-            row-rated (getD (rowsOf c account) k []) (its-row c k h) (ratesOf account) (ok .ranges .rates)
-            (every-at (Convertible (ratesOf account)) (rowsOf c account) (ok .conversions c) k h);
-      }
+  rows-rated c t held = record { rates = ratesOf account; held = held; each = its-rated c }
 
   pub each-unrated : (c k : ℕ) → k < length (rowsOf c account) → RowRated [] (getD (rowsOf c account) k [])
   each-unrated c k h = row-unrated (getD (rowsOf c account) k []) (its-row c k h)

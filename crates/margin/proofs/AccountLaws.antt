@@ -17,10 +17,12 @@ use Rattle.account.specs.Records.{records}
 use Rattle.account.specs.Lawful.{Lawful}
 use Rattle.account.specs.PartNumbers.{entryPart}
 use Rattle.account.specs.code.Standing.{PartOf}
+use Rattle.account.specs.Check.{mostContracts}
 use Rattle.spread.specs.code.Book.{byPlace, deltaEntry}
 use Rattle.spread.specs.Steps.{Open, steps, numbers, usedOf, unusedOf}
 use Rattle.spread.specs.declared.Spreads.{Spreads}
 use Rattle.spread.specs.declared.book.Book.{Book}
+use Rattle.spread.specs.Accepted.{promptPlaces, spreadPlaces}
 use Rattle.margin.specs.declared.over.Lines.{Lines}
 use Rattle.formulas.specs.declared.amount.Amount.{Amount}
 use Rattle.formulas.specs.declared.line.Line.{Line}
@@ -46,10 +48,10 @@ use Rattle.formulas.proofs.StepBounds.{number-within}
 -- ---- lines, filled place by place
 
 pub record LinedTo (account : List Record) (i : ℕ) (ls : List Line) : Type 0 where
-  pub places : length ls ≡ 16
+  pub places : length ls ≡ mostContracts
   pub each : (j : ℕ) → j < i → LineOf (partsIn account (getD (contractsOf account) j [])) (getD ls j noLine)
 
-pub lined-next : (account : List Record) (i : ℕ) (ls : List Line) (l : Line) → LinedTo account i ls → i < 16
+pub lined-next : (account : List Record) (i : ℕ) (ls : List Line) (l : Line) → LinedTo account i ls → i < mostContracts
     → LineOf (partsIn account (getD (contractsOf account) i [])) l → LinedTo account (i + 1) (set ls i l)
 lined-next account i ls l is h e =
     record { places = rw length-set (is .places); each = λ j k. go j k (ℕ-discrete j i) }
@@ -147,8 +149,8 @@ module _ (account : List Record) (law : Lawful account) (all : Lines) (is : Line
         accepted = true;
         first = tableFirsts n (all .line) (records part);
         second = tableSeconds n (all .line) (records part);
-        used = byPlace 32 (deltaEntry (usedOf (steps (map intercontract (records part))) (map tierOf ls)));
-        unused = byPlace 32 (deltaEntry (unusedOf (steps (map intercontract (records part))) (map tierOf ls)));
+        used = byPlace promptPlaces (deltaEntry (usedOf (steps (map intercontract (records part))) (map tierOf ls)));
+        unused = byPlace promptPlaces (deltaEntry (unusedOf (steps (map intercontract (records part))) (map tierOf ls)));
       }
 
   pub its-book : BookOf (steps (map intercontract (records part))) (map tierOf ls) its
@@ -170,7 +172,7 @@ module _ (account : List Record) (law : Lawful account) (all : Lines) (is : Line
     use-most : (i : ℕ) → i < n → (k : ℕ) → k < length (records part) → entryUse (getD (all .line) i noLine .contract) (getD (records part) k [])
         (spreadsAt (b .first) k) (spreadsAt (b .second) k) ≤ natAbs (getD (all .line) i noLine .net .0)
     use-most i h k m =
-        let l : k < 32 = omega (arith, (entries-fit account law part ep) .few) in
+        let l : k < spreadPlaces = omega (arith, (entries-fit account law part ep) .few) in
         let c = getD (all .line) i noLine .contract in
         let u = entry-use-within c (records part) (map tierOf ls) (entries-fit account law part ep) k m in
         let v : unusedBy c (map tierOf ls) ≡ natAbs (getD (all .line) i noLine .net .0) =
@@ -190,7 +192,7 @@ module _ (account : List Record) (law : Lawful account) (all : Lines) (is : Line
                 most = (entries-fit account law part ep) .few;
                 each =
                     λ k m.
-                    let l : k < 32 = omega (arith, (entries-fit account law part ep) .few) in
+                    let l : k < spreadPlaces = omega (arith, (entries-fit account law part ep) .few) in
                     record {
                       unit-within = line-at i h .unit-within;
                       price-within = line-at i h .price-within;
@@ -222,7 +224,7 @@ module _ (account : List Record) (law : Lawful account) (all : Lines) (is : Line
           (records part) (interleaved x y)) (bk .first-is) (bk .second-is)
           ∙ over-arrays
           (λ e x y. credit (unit (k .own)) (twicePriceRisk (k .totals)) (entryUse (contract (k .own)) e x y) (percent e) (natAbs (contractNet k)))
-          (records part) ns 32 (numbers-length intercontract (records part) (map tierOf ls)) ((entries-fit account law part ep) .few)
+          (records part) ns spreadPlaces (numbers-length intercontract (records part) (map tierOf ls)) ((entries-fit account law part ep) .few)
           ∙ ap (λ (ps : List Open). creditsBy (unit (k .own)) (contract (k .own)) (twicePriceRisk (k .totals)) (natAbs (contractNet k)) (records part)
           (numbers (steps (map intercontract (records part))) ps)) (tiers-are ks ls lined)
           ∙ sym (credits-by (unit (k .own)) (contract (k .own)) (twicePriceRisk (k .totals)) (natAbs (contractNet k)) (records part) (map asTier ks)

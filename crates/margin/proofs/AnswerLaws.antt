@@ -15,10 +15,10 @@ use Rattle.record.specs.Layout.{Record, tier}
 use Rattle.account.specs.Lawful.{Lawful}
 use Rattle.account.specs.Parts.{promptsOf, rowsOf, entriesOf}
 use Rattle.spread.specs.Accepted as given
-use Rattle.spread.specs.Accepted.{openOf, spreadsOf, soundPrompts, soundTable, sound}
+use Rattle.spread.specs.Accepted.{openOf, spreadsOf, soundPrompts, soundTable, sound, promptPlaces, spreadPlaces}
 use Rattle.spread.specs.code.Book.{Booked}
 use Rattle.spread.specs.Steps.{Open, Taker, steps, numbers, usedOf, unusedOf}
-use Rattle.spread.specs.Touches.{touches}
+use Rattle.spread.specs.Touches.{touches, mostTouches}
 use Rattle.spread.specs.Uses.{usesOf}
 use Rattle.spread.specs.declared.Prompts.{Prompts}
 use Rattle.spread.specs.declared.Spread.{Spread}
@@ -27,10 +27,11 @@ use Rattle.spread.specs.declared.book.Book.{Book}
 use Rattle.spread.proofs.Both.{and-left, and-right}
 use Rattle.spread.proofs.Demand3.{one-per-step}
 use Rattle.spread.proofs.Every.{open-length}
-use Rattle.spread.proofs.Gathering.{few, all-sound}
+use Rattle.spread.proofs.Gathering.{few, all-sound, few-in-table}
 use Rattle.spread.proofs.Touching.{touches-few}
+use Rattle.spread.proofs.Lengths.{steps-length, used-length, unused-length}
 use Rattle.margin.specs.declared.uses.Asking.{Asking}
-use Rattle.margin.specs.Books.{threes, bookBy, contractBook, tableBook, answered, book}
+use Rattle.margin.specs.Books.{threes, bookBy, contractBook, tableBook, answered, book, tableQuestion}
 use Rattle.formulas.specs.Bounds.{mostDelta}
 use Rattle.formulas.specs.Contract.{Contract, contracts, partsOf, asTier, contractNet, contractSteps, opensOf, tableSteps}
 use Rattle.formulas.specs.Deltas.{opens, netDeltas}
@@ -41,12 +42,11 @@ use Rattle.formulas.specs.code.Sums.{deltasIn}
 use Rattle.margin.specs.Uses.{uses, stepsFor, opensFor}
 use Rattle.margin.proofs.AskedLaws.{contract-asked, table-asked, threes-length, book-listed}
 use Rattle.formulas.proofs.BookLaws.{first-at, second-at, entries-length, book-accepted, touches-accepted}
-use Rattle.formulas.proofs.LineLaws.{steps-length, used-length, unused-length}
 use Rattle.margin.proofs.NumberLaws.{threesOn, twosOn, twos-length}
 use Rattle.margin.proofs.NumberLaws as written
 use Rattle.formulas.proofs.StepBounds.{number-within}
 use Rattle.margin.proofs.TierLaws.{sound-sizes}
-use Rattle.margin.proofs.UsesLaws.{few-in-table, uses-by-steps}
+use Rattle.margin.proofs.UsesLaws.{uses-by-steps}
 use Rattle.formulas.proofs.UnspreadLaws.{unused-given}
 
 -- ---- what is unused at first is the net delta
@@ -65,7 +65,7 @@ unused-tiers (k ∷ ks) = ap (λ (xs : List ℤ). contractNet k ∷ xs) (unused-
 
 pub book-by-steps : (account : List Record) → Lawful account → (question : ℕ) → answered account question ≡ true
     → book account question ≡ bookBy (stepsFor account question) (opensFor account question)
-book-by-steps account law question a = go (eqb question 16) refl
+book-by-steps account law question a = go (eqb question tableQuestion) refl
   where
     ps : List Record
     ps = promptsOf question account
@@ -73,19 +73,19 @@ book-by-steps account law question a = go (eqb question 16) refl
     ns : List ℤ
     ns = netDeltas ps (rowsOf question account)
 
-    go : (t : Bool) → eqb question 16 ≡ t → book account question ≡ bookBy
+    go : (t : Bool) → eqb question tableQuestion ≡ t → book account question ≡ bookBy
         (cond t (tableSteps (entriesOf account)) (contractSteps (partsOf account question)))
         (cond t (map asTier (contracts account)) (opensOf (partsOf account question)))
     go true e =
         let ss = tableSteps (entriesOf account) in
         let os = map asTier (contracts account) in
-        table-asked account law contractBook tableBook (λ own. refl) question (eqb-true question 16 e)
+        table-asked account law contractBook tableBook (λ own. refl) question (eqb-true question tableQuestion e)
         ∙ ap (λ (xs : List ℤ). (threes xs (usedOf ss os) (unusedOf ss os) ++ map pos (numbers ss os)) ++ (pos (touches ss os) ∷ []))
         (sym (unused-tiers (contracts account)))
     go false e =
         let ss = contractSteps (partsOf account question) in
         let os = opensOf (partsOf account question) in
-        contract-asked account law contractBook tableBook (λ own. refl) question a (eqb-false question 16 e)
+        contract-asked account law contractBook tableBook (λ own. refl) question a (eqb-false question tableQuestion e)
         ∙ ap (λ (xs : List ℤ). (threes xs (usedOf ss os) (unusedOf ss os) ++ map pos (numbers ss os)) ++ (pos (touches ss os) ∷ []))
         (sym (unused-nets (promptsOf question account) (netDeltas (promptsOf question account) (rowsOf question account))
         (length-map (promptsOf question account) _)))
@@ -102,7 +102,8 @@ by-length spreads ps =
 
 -- ---- the numbers of a book, as the code writes them
 
-module _ (p : Prompts) (t : Table) (lt : length (p .tier) ≡ 32) (ln : length (p .net) ≡ 32) (ls : length (t .spread) ≡ 32) (ok : sound p t ≡ true) where
+module _ (p : Prompts) (t : Table) (lt : length (p .tier) ≡ promptPlaces) (ln : length (p .net) ≡ promptPlaces) (ls : length (t .spread) ≡ spreadPlaces)
+    (ok : sound p t ≡ true) where
   abbrev ss : List (List Taker)
   ss = given.stepsOf t
 
@@ -112,10 +113,10 @@ module _ (p : Prompts) (t : Table) (lt : length (p .tier) ≡ 32) (ln : length (
   prompts-ok : soundPrompts p ≡ true
   prompts-ok = and-left (soundPrompts p) (soundTable t) ok
 
-  pub few-prompts : p .count ≤ 32
+  pub few-prompts : p .count ≤ promptPlaces
   few-prompts = few p prompts-ok
 
-  pub few-spreads : t .count ≤ 32
+  pub few-spreads : t .count ≤ spreadPlaces
   few-spreads = few-in-table t (and-right (soundPrompts p) (soundTable t) ok)
 
   ps-long : length ps ≡ p .count
@@ -133,7 +134,7 @@ module _ (p : Prompts) (t : Table) (lt : length (p .tier) ≡ 32) (ln : length (
   pub book-long : length (bookBy ss ps) ≡ 3 * p .count + 2 * t .count + 1
   book-long = by-length (spreadsOf t) ps ∙ ap₂ (λ (x y : ℕ). 3 * x + 2 * y + 1) ps-long spreads-long
 
-  pub touched : touches ss ps ≤ 224
+  pub touched : touches ss ps ≤ mostTouches
   touched = omega (arith, touches-few p t lt ln ok, touches-accepted ss ps p t refl refl ok)
 
   module _ (b : Book) (is : Booked p t b) where
@@ -160,12 +161,12 @@ module _ (p : Prompts) (t : Table) (lt : length (p .tier) ≡ 32) (ln : length (
         ∙ ap (λ (zs : List ℤ). threes zs (usedOf ss ps) (unusedOf ss ps) ++ map pos (numbers ss ps))
         (sym (unused-given (p .count) (p .tier) (p .net) (omega (arith, lt, ln))))
 
-    places : (length (b .used) ≡ 32) × (length (b .unused) ≡ 32) × (length (b .first) ≡ 32) × (length (b .second) ≡ 32)
+    places : (length (b .used) ≡ promptPlaces) × (length (b .unused) ≡ promptPlaces) × (length (b .first) ≡ spreadPlaces) × (length (b .second) ≡ spreadPlaces)
     places = (
-      ap length (is .used) ∙ entries-length 32 _,
-      ap length (is .unused) ∙ entries-length 32 _,
-      ap length (is .first) ∙ entries-length 32 _,
-      ap length (is .second) ∙ entries-length 32 _,
+      ap length (is .used) ∙ entries-length promptPlaces _,
+      ap length (is .unused) ∙ entries-length promptPlaces _,
+      ap length (is .first) ∙ entries-length spreadPlaces _,
+      ap length (is .second) ∙ entries-length spreadPlaces _,
     )
 
     pub book-written : (out with-prompts with-spreads all : List ℤ) (n : ℕ) → n ≡ touches ss ps
@@ -188,7 +189,7 @@ module _ (account : List Record) (question records : ℕ) (a : Asking) (is : Ask
   pub book-same : bookBy (given.stepsOf (a .table)) (openOf (a .prompts)) ≡ book account question
   book-same = ap₂ bookBy (is .asks .steps) (is .asks .opens) ∙ sym (book-by-steps account (is .lawful) question (is .asked-is))
 
-  module _ (lt : length (a .prompts .tier) ≡ 32) (ln : length (a .prompts .net) ≡ 32) (ls : length (a .table .spread) ≡ 32) where
+  module _ (lt : length (a .prompts .tier) ≡ promptPlaces) (ln : length (a .prompts .net) ≡ promptPlaces) (ls : length (a .table .spread) ≡ spreadPlaces) where
     pub book-many : length (book account question) ≡ 3 * a .prompts .count + 2 * a .table .count + 1
     book-many = ap length (sym book-same) ∙ book-long (a .prompts) (a .table) lt ln ls (is .asks .accepted)
 

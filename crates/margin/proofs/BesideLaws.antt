@@ -13,7 +13,7 @@ use lib.Dec.{eqb}
 use Rattle.record.specs.Bytes.{recordBytes}
 use Rattle.exact.specs.Lists.{any, consIf, keep, sum, sumℤ}
 use Rattle.exact.proofs.Lists.{any-at}
-use Rattle.record.specs.Layout.{Record, contract, unit, mostUnit}
+use Rattle.record.specs.Layout.{Record, contract, unit, mostUnit, mostContract}
 use Rattle.record.specs.Within as ranges
 use Rattle.account.specs.Accepted.{Each}
 use Rattle.account.specs.Lawful.{Lawful}
@@ -25,11 +25,12 @@ use Rattle.account.specs.code.Standing.{PartOf, Stands}
 use Rattle.account.specs.Joined.{accountOf}
 use Rattle.account.specs.declared.accounts.Account.{Account}
 use Rattle.account.specs.declared.rates.Rates.{Rates}
+use Rattle.account.specs.Check.{mostPrompts, mostRows}
 use Rattle.formulas.specs.declared.line.Line.{Line}
 use Rattle.formulas.specs.declared.rows.Position.{Position}
 use Rattle.margin.specs.declared.uses.Asking.{Asking}
 use Rattle.margin.specs.code.Beside.{ownOf, unitOf, Besides}
-use Rattle.margin.specs.Books.{asks, answered}
+use Rattle.margin.specs.Books.{asks, answered, tableQuestion}
 use Rattle.formulas.specs.Bounds.{mostDelta}
 use Rattle.formulas.specs.Contract.{Contract, contracts, contractFrom, partsIn, partsOf, asTier, contractSteps, opensOf, tableSteps}
 use Rattle.margin.specs.code.Lined.{PositionAt, TierIs}
@@ -78,7 +79,7 @@ module _ (standing whole : List Record) (b : Besides standing whole) where
 
   -- the same questions are answered
   pub answered-beside : (q : ℕ) → answered whole q ≡ answered standing q
-  answered-beside q = ap (λ (rs : List Record). eqb q 16 || any (asks q) rs) (b .contracts)
+  answered-beside q = ap (λ (rs : List Record). eqb q tableQuestion || any (asks q) rs) (b .contracts)
 
   own-same : (c : ℕ) → ownOf c whole ≡ ownOf c standing
   own-same c = ap (λ (rs : List Record). getD (keep (asks c) rs) 0 []) (b .contracts)
@@ -135,7 +136,7 @@ module _ (standing whole : List Record) (b : Besides standing whole) where
           ∙ ap (λ (r : Record). contractFrom (ratesOf whole) r (promptsOf (contract its) whole) (rowsOf (contract its) whole)
           (spreadsOf (contract its) whole)) (own-here whole (b .lawful) i listed))
 
-      pub tier-is : (z : ℤ) → c ≤ 15 → z ≡ sumℤ (deltasIn (p .nets)) → TierIs (partsIn whole its) c z
+      pub tier-is : (z : ℤ) → c ≤ mostContract → z ≡ sumℤ (deltasIn (p .nets)) → TierIs (partsIn whole its) c z
       tier-is z few e = tiers.tier-is whole (b .lawful) (ratesOf whole) (ownOf c whole) (own-fit whole (b .lawful) c) c p at its z number few e
 
     pub tier-sizes : sum (map natAbs (deltasIn (p .nets))) ≤ mostDelta
@@ -143,7 +144,7 @@ module _ (standing whole : List Record) (b : Besides standing whole) where
 
 -- ---- a contract that is answered by itself
 
-pub asked-by : (whole : List Record) (records c : ℕ) (prompts spreads : List Record) (p : Position) (a : Asking) → c ≤ 15
+pub asked-by : (whole : List Record) (records c : ℕ) (prompts spreads : List Record) (p : Position) (a : Asking) → c ≤ mostContract
     → ContractIn whole records c prompts spreads p
     → Asks (contractSteps (contractWith [] prompts spreads p)) (opensOf (contractWith [] prompts spreads p)) a → AskedBy whole c records a
 asked-by whole records c prompts spreads p a few is x =
@@ -165,7 +166,7 @@ asked-by whole records c prompts spreads p a few is x =
           subst
           (λ (b : Bool). Asks (cond b (tableSteps (entriesOf whole)) (contractSteps (partsOf whole c)))
           (cond b (map asTier (contracts whole)) (opensOf (partsOf whole c))) a)
-          (sym (ne-eqb c 16 (λ e. omega (arith, few, e))))
+          (sym (ne-eqb c tableQuestion (λ e. omega (arith, few, e))))
           (asks-beside whole whole itself c p (is .at) a
           (subst (λ (ss : List Record). about (promptsOf c whole) ss) (is .spreads-are)
           (subst (λ (ps : List Record). about ps spreads) (is .prompts-are) x)));
@@ -173,7 +174,8 @@ asked-by whole records c prompts spreads p a few is x =
 
 -- ---- a contract by the parts that it has in the files
 
-module _ (account : List Record) (law : Lawful account) (c : ℕ) (few : c ≤ 15) (own prompts rows spreads : List ℕ) (eo : PartOf account (part 1 c) own)
+module _ (account : List Record) (law : Lawful account) (c : ℕ) (few : c ≤ mostContract) (own prompts rows spreads : List ℕ)
+    (eo : PartOf account (part 1 c) own)
     (ep : PartOf account (part 2 c) prompts) (er : PartOf account (part 3 c) rows) (es : PartOf account (part 4 c) spreads) (rates : Rates)
     (held : RatesOf (ratesOf account) rates) (u : ℕ) (eu : u ≡ unit own) where
   itself : Besides account account
@@ -183,7 +185,7 @@ module _ (account : List Record) (law : Lawful account) (c : ℕ) (few : c ≤ 1
   its-unit = eu ∙ ap unit (own-by account law c few own eo)
 
   -- what its rows come to can be worked out
-  pub position-room : (u ≤ mostUnit) × ((recordCount prompts ≤ 32) × (RowsFit (records rows) × RatedBy rates (records rows)))
+  pub position-room : (u ≤ mostUnit) × ((recordCount prompts ≤ mostPrompts) × (RowsFit (records rows) × RatedBy rates (records rows)))
   position-room = (
     omega (arith, its-unit, own-fit account law c .units .most),
     (
@@ -195,7 +197,7 @@ module _ (account : List Record) (law : Lawful account) (c : ℕ) (few : c ≤ 1
     ),
   )
 
-  module _ (p : Position) (is : PositionOf (ratesOf account) u (records prompts) (records rows) p) (most : Bounded 128 p) where
+  module _ (p : Position) (is : PositionOf (ratesOf account) u (records prompts) (records rows) p) (most : Bounded mostRows p) where
     pub position-here : PositionAt (ratesOf account) (unitOf c account) account c p
     position-here =
         subst (λ (n : ℕ). PositionAt (ratesOf account) n account c p) its-unit
@@ -221,7 +223,7 @@ module _ (account : List Record) (law : Lawful account) (c : ℕ) (few : c ≤ 1
         record {
           lawful = law;
           asked-is =
-              ap (λ (t : Bool). t || any (asks c) (contractsOf account)) (ne-eqb c 16 (λ e. omega (arith, few, e)))
+              ap (λ (t : Bool). t || any (asks c) (contractsOf account)) (ne-eqb c tableQuestion (λ e. omega (arith, few, e)))
               ∙ any-at (asks c) (contractsOf account) i [] listed (eq-eqb (contract (getD (contractsOf account) i [])) c (sym number));
           records-are = refl;
           prompts-are = of-contract account law c few 2 (omega arith) prompts ep;

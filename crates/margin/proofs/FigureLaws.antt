@@ -11,7 +11,7 @@ use lib.Dec.{eqb, leb, ltb}
 use lib.IntN.{ℤ, pos, negsuc, natAbs}
 use lib.ListN.{length, getD}
 use Rattle.record.specs.Layout.{Record, contract}
-use Rattle.spread.specs.Accepted.{every, soundPrompt}
+use Rattle.spread.specs.Accepted.{every, soundPrompt, tierCount}
 use Rattle.spread.specs.Steps.{Market, long, short, Open, onSide, pool, steps, numbers}
 use Rattle.spread.proofs.Both.{and-both}
 use Rattle.formulas.specs.declared.amount.Amount.{Amount}
@@ -50,8 +50,8 @@ tiers-sound [] [] h = refl
 tiers-sound [] (l ∷ ls) h = absurd h
 tiers-sound (k ∷ ks) [] h = absurd h
 tiers-sound (k ∷ ks) (l ∷ ls) h =
-    and-both (ltb (l .contract) 16 && leb (natAbs (l .net .0)) mostDelta) (every soundPrompt (map tierOf ls))
-    (and-both (ltb (l .contract) 16) (leb (natAbs (l .net .0)) mostDelta) (lt-ltb (l .contract) 16 (suc-le-suc (h .0 .within .contract-within)))
+    and-both (ltb (l .contract) tierCount && leb (natAbs (l .net .0)) mostDelta) (every soundPrompt (map tierOf ls))
+    (and-both (ltb (l .contract) tierCount) (leb (natAbs (l .net .0)) mostDelta) (lt-ltb (l .contract) tierCount (suc-le-suc (h .0 .within .contract-within)))
     (le-leb (natAbs (l .net .0)) mostDelta (h .0 .net-within)))
     (tiers-sound ks ls (h .1))
 

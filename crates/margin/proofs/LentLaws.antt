@@ -17,7 +17,8 @@ use Rattle.account.specs.Lawful.{Lawful}
 use Rattle.account.specs.Parts.{contractsOf}
 use Rattle.account.specs.declared.answers.Answer.{Answer}
 use Rattle.account.specs.declared.answers.Answer.the-variants.{Accepted, TooFewNumbers}
-use Rattle.margin.specs.Books.{asks, answered}
+use Rattle.account.specs.Check.{mostContracts}
+use Rattle.margin.specs.Books.{asks, answered, tableQuestion}
 use Rattle.margin.specs.Places.{questions, atPlace, afterEach, lentPlace, lentEach, questionOf, widthOf, allOver, afterAllOver}
 use Rattle.margin.specs.Questions.{notRefused, afterwards, numbersFor, afterOver}
 use Rattle.margin.proofs.AcceptLaws.{numbers-rise}
@@ -69,12 +70,13 @@ module _ (account : List Record) where
   -- the first i contracts are answered in their places, and so every number below one that parts the contracts there
   pub record LentTo (paid : Bool) (i : ℕ) (lent left : List ℤ) : Type 0 where
     pub same : length left ≡ length lent
-    pub each : (n : ℕ) → n ≤ 16 → ((j : ℕ) → j < i → numberAt j < n) → ((j : ℕ) → i ≤ j → j < length (contractsOf account) → n ≤ numberAt j)
+    pub each : (n : ℕ) → n ≤ mostContracts → ((j : ℕ) → j < i → numberAt j < n) → ((j : ℕ) → i ≤ j → j < length (contractsOf account) → n ≤ numberAt j)
         → left ≡ lentEach (widthOf paid) (after paid) n lent
 
-  unlisted : (q : ℕ) → q < 16 → ((j : ℕ) → j < length (contractsOf account) → numberAt j ≡ q → ⊥) → answered account q ≡ false
+  unlisted : (q : ℕ) → q < mostContracts → ((j : ℕ) → j < length (contractsOf account) → numberAt j ≡ q → ⊥) → answered account q ≡ false
   unlisted q h none =
-      ap (λ (t : Bool). t || any (asks q) (contractsOf account)) (ne-eqb q 16 (λ e. omega (arith, e, h))) ∙ go (any (asks q) (contractsOf account)) refl
+      ap (λ (t : Bool). t || any (asks q) (contractsOf account)) (ne-eqb q tableQuestion (λ e. omega (arith, e, h)))
+      ∙ go (any (asks q) (contractsOf account)) refl
     where
       go : (t : Bool) → any (asks q) (contractsOf account) ≡ t → t ≡ false
       go true e = let f = found q (contractsOf account) e in absurd (none (f .place) (f .below) (f .here))
@@ -88,7 +90,7 @@ module _ (account : List Record) where
   pub lent-none : (paid : Bool) (lent : List ℤ) → LentTo paid 0 lent lent
   lent-none paid lent = record { same = refl; each = λ n few below above. go n few above (ltb (length lent) (widthOf paid * questions)) }
     where
-      go : (n : ℕ) → n ≤ 16 → ((j : ℕ) → 0 ≤ j → j < length (contractsOf account) → n ≤ numberAt j) → (t : Bool)
+      go : (n : ℕ) → n ≤ mostContracts → ((j : ℕ) → 0 ≤ j → j < length (contractsOf account) → n ≤ numberAt j) → (t : Bool)
           → lent ≡ cond t lent (afterEach (widthOf paid) (after paid) n lent)
       go n few above true = refl
       go n few above false =
@@ -113,7 +115,7 @@ module _ (account : List Record) (law : Lawful account) where
         go j h m (no e) = let up = numbers-rise account law i j (omega (arith, e)) m in omega arith
 
     -- no number between this contract's and one that parts the contracts after it is listed
-    between : (n q : ℕ) → n ≤ 16 → ((j : ℕ) → i + 1 ≤ j → j < length (contractsOf account) → n ≤ numberAt account j) → suc c ≤ q → q < n
+    between : (n q : ℕ) → n ≤ mostContracts → ((j : ℕ) → i + 1 ≤ j → j < length (contractsOf account) → n ≤ numberAt account j) → suc c ≤ q → q < n
         → answered account q ≡ false
     between n q few above a b = unlisted account q (omega arith) (λ j h e. go j h e (ltb j i) refl (ℕ-discrete j i))
       where
@@ -132,7 +134,7 @@ module _ (account : List Record) (law : Lawful account) where
               (e ∙ ap (λ (k : ℕ). cond (ltb k (width * questions)) left (atPlace width (width * c) (after account paid c) left)) (is .same));
         }
       where
-        go : (n : ℕ) → n ≤ 16 → c < n → ((j : ℕ) → i + 1 ≤ j → j < length (contractsOf account) → n ≤ numberAt account j) → (t : Bool)
+        go : (n : ℕ) → n ≤ mostContracts → c < n → ((j : ℕ) → i + 1 ≤ j → j < length (contractsOf account) → n ≤ numberAt account j) → (t : Bool)
             → left ≡ cond t lent (afterEach width (after account paid) c lent) → left′ ≡ cond t left (atPlace width (width * c) (after account paid c) left)
             → left′ ≡ cond t lent (afterEach width (after account paid) n lent)
         go n few here above true a b = b ∙ a
@@ -142,9 +144,9 @@ module _ (account : List Record) (law : Lawful account) where
             ∙ sym (skip width (after account paid) lent n (suc c) here (λ q d f. stays account paid q (between n q few above d f)))
 
   pub lent-all : (paid : Bool) (i : ℕ) (lent left : List ℤ) → LentTo account paid i lent left → i ≡ length (contractsOf account)
-      → left ≡ lentEach (widthOf paid) (after account paid) 16 lent
+      → left ≡ lentEach (widthOf paid) (after account paid) mostContracts lent
   lent-all paid i lent left is all =
-      is .each 16 (omega arith) (λ j h. let few = own-number account law j (omega arith) in omega arith) (λ j h m. absurd (omega arith))
+      is .each mostContracts (omega arith) (λ j h. let few = own-number account law j (omega arith) in omega arith) (λ j h m. absurd (omega arith))
 
 -- ---- then the table
 
@@ -156,17 +158,17 @@ module _ (account : List Record) (paid : Bool) (lent left left′ : List ℤ) (s
   each q = afterOver account (questionOf paid q)
 
   abbrev table : List ℤ → List ℤ
-  table = atPlace wide (wide * 16) (each 16)
+  table = atPlace wide (wide * tableQuestion) (each tableQuestion)
 
-  pub then-table : (answer : Answer) → left ≡ lentEach wide each 16 lent → answer ≡ allOver paid account (length left)
-      → left′ ≡ lentPlace wide 16 (each 16) left
+  pub then-table : (answer : Answer) → left ≡ lentEach wide each mostContracts lent → answer ≡ allOver paid account (length left)
+      → left′ ≡ lentPlace wide tableQuestion (each tableQuestion) left
       → (answer ≡ allOver paid account (length lent)) × (left′ ≡ afterAllOver paid account lent)
   then-table answer so-far a e = (
     a ∙ ap (allOver paid account) same,
     go (ltb (length lent) (wide * questions)) so-far (e ∙ ap (λ (k : ℕ). cond (ltb k (wide * questions)) left (table left)) same),
   )
     where
-      go : (t : Bool) → left ≡ cond t lent (afterEach wide each 16 lent) → left′ ≡ cond t left (table left)
+      go : (t : Bool) → left ≡ cond t lent (afterEach wide each mostContracts lent) → left′ ≡ cond t left (table left)
           → left′ ≡ cond (notRefused (cond t (TooFewNumbers (length account)) Accepted)) (afterEach wide each questions lent) lent
       go true p q = q ∙ p
       go false p q = q ∙ ap table p

@@ -18,6 +18,7 @@ use Rattle.formulas.specs.code.Lines.{marginWith, eightOf, eightsFrom, totalFro
 use Rattle.margin.specs.code.Numbers.{amountAt}
 use Rattle.formulas.specs.code.Sums.{interleaved, deltasIn, spreadsAt, deltaAt}
 use Rattle.formulas.proofs.AddedLaws.{delta-at}
+use Rattle.formulas.specs.Bounds.{figuresEach}
 
 module _ {ℓ} {A : Type ℓ} where
   -- stores at `at + n`, `at + (n + 1)` and so on, as the code makes them
@@ -76,7 +77,7 @@ module _ {ℓ} {A : Type ℓ} where
       ap (sets out at) (sym (subst (λ (k : ℕ). rest k ≡ []) same e)) ∙ t .whole
 
 -- eight numbers for each line, then the total of the margins
-length-eights : (ls : List Line) (cs : List Amount) → length ls ≤ length cs → length (eightsFrom ls cs) ≡ 8 * length ls
+length-eights : (ls : List Line) (cs : List Amount) → length ls ≤ length cs → length (eightsFrom ls cs) ≡ figuresEach * length ls
 length-eights [] cs h = refl
 length-eights (l ∷ ls) [] h = omega arith
 length-eights (l ∷ ls) (c ∷ cs) h = omega (arith, length-eights ls cs (omega arith))
@@ -102,19 +103,19 @@ module _ (count : ℕ) (lines : List Line) (credits : List Amount) where
     pub total-step : (i : ℕ) → i < count → totalOn i ≡ marginWith (getD lines i noLine) (amountAt credits i) + totalOn (i + 1)
     total-step i h = rw (add-one i, slice-cons i count lines noLine h hl, slice-cons i count credits (record { 0 = 0 }) h hc)
 
-    eights-length : length (eightsOn 0) ≡ 8 * count
+    eights-length : length (eightsOn 0) ≡ figuresEach * count
     eights-length =
         length-map (eightsFrom (take count lines) (take count credits)) pos
         ∙ length-eights (take count lines) (take count credits) (rw (length-take-le count lines hl, length-take-le count credits hc) (omega arith))
-        ∙ ap (λ (n : ℕ). 8 * n) (length-take-le count lines hl)
+        ∙ ap (λ (n : ℕ). figuresEach * n) (length-take-le count lines hl)
 
     -- the total after the last line
-    pub figures-listed : (out lines-in all : List ℤ) (total : ℕ) → lines-in ≡ sets out 0 (eightsOn 0) → all ≡ set lines-in (count * 8) (pos total)
+    pub figures-listed : (out lines-in all : List ℤ) (total : ℕ) → lines-in ≡ sets out 0 (eightsOn 0) → all ≡ set lines-in (count * figuresEach) (pos total)
         → total ≡ totalOn 0 → all ≡ sets out 0 (map pos (figuresFrom (take count lines) (take count credits)))
     figures-listed out lines-in all total e f t =
-        let at : 0 + length (eightsOn 0) ≡ count * 8 = omega (arith, eights-length) in
+        let at : 0 + length (eightsOn 0) ≡ count * figuresEach = omega (arith, eights-length) in
         f
-        ∙ ap (λ (l : List ℤ). set l (count * 8) (pos total)) e
+        ∙ ap (λ (l : List ℤ). set l (count * figuresEach) (pos total)) e
         ∙ ap (λ (n : ℕ). set (sets out 0 (eightsOn 0)) n (pos total)) (sym at)
         ∙ sym (sets-append out 0 (eightsOn 0) (pos total ∷ []))
         ∙ ap (λ (n : ℕ). sets out 0 (eightsOn 0 ++ (pos n ∷ []))) t

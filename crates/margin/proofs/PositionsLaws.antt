@@ -12,11 +12,12 @@ use lib.Dec.{eqb}
 use lib.ListN.{length, getD, set, length-set, replicate, length-replicate, getD-replicate}
 use lib.Seq.{ext-getD, getD-set-same, getD-set-other}
 use Rattle.exact.specs.Lists.{any}
-use Rattle.record.specs.Layout.{Record, contract}
+use Rattle.record.specs.Layout.{Record, contract, mostContract}
 use Rattle.account.specs.Accepted.{Each, listed}
 use Rattle.account.specs.Lawful.{Lawful}
 use Rattle.account.specs.Parts.{ofKind, contractsOf, promptsOf, rowsOf, ratesOf}
 use Rattle.account.proofs.Lists.{any-keep}
+use Rattle.account.specs.Check.{mostContracts, mostPrompts, mostRows}
 use Rattle.margin.specs.declared.positions.Positions.{Positions}
 use Rattle.formulas.specs.declared.rows.Position.{Position}
 use Rattle.margin.specs.code.Beside.{unitOf}
@@ -55,7 +56,7 @@ none c (x ∷ xs) e (suc j) h q = go (eqb (contract x) c) e (λ a. none c xs a j
 -- ---- no rows
 
 abbrev pub Flat : Position → Type 0
-Flat p = (rates : List Record) (unit : ℕ) (prompts : List Record) → length prompts ≤ 32 → PositionOf rates unit prompts [] p
+Flat p = (rates : List Record) (unit : ℕ) (prompts : List Record) → length prompts ≤ mostPrompts → PositionOf rates unit prompts [] p
 
 module _ (account : List Record) (law : Lawful account) where
   -- a contract that is not listed has none
@@ -71,7 +72,7 @@ module _ (account : List Record) (law : Lawful account) where
       let is = flat (ratesOf account) (unitOf c account) (promptsOf c account) (law .limits .prompts c) in
       record {
         is = subst⁻¹ (λ (rs : List Record). PositionOf (ratesOf account) (unitOf c account) (promptsOf c account) rs p) (unlisted c e) is;
-        most = wider 0 128 p zero-le
+        most = wider 0 mostRows p zero-le
             (bounded (ratesOf account) (unitOf c account) (own-fit account law c .units .most) (promptsOf c account) [] p no-rows
             (λ k h. absurd (not-suc-le-zero h)) is);
       }
@@ -79,20 +80,20 @@ module _ (account : List Record) (law : Lawful account) where
 -- ---- put in place one after the other
 
 pub record Placed (account : List Record) (i : ℕ) (at : List Position) : Type 0 where
-  pub places : length at ≡ 16
+  pub places : length at ≡ mostContracts
   pub done : (j : ℕ) → j < i → PositionAt (ratesOf account) (unitOf (contract (getD (contractsOf account) j [])) account) account
       (contract (getD (contractsOf account) j [])) (getD at (contract (getD (contractsOf account) j [])) noPosition)
-  pub rest : (c : ℕ) → c ≤ 15 → ((j : ℕ) → j < i → contract (getD (contractsOf account) j []) ≡ c → ⊥) → Flat (getD at c noPosition)
+  pub rest : (c : ℕ) → c ≤ mostContract → ((j : ℕ) → j < i → contract (getD (contractsOf account) j []) ≡ c → ⊥) → Flat (getD at c noPosition)
 
-pub placed-none : (account : List Record) (p : Position) → Flat p → Placed account 0 (replicate 16 p)
+pub placed-none : (account : List Record) (p : Position) → Flat p → Placed account 0 (replicate mostContracts p)
 placed-none account p flat =
     record {
-      places = length-replicate 16 p;
+      places = length-replicate mostContracts p;
       done = λ j h. absurd (not-suc-le-zero h);
-      rest = λ c h n. subst⁻¹ Flat (getD-replicate 16 c p noPosition (omega arith)) flat;
+      rest = λ c h n. subst⁻¹ Flat (getD-replicate mostContracts c p noPosition (omega arith)) flat;
     }
 
-pub placed-next : (account : List Record) (i : ℕ) (at : List Position) (c : ℕ) (p : Position) → Placed account i at → c ≤ 15
+pub placed-next : (account : List Record) (i : ℕ) (at : List Position) (c : ℕ) (p : Position) → Placed account i at → c ≤ mostContract
     → c ≡ contract (getD (contractsOf account) i [])
     → PositionAt (ratesOf account) (unitOf c account) account c p → Placed account (i + 1) (set at c p)
 placed-next account i at c p is few number here =
@@ -121,7 +122,7 @@ pub placed-all : (account : List Record) (law : Lawful account) (i : ℕ) (ps : 
     → Placed account i (ps .at) → ps .records ≡ length account → PositionsOf account ps
 placed-all account law i ps e is n = record { records-are = n; places = is .places; each = λ c h. go c h (any (asks c) (contractsOf account)) refl }
   where
-    go : (c : ℕ) → c ≤ 15 → (t : Bool) → any (asks c) (contractsOf account) ≡ t → PositionAt (ratesOf account) (unitOf c account) account c
+    go : (c : ℕ) → c ≤ mostContract → (t : Bool) → any (asks c) (contractsOf account) ≡ t → PositionAt (ratesOf account) (unitOf c account) account c
         (getD (ps .at) c noPosition)
     go c h true a =
         let f = found c (contractsOf account) a in
@@ -139,7 +140,7 @@ one-positions whole a b x y =
       at =
           ext-getD noPosition (a .at) (b .at) (x .places ∙ sym (y .places))
           (λ c h.
-          let l : c ≤ 15 = omega (arith, x .places) in
+          let l : c ≤ mostContract = omega (arith, x .places) in
           one-position (ratesOf whole) (unitOf c whole) (promptsOf c whole) (rowsOf c whole) (getD (a .at) c noPosition) (getD (b .at) c noPosition)
           (x .each c l .is) (y .each c l .is))
           i;

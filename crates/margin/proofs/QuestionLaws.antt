@@ -18,13 +18,11 @@ use Rattle.account.specs.declared.answers.Answer.the-variants.{Accepted, TooFew
 pub use Rattle.account.proofs.NoonLaws.{accepted-only}
 use Rattle.spread.specs.Steps.{Open}
 use Rattle.formulas.specs.Contract.{Contract, contracts, partsIn, asTier}
+use Rattle.formulas.specs.Bounds.{figuresEach}
 use Rattle.margin.specs.Figures.{eights, figures, figuresOver, totalMargin, accountTotal}
 use Rattle.margin.specs.Questions.{notRefused, ifAccepted, numbersFor, answers, enough, answerOver, afterwards}
 use Rattle.margin.specs.declared.asking.Question.{Question}
 use Rattle.margin.proofs.NumberLaws.{sets-front}
-
-pub some : {n : ℕ} → suc n ≡ 0 → ⊥
-some e = omega arith
 
 -- ---- the answer and the lent numbers, case by case
 
@@ -83,17 +81,17 @@ module _ (account : List Record) (question : Question) (lent : ℕ) where
 
 -- ---- how many numbers the figures have
 
-eights-length : (entries : List Record) (table : List Open) (ks : List Contract) → length (eights entries table ks) ≡ 8 * length ks
+eights-length : (entries : List Record) (table : List Open) (ks : List Contract) → length (eights entries table ks) ≡ figuresEach * length ks
 eights-length entries table [] = refl
 eights-length entries table (k ∷ ks) = let h = eights-length entries table ks in omega arith
 
-pub figures-length : (account : List Record) → length (figures account) ≡ 8 * length (contractsOf account) + 1
+pub figures-length : (account : List Record) → length (figures account) ≡ figuresEach * length (contractsOf account) + 1
 figures-length account =
     let ks = contracts account in
     let es = entriesOf account in
     length-map (figuresOver es ks) pos
     ∙ length-append (eights es (map asTier ks) ks) (totalMargin es (map asTier ks) ks ∷ [])
-    ∙ ap (λ (n : ℕ). n + 1) (eights-length es (map asTier ks) ks ∙ ap (λ (n : ℕ). 8 * n) (length-map (contractsOf account) (partsIn account)))
+    ∙ ap (λ (n : ℕ). n + 1) (eights-length es (map asTier ks) ks ∙ ap (λ (n : ℕ). figuresEach * n) (length-map (contractsOf account) (partsIn account)))
 
 -- ---- the total stands last in the figures
 
@@ -106,7 +104,7 @@ ends-with [] x = refl
 ends-with (y ∷ xs) x = ap suc (ends-with xs x)
 
 pub total-last : (account : List Record) (out numbers : List ℤ) (n : ℕ) → numbers ≡ sets out 0 (figures account) → length (figures account) ≤ length out
-    → n ≡ 8 * length (contractsOf account) → natAbs (getD numbers n (pos 0)) ≡ accountTotal account
+    → n ≡ figuresEach * length (contractsOf account) → natAbs (getD numbers n (pos 0)) ≡ accountTotal account
 total-last account out numbers n w room k =
     let es = entriesOf account in
     let ks = contracts account in

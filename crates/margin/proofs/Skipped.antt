@@ -9,9 +9,11 @@ use borrow.Author.Tests.{eq-eqb, ne-eqb, eqb-true, eqb-false}
 use lib.Dec.{eqb}
 use lib.IntN.{ℤ, pos, natAbs, _+ℤ_, +ℤ-idl, +ℤ-idr}
 use lib.ListN.{length, getD, length-map}
+use Rattle.spread.proofs.Lengths.{used-length, unused-length}
 use Rattle.exact.specs.Lists.{consIf, oneIf, sum, sumℤ}
 use Rattle.exact.proofs.Lists.{map-same, sumℤ-map-add}
-use Rattle.record.specs.Layout.{Record, kind, contract, unit, ratePerSpread, spreadRate, outrightRate}
+use Rattle.exact.proofs.Tests.{eqb-turned}
+use Rattle.record.specs.Layout.{Record, kind, contract, unit, ratePerSpread, spreadRate, outrightRate, scenarioCount}
 use Rattle.account.specs.Accepted.{Each}
 use Rattle.account.specs.Checked.{checked}
 use Rattle.account.specs.Lawful.{Recorded, Lawful}
@@ -24,7 +26,6 @@ use Rattle.account.specs.declared.answers.Answer.the-variants.{Accepted}
 use Rattle.account.proofs.Alone.{lawful}
 use Rattle.account.proofs.NoonLaws.{pair-lawful}
 use Rattle.account.proofs.Whole.{KindWithin, owners, owned-once, file-kinds, pair-kinds, whole-file, whole-pair}
-use Rattle.spread.proofs.Gathering.{eqb-turned}
 use Rattle.formulas.specs.declared.amount.Amount.{Amount}
 use Rattle.formulas.specs.declared.line.Line.{Line}
 use Rattle.formulas.specs.Charges.{overSteps, spreadCharge, promptCharge, promptCharges}
@@ -37,9 +38,10 @@ use Rattle.formulas.specs.Margin.{shortOptions, shortLots}
 use Rattle.formulas.specs.Scanning.{product, total, totals}
 use Rattle.margin.specs.Skipped.{allRows, ownerOf, RowsOnce, overPlaces, NothingOver, TableOver, NoneSkipped}
 use Rattle.margin.proofs.AskedLaws.{contract-length, table-length}
-use Rattle.formulas.proofs.LineLaws.{opens-length, numbers-length, used-length, unused-length}
+use Rattle.formulas.proofs.LineLaws.{opens-length, numbers-length}
 use Rattle.formulas.proofs.NetLaws.{all-rows}
 use Rattle.formulas.proofs.PositionLaws.{totals-at}
+use Rattle.formulas.specs.Bounds.{figuresEach}
 use Rattle.margin.proofs.QuestionLaws.{figures-length}
 
 -- ---- what the rows come to, contract by contract and all together
@@ -132,7 +134,7 @@ short-rows rows = ap sumℤ (sym (map-map pos shortOptions rows)) ∙ pos-sum (m
 
 -- ---- the sixteen totals
 
-total-at : (rates : List Record) (unit : ℕ) (rows : List Record) (scenario : ℕ) → 1 ≤ scenario → scenario ≤ 16
+total-at : (rates : List Record) (unit : ℕ) (rows : List Record) (scenario : ℕ) → 1 ≤ scenario → scenario ≤ scenarioCount
     → totalOf (totals rates unit rows) scenario ≡ total rates unit rows scenario
 total-at rates unit rows scenario l h =
     let e : scenario - 1 + 1 ≡ scenario = omega arith in
@@ -232,7 +234,7 @@ table-over entries ks =
       book = table-length entries ks;
     }
 
-lines-over : (ls : List Line) (credits : List Amount) → length credits ≡ length ls → length (eightsFrom ls credits) ≡ 8 * length ls
+lines-over : (ls : List Line) (credits : List Amount) → length credits ≡ length ls → length (eightsFrom ls credits) ≡ figuresEach * length ls
 lines-over [] credits e = refl
 lines-over (l ∷ ls) [] e = absurd (omega arith)
 lines-over (l ∷ ls) (c ∷ credits) e = let h = lines-over ls credits (omega arith) in omega arith

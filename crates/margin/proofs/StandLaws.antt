@@ -9,7 +9,7 @@ use mathlib.Core.List.{List, [], _∷_}
 use lib.ListN.{length, getD}
 use Rattle.record.specs.Bytes.{recordBytes}
 use Rattle.exact.specs.Lists.{consIf, keep, count, oneIf}
-use Rattle.record.specs.Layout.{Record, contract}
+use Rattle.record.specs.Layout.{Record, contract, mostContract}
 use Rattle.record.specs.Within as ranges
 use Rattle.account.specs.Lawful.{Lawful}
 use Rattle.account.specs.PartNumbers.{part, entryPart}
@@ -22,6 +22,7 @@ use Rattle.account.specs.declared.rates.Rates.{Rates}
 use Rattle.account.proofs.Days.{none-kept}
 use Rattle.account.proofs.Every.{length-kept}
 use Rattle.account.proofs.Standing.{contract-part, one-record}
+use Rattle.account.specs.Check.{mostContracts, mostPrompts, mostRows}
 use Rattle.formulas.specs.declared.rows.Position.{Position}
 use Rattle.margin.specs.code.Beside.{ownOf}
 use Rattle.margin.specs.Books.{asks}
@@ -58,7 +59,7 @@ kept-at p (x ∷ xs) (suc i) h e few = go (p x) refl few (λ k. kept-at p xs i (
 -- ---- what the account says of itself
 
 module _ (morning noon : List ℕ) (a : Account) (st : Stands morning noon a) where
-  pub few-contracts : a .contracts ≤ 16
+  pub few-contracts : a .contracts ≤ mostContracts
   few-contracts = omega (arith, st .places .contracts, st .lawful .limits .contracts)
 
   pub number-at : (i : ℕ) → i < a .contracts → (c : ℕ) → c ≡ getD (a .numbers) i 0 → c ≡ contract (getD (contractsOf (accountOf morning noon)) i [])
@@ -77,7 +78,7 @@ module _ (account : List Record) (law : Lawful account) where
     entries-fit = subst⁻¹ EntriesFit entries-part (entries-within account law)
 
   -- ---- a contract's parts by its number
-  module _ (c : ℕ) (h : c ≤ 15) where
+  module _ (c : ℕ) (h : c ≤ mostContract) where
     pub of-contract : (k : ℕ) → k ≤ 4 → (bytes : List ℕ) → PartOf account (part k c) bytes → records bytes ≡ keep (ofContract k c) account
     of-contract k hk bytes is = is .are ∙ contract-part k c hk h account
 
@@ -108,13 +109,13 @@ module _ (account : List Record) (law : Lawful account) where
       pub rows-room : ContractFit [] (promptsOf c account) (records rows) (spreadsOf c account)
       rows-room = rw (of-contract 3 (omega arith) rows er) (contract-within account law [] c none-within)
 
-      pub prompts-few : recordCount prompts ≤ 32
+      pub prompts-few : recordCount prompts ≤ mostPrompts
       prompts-few = omega (arith, count-is prompts, ap length (of-contract 2 (omega arith) prompts ep), law .limits .prompts c)
 
       pub rows-rated-by : (t : Rates) → RatedBy t (rowsOf c account) → RatedBy t (records rows)
       rows-rated-by t = subst⁻¹ (RatedBy t) (of-contract 3 (omega arith) rows er)
 
-      pub position-is : (rates : List Record) (u : ℕ) (p : Position) → PositionOf rates u (records prompts) (records rows) p → Bounded 128 p
+      pub position-is : (rates : List Record) (u : ℕ) (p : Position) → PositionOf rates u (records prompts) (records rows) p → Bounded mostRows p
           → PositionAt rates u account c p
       position-is rates u p is most =
           record {
@@ -147,5 +148,5 @@ module _ (account : List Record) (law : Lawful account) where
       by-number = sym (contract-with [] [] (promptsOf c account) (rowsOf c account) (spreadsOf c account) p (at .is))
 
   -- the number of a contract of the account
-  pub own-number : (i : ℕ) → i < length (contractsOf account) → contract (getD (contractsOf account) i []) ≤ 15
+  pub own-number : (i : ℕ) → i < length (contractsOf account) → contract (getD (contractsOf account) i []) ≤ mostContract
   own-number i here = own-within account law i here .contracts

@@ -14,15 +14,16 @@ use lib.ListN.{length, getD, take, set, length-map}
 use lib.Seq.{take-all}
 use Rattle.exact.specs.Lists.{sum, sumℤ}
 use Rattle.exact.proofs.Lists.{getD-map, abs-sum}
-use Rattle.record.specs.Layout.{Record, contract, unit}
+use Rattle.record.specs.Layout.{Record, contract, unit, mostContract}
 use Rattle.record.specs.Within as ranges
 use Rattle.account.specs.Parts.{contractsOf, promptsOf, rowsOf, spreadsOf}
 use Rattle.account.specs.Records.{records, recordCount}
 use Rattle.account.specs.Lawful.{Lawful}
 use Rattle.account.specs.PartNumbers.{entryPart}
 use Rattle.account.specs.code.Standing.{PartOf}
+use Rattle.account.specs.Check.{mostContracts, mostEntries}
 use Rattle.spread.specs.Accepted as given
-use Rattle.spread.specs.Accepted.{every, soundPrompt}
+use Rattle.spread.specs.Accepted.{every, soundPrompt, tierCount, promptPlaces}
 use Rattle.spread.specs.Steps.{Open}
 use Rattle.spread.specs.declared.Delta.{Delta}
 use Rattle.spread.specs.declared.Prompts.{Prompts}
@@ -55,7 +56,7 @@ module _ (account : List Record) (law : Lawful account) (rates : List Record) (o
   tier-sizes =
       net-sizes rates own (promptsOf c account) (rowsOf c account) (spreadsOf c account) (contract-within account law own c w) q (at .is) (at .most)
 
-  pub tier-is : (its : Record) (z : ℤ) → c ≡ contract its → c ≤ 15 → z ≡ sumℤ (deltasIn (q .nets)) → TierIs (partsIn account its) c z
+  pub tier-is : (its : Record) (z : ℤ) → c ≡ contract its → c ≤ mostContract → z ≡ sumℤ (deltasIn (q .nets)) → TierIs (partsIn account its) c z
   tier-is its z ec few ez =
       record {
         number-is = ec;
@@ -100,8 +101,8 @@ lean-tier k t d is = λ i. record { tier = is .number-is i; unused = is .net-is 
 
 tier-sound : (k : Contract) (t : ℕ) (z : ℤ) → TierIs k t z → soundPrompt (asTier k) ≡ true
 tier-sound k t z is =
-    let h : contract (k .own) < 16 = omega (arith, is .number-is, is .number-within) in
-    and-both (ltb (contract (k .own)) 16) (leb (natAbs (contractNet k)) mostDelta) (lt-ltb (contract (k .own)) 16 h)
+    let h : contract (k .own) < tierCount = omega (arith, is .number-is, is .number-within) in
+    and-both (ltb (contract (k .own)) tierCount) (leb (natAbs (contractNet k)) mostDelta) (lt-ltb (contract (k .own)) tierCount h)
     (le-leb (natAbs (contractNet k)) mostDelta (subst (λ (x : ℤ). natAbs x ≤ mostDelta) (is .net-is) (is .net-within)))
 
 all-sound : (ks : List Contract) (d : Contract) → ((i : ℕ) → i < length ks → soundPrompt (asTier (getD ks i d)) ≡ true)
@@ -114,7 +115,7 @@ pub sound-sizes : (ps : List Open) → every soundPrompt ps ≡ true → sizes p
 sound-sizes [] e = zero-le
 sound-sizes (p ∷ ps) e =
     let a = leb-true (natAbs (p .unused)) mostDelta
-    (and-right (ltb (p .tier) 16) (leb (natAbs (p .unused)) mostDelta) (and-left (soundPrompt p) (every soundPrompt ps) e)) in
+    (and-right (ltb (p .tier) tierCount) (leb (natAbs (p .unused)) mostDelta) (and-left (soundPrompt p) (every soundPrompt ps) e)) in
     let r = sound-sizes ps (and-right (soundPrompt p) (every soundPrompt ps) e) in
     omega arith
 
@@ -134,10 +135,10 @@ module _ (account : List Record) where
   ks-length : length ks ≡ length (contractsOf account)
   ks-length = length-map (contractsOf account) (partsIn account)
 
-  pub tiers-none : (ts : List ℕ) (ds : List Delta) → length ts ≡ 32 → length ds ≡ 32 → TieredTo account 0 ts ds
+  pub tiers-none : (ts : List ℕ) (ds : List Delta) → length ts ≡ promptPlaces → length ds ≡ promptPlaces → TieredTo account 0 ts ds
   tiers-none ts ds lt ln = record { tiered = record { tiers = lt; nets = ln; so-far = refl }; sound = λ j h. absurd (not-suc-le-zero h) }
 
-  pub tiers-next : (i : ℕ) (ts : List ℕ) (ds : List Delta) (t : ℕ) (d : Delta) → TieredTo account i ts ds → i < 16 → i < length (contractsOf account)
+  pub tiers-next : (i : ℕ) (ts : List ℕ) (ds : List Delta) (t : ℕ) (d : Delta) → TieredTo account i ts ds → i < mostContracts → i < length (contractsOf account)
       → TierIs (partsIn account (getD (contractsOf account) i [])) t (d .0) → TieredTo account (i + 1) (set ts i t) (set ds i d)
   tiers-next i ts ds t d is few h tier =
       let here : TierIs (getD ks i kd) t (d .0) = subst⁻¹ (λ (k : Contract). TierIs k t (d .0))
@@ -154,7 +155,8 @@ module _ (account : List Record) where
       go j m here (yes q) = subst⁻¹ (λ (n : ℕ). soundPrompt (asTier (getD ks n kd)) ≡ true) q (tier-sound (getD ks i kd) t (d .0) here)
       go j m here (no q) = is .sound j (omega (arith, q))
 
-  pub tiers-all : (i : ℕ) (p : Prompts) → TieredTo account i (p .tier) (p .net) → p .count ≡ i → i ≡ length (contractsOf account) → i ≤ 16 → TiersIn account p
+  pub tiers-all : (i : ℕ) (p : Prompts) → TieredTo account i (p .tier) (p .net) → p .count ≡ i → i ≡ length (contractsOf account) → i ≤ mostContracts
+      → TiersIn account p
   tiers-all i p is c e few =
       let from = tiered-all (map lean ks) i i p (is .tiered) refl c in
       let n : length (map lean ks) ≤ i = rw length-map (omega (arith, ks-length)) in
@@ -169,7 +171,7 @@ module _ (account : List Record) where
 -- ---- the table
 
 module _ (account : List Record) (law : Lawful account) (p : Prompts) (is : TiersIn account p) (part : List ℕ) (ep : PartOf account entryPart part) where
-  pub entries-few : recordCount part ≤ 32
+  pub entries-few : recordCount part ≤ mostEntries
   entries-few = omega (arith, (entries-fit account law part ep) .few, count-is part)
 
   pub ps-length : length (map asTier (contracts account)) ≡ p .count

@@ -1,26 +1,26 @@
 -- What the steps of a table take of the prompts, written step after step; and the prompts and spreads that a question asks about.
 -- Assumes nothing.
-use Prim.Native.Nat.{ℕ, zero, suc, _+_, _-_, _*_, _≤_, _<_}
-use native.Mathlib.Nat.{add-comm, add-mul, one-mul, zero-mul, suc-mul, mul-comm, mul-assoc}
+use Prim.Native.Nat.{ℕ, suc, _+_, _-_, _*_, _≤_, _<_}
+use native.Mathlib.Nat.{add-mul, one-mul, mul-comm, mul-assoc}
 use native.Mathlib.Numerals.{add-one}
 use native.Mathlib.Omega.{arith}
-use mathlib.Core.Path.{_≡_, refl, sym, ap, ap₂, _∙_, subst}
+use mathlib.Core.Path.{_≡_, refl, sym, ap, ap₂, _∙_}
 use mathlib.Core.Bool.{Bool, true, false, cond}
 use mathlib.Core.List.{List, [], _∷_, _++_, map}
-use lib.Dec.{eqb, leb}
+use lib.Dec.{eqb}
 use lib.IntN.{ℤ}
-use lib.ListN.{length, length-append, length-map, getD, take, drop, drop-of-length-le}
-use lib.Seq.{sets, length-sets, drop-cons, getD-take, length-take-le}
-use borrow.Author.Tests.{leb-true, eqb-true, eqb-false}
+use lib.ListN.{length, length-map, getD, take, drop, drop-of-length-le}
+use lib.Seq.{sets, length-sets, drop-cons, getD-take}
+use borrow.Author.Tests.{eqb-true, eqb-false}
 use Rattle.account.specs.Parts.{entriesOf}
 use Rattle.account.specs.Records.{records}
 use Rattle.account.specs.Lawful.{Lawful}
 use Rattle.account.specs.PartNumbers.{entryPart}
 use Rattle.account.specs.code.Standing.{PartOf}
 use Rattle.record.specs.Layout.{Record}
-use Rattle.spread.specs.Accepted.{every, openOf, spreadsOf, soundSpread, soundPrompts, soundTable, sound}
+use Rattle.spread.specs.Accepted.{openOf, spreadsOf, soundSpread, soundPrompts, soundTable, sound, promptPlaces, spreadPlaces}
 use Rattle.spread.specs.code.Book.{byPlace, deltaEntry}
-use Rattle.spread.specs.Steps.{stepOf, Open, Taker, steps, formed, after}
+use Rattle.spread.specs.Steps.{stepOf, Open, steps, formed, after}
 use Rattle.spread.specs.Uses.{takenOf, usesOf, soundFor}
 use Rattle.spread.specs.code.Step.{Stepped}
 use Rattle.spread.specs.declared.Delta.{Delta}
@@ -28,12 +28,15 @@ use Rattle.spread.specs.declared.Prompts.{Prompts}
 use Rattle.spread.specs.declared.Spread.{Spread}
 use Rattle.spread.specs.declared.Table.{Table}
 use Rattle.spread.specs.declared.stepwise.Step.{Step}
-use Rattle.spread.proofs.Gathering.{few}
-use Rattle.spread.proofs.Both.{and-left, and-right, and-both}
+use Rattle.spread.proofs.Gathering.{few, few-in-table, sound-in-table}
+use Rattle.spread.proofs.Both.{and-left, and-both}
 use Rattle.spread.proofs.Every.{open-length}
 use Rattle.spread.proofs.Stepping.{after-length}
+use Rattle.spread.proofs.Lengths.{uses-length, steps-length, used-length}
+use Rattle.spread.proofs.Filling.{take-deltas}
+use Rattle.spread.proofs.Running.{table-length}
 use Rattle.formulas.specs.declared.rows.Position.{Position}
-use Rattle.margin.specs.Books.{answered}
+use Rattle.margin.specs.Books.{answered, tableQuestion}
 use Rattle.formulas.specs.Contract.{contracts, partsOf, asTier, contractSteps, opensOf, tableSteps}
 use Rattle.formulas.specs.Deltas.{opens, interprompt, intercontract}
 use Rattle.formulas.specs.code.Promised.{BookFit, contractWith}
@@ -43,9 +46,9 @@ use Rattle.formulas.specs.code.Tables.{TiersOf, TableOf}
 use Rattle.margin.specs.Uses.{contractUses, tableUses, uses, stepsFor, opensFor}
 use Rattle.margin.specs.code.Asking.{LeftBy, Asks}
 use Rattle.margin.proofs.AskedLaws.{contract-asked, table-asked}
-use Rattle.formulas.proofs.BookLaws.{take-deltas, opens-are, contract-sound}
+use Rattle.formulas.proofs.BookLaws.{opens-are, contract-sound}
 use Rattle.formulas.proofs.ContractLaws.{book-room}
-use Rattle.formulas.proofs.LineLaws.{opens-first, opens-length, steps-length, used-length}
+use Rattle.formulas.proofs.LineLaws.{opens-first, opens-length}
 use Rattle.margin.proofs.NumberLaws.{sets-append}
 use Rattle.formulas.proofs.RecordLaws.{count-is}
 use Rattle.margin.proofs.StandLaws.{entries-part}
@@ -62,11 +65,12 @@ module _ (p : Prompts) (s : Spread) (second : Bool) (r : Step) (is : Stepped p s
         count = is .count;
       }
 
-  pub taken-is : length (p .tier) ≡ 32 → length (p .net) ≡ 32 → p .count ≤ 32 → take (p .count) (deltasIn (r .taken)) ≡ takenOf (stepOf second s) (openOf p)
+  pub taken-is : length (p .tier) ≡ promptPlaces → length (p .net) ≡ promptPlaces → p .count ≤ promptPlaces
+      → take (p .count) (deltasIn (r .taken)) ≡ takenOf (stepOf second s) (openOf p)
   taken-is lt ln few =
       ap (λ (ds : List Delta). take (p .count) (deltasIn ds))
-      (is .taken ∙ ap (λ (b : Bool). byPlace 32 (deltaEntry (cond b (takenOf (stepOf second s) (openOf p)) []))) e)
-      ∙ take-deltas (takenOf (stepOf second s) (openOf p)) (p .count) 32 (used-length (stepOf second s ∷ []) (openOf p) ∙ open-length p lt ln few) few
+      (is .taken ∙ ap (λ (b : Bool). byPlace promptPlaces (deltaEntry (cond b (takenOf (stepOf second s) (openOf p)) []))) e)
+      ∙ take-deltas (takenOf (stepOf second s) (openOf p)) (p .count) promptPlaces (used-length (stepOf second s ∷ []) (openOf p) ∙ open-length p lt ln few) few
 
 -- ---- all steps: what is written and what the steps still to come take are the whole
 
@@ -78,28 +82,12 @@ pub record Putting (n : ℕ) (t : Table) (all : List ℤ) (i at : ℕ) (left : P
   pub within : i ≤ t .count
   pub long : length (openOf left) ≡ n
 
-every-at : {A : Type 0} (p : A → Bool) (xs : List A) (i : ℕ) (d : A) → every p xs ≡ true → i < length xs → p (getD xs i d) ≡ true
-every-at p [] i d e h = absurd (omega arith)
-every-at p (x ∷ xs) zero d e h = and-left (p x) (every p xs) e
-every-at p (x ∷ xs) (suc i) d e h = every-at p xs i d (and-right (p x) (every p xs) e) (omega arith)
-
-pub few-in-table : (t : Table) → soundTable t ≡ true → t .count ≤ 32
-few-in-table t e = leb-true (t .count) 32 (and-left (leb (t .count) 32) (every soundSpread (spreadsOf t)) e)
-
-module _ (t : Table) (len : length (t .spread) ≡ 32) (ok : soundTable t ≡ true) where
-  few-spreads : t .count ≤ 32
-  few-spreads = few-in-table t ok
-
+module _ (t : Table) (len : length (t .spread) ≡ spreadPlaces) (ok : soundTable t ≡ true) where
   spreads-there : length (spreadsOf t) ≡ t .count
-  spreads-there = length-take-le (t .count) (t .spread) (omega (arith, len, few-spreads))
+  spreads-there = table-length t len (few-in-table t ok)
 
   pub spread-here : (i : ℕ) (d : Spread) → i < t .count → getD (spreadsOf t) i d ≡ getD (t .spread) i d
   spread-here i d h = getD-take (t .count) (t .spread) i d h
-
-  pub spread-sound : (i : ℕ) (d : Spread) → i < t .count → soundSpread (getD (t .spread) i d) ≡ true
-  spread-sound i d h =
-      subst (λ (s : Spread). soundSpread s ≡ true) (spread-here i d h)
-      (every-at soundSpread (spreadsOf t) i d (and-right (leb (t .count) 32) (every soundSpread (spreadsOf t)) ok) (omega (arith, spreads-there)))
 
   module _ (n : ℕ) (all : List ℤ) (i at : ℕ) (left between rest : Prompts) (out out₁ out₂ : List ℤ) (d : Spread) (is : Putting n t all i at left out)
       (h : i < t .count) where
@@ -116,7 +104,7 @@ module _ (t : Table) (len : length (t .spread) ≡ 32) (ok : soundTable t ≡ tr
     first-room = omega (arith, room-here)
 
     pub first-sound : soundFor left s ≡ true
-    first-sound = and-both (soundPrompts left) (soundSpread s) (is .sound) (spread-sound i d h)
+    first-sound = and-both (soundPrompts left) (soundSpread s) (is .sound) (sound-in-table t len ok i d h)
 
     module _ (a : LeftBy left s false between) (o : out₁ ≡ sets out at (takenOf (stepOf false s) (openOf left))) where
       same-room : length out₁ ≡ length out
@@ -126,7 +114,7 @@ module _ (t : Table) (len : length (t .spread) ≡ 32) (ok : soundTable t ≡ tr
       second-room = omega (arith, same-room, room-here, a .count, is .count)
 
       pub second-sound : soundFor between s ≡ true
-      second-sound = and-both (soundPrompts between) (soundSpread s) (a .sound) (spread-sound i d h)
+      second-sound = and-both (soundPrompts between) (soundSpread s) (a .sound) (sound-in-table t len ok i d h)
 
       long-between : length (openOf between) ≡ n
       long-between = ap length (a .opens) ∙ after-length (stepOf false s) (formed (stepOf false s) (openOf left)) (openOf left) ∙ is .long
@@ -183,7 +171,7 @@ module _ (t : Table) (len : length (t .spread) ≡ 32) (ok : soundTable t ≡ tr
       ap (λ (l : List Spread). sets out at (usesOf (steps l) (openOf left))) (sym (drop-of-length-le (spreadsOf t) past)) ∙ is .whole
 
 -- nothing is written yet
-pub put-none : (p : Prompts) (t : Table) (out : List ℤ) → length (p .tier) ≡ 32 → length (p .net) ≡ 32 → sound p t ≡ true
+pub put-none : (p : Prompts) (t : Table) (out : List ℤ) → length (p .tier) ≡ promptPlaces → length (p .net) ≡ promptPlaces → sound p t ≡ true
     → t .count * (2 * p .count) ≤ length out
     → Putting (p .count) t (sets out 0 (usesOf (steps (spreadsOf t)) (openOf p))) 0 0 p out
 put-none p t out lt ln ok h =
@@ -200,14 +188,6 @@ put-none p t out lt ln ok h =
     }
 
 -- ---- what a question asks about
-
-uses-length : (ss : List (List Taker)) (ps : List Open) → length (usesOf ss ps) ≡ length ss * length ps
-uses-length [] ps = sym (zero-mul (length ps))
-uses-length (s ∷ ss) ps =
-    length-append (takenOf s ps) (usesOf ss (after s (formed s ps) ps))
-    ∙ ap₂ _+_ (used-length (s ∷ []) ps) (uses-length ss (after s (formed s ps) ps) ∙ ap (λ (n : ℕ). length ss * n) (after-length s (formed s ps) ps))
-    ∙ add-comm (length ps) (length ss * length ps)
-    ∙ sym (suc-mul (length ss) (length ps))
 
 -- of spreads, each of two steps
 pub spread-uses : (spreads : List Spread) (ps : List Open) → length (usesOf (steps spreads) ps) ≡ length spreads * (2 * length ps)
@@ -256,10 +236,10 @@ table-asks account law p is part ep t table =
 -- who paid for what goes by the question's steps, over its prompts
 pub uses-by-steps : (account : List Record) → Lawful account → (question : ℕ) → answered account question ≡ true
     → uses account question ≡ usesOf (stepsFor account question) (opensFor account question)
-uses-by-steps account law question a = go (eqb question 16) refl
+uses-by-steps account law question a = go (eqb question tableQuestion) refl
   where
-    go : (t : Bool) → eqb question 16 ≡ t → uses account question ≡ usesOf
+    go : (t : Bool) → eqb question tableQuestion ≡ t → uses account question ≡ usesOf
         (cond t (tableSteps (entriesOf account)) (contractSteps (partsOf account question)))
         (cond t (map asTier (contracts account)) (opensOf (partsOf account question)))
-    go true e = table-asked account law contractUses tableUses (λ own. refl) question (eqb-true question 16 e)
-    go false e = contract-asked account law contractUses tableUses (λ own. refl) question a (eqb-false question 16 e)
+    go true e = table-asked account law contractUses tableUses (λ own. refl) question (eqb-true question tableQuestion e)
+    go false e = contract-asked account law contractUses tableUses (λ own. refl) question a (eqb-false question tableQuestion e)

@@ -9,7 +9,7 @@ use mathlib.Core.List.{List, [], _∷_, map}
 use lib.IntN.{ℤ, pos}
 use lib.ListN.{length, getD}
 use Rattle.exact.specs.Lists.{keep, sum, sumℤ}
-use Rattle.record.specs.Layout.{Record, contract, mostContract, unit, ratePerSpread, spreadRate, outrightRate}
+use Rattle.record.specs.Layout.{Record, contract, mostContract, unit, ratePerSpread, spreadRate, outrightRate, scenarioCount}
 use Rattle.account.specs.Parts.{ofKind, contractsOf, promptsOf, rowsOf, entriesOf, ratesOf}
 use Rattle.account.specs.Whole.{Whole}
 use Rattle.spread.specs.Steps.{numbers, usedOf, unusedOf}
@@ -25,6 +25,7 @@ use Rattle.margin.specs.Figures.{figures}
 use Rattle.formulas.specs.code.Lines.{eightsFrom}
 use Rattle.formulas.specs.Margin.{shortOptions}
 use Rattle.formulas.specs.Scanning.{product}
+use Rattle.formulas.specs.Bounds.{figuresEach}
 
 -- ---- totals, net deltas and short lots are sums in which each row counts once
 
@@ -42,7 +43,7 @@ lossIn account scenario row = product (ratesOf account) (unit (ownerOf (contract
 
 pub record RowsOnce (account : List Record) : Type 0 where
   -- the contracts' totals of a scenario together are what all rows lose in it
-  pub totals : (scenario : ℕ) → 1 ≤ scenario → scenario ≤ 16
+  pub totals : (scenario : ℕ) → 1 ≤ scenario → scenario ≤ scenarioCount
       → sumℤ (map (λ k. totalOf (k .totals) scenario) (contracts account)) ≡ sumℤ (map (lossIn account scenario) (allRows account))
   -- their net deltas together are those of all rows, and a contract's those of its rows
   pub nets : sumℤ (map contractNet (contracts account)) ≡ sumℤ (map rowDelta (allRows account))
@@ -93,5 +94,5 @@ pub record NoneSkipped (account : List Record) : Type 0 where
   pub contract : (rates : List Record) (own : Record) (prompts rows spreads : List Record) → NothingOver (contractFrom rates own prompts rows spreads)
   pub table : TableOver (entriesOf account) (contracts account)
   -- eight numbers for each contract, and the total
-  pub figures : length (figures account) ≡ 8 * length (contractsOf account) + 1
-  pub lines : (ls : List Line) (credits : List Amount) → length credits ≡ length ls → length (eightsFrom ls credits) ≡ 8 * length ls
+  pub figures : length (figures account) ≡ figuresEach * length (contractsOf account) + 1
+  pub lines : (ls : List Line) (credits : List Amount) → length credits ≡ length ls → length (eightsFrom ls credits) ≡ figuresEach * length ls

@@ -3,6 +3,7 @@
 use crate::books::book_by;
 use crate::books::book_count;
 use crate::books::put_book;
+use crate::numbers::FIGURES_EACH;
 use crate::numbers::LONGEST_BOOK;
 use crate::numbers::LONGEST_USES;
 use crate::over::Lines;
@@ -61,7 +62,7 @@ ghost use Rattle.spread.specs.Accepted.{sound};
 ghost use Rattle.spread.specs.code.Book.{Booked};
 ghost use Rattle.margin.specs.code.Beside.{Besides, LinesKnown, LinedBy, TiersKnown};
 ghost use Rattle.margin.specs.Books.{answered, tableQuestion};
-ghost use Rattle.formulas.specs.Bounds.{longestBook, longestUses};
+ghost use Rattle.formulas.specs.Bounds.{longestBook, longestUses, figuresEach};
 ghost use Rattle.margin.specs.code.Lined.{TiersIn};
 ghost use Rattle.margin.specs.code.Positions.{Told, Known, ToldOf, ContractIn};
 ghost use Rattle.formulas.specs.code.Promised.{BookFit, LineOf, PositionFit, contractWith};
@@ -91,9 +92,9 @@ pub const ALL_USES: usize = LONGEST_USES * QUESTIONS;
 // How many numbers the figures have.
 fn figures_count(account: Account) -> usize
     requires { ⌜ account .contracts ≤ mostContracts ⌝ }
-    ensures { λ n. ⌜ n ≡ 8 * account .contracts + 1 ⌝ }
+    ensures { λ n. ⌜ n ≡ figuresEach * account .contracts + 1 ⌝ }
 {
-    8 * contract_total(account) + 1
+    FIGURES_EACH * contract_total(account) + 1
 }
 
 // The figures at the front of `out`, by the lines of an account of so many records. A refusal writes nothing.

@@ -16,14 +16,17 @@ ghost use lib.IntN.{pos};
 ghost use lib.ListN.{length, take, set};
 ghost use lib.Seq.{sets};
 ghost use Rattle.account.specs.Check.{mostPrompts};
-ghost use Rattle.formulas.specs.Bounds.{mostRisk, mostCredits};
+ghost use Rattle.formulas.specs.Bounds.{mostRisk, mostCredits, figuresEach};
 ghost use Rattle.formulas.specs.code.Lines.{LineWithin, marginWith, eightOf, figuresFrom};
 ghost use Rattle.margin.specs.code.Numbers.{LinesWithin, SpreadsSigned};
 ghost use Rattle.margin.specs.Books.{threes};
 ghost use Rattle.formulas.specs.code.Sums.{interleaved, deltasIn};
 
+// The numbers of a contract in the figures.
+pub const FIGURES_EACH: usize = 8;
+
 // The most numbers that the figures have: eight for each contract, and the total.
-pub const LONGEST_FIGURES: usize = 8 * CONTRACTS + 1;
+pub const LONGEST_FIGURES: usize = FIGURES_EACH * CONTRACTS + 1;
 
 // The most that a book has: three for each prompt, two for each spread, and how often a prompt was touched.
 pub const LONGEST_BOOK: usize = 3 * MOST_PROMPTS + 2 * MOST_SPREADS + 1;
@@ -49,7 +52,7 @@ fn margin_of(l: Line, credit: Amount) -> Amount
 
 // A contract's eight numbers, from a place on.
 fn put_eight(out: &mut [i64], at: usize, l: Line, credit: Amount, margin: Amount)
-    requires { ⌜ (at + 8 ≤ length (now out))
+    requires { ⌜ (at + figuresEach ≤ length (now out))
         × (LineWithin l × ((credit .0 ≤ mostCredits) × ((margin .0 ≡ marginWith l (credit .0)) × (margin .0 ≤ 3 * mostRisk)))) ⌝ }
     ensures { λ r. ⌜ now (out .exit) ≡ sets (now (out .entry)) at (map pos (eightOf l (credit .0))) ⌝ }
 {
@@ -98,7 +101,7 @@ pub(crate) fn put_lines(
     lines: [Line; CONTRACTS],
     credits: [Amount; CONTRACTS],
 )
-    requires { ⌜ LinesWithin count lines credits × (8 * count + 1 ≤ length (now out)) ⌝ }
+    requires { ⌜ LinesWithin count lines credits × (figuresEach * count + 1 ≤ length (now out)) ⌝ }
     ensures { λ r. ⌜ now (out .exit) ≡ sets (now (out .entry)) 0 (map pos (figuresFrom (take count lines) (take count credits))) ⌝ }
 {
     let mut total: u64 = 0;
@@ -107,11 +110,11 @@ pub(crate) fn put_lines(
         let line = lines[i];
         let credit = credits[i];
         let margin = margin_of(line, credit);
-        put_eight(out, i * 8, line, credit, margin);
+        put_eight(out, i * FIGURES_EACH, line, credit, margin);
         total += margin.0;
         i += 1;
     }
-    put(out, count * 8, total);
+    put(out, count * FIGURES_EACH, total);
 }
 
 // Three numbers for each prompt, from the front.

@@ -1,4 +1,5 @@
 // What an account's answers are made of: the lines of its contracts, its figures, and what is asked about by a question.
+use crate::numbers::FIGURES_EACH;
 use crate::numbers::LONGEST_FIGURES;
 use crate::numbers::put_lines;
 use crate::uses::Asking;
@@ -52,6 +53,7 @@ ghost use Rattle.formulas.specs.Contract.{contracts, partsIn, partsOf, asTier, 
 ghost use Rattle.margin.specs.Figures.{figures, accountTotal};
 ghost use Rattle.formulas.specs.code.Position.{RatedBy, withNets};
 ghost use Rattle.formulas.specs.code.Promised.{LineOf, PositionFit, BookFit, contractWith};
+ghost use Rattle.formulas.specs.Bounds.{figuresEach};
 ghost use Rattle.margin.specs.code.Beside.{ownOf, unitOf, Besides, LinesKnown, TiersKnown};
 ghost use Rattle.formulas.specs.code.Lines.{LineWithin, noLine};
 ghost use Rattle.margin.specs.code.Lined.{LinesOf, TierIs, TiersIn, PositionAt};
@@ -182,7 +184,7 @@ pub(crate) fn put_figures<'a>(
     out: &mut [i64],
 )
     requires { ⌜ Stands (now morning) (now noon) account
-        × (LinesKnown (accountOf (now morning) (now noon)) all × (8 * account .contracts + 1 ≤ length (now out))) ⌝ }
+        × (LinesKnown (accountOf (now morning) (now noon)) all × (figuresEach * account .contracts + 1 ≤ length (now out))) ⌝ }
     ensures { λ r. ⌜ ((whole : List Record) → Besides (accountOf (now (morning .entry)) (now (noon .entry))) whole → LinesOf whole all
         → now (out .exit) ≡ sets (now (out .entry)) 0 (figures whole)) ⌝ }
 {
@@ -201,7 +203,7 @@ pub fn total_over<'a>(morning: &'a [u8], noon: &'a [u8], account: Account) -> Am
     let lines = lines_of(morning, noon, account);
     let mut numbers = [0i64; LONGEST_FIGURES];
     put_figures(morning, noon, account, lines, &mut numbers);
-    let last = 8 * contract_total(account);
+    let last = FIGURES_EACH * contract_total(account);
     Amount(magnitude(numbers[last]))
 }
 

@@ -1,4 +1,5 @@
 // What the rows of each contract come to, worked out once for an account; and its lines, tiers and total from there.
+use crate::numbers::FIGURES_EACH;
 use crate::numbers::LONGEST_FIGURES;
 use crate::over::Lines;
 use crate::over::TABLE;
@@ -107,7 +108,7 @@ pub fn total_from<'a>(
     let lines = lines_from(morning, noon, account, positions);
     let mut numbers = [0i64; LONGEST_FIGURES];
     put_figures(morning, noon, account, lines, &mut numbers);
-    let last = 8 * contract_total(account);
+    let last = FIGURES_EACH * contract_total(account);
     Amount(magnitude(numbers[last]))
 }
 

@@ -18,9 +18,10 @@ use Rattle.account.specs.declared.answers.Answer.the-variants.{Accepted, TooFew
 use Rattle.account.specs.declared.noon.Verdict.{Verdict}
 use Rattle.account.proofs.NoonLaws.{stops, goes}
 use Rattle.account.proofs.Walk.{length-cut}
+use Rattle.account.proofs.AcceptedOnly.{some}
 use Rattle.margin.specs.declared.asking.Question.{Question}
 use Rattle.margin.specs.Questions.{notRefused, ifAccepted, numbersFor, answers, asked, answerOver, needOver}
-use Rattle.margin.proofs.QuestionLaws.{some, accepted-only, if-refused, if-accepted, not-asked, asked-few, asked-many}
+use Rattle.margin.proofs.QuestionLaws.{accepted-only, if-refused, if-accepted, not-asked, asked-few, asked-many}
 use Rattle.questions.specs.Noon.{joinedAnswer, joinedNeed}
 use Rattle.questions.specs.Questions.{answerTo, needTo, Needed}
 

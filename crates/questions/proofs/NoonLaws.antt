@@ -20,11 +20,12 @@ use Rattle.account.specs.declared.answers.Answer.the-variants.{Accepted, Amount
 use Rattle.account.specs.declared.noon.CheckedPair.{CheckedPair}
 use Rattle.account.specs.declared.noon.Verdict.{Verdict}
 use Rattle.account.proofs.NoonLaws.{stops, goes, joined-accepted}
+use Rattle.account.proofs.AcceptedOnly.{some}
 use Rattle.formulas.specs.declared.amount.Amount.{Amount}
 use Rattle.margin.specs.declared.asking.Question.{Question}
 use Rattle.margin.specs.Places.{allOver, afterAllOver}
 use Rattle.margin.specs.Questions.{numbersFor, answerOver, afterOver, afterwards, needOver, mostFor}
-use Rattle.margin.proofs.QuestionLaws.{some, after-refused}
+use Rattle.margin.proofs.QuestionLaws.{after-refused}
 use Rattle.questions.specs.declared.noon.AskedPair.{AskedPair}
 use Rattle.questions.specs.Noon.{joinedAnswer, afterJoined, joinedNeed, joinedAll, afterJoinedAll, requirement, coverCall, mostAmount, beyondAmount}
 use Rattle.questions.specs.Noon.{amountsWithin, callVerdict, joinedCall}

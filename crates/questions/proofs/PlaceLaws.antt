@@ -16,10 +16,11 @@ use Rattle.account.specs.declared.answers.Answer.{Answer}
 use Rattle.account.specs.declared.answers.Answer.the-variants.{Accepted}
 use Rattle.account.specs.declared.noon.Verdict.{Verdict}
 use Rattle.account.proofs.NoonLaws.{stops, goes}
+use Rattle.account.proofs.AcceptedOnly.{some}
 use Rattle.margin.specs.Places.{questions, questionOf, widthOf, place, allOver, afterAllOver, EachPlace}
 use Rattle.margin.specs.Questions.{notRefused, numbersFor, answerOver, afterwards}
 use Rattle.margin.proofs.PlaceLaws.{all-places}
-use Rattle.margin.proofs.QuestionLaws.{some, accepted-only, if-refused, if-accepted}
+use Rattle.margin.proofs.QuestionLaws.{accepted-only, if-refused, if-accepted}
 use Rattle.questions.specs.Noon.{joinedAll, afterJoined, afterJoinedAll}
 use Rattle.questions.specs.Questions.{allTo, afterTo, afterAllTo}
 

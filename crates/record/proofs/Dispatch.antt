@@ -6,6 +6,7 @@ use mathlib.Core.List.{[], map}
 use borrow.Author.Tests.{ne-eqb}
 use Rattle.record.specs.Bytes.{Record, countFrom}
 use Rattle.record.specs.Layout.{kind, fieldsOf, contractFields, promptFields, rowHead, lossField, rowFields, spreadFields, entryFields, rateFields}
+use Rattle.record.specs.Layout.{scenarioCount}
 use Rattle.record.specs.Ranges.{outside, outsideAmong}
 use Rattle.record.proofs.Tests.{both, any-append}
 
@@ -35,6 +36,6 @@ module _ (r : Record) where
 
 -- a row's fields are those before its losses, and its losses
 pub row-fields-outside :
-    (r : Record) {a b : Bool} → a ≡ outsideAmong (rowHead r) r → b ≡ outsideAmong (map lossField (countFrom 1 16)) r
+    (r : Record) {a b : Bool} → a ≡ outsideAmong (rowHead r) r → b ≡ outsideAmong (map lossField (countFrom 1 scenarioCount)) r
     → a || b ≡ outsideAmong (rowFields r) r
-row-fields-outside r p q = both p q ∙ sym (any-append (outside r) (rowHead r) (map lossField (countFrom 1 16)))
+row-fields-outside r p q = both p q ∙ sym (any-append (outside r) (rowHead r) (map lossField (countFrom 1 scenarioCount)))

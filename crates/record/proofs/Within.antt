@@ -12,9 +12,10 @@ use borrow.Author.Tests.{leb-true, not-false, eqb-true, eqb-false}
 use mathlib.Core.Logic.{_⊎_, inl, inr, ⊎-elim}
 use Rattle.record.specs.Bytes.{Record, Field, countFrom, numberIn, plain, signed, twosComplement}
 use Rattle.record.specs.Layout.{kind, contract, shortOptionRate, unitField, unitOf, tier, day, spreadRate, outrightRate, rowType, currency, value, put}
-use Rattle.record.specs.Layout.{legCount, ratePerSpread, legTier, legSide, legRatio, secondContract, percent, firstRatio, secondRatio, tenths}
+use Rattle.record.specs.Layout.{legCount, ratePerSpread, legTier, legSide, legRatio, secondContract, percent, firstRatio, secondRatio, tenths, mostTier}
 use Rattle.record.specs.Layout.{mostEntryRatio, fieldsOf, contractFields, promptFields, rowFields, spreadFields, entryFields, rateFields, legFields}
-use Rattle.record.specs.Layout.{thirdLeg, rateCurrency, spotRate, adjustment, lotsField, deltaField, lossField, hundredThousands}
+use Rattle.record.specs.Layout.{thirdLeg, rateCurrency, spotRate, adjustment, lotsField, deltaField, lossField, hundredThousands, scenarioCount}
+use Rattle.record.specs.Layout.{mostContract}
 use Rattle.record.specs.Ranges.{unknownKind, fieldOutside, beyond, outside, outsideAmong}
 use Rattle.record.specs.Within.{Between, ContractWithin, PromptWithin, RowWithin, LegWithin, SpreadWithin, EntryWithin, RateWithin}
 use Rattle.record.proofs.Dispatch.{of-contract, of-prompt, of-row, of-spread, of-entry, of-rate}
@@ -84,7 +85,7 @@ module _ (r : Record) where
   contract-within k h =
       let a = by contractFields (of-contract r k) h in
       record {
-        contracts = most 0 15 (contract r) (a .0);
+        contracts = most 0 mostContract (contract r) (a .0);
         rates = most 0 10000000 (shortOptionRate r) (a .1 .0);
         units = unit-in (numberIn unitField r) (most 0 1000 (numberIn unitField r) (a .1 .1 .0));
       }
@@ -100,8 +101,8 @@ module _ (r : Record) where
   prompt-within k h =
       let a = by promptFields (of-prompt r k) h in
       record {
-        contracts = most 0 15 (contract r) (a .0);
-        tiers = between 1 8 (tier r) (a .1 .0);
+        contracts = most 0 mostContract (contract r) (a .0);
+        tiers = between 1 mostTier (tier r) (a .1 .0);
         days = between 1 99999999 (day r) (a .1 .1 .0);
         spreadRates = most 0 10000000 (spreadRate r) (a .1 .1 .1 .0);
         outrightRates = most 0 10000000 (outrightRate r) (a .1 .1 .1 .1 .0);
@@ -120,7 +121,7 @@ module _ (r : Record) where
   row-within k h =
       let a = by (rowFields r) (of-row r k) h in
       record {
-        contracts = most 0 15 (contract r) (a .0);
+        contracts = most 0 mostContract (contract r) (a .0);
         types = most 0 2 (rowType r) (a .1 .0);
         currencies = most 0 7 (currency r) (a .1 .1 .0);
         days = between 1 99999999 (day r) (a .1 .1 .1 .0);
@@ -130,7 +131,7 @@ module _ (r : Record) where
         losses =
             λ s b.
             sized 100000 100000 100000 (numberIn (lossField s) r) (lit≤ tt) (lit≤ tt)
-            (loss-in 1 16 s (a .1 .1 .1 .1 .1 .1 .1 .1) (b .least) (omega arith));
+            (loss-in 1 scenarioCount s (a .1 .1 .1 .1 .1 .1 .1 .1) (b .least) (omega arith));
       }
     where
       delta-in :
@@ -142,7 +143,7 @@ module _ (r : Record) where
   leg-in : (leg : ℕ) → AllIn (legFields leg) → LegWithin r leg
   leg-in leg a =
       record {
-        tiers = between 1 8 (legTier r leg) (a .0);
+        tiers = between 1 mostTier (legTier r leg) (a .0);
         sides = between 1 2 (legSide r leg) (a .1 .0);
         ratios = between 1 100 (legRatio r leg) (a .1 .1 .0);
       }
@@ -153,7 +154,7 @@ module _ (r : Record) where
       let b = a .1 .1 .1 in
       let d = b .1 .1 .1 in
       record {
-        contracts = most 0 15 (contract r) (a .0);
+        contracts = most 0 mostContract (contract r) (a .0);
         legCounts = between 2 3 (legCount r) (a .1 .0);
         rates = most 0 10000000 (ratePerSpread r) (a .1 .1 .0);
         firstLeg = leg-in 0 (b .0, (b .1 .0, (b .1 .1 .0, tt)));
@@ -168,8 +169,8 @@ module _ (r : Record) where
   entry-within k h =
       let a = by (entryFields r) (of-entry r k) h in
       record {
-        contracts = most 0 15 (contract r) (a .0);
-        seconds = most 0 15 (secondContract r) (a .1 .0);
+        contracts = most 0 mostContract (contract r) (a .0);
+        seconds = most 0 mostContract (secondContract r) (a .1 .0);
         percents = most 0 100 (percent r) (a .1 .1 .0);
         firstRatios = between 1 (mostEntryRatio (tenths r)) (firstRatio r) (a .1 .1 .1 .0);
         secondRatios = between 1 (mostEntryRatio (tenths r)) (secondRatio r) (a .1 .1 .1 .1 .0);

@@ -2,9 +2,8 @@
 ghost use mathlib.Core.Path.{_≡_};
 ghost use Prim.Native.Nat.{_<_};
 ghost use Rattle.record.specs.Layout as Layout;
-ghost use Rattle.record.specs.Layout.{shortOptionRate, unitField, spreadRate, outrightRate, rowType};
-ghost use Rattle.record.specs.Layout.{legCount, ratePerSpread, legTier, legSide, legRatio, secondContract, firstRatio};
-ghost use Rattle.record.specs.Layout.{secondRatio, tenthsField, rateCurrency, spotRate};
+ghost use Rattle.record.specs.Layout.{shortOptionRate, unitField, spreadRate, outrightRate, rowType, legCount, ratePerSpread, legTier, legSide, legRatio};
+ghost use Rattle.record.specs.Layout.{secondContract, firstRatio, secondRatio, tenthsField, rateCurrency, spotRate};
 ghost use Rattle.record.specs.Bytes.{numberIn};
 use crate::bytes::byte_at;
 use crate::bytes::i32_at;

@@ -7,7 +7,7 @@ ghost use Rattle.record.specs.Bytes.{plain, signed, countFrom};
 ghost use lib.ListN.{length};
 ghost use Rattle.record.specs.Layout.{recordBytes, contractRange, dayRange, tierRange, rateRange, ratioRange, entryRatioRange, hundredThousands};
 ghost use Rattle.record.specs.Layout.{contractFields, promptFields, rowHead, spreadFields, entryFields, rateFields, strikeField, deltaField, forward};
-ghost use Rattle.record.specs.Layout.{put, lossField, legFields, thirdLeg};
+ghost use Rattle.record.specs.Layout.{put, lossField, legFields, thirdLeg, scenarioCount};
 ghost use Rattle.record.specs.Ranges as Ranges;
 ghost use Rattle.record.specs.Ranges.{outside, outsideAmong};
 use crate::bytes::byte_in;
@@ -115,7 +115,7 @@ fn delta_beyond(r: &[u8]) -> bool
 // The loop has no way out, so that many losses are tested at once.
 pub(crate) fn losses_beyond(r: &[u8]) -> bool
     requires { ⌜ recordBytes ≤ length (now r) ⌝ }
-    ensures { λ b. ⌜ b ≡ outsideAmong (map lossField (countFrom 1 16)) (now (r .entry)) ⌝ }
+    ensures { λ b. ⌜ b ≡ outsideAmong (map lossField (countFrom 1 scenarioCount)) (now (r .entry)) ⌝ }
 {
     let mut outside = false;
     let mut k = 0;

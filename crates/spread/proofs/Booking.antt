@@ -7,7 +7,7 @@ use mathlib.Core.Bool.{Bool, true, false, cond}
 use mathlib.Core.List.{List, []}
 use mathlib.Core.Path.{_≡_, sym, _∙_, ap}
 use lib.ListN.{replicate}
-use Rattle.spread.specs.Accepted.{openOf, spreadsOf, stepsOf, sound}
+use Rattle.spread.specs.Accepted.{openOf, spreadsOf, stepsOf, sound, promptPlaces, spreadPlaces}
 use Rattle.spread.specs.code.Book.{numbersOf, usedIn, unusedIn, byPlace, spreadsEntry, deltaEntry, Booked, Refused, Run, goneOf, Spent}
 use Rattle.spread.specs.code.Cells.{Pooled, numbersIn}
 use Rattle.spread.specs.Demand.{totalUse, Demand3, soundSteps}
@@ -44,17 +44,19 @@ booked-demand3 p t r b e = demand3-accepted p t (sym (b .accepted) ∙ e)
 
 -- what is refused has no numbers
 
-pub all-none {ℓ} : {A : Type ℓ} (z : A) (f : ℕ → A) → ((k : ℕ) → f k ≡ z) → replicate 32 z ≡ byPlace 32 f
-all-none z f h = filled-all z f 0 (replicate 32 z) (filled-none z f) (λ k g. h k)
+pub all-none {ℓ} : {A : Type ℓ} (n : ℕ) (z : A) (f : ℕ → A) → ((k : ℕ) → f k ≡ z) → replicate n z ≡ byPlace n f
+all-none n z f h = filled-all n z f 0 (replicate n z) (filled-none n z f) (λ k g. h k)
 
 pub booked-refused : (p : Prompts) (t : Table) (r : Book) → sound p t ≡ false → Refused r → Booked p t r
 booked-refused p t r e h =
     record {
       accepted = h .accepted ∙ sym e;
-      first = h .first ∙ all-none noSpreads (λ k. spreadsEntry (numbersOf p t) (2 * k)) (λ k. no-spreads (2 * k));
-      second = h .second ∙ all-none noSpreads (λ k. spreadsEntry (numbersOf p t) (2 * k + 1)) (λ k. no-spreads (2 * k + 1));
-      used = h .used ∙ all-none noDelta (deltaEntry (usedIn p t)) (λ k. ap (λ (b : Bool). deltaEntry (cond b (usedOf (stepsOf t) (openOf p)) []) k) e);
-      unused = h .unused ∙ all-none noDelta (deltaEntry (unusedIn p t)) (λ k. ap (λ (b : Bool). deltaEntry (cond b (unusedOf (stepsOf t) (openOf p)) []) k) e);
+      first = h .first ∙ all-none spreadPlaces noSpreads (λ k. spreadsEntry (numbersOf p t) (2 * k)) (λ k. no-spreads (2 * k));
+      second = h .second ∙ all-none spreadPlaces noSpreads (λ k. spreadsEntry (numbersOf p t) (2 * k + 1)) (λ k. no-spreads (2 * k + 1));
+      used = h .used ∙ all-none promptPlaces noDelta (deltaEntry (usedIn p t))
+          (λ k. ap (λ (b : Bool). deltaEntry (cond b (usedOf (stepsOf t) (openOf p)) []) k) e);
+      unused = h .unused ∙ all-none promptPlaces noDelta (deltaEntry (unusedIn p t))
+          (λ k. ap (λ (b : Bool). deltaEntry (cond b (unusedOf (stepsOf t) (openOf p)) []) k) e);
     }
   where
     no-spreads : (k : ℕ) → spreadsEntry (numbersOf p t) k ≡ noSpreads
@@ -83,16 +85,16 @@ pub booked-accepted : (p : Prompts) (t : Table) (cells l : List ℕ) (first seco
 booked-accepted p t cells l first second used unused e pools run spent =
     record {
       accepted = sym e;
-      first = run .firsts ∙ ap (λ (xs : List ℕ). byPlace 32 (λ k. spreadsEntry xs (2 * k))) formed;
-      second = run .seconds ∙ ap (λ (xs : List ℕ). byPlace 32 (λ k. spreadsEntry xs (2 * k + 1))) formed;
+      first = run .firsts ∙ ap (λ (xs : List ℕ). byPlace spreadPlaces (λ k. spreadsEntry xs (2 * k))) formed;
+      second = run .seconds ∙ ap (λ (xs : List ℕ). byPlace spreadPlaces (λ k. spreadsEntry xs (2 * k + 1))) formed;
       used =
           spent .useds
-          ∙ ap (λ (ps : List Open). byPlace 32 (deltaEntry (minus (deltas (openOf p)) (deltas ps)))) paid
-          ∙ ap (λ (b : Bool). byPlace 32 (deltaEntry (cond b (usedOf (stepsOf t) (openOf p)) []))) (sym e);
+          ∙ ap (λ (ps : List Open). byPlace promptPlaces (deltaEntry (minus (deltas (openOf p)) (deltas ps)))) paid
+          ∙ ap (λ (b : Bool). byPlace promptPlaces (deltaEntry (cond b (usedOf (stepsOf t) (openOf p)) []))) (sym e);
       unused =
           spent .unuseds
-          ∙ ap (λ (ps : List Open). byPlace 32 (deltaEntry (deltas ps))) paid
-          ∙ ap (λ (b : Bool). byPlace 32 (deltaEntry (cond b (unusedOf (stepsOf t) (openOf p)) []))) (sym e);
+          ∙ ap (λ (ps : List Open). byPlace promptPlaces (deltaEntry (deltas ps))) paid
+          ∙ ap (λ (b : Bool). byPlace promptPlaces (deltaEntry (cond b (unusedOf (stepsOf t) (openOf p)) []))) (sym e);
     }
   where
     formed : numbersIn (stepsOf t) cells ≡ numbersOf p t

@@ -9,19 +9,20 @@ use mathlib.Core.Path.{_≡_, ap, subst⁻¹}
 use lib.ListN.{length, getD, set}
 use lib.Seq.{take-all}
 use Rattle.exact.specs.Lists.{least}
-use Rattle.spread.specs.Accepted.{openOf, soundPrompts}
+use Rattle.spread.specs.Accepted.{openOf, soundPrompts, promptPlaces}
 use Rattle.spread.specs.code.Cells.{cellOf, mostPool, mostNumber, Small, Pooled, poolIn, roomIn, formedIn, lessIn, afterIn, Taken}
 use Rattle.spread.specs.Steps.{Taker, pool, room, legTakes}
 use Rattle.spread.specs.declared.Prompts.{Prompts}
 use Rattle.spread.proofs.Every.{open-length}
 use Rattle.spread.proofs.Gathering.{few, all-sound, pool-most}
 
-pub pooled-small : (p : Prompts) (cells : List ℕ) → length (p .tier) ≡ 32 → length (p .net) ≡ 32 → soundPrompts p ≡ true → Pooled cells (openOf p)
+pub pooled-small : (p : Prompts) (cells : List ℕ) → length (p .tier) ≡ promptPlaces → length (p .net) ≡ promptPlaces → soundPrompts p ≡ true
+    → Pooled cells (openOf p)
     → Small cells
 pooled-small p cells lt ln e h m t =
     let n = open-length p lt ln (few p e) in
-    let a = ap (pool m t) (take-all 32 (openOf p) (omega (arith, n, few p e))) in
-    omega (arith, a, h .each m t, pool-most m t 32 (openOf p) (all-sound p e))
+    let a = ap (pool m t) (take-all promptPlaces (openOf p) (omega (arith, n, few p e))) in
+    omega (arith, a, h .each m t, pool-most m t promptPlaces (openOf p) (all-sound p e))
 
 set-most : (l : List ℕ) (i k v most : ℕ) → getD l k 0 ≤ most → v ≤ most → getD (set l i v) k 0 ≤ most
 set-most [] i k v most h g = h

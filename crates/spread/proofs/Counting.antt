@@ -9,7 +9,7 @@ use mathlib.Core.List.{List, [], _∷_, map}
 use mathlib.Core.Path.{_≡_, sym, _∙_, ap, subst}
 use lib.ListN.{length, getD, drop, drop-of-length-le}
 use lib.Seq.{drop-cons, getD-take, take-all}
-use Rattle.spread.specs.Accepted.{openOf, spreadsOf, stepsOf, soundPrompts, sound}
+use Rattle.spread.specs.Accepted.{openOf, spreadsOf, stepsOf, soundPrompts, sound, promptPlaces, spreadPlaces}
 use Rattle.spread.specs.code.Book.{spreadsEntry, numbersOf}
 use Rattle.spread.specs.Steps.{stepOf, Market, Open, Taker, pool, roomFor, formed, after, numbers, steps}
 use Rattle.spread.specs.code.Cells.{mostPool, mostNumber}
@@ -29,7 +29,7 @@ use Rattle.spread.proofs.Spending.{pool-after}
 
 -- the numbers formed are those of the prompts, by spread
 abbrev pub Formed : List Spread → List Open → List Spreads → List Spreads → Type 0
-Formed ss ps first second = (k : ℕ) → k < 32
+Formed ss ps first second = (k : ℕ) → k < spreadPlaces
     → ((getD first k noSpreads) .0 ≡ getD (numbers (steps ss) ps) (2 * k) 0) × ((getD second k noSpreads) .0 ≡ getD (numbers (steps ss) ps) (2 * k + 1) 0)
 
 pub formed-by : (p : Prompts) (t : Table) (first second : List Spreads) → sound p t ≡ true → FormedBy p t first second
@@ -37,10 +37,10 @@ pub formed-by : (p : Prompts) (t : Table) (first second : List Spreads) → soun
 formed-by p t first second e h k l =
     let all : numbersOf p t ≡ numbers (stepsOf t) (openOf p) = ap (λ (b : Bool). cond b (numbers (stepsOf t) (openOf p)) []) e in (
       ap (λ (xs : List Spreads). (getD xs k noSpreads) .0) (h .firsts)
-          ∙ ap (λ (s : Spreads). s .0) (entries-at 32 (λ j. spreadsEntry (numbersOf p t) (2 * j)) k noSpreads l)
+          ∙ ap (λ (s : Spreads). s .0) (entries-at spreadPlaces (λ j. spreadsEntry (numbersOf p t) (2 * j)) k noSpreads l)
           ∙ ap (λ (ns : List ℕ). getD ns (2 * k) 0) all,
       ap (λ (xs : List Spreads). (getD xs k noSpreads) .0) (h .seconds)
-          ∙ ap (λ (s : Spreads). s .0) (entries-at 32 (λ j. spreadsEntry (numbersOf p t) (2 * j + 1)) k noSpreads l)
+          ∙ ap (λ (s : Spreads). s .0) (entries-at spreadPlaces (λ j. spreadsEntry (numbersOf p t) (2 * j + 1)) k noSpreads l)
           ∙ ap (λ (ns : List ℕ). getD ns (2 * k + 1) 0) all,
     )
 
@@ -59,15 +59,15 @@ numbers-most (s ∷ ss) ps h zero = formed-small s
 numbers-most (s ∷ ss) ps h (suc k) =
     numbers-most ss (after s (formed s ps) ps) (λ m t. let a = pool-after m t s (formed s ps) ps in let b = h m t in omega arith) k
 
-pub numbers-small : (p : Prompts) (t : Table) → length (p .tier) ≡ 32 → length (p .net) ≡ 32 → soundPrompts p ≡ true → (k : ℕ)
+pub numbers-small : (p : Prompts) (t : Table) → length (p .tier) ≡ promptPlaces → length (p .net) ≡ promptPlaces → soundPrompts p ≡ true → (k : ℕ)
     → getD (numbers (stepsOf t) (openOf p)) k 0 ≤ mostNumber
 numbers-small p t lt ln e = numbers-most (stepsOf t) (openOf p) small
   where
     small : (m : Market) (u : ℕ) → pool m u (openOf p) ≤ mostPool
     small m u =
         let n = open-length p lt ln (few p e) in
-        let a = ap (pool m u) (take-all 32 (openOf p) (omega (arith, n, few p e))) in
-        omega (arith, a, pool-most m u 32 (openOf p) (all-sound p e))
+        let a = ap (pool m u) (take-all promptPlaces (openOf p) (omega (arith, n, few p e))) in
+        omega (arith, a, pool-most m u promptPlaces (openOf p) (all-sound p e))
 
 -- i spreads are done: the prompts as they leave them, and the takes to come
 
@@ -163,7 +163,7 @@ counting-all ss ps i cs xs so-far h r =
 
 -- the same of a table whose array has 32 places
 pub table-counting : (t : Table) (ps : List Open) (i : ℕ) (cs xs ys zs a₁ a₂ : List ℕ) (so-far n₁ n₂ t₁ t₂ : ℕ) (d : Spread)
-    → length (t .spread) ≡ 32 → t .count ≤ 32 → i < t .count
+    → length (t .spread) ≡ spreadPlaces → t .count ≤ spreadPlaces → i < t .count
     → n₁ ≡ getD (numbers (stepsOf t) ps) (2 * i) 0
     → n₂ ≡ getD (numbers (stepsOf t) ps) (2 * i + 1) 0
     → StepTaken (stepOf false (getD (t .spread) i d)) n₁ cs xs ys a₁ t₁

@@ -3,12 +3,12 @@
 use Prim.Native.Nat.{ℕ, zero, suc, _+_, _≤_, _<_}
 use native.Mathlib.Numerals.{add-one}
 use native.Mathlib.Omega.{arith}
-use mathlib.Core.Bool.{Bool, true, false, _&&_}
+use mathlib.Core.Bool.{Bool, true, false, _&&_, and-true}
 use mathlib.Core.List.{List, [], _∷_}
 use mathlib.Core.Path.{_≡_, refl, sym, _∙_, ap}
 use lib.ListN.{length, getD, drop, drop-of-length-le}
 use lib.Seq.{drop-cons, getD-take, length-take-le}
-use Rattle.spread.specs.Accepted.{every, opens, openOf}
+use Rattle.spread.specs.Accepted.{every, opens, openOf, promptPlaces}
 use Rattle.spread.specs.Steps.{Open}
 use Rattle.spread.specs.declared.Delta.{Delta}
 use Rattle.spread.specs.declared.Prompts.{Prompts}
@@ -17,10 +17,6 @@ use Rattle.spread.proofs.Both.{and-left, and-right}
 pub and-assoc : (a b c : Bool) → a && (b && c) ≡ (a && b) && c
 and-assoc true b c = refl
 and-assoc false b c = refl
-
-pub and-true : (a : Bool) → a && true ≡ a
-and-true true = refl
-and-true false = refl
 
 module _ {ℓ} {A : Type ℓ} where
   -- tested so far, and still to test
@@ -61,10 +57,11 @@ opens-at (t ∷ ts) (d ∷ ds) zero dt dd do' h g = refl
 opens-at (t ∷ ts) (d ∷ ds) (suc i) dt dd do' h g = opens-at ts ds i dt dd do' (omega arith) (omega arith)
 
 -- of prompts whose arrays have 32 places
-pub open-length : (p : Prompts) → length (p .tier) ≡ 32 → length (p .net) ≡ 32 → p .count ≤ 32 → length (openOf p) ≡ p .count
-open-length p e f h = length-take-le (p .count) (opens (p .tier) (p .net)) (let l = opens-length (p .tier) (p .net) 32 e f in omega arith)
+pub open-length : (p : Prompts) → length (p .tier) ≡ promptPlaces → length (p .net) ≡ promptPlaces → p .count ≤ promptPlaces → length (openOf p) ≡ p .count
+open-length p e f h = length-take-le (p .count) (opens (p .tier) (p .net)) (let l = opens-length (p .tier) (p .net) promptPlaces e f in omega arith)
 
-pub open-at : (p : Prompts) (i : ℕ) (dt : ℕ) (dd : Delta) (do' : Open) → length (p .tier) ≡ 32 → length (p .net) ≡ 32 → p .count ≤ 32 → i < p .count
+pub open-at : (p : Prompts) (i : ℕ) (dt : ℕ) (dd : Delta) (do' : Open) → length (p .tier) ≡ promptPlaces → length (p .net) ≡ promptPlaces
+    → p .count ≤ promptPlaces → i < p .count
     → getD (openOf p) i do' ≡ record { tier = getD (p .tier) i dt; unused = (getD (p .net) i dd) .0 }
 open-at p i dt dd do' e f h g =
     getD-take (p .count) (opens (p .tier) (p .net)) i do' g

@@ -1,15 +1,17 @@
--- An array of 32 places that a loop fills from the front: what is filled, and nothing beyond it.
+-- An array that a loop fills from the front: what is filled, and nothing beyond it.
 -- Assumes nothing.
 use Prim.Native.Nat.{ℕ, zero, suc, _+_, _≤_, _<_}
 use native.Mathlib.Omega.{arith}
 use mathlib.Core.Bool.{Bool, true, false, cond}
-use mathlib.Core.List.{List, [], _∷_}
+use mathlib.Core.List.{List, [], _∷_, map}
 use mathlib.Core.Path.{_≡_, refl, sym, _∙_, ap, ap₂}
 use lib.Dec.{eqb, ltb}
-use lib.ListN.{length, getD, set, replicate, length-replicate, length-set}
+use lib.ListN.{length, getD, set, replicate, length-replicate, length-set, take}
 use lib.Seq.{getD-set-same, getD-set-other}
 use borrow.Author.Tests.{eqb-true, eqb-false, lt-ltb, le-ltb, ltb-true, ltb-false}
-use Rattle.spread.specs.code.Book.{byPlace}
+use Rattle.spread.specs.code.Book.{byPlace, deltaEntry}
+use Rattle.spread.specs.declared.Delta.{Delta}
+use lib.IntN.{ℤ}
 
 module _ {ℓ} {A : Type ℓ} where
   pub entries-at : (n : ℕ) (f : ℕ → A) (k : ℕ) (d : A) → k < n → getD (byPlace n f) k d ≡ f k
@@ -31,19 +33,19 @@ module _ {ℓ} {A : Type ℓ} where
   getD-same (suc n) z zero = refl
   getD-same (suc n) z (suc k) = getD-same n z k
 
-  pub record Filled (z : A) (f : ℕ → A) (i : ℕ) (l : List A) : Type ℓ where
-    pub size : length l ≡ 32
+  pub record Filled (n : ℕ) (z : A) (f : ℕ → A) (i : ℕ) (l : List A) : Type ℓ where
+    pub size : length l ≡ n
     pub each : (k : ℕ) → getD l k z ≡ cond (ltb k i) (f k) z
 
-  pub filled-none : (z : A) (f : ℕ → A) → Filled z f 0 (replicate 32 z)
-  filled-none z f =
+  pub filled-none : (n : ℕ) (z : A) (f : ℕ → A) → Filled n z f 0 (replicate n z)
+  filled-none n z f =
       record {
-        size = length-replicate 32 z;
-        each = λ k. getD-same 32 z k ∙ sym (ap (λ (b : Bool). cond b (f k) z) (le-ltb k 0 (omega arith)));
+        size = length-replicate n z;
+        each = λ k. getD-same n z k ∙ sym (ap (λ (b : Bool). cond b (f k) z) (le-ltb k 0 (omega arith)));
       }
 
-  pub filled-next : (z : A) (f : ℕ → A) (i : ℕ) (l : List A) (v : A) → Filled z f i l → i < 32 → v ≡ f i → Filled z f (i + 1) (set l i v)
-  filled-next z f i l v h g e = record { size = length-set l i v ∙ h .size; each = λ k. go k (eqb k i) refl }
+  pub filled-next : (n : ℕ) (z : A) (f : ℕ → A) (i : ℕ) (l : List A) (v : A) → Filled n z f i l → i < n → v ≡ f i → Filled n z f (i + 1) (set l i v)
+  filled-next n z f i l v h g e = record { size = length-set l i v ∙ h .size; each = λ k. go k (eqb k i) refl }
     where
       further : (k : ℕ) (b : Bool) → (k ≡ i → ⊥) → ltb k i ≡ b → ltb k (i + 1) ≡ b
       further k true d t = lt-ltb k (i + 1) (let s = ltb-true k i t in omega arith)
@@ -60,9 +62,18 @@ module _ {ℓ} {A : Type ℓ} where
           ∙ h .each k
           ∙ sym (ap (λ (b : Bool). cond b (f k) z) (further k (ltb k i) (eqb-false k i t) refl))
 
-  pub filled-all : (z : A) (f : ℕ → A) (i : ℕ) (l : List A) → Filled z f i l → ((k : ℕ) → i ≤ k → f k ≡ z) → l ≡ byPlace 32 f
-  filled-all z f i l h beyond = entries-from 32 f z l (h .size) (λ k g. h .each k ∙ go k (ltb k i) refl)
+  pub filled-all : (n : ℕ) (z : A) (f : ℕ → A) (i : ℕ) (l : List A) → Filled n z f i l → ((k : ℕ) → i ≤ k → f k ≡ z) → l ≡ byPlace n f
+  filled-all n z f i l h beyond = entries-from n f z l (h .size) (λ k g. h .each k ∙ go k (ltb k i) refl)
     where
       go : (k : ℕ) (b : Bool) → ltb k i ≡ b → cond b (f k) z ≡ f k
       go k true t = refl
       go k false t = sym (beyond k (ltb-false k i t))
+
+-- as many deltas as there are, read back from an array with room for them
+pub take-deltas : (zs : List ℤ) (n m : ℕ) → length zs ≡ n → n ≤ m → take n (map (λ (d : Delta). d .0) (byPlace m (deltaEntry zs))) ≡ zs
+unfolding byPlace
+take-deltas [] zero m e h = refl
+take-deltas [] (suc n) m e h = absurd (omega arith)
+take-deltas (z ∷ zs) zero m e h = absurd (omega arith)
+take-deltas (z ∷ zs) (suc n) zero e h = absurd (omega arith)
+take-deltas (z ∷ zs) (suc n) (suc m) e h = ap (λ (xs : List ℤ). z ∷ xs) (take-deltas zs n m (omega arith) (omega arith))

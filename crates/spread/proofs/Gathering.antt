@@ -9,11 +9,13 @@ use mathlib.Core.Path.{_≡_, refl, sym, _∙_, ap, ap₂, subst}
 use lib.Dec.{eqb, leb, ltb}
 use lib.IntN.{ℤ, pos, negsuc, natAbs}
 use lib.ListN.{length, getD, set, take, replicate, length-set, length-replicate}
-use lib.Seq.{take-suc}
-use borrow.Author.Tests.{eqb-true, eqb-false, eq-eqb, ne-eqb, ltb-true, leb-true}
+use lib.Seq.{take-suc, getD-take, length-take-le}
+use borrow.Author.Tests.{ltb-true, leb-true}
 use Rattle.exact.specs.Signed.{negative}
-use Rattle.spread.specs.Accepted.{openOf, every, mostDelta, soundPrompt, soundPrompts}
-use Rattle.spread.specs.code.Cells.{shortIf, cellOf, cellAt, Pooled}
+use Rattle.exact.proofs.Tests.{eqb-turned}
+use Rattle.spread.specs.Accepted.{openOf, every, mostDelta, soundPrompt, soundPrompts, tierCount, promptPlaces, spreadsOf, soundSpread, soundTable}
+use Rattle.spread.specs.Accepted.{spreadPlaces}
+use Rattle.spread.specs.code.Cells.{shortIf, cellOf, cellAt, Pooled, poolCount}
 use Rattle.spread.specs.Demand.{sameMarket, draws}
 use Rattle.spread.specs.Spend.{marketOf}
 use Rattle.spread.specs.Steps.{Market, long, short, Open, Taker, onSide, inTier, pool}
@@ -24,6 +26,8 @@ use Rattle.spread.proofs.Every.{open-length, open-at}
 use Rattle.spread.proofs.Filling.{getD-same}
 use Rattle.spread.proofs.Pooling.{cell-small, cell-set}
 use Rattle.spread.proofs.Spending.{draws-market, draws-tier}
+use Rattle.spread.specs.declared.Table.{Table}
+use Rattle.spread.specs.declared.Spread.{Spread}
 
 -- the side of a delta
 
@@ -34,13 +38,6 @@ side-market (negsuc n) = refl
 -- a prompt as a leg on its own pool
 abbrev pub own : Open → Taker
 own p = record { market = marketOf (p .unused); tier = p .tier; ratio = 1; tenths = false }
-
-pub eqb-turned : (a b : ℕ) → eqb a b ≡ eqb b a
-eqb-turned a b = go (eqb b a) refl
-  where
-    go : (t : Bool) → eqb b a ≡ t → eqb a b ≡ t
-    go true e = eq-eqb a b (sym (eqb-true b a e))
-    go false e = ne-eqb a b (λ h. eqb-false b a e (sym h))
 
 on-own-side : (m : Market) (z : ℤ) (b : Bool) → cond b (onSide m z) 0 ≡ cond (sameMarket (marketOf z) m && b) (natAbs z) 0
 on-own-side long (pos n) b = refl
@@ -61,11 +58,11 @@ every-at p [] i d e h = absurd (omega arith)
 every-at p (x ∷ l) zero d e h = and-left (p x) (every p l) e
 every-at p (x ∷ l) (suc i) d e h = every-at p l i d (and-right (p x) (every p l) e) (omega arith)
 
-pub tier-sound : (p : Open) → soundPrompt p ≡ true → p .tier < 16
-tier-sound p e = ltb-true (p .tier) 16 (and-left (ltb (p .tier) 16) (leb (natAbs (p .unused)) mostDelta) e)
+pub tier-sound : (p : Open) → soundPrompt p ≡ true → p .tier < tierCount
+tier-sound p e = ltb-true (p .tier) tierCount (and-left (ltb (p .tier) tierCount) (leb (natAbs (p .unused)) mostDelta) e)
 
 pub size-sound : (p : Open) → soundPrompt p ≡ true → natAbs (p .unused) ≤ 128000000000
-size-sound p e = leb-true (natAbs (p .unused)) mostDelta (and-right (ltb (p .tier) 16) (leb (natAbs (p .unused)) mostDelta) e)
+size-sound p e = leb-true (natAbs (p .unused)) mostDelta (and-right (ltb (p .tier) tierCount) (leb (natAbs (p .unused)) mostDelta) e)
 
 in-tier-most : (m : Market) (t : ℕ) (p : Open) → soundPrompt p ≡ true → inTier m t p ≤ 128000000000
 in-tier-most m t p e = let s = size-sound p e in let i = in-own-pool m t p in let g = go (draws m t (own p)) in omega arith
@@ -84,11 +81,21 @@ pool-most m t (suc i) (p ∷ ps) e =
 
 -- the prompts that are accepted
 
-pub few : (p : Prompts) → soundPrompts p ≡ true → p .count ≤ 32
-few p e = leb-true (p .count) 32 (and-left (leb (p .count) 32) (every soundPrompt (openOf p)) e)
+pub few : (p : Prompts) → soundPrompts p ≡ true → p .count ≤ promptPlaces
+few p e = leb-true (p .count) promptPlaces (and-left (leb (p .count) promptPlaces) (every soundPrompt (openOf p)) e)
+
+pub few-in-table : (t : Table) → soundTable t ≡ true → t .count ≤ spreadPlaces
+few-in-table t e = leb-true (t .count) spreadPlaces (and-left (leb (t .count) spreadPlaces) (every soundSpread (spreadsOf t)) e)
+
+pub sound-in-table : (t : Table) → length (t .spread) ≡ spreadPlaces → soundTable t ≡ true → (i : ℕ) (d : Spread) → i < t .count
+    → soundSpread (getD (t .spread) i d) ≡ true
+sound-in-table t len e i d h =
+    let n = length-take-le (t .count) (t .spread) (omega (arith, len, few-in-table t e)) in
+    subst (λ (s : Spread). soundSpread s ≡ true) (getD-take (t .count) (t .spread) i d h)
+    (every-at soundSpread (spreadsOf t) i d (and-right (leb (t .count) spreadPlaces) (every soundSpread (spreadsOf t)) e) (omega (arith, n)))
 
 pub all-sound : (p : Prompts) → soundPrompts p ≡ true → every soundPrompt (openOf p) ≡ true
-all-sound p e = and-right (leb (p .count) 32) (every soundPrompt (openOf p)) e
+all-sound p e = and-right (leb (p .count) promptPlaces) (every soundPrompt (openOf p)) e
 
 -- a prompt as the code finds it: its net delta, and the cell of its tier and side
 
@@ -99,7 +106,7 @@ pub record Placed (ps : List Open) (k : ℕ) (z : ℤ) (cell : ℕ) : Type 0 whe
   pub place : k < length ps
   pub net : z ≡ (getD ps k nothing) .unused
   pub own : cell ≡ cellOf (marketOf ((getD ps k nothing) .unused)) ((getD ps k nothing) .tier)
-  pub tiered : (getD ps k nothing) .tier < 16
+  pub tiered : (getD ps k nothing) .tier < tierCount
   pub most : natAbs ((getD ps k nothing) .unused) ≤ mostDelta
 
 abbrev pub noDelta : Delta
@@ -108,7 +115,7 @@ noDelta = record { 0 = pos 0 }
 abbrev pub netOf : Prompts → ℕ → ℤ
 netOf p i = (getD (p .net) i noDelta) .0
 
-pub placed : (p : Prompts) (i cell : ℕ) → length (p .tier) ≡ 32 → length (p .net) ≡ 32 → soundPrompts p ≡ true → i < p .count
+pub placed : (p : Prompts) (i cell : ℕ) → length (p .tier) ≡ promptPlaces → length (p .net) ≡ promptPlaces → soundPrompts p ≡ true → i < p .count
     → cell ≡ cellOf (marketOf (netOf p i)) (getD (p .tier) i 0)
     → Placed (openOf p) i (netOf p i) cell
 placed p i cell lt ln e h own =
@@ -123,14 +130,14 @@ placed p i cell lt ln e h own =
       most = size-sound (getD (openOf p) i nothing) s;
     }
 
-pub placed-within : (ps : List Open) (i : ℕ) (z : ℤ) (cell : ℕ) → Placed ps i z cell → cell < 32
+pub placed-within : (ps : List Open) (i : ℕ) (z : ℤ) (cell : ℕ) → Placed ps i z cell → cell < poolCount
 placed-within ps i z cell g =
-    subst (λ (k : ℕ). k < 32) (sym (g .own)) (cell-small (marketOf ((getD ps i nothing) .unused)) ((getD ps i nothing) .tier) (g .tiered))
+    subst (λ (k : ℕ). k < poolCount) (sym (g .own)) (cell-small (marketOf ((getD ps i nothing) .unused)) ((getD ps i nothing) .tier) (g .tiered))
 
 -- the pools of the prompts, one prompt after the other
 
-pub pooled-none : (ps : List Open) → Pooled (replicate 32 0) (take 0 ps)
-pooled-none ps = let z : ℕ = 0 in record { size = length-replicate 32 z; each = λ m t. getD-same 32 z (cellOf m t) }
+pub pooled-none : (ps : List Open) → Pooled (replicate poolCount 0) (take 0 ps)
+pooled-none ps = let z : ℕ = 0 in record { size = length-replicate poolCount z; each = λ m t. getD-same poolCount z (cellOf m t) }
 
 pool-snoc : (m : Market) (t : ℕ) (ps : List Open) (p : Open) → pool m t (ps ++ (p ∷ [])) ≡ pool m t ps + inTier m t p
 pool-snoc m t [] p = omega arith
@@ -142,7 +149,7 @@ grown-cell cells p m t true e =
     ap₂ (λ (n : Market) (u : ℕ). cellAt cells n u + natAbs (p .unused)) (sym (draws-market m t (own p) e)) (sym (draws-tier m t (own p) e))
 grown-cell cells p m t false e = omega arith
 
-pub pooled-next : (cells : List ℕ) (ps : List Open) (i : ℕ) (d : Open) → i < length ps → (getD ps i d) .tier < 16 → Pooled cells (take i ps)
+pub pooled-next : (cells : List ℕ) (ps : List Open) (i : ℕ) (d : Open) → i < length ps → (getD ps i d) .tier < tierCount → Pooled cells (take i ps)
     → Pooled
     (set cells (cellOf (marketOf ((getD ps i d) .unused)) ((getD ps i d) .tier))
     (cellAt cells (marketOf ((getD ps i d) .unused)) ((getD ps i d) .tier) + natAbs ((getD ps i d) .unused)))
@@ -164,7 +171,7 @@ module _ (p : Prompts) (i : ℕ) (z : ℤ) (cell : ℕ) (g : Placed (openOf p) i
   q : Open
   q = getD (openOf p) i nothing
 
-  pub pools-fit : soundPrompts p ≡ true → i < 32 → getD cells cell 0 + natAbs z < 2 ^ 64
+  pub pools-fit : soundPrompts p ≡ true → i < promptPlaces → getD cells cell 0 + natAbs z < 2 ^ 64
   unfolding q
   pools-fit sound h =
       let a = ap (λ (k : ℕ). getD cells k 0) (g .own) ∙ r .each (marketOf (q .unused)) (q .tier) in

@@ -10,37 +10,40 @@ use lib.IntN.{ℤ, natAbs}
 use lib.ListN.{length, getD, set, replicate, length-set, length-replicate}
 use lib.Seq.{getD-set-same, getD-set-other}
 use borrow.Author.Tests.{eqb-true, eqb-false, ltb-true, ltb-false}
-use Rattle.spread.specs.code.Cells.{cellOf}
+use Rattle.exact.proofs.Tests.{eqb-turned}
+use Rattle.spread.specs.code.Cells.{cellOf, poolCount}
 use Rattle.spread.specs.code.Passing.{Begun, SameAs, Laid}
 use Rattle.spread.specs.Spend.{marketOf}
 use Rattle.spread.specs.Steps.{Open}
+use Rattle.spread.specs.Accepted.{promptPlaces}
 use Rattle.spread.proofs.Filling.{getD-same}
-use Rattle.spread.proofs.Gathering.{eqb-turned, in-own-pool, nothing, Placed, placed-within}
+use Rattle.spread.proofs.Gathering.{in-own-pool, nothing, Placed, placed-within}
 use Rattle.spread.proofs.Passing.{laid-each}
 use Rattle.spread.proofs.Pooling.{same-cells}
 
 -- i prompts are laid
 pub record Laying (ps : List Open) (i : ℕ) (cs xs at : List ℕ) : Type 0 where
-  pub pools : length cs ≡ 32
-  pub sizes : length xs ≡ 32
-  pub places : length at ≡ 33
-  pub each : (k : ℕ) → k < i → (getD cs k 0 < 32) × SameAs (getD ps k nothing) (getD cs k 0) (getD xs k 0)
+  pub pools : length cs ≡ promptPlaces
+  pub sizes : length xs ≡ promptPlaces
+  pub places : length at ≡ poolCount + 1
+  pub each : (k : ℕ) → k < i → (getD cs k 0 < poolCount) × SameAs (getD ps k nothing) (getD cs k 0) (getD xs k 0)
   pub beyond : (k : ℕ) → i ≤ k → getD xs k 0 ≡ 0
   pub first : (k : ℕ) → k < i → getD at (getD cs k 0) 0 ≤ k
 
-pub laying-none : (ps : List Open) (cs xs at : List ℕ) → length cs ≡ 32 → xs ≡ replicate 32 0 → length at ≡ 33 → Laying ps 0 cs xs at
+pub laying-none : (ps : List Open) (cs xs at : List ℕ) → length cs ≡ promptPlaces → xs ≡ replicate promptPlaces 0 → length at ≡ poolCount + 1
+    → Laying ps 0 cs xs at
 laying-none ps cs xs at lc e la =
     let z : ℕ = 0 in
     record {
       pools = lc;
-      sizes = ap length e ∙ length-replicate 32 z;
+      sizes = ap length e ∙ length-replicate promptPlaces z;
       places = la;
       each = λ k h. absurd (omega arith);
-      beyond = λ k h. ap (λ (l : List ℕ). getD l k 0) e ∙ getD-same 32 z k;
+      beyond = λ k h. ap (λ (l : List ℕ). getD l k 0) e ∙ getD-same promptPlaces z k;
       first = λ k h. absurd (omega arith);
     }
 
-module _ (ps : List Open) (i : ℕ) (z : ℤ) (cell : ℕ) (g : Placed ps i z cell) (cs xs at : List ℕ) (h : i < 32) (r : Laying ps i cs xs at) where
+module _ (ps : List Open) (i : ℕ) (z : ℤ) (cell : ℕ) (g : Placed ps i z cell) (cs xs at : List ℕ) (h : i < promptPlaces) (r : Laying ps i cs xs at) where
   p : Open
   p = getD ps i nothing
 
@@ -65,7 +68,7 @@ module _ (ps : List Open) (i : ℕ) (z : ℤ) (cell : ℕ) (g : Placed ps i z ce
         first = λ k l. first-next k l (eqb k i) refl;
       }
     where
-      within : cell < 32
+      within : cell < poolCount
       within = placed-within ps i z cell g
 
       new-cell : getD (set cs i cell) i 0 ≡ cell
@@ -75,17 +78,20 @@ module _ (ps : List Open) (i : ℕ) (z : ℤ) (cell : ℕ) (g : Placed ps i z ce
       new-size = getD-set-same xs i (natAbs z) 0 (omega (arith, r .sizes, h))
 
       each-next : (k : ℕ) → k < i + 1 → (b : Bool) → eqb k i ≡ b
-          → (getD (set cs i cell) k 0 < 32) × SameAs (getD ps k nothing) (getD (set cs i cell) k 0) (getD (set xs i (natAbs z)) k 0)
+          → (getD (set cs i cell) k 0 < poolCount) × SameAs (getD ps k nothing) (getD (set cs i cell) k 0) (getD (set xs i (natAbs z)) k 0)
       each-next k l true e =
-          subst (λ (j : ℕ). (getD (set cs i cell) j 0 < 32) × SameAs (getD ps j nothing) (getD (set cs i cell) j 0) (getD (set xs i (natAbs z)) j 0))
-          (sym (eqb-true k i e))
-          (subst (λ (c : ℕ). c < 32) (sym new-cell) within, λ m t. own-size m t ∙ sym (ap₂ (λ (c x : ℕ). cond (eqb c (cellOf m t)) x 0) new-cell new-size))
+          subst (λ (j : ℕ). (getD (set cs i cell) j 0 < poolCount) × SameAs (getD ps j nothing) (getD (set cs i cell) j 0) (getD (set xs i (natAbs z)) j 0))
+          (sym (eqb-true k i e)) (
+            subst (λ (c : ℕ). c < poolCount) (sym new-cell) within,
+            λ m t. own-size m t
+                ∙ sym (ap₂ (λ (c x : ℕ). cond (eqb c (cellOf m t)) x 0) new-cell new-size),
+          )
       each-next k l false e =
           let d = eqb-false k i e in
           let old = r .each k (omega (arith, l, d)) in
           let ec = getD-set-other cs i k cell 0 d in
           let ex = getD-set-other xs i k (natAbs z) 0 d in
-          (subst (λ (c : ℕ). c < 32) (sym ec) (old .0), λ m t. old .1 m t ∙ sym (ap₂ (λ (c x : ℕ). cond (eqb c (cellOf m t)) x 0) ec ex))
+          (subst (λ (c : ℕ). c < poolCount) (sym ec) (old .0), λ m t. old .1 m t ∙ sym (ap₂ (λ (c x : ℕ). cond (eqb c (cellOf m t)) x 0) ec ex))
 
       lower : (c k : ℕ) → (b : Bool) → eqb c cell ≡ b → getD at c 0 ≤ k → getD (set at cell (min (getD at cell 0) i)) c 0 ≤ k
       lower c k true e l =
@@ -112,7 +118,7 @@ module _ (ps : List Open) (i : ℕ) (z : ℤ) (cell : ℕ) (g : Placed ps i z ce
           subst (λ (c : ℕ). getD (set at cell (min (getD at cell 0) i)) c 0 ≤ k) (sym ec)
           (lower (getD cs k 0) k (eqb (getD cs k 0) cell) refl (r .first k (omega (arith, l, d))))
 
-pub laying-all : (ps : List Open) (i : ℕ) (cs xs at : List ℕ) → length ps ≡ i → i ≤ 32 → Laying ps i cs xs at → Laid ps cs xs × Begun at cs xs
+pub laying-all : (ps : List Open) (i : ℕ) (cs xs at : List ℕ) → length ps ≡ i → i ≤ promptPlaces → Laying ps i cs xs at → Laid ps cs xs × Begun at cs xs
 laying-all ps i cs xs at e h r = (
   laid-each ps cs xs (omega (arith, e, h, r .pools)) (omega (arith, e, h, r .sizes)) (λ k l. r .each k (omega (arith, e, l))) (λ k l. r .beyond k (omega
       (arith, e, l))),

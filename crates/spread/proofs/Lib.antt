@@ -15,6 +15,7 @@ pub mod Running
 pub mod Soundness
 pub mod Spending
 pub mod Stepping
+pub mod Lengths
 pub mod Again
 pub mod Touching
 pub mod Passing

@@ -13,7 +13,8 @@ use lib.ListN.{length, getD, set, take, length-set, List·getD-eq-default}
 use lib.Seq.{getD-set-same, getD-set-other, set-out, take-nil}
 use borrow.Author.Tests.{eqb-true, eqb-false, eq-eqb, ne-eqb, ltb-true, ltb-false, lt-ltb}
 use Rattle.exact.specs.Lists.{oneIf}
-use Rattle.spread.specs.code.Cells.{cellOf}
+use Rattle.exact.proofs.Tests.{one-at-most}
+use Rattle.spread.specs.code.Cells.{cellOf, poolCount}
 use Rattle.spread.specs.Steps.{marketIn, stepOf, Market, Open, Taker, inTier, taker, useOf, less, gives, legTakes, takeFrom, after}
 use Rattle.spread.specs.Demand.{draws}
 use Rattle.spread.specs.code.Passing.{givesIn, sizesIn, touchesIn, sizesAfter, stepTouchesIn, UsedUp, Begun, Ready, Passed, LegTaken, StepTaken, SameAs}
@@ -21,6 +22,7 @@ use Rattle.spread.specs.code.Passing.{Laid}
 use Rattle.spread.specs.Touches.{legTouches, stepTouches}
 use Rattle.spread.specs.declared.Leg.{Leg}
 use Rattle.spread.specs.declared.Spread.{Spread}
+use Rattle.spread.specs.Accepted.{tierCount, promptPlaces}
 use Rattle.spread.proofs.Gathering.{nothing}
 use Rattle.spread.proofs.Nothing.{use-none}
 use Rattle.spread.proofs.Pooling.{out-of-range, same-cells}
@@ -120,10 +122,6 @@ module _ (cell : ℕ) where
 
 -- at most a take of each prompt
 
-one-at-most : (b : Bool) → oneIf b ≤ 1
-one-at-most true = omega arith
-one-at-most false = omega arith
-
 pub one-most : (b : Bool) (n : ℕ) → n ≡ oneIf b → n ≤ 1
 one-most b n e = let h = one-at-most b in omega arith
 
@@ -207,10 +205,11 @@ gives-most cell due c x {given} e = go (eqb c cell) e
     go true f = (omega arith, omega arith)
     go false f = (omega arith, omega arith)
 
-pub turn-less : (due k given place : ℕ) → 0 < due → k < 32 → place ≡ k + oneIf (ltb 0 (due - given)) → due - given + (32 - place) < due + (32 - k)
+pub turn-less : (due k given place : ℕ) → 0 < due → k < promptPlaces → place ≡ k + oneIf (ltb 0 (due - given))
+    → due - given + (promptPlaces - place) < due + (promptPlaces - k)
 turn-less due k given place h l e = go (ltb 0 (due - given)) refl e
   where
-    go : (b : Bool) → ltb 0 (due - given) ≡ b → place ≡ k + oneIf b → due - given + (32 - place) < due + (32 - k)
+    go : (b : Bool) → ltb 0 (due - given) ≡ b → place ≡ k + oneIf b → due - given + (promptPlaces - place) < due + (promptPlaces - k)
     go true f p = omega arith
     go false f p = let z = ltb-false 0 (due - given) f in omega arith
 
@@ -403,26 +402,26 @@ step-taken second s x y z legs number cs x₀ x₁ x₂ x₃ a₁ a₂ a₃ t₁
 -- ---- the lists are the prompts
 
 -- a leg draws on a prompt's cell exactly if it is its own
-draws-cell : (k : Taker) (m : Market) (t c : ℕ) → c < 32 → c ≡ cellOf m t → draws m t k ≡ eqb c (cellOf (k .market) (k .tier))
-draws-cell k m t c l e = go (ltb (k .tier) 16) refl
+draws-cell : (k : Taker) (m : Market) (t c : ℕ) → c < poolCount → c ≡ cellOf m t → draws m t k ≡ eqb c (cellOf (k .market) (k .tier))
+draws-cell k m t c l e = go (ltb (k .tier) tierCount) refl
   where
-    none : (b : Bool) → draws m t k ≡ b → 16 ≤ k .tier → b ≡ false
+    none : (b : Bool) → draws m t k ≡ b → tierCount ≤ k .tier → b ≡ false
     none true f g =
-        let o = out-of-range m t (subst (λ (u : ℕ). 16 ≤ u) (sym (draws-tier m t k f)) g) in
+        let o = out-of-range m t (subst (λ (u : ℕ). tierCount ≤ u) (sym (draws-tier m t k f)) g) in
         absurd (omega arith)
     none false f g = refl
 
-    go : (b : Bool) → ltb (k .tier) 16 ≡ b → draws m t k ≡ eqb c (cellOf (k .market) (k .tier))
-    go true f = sym (ap (λ (d : ℕ). eqb d (cellOf (k .market) (k .tier))) e ∙ same-cells m (k .market) t (k .tier) (ltb-true (k .tier) 16 f))
+    go : (b : Bool) → ltb (k .tier) tierCount ≡ b → draws m t k ≡ eqb c (cellOf (k .market) (k .tier))
+    go true f = sym (ap (λ (d : ℕ). eqb d (cellOf (k .market) (k .tier))) e ∙ same-cells m (k .market) t (k .tier) (ltb-true (k .tier) tierCount f))
     go false f =
-        none (draws m t k) refl (ltb-false (k .tier) 16 f)
-        ∙ sym (ne-eqb c (cellOf (k .market) (k .tier)) (λ d. let o = out-of-range (k .market) (k .tier) (ltb-false (k .tier) 16 f) in omega arith))
+        none (draws m t k) refl (ltb-false (k .tier) tierCount f)
+        ∙ sym (ne-eqb c (cellOf (k .market) (k .tier)) (λ d. let o = out-of-range (k .market) (k .tier) (ltb-false (k .tier) tierCount f) in omega arith))
 
 module _ (k : Taker) where
   gives-same : (w : ℕ) (p : Open) (c x : ℕ) → SameAs p c x → gives k w p ≡ givesIn (cellOf (k .market) (k .tier)) w c x
   gives-same w p c x h = ap (min w) (h (k .market) (k .tier))
 
-  less-same : (w : ℕ) (p : Open) (c x : ℕ) → c < 32 → SameAs p c x
+  less-same : (w : ℕ) (p : Open) (c x : ℕ) → c < poolCount → SameAs p c x
       → SameAs (less p (gives k w p)) c (x - givesIn (cellOf (k .market) (k .tier)) w c x)
   less-same w p c x l h m t =
       ap (λ (z : ℤ). inTier m t (record { tier = p .tier; unused = z })) (wants w (k .market) (p .unused) (eqb (p .tier) (k .tier)))
@@ -470,7 +469,7 @@ step-same (k ∷ ks) n ps cs xs h =
 
 -- prompt by prompt
 pub laid-each : (ps : List Open) (cs xs : List ℕ) → length ps ≤ length cs → length ps ≤ length xs
-    → ((k : ℕ) → k < length ps → (getD cs k 0 < 32) × SameAs (getD ps k nothing) (getD cs k 0) (getD xs k 0))
+    → ((k : ℕ) → k < length ps → (getD cs k 0 < poolCount) × SameAs (getD ps k nothing) (getD cs k 0) (getD xs k 0))
     → ((k : ℕ) → length ps ≤ k → getD xs k 0 ≡ 0)
     → Laid ps cs xs
 laid-each [] cs xs l g h z = λ k. z k (omega arith)

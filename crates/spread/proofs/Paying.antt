@@ -9,10 +9,11 @@ use lib.IntN.{ℤ, pos, natAbs, _-ℤ_}
 use lib.ListN.{length, getD, set, drop, replicate, length-set, drop-of-length-le}
 use lib.Seq.{drop-cons}
 use Rattle.spread.specs.code.Book.{deltaEntry, goneOf, Spent}
-use Rattle.spread.specs.code.Cells.{cellOf, cellAt}
+use Rattle.spread.specs.code.Cells.{cellOf, cellAt, poolCount}
 use Rattle.spread.specs.Spend.{marketOf, spend, deltas, usedBy}
 use Rattle.spread.specs.Steps.{Open, inTier, towardsZero, minus}
 use Rattle.spread.specs.declared.Delta.{Delta}
+use Rattle.spread.specs.Accepted.{promptPlaces}
 use Rattle.spread.proofs.Filling.{Filled, filled-none, filled-next, filled-all}
 use Rattle.spread.proofs.Gathering.{own, in-own-pool, nothing, Placed, noDelta}
 use Rattle.spread.proofs.Pooling.{cell-less}
@@ -22,19 +23,20 @@ use Rattle.spread.proofs.Spending.{spend-same}
 
 pub record Paying (had left : List ℕ) (ps : List Open) (i : ℕ) (now : List ℕ) (used unused : List Delta) : Type 0 where
   pub place : i ≤ length ps
-  pub size : length now ≡ 32
-  pub useds : Filled noDelta (deltaEntry (usedBy (goneOf had left) ps)) i used
-  pub unuseds : Filled noDelta (deltaEntry (deltas (spend (goneOf had left) ps))) i unused
+  pub size : length now ≡ poolCount
+  pub useds : Filled promptPlaces noDelta (deltaEntry (usedBy (goneOf had left) ps)) i used
+  pub unuseds : Filled promptPlaces noDelta (deltaEntry (deltas (spend (goneOf had left) ps))) i unused
   pub toUse : (j : ℕ) → getD (usedBy (goneOf had left) ps) (i + j) (pos 0) ≡ getD (usedBy (goneOf now left) (drop i ps)) j (pos 0)
   pub toLeave : (j : ℕ) → getD (deltas (spend (goneOf had left) ps)) (i + j) (pos 0) ≡ getD (deltas (spend (goneOf now left) (drop i ps))) j (pos 0)
 
-pub paying-none : (had left : List ℕ) (ps : List Open) → length had ≡ 32 → Paying had left ps 0 had (replicate 32 noDelta) (replicate 32 noDelta)
+pub paying-none : (had left : List ℕ) (ps : List Open) → length had ≡ poolCount
+    → Paying had left ps 0 had (replicate promptPlaces noDelta) (replicate promptPlaces noDelta)
 paying-none had left ps l =
     record {
       place = omega arith;
       size = l;
-      useds = filled-none noDelta (deltaEntry (usedBy (goneOf had left) ps));
-      unuseds = filled-none noDelta (deltaEntry (deltas (spend (goneOf had left) ps)));
+      useds = filled-none promptPlaces noDelta (deltaEntry (usedBy (goneOf had left) ps));
+      unuseds = filled-none promptPlaces noDelta (deltaEntry (deltas (spend (goneOf had left) ps)));
       toUse = λ j. ap (λ (k : ℕ). getD (usedBy (goneOf had left) ps) k (pos 0)) (omega arith);
       toLeave = λ j. ap (λ (k : ℕ). getD (deltas (spend (goneOf had left) ps)) k (pos 0)) (omega arith);
     }
@@ -43,14 +45,14 @@ paying-none had left ps l =
 gone-after : (a b x l n : ℕ) → n ≡ x → b ≡ a - x → a - l - n ≡ b - l
 gone-after a b x l n e f = omega arith
 
-pub wanted-after : (now left : List ℕ) (p : Open) (ps : List Open) → length now ≡ 32
+pub wanted-after : (now left : List ℕ) (p : Open) (ps : List Open) → length now ≡ poolCount
     → spend (λ m t. goneOf now left m t - inTier m t p) ps
     ≡ spend (goneOf (set now (cellOf (marketOf (p .unused)) (p .tier)) (cellAt now (marketOf (p .unused)) (p .tier) - natAbs (p .unused))) left) ps
 wanted-after now left p ps l =
     spend-same ps (λ m t. gone-after (cellAt now m t) _ _ (cellAt left m t) _ (in-own-pool m t p) (cell-less now (own p) (natAbs (p .unused)) m t l))
 
 module _ (had left : List ℕ) (ps : List Open) (i : ℕ) (now : List ℕ) (used unused : List Delta) (p : Open) (u v : Delta) (d : Open)
-    (h : i < length ps) (g : i < 32) (here : getD ps i d ≡ p)
+    (h : i < length ps) (g : i < promptPlaces) (here : getD ps i d ≡ p)
     (eu : u .0 ≡ p .unused -ℤ towardsZero (p .unused) (goneOf now left (marketOf (p .unused)) (p .tier)))
     (ev : v .0 ≡ towardsZero (p .unused) (goneOf now left (marketOf (p .unused)) (p .tier)))
     (r : Paying had left ps i now used unused) where
@@ -90,10 +92,10 @@ module _ (had left : List ℕ) (ps : List Open) (i : ℕ) (now : List ℕ) (used
         place = omega arith;
         size = length-set now (cellOf (marketOf (p .unused)) (p .tier)) (cellAt now (marketOf (p .unused)) (p .tier) - natAbs (p .unused)) ∙ r .size;
         useds =
-            filled-next noDelta (deltaEntry (usedBy (goneOf had left) ps)) i used u (r .useds) g
+            filled-next promptPlaces noDelta (deltaEntry (usedBy (goneOf had left) ps)) i used u (r .useds) g
             (ap (λ (z : ℤ). record { 0 = z }) (here-at (usedBy (goneOf had left) ps) (u .0) (pays 0)));
         unuseds =
-            filled-next noDelta (deltaEntry (deltas (spend (goneOf had left) ps))) i unused v (r .unuseds) g
+            filled-next promptPlaces noDelta (deltaEntry (deltas (spend (goneOf had left) ps))) i unused v (r .unuseds) g
             (ap (λ (z : ℤ). record { 0 = z }) (here-at (deltas (spend (goneOf had left) ps)) (v .0) (leaves 0)));
         toUse = λ j. ap (λ (k : ℕ). getD (usedBy (goneOf had left) ps) k (pos 0)) (shift j) ∙ pays (suc j);
         toLeave = λ j. ap (λ (k : ℕ). getD (deltas (spend (goneOf had left) ps)) k (pos 0)) (shift j) ∙ leaves (suc j);
@@ -103,8 +105,9 @@ pub paying-all : (had left : List ℕ) (ps : List Open) (i : ℕ) (now : List �
     → Paying had left ps i now used unused → Spent had left ps used unused
 paying-all had left ps i now used unused h r =
     record {
-      useds = filled-all noDelta (deltaEntry (usedBy (goneOf had left) ps)) i used (r .useds) (λ k g. ap (λ (z : ℤ). record { 0 = z }) (none-used k g));
-      unuseds = filled-all noDelta (deltaEntry (deltas (spend (goneOf had left) ps))) i unused (r .unuseds)
+      useds = filled-all promptPlaces noDelta (deltaEntry (usedBy (goneOf had left) ps)) i used (r .useds) (λ k g. ap (λ (z : ℤ). record { 0 = z })
+          (none-used k g));
+      unuseds = filled-all promptPlaces noDelta (deltaEntry (deltas (spend (goneOf had left) ps))) i unused (r .unuseds)
           (λ k g. ap (λ (z : ℤ). record { 0 = z }) (none-left k g));
     }
   where
@@ -124,7 +127,8 @@ paying-all had left ps i now used unused h r =
         ∙ ap (λ (l : List Open). getD (deltas (spend (goneOf now left) l)) (k - i) (pos 0)) (drop-of-length-le ps h)
 
 -- a turn of the code
-pub pay-next : (had left : List ℕ) (ps : List Open) (i : ℕ) (now more : List ℕ) (used unused : List Delta) (z : ℤ) (cell due : ℕ) (u v : Delta) → i < 32
+pub pay-next : (had left : List ℕ) (ps : List Open) (i : ℕ) (now more : List ℕ) (used unused : List Delta) (z : ℤ) (cell due : ℕ) (u v : Delta)
+    → i < promptPlaces
     → Placed ps i z cell
     → due ≡ getD now cell 0 - getD left cell 0
     → u .0 ≡ z -ℤ towardsZero z due

@@ -11,11 +11,12 @@ use lib.ListN.{length, getD, set, length-set, List·getD-eq-default}
 use lib.Seq.{getD-set-same, getD-set-other, set-out}
 use borrow.Author.Tests.{eqb-true, eqb-false, eq-eqb, ne-eqb, ltb-true, ltb-false, lt-ltb, le-ltb}
 use Rattle.exact.specs.Lists.{least}
-use Rattle.spread.specs.code.Cells.{parity, cellOf, shortIf, cellAt, Pooled, formedIn, lessIn, afterIn, numbersIn, leftIn}
+use Rattle.spread.specs.code.Cells.{parity, cellOf, shortIf, cellAt, Pooled, formedIn, lessIn, afterIn, numbersIn, leftIn, poolCount}
 use Rattle.spread.specs.Steps.{marketIn, Market, long, short, Open, Taker, pool, room, legTakes, takeFrom, formed, after, numbers, left}
 use Rattle.spread.specs.Demand.{sameMarket, draws}
 use Rattle.spread.specs.declared.Leg.{Leg}
 use Rattle.spread.proofs.Spending.{draws-market, draws-tier, take-spend, pool-spend}
+use Rattle.spread.specs.Accepted.{tierCount}
 
 -- a test is as another that holds exactly when it does
 same-test : (a b c d : ℕ) → (a ≡ b → c ≡ d) → (c ≡ d → a ≡ b) → eqb a b ≡ eqb c d
@@ -40,34 +41,34 @@ parity-small long = omega arith
 parity-small short = omega arith
 
 -- where a cell's pool stands: a tier in range, or no pool at all
-pub in-range : (m : Market) (t : ℕ) → t < 16 → cellOf m t ≡ 2 * t + parity m
-in-range m t h = rw (lt-ltb t 16 h)
+pub in-range : (m : Market) (t : ℕ) → t < tierCount → cellOf m t ≡ 2 * t + parity m
+in-range m t h = rw (lt-ltb t tierCount h)
 
-pub out-of-range : (m : Market) (t : ℕ) → 16 ≤ t → cellOf m t ≡ 32
-out-of-range m t h = rw (le-ltb t 16 h)
+pub out-of-range : (m : Market) (t : ℕ) → tierCount ≤ t → cellOf m t ≡ poolCount
+out-of-range m t h = rw (le-ltb t tierCount h)
 
-pub cell-small : (m : Market) (t : ℕ) → t < 16 → cellOf m t < 32
+pub cell-small : (m : Market) (t : ℕ) → t < tierCount → cellOf m t < poolCount
 cell-small m t h = let p = parity-small m in let e = in-range m t h in omega arith
 
-pub cell-most : (m : Market) (t : ℕ) → cellOf m t ≤ 32
-cell-most m t = go (ltb t 16) refl
+pub cell-most : (m : Market) (t : ℕ) → cellOf m t ≤ poolCount
+cell-most m t = go (ltb t tierCount) refl
   where
-    go : (b : Bool) → ltb t 16 ≡ b → cellOf m t ≤ 32
-    go true e = let s = cell-small m t (ltb-true t 16 e) in omega arith
-    go false e = let o = out-of-range m t (ltb-false t 16 e) in omega arith
+    go : (b : Bool) → ltb t tierCount ≡ b → cellOf m t ≤ poolCount
+    go true e = let s = cell-small m t (ltb-true t tierCount e) in omega arith
+    go false e = let o = out-of-range m t (ltb-false t tierCount e) in omega arith
 
-no-cell : (cells : List ℕ) (m : Market) (t : ℕ) → length cells ≡ 32 → 16 ≤ t → cellAt cells m t ≡ 0
+no-cell : (cells : List ℕ) (m : Market) (t : ℕ) → length cells ≡ poolCount → tierCount ≤ t → cellAt cells m t ≡ 0
 no-cell cells m t l h = ap (λ (k : ℕ). getD cells k 0) (out-of-range m t h) ∙ List·getD-eq-default cells 0 (omega arith)
 
-pub same-cells : (m n : Market) (t u : ℕ) → u < 16 → eqb (cellOf m t) (cellOf n u) ≡ sameMarket n m && eqb t u
-same-cells m n t u h = go (ltb t 16) refl
+pub same-cells : (m n : Market) (t u : ℕ) → u < tierCount → eqb (cellOf m t) (cellOf n u) ≡ sameMarket n m && eqb t u
+same-cells m n t u h = go (ltb t tierCount) refl
   where
-    go : (b : Bool) → ltb t 16 ≡ b → eqb (cellOf m t) (cellOf n u) ≡ sameMarket n m && eqb t u
-    go true e = ap₂ eqb (in-range m t (ltb-true t 16 e)) (in-range n u h) ∙ same-cell m n t u
+    go : (b : Bool) → ltb t tierCount ≡ b → eqb (cellOf m t) (cellOf n u) ≡ sameMarket n m && eqb t u
+    go true e = ap₂ eqb (in-range m t (ltb-true t tierCount e)) (in-range n u h) ∙ same-cell m n t u
     go false e =
         ne-eqb (cellOf m t) (cellOf n u)
-        (λ d. let s = cell-small n u h in let o = out-of-range m t (ltb-false t 16 e) in omega arith)
-        ∙ sym (ap (λ b. sameMarket n m && b) (ne-eqb t u (λ d. let g = ltb-false t 16 e in omega arith)) ∙ and-none (sameMarket n m))
+        (λ d. let s = cell-small n u h in let o = out-of-range m t (ltb-false t tierCount e) in omega arith)
+        ∙ sym (ap (λ b. sameMarket n m && b) (ne-eqb t u (λ d. let g = ltb-false t tierCount e in omega arith)) ∙ and-none (sameMarket n m))
 
 -- A legs are short in the second step, B legs in the first
 side-short : (b second : Bool) → shortIf (Bool·beq b second) ≡ cond second (cond b short long) (cond b long short)
@@ -81,7 +82,7 @@ side-market s true = side-short (eqb s 1) true
 side-market s false = side-short (eqb s 1) false
 
 -- the cell of a leg within the tiers
-pub cell-in-step : (l : Leg) (second b : Bool) → l .tier < 16 → Bool·beq (eqb (l .side) 1) second ≡ b
+pub cell-in-step : (l : Leg) (second b : Bool) → l .tier < tierCount → Bool·beq (eqb (l .side) 1) second ≡ b
     → cellOf (marketIn second (l .side)) (l .tier) ≡ 2 * l .tier + parity (shortIf b)
 cell-in-step l second b h e =
     ap (λ (m : Market). cellOf m (l .tier)) (sym (side-market (l .side) second))
@@ -89,7 +90,7 @@ cell-in-step l second b h e =
     ∙ ap (λ (a : Bool). 2 * l .tier + parity (shortIf a)) e
 
 -- one cell changed
-pub cell-set : (cells : List ℕ) (n : Market) (u v : ℕ) (m : Market) (t : ℕ) → length cells ≡ 32 → u < 16
+pub cell-set : (cells : List ℕ) (n : Market) (u v : ℕ) (m : Market) (t : ℕ) → length cells ≡ poolCount → u < tierCount
     → cellAt (set cells (cellOf n u) v) m t ≡ cond (sameMarket n m && eqb t u) v (cellAt cells m t)
 cell-set cells n u v m t l h = go (sameMarket n m && eqb t u) (same-cells m n t u h)
   where
@@ -100,27 +101,27 @@ cell-set cells n u v m t l h = go (sameMarket n m && eqb t u) (same-cells m n t 
     go false e = getD-set-other cells (cellOf n u) (cellOf m t) v 0 (eqb-false (cellOf m t) (cellOf n u) e)
 
 -- a pool lowered by an amount
-pub cell-less : (cells : List ℕ) (k : Taker) (a : ℕ) (m : Market) (t : ℕ) → length cells ≡ 32
+pub cell-less : (cells : List ℕ) (k : Taker) (a : ℕ) (m : Market) (t : ℕ) → length cells ≡ poolCount
     → cellAt (set cells (cellOf (k .market) (k .tier)) (cellAt cells (k .market) (k .tier) - a)) m t ≡ cellAt cells m t - cond (draws m t k) a 0
-cell-less cells k a m t l = go (ltb (k .tier) 16) refl
+cell-less cells k a m t l = go (ltb (k .tier) tierCount) refl
   where
     own : (b : Bool) → draws m t k ≡ b → cond b (cellAt cells (k .market) (k .tier) - a) (cellAt cells m t) ≡ cellAt cells m t - cond b a 0
     own true e = ap₂ (λ n u. cellAt cells n u - a) (sym (draws-market m t k e)) (sym (draws-tier m t k e))
     own false e = sym (sub-zero (cellAt cells m t))
 
-    none : (b : Bool) → draws m t k ≡ b → 16 ≤ k .tier → cellAt cells m t ≡ cellAt cells m t - cond b a 0
-    none true e h = let z = no-cell cells m t l (subst (λ (u : ℕ). 16 ≤ u) (sym (draws-tier m t k e)) h) in omega arith
+    none : (b : Bool) → draws m t k ≡ b → tierCount ≤ k .tier → cellAt cells m t ≡ cellAt cells m t - cond b a 0
+    none true e h = let z = no-cell cells m t l (subst (λ (u : ℕ). tierCount ≤ u) (sym (draws-tier m t k e)) h) in omega arith
     none false e h = sym (sub-zero (cellAt cells m t))
 
-    go : (b : Bool) → ltb (k .tier) 16 ≡ b
+    go : (b : Bool) → ltb (k .tier) tierCount ≡ b
         → cellAt (set cells (cellOf (k .market) (k .tier)) (cellAt cells (k .market) (k .tier) - a)) m t ≡ cellAt cells m t - cond (draws m t k) a 0
     go true e =
-        cell-set cells (k .market) (k .tier) (cellAt cells (k .market) (k .tier) - a) m t l (ltb-true (k .tier) 16 e) ∙ own (draws m t k) refl
+        cell-set cells (k .market) (k .tier) (cellAt cells (k .market) (k .tier) - a) m t l (ltb-true (k .tier) tierCount e) ∙ own (draws m t k) refl
     go false e =
         ap (λ (l : List ℕ). cellAt l m t)
         (set-out cells (cellOf (k .market) (k .tier)) (cellAt cells (k .market) (k .tier) - a)
-        (let o = out-of-range (k .market) (k .tier) (ltb-false (k .tier) 16 e) in omega arith))
-        ∙ none (draws m t k) refl (ltb-false (k .tier) 16 e)
+        (let o = out-of-range (k .market) (k .tier) (ltb-false (k .tier) tierCount e) in omega arith))
+        ∙ none (draws m t k) refl (ltb-false (k .tier) tierCount e)
 
 -- the steps, on cells that hold the pools of the prompts
 

@@ -10,7 +10,7 @@ use lib.Dec.{leb}
 use lib.ListN.{length, getD, set, drop, replicate, drop-of-length-le}
 use lib.Seq.{drop-cons, getD-take, length-take-le}
 use borrow.Author.Tests.{leb-true}
-use Rattle.spread.specs.Accepted.{every, spreadsOf, soundSpread, soundTable}
+use Rattle.spread.specs.Accepted.{every, spreadsOf, soundSpread, soundTable, spreadPlaces}
 use Rattle.spread.specs.code.Book.{spreadsEntry, Run}
 use Rattle.spread.specs.Steps.{stepOf, steps}
 use Rattle.spread.specs.code.Cells.{numbersIn, leftIn, Taken}
@@ -33,17 +33,17 @@ secondOf cells ss k = spreadsEntry (numbersIn (steps ss) cells) (2 * k + 1)
 -- i spreads are done, and the cells are as they leave them
 pub record Running (cells : List ℕ) (ss : List Spread) (i : ℕ) (now : List ℕ) (first second : List Spreads) : Type 0 where
   pub place : i ≤ length ss
-  pub firsts : Filled noSpreads (firstOf cells ss) i first
-  pub seconds : Filled noSpreads (secondOf cells ss) i second
+  pub firsts : Filled spreadPlaces noSpreads (firstOf cells ss) i first
+  pub seconds : Filled spreadPlaces noSpreads (secondOf cells ss) i second
   pub toGo : (j : ℕ) → getD (numbersIn (steps ss) cells) (2 * i + j) 0 ≡ getD (numbersIn (steps (drop i ss)) now) j 0
   pub leaves : leftIn (steps ss) cells ≡ leftIn (steps (drop i ss)) now
 
-pub running-none : (cells : List ℕ) (ss : List Spread) → Running cells ss 0 cells (replicate 32 noSpreads) (replicate 32 noSpreads)
+pub running-none : (cells : List ℕ) (ss : List Spread) → Running cells ss 0 cells (replicate spreadPlaces noSpreads) (replicate spreadPlaces noSpreads)
 running-none cells ss =
     record {
       place = omega arith;
-      firsts = filled-none noSpreads (firstOf cells ss);
-      seconds = filled-none noSpreads (secondOf cells ss);
+      firsts = filled-none spreadPlaces noSpreads (firstOf cells ss);
+      seconds = filled-none spreadPlaces noSpreads (secondOf cells ss);
       toGo = λ j. ap (λ (k : ℕ). getD (numbersIn (steps ss) cells) k 0) (omega arith);
       leaves = refl;
     }
@@ -61,7 +61,7 @@ pair-numbers s ss now l₁ l₂ n₁ n₂ a b =
     ∙ ap₂ (λ (n : ℕ) (l : List ℕ). n₁ ∷ n ∷ numbersIn (steps ss) l) (sym (b .formed)) (sym (b .leaves))
 
 pub running-next : (cells : List ℕ) (ss : List Spread) (i : ℕ) (now l₁ l₂ : List ℕ) (first second : List Spreads) (d : Spread) (n₁ n₂ : Spreads)
-    → i < length ss → i < 32
+    → i < length ss → i < spreadPlaces
     → Taken (stepOf false (getD ss i d)) now l₁ (n₁ .0)
     → Taken (stepOf true (getD ss i d)) l₁ l₂ (n₂ .0)
     → Running cells ss i now first second
@@ -69,8 +69,8 @@ pub running-next : (cells : List ℕ) (ss : List Spread) (i : ℕ) (now l₁ l�
 running-next cells ss i now l₁ l₂ first second d n₁ n₂ h g a b r =
     record {
       place = omega arith;
-      firsts = filled-next noSpreads (firstOf cells ss) i first n₁ (r .firsts) g (ap (λ (n : ℕ). record { 0 = n }) own);
-      seconds = filled-next noSpreads (secondOf cells ss) i second n₂ (r .seconds) g (ap (λ (n : ℕ). record { 0 = n }) reverse);
+      firsts = filled-next spreadPlaces noSpreads (firstOf cells ss) i first n₁ (r .firsts) g (ap (λ (n : ℕ). record { 0 = n }) own);
+      seconds = filled-next spreadPlaces noSpreads (secondOf cells ss) i second n₂ (r .seconds) g (ap (λ (n : ℕ). record { 0 = n }) reverse);
       toGo = λ j. ap (λ (k : ℕ). getD (numbersIn (steps ss) cells) k 0) (shift j) ∙ at (suc (suc j))
           ∙ ap (λ (k : ℕ). getD (numbersIn (steps (drop k ss)) l₂) j 0) (sym (add-one i));
       leaves =
@@ -99,8 +99,10 @@ pub running-all : (cells : List ℕ) (ss : List Spread) (i : ℕ) (now : List �
     → Running cells ss i now first second → Run cells ss now first second
 running-all cells ss i now first second h r =
     record {
-      firsts = filled-all noSpreads (firstOf cells ss) i first (r .firsts) (λ k g. ap (λ (n : ℕ). record { 0 = n }) (beyond (2 * k) (omega arith)));
-      seconds = filled-all noSpreads (secondOf cells ss) i second (r .seconds) (λ k g. ap (λ (n : ℕ). record { 0 = n }) (beyond (2 * k + 1) (omega arith)));
+      firsts = filled-all spreadPlaces noSpreads (firstOf cells ss) i first (r .firsts)
+          (λ k g. ap (λ (n : ℕ). record { 0 = n }) (beyond (2 * k) (omega arith)));
+      seconds = filled-all spreadPlaces noSpreads (secondOf cells ss) i second (r .seconds)
+          (λ k g. ap (λ (n : ℕ). record { 0 = n }) (beyond (2 * k + 1) (omega arith)));
       leaves = sym (r .leaves ∙ ap (λ (l : List Spread). leftIn (steps l) now) (drop-of-length-le ss h));
     }
   where
@@ -115,21 +117,22 @@ running-all cells ss i now first second h r =
 
 -- the same of the spreads of a table whose array has 32 places
 
-pub table-length : (t : Table) → length (t .spread) ≡ 32 → t .count ≤ 32 → length (spreadsOf t) ≡ t .count
+pub table-length : (t : Table) → length (t .spread) ≡ spreadPlaces → t .count ≤ spreadPlaces → length (spreadsOf t) ≡ t .count
 table-length t l h = length-take-le (t .count) (t .spread) (omega arith)
 
 -- of a table that is accepted
-pub table-few : (t : Table) → soundTable t ≡ true → t .count ≤ 32
-table-few t e = leb-true (t .count) 32 (and-left (leb (t .count) 32) (every soundSpread (spreadsOf t)) e)
+pub table-few : (t : Table) → soundTable t ≡ true → t .count ≤ spreadPlaces
+table-few t e = leb-true (t .count) spreadPlaces (and-left (leb (t .count) spreadPlaces) (every soundSpread (spreadsOf t)) e)
 
-pub table-at : (t : Table) (i : ℕ) (d : Spread) → length (t .spread) ≡ 32 → soundTable t ≡ true → i < t .count → soundSpread (getD (t .spread) i d) ≡ true
+pub table-at : (t : Table) (i : ℕ) (d : Spread) → length (t .spread) ≡ spreadPlaces → soundTable t ≡ true → i < t .count
+    → soundSpread (getD (t .spread) i d) ≡ true
 table-at t i d l e h =
     let n = table-length t l (table-few t e) in
     sym (ap soundSpread (getD-take (t .count) (t .spread) i d h))
-    ∙ every-at soundSpread (spreadsOf t) i d (and-right (leb (t .count) 32) (every soundSpread (spreadsOf t)) e) (omega arith)
+    ∙ every-at soundSpread (spreadsOf t) i d (and-right (leb (t .count) spreadPlaces) (every soundSpread (spreadsOf t)) e) (omega arith)
 
 pub table-next : (t : Table) (cells : List ℕ) (i : ℕ) (now l₁ l₂ : List ℕ) (first second : List Spreads) (d : Spread) (n₁ n₂ : Spreads)
-    → length (t .spread) ≡ 32 → t .count ≤ 32 → i < t .count
+    → length (t .spread) ≡ spreadPlaces → t .count ≤ spreadPlaces → i < t .count
     → Taken (stepOf false (getD (t .spread) i d)) now l₁ (n₁ .0)
     → Taken (stepOf true (getD (t .spread) i d)) l₁ l₂ (n₂ .0)
     → Running cells (spreadsOf t) i now first second

@@ -10,6 +10,7 @@ use lib.ListN.{length, getD, take}
 use borrow.Author.Tests.{eqb-true, ltb-true, not-true}
 use Rattle.exact.specs.Lists.{any}
 use Rattle.spread.specs.Accepted.{spreadsOf, stepsOf, every, whole, soundLeg, sameLeg, soundLegsOf, soundSpread, soundPrompts, soundTable, sound}
+use Rattle.spread.specs.Accepted.{tierCount, spreadPlaces}
 use Rattle.spread.specs.Steps.{marketIn, stepOf, Market, taker, firstMarket, secondMarket, legsOf, steps}
 use Rattle.spread.specs.Demand.{sameMarket, draws, wholeStep, wholeSteps, soundLegs, soundStep, soundSteps}
 use Rattle.spread.specs.declared.Leg.{Leg}
@@ -40,15 +41,15 @@ side-of : (l : Leg) → soundLeg l ≡ true → (l .side ≡ 1) ⊎ (l .side ≡
 side-of l e =
     one-of (l .side) 1 2
     (and-left (eqb (l .side) 1 || eqb (l .side) 2) (ltb 0 (l .ratio))
-    (and-right (ltb (l .tier) 16) ((eqb (l .side) 1 || eqb (l .side) 2) && ltb 0 (l .ratio)) e))
+    (and-right (ltb (l .tier) tierCount) ((eqb (l .side) 1 || eqb (l .side) 2) && ltb 0 (l .ratio)) e))
 
 pub ratio-of : (l : Leg) → soundLeg l ≡ true → ltb 0 (l .ratio) ≡ true
 ratio-of l e =
     and-right (eqb (l .side) 1 || eqb (l .side) 2) (ltb 0 (l .ratio))
-    (and-right (ltb (l .tier) 16) ((eqb (l .side) 1 || eqb (l .side) 2) && ltb 0 (l .ratio)) e)
+    (and-right (ltb (l .tier) tierCount) ((eqb (l .side) 1 || eqb (l .side) 2) && ltb 0 (l .ratio)) e)
 
-pub tier-of : (l : Leg) → soundLeg l ≡ true → l .tier < 16
-tier-of l e = ltb-true (l .tier) 16 (and-left (ltb (l .tier) 16) ((eqb (l .side) 1 || eqb (l .side) 2) && ltb 0 (l .ratio)) e)
+pub tier-of : (l : Leg) → soundLeg l ≡ true → l .tier < tierCount
+tier-of l e = ltb-true (l .tier) tierCount (and-left (ltb (l .tier) tierCount) ((eqb (l .side) 1 || eqb (l .side) 2) && ltb 0 (l .ratio)) e)
 
 -- what a sound list of legs says of its first and of the others
 
@@ -166,7 +167,7 @@ steps-sound (s ∷ ss) e =
 pub table-sound : (p : Prompts) (t : Table) → sound p t ≡ true → soundSteps (stepsOf t) ≡ true
 table-sound p t e =
     steps-sound (spreadsOf t)
-    (and-right (leb (t .count) 32) (every soundSpread (spreadsOf t)) (and-right (soundPrompts p) (soundTable t) e))
+    (and-right (leb (t .count) spreadPlaces) (every soundSpread (spreadsOf t)) (and-right (soundPrompts p) (soundTable t) e))
 
 -- of a table without tenths no step has any
 

@@ -13,7 +13,7 @@ use borrow.Author.Tests.{leb-true, le-leb}
 use native.Mathlib.Nat.{add-zero}
 use Rattle.exact.specs.Lists.{sumℤ}
 use Rattle.exact.proofs.Integers.{abs-towards-zero}
-use Rattle.spread.specs.Accepted.{mostDelta, every, opens, openOf, soundPrompt, soundPrompts, soundSpread}
+use Rattle.spread.specs.Accepted.{mostDelta, every, opens, openOf, soundPrompt, soundPrompts, soundSpread, tierCount, promptPlaces}
 use Rattle.spread.specs.code.Book.{byPlace, deltaEntry, goneOf, Spent}
 use Rattle.spread.specs.Steps.{stepOf, Market, Open, Taker, onSide, inTier, towardsZero, less, formed, after, numbers, left, minus, usedOf, unusedOf}
 use Rattle.spread.specs.code.Cells.{Pooled, Taken}
@@ -41,12 +41,12 @@ stepped-refused p s second r e h =
     record {
       accepted = h .accepted ∙ sym e;
       number = h .number ∙ sym (ap (λ (b : Bool). cond b (formed (stepOf second s) (openOf p)) 0) e);
-      taken = h .taken ∙ all-none noDelta (deltaEntry (cond (soundFor p s) (takenOf (stepOf second s) (openOf p)) []))
+      taken = h .taken ∙ all-none promptPlaces noDelta (deltaEntry (cond (soundFor p s) (takenOf (stepOf second s) (openOf p)) []))
           (λ k. ap (λ (b : Bool). deltaEntry (cond b (takenOf (stepOf second s) (openOf p)) []) k) e);
       count = ap (λ (q : Prompts). q .count) (h .left);
       tiers = ap (λ (q : Prompts). q .tier) (h .left);
       nets = ap (λ (q : Prompts). q .net) (h .left)
-          ∙ sym (ap (λ (b : Bool). cond b (byPlace 32 (deltaEntry (unusedOf (stepOf second s ∷ []) (openOf p)))) (p .net)) e);
+          ∙ sym (ap (λ (b : Bool). cond b (byPlace promptPlaces (deltaEntry (unusedOf (stepOf second s ∷ []) (openOf p)))) (p .net)) e);
       leaves = ap openOf (h .left) ∙ sym (ap (λ (b : Bool). cond b (after (stepOf second s) (formed (stepOf second s) (openOf p)) (openOf p)) (openOf p)) e);
       sound = ap soundPrompts (h .left);
     }
@@ -106,18 +106,19 @@ again (suc m) (q ∷ qs) (t ∷ ts) e h =
     (sym (ap (λ (l : List ℕ). getD l 0 0) e))
     (again m qs ts (ap (drop 1) e) (omega arith))
 
-module _ (p : Prompts) (s : Spread) (second : Bool) (e : soundFor p s ≡ true) (lt : length (p .tier) ≡ 32) (ln : length (p .net) ≡ 32) where
-  few-prompts : p .count ≤ 32
-  few-prompts = leb-true (p .count) 32 (and-left (leb (p .count) 32) (every soundPrompt (openOf p)) (and-left (soundPrompts p) (soundSpread s) e))
+module _ (p : Prompts) (s : Spread) (second : Bool) (e : soundFor p s ≡ true) (lt : length (p .tier) ≡ promptPlaces) (ln : length (p .net) ≡ promptPlaces) where
+  few-prompts : p .count ≤ promptPlaces
+  few-prompts = leb-true (p .count) promptPlaces (and-left (leb (p .count) promptPlaces) (every soundPrompt (openOf p))
+      (and-left (soundPrompts p) (soundSpread s) e))
 
   rest : List Open
   rest = after (stepOf second s) (formed (stepOf second s) (openOf p)) (openOf p)
 
-  leaves-rest : take (p .count) (opens (p .tier) (byPlace 32 (deltaEntry (deltas rest)))) ≡ rest
+  leaves-rest : take (p .count) (opens (p .tier) (byPlace promptPlaces (deltaEntry (deltas rest)))) ≡ rest
   unfolding rest
   leaves-rest =
-      ap (λ (n : ℕ). take n (opens (p .tier) (byPlace 32 (deltaEntry (deltas rest))))) (sym long)
-      ∙ again 32 rest (p .tier) same (omega (arith, long, few-prompts))
+      ap (λ (n : ℕ). take n (opens (p .tier) (byPlace promptPlaces (deltaEntry (deltas rest))))) (sym long)
+      ∙ again promptPlaces rest (p .tier) same (omega (arith, long, few-prompts))
     where
       long : length rest ≡ p .count
       long = after-length (stepOf second s) (formed (stepOf second s) (openOf p)) (openOf p) ∙ open-length p lt ln few-prompts
@@ -130,10 +131,10 @@ module _ (p : Prompts) (s : Spread) (second : Bool) (e : soundFor p s ≡ true) 
 
   less-sound : (q : Open) (a : ℕ) → soundPrompt q ≡ true → soundPrompt (less q a) ≡ true
   less-sound q a h =
-      and-both (ltb (q .tier) 16) (leb (natAbs (towardsZero (q .unused) a)) mostDelta)
-      (and-left (ltb (q .tier) 16) (leb (natAbs (q .unused)) mostDelta) h)
+      and-both (ltb (q .tier) tierCount) (leb (natAbs (towardsZero (q .unused) a)) mostDelta)
+      (and-left (ltb (q .tier) tierCount) (leb (natAbs (q .unused)) mostDelta) h)
       (le-leb (natAbs (towardsZero (q .unused) a)) mostDelta
-      (let m = leb-true (natAbs (q .unused)) mostDelta (and-right (ltb (q .tier) 16) (leb (natAbs (q .unused)) mostDelta) h) in
+      (let m = leb-true (natAbs (q .unused)) mostDelta (and-right (ltb (q .tier) tierCount) (leb (natAbs (q .unused)) mostDelta) h) in
       let n = abs-towards-zero (q .unused) a in omega arith))
 
   spend-sound : (w : Market → ℕ → ℕ) (qs : List Open) → every soundPrompt qs ≡ true → every soundPrompt (spend w qs) ≡ true
@@ -148,19 +149,19 @@ module _ (p : Prompts) (s : Spread) (second : Bool) (e : soundFor p s ≡ true) 
   rest-sound =
       ap (every soundPrompt) (after-spend (stepOf second s) (formed (stepOf second s) (openOf p)) (openOf p))
       ∙ spend-sound (λ m t. stepUse m t (stepOf second s) (formed (stepOf second s) (openOf p))) (openOf p)
-      (and-right (leb (p .count) 32) (every soundPrompt (openOf p)) (and-left (soundPrompts p) (soundSpread s) e))
+      (and-right (leb (p .count) promptPlaces) (every soundPrompt (openOf p)) (and-left (soundPrompts p) (soundSpread s) e))
 
   left-prompts : List Delta → Prompts
   left-prompts ds = record { count = p .count; tier = p .tier; net = ds }
 
-  left-opens : (ds : List Delta) → ds ≡ byPlace 32 (deltaEntry (deltas rest)) → openOf (left-prompts ds) ≡ rest
+  left-opens : (ds : List Delta) → ds ≡ byPlace promptPlaces (deltaEntry (deltas rest)) → openOf (left-prompts ds) ≡ rest
   unfolding left-prompts
   left-opens ds h = ap (λ (xs : List Delta). take (p .count) (opens (p .tier) xs)) h ∙ leaves-rest
 
-  left-sound : (ds : List Delta) → ds ≡ byPlace 32 (deltaEntry (deltas rest)) → soundPrompts (left-prompts ds) ≡ true
+  left-sound : (ds : List Delta) → ds ≡ byPlace promptPlaces (deltaEntry (deltas rest)) → soundPrompts (left-prompts ds) ≡ true
   unfolding left-prompts
   left-sound ds h =
-      and-both (leb (p .count) 32) (every soundPrompt (openOf (left-prompts ds))) (le-leb (p .count) 32 few-prompts)
+      and-both (leb (p .count) promptPlaces) (every soundPrompt (openOf (left-prompts ds))) (le-leb (p .count) promptPlaces few-prompts)
       (ap (every soundPrompt) (left-opens ds h) ∙ rest-sound)
 
   -- what is accepted
@@ -175,15 +176,15 @@ module _ (p : Prompts) (s : Spread) (second : Bool) (e : soundFor p s ≡ true) 
             ∙ sym (ap (λ (b : Bool). cond b (formed (stepOf second s) (openOf p)) 0) e);
         taken =
             spent .useds
-            ∙ ap (λ (ps : List Open). byPlace 32 (deltaEntry (minus (deltas (openOf p)) (deltas ps)))) paid
-            ∙ ap (λ (b : Bool). byPlace 32 (deltaEntry (cond b (takenOf (stepOf second s) (openOf p)) []))) (sym e);
+            ∙ ap (λ (ps : List Open). byPlace promptPlaces (deltaEntry (minus (deltas (openOf p)) (deltas ps)))) paid
+            ∙ ap (λ (b : Bool). byPlace promptPlaces (deltaEntry (cond b (takenOf (stepOf second s) (openOf p)) []))) (sym e);
         count = refl;
         tiers = refl;
         leaves = left-opens unused left-nets ∙ sym (ap (λ (b : Bool). cond b rest (openOf p)) e);
         sound = left-sound unused left-nets ∙ sym (and-left (soundPrompts p) (soundSpread s) e);
         nets =
             left-nets
-            ∙ ap (λ (b : Bool). cond b (byPlace 32 (deltaEntry (unusedOf one (openOf p)))) (p .net)) (sym e);
+            ∙ ap (λ (b : Bool). cond b (byPlace promptPlaces (deltaEntry (unusedOf one (openOf p)))) (p .net)) (sym e);
       }
     where
       one : List (List Taker)
@@ -202,8 +203,8 @@ module _ (p : Prompts) (s : Spread) (second : Bool) (e : soundFor p s ≡ true) 
       paid : spend (goneOf cells l) (openOf p) ≡ left one (openOf p)
       paid = spend-left one (openOf p) runs cells l pools after-step
 
-      left-nets : unused ≡ byPlace 32 (deltaEntry (deltas rest))
-      left-nets = spent .unuseds ∙ ap (λ (ps : List Open). byPlace 32 (deltaEntry (deltas ps))) paid
+      left-nets : unused ≡ byPlace promptPlaces (deltaEntry (deltas rest))
+      left-nets = spent .unuseds ∙ ap (λ (ps : List Open). byPlace promptPlaces (deltaEntry (deltas ps))) paid
 
 -- ---- who paid
 

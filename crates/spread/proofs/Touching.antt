@@ -16,7 +16,8 @@ use Rattle.exact.proofs.Integers.{abs-neg, abs-towards-zero, taken-sign, toward
 use Rattle.exact.proofs.Lists.{count-append, count-le}
 use Rattle.exact.specs.Lists.{oneIf, count, sum}
 use Rattle.exact.specs.Signed.{withSignOf}
-use Rattle.spread.specs.Accepted.{openOf, spreadsOf, stepsOf, every, soundLegsOf, soundSpread, soundPrompts, soundTable, sound}
+use Rattle.spread.specs.Accepted.{openOf, spreadsOf, stepsOf, every, soundLegsOf, soundSpread, soundPrompts, soundTable, sound, promptPlaces}
+use Rattle.spread.specs.Accepted.{spreadPlaces}
 use Rattle.spread.specs.Demand.{draws, sameMarket, legUse, stepUse, soundLegs, soundStep, soundSteps}
 use Rattle.spread.specs.Spend.{marketOf, spend, deltas, usedBy}
 use Rattle.spread.specs.Steps.{Market, long, short, Open, Taker, onSide, inTier, towardsZero, less, gives, legTakes, takeFrom, formed, after, left, minus}
@@ -306,15 +307,15 @@ at-most-spreads zero l = omega arith
 at-most-spreads (suc n) [] = omega arith
 at-most-spreads (suc n) (x ∷ l) = let r = at-most-spreads n l in omega arith
 
-pub touches-few : (p : Prompts) (t : Table) → length (p .tier) ≡ 32 → length (p .net) ≡ 32 → sound p t ≡ true → touchesOf p t ≤ mostTouches
+pub touches-few : (p : Prompts) (t : Table) → length (p .tier) ≡ promptPlaces → length (p .net) ≡ promptPlaces → sound p t ≡ true → touchesOf p t ≤ mostTouches
 touches-few p t lt ln e =
     let table = and-right (soundPrompts p) (soundTable t) e in
     let all = ap (λ (b : Bool). cond b (touches (stepsOf t) (openOf p)) 0) e in
-    let bound = touched (spreadsOf t) (openOf p) (and-right (leb (t .count) 32) (every soundSpread (spreadsOf t)) table) .bound in
+    let bound = touched (spreadsOf t) (openOf p) (and-right (leb (t .count) spreadPlaces) (every soundSpread (spreadsOf t)) table) .bound in
     let long = open-length p lt ln (few p (and-left (soundPrompts p) (soundTable t) e)) in
     let prompts = few p (and-left (soundPrompts p) (soundTable t) e) in
-    let spreads = leb-true (t .count) 32 (and-left (leb (t .count) 32) (every soundSpread (spreadsOf t)) table) in
-    let legs = three-each (spreadsOf t) (and-right (leb (t .count) 32) (every soundSpread (spreadsOf t)) table) in
+    let spreads = leb-true (t .count) spreadPlaces (and-left (leb (t .count) spreadPlaces) (every soundSpread (spreadsOf t)) table) in
+    let legs = three-each (spreadsOf t) (and-right (leb (t .count) spreadPlaces) (every soundSpread (spreadsOf t)) table) in
     let taken = at-most-spreads (t .count) (t .spread) in
     omega (arith, all, bound, long, prompts, spreads, legs, taken)
 

@@ -34,19 +34,30 @@ abbrev pub every {ℓ} : {A : Type ℓ} → (A → Bool) → List A → Bool
 every p [] = true
 every p (x ∷ xs) = p x && every p xs
 
+-- the tiers, 0 to 15
+abbrev pub tierCount : ℕ
+tierCount = 16
+
+-- the places of the arrays of prompts, and of spreads
+abbrev pub promptPlaces : ℕ
+promptPlaces = 32
+
+abbrev pub spreadPlaces : ℕ
+spreadPlaces = 32
+
 -- 128 rows of 100,000 lots at a delta of 1.0000
 abbrev pub mostDelta : ℕ
 mostDelta = 128000000000
 
 abbrev pub soundPrompt : Open → Bool
-soundPrompt p = ltb (p .tier) 16 && leb (natAbs (p .unused)) mostDelta
+soundPrompt p = ltb (p .tier) tierCount && leb (natAbs (p .unused)) mostDelta
 
 abbrev pub soundPrompts : Prompts → Bool
-soundPrompts p = leb (p .count) 32 && every soundPrompt (openOf p)
+soundPrompts p = leb (p .count) promptPlaces && every soundPrompt (openOf p)
 
 -- a tier, a side A or B, a ratio above 0
 abbrev pub soundLeg : Leg → Bool
-soundLeg l = ltb (l .tier) 16 && ((eqb (l .side) 1 || eqb (l .side) 2) && ltb 0 (l .ratio))
+soundLeg l = ltb (l .tier) tierCount && ((eqb (l .side) 1 || eqb (l .side) 2) && ltb 0 (l .ratio))
 
 abbrev pub sameLeg : Leg → Leg → Bool
 sameLeg l k = eqb (l .tier) (k .tier) && eqb (l .side) (k .side)
@@ -65,7 +76,7 @@ abbrev pub whole : Spread → Bool
 whole s = not (s .tenths)
 
 abbrev pub soundTable : Table → Bool
-soundTable t = leb (t .count) 32 && every soundSpread (spreadsOf t)
+soundTable t = leb (t .count) spreadPlaces && every soundSpread (spreadsOf t)
 
 abbrev pub sound : Prompts → Table → Bool
 sound p t = soundPrompts p && soundTable t

@@ -9,7 +9,7 @@ use lib.Dec.{ltb}
 use lib.IntN.{ℤ, natAbs}
 use lib.ListN.{length}
 use Rattle.exact.specs.Lists.{oneIf, count, sum}
-use Rattle.spread.specs.Accepted.{openOf, stepsOf, sound}
+use Rattle.spread.specs.Accepted.{openOf, stepsOf, sound, promptPlaces, spreadPlaces}
 use Rattle.spread.specs.Steps.{Open, Taker, legTakes, gives, takeFrom, formed, after, steps}
 use Rattle.spread.specs.Uses.{usesOf}
 use Rattle.spread.specs.declared.Prompts.{Prompts}
@@ -39,7 +39,7 @@ bothSteps ss = 2 * sum (map (λ s. s .legs) ss)
 
 -- 32 prompts, and three legs in both steps of each of 32 spreads
 abbrev pub mostTouches : ℕ
-mostTouches = 224
+mostTouches = promptPlaces + 2 * (3 * spreadPlaces)
 
 abbrev pub moved : ℤ → Bool
 moved z = ltb 0 (natAbs z)

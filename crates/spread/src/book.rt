@@ -20,7 +20,7 @@ ghost use lib.IntN.{_-ℤ_};
 ghost use Rattle.spread.specs.Steps.{towardsZero};
 ghost use Rattle.spread.specs.Accepted.{openOf, spreadsOf, soundPrompts, soundTable, sound};
 ghost use Rattle.spread.specs.Spend.{marketOf};
-ghost use Rattle.spread.specs.code.Cells.{cellOf, Pooled, Small};
+ghost use Rattle.spread.specs.code.Cells.{cellOf, Pooled, Small, poolCount};
 ghost use Rattle.spread.specs.code.Book.{Booked, Refused, Run, Spent};
 
 // Spread k formed first[k] in its first step and second[k] in its second; used[k] and unused[k] are the parts of prompt k's
@@ -126,7 +126,7 @@ fn split_of(net: Delta, wanted: u64) -> Split
 // What the steps used of each pool, had less left, "from the prompts of its tier on that side, earliest day first". A prompt
 // that has paid is no longer among what was had.
 pub(crate) fn paid_by(prompts: Prompts, pools: Pools, left: &[u64]) -> Paid
-    requires { ⌜ (soundPrompts prompts ≡ true) × (length (now left) ≡ 32) ⌝ }
+    requires { ⌜ (soundPrompts prompts ≡ true) × (length (now left) ≡ poolCount) ⌝ }
     ensures { λ r. ⌜ Spent (pools .cell) (now (left .entry)) (openOf prompts) (r .used) (r .unused) ⌝ }
 {
     let n = prompts.count;

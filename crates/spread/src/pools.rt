@@ -12,6 +12,7 @@ ghost use Rattle.spread.specs.Accepted.{soundLeg, soundSpread};
 ghost use Rattle.spread.specs.Steps as Steps;
 ghost use Rattle.spread.specs.Steps.{useOf, taker, marketIn, stepOf};
 ghost use Rattle.spread.specs.code.Cells.{cellOf, shortIf, roomIn, lessIn, formedIn, afterIn, Taken, cellAt, lowestIn, mostPool, mostNumber, Small};
+ghost use Rattle.spread.specs.code.Cells.{poolCount};
 
 pub const TIERS: usize = 16;
 
@@ -53,7 +54,7 @@ pub(crate) fn cell_for(leg: Leg, second: bool) -> usize
 // The same of a leg whose tier is in range.
 fn leg_cell(leg: Leg, second: bool) -> usize
     requires { ⌜ soundLeg leg ≡ true ⌝ }
-    ensures { λ r. ⌜ (r ≡ cellOf (marketIn second (leg .side)) (leg .tier)) × (r < 32) ⌝ }
+    ensures { λ r. ⌜ (r ≡ cellOf (marketIn second (leg .side)) (leg .tier)) × (r < poolCount) ⌝ }
 {
     let t = leg.tier as usize;
     let a = leg.side == 1;
@@ -102,7 +103,7 @@ pub(crate) fn lesser(a: u64, b: u64) -> u64
 
 // Here and below the cells are lent, so that a step copies them once.
 fn pool_for(cells: &[u64], leg: Leg, second: bool) -> u64
-    requires { ⌜ (length (now cells) ≡ 32) × (soundLeg leg ≡ true) ⌝ }
+    requires { ⌜ (length (now cells) ≡ poolCount) × (soundLeg leg ≡ true) ⌝ }
     ensures { λ r. ⌜ r ≡ cellAt (now (cells .entry)) (marketIn second (leg .side)) (leg .tier) ⌝ }
 {
     let cell = leg_cell(leg, second);
@@ -111,7 +112,7 @@ fn pool_for(cells: &[u64], leg: Leg, second: bool) -> u64
 
 // Whether no pool is empty that its legs take from: where one is, nothing is formed.
 pub(crate) fn has_room(cells: &[u64], spread: Spread, second: bool) -> bool
-    requires { ⌜ (length (now cells) ≡ 32) × (soundSpread spread ≡ true) ⌝ }
+    requires { ⌜ (length (now cells) ≡ poolCount) × (soundSpread spread ≡ true) ⌝ }
     ensures { λ r. ⌜ r ≡ ltb 0 (lowestIn (now (cells .entry)) (stepOf second spread)) ⌝ }
 {
     let a = pool_for(cells, spread.leg[0], second);
@@ -124,7 +125,7 @@ pub(crate) fn has_room(cells: &[u64], spread: Spread, second: bool) -> bool
 }
 
 fn room_for(cells: &[u64], leg: Leg, tenths: bool, second: bool) -> u64
-    requires { ⌜ (length (now cells) ≡ 32) × (soundLeg leg ≡ true) × Small (now cells) ⌝ }
+    requires { ⌜ (length (now cells) ≡ poolCount) × (soundLeg leg ≡ true) × Small (now cells) ⌝ }
     ensures { λ r. ⌜ r ≡ roomIn (now (cells .entry)) (taker tenths (marketIn second) leg) ⌝ }
 {
     room(pool_for(cells, leg, second), leg.ratio as u64, tenths)
@@ -132,7 +133,7 @@ fn room_for(cells: &[u64], leg: Leg, tenths: bool, second: bool) -> u64
 
 // "The number formed is the smallest over its legs".
 fn formed(cells: &[u64], spread: Spread, second: bool) -> u64
-    requires { ⌜ (length (now cells) ≡ 32) × (soundSpread spread ≡ true) × Small (now cells) ⌝ }
+    requires { ⌜ (length (now cells) ≡ poolCount) × (soundSpread spread ≡ true) × Small (now cells) ⌝ }
     ensures { λ r. ⌜ r ≡ formedIn (stepOf second spread) (now (cells .entry)) ⌝ }
 {
     let tenths = spread.tenths;
@@ -146,7 +147,7 @@ fn formed(cells: &[u64], spread: Spread, second: bool) -> u64
 }
 
 fn less(cells: &mut [u64], leg: Leg, tenths: bool, second: bool, number: u64)
-    requires { ⌜ (length (now cells) ≡ 32) × (soundLeg leg ≡ true) × (number ≤ mostNumber) ⌝ }
+    requires { ⌜ (length (now cells) ≡ poolCount) × (soundLeg leg ≡ true) × (number ≤ mostNumber) ⌝ }
     ensures { λ _. ⌜ now (cells .exit) ≡ lessIn number (taker tenths (marketIn second) leg) (now (cells .entry)) ⌝ }
 {
     let cell = leg_cell(leg, second);
@@ -156,7 +157,7 @@ fn less(cells: &mut [u64], leg: Leg, tenths: bool, second: bool, number: u64)
 
 // "Each leg takes" its use of the number.
 fn lessen(cells: &mut [u64], spread: Spread, second: bool, number: u64)
-    requires { ⌜ (length (now cells) ≡ 32) × (soundSpread spread ≡ true) × (number ≤ mostNumber) ⌝ }
+    requires { ⌜ (length (now cells) ≡ poolCount) × (soundSpread spread ≡ true) × (number ≤ mostNumber) ⌝ }
     ensures { λ _. ⌜ now (cells .exit) ≡ afterIn (stepOf second spread) number (now (cells .entry)) ⌝ }
 {
     let tenths = spread.tenths;

@@ -19,8 +19,8 @@ ghost use Prim.Native.Nat.{_+_, _≤_, min};
 ghost use lib.Dec.{ltb};
 ghost use lib.ListN.{length, replicate};
 ghost use Rattle.exact.specs.Lists.{oneIf};
-ghost use Rattle.spread.specs.Accepted.{openOf, stepsOf, soundPrompts, sound};
-ghost use Rattle.spread.specs.code.Cells.{cellOf, mostNumber};
+ghost use Rattle.spread.specs.Accepted.{openOf, stepsOf, soundPrompts, sound, promptPlaces};
+ghost use Rattle.spread.specs.code.Cells.{cellOf, mostNumber, poolCount};
 ghost use Rattle.spread.specs.Steps.{marketIn, stepOf, useOf};
 ghost use Rattle.spread.specs.code.Passing.{givesIn, UsedUp, Begun, Ready, Passed, LegTaken, StepTaken, FormedBy, Laid};
 ghost use Rattle.spread.specs.Touches.{touches};
@@ -49,7 +49,8 @@ fn earlier(a: usize, b: usize) -> usize
 
 // Each prompt's pool and the size of its net delta, zero beyond the prompts, and for each pool the place of its first prompt.
 fn lay(pool: &mut [usize], size: &mut [u64], at: &mut [usize], prompts: Prompts)
-    requires { ⌜ (soundPrompts prompts ≡ true) × (length (now pool) ≡ 32) × (now size ≡ replicate 32 0) × (length (now at) ≡ 33) ⌝ }
+    requires { ⌜ (soundPrompts prompts ≡ true)
+        × (length (now pool) ≡ promptPlaces) × (now size ≡ replicate promptPlaces 0) × (length (now at) ≡ poolCount + 1) ⌝ }
     ensures { λ _. ⌜ Laid (openOf prompts) (now (pool .exit)) (now (size .exit)) × Begun (now (at .exit)) (now (pool .exit)) (now (size .exit)) ⌝ }
 {
     let n = prompts.count;
@@ -82,7 +83,7 @@ fn one_if(there: bool) -> u64
 
 // The next place where more is wanted, else the same.
 fn further(k: usize, wanted: u64) -> usize
-    requires { ⌜ k ≤ 32 ⌝ }
+    requires { ⌜ k ≤ promptPlaces ⌝ }
     ensures { λ r. ⌜ r ≡ k + oneIf (ltb 0 wanted) ⌝ }
 {
     if 0 < wanted { k + 1 } else { k }
@@ -90,7 +91,7 @@ fn further(k: usize, wanted: u64) -> usize
 
 // "from the prompts of its tier on that side, earliest day first", from a place on before which they are used up.
 fn pass(size: &mut [u64], pool: &[usize], cell: usize, wanted: u64, start: usize) -> Passing
-    requires { ⌜ (length (now pool) ≡ 32) × (length (now size) ≡ 32) × UsedUp cell (now pool) (now size) start ⌝ }
+    requires { ⌜ (length (now pool) ≡ promptPlaces) × (length (now size) ≡ promptPlaces) × UsedUp cell (now pool) (now size) start ⌝ }
     ensures { λ r. ⌜ Passed cell wanted (now (pool .entry)) (now (size .entry)) (now (size .exit)) (r .at) (r .touches) ⌝ }
 {
     let mut due = wanted;

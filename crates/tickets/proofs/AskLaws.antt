@@ -17,7 +17,7 @@ use Rattle.account.specs.Checked.{checked}
 use Rattle.account.specs.Records.{recordAt, cut}
 use Rattle.account.specs.declared.answers.Answer.{Answer}
 use Rattle.account.specs.declared.answers.Answer.the-variants.{Accepted, NoTicketLeft}
-use Rattle.account.proofs.Earlier.{cut-more}
+use Rattle.account.proofs.Earlier.{cut-more, take-cut}
 use Rattle.account.proofs.AcceptedOnly.{accepted-only}
 use Rattle.account.proofs.Walk.{cut-on, length-cut}
 use Rattle.margin.specs.Questions.{notRefused}
@@ -28,7 +28,6 @@ use Rattle.tickets.specs.declared.ask.Asked.{Asked}
 use Rattle.tickets.specs.declared.ask.Ticketed.{Ticketed}
 use Rattle.tickets.specs.declared.kept.Kept.{Kept}
 use Rattle.tickets.proofs.CountLaws.{small}
-use Rattle.tickets.proofs.Placed.{take-cut}
 use Rattle.tickets.proofs.Taken.{tickets-last}
 
 -- ---- how many tickets

@@ -7,8 +7,9 @@ use native.Mathlib.Omega.{arith}
 use lib.IntN.{ℤ, pos, _+ℤ_}
 use lib.ListN.{length, getD, take, replicate, length-map, length-append, length-replicate, List·getD-eq-default}
 use lib.Seq.{take-at, getD-append-add}
-use Rattle.record.specs.Layout.{Record, day}
+use Rattle.record.specs.Layout.{Record, day, scenarioCount}
 use Rattle.spread.specs.declared.Delta.{Delta}
+use Rattle.spread.specs.Accepted.{promptPlaces}
 use Rattle.formulas.specs.Deltas.{netDelta, netDeltas}
 use Rattle.formulas.specs.Margin.{shortLots}
 use Rattle.formulas.specs.code.Position.{DaysOf, PositionOf, WithRows, netOn, deltasIn}
@@ -21,9 +22,9 @@ delta : ℤ → Delta
 delta z = record { 0 = z }
 
 -- ---- a position of any rows
-module _ (rates : List Record) (unit : ℕ) (prompts rows : List Record) (few : length prompts ≤ 32) where
+module _ (rates : List Record) (unit : ℕ) (prompts rows : List Record) (few : length prompts ≤ promptPlaces) where
   abbrev nets : List ℤ
-  nets = netDeltas prompts rows ++ replicate (32 - length prompts) (pos 0)
+  nets = netDeltas prompts rows ++ replicate (promptPlaces - length prompts) (pos 0)
 
   pub came-to : Position
   came-to = record { totals = record { 0 = totals rates unit rows }; nets = map delta nets; shorts = shortLots rows }
@@ -43,29 +44,30 @@ module _ (rates : List Record) (unit : ℕ) (prompts rows : List Record) (few : 
   beyond j h =
       let e : length (netDeltas prompts rows) + (j - length prompts) ≡ j = omega (arith, many) in
       ap (λ (n : ℕ). getD nets n (pos 0)) (sym e)
-      ∙ getD-append-add (netDeltas prompts rows) (replicate (32 - length prompts) (pos 0)) (j - length prompts) (pos 0)
-      ∙ zeros (32 - length prompts) (j - length prompts)
+      ∙ getD-append-add (netDeltas prompts rows) (replicate (promptPlaces - length prompts) (pos 0)) (j - length prompts) (pos 0)
+      ∙ zeros (promptPlaces - length prompts) (j - length prompts)
 
   pub came-to-is : PositionOf rates unit prompts rows came-to
   unfolding came-to
   came-to-is =
       record {
         totals-are = refl;
-        nets-are = ap (take (length prompts)) deltas-are ∙ take-at (netDeltas prompts rows) (replicate (32 - length prompts) (pos 0)) (length prompts) many;
+        nets-are = ap (take (length prompts)) deltas-are ∙ take-at (netDeltas prompts rows) (replicate (promptPlaces - length prompts) (pos 0))
+            (length prompts) many;
         nets-beyond = λ j h. ap (λ (zs : List ℤ). getD zs j (pos 0)) deltas-are ∙ beyond j h;
         places =
-            ap length deltas-are ∙ length-append (netDeltas prompts rows) (replicate (32 - length prompts) (pos 0))
-            ∙ ap₂ (λ (a b : ℕ). a + b) many (length-replicate (32 - length prompts) (pos 0)) ∙ omega arith;
+            ap length deltas-are ∙ length-append (netDeltas prompts rows) (replicate (promptPlaces - length prompts) (pos 0))
+            ∙ ap₂ (λ (a b : ℕ). a + b) many (length-replicate (promptPlaces - length prompts) (pos 0)) ∙ omega arith;
         shorts-are = refl;
       }
 
 -- ---- the position of more rows is that of the earlier ones with the others added
 module _ (rates : List Record) (unit : ℕ) (prompts earlier rows : List Record) (days : Days) (b p : Position) (known : DaysOf prompts days)
     (is : PositionOf rates unit prompts earlier b) (whole : PositionOf rates unit prompts (earlier ++ rows) p) where
-  sixteen : (rs : List Record) (q : Position) → PositionOf rates unit prompts rs q → length (q .totals .0) ≡ 16
+  sixteen : (rs : List Record) (q : Position) → PositionOf rates unit prompts rs q → length (q .totals .0) ≡ scenarioCount
   sixteen rs q w = ap length (w .totals-are) ∙ length-map scenarios (total rates unit rs)
 
-  total-here : (rs : List Record) (q : Position) → PositionOf rates unit prompts rs q → (k : ℕ) → k < 16
+  total-here : (rs : List Record) (q : Position) → PositionOf rates unit prompts rs q → (k : ℕ) → k < scenarioCount
       → getD (q .totals .0) k (pos 0) ≡ total rates unit rs (k + 1)
   total-here rs q w k h = ap (λ (zs : List ℤ). getD zs k (pos 0)) (w .totals-are) ∙ totals-at rates unit rs k h
 

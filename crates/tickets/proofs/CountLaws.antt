@@ -13,14 +13,14 @@ use borrow.Author.Tests.{eq-eqb, ne-eqb, eqb-true, eqb-false, leb-true, leb-fals
 use Rattle.record.specs.Bytes.{recordBytes}
 use Rattle.exact.specs.Lists.{keep, any, oneIf, count, sum}
 use Rattle.exact.proofs.Lists.{count-le, length-keep}
-use Rattle.record.specs.Layout.{Record, kind, contract, day}
+use Rattle.record.specs.Layout.{Record, kind, contract, day, mostContract}
 use Rattle.record.specs.Ranges.{unusedByte, fieldOutside}
 use Rattle.record.proofs.Tests.{both}
 use Rattle.record.specs.Within.{RowWithin, RateWithin}
 use Rattle.record.proofs.Within.{contract-known, row-within}
 use Rattle.account.specs.Accepted.{Each}
 use Rattle.account.specs.Answers.{numberOf, refusal}
-use Rattle.account.specs.Check.{theOneBefore, unlisted, outOfOrder, overLimit, firstOf, _when_, orElse, mostRecords}
+use Rattle.account.specs.Check.{theOneBefore, unlisted, outOfOrder, overLimit, firstOf, _when_, orElse, mostRecords, mostContracts, mostRows}
 use Rattle.account.specs.Checked.{rateRefusals, rateFaultOf, checked}
 use Rattle.account.specs.Conversions.{rowAnswer}
 use Rattle.account.specs.PartNumbers.{part, ratePart}
@@ -80,7 +80,7 @@ module _ (file : List ℕ) (account : Account) (by : CheckedBy file (record { an
   pub records-in : account .records ≡ length (records file)
   records-in = stands-in [] refl .places .all ∙ ap length same
 
-  pub count-in : (n c : ℕ) → n ≤ 4 → c ≤ 15 → getD (account .counts) (part n c) 0 ≡ count (ofContract n c) (records file)
+  pub count-in : (n c : ℕ) → n ≤ 4 → c ≤ mostContract → getD (account .counts) (part n c) 0 ≡ count (ofContract n c) (records file)
   count-in n c hn hc =
       stands-in [] refl .places .counts (part n c) (omega arith)
       ∙ ap₂ (λ (p : Record → Bool) (rs : List Record). count p rs) (part-is n c hn hc) same
@@ -131,7 +131,7 @@ module _ (file : List ℕ) (ts : List Record) (k : Counts) (co : CountsOf file t
   prompts-same =
       kind-places 2 (records G) (known-all 0 [] (records G) (plain G with-ok .clean))
       ∙ sum-alike (λ c. count (ofContract 2 c) (records G)) (λ c. count (ofContract 2 c) (records file))
-      (λ c. sym (length-keep (ofContract 2 c) (records G)) ∙ ap length (parts .prompts c) ∙ length-keep (ofContract 2 c) (records file)) 16
+      (λ c. sym (length-keep (ofContract 2 c) (records G)) ∙ ap length (parts .prompts c) ∙ length-keep (ofContract 2 c) (records file)) mostContracts
       ∙ sym (kind-places 2 (records file) (known-in file (k .account) (co .from-check)))
 
   pub place-is : (t : Record) → place t (records G) ≡ k .above + sum (take (contract t + 1) (k .rows))
@@ -163,7 +163,7 @@ module _ (file : List ℕ) (ts : List Record) (k : Counts) (co : CountsOf file t
           )
 
   -- ---- what is missing
-  contract-missing : (c : ℕ) → c ≤ 15 → noContract (k .account .counts) c ≡ not (any (ofContract 1 c) (records G))
+  contract-missing : (c : ℕ) → c ≤ mostContract → noContract (k .account .counts) c ≡ not (any (ofContract 1 c) (records G))
   contract-missing c h =
       ap (λ (n : ℕ). eqb n 0) (count-in file (k .account) (co .from-check) 1 c (omega arith) h)
       ∙ none-counted (ofContract 1 c) (records file)
@@ -184,7 +184,7 @@ module _ (file : List ℕ) (ts : List Record) (k : Counts) (co : CountsOf file t
         go false f = ap (λ (x : Bool). rowFaultBy x n t) (e f)
         go true f =
             let six : (x : Bool) → rowFaultBy x n t ≡ firstOf (5 when unusedByte t ∷ 6 when true ∷ []) =
-            λ x. ap (λ (b : Bool). firstOf (5 when unusedByte t ∷ 6 when b ∷ 7 when x ∷ 9 when leb 128 n ∷ [])) f in
+            λ x. ap (λ (b : Bool). firstOf (5 when unusedByte t ∷ 6 when b ∷ 7 when x ∷ 9 when leb mostRows n ∷ [])) f in
             six m ∙ sym (six m′)
 
     abbrev by-parts : List ℕ → ℕ
@@ -251,7 +251,7 @@ module _ (file : List ℕ) (ts : List Record) (k : Counts) (co : CountsOf file t
             row-within t row
             (four-within (unusedByte t) (fieldOutside t)
             (noContract (k .account .counts) (contract t) || noDay (promptsOf (contract t) (accountOf file none)) (day t))
-            (leb 128 (getD (k .rows) (contract t) 0)) (sym f ∙ z))
+            (leb mostRows (getD (k .rows) (contract t) 0)) (sym f ∙ z))
 
         by-rates : rowFault G t ≡ rateFaultOf rates t
         by-rates =
@@ -305,7 +305,7 @@ getD-past [] c h = refl
 getD-past (x ∷ xs) zero h = absurd (omega arith)
 getD-past (x ∷ xs) (suc c) h = getD-past xs c (omega arith)
 
-none-beyond : (n c : ℕ) (rs : List Record) → 15 < c → Each Known rs → count (ofContract n c) rs ≡ 0
+none-beyond : (n c : ℕ) (rs : List Record) → mostContract < c → Each Known rs → count (ofContract n c) rs ≡ 0
 none-beyond n c [] h e = refl
 none-beyond n c (r ∷ rs) h e =
     let m = e .0 .contracts in
@@ -318,19 +318,19 @@ none-beyond n c (r ∷ rs) h e =
 
 module _ (file : List ℕ) (account : Account) (by : CheckedBy file (record { answer = Accepted; account = account })) where
   -- how many records of a kind each contract has
-  totals-are : (n : ℕ) → n ≤ 4 → (xs : List ℕ) → Filled 16 (λ c. getD (account .counts) (part n c) 0) xs → (c : ℕ)
+  totals-are : (n : ℕ) → n ≤ 4 → (xs : List ℕ) → Filled mostContracts (λ c. getD (account .counts) (part n c) 0) xs → (c : ℕ)
       → getD xs c 0 ≡ count (ofContract n c) (records file)
-  totals-are n h xs filled c = go (leb 16 c) refl
+  totals-are n h xs filled c = go (leb mostContracts c) refl
     where
-      go : (b : Bool) → leb 16 c ≡ b → getD xs c 0 ≡ count (ofContract n c) (records file)
+      go : (b : Bool) → leb mostContracts c ≡ b → getD xs c 0 ≡ count (ofContract n c) (records file)
       go true e =
-          let l = leb-true 16 c e in
+          let l = leb-true mostContracts c e in
           getD-past xs c (omega (arith, filled .long)) ∙ sym (none-beyond n c (records file) (omega arith) (known-in file account by))
       go false e =
-          let l = leb-false 16 c e in
+          let l = leb-false mostContracts c e in
           filled .each c l ∙ count-in file account by n c h (omega arith)
 
-  pub totals-few : (n : ℕ) → n ≤ 4 → (xs : List ℕ) → Filled 16 (λ c. getD (account .counts) (part n c) 0) xs → (c : ℕ) → getD xs c 0 ≤ mostRecords
+  pub totals-few : (n : ℕ) → n ≤ 4 → (xs : List ℕ) → Filled mostContracts (λ c. getD (account .counts) (part n c) 0) xs → (c : ℕ) → getD xs c 0 ≤ mostRecords
   totals-few n h xs filled c =
       omega (
         arith,
@@ -352,11 +352,11 @@ module _ (file : List ℕ) (account : Account) (by : CheckedBy file (record { an
             (file-ok file account by) .few,
       )
 
-  pub prompts-few : (xs : List ℕ) → Filled 16 (λ c. getD (account .counts) (part 2 c) 0) xs → sum (take 16 xs) ≤ mostRecords
+  pub prompts-few : (xs : List ℕ) → Filled mostContracts (λ c. getD (account .counts) (part 2 c) 0) xs → sum (take mostContracts xs) ≤ mostRecords
   prompts-few xs filled =
       omega (
         arith,
-        sum-places xs (λ c. count (ofContract 2 c) (records file)) (totals-are 2 (omega arith) xs filled) 16,
+        sum-places xs (λ c. count (ofContract 2 c) (records file)) (totals-are 2 (omega arith) xs filled) mostContracts,
         kind-places 2 (records file) (known-in file account by),
         count-le (ofKind 2) (records file),
         length-cut (recordCount file) file,
@@ -365,8 +365,8 @@ module _ (file : List ℕ) (account : Account) (by : CheckedBy file (record { an
 
   pub counts-start :
       (k : Counts) (prompts : List ℕ) → k .account ≡ account → k .tickets ≡ 0
-      → Filled 16 (λ c. getD (account .counts) (part 2 c) 0) prompts → k .above ≡ account .contracts + sum (take 16 prompts)
-      → Filled 16 (λ c. getD (account .counts) (part 3 c) 0) (k .rows) → CountsOf file [] k
+      → Filled mostContracts (λ c. getD (account .counts) (part 2 c) 0) prompts → k .above ≡ account .contracts + sum (take mostContracts prompts)
+      → Filled mostContracts (λ c. getD (account .counts) (part 3 c) 0) (k .rows) → CountsOf file [] k
   counts-start k prompts a z filled e rows =
       record {
         from-check = subst⁻¹ (λ (x : Account). CheckedBy file (record { answer = Accepted; account = x })) a by;
@@ -375,7 +375,7 @@ module _ (file : List ℕ) (account : Account) (by : CheckedBy file (record { an
         above-is =
             e
             ∙ ap₂ (λ (x y : ℕ). x + y) (contracts-in file account by)
-            (sum-places prompts (λ c. count (ofContract 2 c) (records file)) (totals-are 2 (omega arith) prompts filled) 16
+            (sum-places prompts (λ c. count (ofContract 2 c) (records file)) (totals-are 2 (omega arith) prompts filled) mostContracts
             ∙ sym (kind-places 2 (records file) (known-in file account by)));
         places = rows .long;
         rows-are = totals-are 3 (omega arith) (k .rows) rows;
@@ -405,7 +405,7 @@ module _ (file : List ℕ) (ts : List Record) (t : Record) where
     one : OneRowMore t (records F) (records (withTicket F t))
     one = one-row-more F t ok (taken-row F t h)
 
-    pub low : contract t ≤ 15
+    pub low : contract t ≤ mostContract
     low = known-of t (taken-passed F t ok h) .contracts
 
     pub rows-one : count (ofContract 3 (contract t)) (records (withTickets file (ts ++ t ∷ []))) ≡ count (ofContract 3 (contract t)) (records F) + 1
@@ -463,7 +463,7 @@ module _ (file : List ℕ) (ts : List Record) (t : Record) (k : Counts) (co : Co
   pub some-tickets : 1 ≤ k .tickets
   some-tickets = omega (arith, co .many, length-append ts (t ∷ []))
 
-  pub known-low : contract t ≤ 15
+  pub known-low : contract t ≤ mostContract
   known-low = low file ts t before-ok taken-here
 
   pub counts-less : (m : Counts) → OneLess (contract t) k m → CountsOf file ts m

@@ -10,18 +10,18 @@ use native.Mathlib.Omega.{arith}
 use borrow.Author.Tests.{ne-eqb, eqb-true, eqb-false, leb-true, leb-false, le-leb, lt-leb}
 use Rattle.exact.specs.Lists.{any, oneIf, count, sum}
 use Rattle.exact.proofs.Lists.{any-append, count-append}
-use Rattle.record.specs.Layout.{Record, kind, contract, day}
+use Rattle.record.specs.Layout.{Record, kind, contract, day, mostContract}
 use Rattle.record.specs.Ranges.{unusedByte, fieldOutside}
 use Rattle.record.proofs.Tests.{both}
 use Rattle.account.specs.Accepted.{Each}
-use Rattle.account.specs.Check.{listsContract, listsDay, unlisted, overLimit, firstFault, Refusal, firstOf, _when_}
+use Rattle.account.specs.Check.{listsContract, listsDay, unlisted, overLimit, firstFault, Refusal, firstOf, _when_, mostContracts, mostRows}
 use Rattle.account.specs.Checked.{rateRefusals, rateFaultOf, checked}
 use Rattle.account.specs.code.Notes.{noDay}
 use Rattle.account.specs.Parts.{ofKind, ofContract, onDay, promptsOf, ratesOf}
 use Rattle.account.specs.Records.{records, recordCount, cut}
 use Rattle.account.specs.declared.answers.Answer.the-variants.{Accepted}
 use Rattle.account.proofs.Dispatch.{unlisted-3, over-3}
-use Rattle.account.proofs.Earlier.{any-earlier, count-earlier}
+use Rattle.account.proofs.Earlier.{any-earlier, count-earlier, take-cut}
 use Rattle.account.proofs.Lists.{any-keep}
 use Rattle.account.proofs.Passed.{Known, known-of, passed}
 use Rattle.tickets.specs.Claims.{Row}
@@ -29,7 +29,7 @@ use Rattle.tickets.specs.code.Counts.{rowFaultBy}
 use Rattle.tickets.specs.Ticket.{standsBefore, place, ahead, rowFault}
 use Rattle.tickets.proofs.Claims.{put-in}
 use Rattle.tickets.proofs.Inserted.{Later, accepted-next}
-use Rattle.tickets.proofs.Placed.{place-within, apart-at, take-cut}
+use Rattle.tickets.proofs.Placed.{place-within, apart-at}
 
 -- ---- counting by kinds and contracts
 count-two :
@@ -135,7 +135,7 @@ known-all k es (r ∷ rs) h =
     let a = accepted-next k es r rs h in
     (known-of r (passed es r (a .0)), known-all (k + 1) (r ∷ es) rs (a .1))
 
-kind-within : (n : ℕ) (rs : List Record) → Each Known rs → count (ofKind n) rs ≡ count (upTo n 15) rs
+kind-within : (n : ℕ) (rs : List Record) → Each Known rs → count (ofKind n) rs ≡ count (upTo n mostContract) rs
 kind-within n [] e = refl
 kind-within n (r ∷ rs) e =
     let c = e .0 .contracts in
@@ -145,13 +145,13 @@ kind-within n (r ∷ rs) e =
     all true = refl
     all false = refl
 
-    go : (a : Bool) → a ≡ a && leb (contract r) 15
+    go : (a : Bool) → a ≡ a && leb (contract r) mostContract
     go a =
         let c = e .0 .contracts in
-        all a ∙ ap (λ (b : Bool). a && b) (sym (le-leb (contract r) 15 c))
+        all a ∙ ap (λ (b : Bool). a && b) (sym (le-leb (contract r) mostContract c))
 
-pub kind-places : (n : ℕ) (rs : List Record) → Each Known rs → count (ofKind n) rs ≡ sumTo (λ k. count (ofContract n k) rs) 16
-kind-places n rs e = kind-within n rs e ∙ up-to n 15 rs
+pub kind-places : (n : ℕ) (rs : List Record) → Each Known rs → count (ofKind n) rs ≡ sumTo (λ k. count (ofContract n k) rs) mostContracts
+kind-places n rs e = kind-within n rs e ∙ up-to n mostContract rs
 
 -- ---- the records before the ticket's place, and all records
 module _ (file : List ℕ) (ok : checked file ≡ Accepted) (t : Record) (r : Row t) where
@@ -222,8 +222,8 @@ module _ (file : List ℕ) (ok : checked file ≡ Accepted) (t : Record) (r : Ro
       ∙ both (ap not (first-any (listsContract c) (other-kind 1 c (omega arith))))
       (ap not (first-any (listsDay c d) (other-day c d) ∙ sym (any-keep (ofContract 2 c) (onDay d) rs)))
 
-  pub limit-is : overLimit (ahead file t) t ≡ leb 128 (count (ofContract 3 (contract t)) rs)
-  limit-is = over-3 (ahead file t) t (r .row) ∙ ap (leb 128) (first-count (ofContract 3 (contract t)) other-row)
+  pub limit-is : overLimit (ahead file t) t ≡ leb mostRows (count (ofContract 3 (contract t)) rs)
+  limit-is = over-3 (ahead file t) t (r .row) ∙ ap (leb mostRows) (first-count (ofContract 3 (contract t)) other-row)
 
 -- ---- the first refusal of a row at its place
 staged :
@@ -252,7 +252,7 @@ fault-by file ok t r =
     ∙ ap₂ (λ (a b : Bool). firstOf (5 when unusedByte t ∷ 6 when fieldOutside t ∷ 7 when a ∷ 8 when false ∷ 9 when b ∷ rest))
     (unlisted-is file ok t r) (limit-is file ok t r)
     ∙ staged (unusedByte t) (fieldOutside t) (not (any (ofContract 1 (contract t)) (records file)) || noDay (promptsOf (contract t) (records file)) (day t))
-    (leb 128 (count (ofContract 3 (contract t)) (records file))) rest
+    (leb mostRows (count (ofContract 3 (contract t)) (records file))) rest
 
 -- ---- the first of the four that occur
 module _ (a b c e : Bool) where

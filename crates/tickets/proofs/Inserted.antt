@@ -18,7 +18,7 @@ use Rattle.record.proofs.Within.{both-true, neither, by-kind}
 use Rattle.account.specs.Accepted.{Each}
 use Rattle.account.specs.Answers.{numberOf, refusal}
 use Rattle.account.specs.Check.{theOneBefore, kindFalls, unlisted, outOfOrder, overLimit, faultOf, orElse, firstFault, none, listsContract, listsDay, listsTier}
-use Rattle.account.specs.Check.{legUnlisted, contractFalls, legsClash}
+use Rattle.account.specs.Check.{legUnlisted, contractFalls, legsClash, mostRows, mostSpreads, mostEntries}
 use Rattle.account.specs.Parts.{ofKind, ofContract, contractsOf, promptsOf, rowsOf, spreadsOf, entriesOf, ratesOf}
 use Rattle.account.specs.declared.answers.Answer.{Answer}
 use Rattle.account.specs.declared.answers.Answer.the-variants.{Accepted}
@@ -272,9 +272,9 @@ module _ (t : Record) where
           known-3 (overLimit es′ r ≡ overLimit es r)
           (λ e.
           let a = l .above e in
-          over-3 es′ r e ∙ ap (leb 128) (b (ofContract 3 c) (no-row c (λ i. omega arith)) .counts) ∙ sym (over-3 es r e))
-          (λ e. over-4 es′ r e ∙ ap (leb 32) (b (ofContract 4 c) (no-spread c) .counts) ∙ sym (over-4 es r e))
-          (λ e. over-5 es′ r e ∙ ap (leb 32) (b (ofKind 5) no-entry .counts) ∙ sym (over-5 es r e))
+          over-3 es′ r e ∙ ap (leb mostRows) (b (ofContract 3 c) (no-row c (λ i. omega arith)) .counts) ∙ sym (over-3 es r e))
+          (λ e. over-4 es′ r e ∙ ap (leb mostSpreads) (b (ofContract 4 c) (no-spread c) .counts) ∙ sym (over-4 es r e))
+          (λ e. over-5 es′ r e ∙ ap (leb mostEntries) (b (ofKind 5) no-entry .counts) ∙ sym (over-5 es r e))
           (λ e. over-6 es′ r e ∙ sym (over-6 es r e))
 
       still-passed :

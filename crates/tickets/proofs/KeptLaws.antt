@@ -9,16 +9,13 @@ use borrow.Author.Tests.{eqb-true, eqb-false}
 use lib.Dec.{eqb}
 use lib.ListN.{length, getD, set, length-append, length-set}
 use lib.Seq.{take-all, getD-set-same, getD-set-other, getD-append-seam}
-use Rattle.account.specs.Check.{mostRecords}
+use Rattle.account.specs.Check.{mostRecords, mostContracts, mostPrompts, mostRows}
 use Rattle.record.specs.Bytes.{recordBytes}
-use Rattle.record.specs.Layout.{Record, contract, unit, currency}
-use Rattle.record.specs.Within.{RowWithin, RateWithin}
-use Rattle.account.specs.Accepted.{Each}
+use Rattle.record.specs.Layout.{Record, contract, unit, mostContract}
 use Rattle.account.specs.Checked.{checked}
 use Rattle.account.specs.Lawful.{Lawful}
 use Rattle.account.specs.PartNumbers.{part, ratePart}
 use Rattle.account.specs.Parts.{contractsOf, promptsOf, rowsOf, spreadsOf, entriesOf, ratesOf}
-use Rattle.account.specs.Products.{Convertible}
 use Rattle.account.specs.code.Rates.{RatesOf}
 use Rattle.account.specs.Records.{records, recordCount, recordAt, cut}
 use Rattle.account.specs.code.Standing.{Stands, PartOf}
@@ -28,9 +25,7 @@ use Rattle.account.specs.declared.rates.Rates.{Rates}
 use Rattle.account.specs.declared.answers.Answer.the-variants.{Accepted}
 use Rattle.account.proofs.Earlier.{cut-more}
 use Rattle.account.proofs.Alone.{lawful}
-use Rattle.account.proofs.Orders.{every-at}
 use Rattle.account.proofs.Places.{alone}
-use Rattle.account.proofs.ProductLaws.{factors-within}
 use Rattle.margin.specs.code.Beside.{unitOf, Besides}
 use Rattle.margin.specs.code.Lined.{PositionAt}
 use Rattle.exact.specs.Lists.{keep}
@@ -40,7 +35,7 @@ use Rattle.margin.specs.code.Positions.{noPosition, PositionsOf, Told, Known}
 use Rattle.margin.specs.declared.positions.Positions.{Positions}
 use Rattle.formulas.specs.declared.rows.Days.{Days}
 use Rattle.formulas.specs.declared.rows.Position.{Position}
-use Rattle.margin.proofs.AcceptLaws.{none-within, contract-within}
+use Rattle.margin.proofs.AcceptLaws.{none-within, contract-within, its-rated}
 use Rattle.margin.proofs.BesideLaws.{own-fit}
 use Rattle.formulas.proofs.PositionBounds.{Rated, bounded, wider}
 use Rattle.formulas.proofs.RecordLaws.{count-is}
@@ -120,22 +115,6 @@ same-position {g} {h} {u} {v} {ps} {qs} {rs} {ss} p d e f i is =
     (subst⁻¹ (λ (x : ℕ). PositionOf h x ps rs p) e
     (subst⁻¹ (λ (xs : List Record). PositionOf h v xs rs p) f (subst⁻¹ (λ (xs : List Record). PositionOf h v qs xs p) i is)))
 
--- the rows of a contract at the account's rates
-row-rated : (row : Record) → RowWithin row → (rates : List Record) → Each RateWithin rates → Convertible rates row → RowRated rates row
-row-rated row w rates each c =
-    let f = factors-within rates (currency row) each in
-    record {
-      currency-within = w .currencies;
-      raised-within = f .up;
-      lowered-within = f .down;
-      conversion-within = λ s l h. c .within s (record { least = l; most = h });
-    }
-
-rows-rated : (account : List Record) → Lawful account → (c : ℕ) → Rated (ratesOf account) (rowsOf c account)
-rows-rated account law c k h =
-    row-rated (getD (rowsOf c account) k []) (every-at RowWithin (rowsOf c account) (law .ranges .rows c) k h) (ratesOf account) (law .ranges .rates)
-    (every-at (Convertible (ratesOf account)) (rowsOf c account) (law .conversions c) k h)
-
 module _ (t : Record) (whole more : List Record) (one : OneRowMore t whole more) (law : Lawful whole) (law′ : Lawful more) where
   abbrev c : ℕ
   c = contract t
@@ -155,7 +134,7 @@ module _ (t : Record) (whole more : List Record) (one : OneRowMore t whole more)
 
   rated′ : Rated held (rowsOf c whole ++ t ∷ [])
   rated′ = subst (λ (rs : List Record). Rated held rs) (one .rows)
-      (subst (λ (rs : List Record). Rated rs (rowsOf c more)) (one .rates) (rows-rated more law′ c))
+      (subst (λ (rs : List Record). Rated rs (rowsOf c more)) (one .rates) (its-rated more law′ c))
 
   long : length (rowsOf c whole ++ t ∷ []) ≡ length (rowsOf c whole) + 1
   long = length-append (rowsOf c whole) (t ∷ [])
@@ -181,20 +160,20 @@ module _ (t : Record) (whole more : List Record) (one : OneRowMore t whole more)
   pub unit-within : unitOf c whole ≤ 1000
   unit-within = own-fit whole law c .units .most
 
-  pub prompts-few : length (promptsOf c whole) ≤ 32
+  pub prompts-few : length (promptsOf c whole) ≤ mostPrompts
   prompts-few = law .limits .prompts c
 
-  pub room : (p : Position) → PositionOf held (unitOf c whole) (promptsOf c whole) (rowsOf c whole) p → Bounded 127 p
+  pub room : (p : Position) → PositionOf held (unitOf c whole) (promptsOf c whole) (rowsOf c whole) p → Bounded (mostRows - 1) p
   room p is =
-      wider (length (rowsOf c whole)) 127 p (omega (arith, rows-fit′ .few, long))
-      (bounded held (unitOf c whole) unit-within (promptsOf c whole) (rowsOf c whole) p rows-fit (rows-rated whole law c) is)
+      wider (length (rowsOf c whole)) (mostRows - 1) p (omega (arith, rows-fit′ .few, long))
+      (bounded held (unitOf c whole) unit-within (promptsOf c whole) (rowsOf c whole) p rows-fit (its-rated whole law c) is)
 
-  most-of : (p : Position) → PositionOf held (unitOf c whole) (promptsOf c whole) (rowsOf c whole) p → Bounded 128 p
-  most-of p is = wider 127 128 p (omega arith) (room p is)
+  most-of : (p : Position) → PositionOf held (unitOf c whole) (promptsOf c whole) (rowsOf c whole) p → Bounded mostRows p
+  most-of p is = wider (mostRows - 1) mostRows p (omega arith) (room p is)
 
   -- of the contract, and of another
   pub at-more :
-      (q : Position) → PositionOf held (unitOf c whole) (promptsOf c whole) (rowsOf c whole ++ t ∷ []) q → Bounded 128 q
+      (q : Position) → PositionOf held (unitOf c whole) (promptsOf c whole) (rowsOf c whole ++ t ∷ []) q → Bounded mostRows q
       → PositionAt (ratesOf more) (unitOf c more) more c q
   at-more q is most = record { is = same-position q (one .rates) (unit-same c) (one .prompts c) (one .rows) is; most = most }
 
@@ -212,18 +191,18 @@ module _ (t : Record) (whole more : List Record) (one : OneRowMore t whole more)
   other-less d n p at =
       record { is = same-position p (sym (one .rates)) (sym (unit-same d)) (sym (one .prompts d)) (sym (one .other-rows d n)) (at .is); most = at .most }
 
-  module _ (low : c ≤ 15) (ps r : Positions) (q : Position) (set-is : r .at ≡ set (ps .at) c q) where
-    placed : (many : length (ps .at) ≡ 16) → length (r .at) ≡ 16
+  module _ (low : c ≤ mostContract) (ps r : Positions) (q : Position) (set-is : r .at ≡ set (ps .at) c q) where
+    placed : (many : length (ps .at) ≡ mostContracts) → length (r .at) ≡ mostContracts
     placed many = ap length set-is ∙ length-set (ps .at) c q ∙ many
 
-    here : length (ps .at) ≡ 16 → getD (r .at) c noPosition ≡ q
+    here : length (ps .at) ≡ mostContracts → getD (r .at) c noPosition ≡ q
     here many = ap (λ (xs : List Position). getD xs c noPosition) set-is ∙ getD-set-same (ps .at) c q noPosition (omega (arith, many))
 
     there : (d : ℕ) → (c ≡ d → ⊥) → getD (r .at) d noPosition ≡ getD (ps .at) d noPosition
     there d n = ap (λ (xs : List Position). getD xs d noPosition) set-is ∙ getD-set-other (ps .at) c d q noPosition (λ e. n (sym e))
 
     pub positions-more :
-        PositionsOf whole ps → PositionOf held (unitOf c whole) (promptsOf c whole) (rowsOf c whole ++ t ∷ []) q → Bounded 128 q
+        PositionsOf whole ps → PositionOf held (unitOf c whole) (promptsOf c whole) (rowsOf c whole ++ t ∷ []) q → Bounded mostRows q
         → r .records ≡ ps .records + 1 → PositionsOf more r
     positions-more of is most n =
         record {
@@ -232,7 +211,7 @@ module _ (t : Record) (whole more : List Record) (one : OneRowMore t whole more)
           each = λ d h. go d h (eqb c d) refl;
         }
       where
-        go : (d : ℕ) → d ≤ 15 → (b : Bool) → eqb c d ≡ b → PositionAt (ratesOf more) (unitOf d more) more d (getD (r .at) d noPosition)
+        go : (d : ℕ) → d ≤ mostContract → (b : Bool) → eqb c d ≡ b → PositionAt (ratesOf more) (unitOf d more) more d (getD (r .at) d noPosition)
         go d h true e =
             subst (λ (i : ℕ). PositionAt (ratesOf more) (unitOf i more) more i (getD (r .at) i noPosition)) (eqb-true c d e)
             (subst⁻¹ (PositionAt (ratesOf more) (unitOf c more) more c) (here (of .places)) (at-more q is most))
@@ -250,7 +229,7 @@ module _ (t : Record) (whole more : List Record) (one : OneRowMore t whole more)
           each = λ d h. go d h (eqb c d) refl;
         }
       where
-        go : (d : ℕ) → d ≤ 15 → (b : Bool) → eqb c d ≡ b → PositionAt held (unitOf d whole) whole d (getD (r .at) d noPosition)
+        go : (d : ℕ) → d ≤ mostContract → (b : Bool) → eqb c d ≡ b → PositionAt held (unitOf d whole) whole d (getD (r .at) d noPosition)
         go d h true e =
             subst (λ (i : ℕ). PositionAt held (unitOf i whole) whole i (getD (r .at) i noPosition)) (eqb-true c d e)
             (subst⁻¹ (PositionAt held (unitOf c whole) whole c) (here (of .places)) (record { is = is; most = most-of q is }))
@@ -294,14 +273,14 @@ module _ (file : List ℕ) (ts : List Record) (t : Record) (ok : checked (withTi
       lawful (withTickets file (ts ++ t ∷ []))
       (subst⁻¹ (λ (b : List ℕ). checked b ≡ Accepted) (tickets-last file ts t) (taken-one (withTickets file ts) t ok h))
 
-  pub low-kept : contract t ≤ 15
+  pub low-kept : contract t ≤ mostContract
   low-kept = low file ts t ok h
 
   pub records-kept : records t ≡ t ∷ []
   records-kept = records-one t (taken-row (withTickets file ts) t h .whole)
 
 -- ---- the parts that the code reads
-module _ (standing whole : List Record) (b : Besides standing whole) (law : Lawful standing) (c : ℕ) (low : c ≤ 15) where
+module _ (standing whole : List Record) (b : Besides standing whole) (law : Lawful standing) (c : ℕ) (low : c ≤ mostContract) where
   pub unit-read : (own : List ℕ) → PartOf standing (part 1 c) own → unit own ≡ unitOf c whole
   unit-read own is =
       ap unit (own-by standing law c low own is) ∙ ap (λ (rs : List Record). unit (getD (keep (asks c) rs) 0 [])) (sym (b .contracts))
@@ -309,7 +288,7 @@ module _ (standing whole : List Record) (b : Besides standing whole) (law : Lawf
   pub prompts-read : (bytes : List ℕ) → PartOf standing (part 2 c) bytes → records bytes ≡ promptsOf c whole
   prompts-read bytes is = of-contract standing law c low 2 (omega arith) bytes is ∙ sym (b .prompts c)
 
-  pub prompts-count : (bytes : List ℕ) → PartOf standing (part 2 c) bytes → recordCount bytes ≤ 32
+  pub prompts-count : (bytes : List ℕ) → PartOf standing (part 2 c) bytes → recordCount bytes ≤ mostPrompts
   prompts-count bytes is = omega (arith, count-is bytes, ap length (of-contract standing law c low 2 (omega arith) bytes is), law .limits .prompts c)
 
 -- ---- the row's contract, as the code reads it
@@ -337,16 +316,16 @@ module _ (file : List ℕ) (account : Account) (none : List ℕ) (st : Stands fi
   law′ : Lawful more
   law′ = law-after file ts t ok h
 
-  small : n ≤ 15
+  small : n ≤ mostContract
   small = low-kept file ts t ok h
 
   only : records t ≡ t ∷ []
   only = records-kept file ts t ok h
 
-  pub days-asked : (prompts : List ℕ) → PartOf standing (32 + n) prompts → recordCount prompts ≤ 32
+  pub days-asked : (prompts : List ℕ) → PartOf standing (part 2 n) prompts → recordCount prompts ≤ mostPrompts
   days-asked = prompts-count standing whole b (st .lawful) n small
 
-  module _ (own prompts rates : List ℕ) (eo : PartOf standing (16 + n) own) (ep : PartOf standing (32 + n) prompts) (er : PartOf standing ratePart rates)
+  module _ (own prompts rates : List ℕ) (eo : PartOf standing (part 1 n) own) (ep : PartOf standing (part 2 n) prompts) (er : PartOf standing ratePart rates)
       (table : Rates) (held : RatesOf (records rates) table) (days : Days) (known : DaysOf (records prompts) days) (u : ℕ) (read : u ≡ unit own) where
     unit-is : u ≡ unitOf n whole
     unit-is = read ∙ unit-read standing whole b (st .lawful) n small own eo
@@ -374,12 +353,13 @@ module _ (file : List ℕ) (account : Account) (none : List ℕ) (st : Stands fi
       at-unit : PositionOf (ratesOf whole) u (promptsOf n whole) (rowsOf n whole) p
       at-unit = same-position p refl unit-is refl refl (of .each n small .is)
 
-      pub more-asks : (u ≤ 1000) × ((days .count ≤ 32) × (RowsFit (records t) × (RatedBy table (records t) × Bounded (128 - length (records t)) p)))
+      pub more-asks : (u ≤ 1000) × ((days .count ≤ mostPrompts)
+          × (RowsFit (records t) × (RatedBy table (records t) × Bounded (mostRows - length (records t)) p)))
       more-asks = (
         unit-few,
         (
           known .few,
-          (fits, (rated, subst⁻¹ (λ (rs : List Record). Bounded (128 - length rs) p) only (room t whole more one law law′ p (of .each n small .is)))),
+          (fits, (rated, subst⁻¹ (λ (rs : List Record). Bounded (mostRows - length rs) p) only (room t whole more one law law′ p (of .each n small .is)))),
         ),
       )
 
@@ -387,7 +367,7 @@ module _ (file : List ℕ) (account : Account) (none : List ℕ) (st : Stands fi
           (q : Position)
           → ((held prompts earlier : List Record) → RatesOf held table → DaysOf prompts days → PositionOf held u prompts earlier p
           → PositionOf held u prompts (earlier ++ records t) q)
-          → Bounded 128 q → PositionsOf more (record { records = ps .records + 1; at = set (ps .at) n q })
+          → Bounded mostRows q → PositionsOf more (record { records = ps .records + 1; at = set (ps .at) n q })
       row-added q added most =
           positions-more t whole more one law law′ small ps (record { records = ps .records + 1; at = set (ps .at) n q }) q refl of
           (same-position q refl (sym unit-is) refl (ap (λ (rs : List Record). rowsOf n whole ++ rs) (sym only))
@@ -400,7 +380,7 @@ module _ (file : List ℕ) (account : Account) (none : List ℕ) (st : Stands fi
       p′ = getD (ps .at) n noPosition
 
       pub less-asks : (u ≤ 1000)
-          × ((days .count ≤ 32) × (RowsFit (records t) × (RatedBy table (records t) × (Bounded 128 p′ × HasRows table u days (records t) p′))))
+          × ((days .count ≤ mostPrompts) × (RowsFit (records t) × (RatedBy table (records t) × (Bounded mostRows p′ × HasRows table u days (records t) p′))))
       less-asks = (
         unit-few,
         (

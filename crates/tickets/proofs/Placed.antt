@@ -17,8 +17,7 @@ use Rattle.account.specs.Accepted.{Each}
 use Rattle.account.specs.Answers.{numberOf, recordOf}
 use Rattle.record.specs.Ranges.{unusedByte, fieldOutside}
 use Rattle.account.specs.Check.{theOneBefore, kindFalls, unlisted, outOfOrder, overLimit, Refusal, _when_, firstOf, faultOf, orElse, firstFault, tooLong}
-use Rattle.account.specs.Check.{mostRecords}
-use Rattle.account.specs.Check.{cutRecord, recordsChecked}
+use Rattle.account.specs.Check.{mostRecords, cutRecord, recordsChecked}
 use Rattle.account.specs.Checked.{rateRefusals, rateFaultOf, firstRateFault, ratesChecked, checked}
 use Rattle.account.specs.Parts.{ofKind, ratesOf}
 use Rattle.account.specs.Products.{hasRate, conversionBeyond}
@@ -26,7 +25,7 @@ use Rattle.account.specs.Records.{cut, recordAt, records, recordCount, earlier}
 use Rattle.account.specs.declared.answers.Answer.{Answer}
 use Rattle.account.specs.declared.answers.Answer.the-variants.{Accepted, TooLong, CutRecord, UnknownKind}
 use Rattle.account.proofs.AcceptedOnly.{accepted-only}
-use Rattle.account.proofs.Earlier.{cut-more}
+use Rattle.account.proofs.Earlier.{cut-more, take-cut}
 use Rattle.account.proofs.Exactly.{exactly}
 use Rattle.account.proofs.RateLaws.{pass, stop}
 use Rattle.account.proofs.Verdict.{by-records, too-long}
@@ -50,11 +49,6 @@ cut-append (suc p) m a b h =
     ap (λ (n : ℕ). cut n (a ++ b)) z
     ∙ ap₂ (λ (r : Record) (rest : List ℕ). r ∷ cut (p + m) rest) (take-append-le recordBytes a b (omega arith)) (drop-append-le recordBytes a b (omega arith))
     ∙ ap (λ (rs : List Record). take recordBytes a ∷ rs) (cut-append p m (drop recordBytes a) b l)
-
-pub take-cut : (n m : ℕ) (file : List ℕ) → n ≤ m → take n (cut m file) ≡ cut n file
-take-cut zero m file h = refl
-take-cut (suc n) zero file h = absurd (omega arith)
-take-cut (suc n) (suc m) file h = ap (λ (l : List Record). take recordBytes file ∷ l) (take-cut n m (drop recordBytes file) (omega arith))
 
 -- ---- the records before a place, the latest first
 onto-last : (xs es : List Record) (r : Record) → onto (xs ++ r ∷ []) es ≡ r ∷ onto xs es

@@ -38,6 +38,7 @@ ghost use Rattle.account.specs.Records.{records};
 ghost use Rattle.account.specs.code.Standing.{Stands, Filled, CheckedBy};
 ghost use Rattle.account.specs.Joined.{accountOf};
 ghost use Rattle.account.specs.declared.answers.Answer.the-variants.{Accepted};
+ghost use Rattle.account.specs.PartNumbers.{part};
 ghost use Rattle.tickets.specs.code.Counts.{CountsOf, Counted, Small, rowFaultBy, OneMore, OneLess};
 ghost use Rattle.tickets.specs.Ticket.{place, withTickets, ticketChecked};
 
@@ -66,7 +67,7 @@ pub(crate) fn tickets_of(counts: Counts) -> usize
 
 // How many records each contract has of a kind, by the kind's first part.
 fn totals_of(account: Account, first: usize) -> [usize; CONTRACTS]
-    requires { ⌜ first ≤ 64 ⌝ }
+    requires { ⌜ first ≤ part 4 0 ⌝ }
     ensures { λ r. ⌜ Filled mostContracts (λ c. getD (account .counts) (first + c) 0) r ⌝ }
 {
     let mut totals = [0usize; CONTRACTS];

@@ -24,6 +24,7 @@ use Rattle.account.specs.declared.answers.Answer.the-variants.{Accepted, TooFew
 use Rattle.account.proofs.Claimed as account
 use Rattle.account.proofs.Firsts.{number-refusal, record-refusal}
 use Rattle.account.proofs.NoonLaws.{accepted-only}
+use Rattle.account.proofs.RatesExactly.{by-two}
 use Rattle.writing.specs.Claims.{Bytes, Answers, FirstEntered, RateEntered, Refuses, Never, RoundTrips, Claims}
 use Rattle.writing.specs.Order.{ofItsKind, places}
 use Rattle.writing.specs.Written.{written, verdictOn, answerTo}
@@ -36,15 +37,6 @@ round-trips entries =
     record { readBack = read-back entries ∙ sym (through entries); size = written-long entries; sameBytes = same-bytes entries }
 
 -- the refusal of a record by its number, 14 and 15 too
-by-two : (P : ℕ → Type 0) → P 14 → P 15 → (n : ℕ) → 14 ≤ n → n ≤ 15 → P n
-by-two P a b n l u = go (ℕ-discrete n 14)
-  where
-    go : Dec (n ≡ 14) → P n
-    go (yes e) = subst⁻¹ P e a
-    go (no e) =
-        let f : n ≡ 15 = omega (arith, e) in
-        subst⁻¹ P f b
-
 number-named : (n k : ℕ) → 3 ≤ n → (n ≤ 9) ⊎ ((14 ≤ n) × (n ≤ 15)) → numberOf (refusal n k) ≡ n
 number-named n k h s = ⊎-elim (number-refusal n k h) (λ b. by-two (λ m. numberOf (refusal m k) ≡ m) refl refl n (b .0) (b .1)) s
 

@@ -11,11 +11,11 @@ use native.Mathlib.Omega.{arith}
 use borrow.Author.Tests.{eq-eqb, eqb-true, lt-ltb, ltb-true}
 use Rattle.record.specs.Bytes.{recordBytes}
 use Rattle.exact.specs.Lists.{oneIf, count}
-use Rattle.record.specs.Layout.{Record, kind, contract}
+use Rattle.record.specs.Layout.{Record, kind, contract, mostContract}
 use Rattle.record.specs.Ranges.{unknownKind, unusedByte, fieldOutside}
 use Rattle.record.proofs.Within.{by-kind, both-true, kind-known, contract-known, row-within}
 use Rattle.account.specs.Answers.{numberOf, refusal}
-use Rattle.account.specs.Check.{kindFalls, outOfOrder, faultOf, tooLong, cutRecord, recordsChecked}
+use Rattle.account.specs.Check.{kindFalls, outOfOrder, faultOf, tooLong, cutRecord, recordsChecked, mostContracts, mostPrompts}
 use Rattle.account.specs.Checked.{ratesChecked, checked}
 use Rattle.account.specs.Conversions.{Row}
 use Rattle.account.specs.PartNumbers.{part, inPart, ratePart, parts}
@@ -42,13 +42,13 @@ use Rattle.writing.proofs.Placed.{count-same, front-filled}
 
 -- ---- whose prompts a record names
 module _ (r : Record) where
-  names : (a b : Bool) → ofKind 3 r ≡ a → ofKind 4 r ≡ b → a || b ≡ true → contract r ≤ 15 → namesPrompts r ≡ true
-  names a b e f s h = ap₂ _&&_ (ap₂ _||_ e f ∙ s) (lt-ltb (contract r) 16 (omega arith))
+  names : (a b : Bool) → ofKind 3 r ≡ a → ofKind 4 r ≡ b → a || b ≡ true → contract r ≤ mostContract → namesPrompts r ≡ true
+  names a b e f s h = ap₂ _&&_ (ap₂ _||_ e f ∙ s) (lt-ltb (contract r) mostContracts (omega arith))
 
-  names-3 : kind r ≡ 3 → contract r ≤ 15 → namesPrompts r ≡ true
+  names-3 : kind r ≡ 3 → contract r ≤ mostContract → namesPrompts r ≡ true
   names-3 e h = names true (ofKind 4 r) (eq-eqb (kind r) 3 e) refl refl h
 
-  names-4 : kind r ≡ 4 → contract r ≤ 15 → namesPrompts r ≡ true
+  names-4 : kind r ≡ 4 → contract r ≤ mostContract → namesPrompts r ≡ true
   names-4 e h = names false true (ap (λ (n : ℕ). eqb n 3) e) (eq-eqb (kind r) 4 e) refl h
 
   named-kind : namesPrompts r ≡ true → (3 ≤ kind r) × (kind r ≤ 4)
@@ -59,8 +59,8 @@ module _ (r : Record) where
       go false true e f s = let i = eqb-true (kind r) 4 f in (omega arith, omega arith)
       go false false e f s = absurd (false≢true s)
 
-  named-contract : namesPrompts r ≡ true → contract r < 16
-  named-contract t = ltb-true (contract r) 16 (both-true (ofKind 3 r || ofKind 4 r) _ t .1)
+  named-contract : namesPrompts r ≡ true → contract r < mostContracts
+  named-contract t = ltb-true (contract r) mostContracts (both-true (ofKind 3 r || ofKind 4 r) _ t .1)
 
 -- the prompts count only for a record that names some
 same-by : (counts : List ℕ) (p q : List Record) (before r : Record) → (namesPrompts r ≡ true → p ≡ q) → faultBy counts p before r ≡ faultBy counts q before r
@@ -93,7 +93,7 @@ module _ {file first counts prompts : List ℕ} {held k : ℕ} (g : Reading file
   abbrev r : Record
   r = recordAt file k
 
-  holdable-prompts : (c : ℕ) → c < 16 → Holdable file first counts c
+  holdable-prompts : (c : ℕ) → c < mostContracts → Holdable file first counts c
   holdable-prompts c h =
       let v = part 2 c in
       let n = g .going .notes in
@@ -102,7 +102,7 @@ module _ {file first counts prompts : List ℕ} {held k : ℕ} (g : Reading file
       let p = ap (λ (p : Record → Bool). count p (cut k file)) (part-is 2 c (omega arith) (omega arith)) in
       record {
         number = omega arith;
-        few = omega (arith, p, part-few file k (g .going .fine) 2 c 32 over-2);
+        few = omega (arith, p, part-few file k (g .going .fine) 2 c mostPrompts over-2);
         within = omega (arith, n .started v (omega arith), length-cut k file);
       }
 

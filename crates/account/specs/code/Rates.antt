@@ -1,6 +1,6 @@
 -- The table of rates, as the code holds it.
 -- Assumes nothing.
-use Prim.Native.Nat.{ℕ, _≤_}
+use Prim.Native.Nat.{ℕ, _+_, _≤_}
 use mathlib.Core.Path.{_≡_}
 use mathlib.Core.List.{List}
 use lib.ListN.{length, getD}
@@ -12,8 +12,8 @@ use Rattle.account.specs.Products.{rateFor, raised, lowered}
 
 -- the table holds the raised and the lowered rate of each currency
 pub record RatesOf (rates : List Record) (t : Rates) : Type 0 where
-  pub raised-places : length (t .raised) ≡ 8
-  pub lowered-places : length (t .lowered) ≡ 8
+  pub raised-places : length (t .raised) ≡ mostCurrency + 1
+  pub lowered-places : length (t .lowered) ≡ mostCurrency + 1
   pub raised-are : (c : ℕ) → c ≤ mostCurrency → getD (t .raised) c 0 ≡ raised (rateFor rates c)
   pub lowered-are : (c : ℕ) → c ≤ mostCurrency → getD (t .lowered) c 0 ≡ lowered (rateFor rates c)
 

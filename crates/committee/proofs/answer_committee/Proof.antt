@@ -34,25 +34,21 @@ add-up-requires c κs = tt
 
 returns-2 : tie.Need-returns-2 Inv-loop μ-loop
 returns-2 c =
-    let after-add-up = c .before in
-    let c-2 = after-add-up .before in
-    let start = c-2 .before .before .before in
+    let start = c .before .before .before .before .before in
     let s = start .args in
-    let few = c-2 .if1 .left in
-    let h = differ (s .accounts .now) (s .lengths .now) (s .out .now) (omega (arith, few)) (sym (after-add-up .add-up .ensures) ∙ not-true _ (c .if2 .taken)) in
+    let few = c .before .before .if1 .left in
+    let h = differ (s .accounts .now) (s .lengths .now) (s .out .now) (omega (arith, few)) (sym (c .before .add-up .ensures) ∙ not-true _ (c .if2 .taken)) in
     (h .is, h .out-is)
 
 returns-3 : tie.Need-returns-3 Inv-loop μ-loop
 returns-3 c =
-    let c-1 = c .before in
-    let after-add-up = c-1 .before in
-    let c-3 = after-add-up .before in
+    let c-3 = c .before .before .before in
     let start = c-3 .before .before .before in
     let s = start .args in
     let few = c-3 .if1 .left in
     let h =
     lacking (s .accounts .now) (s .lengths .now) (s .out .now) (omega (arith, few))
-    (sym (after-add-up .add-up .ensures) ∙ not-false _ (c-1 .if2 .left)) (c .if3 .taken)
+    (sym (c .before .before .add-up .ensures) ∙ not-false _ (c .before .if2 .left)) (c .if3 .taken)
     in
     (h .is, h .out-is)
 
@@ -61,13 +57,12 @@ none-requires c κs = tt
 
 loop-holds : tie.Need-loop-holds Inv-loop μ-loop
 loop-holds c =
-    let c-2 = c .before .before in
-    let after-add-up = c-2 .before in
+    let after-add-up = c .before .before .before in
     let start = after-add-up .before .before .before .before in
     let s = start .args in
     begin (s .accounts .now) (s .lengths .now) (c .none .result) (c .none .ensures)
     (eqb-true (sum (s .lengths .now)) (length (s .accounts .now))
-    (sym (after-add-up .add-up .ensures) ∙ not-false _ (c-2 .if2 .left)))
+    (sym (after-add-up .add-up .ensures) ∙ not-false _ (c .before .before .if2 .left)))
 
 mul-end : tie.Need-mul-end Inv-loop μ-loop
 mul-end c = search needs
@@ -80,12 +75,10 @@ within : (c : tie.After-shared-slice-known3 Inv-loop μ-loop) →
     let s = c .before .before .before .before .before .before .before .before .before .before .args in
     c .before .before .loop .at + getD (s .lengths .now) (c .before .before .loop .i) 0 ≤ length (s .accounts .now)
 within c =
-    let after-loop-test = c .before in
-    let after-loop = after-loop-test .before in
-    let start = after-loop .before .before .before .before .before .before .before .before in
+    let start = c .before .before .before .before .before .before .before .before .before .before in
     let s = start .args in
-    let l = after-loop .loop in
-    ends (s .accounts .now) (s .lengths .now) (l .sums) (l .at) (l .i) (l .inv) (after-loop-test .loop-test .taken)
+    let l = c .before .before .loop in
+    ends (s .accounts .now) (s .lengths .now) (l .sums) (l .at) (l .i) (l .inv) (c .before .loop-test .taken)
 
 add-end : tie.Need-add-end Inv-loop μ-loop
 add-end c =
@@ -126,13 +119,12 @@ loop-less c =
 
 loop-again : tie.Need-loop-again Inv-loop μ-loop
 loop-again c =
-    let after-answer-account = c .before in
-    let after-loop-test = after-answer-account .before .before .before in
+    let after-loop-test = c .before .before .before .before in
     let after-loop = after-loop-test .before in
     let start = after-loop .before .before .before .before .before .before .before .before in
     let s = start .args in
     let l = after-loop .loop in
-    let a = after-answer-account .answer-account in
+    let a = c .before .answer-account in
     let w = c .with-account in
     let n = getD (s .lengths .now) (l .i) 0 in
     let part : l .at + n - l .at ≡ n = omega arith in
@@ -144,10 +136,9 @@ loop-again c =
 
 put-numbers-requires : tie.Need-put-numbers-requires Inv-loop μ-loop
 put-numbers-requires c κs =
-    let after-loop = c .before .before in
-    let after-if3 = after-loop .before .before in
+    let after-if3 = c .before .before .before .before in
     let c-7 = after-if3 .before .before .before in
-    let l = after-loop .loop in
+    let l = c .before .before .loop in
     let few = c-7 .if1 .left in
     let room = after-if3 .if3 .left in
     let passed = l .inv .within in
@@ -158,8 +149,7 @@ same-length c = search needs
 
 returns-4 : tie.Need-returns-4 Inv-loop μ-loop
 returns-4 c =
-    let after-put-numbers = c .before in
-    let after-loop-test = after-put-numbers .before .before in
+    let after-loop-test = c .before .before .before in
     let after-loop = after-loop-test .before in
     let after-if3 = after-loop .before .before in
     let c-7 = after-if3 .before in
@@ -176,7 +166,7 @@ returns-4 c =
     all (s .accounts .now) (s .lengths .now) (s .out .now) (omega (arith, few))
     (sym (after-add-up .add-up .ensures)
     ∙ not-false _ (c-7 .if2 .left)) (omega (arith, room))
-    (after-put-numbers .put-numbers .last .1 .0) (after-put-numbers .put-numbers .ensures
+    (c .before .put-numbers .last .1 .0) (c .before .put-numbers .ensures
     ∙ ap (λ (xs : List ℕ). map pos xs ++ drop committeeNumbers (s .out .now)) e)
     in
     (h .is, h .out-is)

@@ -7,6 +7,7 @@ use mathlib.Core.List.{List, [], _∷_, _++_}
 use lib.Dec.{eqb, ltb}
 use lib.IntN.{ℤ}
 use lib.ListN.{length, getD}
+use Rattle.account.specs.Check.{mostContracts}
 use Rattle.exact.specs.Lists.{oneIf}
 use Rattle.formulas.specs.Bounds.{longestFigures}
 use Rattle.committee.specs.Answered.{Answered}
@@ -26,8 +27,8 @@ mostTotal = 85760000000640000
 -- the numbers of an account's figures, within their bounds
 pub record Fit (numbers : List ℤ) : Type 0 where
   pub room : length numbers ≡ longestFigures
-  pub risk-within : (i : ℕ) → i < 16 → scanningAt numbers i + interpromptAt numbers i + promptAt numbers i < 2 ^ 64
-  pub margin-within : (i : ℕ) → i < 16 → marginAt numbers i ≤ mostTotal
+  pub risk-within : (i : ℕ) → i < mostContracts → scanningAt numbers i + interpromptAt numbers i + promptAt numbers i < 2 ^ 64
+  pub margin-within : (i : ℕ) → i < mostContracts → marginAt numbers i ≤ mostTotal
 
 pub record FoundAt (numbers : List ℤ) (i : ℕ) (r : Found) : Type 0 where
   pub margin-is : r .margin .0 ≡ marginAt numbers i
@@ -47,7 +48,7 @@ pub record AccountOf (a : Answered) (r : Account) : Type 0 where
   pub above-is : r .above ≡ ofAccepted aboveRisk a
   pub margin-most : r .margin .0 ≤ mostTotal
   pub credit-most : r .credit ≤ 1
-  pub above-most : r .above ≤ 16
+  pub above-most : r .above ≤ mostContracts
 
 -- ---- the sums
 
@@ -71,7 +72,7 @@ pub record Within (n : ℕ) (s : Sums) : Type 0 where
   pub largest-most : s .largest .0 ≤ mostTotal
   pub place-most : s .place ≤ n
   pub credits-most : s .credits ≤ n
-  pub above-most : s .above ≤ n * 16
+  pub above-most : s .above ≤ n * mostContracts
 
 -- the counts of refusals, with one of a number more
 pub record Counted (counts : List ℕ) (refusal : ℕ) (r : List ℕ) : Type 0 where

@@ -30,13 +30,11 @@ same-length-3 c = search needs
 
 returns : tie.Need-returns
 returns c =
-    let after-tell2 = c .before in
-    let after-tell = after-tell2 .before in
-    let after-ask-all = after-tell .before .before .before .before in
+    let after-ask-all = c .before .before .before .before .before .before in
     let f = after-ask-all .ask-all .ensures in (
-      (subst (λ (a : Answer). Tells a (after-tell .tell .result)) (f .figures-answer) (after-tell .tell .ensures), f .figures-after),
+      (subst (λ (a : Answer). Tells a (c .before .before .tell .result)) (f .figures-answer) (c .before .before .tell .ensures), f .figures-after),
       (
-        (subst (λ (a : Answer). Tells a (after-tell2 .tell2 .result)) (f .books-answer) (after-tell2 .tell2 .ensures), f .books-after),
+        (subst (λ (a : Answer). Tells a (c .before .tell2 .result)) (f .books-answer) (c .before .tell2 .ensures), f .books-after),
         (subst (λ (a : Answer). Tells a (c .tell3 .result)) (f .uses-answer) (c .tell3 .ensures), f .uses-after),
       ),
     )

@@ -30,13 +30,11 @@ same-length-3 c = search needs
 
 returns : tie.Need-returns
 returns c =
-    let after-tell-of2 = c .before in
-    let after-tell-of = after-tell-of2 .before in
-    let after-ask-all = after-tell-of .before .before .before .before .before .before .before in
+    let after-ask-all = c .before .before .before .before .before .before .before .before .before in
     let f = after-ask-all .ask-all .ensures in (
-      (subst (λ (v : Verdict). TellsOf v (after-tell-of .tell-of .result)) (f .figures-answer) (after-tell-of .tell-of .ensures), f .figures-after),
+      (subst (λ (v : Verdict). TellsOf v (c .before .before .tell-of .result)) (f .figures-answer) (c .before .before .tell-of .ensures), f .figures-after),
       (
-        (subst (λ (v : Verdict). TellsOf v (after-tell-of2 .tell-of2 .result)) (f .books-answer) (after-tell-of2 .tell-of2 .ensures), f .books-after),
+        (subst (λ (v : Verdict). TellsOf v (c .before .tell-of2 .result)) (f .books-answer) (c .before .tell-of2 .ensures), f .books-after),
         (subst (λ (v : Verdict). TellsOf v (c .tell-of3 .result)) (f .uses-answer) (c .tell-of3 .ensures), f .uses-after),
       ),
     )

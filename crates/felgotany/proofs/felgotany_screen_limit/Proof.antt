@@ -17,12 +17,11 @@ tell-limit-requires c κs = search needs
 
 returns : tie.Need-returns
 returns c =
-    let after-limit = c .before in
-    let c-4 = after-limit .before .before .before in
+    let c-4 = c .before .before .before .before in
     let s = c-4 in
     let a = s .args in
     subst (λ (l : Limited). TellsLimit l (c .tell-limit .result))
-    (after-limit .limit .ensures ∙ ap (limited (a .lent .now) (a .named) (a .ticket .now)) (back (a .limit) (s .fits .limit)))
+    (c .before .limit .ensures ∙ ap (limited (a .lent .now) (a .named) (a .ticket .now)) (back (a .limit) (s .fits .limit)))
     (c .tell-limit .ensures)
 
 pub felgotany-screen-limit-spec : {M : Type 1} → statement M

@@ -20,15 +20,13 @@ limit-total-requires c κs = search needs
 
 returns : tie.Need-returns
 returns c =
-    let after-limit-number = c .before in
-    let after-tell = after-limit-number .before in
-    let after-limit-refusal = after-tell .before in
+    let after-limit-refusal = c .before .before .before in
     let e = after-limit-refusal .limit-refusal .ensures in
-    let t = after-tell .tell .ensures in
+    let t = c .before .before .tell .ensures in
     record {
       refusal = t .refusal ∙ ap numberOf e;
       record-named = t .record-named ∙ ap recordOf e;
-      answer-is = after-limit-number .limit-number .ensures;
+      answer-is = c .before .limit-number .ensures;
       total-is = c .limit-total .ensures;
     }
 

@@ -20,15 +20,13 @@ step-named-requires c κs = search needs
 
 returns : tie.Need-returns
 returns c =
-    let after-verdict-number = c .before in
-    let after-tell = after-verdict-number .before in
-    let after-answer-in = after-tell .before in
+    let after-answer-in = c .before .before .before in
     let e = after-answer-in .answer-in .ensures in
-    let t = after-tell .tell .ensures in
+    let t = c .before .before .tell .ensures in
     record {
       refusal = t .refusal ∙ ap numberOf e;
       record-named = t .record-named ∙ ap recordOf e;
-      verdict-is = after-verdict-number .verdict-number .ensures;
+      verdict-is = c .before .verdict-number .ensures;
       step-is = c .step-named .ensures;
     }
 

@@ -3,6 +3,7 @@
 use Prim.Native.Nat.{ℕ, _+_, _*_, _≤_}
 use mathlib.Core.List.{List, [], _∷_, _++_}
 use lib.IntN.{pos}
+use Rattle.record.specs.Layout.{scenarioCount, mostContract}
 use Rattle.formulas.specs.declared.amount.Amount.{Amount}
 use Rattle.formulas.specs.declared.line.Line.{Line}
 use Rattle.formulas.specs.Bounds.{mostRisk, mostLots, mostRate}
@@ -41,8 +42,8 @@ figuresFrom ls credits = eightsFrom ls credits ++ (totalFrom ls credits ∷ [])
 
 -- lines of an accepted account
 pub record LineWithin (l : Line) : Type 0 where
-  pub contract-within : l .contract ≤ 15
-  pub active-within : l .active ≤ 16
+  pub contract-within : l .contract ≤ mostContract
+  pub active-within : l .active ≤ scenarioCount
   pub scanning-within : l .scanning .0 ≤ mostRisk
   pub interprompt-within : l .interprompt .0 ≤ mostRisk
   pub prompt-within : l .prompt .0 ≤ mostRisk

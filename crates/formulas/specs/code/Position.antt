@@ -17,6 +17,7 @@ use Rattle.account.specs.Products.{inOwn, inHundredths, convertedAt, rateFor, r
 use Rattle.account.specs.code.Rates.{RatesOf}
 use Rattle.account.specs.declared.rates.Rates.{Rates}
 use Rattle.spread.specs.declared.Delta.{Delta}
+use Rattle.spread.specs.Accepted.{promptPlaces}
 use Rattle.formulas.specs.declared.rows.Days.{Days}
 use Rattle.formulas.specs.declared.rows.Position.{Position}
 pub use Rattle.formulas.specs.code.Sums.{deltasIn}
@@ -88,7 +89,7 @@ addsOn days d more j = cond (eqb d (getD days j 0)) more (pos 0)
 -- the days of prompts
 pub record DaysOf (prompts : List Record) (d : Days) : Type 0 where
   pub count-is : d .count ≡ length prompts
-  pub few : d .count ≤ 32
+  pub few : d .count ≤ promptPlaces
   pub day-is : (j : ℕ) → j < length prompts → getD (d .day) j 0 ≡ day (getD prompts j [])
 
 -- each day is later than those before it
@@ -107,7 +108,7 @@ pub record PositionOf (rates : List Record) (unit : ℕ) (prompts rows : List Re
   pub totals-are : p .totals .0 ≡ totals rates unit rows
   pub nets-are : take (length prompts) (deltasIn (p .nets)) ≡ netDeltas prompts rows
   pub nets-beyond : (j : ℕ) → length prompts ≤ j → getD (deltasIn (p .nets)) j (pos 0) ≡ pos 0
-  pub places : length (deltasIn (p .nets)) ≡ 32
+  pub places : length (deltasIn (p .nets)) ≡ promptPlaces
   pub shorts-are : p .shorts ≡ shortLots rows
 
 -- the position of rows that has these net deltas
@@ -116,13 +117,13 @@ withNets rates unit rows nets = record { totals = record { 0 = totals rates unit
 
 -- no more than what n rows within their ranges can come to
 pub record Bounded (n : ℕ) (p : Position) : Type 0 where
-  pub totals-most : AtMost 16 (n * mostProduct) (p .totals .0)
-  pub nets-most : AtMost 32 (n * 1000000000) (deltasIn (p .nets))
+  pub totals-most : AtMost scenarioCount (n * mostProduct) (p .totals .0)
+  pub nets-most : AtMost promptPlaces (n * 1000000000) (deltasIn (p .nets))
   pub shorts-most : p .shorts ≤ n * 100000
 
 -- q is the position p with more rows
 pub record WithRows (rates : List Record) (unit : ℕ) (days : Days) (p : Position) (rows : List Record) (q : Position) : Type 0 where
-  pub totals-added : Added 16 (λ k. total rates unit rows (k + 1)) (p .totals .0) (q .totals .0)
+  pub totals-added : Added scenarioCount (λ k. total rates unit rows (k + 1)) (p .totals .0) (q .totals .0)
   pub nets-added : Added (days .count) (λ j. netOn rows (getD (days .day) j 0)) (deltasIn (p .nets)) (deltasIn (q .nets))
   pub shorts-added : q .shorts ≡ p .shorts + shortLots rows
 

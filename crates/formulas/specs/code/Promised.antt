@@ -10,7 +10,7 @@ use Rattle.record.specs.Layout.{Record, contract, unit, mostUnit}
 use Rattle.record.specs.Within.{Between}
 use Rattle.account.specs.Check.{mostPrompts, mostRows, mostSpreads}
 use Rattle.spread.specs.Steps.{Open, Taker, numbers, usedOf, unusedOf}
-use Rattle.spread.specs.Accepted.{every, soundPrompt, soundSpread}
+use Rattle.spread.specs.Accepted.{every, soundPrompt, soundSpread, promptPlaces, spreadPlaces}
 use Rattle.spread.specs.code.Book.{byPlace, spreadsEntry, deltaEntry}
 use Rattle.spread.specs.declared.book.Book.{Book}
 use Rattle.formulas.specs.declared.line.Line.{Line}
@@ -52,10 +52,10 @@ pub record BookFit (prompts spreads : List Record) (p : Position) : Type 0 where
 
 -- the book of steps over prompts, place by place, and zeros beyond
 pub record BookOf (ss : List (List Taker)) (ps : List Open) (b : Book) : Type 0 where
-  pub first-is : b .first ≡ byPlace 32 (λ k. spreadsEntry (numbers ss ps) (2 * k))
-  pub second-is : b .second ≡ byPlace 32 (λ k. spreadsEntry (numbers ss ps) (2 * k + 1))
-  pub used-is : b .used ≡ byPlace 32 (deltaEntry (usedOf ss ps))
-  pub unused-is : b .unused ≡ byPlace 32 (deltaEntry (unusedOf ss ps))
+  pub first-is : b .first ≡ byPlace spreadPlaces (λ k. spreadsEntry (numbers ss ps) (2 * k))
+  pub second-is : b .second ≡ byPlace spreadPlaces (λ k. spreadsEntry (numbers ss ps) (2 * k + 1))
+  pub used-is : b .used ≡ byPlace promptPlaces (deltaEntry (usedOf ss ps))
+  pub unused-is : b .unused ≡ byPlace promptPlaces (deltaEntry (unusedOf ss ps))
 
 -- prompts and spreads that the spread steps accept; the net deltas past the prompts are 0
 pub record BookRoom (prompts : List Record) (nets : List ℤ) (spreads : List Record) : Type 0 where

@@ -8,7 +8,7 @@ use lib.IntN.{natAbs}
 use lib.ListN.{length, getD, take}
 use Rattle.record.specs.Layout.{Record}
 use Rattle.account.specs.Check.{mostContracts}
-use Rattle.spread.specs.Accepted.{every, soundPrompt, openOf}
+use Rattle.spread.specs.Accepted.{every, soundPrompt, openOf, spreadPlaces}
 use Rattle.spread.specs.code.Book.{spreadsEntry, byPlace as places}
 use Rattle.spread.specs.Steps.{Open, steps, numbers}
 use Rattle.spread.specs.declared.Prompts.{Prompts}
@@ -40,10 +40,10 @@ pub record TableRoom (count : ℕ) (lines : List Line) (entries : List Record) :
 
 -- the numbers that the entries form over the contracts, entry by entry
 abbrev pub tableFirsts : ℕ → List Line → List Record → List Spreads
-tableFirsts count lines es = places 32 (λ k. spreadsEntry (numbers (steps (map intercontract es)) (map tierOf (take count lines))) (2 * k))
+tableFirsts count lines es = places spreadPlaces (λ k. spreadsEntry (numbers (steps (map intercontract es)) (map tierOf (take count lines))) (2 * k))
 
 abbrev pub tableSeconds : ℕ → List Line → List Record → List Spreads
-tableSeconds count lines es = places 32 (λ k. spreadsEntry (numbers (steps (map intercontract es)) (map tierOf (take count lines))) (2 * k + 1))
+tableSeconds count lines es = places spreadPlaces (λ k. spreadsEntry (numbers (steps (map intercontract es)) (map tierOf (take count lines))) (2 * k + 1))
 
 pub record EarnerOf (l : Line) (e : Earner) : Type 0 where
   pub unit-is : e .unit ≡ l .unit
@@ -61,6 +61,6 @@ pub record CreditsRoom (count : ℕ) (lines : List Line) (entries : List Record)
       (natAbs (getD lines i noLine .net .0)) entries firsts seconds
 
 pub record CreditsOf (count : ℕ) (lines : List Line) (entries : List Record) (firsts seconds : List Spreads) (earned : List Amount) : Type 0 where
-  pub places : length earned ≡ 16
+  pub places : length earned ≡ mostContracts
   pub each : (i : ℕ) → i < count → getD earned i (record { 0 = 0 }) .0 ≡ earns (getD lines i noLine) entries firsts seconds
   pub most : (i : ℕ) → i < count → getD earned i (record { 0 = 0 }) .0 ≤ mostCredits

@@ -9,12 +9,12 @@ use Rattle.record.specs.Layout.{Record, contract, shortOptionRate, unit, mostUn
 use Rattle.record.specs.Layout.{firstRatio, secondRatio, mostContract, mostRate, mostPercent}
 use Rattle.record.specs.Within.{Between}
 use Rattle.account.specs.Check.{mostPrompts, mostSpreads, mostEntries}
-use Rattle.spread.specs.Accepted.{soundSpread}
+use Rattle.spread.specs.Accepted.{soundSpread, tierCount}
 use Rattle.formulas.specs.Deltas.{interprompt}
 use Rattle.formulas.specs.code.Position.{RowsFit, OneDay}
 
 pub record PromptFit (p : Record) : Type 0 where
-  pub tier-within : tier p < 16
+  pub tier-within : tier p < tierCount
   pub spread-rate : spreadRate p ≤ mostRate
   pub outright-rate : outrightRate p ≤ mostRate
 

@@ -5,7 +5,7 @@ use borrow.Author.Needs.{needs}
 use lib.ListN.{length, length-map}
 use Prim.Native.Nat.{_≤_}
 use native.Mathlib.Omega.{arith}
-use Rattle.spread.specs.Accepted.{soundPrompts, soundSpread}
+use Rattle.spread.specs.Accepted.{soundPrompts, soundSpread, promptPlaces}
 use Rattle.spread.proofs.Both.{and-left}
 use Rattle.spread.proofs.Gathering.{few}
 use Rattle.exact.proofs.Integers.{seen}
@@ -24,7 +24,7 @@ same-uses-requires c κs =
     let c-4 = c .before .before .before .before in
     let s = c-4 in
     let p = s .args .prompts in
-    let n : p .count ≤ 32 = few p (and-left (soundPrompts p) (soundSpread (s .args .spread)) (s .pre .0)) in
+    let n : p .count ≤ promptPlaces = few p (and-left (soundPrompts p) (soundSpread (s .args .spread)) (s .pre .0)) in
     omega (arith, s .pre .1)
 
 verdict-of-requires : tie.Need-verdict-of-requires
@@ -32,18 +32,17 @@ verdict-of-requires c κs = search needs
 
 returns : tie.Need-returns
 returns c =
-    let after-same-uses = c .before in
-    let after-step-over = after-same-uses .before .before .before .before in
+    let after-step-over = c .before .before .before .before .before in
     let c-6 = after-step-over .before in
     let s = c-6 in
     let a = s .args in
     let p = a .prompts in
     let st = after-step-over .step-over in
-    let lt : length (p .tier) ≡ 32 = sym (length-map (p .tier) _) ∙ s .good .0 .1 .1 .1 .0 .1 .0 .1 in
-    let ln : length (p .net) ≡ 32 = sym (length-map (p .net) _) ∙ s .good .0 .1 .1 .1 .1 .0 .1 .0 .1 in
+    let lt : length (p .tier) ≡ promptPlaces = sym (length-map (p .tier) _) ∙ s .good .0 .1 .1 .1 .0 .1 .0 .1 in
+    let ln : length (p .net) ≡ promptPlaces = sym (length-map (p .net) _) ∙ s .good .0 .1 .1 .1 .1 .0 .1 .0 .1 in
     compared p (a .spread) (a .second) (st .result) (st .ensures) (s .pre .0) lt ln (a .step) (a .number) (a .uses .now) (s .pre .1)
-    (c .verdict-of .result) (after-same-uses .same-uses .result) (after-same-uses .same-uses .ensures)
-    (seen (λ (z : ℤ). verdictOf (a .step) (st .result .number .0) z (after-same-uses .same-uses .result) Right) (a .number) (s .fits .number)
+    (c .verdict-of .result) (c .before .same-uses .result) (c .before .same-uses .ensures)
+    (seen (λ (z : ℤ). verdictOf (a .step) (st .result .number .0) z (c .before .same-uses .result) Right) (a .number) (s .fits .number)
     (c .verdict-of .ensures))
 
 pub compare-spec : {M : Type 1} → statement M

@@ -13,11 +13,12 @@ use mathlib.Core.Bool.{true, false}
 use mathlib.Core.List.{[]}
 use borrow.Author.Tests.{not-true, not-false}
 use lib.IntN.{ℤ, pos}
-use Rattle.spread.specs.Accepted.{openOf, stepsOf, soundPrompts, soundTable}
+use Rattle.spread.specs.Accepted.{openOf, stepsOf, soundPrompts, soundTable, spreadPlaces}
 use Rattle.spread.specs.declared.Spread.{Spread}
 use Rattle.spread.proofs.Both.{and-right}
+use Rattle.spread.proofs.Gathering.{few-in-table}
 use Rattle.judging.specs.Judged.{toldOf, judgedFrom}
-use Rattle.judging.proofs.Walking.{few-spreads, Judging, begins, part-long, room-here, sound-here, stops, goes, ends}
+use Rattle.judging.proofs.Walking.{Judging, begins, part-long, room-here, sound-here, stops, goes, ends}
 use Rattle.judging.proofs.judge_steps.Statement.{statement}
 use Rattle.judging.proofs.judge_steps.Tie as tie
 
@@ -32,8 +33,8 @@ abbrev noSpread : Spread
 noSpread = record { legs = 0; leg = []; tenths = false }
 
 -- the table has its places, and is sound
-spreads-32 : (s : tie.Start Inv-loop μ-loop) → length (s .args .t2 .spread) ≡ 32
-spreads-32 s = sym (length-map (s .args .t2 .spread) _) ∙ s .good .1 .0 .1 .1 .1 .0 .1 .0 .1
+spread-places : (s : tie.Start Inv-loop μ-loop) → length (s .args .t2 .spread) ≡ spreadPlaces
+spread-places s = sym (length-map (s .args .t2 .spread) _) ∙ s .good .1 .0 .1 .1 .1 .0 .1 .0 .1
 
 sound-table : (s : tie.Start Inv-loop μ-loop) → soundTable (s .args .t2) ≡ true
 sound-table s = and-right (soundPrompts (s .args .prompts)) (soundTable (s .args .t2)) (s .pre .0)
@@ -49,7 +50,7 @@ mul-spread c = omega arith
 element-copy-out-spread : tie.Need-element-copy-out-spread Inv-loop μ-loop
 element-copy-out-spread c =
     let s = c .before .before in
-    let f = few-spreads (s .args .t2) (sound-table s) in
+    let f = few-in-table (s .args .t2) (sound-table s) in
     omega arith
 
 mul-compare : tie.Need-mul-compare Inv-loop μ-loop
@@ -60,13 +61,12 @@ shared-slice-copy-out-compare c = omega arith
 
 add-compare : tie.Need-add-compare Inv-loop μ-loop
 add-compare c =
-    let after-loop-test = c .before .before in
-    let after-loop = after-loop-test .before in
+    let after-loop = c .before .before .before in
     let c-4 = after-loop .before in
     let s = c-4 in
     let l = after-loop .loop in
-    let r = room-here (s .args .t2) (spreads-32 s) (sound-table s) (s .args .prompts .count) (s .args .numbers .now) (s .args .uses .now)
-    (s .pre .1 .0) _ (l .step) (l .at) (l .left) (l .inv) (after-loop-test .loop-test .taken) in
+    let r = room-here (s .args .t2) (spread-places s) (sound-table s) (s .args .prompts .count) (s .args .numbers .now) (s .args .uses .now)
+    (s .pre .1 .0) _ (l .step) (l .at) (l .left) (l .inv) (c .before .before .loop-test .taken) in
     omega (arith, r, s .good .1 .1 .1 .0)
 
 mul-compare-2 : tie.Need-mul-compare-2 Inv-loop μ-loop
@@ -80,13 +80,12 @@ part-compare-start c = omega arith
 
 part-compare-end : tie.Need-part-compare-end Inv-loop μ-loop
 part-compare-end c =
-    let after-loop-test = c .before .before in
-    let after-loop = after-loop-test .before in
+    let after-loop = c .before .before .before in
     let c-4 = after-loop .before in
     let s = c-4 in
     let l = after-loop .loop in
-    let r = room-here (s .args .t2) (spreads-32 s) (sound-table s) (s .args .prompts .count) (s .args .numbers .now) (s .args .uses .now)
-    (s .pre .1 .0) _ (l .step) (l .at) (l .left) (l .inv) (after-loop-test .loop-test .taken) in
+    let r = room-here (s .args .t2) (spread-places s) (sound-table s) (s .args .prompts .count) (s .args .numbers .now) (s .args .uses .now)
+    (s .pre .1 .0) _ (l .step) (l .at) (l .left) (l .inv) (c .before .before .loop-test .taken) in
     omega (arith, r)
 
 compare-requires : tie.Need-compare-requires Inv-loop μ-loop
@@ -97,9 +96,9 @@ compare-requires c κs =
     let s = c-5 in
     let l = after-loop .loop in
     let h = after-loop-test .loop-test .taken in (
-      sound-here (s .args .t2) (spreads-32 s) (sound-table s) (s .args .prompts .count) (s .args .numbers .now) (s .args .uses .now) (s .pre .1 .0) _
+      sound-here (s .args .t2) (spread-places s) (sound-table s) (s .args .prompts .count) (s .args .numbers .now) (s .args .uses .now) (s .pre .1 .0) _
           (l .step) (l .at) (l .left) (l .inv) h noSpread,
-      part-long (s .args .t2) (spreads-32 s) (sound-table s) (s .args .prompts .count) (s .args .numbers .now) (s .args .uses .now) (s .pre .1 .0) _
+      part-long (s .args .t2) (spread-places s) (sound-table s) (s .args .prompts .count) (s .args .numbers .now) (s .args .uses .now) (s .pre .1 .0) _
           (l .step) (l .at) (l .left) (l .inv) h noSpread,
     )
 
@@ -113,13 +112,12 @@ said : (b : tie.After-compare Inv-loop μ-loop) →
     ComparedTo (l .left) (getD (s .t2 .spread) (l .step / 2) noSpread) (eqb (l .step % 2) 1) (l .step) (getD (s .numbers .now) (l .step) (pos 0))
     (take (l .at + s .prompts .count - l .at) (drop (l .at) (s .uses .now))) (b .compare .result)
 said b =
-    let after-compare-arg = b .before .before in
-    let after-loop = after-compare-arg .before .before .before in
+    let after-loop = b .before .before .before .before .before in
     let start = after-loop .before in
     let l = after-loop .loop in
     let s = start .args in
     let z = getD (s .numbers .now) (l .step) (pos 0) in
-    let fits : SFits w64 z = record { sfits = after-compare-arg .compare-arg .given } in
+    let fits : SFits w64 z = record { sfits = b .before .before .compare-arg .given } in
     subst
     (λ (x : ℤ). ComparedTo (l .left) (getD (s .t2 .spread) (l .step / 2) noSpread) (eqb (l .step % 2) 1) (l .step) x
     (take (l .at + s .prompts .count - l .at) (drop (l .at) (s .uses .now))) (b .compare .result))
@@ -131,7 +129,7 @@ returns c =
     let s = b .before .before .before .before .before .before in
     let l = b .before .before .before .before .before .loop in
     let h = b .before .before .before .before .loop-test .taken in
-    stops (s .args .t2) (spreads-32 s) (sound-table s) (s .args .prompts .count) (s .args .numbers .now) (s .args .uses .now) (s .pre .1 .0) _
+    stops (s .args .t2) (spread-places s) (sound-table s) (s .args .prompts .count) (s .args .numbers .now) (s .args .uses .now) (s .pre .1 .0) _
     (l .step) (l .at) (l .left) (l .inv) h noSpread
     (b .compare .result) (said b)
     (sym (c .before .is-right .ensures) ∙ not-true (c .before .is-right .result) (c .if1 .taken))
@@ -142,7 +140,7 @@ add-at c =
     let b = c-3 in
     let s = b .before .before .before .before .before .before in
     let l = b .before .before .before .before .before .loop in
-    let r = room-here (s .args .t2) (spreads-32 s) (sound-table s) (s .args .prompts .count) (s .args .numbers .now) (s .args .uses .now)
+    let r = room-here (s .args .t2) (spread-places s) (sound-table s) (s .args .prompts .count) (s .args .numbers .now) (s .args .uses .now)
     (s .pre .1 .0) _ (l .step) (l .at) (l .left) (l .inv) (b .before .before .before .before .loop-test .taken) in
     omega (arith, r, s .good .1 .1 .1 .0)
 
@@ -154,23 +152,21 @@ loop-less c = omega arith
 
 loop-again : tie.Need-loop-again Inv-loop μ-loop
 loop-again c =
-    let c-1 = c .before in
-    let after-is-right = c-1 .before in
-    let c-3 = after-is-right .before in
+    let c-3 = c .before .before .before in
     let b = c-3 in
     let s = b .before .before .before .before .before .before in
     let l = b .before .before .before .before .before .loop in
     let h = b .before .before .before .before .loop-test .taken in
-    goes (s .args .t2) (spreads-32 s) (sound-table s) (s .args .prompts .count) (s .args .numbers .now) (s .args .uses .now) (s .pre .1 .0) _
+    goes (s .args .t2) (spread-places s) (sound-table s) (s .args .prompts .count) (s .args .numbers .now) (s .args .uses .now) (s .pre .1 .0) _
     (l .step) (l .at) (l .left) (l .inv) h noSpread
     (b .compare .result) (said b)
-    (sym (after-is-right .is-right .ensures) ∙ not-false (after-is-right .is-right .result) (c-1 .if1 .left))
+    (sym (c .before .before .is-right .ensures) ∙ not-false (c .before .before .is-right .result) (c .before .if1 .left))
 
 returns-2 : tie.Need-returns-2 Inv-loop μ-loop
 returns-2 c =
     let s = c .before .before in
     let l = c .before .loop in
-    ends (s .args .t2) (spreads-32 s) (sound-table s) (s .args .prompts .count) (s .args .numbers .now) (s .args .uses .now) (s .pre .1 .0) _
+    ends (s .args .t2) (spread-places s) (sound-table s) (s .args .prompts .count) (s .args .numbers .now) (s .args .uses .now) (s .pre .1 .0) _
     (l .step) (l .at) (l .left) (l .inv) (omega arith)
 
 pub judge-steps-spec : {M : Type 1} → statement M

@@ -4,6 +4,7 @@ use native.Mathlib.Nat.{mul-le-mul}
 use native.Mathlib.Omega.{arith}
 use Prim.Native.Nat.{_*_, _≤_}
 use borrow.Author.Needs.{needs}
+use Rattle.spread.specs.Accepted.{spreadPlaces}
 use Rattle.judging.proofs.same_counts.Statement.{statement}
 use Rattle.judging.proofs.same_counts.Tie as tie
 
@@ -15,7 +16,7 @@ mul-result-2 c = search needs
 
 mul-result-3 : tie.Need-mul-result-3
 mul-result-3 c =
-    let a : 2 * c .args .spreads ≤ 64 = omega (arith, c .pre .0) in
+    let a : 2 * c .args .spreads ≤ 2 * spreadPlaces = omega (arith, c .pre .0) in
     let m = mul-le-mul a (c .pre .1) in
     omega arith
 

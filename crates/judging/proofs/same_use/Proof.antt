@@ -18,14 +18,13 @@ below-requires-2 c κs = search needs
 
 returns : tie.Need-returns
 returns c =
-    let after-below = c .before .before in
-    let after-struct-told = after-below .before in
+    let after-struct-told = c .before .before .before in
     let c-4 = after-struct-told .before in
     let s = c-4 in
     let x = s .args .sent in
     let y = s .args .taken .0 in
     let fy : SFits w64 y = record { sfits = after-struct-told .struct-told .given .0 .1 } in
-    ap₂ (λ (p q : Bool). not p && not q) (seen₂ ltZ x y (s .fits .sent) fy (after-below .below .ensures))
+    ap₂ (λ (p q : Bool). not p && not q) (seen₂ ltZ x y (s .fits .sent) fy (c .before .before .below .ensures))
     (seen₂ ltZ y x fy (s .fits .sent) (c .below2 .ensures))
 
 pub same-use-spec : {M : Type 1} → statement M

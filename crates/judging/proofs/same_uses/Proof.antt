@@ -45,8 +45,7 @@ same-use-requires c κs = tt
 
 returns : tie.Need-returns Inv-loop μ-loop
 returns c =
-    let after-same-use = c .before in
-    let after-same-use-arg = after-same-use .before .before in
+    let after-same-use-arg = c .before .before .before in
     let after-loop-test = after-same-use-arg .before in
     let after-loop = after-loop-test .before in
     let c-6 = after-loop .before in
@@ -56,8 +55,8 @@ returns c =
     let ds = s .args .t2 in
     let fits : SFits w64 (getD us (l .i) (pos 0)) = record { sfits = after-same-use-arg .same-use-arg .given } in
     let e : same (getD us (l .i) (pos 0)) (getD ds (l .i) noDelta .0) ≡ false =
-    sym (seen (λ (x : ℤ). same x (getD ds (l .i) noDelta .0)) (getD us (l .i) (pos 0)) fits (after-same-use .same-use .ensures))
-    ∙ not-true (after-same-use .same-use .result) (c .if1 .taken) in
+    sym (seen (λ (x : ℤ). same x (getD ds (l .i) noDelta .0)) (getD us (l .i) (pos 0)) fits (c .before .same-use .ensures))
+    ∙ not-true (c .before .same-use .result) (c .if1 .taken) in
     let few : length us ≤ length ds = omega arith in
     sym
     (sym (l .inv .0) ∙ uses-at us ds few (l .i) (after-loop-test .loop-test .taken)
@@ -71,8 +70,7 @@ loop-less c = omega arith
 
 loop-again : tie.Need-loop-again Inv-loop μ-loop
 loop-again c =
-    let after-same-use = c .before in
-    let after-same-use-arg = after-same-use .before .before in
+    let after-same-use-arg = c .before .before .before in
     let after-loop-test = after-same-use-arg .before in
     let after-loop = after-loop-test .before in
     let c-6 = after-loop .before in
@@ -82,8 +80,8 @@ loop-again c =
     let ds = s .args .t2 in
     let fits : SFits w64 (getD us (l .i) (pos 0)) = record { sfits = after-same-use-arg .same-use-arg .given } in
     let e : same (getD us (l .i) (pos 0)) (getD ds (l .i) noDelta .0) ≡ true =
-    sym (seen (λ (x : ℤ). same x (getD ds (l .i) noDelta .0)) (getD us (l .i) (pos 0)) fits (after-same-use .same-use .ensures))
-    ∙ not-false (after-same-use .same-use .result) (c .if1 .left) in
+    sym (seen (λ (x : ℤ). same x (getD ds (l .i) noDelta .0)) (getD us (l .i) (pos 0)) fits (c .before .same-use .ensures))
+    ∙ not-false (c .before .same-use .result) (c .if1 .left) in
     let few : length us ≤ length ds = omega arith in (
       ap (λ (k : ℕ). alike (drop k us) (drop k (take (length us) (deltasIn ds)))) (add-one (l .i))
           ∙ sym

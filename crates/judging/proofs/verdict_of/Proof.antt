@@ -25,42 +25,32 @@ is-less-requires c κs = search needs
 
 returns-2 : tie.Need-returns-2
 returns-2 c =
-    let after-is-less = c .before in
-    let c-2 = after-is-less .before in
-    let after-is-more = c-2 .before in
+    let after-is-more = c .before .before .before in
     let c-4 = after-is-more .before in
     let s = c-4 in
     let a = s .args in
-    let m = sym (seen (ltZ (pos (a .formed))) (a .number) (s .fits .number) (after-is-more .is-more .ensures)) ∙ c-2 .if1 .left in
-    let l = sym (seen (λ (z : ℤ). ltZ z (pos (a .formed))) (a .number) (s .fits .number) (after-is-less .is-less .ensures)) ∙ c .if2 .taken in
+    let m = sym (seen (ltZ (pos (a .formed))) (a .number) (s .fits .number) (after-is-more .is-more .ensures)) ∙ c .before .before .if1 .left in
+    let l = sym (seen (λ (z : ℤ). ltZ z (pos (a .formed))) (a .number) (s .fits .number) (c .before .is-less .ensures)) ∙ c .if2 .taken in
     sym (says-less (a .step) (a .formed) (a .number) Right (a .alike) m l)
 
 returns-3 : tie.Need-returns-3
 returns-3 c =
-    let c-1 = c .before in
-    let after-is-less = c-1 .before in
-    let c-3 = after-is-less .before in
-    let after-is-more = c-3 .before in
-    let c-5 = after-is-more .before in
-    let s = c-5 in
+    let c-3 = c .before .before .before in
+    let s = c-3 .before .before in
     let a = s .args in
-    let m = sym (seen (ltZ (pos (a .formed))) (a .number) (s .fits .number) (after-is-more .is-more .ensures))
+    let m = sym (seen (ltZ (pos (a .formed))) (a .number) (s .fits .number) (c-3 .before .is-more .ensures))
     ∙ c-3 .if1 .left in
-    let l = sym (seen (λ (z : ℤ). ltZ z (pos (a .formed))) (a .number) (s .fits .number) (after-is-less .is-less .ensures)) ∙ c-1 .if2 .left in
+    let l = sym (seen (λ (z : ℤ). ltZ z (pos (a .formed))) (a .number) (s .fits .number) (c .before .before .is-less .ensures)) ∙ c .before .if2 .left in
     sym (says-none (a .step) (a .formed) (a .number) Right (a .alike) m l (c .if3 .taken))
 
 returns-4 : tie.Need-returns-4
 returns-4 c =
-    let c-1 = c .before in
-    let after-is-less = c-1 .before in
-    let c-3 = after-is-less .before in
-    let after-is-more = c-3 .before in
-    let c-5 = after-is-more .before in
-    let s = c-5 in
+    let c-3 = c .before .before .before in
+    let s = c-3 .before .before in
     let a = s .args in
-    let m = sym (seen (ltZ (pos (a .formed))) (a .number) (s .fits .number) (after-is-more .is-more .ensures))
+    let m = sym (seen (ltZ (pos (a .formed))) (a .number) (s .fits .number) (c-3 .before .is-more .ensures))
     ∙ c-3 .if1 .left in
-    let l = sym (seen (λ (z : ℤ). ltZ z (pos (a .formed))) (a .number) (s .fits .number) (after-is-less .is-less .ensures)) ∙ c-1 .if2 .left in
+    let l = sym (seen (λ (z : ℤ). ltZ z (pos (a .formed))) (a .number) (s .fits .number) (c .before .before .is-less .ensures)) ∙ c .before .if2 .left in
     sym (says-use (a .step) (a .formed) (a .number) Right (a .alike) m l (c .if3 .left))
 
 pub verdict-of-spec : {M : Type 1} → statement M

@@ -20,31 +20,28 @@ clear c = sym (c .before .number-of .ensures) ∙ omega (arith, c .if1 .left)
 
 returns : tie.Need-returns
 returns c =
-    let after-number-of = c .before in
-    let after-check-pair = after-number-of .before .before in
+    let after-check-pair = c .before .before .before in
     let start = after-check-pair .before .before .before in
     let a = start .args in
     let o = after-check-pair .check-pair in
     pair-refused (a .question) (a .sent) (a .numbers .now) (a .uses .now) (a .morning .now) (a .noon .now) (o .result) (o .ensures)
-    (λ e. c .if1 .taken (after-number-of .number-of .ensures ∙ e))
+    (λ e. c .if1 .taken (c .before .number-of .ensures ∙ e))
 
 judge-over-requires : tie.Need-judge-over-requires
 judge-over-requires c κs =
-    let c-1 = c .before in
-    let after-check-pair = c-1 .before .before .before in
+    let after-check-pair = c .before .before .before .before in
     let start = after-check-pair .before .before .before in
     let a = start .args in
     let o = after-check-pair .check-pair in
-    pair-stands (a .question) (a .sent) (a .numbers .now) (a .uses .now) (a .morning .now) (a .noon .now) (o .result) (o .ensures) (clear (c-1))
+    pair-stands (a .question) (a .sent) (a .numbers .now) (a .uses .now) (a .morning .now) (a .noon .now) (o .result) (o .ensures) (clear (c .before))
 
 returns-2 : tie.Need-returns-2
 returns-2 c =
-    let c-2 = c .before .before in
-    let after-check-pair = c-2 .before .before .before in
+    let after-check-pair = c .before .before .before .before .before in
     let start = after-check-pair .before .before .before in
     let a = start .args in
     let o = after-check-pair .check-pair in
-    pair-accepted (a .question) (a .sent) (a .numbers .now) (a .uses .now) (a .morning .now) (a .noon .now) (o .result) (o .ensures) (clear (c-2))
+    pair-accepted (a .question) (a .sent) (a .numbers .now) (a .uses .now) (a .morning .now) (a .noon .now) (o .result) (o .ensures) (clear (c .before .before))
     (c .judge-over .result) (c .judge-over .ensures)
 
 pub judge-joined-spec : {M : Type 1} → statement M

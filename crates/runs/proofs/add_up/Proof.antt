@@ -29,13 +29,12 @@ shared-slice-read-n c = search needs
 
 returns : tie.Need-returns Inv-loop μ-loop
 returns c =
-    let after-loop-test = c .before .before in
-    let after-loop = after-loop-test .before in
+    let after-loop = c .before .before .before in
     let start = after-loop .before in
     let s = start .args in
     let l = after-loop .loop in
     let e = l .inv .0 in
-    let n = sum-next (s .lengths .now) (l .i) (after-loop-test .loop-test .taken) in
+    let n = sum-next (s .lengths .now) (l .i) (c .before .before .loop-test .taken) in
     let m = c .if1 .taken in
     sym (ne-eqb (sum (s .lengths .now)) (s .whole) (λ f. omega (arith, e, n, m, f)))
 
@@ -47,12 +46,11 @@ loop-less c = let t = c .before .before .loop-test .taken in omega (arith, t)
 
 loop-again : tie.Need-loop-again Inv-loop μ-loop
 loop-again c =
-    let after-loop-test = c .before .before in
-    let after-loop = after-loop-test .before in
+    let after-loop = c .before .before .before in
     let start = after-loop .before in
     let s = start .args in
     let l = after-loop .loop in
-    let t = after-loop-test .loop-test .taken in
+    let t = c .before .before .loop-test .taken in
     let e = l .inv .0 in
     let n = sum-next (s .lengths .now) (l .i) t in
     let m = c .if1 .left in

@@ -26,45 +26,39 @@ add-up-requires c κs = search needs
 
 returns : tie.Need-returns Inv-loop μ-loop
 returns c =
-    let after-add-up = c .before in
-    let start = after-add-up .before .before .before .before in
+    let start = c .before .before .before .before .before in
     let s = start .args in
-    let h = differ (s .accounts .now) (s .lengths .now) (s .out .now) (s .outcomes .now) (sym (after-add-up .add-up .ensures) ∙ not-true _ (c .if1 .taken)) in
+    let h = differ (s .accounts .now) (s .lengths .now) (s .out .now) (s .outcomes .now) (sym (c .before .add-up .ensures) ∙ not-true _ (c .if1 .taken)) in
     (h .is, (h .out-is, h .outcome-is))
 
 returns-2 : tie.Need-returns-2 Inv-loop μ-loop
 returns-2 c =
-    let c-1 = c .before in
-    let after-add-up = c-1 .before in
-    let start = after-add-up .before .before .before .before in
+    let start = c .before .before .before .before .before .before in
     let s = start .args in
     let few = c .if2 .taken in
     let h = few-figures (s .accounts .now) (s .lengths .now) (s .out .now) (s .outcomes .now)
-    (sym (after-add-up .add-up .ensures) ∙ not-false _ (c-1 .if1 .left)) (omega (arith, few)) in
+    (sym (c .before .before .add-up .ensures) ∙ not-false _ (c .before .if1 .left)) (omega (arith, few)) in
     (h .is, (h .out-is, h .outcome-is))
 
 returns-3 : tie.Need-returns-3 Inv-loop μ-loop
 returns-3 c =
-    let c-1 = c .before in
-    let c-2 = c-1 .before in
-    let after-add-up = c-2 .before in
+    let after-add-up = c .before .before .before in
     let start = after-add-up .before .before .before .before in
     let s = start .args in
-    let enough = c-1 .if2 .left in
+    let enough = c .before .if2 .left in
     let few = c .if3 .taken in
     let h = few-outcomes (s .accounts .now) (s .lengths .now) (s .out .now) (s .outcomes .now)
-    (sym (after-add-up .add-up .ensures) ∙ not-false _ (c-2 .if1 .left)) (omega (arith, enough)) (omega (arith, few)) in
+    (sym (after-add-up .add-up .ensures) ∙ not-false _ (c .before .before .if1 .left)) (omega (arith, enough)) (omega (arith, few)) in
     (h .is, (h .out-is, h .outcome-is))
 
 loop-holds : tie.Need-loop-holds Inv-loop μ-loop
 loop-holds c =
-    let c-2 = c .before .before in
-    let after-add-up = c-2 .before in
+    let after-add-up = c .before .before .before in
     let start = after-add-up .before .before .before .before in
     let s = start .args in
     begin (s .accounts .now) (s .lengths .now) (s .out .now) (s .outcomes .now)
     (eqb-true (sum (s .lengths .now)) (length (s .accounts .now))
-    (sym (after-add-up .add-up .ensures) ∙ not-false _ (c-2 .if1 .left)))
+    (sym (after-add-up .add-up .ensures) ∙ not-false _ (c .before .before .if1 .left)))
 
 mul-end : tie.Need-mul-end Inv-loop μ-loop
 mul-end c = search needs
@@ -77,17 +71,15 @@ within : (c : tie.After-shared-slice-known3 Inv-loop μ-loop) →
     let s = c .before .before .before .before .before .before .before .before .before .before .args in
     c .before .before .loop .at + getD (s .lengths .now) (c .before .before .loop .i) 0 ≤ length (s .accounts .now)
 within c =
-    let after-loop-test = c .before in
-    let after-loop = after-loop-test .before in
-    let after-if3 = after-loop .before in
+    let after-if3 = c .before .before .before in
     let c-4 = after-if3 .before in
     let start = c-4 .before .before .before .before .before .before in
     let s = start .args in
-    let l = after-loop .loop in
+    let l = c .before .before .loop in
     let a = c-4 .if2 .left in
     let b = after-if3 .if3 .left in
     ends (s .accounts .now) (s .lengths .now) (s .out .now) (s .outcomes .now)
-    (omega (arith, a)) (omega (arith, b)) (l .out) (l .outcomes) (l .at) (l .i) (l .inv) (after-loop-test .loop-test .taken)
+    (omega (arith, a)) (omega (arith, b)) (l .out) (l .outcomes) (l .at) (l .i) (l .inv) (c .before .loop-test .taken)
 
 add-end : tie.Need-add-end Inv-loop μ-loop
 add-end c =
@@ -143,8 +135,7 @@ loop-less c =
 
 loop-again : tie.Need-loop-again Inv-loop μ-loop
 loop-again c =
-    let after-place-outcome = c .before .before in
-    let after-place-figures = after-place-outcome .before .before .before in
+    let after-place-figures = c .before .before .before .before .before in
     let after-loop-test = after-place-figures .before .before .before .before in
     let after-loop = after-loop-test .before in
     let after-if3 = after-loop .before in
@@ -156,7 +147,7 @@ loop-again c =
     let a = c-12 .if2 .left in
     let b = after-if3 .if3 .left in
     let f = after-place-figures .place-figures in
-    let o = after-place-outcome .place-outcome in
+    let o = c .before .before .place-outcome in
     let n = getD (s .lengths .now) (l .i) 0 in
     let part : l .at + n - l .at ≡ n = omega arith in
     let account = ap (λ (k : ℕ). take k (drop (l .at) (s .accounts .now))) part in
@@ -178,20 +169,16 @@ same-length-2 c = c .before .loop .inv .as-many
 
 returns-4 : tie.Need-returns-4 Inv-loop μ-loop
 returns-4 c =
-    let after-loop = c .before in
-    let after-if3 = after-loop .before in
-    let c-3 = after-if3 .before in
-    let c-4 = c-3 .before in
-    let after-add-up = c-4 .before in
-    let start = after-add-up .before .before .before .before in
+    let c-3 = c .before .before .before in
+    let start = c-3 .before .before .before .before .before .before in
     let s = start .args in
-    let l = after-loop .loop in
+    let l = c .before .loop in
     let a = c-3 .if2 .left in
-    let b = after-if3 .if3 .left in
+    let b = c .before .before .if3 .left in
     let t = c .loop-test .left in
     let e = end (s .accounts .now) (s .lengths .now) (s .out .now) (s .outcomes .now) (l .out) (l .outcomes) (l .at) (l .i) (l .inv) (omega (arith, t)) in
     let h = all (s .accounts .now) (s .lengths .now) (s .out .now) (s .outcomes .now)
-    (sym (after-add-up .add-up .ensures) ∙ not-false _ (c-4 .if1 .left)) (omega (arith, a))
+    (sym (c-3 .before .before .add-up .ensures) ∙ not-false _ (c-3 .before .if1 .left)) (omega (arith, a))
     (omega (arith, b))
     (l .out) (l .outcomes) (e .0) (e .1) in
     (h .is, (h .out-is, h .outcome-is))

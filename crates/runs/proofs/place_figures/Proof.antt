@@ -38,19 +38,18 @@ same-length c = search needs
 
 returns : tie.Need-returns
 returns c =
-    let after-answer = c .before in
-    let c-4 = after-answer .before .before .before in
+    let c-4 = c .before .before .before .before in
     let s = c-4 in
     let out = s .args .out .now in
     let at = longestFigures * s .args .place in
-    let f = after-answer .answer .ensures in
+    let f = c .before .answer .ensures in
     let width : at + longestFigures - at ≡ longestFigures = omega arith in
     let d = length-drop at out in
     let lent : length (take (at + longestFigures - at) (drop at out)) ≡ longestFigures =
     ap (λ (n : ℕ). length (take n (drop at out))) width ∙ length-take-le longestFigures (drop at out) (let p = s .pre in omega (arith, d, p))
     in (
       f .0 ∙ ap (figuresAnswer (s .args .account .now)) lent,
-      put-place longestFigures at out (after-answer .answer .last .1 .1 .0)
+      put-place longestFigures at out (c .before .answer .last .1 .1 .0)
           (afterFigures (s .args .account .now)) (f .1),
     )
 

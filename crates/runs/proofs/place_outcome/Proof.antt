@@ -34,10 +34,9 @@ mul-out-2 c = search needs
 
 slice-write-out-2 : tie.Need-slice-write-out-2
 slice-write-out-2 c =
-    let after-number-of = c .before in
-    let c-3 = after-number-of .before .before in
+    let c-3 = c .before .before .before in
     let s = c-3 in
-    let l = length-set (s .args .out .now) (outcomeNumbers * s .args .place) (after-number-of .number-of .result) in
+    let l = length-set (s .args .out .now) (outcomeNumbers * s .args .place) (c .before .number-of .result) in
     let p = s .pre in
     omega (arith, l, p)
 
@@ -46,13 +45,12 @@ same-length c = search needs
 
 returns : tie.Need-returns
 returns c =
-    let after-number-of = c .before in
-    let c-3 = after-number-of .before .before in
+    let c-3 = c .before .before .before in
     let s = c-3 in
     let out = s .args .out .now in
     let at = outcomeNumbers * s .args .place in
-    two-at out at (after-number-of .number-of .result) (c .record-of .result) (s .pre)
-    ∙ ap₂ (λ (x y : ℕ). take at out ++ ((x ∷ y ∷ []) ++ drop (at + outcomeNumbers) out)) (after-number-of .number-of .ensures) (c .record-of .ensures)
+    two-at out at (c .before .number-of .result) (c .record-of .result) (s .pre)
+    ∙ ap₂ (λ (x y : ℕ). take at out ++ ((x ∷ y ∷ []) ++ drop (at + outcomeNumbers) out)) (c .before .number-of .ensures) (c .record-of .ensures)
 
 pub place-outcome-spec : {M : Type 1} → statement M
 place-outcome-spec =

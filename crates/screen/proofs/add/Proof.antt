@@ -24,10 +24,9 @@ slice-reshare-prefix-place-order c = search needs
 
 slice-aggregate-place-order : tie.Need-slice-aggregate-place-order
 slice-aggregate-place-order c =
-    let c-1 = c .before in
-    let start = c-1 .before .before .before in
+    let start = c .before .before .before .before in
     let a = start .args in
-    let l = c-1 .if1 .left in
+    let l = c .before .if1 .left in
     sym (length-take-le (a .named) (a .lent .now) (omega (arith, l)))
 
 place-order-requires : tie.Need-place-order-requires
@@ -41,15 +40,13 @@ same-length c = search needs
 
 returns-2 : tie.Need-returns-2
 returns-2 c =
-    let after-number-of = c .before in
-    let after-place-order = after-number-of .before in
-    let c-4 = after-place-order .before .before in
+    let c-4 = c .before .before .before .before in
     let start = c-4 .before .before .before in
     let a = start .args in
     let l = c-4 .if1 .left in
-    let o = after-place-order .place-order in
+    let o = c .before .before .place-order in
     let h = refused (a .lent .now) (a .named) (a .ticket .now) (omega (arith, l)) (o .result) (o .ensures)
-    (λ z. c .if2 .taken (after-number-of .number-of .ensures ∙ z)) in
+    (λ z. c .if2 .taken (c .before .number-of .ensures ∙ z)) in
     (h .is, h .after)
 
 -- nothing is refused so far
@@ -64,31 +61,28 @@ same-length-2 c = search needs
 
 returns-3 : tie.Need-returns-3
 returns-3 c =
-    let c-1 = c .before in
-    let after-place-order = c-1 .before .before in
+    let after-place-order = c .before .before .before in
     let c-5 = after-place-order .before .before in
     let start = c-5 .before .before .before in
     let a = start .args in
     let l = c-5 .if1 .left in
     let o = after-place-order .place-order in
     let few = c .if3 .taken in
-    let h = no-room (a .lent .now) (a .named) (a .ticket .now) (omega (arith, l)) (o .result) (o .ensures) (clear (c-1)) (omega (arith, few, l)) in
+    let h = no-room (a .lent .now) (a .named) (a .ticket .now) (omega (arith, l)) (o .result) (o .ensures) (clear (c .before)) (omega (arith, few, l)) in
     (h .is, h .after)
 
 insert-requires : tie.Need-insert-requires
 insert-requires c κs =
-    let after-if3 = c .before in
-    let c-2 = after-if3 .before in
-    let after-place-order = c-2 .before .before in
+    let after-place-order = c .before .before .before .before in
     let c-6 = after-place-order .before .before in
     let start = c-6 .before .before .before in
     let a = start .args in
     let l = c-6 .if1 .left in
     let o = after-place-order .place-order in
-    let e = after-if3 .if3 .left in
+    let e = c .before .if3 .left in
     let named : a .named ≤ length (a .lent .now) = omega (arith, l) in (
-      whole (held (a .lent .now) (a .named)) (a .ticket .now) (o .result) (o .ensures) (clear (c-2)),
-      (at-named (a .lent .now) (a .named) (a .ticket .now) named (o .result) (o .ensures) (clear (c-2)), omega (arith, e, named)),
+      whole (held (a .lent .now) (a .named)) (a .ticket .now) (o .result) (o .ensures) (clear (c .before .before)),
+      (at-named (a .lent .now) (a .named) (a .ticket .now) named (o .result) (o .ensures) (clear (c .before .before)), omega (arith, e, named)),
     )
 
 add-t7 : tie.Need-add-t7
@@ -99,8 +93,7 @@ same-length-3 c = search needs
 
 returns-4 : tie.Need-returns-4
 returns-4 c =
-    let after-insert = c .before .before in
-    let after-if3 = after-insert .before .before in
+    let after-if3 = c .before .before .before .before in
     let c-5 = after-if3 .before in
     let after-place-order = c-5 .before .before in
     let c-9 = after-place-order .before .before in
@@ -111,7 +104,7 @@ returns-4 c =
     let e = after-if3 .if3 .left in
     let named : a .named ≤ length (a .lent .now) = omega (arith, l) in
     let h = room (a .lent .now) (a .named) (a .ticket .now) named (o .result) (o .ensures) (clear (c-5))
-    (omega (arith, e, named)) (after-insert .insert .last .0) (after-insert .insert .ensures) in
+    (omega (arith, e, named)) (c .before .before .insert .last .0) (c .before .before .insert .ensures) in
     (h .is, h .after)
 
 pub add-spec : {M : Type 1} → statement M

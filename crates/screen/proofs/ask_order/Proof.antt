@@ -21,23 +21,20 @@ clear c = sym (c .before .number-of .ensures) ∙ omega (arith, c .if1 .left)
 
 returns : tie.Need-returns
 returns c =
-    let after-number-of = c .before in
-    let after-check-file = after-number-of .before in
-    let start = after-check-file .before .before .before in
+    let start = c .before .before .before .before .before in
     let a = start .args in
-    let o = after-check-file .check-file in
-    let some : numberOf (o .result .answer) ≡ 0 → ⊥ = λ z. c .if1 .taken (after-number-of .number-of .ensures ∙ z) in
+    let o = c .before .before .check-file in
+    let some : numberOf (o .result .answer) ≡ 0 → ⊥ = λ z. c .if1 .taken (c .before .number-of .ensures ∙ z) in
     let is = order-refused (a .file .now) (o .result) (o .ensures) (a .ticket .now) some in
     record { answer-is = is; total-is = λ e. absurd (some (ap numberOf (is ∙ e))) }
 
 keep-requires : tie.Need-keep-requires
 keep-requires c κs =
-    let c-1 = c .before in
-    let after-check-file = c-1 .before .before in
+    let after-check-file = c .before .before .before in
     let start = after-check-file .before .before .before in
     let a = start .args in
     let o = after-check-file .check-file in
-    from-check (a .file .now) (o .result) (o .ensures) (clear (c-1))
+    from-check (a .file .now) (o .result) (o .ensures) (clear (c .before))
 
 add-requires : tie.Need-add-requires
 add-requires c κs = record { tickets = []; kept = c .keep .ensures }
@@ -47,16 +44,14 @@ number-of-requires-2 c κs = search needs
 
 returns-2 : tie.Need-returns-2
 returns-2 c =
-    let after-number-of2 = c .before in
-    let after-add = after-number-of2 .before in
-    let after-keep = after-add .before in
+    let after-keep = c .before .before .before in
     let c-5 = after-keep .before .before in
     let after-check-file = c-5 .before .before in
     let start = after-check-file .before .before .before in
     let a = start .args in
     let o = after-check-file .check-file in
-    let t = after-add .add in
-    let some : numberOf (t .result .answer) ≡ 0 → ⊥ = λ z. c .if2 .taken (after-number-of2 .number-of2 .ensures ∙ z) in
+    let t = c .before .before .add in
+    let some : numberOf (t .result .answer) ≡ 0 → ⊥ = λ z. c .if2 .taken (c .before .number-of2 .ensures ∙ z) in
     let is = t .ensures .told [] (after-keep .keep .ensures)
     ∙ sym (order-accepted (a .file .now) (o .result) (o .ensures) (clear (c-5)) (a .ticket .now)) in
     record { answer-is = is; total-is = λ e. absurd (some (ap numberOf (is ∙ e))) }
@@ -67,21 +62,19 @@ taken c = sym (c .before .number-of2 .ensures) ∙ omega (arith, c .if2 .left)
 
 kept-total-requires : tie.Need-kept-total-requires
 kept-total-requires c κs =
-    let c-1 = c .before in
-    let after-add = c-1 .before .before in
+    let after-add = c .before .before .before in
     let after-keep = after-add .before in
     let start = after-keep .before .before .before .before .before .before .before in
     let a = start .args in
     let t = after-add .add in
     record {
       tickets = a .ticket .now ∷ [];
-      kept = t .ensures .accepted (taken (c-1)) [] (after-keep .keep .ensures);
+      kept = t .ensures .accepted (taken (c .before)) [] (after-keep .keep .ensures);
     }
 
 returns-3 : tie.Need-returns-3
 returns-3 c =
-    let c-2 = c .before .before in
-    let after-add = c-2 .before .before in
+    let after-add = c .before .before .before .before in
     let after-keep = after-add .before in
     let c-7 = after-keep .before .before in
     let after-check-file = c-7 .before .before in
@@ -94,7 +87,7 @@ returns-3 c =
       answer-is =
           t .ensures .told [] k
           ∙ sym (order-accepted (a .file .now) (o .result) (o .ensures) (clear (c-7)) (a .ticket .now));
-      total-is = λ e. c .kept-total .ensures (a .ticket .now ∷ []) (t .ensures .accepted (taken (c-2)) [] k);
+      total-is = λ e. c .kept-total .ensures (a .ticket .now ∷ []) (t .ensures .accepted (taken (c .before .before)) [] k);
     }
 
 pub ask-order-spec : {M : Type 1} → statement M

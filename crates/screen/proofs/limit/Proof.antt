@@ -31,10 +31,9 @@ tested c =
 
 returns : tie.Need-returns
 returns c =
-    let c-1 = c .before in
-    let start = c-1 .before .before .before in
+    let start = c .before .before .before .before in
     let a = start .args in
-    sym (below-zero (a .lent .now) (a .named) (a .ticket .now) (a .limit) (sym (tested (c-1)) ∙ c .if1 .taken))
+    sym (below-zero (a .lent .now) (a .named) (a .ticket .now) (a .limit) (sym (tested (c .before)) ∙ c .if1 .taken))
 
 -- it is not below zero
 stands : (c : tie.Else1) → ltZ (c .before .before .before .before .args .limit) (pos 0) ≡ false
@@ -42,10 +41,9 @@ stands c = sym (tested (c .before)) ∙ c .if1 .left
 
 returns-2 : tie.Need-returns-2
 returns-2 c =
-    let c-1 = c .before in
-    let start = c-1 .before .before .before .before in
+    let start = c .before .before .before .before .before in
     let a = start .args in
-    sym (limit-lacking (a .lent .now) (a .named) (a .ticket .now) (a .limit) (stands (c-1)) (c .if2 .taken))
+    sym (limit-lacking (a .lent .now) (a .named) (a .ticket .now) (a .limit) (stands (c .before)) (c .if2 .taken))
 
 named-lent : (c : tie.Else2) → let a =
     let start = c .before .before .before .before .before in
@@ -56,10 +54,9 @@ named-lent c =
 
 slice-aggregate-ask-order : tie.Need-slice-aggregate-ask-order
 slice-aggregate-ask-order c =
-    let c-1 = c .before in
-    let start = c-1 .before .before .before .before .before in
+    let start = c .before .before .before .before .before .before in
     let a = start .args in
-    sym (length-take-le (a .named) (a .lent .now) (named-lent (c-1)))
+    sym (length-take-le (a .named) (a .lent .now) (named-lent (c .before)))
 
 ask-order-requires : tie.Need-ask-order-requires
 ask-order-requires c κs = search needs
@@ -69,14 +66,12 @@ number-of-requires c κs = search needs
 
 returns-3 : tie.Need-returns-3
 returns-3 c =
-    let after-number-of = c .before in
-    let after-ask-order = after-number-of .before in
-    let c-4 = after-ask-order .before .before in
+    let c-4 = c .before .before .before .before in
     let e = c-4 in
     let a = e .before .before .before .before .before .args in
-    let o = after-ask-order .ask-order in
+    let o = c .before .before .ask-order in
     limit-refused (a .lent .now) (a .named) (a .ticket .now) (a .limit) (stands (e .before)) (named-lent e) (o .result .answer) (o .ensures .answer-is)
-    (λ z. c .if3 .taken (after-number-of .number-of .ensures ∙ z))
+    (λ z. c .if3 .taken (c .before .number-of .ensures ∙ z))
 
 magnitude-requires : tie.Need-magnitude-requires
 magnitude-requires c κs = search needs
@@ -86,8 +81,7 @@ weigh-requires c κs = search needs
 
 returns-4 : tie.Need-returns-4
 returns-4 c =
-    let after-magnitude = c .before in
-    let after-if3 = after-magnitude .before .before in
+    let after-if3 = c .before .before .before in
     let after-number-of = after-if3 .before in
     let after-ask-order = after-number-of .before in
     let c-7 = after-ask-order .before .before in
@@ -99,7 +93,7 @@ returns-4 c =
     ∙ omega (arith, after-if3 .if3 .left) in
     let fine : orderIn (held (a .lent .now) (a .named)) (a .ticket .now) ≡ Accepted = sym (o .ensures .answer-is) ∙ accepted-only (o .result .answer) z in
     c .weigh .ensures
-    ∙ ap₂ weighed (seen natAbs (a .limit) (s .fits .limit) (after-magnitude .magnitude .ensures)) (o .ensures .total-is fine)
+    ∙ ap₂ weighed (seen natAbs (a .limit) (s .fits .limit) (c .before .magnitude .ensures)) (o .ensures .total-is fine)
     ∙ limit-asked (a .lent .now) (a .named) (a .ticket .now) (a .limit) (stands (e .before)) (named-lent e) fine
 
 pub limit-spec : {M : Type 1} → statement M

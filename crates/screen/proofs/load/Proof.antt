@@ -15,10 +15,9 @@ returns c =
 
 slice-aggregate-check : tie.Need-slice-aggregate-check
 slice-aggregate-check c =
-    let c-1 = c .before in
-    let start = c-1 .before .before in
+    let start = c .before .before .before in
     let a = start .args in
-    let l = c-1 .if1 .left in
+    let l = c .before .if1 .left in
     sym (length-take-le (a .named) (a .lent .now) (omega (arith, l)))
 
 check-requires : tie.Need-check-requires
@@ -26,10 +25,9 @@ check-requires c κs = search needs
 
 returns-2 : tie.Need-returns-2
 returns-2 c =
-    let c-2 = c .before .before in
-    let start = c-2 .before .before in
+    let start = c .before .before .before .before in
     let a = start .args in
-    let l = c-2 .if1 .left in
+    let l = c .before .before .if1 .left in
     c .check .ensures ∙ sym (all-lent (a .lent .now) (a .named) (omega (arith, l)))
 
 pub load-spec : {M : Type 1} → statement M

@@ -25,12 +25,10 @@ clear c = sym (c .before .number-of .ensures) ∙ omega (arith, c .if1 .left)
 
 returns : tie.Need-returns
 returns c =
-    let after-number-of = c .before in
-    let after-check-file = after-number-of .before in
-    let start = after-check-file .before .before .before in
+    let start = c .before .before .before .before .before in
     let a = start .args in
-    let o = after-check-file .check-file in
-    let some : numberOf (o .result .answer) ≡ 0 → ⊥ = λ z. c .if1 .taken (after-number-of .number-of .ensures ∙ z) in
+    let o = c .before .before .check-file in
+    let some : numberOf (o .result .answer) ≡ 0 → ⊥ = λ z. c .if1 .taken (c .before .number-of .ensures ∙ z) in
     record {
       answer-is = order-refused (a .file .now) (o .result) (o .ensures) (a .ticket .now) some;
       stands-at = λ e. absurd (not-accepted (a .file .now) (o .result) (o .ensures) some e);
@@ -41,12 +39,11 @@ nothing-of-requires c κs = search needs
 
 counts-of-requires : tie.Need-counts-of-requires
 counts-of-requires c κs =
-    let c-2 = c .before .before in
-    let after-check-file = c-2 .before .before in
+    let after-check-file = c .before .before .before .before in
     let start = after-check-file .before .before .before in
     let a = start .args in
     let o = after-check-file .check-file in
-    (c .nothing-of .ensures, from-check (a .file .now) (o .result) (o .ensures) (clear (c-2)))
+    (c .nothing-of .ensures, from-check (a .file .now) (o .result) (o .ensures) (clear (c .before .before)))
 
 check-ticket-requires : tie.Need-check-ticket-requires
 check-ticket-requires c κs = (c .before .nothing-of .ensures, record { tickets = []; counts = c .counts-of .ensures })
@@ -66,17 +63,14 @@ mul-t11 c =
 
 returns-2 : tie.Need-returns-2
 returns-2 c =
-    let after-check-ticket = c .before in
-    let after-counts-of = after-check-ticket .before in
-    let c-5 = after-counts-of .before .before .before in
-    let after-check-file = c-5 .before .before in
-    let start = after-check-file .before .before .before in
+    let c-5 = c .before .before .before .before .before in
+    let start = c-5 .before .before .before .before .before in
     let a = start .args in
-    let o = after-check-file .check-file in
-    let k = after-counts-of .counts-of .ensures in
+    let o = c-5 .before .before .check-file in
+    let k = c .before .before .counts-of .ensures in
     record {
       answer-is =
-          after-check-ticket .check-ticket .ensures [] k
+          c .before .check-ticket .ensures [] k
           ∙ sym (order-accepted (a .file .now) (o .result) (o .ensures) (clear (c-5)) (a .ticket .now));
       stands-at = λ e. ap (λ (n : ℕ). n * recordBytes) (c .ticket-place .ensures [] k);
     }

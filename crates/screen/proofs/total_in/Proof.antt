@@ -20,35 +20,30 @@ clear c = sym (c .before .number-of .ensures) ∙ omega (arith, c .if1 .left)
 
 returns : tie.Need-returns
 returns c =
-    let after-number-of = c .before in
-    let after-check-file = after-number-of .before in
-    let start = after-check-file .before .before in
+    let start = c .before .before .before .before in
     let a = start .args in
-    let o = after-check-file .check-file in
-    total-refused (a .file .now) (o .result) (o .ensures) (λ e. c .if1 .taken (after-number-of .number-of .ensures ∙ e))
+    let o = c .before .before .check-file in
+    total-refused (a .file .now) (o .result) (o .ensures) (λ e. c .if1 .taken (c .before .number-of .ensures ∙ e))
 
 nothing-of-requires : tie.Need-nothing-of-requires
 nothing-of-requires c κs = search needs
 
 total-over-requires : tie.Need-total-over-requires
 total-over-requires c κs =
-    let c-2 = c .before .before in
-    let after-check-file = c-2 .before .before in
+    let after-check-file = c .before .before .before .before in
     let start = after-check-file .before .before in
     let a = start .args in
     let o = after-check-file .check-file in
     let n = c .nothing-of in
-    file-stands (a .file .now) (o .result) (o .ensures) (clear (c-2)) (n .result .now) (n .ensures)
+    file-stands (a .file .now) (o .result) (o .ensures) (clear (c .before .before)) (n .result .now) (n .ensures)
 
 returns-2 : tie.Need-returns-2
 returns-2 c =
-    let after-nothing-of = c .before in
-    let c-3 = after-nothing-of .before .before in
-    let after-check-file = c-3 .before .before in
-    let start = after-check-file .before .before in
+    let c-3 = c .before .before .before in
+    let start = c-3 .before .before .before .before in
     let a = start .args in
-    let o = after-check-file .check-file in
-    let n = after-nothing-of .nothing-of in
+    let o = c-3 .before .before .check-file in
+    let n = c .before .nothing-of in
     total-accepted (a .file .now) (o .result) (o .ensures) (clear (c-3)) (n .result .now) (n .ensures)
     (c .total-over .result) (c .total-over .ensures)
 

@@ -9,7 +9,7 @@ use lib.IntN.{ℤ, pos}
 use Rattle.spread.specs.Steps.{Market, Open, steps, numbers, usedOf, unusedOf}
 use Rattle.spread.specs.Spend.{spend, deltas, usedBy}
 use Rattle.spread.specs.code.Cells.{cellAt, numbersIn, leftIn}
-use Rattle.spread.specs.Accepted.{openOf, stepsOf, sound}
+use Rattle.spread.specs.Accepted.{openOf, stepsOf, sound, promptPlaces, spreadPlaces}
 use Rattle.spread.specs.declared.Delta.{Delta}
 use Rattle.spread.specs.declared.Spreads.{Spreads}
 use Rattle.spread.specs.declared.Spread.{Spread}
@@ -44,23 +44,23 @@ deltaEntry zs k = record { 0 = getD zs k (pos 0) }
 -- beyond them is zero.
 pub record Booked (p : Prompts) (t : Table) (r : Book) : Type 0 where
   pub accepted : r .accepted ≡ sound p t
-  pub first : r .first ≡ byPlace 32 (λ k. spreadsEntry (numbersOf p t) (2 * k))
-  pub second : r .second ≡ byPlace 32 (λ k. spreadsEntry (numbersOf p t) (2 * k + 1))
-  pub used : r .used ≡ byPlace 32 (deltaEntry (usedIn p t))
-  pub unused : r .unused ≡ byPlace 32 (deltaEntry (unusedIn p t))
+  pub first : r .first ≡ byPlace spreadPlaces (λ k. spreadsEntry (numbersOf p t) (2 * k))
+  pub second : r .second ≡ byPlace spreadPlaces (λ k. spreadsEntry (numbersOf p t) (2 * k + 1))
+  pub used : r .used ≡ byPlace promptPlaces (deltaEntry (usedIn p t))
+  pub unused : r .unused ≡ byPlace promptPlaces (deltaEntry (unusedIn p t))
 
 -- Nothing accepted: every number is zero.
 pub record Refused (r : Book) : Type 0 where
   pub accepted : r .accepted ≡ false
-  pub first : r .first ≡ replicate 32 (record { 0 = 0 })
-  pub second : r .second ≡ replicate 32 (record { 0 = 0 })
-  pub used : r .used ≡ replicate 32 (record { 0 = pos 0 })
-  pub unused : r .unused ≡ replicate 32 (record { 0 = pos 0 })
+  pub first : r .first ≡ replicate spreadPlaces (record { 0 = 0 })
+  pub second : r .second ≡ replicate spreadPlaces (record { 0 = 0 })
+  pub used : r .used ≡ replicate promptPlaces (record { 0 = pos 0 })
+  pub unused : r .unused ≡ replicate promptPlaces (record { 0 = pos 0 })
 
 -- The run of all steps on the cells: the numbers by spread, and the cells left.
 pub record Run (cells : List ℕ) (ss : List Spread) (left : List ℕ) (first second : List Spreads) : Type 0 where
-  pub firsts : first ≡ byPlace 32 (λ k. spreadsEntry (numbersIn (steps ss) cells) (2 * k))
-  pub seconds : second ≡ byPlace 32 (λ k. spreadsEntry (numbersIn (steps ss) cells) (2 * k + 1))
+  pub firsts : first ≡ byPlace spreadPlaces (λ k. spreadsEntry (numbersIn (steps ss) cells) (2 * k))
+  pub seconds : second ≡ byPlace spreadPlaces (λ k. spreadsEntry (numbersIn (steps ss) cells) (2 * k + 1))
   pub leaves : left ≡ leftIn (steps ss) cells
 
 -- what is gone of each pool
@@ -69,8 +69,8 @@ goneOf had left m t = cellAt had m t - cellAt left m t
 
 -- One spend over the prompts of what is gone of the pools.
 pub record Spent (had left : List ℕ) (ps : List Open) (used unused : List Delta) : Type 0 where
-  pub useds : used ≡ byPlace 32 (deltaEntry (usedBy (goneOf had left) ps))
-  pub unuseds : unused ≡ byPlace 32 (deltaEntry (deltas (spend (goneOf had left) ps)))
+  pub useds : used ≡ byPlace promptPlaces (deltaEntry (usedBy (goneOf had left) ps))
+  pub unuseds : unused ≡ byPlace promptPlaces (deltaEntry (deltas (spend (goneOf had left) ps)))
 
 -- The promise: the delta book, and how often its steps touched a prompt.
 pub record CountedBook (p : Prompts) (t : Table) (r : Counted) : Type 0 where

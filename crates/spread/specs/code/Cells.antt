@@ -8,13 +8,18 @@ use lib.ListN.{length, getD, set}
 use lib.Dec.{ltb}
 use Rattle.exact.specs.Lists.{least}
 use Rattle.spread.specs.Steps.{Market, long, short, Open, Taker, pool, room, legTakes}
+use Rattle.spread.specs.Accepted.{tierCount, promptPlaces, mostDelta}
 
 abbrev pub parity : Market → ℕ
 parity long = 0
 parity short = 1
 
+-- two cells for each tier
+abbrev pub poolCount : ℕ
+poolCount = 2 * tierCount
+
 abbrev pub cellOf : Market → ℕ → ℕ
-cellOf m t = cond (ltb t 16) (2 * t + parity m) 32
+cellOf m t = cond (ltb t tierCount) (2 * t + parity m) poolCount
 
 abbrev pub shortIf : Bool → Market
 shortIf true = short
@@ -26,15 +31,15 @@ cellAt cells m t = getD cells (cellOf m t) 0
 
 -- the cells hold the pools of the prompts
 pub record Pooled (cells : List ℕ) (ps : List Open) : Type 0 where
-  pub size : length cells ≡ 32
+  pub size : length cells ≡ poolCount
   pub each : (m : Market) (t : ℕ) → cellAt cells m t ≡ pool m t ps
 
 -- The most that a pool of accepted prompts has, 32 net deltas of 128,000,000,000, and the most that a step can form of it.
 abbrev pub mostPool : ℕ
-mostPool = 4096000000000
+mostPool = promptPlaces * mostDelta
 
 abbrev pub mostNumber : ℕ
-mostNumber = 40960000000000
+mostNumber = 10 * mostPool
 
 abbrev pub Small : List ℕ → Type 0
 Small cells = (m : Market) (t : ℕ) → cellAt cells m t ≤ mostPool

@@ -8,11 +8,12 @@ use lib.Dec.{eqb, ltb}
 use lib.ListN.{length, getD}
 use Rattle.exact.specs.Lists.{oneIf}
 use Rattle.spread.specs.code.Book.{byPlace, spreadsEntry, numbersOf}
-use Rattle.spread.specs.code.Cells.{cellOf}
+use Rattle.spread.specs.code.Cells.{cellOf, poolCount}
 use Rattle.spread.specs.Steps.{Market, Open, Taker, inTier, legTakes}
 use Rattle.spread.specs.declared.Prompts.{Prompts}
 use Rattle.spread.specs.declared.Spreads.{Spreads}
 use Rattle.spread.specs.declared.Table.{Table}
+use Rattle.spread.specs.Accepted.{promptPlaces, spreadPlaces}
 
 -- what a prompt of a pool gives to a leg on the cell that still wants an amount
 abbrev pub givesIn : ℕ → ℕ → ℕ → ℕ → ℕ
@@ -56,28 +57,28 @@ pub record Passed (cell wanted : ℕ) (cs xs ys : List ℕ) (place touches : ℕ
 
 -- Places, cells and sizes as a leg finds them.
 pub record Ready (at cs xs : List ℕ) : Type 0 where
-  pub places : length at ≡ 33
-  pub pools : length cs ≡ 32
-  pub sizes : length xs ≡ 32
+  pub places : length at ≡ poolCount + 1
+  pub pools : length cs ≡ promptPlaces
+  pub sizes : length xs ≡ promptPlaces
   pub begun : Begun at cs xs
 
 -- A leg has taken, and a step.
 pub record LegTaken (cell wanted : ℕ) (cs xs ys at : List ℕ) (touches : ℕ) : Type 0 where
   pub sizes : ys ≡ sizesIn cell wanted cs xs
   pub touched : touches ≡ touchesIn cell wanted cs xs
-  pub few : touches ≤ 32
+  pub few : touches ≤ promptPlaces
   pub ready : Ready at cs ys
 
 pub record StepTaken (ks : List Taker) (number : ℕ) (cs xs ys at : List ℕ) (touches : ℕ) : Type 0 where
   pub sizes : ys ≡ sizesAfter ks number cs xs
   pub touched : touches ≡ stepTouchesIn ks number cs xs
-  pub few : touches ≤ 96
+  pub few : touches ≤ 3 * promptPlaces
   pub ready : Ready at cs ys
 
 -- The numbers that the steps form, by spread.
 pub record FormedBy (p : Prompts) (t : Table) (first second : List Spreads) : Type 0 where
-  pub firsts : first ≡ byPlace 32 (λ k. spreadsEntry (numbersOf p t) (2 * k))
-  pub seconds : second ≡ byPlace 32 (λ k. spreadsEntry (numbersOf p t) (2 * k + 1))
+  pub firsts : first ≡ byPlace spreadPlaces (λ k. spreadsEntry (numbersOf p t) (2 * k))
+  pub seconds : second ≡ byPlace spreadPlaces (λ k. spreadsEntry (numbersOf p t) (2 * k + 1))
 
 -- Cells and sizes are those of the prompts: a prompt has its size in its own pool and nothing elsewhere, and beyond the prompts
 -- there is nothing.
@@ -88,4 +89,4 @@ abbrev pub Laid : List Open → List ℕ → List ℕ → Type 0
 Laid [] cs xs = (k : ℕ) → getD xs k 0 ≡ 0
 Laid (p ∷ ps) [] xs = ⊥
 Laid (p ∷ ps) (c ∷ cs) [] = ⊥
-Laid (p ∷ ps) (c ∷ cs) (x ∷ xs) = (c < 32) × SameAs p c x × Laid ps cs xs
+Laid (p ∷ ps) (c ∷ cs) (x ∷ xs) = (c < poolCount) × SameAs p c x × Laid ps cs xs

@@ -15,12 +15,10 @@ number-of-requires c κs = search needs
 
 returns : tie.Need-returns
 returns c =
-    let after-number-of = c .before in
-    let after-note-file = after-number-of .before in
-    let start = after-note-file .before .before .before .before in
-    let t = after-note-file .note-file in
+    let start = c .before .before .before .before .before .before in
+    let t = c .before .before .note-file in
     refused-there (start .args .file .now) (t .result .answer) (t .ensures .answer-is)
-    (λ z. c .if1 .taken (after-number-of .number-of .ensures ∙ z))
+    (λ z. c .if1 .taken (c .before .number-of .ensures ∙ z))
 
 none : (c : tie.Else1) → numberOf (c .before .before .note-file .result .answer) ≡ 0
 none c = sym (c .before .number-of .ensures) ∙ c .if1 .left
@@ -30,9 +28,8 @@ any-other-row-requires c κs = search needs
 
 rates-answer-requires : tie.Need-rates-answer-requires
 rates-answer-requires c κs =
-    let c-2 = c .before .before in
-    let after-note-file = c-2 .before .before in
-    let n = none (c-2) in
+    let after-note-file = c .before .before .before .before in
+    let n = none (c .before .before) in
     (after-note-file .note-file .ensures .accepted n, n)
 
 returns-2 : tie.Need-returns-2
@@ -40,13 +37,11 @@ returns-2 c = search needs
 
 returns-3 : tie.Need-returns-3
 returns-3 c =
-    let after-any-other-row = c .before in
-    let c-2 = after-any-other-row .before in
-    let after-note-file = c-2 .before .before in
+    let after-note-file = c .before .before .before .before in
     let start = after-note-file .before .before .before .before in
     let t = after-note-file .note-file in
     none-other (start .args .file .now) (t .result .answer) (t .ensures .answer-is)
-    (none (c-2)) (sym (after-any-other-row .any-other-row .ensures) ∙ c .if2 .left)
+    (none (c .before .before)) (sym (c .before .any-other-row .ensures) ∙ c .if2 .left)
 
 pub check-spec : {M : Type 1} → statement M
 check-spec =

@@ -27,13 +27,11 @@ number-of-requires c κs = search needs
 with : (c : tie.After-in-one-file) (a : Answer) → a ≡ checked (c .before .before .before .before .args .file .now)
     → CheckedBy (c .before .before .before .before .args .file .now) (record { answer = a; account = c .in-one-file .result })
 with c a e =
-    let after-record-count = c .before in
-    let after-take-survey = after-record-count .before in
-    let start = after-take-survey .before .before in
+    let start = c .before .before .before .before in
     let file = start .args .file .now in
-    let s = after-take-survey .take-survey in
+    let s = c .before .before .take-survey in
     checked-alone file (s .result) (c .in-one-file .result) (s .ensures)
-    (subst (λ (k : ℕ). AloneBy (s .result) k (c .in-one-file .result)) (after-record-count .record-count .ensures) (c .in-one-file .ensures)) a e
+    (subst (λ (k : ℕ). AloneBy (s .result) k (c .in-one-file .result)) (c .before .record-count .ensures) (c .in-one-file .ensures)) a e
 
 returns : tie.Need-returns
 returns c =
@@ -51,9 +49,8 @@ any-other-row-requires c κs = search needs
 
 rates-answer-requires : tie.Need-rates-answer-requires
 rates-answer-requires c κs =
-    let c-2 = c .before .before in
-    let after-take-survey = c-2 .before .before .before .before in
-    (after-take-survey .take-survey .ensures, none (c-2))
+    let after-take-survey = c .before .before .before .before .before .before in
+    (after-take-survey .take-survey .ensures, none (c .before .before))
 
 returns-2 : tie.Need-returns-2
 returns-2 c =
@@ -62,14 +59,12 @@ returns-2 c =
 
 returns-3 : tie.Need-returns-3
 returns-3 c =
-    let after-any-other-row = c .before in
-    let c-2 = after-any-other-row .before in
-    let c-4 = c-2 .before .before in
+    let c-4 = c .before .before .before .before in
     let a = c-4 in
     let s = a .before .before .take-survey in
     with a (s .result .answer)
-    (none-other (a .before .before .before .before .args .file .now) (s .result .answer) (s .ensures .answer) (none (c-2))
-    (sym (after-any-other-row .any-other-row .ensures) ∙ c .if2 .left))
+    (none-other (a .before .before .before .before .args .file .now) (s .result .answer) (s .ensures .answer) (none (c .before .before))
+    (sym (c .before .any-other-row .ensures) ∙ c .if2 .left))
 
 pub check-file-spec : {M : Type 1} → statement M
 check-file-spec =

@@ -15,6 +15,8 @@ use Rattle.account.specs.Parts.{ratesOf}
 use Rattle.account.specs.code.Rates.{RatesOf}
 use Rattle.account.specs.Records.{records, recordCount}
 use Rattle.account.specs.Joined.{accountOf}
+use Rattle.account.specs.Check.{mostContracts}
+use Rattle.account.specs.PartNumbers.{rowPart}
 use Rattle.account.proofs.JoinedLaws.{partsOf}
 use Rattle.account.proofs.RateLaws.{rowsOnFrom, turn-start, turn-next, turn-stop, turn-end, rowsBefore, before-next, before-few, before-counted}
 use Rattle.account.proofs.RateLaws.{rows-known}
@@ -26,10 +28,10 @@ use Rattle.account.proofs.accounts.conversions_answer.Tie as tie
 abbrev Inv-loop : tie.InvT-loop
 Inv-loop morning noon account t k₀ c₀ k c =
     (ratesChecked (accountOf morning noon) ≡ rowsOnFrom (records morning) (records noon) k c)
-    × ((k ≡ rowsBefore (records morning) (records noon) c) × (c ≤ 16))
+    × ((k ≡ rowsBefore (records morning) (records noon) c) × (c ≤ mostContracts))
 
 abbrev μ-loop : tie.MeasureT-loop
-μ-loop morning noon account t k₀ c₀ k c = 16 - c
+μ-loop morning noon account t k₀ c₀ k c = mostContracts - c
 
 placed-part-requires : tie.Need-placed-part-requires Inv-loop μ-loop
 placed-part-requires c κs = c .before .before .pre .0
@@ -56,11 +58,10 @@ held : (c : tie.After-rates-of Inv-loop μ-loop)
     → RatesOf (ratesOf (accountOf (c .before .before .before .before .args .morning .now) (c .before .before .before .before .args .noon .now)))
     (c .rates-of .result)
 held c =
-    let after-placed-part = c .before in
-    let c-4 = after-placed-part .before .before .before in
+    let c-4 = c .before .before .before .before in
     let s = c-4 in
     let a = accountOf (s .args .morning .now) (s .args .noon .now) in
-    subst (λ (rs : List Record). RatesOf rs (c .rates-of .result)) (after-placed-part .placed-part .ensures .are ∙ rate-part a) (c .rates-of .ensures)
+    subst (λ (rs : List Record). RatesOf rs (c .rates-of .result)) (c .before .placed-part .ensures .are ∙ rate-part a) (c .rates-of .ensures)
 
 add-placed-part : tie.Need-add-placed-part Inv-loop μ-loop
 add-placed-part c = search needs
@@ -72,14 +73,12 @@ placed-part-requires-2 c κs =
 
 rows-answer-requires : tie.Need-rows-answer-requires Inv-loop μ-loop
 rows-answer-requires c κs =
-    let after-loop-test = c .before in
-    let after-loop = after-loop-test .before in
-    let c-4 = after-loop .before .before in
+    let c-4 = c .before .before .before .before in
     let c-8 = c-4 .before .before .before .before in
     let s = c-8 in
     let a = accountOf (s .args .morning .now) (s .args .noon .now) in
-    let l = after-loop .loop in
-    let h = after-loop-test .loop-test .taken in (
+    let l = c .before .before .loop in
+    let h = c .before .loop-test .taken in (
       subst⁻¹ (Each Row) (c .placed-part2 .ensures .are ∙ row-part (l .c) (omega arith) a) (rows-known a (s .pre .1) (l .c) (omega arith)),
       (
         record { rates = ratesOf a; held = held (c-4); within = s .pre .1 .ranges .rates },
@@ -97,34 +96,30 @@ answered : (c : tie.After-rows-answer Inv-loop μ-loop)
     (ratesOf (accountOf (c .before .before .before .before .before .before .before .before .before .args .morning .now)
     (c .before .before .before .before .before .before .before .before .before .args .noon .now)))
     (partsOf (accountOf (c .before .before .before .before .before .before .before .before .before .args .morning .now)
-    (c .before .before .before .before .before .before .before .before .before .args .noon .now)) (48 + c .before .before .before .loop .c))
+    (c .before .before .before .before .before .before .before .before .before .args .noon .now)) (rowPart + c .before .before .before .loop .c))
 answered c =
-    let after-placed-part2 = c .before in
-    let after-loop-test = after-placed-part2 .before in
-    let after-loop = after-loop-test .before in
+    let after-loop = c .before .before .before in
     let c-5 = after-loop .before .before in
     let c-9 = c-5 .before .before .before .before in
     let s = c-9 in
     let a = accountOf (s .args .morning .now) (s .args .noon .now) in
     let l = after-loop .loop in
     c .rows-answer .ensures (ratesOf a) (held (c-5)) (s .pre .1 .ranges .rates)
-    ∙ ap (firstRateFault (l .k) (ratesOf a)) (after-placed-part2 .placed-part2 .ensures .are
-    ∙ row-part (l .c) (omega (arith, after-loop-test .loop-test .taken)) a)
+    ∙ ap (firstRateFault (l .k) (ratesOf a)) (c .before .placed-part2 .ensures .are
+    ∙ row-part (l .c) (omega (arith, c .before .before .loop-test .taken)) a)
 
 returns : tie.Need-returns Inv-loop μ-loop
 returns c =
-    let after-number-of = c .before in
-    let c-2 = after-number-of .before in
-    let after-loop-test = c-2 .before .before in
+    let after-loop-test = c .before .before .before .before in
     let after-loop = after-loop-test .before in
     let c-11 = after-loop .before .before .before .before .before .before in
     let s = c-11 in
     let l = after-loop .loop in
-    let a = answered (c-2) in
+    let a = answered (c .before .before) in
     a
     ∙ sym (l .inv .0
     ∙ turn-stop (records (s .args .morning .now)) (records (s .args .noon .now)) (l .k) (l .c) (after-loop-test .loop-test .taken)
-    (λ z. c .if1 .taken (after-number-of .number-of .ensures ∙ ap numberOf a ∙ z)))
+    (λ z. c .if1 .taken (c .before .number-of .ensures ∙ ap numberOf a ∙ z)))
 
 record-count-requires : tie.Need-record-count-requires Inv-loop μ-loop
 record-count-requires c κs = tt
@@ -134,7 +129,7 @@ counted : (c : tie.After-record-count Inv-loop μ-loop)
     → c .record-count .result
     ≡ length (partsOf (accountOf (c .before .before .before .before .before .before .before .before .before .before .before .before .args .morning .now)
     (c .before .before .before .before .before .before .before .before .before .before .before .before .args .noon .now))
-    (48 + c .before .before .before .before .before .before .loop .c))
+    (rowPart + c .before .before .before .before .before .before .loop .c))
 counted c =
     let after-placed-part2 = c .before .before .before .before in
     let after-loop-test = after-placed-part2 .before in
@@ -184,33 +179,29 @@ loop-less c =
 
 loop-again : tie.Need-loop-again Inv-loop μ-loop
 loop-again c =
-    let c-1 = c .before in
-    let after-number-of = c-1 .before in
-    let c-3 = after-number-of .before in
-    let after-loop-test = c-3 .before .before in
-    let after-loop = after-loop-test .before in
+    let c-3 = c .before .before .before in
+    let after-loop = c-3 .before .before .before in
     let c-12 = after-loop .before .before .before .before .before .before in
     let s = c-12 in
     let l = after-loop .loop in
     let m = records (s .args .morning .now) in
     let n = records (s .args .noon .now) in
-    let h = after-loop-test .loop-test .taken in
+    let h = c-3 .before .before .loop-test .taken in
     let a = answered (c-3) in (
       l .inv .0
-          ∙ turn-next m n (l .k) (l .c) h (sym (after-number-of .number-of .ensures ∙ ap numberOf a) ∙ omega (arith, c-1 .if1 .left))
+          ∙ turn-next m n (l .k) (l .c) h (sym (c .before .before .number-of .ensures ∙ ap numberOf a) ∙ omega (arith, c .before .if1 .left))
           ∙ ap (λ (x : ℕ). rowsOnFrom m n (l .k + x) (l .c + 1)) (sym (counted c)),
       (next c, omega (arith, h)),
     )
 
 returns-2 : tie.Need-returns-2 Inv-loop μ-loop
 returns-2 c =
-    let after-loop = c .before in
-    let c-7 = after-loop .before .before .before .before .before .before in
+    let c-7 = c .before .before .before .before .before .before .before in
     let s = c-7 in
-    let l = after-loop .loop in
+    let l = c .before .loop in
     let m = records (s .args .morning .now) in
     let n = records (s .args .noon .now) in
-    let e : l .c ≡ 16 = omega (arith, c .loop-test .left, l .inv .1 .1) in
+    let e : l .c ≡ mostContracts = omega (arith, c .loop-test .left, l .inv .1 .1) in
     sym (l .inv .0 ∙ ap (rowsOnFrom m n (l .k)) e ∙ turn-end m n (l .k))
 
 pub conversions-answer-spec : {M : Type 1} → statement M

@@ -9,6 +9,8 @@ use Rattle.account.specs.Checked.{ratesChecked}
 use Rattle.account.specs.Parts.{ratesOf}
 use Rattle.account.specs.Records.{records}
 use Rattle.account.specs.Joined.{accountOf}
+use Rattle.account.specs.Check.{mostContracts}
+use Rattle.account.specs.PartNumbers.{rowPart}
 use Rattle.account.proofs.JoinedLaws.{partsOf}
 use Rattle.account.proofs.RateLaws.{no-other, rowsOnFrom, turn-start, turn-next, turn-end, rowsBefore, before-next}
 use Rattle.account.proofs.accounts.conversions_checked.Statement.{statement}
@@ -18,10 +20,10 @@ abbrev Inv-loop : tie.InvT-loop
 Inv-loop morning noon account counts c₀ c =
     (ratesChecked (accountOf morning noon)
     ≡ rowsOnFrom (records morning) (records noon) (rowsBefore (records morning) (records noon) c) c)
-    × (c ≤ 16)
+    × (c ≤ mostContracts)
 
 abbrev μ-loop : tie.MeasureT-loop
-μ-loop morning noon account counts c₀ c = 16 - c
+μ-loop morning noon account counts c₀ c = mostContracts - c
 
 loop-holds : tie.Need-loop-holds Inv-loop μ-loop
 loop-holds c =
@@ -45,9 +47,8 @@ noted-requires c κs = search needs
 
 converts-requires : tie.Need-converts-requires Inv-loop μ-loop
 converts-requires c κs =
-    let after-loop-test = c .before .before in
-    let start = after-loop-test .before .before .before .before .before in
-    (start .pre .0, (c .noted .ensures, omega (arith, after-loop-test .loop-test .taken)))
+    let start = c .before .before .before .before .before .before .before in
+    (start .pre .0, (c .noted .ensures, omega (arith, c .before .before .loop-test .taken)))
 
 conversions-answer-requires : tie.Need-conversions-answer-requires Inv-loop μ-loop
 conversions-answer-requires c κs =
@@ -67,8 +68,7 @@ loop-less c =
 
 loop-again : tie.Need-loop-again Inv-loop μ-loop
 loop-again c =
-    let after-converts = c .before in
-    let after-loop-test = after-converts .before .before .before in
+    let after-loop-test = c .before .before .before .before in
     let after-loop = after-loop-test .before in
     let start = after-loop .before .before .before .before in
     let s = start .args in
@@ -80,20 +80,19 @@ loop-again c =
       l .inv .0
           ∙ turn-next m n (rowsBefore m n (l .c)) (l .c) h
           (ap numberOf
-          (no-other (ratesOf a) (rowsBefore m n (l .c)) (partsOf a (48 + l .c)) (sym (after-converts .converts .ensures) ∙ c .if1 .left)))
+          (no-other (ratesOf a) (rowsBefore m n (l .c)) (partsOf a (rowPart + l .c)) (sym (c .before .converts .ensures) ∙ c .if1 .left)))
           ∙ ap (λ (k : ℕ). rowsOnFrom m n k (l .c + 1)) (sym (before-next m n (l .c))),
       omega (arith, h),
     )
 
 returns-2 : tie.Need-returns-2 Inv-loop μ-loop
 returns-2 c =
-    let after-loop = c .before in
-    let start = after-loop .before .before .before .before in
+    let start = c .before .before .before .before .before in
     let s = start .args in
-    let l = after-loop .loop in
+    let l = c .before .loop in
     let m = records (s .morning .now) in
     let n = records (s .noon .now) in
-    let e : l .c ≡ 16 = omega (arith, c .loop-test .left, l .inv .1) in
+    let e : l .c ≡ mostContracts = omega (arith, c .loop-test .left, l .inv .1) in
     sym (l .inv .0 ∙ ap (rowsOnFrom m n (rowsBefore m n (l .c))) e ∙ turn-end m n (rowsBefore m n (l .c)))
 
 pub conversions-checked-spec : {M : Type 1} → statement M

@@ -31,12 +31,11 @@ any-in-another-requires c κs = search needs
 
 returns-2 : tie.Need-returns-2
 returns-2 c =
-    let after-placed-part = c .before in
-    let c-5 = after-placed-part .before .before .before .before in
+    let c-5 = c .before .before .before .before .before in
     let s = c-5 in
     c .any-in-another .ensures
     ∙ ap (any inAnother)
-    (after-placed-part .placed-part .ensures .are ∙ within (s .args .v) (omega (arith, s .pre .1 .1)) (accountOf (s .args .morning .now) (s .args .noon .now)))
+    (c .before .placed-part .ensures .are ∙ within (s .args .v) (omega (arith, s .pre .1 .1)) (accountOf (s .args .morning .now) (s .args .noon .now)))
 
 pub converts-spec : {M : Type 1} → statement M
 converts-spec = tie.close (tie.spec returns placed-part-requires any-in-another-requires returns-2)

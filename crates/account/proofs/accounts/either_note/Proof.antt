@@ -15,11 +15,9 @@ note-at-requires c κs = search needs
 
 returns : tie.Need-returns
 returns c =
-    let c-1 = c .before in
-    let after-from-noon = c-1 .before in
-    let c-6 = after-from-noon .before .before .before .before in
+    let c-6 = c .before .before .before .before .before .before in
     let s = c-6 in
-    let e = sym (after-from-noon .from-noon .ensures) ∙ c-1 .if1 .taken in
+    let e = sym (c .before .before .from-noon .ensures) ∙ c .before .if1 .taken in
     c .note-at .ensures ∙ sym (ap (λ (b : Bool). cond b (getD (s .args .noon .now) (s .args .v) 0) (getD (s .args .morning .now) (s .args .v) 0)) e)
 
 note-at-requires-2 : tie.Need-note-at-requires-2
@@ -27,11 +25,9 @@ note-at-requires-2 c κs = search needs
 
 returns-2 : tie.Need-returns-2
 returns-2 c =
-    let c-1 = c .before in
-    let after-from-noon = c-1 .before in
-    let c-6 = after-from-noon .before .before .before .before in
+    let c-6 = c .before .before .before .before .before .before in
     let s = c-6 in
-    let e = sym (after-from-noon .from-noon .ensures) ∙ c-1 .if1 .left in
+    let e = sym (c .before .before .from-noon .ensures) ∙ c .before .if1 .left in
     c .note-at2 .ensures ∙ sym (ap (λ (b : Bool). cond b (getD (s .args .noon .now) (s .args .v) 0) (getD (s .args .morning .now) (s .args .v) 0)) e)
 
 pub either-note-spec : {M : Type 1} → statement M

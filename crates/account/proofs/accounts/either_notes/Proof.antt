@@ -38,12 +38,10 @@ loop-less c = omega (arith, c .before .loop-test .taken, c .before .before .loop
 
 loop-again : tie.Need-loop-again Inv-loop μ-loop
 loop-again c =
-    let after-loop-test = c .before in
-    let after-loop = after-loop-test .before in
-    let c-7 = after-loop .before .before .before .before .before in
+    let c-7 = c .before .before .before .before .before .before .before in
     let s = c-7 in
-    let l = after-loop .loop in
-    let h = after-loop-test .loop-test .taken in (
+    let l = c .before .before .loop in
+    let h = c .before .loop-test .taken in (
       length-set (l .notes) (l .v) (c .either-note .result) ∙ l .inv .0,
       (
         omega (arith, h, l .inv .0),

@@ -8,15 +8,16 @@ use native.Mathlib.Nat.{not-suc-le-zero}
 use native.Mathlib.Omega.{arith}
 use lib.ListN.{length, getD, length-set}
 use Rattle.account.specs.code.Standing.{lists}
+use Rattle.account.specs.Check.{mostContracts}
 use Rattle.account.proofs.Filled.{filled-next}
 use Rattle.account.proofs.accounts.flags.Statement.{statement}
 use Rattle.account.proofs.accounts.flags.Tie as tie
 
 abbrev Inv-loop : tie.InvT-loop
-Inv-loop counts listed₀ c₀ listed c = (length listed ≡ 16) × ((c ≤ 16) × ((i : ℕ) → i < c → getD listed i false ≡ lists counts i))
+Inv-loop counts listed₀ c₀ listed c = (length listed ≡ mostContracts) × ((c ≤ mostContracts) × ((i : ℕ) → i < c → getD listed i false ≡ lists counts i))
 
 abbrev μ-loop : tie.MeasureT-loop
-μ-loop counts listed₀ c₀ listed c = 16 - c
+μ-loop counts listed₀ c₀ listed c = mostContracts - c
 
 loop-holds : tie.Need-loop-holds Inv-loop μ-loop
 loop-holds c = (refl, (omega arith, λ i h. absurd (not-suc-le-zero h)))
@@ -35,11 +36,9 @@ loop-less c = omega (arith, c .before .loop-test .taken)
 
 loop-again : tie.Need-loop-again Inv-loop μ-loop
 loop-again c =
-    let after-loop-test = c .before in
-    let after-loop = after-loop-test .before in
-    let start = after-loop .before .before in
-    let l = after-loop .loop in
-    let h = after-loop-test .loop-test .taken in (
+    let start = c .before .before .before .before in
+    let l = c .before .before .loop in
+    let h = c .before .loop-test .taken in (
       length-set (l .listed) (l .c) (c .lists .result) ∙ l .inv .0,
       (
         omega (arith, h),

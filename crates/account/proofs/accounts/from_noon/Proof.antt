@@ -16,9 +16,8 @@ lists-requires c κs = search needs
 
 returns-2 : tie.Need-returns-2
 returns-2 c =
-    let c-1 = c .before in
-    let start = c-1 .before .before in
-    c .lists .ensures ∙ sym (rw (lt-ltb (start .args .v) entryPart (omega (arith, c-1 .if1 .left))))
+    let start = c .before .before .before in
+    c .lists .ensures ∙ sym (rw (lt-ltb (start .args .v) entryPart (omega (arith, c .before .if1 .left))))
 
 pub from-noon-spec : {M : Type 1} → statement M
 from-noon-spec = tie.close (tie.spec returns lists-requires returns-2)

@@ -1,27 +1,25 @@
 -- The listed numbers are put one after the other.
 -- Assumes nothing.
 use Prim.Native.Nat.{ℕ, _+_, _-_, _≤_, _<_}
-use mathlib.Core.Bool.{Bool, true, false}
 use mathlib.Core.Path.{_≡_, refl, sym, ap, ap₂, _∙_}
 use native.Mathlib.Omega.{arith}
 use lib.ListN.{length, take, drop, replicate}
-use Rattle.exact.specs.Lists.{keep, oneIf}
+use Rattle.exact.specs.Lists.{keep}
+use Rattle.exact.proofs.Tests.{one-at-most}
 use Rattle.record.specs.Bytes.{countFrom}
 use Rattle.account.specs.code.Standing.{lists}
+use Rattle.account.specs.Check.{mostContracts}
 use Rattle.account.proofs.Filled.{numbers-next, left-after}
 use Rattle.account.proofs.accounts.numbers_of.Statement.{statement}
 use Rattle.account.proofs.accounts.numbers_of.Tie as tie
 
-at-most : (b : Bool) → oneIf b ≤ 1
-at-most true = omega arith
-at-most false = omega arith
-
 abbrev Inv-loop : tie.InvT-loop
-Inv-loop counts count₀ number₀ c₀ count number c = (length number ≡ 16)
-    × ((count ≤ c) × ((c ≤ 16) × ((take count number ≡ keep (lists counts) (countFrom 0 c)) × (drop count number ≡ replicate (16 - count) 0))))
+Inv-loop counts count₀ number₀ c₀ count number c = (length number ≡ mostContracts)
+    × ((count ≤ c) × ((c ≤ mostContracts) × ((take count number ≡ keep (lists counts) (countFrom 0 c))
+    × (drop count number ≡ replicate (mostContracts - count) 0))))
 
 abbrev μ-loop : tie.MeasureT-loop
-μ-loop counts count₀ number₀ c₀ count number c = 16 - c
+μ-loop counts count₀ number₀ c₀ count number c = mostContracts - c
 
 loop-holds : tie.Need-loop-holds Inv-loop μ-loop
 loop-holds c = (refl, (omega arith, (omega arith, (refl, refl))))
@@ -36,10 +34,9 @@ slice-aggregate-put-number c =
 
 put-number-requires : tie.Need-put-number-requires Inv-loop μ-loop
 put-number-requires c κs =
-    let after-loop-test = c .before .before in
-    let after-loop = after-loop-test .before in (
-      omega (arith, after-loop .loop .inv .0, after-loop .loop .inv .1 .0, after-loop-test .loop-test .taken),
-      after-loop-test .loop-test .taken,
+    let after-loop = c .before .before .before in (
+      omega (arith, after-loop .loop .inv .0, after-loop .loop .inv .1 .0, c .before .before .loop-test .taken),
+      c .before .before .loop-test .taken,
     )
 
 one-if-requires : tie.Need-one-if-requires Inv-loop μ-loop
@@ -53,7 +50,7 @@ add-count c =
     omega (
       arith,
       c .one-if .ensures,
-      at-most
+      one-at-most
           (after-lists .lists .result),
       after-loop .loop .inv .1 .0,
       after-loop-test .loop-test .taken,
@@ -71,21 +68,19 @@ loop-less c =
 
 loop-again : tie.Need-loop-again Inv-loop μ-loop
 loop-again c =
-    let after-number2 = c .before in
-    let after-put-number = after-number2 .before in
-    let after-lists = after-put-number .before .before in
+    let after-lists = c .before .before .before .before in
     let after-loop-test = after-lists .before in
     let after-loop = after-loop-test .before in
     let start = after-loop .before .before in
     let l = after-loop .loop in
     let h = after-loop-test .loop-test .taken in
     let b = after-lists .lists in
-    let u = after-put-number .put-number in
+    let u = c .before .before .put-number in
     let o = c .one-if .ensures in
-    let m = at-most (b .result) in
+    let m = one-at-most (b .result) in
     let n : l .count < length (l .number) = omega (arith, h, l .inv .0, l .inv .1 .0) in
     let p = lists (start .args .counts .now) in (
-      after-number2 .number2 .given,
+      c .before .number2 .given,
       (
         omega (arith, o, m, l .inv .1 .0),
         (
@@ -94,7 +89,8 @@ loop-again c =
             ap (λ (k : ℕ). take (l .count + k) (u .last .0)) o ∙ numbers-next p (l .c) (l .count) (l .number) (u .last .0) (b .result) (b .ensures) n
                 (u .ensures) (l .inv .1 .1 .1 .0),
             ap₂ (λ (k i : ℕ). drop (l .count + k) (u .last .0)) o o ∙ left-after p (l .c) (l .count) (l .number)
-                (u .last .0) (b .result) (b .ensures) n (u .ensures) 16 (l .inv .0) (l .inv .1 .1 .1 .1) ∙ ap (λ (k : ℕ). replicate (16 - (l .count + k)) 0)
+                (u .last .0) (b .result) (b .ensures) n (u .ensures) mostContracts (l .inv .0) (l .inv .1 .1 .1 .1)
+                ∙ ap (λ (k : ℕ). replicate (mostContracts - (l .count + k)) 0)
                 (sym o),
           ),
         ),
@@ -103,10 +99,9 @@ loop-again c =
 
 returns : tie.Need-returns Inv-loop μ-loop
 returns c =
-    let after-loop = c .before in
-    let start = after-loop .before .before in
-    let l = after-loop .loop in
-    let e : l .c ≡ 16 = omega (arith, c .loop-test .left, l .inv .1 .1 .0) in
+    let start = c .before .before .before in
+    let l = c .before .loop in
+    let e : l .c ≡ mostContracts = omega (arith, c .loop-test .left, l .inv .1 .1 .0) in
     record {
       long = l .inv .0;
       few = omega (arith, l .inv .1 .0, l .inv .1 .1 .0);

@@ -15,10 +15,9 @@ slice-aggregate-result c = search needs
 
 returns : tie.Need-returns
 returns c =
-    let c-1 = c .before in
-    let start = c-1 .before .before .before in
+    let start = c .before .before .before .before in
     let s = start .args in
-    part-past (accountOf (s .morning .now) (s .noon .now)) (s .v) (c-1 .if1 .taken)
+    part-past (accountOf (s .morning .now) (s .noon .now)) (s .v) (c .before .if1 .taken)
 
 element-copy-out-late : tie.Need-element-copy-out-late
 element-copy-out-late c = search needs

@@ -21,9 +21,8 @@ slice-aggregate-conversions-answer c = search needs
 by : (c : tie.After-in-one-file)
     → AloneBy (c .before .before .before .args .survey) (recordCount (c .before .before .before .args .file .now)) (c .in-one-file .result)
 by c =
-    let after-record-count = c .before in
-    let start = after-record-count .before .before in
-    subst (λ (k : ℕ). AloneBy (start .args .survey) k (c .in-one-file .result)) (after-record-count .record-count .ensures)
+    let start = c .before .before .before in
+    subst (λ (k : ℕ). AloneBy (start .args .survey) k (c .in-one-file .result)) (c .before .record-count .ensures)
     (c .in-one-file .ensures)
 
 conversions-answer-requires : tie.Need-conversions-answer-requires

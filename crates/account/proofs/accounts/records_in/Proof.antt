@@ -46,25 +46,22 @@ loop-less c = omega (arith, c .before .before .loop-test .taken)
 
 loop-again : tie.Need-loop-again Inv-loop μ-loop
 loop-again c =
-    let after-note-at = c .before in
-    let after-loop-test = after-note-at .before in
-    let after-loop = after-loop-test .before in
+    let after-loop = c .before .before .before in
     let c-5 = after-loop .before .before in
     let s = c-5 in
     let l = after-loop .loop in
-    let h = after-loop-test .loop-test .taken in
+    let h = c .before .before .loop-test .taken in
     let e : l .v + 1 ≡ suc (l .v) = omega arith in
     let w = c .wide .ensures in
-    let n = after-note-at .note-at .ensures in (
+    let n = c .before .note-at .ensures in (
       omega (arith, w .0, n, l .inv .0, sum-next (s .args .counts .now) (l .v) h) ∙ ap (λ (m : ℕ). sum (take m (s .args .counts .now))) (sym e),
       (omega (arith, h), omega (arith, w .1, l .inv .1 .1)),
     )
 
 returns : tie.Need-returns Inv-loop μ-loop
 returns c =
-    let after-loop = c .before in
-    let start = after-loop .before .before in
-    let l = after-loop .loop in
+    let start = c .before .before .before in
+    let l = c .before .loop in
     let xs = start .args .counts .now in
     l .inv .0 ∙ ap sum (take-all (l .v) xs (omega (arith, c .loop-test .left)))
 

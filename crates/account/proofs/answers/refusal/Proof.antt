@@ -32,9 +32,7 @@ returns-9 c = rw (c .if9 .taken)
 
 returns-10 : tie.Need-returns-10
 returns-10 c =
-    let after-if8 = c .before in
-    let after-if7 = after-if8 .before in
-    let after-if6 = after-if7 .before in
+    let after-if6 = c .before .before .before in
     let after-if5 = after-if6 .before in
     let after-if4 = after-if5 .before in
     let after-if3 = after-if4 .before in
@@ -49,8 +47,8 @@ returns-10 c =
       ne-eqb n 6 (after-if4 .if4 .left),
       ne-eqb n 7 (after-if5 .if5 .left),
       ne-eqb n 8 (after-if6 .if6 .left),
-      ne-eqb n 9 (after-if7 .if7 .left),
-      ne-eqb n 14 (after-if8 .if8 .left),
+      ne-eqb n 9 (c .before .before .if7 .left),
+      ne-eqb n 14 (c .before .if8 .left),
       ne-eqb n 15 (c .if9 .left),
     )
 

@@ -14,11 +14,10 @@ passes-from-requires c κs =
 
 note-to-requires : tie.Need-note-to-requires
 note-to-requires c κs =
-    let c-2 = c .before .before in
-    let after-passes-from = c-2 .before in
+    let after-passes-from = c .before .before .before in
     let start = after-passes-from .before .before .before .before .before .before in
     let runs = after-passes-from .passes-from .ensures in
-    let some = c-2 .if1 .taken in
+    let some = c .before .before .if1 .taken in
     (start .pre, (runs .fine some, (some, runs .high)))
 
 same-length : tie.Need-same-length
@@ -31,8 +30,7 @@ returns : tie.Need-returns
 returns c =
     let after-note-to = c .before .before .before .before in
     let c-7 = after-note-to .before .before .before in
-    let after-passes-from = c-7 .before in
-    step-runs (after-passes-from .passes-from .ensures)
+    step-runs (c-7 .before .passes-from .ensures)
     (c-7 .if1 .taken) (after-note-to .note-to .ensures)
 
 fault-at-requires : tie.Need-fault-at-requires
@@ -52,11 +50,10 @@ add-note-to c = search needs
 
 note-to-requires-2 : tie.Need-note-to-requires-2
 note-to-requires-2 c κs =
-    let c-2 = c .before .before in
-    let after-fault-at = c-2 .before in
+    let after-fault-at = c .before .before .before in
     let start = after-fault-at .before .before .before .before .before .before .before .before .before .before in
     let pre = start .pre in
-    (pre, (sym (after-fault-at .fault-at .ensures) ∙ c-2 .if2 .left, (omega arith, omega (arith, pre .inside))))
+    (pre, (sym (after-fault-at .fault-at .ensures) ∙ c .before .before .if2 .left, (omega arith, omega (arith, pre .inside))))
 
 add-t26 : tie.Need-add-t26
 add-t26 c = search needs
@@ -75,16 +72,14 @@ same-length-6 c = search needs
 
 returns-3 : tie.Need-returns-3
 returns-3 c =
-    let after-whole-at = c .before in
-    let after-note-to2 = after-whole-at .before .before .before .before .before in
+    let after-note-to2 = c .before .before .before .before .before .before in
     let c-9 = after-note-to2 .before .before .before in
-    let after-fault-at = c-9 .before in
-    let c-17 = after-fault-at .before .before .before .before .before .before .before in
-    step-alone (after-fault-at .fault-at .ensures)
+    let c-17 = c-9 .before .before .before .before .before .before .before .before in
+    step-alone (c-9 .before .fault-at .ensures)
     (c-9 .if2 .left)
     (c-17
     .before .before .before .pre .inside) (after-note-to2 .note-to2 .ensures)
-    (c .one-if-contract .ensures) (after-whole-at .whole-at .ensures)
+    (c .one-if-contract .ensures) (c .before .whole-at .ensures)
 
 pub go-on-spec : {M : Type 1} → statement M
 go-on-spec =

@@ -19,12 +19,10 @@ number-of-requires c κs = search needs
 
 returns : tie.Need-returns
 returns c =
-    let after-number-of = c .before in
-    let after-length-answer = after-number-of .before in
-    let start = after-length-answer .before .before in
+    let start = c .before .before .before .before in
     let file = start .args .file .now in
-    let e = after-length-answer .length-answer .ensures in
-    let some : (numberOf (after-length-answer .length-answer .result) ≡ 0 → ⊥) = λ z. c .if1 .taken (after-number-of .number-of .ensures ∙ z) in
+    let e = c .before .before .length-answer .ensures in
+    let some : (numberOf (c .before .before .length-answer .result) ≡ 0 → ⊥) = λ z. c .if1 .taken (c .before .number-of .ensures ∙ z) in
     record { answer-is = e ∙ length-refused file (λ z. some (ap numberOf e ∙ z)); accepted = λ z. absurd (some z) }
 
 -- the length is accepted
@@ -33,17 +31,15 @@ whole c = accepted-only (c .before .before .length-answer .result) (sym (c .befo
 
 note-records-requires : tie.Need-note-records-requires
 note-records-requires c κs =
-    let c-2 = c .before .before in
-    let c-4 = c-2 .before .before in
+    let c-4 = c .before .before .before .before in
     let l = c-4 in
     let s = l .before .before in
-    (sym (l .length-answer .ensures) ∙ whole (c-2), s .pre)
+    (sym (l .length-answer .ensures) ∙ whole (c .before .before), s .pre)
 
 returns-2 : tie.Need-returns-2
 returns-2 c =
-    let after-note-records = c .before .before in
-    let c-5 = after-note-records .before .before .before in
-    let n = after-note-records .note-records in
+    let c-5 = c .before .before .before .before .before in
+    let n = c .before .before .note-records in
     tallied-as (whole (c-5) ∙ ap (λ (x : ℕ). refusal x (n .result .next)) (sym (c .if2 .taken))) (n .ensures)
 
 refusal-requires : tie.Need-refusal-requires

@@ -6,11 +6,12 @@ use mathlib.Core.List.{List}
 use native.Mathlib.Omega.{arith}
 use lib.ListN.{length, replicate}
 use borrow.Author.Tests.{ltb-false}
+use Rattle.exact.proofs.Tests.{one-at-most}
 use Rattle.account.specs.PartNumbers.{parts}
 use Rattle.account.specs.Check.{mostRecords}
 use Rattle.account.specs.Parts.{ofKind}
 use Rattle.account.specs.Records.{recordAt, recordCount}
-use Rattle.account.proofs.Going.{Going, going-start, going-stops, owned-small, one-at-most, notable, going-over, going-tallied}
+use Rattle.account.proofs.Going.{Going, going-start, going-stops, owned-small, notable, going-over, going-tallied}
 use Rattle.account.proofs.Verdict.{length-fine}
 use Rattle.account.proofs.check.note_records.Statement.{statement}
 use Rattle.account.proofs.check.note_records.Tie as tie
@@ -45,55 +46,50 @@ go-on-requires c κs =
 
 returns : tie.Need-returns Inv-loop μ-loop
 returns c =
-    let after-go-on = c .before .before in
-    let after-loop = after-go-on .before .before .before .before in
+    let after-loop = c .before .before .before .before .before .before in
     let c-9 = after-loop .before .before .before in
     let s = c-9 in
     let file = s .args .file .now in
     let loop = after-loop .loop in
-    let step = after-go-on .go-on in
+    let step = c .before .before .go-on in
     let more : loop .k < recordCount file = omega arith in
     let fine = length-fine file (s .pre .0) in
     going-stops (loop .inv) more (step .result .number) (step .ensures .stops (c .if1 .taken)) (c .if1 .taken) (fine .0) (fine .1)
 
 add-contracts : tie.Need-add-contracts Inv-loop μ-loop
 add-contracts c =
-    let c-1 = c .before in
-    let after-go-on = c-1 .before .before in
+    let after-go-on = c .before .before .before in
     let after-loop = after-go-on .before .before .before .before in
     let start = after-loop .before .before .before in
     let file = start .args .file .now in
     let loop = after-loop .loop in
     let more : loop .k < recordCount file = omega arith in
-    let goes = after-go-on .go-on .ensures .goes (c-1 .if1 .left) in
+    let goes = after-go-on .go-on .ensures .goes (c .before .if1 .left) in
     omega (arith, owned-small (loop .inv) more, one-at-most (ofKind 1 (recordAt file (loop .k))), goes .own)
 
 loop-less : tie.Need-loop-less Inv-loop μ-loop
 loop-less c =
-    let c-1 = c .before in
-    let after-go-on = c-1 .before .before in
-    let goes = after-go-on .go-on .ensures .goes (c-1 .if1 .left) in
+    let after-go-on = c .before .before .before in
+    let goes = after-go-on .go-on .ensures .goes (c .before .if1 .left) in
     let l = goes .later .low in
     omega arith
 
 loop-again : tie.Need-loop-again Inv-loop μ-loop
 loop-again c =
-    let c-1 = c .before in
-    let after-go-on = c-1 .before .before in
+    let after-go-on = c .before .before .before in
     let after-loop = after-go-on .before .before .before .before in
     let start = after-loop .before .before .before in
     let file = start .args .file .now in
     let loop = after-loop .loop in
     let more : loop .k < recordCount file = omega arith in
-    going-over (loop .inv) more (after-go-on .go-on .ensures .goes (c-1 .if1 .left))
+    going-over (loop .inv) more (after-go-on .go-on .ensures .goes (c .before .if1 .left))
 
 returns-2 : tie.Need-returns-2 Inv-loop μ-loop
 returns-2 c =
-    let after-loop = c .before in
-    let c-4 = after-loop .before .before .before in
+    let c-4 = c .before .before .before .before in
     let s = c-4 in
     let file = s .args .file .now in
-    let loop = after-loop .loop in
+    let loop = c .before .loop in
     let done : recordCount file ≤ loop .k = omega arith in
     let fine = length-fine file (s .pre .0) in
     going-tallied (loop .inv) done (fine .0) (fine .1)

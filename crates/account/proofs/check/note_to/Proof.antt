@@ -20,13 +20,12 @@ part-of-requires c κs = search needs
 
 note-first-requires : tie.Need-note-first-requires
 note-first-requires c κs =
-    let after-part-of = c .before .before in
-    let after-whole-at = after-part-of .before in
+    let after-whole-at = c .before .before .before in
     let c-7 = after-whole-at .before .before .before .before in
     let start = c-7 in
     let pre = start .pre .0 in
     let none = start .pre .1 .0 in
-    let v = after-part-of .part-of .ensures ∙ ap partOf (after-whole-at .whole-at .ensures) in
+    let v = c .before .before .part-of .ensures ∙ ap partOf (after-whole-at .whole-at .ensures) in
     let inside : c .before .before .part-of .result < length (start .args .first .now) = omega (arith, pre .known none, pre .firsts) in
     (inside, omega (arith, pre .inside, pre .few))
 
@@ -83,8 +82,7 @@ same-length-2 c = search needs
 
 returns : tie.Need-returns
 returns c =
-    let after-note-more = c .before .before in
-    let after-note-one = after-note-more .before .before .before .before in
+    let after-note-one = c .before .before .before .before .before .before in
     let after-note-first = after-note-one .before .before .before .before in
     let after-part-of = after-note-first .before .before .before in
     let after-whole-at = after-part-of .before in
@@ -92,7 +90,7 @@ returns c =
     ∙ ap partOf
     (after-whole-at .whole-at .ensures))
     (after-note-first .note-first .ensures)
-    (after-note-one .note-one .ensures) (after-note-more .note-more .ensures)
+    (after-note-one .note-one .ensures) (c .before .before .note-more .ensures)
 
 pub note-to-spec : {M : Type 1} → statement M
 note-to-spec =

@@ -17,12 +17,11 @@ refused-requires c κs = search needs
 
 returns : tie.Need-returns
 returns c =
-    let after-number-of = c .before .before in
-    let after-note-file = after-number-of .before in
+    let after-note-file = c .before .before .before in
     let start = after-note-file .before .before .before .before in
     let t = after-note-file .note-file in
     nothing (start .args .file .now) (t .result .answer) (c .refused .result)
-    (sym (t .ensures .answer-is)) (λ z. c .before .if1 .taken (after-number-of .number-of .ensures ∙ z)) (c .refused .ensures)
+    (sym (t .ensures .answer-is)) (λ z. c .before .if1 .taken (c .before .before .number-of .ensures ∙ z)) (c .refused .ensures)
 
 returns-2 : tie.Need-returns-2
 returns-2 c = c .before .before .note-file .ensures .accepted (sym (c .before .number-of .ensures) ∙ c .if1 .left)

@@ -39,29 +39,25 @@ loop-less c = omega (arith, c .before .before .loop-test .taken)
 
 loop-again : tie.Need-loop-again Inv-loop μ-loop
 loop-again c =
-    let after-whole-at = c .before in
-    let after-loop-test = after-whole-at .before in
-    let after-loop = after-loop-test .before in
+    let after-loop = c .before .before .before in
     let after-record-count = after-loop .before in
     let start = after-record-count .before .before in
     let rows = start .args .rows .now in
     let l = after-loop .loop in
-    let h = after-loop-test .loop-test .taken in
+    let h = c .before .before .loop-test .taken in
     let n = after-record-count .record-count .ensures in (
       l .inv .0 ∙ any-next inAnother rows (l .found) (l .i) (omega (arith, h, n))
           ∙ ap (λ (b : Bool). (l .found || b) || anyFrom inAnother rows (l .i + 1))
-          (sym (c .in-another .ensures ∙ ap inAnother (after-whole-at .whole-at .ensures))),
+          (sym (c .in-another .ensures ∙ ap inAnother (c .before .whole-at .ensures))),
       omega (arith, h, n),
     )
 
 returns : tie.Need-returns Inv-loop μ-loop
 returns c =
-    let after-loop = c .before in
-    let after-record-count = after-loop .before in
-    let start = after-record-count .before .before in
-    let l = after-loop .loop in
+    let start = c .before .before .before .before in
+    let l = c .before .loop in
     sym (l .inv .0 ∙ any-end inAnother (start .args .rows .now) (l .found) (l .i)
-    (omega (arith, c .loop-test .left, after-record-count .record-count .ensures)))
+    (omega (arith, c .loop-test .left, c .before .before .record-count .ensures)))
 
 pub any-in-another-spec : {M : Type 1} → statement M
 any-in-another-spec =

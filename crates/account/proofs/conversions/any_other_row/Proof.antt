@@ -35,25 +35,22 @@ looked : (c : tie.After-is-other-row Inv-loop μ-loop)
     → any otherRow (records (c .before .before .before .before .before .before .args .file .now))
     ≡ c .is-other-row .result || anyFrom otherRow (c .before .before .before .before .before .before .args .file .now) (c .before .before .before .loop .i + 1)
 looked c =
-    let after-whole-at = c .before in
-    let after-loop-test = after-whole-at .before in
-    let after-loop = after-loop-test .before in
+    let after-loop = c .before .before .before in
     let after-record-count = after-loop .before in
     let start = after-record-count .before .before in
     let file = start .args .file .now in
     let l = after-loop .loop in
     l .inv .0
-    ∙ any-next otherRow file false (l .i) (omega (arith, after-loop-test .loop-test .taken, after-record-count .record-count .ensures))
-    ∙ ap (λ (b : Bool). b || anyFrom otherRow file (l .i + 1)) (sym (c .is-other-row .ensures ∙ ap otherRow (after-whole-at .whole-at .ensures)))
+    ∙ any-next otherRow file false (l .i) (omega (arith, c .before .before .loop-test .taken, after-record-count .record-count .ensures))
+    ∙ ap (λ (b : Bool). b || anyFrom otherRow file (l .i + 1)) (sym (c .is-other-row .ensures ∙ ap otherRow (c .before .whole-at .ensures)))
 
 returns : tie.Need-returns Inv-loop μ-loop
 returns c =
-    let c-1 = c .before in
-    let after-loop = c-1 .before .before .before in
+    let after-loop = c .before .before .before .before in
     let start = after-loop .before .before .before in
     let l = after-loop .loop in
     sym
-    (looked (c-1)
+    (looked (c .before)
     ∙ ap (λ (b : Bool). b || anyFrom otherRow (start .args .file .now) (l .i + 1)) (c .if1 .taken))
 
 add-i : tie.Need-add-i Inv-loop μ-loop
@@ -66,27 +63,24 @@ loop-less c =
 
 loop-again : tie.Need-loop-again Inv-loop μ-loop
 loop-again c =
-    let c-1 = c .before in
-    let after-loop-test = c-1 .before .before in
+    let after-loop-test = c .before .before .before in
     let after-loop = after-loop-test .before in
     let after-record-count = after-loop .before in
     let start = after-record-count .before .before in
     let l = after-loop .loop in (
-      looked (c-1)
+      looked (c .before)
           ∙ ap (λ (b : Bool). b || anyFrom otherRow (start .args .file .now) (l .i + 1)) (c .if1 .left),
       omega (arith, after-loop-test .loop-test .taken, after-record-count .record-count .ensures),
     )
 
 returns-2 : tie.Need-returns-2 Inv-loop μ-loop
 returns-2 c =
-    let after-loop = c .before in
-    let after-record-count = after-loop .before in
-    let start = after-record-count .before .before in
-    let l = after-loop .loop in
+    let start = c .before .before .before .before in
+    let l = c .before .loop in
     sym
     (l .inv .0
     ∙ any-end otherRow (start .args .file .now) false (l .i)
-    (omega (arith, c .loop-test .left, after-record-count .record-count .ensures)))
+    (omega (arith, c .loop-test .left, c .before .before .record-count .ensures)))
 
 pub any-other-row-spec : {M : Type 1} → statement M
 any-other-row-spec =

@@ -17,11 +17,10 @@ currency-requires c κs = search needs
 
 returns : tie.Need-returns
 returns c rates of each =
-    let after-currency = c .before in
-    let c-3 = after-currency .before .before in
+    let c-3 = c .before .before .before in
     let s = c-3 in
     let r = s .args .row .now in
-    let none : currency r ≡ 0 = sym (after-currency .currency .ensures .0) ∙ c .if1 .taken in
+    let none : currency r ≡ 0 = sym (c .before .currency .ensures .0) ∙ c .if1 .taken in
     let margin = eq-eqb (currency r) 0 none in
     row-none rates (s .args .k) r (s .pre .0 .isRow)
     (ap (λ (t : Bool). t || any (ofCurrency (currency r)) rates) margin)
@@ -39,33 +38,28 @@ conversion-beyond-requires c κs =
 
 returns-2 : tie.Need-returns-2
 returns-2 c rates of each =
-    let after-conversion-beyond = c .before in
-    let c-2 = after-conversion-beyond .before in
-    let after-has-rate = c-2 .before in
+    let after-has-rate = c .before .before .before in
     let c-7 = after-has-rate .before .before .before .before in
     let s = c-7 in
     row-beyond rates (s .args .k) (s .args .row .now) (s .pre .0 .isRow)
-    (sym (after-has-rate .has-rate .ensures rates of each) ∙ c-2 .if2 .taken)
-    (sym (after-conversion-beyond .conversion-beyond .ensures rates of) ∙ c .if3 .taken)
+    (sym (after-has-rate .has-rate .ensures rates of each) ∙ c .before .before .if2 .taken)
+    (sym (c .before .conversion-beyond .ensures rates of) ∙ c .if3 .taken)
 
 returns-3 : tie.Need-returns-3
 returns-3 c rates of each =
-    let after-conversion-beyond = c .before in
-    let c-2 = after-conversion-beyond .before in
-    let after-has-rate = c-2 .before in
+    let after-has-rate = c .before .before .before in
     let c-7 = after-has-rate .before .before .before .before in
     let s = c-7 in
     row-none rates (s .args .k) (s .args .row .now) (s .pre .0 .isRow)
-    (sym (after-has-rate .has-rate .ensures rates of each) ∙ c-2 .if2 .taken)
-    (sym (after-conversion-beyond .conversion-beyond .ensures rates of) ∙ c .if3 .left)
+    (sym (after-has-rate .has-rate .ensures rates of each) ∙ c .before .before .if2 .taken)
+    (sym (c .before .conversion-beyond .ensures rates of) ∙ c .if3 .left)
 
 returns-4 : tie.Need-returns-4
 returns-4 c rates of each =
-    let after-has-rate = c .before in
-    let c-5 = after-has-rate .before .before .before .before in
+    let c-5 = c .before .before .before .before .before in
     let s = c-5 in
     row-unrated rates (s .args .k) (s .args .row .now) (s .pre .0 .isRow)
-    (sym (after-has-rate .has-rate .ensures rates of each) ∙ c .if2 .left)
+    (sym (c .before .has-rate .ensures rates of each) ∙ c .if2 .left)
 
 pub row-answer-spec : {M : Type 1} → statement M
 row-answer-spec =

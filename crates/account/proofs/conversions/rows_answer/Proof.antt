@@ -40,23 +40,20 @@ whole-at-requires c κs = omega (arith, c .loop-test .taken, c .before .before .
 
 add-row-answer : tie.Need-add-row-answer Inv-loop μ-loop
 add-row-answer c =
-    let after-loop-test = c .before in
-    let after-record-count = after-loop-test .before .before in
+    let after-record-count = c .before .before .before in
     let c-5 = after-record-count .before .before in
     let s = c-5 in
-    omega (arith, after-loop-test .loop-test .taken, after-record-count .record-count .ensures, s .pre .1 .1, s .good)
+    omega (arith, c .before .loop-test .taken, after-record-count .record-count .ensures, s .pre .1 .1, s .good)
 
 row-answer-requires : tie.Need-row-answer-requires Inv-loop μ-loop
 row-answer-requires c κs =
-    let after-loop-test = c .before in
-    let after-loop = after-loop-test .before in
-    let after-record-count = after-loop .before in
+    let after-record-count = c .before .before .before in
     let c-5 = after-record-count .before .before in
     let s = c-5 in
     let rows = s .args .rows .now in
-    let i = after-loop .loop .i in
+    let i = c .before .before .loop .i in
     let n = after-record-count .record-count .ensures in
-    let h = after-loop-test .loop-test .taken in (
+    let h = c .before .loop-test .taken in (
       subst⁻¹ Row (c .whole-at .ensures ∙ sym (cut-at (recordCount rows) i rows (omega (arith, h, n))))
           (every-at Row (records rows) (s .pre .0) i (omega (arith, h, n, length-cut (recordCount rows) rows))),
       s .pre .1 .0,
@@ -67,9 +64,7 @@ number-of-requires c κs = search needs
 
 returns : tie.Need-returns Inv-loop μ-loop
 returns c rates of each =
-    let after-number-of = c .before in
-    let after-row-answer = after-number-of .before in
-    let after-whole-at = after-row-answer .before in
+    let after-whole-at = c .before .before .before in
     let after-loop-test = after-whole-at .before in
     let after-loop = after-loop-test .before in
     let after-record-count = after-loop .before in
@@ -79,12 +74,12 @@ returns c rates of each =
     let rows = s .args .rows .now in
     let k = s .args .k + l .i in
     let a : c .before .before .row-answer .result ≡ rowAnswer rates k (recordAt rows (l .i)) =
-    after-row-answer .row-answer .ensures rates of each ∙ ap (rowAnswer rates k) (after-whole-at .whole-at .ensures) in
+    c .before .before .row-answer .ensures rates of each ∙ ap (rowAnswer rates k) (after-whole-at .whole-at .ensures) in
     a
     ∙ sym (l .inv .0 rates of each
     ∙ rows-stop rates (s .args .k) rows (l .i)
     (omega (arith, after-loop-test .loop-test .taken, after-record-count .record-count .ensures))
-    (λ z. c .if1 .taken (after-number-of .number-of .ensures ∙ ap numberOf a ∙ z)))
+    (λ z. c .if1 .taken (c .before .number-of .ensures ∙ ap numberOf a ∙ z)))
 
 add-i : tie.Need-add-i Inv-loop μ-loop
 add-i c =
@@ -99,9 +94,7 @@ loop-less c =
 
 loop-again : tie.Need-loop-again Inv-loop μ-loop
 loop-again c =
-    let after-number-of = c .before in
-    let after-row-answer = after-number-of .before in
-    let after-whole-at = after-row-answer .before in
+    let after-whole-at = c .before .before .before in
     let after-loop-test = after-whole-at .before in
     let after-loop = after-loop-test .before in
     let after-record-count = after-loop .before in
@@ -114,22 +107,20 @@ loop-again c =
     let n = after-record-count .record-count .ensures in (
       λ rates of each.
           let a : c .before .before .row-answer .result ≡ rowAnswer rates k (recordAt rows (l .i)) =
-          after-row-answer .row-answer .ensures rates of each ∙ ap (rowAnswer rates k) (after-whole-at .whole-at .ensures) in
+          c .before .before .row-answer .ensures rates of each ∙ ap (rowAnswer rates k) (after-whole-at .whole-at .ensures) in
           l .inv .0 rates of each
           ∙ rows-next rates (s .args .k) rows (l .i) (omega (arith, h, n))
-          (sym (after-number-of .number-of .ensures ∙ ap numberOf a) ∙ omega (arith, c .if1 .left)),
+          (sym (c .before .number-of .ensures ∙ ap numberOf a) ∙ omega (arith, c .if1 .left)),
       omega (arith, h, n),
     )
 
 returns-2 : tie.Need-returns-2 Inv-loop μ-loop
 returns-2 c rates of each =
-    let after-loop = c .before in
-    let after-record-count = after-loop .before in
-    let c-4 = after-record-count .before .before in
+    let c-4 = c .before .before .before .before in
     let s = c-4 in
-    let l = after-loop .loop in
+    let l = c .before .loop in
     sym (l .inv .0 rates of each ∙ rows-end rates (s .args .k) (s .args .rows .now) (l .i)
-    (omega (arith, c .loop-test .left, after-record-count .record-count .ensures)))
+    (omega (arith, c .loop-test .left, c .before .before .record-count .ensures)))
 
 pub rows-answer-spec : {M : Type 1} → statement M
 rows-answer-spec =

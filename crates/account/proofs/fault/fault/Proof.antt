@@ -13,24 +13,21 @@ unknown-kind-requires c κs = tt
 
 returns : tie.Need-returns
 returns c =
-    let after-unknown-kind = c .before in
-    let start = after-unknown-kind .before .before .before .before .before in
+    let start = c .before .before .before .before .before .before in
     let args = start .args in
     let n = args .counts .now in
     let ps = records (args .prompts .now) in
     let e = args .before .now in
     let r = args .r .now in
     is-3 (unknownKind r) (kindFalls e r) (unusedByte r) (fieldOutside r) (unlistedBy n ps r) (outOfOrder e r)
-    (overLimitBy n r) (sym (after-unknown-kind .unknown-kind .ensures) ∙ c .if1 .taken)
+    (overLimitBy n r) (sym (c .before .unknown-kind .ensures) ∙ c .if1 .taken)
 
 kind-falls-requires : tie.Need-kind-falls-requires
 kind-falls-requires c κs = tt
 
 returns-2 : tie.Need-returns-2
 returns-2 c =
-    let after-kind-falls = c .before in
-    let c-2 = after-kind-falls .before in
-    let after-unknown-kind = c-2 .before in
+    let after-unknown-kind = c .before .before .before in
     let start = after-unknown-kind .before .before .before .before .before in
     let args = start .args in
     let n = args .counts .now in
@@ -38,17 +35,15 @@ returns-2 c =
     let e = args .before .now in
     let r = args .r .now in
     is-4 (unknownKind r) (kindFalls e r) (unusedByte r) (fieldOutside r) (unlistedBy n ps r) (outOfOrder e r)
-    (overLimitBy n r) (sym (after-unknown-kind .unknown-kind .ensures) ∙ c-2 .if1 .left)
-    (sym (after-kind-falls .kind-falls .ensures) ∙ c .if2 .taken)
+    (overLimitBy n r) (sym (after-unknown-kind .unknown-kind .ensures) ∙ c .before .before .if1 .left)
+    (sym (c .before .kind-falls .ensures) ∙ c .if2 .taken)
 
 unused-byte-requires : tie.Need-unused-byte-requires
 unused-byte-requires c κs = tt
 
 returns-3 : tie.Need-returns-3
 returns-3 c =
-    let after-unused-byte = c .before in
-    let c-2 = after-unused-byte .before in
-    let after-kind-falls = c-2 .before in
+    let after-kind-falls = c .before .before .before in
     let c-4 = after-kind-falls .before in
     let after-unknown-kind = c-4 .before in
     let start = after-unknown-kind .before .before .before .before .before in
@@ -60,16 +55,14 @@ returns-3 c =
     is-5 (unknownKind r) (kindFalls e r) (unusedByte r) (fieldOutside r) (unlistedBy n ps r) (outOfOrder e r)
     (overLimitBy n r) (sym (after-unknown-kind .unknown-kind .ensures)
     ∙ c-4 .if1 .left) (sym (after-kind-falls .kind-falls .ensures)
-    ∙ c-2 .if2 .left) (sym (after-unused-byte .unused-byte .ensures) ∙ c .if3 .taken)
+    ∙ c .before .before .if2 .left) (sym (c .before .unused-byte .ensures) ∙ c .if3 .taken)
 
 field-outside-requires : tie.Need-field-outside-requires
 field-outside-requires c κs = tt
 
 returns-4 : tie.Need-returns-4
 returns-4 c =
-    let after-field-outside = c .before in
-    let after-if3 = after-field-outside .before in
-    let after-unused-byte = after-if3 .before in
+    let after-unused-byte = c .before .before .before in
     let c-4 = after-unused-byte .before in
     let after-kind-falls = c-4 .before in
     let c-6 = after-kind-falls .before in
@@ -86,16 +79,14 @@ returns-4 c =
     ∙ c-6 .if1 .left)
     (sym (after-kind-falls .kind-falls .ensures)
     ∙ c-4 .if2 .left) (sym (after-unused-byte .unused-byte .ensures)
-    ∙ after-if3 .if3 .left) (sym (after-field-outside .field-outside .ensures) ∙ c .if4 .taken)
+    ∙ c .before .before .if3 .left) (sym (c .before .field-outside .ensures) ∙ c .if4 .taken)
 
 unlisted-requires : tie.Need-unlisted-requires
 unlisted-requires c κs = tt
 
 returns-5 : tie.Need-returns-5
 returns-5 c =
-    let after-unlisted = c .before in
-    let after-if4 = after-unlisted .before in
-    let after-field-outside = after-if4 .before in
+    let after-field-outside = c .before .before .before in
     let after-if3 = after-field-outside .before in
     let after-unused-byte = after-if3 .before in
     let c-6 = after-unused-byte .before in
@@ -117,16 +108,14 @@ returns-5 c =
     ∙ c-6 .if2 .left)
     (sym (after-unused-byte .unused-byte .ensures)
     ∙ after-if3 .if3 .left) (sym (after-field-outside .field-outside .ensures)
-    ∙ after-if4 .if4 .left) (sym (after-unlisted .unlisted .ensures) ∙ c .if5 .taken)
+    ∙ c .before .before .if4 .left) (sym (c .before .unlisted .ensures) ∙ c .if5 .taken)
 
 out-of-order-requires : tie.Need-out-of-order-requires
 out-of-order-requires c κs = tt
 
 returns-6 : tie.Need-returns-6
 returns-6 c =
-    let after-out-of-order = c .before in
-    let after-if5 = after-out-of-order .before in
-    let after-unlisted = after-if5 .before in
+    let after-unlisted = c .before .before .before in
     let after-if4 = after-unlisted .before in
     let after-field-outside = after-if4 .before in
     let after-if3 = after-field-outside .before in
@@ -152,16 +141,14 @@ returns-6 c =
     ∙ after-if3 .if3 .left)
     (sym (after-field-outside .field-outside .ensures)
     ∙ after-if4 .if4 .left) (sym (after-unlisted .unlisted .ensures)
-    ∙ after-if5 .if5 .left) (sym (after-out-of-order .out-of-order .ensures) ∙ c .if6 .taken)
+    ∙ c .before .before .if5 .left) (sym (c .before .out-of-order .ensures) ∙ c .if6 .taken)
 
 over-limit-requires : tie.Need-over-limit-requires
 over-limit-requires c κs = tt
 
 returns-7 : tie.Need-returns-7
 returns-7 c =
-    let after-over-limit = c .before in
-    let after-if6 = after-over-limit .before in
-    let after-out-of-order = after-if6 .before in
+    let after-out-of-order = c .before .before .before in
     let after-if5 = after-out-of-order .before in
     let after-unlisted = after-if5 .before in
     let after-if4 = after-unlisted .before in
@@ -190,13 +177,11 @@ returns-7 c =
     (sym (after-field-outside .field-outside .ensures)
     ∙ after-if4 .if4 .left)
     (sym (after-unlisted .unlisted .ensures) ∙ after-if5 .if5 .left)
-    (sym (after-out-of-order .out-of-order .ensures) ∙ after-if6 .if6 .left) (sym (after-over-limit .over-limit .ensures) ∙ c .if7 .taken)
+    (sym (after-out-of-order .out-of-order .ensures) ∙ c .before .before .if6 .left) (sym (c .before .over-limit .ensures) ∙ c .if7 .taken)
 
 returns-8 : tie.Need-returns-8
 returns-8 c =
-    let after-over-limit = c .before in
-    let after-if6 = after-over-limit .before in
-    let after-out-of-order = after-if6 .before in
+    let after-out-of-order = c .before .before .before in
     let after-if5 = after-out-of-order .before in
     let after-unlisted = after-if5 .before in
     let after-if4 = after-unlisted .before in
@@ -225,7 +210,7 @@ returns-8 c =
     (sym (after-field-outside .field-outside .ensures)
     ∙ after-if4 .if4 .left)
     (sym (after-unlisted .unlisted .ensures) ∙ after-if5 .if5 .left)
-    (sym (after-out-of-order .out-of-order .ensures) ∙ after-if6 .if6 .left) (sym (after-over-limit .over-limit .ensures) ∙ c .if7 .left)
+    (sym (after-out-of-order .out-of-order .ensures) ∙ c .before .before .if6 .left) (sym (c .before .over-limit .ensures) ∙ c .if7 .left)
 
 pub fault-spec : {M : Type 1} → statement M
 fault-spec =

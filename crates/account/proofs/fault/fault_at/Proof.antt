@@ -1,23 +1,24 @@
 -- `account::fault::fault_at` meets its contract. Assumes nothing.
 use borrow.Author.Needs.{needs}
-use Prim.Native.Nat.{ℕ, _+_}
+use Prim.Native.Nat.{ℕ}
 use mathlib.Core.Path.{_≡_, sym, ap, _∙_}
 use mathlib.Core.List.{List}
 use borrow.Author.Tests.{eqb-true}
 use Rattle.record.specs.Layout.{Record, contract}
 use Rattle.account.specs.code.Notes.{faultBy, faultAt, partAt, promptsNoted, beforeAt}
 use Rattle.account.specs.Records.{records, recordAt}
+use Rattle.account.specs.PartNumbers.{part}
 use Rattle.account.proofs.fault.fault_at.Statement.{statement}
 use Rattle.account.proofs.fault.fault_at.Tie as tie
 
 -- what was read stands in the definition's place
 joined :
     (file first counts : List ℕ) (k : ℕ) {r b ps : List ℕ} {d : ℕ}
-    → r ≡ recordAt file k → d ≡ contract r → ps ≡ partAt file first counts (32 + d) → b ≡ beforeAt file k
+    → r ≡ recordAt file k → d ≡ contract r → ps ≡ partAt file first counts (part 2 d) → b ≡ beforeAt file k
     → faultBy counts (records ps) b r ≡ faultAt file first counts k
 joined file first counts k {r} {b} {ps} {d} hr hd hs hb =
     let prompts : records ps ≡ promptsNoted file first counts (contract r) =
-    ap records (hs ∙ ap (λ (x : ℕ). partAt file first counts (32 + x)) hd) in
+    ap records (hs ∙ ap (λ (x : ℕ). partAt file first counts (part 2 x)) hd) in
     ap (λ (p : List Record). faultBy counts p b r) prompts
     ∙ ap (λ (x : Record). faultBy counts (promptsNoted file first counts (contract r)) x r) hb
     ∙ ap (λ (x : Record). faultBy counts (promptsNoted file first counts (contract x)) (beforeAt file k) x) hr
@@ -47,13 +48,11 @@ here : (c : tie.After-whole-before)
     (c .before .before .before .before .before .before .before .args .first .now)
     (c .before .before .before .before .before .before .before .args .counts .now) (c .before .before .before .before .before .before .before .args .k)
 here c =
-    let after-part-at = c .before in
-    let after-contract = after-part-at .before in
-    let after-whole-at = after-contract .before in
+    let after-whole-at = c .before .before .before in
     let start = after-whole-at .before .before .before .before in
     let args = start .args in
     joined (args .file .now) (args .first .now) (args .counts .now) (args .k) (after-whole-at .whole-at .ensures)
-    (after-contract .contract .ensures .0) (after-part-at .part-at .ensures) (c .whole-before .ensures)
+    (c .before .before .contract .ensures .0) (c .before .part-at .ensures) (c .whole-before .ensures)
 
 returns : tie.Need-returns
 returns c = sym (eqb-true _ 0 (sym (c .before .faultless .ensures) ∙ c .if1 .taken)) ∙ here (c .before .before)

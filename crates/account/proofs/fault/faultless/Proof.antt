@@ -32,9 +32,7 @@ kind-falls-requires c κs = search needs
 
 returns : tie.Need-returns
 returns c =
-    let after-over-limit = c .before in
-    let after-out-of-order = after-over-limit .before in
-    let after-unlisted = after-out-of-order .before in
+    let after-unlisted = c .before .before .before in
     let c-4 = after-unlisted .before in
     let own = c-4 in
     let args = own .before .before .before .before .before .before .before .args in
@@ -44,7 +42,7 @@ returns c =
     let r = args .r .now in
     none-is (unknownKind r) (kindFalls e r) (unusedByte r) (fieldOutside r) (unlistedBy n ps r) (outOfOrder e r) (overLimitBy n r)
     (own .before .before .unknown-kind .ensures) (c .kind-falls .ensures) (own .before .unused-byte .ensures) (own .field-outside .ensures)
-    (after-unlisted .unlisted .ensures) (after-out-of-order .out-of-order .ensures) (after-over-limit .over-limit .ensures)
+    (after-unlisted .unlisted .ensures) (c .before .before .out-of-order .ensures) (c .before .over-limit .ensures)
 
 pub faultless-spec : {M : Type 1} → statement M
 faultless-spec =

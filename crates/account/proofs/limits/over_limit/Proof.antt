@@ -3,6 +3,7 @@ use Prim.Native.Nat.{ℕ}
 use mathlib.Core.Path.{sym, ap, _∙_}
 use lib.ListN.{getD}
 use lib.Dec.{leb}
+use Rattle.account.specs.Check.{mostPrompts, mostRows, mostSpreads, mostEntries}
 use Rattle.account.proofs.Dispatch.{limit-2, limit-3, limit-4, limit-5, limit-none}
 use Rattle.account.proofs.limits.over_limit.Statement.{statement}
 use Rattle.account.proofs.limits.over_limit.Tie as tie
@@ -18,25 +19,22 @@ noted-requires c κs = tt
 
 returns : tie.Need-returns
 returns c =
-    let after-noted = c .before in
-    let after-part-of = after-noted .before in
-    let after-kind = after-part-of .before in
+    let after-kind = c .before .before .before in
     let start = after-kind .before .before .before in
     let args = start .args in
     let counts = args .counts .now in
-    ap (λ (n : ℕ). leb 32 n) (after-noted .noted .ensures ∙ ap (λ (v : ℕ). getD counts v 0)
-    (after-part-of .part-of .ensures)) ∙ sym
+    ap (λ (n : ℕ). leb mostPrompts n) (c .before .noted .ensures ∙ ap (λ (v : ℕ). getD counts v 0)
+    (c .before .before .part-of .ensures)) ∙ sym
     (limit-2 counts (args .r .now) (sym (after-kind .kind .ensures .0) ∙ c .if1 .taken))
 
 returns-2 : tie.Need-returns-2
 returns-2 c =
-    let after-noted = c .before .before in
-    let after-part-of = after-noted .before in
+    let after-part-of = c .before .before .before in
     let after-kind = after-part-of .before in
     let start = after-kind .before .before .before in
     let args = start .args in
     let counts = args .counts .now in
-    ap (λ (n : ℕ). leb 128 n) (after-noted .noted .ensures ∙ ap (λ (v : ℕ). getD counts v 0)
+    ap (λ (n : ℕ). leb mostRows n) (c .before .before .noted .ensures ∙ ap (λ (v : ℕ). getD counts v 0)
     (after-part-of .part-of .ensures)) ∙ sym
     (limit-3 counts (args .r .now) (sym (after-kind .kind .ensures .0) ∙ c .if2 .taken))
 
@@ -48,7 +46,7 @@ returns-3 c =
     let start = after-kind .before .before .before in
     let args = start .args in
     let counts = args .counts .now in
-    ap (λ (n : ℕ). leb 32 n) (after-noted .noted .ensures ∙ ap (λ (v : ℕ). getD counts v 0)
+    ap (λ (n : ℕ). leb mostSpreads n) (after-noted .noted .ensures ∙ ap (λ (v : ℕ). getD counts v 0)
     (after-part-of .part-of .ensures)) ∙ sym
     (limit-4 counts (args .r .now) (sym (after-kind .kind .ensures .0)
     ∙ c .if3 .taken))
@@ -61,7 +59,7 @@ returns-4 c =
     let start = after-kind .before .before .before in
     let args = start .args in
     let counts = args .counts .now in
-    ap (λ (n : ℕ). leb 32 n) (after-noted .noted .ensures ∙ ap (λ (v : ℕ). getD counts v 0)
+    ap (λ (n : ℕ). leb mostEntries n) (after-noted .noted .ensures ∙ ap (λ (v : ℕ). getD counts v 0)
     (after-part-of .part-of .ensures)) ∙ sym
     (limit-5 counts (args .r .now) (sym (after-kind .kind .ensures .0)
     ∙ c .if4 .taken))

@@ -13,10 +13,9 @@ no-tier-requires c κs = tt
 
 returns : tie.Need-returns
 returns c =
-    let after-leg-tier = c .before in
-    let start = after-leg-tier .before .before .before in
+    let start = c .before .before .before .before in
     c .no-tier .ensures ∙ ap (noTier (records (start .args .prompts .now)))
-    (after-leg-tier .leg-tier .ensures .0)
+    (c .before .leg-tier .ensures .0)
 
 pub no-leg-tier-spec : {M : Type 1} → statement M
 no-leg-tier-spec = tie.close (tie.spec leg-tier-requires no-tier-requires returns)

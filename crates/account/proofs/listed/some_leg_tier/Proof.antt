@@ -27,24 +27,20 @@ no-leg-tier-requires-5 c κs = tt
 
 returns : tie.Need-returns
 returns c =
-    let after-no-leg-tier = c .before in
-    let c-2 = after-no-leg-tier .before in
-    let after-leg-count = c-2 .before in
+    let after-leg-count = c .before .before .before in
     let start = after-leg-count .before .before .before in
     let legs : twoLegs (start .args .r .now) ≡ true = eq-eqb _ _
-    (sym (after-leg-count .leg-count .ensures .0) ∙ c-2 .if1 .taken) in
-    rw legs (both (after-no-leg-tier .no-leg-tier .ensures) (last (c .no-leg-tier2 .ensures)))
+    (sym (after-leg-count .leg-count .ensures .0) ∙ c .before .before .if1 .taken) in
+    rw legs (both (c .before .no-leg-tier .ensures) (last (c .no-leg-tier2 .ensures)))
 
 returns-2 : tie.Need-returns-2
 returns-2 c =
-    let after-no-leg-tier4 = c .before in
-    let after-no-leg-tier3 = after-no-leg-tier4 .before in
-    let after-leg-count = after-no-leg-tier3 .before .before in
+    let after-leg-count = c .before .before .before .before in
     let start = after-leg-count .before .before .before in
     let legs : twoLegs (start .args .r .now) ≡ false = ne-eqb _ _
     (λ e. c .before .before .before .if1 .left (after-leg-count .leg-count .ensures .0 ∙ e)) in
-    rw legs (both (after-no-leg-tier3 .no-leg-tier3 .ensures)
-    (both (after-no-leg-tier4 .no-leg-tier4 .ensures) (last (c .no-leg-tier5 .ensures))))
+    rw legs (both (c .before .before .no-leg-tier3 .ensures)
+    (both (c .before .no-leg-tier4 .ensures) (last (c .no-leg-tier5 .ensures))))
 
 pub some-leg-tier-spec : {M : Type 1} → statement M
 some-leg-tier-spec =

@@ -19,14 +19,12 @@ no-contract-requires c κs = search needs
 
 returns : tie.Need-returns
 returns c =
-    let after-contract = c .before in
-    let c-2 = after-contract .before in
-    let after-kind = c-2 .before in
+    let after-kind = c .before .before .before in
     let start = after-kind .before .before .before .before in
     let args = start .args in
-    (c .no-contract .ensures ∙ ap (noContract (args .counts .now)) (after-contract .contract .ensures .0)) ∙ sym
+    (c .no-contract .ensures ∙ ap (noContract (args .counts .now)) (c .before .contract .ensures .0)) ∙ sym
     (listed-2 (args .counts .now) (records (args .prompts .now)) (args .r .now)
-    (sym (after-kind .kind .ensures .0) ∙ c-2 .if1 .taken))
+    (sym (after-kind .kind .ensures .0) ∙ c .before .before .if1 .taken))
 
 contract-requires-2 : tie.Need-contract-requires-2
 contract-requires-2 c κs = tt
@@ -42,16 +40,14 @@ no-day-requires c κs = tt
 
 returns-2 : tie.Need-returns-2
 returns-2 c =
-    let after-day = c .before in
-    let after-no-contract2 = after-day .before in
-    let after-contract2 = after-no-contract2 .before in
+    let after-contract2 = c .before .before .before in
     let c-4 = after-contract2 .before in
     let after-kind = c-4 .before .before in
     let start = after-kind .before .before .before .before in
     let args = start .args in
-    both (after-no-contract2 .no-contract2 .ensures ∙ ap (noContract (args .counts .now))
+    both (c .before .before .no-contract2 .ensures ∙ ap (noContract (args .counts .now))
     (after-contract2 .contract2 .ensures .0))
-    (c .no-day .ensures ∙ ap (noDay (records (args .prompts .now))) (after-day .day .ensures .0)) ∙ sym
+    (c .no-day .ensures ∙ ap (noDay (records (args .prompts .now))) (c .before .day .ensures .0)) ∙ sym
     (listed-3 (args .counts .now) (records (args .prompts .now)) (args .r .now)
     (sym (after-kind .kind .ensures .0)
     ∙ c-4 .if2 .taken))
@@ -67,14 +63,12 @@ some-leg-tier-requires c κs = tt
 
 returns-3 : tie.Need-returns-3
 returns-3 c =
-    let after-no-contract3 = c .before in
-    let after-contract3 = after-no-contract3 .before in
-    let after-if3 = after-contract3 .before in
+    let after-if3 = c .before .before .before in
     let after-kind = after-if3 .before .before .before in
     let start = after-kind .before .before .before .before in
     let args = start .args in
-    both (after-no-contract3 .no-contract3 .ensures ∙ ap (noContract (args .counts .now))
-    (after-contract3 .contract3 .ensures .0)) (c .some-leg-tier .ensures) ∙ sym
+    both (c .before .no-contract3 .ensures ∙ ap (noContract (args .counts .now))
+    (c .before .before .contract3 .ensures .0)) (c .some-leg-tier .ensures) ∙ sym
     (listed-4 (args .counts .now) (records (args .prompts .now)) (args .r .now)
     (sym (after-kind .kind .ensures .0)
     ∙ after-if3 .if3 .taken))
@@ -93,17 +87,15 @@ no-contract-requires-5 c κs = search needs
 
 returns-4 : tie.Need-returns-4
 returns-4 c =
-    let after-second-contract = c .before in
-    let after-no-contract4 = after-second-contract .before in
-    let after-contract4 = after-no-contract4 .before in
+    let after-contract4 = c .before .before .before in
     let after-if4 = after-contract4 .before in
     let after-kind = after-if4 .before .before .before .before in
     let start = after-kind .before .before .before .before in
     let args =
     start .args in
-    both (after-no-contract4 .no-contract4 .ensures ∙ ap (noContract (args .counts .now))
+    both (c .before .before .no-contract4 .ensures ∙ ap (noContract (args .counts .now))
     (after-contract4 .contract4 .ensures .0))
-    (c .no-contract5 .ensures ∙ ap (noContract (args .counts .now)) (after-second-contract .second-contract .ensures .0))
+    (c .no-contract5 .ensures ∙ ap (noContract (args .counts .now)) (c .before .second-contract .ensures .0))
     ∙ sym (listed-5 (args .counts .now) (records (args .prompts .now)) (args .r .now)
     (sym (after-kind .kind .ensures .0)
     ∙ after-if4 .if4 .taken))

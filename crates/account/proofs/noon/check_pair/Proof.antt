@@ -19,14 +19,12 @@ pair-verdict-requires c κs = (c .before .before .take-survey .ensures, (c .befo
 
 returns : tie.Need-returns
 returns c =
-    let after-join = c .before in
-    let after-take-survey2 = after-join .before in
-    let after-take-survey = after-take-survey2 .before in
+    let after-take-survey = c .before .before .before in
     let start = after-take-survey .before .before .before in
     let s = start .args in
     let m = after-take-survey .take-survey in
-    let n = after-take-survey2 .take-survey2 in
-    let j = after-join .join in
+    let n = c .before .before .take-survey2 in
+    let j = c .before .join in
     checked-by (s .morning .now) (s .noon .now) (m .result) (n .result) (j .result) (m .ensures) (n .ensures) (j .ensures) (c .pair-verdict .result)
     (c .pair-verdict .ensures)
 

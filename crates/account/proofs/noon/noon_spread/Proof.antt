@@ -19,9 +19,8 @@ cast-t10 c = search needs
 
 returns : tie.Need-returns
 returns c =
-    let c-1 = c .before in
-    let start = c-1 .before .before in
-    rw (ne-eqb (getD (start .args .t1 .counts) entryPart 0) 0 (c-1 .if1 .taken))
+    let start = c .before .before .before in
+    rw (ne-eqb (getD (start .args .t1 .counts) entryPart 0) 0 (c .before .if1 .taken))
 
 element-copy-out-if2 : tie.Need-element-copy-out-if2
 element-copy-out-if2 c = search needs
@@ -34,18 +33,19 @@ cast-t16 c = search needs
 
 returns-2 : tie.Need-returns-2
 returns-2 c =
-    let c-1 = c .before in
-    let c-3 = c-1 .before .before in
-    let start = c-3 .before .before in
-    let s = start .args .t1 in
-    rw (eq-eqb (getD (s .counts) entryPart 0) 0 (omega (arith, c-3 .if1 .left)), ne-eqb (getD (s .counts) ratePart 0) 0 (c-1 .if2 .taken))
+    let c-3 = c .before .before .before in
+    let s = c-3 .before .before .args .t1 in
+    rw (eq-eqb (getD (s .counts) entryPart 0) 0 (omega (arith, c-3 .if1 .left)), ne-eqb (getD (s .counts) ratePart 0) 0 (c .before .if2 .taken))
 
 returns-3 : tie.Need-returns-3
 returns-3 c =
-    let c-2 = c .before .before in
-    let start = c-2 .before .before in
+    let start = c .before .before .before .before in
     let s = start .args .t1 in
-    rw (eq-eqb (getD (s .counts) entryPart 0) 0 (omega (arith, c-2 .if1 .left)), eq-eqb (getD (s .counts) ratePart 0) 0 (omega (arith, c .if2 .left)))
+    rw (
+      eq-eqb (getD (s .counts) entryPart 0) 0 (omega (arith, c .before .before .if1 .left)),
+      eq-eqb (getD (s .counts) ratePart 0) 0 (omega
+          (arith, c .if2 .left)),
+    )
 
 pub noon-spread-spec : {M : Type 1} → statement M
 noon-spread-spec =

@@ -24,10 +24,9 @@ by : (c : tie.After-verdict-of)
     ≡ verdictBy (c .before .before .before .before .args .first) (c .before .before .before .before .args .second)
     (c .before .before .before .before .args .account .records)
 by c =
-    let after-record-total = c .before in
-    let start = after-record-total .before .before .before in
+    let start = c .before .before .before .before in
     let s = start .args in
-    c .verdict-of .ensures ∙ ap (verdictBy (s .first) (s .second)) (after-record-total .record-total .ensures)
+    c .verdict-of .ensures ∙ ap (verdictBy (s .first) (s .second)) (c .before .record-total .ensures)
 
 returns : tie.Need-returns
 returns c =
@@ -48,12 +47,11 @@ conversions-checked-requires c κs =
 
 returns-2 : tie.Need-returns-2
 returns-2 c =
-    let c-1 = c .before in
-    let c-3 = c-1 .before .before in
+    let c-3 = c .before .before .before in
     let v = c-3 in
     let s = v .before .before .before .before in
     verdict-goes (s .args .morning .now) (s .args .noon .now) (s .args .first) (s .args .second) (s .args .account) (s .pre .0) (s .pre .1 .0) (s .pre .1 .1)
-    (v .verdict-of .result) (by v) (none (c-1)) (c .conversions-checked .result) (c .conversions-checked .ensures)
+    (v .verdict-of .result) (by v) (none (c .before)) (c .conversions-checked .result) (c .conversions-checked .ensures)
 
 pub pair-verdict-spec : {M : Type 1} → statement M
 pair-verdict-spec =

@@ -24,12 +24,10 @@ pair-verdict-requires c κs = (c .before .before .take-survey .ensures, (c .befo
 abbrev known : (c : tie.After-pair-verdict) → Joining (c .before .before .before .before .before .before .args .morning .now)
     (c .before .before .before .before .before .before .args .noon .now)
 known c =
-    let after-join = c .before in
-    let after-take-survey2 = after-join .before in
-    let after-take-survey = after-take-survey2 .before in
+    let after-take-survey = c .before .before .before in
     let m = after-take-survey .take-survey in
-    let n = after-take-survey2 .take-survey2 in
-    let j = after-join .join in
+    let n = c .before .before .take-survey2 in
+    let j = c .before .join in
     record {
       first = m .result;
       second = n .result;
@@ -49,23 +47,21 @@ nowhere-requires c κs = search needs
 
 returns : tie.Need-returns
 returns c =
-    let after-number-of = c .before .before in
-    let c-3 = after-number-of .before in
+    let c-3 = c .before .before .before in
     let k = c-3 in
     let s = k .before .before .before .before .before .before .args in
     c .nowhere .ensures
-    ∙ sym (place-refused (s .morning .now) (s .noon .now) (known k) (s .contract) (λ z. c .before .if1 .taken (after-number-of .number-of .ensures ∙ z)))
+    ∙ sym (place-refused (s .morning .now) (s .noon .now) (known k) (s .contract) (λ z. c .before .if1 .taken (c .before .before .number-of .ensures ∙ z)))
 
 nowhere-requires-2 : tie.Need-nowhere-requires-2
 nowhere-requires-2 c κs = search needs
 
 returns-2 : tie.Need-returns-2
 returns-2 c =
-    let c-1 = c .before in
-    let c-4 = c-1 .before .before .before in
+    let c-4 = c .before .before .before .before in
     let k = c-4 in
     let s = k .before .before .before .before .before .before .args in
-    c .nowhere2 .ensures ∙ sym (place-beyond (s .morning .now) (s .noon .now) (known k) (s .contract) (c-1 .if2 .taken))
+    c .nowhere2 .ensures ∙ sym (place-beyond (s .morning .now) (s .noon .now) (known k) (s .contract) (c .before .if2 .taken))
 
 -- nothing is refused, and the number is a contract's
 clear : (c : tie.Else2) → numberOf (c .before .before .before .pair-verdict .result .answer) ≡ 0
@@ -85,13 +81,12 @@ place-in-requires c κs = search needs
 
 returns-3 : tie.Need-returns-3
 returns-3 c =
-    let after-if3 = c .before in
-    let c-3 = after-if3 .before .before in
+    let c-3 = c .before .before .before in
     let e = c-3 in
     let k = e .before .before .before in
     let s = k .before .before .before .before .before .before .args in
     c .place-in .ensures
-    ∙ place-noon (s .morning .now) (s .noon .now) (known k) (s .contract) (clear e) (omega (arith, e .if2 .left)) (after-if3 .if3 .taken)
+    ∙ place-noon (s .morning .now) (s .noon .now) (known k) (s .contract) (clear e) (omega (arith, e .if2 .left)) (c .before .if3 .taken)
 
 add-if4 : tie.Need-add-if4
 add-if4 c = search needs
@@ -107,30 +102,28 @@ place-in-requires-2 c κs = search needs
 
 returns-4 : tie.Need-returns-4
 returns-4 c =
-    let after-if4 = c .before in
-    let after-if3 = after-if4 .before .before in
+    let after-if3 = c .before .before .before in
     let c-5 = after-if3 .before .before in
     let e = c-5 in
     let k = e .before .before .before in
     let s = k .before .before .before .before .before .before .args in
     c .place-in2 .ensures
     ∙ place-morning (s .morning .now) (s .noon .now) (known k) (s .contract) (clear e) (omega (arith, e .if2 .left))
-    (omega (arith, after-if3 .if3 .left)) (after-if4 .if4 .taken)
+    (omega (arith, after-if3 .if3 .left)) (c .before .if4 .taken)
 
 nowhere-requires-3 : tie.Need-nowhere-requires-3
 nowhere-requires-3 c κs = search needs
 
 returns-5 : tie.Need-returns-5
 returns-5 c =
-    let after-if4 = c .before in
-    let after-if3 = after-if4 .before .before in
+    let after-if3 = c .before .before .before in
     let c-5 = after-if3 .before .before in
     let e = c-5 in
     let k = e .before .before .before in
     let s = k .before .before .before .before .before .before .args in
     c .nowhere3 .ensures
     ∙ sym (place-nowhere (s .morning .now) (s .noon .now) (known k) (s .contract) (clear e) (omega (arith, e .if2 .left))
-    (omega (arith, after-if3 .if3 .left)) (omega (arith, after-if4 .if4 .left)))
+    (omega (arith, after-if3 .if3 .left)) (omega (arith, c .before .if4 .left)))
 
 pub prompt-place-spec : {M : Type 1} → statement M
 prompt-place-spec =

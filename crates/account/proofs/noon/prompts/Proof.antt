@@ -22,13 +22,12 @@ stretch-requires c κs = search needs
 
 returns : tie.Need-returns
 returns c =
-    let after-supplier = c .before in
-    let after-prompt-place = after-supplier .before .before in
+    let after-prompt-place = c .before .before .before in
     let c-6 = after-prompt-place .before .before .before in
     let s = c-6 in
     let p = after-prompt-place .prompt-place in
     c .stretch .ensures
-    ∙ ap (λ (f : List ℕ). stretch f (p .result .first) (p .result .records)) (after-supplier .supplier .ensures)
+    ∙ ap (λ (f : List ℕ). stretch f (p .result .first) (p .result .records)) (c .before .supplier .ensures)
     ∙ ap (λ (q : Place). stretch (cond (eqb (q .file) 2) (s .args .noon .now) (s .args .morning .now)) (q .first) (q .records)) (p .ensures)
 
 pub prompts-spec : {M : Type 1} → statement M

@@ -34,13 +34,11 @@ number-of-requires-2 c κs = search needs
 
 returns-2 : tie.Need-returns-2
 returns-2 c =
-    let after-number-of2 = c .before in
-    let c-2 = after-number-of2 .before in
-    let c-4 = c-2 .before .before in
+    let c-4 = c .before .before .before .before in
     let s = c-4 in
     sym
-    (goes (ofMorning (s .args .morning .answer)) _ (first (c-2))
-    ∙ stops (ofNoon (s .args .noon .answer)) _ (λ z. c .if2 .taken (after-number-of2 .number-of2 .ensures ∙ z)))
+    (goes (ofMorning (s .args .morning .answer)) _ (first (c .before .before))
+    ∙ stops (ofNoon (s .args .noon .answer)) _ (λ z. c .if2 .taken (c .before .number-of2 .ensures ∙ z)))
 
 noon-spread-requires : tie.Need-noon-spread-requires
 noon-spread-requires c κs = search needs
@@ -50,17 +48,15 @@ number-of-requires-3 c κs = search needs
 
 returns-3 : tie.Need-returns-3
 returns-3 c =
-    let after-number-of3 = c .before in
-    let after-noon-spread = after-number-of3 .before in
-    let c-3 = after-noon-spread .before in
+    let c-3 = c .before .before .before in
     let e = c-3 in
     let s = e .before .before .before .before in
-    let third = after-noon-spread .noon-spread .ensures in
+    let third = c .before .before .noon-spread .ensures in
     ap ofNoon third
     ∙ sym
     (goes (ofMorning (s .args .morning .answer)) _ (first (e .before .before))
     ∙ goes (ofNoon (s .args .noon .answer)) _ (second e)
-    ∙ stops (ofNoon (noonSpread (s .args .noon))) _ (λ z. c .if3 .taken (after-number-of3 .number-of3 .ensures ∙ ap numberOf third ∙ z)))
+    ∙ stops (ofNoon (noonSpread (s .args .noon))) _ (λ z. c .if3 .taken (c .before .number-of3 .ensures ∙ ap numberOf third ∙ z)))
 
 -- no kind 5 or 6 either
 third : (c : tie.Else3) → numberOf (noonSpread (c .before .before .before .before .before .before .before .args .noon)) ≡ 0
@@ -82,17 +78,15 @@ joined c =
 
 returns-4 : tie.Need-returns-4
 returns-4 c =
-    let c-1 = c .before in
-    let start = c-1 .before .before .before .before .before .before .before in
+    let start = c .before .before .before .before .before .before .before .before in
     let n = start .args .records in
-    sym (joined (c-1) ∙ ap (λ (t : Bool). ofJoined (cond t (TooManyJoined n) Accepted)) (lt-ltb mostRecords n (c .if4 .taken)))
+    sym (joined (c .before) ∙ ap (λ (t : Bool). ofJoined (cond t (TooManyJoined n) Accepted)) (lt-ltb mostRecords n (c .if4 .taken)))
 
 returns-5 : tie.Need-returns-5
 returns-5 c =
-    let c-1 = c .before in
-    let start = c-1 .before .before .before .before .before .before .before in
+    let start = c .before .before .before .before .before .before .before .before in
     let n = start .args .records in
-    sym (joined (c-1) ∙ ap (λ (t : Bool). ofJoined (cond t (TooManyJoined n) Accepted)) (le-ltb mostRecords n (omega (arith, c .if4 .left))))
+    sym (joined (c .before) ∙ ap (λ (t : Bool). ofJoined (cond t (TooManyJoined n) Accepted)) (le-ltb mostRecords n (omega (arith, c .if4 .left))))
 
 pub verdict-of-spec : {M : Type 1} → statement M
 verdict-of-spec =

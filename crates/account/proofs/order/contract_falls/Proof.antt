@@ -16,13 +16,11 @@ contract-requires-2 c κs = tt
 
 returns : tie.Need-returns
 returns c =
-    let after-contract = c .before in
-    let after-kind2 = after-contract .before in
-    let after-kind = after-kind2 .before in
+    let after-kind = c .before .before .before in
     rw (
       after-kind .kind .ensures .0,
-      after-kind2 .kind2 .ensures .0,
-      after-contract .contract .ensures .0,
+      c .before .before .kind2 .ensures .0,
+      c .before .contract .ensures .0,
       c .contract2 .ensures .0,
     )
 

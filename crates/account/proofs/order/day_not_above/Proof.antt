@@ -19,15 +19,13 @@ day-requires-2 c κs = tt
 
 returns : tie.Need-returns
 returns c =
-    let after-day = c .before in
-    let after-kind = after-day .before in
-    let after-contract2 = after-kind .before in
+    let after-contract2 = c .before .before .before in
     let after-contract = after-contract2 .before in
     rw (
       after-contract .contract .ensures .0,
       after-contract2 .contract2 .ensures .0,
-      after-kind .kind .ensures .0,
-      after-day .day .ensures .0,
+      c .before .before .kind .ensures .0,
+      c .before .day .ensures .0,
       c .day2 .ensures .0,
     )
 

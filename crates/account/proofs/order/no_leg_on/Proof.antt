@@ -27,24 +27,20 @@ on-side-requires-5 c κs = tt
 
 returns : tie.Need-returns
 returns c =
-    let after-on-side = c .before in
-    let c-2 = after-on-side .before in
-    let after-leg-count = c-2 .before in
+    let after-leg-count = c .before .before .before in
     let start = after-leg-count .before .before in
     let legs : twoLegs (start .args .r .now) ≡ true = eq-eqb _ _
-    (sym (after-leg-count .leg-count .ensures .0) ∙ c-2 .if1 .taken) in
-    rw legs (ap not (both (after-on-side .on-side .ensures) (last (c .on-side2 .ensures))))
+    (sym (after-leg-count .leg-count .ensures .0) ∙ c .before .before .if1 .taken) in
+    rw legs (ap not (both (c .before .on-side .ensures) (last (c .on-side2 .ensures))))
 
 returns-2 : tie.Need-returns-2
 returns-2 c =
-    let after-on-side4 = c .before in
-    let after-on-side3 = after-on-side4 .before in
-    let after-leg-count = after-on-side3 .before .before in
+    let after-leg-count = c .before .before .before .before in
     let start = after-leg-count .before .before in
     let legs : twoLegs (start .args .r .now) ≡ false = ne-eqb _ _
     (λ e. c .before .before .before .if1 .left (after-leg-count .leg-count .ensures .0 ∙ e)) in
-    rw legs (ap not (both (after-on-side3 .on-side3 .ensures)
-    (both (after-on-side4 .on-side4 .ensures) (last (c .on-side5 .ensures)))))
+    rw legs (ap not (both (c .before .before .on-side3 .ensures)
+    (both (c .before .on-side4 .ensures) (last (c .on-side5 .ensures)))))
 
 pub no-leg-on-spec : {M : Type 1} → statement M
 no-leg-on-spec =

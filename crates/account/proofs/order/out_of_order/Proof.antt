@@ -13,12 +13,10 @@ number-not-above-requires c κs = tt
 
 returns : tie.Need-returns
 returns c =
-    let c-1 = c .before in
-    let after-kind = c-1 .before in
-    let start = after-kind .before .before .before in
+    let start = c .before .before .before .before .before in
     let args = start .args in
     c .number-not-above .ensures ∙ sym (order-1 (args .before .now) (args .r .now)
-    (sym (after-kind .kind .ensures .0) ∙ c-1 .if1 .taken))
+    (sym (c .before .before .kind .ensures .0) ∙ c .before .if1 .taken))
 
 day-not-above-requires : tie.Need-day-not-above-requires
 day-not-above-requires c κs = tt
@@ -28,63 +26,57 @@ tier-falls-requires c κs = tt
 
 returns-2 : tie.Need-returns-2
 returns-2 c =
-    let after-day-not-above = c .before in
-    let c-2 = after-day-not-above .before in
-    let after-kind = c-2 .before .before in
+    let after-kind = c .before .before .before .before in
     let start = after-kind .before .before .before in
     let args = start .args in
-    both (after-day-not-above .day-not-above .ensures) (c .tier-falls .ensures) ∙ sym
+    both (c .before .day-not-above .ensures) (c .tier-falls .ensures) ∙ sym
     (order-2 (args .before .now) (args .r .now) (sym (after-kind .kind .ensures .0)
-    ∙ c-2 .if2 .taken))
+    ∙ c .before .before .if2 .taken))
 
 contract-falls-requires : tie.Need-contract-falls-requires
 contract-falls-requires c κs = tt
 
 returns-3 : tie.Need-returns-3
 returns-3 c =
-    let after-if3 = c .before in
-    let after-kind = after-if3 .before .before .before in
+    let after-kind = c .before .before .before .before in
     let start = after-kind .before .before .before in
     let args = start .args in
     c .contract-falls .ensures ∙ sym (order-3 (args .before .now) (args .r .now)
-    (sym (after-kind .kind .ensures .0) ∙ after-if3 .if3 .taken))
+    (sym (after-kind .kind .ensures .0) ∙ c .before .if3 .taken))
 
 spread-out-of-order-requires : tie.Need-spread-out-of-order-requires
 spread-out-of-order-requires c κs = tt
 
 returns-4 : tie.Need-returns-4
 returns-4 c =
-    let after-if4 = c .before in
-    let after-kind = after-if4 .before .before .before .before in
+    let after-kind = c .before .before .before .before .before in
     let start = after-kind .before .before .before in
     let args = start .args in
     c .spread-out-of-order .ensures ∙ sym
     (order-4 (args .before .now) (args .r .now)
-    (sym (after-kind .kind .ensures .0) ∙ after-if4 .if4 .taken))
+    (sym (after-kind .kind .ensures .0) ∙ c .before .if4 .taken))
 
 with-itself-requires : tie.Need-with-itself-requires
 with-itself-requires c κs = tt
 
 returns-5 : tie.Need-returns-5
 returns-5 c =
-    let after-if5 = c .before in
-    let after-kind = after-if5 .before .before .before .before .before in
+    let after-kind = c .before .before .before .before .before .before in
     let start = after-kind .before .before .before in
     let args = start .args in
     c .with-itself .ensures ∙ sym (order-5 (args .before .now) (args .r .now)
-    (sym (after-kind .kind .ensures .0) ∙ after-if5 .if5 .taken))
+    (sym (after-kind .kind .ensures .0) ∙ c .before .if5 .taken))
 
 currency-not-above-requires : tie.Need-currency-not-above-requires
 currency-not-above-requires c κs = tt
 
 returns-6 : tie.Need-returns-6
 returns-6 c =
-    let after-if6 = c .before in
-    let after-kind = after-if6 .before .before .before .before .before .before in
+    let after-kind = c .before .before .before .before .before .before .before in
     let start = after-kind .before .before .before in
     let args = start .args in
     c .currency-not-above .ensures ∙ sym (order-6 (args .before .now) (args .r .now)
-    (sym (after-kind .kind .ensures .0) ∙ after-if6 .if6 .taken))
+    (sym (after-kind .kind .ensures .0) ∙ c .before .if6 .taken))
 
 returns-7 : tie.Need-returns-7
 returns-7 c =

@@ -16,13 +16,11 @@ leg-side-requires-2 c κs = tt
 
 returns : tie.Need-returns
 returns c =
-    let after-leg-side = c .before in
-    let after-leg-tier2 = after-leg-side .before in
-    let after-leg-tier = after-leg-tier2 .before in
+    let after-leg-tier = c .before .before .before in
     rw (
       after-leg-tier .leg-tier .ensures .0,
-      after-leg-tier2 .leg-tier2 .ensures .0,
-      after-leg-side .leg-side .ensures .0,
+      c .before .before .leg-tier2 .ensures .0,
+      c .before .leg-side .ensures .0,
       c .leg-side2 .ensures .0,
     )
 

@@ -31,24 +31,20 @@ same-leg-requires-4 c κs = tt
 
 returns : tie.Need-returns
 returns c =
-    let c-1 = c .before in
-    let after-leg-count = c-1 .before in
-    let start = after-leg-count .before .before in
+    let start = c .before .before .before .before in
     let legs : twoLegs (start .args .r .now) ≡ true = eq-eqb _ _
-    (sym (after-leg-count .leg-count .ensures .0) ∙ c-1 .if1 .taken) in
+    (sym (c .before .before .leg-count .ensures .0) ∙ c .before .if1 .taken) in
     rw legs (last (last (c .same-leg .ensures)))
 
 returns-2 : tie.Need-returns-2
 returns-2 c =
-    let after-same-leg3 = c .before in
-    let after-same-leg2 = after-same-leg3 .before in
-    let after-leg-count = after-same-leg2 .before .before in
+    let after-leg-count = c .before .before .before .before in
     let start = after-leg-count .before .before in
     let args = start .args in
     let legs : twoLegs (args .r .now) ≡ false = ne-eqb _ _
     (λ e. c .before .before .before .if1 .left (after-leg-count .leg-count .ensures .0 ∙ e)) in
-    rw legs (both (after-same-leg2 .same-leg2 .ensures)
-    (both (after-same-leg3 .same-leg3 .ensures) (c .same-leg4 .ensures)) ∙ grouped (sameLeg (args .r .now) 0 1)
+    rw legs (both (c .before .before .same-leg2 .ensures)
+    (both (c .before .same-leg3 .ensures) (c .same-leg4 .ensures)) ∙ grouped (sameLeg (args .r .now) 0 1)
     (sameLeg (args .r .now) 0 2) (sameLeg (args .r .now) 1 2))
 
 pub some-alike-spec : {M : Type 1} → statement M

@@ -19,15 +19,13 @@ tier-requires-2 c κs = tt
 
 returns : tie.Need-returns
 returns c =
-    let after-tier = c .before in
-    let after-contract2 = after-tier .before in
-    let after-contract = after-contract2 .before in
+    let after-contract = c .before .before .before in
     let after-kind = after-contract .before in
     rw (
       after-kind .kind .ensures .0,
       after-contract .contract .ensures .0,
-      after-contract2 .contract2 .ensures .0,
-      after-tier .tier .ensures .0,
+      c .before .before .contract2 .ensures .0,
+      c .before .tier .ensures .0,
       c .tier2 .ensures .0,
     )
 

@@ -17,14 +17,12 @@ stretch-requires c κs = tt
 
 returns : tie.Need-returns
 returns c =
-    let after-noted2 = c .before in
-    let after-noted = after-noted2 .before in
-    let start = after-noted .before .before .before .before in
+    let start = c .before .before .before .before .before .before in
     let args = start .args in
     let file = args .file .now in
-    c .stretch .ensures ∙ ap (λ (k : ℕ). stretch file k (after-noted2 .noted2 .result))
-    (after-noted .noted .ensures) ∙ ap (stretch file (getD (args .first .now) (args .v) 0))
-    (after-noted2 .noted2 .ensures)
+    c .stretch .ensures ∙ ap (λ (k : ℕ). stretch file k (c .before .noted2 .result))
+    (c .before .before .noted .ensures) ∙ ap (stretch file (getD (args .first .now) (args .v) 0))
+    (c .before .noted2 .ensures)
 
 pub part-at-spec : {M : Type 1} → statement M
 part-at-spec = tie.close (tie.spec noted-requires noted-requires-2 stretch-requires returns)

@@ -44,9 +44,8 @@ loop-less c = omega arith
 
 loop-again : tie.Need-loop-again Inv-loop μ-loop
 loop-again c =
-    let after-whole-at = c .before in
-    let after-loop = after-whole-at .before .before in (
-      days-next (after-loop .loop .inv .0) (c .short-day .result) (c .short-day .ensures ∙ ap day (after-whole-at .whole-at .ensures))
+    let after-loop = c .before .before .before in (
+      days-next (after-loop .loop .inv .0) (c .short-day .result) (c .short-day .ensures ∙ ap day (c .before .whole-at .ensures))
           (omega arith),
       omega arith,
     )

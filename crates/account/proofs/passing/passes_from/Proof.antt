@@ -39,9 +39,7 @@ returns-2 c =
 
 prompts-from-requires : tie.Need-prompts-from-requires
 prompts-from-requires c κs =
-    let c-1 = c .before in
-    let after-may-run = c-1 .before in
-    let after-whole-at2 = after-may-run .before in
+    let after-whole-at2 = c .before .before .before in
     let after-contract = after-whole-at2 .before in
     let after-kind = after-contract .before in
     let after-whole-at = after-kind .before in
@@ -52,15 +50,14 @@ prompts-from-requires c κs =
     begins-read 2 (after-kind .kind .result) (contract .result) (start .pre .0) (start .pre .1)
     (c-7 .if1 .left) (after-whole-at .whole-at .ensures)
     (after-whole-at2 .whole-at2 .ensures) (after-kind .kind .ensures .0) (contract .ensures .0) (contract .ensures .1)
-    (sym (after-may-run .may-run .ensures) ∙ not-false _ (c-1 .if2 .left)) (c .if3 .taken)
+    (sym (c .before .before .may-run .ensures) ∙ not-false _ (c .before .if2 .left)) (c .if3 .taken)
 
 returns-3 : tie.Need-returns-3
 returns-3 c = search needs
 
 rows-from-requires : tie.Need-rows-from-requires
 rows-from-requires c κs =
-    let c-2 = c .before .before in
-    let after-may-run = c-2 .before in
+    let after-may-run = c .before .before .before in
     let after-whole-at2 = after-may-run .before in
     let after-contract = after-whole-at2 .before in
     let after-kind = after-contract .before in
@@ -74,7 +71,7 @@ rows-from-requires c κs =
     (after-whole-at .whole-at .ensures)
     (after-whole-at2 .whole-at2 .ensures) (after-kind .kind .ensures .0)
     (contract .ensures .0) (contract .ensures .1)
-    (sym (after-may-run .may-run .ensures) ∙ not-false _ (c-2 .if2 .left)) (c .if4 .taken)
+    (sym (after-may-run .may-run .ensures) ∙ not-false _ (c .before .before .if2 .left)) (c .if4 .taken)
 
 returns-4 : tie.Need-returns-4
 returns-4 c = search needs
@@ -82,9 +79,7 @@ returns-4 c = search needs
 spreads-from-requires : tie.Need-spreads-from-requires
 spreads-from-requires c κs =
     let c-3 = c .before .before .before in
-    let after-may-run = c-3 .before in
-    let after-whole-at2 = after-may-run .before in
-    let after-contract = after-whole-at2 .before in
+    let after-contract = c-3 .before .before .before in
     let after-kind = after-contract .before in
     let after-whole-at = after-kind .before in
     let c-9 = after-whole-at .before in
@@ -94,9 +89,9 @@ spreads-from-requires c κs =
     begins-read 4 (after-kind .kind .result) (contract .result) (start .pre .0) (start .pre .1)
     (c-9 .if1 .left)
     (after-whole-at .whole-at .ensures)
-    (after-whole-at2 .whole-at2 .ensures) (after-kind .kind .ensures .0)
+    (c-3 .before .before .whole-at2 .ensures) (after-kind .kind .ensures .0)
     (contract .ensures .0) (contract .ensures .1)
-    (sym (after-may-run .may-run .ensures) ∙ not-false _ (c-3 .if2 .left)) (c .if5 .taken)
+    (sym (c-3 .before .may-run .ensures) ∙ not-false _ (c-3 .if2 .left)) (c .if5 .taken)
 
 returns-5 : tie.Need-returns-5
 returns-5 c = search needs

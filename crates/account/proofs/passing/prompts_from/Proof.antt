@@ -4,6 +4,7 @@ use mathlib.Core.Path.{subst, _∙_}
 use borrow.Author.Needs.{needs}
 use Rattle.account.specs.code.Passing.{promptPasses, RunTo}
 use Rattle.account.specs.Records.{recordAt}
+use Rattle.account.specs.Check.{mostPrompts}
 use Rattle.account.proofs.Runs.{prompts-run}
 use Rattle.account.proofs.passing.prompts_from.Statement.{statement}
 use Rattle.account.proofs.passing.prompts_from.Tie as tie
@@ -25,14 +26,13 @@ prompts-to-requires c κs = search needs
 
 returns : tie.Need-returns
 returns c =
-    let after-room-to = c .before in
-    let after-record-count = after-room-to .before .before in
+    let after-record-count = c .before .before .before in
     let c-7 = after-record-count .before .before .before .before in
     let start = c-7 in
     let args = start .args in
     let file = args .file .now in
-    let end = after-room-to .room-to .ensures
-    ∙ (λ i. min (args .k + (32 - c .before .before .noted .ensures i)) (after-record-count .record-count .ensures i)) in
+    let end = c .before .room-to .ensures
+    ∙ (λ i. min (args .k + (mostPrompts - c .before .before .noted .ensures i)) (after-record-count .record-count .ensures i)) in
     prompts-run file (args .first .now) (args .counts .now) (args .k) (args .c) (start .pre)
     (subst (λ (end : ℕ). RunTo (λ j. promptPasses (args .c) (recordAt file (j - 1)) (recordAt file j)) (args .k) end (c .prompts-to .result))
     end (c .prompts-to .ensures))

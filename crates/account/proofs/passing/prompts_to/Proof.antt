@@ -48,18 +48,16 @@ loop-less c = omega arith
 
 loop-again : tie.Need-loop-again Inv-loop μ-loop
 loop-again c =
-    let after-prompt-passes = c .before in
-    let after-whole-at2 = after-prompt-passes .before in
-    let after-whole-at = after-whole-at2 .before in
+    let after-whole-at = c .before .before .before in
     let after-loop = after-whole-at .before .before in
     let start = after-loop .before .before in
     let args = start .args in
     let file = args .file .now in
     let l = after-loop .loop in
-    let met : promptPasses (args .c) (after-whole-at .whole-at .result .now) (after-whole-at2 .whole-at2 .result .now) ≡ true =
-    sym (after-prompt-passes .prompt-passes .ensures) ∙ not-false _ (c .if1 .left) in
+    let met : promptPasses (args .c) (after-whole-at .whole-at .result .now) (c .before .before .whole-at2 .result .now) ≡ true =
+    sym (c .before .prompt-passes .ensures) ∙ not-false _ (c .if1 .left) in
     run-next (passes file (args .c)) (l .inv) (omega arith)
-    (sym (λ i. promptPasses (args .c) (after-whole-at .whole-at .ensures i) (after-whole-at2 .whole-at2 .ensures i)) ∙ met)
+    (sym (λ i. promptPasses (args .c) (after-whole-at .whole-at .ensures i) (c .before .before .whole-at2 .ensures i)) ∙ met)
 
 returns-2 : tie.Need-returns-2 Inv-loop μ-loop
 returns-2 c = c .before .loop .inv

@@ -5,6 +5,7 @@ use mathlib.Core.List.{List}
 use borrow.Author.Needs.{needs}
 use Rattle.account.specs.code.Passing.{DaysOf, rowPasses, RunTo}
 use Rattle.account.specs.Records.{recordAt, records}
+use Rattle.account.specs.Check.{mostRows}
 use Rattle.account.proofs.Runs.{rows-run}
 use Rattle.account.proofs.passing.rows_from.Statement.{statement}
 use Rattle.account.proofs.passing.rows_from.Tie as tie
@@ -35,17 +36,16 @@ rows-to-requires c κs = search needs
 
 returns : tie.Need-returns
 returns c =
-    let after-days-of = c .before .before in
-    let after-part-at = after-days-of .before in
+    let after-part-at = c .before .before .before in
     let after-room-to = after-part-at .before in
     let after-record-count = after-room-to .before .before in
     let c-10 = after-record-count .before .before .before .before in
     let start = c-10 in
     let args = start .args in
     let file = args .file .now in
-    let days = after-days-of .days-of in
+    let days = c .before .before .days-of in
     let end = after-room-to .room-to .ensures
-    ∙ (λ i. min (args .k + (128 - c .before .before .before .before .before .noted .ensures i))
+    ∙ (λ i. min (args .k + (mostRows - c .before .before .before .before .before .noted .ensures i))
     (after-record-count .record-count .ensures i)) in
     rows-run file (args .first .now) (args .counts .now) (args .k) (args .c) (start .pre) (days .result)
     (subst (λ (part : List ℕ). DaysOf (records part) (days .result)) (after-part-at .part-at .ensures) (days .ensures))

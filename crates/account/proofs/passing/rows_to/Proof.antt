@@ -42,15 +42,13 @@ loop-less c = omega arith
 
 loop-again : tie.Need-loop-again Inv-loop μ-loop
 loop-again c =
-    let after-row-passes = c .before in
-    let after-whole-at = after-row-passes .before in
-    let after-loop = after-whole-at .before .before in
+    let after-loop = c .before .before .before .before in
     let start = after-loop .before .before in
     let args = start .args in
     let l = after-loop .loop in
     run-next (passes (args .file .now) (args .days .now) (args .c)) (l .inv) (omega arith)
-    (ap (rowPasses (args .c) (args .days .now)) (sym (after-whole-at .whole-at .ensures))
-    ∙ sym (after-row-passes .row-passes .ensures) ∙ not-false _ (c .if1 .left))
+    (ap (rowPasses (args .c) (args .days .now)) (sym (c .before .before .whole-at .ensures))
+    ∙ sym (c .before .row-passes .ensures) ∙ not-false _ (c .if1 .left))
 
 returns-2 : tie.Need-returns-2 Inv-loop μ-loop
 returns-2 c = c .before .loop .inv

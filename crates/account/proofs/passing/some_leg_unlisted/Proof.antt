@@ -28,24 +28,20 @@ leg-unlisted-requires-5 c κs = search needs
 
 returns : tie.Need-returns
 returns c =
-    let after-leg-unlisted = c .before in
-    let c-2 = after-leg-unlisted .before in
-    let after-leg-count = c-2 .before in
+    let after-leg-count = c .before .before .before in
     let start = after-leg-count .before .before in
     let legs : twoLegs (start .args .r .now) ≡ true =
-    eq-eqb _ _ (sym (after-leg-count .leg-count .ensures .0) ∙ c-2 .if1 .taken) in
-    rw legs (both (after-leg-unlisted .leg-unlisted .ensures) (last (c .leg-unlisted2 .ensures)))
+    eq-eqb _ _ (sym (after-leg-count .leg-count .ensures .0) ∙ c .before .before .if1 .taken) in
+    rw legs (both (c .before .leg-unlisted .ensures) (last (c .leg-unlisted2 .ensures)))
 
 returns-2 : tie.Need-returns-2
 returns-2 c =
-    let after-leg-unlisted4 = c .before in
-    let after-leg-unlisted3 = after-leg-unlisted4 .before in
-    let after-leg-count = after-leg-unlisted3 .before .before in
+    let after-leg-count = c .before .before .before .before in
     let start = after-leg-count .before .before in
     let legs : twoLegs (start .args .r .now) ≡ false =
     ne-eqb _ _ (λ e. c .before .before .before .if1 .left (after-leg-count .leg-count .ensures .0 ∙ e)) in
-    rw legs (both (after-leg-unlisted3 .leg-unlisted3 .ensures)
-    (both (after-leg-unlisted4 .leg-unlisted4 .ensures) (last (c .leg-unlisted5 .ensures))))
+    rw legs (both (c .before .before .leg-unlisted3 .ensures)
+    (both (c .before .leg-unlisted4 .ensures) (last (c .leg-unlisted5 .ensures))))
 
 pub some-leg-unlisted-spec : {M : Type 1} → statement M
 some-leg-unlisted-spec =

@@ -5,6 +5,7 @@ use mathlib.Core.List.{List}
 use borrow.Author.Needs.{needs}
 use Rattle.account.specs.code.Passing.{TiersOf, spreadPasses, RunTo}
 use Rattle.account.specs.Records.{recordAt, records}
+use Rattle.account.specs.Check.{mostSpreads}
 use Rattle.account.proofs.Runs.{spreads-run}
 use Rattle.account.proofs.passing.spreads_from.Statement.{statement}
 use Rattle.account.proofs.passing.spreads_from.Tie as tie
@@ -35,17 +36,16 @@ spreads-to-requires c κs = search needs
 
 returns : tie.Need-returns
 returns c =
-    let after-tiers-of = c .before .before in
-    let after-part-at = after-tiers-of .before in
+    let after-part-at = c .before .before .before in
     let after-room-to = after-part-at .before in
     let after-record-count = after-room-to .before .before in
     let c-10 = after-record-count .before .before .before .before in
     let start = c-10 in
     let args = start .args in
     let file = args .file .now in
-    let tiers = after-tiers-of .tiers-of in
+    let tiers = c .before .before .tiers-of in
     let end = after-room-to .room-to .ensures
-    ∙ (λ i. min (args .k + (32 - c .before .before .before .before .before .noted .ensures i))
+    ∙ (λ i. min (args .k + (mostSpreads - c .before .before .before .before .before .noted .ensures i))
     (after-record-count .record-count .ensures i)) in
     spreads-run file (args .first .now) (args .counts .now) (args .k) (args .c) (start .pre) (tiers .result)
     (subst (λ (part : List ℕ). TiersOf (records part) (tiers .result)) (after-part-at .part-at .ensures) (tiers .ensures))

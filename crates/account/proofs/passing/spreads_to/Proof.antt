@@ -42,15 +42,13 @@ loop-less c = omega arith
 
 loop-again : tie.Need-loop-again Inv-loop μ-loop
 loop-again c =
-    let after-spread-passes = c .before in
-    let after-whole-at = after-spread-passes .before in
-    let after-loop = after-whole-at .before .before in
+    let after-loop = c .before .before .before .before in
     let start = after-loop .before .before in
     let args = start .args in
     let l = after-loop .loop in
     run-next (passes (args .file .now) (args .listed .now) (args .c)) (l .inv) (omega arith)
-    (ap (spreadPasses (args .c) (args .listed .now)) (sym (after-whole-at .whole-at .ensures))
-    ∙ sym (after-spread-passes .spread-passes .ensures) ∙ not-false _ (c .if1 .left))
+    (ap (spreadPasses (args .c) (args .listed .now)) (sym (c .before .before .whole-at .ensures))
+    ∙ sym (c .before .spread-passes .ensures) ∙ not-false _ (c .if1 .left))
 
 returns-2 : tie.Need-returns-2 Inv-loop μ-loop
 returns-2 c = c .before .loop .inv

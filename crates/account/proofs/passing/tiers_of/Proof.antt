@@ -36,9 +36,8 @@ loop-less c = omega arith
 
 loop-again : tie.Need-loop-again Inv-loop μ-loop
 loop-again c =
-    let after-whole-at = c .before in
-    let after-loop = after-whole-at .before .before in (
-      tiers-next (after-loop .loop .inv .0) (c .tier .result) (c .tier .ensures .0 ∙ ap tier (after-whole-at .whole-at .ensures))
+    let after-loop = c .before .before .before in (
+      tiers-next (after-loop .loop .inv .0) (c .tier .result) (c .tier .ensures .0 ∙ ap tier (c .before .whole-at .ensures))
           (c .tier .ensures .1),
       omega arith,
     )

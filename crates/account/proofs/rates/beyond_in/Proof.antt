@@ -34,16 +34,14 @@ is-beyond-requires c κs = search needs
 
 returns : tie.Need-returns
 returns c =
-    let after-converted = c .before in
-    let after-times = after-converted .before in
-    let start = after-times .before in
+    let start = c .before .before .before in
     let s = start .args in
-    let t = after-times .times in
-    let v = after-converted .converted in
+    let t = c .before .before .times in
+    let v = c .before .converted in
     seen (λ (z : ℤ). ltb mostConversion (natAbs z)) (v .result) (record { sfits = v .ok }) (c .is-beyond .ensures)
     ∙ ap (λ (z : ℤ). ltb mostConversion (natAbs z))
     (seen (convertedAt (s .f .raised) (s .f .lowered)) (t .result) (record { sfits = t .ok }) (v .ensures)
-    ∙ ap (convertedAt (s .f .raised) (s .f .lowered)) (multiplied (after-times) .is))
+    ∙ ap (convertedAt (s .f .raised) (s .f .lowered)) (multiplied (c .before .before) .is))
 
 pub beyond-in-spec : {M : Type 1} → statement M
 beyond-in-spec = tie.close (tie.spec times-requires converted-requires is-beyond-requires returns)

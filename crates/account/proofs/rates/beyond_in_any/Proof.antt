@@ -12,7 +12,7 @@ use denote.Ref.{now}
 use Rattle.exact.specs.Lists.{any}
 use Rattle.exact.proofs.Integers.{back}
 use Rattle.record.specs.Bytes.{countFrom}
-use Rattle.record.specs.Layout.{Record, loss}
+use Rattle.record.specs.Layout.{Record, loss, scenarioCount}
 use Rattle.record.specs.Within.{Between}
 use Rattle.account.specs.Products.{convertedAt, mostConversion}
 use Rattle.account.proofs.rates.beyond_in_any.Statement.{statement}
@@ -29,19 +29,19 @@ or-none : (a : Bool) → a || false ≡ a
 or-none true = refl
 or-none false = refl
 
-one-more : (p : ℕ → Bool) (t : Bool) (s : ℕ) → s < 16 → t || any p (countFrom (s + 1) (16 - s)) ≡ (t || p (s + 1))
-    || any p (countFrom (s + 1 + 1) (16 - (s + 1)))
+one-more : (p : ℕ → Bool) (t : Bool) (s : ℕ) → s < scenarioCount → t || any p (countFrom (s + 1) (scenarioCount - s)) ≡ (t || p (s + 1))
+    || any p (countFrom (s + 1 + 1) (scenarioCount - (s + 1)))
 one-more p t s h =
-    let e : 16 - s ≡ suc (16 - (s + 1)) = omega arith in
+    let e : scenarioCount - s ≡ suc (scenarioCount - (s + 1)) = omega arith in
     ap (λ (n : ℕ). t || any p (countFrom (s + 1) n)) e ∙ or-assoc t (p (s + 1)) _
 
 abbrev Inv-loop : tie.InvT-loop
 Inv-loop f each row found₀ s₀ found s =
     let p = beyond (f .raised) (f .lowered) (toZ w64 each) row in
-    (s ≤ 16) × (any p (countFrom 1 16) ≡ found || any p (countFrom (s + 1) (16 - s)))
+    (s ≤ scenarioCount) × (any p (countFrom 1 scenarioCount) ≡ found || any p (countFrom (s + 1) (scenarioCount - s)))
 
 abbrev μ-loop : tie.MeasureT-loop
-μ-loop f each row found₀ s₀ found s = 16 - s
+μ-loop f each row found₀ s₀ found s = scenarioCount - s
 
 loop-holds : tie.Need-loop-holds Inv-loop μ-loop
 loop-holds c = (omega arith, refl)
@@ -54,11 +54,10 @@ loss-requires c κs = tt
 
 beyond-in-requires : tie.Need-beyond-in-requires Inv-loop μ-loop
 beyond-in-requires c κs =
-    let after-loop = c .before .before in
-    let c-4 = after-loop .before .before in
+    let c-4 = c .before .before .before .before in
     let s = c-4 in
-    let i = after-loop .loop in
-    let in-range : Between 1 (i .s + 1) 16 = record { least = omega arith; most = omega arith } in (
+    let i = c .before .before .loop in
+    let in-range : Between 1 (i .s + 1) scenarioCount = record { least = omega arith; most = omega arith } in (
       subst (λ (z : ℤ). natAbs z ≤ 1000000000) (sym (back (s .args .each) (s .fits .each))) (s .pre .0),
       (
         subst (λ (z : ℤ). natAbs z ≤ 100000) (sym (back (c .loss .result) (record { sfits = c .loss .ok }) ∙ c .loss .ensures))
@@ -75,8 +74,7 @@ loop-less c = omega arith
 
 loop-again : tie.Need-loop-again Inv-loop μ-loop
 loop-again c =
-    let after-loss = c .before in
-    let after-loop = after-loss .before .before in
+    let after-loop = c .before .before .before in
     let c-5 = after-loop .before .before in
     let s = c-5 in
     let i = after-loop .loop in
@@ -85,22 +83,21 @@ loop-again c =
     let here : c .beyond-in .result ≡ p (i .s + 1) =
     c .beyond-in .ensures
     ∙ ap (λ (z : ℤ). ltb mostConversion (natAbs (convertedAt (s .args .f .raised) (s .args .f .lowered) (toZ w64 (ofZ w64 (s .args .each)) *ℤ z))))
-    (back (after-loss .loss .result) (record { sfits = after-loss .loss .ok }) ∙ after-loss .loss .ensures) in (
+    (back (c .before .loss .result) (record { sfits = c .before .loss .ok }) ∙ c .before .loss .ensures) in (
       omega arith,
       i .inv .1 ∙ one-more p (i .found) (i .s) (omega arith)
-          ∙ ap (λ (t : Bool). (i .found || t) || any p (countFrom (i .s + 1 + 1) (16 - (i .s + 1)))) (sym here),
+          ∙ ap (λ (t : Bool). (i .found || t) || any p (countFrom (i .s + 1 + 1) (scenarioCount - (i .s + 1)))) (sym here),
     )
 
 returns : tie.Need-returns Inv-loop μ-loop
 returns c =
-    let after-loop = c .before in
-    let c-3 = after-loop .before .before in
+    let c-3 = c .before .before .before in
     let s = c-3 in
-    let i = after-loop .loop in
+    let i = c .before .loop in
     let row = s .args .row .now in
     let p : ℤ → ℕ → Bool = λ z. beyond (s .args .f .raised) (s .args .f .lowered) z row in
-    let done : 16 - i .s ≡ 0 = omega arith in
-    sym (ap (λ (z : ℤ). any (p z) (countFrom 1 16)) (sym (back (s .args .each) (s .fits .each)))
+    let done : scenarioCount - i .s ≡ 0 = omega arith in
+    sym (ap (λ (z : ℤ). any (p z) (countFrom 1 scenarioCount)) (sym (back (s .args .each) (s .fits .each)))
     ∙ i .inv .1
     ∙ ap (λ (n : ℕ). i .found || any (p (toZ w64 (ofZ w64 (s .args .each)))) (countFrom (i .s + 1) n)) done
     ∙ or-none (i .found))

@@ -14,7 +14,7 @@ use borrow.Author.Tests.{eq-eqb, ne-eqb}
 use Rattle.exact.specs.Lists.{any}
 use Rattle.exact.proofs.Integers.{back}
 use Rattle.record.specs.Bytes.{countFrom}
-use Rattle.record.specs.Layout.{Record, currency, lots, value, loss}
+use Rattle.record.specs.Layout.{Record, currency, lots, value, loss, scenarioCount}
 use Rattle.account.specs.Products.{inOwn, rateFor, raised, lowered, convertedAt, converted, mostConversion, mostFactor}
 use Rattle.account.specs.code.Rates.{RatesOf}
 use Rattle.account.proofs.ProductLaws.{factors-within}
@@ -24,26 +24,25 @@ use Rattle.account.proofs.rates.conversion_beyond.Tie as tie
 -- the refusal, by whether the row is in the margin currency
 abbrev by-currency : List Record → Record → Bool → Bool
 by-currency rates row own =
-    not own && any (λ s. ltb mostConversion (natAbs (cond own (inOwn s row) (converted (rateFor rates (currency row)) (inOwn s row))))) (countFrom 1 16)
+    not own && any (λ s. ltb mostConversion (natAbs (cond own (inOwn s row) (converted (rateFor rates (currency row)) (inOwn s row)))))
+    (countFrom 1 scenarioCount)
 
 abbrev by-factors : Record → ℕ → ℕ → ℤ → Bool
-by-factors row up down each = any (λ s. ltb mostConversion (natAbs (convertedAt up down (each *ℤ loss row s)))) (countFrom 1 16)
+by-factors row up down each = any (λ s. ltb mostConversion (natAbs (convertedAt up down (each *ℤ loss row s)))) (countFrom 1 scenarioCount)
 
 currency-requires : tie.Need-currency-requires
 currency-requires c κs = search needs
 
 returns : tie.Need-returns
 returns c =
-    let after-currency = c .before in
-    let start = after-currency .before .before in
+    let start = c .before .before .before in
     let row = now (start .args .row) in
-    λ rates held. ap (by-currency rates row) (sym (eq-eqb (currency row) 0 (sym (after-currency .currency .ensures .0) ∙ c .if1 .taken)))
+    λ rates held. ap (by-currency rates row) (sym (eq-eqb (currency row) 0 (sym (c .before .currency .ensures .0) ∙ c .if1 .taken)))
 
 factors-of-requires : tie.Need-factors-of-requires
 factors-of-requires c κs =
-    let after-currency = c .before in
-    let start = after-currency .before .before in
-    omega (arith, after-currency .currency .ensures .0, start .pre .0 .currencies)
+    let start = c .before .before .before in
+    omega (arith, c .before .currency .ensures .0, start .pre .0 .currencies)
 
 per-tick-requires : tie.Need-per-tick-requires
 per-tick-requires c κs =
@@ -54,27 +53,24 @@ per-tick-requires c κs =
 raised-is : (c : tie.After-factors-of) → (rates : List Record) → RatesOf rates (c .before .before .before .before .args .t)
     → c .factors-of .result .raised ≡ raised (rateFor rates (currency (now (c .before .before .before .before .args .row))))
 raised-is c rates held =
-    let after-currency = c .before .before in
-    let c-4 = after-currency .before .before in
+    let c-4 = c .before .before .before .before in
     let s = c-4 in
     c .factors-of .ensures .0
-    ∙ ap (λ (k : ℕ). getD (s .args .t .raised) k 0) (after-currency .currency .ensures .0)
+    ∙ ap (λ (k : ℕ). getD (s .args .t .raised) k 0) (c .before .before .currency .ensures .0)
     ∙ held .raised-are (currency (now (s .args .row))) (s .pre .0 .currencies)
 
 lowered-is : (c : tie.After-factors-of) → (rates : List Record) → RatesOf rates (c .before .before .before .before .args .t)
     → c .factors-of .result .lowered ≡ lowered (rateFor rates (currency (now (c .before .before .before .before .args .row))))
 lowered-is c rates held =
-    let after-currency = c .before .before in
-    let c-4 = after-currency .before .before in
+    let c-4 = c .before .before .before .before in
     let s = c-4 in
     c .factors-of .ensures .1
-    ∙ ap (λ (k : ℕ). getD (s .args .t .lowered) k 0) (after-currency .currency .ensures .0)
+    ∙ ap (λ (k : ℕ). getD (s .args .t .lowered) k 0) (c .before .before .currency .ensures .0)
     ∙ held .lowered-are (currency (now (s .args .row))) (s .pre .0 .currencies)
 
 beyond-in-any-requires : tie.Need-beyond-in-any-requires
 beyond-in-any-requires c κs =
-    let c-1 = c .before in
-    let c-5 = c-1 .before .before .before .before in
+    let c-5 = c .before .before .before .before .before in
     let s = c-5 in
     let h = s .pre .1 in
     let w = factors-within (h .rates) (currency (now (s .args .row))) (h .within) in (
@@ -82,22 +78,20 @@ beyond-in-any-requires c κs =
       (
         s .pre .0,
         (
-          subst (λ (n : ℕ). n ≤ mostFactor) (sym (raised-is (c-1) (h .rates) (h .held))) (w .up),
-          subst (λ (n : ℕ). n ≤ mostFactor) (sym (lowered-is (c-1) (h .rates) (h .held))) (w .down),
+          subst (λ (n : ℕ). n ≤ mostFactor) (sym (raised-is (c .before) (h .rates) (h .held))) (w .up),
+          subst (λ (n : ℕ). n ≤ mostFactor) (sym (lowered-is (c .before) (h .rates) (h .held))) (w .down),
         ),
       ),
     )
 
 returns-2 : tie.Need-returns-2
 returns-2 c =
-    let after-per-tick = c .before in
-    let c-2 = after-per-tick .before in
-    let after-currency = c-2 .before .before in
+    let after-currency = c .before .before .before .before in
     let c-6 = after-currency .before .before in
     let s = c-6 in
     let row = now (s .args .row) in
-    let f = c-2 in
-    let t = after-per-tick .per-tick in
+    let f = c .before .before in
+    let t = c .before .per-tick in
     let is = after-currency .currency .ensures .0 in
     let other : eqb (currency row) 0 ≡ false = ne-eqb (currency row) 0 (λ e. c .before .before .before .if1 .left (is ∙ e)) in
     λ rates held.

@@ -21,31 +21,27 @@ currency-requires c κs = search needs
 
 returns : tie.Need-returns
 returns c =
-    let after-currency = c .before in
-    let start = after-currency .before .before in
+    let start = c .before .before .before in
     let row = now (start .args .row) in
     λ rates held within. ap (λ (t : Bool). t || any (ofCurrency (currency row)) rates)
-    (sym (eq-eqb (currency row) 0 (sym (after-currency .currency .ensures .0) ∙ c .if1 .taken)))
+    (sym (eq-eqb (currency row) 0 (sym (c .before .currency .ensures .0) ∙ c .if1 .taken)))
 
 mul-result : tie.Need-mul-result
 mul-result c =
-    let after-currency = c .before in
-    let start = after-currency .before .before in
-    omega (arith, after-currency .currency .ensures .0, start .pre)
+    let start = c .before .before .before in
+    omega (arith, c .before .currency .ensures .0, start .pre)
 
 element-copy-out-result : tie.Need-element-copy-out-result
 element-copy-out-result c =
-    let after-currency = c .before in
-    let start = after-currency .before .before in
-    omega (arith, after-currency .currency .ensures .0, start .pre)
+    let start = c .before .before .before in
+    omega (arith, c .before .currency .ensures .0, start .pre)
 
 returns-2 : tie.Need-returns-2
 returns-2 c =
-    let after-currency = c .before .before in
-    let c-4 = after-currency .before .before in
+    let c-4 = c .before .before .before .before in
     let s = c-4 in
     let row = now (s .args .row) in
-    let is : c .before .before .currency .result ≡ currency row = after-currency .currency .ensures .0 in
+    let is : c .before .before .currency .result ≡ currency row = c .before .before .currency .ensures .0 in
     let some : eqb (currency row) 0 ≡ false = ne-eqb (currency row) 0 (λ e. c .before .if1 .left (is ∙ e)) in
     λ rates held within.
     ap (λ (n : ℕ). not (eqb n 0)) (ap (λ (k : ℕ). getD (s .args .t1 .raised) k 0) is ∙ held .raised-are (currency row) (s .pre))

@@ -15,10 +15,9 @@ adjustment-requires c κs = search needs
 
 returns : tie.Need-returns
 returns c =
-    let after-adjustment = c .before in
-    let start = after-adjustment .before .before in
+    let start = c .before .before .before in
     let rate = now (start .args .rate) in
-    let none : 100 - adjustment rate ≡ 0 = omega (arith, after-adjustment .adjustment .ensures .0, c .if1 .taken) in
+    let none : 100 - adjustment rate ≡ 0 = omega (arith, c .before .adjustment .ensures .0, c .if1 .taken) in
     sym (ap (λ (n : ℕ). spotRate rate * n) none ∙ mul-zero (spotRate rate))
 
 spot-rate-requires : tie.Need-spot-rate-requires

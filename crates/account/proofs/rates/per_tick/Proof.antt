@@ -21,27 +21,23 @@ as-signed-requires c κs = search needs
 
 times-requires : tie.Need-times-requires
 times-requires c κs =
-    let after-value = c .before in
-    let after-lots = after-value .before in
-    let c-4 = after-lots .before .before in
+    let c-4 = c .before .before .before .before in
     let s = c-4 in
-    times-fits (after-lots .lots .result) (c .as-signed .result) (lots (now (s .args .row))) (pos (value (now (s .args .row)))) 100000 10000
-    (record { sfits = after-lots .lots .ok }) (record { sfits = c .as-signed .ok })
-    (after-lots .lots .ensures) (c .as-signed .ensures ∙ ap pos (after-value .value .ensures .0))
+    times-fits (c .before .before .lots .result) (c .as-signed .result) (lots (now (s .args .row))) (pos (value (now (s .args .row)))) 100000 10000
+    (record { sfits = c .before .before .lots .ok }) (record { sfits = c .as-signed .ok })
+    (c .before .before .lots .ensures) (c .as-signed .ensures ∙ ap pos (c .before .value .ensures .0))
     (s .pre .0) (s .pre .1) (omega arith)
 
 returns : tie.Need-returns
 returns c =
-    let after-as-signed = c .before in
-    let after-value = after-as-signed .before in
-    let after-lots = after-value .before in
+    let after-lots = c .before .before .before in
     let c-5 = after-lots .before .before in
     let s = c-5 in
     sized-back (c .times .result) (record { sfits = c .times .ok })
-    (times-is (after-lots .lots .result) (after-as-signed .as-signed .result) (lots (now (s .args .row)))
+    (times-is (after-lots .lots .result) (c .before .as-signed .result) (lots (now (s .args .row)))
     (pos (value (now (s .args .row)))) 100000 10000
-    (record { sfits = after-lots .lots .ok }) (record { sfits = after-as-signed .as-signed .ok })
-    (after-lots .lots .ensures) (after-as-signed .as-signed .ensures ∙ ap pos (after-value .value .ensures .0))
+    (record { sfits = after-lots .lots .ok }) (record { sfits = c .before .as-signed .ok })
+    (after-lots .lots .ensures) (c .before .as-signed .ensures ∙ ap pos (c .before .before .value .ensures .0))
     (s .pre .0) (s .pre .1) (c .times .result) (c .times .ensures))
 
 pub per-tick-spec : {M : Type 1} → statement M

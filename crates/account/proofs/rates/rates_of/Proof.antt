@@ -32,13 +32,12 @@ record-count-requires c κs = search needs
 
 loop-holds : tie.Need-loop-holds Inv-loop μ-loop
 loop-holds c =
-    let after-no-rates = c .before in
-    let start = after-no-rates .before .before in
+    let start = c .before .before .before in
     let file = start .args .rates .now in
     let past : recordCount file - c .record-count .result ≡ 0 = omega (arith, c .record-count .ensures) in
     let none : from-here file (c .record-count .result) ≡ [] = ap (λ (n : ℕ). cut n (drop (c .record-count .result * recordBytes) file)) past in (
       omega (arith, c .record-count .ensures),
-      subst (λ (rates : List Record). RatesOf rates (after-no-rates .no-rates .result)) (sym none) (after-no-rates .no-rates .ensures),
+      subst (λ (rates : List Record). RatesOf rates (c .before .no-rates .result)) (sym none) (c .before .no-rates .ensures),
     )
 
 sub-i : tie.Need-sub-i Inv-loop μ-loop
@@ -55,8 +54,7 @@ loop-less c = omega arith
 
 loop-again : tie.Need-loop-again Inv-loop μ-loop
 loop-again c =
-    let after-whole-at = c .before in
-    let after-loop = after-whole-at .before .before in
+    let after-loop = c .before .before .before in
     let start = after-loop .before .before .before .before in
     let file = start .args .rates .now in
     let i = after-loop .loop in
@@ -66,16 +64,15 @@ loop-again c =
     ∙ ap (λ (k : ℕ). recordAt file (i .i - 1) ∷ from-here file k) back-one in (
       omega (arith, i .inv .0),
       subst (λ (rates : List Record). RatesOf rates (c .with-rate .result))
-          (ap (λ (r : Record). r ∷ from-here file (i .i)) (after-whole-at .whole-at .ensures) ∙ sym more)
+          (ap (λ (r : Record). r ∷ from-here file (i .i)) (c .before .whole-at .ensures) ∙ sym more)
           (c .with-rate .ensures (from-here file (i .i)) (i .inv .1)),
     )
 
 returns : tie.Need-returns Inv-loop μ-loop
 returns c =
-    let after-loop = c .before in
-    let start = after-loop .before .before .before .before in
+    let start = c .before .before .before .before .before in
     let file = now (start .args .rates) in
-    let i = after-loop .loop in
+    let i = c .before .loop in
     let none : i .i ≡ 0 = omega arith in
     let all : recordCount file - 0 ≡ recordCount file = omega arith in
     subst (λ (n : ℕ). RatesOf (cut n file) (i .t)) all (subst (λ (k : ℕ). RatesOf (from-here file k) (i .t)) none (i .inv .1))

@@ -18,11 +18,10 @@ rate-currency-requires c κs = search needs
 
 returns : tie.Need-returns
 returns c =
-    let after-rate-currency = c .before in
-    let c-3 = after-rate-currency .before .before in
+    let c-3 = c .before .before .before in
     let s = c-3 in
     let rate = now (s .args .rate) in
-    let large : mostCurrency < rateCurrency rate = omega (arith, after-rate-currency .rate-currency .ensures .0, c .if1 .taken) in
+    let large : mostCurrency < rateCurrency rate = omega (arith, c .before .rate-currency .ensures .0, c .if1 .taken) in
     λ rates held.
     record {
       raised-places = held .raised-places;
@@ -51,24 +50,22 @@ array-write-down c = search needs
 
 returns-2 : tie.Need-returns-2
 returns-2 c =
-    let after-raised = c .before in
-    let c-4 = after-raised .before .before .before in
-    let after-rate-currency = c-4 .before in
-    let c-7 = after-rate-currency .before .before in
+    let c-4 = c .before .before .before .before in
+    let c-7 = c-4 .before .before .before in
     let s = c-7 in
     let rate = now (s .args .rate) in
-    let k = after-rate-currency .rate-currency .result in
-    let is : rateCurrency rate ≡ k = sym (after-rate-currency .rate-currency .ensures .0) in
+    let k = c-4 .before .rate-currency .result in
+    let is : rateCurrency rate ≡ k = sym (c-4 .before .rate-currency .ensures .0) in
     let small : rateCurrency rate ≤ mostCurrency = omega (arith, is, c-4 .if1 .left) in
     let up = s .args .t .raised in
     let down = s .args .t .lowered in
     λ rates held.
     record {
-      raised-places = length-set up k (after-raised .raised .result) ∙ held .raised-places;
+      raised-places = length-set up k (c .before .raised .result) ∙ held .raised-places;
       lowered-places = length-set down k (c .lowered .result) ∙ held .lowered-places;
       raised-are =
-          subst (λ (i : ℕ). Held raised (rate ∷ rates) (set up i (after-raised .raised .result))) is
-          (held-more raised rate rates up (after-raised .raised .result) (held .raised-places) small (after-raised .raised .ensures) (held .raised-are));
+          subst (λ (i : ℕ). Held raised (rate ∷ rates) (set up i (c .before .raised .result))) is
+          (held-more raised rate rates up (c .before .raised .result) (held .raised-places) small (c .before .raised .ensures) (held .raised-are));
       lowered-are =
           subst (λ (i : ℕ). Held lowered (rate ∷ rates) (set down i (c .lowered .result))) is
           (held-more lowered rate rates down (c .lowered .result) (held .lowered-places) small (c .lowered .ensures) (held .lowered-are));

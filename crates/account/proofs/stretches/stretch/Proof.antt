@@ -36,10 +36,9 @@ part-result-end-2 c = search needs
 
 returns-2 : tie.Need-returns-2
 returns-2 c =
-    let c-1 = c .before in
-    let start = c-1 .before .before in
+    let start = c .before .before .before in
     let a = start .args in
-    stretch-rest (a .file .now) (a .k) (a .n) (omega arith) (c-1 .if2 .taken)
+    stretch-rest (a .file .now) (a .k) (a .n) (omega arith) (c .before .if2 .taken)
 
 mul-end : tie.Need-mul-end
 mul-end c = search needs

@@ -20,10 +20,9 @@ whole-at-requires c κs = omega arith
 
 returns-2 : tie.Need-returns-2
 returns-2 c =
-    let c-1 = c .before in
-    let start = c-1 .before .before in
+    let start = c .before .before .before in
     let a = start .args in
-    c .whole-at .ensures ∙ before-is (a .file .now) (a .k) (c-1 .if1 .left)
+    c .whole-at .ensures ∙ before-is (a .file .now) (a .k) (c .before .if1 .left)
 
 pub whole-before-spec : {M : Type 1} → statement M
 whole-before-spec =

@@ -73,8 +73,7 @@ one-if-requires-2 c κs = search needs
 
 returns : tie.Need-returns
 returns c =
-    let after-one-if = c .before in
-    let after-above-risk = after-one-if .before .before in
+    let after-above-risk = c .before .before .before in
     let after-amount-at6 = after-above-risk .before in
     let after-amount-at5 = after-amount-at6 .before in
     let after-amount-at4 = after-amount-at5 .before in
@@ -88,7 +87,7 @@ returns c =
     let minimum = after-amount-at5 .amount-at5 .ensures in
     record {
       margin-is = after-amount-at6 .amount-at6 .ensures;
-      credits-are = after-one-if .one-if .ensures ∙ ap (λ (n : ℕ). oneIf (ltb 0 n)) credit;
+      credits-are = c .before .one-if .ensures ∙ ap (λ (n : ℕ). oneIf (ltb 0 n)) credit;
       above-is =
           c .one-if2 .ensures
           ∙ ap oneIf (after-above-risk .above-risk .ensures ∙ (λ i. ltb (risk (scanning i) (interprompt i) (prompt i) (credit i)) (minimum i)));

@@ -2,6 +2,7 @@
 -- Assumes nothing.
 use native.Mathlib.Omega.{arith}
 use Prim.Native.Nat.{_-_}
+use Rattle.account.specs.Check.{mostContracts}
 use Rattle.committee.proofs.OverContracts.{SoFar, start, margin-small, credits-small, above-small, next, finish}
 use Rattle.committee.proofs.contracts.found_in.Statement.{statement}
 use Rattle.committee.proofs.contracts.found_in.Tie as tie
@@ -10,7 +11,7 @@ abbrev Inv-loop : tie.InvT-loop
 Inv-loop numbers margin₀ credits₀ above₀ i₀ margin credits above i = SoFar numbers i margin credits above
 
 abbrev μ-loop : tie.MeasureT-loop
-μ-loop numbers margin₀ credits₀ above₀ i₀ margin credits above i = 16 - i
+μ-loop numbers margin₀ credits₀ above₀ i₀ margin credits above i = mostContracts - i
 
 loop-holds : tie.Need-loop-holds Inv-loop μ-loop
 loop-holds c = start (c .args .numbers .now)
@@ -20,27 +21,24 @@ found-at-requires c κs = (c .before .before .pre, c .loop-test .taken)
 
 add-margin : tie.Need-add-margin Inv-loop μ-loop
 add-margin c =
-    let after-found-at = c .before in
-    let after-loop-test = after-found-at .before in
-    let after-loop = after-loop-test .before in
+    let after-loop = c .before .before .before in
     let c-4 = after-loop .before in
     let s = c-4 in
     let l = after-loop .loop in
-    let t = after-loop-test .loop-test .taken in
-    let f = after-found-at .found-at in
+    let t = c .before .before .loop-test .taken in
+    let f = c .before .found-at in
     let small = margin-small (s .args .numbers .now) (s .pre) (l .i) (l .margin) (l .credits) (l .above) (l .inv) t (f .result) (f .ensures) in
     omega (arith, l .inv .margin-most, t, small)
 
 add-credits : tie.Need-add-credits Inv-loop μ-loop
 add-credits c =
-    let after-found-at = c .before .before in
-    let after-loop-test = after-found-at .before in
+    let after-loop-test = c .before .before .before in
     let after-loop = after-loop-test .before in
     let c-5 = after-loop .before in
     let s = c-5 in
     let l = after-loop .loop in
     let t = after-loop-test .loop-test .taken in
-    let f = after-found-at .found-at in
+    let f = c .before .before .found-at in
     let small = credits-small (s .args .numbers .now) (s .pre) (l .i) (l .margin) (l .credits) (l .above) (l .inv) t (f .result) (f .ensures) in
     omega (arith, l .inv .credits-most, t, small)
 

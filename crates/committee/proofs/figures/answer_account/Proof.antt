@@ -5,6 +5,7 @@ use mathlib.Core.List.{List}
 use borrow.Author.Needs.{needs}
 use lib.IntN.{ℤ}
 use Rattle.account.specs.Answers.{numberOf}
+use Rattle.account.specs.Check.{mostContracts}
 use Rattle.committee.specs.code.Sums.{Fit, FoundIn}
 use Rattle.committee.proofs.Padded.{fit, account-is}
 use Rattle.committee.proofs.figures.answer_account.Statement.{statement}
@@ -42,7 +43,7 @@ returns c =
     let n = after-number-of .number-of in
     let found = after-found-in .found-in in
     account-is (start .args .account .now) (found .result)
-    (subst (λ (xs : List ℤ). FoundIn xs 16 (found .result)) (f .ensures .1) (found .ensures))
+    (subst (λ (xs : List ℤ). FoundIn xs mostContracts (found .result)) (f .ensures .1) (found .ensures))
     (n .result) (c .one-if .result) (n .ensures ∙ ap numberOf (f .ensures .0)) (c .one-if .ensures)
 
 pub answer-account-spec : {M : Type 1} → statement M

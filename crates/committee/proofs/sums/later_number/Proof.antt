@@ -32,26 +32,22 @@ mean-requires c κs = search needs
 
 returns-6 : tie.Need-returns-6
 returns-6 c =
-    let after-if6 = c .before in
-    let start = after-if6 .before .before .before .before .before .before in
+    let start = c .before .before .before .before .before .before .before in
     c .mean .ensures
-    ∙ sym (ap (λ (n : ℕ). getD (laterNumbers (start .args .sums)) n 0) (after-if6 .if6 .taken))
+    ∙ sym (ap (λ (n : ℕ). getD (laterNumbers (start .args .sums)) n 0) (c .before .if6 .taken))
 
 left-over-requires : tie.Need-left-over-requires
 left-over-requires c κs = search needs
 
 returns-7 : tie.Need-returns-7
 returns-7 c =
-    let after-if7 = c .before in
-    let start = after-if7 .before .before .before .before .before .before .before in
+    let start = c .before .before .before .before .before .before .before .before in
     c .left-over .ensures
-    ∙ sym (ap (λ (n : ℕ). getD (laterNumbers (start .args .sums)) n 0) (after-if7 .if7 .taken))
+    ∙ sym (ap (λ (n : ℕ). getD (laterNumbers (start .args .sums)) n 0) (c .before .if7 .taken))
 
 returns-8 : tie.Need-returns-8
 returns-8 c =
-    let after-if6 = c .before in
-    let after-if5 = after-if6 .before in
-    let after-if4 = after-if5 .before in
+    let after-if4 = c .before .before .before in
     let after-if3 = after-if4 .before in
     let c-5 = after-if3 .before in
     let c-6 = c-5 .before in
@@ -61,8 +57,8 @@ returns-8 c =
     let two = above 1 (s .k) one (c-5 .if2 .left) in
     let three = above 2 (s .k) two (after-if3 .if3 .left) in
     let four = above 3 (s .k) three (after-if4 .if4 .left) in
-    let five = above 4 (s .k) four (after-if5 .if5 .left) in
-    let six = above 5 (s .k) five (after-if6 .if6 .left) in
+    let five = above 4 (s .k) four (c .before .before .if5 .left) in
+    let six = above 5 (s .k) five (c .before .if6 .left) in
     let seven = above 6 (s .k) six (c .if7 .left) in
     sym (List·getD-eq-default (laterNumbers (s .sums)) 0 {n = s .k} seven)
 

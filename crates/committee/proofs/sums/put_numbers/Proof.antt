@@ -30,10 +30,9 @@ number-at-requires c κs = tt
 
 as-signed-requires : tie.Need-as-signed-requires Inv-loop μ-loop
 as-signed-requires c κs =
-    let after-loop = c .before .before in
-    let c-3 = after-loop .before in
+    let c-3 = c .before .before .before in
     let s = c-3 in
-    let h = number-fits (s .args .sums) (s .pre .0) (after-loop .loop .k) in
+    let h = number-fits (s .args .sums) (s .pre .0) (c .before .before .loop .k) in
     omega (arith, c .number-at .ensures, h)
 
 mul-t7 : tie.Need-mul-t7 Inv-loop μ-loop
@@ -45,11 +44,10 @@ mul-t7 c =
 
 slice-set-from-out : tie.Need-slice-set-from-out Inv-loop μ-loop
 slice-set-from-out c =
-    let after-loop-test = c .before .before in
-    let after-loop = after-loop-test .before in
+    let after-loop = c .before .before .before in
     let start = after-loop .before in
     let h = after-loop .loop .inv .1 .1 in
-    let t = after-loop-test .loop-test .taken in
+    let t = c .before .before .loop-test .taken in
     let p = start .pre .1 in
     omega (arith, h, t, p)
 

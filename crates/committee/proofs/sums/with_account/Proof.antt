@@ -6,7 +6,7 @@ use Prim.Native.Nat.{ℕ, _+_, _-_}
 use mathlib.Core.Path.{refl, ap}
 use mathlib.Core.Bool.{not}
 use lib.Dec.{eqb}
-use Rattle.committee.proofs.OverContracts.{one-most}
+use Rattle.exact.proofs.Tests.{one-at-most}
 use Rattle.committee.proofs.sums.with_account.Statement.{statement}
 use Rattle.committee.proofs.sums.with_account.Tie as tie
 
@@ -24,20 +24,18 @@ one-if-requires c κs = search needs
 
 add-t17 : tie.Need-add-t17
 add-t17 c =
-    let after-one-if = c .before in
-    let c-9 = after-one-if .before .before .before .before .before .before .before .before in
+    let c-9 = c .before .before .before .before .before .before .before .before .before in
     let s = c-9 in
-    omega (arith, s .pre .0 .accepted-most, after-one-if .one-if .ensures, one-most (eqb (s .args .account .refusal) 0))
+    omega (arith, s .pre .0 .accepted-most, c .before .one-if .ensures, one-at-most (eqb (s .args .account .refusal) 0))
 
 one-if-requires-2 : tie.Need-one-if-requires-2
 one-if-requires-2 c κs = search needs
 
 add-t19 : tie.Need-add-t19
 add-t19 c =
-    let after-one-if2 = c .before in
-    let c-11 = after-one-if2 .before .before .before .before .before .before .before .before .before .before in
+    let c-11 = c .before .before .before .before .before .before .before .before .before .before .before in
     let s = c-11 in
-    omega (arith, s .pre .0 .refused-most, after-one-if2 .one-if2 .ensures, one-most (not (eqb (s .args .account .refusal) 0)))
+    omega (arith, s .pre .0 .refused-most, c .before .one-if2 .ensures, one-at-most (not (eqb (s .args .account .refusal) 0)))
 
 add-t15 : tie.Need-add-t15
 add-t15 c =

@@ -46,22 +46,20 @@ loop-less c = omega arith
 
 loop-again : tie.Need-loop-again Inv-loop μ-loop
 loop-again c =
-    let after-or-earlier-arg = c .before in
-    let after-loop = after-or-earlier-arg .before .before in
+    let after-loop = c .before .before .before in
     let start = after-loop .before .before in
     let l = after-loop .loop in
     let ts = start .args .t1 in
-    let fits : SFits w64 (getD ts (l .i - 1) (pos 0)) = record { sfits = after-or-earlier-arg .or-earlier-arg .given } in
+    let fits : SFits w64 (getD ts (l .i - 1) (pos 0)) = record { sfits = c .before .or-earlier-arg .given } in
     next ts (l .i) (l .best .value) (c .or-earlier .result .value) (l .best .number) (c .or-earlier .result .number) (omega arith) (l .inv)
     (seen (λ (x : ℤ). larger x (l .best .value)) (getD ts (l .i - 1) (pos 0)) fits (c .or-earlier .ensures .0))
     (seen (λ (x : ℤ). cond (ltZ x (l .best .value)) (l .best .number) (l .i - 1 + 1)) (getD ts (l .i - 1) (pos 0)) fits (c .or-earlier .ensures .1))
 
 returns : tie.Need-returns Inv-loop μ-loop
 returns c =
-    let after-loop = c .before in
-    let start = after-loop .before .before in
-    finish (start .args .t1) (after-loop .loop .i) (after-loop .loop .best .value) (after-loop .loop .best .number)
-    (omega arith) (after-loop .loop .inv)
+    let start = c .before .before .before in
+    finish (start .args .t1) (c .before .loop .i) (c .before .loop .best .value) (c .before .loop .best .number)
+    (omega arith) (c .before .loop .inv)
 
 pub largest-spec : {M : Type 1} → statement M
 largest-spec =

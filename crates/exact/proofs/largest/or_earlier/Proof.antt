@@ -13,22 +13,18 @@ below-requires c κs = search needs
 
 returns : tie.Need-returns
 returns c =
-    let after-below = c .before in
-    let after-struct-told = after-below .before in
-    let c-3 = after-struct-told .before in
+    let c-3 = c .before .before .before in
     let s = c-3 in
-    let best : SFits w64 (s .args .best .value) = record { sfits = after-struct-told .struct-told .given .0 .1 } in
-    let e = sym (seen₂ ltZ (s .args .value) (s .args .best .value) (s .fits .value) best (after-below .below .ensures)) ∙ c .if1 .taken in
+    let best : SFits w64 (s .args .best .value) = record { sfits = c .before .before .struct-told .given .0 .1 } in
+    let e = sym (seen₂ ltZ (s .args .value) (s .args .best .value) (s .fits .value) best (c .before .below .ensures)) ∙ c .if1 .taken in
     (rw e, rw e)
 
 returns-2 : tie.Need-returns-2
 returns-2 c =
-    let after-below = c .before in
-    let after-struct-told = after-below .before in
-    let c-3 = after-struct-told .before in
+    let c-3 = c .before .before .before in
     let s = c-3 in
-    let best : SFits w64 (s .args .best .value) = record { sfits = after-struct-told .struct-told .given .0 .1 } in
-    let e = sym (seen₂ ltZ (s .args .value) (s .args .best .value) (s .fits .value) best (after-below .below .ensures)) ∙ c .if1 .left in
+    let best : SFits w64 (s .args .best .value) = record { sfits = c .before .before .struct-told .given .0 .1 } in
+    let e = sym (seen₂ ltZ (s .args .value) (s .args .best .value) (s .fits .value) best (c .before .below .ensures)) ∙ c .if1 .left in
     (rw e (back (s .args .value) (s .fits .value)), rw e)
 
 pub or-earlier-spec : {M : Type 1} → statement M

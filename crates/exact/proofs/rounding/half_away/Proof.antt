@@ -57,15 +57,13 @@ with-sign-of-requires c κs = omega (arith, sized c, c .before .before .pre .1 .
 
 returns : tie.Need-returns
 returns c =
-    let c-1 = c .before in
-    let after-magnitude = c-1 .before in
-    let c-3 = after-magnitude .before in
+    let c-3 = c .before .before .before in
     let s = c-3 in
     let a = s .args in
-    let n = after-magnitude .magnitude .result in
+    let n = c .before .before .magnitude .result in
     back (c .with-sign-of .result) (record { sfits = c .with-sign-of .ok })
     ∙ seen (λ (z : ℤ). withSignOf z (n / a .d * a .m + c .before .half-up .result)) (a .z) (s .fits .z) (c .with-sign-of .ensures)
-    ∙ ap (withSignOf (a .z)) (sized (c-1))
+    ∙ ap (withSignOf (a .z)) (sized (c .before))
 
 pub half-away-spec : {M : Type 1} → statement M
 half-away-spec =

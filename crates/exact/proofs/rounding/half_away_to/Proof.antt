@@ -32,19 +32,16 @@ half-up-to-requires c κs = let s = c .before .before in (omega (arith, s .fits 
 
 with-sign-of-requires : tie.Need-with-sign-of-requires
 with-sign-of-requires c κs =
-    let c-1 = c .before in
-    let c-3 = c-1 .before .before in
-    let s = c-3 in omega (arith, c .half-up-to .ensures, sized (c-1), s .pre)
+    let c-3 = c .before .before .before in
+    let s = c-3 in omega (arith, c .half-up-to .ensures, sized (c .before), s .pre)
 
 returns-2 : tie.Need-returns-2
 returns-2 c =
-    let after-half-up-to = c .before in
-    let c-2 = after-half-up-to .before in
-    let c-4 = c-2 .before .before in
+    let c-4 = c .before .before .before .before in
     let s = c-4 in
     back (c .with-sign-of .result) (record { sfits = c .with-sign-of .ok })
-    ∙ seen (λ (z : ℤ). withSignOf z (after-half-up-to .half-up-to .result)) (s .args .z) (s .fits .z) (c .with-sign-of .ensures)
-    ∙ ap (withSignOf (s .args .z)) (after-half-up-to .half-up-to .ensures ∙ sized (c-2))
+    ∙ seen (λ (z : ℤ). withSignOf z (c .before .half-up-to .result)) (s .args .z) (s .fits .z) (c .with-sign-of .ensures)
+    ∙ ap (withSignOf (s .args .z)) (c .before .half-up-to .ensures ∙ sized (c .before .before))
 
 pub half-away-to-spec : {M : Type 1} → statement M
 half-away-to-spec =

@@ -48,14 +48,12 @@ or-zero-requires c κs = search needs
 sized : (c : tie.After-or-zero) → (c .or-zero .result + 1 ≡ natAbs (c .before .before .before .before .args .z))
     × (natAbs (c .before .before .before .before .args .z) ≤ 2 ^ 63)
 sized c =
-    let after-minus = c .before in
-    let c-2 = after-minus .before in
-    let after-is-negative = c-2 .before in
+    let after-is-negative = c .before .before .before in
     let c-4 = after-is-negative .before in
     let s = c-4 in
-    size (s .args .z) (after-minus .minus .result) (c .or-zero .result) (s .fits .z) (record { sfits = after-minus .minus .ok })
-    (sym (seen negative (s .args .z) (s .fits .z) (after-is-negative .is-negative .ensures)) ∙ c-2 .if1 .taken)
-    (after-minus .minus .ensures) (c .or-zero .ensures)
+    size (s .args .z) (c .before .minus .result) (c .or-zero .result) (s .fits .z) (record { sfits = c .before .minus .ok })
+    (sym (seen negative (s .args .z) (s .fits .z) (after-is-negative .is-negative .ensures)) ∙ c .before .before .if1 .taken)
+    (c .before .minus .ensures) (c .or-zero .ensures)
 
 add-result : tie.Need-add-result
 add-result c = let h = sized c in omega arith
@@ -68,12 +66,10 @@ returns c = sized c .0
 
 returns-2 : tie.Need-returns-2
 returns-2 c =
-    let c-1 = c .before in
-    let after-is-negative = c-1 .before in
-    let c-3 = after-is-negative .before in
+    let c-3 = c .before .before .before in
     let s = c-3 in
     seen orZero (s .args .z) (s .fits .z) (c .or-zero2 .ensures)
-    ∙ or-zero-natural (s .args .z) (sym (seen negative (s .args .z) (s .fits .z) (after-is-negative .is-negative .ensures)) ∙ c-1 .if1 .left)
+    ∙ or-zero-natural (s .args .z) (sym (seen negative (s .args .z) (s .fits .z) (c .before .before .is-negative .ensures)) ∙ c .before .if1 .left)
 
 pub magnitude-spec : {M : Type 1} → statement M
 magnitude-spec =

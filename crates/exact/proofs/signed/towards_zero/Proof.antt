@@ -29,10 +29,9 @@ sub-with-sign-of c = search needs
 
 with-sign-of-requires : tie.Need-with-sign-of-requires
 with-sign-of-requires c κs =
-    let after-magnitude = c .before .before in
-    let c-3 = after-magnitude .before in
+    let c-3 = c .before .before .before in
     let s = c-3 in
-    let size = seen natAbs (s .args .z) (s .fits .z) (after-magnitude .magnitude .ensures) in
+    let size = seen natAbs (s .args .z) (s .fits .z) (c .before .before .magnitude .ensures) in
     omega (arith, abs-sfits (s .args .z) (s .fits .z))
 
 returns-3 : tie.Need-returns-3

@@ -35,27 +35,23 @@ as-signed-requires-2 c κs = search needs
 
 returns : tie.Need-returns
 returns c =
-    let after-as-signed = c .before in
-    let c-2 = after-as-signed .before in
-    let after-is-negative = c-2 .before in
+    let after-is-negative = c .before .before .before in
     let c-4 = after-is-negative .before in
     let s = c-4 in
     back (c .minus .result) (record { sfits = c .minus .ok })
     ∙ c .minus .ensures
-    ∙ turned (after-as-signed .as-signed .result) (s .args .m) (record { sfits = after-as-signed .as-signed .ok }) (after-as-signed .as-signed .ensures)
+    ∙ turned (c .before .as-signed .result) (s .args .m) (record { sfits = c .before .as-signed .ok }) (c .before .as-signed .ensures)
     ∙ sym (sign-negative (s .args .z) (s .args .m) (sym (seen negative (s .args .z) (s .fits .z) (after-is-negative .is-negative .ensures))
-    ∙ c-2 .if1 .taken))
+    ∙ c .before .before .if1 .taken))
 
 returns-2 : tie.Need-returns-2
 returns-2 c =
-    let c-1 = c .before in
-    let after-is-negative = c-1 .before in
-    let c-3 = after-is-negative .before in
+    let c-3 = c .before .before .before in
     let s = c-3 in
     back (c .as-signed2 .result) (record { sfits = c .as-signed2 .ok })
     ∙ c .as-signed2 .ensures
-    ∙ sym (sign-natural (s .args .z) (s .args .m) (sym (seen negative (s .args .z) (s .fits .z) (after-is-negative .is-negative .ensures))
-    ∙ c-1 .if1 .left))
+    ∙ sym (sign-natural (s .args .z) (s .args .m) (sym (seen negative (s .args .z) (s .fits .z) (c .before .before .is-negative .ensures))
+    ∙ c .before .if1 .left))
 
 pub with-sign-of-spec : {M : Type 1} → statement M
 with-sign-of-spec =

@@ -55,9 +55,8 @@ div-units c =
 
 mul-units : tie.Need-mul-units
 mul-units c =
-    let c-2 = c .before .before in
-    let after-fits = c-2 .before in
-    let h = parts (c-2) .wholes-within in
+    let after-fits = c .before .before .before in
+    let h = parts (c .before .before) .wholes-within in
     omega (arith, h, after-fits .fits .twice-risk)
 
 mul-half-up : tie.Need-mul-half-up

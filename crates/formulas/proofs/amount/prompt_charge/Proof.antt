@@ -52,29 +52,26 @@ add-half-up-to c = let p = first-product (c .before .before) in let q = second-p
 
 half-up-to-requires : tie.Need-half-up-to-requires
 half-up-to-requires c κs =
-    let after-magnitude = c .before .before in
-    let c-4 = after-magnitude .before .before in
+    let c-4 = c .before .before .before .before in
     let s = c-4 in
-    let p = first-product (after-magnitude) in
+    let p = first-product (c .before .before) in
     let q = second-product c in (
       omega (arith, s .pre .4),
       omega (
         arith,
-        charged-within (s .args .unit) (after-magnitude .magnitude .result * s .args .spread-rate + c .magnitude2 .result * s .args .outright-rate)
+        charged-within (s .args .unit) (c .before .before .magnitude .result * s .args .spread-rate + c .magnitude2 .result * s .args .outright-rate)
             (s .pre .4) (omega arith),
       ),
     )
 
 returns : tie.Need-returns
 returns c =
-    let c-1 = c .before in
-    let c-3 = c-1 .before .before in
-    let c-5 = c-3 .before .before in
-    let s = c-5 in
+    let c-3 = c .before .before .before in
+    let s = c-3 .before .before in
     let p = first-product (c-3) in
-    let q = second-product (c-1) in
+    let q = second-product (c .before) in
     let u = used-size (c-3) in
-    let n = unused-size (c-1) in
+    let n = unused-size (c .before) in
     let first : c .before .before .before .magnitude .result * s .args .spread-rate ≡ natAbs (s .args .used .0) * s .args .spread-rate =
     ap (λ (x : ℕ). x * s .args .spread-rate) u
     in

@@ -4,6 +4,7 @@ use mathlib.Core.Path.{_≡_, refl}
 use native.Mathlib.Omega.{arith}
 use borrow.Author.Needs.{needs}
 use lib.ListN.{length}
+use Rattle.spread.specs.Accepted.{promptPlaces}
 use Rattle.account.specs.Records.{records}
 use Rattle.formulas.proofs.BookLaws.{contract-sound, contract-book-is}
 use Rattle.formulas.proofs.RecordLaws.{count-is}
@@ -14,7 +15,7 @@ use Rattle.formulas.proofs.books.contract_book.Tie as tie
 returns : tie.Need-returns
 returns c =
     let s = c .before .before .before in
-    let n : length (s .args .nets) ≡ 32 = search needs in
+    let n : length (s .args .nets) ≡ promptPlaces = search needs in
     unspread (records (s .args .prompts .now)) (s .args .spreads .now) (s .args .nets) _ (c .if1 .taken) n (s .pre .nets-beyond) refl refl refl refl
 
 prompts-with-requires : tie.Need-prompts-with-requires
@@ -29,21 +30,18 @@ interprompt-table-requires c κs =
 
 book-of-accepted-requires : tie.Need-book-of-accepted-requires
 book-of-accepted-requires c κs =
-    let after-prompts-with = c .before in
-    let c-5 = after-prompts-with .before .before .before .before in
+    let c-5 = c .before .before .before .before .before in
     let s = c-5 in
-    contract-sound (s .args .prompts .now) (s .args .spreads .now) (s .args .nets) (after-prompts-with .prompts-with .result) (c .interprompt-table .result)
-    (after-prompts-with .prompts-with .ensures) (c .interprompt-table .ensures) (s .pre)
+    contract-sound (s .args .prompts .now) (s .args .spreads .now) (s .args .nets) (c .before .prompts-with .result) (c .interprompt-table .result)
+    (c .before .prompts-with .ensures) (c .interprompt-table .ensures) (s .pre)
 
 returns-2 : tie.Need-returns-2
 returns-2 c =
-    let after-interprompt-table = c .before in
-    let after-prompts-with = after-interprompt-table .before in
-    let c-6 = after-prompts-with .before .before .before .before in
+    let c-6 = c .before .before .before .before .before .before in
     let s = c-6 in
-    contract-book-is (s .args .prompts .now) (s .args .spreads .now) (s .args .nets) (after-prompts-with .prompts-with .result)
-    (after-interprompt-table .interprompt-table .result) (c .book-of-accepted .result)
-    (after-prompts-with .prompts-with .ensures) (after-interprompt-table .interprompt-table .ensures) (s .pre) (c .book-of-accepted .ensures)
+    contract-book-is (s .args .prompts .now) (s .args .spreads .now) (s .args .nets) (c .before .before .prompts-with .result)
+    (c .before .interprompt-table .result) (c .book-of-accepted .result)
+    (c .before .before .prompts-with .ensures) (c .before .interprompt-table .ensures) (s .pre) (c .book-of-accepted .ensures)
 
 pub contract-book-spec : {M : Type 1} → statement M
 contract-book-spec =

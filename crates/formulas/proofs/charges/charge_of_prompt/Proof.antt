@@ -18,13 +18,11 @@ prompt-charge-requires c κs = search needs
 
 returns : tie.Need-returns
 returns c =
-    let after-outright-rate = c .before in
-    let after-spread-rate = after-outright-rate .before in
-    let c-4 = after-spread-rate .before .before in
+    let c-4 = c .before .before .before .before in
     let s = c-4 in (
       c .prompt-charge .ensures .0
-          ∙ ap₂ (λ (r q : ℕ). promptCharge (s .args .unit) r q (s .args .used .0) (s .args .unused .0)) (after-spread-rate .spread-rate .ensures .0)
-          (after-outright-rate .outright-rate .ensures .0),
+          ∙ ap₂ (λ (r q : ℕ). promptCharge (s .args .unit) r q (s .args .used .0) (s .args .unused .0)) (c .before .before .spread-rate .ensures .0)
+          (c .before .outright-rate .ensures .0),
       c .prompt-charge .ensures .1,
     )
 

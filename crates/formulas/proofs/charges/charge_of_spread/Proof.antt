@@ -15,11 +15,10 @@ spread-charge-requires c κs = search needs
 
 returns : tie.Need-returns
 returns c =
-    let after-rate-per-spread = c .before in
-    let c-3 = after-rate-per-spread .before .before in
+    let c-3 = c .before .before .before in
     let s = c-3 in (
       c .spread-charge .ensures .0 ∙ ap (λ (r : ℕ). spreadCharge (s .args .unit) r (s .args .first .0) (s .args .second .0))
-          (after-rate-per-spread .rate-per-spread .ensures .0),
+          (c .before .rate-per-spread .ensures .0),
       c .spread-charge .ensures .1,
     )
 

@@ -5,6 +5,7 @@ use Prim.Native.Nat.{ℕ, _+_, _-_}
 use native.Mathlib.Omega.{arith}
 use borrow.Author.Needs.{needs}
 use lib.ListN.{length, getD}
+use Rattle.spread.specs.Accepted.{spreadPlaces}
 use Rattle.record.specs.Layout.{Record, percent}
 use Rattle.account.specs.Records.{records, recordCount}
 use Rattle.formulas.specs.Bounds.{mostCredit}
@@ -70,14 +71,13 @@ credit-from-requires c κs =
 
 add-sum : tie.Need-add-sum Inv-loop μ-loop
 add-sum c =
-    let after-credit-from = c .before in
-    let after-loop = after-credit-from .before .before .before .before .before in
+    let after-loop = c .before .before .before .before .before .before in
     let c-8 = after-loop .before .before in
     let s = c-8 in
     let t = after-loop .loop .inv .small in
     let h = s .pre .most in
     let k = length-cut (recordCount (s .args .entries .now)) (s .args .entries .now) in
-    let m = after-credit-from .credit-from .ensures .1 in
+    let m = c .before .credit-from .ensures .1 in
     omega arith
 
 add-i : tie.Need-add-i Inv-loop μ-loop
@@ -93,8 +93,8 @@ loop-again c =
     let f = s .args .entries .now in
     let n = length-cut (recordCount f) f in
     let h = s .pre .most in
-    let first : length (s .args .t3) ≡ 32 = search needs in
-    let second : length (s .args .t4) ≡ 32 = search needs in
+    let first : length (s .args .t3) ≡ spreadPlaces = search needs in
+    let second : length (s .args .t4) ≡ spreadPlaces = search needs in
     next (l .i) (l .sum) (c .before .credit-from .result .0) (l .inv) (omega arith)
     (credit-step (s .args .earner .unit) (s .args .earner .contract) (s .args .earner .«twice_price») (s .args .earner .net)
     (records (s .args .entries .now)) (s .args .t3) (s .args .t4) (omega arith) (omega arith) (l .i) (below-records f (l .i) (omega arith))
@@ -108,10 +108,9 @@ loop-again c =
 
 returns : tie.Need-returns Inv-loop μ-loop
 returns c =
-    let after-loop = c .before in
-    let c-3 = after-loop .before .before in
+    let c-3 = c .before .before .before in
     let s = c-3 in
-    let l = after-loop .loop in
+    let l = c .before .loop in
     let f = s .args .entries .now in
     let n = length-cut (recordCount f) f in
     let h = s .pre .most in

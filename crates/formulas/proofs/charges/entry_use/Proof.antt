@@ -20,16 +20,13 @@ both-take-requires c κs = search needs
 
 returns : tie.Need-returns
 returns c =
-    let after-first-ratio = c .before in
-    let after-tenths = after-first-ratio .before in
-    let c-3 = after-tenths .before in
-    let after-contract = c-3 .before in
-    let c-6 = after-contract .before .before in
+    let c-3 = c .before .before .before in
+    let c-6 = c-3 .before .before .before in
     let s = c-6 in
-    let number = after-contract .contract in
+    let number = c-3 .before .contract in
     c .both-take .ensures
     ∙ use-first (s .args .c) (s .args .e .now) (s .args .first .0) (s .args .second .0) (number .result) (number .ensures .0)
-    _ _ (c-3 .if1 .taken) (after-tenths .tenths .ensures) (after-first-ratio .first-ratio .ensures .0)
+    _ _ (c-3 .if1 .taken) (c .before .before .tenths .ensures) (c .before .first-ratio .ensures .0)
 
 second-contract-requires : tie.Need-second-contract-requires
 second-contract-requires c κs = search needs
@@ -45,32 +42,26 @@ both-take-requires-2 c κs = search needs
 
 returns-2 : tie.Need-returns-2
 returns-2 c =
-    let after-second-ratio = c .before in
-    let after-tenths2 = after-second-ratio .before in
-    let c-3 = after-tenths2 .before in
-    let after-second-contract = c-3 .before in
-    let c-5 = after-second-contract .before in
-    let after-contract = c-5 .before in
+    let c-3 = c .before .before .before in
+    let after-contract = c-3 .before .before .before in
     let c-8 = after-contract .before .before in
     let s = c-8 in
     let number = after-contract .contract in
-    let second = after-second-contract .second-contract in
+    let second = c-3 .before .second-contract in
     c .both-take2 .ensures
     ∙ use-second (s .args .c) (s .args .e .now) (s .args .first .0) (s .args .second .0) (number .result) (number .ensures .0)
-    (second .result) _ _ (second .ensures .0) (c-5 .if1 .left) (c-3 .if2 .taken)
-    (after-tenths2 .tenths2 .ensures) (after-second-ratio .second-ratio .ensures .0)
+    (second .result) _ _ (second .ensures .0) (c-3 .before .before .if1 .left) (c-3 .if2 .taken)
+    (c .before .before .tenths2 .ensures) (c .before .second-ratio .ensures .0)
 
 returns-3 : tie.Need-returns-3
 returns-3 c =
-    let after-second-contract = c .before in
-    let c-2 = after-second-contract .before in
-    let after-contract = c-2 .before in
+    let after-contract = c .before .before .before in
     let c-5 = after-contract .before .before in
     let s = c-5 in
     let number = after-contract .contract in
-    let second = after-second-contract .second-contract in
+    let second = c .before .second-contract in
     use-none (s .args .c) (s .args .e .now) (s .args .first .0) (s .args .second .0) (number .result) (number .ensures .0)
-    (second .result) (second .ensures .0) (c-2 .if1 .left) (c .if2 .left)
+    (second .result) (second .ensures .0) (c .before .before .if1 .left) (c .if2 .left)
 
 pub entry-use-spec : {M : Type 1} → statement M
 entry-use-spec =

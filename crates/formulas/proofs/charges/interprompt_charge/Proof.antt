@@ -5,6 +5,7 @@ use Prim.Native.Nat.{ℕ, _+_, _-_}
 use native.Mathlib.Omega.{arith}
 use borrow.Author.Needs.{needs}
 use lib.ListN.{length, getD}
+use Rattle.spread.specs.Accepted.{spreadPlaces}
 use Rattle.record.specs.Layout.{Record, ratePerSpread}
 use Rattle.account.specs.Records.{records, recordCount}
 use Rattle.formulas.specs.Bounds.{mostCharge}
@@ -69,14 +70,13 @@ charge-of-spread-requires c κs =
 
 add-sum : tie.Need-add-sum Inv-loop μ-loop
 add-sum c =
-    let after-charge-of-spread = c .before in
-    let after-loop = after-charge-of-spread .before .before .before .before .before in
+    let after-loop = c .before .before .before .before .before .before in
     let c-8 = after-loop .before .before in
     let s = c-8 in
     let t = after-loop .loop .inv .small in
     let h = s .pre .most in
     let k = length-cut (recordCount (s .args .spreads .now)) (s .args .spreads .now) in
-    let m = after-charge-of-spread .charge-of-spread .ensures .1 in
+    let m = c .before .charge-of-spread .ensures .1 in
     omega arith
 
 add-i : tie.Need-add-i Inv-loop μ-loop
@@ -92,8 +92,8 @@ loop-again c =
     let f = s .args .spreads .now in
     let n = length-cut (recordCount f) f in
     let h = s .pre .most in
-    let first : length (s .args .t3) ≡ 32 = search needs in
-    let second : length (s .args .t4) ≡ 32 = search needs in
+    let first : length (s .args .t3) ≡ spreadPlaces = search needs in
+    let second : length (s .args .t4) ≡ spreadPlaces = search needs in
     next (l .i) (l .sum) (c .before .charge-of-spread .result .0) (l .inv) (omega arith)
     (charge-step (s .args .unit) (records (s .args .spreads .now)) (s .args .t3) (s .args .t4) (omega arith) (omega arith) (l .i)
     (below-records f (l .i) (omega arith))
@@ -105,10 +105,9 @@ loop-again c =
 
 returns : tie.Need-returns Inv-loop μ-loop
 returns c =
-    let after-loop = c .before in
-    let c-3 = after-loop .before .before in
+    let c-3 = c .before .before .before in
     let s = c-3 in
-    let l = after-loop .loop in
+    let l = c .before .loop in
     let f = s .args .spreads .now in
     let n = length-cut (recordCount f) f in
     let h = s .pre .most in

@@ -5,6 +5,7 @@ use Prim.Native.Nat.{ℕ, _+_, _-_}
 use native.Mathlib.Omega.{arith}
 use borrow.Author.Needs.{needs}
 use lib.ListN.{length, getD}
+use Rattle.spread.specs.Accepted.{promptPlaces}
 use Rattle.record.specs.Layout.{Record, spreadRate, outrightRate}
 use Rattle.account.specs.Records.{records, recordCount}
 use lib.IntN.{pos}
@@ -70,14 +71,13 @@ charge-of-prompt-requires c κs =
 
 add-sum : tie.Need-add-sum Inv-loop μ-loop
 add-sum c =
-    let after-charge-of-prompt = c .before in
-    let after-loop = after-charge-of-prompt .before .before .before .before .before in
+    let after-loop = c .before .before .before .before .before .before in
     let c-8 = after-loop .before .before in
     let s = c-8 in
     let t = after-loop .loop .inv .small in
     let h = s .pre .most in
     let k = length-cut (recordCount (s .args .prompts .now)) (s .args .prompts .now) in
-    let m = after-charge-of-prompt .charge-of-prompt .ensures .1 in
+    let m = c .before .charge-of-prompt .ensures .1 in
     omega arith
 
 add-i : tie.Need-add-i Inv-loop μ-loop
@@ -93,8 +93,8 @@ loop-again c =
     let f = s .args .prompts .now in
     let n = length-cut (recordCount f) f in
     let h = s .pre .most in
-    let first : length (s .args .t3) ≡ 32 = search needs in
-    let second : length (s .args .t4) ≡ 32 = search needs in
+    let first : length (s .args .t3) ≡ promptPlaces = search needs in
+    let second : length (s .args .t4) ≡ promptPlaces = search needs in
     next (l .i) (l .sum) (c .before .charge-of-prompt .result .0) (l .inv) (omega arith)
     (prompt-step (s .args .unit) (records (s .args .prompts .now)) (s .args .t3) (s .args .t4) (omega arith) (omega arith) (l .i)
     (below-records f (l .i) (omega arith))
@@ -106,10 +106,9 @@ loop-again c =
 
 returns : tie.Need-returns Inv-loop μ-loop
 returns c =
-    let after-loop = c .before in
-    let c-3 = after-loop .before .before in
+    let c-3 = c .before .before .before in
     let s = c-3 in
-    let l = after-loop .loop in
+    let l = c .before .loop in
     let f = s .args .prompts .now in
     let n = length-cut (recordCount f) f in
     let h = s .pre .most in

@@ -17,10 +17,9 @@ half-up-requires c κs = search needs
 
 returns : tie.Need-returns
 returns c =
-    let c-1 = c .before in
-    let c-3 = c-1 .before .before in
+    let c-3 = c .before .before .before in
     let s = c-3 in (
-      rw (c-1 .if1 .taken) (c .half-up .ensures),
+      rw (c .before .if1 .taken) (c .half-up .ensures),
       rounded-small _ _ _ (step-product (s .args .number .0) (s .args .ratio) (s .pre .1) (s .pre .0)) (c .half-up .ensures),
     )
 

@@ -64,25 +64,23 @@ loop-less c = omega arith
 
 loop-again : tie.Need-loop-again Inv-loop μ-loop
 loop-again c =
-    let after-earner-of = c .before in
-    let after-loop = after-earner-of .before .before .before in
+    let after-loop = c .before .before .before .before in
     let c-8 = after-loop .before .before .before .before in
     let s = c-8 in
     let l = after-loop .loop in (
       earned-next (l .i) (s .args .t2) (records (s .args .entries .now)) (s .args .book .first) (s .args .book .second) (l .earned)
           (c .credits .result) (l .inv .0) (omega (arith, s .pre .few))
-          (earner-earns (getD (s .args .t2) (l .i) noLine) (after-earner-of .earner-of .result) (records (s .args .entries .now)) (s .args .book .first)
-          (s .args .book .second) (after-earner-of .earner-of .ensures) (c .credits .result .0) (c .credits .ensures .0))
+          (earner-earns (getD (s .args .t2) (l .i) noLine) (c .before .earner-of .result) (records (s .args .entries .now)) (s .args .book .first)
+          (s .args .book .second) (c .before .earner-of .ensures) (c .credits .result .0) (c .credits .ensures .0))
           (c .credits .ensures .1),
       omega arith,
     )
 
 returns : tie.Need-returns Inv-loop μ-loop
 returns c =
-    let after-loop = c .before in
-    let c-5 = after-loop .before .before .before .before in
+    let c-5 = c .before .before .before .before .before in
     let s = c-5 in
-    let l = after-loop .loop in
+    let l = c .before .loop in
     let all : s .args .count ≡ l .i = omega arith in
     subst⁻¹ (λ (n : ℕ). CreditsOf n (s .args .t2) (records (s .args .entries .now)) (s .args .book .first) (s .args .book .second) (l .earned)) all (l .inv .0)
 

@@ -12,14 +12,13 @@ magnitude-requires c κs = search needs
 
 returns : tie.Need-returns
 returns c =
-    let after-struct-told = c .before in
-    let start = after-struct-told .before .before in
+    let start = c .before .before .before in
     record {
       unit-is = refl;
       contract-is = refl;
       price-is = refl;
       net-is = seen natAbs (start .args .line .net .0)
-          (record { sfits = after-struct-told .struct-told .given .0 .1 }) (c .magnitude .ensures);
+          (record { sfits = c .before .struct-told .given .0 .1 }) (c .magnitude .ensures);
     }
 
 pub earner-of-spec : {M : Type 1} → statement M

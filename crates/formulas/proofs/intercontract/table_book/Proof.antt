@@ -15,21 +15,18 @@ intercontract-table-requires c κs = let s = c .before .before in omega (arith, 
 
 book-of-accepted-requires : tie.Need-book-of-accepted-requires
 book-of-accepted-requires c κs =
-    let after-tiers-of = c .before in
-    let c-3 = after-tiers-of .before .before in
+    let c-3 = c .before .before .before in
     let s = c-3 in
-    table-sound (s .args .count) (s .args .lines) (s .args .entries .now) (after-tiers-of .tiers-of .result) (c .intercontract-table .result)
-    (after-tiers-of .tiers-of .ensures) (c .intercontract-table .ensures) (s .pre)
+    table-sound (s .args .count) (s .args .lines) (s .args .entries .now) (c .before .tiers-of .result) (c .intercontract-table .result)
+    (c .before .tiers-of .ensures) (c .intercontract-table .ensures) (s .pre)
 
 returns : tie.Need-returns
 returns c =
-    let after-intercontract-table = c .before in
-    let after-tiers-of = after-intercontract-table .before in
-    let c-4 = after-tiers-of .before .before in
+    let c-4 = c .before .before .before .before in
     let s = c-4 in
-    table-book-is (s .args .count) (s .args .lines) (s .args .entries .now) (after-tiers-of .tiers-of .result)
-    (after-intercontract-table .intercontract-table .result) (c .book-of-accepted .result)
-    (after-tiers-of .tiers-of .ensures) (after-intercontract-table .intercontract-table .ensures) (s .pre) (c .book-of-accepted .ensures)
+    table-book-is (s .args .count) (s .args .lines) (s .args .entries .now) (c .before .before .tiers-of .result)
+    (c .before .intercontract-table .result) (c .book-of-accepted .result)
+    (c .before .before .tiers-of .ensures) (c .before .intercontract-table .ensures) (s .pre) (c .book-of-accepted .ensures)
 
 pub table-book-spec : {M : Type 1} → statement M
 table-book-spec =

@@ -30,11 +30,10 @@ credits-of-requires c κs =
 
 returns-2 : tie.Need-returns-2
 returns-2 c =
-    let after-table-book = c .before in
-    let c-4 = after-table-book .before .before .before in
+    let c-4 = c .before .before .before .before in
     let s = c-4 in
     let es = records (s .args .entries .now) in
-    let b = after-table-book .table-book in
+    let b = c .before .table-book in
     subst (λ (f : List Spreads). CreditsOf (s .args .count) (s .args .lines) es f (tableSeconds (s .args .count) (s .args .lines) es)
     (c .credits-of .result)) (b .ensures .first-is)
     (subst (λ (g : List Spreads). CreditsOf (s .args .count) (s .args .lines) es (b .result .first) g (c .credits-of .result)) (b .ensures .second-is)

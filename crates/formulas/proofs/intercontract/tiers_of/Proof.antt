@@ -5,6 +5,7 @@ use Prim.Native.Nat.{_-_, _≤_}
 use native.Mathlib.Omega.{arith}
 use borrow.Author.Needs.{needs}
 use lib.ListN.{length}
+use Rattle.account.specs.Check.{mostContracts}
 use Rattle.formulas.proofs.TableLaws.{Tiered, tiered-next, tiered-all}
 use Rattle.formulas.proofs.intercontract.tiers_of.Statement.{statement}
 use Rattle.formulas.proofs.intercontract.tiers_of.Tie as tie
@@ -26,11 +27,10 @@ array-copy-out-line c = omega arith
 
 cast-tiers : tie.Need-cast-tiers Inv-loop μ-loop
 cast-tiers c =
-    let after-loop-test = c .before .before in
-    let after-loop = after-loop-test .before in
+    let after-loop = c .before .before .before in
     let c-4 = after-loop .before in
     let s = c-4 in
-    omega (arith, s .pre .1 (after-loop .loop .i) (after-loop-test .loop-test .taken) .contract-within)
+    omega (arith, s .pre .1 (after-loop .loop .i) (c .before .before .loop-test .taken) .contract-within)
 
 array-write-tiers : tie.Need-array-write-tiers Inv-loop μ-loop
 array-write-tiers c = omega arith
@@ -51,7 +51,7 @@ loop-again : tie.Need-loop-again Inv-loop μ-loop
 loop-again c =
     let s = c .before .before .before .before .before in
     let l = c .before .before .before .before .loop in
-    let n : length (s .args .t2) ≡ 16 = search needs in
+    let n : length (s .args .t2) ≡ mostContracts = search needs in
     (tiered-next (s .args .t2) (l .i) (l .tiers) (l .nets) _ _ (l .inv .0) (omega arith) (omega arith) refl, omega arith)
 
 returns : tie.Need-returns Inv-loop μ-loop

@@ -7,6 +7,7 @@ use lib.IntN.{ℤ, pos, natAbs, _+ℤ_}
 use lib.ListN.{length, getD, take, length-map, List·getD-map}
 use lib.Seq.{take-all}
 use borrow.Author.Needs.{needs}
+use Rattle.spread.specs.Accepted.{promptPlaces}
 use Rattle.exact.specs.Lists.{sumℤ}
 use Rattle.formulas.specs.Bounds.{mostDelta}
 use Rattle.formulas.specs.code.Sums.{deltasIn}
@@ -15,10 +16,10 @@ use Rattle.formulas.proofs.line.contract_net.Statement.{statement}
 use Rattle.formulas.proofs.line.contract_net.Tie as tie
 
 abbrev Inv-loop : tie.InvT-loop
-Inv-loop nets net₀ i₀ net i = (net .0 ≡ sumℤ (take i (deltasIn nets))) × (i ≤ 32)
+Inv-loop nets net₀ i₀ net i = (net .0 ≡ sumℤ (take i (deltasIn nets))) × (i ≤ promptPlaces)
 
 abbrev μ-loop : tie.MeasureT-loop
-μ-loop nets net₀ i₀ net i = 32 - i
+μ-loop nets net₀ i₀ net i = promptPlaces - i
 
 loop-holds : tie.Need-loop-holds Inv-loop μ-loop
 loop-holds c = (refl, omega arith)
@@ -33,7 +34,7 @@ together-requires : tie.Need-together-requires Inv-loop μ-loop
 together-requires c κs =
     let l = c .before .before .loop in
     let s = c .before .before .before in
-    let n : length (s .args .t1) ≡ 32 = search needs in
+    let n : length (s .args .t1) ≡ promptPlaces = search needs in
     let h : l .i < length (deltasIn (s .args .t1)) = rw length-map (omega arith) in
     let b = net-so-far (deltasIn (s .args .t1)) (l .i) mostDelta h (s .pre) in
     let e : natAbs (l .net .0) ≡ natAbs (sumℤ (take (l .i) (deltasIn (s .args .t1)))) = ap natAbs (l .inv .0) in
@@ -52,7 +53,7 @@ loop-again : tie.Need-loop-again Inv-loop μ-loop
 loop-again c =
     let l = c .before .before .before .loop in
     let s = c .before .before .before .before in
-    let n : length (s .args .t1) ≡ 32 = search needs in
+    let n : length (s .args .t1) ≡ promptPlaces = search needs in
     let h : l .i < length (deltasIn (s .args .t1)) = rw length-map (omega arith) in (
       net-next (deltasIn (s .args .t1)) (l .i) (l .net .0) (c .together .result .0) h (l .inv .0)
           (c .together .ensures ∙ ap (λ (z : ℤ). l .net .0 +ℤ z) (sym (List·getD-map (λ d. d .0) (s .args .t1) (l .i) (record { 0 = pos 0 })))),
@@ -63,7 +64,7 @@ returns : tie.Need-returns Inv-loop μ-loop
 returns c =
     let l = c .before .loop in
     let s = c .before .before in
-    let n : length (s .args .t1) ≡ 32 = search needs in
+    let n : length (s .args .t1) ≡ promptPlaces = search needs in
     l .inv .0 ∙ ap sumℤ (take-all (l .i) (deltasIn (s .args .t1)) (rw length-map (omega arith)))
 
 pub contract-net-spec : {M : Type 1} → statement M

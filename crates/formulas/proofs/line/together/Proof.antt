@@ -15,12 +15,10 @@ plus-requires c κs =
 
 returns : tie.Need-returns
 returns c =
-    let after-struct-told2 = c .before in
-    let after-struct-told = after-struct-told2 .before in
-    let c-3 = after-struct-told .before in
+    let c-3 = c .before .before .before in
     let s = c-3 in
-    op-is _+ℤ_ (s .args .a .0) (s .args .b .0) (s .args .a .0) (s .args .b .0) (after-struct-told .struct-told .given .0 .1)
-    (after-struct-told2 .struct-told2 .given .0 .1) refl refl
+    op-is _+ℤ_ (s .args .a .0) (s .args .b .0) (s .args .a .0) (s .args .b .0) (c .before .before .struct-told .given .0 .1)
+    (c .before .struct-told2 .given .0 .1) refl refl
     (c .plus .result) (c .plus .ok) (c .plus .ensures)
 
 pub together-spec : {M : Type 1} → statement M

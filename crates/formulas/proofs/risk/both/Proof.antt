@@ -35,13 +35,11 @@ plus-requires c κs =
 
 returns : tie.Need-returns
 returns c =
-    let after-total-of2 = c .before in
-    let after-total-of = after-total-of2 .before in
-    let c-3 = after-total-of .before in
+    let c-3 = c .before .before .before in
     let s = c-3 in
-    let e = op-is _+ℤ_ (after-total-of .total-of .result) (after-total-of2 .total-of2 .result) (totalOf (s .args .totals) (s .args .one))
+    let e = op-is _+ℤ_ (c .before .before .total-of .result) (c .before .total-of2 .result) (totalOf (s .args .totals) (s .args .one))
     (totalOf (s .args .totals) (s .args .other))
-    (after-total-of .total-of .ok) (after-total-of2 .total-of2 .ok) (after-total-of .total-of .ensures) (after-total-of2 .total-of2 .ensures)
+    (c .before .before .total-of .ok) (c .before .total-of2 .ok) (c .before .before .total-of .ensures) (c .before .total-of2 .ensures)
     (c .plus .result) (c .plus .ok) (c .plus .ensures)
     in
     (e, subst⁻¹ (λ (z : ℤ). natAbs z ≤ 2 * mostRisk) e (sum-within s))

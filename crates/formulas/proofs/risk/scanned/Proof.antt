@@ -25,14 +25,12 @@ twice-price-risk-requires c κs = search needs
 
 returns : tie.Need-returns
 returns c =
-    let after-or-zero = c .before in
-    let after-struct-told = after-or-zero .before in
-    let after-largest = after-struct-told .before in
+    let after-largest = c .before .before .before in
     let c-4 = after-largest .before in
     let s = c-4 in
     let l = after-largest .largest in
     let r : c .before .or-zero .result ≡ scanningRisk (s .args .totals) =
-    seen orZero (l .result .value) (record { sfits = after-struct-told .struct-told .given .0 .1 }) (after-or-zero .or-zero .ensures)
+    seen orZero (l .result .value) (record { sfits = c .before .before .struct-told .given .0 .1 }) (c .before .or-zero .ensures)
     ∙ ap orZero (l .ensures .value-is)
     in
     record {

@@ -39,10 +39,9 @@ paired-is c = let s = c .before .before in c .both .ensures .0
 within : (c : tie.After-both2) → natAbs (paired (c .before .before .before) -ℤ still (c .before .before .before)) ≤ 4 * mostRisk
 unfolding still
 within c =
-    let after-both = c .before in
-    let c-3 = after-both .before .before in
+    let c-3 = c .before .before .before in
     let s = c-3 in
-    let a : natAbs (paired s) ≤ 2 * mostRisk = subst (λ (z : ℤ). natAbs z ≤ 2 * mostRisk) (paired-is (after-both)) (after-both .both .ensures .1) in
+    let a : natAbs (paired s) ≤ 2 * mostRisk = subst (λ (z : ℤ). natAbs z ≤ 2 * mostRisk) (paired-is (c .before)) (c .before .both .ensures .1) in
     let b : natAbs (still s) ≤ 2 * mostRisk = subst (λ (z : ℤ). natAbs z ≤ 2 * mostRisk) (c .both2 .ensures .0) (c .both2 .ensures .1) in
     let h = abs-sub (paired s) (still s) in
     omega arith
@@ -50,11 +49,10 @@ within c =
 minus-requires : tie.Need-minus-requires
 unfolding still
 minus-requires c κs =
-    let after-both = c .before in
-    let c-3 = after-both .before .before in
+    let c-3 = c .before .before .before in
     let s = c-3 in
     let h = within c in
-    op-fits _-ℤ_ (after-both .both .result) (c .both2 .result) (paired s) (still s) (after-both .both .ok) (c .both2 .ok) (paired-is (after-both))
+    op-fits _-ℤ_ (c .before .both .result) (c .both2 .result) (paired s) (still s) (c .before .both .ok) (c .both2 .ok) (paired-is (c .before))
     (c .both2 .ensures .0) (omega arith)
 
 or-zero-requires : tie.Need-or-zero-requires
@@ -63,14 +61,12 @@ or-zero-requires c κs = search needs
 returns : tie.Need-returns
 unfolding still paired
 returns c =
-    let after-minus = c .before in
-    let c-2 = after-minus .before in
-    let c-5 = c-2 .before .before .before in
+    let c-5 = c .before .before .before .before .before in
     let s = c-5 in
-    let b = c-2 in
+    let b = c .before .before in
     let e = op-is _-ℤ_ (b .before .both .result) (b .both2 .result) (paired s) (still s) (b .before .both .ok) (b .both2 .ok) (paired-is (b .before))
     (b .both2 .ensures .0)
-    (after-minus .minus .result) (after-minus .minus .ok) (after-minus .minus .ensures)
+    (c .before .minus .result) (c .before .minus .ok) (c .before .minus .ensures)
     in
     let r : c .or-zero .result ≡ orZero (paired s -ℤ still s) = c .or-zero .ensures ∙ ap orZero e in
     (r, subst⁻¹ (λ (n : ℕ). n ≤ 4 * mostRisk) r (le-trans (or-zero-abs (paired s -ℤ still s)) (within b)))

@@ -7,12 +7,13 @@ use lib.IntN.{ℤ, pos, natAbs, _*ℤ_}
 use lib.ListN.{getD}
 use denote.Ref.{now}
 use borrow.Author.Needs.{needs}
-use Rattle.record.specs.Layout.{lots, value, loss}
+use Rattle.record.specs.Layout.{lots, value, loss, scenarioCount}
 use mir.Syntax.{w64}
 use mir.Val.{toZ, ofZ}
 use Rattle.exact.specs.Rounding.{halfAwayTo}
 use Rattle.exact.proofs.Integers.{back, sfits-abs}
 use Rattle.account.specs.Products.{convertedAt, mostConversion}
+use Rattle.account.specs.Check.{mostRows}
 use Rattle.formulas.specs.Bounds.{mostProduct}
 use Rattle.formulas.specs.code.Position.{Sized, Added, convertedProducts}
 use Rattle.formulas.proofs.SignedCalls.{plus-fits, plus-is}
@@ -21,10 +22,10 @@ use Rattle.formulas.proofs.rows.add_converted.Statement.{statement}
 use Rattle.formulas.proofs.rows.add_converted.Tie as tie
 
 abbrev Inv-loop : tie.InvT-loop
-Inv-loop totals₀ f unit row each s₀ totals s = (s ≤ 16) × Added s (convertedProducts (f .raised) (f .lowered) unit row) totals₀ totals
+Inv-loop totals₀ f unit row each s₀ totals s = (s ≤ scenarioCount) × Added s (convertedProducts (f .raised) (f .lowered) unit row) totals₀ totals
 
 abbrev μ-loop : tie.MeasureT-loop
-μ-loop totals₀ f unit row each s₀ totals s = 16 - s
+μ-loop totals₀ f unit row each s₀ totals s = scenarioCount - s
 
 per-tick-requires : tie.Need-per-tick-requires Inv-loop μ-loop
 per-tick-requires c κs = let w = c .before .pre .1 .0 in (w .lots-within, w .value-within)
@@ -54,14 +55,13 @@ loss-is c = back (c .loss .result) (record { sfits = c .loss .ok }) ∙ c .loss 
 
 converted-product-requires : tie.Need-converted-product-requires Inv-loop μ-loop
 converted-product-requires c κs =
-    let after-loop = c .before .before in
-    let after-per-tick = after-loop .before in
+    let after-per-tick = c .before .before .before in
     let c-5 = after-per-tick .before .before in
     let s = c-5 in
     let tick = after-per-tick .per-tick in (
       omega (arith, ap natAbs (back (tick .result) (record { sfits = tick .ok })), tick .ensures .size),
       (
-        omega (arith, ap natAbs (loss-is c), s .pre .1 .0 .loss-within (after-loop .loop .s + 1) (omega arith) (omega arith)),
+        omega (arith, ap natAbs (loss-is c), s .pre .1 .0 .loss-within (c .before .before .loop .s + 1) (omega arith) (omega arith)),
         (
           s .pre .0,
           (
@@ -69,7 +69,7 @@ converted-product-requires c κs =
             (
               s .pre .1 .1 .0 .down-within,
               subst (λ (z : ℤ). natAbs (convertedAt (s .args .f .raised) (s .args .f .lowered) z) ≤ mostConversion) (sym (ap₂ _*ℤ_ (tick-is c) (loss-is c)))
-                  (s .pre .1 .1 .0 .conversion-within (after-loop .loop .s + 1) (omega arith) (omega arith)),
+                  (s .pre .1 .1 .0 .conversion-within (c .before .before .loop .s + 1) (omega arith) (omega arith)),
             ),
           ),
         ),
@@ -83,13 +83,12 @@ multiplied : (c : tie.After-converted-product Inv-loop μ-loop) →
     (convertedProducts (s .args .f .raised) (s .args .f .lowered) (s .args .unit) (now (s .args .row)) (c .before .before .before .loop .s))
     (c .converted-product .result)
 multiplied c =
-    let c-1 = c .before in
-    let c-6 = c-1 .before .before .before .before .before in
+    let c-6 = c .before .before .before .before .before .before in
     let s = c-6 in
     let e = c .converted-product .ensures in
     record {
       is = e .is ∙ ap₂ (λ (x y : ℤ). halfAwayTo (convertedAt (s .args .f .raised) (s .args .f .lowered) (x *ℤ y)) (s .args .unit))
-          (tick-is (c-1)) (loss-is (c-1));
+          (tick-is (c .before)) (loss-is (c .before));
       size = e .size;
     }
 
@@ -101,19 +100,18 @@ element-copy-out-plus c = omega arith
 
 plus-requires : tie.Need-plus-requires Inv-loop μ-loop
 plus-requires c κs =
-    let after-converted-product = c .before in
-    let after-loop = after-converted-product .before .before .before in
+    let after-loop = c .before .before .before .before in
     let start = after-loop .before .before .before in
     let i = after-loop .loop in
     let ts = now (start .args .totals) in
-    let here : natAbs (getD ts (i .s) (pos 0)) ≤ 127 * mostProduct = start .pre .1 .1 .1 .size
+    let here : natAbs (getD ts (i .s) (pos 0)) ≤ (mostRows - 1) * mostProduct = start .pre .1 .1 .1 .size
     (i .s) (omega arith) in
-    let by = multiplied (after-converted-product) in
+    let by = multiplied (c .before) in
     let same : getD (i .totals) (i .s) (pos 0) ≡ getD ts (i .s) (pos 0) = i .inv .1 .others (i .s) (omega arith) in
-    plus-fits (getD (i .totals) (i .s) (pos 0)) (after-converted-product .converted-product .result) (getD ts (i .s) (pos 0))
-    (after-converted-product .converted-product .result)
-    (127 * mostProduct) mostProduct
-    (sfits-abs (getD (i .totals) (i .s) (pos 0)) (omega (arith, ap natAbs same))) (record { sfits = after-converted-product .converted-product .ok })
+    plus-fits (getD (i .totals) (i .s) (pos 0)) (c .before .converted-product .result) (getD ts (i .s) (pos 0))
+    (c .before .converted-product .result)
+    ((mostRows - 1) * mostProduct) mostProduct
+    (sfits-abs (getD (i .totals) (i .s) (pos 0)) (omega (arith, ap natAbs same))) (record { sfits = c .before .converted-product .ok })
     same refl here (by .size) (omega arith)
 
 mul-t14 : tie.Need-mul-t14 Inv-loop μ-loop
@@ -130,18 +128,17 @@ loop-less c = omega arith
 
 loop-again : tie.Need-loop-again Inv-loop μ-loop
 loop-again c =
-    let after-converted-product = c .before .before in
-    let after-loop = after-converted-product .before .before .before in
+    let after-loop = c .before .before .before .before .before in
     let c-8 = after-loop .before .before .before in
     let i = after-loop .loop in
     let s = c-8 in
     let ts = now (s .args .totals) in
-    let here : natAbs (getD ts (i .s) (pos 0)) ≤ 127 * mostProduct = s .pre .1 .1 .1 .size (i .s) (omega arith) in
-    let by = multiplied (after-converted-product) in
+    let here : natAbs (getD ts (i .s) (pos 0)) ≤ (mostRows - 1) * mostProduct = s .pre .1 .1 .1 .size (i .s) (omega arith) in
+    let by = multiplied (c .before .before) in
     let same : getD (i .totals) (i .s) (pos 0) ≡ getD ts (i .s) (pos 0) = i .inv .1 .others (i .s) (omega arith) in
-    let sum = plus-is (getD (i .totals) (i .s) (pos 0)) (after-converted-product .converted-product .result) (getD ts (i .s) (pos 0))
-    (convertedProducts (s .args .f .raised) (s .args .f .lowered) (s .args .unit) (now (s .args .row)) (i .s)) (127 * mostProduct) mostProduct
-    (sfits-abs (getD (i .totals) (i .s) (pos 0)) (omega (arith, ap natAbs same))) (record { sfits = after-converted-product .converted-product .ok })
+    let sum = plus-is (getD (i .totals) (i .s) (pos 0)) (c .before .before .converted-product .result) (getD ts (i .s) (pos 0))
+    (convertedProducts (s .args .f .raised) (s .args .f .lowered) (s .args .unit) (now (s .args .row)) (i .s)) ((mostRows - 1) * mostProduct) mostProduct
+    (sfits-abs (getD (i .totals) (i .s) (pos 0)) (omega (arith, ap natAbs same))) (record { sfits = c .before .before .converted-product .ok })
     same (by .is) here (subst (λ (z : ℤ). natAbs z ≤ mostProduct) (by .is) (by .size)) (c .plus .result) (c .plus .ensures) in (
       omega arith,
       next (i .s) (convertedProducts (s .args .f .raised) (s .args .f .lowered) (s .args .unit) (now (s .args .row))) ts (i .totals)
@@ -151,9 +148,8 @@ loop-again c =
 
 returns : tie.Need-returns Inv-loop μ-loop
 returns c =
-    let after-loop = c .before in
-    let c-4 = after-loop .before .before .before in
-    let i = after-loop .loop in
+    let c-4 = c .before .before .before .before in
+    let i = c .before .loop in
     let s = c-4 in
     subst (λ (n : ℕ). Added n (convertedProducts (s .args .f .raised) (s .args .f .lowered) (s .args .unit) (now (s .args .row)))
     (now (s .args .totals)) (i .totals)) (omega arith) (i .inv .1)

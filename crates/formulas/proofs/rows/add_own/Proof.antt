@@ -7,7 +7,8 @@ use lib.IntN.{ℤ, pos, natAbs, _*ℤ_}
 use lib.ListN.{getD}
 use denote.Ref.{now}
 use borrow.Author.Needs.{needs}
-use Rattle.record.specs.Layout.{lots, value, loss}
+use Rattle.account.specs.Check.{mostRows}
+use Rattle.record.specs.Layout.{lots, value, loss, scenarioCount}
 use mir.Syntax.{w64}
 use mir.Val.{toZ, ofZ}
 use Rattle.exact.specs.Rounding.{halfAwayTo}
@@ -20,10 +21,10 @@ use Rattle.formulas.proofs.rows.add_own.Statement.{statement}
 use Rattle.formulas.proofs.rows.add_own.Tie as tie
 
 abbrev Inv-loop : tie.InvT-loop
-Inv-loop totals₀ unit row each s₀ totals s = (s ≤ 16) × Added s (ownProducts unit row) totals₀ totals
+Inv-loop totals₀ unit row each s₀ totals s = (s ≤ scenarioCount) × Added s (ownProducts unit row) totals₀ totals
 
 abbrev μ-loop : tie.MeasureT-loop
-μ-loop totals₀ unit row each s₀ totals s = 16 - s
+μ-loop totals₀ unit row each s₀ totals s = scenarioCount - s
 
 per-tick-requires : tie.Need-per-tick-requires Inv-loop μ-loop
 per-tick-requires c κs = let w = c .before .pre .1 .0 in (w .lots-within, w .value-within)
@@ -52,13 +53,12 @@ loss-is c = back (c .loss .result) (record { sfits = c .loss .ok }) ∙ c .loss 
 
 product-requires : tie.Need-product-requires Inv-loop μ-loop
 product-requires c κs =
-    let after-loop = c .before .before in
-    let after-per-tick = after-loop .before in
+    let after-per-tick = c .before .before .before in
     let c-5 = after-per-tick .before .before in
     let s = c-5 in
     let tick = after-per-tick .per-tick in (
       omega (arith, ap natAbs (back (tick .result) (record { sfits = tick .ok })), tick .ensures .size),
-      omega (arith, ap natAbs (loss-is c), s .pre .1 .0 .loss-within (after-loop .loop .s + 1) (omega arith) (omega arith)),
+      omega (arith, ap natAbs (loss-is c), s .pre .1 .0 .loss-within (c .before .before .loop .s + 1) (omega arith) (omega arith)),
       s .pre .0,
     )
 
@@ -67,12 +67,11 @@ multiplied : (c : tie.After-product Inv-loop μ-loop) →
     let s = c .before .before .before .before .before .before in
     Sized mostProduct (ownProducts (s .args .unit) (now (s .args .row)) (c .before .before .before .loop .s)) (c .product .result)
 multiplied c =
-    let c-1 = c .before in
-    let c-6 = c-1 .before .before .before .before .before in
+    let c-6 = c .before .before .before .before .before .before in
     let s = c-6 in
     let e = c .product .ensures in
     record {
-      is = e .is ∙ ap₂ (λ (x y : ℤ). halfAwayTo (x *ℤ y) (s .args .unit)) (tick-is (c-1)) (loss-is (c-1));
+      is = e .is ∙ ap₂ (λ (x y : ℤ). halfAwayTo (x *ℤ y) (s .args .unit)) (tick-is (c .before)) (loss-is (c .before));
       size = e .size;
     }
 
@@ -84,18 +83,17 @@ element-copy-out-plus c = omega arith
 
 plus-requires : tie.Need-plus-requires Inv-loop μ-loop
 plus-requires c κs =
-    let after-product = c .before in
-    let after-loop = after-product .before .before .before in
+    let after-loop = c .before .before .before .before in
     let start = after-loop .before .before .before in
     let i = after-loop .loop in
     let ts = now (start .args .totals) in
-    let here : natAbs (getD ts (i .s) (pos 0)) ≤ 127 * mostProduct = start .pre .1 .1 .size (i .s)
+    let here : natAbs (getD ts (i .s) (pos 0)) ≤ (mostRows - 1) * mostProduct = start .pre .1 .1 .size (i .s)
     (omega arith) in
-    let by = multiplied (after-product) in
+    let by = multiplied (c .before) in
     let same : getD (i .totals) (i .s) (pos 0) ≡ getD ts (i .s) (pos 0) = i .inv .1 .others (i .s) (omega arith) in
-    plus-fits (getD (i .totals) (i .s) (pos 0)) (after-product .product .result) (getD ts (i .s) (pos 0)) (after-product .product .result)
-    (127 * mostProduct) mostProduct
-    (sfits-abs (getD (i .totals) (i .s) (pos 0)) (omega (arith, ap natAbs same))) (record { sfits = after-product .product .ok })
+    plus-fits (getD (i .totals) (i .s) (pos 0)) (c .before .product .result) (getD ts (i .s) (pos 0)) (c .before .product .result)
+    ((mostRows - 1) * mostProduct) mostProduct
+    (sfits-abs (getD (i .totals) (i .s) (pos 0)) (omega (arith, ap natAbs same))) (record { sfits = c .before .product .ok })
     same refl here (by .size) (omega arith)
 
 mul-t13 : tie.Need-mul-t13 Inv-loop μ-loop
@@ -112,18 +110,17 @@ loop-less c = omega arith
 
 loop-again : tie.Need-loop-again Inv-loop μ-loop
 loop-again c =
-    let after-product = c .before .before in
-    let after-loop = after-product .before .before .before in
+    let after-loop = c .before .before .before .before .before in
     let c-8 = after-loop .before .before .before in
     let i = after-loop .loop in
     let s = c-8 in
     let ts = now (s .args .totals) in
-    let here : natAbs (getD ts (i .s) (pos 0)) ≤ 127 * mostProduct = s .pre .1 .1 .size (i .s) (omega arith) in
-    let by = multiplied (after-product) in
+    let here : natAbs (getD ts (i .s) (pos 0)) ≤ (mostRows - 1) * mostProduct = s .pre .1 .1 .size (i .s) (omega arith) in
+    let by = multiplied (c .before .before) in
     let same : getD (i .totals) (i .s) (pos 0) ≡ getD ts (i .s) (pos 0) = i .inv .1 .others (i .s) (omega arith) in
-    let sum = plus-is (getD (i .totals) (i .s) (pos 0)) (after-product .product .result) (getD ts (i .s) (pos 0))
-    (ownProducts (s .args .unit) (now (s .args .row)) (i .s)) (127 * mostProduct) mostProduct
-    (sfits-abs (getD (i .totals) (i .s) (pos 0)) (omega (arith, ap natAbs same))) (record { sfits = after-product .product .ok })
+    let sum = plus-is (getD (i .totals) (i .s) (pos 0)) (c .before .before .product .result) (getD ts (i .s) (pos 0))
+    (ownProducts (s .args .unit) (now (s .args .row)) (i .s)) ((mostRows - 1) * mostProduct) mostProduct
+    (sfits-abs (getD (i .totals) (i .s) (pos 0)) (omega (arith, ap natAbs same))) (record { sfits = c .before .before .product .ok })
     same (by .is) here (subst (λ (z : ℤ). natAbs z ≤ mostProduct) (by .is) (by .size)) (c .plus .result) (c .plus .ensures) in (
       omega arith,
       next (i .s) (ownProducts (s .args .unit) (now (s .args .row))) ts (i .totals) (toZ w64 (ofZ w64 (c .plus .result))) (i .inv .1)
@@ -132,9 +129,8 @@ loop-again c =
 
 returns : tie.Need-returns Inv-loop μ-loop
 returns c =
-    let after-loop = c .before in
-    let c-4 = after-loop .before .before .before in
-    let i = after-loop .loop in
+    let c-4 = c .before .before .before .before in
+    let i = c .before .loop in
     let s = c-4 in
     subst (λ (n : ℕ). Added n (ownProducts (s .args .unit) (now (s .args .row))) (now (s .args .totals)) (i .totals)) (omega arith) (i .inv .1)
 

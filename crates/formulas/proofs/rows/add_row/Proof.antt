@@ -12,7 +12,7 @@ use denote.Ref.{now}
 use borrow.Author.Needs.{needs}
 use borrow.Author.Tests.{eq-eqb, ne-eqb}
 use Rattle.exact.specs.Rounding.{halfAwayTo}
-use Rattle.record.specs.Layout.{Record, currency, mostCurrency}
+use Rattle.record.specs.Layout.{Record, currency, mostCurrency, scenarioCount}
 use Rattle.account.specs.Products.{inOwn, rateFor, raised, lowered, converted, convertedAt, mostConversion, mostFactor}
 use Rattle.account.specs.code.Rates.{RatesOf}
 use Rattle.formulas.specs.code.Position.{FactorsFit, products, ownProducts, convertedProducts}
@@ -32,10 +32,9 @@ add-own-requires c κs = search needs
 
 factors-of-requires : tie.Need-factors-of-requires
 factors-of-requires c κs =
-    let after-currency = c .before .before in
-    let c-4 = after-currency .before .before in
+    let c-4 = c .before .before .before .before in
     let s = c-4 in
-    omega (arith, after-currency .currency .ensures .0, s .pre .1 .1 .0 .each 0 (omega arith) .currency-within)
+    omega (arith, c .before .before .currency .ensures .0, s .pre .1 .1 .0 .each 0 (omega arith) .currency-within)
 
 -- the factors are those of the row's currency
 module _ (c : tie.After-factors-of) where
@@ -86,31 +85,29 @@ add-converted-requires c κs =
 
 returns : tie.Need-returns
 returns c =
-    let c-2 = c .before .before in
-    let after-currency = c-2 .before in
+    let after-currency = c .before .before .before in
     let c-5 = after-currency .before .before in
     let s = c-5 in
     let row = now (s .args .row) in
-    let own : eqb (currency row) 0 ≡ true = eq-eqb (currency row) 0 (sym (after-currency .currency .ensures .0) ∙ c-2 .if1 .taken) in
+    let own : eqb (currency row) 0 ≡ true = eq-eqb (currency row) 0 (sym (after-currency .currency .ensures .0) ∙ c .before .before .if1 .taken) in
     λ held is.
-    same-added 16 (ownProducts (s .args .unit) row) (products held (s .args .unit) row) (now (s .args .totals)) (c .add-own .last .0)
+    same-added scenarioCount (ownProducts (s .args .unit) row) (products held (s .args .unit) row) (now (s .args .totals)) (c .add-own .last .0)
     (λ k. ap (λ (t : Bool). halfAwayTo (by-currency held row (k + 1) t) (s .args .unit)) (sym own)) (c .add-own .ensures)
 
 returns-2 : tie.Need-returns-2
 returns-2 c =
-    let after-factors-of = c .before in
-    let c-6 = after-factors-of .before .before .before .before .before in
+    let c-6 = c .before .before .before .before .before .before in
     let s = c-6 in
     let row = now (s .args .row) in
-    let f = after-factors-of .factors-of .result in
+    let f = c .before .factors-of .result in
     let unit = s .args .unit in
     let small = s .pre .1 .1 .0 .each 0 (omega arith) .currency-within in
     λ held is.
-    same-added 16 (convertedProducts (f .raised) (f .lowered) unit row) (products held unit row) (now (s .args .totals)) (c .add-converted .last .0)
+    same-added scenarioCount (convertedProducts (f .raised) (f .lowered) unit row) (products held unit row) (now (s .args .totals)) (c .add-converted .last .0)
     (λ k.
-    ap₂ (λ (up down : ℕ). halfAwayTo (convertedAt up down (inOwn (k + 1) row)) unit) (raised-is (after-factors-of) held is small)
-    (lowered-is (after-factors-of) held is small)
-    ∙ ap (λ (t : Bool). halfAwayTo (by-currency held row (k + 1) t) unit) (sym (other (after-factors-of))))
+    ap₂ (λ (up down : ℕ). halfAwayTo (convertedAt up down (inOwn (k + 1) row)) unit) (raised-is (c .before) held is small)
+    (lowered-is (c .before) held is small)
+    ∙ ap (λ (t : Bool). halfAwayTo (by-currency held row (k + 1) t) unit) (sym (other (c .before))))
     (c .add-converted .ensures)
 
 pub add-row-spec : {M : Type 1} → statement M

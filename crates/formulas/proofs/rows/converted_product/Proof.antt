@@ -58,11 +58,10 @@ half-away-to-requires c κs =
 
 returns : tie.Need-returns
 returns c =
-    let after-converted = c .before in
-    let c-3 = after-converted .before .before in
+    let c-3 = c .before .before .before in
     let s = c-3 in
-    let t = after-converted .converted in
-    let m = changed (after-converted) in
+    let t = c .before .converted in
+    let m = changed (c .before) in
     let is : c .half-away-to .result ≡ halfAwayTo (convertedAt (s .args .f .raised) (s .args .f .lowered) (s .args .each *ℤ s .args .loss)) (s .args .unit) =
     seen (λ (z : ℤ). halfAwayTo z (s .args .unit)) (t .result) (record { sfits = t .ok }) (c .half-away-to .ensures)
     ∙ ap (λ (z : ℤ). halfAwayTo z (s .args .unit)) (m .is)

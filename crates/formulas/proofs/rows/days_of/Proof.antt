@@ -10,6 +10,7 @@ use lib.Seq.{getD-set-same, getD-set-other}
 use denote.Ref.{now}
 use borrow.Author.Needs.{needs}
 use borrow.Author.Count.{below-more}
+use Rattle.spread.specs.Accepted.{promptPlaces}
 use Rattle.record.specs.Bytes.{recordBytes}
 use Rattle.record.specs.Layout.{Record, day}
 use Rattle.account.specs.Records.{records}
@@ -19,10 +20,11 @@ use Rattle.formulas.proofs.rows.days_of.Tie as tie
 
 -- the days of the first j prompts
 record Noted (prompts : List Record) (days : List ℕ) (j : ℕ) : Type 0 where
-  as-many : length days ≡ 32
+  as-many : length days ≡ promptPlaces
   noted : (k : ℕ) → k < j → getD days k 0 ≡ day (getD prompts k [])
 
-next : (prompts : List Record) (days : List ℕ) (j d : ℕ) → j < 32 → d ≡ day (getD prompts j []) → Noted prompts days j → Noted prompts (set days j d) (j + 1)
+next : (prompts : List Record) (days : List ℕ) (j d : ℕ) → j < promptPlaces → d ≡ day (getD prompts j []) → Noted prompts days j
+    → Noted prompts (set days j d) (j + 1)
 next prompts days j d h e n =
     record {
       as-many = length-set days j d ∙ n .as-many;
@@ -84,10 +86,9 @@ loop-again c =
 
 returns : tie.Need-returns Inv-loop μ-loop
 returns c =
-    let after-loop = c .before in
-    let start = after-loop .before .before in
+    let start = c .before .before .before in
     let file = now (start .args .prompts) in
-    let i = after-loop .loop in
+    let i = c .before .loop in
     record {
       count-is = sym (count-is file);
       few = start .pre;

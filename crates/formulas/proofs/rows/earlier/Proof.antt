@@ -3,11 +3,12 @@
 use Prim.Native.Nat.{_+_, _*_, _≤_}
 use mathlib.Core.Logic.{⊎-elim}
 use native.Mathlib.Omega.{arith}
+use Rattle.spread.specs.Accepted.{promptPlaces}
 use Rattle.formulas.proofs.rows.earlier.Statement.{statement}
 use Rattle.formulas.proofs.rows.earlier.Tie as tie
 
 abbrev Inv-loop : tie.InvT-loop
-Inv-loop days d n₀ half₀ n half = n + 2 * half ≤ 32
+Inv-loop days d n₀ half₀ n half = n + 2 * half ≤ promptPlaces
 
 abbrev μ-loop : tie.MeasureT-loop
 μ-loop days d n₀ half₀ n half = half

@@ -17,13 +17,11 @@ minus-requires c κs =
 
 returns : tie.Need-returns
 returns c =
-    let after-struct-told2 = c .before in
-    let after-struct-told = after-struct-told2 .before in
-    let c-3 = after-struct-told .before in
+    let c-3 = c .before .before .before in
     let s = c-3 in
     let x = s .args .net .0 in
     let y = s .args .gone .0 in
-    op-is _-ℤ_ x y x y (after-struct-told .struct-told .given .0 .1) (after-struct-told2 .struct-told2 .given .0 .1) refl refl (c .minus .result)
+    op-is _-ℤ_ x y x y (c .before .before .struct-told .given .0 .1) (c .before .struct-told2 .given .0 .1) refl refl (c .minus .result)
     (c .minus .ok) (c .minus .ensures)
 
 pub net-without-spec : {M : Type 1} → statement M

@@ -9,9 +9,11 @@ use lib.ListN.{length, getD, set, take, drop}
 use lib.Seq.{take-all}
 use denote.Ref.{now}
 use borrow.Author.Needs.{needs}
+use Rattle.spread.specs.Accepted.{promptPlaces}
 use Rattle.record.specs.Bytes.{recordBytes}
 use Rattle.record.specs.Layout.{Record, day}
 use Rattle.account.specs.Records.{records}
+use Rattle.account.specs.Check.{mostRows}
 use Rattle.formulas.specs.Bounds.{mostDelta}
 use Rattle.formulas.specs.Deltas.{rowDelta}
 use Rattle.formulas.specs.code.Position.{RowFit, AtMost, Added, FirstPlace, addsOn, netOn, deltasIn}
@@ -53,21 +55,19 @@ row-within : (c : tie.In-loop Inv-loop2 μ-loop2 Inv-loop μ-loop)
     (take (c .before .loop .i * recordBytes + recordBytes - c .before .loop .i * recordBytes)
     (drop (c .before .loop .i * recordBytes) (now (c .before .before .before .before .before .before .args .rows))))
 row-within c =
-    let after-loop = c .before in
-    let c-6 = after-loop .before .before .before .before .before in
+    let c-6 = c .before .before .before .before .before .before in
     let s = c-6 in
     let file = now (s .args .rows) in
     let more : c .before .loop .i < length file / recordBytes = c .loop-test .taken in
-    subst (λ (row : Record). RowFit row) (record-at file (after-loop .loop .i) more) (s .pre .1 .0 .each (after-loop .loop .i) (omega (arith, count-is file)))
+    subst (λ (row : Record). RowFit row) (record-at file (c .before .loop .i) more) (s .pre .1 .0 .each (c .before .loop .i) (omega (arith, count-is file)))
 
-has-room : (c : tie.In-loop Inv-loop2 μ-loop2 Inv-loop μ-loop) → AtMost 32 128000000000 (deltasIn (c .before .loop .nets))
+has-room : (c : tie.In-loop Inv-loop2 μ-loop2 Inv-loop μ-loop) → AtMost promptPlaces mostDelta (deltasIn (c .before .loop .nets))
 has-room c =
-    let after-loop = c .before in
-    let c-6 = after-loop .before .before .before .before .before in
+    let c-6 = c .before .before .before .before .before .before in
     let s = c-6 in
-    let i = after-loop .loop in
+    let i = c .before .loop in
     let file = now (s .args .rows) in
-    nets-room (records file) (s .args .days .count) (s .args .days .day) (deltasIn (s .args .before)) (s .pre .1 .0) (s .pre .1 .1) (i .i) 128
+    nets-room (records file) (s .args .days .count) (s .args .days .day) (deltasIn (s .args .before)) (s .pre .1 .0) (s .pre .1 .1) (i .i) mostRows
     (deltasIn (i .nets)) (i .inv .1)
     (omega (arith, count-is file, s .pre .1 .0 .few))
 
@@ -102,14 +102,13 @@ place-of-requires c κs =
 
 loop2-holds : tie.Need-loop2-holds Inv-loop2 μ-loop2 Inv-loop μ-loop
 loop2-holds c =
-    let after-row-delta = c .before .before in
-    let after-day-of = after-row-delta .before in
+    let after-day-of = c .before .before .before in
     let after-loop = after-day-of .before .before .before in
     let c-11 = after-loop .before .before .before .before .before in
     let s = c-11 in
     let f = c .place-of .ensures in
     let of-day = after-day-of .day-of .result in
-    let more = after-row-delta .row-delta .result .0 in
+    let more = c .before .before .row-delta .result .0 in
     let xs = deltasIn (after-loop .loop .nets) in (
       f .high,
       (
@@ -131,14 +130,12 @@ array-copy-out-net-with c =
 
 net-with-requires : tie.Need-net-with-requires Inv-loop2 μ-loop2 Inv-loop μ-loop
 net-with-requires c κs =
-    let after-loop2 = c .before .before in
-    let after-row-delta = after-loop2 .before .before .before in
+    let after-row-delta = c .before .before .before .before .before in
     let c-8 = after-row-delta .before .before .before in
-    let after-loop = c-8 .before in
-    let start = after-loop .before .before .before .before .before in
-    let i = after-loop .loop in
-    let k = after-loop2 .loop2 in
-    let few : k .j < 32 = omega
+    let start = c-8 .before .before .before .before .before .before in
+    let i = c-8 .before .loop in
+    let k = c .before .before .loop2 in
+    let few : k .j < promptPlaces = omega
     (arith, start .pre .0) in
     let here : natAbs (getD (deltasIn (i .nets)) (k .j) (pos 0)) ≤ mostDelta = has-room
     (c-8) .size (k .j) few in (
@@ -174,8 +171,7 @@ loop2-less c = omega (arith, c .next-place .ensures .low)
 
 loop2-again : tie.Need-loop2-again Inv-loop2 μ-loop2 Inv-loop μ-loop
 loop2-again c =
-    let after-net-with = c .before .before in
-    let after-loop2-test = after-net-with .before .before in
+    let after-loop2-test = c .before .before .before .before in
     let after-loop2 = after-loop2-test .before in
     let after-row-delta = after-loop2 .before .before .before in
     let after-day-of = after-row-delta .before in
@@ -189,13 +185,13 @@ loop2-again c =
     let k = after-loop2 .loop2 in
     let of-day = after-day-of .day-of .result in
     let more = after-row-delta .row-delta .result .0 in
-    let net = after-net-with .net-with in
+    let net = c .before .before .net-with in
     let same : getD days (k .j) 0 ≡ of-day = k .inv .1 .0 (after-loop2-test .loop2-test .taken) in
     let f : FirstPlace days (k .j + 1) n of-day (c .next-place .result) = subst
     (λ (d : ℕ). FirstPlace days (k .j + 1) n d (c .next-place .result)) same (c .next-place .ensures) in
-    let places : length (deltasIn (i .nets)) ≡ 32 = has-room
+    let places : length (deltasIn (i .nets)) ≡ promptPlaces = has-room
     (c-11) .as-many in
-    let few : k .j < 32 = omega (arith, s .pre .0) in
+    let few : k .j < promptPlaces = omega (arith, s .pre .0) in
     let here : Added (k .j + 1) (addsOn days of-day more) (deltasIn (i .nets)) (deltasIn (set (k .nets) (k .j) (net .result))) =
     subst (λ (zs : List ℤ). Added (k .j + 1) (addsOn days of-day more) (deltasIn (i .nets)) zs) (sym (adding.deltas-set (k .nets) (k .j) (net .result)))
     (added-at days n of-day more (deltasIn (i .nets)) (k .j) (deltasIn (k .nets)) (net .result .0) (omega arith) same (k .inv .1 .1)
@@ -216,15 +212,14 @@ loop-less c =
 
 loop-again : tie.Need-loop-again Inv-loop2 μ-loop2 Inv-loop μ-loop
 loop-again c =
-    let after-loop2 = c .before in
-    let after-row-delta = after-loop2 .before .before .before in
+    let after-row-delta = c .before .before .before .before in
     let after-day-of = after-row-delta .before in
     let after-loop-test = after-day-of .before .before in
     let after-loop = after-loop-test .before in
     let c-13 = after-loop .before .before .before .before .before in
     let s = c-13 in
     let i = after-loop .loop in
-    let k = after-loop2 .loop2 in
+    let k = c .before .loop2 in
     let file = now (s .args .rows) in
     let days = s .args .days .day in
     let n = s .args .days .count in
@@ -244,10 +239,9 @@ loop-again c =
 
 returns : tie.Need-returns Inv-loop2 μ-loop2 Inv-loop μ-loop
 returns c =
-    let after-loop = c .before in
-    let c-6 = after-loop .before .before .before .before .before in
+    let c-6 = c .before .before .before .before .before .before in
     let s = c-6 in
-    let i = after-loop .loop in
+    let i = c .before .loop in
     let rows = records (now (s .args .rows)) in
     subst (λ (rs : List Record). Added (s .args .days .count) (λ j. netOn rs (getD (s .args .days .day) j 0)) (deltasIn (s .args .before))
     (deltasIn (i .nets))) (take-all (i .i) rows (omega (arith, count-is (now (s .args .rows))))) (i .inv .1)

@@ -6,6 +6,7 @@ use Prim.Native.Nat.{ℕ, _+_, _-_, _≤_, _<_}
 use native.Mathlib.Omega.{arith}
 use lib.IntN.{ℤ, pos, negℤ, natAbs, _-ℤ_}
 use lib.ListN.{getD}
+use Rattle.spread.specs.Accepted.{promptPlaces}
 use Rattle.formulas.specs.Bounds.{mostDelta}
 use Rattle.formulas.specs.code.Position.{Added, deltasIn}
 use Rattle.formulas.proofs.AddedLaws.{start, next, delta-at, deltas-set}
@@ -13,10 +14,10 @@ use Rattle.formulas.proofs.rows.nets_without.Statement.{statement}
 use Rattle.formulas.proofs.rows.nets_without.Tie as tie
 
 abbrev Inv-loop : tie.InvT-loop
-Inv-loop gone left₀ j₀ left j = (j ≤ 32) × Added j (λ k. negℤ (getD (deltasIn gone) k (pos 0))) (deltasIn left₀) (deltasIn left)
+Inv-loop gone left₀ j₀ left j = (j ≤ promptPlaces) × Added j (λ k. negℤ (getD (deltasIn gone) k (pos 0))) (deltasIn left₀) (deltasIn left)
 
 abbrev μ-loop : tie.MeasureT-loop
-μ-loop gone left₀ j₀ left j = 32 - j
+μ-loop gone left₀ j₀ left j = promptPlaces - j
 
 loop-holds : tie.Need-loop-holds Inv-loop μ-loop
 loop-holds c = (omega arith, start (λ k. negℤ (getD (deltasIn (c .args .t2)) k (pos 0))) (deltasIn (c .args .nets)))
@@ -35,12 +36,11 @@ array-copy-out-net-without-2 c = omega (arith, c .before .loop-test .taken)
 
 net-without-requires : tie.Need-net-without-requires Inv-loop μ-loop
 net-without-requires c κs =
-    let after-loop-test = c .before .before in
-    let after-loop = after-loop-test .before in
+    let after-loop = c .before .before .before in
     let c-4 = after-loop .before in
     let s = c-4 in
     let l = after-loop .loop in
-    let h : l .j < 32 = after-loop-test .loop-test .taken in (
+    let h : l .j < promptPlaces = c .before .before .loop-test .taken in (
       subst (λ (z : ℤ). natAbs z ≤ mostDelta) (sym (l .inv .1 .others (l .j) (omega arith)) ∙ delta-at (l .left) (l .j)) (s .pre .0 .size (l .j) h),
       subst (λ (z : ℤ). natAbs z ≤ mostDelta) (delta-at (s .args .t2) (l .j)) (s .pre .1 .size (l .j) h),
     )

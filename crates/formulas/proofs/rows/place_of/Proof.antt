@@ -20,13 +20,12 @@ element-copy-out-if3 c = search needs
 
 returns : tie.Need-returns
 returns c =
-    let c-2 = c .before .before in
-    let after-earlier = c-2 .before in
+    let after-earlier = c .before .before .before in
     let c-4 = after-earlier .before in
     let c-5 = c-4 .before in
     let s = c-5 in
     the-first (s .args .count) (now (s .args .days)) (s .pre .1 (c-4 .if1 .taken)) (s .args .d)
-    (after-earlier .earlier .result) (c-2 .if2 .taken) (c .if3 .taken)
+    (after-earlier .earlier .result) (c .before .before .if2 .taken) (c .if3 .taken)
 
 first-place-requires : tie.Need-first-place-requires
 first-place-requires c κs = search needs

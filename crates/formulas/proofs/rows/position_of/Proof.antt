@@ -7,7 +7,9 @@ use native.Mathlib.Omega.{arith}
 use lib.ListN.{length}
 use denote.Ref.{now}
 use borrow.Author.Needs.{needs}
+use Rattle.spread.specs.Accepted.{promptPlaces}
 use Rattle.account.specs.Records.{records}
+use Rattle.account.specs.Check.{mostRows}
 use Rattle.formulas.proofs.RecordLaws.{count-is}
 use Rattle.formulas.proofs.PositionBounds.{no-rows, bounded, wider}
 use Rattle.formulas.proofs.rows.position_of.Statement.{statement}
@@ -21,11 +23,10 @@ days-of-requires c κs = search needs
 
 with-rows-requires : tie.Need-with-rows-requires
 with-rows-requires c κs =
-    let after-flat = c .before in
-    let c-4 = after-flat .before .before .before in
+    let c-4 = c .before .before .before .before in
     let s = c-4 in
     let prompts = records (now (s .args .prompts)) in
-    let few : length prompts ≤ 32 = omega (arith, c .days-of .ensures .few, c .days-of .ensures .count-is) in (
+    let few : length prompts ≤ promptPlaces = omega (arith, c .days-of .ensures .few, c .days-of .ensures .count-is) in (
       s .pre .0,
       (
         c .days-of .ensures .few,
@@ -33,9 +34,9 @@ with-rows-requires c κs =
           s .pre .1 .1 .0,
           (
             s .pre .1 .1 .1,
-            wider 0 (128 - length (records (now (s .args .rows)))) (after-flat .flat .result) (omega arith)
-                (bounded [] (s .args .unit) (s .pre .0) prompts [] (after-flat .flat .result) no-rows (λ k h. absurd (not-suc-le-zero h))
-                (after-flat .flat .ensures [] (s .args .unit) prompts few)),
+            wider 0 (mostRows - length (records (now (s .args .rows)))) (c .before .flat .result) (omega arith)
+                (bounded [] (s .args .unit) (s .pre .0) prompts [] (c .before .flat .result) no-rows (λ k h. absurd (not-suc-le-zero h))
+                (c .before .flat .ensures [] (s .args .unit) prompts few)),
           ),
         ),
       ),
@@ -43,14 +44,12 @@ with-rows-requires c κs =
 
 returns : tie.Need-returns
 returns c =
-    let after-days-of = c .before in
-    let after-flat = after-days-of .before in
-    let c-5 = after-flat .before .before .before in
+    let c-5 = c .before .before .before .before .before in
     let s = c-5 in
     let prompts = records (now (s .args .prompts)) in
-    let known = after-days-of .days-of .ensures in
-    let few : length prompts ≤ 32 = omega (arith, known .few, known .count-is) in (
-      λ held is. c .with-rows .ensures .1 .0 held prompts [] is known (after-flat .flat .ensures held (s .args .unit) prompts few),
+    let known = c .before .days-of .ensures in
+    let few : length prompts ≤ promptPlaces = omega (arith, known .few, known .count-is) in (
+      λ held is. c .with-rows .ensures .1 .0 held prompts [] is known (c .before .before .flat .ensures held (s .args .unit) prompts few),
       c .with-rows .ensures .1 .1,
     )
 

@@ -16,23 +16,20 @@ delta-requires c κs = search needs
 
 times-requires : tie.Need-times-requires
 times-requires c κs =
-    let after-lots = c .before in
-    let c-3 = after-lots .before .before in
+    let c-3 = c .before .before .before in
     let s = c-3 in
-    times-fits (after-lots .lots .result) (c .delta .result) (lots (now (s .args .row))) (delta (now (s .args .row))) 100000 10000
-    (record { sfits = after-lots .lots .ok }) (record { sfits = c .delta .ok })
-    (after-lots .lots .ensures) (c .delta .ensures) (s .pre .lots-within) (s .pre .delta-within) (omega arith)
+    times-fits (c .before .lots .result) (c .delta .result) (lots (now (s .args .row))) (delta (now (s .args .row))) 100000 10000
+    (record { sfits = c .before .lots .ok }) (record { sfits = c .delta .ok })
+    (c .before .lots .ensures) (c .delta .ensures) (s .pre .lots-within) (s .pre .delta-within) (omega arith)
 
 returns : tie.Need-returns
 returns c =
-    let after-delta = c .before in
-    let after-lots = after-delta .before in
-    let c-4 = after-lots .before .before in
+    let c-4 = c .before .before .before .before in
     let s = c-4 in
     sized-back (c .times .result) (record { sfits = c .times .ok })
-    (times-is (after-lots .lots .result) (after-delta .delta .result) (lots (now (s .args .row))) (delta (now (s .args .row))) 100000 10000
-    (record { sfits = after-lots .lots .ok }) (record { sfits = after-delta .delta .ok })
-    (after-lots .lots .ensures) (after-delta .delta .ensures) (s .pre .lots-within) (s .pre .delta-within)
+    (times-is (c .before .before .lots .result) (c .before .delta .result) (lots (now (s .args .row))) (delta (now (s .args .row))) 100000 10000
+    (record { sfits = c .before .before .lots .ok }) (record { sfits = c .before .delta .ok })
+    (c .before .before .lots .ensures) (c .before .delta .ensures) (s .pre .lots-within) (s .pre .delta-within)
     (c .times .result) (c .times .ensures))
 
 pub row-delta-spec : {M : Type 1} → statement M

@@ -26,12 +26,10 @@ magnitude-requires c κs = search needs
 
 returns : tie.Need-returns
 returns c =
-    let c-1 = c .before in
-    let after-is-negative = c-1 .before in
-    let c-3 = after-is-negative .before in
+    let c-3 = c .before .before .before in
     let s = c-3 in
     seen natAbs (s .args .lots) (s .fits .lots) (c .magnitude .ensures)
-    ∙ of-negative (s .args .lots) (sym (seen negative (s .args .lots) (s .fits .lots) (after-is-negative .is-negative .ensures)) ∙ c-1 .if1 .taken)
+    ∙ of-negative (s .args .lots) (sym (seen negative (s .args .lots) (s .fits .lots) (c .before .before .is-negative .ensures)) ∙ c .before .if1 .taken)
 
 returns-2 : tie.Need-returns-2
 returns-2 c =

@@ -28,22 +28,19 @@ row-type-requires c κs = search needs
 
 returns : tie.Need-returns
 returns c =
-    let after-row-type = c .before in
-    let c-5 = after-row-type .before .before .before .before in
+    let c-5 = c .before .before .before .before .before in
     let s = c-5 in
-    of-forward (now (s .args .row)) (sym (after-row-type .row-type .ensures .0) ∙ c .if1 .taken)
+    of-forward (now (s .args .row)) (sym (c .before .row-type .ensures .0) ∙ c .if1 .taken)
 
 returns-2 : tie.Need-returns-2
 returns-2 c =
-    let after-row-type = c .before in
-    let after-short = after-row-type .before in
-    let after-lots = after-short .before in
+    let after-lots = c .before .before .before in
     let c-5 = after-lots .before .before in
     let s = c-5 in
     let lots-read = after-lots .lots in
-    seen short (lots-read .result) (record { sfits = lots-read .ok }) (after-short .short .ensures)
+    seen short (lots-read .result) (record { sfits = lots-read .ok }) (c .before .before .short .ensures)
     ∙ ap short (lots-read .ensures)
-    ∙ of-option (now (s .args .row)) (λ e. c .if1 .left (after-row-type .row-type .ensures .0 ∙ e))
+    ∙ of-option (now (s .args .row)) (λ e. c .if1 .left (c .before .row-type .ensures .0 ∙ e))
 
 pub short-options-spec : {M : Type 1} → statement M
 short-options-spec =

@@ -7,6 +7,8 @@ use lib.IntN.{ℤ, pos, negℤ, natAbs, _-ℤ_}
 use lib.ListN.{getD}
 use mir.Syntax.{w64}
 use mir.Val.{SFits, toZ, ofZ}
+use Rattle.record.specs.Layout.{scenarioCount}
+use Rattle.account.specs.Check.{mostRows}
 use Rattle.exact.proofs.Integers.{sfits-abs, abs-sub}
 use Rattle.formulas.specs.Bounds.{mostProduct}
 use Rattle.formulas.specs.code.Position.{Added}
@@ -16,10 +18,10 @@ use Rattle.formulas.proofs.rows.totals_without.Statement.{statement}
 use Rattle.formulas.proofs.rows.totals_without.Tie as tie
 
 abbrev Inv-loop : tie.InvT-loop
-Inv-loop gone totals₀ s₀ totals s = (s ≤ 16) × Added s (λ k. negℤ (getD gone k (pos 0))) totals₀ totals
+Inv-loop gone totals₀ s₀ totals s = (s ≤ scenarioCount) × Added s (λ k. negℤ (getD gone k (pos 0))) totals₀ totals
 
 abbrev μ-loop : tie.MeasureT-loop
-μ-loop gone totals₀ s₀ totals s = 16 - s
+μ-loop gone totals₀ s₀ totals s = scenarioCount - s
 
 loop-holds : tie.Need-loop-holds Inv-loop μ-loop
 loop-holds c = let s = c .before .before in (omega arith, start (λ k. negℤ (getD (s .args .gone .0) k (pos 0))) (s .args .t .0))
@@ -37,17 +39,16 @@ array-copy-out-minus-2 : tie.Need-array-copy-out-minus-2 Inv-loop μ-loop
 array-copy-out-minus-2 c = omega (arith, c .before .loop-test .taken)
 
 -- a total fits, and what it stands for is that of before
-fits : (z : ℤ) → natAbs z ≤ 128 * mostProduct → SFits w64 z
+fits : (z : ℤ) → natAbs z ≤ mostRows * mostProduct → SFits w64 z
 fits z h = sfits-abs z (omega arith)
 
 minus-requires : tie.Need-minus-requires Inv-loop μ-loop
 minus-requires c κs =
-    let after-loop-test = c .before .before in
-    let after-loop = after-loop-test .before in
+    let after-loop = c .before .before .before in
     let c-6 = after-loop .before .before .before in
     let s = c-6 in
     let l = after-loop .loop in
-    let h : l .s < 16 = after-loop-test .loop-test .taken in
+    let h : l .s < scenarioCount = c .before .before .loop-test .taken in
     let x = getD (l .totals) (l .s) (pos 0) in
     let a = getD (s .args .t .0) (l .s) (pos 0) in
     let y = getD (s .args .gone .0) (l .s) (pos 0) in
@@ -83,7 +84,7 @@ loop-again c =
     let c-7 = after-loop .before .before .before in
     let s = c-7 in
     let l = after-loop .loop in
-    let h : l .s < 16 = after-loop-test .loop-test .taken in
+    let h : l .s < scenarioCount = after-loop-test .loop-test .taken in
     let x = getD (l .totals) (l .s) (pos 0) in
     let a = getD (s .args .t .0) (l .s) (pos 0) in
     let y = getD (s .args .gone .0) (l .s) (pos 0) in
@@ -99,10 +100,9 @@ loop-again c =
 
 returns : tie.Need-returns Inv-loop μ-loop
 returns c =
-    let after-loop = c .before in
-    let c-4 = after-loop .before .before .before in
+    let c-4 = c .before .before .before .before in
     let s = c-4 in
-    let l = after-loop .loop in
+    let l = c .before .loop in
     subst (λ (n : ℕ). Added n (λ k. negℤ (getD (s .args .gone .0) k (pos 0))) (s .args .t .0) (l .totals))
     (omega (arith, c .loop-test .left, l .inv .0)) (l .inv .1)
 

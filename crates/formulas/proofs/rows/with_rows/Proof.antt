@@ -8,11 +8,13 @@ use lib.IntN.{ℤ, pos, natAbs, _+ℤ_}
 use lib.ListN.{length, getD, set, take, drop}
 use denote.Ref.{now}
 use borrow.Author.Needs.{needs}
+use Rattle.spread.specs.Accepted.{promptPlaces}
 use Rattle.record.specs.Bytes.{recordBytes}
 use Rattle.record.specs.Layout.{Record, day}
 use Rattle.account.specs.code.Rates.{RatesOf}
 use Rattle.account.specs.Records.{records}
 use Rattle.account.specs.declared.rates.Rates.{Rates}
+use Rattle.account.specs.Check.{mostRows}
 use Rattle.formulas.specs.declared.rows.Position.{Position}
 use Rattle.formulas.specs.Bounds.{mostDelta}
 use Rattle.formulas.specs.Deltas.{rowDelta}
@@ -70,12 +72,11 @@ row-within : (c : tie.In-loop Inv-loop2 μ-loop2 Inv-loop μ-loop)
     (take (c .before .loop .i * recordBytes + recordBytes - c .before .loop .i * recordBytes)
     (drop (c .before .loop .i * recordBytes) (now (c .before .before .before .before .before .before .before .before .before .args .rows))))
 row-within c =
-    let after-loop = c .before in
-    let c-9 = after-loop .before .before .before .before .before .before .before .before in
+    let c-9 = c .before .before .before .before .before .before .before .before .before in
     let s = c-9 in
     let file = now (s .args .rows) in
     let more : c .before .loop .i < length file / recordBytes = c .loop-test .taken in
-    subst (λ (row : Record). RowFit row) (record-at file (after-loop .loop .i) more) (s .pre .1 .1 .0 .each (after-loop .loop .i) (omega
+    subst (λ (row : Record). RowFit row) (record-at file (c .before .loop .i) more) (s .pre .1 .1 .0 .each (c .before .loop .i) (omega
     (arith, count-is file)))
 
 row-rated : (c : tie.In-loop Inv-loop2 μ-loop2 Inv-loop μ-loop)
@@ -83,28 +84,27 @@ row-rated : (c : tie.In-loop Inv-loop2 μ-loop2 Inv-loop μ-loop)
     (take (c .before .loop .i * recordBytes + recordBytes - c .before .loop .i * recordBytes)
     (drop (c .before .loop .i * recordBytes) (now (c .before .before .before .before .before .before .before .before .before .args .rows))) ∷ [])
 row-rated c =
-    let after-loop = c .before in
-    let c-9 = after-loop .before .before .before .before .before .before .before .before in
+    let c-9 = c .before .before .before .before .before .before .before .before .before in
     let s = c-9 in
     let file = now (s .args .rows) in
     let by = s .pre .1 .1 .1 .0 in
     let more : c .before .loop .i < length file / recordBytes = c .loop-test .taken in
     one-rated (s .args .rates) (by .rates) _ (by .held)
-    (subst (λ (row : Record). RowRated (by .rates) row) (record-at file (after-loop .loop .i) more)
-    (by .each (after-loop .loop .i) (omega (arith, count-is file))))
+    (subst (λ (row : Record). RowRated (by .rates) row) (record-at file (c .before .loop .i) more)
+    (by .each (c .before .loop .i) (omega (arith, count-is file))))
 
-has-room : (c : tie.In-loop Inv-loop2 μ-loop2 Inv-loop μ-loop) → Most 127 (c .before .loop .totals) (deltasIn (c .before .loop .nets)) (c .before .loop .shorts)
+has-room : (c : tie.In-loop Inv-loop2 μ-loop2 Inv-loop μ-loop)
+    → Most (mostRows - 1) (c .before .loop .totals) (deltasIn (c .before .loop .nets)) (c .before .loop .shorts)
 has-room c =
-    let after-loop = c .before in
-    let c-9 = after-loop .before .before .before .before .before .before .before .before in
+    let c-9 = c .before .before .before .before .before .before .before .before .before in
     let s = c-9 in
-    let i = after-loop .loop in
+    let i = c .before .loop in
     let file = now (s .args .rows) in
     let more : i .i < length file / recordBytes = c .loop-test .taken in
     let by = s .pre .1 .1 .1 .0 in
     room (by .rates) (s .args .unit) (s .pre .0) (records file) (s .args .days .count) (s .args .days .day) (s .args .p .totals .0)
     (deltasIn (s .args .p .nets)) (s .args .p .shorts)
-    (s .pre .1 .1 .0) (by .each) (most (s .args .p) (s .pre .1 .1 .1 .1)) (i .i) 127 (i .totals) (deltasIn (i .nets)) (i .shorts)
+    (s .pre .1 .1 .0) (by .each) (most (s .args .p) (s .pre .1 .1 .1 .1)) (i .i) (mostRows - 1) (i .totals) (deltasIn (i .nets)) (i .shorts)
     (i .inv (by .rates) (by .held))
     (omega (arith, count-is file, s .pre .1 .1 .0 .few))
 
@@ -139,14 +139,13 @@ place-of-requires c κs =
 
 loop2-holds : tie.Need-loop2-holds Inv-loop2 μ-loop2 Inv-loop μ-loop
 loop2-holds c =
-    let after-row-delta = c .before .before in
-    let after-day-of = after-row-delta .before in
+    let after-day-of = c .before .before .before in
     let after-loop = after-day-of .before .before .before in
     let c-14 = after-loop .before .before .before .before .before .before .before .before in
     let s = c-14 in
     let f = c .place-of .ensures in
     let of-day = after-day-of .day-of .result in
-    let more = after-row-delta .row-delta .result .0 in
+    let more = c .before .before .row-delta .result .0 in
     let xs = deltasIn (after-loop .loop .nets) in (
       f .high,
       (
@@ -170,14 +169,12 @@ array-copy-out-net-with c =
 
 net-with-requires : tie.Need-net-with-requires Inv-loop2 μ-loop2 Inv-loop μ-loop
 net-with-requires c κs =
-    let after-loop2 = c .before .before in
-    let after-row-delta = after-loop2 .before .before .before in
+    let after-row-delta = c .before .before .before .before .before in
     let c-8 = after-row-delta .before .before .before in
-    let after-loop = c-8 .before in
-    let start = after-loop .before .before .before .before .before .before .before .before in
-    let i = after-loop .loop in
-    let k = after-loop2 .loop2 in
-    let few : k .j < 32 = omega (
+    let start = c-8 .before .before .before .before .before .before .before .before .before in
+    let i = c-8 .before .loop in
+    let k = c .before .before .loop2 in
+    let few : k .j < promptPlaces = omega (
       arith,
       start .pre .1 .0,
     ) in
@@ -225,8 +222,7 @@ loop2-less c = omega (arith, c .next-place .ensures .low)
 
 loop2-again : tie.Need-loop2-again Inv-loop2 μ-loop2 Inv-loop μ-loop
 loop2-again c =
-    let after-net-with = c .before .before in
-    let after-loop2-test = after-net-with .before .before in
+    let after-loop2-test = c .before .before .before .before in
     let after-loop2 = after-loop2-test .before in
     let after-row-delta = after-loop2 .before .before .before in
     let after-day-of = after-row-delta .before in
@@ -241,13 +237,13 @@ loop2-again c =
     let k = after-loop2 .loop2 in
     let of-day = after-day-of .day-of .result in
     let more = after-row-delta .row-delta .result .0 in
-    let net = after-net-with .net-with in
+    let net = c .before .before .net-with in
     let same : getD days (k .j) 0 ≡ of-day = k .inv .1 .0 (after-loop2-test .loop2-test .taken) in
     let f : FirstPlace days (k .j + 1) n of-day (c .next-place .result) = subst
     (λ (d : ℕ). FirstPlace days (k .j + 1) n d (c .next-place .result)) same (c .next-place .ensures) in
-    let places : length (deltasIn (i .nets)) ≡ 32 = has-room
+    let places : length (deltasIn (i .nets)) ≡ promptPlaces = has-room
     (c-11) .nets-most .as-many in
-    let few : k .j < 32 = omega (arith, s .pre .1 .0) in
+    let few : k .j < promptPlaces = omega (arith, s .pre .1 .0) in
     let here : Added (k .j + 1) (addsOn days of-day more) (deltasIn (i .nets)) (deltasIn (set (k .nets) (k .j) (net .result))) =
     subst (λ (zs : List ℤ). Added (k .j + 1) (addsOn days of-day more) (deltasIn (i .nets)) zs) (sym (adding.deltas-set (k .nets) (k .j) (net .result)))
     (added-at days n of-day more (deltasIn (i .nets)) (k .j) (deltasIn (k .nets)) (net .result .0) (omega arith) same (k .inv .1 .1)
@@ -305,8 +301,7 @@ loop-less c =
 
 loop-again : tie.Need-loop-again Inv-loop2 μ-loop2 Inv-loop μ-loop
 loop-again c =
-    let after-add-row = c .before in
-    let after-loop2-test = after-add-row .before .before in
+    let after-loop2-test = c .before .before .before in
     let after-loop2 = after-loop2-test .before in
     let after-row-delta = after-loop2 .before .before .before in
     let after-day-of = after-row-delta .before in
@@ -327,9 +322,9 @@ loop-again c =
     let all : k .j ≡ n = omega (arith, after-loop2-test .loop2-test .left) in
     λ held is.
     next held (s .args .unit) (records file) n days (s .args .p .totals .0) (deltasIn (s .args .p .nets)) (s .args .p .shorts)
-    (i .i) (i .totals) (deltasIn (i .nets)) (after-add-row .add-row .last .0) (deltasIn (k .nets)) (i .shorts) _ row
+    (i .i) (i .totals) (deltasIn (i .nets)) (c .before .add-row .last .0) (deltasIn (k .nets)) (i .shorts) _ row
     (i .inv held is) (omega (arith, count-is file)) (record-at file (i .i) turn)
-    (after-add-row .add-row .ensures held is)
+    (c .before .add-row .ensures held is)
     (subst (λ (m : ℕ). Added m (addsOn days (day row) (rowDelta row)) (deltasIn (i .nets)) (deltasIn (k .nets))) all
     (subst (λ (d : ℕ). Added (k .j) (addsOn days d (rowDelta row)) (deltasIn (i .nets)) (deltasIn (k .nets))) (of-day .ensures)
     (subst (λ (z : ℤ). Added (k .j) (addsOn days (of-day .result) z) (deltasIn (i .nets)) (deltasIn (k .nets))) (more .ensures .is)
@@ -338,10 +333,9 @@ loop-again c =
 
 returns : tie.Need-returns Inv-loop2 μ-loop2 Inv-loop μ-loop
 returns c =
-    let after-loop = c .before in
-    let c-9 = after-loop .before .before .before .before .before .before .before .before in
+    let c-9 = c .before .before .before .before .before .before .before .before .before in
     let s = c-9 in
-    let i = after-loop .loop in
+    let i = c .before .loop in
     let file = now (s .args .rows) in
     let count = s .args .days .count in
     let days = s .args .days .day in
@@ -349,7 +343,7 @@ returns c =
     let q : Position = record { totals = record { 0 = i .totals }; nets = i .nets; shorts = i .shorts } in
     let last =
     room (by .rates) (s .args .unit) (s .pre .0) (records file) count days (s .args .p .totals .0) (deltasIn (s .args .p .nets)) (s .args .p .shorts)
-    (s .pre .1 .1 .0) (by .each) (most (s .args .p) (s .pre .1 .1 .1 .1)) (i .i) 128 (i .totals) (deltasIn (i .nets)) (i .shorts)
+    (s .pre .1 .1 .0) (by .each) (most (s .args .p) (s .pre .1 .1 .1 .1)) (i .i) mostRows (i .totals) (deltasIn (i .nets)) (i .shorts)
     (i .inv (by .rates) (by .held))
     (omega (arith, i .inv (by .rates) (by .held) .passed, s .pre .1 .1 .0 .few)) in
     let added : (held : List Record) → RatesOf held (s .args .rates) → WithRows held (s .args .unit) (s .args .days) (s .args .p) (records file) q =

@@ -9,6 +9,7 @@ use borrow.Author.Needs.{needs}
 use lib.ListN.{length}
 use denote.Ref.{now}
 use Rattle.account.specs.Records.{records}
+use Rattle.account.specs.Check.{mostRows}
 use Rattle.formulas.proofs.PositionBounds.{no-rows, bounded, wider}
 use Rattle.formulas.proofs.WithdrawLaws.{taken-away}
 use Rattle.formulas.proofs.rows.without_rows.Statement.{statement}
@@ -28,7 +29,7 @@ with-rows-requires c κs =
           s .pre .1 .1 .0,
           (
             s .pre .1 .1 .1 .0,
-            wider 0 (128 - length (records (now (s .args .rows)))) (f .result) zero-le
+            wider 0 (mostRows - length (records (now (s .args .rows)))) (f .result) zero-le
                 (bounded [] (s .args .unit) (s .pre .0) [] [] (f .result) no-rows (λ k h. absurd (not-suc-le-zero h))
                 (f .ensures [] (s .args .unit) [] zero-le)),
           ),
@@ -70,8 +71,7 @@ sub-t14 c =
 
 returns : tie.Need-returns
 returns c =
-    let after-nets-without = c .before .before in
-    let after-totals-without = after-nets-without .before in
+    let after-totals-without = c .before .before .before in
     let after-with-rows = after-totals-without .before .before .before .before .before in
     let after-flat = after-with-rows .before in
     let c-11 = after-flat .before .before in
@@ -81,7 +81,7 @@ returns c =
     λ held before rated is.
     taken-away held (s .args .unit) (s .args .days) (records (now (s .args .rows))) before (s .args .p) (f .result) (g .result) _ is (g .ensures .0 held rated)
     (f .ensures held (s .args .unit) [] zero-le) (s .pre .1 .1 .1 .1 .0) (s .pre .1 .0) (after-totals-without .totals-without .ensures)
-    (after-nets-without .nets-without .ensures) refl
+    (c .before .before .nets-without .ensures) refl
 
 pub without-rows-spec : {M : Type 1} → statement M
 without-rows-spec =

@@ -34,16 +34,14 @@ tenths-requires c κs = search needs
 
 returns : tie.Need-returns
 returns c =
-    let after-second-ratio = c .before in
-    let after-second-contract = after-second-ratio .before in
-    let after-first-ratio = after-second-contract .before in
+    let after-first-ratio = c .before .before .before in
     let after-contract = after-first-ratio .before in
     λ i.
     record {
       legs = 2;
       leg =
           record { tier = after-contract .contract .ensures .0 i; side = 1; ratio = after-first-ratio .first-ratio .ensures .0 i }
-          ∷ record { tier = after-second-contract .second-contract .ensures .0 i; side = 2; ratio = after-second-ratio .second-ratio .ensures .0 i }
+          ∷ record { tier = c .before .before .second-contract .ensures .0 i; side = 2; ratio = c .before .second-ratio .ensures .0 i }
           ∷ record { tier = 0; side = 0; ratio = 0 }
           ∷ [];
       tenths = c .tenths .ensures i;

@@ -23,11 +23,10 @@ leg-of-requires-3 c κs = search needs
 
 returns : tie.Need-returns
 returns c =
-    let after-leg-of = c .before .before in
-    let after-leg-count = after-leg-of .before in
+    let after-leg-count = c .before .before .before in
     λ i. record {
       legs = after-leg-count .leg-count .ensures .0 i;
-      leg = after-leg-of .leg-of .ensures i ∷ c .before .leg-of2 .ensures
+      leg = c .before .before .leg-of .ensures i ∷ c .before .leg-of2 .ensures
           i ∷ c .leg-of3 .ensures i ∷ [];
       tenths = false;
     }

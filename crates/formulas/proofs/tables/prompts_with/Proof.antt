@@ -5,13 +5,14 @@ use Prim.Native.Nat.{_-_}
 use native.Mathlib.Omega.{arith}
 use borrow.Author.Needs.{needs}
 use lib.ListN.{length, length-set}
+use Rattle.spread.specs.Accepted.{promptPlaces}
 use Rattle.record.specs.Layout.{tier}
 use Rattle.formulas.proofs.RecordLaws.{lent-record, Filled, start, next, finish}
 use Rattle.formulas.proofs.tables.prompts_with.Statement.{statement}
 use Rattle.formulas.proofs.tables.prompts_with.Tie as tie
 
 abbrev Inv-loop : tie.InvT-loop
-Inv-loop prompts nets count tiers₀ i₀ tiers i = Filled tier prompts i tiers × (length tiers ≡ 32)
+Inv-loop prompts nets count tiers₀ i₀ tiers i = Filled tier prompts i tiers × (length tiers ≡ promptPlaces)
 
 abbrev μ-loop : tie.MeasureT-loop
 μ-loop prompts nets count tiers₀ i₀ tiers i = count - i
@@ -62,10 +63,9 @@ loop-again c =
 
 returns : tie.Need-returns Inv-loop μ-loop
 returns c =
-    let after-loop = c .before in
-    let c-3 = after-loop .before .before in
+    let c-3 = c .before .before .before in
     let s = c-3 in
-    let l = after-loop .loop in
+    let l = c .before .loop in
     record {
       count-is = refl;
       tiers-are = finish tier (s .args .prompts .now) (l .i) (l .tiers) (l .inv .0) (omega arith);

@@ -6,8 +6,9 @@ use Prim.Native.Nat.{ℕ, _-_, _≤_}
 use native.Mathlib.Omega.{arith}
 use borrow.Author.Needs.{needs}
 use lib.ListN.{length, getD}
-use Rattle.record.specs.Layout.{Record}
+use Rattle.record.specs.Layout.{Record, mostContract}
 use Rattle.account.specs.Joined.{accountOf}
+use Rattle.account.specs.Check.{mostContracts}
 use Rattle.margin.specs.Places.{questions, afterEach, questionOf, widthOf}
 use Rattle.margin.specs.code.Positions.{noPosition, Told}
 use Rattle.margin.specs.Questions.{afterOver}
@@ -20,10 +21,10 @@ use Rattle.margin.proofs.asking.all_from.Tie as tie
 abbrev Inv-loop : tie.InvT-loop
 Inv-loop morning noon account paid out₀ positions records c₀ out c =
     ((whole : List Record) → Told (accountOf morning noon) positions whole → out ≡ afterEach (widthOf paid) (λ k. afterOver whole (questionOf paid k)) c out₀)
-    × ((c ≤ 16) × (length out ≡ length out₀))
+    × ((c ≤ mostContracts) × (length out ≡ length out₀))
 
 abbrev μ-loop : tie.MeasureT-loop
-μ-loop morning noon account paid out₀ positions records c₀ out c = 16 - c
+μ-loop morning noon account paid out₀ positions records c₀ out c = mostContracts - c
 
 width-of-requires : tie.Need-width-of-requires Inv-loop μ-loop
 width-of-requires c κs = search needs
@@ -33,13 +34,12 @@ mul-if1 c = omega (arith, c .width-of .ensures .1)
 
 returns : tie.Need-returns Inv-loop μ-loop
 returns c =
-    let after-width-of = c .before in
-    let c-4 = after-width-of .before .before .before in
+    let c-4 = c .before .before .before .before in
     let s = c-4 in
     let p = s .args .paid in
     λ whole t.
     each-too-few (widthOf p) (λ k. afterOver whole (questionOf p k)) whole (s .args .out .now) (s .args .t4 .records)
-    (omega (arith, after-width-of .width-of .ensures .0, c .if1 .taken)) (t .positions .records-are)
+    (omega (arith, c .before .width-of .ensures .0, c .if1 .taken)) (t .positions .records-are)
 
 loop-holds : tie.Need-loop-holds Inv-loop μ-loop
 loop-holds c = (λ whole t. refl, (omega arith, refl))
@@ -52,8 +52,7 @@ element-copy-out-place-contract c = omega (arith, c .loop-test .taken)
 
 place-contract-requires : tie.Need-place-contract-requires Inv-loop μ-loop
 place-contract-requires c κs =
-    let after-loop-test = c .before .before in
-    let after-loop = after-loop-test .before in
+    let after-loop = c .before .before .before in
     let c-4 = after-loop .before in
     let after-width-of = c-4 .before in
     let c-8 = after-width-of .before .before .before in
@@ -61,7 +60,7 @@ place-contract-requires c κs =
     let x = s .pre .1 in
     let l = after-loop .loop in
     let k = l .c in
-    let h : k ≤ 15 = omega (arith, after-loop-test .loop-test .taken) in (
+    let h : k ≤ mostContract = omega (arith, c .before .before .loop-test .taken) in (
       s .pre .0,
       (
         h,
@@ -92,15 +91,14 @@ loop-less c =
 
 loop-again : tie.Need-loop-again Inv-loop μ-loop
 loop-again c =
-    let after-place-contract = c .before in
-    let after-loop-test = after-place-contract .before .before .before in
+    let after-loop-test = c .before .before .before .before in
     let after-loop = after-loop-test .before in
     let c-10 = after-loop .before .before .before .before .before in
     let s = c-10 in
     let p = s .args .paid in
     let l = after-loop .loop in
-    let r = after-place-contract .place-contract in
-    let h : l .c ≤ 15 = omega (arith, after-loop-test .loop-test .taken) in (
+    let r = c .before .place-contract in
+    let h : l .c ≤ mostContract = omega (arith, after-loop-test .loop-test .taken) in (
       λ whole t.
           next-each (widthOf p) (λ k. afterOver whole (questionOf p k)) (l .c) (s .args .out .now) (l .out) _ (l .inv .0 whole t)
           (r .ensures whole (record { beside = t .beside; records-are = t .positions .records-are; at = t .positions .each (l .c) h })),
@@ -114,8 +112,7 @@ tiers-from-requires c κs =
 
 place-table-requires : tie.Need-place-table-requires Inv-loop μ-loop
 place-table-requires c κs =
-    let after-tiers-from = c .before in
-    let after-loop = after-tiers-from .before .before in
+    let after-loop = c .before .before .before in
     let c-4 = after-loop .before in
     let after-width-of = c-4 .before in
     let c-8 = after-width-of .before .before .before in
@@ -124,7 +121,7 @@ place-table-requires c κs =
     let l = after-loop .loop in (
       s .pre .0,
       (
-        record { whole = x .whole; beside = x .told .beside; is = after-tiers-from .tiers-from .ensures (x .whole) (x .told) },
+        record { whole = x .whole; beside = x .told .beside; is = c .before .tiers-from .ensures (x .whole) (x .told) },
         omega (arith, after-width-of .width-of .ensures .0, c-4 .if1 .left, l .inv .1 .1),
       ),
     )
@@ -136,8 +133,7 @@ same-length c =
 
 returns-2 : tie.Need-returns-2 Inv-loop μ-loop
 returns-2 c =
-    let after-place-table = c .before in
-    let after-tiers-from = after-place-table .before .before in
+    let after-tiers-from = c .before .before .before in
     let after-loop-test = after-tiers-from .before in
     let after-loop = after-loop-test .before in
     let c-6 = after-loop .before in
@@ -146,16 +142,16 @@ returns-2 c =
     let s = c-10 in
     let p = s .args .paid in
     let l = after-loop .loop in
-    let q : l .c ≡ 16 = omega (arith, after-loop-test .loop-test .left, l .inv .1 .0) in
-    let r = after-place-table .place-table in
+    let q : l .c ≡ mostContracts = omega (arith, after-loop-test .loop-test .left, l .inv .1 .0) in
+    let r = c .before .place-table in
     λ whole t.
-    let so-far : l .out ≡ afterEach (widthOf p) (λ k. afterOver whole (questionOf p k)) 16 (s .args .out .now) =
+    let so-far : l .out ≡ afterEach (widthOf p) (λ k. afterOver whole (questionOf p k)) mostContracts (s .args .out .now) =
     l .inv .0 whole t ∙ ap (λ (n : ℕ). afterEach (widthOf p) (λ k. afterOver whole (questionOf p k)) n (s .args .out .now)) q
     in
     each-accepted (widthOf p) (λ k. afterOver whole (questionOf p k)) whole (s .args .out .now) _
     (omega
     (arith, after-width-of .width-of .ensures .0, c-6 .if1 .left))
-    (next-each (widthOf p) (λ k. afterOver whole (questionOf p k)) 16 (s .args .out .now) (l .out) _ so-far
+    (next-each (widthOf p) (λ k. afterOver whole (questionOf p k)) mostContracts (s .args .out .now) (l .out) _ so-far
     (r .ensures whole (t .beside) (after-tiers-from .tiers-from .ensures whole t) (t .positions .records-are)))
 
 pub all-from-spec : {M : Type 1} → statement M

@@ -17,12 +17,10 @@ same-length c = search needs
 
 returns : tie.Need-returns
 returns c =
-    let after-answer-uses = c .before in
-    let c-3 = after-answer-uses .before .before in
-    let c-4 = c-3 .before in
-    let s = c-4 in
+    let c-3 = c .before .before .before in
+    let s = c-3 .before in
     let out = s .args .out .now in
-    let r = after-answer-uses .answer-uses in
+    let r = c .before .answer-uses in
     λ whole question h.
     subst⁻¹ (λ (t : Bool). (r .result ≡ answerOver whole (questionOf t question) (length out))
     × (r .last .1 .1 .0 ≡ afterOver whole (questionOf t question) out))
@@ -39,12 +37,10 @@ same-length-2 c = search needs
 
 returns-2 : tie.Need-returns-2
 returns-2 c =
-    let after-answer-book = c .before in
-    let c-6 = after-answer-book .before .before .before .before .before in
-    let c-7 = c-6 .before in
-    let s = c-7 in
+    let c-6 = c .before .before .before .before .before .before in
+    let s = c-6 .before in
     let out = s .args .out .now in
-    let r = after-answer-book .answer-book in
+    let r = c .before .answer-book in
     λ whole question h.
     subst⁻¹ (λ (t : Bool). (r .result ≡ answerOver whole (questionOf t question) (length out))
     × (r .last .1 .1 .1 .0 ≡ afterOver whole (questionOf t question) out))

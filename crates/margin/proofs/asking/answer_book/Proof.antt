@@ -34,14 +34,13 @@ many s whole question h =
 
 returns : tie.Need-returns
 returns c =
-    let after-book-count = c .before in
-    let c-4 = after-book-count .before .before .before in
+    let c-4 = c .before .before .before .before in
     let s = c-4 in
     let out = s .args .out .now in
     λ whole question h.
     refused-with (TooFewNumbers (s .args .records)) _ (book whole question) out
     (asked-few whole (Book question) (length out) (h .asked-is)
-    (omega (arith, many s whole question h, after-book-count .book-count .ensures, c .if1 .taken))
+    (omega (arith, many s whole question h, c .before .book-count .ensures, c .if1 .taken))
     ∙ ap TooFewNumbers (sym (h .records-are))) (λ e. omega arith)
 
 put-book-requires : tie.Need-put-book-requires
@@ -52,10 +51,8 @@ same-length c = search needs
 
 returns-2 : tie.Need-returns-2
 returns-2 c =
-    let after-put-book = c .before in
-    let c-3 = after-put-book .before .before in
-    let after-book-count = c-3 .before in
-    let c-7 = after-book-count .before .before .before in
+    let c-3 = c .before .before .before in
+    let c-7 = c-3 .before .before .before .before in
     let s = c-7 in
     let out = s .args .out .now in
     λ whole question h.
@@ -63,13 +60,13 @@ returns-2 c =
     omega (
       arith,
       many s whole question h,
-      after-book-count .book-count .ensures,
+      c-3 .before .book-count .ensures,
       c-3 .if1 .left,
     )
     in
-    accepted-with _ (book whole question) out (after-put-book .put-book .last .0) (length (book whole question))
+    accepted-with _ (book whole question) out (c .before .put-book .last .0) (length (book whole question))
     (asked-many whole (Book question) (length out) (h .asked-is) enough) refl
-    (after-put-book .put-book .ensures ∙ ap (sets out 0) (book-same whole question (s .args .records) (s .args .asking) h)
+    (c .before .put-book .ensures ∙ ap (sets out 0) (book-same whole question (s .args .records) (s .args .asking) h)
     ∙ sets-front (book whole question) out enough)
 
 pub answer-book-spec : {M : Type 1} → statement M

@@ -10,7 +10,7 @@ use lib.ListN.{length}
 use Rattle.account.specs.Parts.{entriesOf}
 use Rattle.account.specs.Joined.{accountOf}
 use Rattle.account.specs.declared.answers.Answer.the-variants.{NoSuchQuestion}
-use Rattle.margin.specs.Books.{answered}
+use Rattle.margin.specs.Books.{answered, tableQuestion}
 use Rattle.formulas.specs.Contract.{contracts, partsOf, asTier, contractSteps, opensOf, tableSteps}
 use Rattle.margin.specs.Places.{questionOf}
 use Rattle.margin.specs.Questions.{numbersFor}
@@ -37,16 +37,15 @@ asked c =
 
 returns : tie.Need-returns
 returns c =
-    let after-is-asked = c .before in
-    let c-4 = after-is-asked .before .before .before in
+    let c-4 = c .before .before .before .before in
     let s = c-4 in
     let a = accountOf (s .args .morning .now) (s .args .noon .now) in
     let k = s .args .c in
     let q = questionOf (s .args .paid) k in
     λ whole t.
     refused-with (NoSuchQuestion (s .args .records)) _ (numbersFor whole q) (s .args .out .now)
-    (not-asked whole q (length (s .args .out .now)) (answers-of whole (s .args .paid) k ∙ answered-beside a whole (t .beside) k ∙ asked (after-is-asked)
-    ∙ not-true (after-is-asked .is-asked .result) (c .if1 .taken))
+    (not-asked whole q (length (s .args .out .now)) (answers-of whole (s .args .paid) k ∙ answered-beside a whole (t .beside) k ∙ asked (c .before)
+    ∙ not-true (c .before .is-asked .result) (c .if1 .taken))
     ∙ ap NoSuchQuestion (sym (t .records-are))) (λ e. omega arith)
 
 asking-with-requires : tie.Need-asking-with-requires
@@ -79,7 +78,8 @@ returns-2 c =
           subst
           (λ (b : Bool). Asks (cond b (tableSteps (entriesOf whole)) (contractSteps (partsOf whole k)))
           (cond b (map asTier (contracts whole)) (opensOf (partsOf whole k))) (r .result))
-          (sym (ne-eqb k 16 (λ e. omega (arith, s .pre .1 .0, e)))) (asks-beside a whole (t .beside) k (s .args .p) (t .at) (r .result) (r .ensures));
+          (sym (ne-eqb k tableQuestion (λ e. omega (arith, s .pre .1 .0, e))))
+          (asks-beside a whole (t .beside) k (s .args .p) (t .at) (r .result) (r .ensures));
     })
 
 pub answer-contract-spec : {M : Type 1} → statement M

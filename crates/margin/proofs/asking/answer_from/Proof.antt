@@ -41,11 +41,10 @@ same-length c = search needs
 
 returns : tie.Need-returns
 returns c =
-    let after-figures-answer = c .before in
-    let after-enum-told = after-figures-answer .before .before in
+    let after-enum-told = c .before .before .before in
     let c-7 = after-enum-told .before .before .before .before in
     let s = c-7 in
-    let r = after-figures-answer .figures-answer in
+    let r = c .before .figures-answer in
     λ whole t. answered whole (r .result) (r .last .1 .1 .1 .1 .0) (s .args .out .now) _ _ (after-enum-told .enum-told .given .1) (r .ensures whole t)
 
 same-length-2 : tie.Need-same-length-2
@@ -53,11 +52,10 @@ same-length-2 c = search needs
 
 returns-2 : tie.Need-returns-2
 returns-2 c =
-    let after-question-answer = c .before in
-    let after-question = after-question-answer .before .before .before in
+    let after-question = c .before .before .before .before in
     let c-8 = after-question .before .before .before .before in
     let s = c-8 in
-    let r = after-question-answer .question-answer in
+    let r = c .before .question-answer in
     λ whole t. answered whole (r .result) (r .last .1 .1 .1 .1 .1 .1 .0) (s .args .out .now) _ _
     (after-question .question .given .1) (r .ensures whole t)
 
@@ -66,11 +64,10 @@ same-length-3 c = search needs
 
 returns-3 : tie.Need-returns-3
 returns-3 c =
-    let after-question-answer2 = c .before in
-    let after-question2 = after-question-answer2 .before .before .before in
+    let after-question2 = c .before .before .before .before in
     let c-8 = after-question2 .before .before .before .before in
     let s = c-8 in
-    let r = after-question-answer2 .question-answer2 in
+    let r = c .before .question-answer2 in
     λ whole t. answered whole (r .result) (r .last .1 .1 .1 .1 .1 .1 .0) (s .args .out .now) _ _
     (after-question2 .question2 .given .1) (r .ensures whole t)
 

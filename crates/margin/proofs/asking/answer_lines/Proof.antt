@@ -7,6 +7,7 @@ use Prim.Native.Nat.{_+_, _*_, _≤_}
 use native.Mathlib.Omega.{arith}
 use borrow.Author.Needs.{needs}
 use lib.ListN.{length}
+use Rattle.formulas.specs.Bounds.{figuresEach}
 use Rattle.record.specs.Layout.{Record}
 use Rattle.account.specs.Joined.{accountOf}
 use Rattle.account.specs.declared.answers.Answer.the-variants.{TooFewNumbers}
@@ -27,45 +28,40 @@ figures-count-requires c κs =
 -- as many numbers as are counted
 many : (s : tie.Start) (whole : List Record)
     → LinedBy (accountOf (s .args .morning .now) (s .args .noon .now)) (s .args .lines) (s .args .records) whole
-    → length (figures whole) ≡ 8 * s .args .account .contracts + 1
+    → length (figures whole) ≡ figuresEach * s .args .account .contracts + 1
 many s whole h = omega (arith, figures-length whole, ap length (h .beside .contracts), s .pre .0 .places .contracts)
 
 returns : tie.Need-returns
 returns c =
-    let after-figures-count = c .before in
-    let c-4 = after-figures-count .before .before .before in
+    let c-4 = c .before .before .before .before in
     let s = c-4 in
     let out = s .args .out .now in
     λ whole h.
     refused-with (TooFewNumbers (s .args .records)) _ (figures whole) out
-    (asked-few whole Figures (length out) (λ i. true) (omega (arith, many s whole h, after-figures-count .figures-count .ensures, c .if1 .taken))
+    (asked-few whole Figures (length out) (λ i. true) (omega (arith, many s whole h, c .before .figures-count .ensures, c .if1 .taken))
     ∙ ap TooFewNumbers (sym (h .records-are))) (λ e. omega arith)
 
 put-figures-requires : tie.Need-put-figures-requires
 put-figures-requires c κs =
-    let c-1 = c .before in
-    let after-figures-count = c-1 .before in
-    let c-5 = after-figures-count .before .before .before in
+    let c-5 = c .before .before .before .before .before in
     let s = c-5 in
-    (s .pre .0, (s .pre .1, omega (arith, after-figures-count .figures-count .ensures, c-1 .if1 .left)))
+    (s .pre .0, (s .pre .1, omega (arith, c .before .before .figures-count .ensures, c .before .if1 .left)))
 
 same-length : tie.Need-same-length
 same-length c = search needs
 
 returns-2 : tie.Need-returns-2
 returns-2 c =
-    let after-put-figures = c .before in
-    let c-3 = after-put-figures .before .before in
-    let after-figures-count = c-3 .before in
-    let c-7 = after-figures-count .before .before .before in
+    let c-3 = c .before .before .before in
+    let c-7 = c-3 .before .before .before .before in
     let s = c-7 in
     let out = s .args .out .now in
     λ whole h.
     let enough : length (figures whole) ≤ length out =
-    omega (arith, many s whole h, after-figures-count .figures-count .ensures, c-3 .if1 .left) in
-    accepted-with _ (figures whole) out (after-put-figures .put-figures .last .1 .1 .1 .1 .0) (length (figures whole))
+    omega (arith, many s whole h, c-3 .before .figures-count .ensures, c-3 .if1 .left) in
+    accepted-with _ (figures whole) out (c .before .put-figures .last .1 .1 .1 .1 .0) (length (figures whole))
     (asked-many whole Figures (length out) (λ i. true) enough) refl
-    (after-put-figures .put-figures .ensures whole (h .beside) (h .lines) ∙ sets-front (figures whole) out enough)
+    (c .before .put-figures .ensures whole (h .beside) (h .lines) ∙ sets-front (figures whole) out enough)
 
 pub answer-lines-spec : {M : Type 1} → statement M
 answer-lines-spec =

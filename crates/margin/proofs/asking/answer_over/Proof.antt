@@ -42,11 +42,10 @@ same-length c = search needs
 
 returns : tie.Need-returns
 returns c =
-    let after-answer-figures = c .before in
-    let after-enum-told = after-answer-figures .before .before in
+    let after-enum-told = c .before .before .before in
     let c-7 = after-enum-told .before .before .before .before in
     let s = c-7 in
-    let r = after-answer-figures .answer-figures in
+    let r = c .before .answer-figures in
     answered (accountOf (s .args .morning .now) (s .args .noon .now)) (r .result) (r .last .1 .1 .1 .0) (s .args .out .now) _ _
     (after-enum-told .enum-told .given .1) (r .ensures)
 
@@ -55,11 +54,10 @@ same-length-2 c = search needs
 
 returns-2 : tie.Need-returns-2
 returns-2 c =
-    let after-answer-question = c .before in
-    let after-question = after-answer-question .before .before .before in
+    let after-question = c .before .before .before .before in
     let c-8 = after-question .before .before .before .before in
     let s = c-8 in
-    let r = after-answer-question .answer-question in
+    let r = c .before .answer-question in
     answered (accountOf (s .args .morning .now) (s .args .noon .now)) (r .result) (r .last .1 .1 .1 .1 .1 .0) (s .args .out .now) _ _
     (after-question .question .given .1) (r .ensures)
 
@@ -68,11 +66,10 @@ same-length-3 c = search needs
 
 returns-3 : tie.Need-returns-3
 returns-3 c =
-    let after-answer-question2 = c .before in
-    let after-question2 = after-answer-question2 .before .before .before in
+    let after-question2 = c .before .before .before .before in
     let c-8 = after-question2 .before .before .before .before in
     let s = c-8 in
-    let r = after-answer-question2 .answer-question2 in
+    let r = c .before .answer-question2 in
     answered (accountOf (s .args .morning .now) (s .args .noon .now)) (r .result) (r .last .1 .1 .1 .1 .1 .0) (s .args .out .now) _ _
     (after-question2 .question2 .given .1) (r .ensures)
 

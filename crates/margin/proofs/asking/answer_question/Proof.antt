@@ -34,22 +34,19 @@ record-total-requires c κs = search needs
 
 returns : tie.Need-returns
 returns c =
-    let c-1 = c .before in
-    let after-is-asked = c-1 .before in
-    let c-5 = after-is-asked .before .before .before in
+    let c-5 = c .before .before .before .before .before in
     let s = c-5 in
     let a = accountOf (s .args .morning .now) (s .args .noon .now) in
     let q = questionOf (s .args .paid) (s .args .question) in
     refused-with (NoSuchQuestion (c .record-total .result)) _ (numbersFor a q) (s .args .out .now)
     (not-asked a q (length (s .args .out .now))
-    (answers-of a (s .args .paid) (s .args .question) ∙ asked (after-is-asked) ∙ not-true (after-is-asked .is-asked .result) (c-1 .if1 .taken))
+    (answers-of a (s .args .paid) (s .args .question) ∙ asked (c .before .before) ∙ not-true (c .before .before .is-asked .result) (c .before .if1 .taken))
     ∙ ap NoSuchQuestion (sym (c .record-total .ensures ∙ s .pre .places .all))) (λ e. omega arith)
 
 asking-over-requires : tie.Need-asking-over-requires
 asking-over-requires c κs =
-    let after-is-asked = c .before in
-    let start = after-is-asked .before .before .before in
-    (start .pre, asked (after-is-asked) ∙ not-false (after-is-asked .is-asked .result) (c .if1 .left))
+    let start = c .before .before .before .before in
+    (start .pre, asked (c .before) ∙ not-false (c .before .is-asked .result) (c .if1 .left))
 
 record-total-requires-2 : tie.Need-record-total-requires-2
 record-total-requires-2 c κs = search needs
@@ -62,15 +59,14 @@ same-length c = search needs
 
 returns-2 : tie.Need-returns-2
 returns-2 c =
-    let after-answer-asking = c .before in
-    let after-record-total2 = after-answer-asking .before .before in
+    let after-record-total2 = c .before .before .before in
     let after-asking-over = after-record-total2 .before in
     let c-5 = after-asking-over .before in
     let after-is-asked = c-5 .before in
     let c-9 = after-is-asked .before .before .before in
     let s = c-9 in
     let q = after-is-asked .is-asked in
-    after-answer-asking .answer-asking .ensures (accountOf (s .args .morning .now) (s .args .noon .now)) (s .args .question)
+    c .before .answer-asking .ensures (accountOf (s .args .morning .now) (s .args .noon .now)) (s .args .question)
     (record {
       lawful = s .pre .lawful;
       asked-is = asked (after-is-asked) ∙ not-false (q .result) (c-5 .if1 .left);

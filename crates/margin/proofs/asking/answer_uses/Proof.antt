@@ -20,32 +20,27 @@ uses-count-requires c κs = search needs
 
 returns : tie.Need-returns
 returns c =
-    let after-uses-count = c .before in
-    let c-4 = after-uses-count .before .before .before in
+    let c-4 = c .before .before .before .before in
     let s = c-4 in
     let out = s .args .out .now in
     λ whole question h.
     refused-with (TooFewNumbers (s .args .records)) _ (uses whole question) out
     (asked-few whole (Uses question) (length out) (h .asked-is)
-    (omega (arith, uses-many whole question (s .args .records) (s .args .asking) h, after-uses-count .uses-count .ensures, c .if1 .taken))
+    (omega (arith, uses-many whole question (s .args .records) (s .args .asking) h, c .before .uses-count .ensures, c .if1 .taken))
     ∙ ap TooFewNumbers (sym (h .records-are))) (λ e. omega arith)
 
 put-uses-requires : tie.Need-put-uses-requires
 put-uses-requires c κs =
-    let c-1 = c .before in
-    let after-uses-count = c-1 .before in
-    let start = after-uses-count .before .before .before in
-    (start .pre, omega (arith, after-uses-count .uses-count .ensures, c-1 .if1 .left))
+    let start = c .before .before .before .before .before in
+    (start .pre, omega (arith, c .before .before .uses-count .ensures, c .before .if1 .left))
 
 same-length : tie.Need-same-length
 same-length c = search needs
 
 returns-2 : tie.Need-returns-2
 returns-2 c =
-    let after-put-uses = c .before in
-    let c-3 = after-put-uses .before .before in
-    let after-uses-count = c-3 .before in
-    let c-7 = after-uses-count .before .before .before in
+    let c-3 = c .before .before .before in
+    let c-7 = c-3 .before .before .before .before in
     let s = c-7 in
     let out = s .args .out .now in
     λ whole question h.
@@ -54,13 +49,13 @@ returns-2 c =
       arith,
       uses-many whole question (s .args .records)
           (s .args .asking) h,
-      after-uses-count .uses-count .ensures,
+      c-3 .before .uses-count .ensures,
       c-3 .if1 .left,
     )
     in
-    accepted-with _ (uses whole question) out (after-put-uses .put-uses .last .0) (length (uses whole question))
+    accepted-with _ (uses whole question) out (c .before .put-uses .last .0) (length (uses whole question))
     (asked-many whole (Uses question) (length out) (h .asked-is) enough) refl
-    (after-put-uses .put-uses .ensures ∙ ap (sets out 0) (uses-same whole question (s .args .records) (s .args .asking) h)
+    (c .before .put-uses .ensures ∙ ap (sets out 0) (uses-same whole question (s .args .records) (s .args .asking) h)
     ∙ sets-front (uses whole question) out enough)
 
 pub answer-uses-spec : {M : Type 1} → statement M

@@ -48,11 +48,10 @@ same-length-2 c = search needs
 
 returns : tie.Need-returns
 returns c =
-    let after-lend-uses = c .before .before in
-    let after-lend-book = after-lend-uses .before .before .before in
+    let after-lend-book = c .before .before .before .before .before in
     let after-contract-asking = after-lend-book .before .before .before .before .before in
     let c-14 = after-contract-asking .before .before .before .before in
-    let u = after-lend-uses .lend-uses in
+    let u = c .before .before .lend-uses in
     let b = after-lend-book .lend-book in
     let a = after-contract-asking .contract-asking in
     let s = c-14 in (

@@ -8,7 +8,7 @@ use native.Mathlib.Omega.{arith}
 use borrow.Author.Needs.{needs}
 use lib.IntN.{ℤ}
 use lib.ListN.{getD}
-use Rattle.record.specs.Layout.{contract}
+use Rattle.record.specs.Layout.{contract, mostContract}
 use Rattle.account.specs.Parts.{contractsOf, ratesOf}
 use Rattle.account.specs.Records.{records}
 use Rattle.account.specs.Joined.{accountOf}
@@ -33,7 +33,7 @@ number c =
     number-at (s .args .morning .now) (s .args .noon .now) (s .args .account) (s .pre .0)
     (s .args .i) (s .pre .1 .0) (c .contract-number .result) (c .contract-number .ensures)
 
-small : (c : tie.After-contract-number) → c .contract-number .result ≤ 15
+small : (c : tie.After-contract-number) → c .contract-number .result ≤ mostContract
 small c =
     let c-3 = c .before .before .before in
     let s = c-3 in
@@ -73,13 +73,11 @@ unit-requires c κs = search needs
 
 position-of-requires : tie.Need-position-of-requires
 position-of-requires c κs =
-    let after-part4 = c .before in
-    let after-part3 = after-part4 .before in
-    let after-part2 = after-part3 .before in
+    let after-part2 = c .before .before .before in
     let after-part = after-part2 .before in
     let c-5 = after-part .before in
-    let ss = after-part4 .part4 in
-    let rs = after-part3 .part3 in
+    let ss = c .before .part4 in
+    let rs = c .before .before .part3 in
     let ps = after-part2 .part2 in
     let own = after-part .part in
     let k = c-5 in
@@ -123,8 +121,7 @@ same-length-2 c = search needs
 
 returns : tie.Need-returns
 returns c =
-    let after-contract-in = c .before .before in
-    let after-record-total = after-contract-in .before .before .before in
+    let after-record-total = c .before .before .before .before .before in
     let after-position-of = after-record-total .before in
     let after-unit = after-position-of .before in
     let after-part4 = after-unit .before in
@@ -132,7 +129,7 @@ returns c =
     let after-part2 = after-part3 .before in
     let after-part = after-part2 .before in
     let c-12 = after-part .before in
-    let r = after-contract-in .contract-in in
+    let r = c .before .before .contract-in in
     let total = after-record-total .record-total in
     let p = after-position-of .position-of in
     let u = after-unit .unit in

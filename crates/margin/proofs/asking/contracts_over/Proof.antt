@@ -11,6 +11,7 @@ use Rattle.record.specs.Layout.{Record}
 use Rattle.account.specs.Parts.{ratesOf}
 use Rattle.account.specs.code.Rates.{RatesOf}
 use Rattle.account.specs.Joined.{accountOf}
+use Rattle.account.specs.Check.{mostContracts}
 use Rattle.margin.proofs.AccountLaws.{LinedTo, lined-next}
 use Rattle.margin.proofs.LentLaws.{LentTo, lent-none, lent-next, lent-all}
 use Rattle.margin.proofs.StandLaws.{few-contracts, listed-at}
@@ -26,7 +27,7 @@ abbrev μ-loop : tie.MeasureT-loop
 μ-loop morning noon account books₀ uses₀ count rates lines₀ i₀ books uses lines i = count - i
 
 -- an account has at most sixteen contracts
-few : (c : tie.After-contract-total Inv-loop μ-loop) → c .contract-total .result ≤ 16
+few : (c : tie.After-contract-total Inv-loop μ-loop) → c .contract-total .result ≤ mostContracts
 few c =
     let c-3 = c .before .before .before in
     let s = c-3 in
@@ -61,11 +62,10 @@ loop-holds c =
 
 contract-over-requires : tie.Need-contract-over-requires Inv-loop μ-loop
 contract-over-requires c κs =
-    let after-loop-test = c .before .before in
-    let c-5 = after-loop-test .before .before .before in
+    let c-5 = c .before .before .before .before .before in
     let r = c-5 in
     let n = r .before .before .contract-total .ensures in
-    (r .before .before .before .before .before .pre, (omega (arith, after-loop-test .loop-test .taken, n), table r))
+    (r .before .before .before .before .before .pre, (omega (arith, c .before .before .loop-test .taken, n), table r))
 
 mul-lines : tie.Need-mul-lines Inv-loop μ-loop
 mul-lines c =
@@ -90,9 +90,7 @@ loop-less c =
 
 loop-again : tie.Need-loop-again Inv-loop μ-loop
 loop-again c =
-    let after-books = c .before in
-    let after-contract-over = after-books .before in
-    let after-loop-test = after-contract-over .before .before .before in
+    let after-loop-test = c .before .before .before .before .before in
     let after-loop = after-loop-test .before in
     let after-contract-total = after-loop .before .before .before .before in
     let c-13 = after-contract-total .before .before .before in
@@ -102,14 +100,14 @@ loop-again c =
     let a = accountOf m n in
     let l = after-loop .loop in
     let h = few (after-contract-total) in
-    let r = after-contract-over .contract-over in
+    let r = c .before .before .contract-over in
     let count = after-contract-total .contract-total .ensures in
     let its = listed-at m n (s .args .account) (s .pre) (l .i) (omega (arith, after-loop-test .loop-test .taken, count)) in (
       lined-next a (l .i) (l .lines) (r .result) (l .inv .0) (omega (arith, after-loop-test .loop-test .taken)) (r .ensures .line),
       (
         omega (arith, after-loop-test .loop-test .taken),
         (
-          lent-next a (s .pre .lawful) false (l .i) (s .args .books .now) (l .books) _ (l .inv .1 .1 .0) its (after-books .books .given) (r .ensures .book),
+          lent-next a (s .pre .lawful) false (l .i) (s .args .books .now) (l .books) _ (l .inv .1 .1 .0) its (c .before .books .given) (r .ensures .book),
           lent-next a (s .pre .lawful) true (l .i) (s .args .uses .now) (l .uses) _ (l .inv .1 .1 .1) its (c .uses .given) (r .ensures .paid),
         ),
       ),
@@ -123,12 +121,11 @@ same-length-2 c = c .before .loop .inv .1 .1 .1 .same
 
 returns : tie.Need-returns Inv-loop μ-loop
 returns c =
-    let after-loop = c .before in
-    let after-contract-total = after-loop .before .before .before .before in
+    let after-contract-total = c .before .before .before .before .before in
     let c-8 = after-contract-total .before .before .before in
     let s = c-8 in
     let a = accountOf (s .args .morning .now) (s .args .noon .now) in
-    let l = after-loop .loop in
+    let l = c .before .loop in
     let h = few (after-contract-total) in
     let n = after-contract-total .contract-total .ensures in
     let e = s .pre .places .contracts in

@@ -24,13 +24,12 @@ same-length-3 c = search needs
 
 returns : tie.Need-returns
 returns c =
-    let after-all-from2 = c .before in
-    let after-all-from = after-all-from2 .before .before .before in
+    let after-all-from = c .before .before .before .before in
     let after-figures-answer = after-all-from .before .before .before in
     λ whole t.
     let f = after-figures-answer .figures-answer .ensures whole t in
     let b = after-all-from .all-from .ensures whole t in
-    let u = after-all-from2 .all-from2 .ensures whole t in
+    let u = c .before .all-from2 .ensures whole t in
     record { figures-answer = f .0; figures-after = f .1; books-answer = b .0; books-after = b .1; uses-answer = u .0; uses-after = u .1 }
 
 pub everything-from-spec : {M : Type 1} → statement M

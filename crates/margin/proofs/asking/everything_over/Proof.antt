@@ -59,8 +59,7 @@ same-length-3 c =
 
 returns : tie.Need-returns
 returns c =
-    let after-lend-table2 = c .before in
-    let after-lend-table = after-lend-table2 .before .before .before in
+    let after-lend-table = c .before .before .before .before in
     let c-7 = after-lend-table .before .before .before in
     let q = c-7 in
     let k = q .before .before .before .before .before .before in
@@ -78,7 +77,7 @@ returns c =
     })
     in
     let t = after-lend-table .lend-table .ensures in
-    let v = after-lend-table2 .lend-table2 .ensures in
+    let v = c .before .lend-table2 .ensures in
     let b = then-table a false (s .args .books .now) _ _ (q .before .before .before .before .before .books .given) _ (l .book) (t .0) (t .1) in
     let u = then-table a true (s .args .uses .now) _ _ (q .before .before .before .before .uses .given) _ (l .paid) (v .0) (v .1) in
     record { figures-answer = p .0; figures-after = p .1; books-answer = b .0; books-after = b .1; uses-answer = u .0; uses-after = u .1 }

@@ -9,11 +9,10 @@ lines-from-requires c κs = search needs
 
 answer-lines-requires : tie.Need-answer-lines-requires
 answer-lines-requires c κs =
-    let after-lines-from = c .before in
-    let c-4 = after-lines-from .before .before .before in
+    let c-4 = c .before .before .before .before in
     let s = c-4 in
     let x = s .pre .1 in
-    (s .pre .0, record { whole = x .whole; beside = x .told .beside; lines = after-lines-from .lines-from .ensures (x .whole) (x .told) })
+    (s .pre .0, record { whole = x .whole; beside = x .told .beside; lines = c .before .lines-from .ensures (x .whole) (x .told) })
 
 same-length : tie.Need-same-length
 same-length c = search needs

@@ -42,13 +42,11 @@ same-length c = search needs
 
 returns-2 : tie.Need-returns-2
 returns-2 c =
-    let after-answer-book = c .before in
-    let c-3 = after-answer-book .before .before in
-    let c-4 = c-3 .before in
-    let s = c-4 in
+    let c-3 = c .before .before .before in
+    let s = c-3 .before in
     let o = s .args .out .now in
     let k = s .args .c in
-    let r = after-answer-book .answer-book in
+    let r = c .before .answer-book in
     λ whole h.
     let after = afterOver whole (Book k) in
     lent-enough longestBook k after o _ (omega (arith, c-3 .if1 .left))

@@ -8,6 +8,7 @@ use lib.ListN.{length}
 use Rattle.account.specs.Joined.{accountOf}
 use Rattle.margin.specs.Places.{questions, questionOf, widthOf}
 use Rattle.margin.specs.Questions.{afterOver}
+use Rattle.margin.specs.Books.{tableQuestion}
 use Rattle.margin.proofs.BesideLaws.{alone}
 use Rattle.margin.proofs.LentLaws.{lent-few, lent-enough}
 use Rattle.margin.proofs.PlaceLaws.{each-too-few, each-accepted}
@@ -25,17 +26,15 @@ mul-if1 c = omega (arith, c .width-of .ensures .1)
 
 returns : tie.Need-returns
 returns c =
-    let after-width-of = c .before in
-    let after-record-total = after-width-of .before in
-    let c-5 = after-record-total .before .before .before in
+    let c-5 = c .before .before .before .before .before in
     let s = c-5 in
     let p = s .args .paid in
     let o = s .args .out .now in
     let a = accountOf (s .args .morning .now) (s .args .noon .now) in
-    let n = after-record-total .record-total in
-    let few : length o < widthOf p * questions = omega (arith, after-width-of .width-of .ensures .0, c .if1 .taken) in (
+    let n = c .before .before .record-total in
+    let few : length o < widthOf p * questions = omega (arith, c .before .width-of .ensures .0, c .if1 .taken) in (
       each-too-few (widthOf p) (λ k. afterOver a (questionOf p k)) a o (n .result) few (n .ensures ∙ s .pre .0 .places .all) .0,
-      lent-few (widthOf p) 16 (afterOver a (questionOf p 16)) o few,
+      lent-few (widthOf p) tableQuestion (afterOver a (questionOf p tableQuestion)) o few,
     )
 
 -- all places are lent
@@ -46,22 +45,19 @@ room c = omega (arith, c .before .width-of .ensures .0, c .if1 .left)
 
 place-table-requires : tie.Need-place-table-requires
 place-table-requires c κs =
-    let c-1 = c .before in
-    let c-6 = c-1 .before .before .before .before .before in
+    let c-6 = c .before .before .before .before .before .before in
     let s = c-6 in
     let m = s .args .morning .now in
     let n = s .args .noon .now in
-    (s .pre .0, (record { whole = accountOf m n; beside = alone m n (s .args .account) (s .pre .0); is = s .pre .1 }, room (c-1)))
+    (s .pre .0, (record { whole = accountOf m n; beside = alone m n (s .args .account) (s .pre .0); is = s .pre .1 }, room (c .before)))
 
 same-length : tie.Need-same-length
 same-length c = search needs
 
 returns-2 : tie.Need-returns-2
 returns-2 c =
-    let after-place-table = c .before in
-    let c-3 = after-place-table .before .before in
-    let after-record-total = c-3 .before .before in
-    let c-8 = after-record-total .before .before .before in
+    let c-3 = c .before .before .before in
+    let c-8 = c-3 .before .before .before .before .before in
     let s = c-8 in
     let p = s .args .paid in
     let o = s .args .out .now in
@@ -69,9 +65,9 @@ returns-2 c =
     let n = s .args .noon .now in
     let a = accountOf m n in (
       each-accepted (widthOf p) (λ k. afterOver a (questionOf p k)) a o _ (room (c-3)) refl .0,
-      lent-enough (widthOf p) 16 (afterOver a (questionOf p 16)) o _ (room (c-3))
-          (after-place-table .place-table .ensures a (alone m n (s .args .account) (s .pre .0)) (s .pre .1)
-          (after-record-total .record-total .ensures ∙ s .pre .0 .places .all)),
+      lent-enough (widthOf p) tableQuestion (afterOver a (questionOf p tableQuestion)) o _ (room (c-3))
+          (c .before .place-table .ensures a (alone m n (s .args .account) (s .pre .0)) (s .pre .1)
+          (c-3 .before .before .record-total .ensures ∙ s .pre .0 .places .all)),
     )
 
 pub lend-table-spec : {M : Type 1} → statement M

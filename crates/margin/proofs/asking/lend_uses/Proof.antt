@@ -42,13 +42,11 @@ same-length c = search needs
 
 returns-2 : tie.Need-returns-2
 returns-2 c =
-    let after-answer-uses = c .before in
-    let c-3 = after-answer-uses .before .before in
-    let c-4 = c-3 .before in
-    let s = c-4 in
+    let c-3 = c .before .before .before in
+    let s = c-3 .before in
     let o = s .args .out .now in
     let k = s .args .c in
-    let r = after-answer-uses .answer-uses in
+    let r = c .before .answer-uses in
     λ whole h.
     let after = afterOver whole (Uses k) in
     lent-enough longestUses k after o _ (omega (arith, c-3 .if1 .left))

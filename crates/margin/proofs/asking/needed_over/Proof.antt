@@ -41,28 +41,25 @@ uses-need-requires c κs = search needs
 
 returns : tie.Need-returns
 returns c =
-    let after-enum-told = c .before in
-    let c-5 = after-enum-told .before .before .before .before in
+    let c-5 = c .before .before .before .before .before in
     let s = c-5 in
     let a = accountOf (s .args .morning .now) (s .args .noon .now) in
     let n = c .figures-count in
     let few = few-contracts (s .args .morning .now) (s .args .noon .now) (s .args .account) (s .pre) in
-    needed a (n .result) _ _ (after-enum-told .enum-told .given .1)
+    needed a (n .result) _ _ (c .before .enum-told .given .1)
     (sym (figures-length a ∙ omega (arith, n .ensures, s .pre .places .contracts)), omega (arith, n .ensures, few))
 
 returns-2 : tie.Need-returns-2
 returns-2 c =
-    let after-question = c .before .before in
-    let c-6 = after-question .before .before .before .before in
+    let c-6 = c .before .before .before .before .before .before in
     let s = c-6 in
-    needed (accountOf (s .args .morning .now) (s .args .noon .now)) (c .book-need .result) _ _ (after-question .question .given .1) (c .book-need .ensures)
+    needed (accountOf (s .args .morning .now) (s .args .noon .now)) (c .book-need .result) _ _ (c .before .before .question .given .1) (c .book-need .ensures)
 
 returns-3 : tie.Need-returns-3
 returns-3 c =
-    let after-question2 = c .before .before in
-    let c-6 = after-question2 .before .before .before .before in
+    let c-6 = c .before .before .before .before .before .before in
     let s = c-6 in
-    needed (accountOf (s .args .morning .now) (s .args .noon .now)) (c .uses-need .result) _ _ (after-question2 .question2 .given .1) (c .uses-need .ensures)
+    needed (accountOf (s .args .morning .now) (s .args .noon .now)) (c .uses-need .result) _ _ (c .before .before .question2 .given .1) (c .uses-need .ensures)
 
 pub needed-over-spec : {M : Type 1} → statement M
 needed-over-spec =

@@ -51,15 +51,14 @@ same-length c = search needs
 
 returns : tie.Need-returns
 returns c =
-    let after-answer-contract = c .before in
-    let after-width-of = after-answer-contract .before .before in
+    let after-width-of = c .before .before .before in
     let c-6 = after-width-of .before .before .before in
     let s = c-6 in
     let o = s .args .out .now in
     let w = after-width-of .width-of in
     let k = s .args .c in
     let at = w .result * k in
-    let r = after-answer-contract .answer-contract in
+    let r = c .before .answer-contract in
     λ whole t.
     put-place (w .result) at o (r .last .1 .1 .1 .1 .1 .1 .1 .0) (afterOver whole (questionOf (s .args .paid) k)) (r .ensures whole t .1)
     ∙ ap (λ (n : ℕ). atPlace n (n * k) (afterOver whole (questionOf (s .args .paid) k)) o) (w .ensures .0)

@@ -7,6 +7,7 @@ use borrow.Author.Needs.{needs}
 use lib.ListN.{length}
 use Rattle.margin.specs.Places.{atPlace, questionOf}
 use Rattle.margin.specs.Questions.{afterOver}
+use Rattle.margin.specs.Books.{tableQuestion}
 use Rattle.margin.proofs.PlaceLaws.{put-place}
 use Rattle.margin.proofs.asking.place_table.Statement.{statement}
 use Rattle.margin.proofs.asking.place_table.Tie as tie
@@ -15,7 +16,7 @@ width-of-requires : tie.Need-width-of-requires
 width-of-requires c κs = search needs
 
 -- the place ends within the lent numbers
-room : (c : tie.After-width-of) → c .width-of .result * 16 + c .width-of .result ≤ length (c .before .before .before .args .out .now)
+room : (c : tie.After-width-of) → c .width-of .result * tableQuestion + c .width-of .result ≤ length (c .before .before .before .args .out .now)
 room c =
     let c-3 = c .before .before .before in
     let s = c-3 in omega (arith, c .width-of .ensures .0, s .pre .1 .1)
@@ -45,9 +46,8 @@ part-answer-asking-end c = omega (arith, room (c .before))
 
 answer-asking-requires : tie.Need-answer-asking-requires
 answer-asking-requires c κs =
-    let after-table-asking = c .before in
-    let start = after-table-asking .before .before .before .before in
-    let x = start .pre .1 .0 in after-table-asking .table-asking .ensures (x .whole) (x .beside)
+    let start = c .before .before .before .before .before in
+    let x = start .pre .1 .0 in c .before .table-asking .ensures (x .whole) (x .beside)
     (x .is) .accepted
 
 same-length : tie.Need-same-length
@@ -55,19 +55,18 @@ same-length c = search needs
 
 returns : tie.Need-returns
 returns c =
-    let after-answer-asking = c .before in
-    let after-table-asking = after-answer-asking .before .before in
+    let after-table-asking = c .before .before .before in
     let after-width-of = after-table-asking .before in
     let c-7 = after-width-of .before .before .before in
     let s = c-7 in
     let o = s .args .out .now in
     let w = after-width-of .width-of in
-    let r = after-answer-asking .answer-asking in
+    let r = c .before .answer-asking in
     let a = after-table-asking .table-asking in
     λ whole beside is n.
-    put-place (w .result) (w .result * 16) o (r .last .1 .1 .1 .0) (afterOver whole (questionOf (s .args .paid) 16))
-    (r .ensures whole 16 (record { lawful = beside .lawful; asked-is = refl; records-are = n; asks = a .ensures whole beside is }) .1)
-    ∙ ap (λ (k : ℕ). atPlace k (k * 16) (afterOver whole (questionOf (s .args .paid) 16)) o) (w .ensures .0)
+    put-place (w .result) (w .result * tableQuestion) o (r .last .1 .1 .1 .0) (afterOver whole (questionOf (s .args .paid) tableQuestion))
+    (r .ensures whole tableQuestion (record { lawful = beside .lawful; asked-is = refl; records-are = n; asks = a .ensures whole beside is }) .1)
+    ∙ ap (λ (k : ℕ). atPlace k (k * tableQuestion) (afterOver whole (questionOf (s .args .paid) tableQuestion)) o) (w .ensures .0)
 
 pub place-table-spec : {M : Type 1} → statement M
 place-table-spec =

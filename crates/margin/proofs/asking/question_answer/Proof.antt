@@ -32,30 +32,27 @@ asked c =
 
 returns : tie.Need-returns
 returns c =
-    let after-is-asked = c .before in
-    let c-4 = after-is-asked .before .before .before in
+    let c-4 = c .before .before .before .before in
     let s = c-4 in
     let a = accountOf (s .args .morning .now) (s .args .noon .now) in
     let k = s .args .question in
     let q = questionOf (s .args .paid) k in
     λ whole t.
     refused-with (NoSuchQuestion (s .args .positions .records)) _ (numbersFor whole q) (s .args .out .now)
-    (not-asked whole q (length (s .args .out .now)) (answers-of whole (s .args .paid) k ∙ answered-beside a whole (t .beside) k ∙ asked (after-is-asked)
-    ∙ not-true (after-is-asked .is-asked .result) (c .if1 .taken))
+    (not-asked whole q (length (s .args .out .now)) (answers-of whole (s .args .paid) k ∙ answered-beside a whole (t .beside) k ∙ asked (c .before)
+    ∙ not-true (c .before .is-asked .result) (c .if1 .taken))
     ∙ ap NoSuchQuestion (sym (t .positions .records-are))) (λ e. omega arith)
 
 asking-from-requires : tie.Need-asking-from-requires
 asking-from-requires c κs =
-    let after-is-asked = c .before in
-    let c-4 = after-is-asked .before .before .before in
+    let c-4 = c .before .before .before .before in
     let s = c-4 in
-    (s .pre .0, (s .pre .1, asked (after-is-asked) ∙ not-false (after-is-asked .is-asked .result) (c .if1 .left)))
+    (s .pre .0, (s .pre .1, asked (c .before) ∙ not-false (c .before .is-asked .result) (c .if1 .left)))
 
 answer-asking-requires : tie.Need-answer-asking-requires
 answer-asking-requires c κs =
-    let after-asking-from = c .before in
-    let start = after-asking-from .before .before .before .before .before in
-    let x = start .pre .1 in after-asking-from .asking-from .ensures (x .whole)
+    let start = c .before .before .before .before .before .before in
+    let x = start .pre .1 in c .before .asking-from .ensures (x .whole)
     (x .told) .accepted
 
 same-length : tie.Need-same-length

@@ -4,6 +4,7 @@ use mathlib.Core.Path.{sym, subst₂}
 use Prim.Native.Nat.{_≤_}
 use native.Mathlib.Omega.{arith}
 use borrow.Author.Needs.{needs}
+use Rattle.record.specs.Layout.{mostContract}
 use Rattle.account.specs.Joined.{accountOf}
 use Rattle.margin.specs.code.Asked.{SizesOf}
 use Rattle.margin.proofs.AskedLaws.{asked-small}
@@ -19,16 +20,14 @@ part-total-requires c κs = search needs
 
 returns : tie.Need-returns
 returns c =
-    let after-contract-total = c .before in
-    let c-2 = after-contract-total .before in
-    let c-5 = c-2 .before .before .before in
+    let c-5 = c .before .before .before .before .before in
     let s = c-5 in
-    subst₂ (SizesOf (accountOf (s .args .morning .now) (s .args .noon .now)) (s .args .question)) (sym (after-contract-total .contract-total .ensures))
+    subst₂ (SizesOf (accountOf (s .args .morning .now) (s .args .noon .now)) (s .args .question)) (sym (c .before .contract-total .ensures))
     (sym (c .part-total .ensures))
-    (table-sizes (s .args .morning .now) (s .args .noon .now) (s .args .account) (s .pre .0) (s .args .question) (s .pre .1) (c-2 .if1 .taken))
+    (table-sizes (s .args .morning .now) (s .args .noon .now) (s .args .account) (s .pre .0) (s .args .question) (s .pre .1) (c .before .before .if1 .taken))
 
 -- the question is a contract's number
-small : (c : tie.Else1) → c .before .before .before .args .question ≤ 15
+small : (c : tie.Else1) → c .before .before .before .args .question ≤ mostContract
 small c =
     let c-3 = c .before .before .before in
     let s = c-3 in
@@ -48,13 +47,11 @@ part-total-requires-3 c κs = search needs
 
 returns-2 : tie.Need-returns-2
 returns-2 c =
-    let after-part-total2 = c .before in
-    let c-2 = after-part-total2 .before in
-    let c-5 = c-2 .before .before .before in
+    let c-5 = c .before .before .before .before .before in
     let s = c-5 in
-    subst₂ (SizesOf (accountOf (s .args .morning .now) (s .args .noon .now)) (s .args .question)) (sym (after-part-total2 .part-total2 .ensures))
+    subst₂ (SizesOf (accountOf (s .args .morning .now) (s .args .noon .now)) (s .args .question)) (sym (c .before .part-total2 .ensures))
     (sym (c .part-total3 .ensures))
-    (contract-sizes (s .args .morning .now) (s .args .noon .now) (s .args .account) (s .pre .0) (s .args .question) (s .pre .1) (c-2 .if1 .left))
+    (contract-sizes (s .args .morning .now) (s .args .noon .now) (s .args .account) (s .pre .0) (s .args .question) (s .pre .1) (c .before .before .if1 .left))
 
 pub sizes-over-spec : {M : Type 1} → statement M
 sizes-over-spec =

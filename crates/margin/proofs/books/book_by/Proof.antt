@@ -13,10 +13,9 @@ nets-in-requires c κs = let s = c .before .before in and-left (soundPrompts (s 
 
 returns : tie.Need-returns
 returns c =
-    let c-1 = c .before in
-    let c-3 = c-1 .before .before in
+    let c-3 = c .before .before .before in
     let s = c-3 in
-    unspread-booked (s .args .prompts) (s .args .table) _ (c-1 .if1 .taken) (s .pre) refl refl refl refl (c .nets-in .ensures)
+    unspread-booked (s .args .prompts) (s .args .table) _ (c .before .if1 .taken) (s .pre) refl refl refl refl (c .nets-in .ensures)
 
 book-of-accepted-requires : tie.Need-book-of-accepted-requires
 book-of-accepted-requires c κs = search needs

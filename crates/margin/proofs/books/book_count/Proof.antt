@@ -3,17 +3,16 @@
 use Prim.Native.Nat.{_≤_}
 use native.Mathlib.Omega.{arith}
 use borrow.Author.Needs.{needs}
-use Rattle.spread.specs.Accepted.{soundPrompts, soundTable}
+use Rattle.spread.specs.Accepted.{soundPrompts, soundTable, promptPlaces, spreadPlaces}
 use Rattle.spread.proofs.Both.{and-left, and-right}
-use Rattle.spread.proofs.Gathering.{few}
-use Rattle.margin.proofs.UsesLaws.{few-in-table}
+use Rattle.spread.proofs.Gathering.{few, few-in-table}
 use Rattle.margin.proofs.books.book_count.Statement.{statement}
 use Rattle.margin.proofs.books.book_count.Tie as tie
 
-prompts-few : (s : tie.Start) → s .args .prompts .count ≤ 32
+prompts-few : (s : tie.Start) → s .args .prompts .count ≤ promptPlaces
 prompts-few s = few (s .args .prompts) (and-left (soundPrompts (s .args .prompts)) (soundTable (s .args .table)) (s .pre))
 
-spreads-few : (s : tie.Start) → s .args .table .count ≤ 32
+spreads-few : (s : tie.Start) → s .args .table .count ≤ spreadPlaces
 spreads-few s = few-in-table (s .args .table) (and-right (soundPrompts (s .args .prompts)) (soundTable (s .args .table)) (s .pre))
 
 mul-result : tie.Need-mul-result

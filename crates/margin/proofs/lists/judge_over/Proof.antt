@@ -34,20 +34,17 @@ record-total-requires c κs = search needs
 
 returns : tie.Need-returns
 returns c =
-    let c-1 = c .before in
-    let after-is-asked = c-1 .before in
-    let c-5 = after-is-asked .before .before .before in
+    let c-5 = c .before .before .before .before .before in
     let s = c-5 in
     let a = s .args in
     ap (λ (n : ℕ). Refused (NoSuchQuestion n)) (c .record-total .ensures ∙ s .pre .places .all)
     ∙ list-not-asked (accountOf (a .morning .now) (a .noon .now)) (a .question) (a .sent) (a .numbers .now) (a .uses .now)
-    (asked (after-is-asked) ∙ not-true (after-is-asked .is-asked .result) (c-1 .if1 .taken))
+    (asked (c .before .before) ∙ not-true (c .before .before .is-asked .result) (c .before .if1 .taken))
 
 asking-over-requires : tie.Need-asking-over-requires
 asking-over-requires c κs =
-    let after-is-asked = c .before in
-    let start = after-is-asked .before .before .before in
-    (start .pre, asked (after-is-asked) ∙ not-false (after-is-asked .is-asked .result) (c .if1 .left))
+    let start = c .before .before .before .before in
+    (start .pre, asked (c .before) ∙ not-false (c .before .is-asked .result) (c .if1 .left))
 
 judge-requires : tie.Need-judge-requires
 judge-requires c κs = search needs
@@ -57,12 +54,11 @@ said-of-requires c κs = search needs
 
 returns-2 : tie.Need-returns-2
 returns-2 c =
-    let after-judge = c .before in
-    let c-4 = after-judge .before .before .before in
+    let c-4 = c .before .before .before .before in
     let o = c-4 in
     let s = o .before .before .before .before .before in
     let a = s .args in
-    c .said-of .ensures ∙ ap saidOf (after-judge .judge .ensures)
+    c .said-of .ensures ∙ ap saidOf (c .before .judge .ensures)
     ∙ list-asked (accountOf (a .morning .now) (a .noon .now)) (a .question) (a .sent) (a .numbers .now) (a .uses .now)
     (asked (o .before .before) ∙ not-false (o .before .before .is-asked .result) (o .before .if1 .left)) (o .asking-over .result) (o .asking-over .ensures)
 

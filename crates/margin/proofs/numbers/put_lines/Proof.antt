@@ -8,7 +8,8 @@ use borrow.Author.Needs.{needs}
 use lib.IntN.{pos}
 use lib.ListN.{length, getD}
 use lib.Seq.{sets}
-use Rattle.formulas.specs.Bounds.{mostRisk}
+use Rattle.account.specs.Check.{mostContracts}
+use Rattle.formulas.specs.Bounds.{mostRisk, figuresEach}
 use Rattle.formulas.specs.code.Lines.{eightOf, noLine}
 use Rattle.margin.specs.code.Numbers.{amountAt}
 use Rattle.formulas.proofs.SumLaws as sums
@@ -18,7 +19,7 @@ use Rattle.margin.proofs.numbers.put_lines.Tie as tie
 
 abbrev Inv-loop : tie.InvT-loop
 Inv-loop out₀ count lines credits total₀ i₀ out total i =
-    ToWrite count (eightsOn count lines credits) (sets out₀ 0 (eightsOn count lines credits 0)) i (i * 8) out
+    ToWrite count (eightsOn count lines credits) (sets out₀ 0 (eightsOn count lines credits 0)) i (i * figuresEach) out
     × sums.ToGo count (3 * mostRisk) (totalOn count lines credits) i total
     × (length out ≡ length out₀)
 
@@ -58,14 +59,13 @@ mul-put-eight c =
 
 put-eight-requires : tie.Need-put-eight-requires Inv-loop μ-loop
 put-eight-requires c κs =
-    let after-margin-of = c .before in
-    let after-loop = after-margin-of .before .before .before .before in
+    let after-loop = c .before .before .before .before .before in
     let c-6 = after-loop .before in
     let s = c-6 in
     let l = after-loop .loop in
     let i = l .i in
     let most = s .pre .0 .most in
-    (omega (arith, l .inv .2), (s .pre .0 .line-within i (omega arith), (s .pre .0 .credit-within i (omega arith), after-margin-of .margin-of .ensures)))
+    (omega (arith, l .inv .2), (s .pre .0 .line-within i (omega arith), (s .pre .0 .credit-within i (omega arith), c .before .margin-of .ensures)))
 
 add-total : tie.Need-add-total Inv-loop μ-loop
 add-total c =
@@ -90,9 +90,9 @@ loop-again c =
     let l = c .before .before .before .before .before .before .before .before .loop in
     let margin = c .before .before .before .before .margin-of in
     let most = s .pre .0 .most in
-    let lines : length (s .args .t3) ≡ 16 = search needs in
-    let credits : length (s .args .t4) ≡ 16 = search needs in (
-      next (l .i) (l .i * 8) ((l .i + 1) * 8) (l .out) (c .before .before .put-eight .last .0)
+    let lines : length (s .args .t3) ≡ mostContracts = search needs in
+    let credits : length (s .args .t4) ≡ mostContracts = search needs in (
+      next (l .i) (l .i * figuresEach) ((l .i + 1) * figuresEach) (l .out) (c .before .before .put-eight .last .0)
           (map pos (eightOf (getD (s .args .t3) (l .i) noLine) (amountAt (s .args .t4) (l .i))))
           (l .inv .0) (omega arith)
           (eights-step (s .args .count) (s .args .t3) (s .args .t4) (omega arith) (omega arith) (l .i) (omega arith))
@@ -111,10 +111,9 @@ mul-put c =
 
 put-requires : tie.Need-put-requires Inv-loop μ-loop
 put-requires c κs =
-    let after-loop = c .before .before in
-    let c-3 = after-loop .before in
+    let c-3 = c .before .before .before in
     let s = c-3 in
-    let l = after-loop .loop in
+    let l = c .before .before .loop in
     let small = l .inv .1 .small in
     let within = l .inv .1 .within in
     let most = s .pre .0 .most in
@@ -131,13 +130,13 @@ returns c =
     let l = c .before .before .before .before .loop in
     let n = s .args .count in
     let most = s .pre .0 .most in
-    let lines : length (s .args .t3) ≡ 16 = search needs in
-    let credits : length (s .args .t4) ≡ 16 = search needs in
+    let lines : length (s .args .t3) ≡ mostContracts = search needs in
+    let credits : length (s .args .t4) ≡ mostContracts = search needs in
     let last : n ≡ l .i = omega (arith, l .inv .0 .within) in
     let total = sums.finish (l .i) (l .total) (l .inv .1) (omega arith)
     (subst (λ (k : ℕ). totalOn n (s .args .t3) (s .args .t4) k ≡ 0) last (total-none n (s .args .t3) (s .args .t4))) in
     figures-listed n (s .args .t3) (s .args .t4) (omega arith) (omega arith) (s .args .out .now) (l .out) _ (l .total)
-    (finish (l .i) (l .i * 8) (l .out) (l .inv .0) (omega arith) (eights-none n (s .args .t3) (s .args .t4)))
+    (finish (l .i) (l .i * figuresEach) (l .out) (l .inv .0) (omega arith) (eights-none n (s .args .t3) (s .args .t4)))
     (c .before .put .ensures) total
 
 pub put-lines-spec : {M : Type 1} → statement M

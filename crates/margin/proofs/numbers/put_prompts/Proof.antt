@@ -7,6 +7,7 @@ use native.Mathlib.Omega.{arith}
 use borrow.Author.Needs.{needs}
 use lib.ListN.{length}
 use lib.Seq.{sets}
+use Rattle.spread.specs.Accepted.{promptPlaces}
 use Rattle.formulas.specs.code.Sums.{deltaAt}
 use Rattle.margin.proofs.NumberLaws.{ToWrite, start, next, finish, threesOn, threes-step, threes-none}
 use Rattle.margin.proofs.numbers.put_prompts.Statement.{statement}
@@ -58,9 +59,9 @@ loop-again : tie.Need-loop-again Inv-loop μ-loop
 loop-again c =
     let s = c .before .before .before .before .before .before .before .before in
     let l = c .before .before .before .before .before .before .before .loop in
-    let nets : length (s .args .t3) ≡ 32 = search needs in
-    let used : length (s .args .t4) ≡ 32 = search needs in
-    let unused : length (s .args .t5) ≡ 32 = search needs in (
+    let nets : length (s .args .t3) ≡ promptPlaces = search needs in
+    let used : length (s .args .t4) ≡ promptPlaces = search needs in
+    let unused : length (s .args .t5) ≡ promptPlaces = search needs in (
       next (l .i) (l .i * 3) ((l .i + 1) * 3) (l .out) (c .before .put-three .last .0)
           (deltaAt (s .args .t3) (l .i) ∷ deltaAt (s .args .t4) (l .i) ∷ deltaAt (s .args .t5) (l .i) ∷ [])
           (l .inv .0) (omega arith)

@@ -8,6 +8,7 @@ use borrow.Author.Needs.{needs}
 use lib.IntN.{pos}
 use lib.ListN.{length}
 use lib.Seq.{sets}
+use Rattle.spread.specs.Accepted.{spreadPlaces}
 use Rattle.formulas.specs.code.Sums.{spreadsAt}
 use Rattle.margin.proofs.NumberLaws.{ToWrite, start, next, finish, twosOn, twos-step, twos-none}
 use Rattle.margin.proofs.numbers.put_spreads.Statement.{statement}
@@ -60,8 +61,8 @@ loop-again : tie.Need-loop-again Inv-loop μ-loop
 loop-again c =
     let s = c .before .before .before .before .before .before .before in
     let l = c .before .before .before .before .before .before .loop in
-    let first : length (s .args .t4) ≡ 32 = search needs in
-    let second : length (s .args .t5) ≡ 32 = search needs in (
+    let first : length (s .args .t4) ≡ spreadPlaces = search needs in
+    let second : length (s .args .t5) ≡ spreadPlaces = search needs in (
       next (l .i) (s .args .at + l .i * 2) (s .args .at + (l .i + 1) * 2) (l .out) (c .before .put-two .last .0)
           (pos (spreadsAt (s .args .t4) (l .i)) ∷ pos (spreadsAt (s .args .t5) (l .i)) ∷ [])
           (l .inv .0) (omega arith)

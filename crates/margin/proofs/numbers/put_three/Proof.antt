@@ -26,12 +26,11 @@ same-length c = search needs
 
 returns : tie.Need-returns
 returns c =
-    let after-put-delta3 = c .before in
-    let c-3 = after-put-delta3 .before .before in
+    let c-3 = c .before .before .before in
     let c2 = c-3 in
     let c1 = c2 .before .before .before in
     let s = c1 .before .before .before in
-    rw (after-put-delta3 .put-delta3 .ensures, c2 .before .put-delta2 .ensures, c1 .before .put-delta .ensures)
+    rw (c .before .put-delta3 .ensures, c2 .before .put-delta2 .ensures, c1 .before .put-delta .ensures)
     (stores-sets (s .args .out .now) (s .args .at) (s .args .net .0 ∷ s .args .used .0 ∷ s .args .unused .0 ∷ []))
 
 pub put-three-spec : {M : Type 1} → statement M

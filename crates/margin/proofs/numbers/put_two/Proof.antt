@@ -21,11 +21,10 @@ same-length c = search needs
 
 returns : tie.Need-returns
 returns c =
-    let after-put2 = c .before in
-    let after-put = after-put2 .before .before .before in
+    let after-put = c .before .before .before .before in
     let c-6 = after-put .before .before in
     let s = c-6 in
-    rw (after-put2 .put2 .ensures, after-put .put .ensures)
+    rw (c .before .put2 .ensures, after-put .put .ensures)
     (stores-sets (s .args .out .now) (s .args .at) (pos (s .args .first .0) ∷ pos (s .args .second .0) ∷ []))
 
 pub put-two-spec : {M : Type 1} → statement M

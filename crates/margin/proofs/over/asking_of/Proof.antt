@@ -24,29 +24,26 @@ position-at-requires c κs =
 
 asking-with-requires : tie.Need-asking-with-requires
 asking-with-requires c κs =
-    let after-no-rates = c .before in
-    let c-4 = after-no-rates .before .before .before in
+    let c-4 = c .before .before .before .before in
     let s = c-4 in
     let p = c .position-at in (
       s .pre .0,
       (
         s .pre .1,
         book-fits (accountOf (s .args .morning .now) (s .args .noon .now)) (s .pre .0 .lawful) (s .args .c) (s .pre .1)
-            (p .result) (p .ensures [] (after-no-rates .no-rates .ensures)),
+            (p .result) (p .ensures [] (c .before .no-rates .ensures)),
       ),
     )
 
 returns : tie.Need-returns
 returns c =
-    let after-position-at = c .before in
-    let after-no-rates = after-position-at .before in
-    let c-5 = after-no-rates .before .before .before in
+    let c-5 = c .before .before .before .before .before in
     let s = c-5 in
-    let p = after-position-at .position-at in
+    let p = c .before .position-at in
     let r = c .asking-with in
     subst (λ (k : Contract). Asks (contractSteps k) (opensOf k) (r .result))
     (by-number (accountOf (s .args .morning .now) (s .args .noon .now)) (s .pre .0 .lawful) (s .args .c) (s .pre .1) (p .result)
-    (p .ensures [] (after-no-rates .no-rates .ensures))) (r .ensures)
+    (p .ensures [] (c .before .before .no-rates .ensures))) (r .ensures)
 
 pub asking-of-spec : {M : Type 1} → statement M
 asking-of-spec =

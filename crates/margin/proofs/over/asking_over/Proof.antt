@@ -9,6 +9,7 @@ use Rattle.account.specs.Joined.{accountOf}
 use Rattle.account.specs.Parts.{entriesOf}
 use Rattle.formulas.specs.Contract.{contracts, partsOf, asTier, contractSteps, opensOf, tableSteps}
 use Rattle.margin.specs.code.Asking.{Asks}
+use Rattle.margin.specs.Books.{tableQuestion}
 use Rattle.margin.proofs.AskedLaws.{asked-small}
 use Rattle.margin.proofs.BesideLaws.{alone}
 use Rattle.margin.proofs.over.asking_over.Statement.{statement}
@@ -27,9 +28,7 @@ table-asking-requires c κs =
 
 returns : tie.Need-returns
 returns c =
-    let after-tiers-over = c .before in
-    let c-2 = after-tiers-over .before in
-    let c-5 = c-2 .before .before .before in
+    let c-5 = c .before .before .before .before .before in
     let s = c-5 in
     let m = s .args .morning .now in
     let n = s .args .noon .now in
@@ -38,7 +37,8 @@ returns c =
     subst
     (λ (t : Bool). Asks (cond t (tableSteps (entriesOf a)) (contractSteps (partsOf a q))) (cond t (map asTier (contracts a)) (opensOf (partsOf a q)))
     (c .table-asking .result))
-    (sym (eq-eqb q 16 (c-2 .if1 .taken))) (c .table-asking .ensures a (alone m n (s .args .account) (s .pre .0)) (after-tiers-over .tiers-over .ensures))
+    (sym (eq-eqb q tableQuestion (c .before .before .if1 .taken))) (c .table-asking .ensures a (alone m n (s .args .account) (s .pre .0))
+    (c .before .tiers-over .ensures))
 
 asking-of-requires : tie.Need-asking-of-requires
 asking-of-requires c κs =
@@ -48,15 +48,14 @@ asking-of-requires c κs =
 
 returns-2 : tie.Need-returns-2
 returns-2 c =
-    let c-1 = c .before in
-    let c-4 = c-1 .before .before .before in
+    let c-4 = c .before .before .before .before in
     let s = c-4 in
     let a = accountOf (s .args .morning .now) (s .args .noon .now) in
     let q = s .args .question in
     subst
     (λ (t : Bool). Asks (cond t (tableSteps (entriesOf a)) (contractSteps (partsOf a q))) (cond t (map asTier (contracts a)) (opensOf (partsOf a q)))
     (c .asking-of .result))
-    (sym (ne-eqb q 16 (c-1 .if1 .left))) (c .asking-of .ensures)
+    (sym (ne-eqb q tableQuestion (c .before .if1 .left))) (c .asking-of .ensures)
 
 pub asking-over-spec : {M : Type 1} → statement M
 asking-over-spec =

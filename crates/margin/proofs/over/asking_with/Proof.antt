@@ -25,24 +25,21 @@ part-requires-2 c κs = search needs
 
 contract-asking-requires : tie.Need-contract-asking-requires
 contract-asking-requires c κs =
-    let after-part = c .before in
-    let c-4 = after-part .before .before .before in
+    let c-4 = c .before .before .before .before in
     let s = c-4 in
     let a = accountOf (s .args .morning .now) (s .args .noon .now) in
-    let ps = after-part .part in
+    let ps = c .before .part in
     let ss = c .part2 in
     parts-read a (s .pre .0 .lawful) (s .args .c) (s .pre .1 .0) (ps .result .now) (ss .result .now) (ps .ensures) (ss .ensures)
     (λ (xs ys : List Record). BookFit xs ys (s .args .p)) (s .pre .1 .1)
 
 returns : tie.Need-returns
 returns c =
-    let after-part2 = c .before in
-    let after-part = after-part2 .before in
-    let c-5 = after-part .before .before .before in
+    let c-5 = c .before .before .before .before .before in
     let s = c-5 in
     let a = accountOf (s .args .morning .now) (s .args .noon .now) in
-    let ps = after-part .part in
-    let ss = after-part2 .part2 in
+    let ps = c .before .before .part in
+    let ss = c .before .part2 in
     let r = c .contract-asking in
     parts-told a (s .pre .0 .lawful) (s .args .c) (s .pre .1 .0) (ps .result .now) (ss .result .now) (ps .ensures) (ss .ensures)
     (λ (xs ys : List Record). Asks (contractSteps (contractWith [] xs ys (s .args .p))) (opensOf (contractWith [] xs ys (s .args .p))) (r .result)) (r .ensures)

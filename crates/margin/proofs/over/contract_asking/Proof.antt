@@ -18,10 +18,9 @@ interprompt-table-requires c κs =
 
 returns : tie.Need-returns
 returns c =
-    let after-prompts-with = c .before in
-    let c-5 = after-prompts-with .before .before .before .before in
+    let c-5 = c .before .before .before .before .before in
     let s = c-5 in
-    let p = after-prompts-with .prompts-with in
+    let p = c .before .prompts-with in
     let t = c .interprompt-table in
     contract-asks (s .args .prompts .now) (s .args .spreads .now) (s .args .p) (s .pre) (p .result) (t .result) (p .ensures) (t .ensures)
 

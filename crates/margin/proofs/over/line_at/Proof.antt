@@ -6,7 +6,7 @@ use Prim.Native.Nat.{_≤_}
 use native.Mathlib.Omega.{arith}
 use borrow.Author.Needs.{needs}
 use lib.ListN.{getD}
-use Rattle.record.specs.Layout.{contract}
+use Rattle.record.specs.Layout.{contract, mostContract}
 use Rattle.account.specs.Parts.{contractsOf, ratesOf}
 use Rattle.account.specs.Joined.{accountOf}
 use Rattle.margin.proofs.BesideLaws.{position-room, fit-here, line-here}
@@ -27,7 +27,7 @@ number c =
     number-at (s .args .morning .now) (s .args .noon .now) (s .args .account) (s .pre .0)
     (s .args .i) (s .pre .1 .0) (c .contract-number .result) (c .contract-number .ensures)
 
-small : (c : tie.After-contract-number) → c .contract-number .result ≤ 15
+small : (c : tie.After-contract-number) → c .contract-number .result ≤ mostContract
 small c =
     let c-3 = c .before .before .before in
     let s = c-3 in
@@ -67,13 +67,11 @@ unit-requires c κs = search needs
 
 position-of-requires : tie.Need-position-of-requires
 position-of-requires c κs =
-    let after-part4 = c .before in
-    let after-part3 = after-part4 .before in
-    let after-part2 = after-part3 .before in
+    let after-part2 = c .before .before .before in
     let after-part = after-part2 .before in
     let c-5 = after-part .before in
-    let ss = after-part4 .part4 in
-    let rs = after-part3 .part3 in
+    let ss = c .before .part4 in
+    let rs = c .before .before .part3 in
     let ps = after-part2 .part2 in
     let own = after-part .part in
     let k = c-5 in
@@ -84,15 +82,13 @@ position-of-requires c κs =
 
 line-of-requires : tie.Need-line-of-requires
 line-of-requires c κs =
-    let after-unit = c .before in
-    let after-part4 = after-unit .before in
-    let after-part3 = after-part4 .before in
+    let after-part3 = c .before .before .before in
     let after-part2 = after-part3 .before in
     let after-part = after-part2 .before in
     let c-6 = after-part .before in
     let p = c .position-of in
-    let u = after-unit .unit in
-    let ss = after-part4 .part4 in
+    let u = c .before .unit in
+    let ss = c .before .before .part4 in
     let rs = after-part3 .part3 in
     let ps = after-part2 .part2 in
     let own = after-part .part in
@@ -105,15 +101,13 @@ line-of-requires c κs =
 
 returns : tie.Need-returns
 returns c =
-    let after-position-of = c .before in
-    let after-unit = after-position-of .before in
-    let after-part4 = after-unit .before in
+    let after-part4 = c .before .before .before in
     let after-part3 = after-part4 .before in
     let after-part2 = after-part3 .before in
     let after-part = after-part2 .before in
     let c-7 = after-part .before in
-    let p = after-position-of .position-of in
-    let u = after-unit .unit in
+    let p = c .before .position-of in
+    let u = c .before .before .unit in
     let ss = after-part4 .part4 in
     let rs = after-part3 .part3 in
     let ps = after-part2 .part2 in

@@ -32,13 +32,11 @@ part-requires-3 c κs = search needs
 
 line-of-requires : tie.Need-line-of-requires
 line-of-requires c κs =
-    let after-part2 = c .before in
-    let after-part = after-part2 .before in
-    let c-5 = after-part .before .before .before in
+    let c-5 = c .before .before .before .before .before in
     let s = c-5 in
     let a = accountOf (s .args .morning .now) (s .args .noon .now) in
-    let own = after-part .part in
-    let ps = after-part2 .part2 in
+    let own = c .before .before .part in
+    let ps = c .before .part2 in
     let ss = c .part3 in
     subst⁻¹ (λ (o : Record). PositionFit o (records (ps .result .now)) (records (ss .result .now)) (s .args .p))
     (own-by a (s .pre .0 .lawful) (s .args .c) (s .pre .1 .0) (own .result .now) (own .ensures))
@@ -47,15 +45,13 @@ line-of-requires c κs =
 
 returns : tie.Need-returns
 returns c =
-    let after-part3 = c .before in
-    let after-part2 = after-part3 .before in
-    let after-part = after-part2 .before in
+    let after-part = c .before .before .before in
     let c-6 = after-part .before .before .before in
     let s = c-6 in
     let a = accountOf (s .args .morning .now) (s .args .noon .now) in
     let own = after-part .part in
-    let ps = after-part2 .part2 in
-    let ss = after-part3 .part3 in
+    let ps = c .before .before .part2 in
+    let ss = c .before .part3 in
     let l = c .line-of in
     parts-told a (s .pre .0 .lawful) (s .args .c) (s .pre .1 .0) (ps .result .now) (ss .result .now) (ps .ensures) (ss .ensures)
     (λ (xs ys : List Record). LineOf (contractWith (ownOf (s .args .c) a) xs ys (s .args .p)) (l .result))

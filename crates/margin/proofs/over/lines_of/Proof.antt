@@ -10,6 +10,7 @@ use Rattle.record.specs.Layout.{Record}
 use Rattle.account.specs.Parts.{ratesOf}
 use Rattle.account.specs.code.Rates.{RatesOf}
 use Rattle.account.specs.Joined.{accountOf}
+use Rattle.account.specs.Check.{mostContracts}
 use Rattle.margin.proofs.StandLaws.{few-contracts}
 use Rattle.margin.proofs.AccountLaws.{LinedTo, lined-next}
 use Rattle.margin.proofs.over.lines_of.Statement.{statement}
@@ -22,7 +23,7 @@ abbrev μ-loop : tie.MeasureT-loop
 μ-loop morning noon account count rates lines₀ i₀ lines i = count - i
 
 -- an account has at most sixteen contracts
-few : (c : tie.After-contract-total Inv-loop μ-loop) → c .contract-total .result ≤ 16
+few : (c : tie.After-contract-total Inv-loop μ-loop) → c .contract-total .result ≤ mostContracts
 few c =
     let c-3 = c .before .before .before in
     let s = c-3 in
@@ -52,10 +53,9 @@ loop-holds c = (record { places = refl; each = λ j h. absurd (not-suc-le-zero h
 line-at-requires : tie.Need-line-at-requires Inv-loop μ-loop
 line-at-requires c κs =
     let c-3 = c .before .before .before in
-    let after-contract-total = c-3 .before .before in
-    let start = after-contract-total .before .before .before in (
+    let start = c-3 .before .before .before .before .before in (
       start .pre,
-      (omega (arith, c .loop-test .taken, after-contract-total .contract-total .ensures), table (c-3)),
+      (omega (arith, c .loop-test .taken, c-3 .before .before .contract-total .ensures), table (c-3)),
     )
 
 mul-lines : tie.Need-mul-lines Inv-loop μ-loop
@@ -78,11 +78,10 @@ loop-less c = omega arith
 
 loop-again : tie.Need-loop-again Inv-loop μ-loop
 loop-again c =
-    let after-loop = c .before .before in
-    let c-6 = after-loop .before .before .before .before in
+    let c-6 = c .before .before .before .before .before .before in
     let c-9 = c-6 .before .before .before in
     let s = c-9 in
-    let l = after-loop .loop in
+    let l = c .before .before .loop in
     let h = few (c-6) in (
       lined-next (accountOf (s .args .morning .now) (s .args .noon .now)) (l .i) (l .lines) (c .line-at .result) (l .inv .0) (omega arith)
           (c .line-at .ensures),
@@ -91,10 +90,9 @@ loop-again c =
 
 returns : tie.Need-returns Inv-loop μ-loop
 returns c =
-    let after-loop = c .before in
-    let after-contract-total = after-loop .before .before .before .before in
+    let after-contract-total = c .before .before .before .before .before in
     let start = after-contract-total .before .before .before in
-    let l = after-loop .loop in
+    let l = c .before .loop in
     let h = few (after-contract-total) in
     record {
       count-is = after-contract-total .contract-total .ensures

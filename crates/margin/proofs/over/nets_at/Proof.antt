@@ -9,6 +9,7 @@ use lib.ListN.{length}
 use Rattle.record.specs.Layout.{Record}
 use Rattle.account.specs.Records.{records}
 use Rattle.account.specs.Joined.{accountOf}
+use Rattle.account.specs.Check.{mostRows}
 use Rattle.margin.specs.code.Lined.{PositionAt}
 use Rattle.formulas.specs.code.Position.{withNets}
 use Rattle.margin.proofs.AcceptLaws.{each-unrated}
@@ -31,11 +32,10 @@ part-requires-2 c κs = search needs
 
 nets-of-requires : tie.Need-nets-of-requires
 nets-of-requires c κs =
-    let after-part = c .before in
-    let c-4 = after-part .before .before .before in
+    let c-4 = c .before .before .before .before in
     let s = c-4 in
     let a = accountOf (s .args .morning .now) (s .args .noon .now) in
-    let ps = after-part .part in
+    let ps = c .before .part in
     let rs = c .part2 in (
       prompts-few a (s .pre .0 .lawful) (s .args .c) (s .pre .1) (ps .result .now) (rs .result .now) (ps .ensures) (rs .ensures),
       rows-room a (s .pre .0 .lawful) (s .args .c) (s .pre .1) (ps .result .now) (rs .result .now) (ps .ensures) (rs .ensures) .rows-within,
@@ -43,14 +43,12 @@ nets-of-requires c κs =
 
 returns : tie.Need-returns
 returns c =
-    let after-part2 = c .before in
-    let after-part = after-part2 .before in
-    let c-5 = after-part .before .before .before in
+    let c-5 = c .before .before .before .before .before in
     let s = c-5 in
     let a = accountOf (s .args .morning .now) (s .args .noon .now) in
     let law = s .pre .0 .lawful in
-    let ps = after-part .part in
-    let rs = after-part2 .part2 in
+    let ps = c .before .before .part in
+    let rs = c .before .part2 in
     let rows = records (rs .result .now) in
     let same = of-contract a law (s .args .c) (s .pre .1) 3 (lit≤ tt) (rs .result .now) (rs .ensures) in
     let fit = rows-room a law (s .args .c) (s .pre .1) (ps .result .now) (rs .result .now) (ps .ensures) (rs .ensures) .rows-within in
@@ -59,7 +57,7 @@ returns c =
     let rated : Rated [] rows = subst⁻¹ (Rated []) same (each-unrated a law (s .args .c)) in
     subst (λ (its : List Record). PositionAt [] 1 a (s .args .c) (withNets [] 1 its (c .nets-of .result))) same
     (position-is a law (s .args .c) (s .pre .1) (ps .result .now) (rs .result .now) (ps .ensures) (rs .ensures) [] 1 p is
-    (wider (length rows) 128 p (omega (arith, fit .few)) (bounded [] 1 (lit≤ tt) (records (ps .result .now)) rows p fit rated is)))
+    (wider (length rows) mostRows p (omega (arith, fit .few)) (bounded [] 1 (lit≤ tt) (records (ps .result .now)) rows p fit rated is)))
 
 pub nets-at-spec : {M : Type 1} → statement M
 nets-at-spec = tie.close (tie.spec add-part part-requires add-part-2 part-requires-2 nets-of-requires returns)

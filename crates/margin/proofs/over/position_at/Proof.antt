@@ -20,11 +20,10 @@ part-requires-2 c κs = search needs
 
 position-of-requires : tie.Need-position-of-requires
 position-of-requires c κs =
-    let after-part = c .before in
-    let c-4 = after-part .before .before .before in
+    let c-4 = c .before .before .before .before in
     let s = c-4 in
     let a = accountOf (s .args .morning .now) (s .args .noon .now) in
-    let ps = after-part .part in
+    let ps = c .before .part in
     let rs = c .part2 in (
       s .pre .1 .1 .0,
       (
@@ -39,13 +38,11 @@ position-of-requires c κs =
 
 returns : tie.Need-returns
 returns c =
-    let after-part2 = c .before in
-    let after-part = after-part2 .before in
-    let c-5 = after-part .before .before .before in
+    let c-5 = c .before .before .before .before .before in
     let s = c-5 in
     let a = accountOf (s .args .morning .now) (s .args .noon .now) in
-    let ps = after-part .part in
-    let rs = after-part2 .part2 in
+    let ps = c .before .before .part in
+    let rs = c .before .part2 in
     let p = c .position-of in
     λ held is.
     position-is a (s .pre .0 .lawful) (s .args .c) (s .pre .1 .0) (ps .result .now) (rs .result .now) (ps .ensures) (rs .ensures) held (s .args .unit)

@@ -29,10 +29,9 @@ its-unit : (c : tie.After-unit)
     → let s = c .before .before .before .before in
     c .unit .result ≡ unitOf (s .args .c) (accountOf (s .args .morning .now) (s .args .noon .now))
 its-unit c =
-    let after-part = c .before in
-    let c-4 = after-part .before .before .before in
+    let c-4 = c .before .before .before .before in
     let s = c-4 in
-    let own = after-part .part in
+    let own = c .before .part in
     c .unit .ensures .0
     ∙ ap unit (own-by (accountOf (s .args .morning .now) (s .args .noon .now)) (s .pre .0 .lawful) (s .args .c) (s .pre .1 .0) (own .result .now)
     (own .ensures))
@@ -55,12 +54,11 @@ position-at-requires c κs =
 
 returns : tie.Need-returns
 returns c =
-    let c-1 = c .before in
-    let c-5 = c-1 .before .before .before .before in
+    let c-5 = c .before .before .before .before .before in
     let s = c-5 in
     let p = c .position-at in
     let a = accountOf (s .args .morning .now) (s .args .noon .now) in
-    subst (λ (u : ℕ). PositionAt (ratesOf a) u a (s .args .c) (p .result)) (its-unit (c-1)) (p .ensures (ratesOf a) (s .pre .1 .1))
+    subst (λ (u : ℕ). PositionAt (ratesOf a) u a (s .args .c) (p .result)) (its-unit (c .before)) (p .ensures (ratesOf a) (s .pre .1 .1))
 
 pub position-in-spec : {M : Type 1} → statement M
 position-in-spec =

@@ -28,14 +28,12 @@ table-credits-requires c κs =
 
 put-lines-requires : tie.Need-put-lines-requires
 put-lines-requires c κs =
-    let after-table-credits = c .before in
-    let after-part = after-table-credits .before in
-    let c-6 = after-part .before .before .before .before in
+    let c-6 = c .before .before .before .before .before .before in
     let s = c-6 in
     let x = s .pre .1 .0 in
     let l = s .args .all in
-    let p = after-part .part in
-    let t = after-table-credits .table-credits in
+    let p = c .before .before .part in
+    let t = c .before .table-credits in
     let e = entries-beside (accountOf (s .args .morning .now) (s .args .noon .now)) (x .whole) (x .beside) (p .result .now) (p .ensures) in
     let b = its (x .whole) (x .beside .lawful) l (x .lines) (p .result .now) e in
     let k = its-book (x .whole) (x .beside .lawful) l (x .lines) (p .result .now) e in (
@@ -48,8 +46,7 @@ same-length c = search needs
 
 returns : tie.Need-returns
 returns c =
-    let after-put-lines = c .before in
-    let after-table-credits = after-put-lines .before .before in
+    let after-table-credits = c .before .before .before in
     let after-part = after-table-credits .before in
     let c-8 = after-part .before .before .before .before in
     let s = c-8 in
@@ -59,7 +56,7 @@ returns c =
     let t = after-table-credits .table-credits in
     λ whole beside is.
     let e = entries-beside a whole beside (p .result .now) (p .ensures) in
-    after-put-lines .put-lines .ensures
+    c .before .put-lines .ensures
     ∙ ap (sets (s .args .out .now) 0) (answer-is whole (beside .lawful) l is (p .result .now) e (its whole (beside .lawful) l is (p .result .now) e)
     (its-book whole (beside .lawful) l is (p .result .now) e) (t .result) (t .ensures))
 

@@ -22,10 +22,9 @@ intercontract-table-requires c κs =
 
 returns : tie.Need-returns
 returns c =
-    let after-part = c .before in
-    let c-4 = after-part .before .before .before in
+    let c-4 = c .before .before .before .before in
     let s = c-4 in
-    let e = after-part .part in
+    let e = c .before .part in
     let t = c .intercontract-table in
     λ whole beside is.
     table-asks whole (beside .lawful) (s .args .tiers) is (e .result .now)

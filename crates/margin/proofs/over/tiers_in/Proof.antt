@@ -30,17 +30,15 @@ element-copy-out-line c = omega (arith, c .loop-test .taken, c .before .before .
 
 cast-tiers : tie.Need-cast-tiers Inv-loop μ-loop
 cast-tiers c =
-    let after-loop-test = c .before .before in
-    let after-loop = after-loop-test .before in
+    let after-loop = c .before .before .before in
     let c-4 = after-loop .before in
     let s = c-4 in
-    omega (arith, s .pre .1 (after-loop .loop .i) (after-loop-test .loop-test .taken) .contract-within)
+    omega (arith, s .pre .1 (after-loop .loop .i) (c .before .before .loop-test .taken) .contract-within)
 
 array-write-tiers : tie.Need-array-write-tiers Inv-loop μ-loop
 array-write-tiers c =
-    let after-loop-test = c .before .before in
-    let start = after-loop-test .before .before in
-    omega (arith, after-loop-test .loop-test .taken, start .pre .0)
+    let start = c .before .before .before .before in
+    omega (arith, c .before .before .loop-test .taken, start .pre .0)
 
 mul-nets : tie.Need-mul-nets Inv-loop μ-loop
 mul-nets c =

@@ -5,6 +5,7 @@ use Prim.Native.Nat.{_-_, _≤_}
 use native.Mathlib.Omega.{arith}
 use borrow.Author.Needs.{needs}
 use Rattle.account.specs.Joined.{accountOf}
+use Rattle.account.specs.Check.{mostContracts}
 use Rattle.margin.proofs.StandLaws.{few-contracts}
 use Rattle.margin.proofs.TierLaws.{TieredTo, tiers-none, tiers-next, tiers-all}
 use Rattle.margin.proofs.over.tiers_over.Statement.{statement}
@@ -17,7 +18,7 @@ abbrev μ-loop : tie.MeasureT-loop
 μ-loop morning noon account count tiers₀ nets₀ i₀ tiers nets i = count - i
 
 -- an account has at most sixteen contracts
-few : (c : tie.After-contract-total Inv-loop μ-loop) → c .contract-total .result ≤ 16
+few : (c : tie.After-contract-total Inv-loop μ-loop) → c .contract-total .result ≤ mostContracts
 few c =
     let c-3 = c .before .before .before in
     let s = c-3 in
@@ -33,9 +34,8 @@ loop-holds c =
 
 tier-at-requires : tie.Need-tier-at-requires Inv-loop μ-loop
 tier-at-requires c κs =
-    let after-contract-total = c .before .before in
-    let start = after-contract-total .before .before .before in
-    (start .pre, omega (arith, c .loop-test .taken, after-contract-total .contract-total .ensures))
+    let start = c .before .before .before .before .before in
+    (start .pre, omega (arith, c .loop-test .taken, c .before .before .contract-total .ensures))
 
 array-write-tiers : tie.Need-array-write-tiers Inv-loop μ-loop
 array-write-tiers c =
@@ -62,13 +62,12 @@ loop-less c = omega arith
 
 loop-again : tie.Need-loop-again Inv-loop μ-loop
 loop-again c =
-    let after-tier-at = c .before in
-    let after-loop = after-tier-at .before .before in
+    let after-loop = c .before .before .before in
     let after-contract-total = after-loop .before in
     let c-7 = after-contract-total .before .before .before in
     let s = c-7 in
     let l = after-loop .loop in
-    let t = after-tier-at .tier-at in
+    let t = c .before .tier-at in
     let h = few (after-contract-total) in
     let e = s .pre .places .contracts in
     let n = after-contract-total .contract-total .ensures in (
@@ -79,14 +78,12 @@ loop-again c =
 
 returns : tie.Need-returns Inv-loop μ-loop
 returns c =
-    let after-loop = c .before in
-    let after-contract-total = after-loop .before in
-    let c-5 = after-contract-total .before .before .before in
+    let c-5 = c .before .before .before .before .before in
     let s = c-5 in
-    let l = after-loop .loop in
-    let h = few (after-contract-total) in
+    let l = c .before .loop in
+    let h = few (c .before .before) in
     let e = s .pre .places .contracts in
-    let n = after-contract-total .contract-total .ensures in
+    let n = c .before .before .contract-total .ensures in
     tiers-all (accountOf (s .args .morning .now) (s .args .noon .now)) (l .i) _ (l .inv .0) (omega arith) (omega arith) (omega arith)
 
 pub tiers-over-spec : {M : Type 1} → statement M

@@ -6,8 +6,10 @@ use native.Mathlib.Omega.{arith}
 use borrow.Author.Needs.{needs}
 use lib.IntN.{pos, natAbs}
 use lib.ListN.{getD}
+use Rattle.formulas.specs.Bounds.{figuresEach}
 use Rattle.exact.proofs.Integers.{seen}
 use Rattle.account.specs.Joined.{accountOf}
+use Rattle.account.specs.Check.{mostContracts}
 use Rattle.margin.proofs.BesideLaws.{alone}
 use Rattle.margin.proofs.QuestionLaws.{figures-length, total-last}
 use Rattle.margin.proofs.over.total_over.Statement.{statement}
@@ -20,7 +22,7 @@ slice-aggregate-put-figures : tie.Need-slice-aggregate-put-figures
 slice-aggregate-put-figures c = search needs
 
 -- at most 16 contracts
-few : (c : tie.After-lines-of) → c .before .before .before .args .account .contracts ≤ 16
+few : (c : tie.After-lines-of) → c .before .before .before .args .account .contracts ≤ mostContracts
 few c =
     let c-3 = c .before .before .before in
     let s = c-3 in
@@ -28,15 +30,14 @@ few c =
 
 put-figures-requires : tie.Need-put-figures-requires
 put-figures-requires c κs =
-    let after-lines-of = c .before in
-    let c-4 = after-lines-of .before .before .before in
+    let c-4 = c .before .before .before .before in
     let s = c-4 in
     let m = s .args .morning .now in
     let n = s .args .noon .now in (
       s .pre,
       (
-        record { whole = accountOf m n; beside = alone m n (s .args .account) (s .pre); lines = after-lines-of .lines-of .ensures },
-        omega (arith, few (after-lines-of)),
+        record { whole = accountOf m n; beside = alone m n (s .args .account) (s .pre); lines = c .before .lines-of .ensures },
+        omega (arith, few (c .before)),
       ),
     )
 
@@ -63,19 +64,18 @@ magnitude-requires c κs = search needs
 
 returns : tie.Need-returns
 returns c =
-    let after-magnitude-arg = c .before in
-    let after-contract-total = after-magnitude-arg .before in
-    let after-put-figures = after-contract-total .before .before in
+    let after-put-figures = c .before .before .before .before in
     let after-lines-of = after-put-figures .before .before in
     let c-9 = after-lines-of .before .before .before in
     let s = c-9 in
     let f = after-put-figures .put-figures in
-    let n = after-contract-total .contract-total in
+    let n = c .before .before .contract-total in
     let m = s .args .morning .now in
     let k = s .args .noon .now in
     let a = accountOf m k in
-    seen natAbs (getD (f .last .1 .1 .1 .1 .0) (8 * n .result) (pos 0)) (record { sfits = after-magnitude-arg .magnitude-arg .given }) (c .magnitude .ensures)
-    ∙ total-last a _ (f .last .1 .1 .1 .1 .0) (8 * n .result)
+    seen natAbs (getD (f .last .1 .1 .1 .1 .0) (figuresEach * n .result) (pos 0)) (record { sfits = c .before .magnitude-arg .given })
+    (c .magnitude .ensures)
+    ∙ total-last a _ (f .last .1 .1 .1 .1 .0) (figuresEach * n .result)
     (f .ensures a (alone m k (s .args .account) (s .pre)) (after-lines-of .lines-of .ensures))
     (omega (arith, few (after-lines-of), figures-length a, s .pre .places .contracts))
     (omega (arith, n .ensures, s .pre .places .contracts))

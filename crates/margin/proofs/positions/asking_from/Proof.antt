@@ -7,11 +7,13 @@ use Prim.Native.Nat.{_≤_}
 use native.Mathlib.Omega.{arith}
 use borrow.Author.Tests.{eq-eqb, ne-eqb}
 use lib.ListN.{getD}
+use Rattle.record.specs.Layout.{mostContract}
 use Rattle.account.specs.Joined.{accountOf}
 use Rattle.account.specs.Parts.{entriesOf}
 use Rattle.formulas.specs.Contract.{contracts, partsOf, asTier, contractSteps, opensOf, tableSteps}
 use Rattle.margin.specs.code.Positions.{noPosition}
 use Rattle.margin.specs.code.Asking.{Asks}
+use Rattle.margin.specs.Books.{tableQuestion}
 use Rattle.margin.proofs.AskedLaws.{asked-small}
 use Rattle.margin.proofs.BesideLaws.{fits-book, asks-beside}
 use Rattle.margin.proofs.positions.asking_from.Statement.{statement}
@@ -31,19 +33,17 @@ table-asking-requires c κs =
 
 returns : tie.Need-returns
 returns c =
-    let after-tiers-from = c .before in
-    let c-2 = after-tiers-from .before in
-    let c-5 = c-2 .before .before .before in
+    let c-5 = c .before .before .before .before .before in
     let s = c-5 in
     let q = s .args .question in
     λ whole t.
     subst
     (λ (b : Bool). Asks (cond b (tableSteps (entriesOf whole)) (contractSteps (partsOf whole q)))
     (cond b (map asTier (contracts whole)) (opensOf (partsOf whole q))) (c .table-asking .result))
-    (sym (eq-eqb q 16 (c-2 .if1 .taken))) (c .table-asking .ensures whole (t .beside) (after-tiers-from .tiers-from .ensures whole t))
+    (sym (eq-eqb q tableQuestion (c .before .before .if1 .taken))) (c .table-asking .ensures whole (t .beside) (c .before .tiers-from .ensures whole t))
 
 -- the question is a contract's number
-small : (c : tie.Else1) → c .before .before .before .args .question ≤ 15
+small : (c : tie.Else1) → c .before .before .before .args .question ≤ mostContract
 small c =
     let c-3 = c .before .before .before in
     let s = c-3 in
@@ -57,12 +57,11 @@ element-copy-out-asking-with c = omega (arith, small c)
 
 asking-with-requires : tie.Need-asking-with-requires
 asking-with-requires c κs =
-    let c-1 = c .before in
-    let c-4 = c-1 .before .before .before in
+    let c-4 = c .before .before .before .before in
     let s = c-4 in
     let x = s .pre .1 .0 in
     let q = s .args .question in
-    let h = small (c-1) in (
+    let h = small (c .before) in (
       s .pre .0,
       (
         h,
@@ -73,17 +72,16 @@ asking-with-requires c κs =
 
 returns-2 : tie.Need-returns-2
 returns-2 c =
-    let c-2 = c .before .before in
-    let c-5 = c-2 .before .before .before in
+    let c-5 = c .before .before .before .before .before in
     let s = c-5 in
     let q = s .args .question in
     λ whole t.
     subst
     (λ (b : Bool). Asks (cond b (tableSteps (entriesOf whole)) (contractSteps (partsOf whole q)))
     (cond b (map asTier (contracts whole)) (opensOf (partsOf whole q))) (c .asking-with .result))
-    (sym (ne-eqb q 16 (c-2 .if1 .left)))
+    (sym (ne-eqb q tableQuestion (c .before .before .if1 .left)))
     (asks-beside (accountOf (s .args .morning .now) (s .args .noon .now)) whole (t .beside) q (getD (s .args .t4 .at) q noPosition)
-    (t .positions .each q (small (c-2))) (c .asking-with .result) (c .asking-with .ensures))
+    (t .positions .each q (small (c .before .before))) (c .asking-with .result) (c .asking-with .ensures))
 
 pub asking-from-spec : {M : Type 1} → statement M
 asking-from-spec =

@@ -7,9 +7,10 @@ use lib.ListN.{length, getD}
 use Prim.Native.Nat.{_-_, _≤_, _<_}
 use native.Mathlib.Omega.{arith}
 use borrow.Author.Needs.{needs}
-use Rattle.record.specs.Layout.{Record, contract}
+use Rattle.record.specs.Layout.{Record, contract, mostContract}
 use Rattle.account.specs.Parts.{contractsOf}
 use Rattle.account.specs.Joined.{accountOf}
+use Rattle.account.specs.Check.{mostContracts}
 use Rattle.margin.specs.code.Beside.{Besides}
 use Rattle.margin.specs.code.Positions.{noPosition, Told}
 use Rattle.margin.proofs.AccountLaws.{LinedTo, lined-next}
@@ -26,7 +27,7 @@ abbrev μ-loop : tie.MeasureT-loop
 μ-loop morning noon account positions count lines₀ i₀ lines i = count - i
 
 -- an account has at most sixteen contracts
-few : (c : tie.After-contract-total Inv-loop μ-loop) → c .contract-total .result ≤ 16
+few : (c : tie.After-contract-total Inv-loop μ-loop) → c .contract-total .result ≤ mostContracts
 few c =
     let c-3 = c .before .before .before in
     let s = c-3 in
@@ -36,32 +37,29 @@ few c =
 within : (c : tie.After-contract-number Inv-loop μ-loop)
     → c .before .before .loop .i < c .before .before .before .before .before .before .before .args .account .contracts
 within c =
-    let after-loop-test = c .before in
-    let after-contract-total = after-loop-test .before .before .before in
-    omega (arith, after-loop-test .loop-test .taken, after-contract-total .contract-total .ensures)
+    let after-contract-total = c .before .before .before .before in
+    omega (arith, c .before .loop-test .taken, after-contract-total .contract-total .ensures)
 
 number : (c : tie.After-contract-number Inv-loop μ-loop)
     → let s = c .before .before .before .before .before .before .before in
     c .contract-number .result ≡ contract (getD (contractsOf (accountOf (s .args .morning .now) (s .args .noon .now))) (c .before .before .loop .i) [])
 number c =
-    let after-loop = c .before .before in
-    let c-7 = after-loop .before .before .before .before .before in
+    let c-7 = c .before .before .before .before .before .before .before in
     let s = c-7 in
-    number-at (s .args .morning .now) (s .args .noon .now) (s .args .account) (s .pre .0) (after-loop .loop .i) (within c)
+    number-at (s .args .morning .now) (s .args .noon .now) (s .args .account) (s .pre .0) (c .before .before .loop .i) (within c)
     (c .contract-number .result) (c .contract-number .ensures)
 
-small : (c : tie.After-contract-number Inv-loop μ-loop) → c .contract-number .result ≤ 15
+small : (c : tie.After-contract-number Inv-loop μ-loop) → c .contract-number .result ≤ mostContract
 small c =
-    let after-loop = c .before .before in
-    let c-7 = after-loop .before .before .before .before .before in
+    let c-7 = c .before .before .before .before .before .before .before in
     let s = c-7 in
     let m = s .args .morning .now in
     let n = s .args .noon .now in
     omega (
       arith,
       number c,
-      own-number (accountOf m n) (s .pre .0 .lawful) (after-loop .loop .i)
-          (listed-at m n (s .args .account) (s .pre .0) (after-loop .loop .i) (within c)),
+      own-number (accountOf m n) (s .pre .0 .lawful) (c .before .before .loop .i)
+          (listed-at m n (s .args .account) (s .pre .0) (c .before .before .loop .i) (within c)),
     )
 
 -- and is so in every account beside
@@ -99,12 +97,11 @@ element-copy-out-line-with c = let h = small c in omega arith
 
 line-with-requires : tie.Need-line-with-requires Inv-loop μ-loop
 line-with-requires c κs =
-    let after-contract-number = c .before in
-    let c-8 = after-contract-number .before .before .before .before .before .before .before in
+    let c-8 = c .before .before .before .before .before .before .before .before in
     let s = c-8 in
     let x = s .pre .1 in
-    let k = after-contract-number .contract-number .result in
-    let h = small (after-contract-number) in (
+    let k = c .before .contract-number .result in
+    let h = small (c .before) in (
       s .pre .0,
       (
         h,
@@ -138,14 +135,13 @@ loop-less c =
 
 loop-again : tie.Need-loop-again Inv-loop μ-loop
 loop-again c =
-    let c-2 = c .before .before in
-    let after-loop-test = c-2 .before in
+    let after-loop-test = c .before .before .before in
     let after-loop = after-loop-test .before in
     let c-6 = after-loop .before .before in
     let c-9 = c-6 .before .before .before in
     let s = c-9 in
     let l = after-loop .loop in
-    let n = c-2 in
+    let n = c .before .before in
     let k = n .contract-number .result in
     let h = few (c-6) in (
       λ whole t.
@@ -158,11 +154,10 @@ loop-again c =
 
 returns : tie.Need-returns Inv-loop μ-loop
 returns c =
-    let after-loop = c .before in
-    let after-contract-total = after-loop .before .before in
+    let after-contract-total = c .before .before .before in
     let c-6 = after-contract-total .before .before .before in
     let s = c-6 in
-    let l = after-loop .loop in
+    let l = c .before .loop in
     let h = few (after-contract-total) in
     λ whole t.
     record {

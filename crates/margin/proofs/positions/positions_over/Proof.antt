@@ -6,10 +6,11 @@ use lib.ListN.{getD}
 use Prim.Native.Nat.{_-_, _≤_, _<_}
 use native.Mathlib.Omega.{arith}
 use borrow.Author.Needs.{needs}
-use Rattle.record.specs.Layout.{Record, contract}
+use Rattle.record.specs.Layout.{Record, contract, mostContract}
 use Rattle.account.specs.Parts.{contractsOf, ratesOf}
 use Rattle.account.specs.code.Rates.{RatesOf}
 use Rattle.account.specs.Joined.{accountOf}
+use Rattle.account.specs.Check.{mostContracts}
 use Rattle.margin.proofs.PositionsLaws.{Placed, placed-none, placed-next, placed-all}
 use Rattle.margin.proofs.StandLaws.{few-contracts, number-at, listed-at, own-number}
 use Rattle.margin.proofs.positions.positions_over.Statement.{statement}
@@ -22,7 +23,7 @@ abbrev μ-loop : tie.MeasureT-loop
 μ-loop morning noon account count rates at₀ i₀ at i = count - i
 
 -- an account has at most sixteen contracts
-few : (c : tie.After-contract-total Inv-loop μ-loop) → c .contract-total .result ≤ 16
+few : (c : tie.After-contract-total Inv-loop μ-loop) → c .contract-total .result ≤ mostContracts
 few c =
     let c-3 = c .before .before .before in
     let s = c-3 in
@@ -32,32 +33,29 @@ few c =
 within : (c : tie.After-contract-number Inv-loop μ-loop)
     → c .before .before .loop .i < c .before .before .before .before .before .before .before .before .before .args .account .contracts
 within c =
-    let after-loop-test = c .before in
-    let after-contract-total = after-loop-test .before .before .before .before .before in
-    omega (arith, after-loop-test .loop-test .taken, after-contract-total .contract-total .ensures)
+    let after-contract-total = c .before .before .before .before .before .before in
+    omega (arith, c .before .loop-test .taken, after-contract-total .contract-total .ensures)
 
 number : (c : tie.After-contract-number Inv-loop μ-loop)
     → let s = c .before .before .before .before .before .before .before .before .before in
     c .contract-number .result ≡ contract (getD (contractsOf (accountOf (s .args .morning .now) (s .args .noon .now))) (c .before .before .loop .i) [])
 number c =
-    let after-loop = c .before .before in
-    let c-9 = after-loop .before .before .before .before .before .before .before in
+    let c-9 = c .before .before .before .before .before .before .before .before .before in
     let s = c-9 in
-    number-at (s .args .morning .now) (s .args .noon .now) (s .args .account) (s .pre) (after-loop .loop .i) (within c)
+    number-at (s .args .morning .now) (s .args .noon .now) (s .args .account) (s .pre) (c .before .before .loop .i) (within c)
     (c .contract-number .result) (c .contract-number .ensures)
 
-small : (c : tie.After-contract-number Inv-loop μ-loop) → c .contract-number .result ≤ 15
+small : (c : tie.After-contract-number Inv-loop μ-loop) → c .contract-number .result ≤ mostContract
 small c =
-    let after-loop = c .before .before in
-    let c-9 = after-loop .before .before .before .before .before .before .before in
+    let c-9 = c .before .before .before .before .before .before .before .before .before in
     let s = c-9 in
     let m = s .args .morning .now in
     let n = s .args .noon .now in
     omega (
       arith,
       number c,
-      own-number (accountOf m n) (s .pre .lawful) (after-loop .loop .i)
-          (listed-at m n (s .args .account) (s .pre) (after-loop .loop .i) (within c)),
+      own-number (accountOf m n) (s .pre .lawful) (c .before .before .loop .i)
+          (listed-at m n (s .args .account) (s .pre) (c .before .before .loop .i) (within c)),
     )
 
 contract-total-requires : tie.Need-contract-total-requires Inv-loop μ-loop
@@ -101,25 +99,22 @@ array-set-from-at c = let h = small (c .before) in omega arith
 
 add-i : tie.Need-add-i Inv-loop μ-loop
 add-i c =
-    let after-loop-test = c .before .before in
-    let c-7 = after-loop-test .before .before .before .before .before in
-    let h = few (c-7) in omega (arith, after-loop-test .loop-test .taken)
+    let c-7 = c .before .before .before .before .before .before .before in
+    let h = few (c-7) in omega (arith, c .before .before .loop-test .taken)
 
 loop-less : tie.Need-loop-less Inv-loop μ-loop
 loop-less c = omega (arith, c .before .before .loop-test .taken)
 
 loop-again : tie.Need-loop-again Inv-loop μ-loop
 loop-again c =
-    let after-contract-number = c .before in
-    let after-loop-test = after-contract-number .before in
-    let after-loop = after-loop-test .before in
+    let after-loop = c .before .before .before in
     let c-10 = after-loop .before .before .before .before .before .before .before in
     let s = c-10 in
     let l = after-loop .loop in
-    let k = after-contract-number .contract-number in (
+    let k = c .before .contract-number in (
       placed-next (accountOf (s .args .morning .now) (s .args .noon .now)) (l .i) (l .at) (k .result) (c .position-in .result) (l .inv .0)
-          (small (after-contract-number)) (number (after-contract-number)) (c .position-in .ensures),
-      omega (arith, after-loop-test .loop-test .taken),
+          (small (c .before)) (number (c .before)) (c .position-in .ensures),
+      omega (arith, c .before .before .loop-test .taken),
     )
 
 record-total-requires : tie.Need-record-total-requires Inv-loop μ-loop
@@ -127,16 +122,14 @@ record-total-requires c κs = search needs
 
 returns : tie.Need-returns Inv-loop μ-loop
 returns c =
-    let after-loop-test = c .before in
-    let after-loop = after-loop-test .before in
-    let after-contract-total = after-loop .before .before .before .before in
+    let after-contract-total = c .before .before .before .before .before .before in
     let c-9 = after-contract-total .before .before .before in
     let s = c-9 in
-    let l = after-loop .loop in
+    let l = c .before .before .loop in
     placed-all (accountOf (s .args .morning .now) (s .args .noon .now)) (s .pre .lawful) (l .i) _
     (omega (
       arith,
-      after-loop-test .loop-test .left,
+      c .before .loop-test .left,
       l .inv .1,
       after-contract-total .contract-total .ensures,
       s .pre .places .contracts,

@@ -6,9 +6,10 @@ use lib.ListN.{length, getD}
 use Prim.Native.Nat.{ℕ, _-_, _≤_, _<_}
 use native.Mathlib.Omega.{arith}
 use borrow.Author.Needs.{needs}
-use Rattle.record.specs.Layout.{Record, contract}
+use Rattle.record.specs.Layout.{Record, contract, mostContract}
 use Rattle.account.specs.Parts.{contractsOf}
 use Rattle.account.specs.Joined.{accountOf}
+use Rattle.account.specs.Check.{mostContracts}
 use Rattle.margin.specs.code.Beside.{Besides}
 use Rattle.formulas.specs.Contract.{partsIn}
 use Rattle.margin.specs.code.Lined.{TierIs}
@@ -27,7 +28,7 @@ abbrev μ-loop : tie.MeasureT-loop
 μ-loop morning noon account positions count tiers₀ nets₀ i₀ tiers nets i = count - i
 
 -- an account has at most sixteen contracts
-few : (c : tie.After-contract-total Inv-loop μ-loop) → c .contract-total .result ≤ 16
+few : (c : tie.After-contract-total Inv-loop μ-loop) → c .contract-total .result ≤ mostContracts
 few c =
     let c-3 = c .before .before .before in
     let s = c-3 in
@@ -37,32 +38,29 @@ few c =
 within : (c : tie.After-contract-number Inv-loop μ-loop)
     → c .before .before .loop .i < c .before .before .before .before .before .before .args .account .contracts
 within c =
-    let after-loop-test = c .before in
-    let after-contract-total = after-loop-test .before .before in
-    omega (arith, after-loop-test .loop-test .taken, after-contract-total .contract-total .ensures)
+    let after-contract-total = c .before .before .before in
+    omega (arith, c .before .loop-test .taken, after-contract-total .contract-total .ensures)
 
 number : (c : tie.After-contract-number Inv-loop μ-loop)
     → let s = c .before .before .before .before .before .before in
     c .contract-number .result ≡ contract (getD (contractsOf (accountOf (s .args .morning .now) (s .args .noon .now))) (c .before .before .loop .i) [])
 number c =
-    let after-loop = c .before .before in
-    let c-6 = after-loop .before .before .before .before in
+    let c-6 = c .before .before .before .before .before .before in
     let s = c-6 in
-    number-at (s .args .morning .now) (s .args .noon .now) (s .args .account) (s .pre .0) (after-loop .loop .i) (within c)
+    number-at (s .args .morning .now) (s .args .noon .now) (s .args .account) (s .pre .0) (c .before .before .loop .i) (within c)
     (c .contract-number .result) (c .contract-number .ensures)
 
-small : (c : tie.After-contract-number Inv-loop μ-loop) → c .contract-number .result ≤ 15
+small : (c : tie.After-contract-number Inv-loop μ-loop) → c .contract-number .result ≤ mostContract
 small c =
-    let after-loop = c .before .before in
-    let c-6 = after-loop .before .before .before .before in
+    let c-6 = c .before .before .before .before .before .before in
     let s = c-6 in
     let m = s .args .morning .now in
     let n = s .args .noon .now in
     omega (
       arith,
       number c,
-      own-number (accountOf m n) (s .pre .0 .lawful) (after-loop .loop .i)
-          (listed-at m n (s .args .account) (s .pre .0) (after-loop .loop .i) (within c)),
+      own-number (accountOf m n) (s .pre .0 .lawful) (c .before .before .loop .i)
+          (listed-at m n (s .args .account) (s .pre .0) (c .before .before .loop .i) (within c)),
     )
 
 -- and is so in every account beside
@@ -96,12 +94,11 @@ element-copy-out-tier-with c = let h = small c in omega arith
 
 tier-with-requires : tie.Need-tier-with-requires Inv-loop μ-loop
 tier-with-requires c κs =
-    let after-contract-number = c .before in
-    let c-7 = after-contract-number .before .before .before .before .before .before in
+    let c-7 = c .before .before .before .before .before .before .before in
     let s = c-7 in
     let x = s .pre .1 in
-    let k = after-contract-number .contract-number .result in
-    let h = small (after-contract-number) in (
+    let k = c .before .contract-number .result in
+    let h = small (c .before) in (
       h,
       tier-sizes (accountOf (s .args .morning .now) (s .args .noon .now)) (x .whole) (x .told .beside) k (getD (s .args .t4 .at) k noPosition)
           (x .told .positions .each k h),
@@ -138,38 +135,33 @@ loop-less c =
 
 loop-again : tie.Need-loop-again Inv-loop μ-loop
 loop-again c =
-    let after-tier-with = c .before in
-    let c-3 = after-tier-with .before .before in
-    let after-loop-test = c-3 .before in
-    let after-loop = after-loop-test .before in
-    let c-6 = after-loop .before in
+    let c-3 = c .before .before .before in
+    let c-6 = c-3 .before .before .before in
     let c-9 = c-6 .before .before .before in
     let s = c-9 in
-    let l = after-loop .loop in
+    let l = c-3 .before .before .loop in
     let n = c-3 in
     let k = n .contract-number .result in
-    let r = after-tier-with .tier-with in
+    let r = c .before .tier-with in
     let h = few (c-6) in (
       λ whole t.
           tiers-next whole (l .i) (l .tiers) (l .nets) (r .result .contract) (r .result .net) (l .inv .0 whole t)
-          (omega (arith, after-loop-test .loop-test .taken)) (listed n whole (t .beside))
+          (omega (arith, c-3 .before .loop-test .taken)) (listed n whole (t .beside))
           (subst⁻¹ (λ (m : ℕ). TierIs (partsIn whole (getD (contractsOf whole) (l .i) [])) m (r .result .net .0)) (r .ensures .0)
           (tier-is (accountOf (s .args .morning .now) (s .args .noon .now)) whole (t .beside) k (getD (s .args .t4 .at) k noPosition)
           (t .positions .each k (small n)) (l .i) (listed n whole (t .beside)) (number-in n whole (t .beside)) (r .result .net .0) (small n)
           (r .ensures .1))),
-      omega (arith, after-loop-test .loop-test .taken),
+      omega (arith, c-3 .before .loop-test .taken),
     )
 
 returns : tie.Need-returns Inv-loop μ-loop
 returns c =
-    let after-loop = c .before in
-    let after-contract-total = after-loop .before in
-    let c-5 = after-contract-total .before .before .before in
+    let c-5 = c .before .before .before .before .before in
     let s = c-5 in
-    let l = after-loop .loop in
-    let h = few (after-contract-total) in
+    let l = c .before .loop in
+    let h = few (c .before .before) in
     let e = s .pre .0 .places .contracts in
-    let n = after-contract-total .contract-total .ensures in
+    let n = c .before .before .contract-total .ensures in
     λ whole t.
     let same = ap length (t .beside .contracts) in
     tiers-all whole (l .i) _ (l .inv .0 whole t) (omega (arith, c .loop-test .left, l .inv .1)) (omega (arith, c .loop-test .left, l .inv .1))

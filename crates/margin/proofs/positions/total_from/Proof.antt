@@ -6,6 +6,8 @@ use native.Mathlib.Omega.{arith}
 use borrow.Author.Needs.{needs}
 use lib.IntN.{pos, natAbs}
 use lib.ListN.{length, getD}
+use Rattle.formulas.specs.Bounds.{figuresEach}
+use Rattle.account.specs.Check.{mostContracts}
 use Rattle.exact.proofs.Integers.{seen}
 use Rattle.margin.proofs.QuestionLaws.{figures-length, total-last}
 use Rattle.margin.proofs.positions.total_from.Statement.{statement}
@@ -18,7 +20,7 @@ slice-aggregate-put-figures : tie.Need-slice-aggregate-put-figures
 slice-aggregate-put-figures c = search needs
 
 -- at most 16 contracts
-few : (c : tie.After-lines-from) → c .before .before .before .args .account .contracts ≤ 16
+few : (c : tie.After-lines-from) → c .before .before .before .args .account .contracts ≤ mostContracts
 few c =
     let c-3 = c .before .before .before in
     let s = c-3 in
@@ -28,14 +30,13 @@ few c =
 
 put-figures-requires : tie.Need-put-figures-requires
 put-figures-requires c κs =
-    let after-lines-from = c .before in
-    let c-4 = after-lines-from .before .before .before in
+    let c-4 = c .before .before .before .before in
     let s = c-4 in
     let x = s .pre .1 in (
       s .pre .0,
       (
-        record { whole = x .whole; beside = x .told .beside; lines = after-lines-from .lines-from .ensures (x .whole) (x .told) },
-        omega (arith, few (after-lines-from)),
+        record { whole = x .whole; beside = x .told .beside; lines = c .before .lines-from .ensures (x .whole) (x .told) },
+        omega (arith, few (c .before)),
       ),
     )
 
@@ -62,17 +63,16 @@ magnitude-requires c κs = search needs
 
 returns : tie.Need-returns
 returns c =
-    let after-magnitude-arg = c .before in
-    let after-contract-total = after-magnitude-arg .before in
-    let after-put-figures = after-contract-total .before .before in
+    let after-put-figures = c .before .before .before .before in
     let after-lines-from = after-put-figures .before .before in
     let c-9 = after-lines-from .before .before .before in
     let s = c-9 in
     let f = after-put-figures .put-figures in
-    let n = after-contract-total .contract-total in
+    let n = c .before .before .contract-total in
     λ whole t.
-    seen natAbs (getD (f .last .1 .1 .1 .1 .0) (8 * n .result) (pos 0)) (record { sfits = after-magnitude-arg .magnitude-arg .given }) (c .magnitude .ensures)
-    ∙ total-last whole _ (f .last .1 .1 .1 .1 .0) (8 * n .result)
+    seen natAbs (getD (f .last .1 .1 .1 .1 .0) (figuresEach * n .result) (pos 0)) (record { sfits = c .before .magnitude-arg .given })
+    (c .magnitude .ensures)
+    ∙ total-last whole _ (f .last .1 .1 .1 .1 .0) (figuresEach * n .result)
     (f .ensures whole (t .beside) (after-lines-from .lines-from .ensures whole t))
     (omega (
       arith,

@@ -10,6 +10,7 @@ use borrow.Author.Needs.{needs}
 use lib.IntN.{ℤ, pos}
 use lib.ListN.{length, length-map, take, set, length-set}
 use lib.Seq.{sets, slice, slice-cons, slice-empty}
+use Rattle.spread.specs.Accepted.{promptPlaces}
 use Rattle.exact.proofs.Integers.{back}
 use Rattle.formulas.specs.code.Sums.{deltaAt, deltasIn}
 use Rattle.formulas.proofs.AddedLaws.{delta-at}
@@ -53,7 +54,7 @@ loop-again c =
     let s = c .before .before .before .before in
     let l = c .before .before .before .loop in
     let deltas = s .args .t4 in
-    let long : length deltas ≡ 32 = search needs in
+    let long : length deltas ≡ promptPlaces = search needs in
     let there : length (deltasIn deltas) ≡ length deltas = length-map deltas _ in
     let here : ℤ = deltaAt deltas (l .i) in (
       next (l .i) (s .args .at + l .i) (s .args .at + (l .i + 1)) (l .out) _ (here ∷ [])

@@ -4,7 +4,7 @@ use mathlib.Core.Path.{_≡_, sym, ap, _∙_}
 use borrow.Author.Needs.{needs}
 use lib.ListN.{length, length-map}
 use lib.Seq.{sets}
-use Rattle.spread.specs.Accepted.{soundPrompts, soundSpread}
+use Rattle.spread.specs.Accepted.{soundPrompts, soundSpread, promptPlaces}
 use Rattle.spread.proofs.Both.{and-left}
 use Rattle.spread.proofs.Gathering.{few}
 use Rattle.margin.proofs.UsesLaws.{left-by, taken-is}
@@ -26,17 +26,16 @@ same-length c = search needs
 
 returns : tie.Need-returns
 returns c =
-    let after-put-deltas = c .before .before in
-    let after-step-over = after-put-deltas .before .before .before in
+    let after-step-over = c .before .before .before .before .before in
     let c-6 = after-step-over .before in
     let s = c-6 in
     let p = s .args .prompts in
     let d = s .args .spread in
     let step = after-step-over .step-over in
-    let lt : length (p .tier) ≡ 32 = sym (length-map (p .tier) _) ∙ s .good .1 .1 .0 .1 .1 .1 .0 .1 .0 .1 in
-    let ln : length (p .net) ≡ 32 = sym (length-map (p .net) _) ∙ s .good .1 .1 .0 .1 .1 .1 .1 .0 .1 .0 .1 in (
+    let lt : length (p .tier) ≡ promptPlaces = sym (length-map (p .tier) _) ∙ s .good .1 .1 .0 .1 .1 .1 .0 .1 .0 .1 in
+    let ln : length (p .net) ≡ promptPlaces = sym (length-map (p .net) _) ∙ s .good .1 .1 .0 .1 .1 .1 .1 .0 .1 .0 .1 in (
       left-by p d (s .args .second) (step .result) (step .ensures) (s .pre .0),
-      after-put-deltas .put-deltas .ensures ∙ ap (sets (s .args .out .now) (s .args .at))
+      c .before .before .put-deltas .ensures ∙ ap (sets (s .args .out .now) (s .args .at))
           (taken-is p d (s .args .second) (step .result) (step .ensures) (s .pre .0) lt ln (few p (and-left (soundPrompts p) (soundSpread d) (s .pre .0)))),
     )
 

@@ -5,8 +5,7 @@ use native.Mathlib.Omega.{arith}
 use borrow.Author.Needs.{needs}
 use Rattle.spread.specs.Accepted.{soundPrompts, soundTable}
 use Rattle.spread.proofs.Both.{and-left, and-right}
-use Rattle.spread.proofs.Gathering.{few}
-use Rattle.margin.proofs.UsesLaws.{few-in-table}
+use Rattle.spread.proofs.Gathering.{few, few-in-table}
 use Rattle.margin.proofs.uses.uses_count.Statement.{statement}
 use Rattle.margin.proofs.uses.uses_count.Tie as tie
 

@@ -17,10 +17,9 @@ number-of-requires c κs = search needs
 
 returns : tie.Need-returns
 returns c =
-    let after-number-of = c .before in
-    let c-3 = after-number-of .before .before in
+    let c-3 = c .before .before .before in
     let s = c-3 in
-    answer-refused (s .args .file .now) (s .args .checked) (s .pre) (λ e. c .if1 .taken (after-number-of .number-of .ensures ∙ e))
+    answer-refused (s .args .file .now) (s .args .checked) (s .pre) (λ e. c .if1 .taken (c .before .number-of .ensures ∙ e))
     (s .args .question) (s .args .out .now)
 
 nothing-of-requires : tie.Need-nothing-of-requires
@@ -28,11 +27,10 @@ nothing-of-requires c κs = search needs
 
 answer-over-requires : tie.Need-answer-over-requires
 answer-over-requires c κs =
-    let after-nothing-of = c .before in
-    let c-3 = after-nothing-of .before .before in
+    let c-3 = c .before .before .before in
     let c-6 = c-3 .before .before .before in
     let s = c-6 in
-    let n = after-nothing-of .nothing-of in
+    let n = c .before .nothing-of in
     file-stands (s .args .file .now) (s .args .checked) (s .pre) (clear (c-3)) (n .result .now) (n .ensures)
 
 same-length : tie.Need-same-length
@@ -40,13 +38,12 @@ same-length c = search needs
 
 returns-2 : tie.Need-returns-2
 returns-2 c =
-    let after-answer-over = c .before in
-    let after-nothing-of = after-answer-over .before .before in
+    let after-nothing-of = c .before .before .before in
     let c-5 = after-nothing-of .before .before in
     let c-8 = c-5 .before .before .before in
     let s = c-8 in
     let n = after-nothing-of .nothing-of in
-    let r = after-answer-over .answer-over in
+    let r = c .before .answer-over in
     answer-accepted (s .args .file .now) (s .args .checked) (s .pre) (clear (c-5)) (n .result .now) (n .ensures)
     (s .args .question) (s .args .out .now) (r .result) (r .last .1 .1 .1 .1 .0) (r .ensures)
 

@@ -17,29 +17,26 @@ number-of-requires c κs = search needs
 
 returns : tie.Need-returns
 returns c =
-    let after-number-of = c .before in
-    let c-3 = after-number-of .before .before in
+    let c-3 = c .before .before .before in
     let s = c-3 in
-    none-needed (s .args .file .now) (s .args .checked) (s .pre) (λ e. c .if1 .taken (after-number-of .number-of .ensures ∙ e)) (s .args .question)
+    none-needed (s .args .file .now) (s .args .checked) (s .pre) (λ e. c .if1 .taken (c .before .number-of .ensures ∙ e)) (s .args .question)
 
 nothing-of-requires : tie.Need-nothing-of-requires
 nothing-of-requires c κs = search needs
 
 needed-over-requires : tie.Need-needed-over-requires
 needed-over-requires c κs =
-    let c-2 = c .before .before in
-    let c-5 = c-2 .before .before .before in
+    let c-5 = c .before .before .before .before .before in
     let s = c-5 in
     let n = c .nothing-of in
-    file-stands (s .args .file .now) (s .args .checked) (s .pre) (clear (c-2)) (n .result .now) (n .ensures)
+    file-stands (s .args .file .now) (s .args .checked) (s .pre) (clear (c .before .before)) (n .result .now) (n .ensures)
 
 returns-2 : tie.Need-returns-2
 returns-2 c =
-    let after-nothing-of = c .before in
-    let c-3 = after-nothing-of .before .before in
+    let c-3 = c .before .before .before in
     let c-6 = c-3 .before .before .before in
     let s = c-6 in
-    let n = after-nothing-of .nothing-of in
+    let n = c .before .nothing-of in
     let r = c .needed-over in
     needed-accepted (s .args .file .now) (s .args .checked) (s .pre) (clear (c-3)) (n .result .now) (n .ensures)
     (s .args .question) (r .result) (r .ensures)

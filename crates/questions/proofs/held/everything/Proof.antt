@@ -19,14 +19,13 @@ number-of-requires c κs = search needs
 
 returns : tie.Need-returns
 returns c =
-    let after-number-of = c .before in
-    let c-3 = after-number-of .before .before in
+    let c-3 = c .before .before .before in
     let s = c-3 in
-    let f = answer-refused (s .args .file .now) (s .args .checked) (s .pre) (λ e. c .if1 .taken (after-number-of .number-of .ensures ∙ e)) Figures
+    let f = answer-refused (s .args .file .now) (s .args .checked) (s .pre) (λ e. c .if1 .taken (c .before .number-of .ensures ∙ e)) Figures
     (s .args .figures .now) in
-    let b = all-refused (s .args .file .now) (s .args .checked) (s .pre) (λ e. c .if1 .taken (after-number-of .number-of .ensures
+    let b = all-refused (s .args .file .now) (s .args .checked) (s .pre) (λ e. c .if1 .taken (c .before .number-of .ensures
     ∙ e)) false (s .args .books .now) in
-    let u = all-refused (s .args .file .now) (s .args .checked) (s .pre) (λ e. c .if1 .taken (after-number-of .number-of .ensures
+    let u = all-refused (s .args .file .now) (s .args .checked) (s .pre) (λ e. c .if1 .taken (c .before .number-of .ensures
     ∙ e)) true (s .args .uses .now) in
     record { figures-answer = f .0; figures-after = f .1; books-answer = b .0; books-after = b .1; uses-answer = u .0; uses-after = u .1 }
 

@@ -17,20 +17,18 @@ number-of-requires c κs = search needs
 
 returns : tie.Need-returns
 returns c =
-    let after-number-of = c .before in
-    let c-5 = after-number-of .before .before .before .before in
+    let c-5 = c .before .before .before .before .before in
     let s = c-5 in
     let a = s .args in
-    answer-refused (a .morning .now) (a .noon .now) (a .checked) (s .pre) (λ e. c .if1 .taken (after-number-of .number-of .ensures ∙ e))
+    answer-refused (a .morning .now) (a .noon .now) (a .checked) (s .pre) (λ e. c .if1 .taken (c .before .number-of .ensures ∙ e))
     (a .question) (a .out .now)
 
 answer-over-requires : tie.Need-answer-over-requires
 answer-over-requires c κs =
-    let c-2 = c .before .before in
-    let c-7 = c-2 .before .before .before .before .before in
+    let c-7 = c .before .before .before .before .before .before .before in
     let s = c-7 in
     let a = s .args in
-    pair-stands (a .morning .now) (a .noon .now) (a .checked) (s .pre) (clear (c-2))
+    pair-stands (a .morning .now) (a .noon .now) (a .checked) (s .pre) (clear (c .before .before))
 
 of-joined-requires : tie.Need-of-joined-requires
 of-joined-requires c κs = search needs
@@ -40,12 +38,11 @@ same-length c = search needs
 
 returns-2 : tie.Need-returns-2
 returns-2 c =
-    let after-answer-over = c .before .before in
-    let c-5 = after-answer-over .before .before .before in
+    let c-5 = c .before .before .before .before .before in
     let c-10 = c-5 .before .before .before .before .before in
     let s = c-10 in
     let a = s .args in
-    let r = after-answer-over .answer-over in
+    let r = c .before .before .answer-over in
     let v = c .of-joined in
     answer-accepted (a .morning .now) (a .noon .now) (a .checked) (s .pre) (clear (c-5)) (a .question) (a .out .now)
     (r .last .1 .1 .1 .1 .0) (r .result) (v .result) (v .ensures) (r .ensures)

@@ -22,16 +22,15 @@ clear c = sym (c .before .number-of .ensures) ∙ omega (arith, c .if1 .left)
 
 returns : tie.Need-returns
 returns c =
-    let after-number-of = c .before in
-    let after-check-pair = after-number-of .before .before in
+    let after-check-pair = c .before .before .before in
     let c-6 = after-check-pair .before .before .before in
     let s = c-6 in
     let m = s .args .morning .now in
     let n = s .args .noon .now in
     let k = after-check-pair .check-pair in
-    let f = answer-refused m n (k .result) (k .ensures) (λ e. c .if1 .taken (after-number-of .number-of .ensures ∙ e)) Figures (s .args .figures .now) in
-    let b = all-refused m n (k .result) (k .ensures) (λ e. c .if1 .taken (after-number-of .number-of .ensures ∙ e)) false (s .args .books .now) in
-    let u = all-refused m n (k .result) (k .ensures) (λ e. c .if1 .taken (after-number-of .number-of .ensures ∙ e)) true (s .args .uses .now) in
+    let f = answer-refused m n (k .result) (k .ensures) (λ e. c .if1 .taken (c .before .number-of .ensures ∙ e)) Figures (s .args .figures .now) in
+    let b = all-refused m n (k .result) (k .ensures) (λ e. c .if1 .taken (c .before .number-of .ensures ∙ e)) false (s .args .books .now) in
+    let u = all-refused m n (k .result) (k .ensures) (λ e. c .if1 .taken (c .before .number-of .ensures ∙ e)) true (s .args .uses .now) in
     record { figures-answer = f .0; figures-after = f .1; books-answer = b .0; books-after = b .1; uses-answer = u .0; uses-after = u .1 }
 
 everything-over-requires : tie.Need-everything-over-requires
@@ -63,9 +62,7 @@ same-length-3 c = search needs
 
 returns-2 : tie.Need-returns-2
 returns-2 c =
-    let after-of-joined2 = c .before in
-    let after-of-joined = after-of-joined2 .before in
-    let after-everything-over = after-of-joined .before .before .before .before in
+    let after-everything-over = c .before .before .before .before .before .before in
     let c-11 = after-everything-over .before .before .before .before .before in
     let after-check-pair = c-11 .before .before .before in
     let c-17 = after-check-pair .before .before .before in
@@ -77,9 +74,9 @@ returns-2 c =
     let r = after-everything-over .everything-over in
     let x = r .ensures in
     let f = answer-accepted m n (k .result) (k .ensures) z Figures (s .args .figures .now) _ (r .result .figures)
-    (after-of-joined .of-joined .result) (after-of-joined .of-joined .ensures) (x .figures-answer, x .figures-after) in
-    let b = all-accepted m n (k .result) (k .ensures) z false (s .args .books .now) _ (r .result .books) (after-of-joined2 .of-joined2 .result)
-    (after-of-joined2 .of-joined2 .ensures) (x .books-answer, x .books-after) in
+    (c .before .before .of-joined .result) (c .before .before .of-joined .ensures) (x .figures-answer, x .figures-after) in
+    let b = all-accepted m n (k .result) (k .ensures) z false (s .args .books .now) _ (r .result .books) (c .before .of-joined2 .result)
+    (c .before .of-joined2 .ensures) (x .books-answer, x .books-after) in
     let u = all-accepted m n (k .result) (k .ensures) z true (s .args .uses .now) _ (r .result .uses) (c .of-joined3 .result) (c .of-joined3 .ensures)
     (x .uses-answer, x .uses-after) in
     record { figures-answer = f .0; figures-after = f .1; books-answer = b .0; books-after = b .1; uses-answer = u .0; uses-after = u .1 }

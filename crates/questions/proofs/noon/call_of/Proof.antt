@@ -28,13 +28,12 @@ sub-t5 c = search needs
 
 returns-3 : tie.Need-returns-3
 returns-3 c =
-    let c-2 = c .before .before in
-    let c-5 = c-2 .before .before .before in
+    let c-5 = c .before .before .before .before .before in
     let e = c-5 in
     let a = e .before .before .before .before .args in
     sym
     (called (a .required .0) (a .last .0) (a .threshold .0) (a .collateral .0) (omega (arith, e .if1 .left))
-    (omega (arith, c-2 .if2 .left)))
+    (omega (arith, c .before .before .if2 .left)))
 
 pub call-of-spec : {M : Type 1} → statement M
 call-of-spec = tie.close (tie.spec add-if1 returns returns-2 sub-t5 returns-3)

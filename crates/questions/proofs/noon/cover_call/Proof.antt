@@ -25,14 +25,12 @@ tested : (c : tie.After-beyond-amount3)
     (c .before .before .beyond-amount .result || c .before .beyond-amount2 .result) || c .beyond-amount3 .result
     ≡ (beyondAmount (a .last) || beyondAmount (a .threshold)) || beyondAmount (a .collateral)
 tested c =
-    let after-beyond-amount2 = c .before in
-    let after-beyond-amount = after-beyond-amount2 .before in
-    let c-10 = after-beyond-amount .before .before .before .before .before .before .before .before in
+    let c-10 = c .before .before .before .before .before .before .before .before .before .before in
     let s = c-10 in
     ap₂ _||_
     (ap₂ _||_
-    (seen beyondAmount (s .args .last) (s .fits .last) (after-beyond-amount .beyond-amount .ensures))
-    (seen beyondAmount (s .args .threshold) (s .fits .threshold) (after-beyond-amount2 .beyond-amount2 .ensures)))
+    (seen beyondAmount (s .args .last) (s .fits .last) (c .before .before .beyond-amount .ensures))
+    (seen beyondAmount (s .args .threshold) (s .fits .threshold) (c .before .beyond-amount2 .ensures)))
     (seen beyondAmount (s .args .collateral) (s .fits .collateral) (c .beyond-amount3 .ensures))
 
 within : (c : tie.Else2)
@@ -48,13 +46,12 @@ number-of-requires c κs = search needs
 
 returns : tie.Need-returns
 returns c =
-    let after-number-of = c .before in
-    let after-check-pair = after-number-of .before .before in
+    let after-check-pair = c .before .before .before in
     let start = after-check-pair .before .before .before in
     let a = start .args in
     let o = after-check-pair .check-pair in
     call-refused (a .morning .now) (a .noon .now) (o .result) (o .ensures) (a .last) (a .threshold) (a .collateral)
-    (λ e. c .if1 .taken (after-number-of .number-of .ensures ∙ e))
+    (λ e. c .if1 .taken (c .before .number-of .ensures ∙ e))
 
 beyond-amount-requires : tie.Need-beyond-amount-requires
 beyond-amount-requires c κs = search needs
@@ -73,15 +70,13 @@ of-joined-requires c κs = search needs
 
 returns-2 : tie.Need-returns-2
 returns-2 c =
-    let after-record-total = c .before in
-    let c-2 = after-record-total .before in
-    let c-3 = c-2 .before in
+    let c-3 = c .before .before .before in
     let t = c-3 in
     let a = t .before .before .before .before .before .before .before .before .before .before .args in
     let o = t .before .before .before .before .before .before .before .check-pair in
-    let n = after-record-total .record-total in
+    let n = c .before .record-total in
     call-outside (a .morning .now) (a .noon .now) (o .result) (o .ensures) (a .last) (a .threshold) (a .collateral) (clear (t .before .before .before .before))
-    (sym (tested t) ∙ c-2 .if2 .taken) (n .result) (n .ensures) (c .of-joined .result) (c .of-joined .ensures)
+    (sym (tested t) ∙ c .before .before .if2 .taken) (n .result) (n .ensures) (c .of-joined .result) (c .of-joined .ensures)
 
 total-over-requires : tie.Need-total-over-requires
 total-over-requires c κs =
@@ -103,21 +98,17 @@ magnitude-requires-3 c κs = search needs
 
 call-of-requires : tie.Need-call-of-requires
 call-of-requires c κs =
-    let after-magnitude2 = c .before in
-    let after-magnitude = after-magnitude2 .before in
-    let c-4 = after-magnitude .before .before in
+    let c-4 = c .before .before .before .before in
     let e = c-4 in
     let s = e .before .before .before .before .before .before .before .before .before .before .before in
     let w = neither _ _ (neither _ _ (within e) .0) in (
-      omega (arith, amount-within (s .args .last) (w .0), seen natAbs (s .args .last) (s .fits .last) (after-magnitude .magnitude .ensures)),
-      omega (arith, amount-within (s .args .threshold) (w .1), seen natAbs (s .args .threshold) (s .fits .threshold) (after-magnitude2 .magnitude2 .ensures)),
+      omega (arith, amount-within (s .args .last) (w .0), seen natAbs (s .args .last) (s .fits .last) (c .before .before .magnitude .ensures)),
+      omega (arith, amount-within (s .args .threshold) (w .1), seen natAbs (s .args .threshold) (s .fits .threshold) (c .before .magnitude2 .ensures)),
     )
 
 returns-3 : tie.Need-returns-3
 returns-3 c =
-    let after-magnitude3 = c .before in
-    let after-magnitude2 = after-magnitude3 .before in
-    let after-magnitude = after-magnitude2 .before in
+    let after-magnitude = c .before .before .before in
     let after-total-over = after-magnitude .before in
     let c-5 = after-total-over .before in
     let e = c-5 in
@@ -127,12 +118,12 @@ returns-3 c =
     call-made (a .morning .now) (a .noon .now) (o .result) (o .ensures) (a .last) (a .threshold) (a .collateral)
     (clear (e .before .before .before .before .before)) (within e) (c .call-of .result)
     (c .call-of .ensures
-    ∙ ap₂ (λ (x y : ℕ). coverCall x y (after-magnitude2 .magnitude2 .result) (after-magnitude3 .magnitude3 .result))
+    ∙ ap₂ (λ (x y : ℕ). coverCall x y (c .before .before .magnitude2 .result) (c .before .magnitude3 .result))
     (after-total-over .total-over .ensures)
     (seen natAbs (a .last) (s .fits .last) (after-magnitude .magnitude .ensures))
     ∙ ap₂ (coverCall (requirement (accountOf (a .morning .now) (a .noon .now))) (natAbs (a .last)))
-    (seen natAbs (a .threshold) (s .fits .threshold) (after-magnitude2 .magnitude2 .ensures))
-    (seen natAbs (a .collateral) (s .fits .collateral) (after-magnitude3 .magnitude3 .ensures)))
+    (seen natAbs (a .threshold) (s .fits .threshold) (c .before .before .magnitude2 .ensures))
+    (seen natAbs (a .collateral) (s .fits .collateral) (c .before .magnitude3 .ensures)))
 
 pub cover-call-spec : {M : Type 1} → statement M
 cover-call-spec =

@@ -20,31 +20,28 @@ number-of-requires c κs = search needs
 
 returns : tie.Need-returns
 returns c =
-    let after-number-of = c .before in
-    let after-check-pair = after-number-of .before .before in
+    let after-check-pair = c .before .before .before in
     let start = after-check-pair .before .before .before in
     let a = start .args in
     let o = after-check-pair .check-pair in
-    none-needed (a .morning .now) (a .noon .now) (o .result) (o .ensures) (λ e. c .if1 .taken (after-number-of .number-of .ensures ∙ e)) (a .question)
+    none-needed (a .morning .now) (a .noon .now) (o .result) (o .ensures) (λ e. c .if1 .taken (c .before .number-of .ensures ∙ e)) (a .question)
 
 needed-over-requires : tie.Need-needed-over-requires
 needed-over-requires c κs =
-    let c-1 = c .before in
-    let after-check-pair = c-1 .before .before .before in
+    let after-check-pair = c .before .before .before .before in
     let start = after-check-pair .before .before .before in
     let a = start .args in
     let o = after-check-pair .check-pair in
-    pair-stands (a .morning .now) (a .noon .now) (o .result) (o .ensures) (clear (c-1))
+    pair-stands (a .morning .now) (a .noon .now) (o .result) (o .ensures) (clear (c .before))
 
 returns-2 : tie.Need-returns-2
 returns-2 c =
-    let c-2 = c .before .before in
-    let after-check-pair = c-2 .before .before .before in
+    let after-check-pair = c .before .before .before .before .before in
     let start = after-check-pair .before .before .before in
     let a = start .args in
     let o = after-check-pair .check-pair in
     let r = c .needed-over in
-    needed-accepted (a .morning .now) (a .noon .now) (o .result) (o .ensures) (clear (c-2)) (a .question) (r .result) (r .ensures)
+    needed-accepted (a .morning .now) (a .noon .now) (o .result) (o .ensures) (clear (c .before .before)) (a .question) (r .result) (r .ensures)
 
 pub needed-spec : {M : Type 1} → statement M
 needed-spec =

@@ -28,14 +28,12 @@ beyond-requires c κs = search needs
 
 returns : tie.Need-returns
 returns c =
-    let after-u16-in = c .before in
-    let after-rate-beyond = after-u16-in .before in
-    let after-u32-in = after-rate-beyond .before in
+    let after-u32-in = c .before .before .before in
     let after-contract-beyond = after-u32-in .before in
     let after-byte-in = after-contract-beyond .before in
     both (after-contract-beyond .contract-beyond .ensures ∙ ap (beyond contractRange) (after-byte-in .byte-in .ensures .0))
-    (both (after-rate-beyond .rate-beyond .ensures ∙ ap (beyond rateRange) (after-u32-in .u32-in .ensures .0))
-    (last (c .beyond .ensures ∙ ap (beyond (plain 0 1000)) (after-u16-in .u16-in .ensures .0))))
+    (both (c .before .before .rate-beyond .ensures ∙ ap (beyond rateRange) (after-u32-in .u32-in .ensures .0))
+    (last (c .beyond .ensures ∙ ap (beyond (plain 0 1000)) (c .before .u16-in .ensures .0))))
 
 pub contract-outside-spec : {M : Type 1} → statement M
 contract-outside-spec =

@@ -27,23 +27,20 @@ signed-beyond-requires-2 c κs = search needs
 
 returns : tie.Need-returns
 returns c =
-    let after-u32-in = c .before in
-    let c-2 = after-u32-in .before in
-    let after-byte-in = c-2 .before in
+    let after-byte-in = c .before .before .before in
     let start = after-byte-in .before .before in
     let picked : put (start .args .r .now) ≡ true = eq-eqb _ _
-    (sym (after-byte-in .byte-in .ensures .0) ∙ c-2 .if1 .taken) in
+    (sym (after-byte-in .byte-in .ensures .0) ∙ c .before .before .if1 .taken) in
     rw picked (c .signed-beyond .ensures ∙ ap (beyond (signed (negℤ (pos 10000)) (pos 0)))
-    (after-u32-in .u32-in .ensures .0))
+    (c .before .u32-in .ensures .0))
 
 returns-2 : tie.Need-returns-2
 returns-2 c =
-    let after-u32-in2 = c .before in
-    let after-byte-in = after-u32-in2 .before .before in
+    let after-byte-in = c .before .before .before in
     let start = after-byte-in .before .before in
     let picked : put (start .args .r .now) ≡ false = ne-eqb _ _
     (λ e. c .before .before .if1 .left (after-byte-in .byte-in .ensures .0 ∙ e)) in
-    rw picked (c .signed-beyond2 .ensures ∙ ap (beyond (signed (pos 0) (pos 10000))) (after-u32-in2 .u32-in2 .ensures .0))
+    rw picked (c .signed-beyond2 .ensures ∙ ap (beyond (signed (pos 0) (pos 10000))) (c .before .u32-in2 .ensures .0))
 
 pub delta-beyond-spec : {M : Type 1} → statement M
 delta-beyond-spec =

@@ -51,9 +51,7 @@ beyond-requires-2 c κs = search needs
 
 returns : tie.Need-returns
 returns c =
-    let after-byte-in5 = c .before in
-    let after-entry-ratio-beyond2 = after-byte-in5 .before in
-    let after-u16-in2 = after-entry-ratio-beyond2 .before in
+    let after-u16-in2 = c .before .before .before in
     let after-entry-ratio-beyond = after-u16-in2 .before in
     let after-u16-in = after-entry-ratio-beyond .before in
     let after-beyond = after-u16-in .before in
@@ -73,8 +71,8 @@ returns c =
     ∙ ap (beyond (plain 0 100)) (after-byte-in4 .byte-in4 .ensures .0))
     (both (after-entry-ratio-beyond .entry-ratio-beyond .ensures
     ∙ (λ i. beyond (entryRatioRange (marked i)) (after-u16-in .u16-in .ensures .0 i)))
-    (both (after-entry-ratio-beyond2 .entry-ratio-beyond2 .ensures ∙ (λ i. beyond (entryRatioRange (marked i)) (after-u16-in2 .u16-in2 .ensures .0 i)))
-    (last (c .beyond2 .ensures ∙ ap (beyond (plain 0 1)) (after-byte-in5 .byte-in5 .ensures .0)))))))
+    (both (c .before .before .entry-ratio-beyond2 .ensures ∙ (λ i. beyond (entryRatioRange (marked i)) (after-u16-in2 .u16-in2 .ensures .0 i)))
+    (last (c .beyond2 .ensures ∙ ap (beyond (plain 0 1)) (c .before .byte-in5 .ensures .0)))))))
 
 pub entry-outside-spec : {M : Type 1} → statement M
 entry-outside-spec =

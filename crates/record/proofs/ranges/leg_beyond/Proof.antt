@@ -46,16 +46,14 @@ ratio-beyond-requires c κs = search needs
 
 returns : tie.Need-returns
 returns c =
-    let after-u16-in = c .before in
-    let after-beyond = after-u16-in .before in
-    let after-byte-in2 = after-beyond .before in
+    let after-byte-in2 = c .before .before .before in
     let after-tier-beyond = after-byte-in2 .before in
     let after-byte-in = after-tier-beyond .before in
     both (after-tier-beyond .tier-beyond .ensures ∙ ap (beyond tierRange)
     (after-byte-in .byte-in .ensures .0))
-    (both (after-beyond .beyond .ensures ∙ ap (beyond (plain 1 2))
+    (both (c .before .before .beyond .ensures ∙ ap (beyond (plain 1 2))
     (after-byte-in2 .byte-in2 .ensures .0))
-    (last (c .ratio-beyond .ensures ∙ ap (beyond ratioRange) (after-u16-in .u16-in .ensures .0))))
+    (last (c .ratio-beyond .ensures ∙ ap (beyond ratioRange) (c .before .u16-in .ensures .0))))
 
 pub leg-beyond-spec : {M : Type 1} → statement M
 leg-beyond-spec =

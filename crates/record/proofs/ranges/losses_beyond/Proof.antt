@@ -6,7 +6,7 @@ use native.Mathlib.Omega.{arith}
 use borrow.Author.Needs.{needs}
 use Rattle.exact.specs.Lists.{any}
 use Rattle.record.specs.Bytes.{Record, u32At, countFrom}
-use Rattle.record.specs.Layout.{hundredThousands, lossField}
+use Rattle.record.specs.Layout.{hundredThousands, lossField, scenarioCount}
 use Rattle.record.specs.Ranges.{beyond, outside}
 use Rattle.record.proofs.Tests.{any-next, any-past}
 use Rattle.record.proofs.ranges.losses_beyond.Statement.{statement}
@@ -17,10 +17,10 @@ wrong r scenario = outside r (lossField scenario)
 
 abbrev Inv-loop : tie.InvT-loop
 Inv-loop r outside₀ k₀ outside k =
-    any (wrong r) (countFrom 1 16) ≡ outside || any (wrong r) (countFrom (k + 1) (17 - (k + 1)))
+    any (wrong r) (countFrom 1 scenarioCount) ≡ outside || any (wrong r) (countFrom (k + 1) (scenarioCount + 1 - (k + 1)))
 
 abbrev μ-loop : tie.MeasureT-loop
-μ-loop r outside₀ k₀ outside k = 16 - k
+μ-loop r outside₀ k₀ outside k = scenarioCount - k
 
 -- the k-th loss is that of scenario k + 1
 told :
@@ -51,21 +51,19 @@ loop-less c = omega arith
 
 loop-again : tie.Need-loop-again Inv-loop μ-loop
 loop-again c =
-    let after-u32-in = c .before in
-    let after-loop = after-u32-in .before .before in
+    let after-loop = c .before .before .before in
     let start = after-loop .before .before in
     let l = after-loop .loop in
     let r = start .args .r .now in
-    l .inv ∙ any-next (wrong r) 17 (l .k + 1) (l .outside) (omega arith)
-    ∙ ap (λ b. (l .outside || b) || any (wrong r) (countFrom (l .k + 1 + 1) (17 - (l .k + 1 + 1))))
-    (sym (told r (l .k) (after-u32-in .u32-in .ensures .0) (c .too-many .ensures)))
+    l .inv ∙ any-next (wrong r) (scenarioCount + 1) (l .k + 1) (l .outside) (omega arith)
+    ∙ ap (λ b. (l .outside || b) || any (wrong r) (countFrom (l .k + 1 + 1) (scenarioCount + 1 - (l .k + 1 + 1))))
+    (sym (told r (l .k) (c .before .u32-in .ensures .0) (c .too-many .ensures)))
 
 returns : tie.Need-returns Inv-loop μ-loop
 returns c =
-    let after-loop = c .before in
-    let start = after-loop .before .before in
-    let l = after-loop .loop in
-    sym (l .inv ∙ any-past (wrong (start .args .r .now)) 17 (l .k + 1) (l .outside) (omega arith))
+    let start = c .before .before .before in
+    let l = c .before .loop in
+    sym (l .inv ∙ any-past (wrong (start .args .r .now)) (scenarioCount + 1) (l .k + 1) (l .outside) (omega arith))
 
 pub losses-beyond-spec : {M : Type 1} → statement M
 losses-beyond-spec =

@@ -39,9 +39,7 @@ rate-beyond-requires-2 c κs = search needs
 
 returns : tie.Need-returns
 returns c =
-    let after-u32-in3 = c .before in
-    let after-rate-beyond = after-u32-in3 .before in
-    let after-u32-in2 = after-rate-beyond .before in
+    let after-u32-in2 = c .before .before .before in
     let after-day-beyond = after-u32-in2 .before in
     let after-u32-in = after-day-beyond .before in
     let after-tier-beyond = after-u32-in .before in
@@ -55,9 +53,9 @@ returns c =
     (after-byte-in2 .byte-in2 .ensures .0))
     (both (after-day-beyond .day-beyond .ensures ∙ ap (beyond dayRange)
     (after-u32-in .u32-in .ensures .0))
-    (both (after-rate-beyond .rate-beyond .ensures ∙ ap (beyond rateRange)
+    (both (c .before .before .rate-beyond .ensures ∙ ap (beyond rateRange)
     (after-u32-in2 .u32-in2 .ensures .0))
-    (last (c .rate-beyond2 .ensures ∙ ap (beyond rateRange) (after-u32-in3 .u32-in3 .ensures .0))))))
+    (last (c .rate-beyond2 .ensures ∙ ap (beyond rateRange) (c .before .u32-in3 .ensures .0))))))
 
 pub prompt-outside-spec : {M : Type 1} → statement M
 prompt-outside-spec =

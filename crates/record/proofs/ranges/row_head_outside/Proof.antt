@@ -52,9 +52,7 @@ beyond-requires-3 c κs = search needs
 
 returns : tie.Need-returns
 returns c =
-    let after-u32-in3 = c .before in
-    let after-delta-beyond = after-u32-in3 .before in
-    let c-3 = after-delta-beyond .before in
+    let c-3 = c .before .before .before in
     let lots = c-3 in
     let day = lots .before .before .before in
     let currency = day .before .before in
@@ -66,7 +64,7 @@ returns c =
     (both (day .day-beyond .ensures ∙ ap (beyond dayRange) (day .before .u32-in .ensures .0))
     (both (lots .before .before .strike-beyond .ensures)
     (both (lots .too-many .ensures ∙ ap (beyond hundredThousands) (lots .before .u32-in2 .ensures .0))
-    (both (after-delta-beyond .delta-beyond .ensures) (last (c .beyond3 .ensures ∙ ap (beyond valueRange) (after-u32-in3 .u32-in3 .ensures .0)))))))))
+    (both (c .before .before .delta-beyond .ensures) (last (c .beyond3 .ensures ∙ ap (beyond valueRange) (c .before .u32-in3 .ensures .0)))))))))
 
 pub row-head-outside-spec : {M : Type 1} → statement M
 row-head-outside-spec =

@@ -44,9 +44,7 @@ third-leg-beyond-requires c κs = search needs
 
 returns : tie.Need-returns
 returns c =
-    let after-leg-beyond2 = c .before in
-    let after-leg-beyond = after-leg-beyond2 .before in
-    let after-rate-beyond = after-leg-beyond .before in
+    let after-rate-beyond = c .before .before .before in
     let after-u32-in = after-rate-beyond .before in
     let after-beyond = after-u32-in .before in
     let after-byte-in2 = after-beyond .before in
@@ -60,7 +58,7 @@ returns c =
     (after-byte-in2 .byte-in2 .ensures .0))
     (both (after-rate-beyond .rate-beyond .ensures ∙ ap (beyond rateRange)
     (after-u32-in .u32-in .ensures .0))
-    (both (after-leg-beyond .leg-beyond .ensures) (both (after-leg-beyond2 .leg-beyond2 .ensures) (c .third-leg-beyond .ensures))
+    (both (c .before .before .leg-beyond .ensures) (both (c .before .leg-beyond2 .ensures) (c .third-leg-beyond .ensures))
     ∙ sym (joined (outside r) (legFields 0) (legFields 1) (thirdLeg r)))))
 
 pub spread-outside-spec : {M : Type 1} → statement M

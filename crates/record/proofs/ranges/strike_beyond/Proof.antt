@@ -26,22 +26,19 @@ beyond-requires-2 c κs = search needs
 
 returns : tie.Need-returns
 returns c =
-    let after-u32-in = c .before in
-    let c-2 = after-u32-in .before in
-    let after-byte-in = c-2 .before in
+    let after-byte-in = c .before .before .before in
     let start = after-byte-in .before .before in
     let picked : forward (start .args .r .now) ≡ true = eq-eqb _ _
-    (sym (after-byte-in .byte-in .ensures .0) ∙ c-2 .if1 .taken) in
-    rw picked (c .beyond .ensures ∙ ap (beyond (plain 0 0)) (after-u32-in .u32-in .ensures .0))
+    (sym (after-byte-in .byte-in .ensures .0) ∙ c .before .before .if1 .taken) in
+    rw picked (c .beyond .ensures ∙ ap (beyond (plain 0 0)) (c .before .u32-in .ensures .0))
 
 returns-2 : tie.Need-returns-2
 returns-2 c =
-    let after-u32-in2 = c .before in
-    let after-byte-in = after-u32-in2 .before .before in
+    let after-byte-in = c .before .before .before in
     let start = after-byte-in .before .before in
     let picked : forward (start .args .r .now) ≡ false = ne-eqb _ _
     (λ e. c .before .before .if1 .left (after-byte-in .byte-in .ensures .0 ∙ e)) in
-    rw picked (c .beyond2 .ensures ∙ ap (beyond (plain 1 4294967295)) (after-u32-in2 .u32-in2 .ensures .0))
+    rw picked (c .beyond2 .ensures ∙ ap (beyond (plain 1 4294967295)) (c .before .u32-in2 .ensures .0))
 
 pub strike-beyond-spec : {M : Type 1} → statement M
 strike-beyond-spec =

@@ -15,18 +15,16 @@ leg-beyond-requires c κs = search needs
 
 returns : tie.Need-returns
 returns c =
-    let after-byte-in = c .before in
-    let start = after-byte-in .before .before in
+    let start = c .before .before .before in
     let two : twoLegs (start .args .r .now) ≡ true = eq-eqb _ _
-    (sym (after-byte-in .byte-in .ensures .0) ∙ c .if1 .taken) in
+    (sym (c .before .byte-in .ensures .0) ∙ c .if1 .taken) in
     rw two
 
 returns-2 : tie.Need-returns-2
 returns-2 c =
-    let after-byte-in = c .before .before in
-    let start = after-byte-in .before .before in
+    let start = c .before .before .before .before in
     let two : twoLegs (start .args .r .now) ≡ false =
-    ne-eqb _ _ (λ e. c .before .if1 .left (after-byte-in .byte-in .ensures .0 ∙ e)) in
+    ne-eqb _ _ (λ e. c .before .if1 .left (c .before .before .byte-in .ensures .0 ∙ e)) in
     rw two (c .leg-beyond .ensures)
 
 pub third-leg-beyond-spec : {M : Type 1} → statement M

@@ -25,14 +25,10 @@ prompt-outside-requires c κs = search needs
 
 returns-2 : tie.Need-returns-2
 returns-2 c =
-    let after-beside-prompt = c .before in
-    let after-is-of = after-beside-prompt .before in
-    let c-3 = after-is-of .before in
-    let c-5 = c-3 .before .before in
-    let start = c-5 in
-    let r = start .args .r .now in
-    sound-whole 2 (start .args .c) r promptFields (of-prompt r) (le-leb recordBytes (length r) (c-3 .if1 .left))
-    (after-is-of .is-of .ensures) (after-beside-prompt .beside-prompt .ensures) (c .prompt-outside .ensures)
+    let c-3 = c .before .before .before in
+    let r = c-3 .before .before .args .r .now in
+    sound-whole 2 (c-3 .before .before .args .c) r promptFields (of-prompt r) (le-leb recordBytes (length r) (c-3 .if1 .left))
+    (c .before .before .is-of .ensures) (c .before .beside-prompt .ensures) (c .prompt-outside .ensures)
 
 pub sound-prompt-spec : {M : Type 1} → statement M
 sound-prompt-spec =

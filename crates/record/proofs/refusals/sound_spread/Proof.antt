@@ -25,14 +25,10 @@ spread-outside-requires c κs = search needs
 
 returns-2 : tie.Need-returns-2
 returns-2 c =
-    let after-beside-spread = c .before in
-    let after-is-of = after-beside-spread .before in
-    let c-3 = after-is-of .before in
-    let c-5 = c-3 .before .before in
-    let start = c-5 in
-    let r = start .args .r .now in
-    sound-whole 4 (start .args .c) r (spreadFields r) (of-spread r) (le-leb recordBytes (length r) (c-3 .if1 .left))
-    (after-is-of .is-of .ensures) (after-beside-spread .beside-spread .ensures) (c .spread-outside .ensures)
+    let c-3 = c .before .before .before in
+    let r = c-3 .before .before .args .r .now in
+    sound-whole 4 (c-3 .before .before .args .c) r (spreadFields r) (of-spread r) (le-leb recordBytes (length r) (c-3 .if1 .left))
+    (c .before .before .is-of .ensures) (c .before .beside-spread .ensures) (c .spread-outside .ensures)
 
 pub sound-spread-spec : {M : Type 1} → statement M
 sound-spread-spec =

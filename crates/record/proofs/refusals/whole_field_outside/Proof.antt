@@ -16,26 +16,23 @@ contract-outside-requires c κs = search needs
 
 returns : tie.Need-returns
 returns c =
-    let c-1 = c .before in
-    let after-byte-in = c-1 .before in
-    let start = after-byte-in .before .before in
+    let start = c .before .before .before .before in
     let r = start .args .r .now in
     c .contract-outside .ensures
     ∙ ap (λ (fs : List Field). outsideAmong fs r) (sym
-    (of-contract r (sym (after-byte-in .byte-in .ensures .0) ∙ c-1 .if1 .taken)))
+    (of-contract r (sym (c .before .before .byte-in .ensures .0) ∙ c .before .if1 .taken)))
 
 prompt-outside-requires : tie.Need-prompt-outside-requires
 prompt-outside-requires c κs = search needs
 
 returns-2 : tie.Need-returns-2
 returns-2 c =
-    let c-1 = c .before in
-    let after-byte-in = c-1 .before .before in
+    let after-byte-in = c .before .before .before in
     let start = after-byte-in .before .before in
     let r = start .args .r .now in
     c .prompt-outside .ensures
     ∙ ap (λ (fs : List Field). outsideAmong fs r) (sym
-    (of-prompt r (sym (after-byte-in .byte-in .ensures .0) ∙ c-1 .if2 .taken)))
+    (of-prompt r (sym (after-byte-in .byte-in .ensures .0) ∙ c .before .if2 .taken)))
 
 row-head-outside-requires : tie.Need-row-head-outside-requires
 row-head-outside-requires c κs = search needs
@@ -45,54 +42,49 @@ losses-beyond-requires c κs = search needs
 
 returns-3 : tie.Need-returns-3
 returns-3 c =
-    let after-row-head-outside = c .before in
-    let after-if3 = after-row-head-outside .before in
-    let after-byte-in = after-if3 .before .before .before in
+    let after-byte-in = c .before .before .before .before .before in
     let start = after-byte-in .before .before in
     let r = start .args .r .now in
-    row-fields-outside r (after-row-head-outside .row-head-outside .ensures) (c .losses-beyond .ensures)
+    row-fields-outside r (c .before .row-head-outside .ensures) (c .losses-beyond .ensures)
     ∙ ap (λ (fs : List Field). outsideAmong fs r) (sym
-    (of-row r (sym (after-byte-in .byte-in .ensures .0) ∙ after-if3 .if3 .taken)))
+    (of-row r (sym (after-byte-in .byte-in .ensures .0) ∙ c .before .before .if3 .taken)))
 
 spread-outside-requires : tie.Need-spread-outside-requires
 spread-outside-requires c κs = search needs
 
 returns-4 : tie.Need-returns-4
 returns-4 c =
-    let after-if4 = c .before in
-    let after-byte-in = after-if4 .before .before .before .before in
+    let after-byte-in = c .before .before .before .before .before in
     let start = after-byte-in .before .before in
     let r = start .args .r .now in
     c .spread-outside .ensures
     ∙ ap (λ (fs : List Field). outsideAmong fs r) (sym
-    (of-spread r (sym (after-byte-in .byte-in .ensures .0) ∙ after-if4 .if4 .taken)))
+    (of-spread r (sym (after-byte-in .byte-in .ensures .0) ∙ c .before .if4 .taken)))
 
 entry-outside-requires : tie.Need-entry-outside-requires
 entry-outside-requires c κs = search needs
 
 returns-5 : tie.Need-returns-5
 returns-5 c =
-    let after-if5 = c .before in
-    let after-byte-in = after-if5 .before .before .before .before .before in
+    let after-byte-in = c .before .before .before .before .before .before in
     let start = after-byte-in .before .before in
     let r = start .args .r .now in
     c .entry-outside .ensures
     ∙ ap (λ (fs : List Field). outsideAmong fs r) (sym
     (of-entry r (sym (after-byte-in .byte-in .ensures .0)
-    ∙ after-if5 .if5 .taken)))
+    ∙ c .before .if5 .taken)))
 
 rate-outside-requires : tie.Need-rate-outside-requires
 rate-outside-requires c κs = search needs
 
 returns-6 : tie.Need-returns-6
 returns-6 c =
-    let after-if6 = c .before in
-    let after-byte-in = after-if6 .before .before .before .before .before .before in
+    let after-byte-in = c .before .before .before .before .before .before .before in
     let start = after-byte-in .before .before in
     let r = start .args .r .now in
     c .rate-outside .ensures
     ∙ ap (λ (fs : List Field). outsideAmong fs r) (sym
-    (of-rate r (sym (after-byte-in .byte-in .ensures .0) ∙ after-if6 .if6 .taken)))
+    (of-rate r (sym (after-byte-in .byte-in .ensures .0) ∙ c .before .if6 .taken)))
 
 returns-7 : tie.Need-returns-7
 returns-7 c =

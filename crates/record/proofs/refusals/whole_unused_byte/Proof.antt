@@ -16,79 +16,72 @@ beside-contract-requires c κs = search needs
 
 returns : tie.Need-returns
 returns c =
-    let c-1 = c .before in
-    let after-byte-in = c-1 .before in
-    let start = after-byte-in .before .before in
+    let start = c .before .before .before .before in
     let r = start .args .r .now in
     c .beside-contract .ensures
     ∙ ap (λ (fs : List Field). unusedBeside fs r) (sym
-    (of-contract r (sym (after-byte-in .byte-in .ensures .0) ∙ c-1 .if1 .taken)))
+    (of-contract r (sym (c .before .before .byte-in .ensures .0) ∙ c .before .if1 .taken)))
 
 beside-prompt-requires : tie.Need-beside-prompt-requires
 beside-prompt-requires c κs = search needs
 
 returns-2 : tie.Need-returns-2
 returns-2 c =
-    let c-1 = c .before in
-    let after-byte-in = c-1 .before .before in
+    let after-byte-in = c .before .before .before in
     let start = after-byte-in .before .before in
     let r = start .args .r .now in
     c .beside-prompt .ensures
     ∙ ap (λ (fs : List Field). unusedBeside fs r) (sym
-    (of-prompt r (sym (after-byte-in .byte-in .ensures .0) ∙ c-1 .if2 .taken)))
+    (of-prompt r (sym (after-byte-in .byte-in .ensures .0) ∙ c .before .if2 .taken)))
 
 beside-row-requires : tie.Need-beside-row-requires
 beside-row-requires c κs = search needs
 
 returns-3 : tie.Need-returns-3
 returns-3 c =
-    let after-if3 = c .before in
-    let after-byte-in = after-if3 .before .before .before in
+    let after-byte-in = c .before .before .before .before in
     let start = after-byte-in .before .before in
     let r = start .args .r .now in
     c .beside-row .ensures
     ∙ ap (λ (fs : List Field). unusedBeside fs r) (sym
-    (of-row r (sym (after-byte-in .byte-in .ensures .0) ∙ after-if3 .if3 .taken)))
+    (of-row r (sym (after-byte-in .byte-in .ensures .0) ∙ c .before .if3 .taken)))
 
 beside-spread-requires : tie.Need-beside-spread-requires
 beside-spread-requires c κs = search needs
 
 returns-4 : tie.Need-returns-4
 returns-4 c =
-    let after-if4 = c .before in
-    let after-byte-in = after-if4 .before .before .before .before in
+    let after-byte-in = c .before .before .before .before .before in
     let start = after-byte-in .before .before in
     let r = start .args .r .now in
     c .beside-spread .ensures
     ∙ ap (λ (fs : List Field). unusedBeside fs r) (sym
-    (of-spread r (sym (after-byte-in .byte-in .ensures .0) ∙ after-if4 .if4 .taken)))
+    (of-spread r (sym (after-byte-in .byte-in .ensures .0) ∙ c .before .if4 .taken)))
 
 beside-entry-requires : tie.Need-beside-entry-requires
 beside-entry-requires c κs = search needs
 
 returns-5 : tie.Need-returns-5
 returns-5 c =
-    let after-if5 = c .before in
-    let after-byte-in = after-if5 .before .before .before .before .before in
+    let after-byte-in = c .before .before .before .before .before .before in
     let start = after-byte-in .before .before in
     let r = start .args .r .now in
     c .beside-entry .ensures
     ∙ ap (λ (fs : List Field). unusedBeside fs r) (sym
     (of-entry r (sym (after-byte-in .byte-in .ensures .0)
-    ∙ after-if5 .if5 .taken)))
+    ∙ c .before .if5 .taken)))
 
 beside-rate-requires : tie.Need-beside-rate-requires
 beside-rate-requires c κs = search needs
 
 returns-6 : tie.Need-returns-6
 returns-6 c =
-    let after-if6 = c .before in
-    let after-byte-in = after-if6 .before .before .before .before .before .before in
+    let after-byte-in = c .before .before .before .before .before .before .before in
     let start = after-byte-in .before .before in
     let r = start .args .r .now in
     c .beside-rate .ensures
     ∙ ap (λ (fs : List Field). unusedBeside fs r) (sym
-    (of-rate r (sym (after-byte-in .byte-in .ensures .0) ∙ after-if6 .if6 .taken)))
+    (of-rate r (sym (after-byte-in .byte-in .ensures .0) ∙ c .before .if6 .taken)))
 
 beside-none-requires : tie.Need-beside-none-requires
 beside-none-requires c κs = search needs

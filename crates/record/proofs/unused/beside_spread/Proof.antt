@@ -25,22 +25,19 @@ set-between-requires-2 c κs = search needs
 
 returns : tie.Need-returns
 returns c =
-    let after-is-set = c .before in
-    let c-2 = after-is-set .before in
-    let after-byte-in = c-2 .before in
+    let after-byte-in = c .before .before .before in
     let start = after-byte-in .before .before in
     let two : twoLegs (start .args .r .now) ≡ true =
-    eq-eqb _ _ (sym (after-byte-in .byte-in .ensures .0) ∙ c-2 .if1 .taken) in
-    rw two (both (after-is-set .is-set .ensures) (c .set-between .ensures))
+    eq-eqb _ _ (sym (after-byte-in .byte-in .ensures .0) ∙ c .before .before .if1 .taken) in
+    rw two (both (c .before .is-set .ensures) (c .set-between .ensures))
 
 returns-2 : tie.Need-returns-2
 returns-2 c =
-    let after-is-set2 = c .before in
-    let after-byte-in = after-is-set2 .before .before in
+    let after-byte-in = c .before .before .before in
     let start = after-byte-in .before .before in
     let two : twoLegs (start .args .r .now) ≡ false =
     ne-eqb _ _ (λ e. c .before .before .if1 .left (after-byte-in .byte-in .ensures .0 ∙ e)) in
-    rw two (both (after-is-set2 .is-set2 .ensures) (c .set-between2 .ensures))
+    rw two (both (c .before .is-set2 .ensures) (c .set-between2 .ensures))
 
 pub beside-spread-spec : {M : Type 1} → statement M
 beside-spread-spec =

@@ -31,12 +31,10 @@ loop-less c = omega arith
 
 loop-again : tie.Need-loop-again Inv-loop μ-loop
 loop-again c =
-    let after-loop-test = c .before in
-    let after-loop = after-loop-test .before in
-    let c-3 = after-loop .before in
-    let l = after-loop .loop in
+    let c-3 = c .before .before .before in
+    let l = c .before .before .loop in
     let s = c-3 in
-    l .inv ∙ any-next (notZero (s .args .r .now)) (s .args .end) (l .i) (l .set) (after-loop-test .loop-test .taken)
+    l .inv ∙ any-next (notZero (s .args .r .now)) (s .args .end) (l .i) (l .set) (c .before .loop-test .taken)
 
 returns : tie.Need-returns Inv-loop μ-loop
 returns c =

@@ -21,8 +21,7 @@ same-length c = search needs
 
 returns : tie.Need-returns
 returns c =
-    let after-put = c .before .before in
-    let after-move-up = after-put .before .before .before .before in
+    let after-move-up = c .before .before .before .before .before .before in
     let c-10 = after-move-up .before .before .before .before in
     let s = c-10 in
     let at = s .args .at in
@@ -30,7 +29,7 @@ returns c =
     let lent = s .args .lent .now in
     let a = s .pre .1 .0 in
     let b = s .pre .1 .1 in
-    after-put .put .ensures
+    c .before .before .put .ensures
     ∙ ap (λ (xs : List ℕ). take at xs ++ (row ++ drop (at + length row) xs)) (after-move-up .move-up .ensures)
     ∙ then-put at (s .args .end) row lent (s .pre .0) (omega (arith, a, b))
 

@@ -27,10 +27,9 @@ sub-i c =
 -- the byte that is moved, and its new place, are lent
 room : (c : tie.After-slice-known Inv-loop μ-loop) → c .before .before .loop .i + recordBytes ≤ length (c .before .before .loop .lent)
 room c =
-    let after-loop = c .before .before in
-    let c-3 = after-loop .before in
+    let c-3 = c .before .before .before in
     let s = c-3 in
-    let l = after-loop .loop in
+    let l = c .before .before .loop in
     let p = s .pre .1 in
     let w = l .inv .1 .within in
     let n = as-long (s .args .end) (s .args .lent .now) p (l .lent) (l .i) (l .inv .1) in
@@ -61,12 +60,10 @@ loop-less c =
 
 loop-again : tie.Need-loop-again Inv-loop μ-loop
 loop-again c =
-    let after-loop-test = c .before in
-    let after-loop = after-loop-test .before in
-    let c-3 = after-loop .before in
+    let c-3 = c .before .before .before in
     let s = c-3 in
-    let l = after-loop .loop in
-    let t = after-loop-test .loop-test .taken in
+    let l = c .before .before .loop in
+    let t = c .before .loop-test .taken in
     (omega (arith, t), one-more (s .args .end) (s .args .lent .now) (s .pre .1) (l .lent) (l .i) (omega (arith, t)) (l .inv .1))
 
 same-length : tie.Need-same-length Inv-loop μ-loop

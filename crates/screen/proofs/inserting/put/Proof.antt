@@ -25,10 +25,9 @@ shared-slice-read-lent c = search needs
 -- what is lent stays as long, and the byte's place is lent
 long : (c : tie.After-shared-slice-known Inv-loop μ-loop) → length (c .before .before .loop .lent) ≡ length (c .before .before .before .args .lent .now)
 long c =
-    let after-loop = c .before .before in
-    let c-3 = after-loop .before in
+    let c-3 = c .before .before .before in
     let s = c-3 in
-    let l = after-loop .loop in
+    let l = c .before .before .loop in
     let p = s .pre in
     let w = l .inv .0 in
     ap length (l .inv .1) ∙ length-paste (s .args .lent .now) (s .args .at) (s .args .row .now) (l .i) (omega (arith, p, w)) w
@@ -41,10 +40,9 @@ add-lent c =
 
 slice-write-lent : tie.Need-slice-write-lent Inv-loop μ-loop
 slice-write-lent c =
-    let after-loop-test = c .before in
-    let start = after-loop-test .before .before in
+    let start = c .before .before .before in
     let p = start .pre in
-    let t = after-loop-test .loop-test .taken in
+    let t = c .before .loop-test .taken in
     let n = long c in
     omega (arith, p, t, n)
 
@@ -58,13 +56,11 @@ loop-less c =
 
 loop-again : tie.Need-loop-again Inv-loop μ-loop
 loop-again c =
-    let after-loop-test = c .before in
-    let after-loop = after-loop-test .before in
-    let c-3 = after-loop .before in
+    let c-3 = c .before .before .before in
     let s = c-3 in
-    let l = after-loop .loop in
+    let l = c .before .before .loop in
     let p = s .pre in
-    let t = after-loop-test .loop-test .taken in
+    let t = c .before .loop-test .taken in
     let row = s .args .row .now in
     let at = s .args .at in
     let more : suc (l .i) ≡ l .i + 1 = omega arith in (

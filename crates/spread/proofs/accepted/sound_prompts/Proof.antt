@@ -8,7 +8,7 @@ use lib.IntN.{pos}
 use lib.ListN.{length, length-map}
 use borrow.Author.Needs.{needs}
 use borrow.Author.Tests.{lt-leb, le-leb}
-use Rattle.spread.specs.Accepted.{every, openOf, soundPrompt}
+use Rattle.spread.specs.Accepted.{every, openOf, soundPrompt, promptPlaces}
 use Rattle.spread.proofs.Every.{Tested, tested-next, tested-end, open-length, open-at}
 use Rattle.spread.proofs.accepted.sound_prompts.Statement.{statement}
 use Rattle.spread.proofs.accepted.sound_prompts.Tie as tie
@@ -20,7 +20,7 @@ abbrev μ-loop : tie.MeasureT-loop
 μ-loop prompts n sound₀ i₀ sound i = n - i
 
 returns : tie.Need-returns Inv-loop μ-loop
-returns c = rw (lt-leb (c .before .args .t1 .count) 32 (c .if1 .taken))
+returns c = rw (lt-leb (c .before .args .t1 .count) promptPlaces (c .if1 .taken))
 
 loop-holds : tie.Need-loop-holds Inv-loop μ-loop
 loop-holds c = (omega arith, refl)
@@ -51,8 +51,8 @@ loop-again c =
     let s = c-6 in
     let p = s .args .t1 in
     let i = after-loop .loop .i in
-    let lt : length (p .tier) ≡ 32 = sym (length-map (p .tier) _) ∙ s .good .0 .1 .1 .1 .0 .1 .0 .1 in
-    let ln : length (p .net) ≡ 32 = sym (length-map (p .net) _) ∙ s .good .0 .1 .1 .1 .1 .0 .1 .0 .1 in
+    let lt : length (p .tier) ≡ promptPlaces = sym (length-map (p .tier) _) ∙ s .good .0 .1 .1 .1 .0 .1 .0 .1 in
+    let ln : length (p .net) ≡ promptPlaces = sym (length-map (p .net) _) ∙ s .good .0 .1 .1 .1 .1 .0 .1 .0 .1 in
     let n = open-length p lt ln (omega arith) in (
       omega arith,
       tested-next soundPrompt (openOf p) i (record { tier = 0; unused = pos 0 }) (after-loop .loop .sound) _ (omega arith)
@@ -62,15 +62,14 @@ loop-again c =
 
 returns-2 : tie.Need-returns-2 Inv-loop μ-loop
 returns-2 c =
-    let after-loop = c .before in
-    let c-3 = after-loop .before .before in
+    let c-3 = c .before .before .before in
     let s = c-3 in
     let p = s .args .t1 in
-    let lt : length (p .tier) ≡ 32 = sym (length-map (p .tier) _) ∙ s .good .0 .1 .1 .1 .0 .1 .0 .1 in
-    let ln : length (p .net) ≡ 32 = sym (length-map (p .net) _) ∙ s .good .0 .1 .1 .1 .1 .0 .1 .0 .1 in
+    let lt : length (p .tier) ≡ promptPlaces = sym (length-map (p .tier) _) ∙ s .good .0 .1 .1 .1 .0 .1 .0 .1 in
+    let ln : length (p .net) ≡ promptPlaces = sym (length-map (p .net) _) ∙ s .good .0 .1 .1 .1 .1 .0 .1 .0 .1 in
     let n = open-length p lt ln (omega arith) in
-    tested-end soundPrompt (openOf p) (after-loop .loop .i) _ (omega arith) (after-loop .loop .inv .1)
-    ∙ sym (ap (λ (b : Bool). b && every soundPrompt (openOf p)) (le-leb (p .count) 32 (omega arith)))
+    tested-end soundPrompt (openOf p) (c .before .loop .i) _ (omega arith) (c .before .loop .inv .1)
+    ∙ sym (ap (λ (b : Bool). b && every soundPrompt (openOf p)) (le-leb (p .count) promptPlaces (omega arith)))
 
 pub sound-prompts-spec : {M : Type 1} → statement M
 sound-prompts-spec =

@@ -20,8 +20,7 @@ sound-two-requires c κs = search needs
 returns : tie.Need-returns
 returns c =
     let c-3 = c .before .before .before in
-    let c-4 = c-3 .before in
-    let s = c-4 in
+    let s = c-3 .before in
     let l : length (s .args .t1 .leg) ≡ 3 = sym (length-map (s .args .t1 .leg) _) ∙ s .good .0 .1 .1 .1 .0 .1 .0 .1 in
     c .sound-two .ensures ∙ sym (with-two (s .args .t1) _ l (c-3 .if1 .taken))
 
@@ -40,8 +39,7 @@ sound-three-requires c κs = search needs
 returns-2 : tie.Need-returns-2
 returns-2 c =
     let c-4 = c .before .before .before .before in
-    let c-6 = c-4 .before .before in
-    let s = c-6 in
+    let s = c-4 .before .before in
     let l : length (s .args .t1 .leg) ≡ 3 = sym (length-map (s .args .t1 .leg) _) ∙ s .good .0 .1 .1 .1 .0 .1 .0 .1 in
     c .sound-three .ensures ∙ sym (with-three (s .args .t1) _ l (c-4 .if2 .taken))
 

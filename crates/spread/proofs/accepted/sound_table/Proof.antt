@@ -8,7 +8,7 @@ use lib.ListN.{length, length-map, take}
 use lib.Seq.{length-take-le, getD-take}
 use borrow.Author.Needs.{needs}
 use borrow.Author.Tests.{lt-leb, le-leb}
-use Rattle.spread.specs.Accepted.{every, soundSpread}
+use Rattle.spread.specs.Accepted.{every, soundSpread, spreadPlaces}
 use Rattle.spread.proofs.Every.{Tested, tested-next, tested-end}
 use Rattle.spread.proofs.accepted.sound_table.Statement.{statement}
 use Rattle.spread.proofs.accepted.sound_table.Tie as tie
@@ -20,7 +20,7 @@ abbrev μ-loop : tie.MeasureT-loop
 μ-loop table n sound₀ i₀ sound i = n - i
 
 returns : tie.Need-returns Inv-loop μ-loop
-returns c = rw (lt-leb (c .before .args .t1 .count) 32 (c .if1 .taken))
+returns c = rw (lt-leb (c .before .args .t1 .count) spreadPlaces (c .if1 .taken))
 
 loop-holds : tie.Need-loop-holds Inv-loop μ-loop
 loop-holds c = (omega arith, refl)
@@ -42,30 +42,28 @@ loop-less c = omega arith
 
 loop-again : tie.Need-loop-again Inv-loop μ-loop
 loop-again c =
-    let after-loop-test = c .before .before in
-    let after-loop = after-loop-test .before in
+    let after-loop = c .before .before .before in
     let c-5 = after-loop .before .before in
     let s = c-5 in
     let t = s .args .t1 in
     let i = after-loop .loop .i in
-    let l : length (t .spread) ≡ 32 = sym (length-map (t .spread) _) ∙ s .good .0 .1 .1 .1 .0 .1 .0 .1 in
+    let l : length (t .spread) ≡ spreadPlaces = sym (length-map (t .spread) _) ∙ s .good .0 .1 .1 .1 .0 .1 .0 .1 in
     let n = length-take-le (t .count) (t .spread) (omega arith) in (
       omega arith,
       tested-next soundSpread (take (t .count) (t .spread)) i _ (after-loop .loop .sound) _ (omega arith)
           (after-loop .loop .inv .1)
-          (c .sound-spread .ensures ∙ sym (ap soundSpread (getD-take (t .count) (t .spread) i _ (after-loop-test .loop-test .taken)))),
+          (c .sound-spread .ensures ∙ sym (ap soundSpread (getD-take (t .count) (t .spread) i _ (c .before .before .loop-test .taken)))),
     )
 
 returns-2 : tie.Need-returns-2 Inv-loop μ-loop
 returns-2 c =
-    let after-loop = c .before in
-    let c-3 = after-loop .before .before in
+    let c-3 = c .before .before .before in
     let s = c-3 in
     let t = s .args .t1 in
-    let l : length (t .spread) ≡ 32 = sym (length-map (t .spread) _) ∙ s .good .0 .1 .1 .1 .0 .1 .0 .1 in
+    let l : length (t .spread) ≡ spreadPlaces = sym (length-map (t .spread) _) ∙ s .good .0 .1 .1 .1 .0 .1 .0 .1 in
     let n = length-take-le (t .count) (t .spread) (omega arith) in
-    tested-end soundSpread (take (t .count) (t .spread)) (after-loop .loop .i) _ (omega arith) (after-loop .loop .inv .1)
-    ∙ sym (ap (λ (b : Bool). b && every soundSpread (take (t .count) (t .spread))) (le-leb (t .count) 32 (omega arith)))
+    tested-end soundSpread (take (t .count) (t .spread)) (c .before .loop .i) _ (omega arith) (c .before .loop .inv .1)
+    ∙ sym (ap (λ (b : Bool). b && every soundSpread (take (t .count) (t .spread))) (le-leb (t .count) spreadPlaces (omega arith)))
 
 pub sound-table-spec : {M : Type 1} → statement M
 sound-table-spec =

@@ -27,12 +27,10 @@ sound-two-requires c κs = search needs
 
 returns : tie.Need-returns
 returns c =
-    let after-same-leg2 = c .before in
-    let after-same-leg = after-same-leg2 .before in
-    let after-sound-leg = after-same-leg .before in
+    let after-sound-leg = c .before .before .before in
     let c-4 = after-sound-leg .before in
     let s = c-4 in
-    rw (after-sound-leg .sound-leg .ensures, after-same-leg .same-leg .ensures, after-same-leg2 .same-leg2 .ensures, c .sound-two .ensures)
+    rw (after-sound-leg .sound-leg .ensures, c .before .before .same-leg .ensures, c .before .same-leg2 .ensures, c .sound-two .ensures)
     (three (soundLeg (s .args .a)) (sameLeg (s .args .a) (s .args .b)) (sameLeg (s .args .a) (s .args .c)) (soundLegsOf (s .args .b ∷ s .args .c ∷ [])))
 
 pub sound-three-spec : {M : Type 1} → statement M

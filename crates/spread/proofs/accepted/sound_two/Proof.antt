@@ -22,11 +22,9 @@ sound-leg-requires-2 c κs = search needs
 
 returns : tie.Need-returns
 returns c =
-    let after-same-leg = c .before in
-    let after-sound-leg = after-same-leg .before in
-    let c-3 = after-sound-leg .before in
+    let c-3 = c .before .before .before in
     let s = c-3 in
-    rw (after-sound-leg .sound-leg .ensures, after-same-leg .same-leg .ensures, c .sound-leg2 .ensures)
+    rw (c .before .before .sound-leg .ensures, c .before .same-leg .ensures, c .sound-leg2 .ensures)
     (two (soundLeg (s .args .a)) (sameLeg (s .args .a) (s .args .b)) (soundLeg (s .args .b)))
 
 pub sound-two-spec : {M : Type 1} → statement M

@@ -2,7 +2,7 @@
 -- Assumes nothing.
 use mathlib.Core.Path.{_≡_, sym, _∙_}
 use lib.ListN.{length, length-map}
-use Rattle.spread.specs.Accepted.{soundPrompts, soundTable}
+use Rattle.spread.specs.Accepted.{soundPrompts, soundTable, promptPlaces}
 use Rattle.spread.proofs.Booking.{booked-accepted}
 use Rattle.spread.proofs.Both.{and-left, and-right}
 use Rattle.spread.proofs.Bounds.{pooled-small}
@@ -16,8 +16,8 @@ run-requires : tie.Need-run-requires
 run-requires c κs =
     let s = c .before in
     let p = s .args .prompts in
-    let lt : length (p .tier) ≡ 32 = sym (length-map (p .tier) _) ∙ s .good .0 .1 .1 .1 .0 .1 .0 .1 in
-    let ln : length (p .net) ≡ 32 = sym (length-map (p .net) _) ∙ s .good .0 .1 .1 .1 .1 .0 .1 .0 .1 in (
+    let lt : length (p .tier) ≡ promptPlaces = sym (length-map (p .tier) _) ∙ s .good .0 .1 .1 .1 .0 .1 .0 .1 in
+    let ln : length (p .net) ≡ promptPlaces = sym (length-map (p .net) _) ∙ s .good .0 .1 .1 .1 .1 .0 .1 .0 .1 in (
       and-right (soundPrompts p) (soundTable (s .args .table)) (s .pre),
       pooled-small p _ lt ln (and-left (soundPrompts p) (soundTable (s .args .table)) (s .pre)) (c .pools-of .ensures),
     )

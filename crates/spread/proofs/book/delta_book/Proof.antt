@@ -15,12 +15,10 @@ refused-requires c κs = search needs
 
 returns : tie.Need-returns
 returns c =
-    let c-1 = c .before in
-    let after-accepted = c-1 .before in
-    let c-3 = after-accepted .before in
+    let c-3 = c .before .before .before in
     let s = c-3 in
     booked-refused (s .args .prompts) (s .args .table) (c .refused .result)
-    (sym (after-accepted .accepted .ensures) ∙ not-true _ (c-1 .if1 .taken)) (c .refused .ensures)
+    (sym (c .before .before .accepted .ensures) ∙ not-true _ (c .before .if1 .taken)) (c .refused .ensures)
 
 book-of-accepted-requires : tie.Need-book-of-accepted-requires
 book-of-accepted-requires c κs = sym (c .before .accepted .ensures) ∙ not-false _ (c .if1 .left)

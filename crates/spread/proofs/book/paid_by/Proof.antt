@@ -5,7 +5,8 @@ use native.Mathlib.Omega.{arith}
 use mathlib.Core.Path.{_≡_, sym, _∙_, ap}
 use lib.ListN.{length, length-map, getD, set}
 use borrow.Author.Needs.{needs}
-use Rattle.spread.specs.Accepted.{openOf}
+use Rattle.spread.specs.Accepted.{openOf, promptPlaces}
+use Rattle.spread.specs.code.Cells.{poolCount}
 use Rattle.spread.proofs.Every.{open-length}
 use Rattle.spread.proofs.Gathering.{few, Placed, netOf, placed, placed-within}
 use Rattle.spread.proofs.Paying.{Paying, paying-none, pay-next, paying-all}
@@ -13,15 +14,15 @@ use Rattle.spread.proofs.book.paid_by.Statement.{statement}
 use Rattle.spread.proofs.book.paid_by.Tie as tie
 
 abbrev Inv-loop : tie.InvT-loop
-Inv-loop left prompts n had₀ paid₀ k₀ had paid k = (k ≤ n) × (n ≤ 32) × Paying had₀ left (openOf prompts) k had (paid .used) (paid .unused)
+Inv-loop left prompts n had₀ paid₀ k₀ had paid k = (k ≤ n) × (n ≤ promptPlaces) × Paying had₀ left (openOf prompts) k had (paid .used) (paid .unused)
 
 abbrev μ-loop : tie.MeasureT-loop
 μ-loop left prompts n had₀ paid₀ k₀ had paid k = n - k
 
-tiers : (s : tie.Start Inv-loop μ-loop) → length (s .args .t1 .tier) ≡ 32
+tiers : (s : tie.Start Inv-loop μ-loop) → length (s .args .t1 .tier) ≡ promptPlaces
 tiers s = sym (length-map (s .args .t1 .tier) _) ∙ s .good .0 .1 .1 .1 .0 .1 .0 .1
 
-nets : (s : tie.Start Inv-loop μ-loop) → length (s .args .t1 .net) ≡ 32
+nets : (s : tie.Start Inv-loop μ-loop) → length (s .args .t1 .net) ≡ promptPlaces
 nets s = sym (length-map (s .args .t1 .net) _) ∙ s .good .0 .1 .1 .1 .1 .0 .1 .0 .1
 
 -- the prompt of a turn
@@ -34,12 +35,12 @@ here c =
     let s = c-7 in
     placed (s .args .t1) _ (c .pool-of .result) (tiers s) (nets s) (s .pre .0) (after-loop-test .loop-test .taken) (c .pool-of .ensures)
 
-within : (c : tie.After-pool-of Inv-loop μ-loop) → c .pool-of .result < 32
+within : (c : tie.After-pool-of Inv-loop μ-loop) → c .pool-of .result < poolCount
 within c = placed-within _ _ _ _ (here c)
 
 loop-holds : tie.Need-loop-holds Inv-loop μ-loop
 loop-holds c = let s = c .before .before in
-    let len : length (s .args .pools .cell) ≡ 32 = sym (length-map (s .args .pools .cell) _) ∙ s .good .1 .0 .1 .1 .0 .1 .0 .1 in
+    let len : length (s .args .pools .cell) ≡ poolCount = sym (length-map (s .args .pools .cell) _) ∙ s .good .1 .0 .1 .1 .0 .1 .0 .1 in
     (omega arith, few (s .args .t1) (s .pre .0), paying-none (s .args .pools .cell) (s .args .left .now) (openOf (s .args .t1)) len)
 
 mul-net : tie.Need-mul-net Inv-loop μ-loop
@@ -65,9 +66,8 @@ mul-beyond-2 c = let h = within c in omega arith
 
 shared-slice-read-beyond : tie.Need-shared-slice-read-beyond Inv-loop μ-loop
 shared-slice-read-beyond c =
-    let c-1 = c .before in
-    let c-8 = c-1 .before .before .before .before .before .before .before in
-    let s = c-8 in omega (arith, within (c-1), s .pre .1)
+    let c-8 = c .before .before .before .before .before .before .before .before in
+    let s = c-8 in omega (arith, within (c .before), s .pre .1)
 
 beyond-requires : tie.Need-beyond-requires Inv-loop μ-loop
 beyond-requires c κs = search needs
@@ -121,8 +121,7 @@ loop-less c = omega arith
 
 loop-again : tie.Need-loop-again Inv-loop μ-loop
 loop-again c =
-    let after-size = c .before in
-    let after-split-of = after-size .before .before .before in
+    let after-split-of = c .before .before .before .before in
     let after-beyond = after-split-of .before in
     let c-7 = after-beyond .before .before in
     let p = c-7 in
@@ -136,17 +135,16 @@ loop-again c =
       pay-next (s .args .pools .cell) (s .args .left .now) (openOf (s .args .t1)) (l .k) (l .had) _ (l .paid .used) (l .paid .unused) _ cell _
           (parts .result .used) (parts .result .unused) (omega arith)
           (here p) due (parts .ensures .0) (parts .ensures .1)
-          (ap (set (l .had) cell) (c .beyond2 .ensures ∙ ap (λ (a : ℕ). getD (l .had) cell 0 - a) (after-size .size .ensures)))
+          (ap (set (l .had) cell) (c .beyond2 .ensures ∙ ap (λ (a : ℕ). getD (l .had) cell 0 - a) (c .before .size .ensures)))
           (l .inv .2),
     )
 
 returns : tie.Need-returns Inv-loop μ-loop
 returns c =
-    let after-loop = c .before in
-    let c-4 = after-loop .before .before .before in
+    let c-4 = c .before .before .before .before in
     let s = c-4 in
     let p = s .args .t1 in
-    let l = after-loop .loop in
+    let l = c .before .loop in
     let n = open-length p (tiers s) (nets s) (l .inv .1) in
     paying-all (s .args .pools .cell) (s .args .left .now) (openOf p) (l .k) (l .had) (l .paid .used) (l .paid .unused) (omega arith) (l .inv .2)
 

@@ -7,8 +7,8 @@ use mathlib.Core.Path.{_≡_, sym, _∙_, ap, subst}
 use lib.ListN.{length, length-map, getD, set, take}
 use lib.Seq.{take-all}
 use borrow.Author.Needs.{needs}
-use Rattle.spread.specs.Accepted.{openOf}
-use Rattle.spread.specs.code.Cells.{Pooled}
+use Rattle.spread.specs.Accepted.{openOf, promptPlaces}
+use Rattle.spread.specs.code.Cells.{Pooled, poolCount}
 use Rattle.spread.specs.Steps.{Open}
 use Rattle.spread.proofs.Every.{open-length}
 use Rattle.spread.proofs.Gathering.{few, Placed, netOf, placed, placed-within, pooled-none, pools-fit, pools-next}
@@ -16,15 +16,15 @@ use Rattle.spread.proofs.book.pools_of.Statement.{statement}
 use Rattle.spread.proofs.book.pools_of.Tie as tie
 
 abbrev Inv-loop : tie.InvT-loop
-Inv-loop prompts n cells₀ i₀ cells i = (i ≤ n) × (n ≤ 32) × Pooled cells (take i (openOf prompts))
+Inv-loop prompts n cells₀ i₀ cells i = (i ≤ n) × (n ≤ promptPlaces) × Pooled cells (take i (openOf prompts))
 
 abbrev μ-loop : tie.MeasureT-loop
 μ-loop prompts n cells₀ i₀ cells i = n - i
 
-tiers : (s : tie.Start Inv-loop μ-loop) → length (s .args .t1 .tier) ≡ 32
+tiers : (s : tie.Start Inv-loop μ-loop) → length (s .args .t1 .tier) ≡ promptPlaces
 tiers s = sym (length-map (s .args .t1 .tier) _) ∙ s .good .0 .1 .1 .1 .0 .1 .0 .1
 
-nets : (s : tie.Start Inv-loop μ-loop) → length (s .args .t1 .net) ≡ 32
+nets : (s : tie.Start Inv-loop μ-loop) → length (s .args .t1 .net) ≡ promptPlaces
 nets s = sym (length-map (s .args .t1 .net) _) ∙ s .good .0 .1 .1 .1 .1 .0 .1 .0 .1
 
 -- the prompt of a turn
@@ -37,7 +37,7 @@ here c =
     let s = c-5 in
     placed (s .args .t1) _ (c .pool-of .result) (tiers s) (nets s) (s .pre) (after-loop-test .loop-test .taken) (c .pool-of .ensures)
 
-within : (c : tie.After-pool-of Inv-loop μ-loop) → c .pool-of .result < 32
+within : (c : tie.After-pool-of Inv-loop μ-loop) → c .pool-of .result < poolCount
 within c = placed-within _ _ _ _ (here c)
 
 loop-holds : tie.Need-loop-holds Inv-loop μ-loop
@@ -66,13 +66,12 @@ size-requires c κs = search needs
 
 add-cells : tie.Need-add-cells Inv-loop μ-loop
 add-cells c =
-    let after-pool-of = c .before in
-    let after-loop = after-pool-of .before .before .before .before in
+    let after-loop = c .before .before .before .before .before in
     let c-6 = after-loop .before in
     let s = c-6 in
     let l = after-loop .loop in
     let e = c .size .ensures in
-    let h = pools-fit (s .args .t1) (l .i) _ (after-pool-of .pool-of .result) (here (after-pool-of)) (l .cells) (l .inv .2) (s .pre) (omega arith) in
+    let h = pools-fit (s .args .t1) (l .i) _ (c .before .pool-of .result) (here (c .before)) (l .cells) (l .inv .2) (s .pre) (omega arith) in
     omega arith
 
 mul-cells-2 : tie.Need-mul-cells-2 Inv-loop μ-loop
@@ -89,15 +88,14 @@ loop-less c = omega arith
 
 loop-again : tie.Need-loop-again Inv-loop μ-loop
 loop-again c =
-    let after-pool-of = c .before in
-    let after-loop = after-pool-of .before .before .before .before in
+    let after-loop = c .before .before .before .before .before in
     let c-6 = after-loop .before in
     let s = c-6 in
     let l = after-loop .loop in
-    let cell = after-pool-of .pool-of .result in (
+    let cell = c .before .pool-of .result in (
       omega arith,
       l .inv .1,
-      pools-next (s .args .t1) (l .i) _ cell (here (after-pool-of)) (l .cells) (l .inv .2) _
+      pools-next (s .args .t1) (l .i) _ cell (here (c .before)) (l .cells) (l .inv .2) _
           (ap (λ (x : ℕ). set (l .cells) cell (getD (l .cells) cell 0 + x)) (c .size .ensures)),
     )
 

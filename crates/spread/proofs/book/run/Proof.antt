@@ -8,7 +8,7 @@ use mathlib.Core.Logic.{⊎-elim}
 use mathlib.Core.Path.{_≡_, sym, _∙_}
 use lib.ListN.{length, length-map, getD}
 use borrow.Author.Needs.{needs}
-use Rattle.spread.specs.Accepted.{spreadsOf, soundSpread}
+use Rattle.spread.specs.Accepted.{spreadsOf, soundSpread, spreadPlaces}
 use Rattle.spread.specs.code.Cells.{Small, Taken}
 use Rattle.spread.specs.Steps.{stepOf}
 use Rattle.spread.specs.declared.Spread.{Spread}
@@ -21,7 +21,7 @@ use Rattle.spread.proofs.book.run.Tie as tie
 
 abbrev Inv-loop : tie.InvT-loop
 Inv-loop table n left₀ ran₀ i₀ left ran i =
-    (i ≤ n) × (n ≤ 32) × Small (left .cell) × Running (left₀ .cell) (spreadsOf table) i (left .cell) (ran .first) (ran .second)
+    (i ≤ n) × (n ≤ spreadPlaces) × Small (left .cell) × Running (left₀ .cell) (spreadsOf table) i (left .cell) (ran .first) (ran .second)
 
 abbrev μ-loop : tie.MeasureT-loop
 μ-loop table n left₀ ran₀ i₀ left ran i = n - i
@@ -29,7 +29,7 @@ abbrev μ-loop : tie.MeasureT-loop
 abbrev spread-at : Table → ℕ → Spread
 spread-at t i = getD (t .spread) i (record { legs = 0; leg = []; tenths = false })
 
-spreads : (s : tie.Start Inv-loop μ-loop) → length (s .args .t2 .spread) ≡ 32
+spreads : (s : tie.Start Inv-loop μ-loop) → length (s .args .t2 .spread) ≡ spreadPlaces
 spreads s = sym (length-map (s .args .t2 .spread) _) ∙ s .good .1 .0 .1 .1 .1 .0 .1 .0 .1
 
 -- the spread of a turn is accepted

@@ -26,28 +26,25 @@ towards-zero-requires c κs = search needs
 
 minus-requires : tie.Need-minus-requires
 minus-requires c κs =
-    let after-towards-zero = c .before in
-    let c-3 = after-towards-zero .before .before in
+    let c-3 = c .before .before .before in
     let s = c-3 in
     let z = s .args .net .0 in
     let f : SFits w64 z = record { sfits = c .struct-told2 .given .0 .1 } in
     rw (
-      back (after-towards-zero .towards-zero .result) (record { sfits = after-towards-zero .towards-zero .ok }),
-      seen (λ (x : ℤ). towardsZero x (s .args .wanted)) z f (after-towards-zero .towards-zero .ensures),
+      back (c .before .towards-zero .result) (record { sfits = c .before .towards-zero .ok }),
+      seen (λ (x : ℤ). towardsZero x (s .args .wanted)) z f (c .before .towards-zero .ensures),
       back z f,
     ) (taken-fits z (s .args .wanted) f)
 
 returns : tie.Need-returns
 returns c =
-    let after-struct-told2 = c .before in
-    let after-towards-zero = after-struct-told2 .before in
-    let c-4 = after-towards-zero .before .before in
+    let c-4 = c .before .before .before .before in
     let s = c-4 in
     let z = s .args .net .0 in
-    let y = after-towards-zero .towards-zero .result in
-    let f : SFits w64 z = record { sfits = after-struct-told2 .struct-told2 .given .0 .1 } in
-    let g : SFits w64 y = record { sfits = after-towards-zero .towards-zero .ok } in
-    let e = seen (λ (x : ℤ). towardsZero x (s .args .wanted)) z f (after-towards-zero .towards-zero .ensures) in (
+    let y = c .before .before .towards-zero .result in
+    let f : SFits w64 z = record { sfits = c .before .struct-told2 .given .0 .1 } in
+    let g : SFits w64 y = record { sfits = c .before .before .towards-zero .ok } in
+    let e = seen (λ (x : ℤ). towardsZero x (s .args .wanted)) z f (c .before .before .towards-zero .ensures) in (
       back (c .minus .result) (record { sfits = c .minus .ok }) ∙ seen₂ (λ (a b : ℤ). a -ℤ b) z y f g (c .minus .ensures) ∙ ap (λ (x : ℤ). z -ℤ x) e,
       back y g ∙ e,
     )

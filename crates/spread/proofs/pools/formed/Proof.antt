@@ -31,24 +31,21 @@ lesser-requires c κs = search needs
 
 returns : tie.Need-returns
 returns c =
-    let c-1 = c .before in
-    let after-room-for2 = c-1 .before in
-    let after-room-for = after-room-for2 .before .before in
+    let after-room-for = c .before .before .before .before in
     let c-7 = after-room-for .before .before .before in
     let s = c-7 in
-    least-two (s .args .second) (s .args .t2) _ _ _ (three _ (s .args .t2 .leg) (legs s)) (roomIn (s .args .cells .now)) _ _ _ (c-1 .if1 .taken)
-    (after-room-for .room-for .ensures) (after-room-for2 .room-for2 .ensures) (c .lesser .ensures)
+    least-two (s .args .second) (s .args .t2) _ _ _ (three _ (s .args .t2 .leg) (legs s)) (roomIn (s .args .cells .now)) _ _ _ (c .before .if1 .taken)
+    (after-room-for .room-for .ensures) (c .before .before .room-for2 .ensures) (c .lesser .ensures)
 
 element-copy-out-room-for-3 : tie.Need-element-copy-out-room-for-3
 element-copy-out-room-for-3 c = search needs
 
 room-for-requires-3 : tie.Need-room-for-requires-3
 room-for-requires-3 c κs =
-    let c-1 = c .before in
-    let c-7 = c-1 .before .before .before .before .before .before in
+    let c-7 = c .before .before .before .before .before .before .before in
     let s = c-7 in (
       s .pre .0,
-      third-leg (s .args .t2) _ (legs s) (s .pre .1) (has-three (s .args .t2) (s .pre .1) (c-1 .if1 .left)),
+      third-leg (s .args .t2) _ (legs s) (s .pre .1) (has-three (s .args .t2) (s .pre .1) (c .before .if1 .left)),
       s .pre .2,
     )
 
@@ -60,15 +57,13 @@ lesser-requires-3 c κs = search needs
 
 returns-2 : tie.Need-returns-2
 returns-2 c =
-    let after-lesser2 = c .before in
-    let c-2 = after-lesser2 .before in
-    let c-10 = c-2 .before .before .before .before .before .before .before .before in
+    let c-10 = c .before .before .before .before .before .before .before .before .before .before in
     let s = c-10 in
-    let m = c-2 in
+    let m = c .before .before in
     let b = m .before .before .before in
     least-three (s .args .second) (s .args .t2) _ _ _ (three _ (s .args .t2 .leg) (legs s)) (roomIn (s .args .cells .now)) _ _ _ _ _
     (has-three (s .args .t2) (s .pre .1) (m .before .before .if1 .left))
-    (b .before .before .room-for .ensures) (b .room-for2 .ensures) (m .room-for3 .ensures) (after-lesser2 .lesser2 .ensures) (c .lesser3 .ensures)
+    (b .before .before .room-for .ensures) (b .room-for2 .ensures) (m .room-for3 .ensures) (c .before .lesser2 .ensures) (c .lesser3 .ensures)
 
 pub formed-spec : {M : Type 1} → statement M
 formed-spec =

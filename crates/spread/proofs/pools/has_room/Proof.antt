@@ -32,25 +32,22 @@ lesser-requires c κs = search needs
 
 returns : tie.Need-returns
 returns c =
-    let c-1 = c .before in
-    let after-pool-for2 = c-1 .before in
-    let after-pool-for = after-pool-for2 .before .before in
+    let after-pool-for = c .before .before .before .before in
     let c-7 = after-pool-for .before .before .before in
     let s = c-7 in
     ap (ltb 0)
-    (least-two (s .args .second) (s .args .t2) _ _ _ (three _ (s .args .t2 .leg) (legs s)) (poolIn (s .args .cells .now)) _ _ _ (c-1 .if1 .taken)
-    (after-pool-for .pool-for .ensures) (after-pool-for2 .pool-for2 .ensures) (c .lesser .ensures))
+    (least-two (s .args .second) (s .args .t2) _ _ _ (three _ (s .args .t2 .leg) (legs s)) (poolIn (s .args .cells .now)) _ _ _ (c .before .if1 .taken)
+    (after-pool-for .pool-for .ensures) (c .before .before .pool-for2 .ensures) (c .lesser .ensures))
 
 element-copy-out-pool-for-3 : tie.Need-element-copy-out-pool-for-3
 element-copy-out-pool-for-3 c = search needs
 
 pool-for-requires-3 : tie.Need-pool-for-requires-3
 pool-for-requires-3 c κs =
-    let c-1 = c .before in
-    let c-7 = c-1 .before .before .before .before .before .before in
+    let c-7 = c .before .before .before .before .before .before .before in
     let s = c-7 in (
       s .pre .0,
-      third-leg (s .args .t2) _ (legs s) (s .pre .1) (has-three (s .args .t2) (s .pre .1) (c-1 .if1 .left)),
+      third-leg (s .args .t2) _ (legs s) (s .pre .1) (has-three (s .args .t2) (s .pre .1) (c .before .if1 .left)),
     )
 
 lesser-requires-2 : tie.Need-lesser-requires-2
@@ -61,16 +58,14 @@ lesser-requires-3 c κs = search needs
 
 returns-2 : tie.Need-returns-2
 returns-2 c =
-    let after-lesser2 = c .before in
-    let c-2 = after-lesser2 .before in
-    let c-10 = c-2 .before .before .before .before .before .before .before .before in
+    let c-10 = c .before .before .before .before .before .before .before .before .before .before in
     let s = c-10 in
-    let m = c-2 in
+    let m = c .before .before in
     let b = m .before .before .before in
     ap (ltb 0)
     (least-three (s .args .second) (s .args .t2) _ _ _ (three _ (s .args .t2 .leg) (legs s)) (poolIn (s .args .cells .now)) _ _ _ _ _
     (has-three (s .args .t2) (s .pre .1) (m .before .before .if1 .left))
-    (b .before .before .pool-for .ensures) (b .pool-for2 .ensures) (m .pool-for3 .ensures) (after-lesser2 .lesser2 .ensures) (c .lesser3 .ensures))
+    (b .before .before .pool-for .ensures) (b .pool-for2 .ensures) (m .pool-for3 .ensures) (c .before .lesser2 .ensures) (c .lesser3 .ensures))
 
 pub has-room-spec : {M : Type 1} → statement M
 has-room-spec =

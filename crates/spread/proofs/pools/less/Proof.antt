@@ -23,9 +23,8 @@ mul-beyond c = omega (arith, c .before .leg-cell .ensures .1)
 
 slice-read-beyond : tie.Need-slice-read-beyond
 slice-read-beyond c =
-    let after-leg-cell = c .before .before in
-    let start = after-leg-cell .before .before in
-    omega (arith, after-leg-cell .leg-cell .ensures .1, start .pre .0)
+    let start = c .before .before .before .before in
+    omega (arith, c .before .before .leg-cell .ensures .1, start .pre .0)
 
 beyond-requires : tie.Need-beyond-requires
 beyond-requires c κs = search needs

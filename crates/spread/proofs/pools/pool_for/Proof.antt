@@ -15,15 +15,13 @@ mul-result c = omega (arith, c .leg-cell .ensures .1)
 
 shared-slice-read-result : tie.Need-shared-slice-read-result
 shared-slice-read-result c =
-    let after-leg-cell = c .before in
-    let start = after-leg-cell .before .before in
-    omega (arith, after-leg-cell .leg-cell .ensures .1, start .pre .0)
+    let start = c .before .before .before in
+    omega (arith, c .before .leg-cell .ensures .1, start .pre .0)
 
 returns : tie.Need-returns
 returns c =
-    let after-leg-cell = c .before in
-    let start = after-leg-cell .before .before in
-    ap (λ (k : ℕ). getD (start .args .cells .now) k 0) (after-leg-cell .leg-cell .ensures .0)
+    let start = c .before .before .before in
+    ap (λ (k : ℕ). getD (start .args .cells .now) k 0) (c .before .leg-cell .ensures .0)
 
 pub pool-for-spec : {M : Type 1} → statement M
 pool-for-spec = tie.close (tie.spec leg-cell-requires mul-result shared-slice-read-result returns)

@@ -18,19 +18,17 @@ cast-room c = search needs
 
 room-requires : tie.Need-room-requires
 room-requires c κs =
-    let after-pool-for = c .before in
-    let c-3 = after-pool-for .before .before in
+    let c-3 = c .before .before .before in
     let s = c-3 in (
-      subst⁻¹ (λ (p : ℕ). p ≤ mostPool) (after-pool-for .pool-for .ensures) (s .pre .2 (marketIn (s .args .second) (s .args .leg .side)) (s .args .leg .tier)),
+      subst⁻¹ (λ (p : ℕ). p ≤ mostPool) (c .before .pool-for .ensures) (s .pre .2 (marketIn (s .args .second) (s .args .leg .side)) (s .args .leg .tier)),
       ltb-true 0 (s .args .leg .ratio) (ratio-of (s .args .leg) (s .pre .1)),
     )
 
 returns : tie.Need-returns
 returns c =
-    let after-pool-for = c .before .before in
-    let c-4 = after-pool-for .before .before in
+    let c-4 = c .before .before .before .before in
     let s = c-4 in
-    c .room .ensures ∙ ap (λ (p : ℕ). room (s .args .tenths) p (s .args .leg .ratio)) (after-pool-for .pool-for .ensures)
+    c .room .ensures ∙ ap (λ (p : ℕ). room (s .args .tenths) p (s .args .leg .ratio)) (c .before .before .pool-for .ensures)
 
 pub room-for-spec : {M : Type 1} → statement M
 room-for-spec = tie.close (tie.spec pool-for-requires cast-room room-requires returns)

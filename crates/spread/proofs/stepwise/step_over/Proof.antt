@@ -4,7 +4,7 @@ use mathlib.Core.Path.{_≡_, sym, _∙_}
 use lib.ListN.{length, length-map}
 use borrow.Author.Needs.{needs}
 use borrow.Author.Tests.{not-true, not-false}
-use Rattle.spread.specs.Accepted.{soundPrompts, soundSpread}
+use Rattle.spread.specs.Accepted.{soundPrompts, soundSpread, promptPlaces}
 use Rattle.spread.proofs.Both.{and-left, and-right}
 use Rattle.spread.proofs.Bounds.{pooled-small}
 use Rattle.spread.proofs.Stepping.{stepped-refused, stepped-accepted}
@@ -19,12 +19,10 @@ not-taken-requires c κs = search needs
 
 returns : tie.Need-returns
 returns c =
-    let c-1 = c .before in
-    let after-can-step = c-1 .before in
-    let c-3 = after-can-step .before in
+    let c-3 = c .before .before .before in
     let s = c-3 in
     stepped-refused (s .args .prompts) (s .args .spread) (s .args .second) (c .not-taken .result)
-    (sym (after-can-step .can-step .ensures) ∙ not-true _ (c-1 .if1 .taken)) (c .not-taken .ensures)
+    (sym (c .before .before .can-step .ensures) ∙ not-true _ (c .before .if1 .taken)) (c .not-taken .ensures)
 
 pools-of-requires : tie.Need-pools-of-requires
 pools-of-requires c κs =
@@ -33,14 +31,12 @@ pools-of-requires c κs =
 
 take-requires : tie.Need-take-requires
 take-requires c κs =
-    let c-1 = c .before in
-    let after-can-step = c-1 .before in
-    let c-3 = after-can-step .before in
+    let c-3 = c .before .before .before in
     let s = c-3 in
     let q = s .args .prompts in
-    let lt : length (q .tier) ≡ 32 = sym (length-map (q .tier) _) ∙ s .good .0 .1 .1 .1 .0 .1 .0 .1 in
-    let ln : length (q .net) ≡ 32 = sym (length-map (q .net) _) ∙ s .good .0 .1 .1 .1 .1 .0 .1 .0 .1 in
-    let e = sym (after-can-step .can-step .ensures) ∙ not-false _ (c-1 .if1 .left) in (
+    let lt : length (q .tier) ≡ promptPlaces = sym (length-map (q .tier) _) ∙ s .good .0 .1 .1 .1 .0 .1 .0 .1 in
+    let ln : length (q .net) ≡ promptPlaces = sym (length-map (q .net) _) ∙ s .good .0 .1 .1 .1 .1 .0 .1 .0 .1 in
+    let e = sym (c .before .before .can-step .ensures) ∙ not-false _ (c .before .if1 .left) in (
       and-right (soundPrompts q) (soundSpread (s .args .spread)) e,
       pooled-small q _ lt ln (and-left (soundPrompts q) (soundSpread (s .args .spread)) e) (c .pools-of .ensures),
     )
@@ -64,8 +60,8 @@ returns-2 c =
     let p = t .before in
     let s = p .before .before .before in
     let q = s .args .prompts in
-    let lt : length (q .tier) ≡ 32 = sym (length-map (q .tier) _) ∙ s .good .0 .1 .1 .1 .0 .1 .0 .1 in
-    let ln : length (q .net) ≡ 32 = sym (length-map (q .net) _) ∙ s .good .0 .1 .1 .1 .1 .0 .1 .0 .1 in
+    let lt : length (q .tier) ≡ promptPlaces = sym (length-map (q .tier) _) ∙ s .good .0 .1 .1 .1 .0 .1 .0 .1 in
+    let ln : length (q .net) ≡ promptPlaces = sym (length-map (q .net) _) ∙ s .good .0 .1 .1 .1 .1 .0 .1 .0 .1 in
     stepped-accepted q (s .args .spread) (s .args .second) (sym (p .before .before .can-step .ensures) ∙ not-false _ (p .before .if1 .left)) lt ln _ _ _ _ _
     (p .pools-of .ensures) (t .take .ensures) (b .paid-by .ensures)
 

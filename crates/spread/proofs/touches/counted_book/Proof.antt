@@ -6,7 +6,7 @@ use native.Mathlib.Omega.{arith}
 use lib.ListN.{length, length-map}
 use borrow.Author.Needs.{needs}
 use borrow.Author.Tests.{not-true, not-false}
-use Rattle.spread.specs.Accepted.{openOf, stepsOf, sound}
+use Rattle.spread.specs.Accepted.{openOf, stepsOf, sound, promptPlaces}
 use Rattle.spread.specs.Touches.{touches}
 use Rattle.spread.proofs.Touching.{touches-few}
 use Rattle.spread.proofs.touches.counted_book.Statement.{statement}
@@ -17,10 +17,9 @@ delta-book-requires c κs = search needs
 
 returns : tie.Need-returns
 returns c =
-    let after-delta-book = c .before .before in
-    let c-3 = after-delta-book .before in
+    let c-3 = c .before .before .before in
     let s = c-3 in
-    let b = after-delta-book .delta-book .ensures in
+    let b = c .before .before .delta-book .ensures in
     record {
       book = b;
       touches =
@@ -35,9 +34,8 @@ taken : (c : tie.After-second) → let s =
     let c-5 = c .before .before .before .before .before in
     c-5 in sound (s .args .prompts) (s .args .table) ≡ true
 taken c =
-    let c-2 = c .before .before in
-    let after-delta-book = c-2 .before .before in
-    sym (after-delta-book .delta-book .ensures .accepted) ∙ not-false _ (c-2 .if1 .left)
+    let after-delta-book = c .before .before .before .before in
+    sym (after-delta-book .delta-book .ensures .accepted) ∙ not-false _ (c .before .before .if1 .left)
 
 touches-of-requires : tie.Need-touches-of-requires
 touches-of-requires c κs =
@@ -47,21 +45,20 @@ touches-of-requires c κs =
 
 returns-2 : tie.Need-returns-2
 returns-2 c =
-    let c-1 = c .before in
-    let after-delta-book = c-1 .before .before .before .before in
+    let after-delta-book = c .before .before .before .before .before in
     let c-6 = after-delta-book .before in
     let s = c-6 in
     let p = s .args .prompts in
-    let lt : length (p .tier) ≡ 32 = sym (length-map (p .tier) _) ∙ s .good .0 .1 .1 .1 .0 .1 .0 .1 in
-    let ln : length (p .net) ≡ 32 = sym (length-map (p .net) _) ∙ s .good .0 .1 .1 .1 .1 .0 .1 .0 .1 in
+    let lt : length (p .tier) ≡ promptPlaces = sym (length-map (p .tier) _) ∙ s .good .0 .1 .1 .1 .0 .1 .0 .1 in
+    let ln : length (p .net) ≡ promptPlaces = sym (length-map (p .net) _) ∙ s .good .0 .1 .1 .1 .1 .0 .1 .0 .1 in
     let is =
     c .touches-of .ensures
-    ∙ sym (ap (λ (d : Bool). cond d (touches (stepsOf (s .args .table)) (openOf p)) 0) (taken (c-1)))
+    ∙ sym (ap (λ (d : Bool). cond d (touches (stepsOf (s .args .table)) (openOf p)) 0) (taken (c .before)))
     in
     record {
       book = after-delta-book .delta-book .ensures;
       touches = is;
-      few = let f = touches-few p (s .args .table) lt ln (taken (c-1)) in omega (arith, f, is);
+      few = let f = touches-few p (s .args .table) lt ln (taken (c .before)) in omega (arith, f, is);
     }
 
 pub counted-book-spec : {M : Type 1} → statement M

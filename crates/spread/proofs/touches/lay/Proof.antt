@@ -6,7 +6,8 @@ use mathlib.Core.Path.{_≡_, sym, _∙_, subst}
 use lib.IntN.{natAbs}
 use lib.ListN.{length, length-map, set}
 use borrow.Author.Needs.{needs}
-use Rattle.spread.specs.Accepted.{openOf}
+use Rattle.spread.specs.Accepted.{openOf, promptPlaces}
+use Rattle.spread.specs.code.Cells.{poolCount}
 use Rattle.spread.proofs.Every.{open-length}
 use Rattle.spread.proofs.Gathering.{few, Placed, netOf, placed, placed-within}
 use Rattle.spread.proofs.Laying.{Laying, laying-none, laying-next, laying-all}
@@ -14,15 +15,15 @@ use Rattle.spread.proofs.touches.lay.Statement.{statement}
 use Rattle.spread.proofs.touches.lay.Tie as tie
 
 abbrev Inv-loop : tie.InvT-loop
-Inv-loop pool₀ size₀ at₀ prompts n k₀ pool size at k = (k ≤ n) × (n ≤ 32) × Laying (openOf prompts) k pool size at
+Inv-loop pool₀ size₀ at₀ prompts n k₀ pool size at k = (k ≤ n) × (n ≤ promptPlaces) × Laying (openOf prompts) k pool size at
 
 abbrev μ-loop : tie.MeasureT-loop
 μ-loop pool₀ size₀ at₀ prompts n k₀ pool size at k = n - k
 
-tiers : (s : tie.Start Inv-loop μ-loop) → length (s .args .t4 .tier) ≡ 32
+tiers : (s : tie.Start Inv-loop μ-loop) → length (s .args .t4 .tier) ≡ promptPlaces
 tiers s = sym (length-map (s .args .t4 .tier) _) ∙ s .good .1 .1 .1 .0 .1 .1 .1 .0 .1 .0 .1
 
-nets : (s : tie.Start Inv-loop μ-loop) → length (s .args .t4 .net) ≡ 32
+nets : (s : tie.Start Inv-loop μ-loop) → length (s .args .t4 .net) ≡ promptPlaces
 nets s = sym (length-map (s .args .t4 .net) _) ∙ s .good .1 .1 .1 .0 .1 .1 .1 .1 .0 .1 .0 .1
 
 -- the prompt of a turn
@@ -35,7 +36,7 @@ here c =
     let s = c-8 in
     placed (s .args .t4) _ (c .pool-of .result) (tiers s) (nets s) (s .pre .0) (after-loop-test .loop-test .taken) (c .pool-of .ensures)
 
-within : (c : tie.After-pool-of Inv-loop μ-loop) → c .pool-of .result < 32
+within : (c : tie.After-pool-of Inv-loop μ-loop) → c .pool-of .result < poolCount
 within c = placed-within _ _ _ _ (here c)
 
 loop-holds : tie.Need-loop-holds Inv-loop μ-loop
@@ -85,9 +86,8 @@ mul-earlier c = let h = within (c .before) in omega arith
 
 slice-read-earlier : tie.Need-slice-read-earlier Inv-loop μ-loop
 slice-read-earlier c =
-    let c-2 = c .before .before in
-    let after-loop = c-2 .before .before .before .before in
-    omega (arith, within (c-2), after-loop .loop .inv .2 .places)
+    let after-loop = c .before .before .before .before .before .before in
+    omega (arith, within (c .before .before), after-loop .loop .inv .2 .places)
 
 earlier-requires : tie.Need-earlier-requires Inv-loop μ-loop
 earlier-requires c κs = search needs
@@ -111,8 +111,7 @@ loop-less c = omega arith
 
 loop-again : tie.Need-loop-again Inv-loop μ-loop
 loop-again c =
-    let after-size = c .before .before in
-    let c-3 = after-size .before in
+    let c-3 = c .before .before .before in
     let p = c-3 in
     let l = p .before .before .before .before .loop in
     let s = p .before .before .before .before .before .before .before .before in
@@ -121,7 +120,7 @@ loop-again c =
       omega arith,
       l .inv .1,
       subst (λ (a : ℕ). Laying q (l .k + 1) (set (l .pool) (l .k) cell) (set (l .size) (l .k) a) (set (l .at) cell (c .earlier .result))) (sym
-          (after-size .size .ensures))
+          (c .before .before .size .ensures))
           (subst (λ (a : ℕ). Laying q (l .k + 1) (set (l .pool) (l .k) cell) (set (l .size) (l .k) (natAbs (netOf (s .args .t4) (l .k)))) (set
           (l .at) cell a)) (sym (c .earlier .ensures))
           (laying-next q (l .k) _ cell (here p) (l .pool) (l .size) (l .at) (omega arith) (l .inv .2))),
@@ -138,11 +137,10 @@ same-length-3 c = search needs
 
 returns : tie.Need-returns Inv-loop μ-loop
 returns c =
-    let after-loop = c .before in
-    let c-5 = after-loop .before .before .before .before in
+    let c-5 = c .before .before .before .before .before in
     let s = c-5 in
     let p = s .args .t4 in
-    let l = after-loop .loop in
+    let l = c .before .loop in
     let n = open-length p (tiers s) (nets s) (l .inv .1) in
     laying-all (openOf p) (l .k) (l .pool) (l .size) (l .at) (omega (arith, n, c .loop-test .left, l .inv .0)) (omega arith) (l .inv .2)
 

@@ -4,6 +4,7 @@ use Prim.Native.Nat.{_≤_}
 use native.Mathlib.Omega.{arith}
 use borrow.Author.Needs.{needs}
 use Rattle.spread.specs.Steps.{marketIn}
+use Rattle.spread.specs.code.Cells.{poolCount}
 use Rattle.spread.proofs.Passing.{leg-taken}
 use Rattle.spread.proofs.Pooling.{cell-most}
 use Rattle.spread.proofs.touches.leg_touches.Statement.{statement}
@@ -12,7 +13,7 @@ use Rattle.spread.proofs.touches.leg_touches.Tie as tie
 cell-for-requires : tie.Need-cell-for-requires
 cell-for-requires c κs = search needs
 
-most : (c : tie.After-cell-for) → c .cell-for .result ≤ 32
+most : (c : tie.After-cell-for) → c .cell-for .result ≤ poolCount
 most c =
     let c-4 = c .before .before .before .before in
     let s = c-4 in
@@ -23,16 +24,14 @@ mul-start c = let h = most c in omega arith
 
 slice-read-start : tie.Need-slice-read-start
 slice-read-start c =
-    let c-1 = c .before in
-    let c-5 = c-1 .before .before .before .before in
-    let s = c-5 in omega (arith, most (c-1), s .pre .places)
+    let c-5 = c .before .before .before .before .before in
+    let s = c-5 in omega (arith, most (c .before), s .pre .places)
 
 pass-requires : tie.Need-pass-requires
 pass-requires c κs =
-    let after-cell-for = c .before .before in
-    let c-6 = after-cell-for .before .before .before .before in
+    let c-6 = c .before .before .before .before .before .before in
     let s = c-6 in
-    (s .pre .pools, s .pre .sizes, s .pre .begun (after-cell-for .cell-for .result))
+    (s .pre .pools, s .pre .sizes, s .pre .begun (c .before .before .cell-for .result))
 
 mul-at : tie.Need-mul-at
 mul-at c =
@@ -54,12 +53,11 @@ same-length-2 c = search needs
 
 returns : tie.Need-returns
 returns c =
-    let after-pass = c .before .before in
-    let after-cell-for = after-pass .before .before .before in
+    let after-cell-for = c .before .before .before .before .before in
     let c-9 = after-cell-for .before .before .before .before in
     let s = c-9 in
     leg-taken (s .args .at .now) (s .args .pool .now) (s .args .size .now) _ _ _ (s .args .wanted) _ _
-    (after-cell-for .cell-for .ensures) (s .pre) (after-pass .pass .ensures)
+    (after-cell-for .cell-for .ensures) (s .pre) (c .before .before .pass .ensures)
 
 pub leg-touches-spec : {M : Type 1} → statement M
 leg-touches-spec =

@@ -8,6 +8,7 @@ use lib.Dec.{ltb}
 use lib.ListN.{length, getD}
 use borrow.Author.Needs.{needs}
 use borrow.Author.Tests.{ltb-true}
+use Rattle.spread.specs.Accepted.{promptPlaces}
 use Rattle.spread.proofs.Both.{and-left, and-right}
 use Rattle.spread.proofs.Passing.{ToPass, one-most, gives-most, turn-less, touches-few, pass-start, pass-turn, pass-end}
 use Rattle.spread.proofs.touches.pass.Statement.{statement}
@@ -17,13 +18,13 @@ abbrev Inv-loop : tie.InvT-loop
 Inv-loop size₀ pool cell wanted start due₀ k₀ touches₀ size due k touches = ToPass cell wanted pool size₀ due k size touches
 
 abbrev μ-loop : tie.MeasureT-loop
-μ-loop size₀ pool cell wanted start due₀ k₀ touches₀ size due k touches = due + (32 - k)
+μ-loop size₀ pool cell wanted start due₀ k₀ touches₀ size due k touches = due + (promptPlaces - k)
 
 more : (c : tie.In-loop Inv-loop μ-loop) → 0 < c .before .loop .due
-more c = ltb-true 0 (c .before .loop .due) (and-left (ltb 0 (c .before .loop .due)) (ltb (c .before .loop .k) 32) (c .loop-test .taken))
+more c = ltb-true 0 (c .before .loop .due) (and-left (ltb 0 (c .before .loop .due)) (ltb (c .before .loop .k) promptPlaces) (c .loop-test .taken))
 
-place : (c : tie.In-loop Inv-loop μ-loop) → c .before .loop .k < 32
-place c = ltb-true (c .before .loop .k) 32 (and-right (ltb 0 (c .before .loop .due)) (ltb (c .before .loop .k) 32) (c .loop-test .taken))
+place : (c : tie.In-loop Inv-loop μ-loop) → c .before .loop .k < promptPlaces
+place c = ltb-true (c .before .loop .k) promptPlaces (and-right (ltb 0 (c .before .loop .due)) (ltb (c .before .loop .k) promptPlaces) (c .loop-test .taken))
 
 loop-holds : tie.Need-loop-holds Inv-loop μ-loop
 loop-holds c = let s = c .before .before in
@@ -34,21 +35,19 @@ mul-gives c = let h = place c in omega arith
 
 shared-slice-read-gives : tie.Need-shared-slice-read-gives Inv-loop μ-loop
 shared-slice-read-gives c =
-    let c-1 = c .before in
-    let c-5 = c-1 .before .before .before .before in
-    let s = c-5 in omega (arith, place (c-1), s .pre .0)
+    let c-5 = c .before .before .before .before .before in
+    let s = c-5 in omega (arith, place (c .before), s .pre .0)
 
 mul-gives-2 : tie.Need-mul-gives-2 Inv-loop μ-loop
 mul-gives-2 c = let h = place (c .before) in omega arith
 
 slice-read-gives : tie.Need-slice-read-gives Inv-loop μ-loop
 slice-read-gives c =
-    let c-2 = c .before .before in
-    let after-loop = c-2 .before in
+    let after-loop = c .before .before .before in
     let c-6 = after-loop .before .before .before in
     let l = after-loop .loop in
     let s = c-6 in
-    omega (arith, place (c-2), s .pre .1, l .inv .size)
+    omega (arith, place (c .before .before), s .pre .1, l .inv .size)
 
 gives-requires : tie.Need-gives-requires Inv-loop μ-loop
 gives-requires c κs = search needs
@@ -62,9 +61,8 @@ in-size : (c : tie.After-slice-known3 Inv-loop μ-loop)
     → c .before .before .before .before .before .loop .k < length (c .before .before .before .before .before .loop .size)
 in-size c =
     let c-4 = c .before .before .before .before in
-    let after-loop = c-4 .before in
-    let c-8 = after-loop .before .before .before in
-    let l = after-loop .loop in
+    let c-8 = c-4 .before .before .before .before in
+    let l = c-4 .before .loop in
     let s = c-8 in
     omega (arith, place (c-4), s .pre .1, l .inv .size)
 
@@ -72,12 +70,11 @@ in-size c =
 given-most : (c : tie.After-slice-known3 Inv-loop μ-loop)
     → let l = c .before .before .before .before .before .loop in (c .before .gives .result ≤ l .due) × (c .before .gives .result ≤ getD (l .size) (l .k) 0)
 given-most c =
-    let after-gives = c .before in
-    let after-loop = after-gives .before .before .before .before in
+    let after-loop = c .before .before .before .before .before in
     let c-8 = after-loop .before .before .before in
     let l = after-loop .loop in
     let s = c-8 in
-    gives-most (s .args .cell) (l .due) (getD (s .args .pool .now) (l .k) 0) (getD (l .size) (l .k) 0) (after-gives .gives .ensures)
+    gives-most (s .args .cell) (l .due) (getD (s .args .pool .now) (l .k) 0) (getD (l .size) (l .k) 0) (c .before .gives .ensures)
 
 slice-read-size : tie.Need-slice-read-size Inv-loop μ-loop
 slice-read-size c = in-size c
@@ -101,13 +98,12 @@ one-if-requires c κs = search needs
 
 add-touches : tie.Need-add-touches Inv-loop μ-loop
 add-touches c =
-    let after-gives = c .before .before in
-    let after-loop = after-gives .before .before .before .before in
+    let after-loop = c .before .before .before .before .before .before in
     let c-9 = after-loop .before .before .before in
     let l = after-loop .loop in
     let s = c-9 in
     let f = touches-few (s .args .cell) (s .args .wanted) (s .args .pool .now) (s .args .size .now) (l .due) (l .k) (l .size) (l .touches) (l .inv) in
-    let o = one-most (ltb 0 (after-gives .gives .result)) (c .one-if .result) (c .one-if .ensures) in
+    let o = one-most (ltb 0 (c .before .before .gives .result)) (c .one-if .result) (c .one-if .ensures) in
     omega (arith, f, o, s .pre .0)
 
 further-requires : tie.Need-further-requires Inv-loop μ-loop
@@ -119,34 +115,30 @@ loop-less : tie.Need-loop-less Inv-loop μ-loop
 loop-less c =
     let after-gives = c .before .before .before in
     let c-6 = after-gives .before .before .before in
-    let after-loop = c-6 .before in
-    let l = after-loop .loop in
+    let l = c-6 .before .loop in
     let i = c-6 in
     turn-less (l .due) (l .k) (after-gives .gives .result) (c .further .result) (more i) (place i) (c .further .ensures)
 
 loop-again : tie.Need-loop-again Inv-loop μ-loop
 loop-again c =
-    let after-one-if = c .before in
-    let after-gives = after-one-if .before .before in
+    let after-gives = c .before .before .before in
     let c-6 = after-gives .before .before .before in
-    let after-loop = c-6 .before in
-    let c-10 = after-loop .before .before .before in
-    let l = after-loop .loop in
+    let c-10 = c-6 .before .before .before .before in
+    let l = c-6 .before .loop in
     let i = c-6 in
     let s = c-10 in
     pass-turn (s .args .cell) (s .args .wanted) (s .args .pool .now) (s .args .size .now) (l .due) (l .k) (l .size) (l .touches)
-    (after-gives .gives .result) (c .further .result) (after-one-if .one-if .result)
+    (after-gives .gives .result) (c .further .result) (c .before .one-if .result)
     (omega (arith, place i, s .pre .0)) (s .pre .0
-    ∙ sym (s .pre .1)) (after-gives .gives .ensures) (c .further .ensures) (after-one-if .one-if .ensures) (l .inv)
+    ∙ sym (s .pre .1)) (after-gives .gives .ensures) (c .further .ensures) (c .before .one-if .ensures) (l .inv)
 
 same-length : tie.Need-same-length Inv-loop μ-loop
 same-length c = c .before .loop .inv .size
 
 returns : tie.Need-returns Inv-loop μ-loop
 returns c =
-    let after-loop = c .before in
-    let c-4 = after-loop .before .before .before in
-    let l = after-loop .loop in
+    let c-4 = c .before .before .before .before in
+    let l = c .before .loop in
     let s = c-4 in
     pass-end (s .args .cell) (s .args .wanted) (s .args .pool .now) (s .args .size .now) (l .due) (l .k) (l .size) (l .touches)
     (ap (λ (n : ℕ). ltb 0 (l .due) && ltb (l .k) n) (s .pre .0) ∙ c .loop-test .left) (l .inv)

@@ -8,7 +8,7 @@ use lib.Dec.{leb}
 use lib.ListN.{length, length-map, getD}
 use borrow.Author.Needs.{needs}
 use borrow.Author.Tests.{leb-true}
-use Rattle.spread.specs.Accepted.{openOf, spreadsOf, every, soundSpread, soundPrompts, soundTable}
+use Rattle.spread.specs.Accepted.{openOf, spreadsOf, every, soundSpread, soundPrompts, soundTable, promptPlaces, spreadPlaces}
 use Rattle.spread.specs.code.Cells.{mostNumber}
 use Rattle.spread.specs.code.Passing.{Ready, Laid}
 use Rattle.spread.specs.Steps.{Open}
@@ -20,45 +20,45 @@ use Rattle.spread.proofs.touches.touches_of.Tie as tie
 
 abbrev Inv-loop : tie.InvT-loop
 Inv-loop table first second pool size₀ at₀ n touches₀ i₀ size at touches i =
-    (i ≤ n) × (n ≤ 32) × (touches ≤ 192 * i) × Ready at pool size
+    (i ≤ n) × (n ≤ spreadPlaces) × (touches ≤ 2 * (3 * promptPlaces) * i) × Ready at pool size
     × ((ps : List Open) → Laid ps pool size₀ → Formed (spreadsOf table) ps first second → Counting (spreadsOf table) ps i pool size touches)
 
 abbrev μ-loop : tie.MeasureT-loop
 μ-loop table first second pool size₀ at₀ n touches₀ i₀ size at touches i = n - i
 
-tables : (s : tie.Start Inv-loop μ-loop) → length (s .args .t2 .spread) ≡ 32
+tables : (s : tie.Start Inv-loop μ-loop) → length (s .args .t2 .spread) ≡ spreadPlaces
 tables s = sym (length-map (s .args .t2 .spread) _) ∙ s .good .1 .0 .1 .1 .1 .0 .1 .0 .1
 
-tiers : (s : tie.Start Inv-loop μ-loop) → length (s .args .prompts .tier) ≡ 32
+tiers : (s : tie.Start Inv-loop μ-loop) → length (s .args .prompts .tier) ≡ promptPlaces
 tiers s = sym (length-map (s .args .prompts .tier) _) ∙ s .good .0 .1 .1 .1 .0 .1 .0 .1
 
-nets : (s : tie.Start Inv-loop μ-loop) → length (s .args .prompts .net) ≡ 32
+nets : (s : tie.Start Inv-loop μ-loop) → length (s .args .prompts .net) ≡ promptPlaces
 nets s = sym (length-map (s .args .prompts .net) _) ∙ s .good .0 .1 .1 .1 .1 .0 .1 .0 .1
 
-few : (s : tie.Start Inv-loop μ-loop) → s .args .t2 .count ≤ 32
+few : (s : tie.Start Inv-loop μ-loop) → s .args .t2 .count ≤ spreadPlaces
 few s =
     let t = s .args .t2 in
-    leb-true (t .count) 32
-    (and-left (leb (t .count) 32) (every soundSpread (spreadsOf t)) (and-right (soundPrompts (s .args .prompts)) (soundTable t) (s .pre .0)))
+    leb-true (t .count) spreadPlaces
+    (and-left (leb (t .count) spreadPlaces) (every soundSpread (spreadsOf t)) (and-right (soundPrompts (s .args .prompts)) (soundTable t) (s .pre .0)))
 
 formed : (s : tie.Start Inv-loop μ-loop) → Formed (spreadsOf (s .args .t2)) (openOf (s .args .prompts)) (s .args .t3) (s .args .t4)
 formed s = formed-by (s .args .prompts) (s .args .t2) (s .args .t3) (s .args .t4) (s .pre .0) (s .pre .1)
 
-first-small : (s : tie.Start Inv-loop μ-loop) (i : ℕ) → i < 32 → (getD (s .args .t3) i noSpreads) .0 ≤ mostNumber
+first-small : (s : tie.Start Inv-loop μ-loop) (i : ℕ) → i < spreadPlaces → (getD (s .args .t3) i noSpreads) .0 ≤ mostNumber
 first-small s i h =
     let p = s .args .prompts in
     let n = numbers-small p (s .args .t2) (tiers s) (nets s) (and-left (soundPrompts p) (soundTable (s .args .t2)) (s .pre .0)) (2 * i) in
     let e = formed s i h .0 in
     omega (arith, n, e)
 
-second-small : (s : tie.Start Inv-loop μ-loop) (i : ℕ) → i < 32 → (getD (s .args .t4) i noSpreads) .0 ≤ mostNumber
+second-small : (s : tie.Start Inv-loop μ-loop) (i : ℕ) → i < spreadPlaces → (getD (s .args .t4) i noSpreads) .0 ≤ mostNumber
 second-small s i h =
     let p = s .args .prompts in
     let n = numbers-small p (s .args .t2) (tiers s) (nets s) (and-left (soundPrompts p) (soundTable (s .args .t2)) (s .pre .0)) (2 * i + 1) in
     let e = formed s i h .1 in
     omega (arith, n, e)
 
-within : (c : tie.In-loop Inv-loop μ-loop) → c .before .loop .i < 32
+within : (c : tie.In-loop Inv-loop μ-loop) → c .before .loop .i < spreadPlaces
 within c = omega (arith, c .before .loop .inv .0, c .before .loop .inv .1, c .loop-test .taken)
 
 slice-aggregate-lay : tie.Need-slice-aggregate-lay Inv-loop μ-loop
@@ -119,12 +119,11 @@ slice-aggregate-step-touches-3 c = search needs
 step-touches-requires : tie.Need-step-touches-requires Inv-loop μ-loop
 step-touches-requires c κs =
     let c-6 = c .before .before .before .before .before .before in
-    let after-loop = c-6 .before in
-    let c-15 = after-loop .before .before .before .before .before .before .before .before in (
-      after-loop .loop .inv .3,
+    let c-15 = c-6 .before .before .before .before .before .before .before .before .before in (
+      c-6 .before .loop .inv .3,
       first-small
           (c-15)
-          (after-loop .loop .i) (within (c-6)),
+          (c-6 .before .loop .i) (within (c-6)),
     )
 
 slice-aggregate-step-touches-4 : tie.Need-slice-aggregate-step-touches-4 Inv-loop μ-loop
@@ -153,18 +152,16 @@ in-turn c =
 
 add-touches : tie.Need-add-touches Inv-loop μ-loop
 add-touches c =
-    let after-step-touches2 = c .before .before in
-    let after-step-touches = after-step-touches2 .before .before .before .before .before .before in
+    let after-step-touches = c .before .before .before .before .before .before .before .before in
     omega
-    (arith, after-step-touches2 .step-touches2 .ensures .few, after-step-touches .step-touches .ensures .few)
+    (arith, c .before .before .step-touches2 .ensures .few, after-step-touches .step-touches .ensures .few)
 
 add-touches-2 : tie.Need-add-touches-2 Inv-loop μ-loop
 add-touches-2 c =
-    let after-step-touches2 = c .before .before in
-    let after-step-touches = after-step-touches2 .before .before .before .before .before .before in
+    let after-step-touches = c .before .before .before .before .before .before .before .before in
     omega (
       arith,
-      after-step-touches2 .step-touches2 .ensures .few,
+      c .before .before .step-touches2 .ensures .few,
       after-step-touches .step-touches .ensures .few,
       in-turn c .before .loop .inv .2,
       within (in-turn c),
@@ -178,9 +175,8 @@ loop-less c = omega (arith, in-turn c .loop-test .taken)
 
 loop-again : tie.Need-loop-again Inv-loop μ-loop
 loop-again c =
-    let after-step-touches2 = c .before .before in
-    let after-step-touches = after-step-touches2 .before .before .before .before .before .before in
-    let two = after-step-touches2 .step-touches2 in
+    let after-step-touches = c .before .before .before .before .before .before .before .before in
+    let two = c .before .before .step-touches2 in
     let one = after-step-touches .step-touches in
     let l = in-turn c .before .loop in
     let s = in-turn c .before .before .before .before .before .before .before .before .before in
@@ -198,10 +194,9 @@ loop-again c =
 
 returns : tie.Need-returns Inv-loop μ-loop
 returns c =
-    let after-loop = c .before in
-    let after-lay = after-loop .before .before .before .before in
+    let after-lay = c .before .before .before .before .before in
     let c-9 = after-lay .before .before .before .before in
-    let l = after-loop .loop in
+    let l = c .before .loop in
     let s = c-9 in
     let n = table-length (s .args .t2) (tables s) (few s) in
     counting-all (spreadsOf (s .args .t2)) (openOf (s .args .prompts)) (l .i) _ _ _ (omega (arith, n, c .loop-test .left))

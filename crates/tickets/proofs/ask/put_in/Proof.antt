@@ -52,9 +52,8 @@ record-at-requires c κs = search needs
 
 add-requires : tie.Need-add-requires Inv-loop μ-loop
 add-requires c κs =
-    let after-loop = c .before .before in
-    let start = after-loop .before .before .before .before in
-    let l = after-loop .loop in
+    let start = c .before .before .before .before .before .before in
+    let l = c .before .before .loop in
     record { tickets = cut (l .i) (start .args .tickets .now); kept = l .inv .1 .0 }
 
 number-of-requires : tie.Need-number-of-requires Inv-loop μ-loop
@@ -67,9 +66,7 @@ add-t13 c =
 
 returns : tie.Need-returns Inv-loop μ-loop
 returns c =
-    let after-number-of = c .before in
-    let after-add = after-number-of .before in
-    let after-record-at = after-add .before in
+    let after-record-at = c .before .before .before in
     let after-loop-test = after-record-at .before in
     let after-loop = after-loop-test .before in
     let after-ticket-count = after-loop .before in
@@ -79,8 +76,8 @@ returns c =
     let bytes = s .args .tickets .now in
     let l = after-loop .loop in
     let n = after-ticket-count .ticket-count .result in
-    let a = after-add .add in
-    let nz : numberOf (a .result .answer) ≡ 0 → ⊥ = λ z. c .if1 .taken (after-number-of .number-of .ensures ∙ z) in
+    let a = c .before .before .add in
+    let nz : numberOf (a .result .answer) ≡ 0 → ⊥ = λ z. c .if1 .taken (c .before .number-of .ensures ∙ z) in
     record {
       told =
           from-stops file bytes n (l .i) (after-loop-test .loop-test .taken) (a .result .answer)
@@ -103,9 +100,7 @@ loop-less c =
 
 loop-again : tie.Need-loop-again Inv-loop μ-loop
 loop-again c =
-    let c-1 = c .before in
-    let after-number-of = c-1 .before in
-    let after-add = after-number-of .before in
+    let after-add = c .before .before .before in
     let after-record-at = after-add .before in
     let after-loop-test = after-record-at .before in
     let after-loop = after-loop-test .before in
@@ -117,7 +112,7 @@ loop-again c =
     let l = after-loop .loop in
     let n = after-ticket-count .ticket-count .result in
     let a = after-add .add in
-    let z : numberOf (a .result .answer) ≡ 0 = sym (after-number-of .number-of .ensures) ∙ c-1 .if1 .left in
+    let z : numberOf (a .result .answer) ≡ 0 = sym (c .before .before .number-of .ensures) ∙ c .before .if1 .left in
     let told = a .ensures .told (cut (l .i) bytes) (l .inv .1 .0) ∙ ap (ticketChecked (withTickets file (cut (l .i) bytes)))
     (after-record-at .record-at .ensures) in (
       omega (arith, after-loop-test .loop-test .taken),
@@ -130,16 +125,14 @@ loop-again c =
 
 returns-2 : tie.Need-returns-2 Inv-loop μ-loop
 returns-2 c =
-    let after-loop = c .before in
-    let after-ticket-count = after-loop .before in
-    let c-5 = after-ticket-count .before .before .before in
+    let c-5 = c .before .before .before .before .before in
     let s = c-5 in
     let file = s .args .file .now in
     let bytes = s .args .tickets .now in
-    let l = after-loop .loop in
-    let n = after-ticket-count .ticket-count .result in
+    let l = c .before .loop in
+    let n = c .before .before .ticket-count .result in
     let e : l .i ≡ n = omega (arith, l .inv .0, c .loop-test .left) in
-    let there = all bytes n (after-ticket-count .ticket-count .ensures) in
+    let there = all bytes n (c .before .before .ticket-count .ensures) in
     record {
       told = from-end file bytes n n (omega arith) ∙ ap (FromOn file bytes n) (sym e) ∙ sym (l .inv .1 .1) ∙ ap (inTurn 0 file) there;
       many = λ z. c .before .before .ticket-count .ensures;

@@ -26,8 +26,7 @@ refused-requires c κs = search needs
 
 returns : tie.Need-returns
 returns c =
-    let after-number-of = c .before .before in
-    let after-put-in = after-number-of .before in
+    let after-put-in = c .before .before .before in
     let c-6 = after-put-in .before .before .before in
     let s = c-6 in
     let file = s .args .file .now in
@@ -37,13 +36,11 @@ returns c =
     let h = after-put-in .put-in in
     c .refused .ensures
     ∙ withdraw-no-ticket file ts ok (h .result .ticket) (h .result .answer) (h .ensures .told)
-    (λ z. c .before .if1 .taken (after-number-of .number-of .ensures ∙ z))
+    (λ z. c .before .if1 .taken (c .before .before .number-of .ensures ∙ z))
 
 withdraw-requires : tie.Need-withdraw-requires
 withdraw-requires c κs =
-    let c-1 = c .before in
-    let after-number-of = c-1 .before in
-    let after-put-in = after-number-of .before in
+    let after-put-in = c .before .before .before in
     let c-6 = after-put-in .before .before .before in
     let s = c-6 in
     let file = s .args .file .now in
@@ -51,7 +48,7 @@ withdraw-requires c κs =
     let ts = ticketsIn bytes in
     let ok = file-ok file (s .args .kept .counts .account) (s .pre .counts .from-check) in
     let h = after-put-in .put-in in
-    let z : numberOf (after-put-in .put-in .result .answer) ≡ 0 = sym (after-number-of .number-of .ensures) ∙ c-1 .if1 .left in
+    let z : numberOf (after-put-in .put-in .result .answer) ≡ 0 = sym (c .before .before .number-of .ensures) ∙ c .before .if1 .left in
     let kb = after-put-in .put-in .ensures .kept z in
     kept-cut file bytes (h .result .kept) kb
 
@@ -63,8 +60,7 @@ refused-requires-2 c κs = search needs
 
 returns-2 : tie.Need-returns-2
 returns-2 c =
-    let after-number-of2 = c .before .before in
-    let after-withdraw = after-number-of2 .before in
+    let after-withdraw = c .before .before .before in
     let c-5 = after-withdraw .before .before in
     let after-number-of = c-5 .before in
     let after-put-in = after-number-of .before in
@@ -80,25 +76,22 @@ returns-2 c =
     let kb = after-put-in .put-in .ensures .kept z in
     let w = after-withdraw .withdraw in
     let none = nothing-left file bytes (h .result .kept) kb (w .result .answer) (w .ensures .told)
-    (λ y. c .before .if2 .taken (after-number-of2 .number-of2 .ensures ∙ y)) in
+    (λ y. c .before .if2 .taken (c .before .before .number-of2 .ensures ∙ y)) in
     c .refused2 .ensures
     ∙ withdraw-none file ts ok (h .result .ticket) (h .result .answer) (h .ensures .told) z (w .result .answer) (h .ensures .many z ∙ none .0) (none .1)
 
 kept-total-requires : tie.Need-kept-total-requires
 kept-total-requires c κs =
     let c-5 = c .before .before .before .before .before in
-    let after-number-of = c-5 .before in
-    let after-put-in = after-number-of .before in
-    let c-10 = after-put-in .before .before .before in
+    let c-10 = c-5 .before .before .before .before .before in
     let s = c-10 in
-    let z : numberOf (after-put-in .put-in .result .answer) ≡ 0 = sym
-    (after-number-of .number-of .ensures) ∙ c-5 .if1 .left in
-    record { tickets = ticketsIn (s .args .tickets .now); kept = after-put-in .put-in .ensures .kept z }
+    let z : numberOf (c-5 .before .before .put-in .result .answer) ≡ 0 = sym
+    (c-5 .before .number-of .ensures) ∙ c-5 .if1 .left in
+    record { tickets = ticketsIn (s .args .tickets .now); kept = c-5 .before .before .put-in .ensures .kept z }
 
 kept-total-requires-2 : tie.Need-kept-total-requires-2
 kept-total-requires-2 c κs =
-    let c-2 = c .before .before in
-    let after-number-of2 = c-2 .before in
+    let after-number-of2 = c .before .before .before in
     let after-withdraw = after-number-of2 .before in
     let c-6 = after-withdraw .before .before in
     let after-number-of = c-6 .before in
@@ -114,36 +107,31 @@ kept-total-requires-2 c κs =
     (after-number-of .number-of .ensures) ∙ c-6 .if1 .left in
     let kb = after-put-in .put-in .ensures .kept z in
     let y : numberOf (after-withdraw .withdraw .result .answer) ≡ 0 = sym (after-number-of2 .number-of2 .ensures)
-    ∙ c-2 .if2 .left in
+    ∙ c .before .before .if2 .left in
     record { tickets = cut (h .result .kept .counts .tickets - 1) bytes; kept = after-withdraw .withdraw .ensures .accepted y }
 
 returns-3 : tie.Need-returns-3
 returns-3 c =
-    let after-kept-total = c .before in
-    let c-3 = after-kept-total .before .before in
-    let after-number-of2 = c-3 .before in
-    let after-withdraw = after-number-of2 .before in
-    let c-7 = after-withdraw .before .before in
-    let after-number-of = c-7 .before in
-    let after-put-in = after-number-of .before in
-    let c-12 = after-put-in .before .before .before in
+    let c-3 = c .before .before .before in
+    let c-7 = c-3 .before .before .before .before in
+    let c-12 = c-7 .before .before .before .before .before in
     let s = c-12 in
     let file = s .args .file .now in
     let bytes = s .args .tickets .now in
     let ts = ticketsIn bytes in
     let ok = file-ok file (s .args .kept .counts .account) (s .pre .counts .from-check) in
-    let h = after-put-in .put-in in
-    let z : numberOf (after-put-in .put-in .result .answer) ≡ 0 = sym
-    (after-number-of .number-of .ensures)
+    let h = c-7 .before .before .put-in in
+    let z : numberOf (c-7 .before .before .put-in .result .answer) ≡ 0 = sym
+    (c-7 .before .number-of .ensures)
     ∙ c-7 .if1 .left in
-    let kb = after-put-in .put-in .ensures .kept z in
-    let w = after-withdraw .withdraw in
-    let y : numberOf (w .result .answer) ≡ 0 = sym (after-number-of2 .number-of2 .ensures) ∙ c-3 .if2 .left in
+    let kb = c-7 .before .before .put-in .ensures .kept z in
+    let w = c-3 .before .before .withdraw in
+    let y : numberOf (w .result .answer) ≡ 0 = sym (c-3 .before .number-of2 .ensures) ∙ c-3 .if2 .left in
     let m = h .result .kept .counts .tickets in
     withdraw-answered file ts ok (h .result .ticket) (h .result .answer) (h .ensures .told) z
     (λ e. some-left m (sym (ap numberOf (w .ensures .told)) ∙ y) (kb .counts .many ∙ sym (h .ensures .many z) ∙ e))
-    (record { ticket = h .result .ticket; answer = w .result .answer; before = after-kept-total .kept-total .result; after = c .kept-total2 .result })
-    refl (accepted-only (w .result .answer) y) (after-kept-total .kept-total .ensures ts kb)
+    (record { ticket = h .result .ticket; answer = w .result .answer; before = c .before .kept-total .result; after = c .kept-total2 .result })
+    refl (accepted-only (w .result .answer) y) (c .before .kept-total .ensures ts kb)
     (c .kept-total2 .ensures (cut (m - 1) bytes) (w .ensures .accepted y)
     ∙ ap (λ (rs : List Record). total (withTickets file rs)) (but-last file bytes (h .result .kept) kb))
 

@@ -43,17 +43,15 @@ at k t p n e f = f ∙ ap (λ (i : ℕ). k .above + sum (take (i + 1) (k .rows))
 
 returns-2 : tie.Need-returns-2
 returns-2 c =
-    let after-kind = c .before in
-    let after-place-of = after-kind .before in
-    let after-contract = after-place-of .before in
+    let after-contract = c .before .before .before in
     let c-4 = after-contract .before in
     let start = c-4 .before .before .before .before in
     let a = start .args in
     λ ts co.
-    tell-3 (a .file .now) ts (a .counts) co (a .ticket .now) (after-place-of .place-of .result)
-    (at (a .counts) (a .ticket .now) (after-place-of .place-of .result) (after-contract .contract .result)
-    (after-contract .contract .ensures .0) (after-place-of .place-of .ensures))
-    (c-4 .if1 .left) (λ e. c .if2 .taken (after-kind .kind .ensures .0 ∙ e))
+    tell-3 (a .file .now) ts (a .counts) co (a .ticket .now) (c .before .before .place-of .result)
+    (at (a .counts) (a .ticket .now) (c .before .before .place-of .result) (after-contract .contract .result)
+    (after-contract .contract .ensures .0) (c .before .before .place-of .ensures))
+    (c-4 .if1 .left) (λ e. c .if2 .taken (c .before .kind .ensures .0 ∙ e))
 
 slice-aggregate-number-at : tie.Need-slice-aggregate-number-at
 slice-aggregate-number-at c = search needs
@@ -64,13 +62,12 @@ number-at-requires c κs = search needs
 row-fault-requires : tie.Need-row-fault-requires
 row-fault-requires c κs =
     let c-4 = c .before .before .before .before in
-    let after-kind = c-4 .before in
-    let c-12 = after-kind .before .before .before .before .before .before .before in
+    let c-12 = c-4 .before .before .before .before .before .before .before .before in
     let s = c-12 in
     let p = s .pre .1 in (
       stands-in (s .args .file .now) (s .args .counts .account) (p .counts .from-check) (s .args .none .now) (s .pre .0),
       sym
-          (after-kind .kind .ensures .0) ∙ c-4 .if2 .left,
+          (c-4 .before .kind .ensures .0) ∙ c-4 .if2 .left,
     )
 
 refusal-requires : tie.Need-refusal-requires
@@ -78,13 +75,9 @@ refusal-requires c κs = search needs
 
 returns-3 : tie.Need-returns-3
 returns-3 c =
-    let after-if3 = c .before in
-    let after-row-fault = after-if3 .before in
-    let after-number-at = after-row-fault .before in
+    let after-number-at = c .before .before .before in
     let c-7 = after-number-at .before .before .before .before in
-    let after-kind = c-7 .before in
-    let after-place-of = after-kind .before in
-    let after-contract = after-place-of .before in
+    let after-contract = c-7 .before .before .before in
     let c-11 = after-contract .before in
     let c-15 = c-11 .before .before .before .before in
     let s = c-15 in
@@ -94,18 +87,18 @@ returns-3 c =
     c .refusal .ensures
     ∙ tell-row (a .file .now) ts (a .counts) co t (a .none .now) (s .pre .0)
     (c-11 .if1 .left)
-    (sym (after-kind .kind .ensures .0)
+    (sym (c-7 .before .kind .ensures .0)
     ∙ c-7 .if2 .left)
-    (after-place-of .place-of .result) (after-row-fault .row-fault .result)
-    (at (a .counts) t (after-place-of .place-of .result)
+    (c-7 .before .before .place-of .result) (c .before .before .row-fault .result)
+    (at (a .counts) t (c-7 .before .before .place-of .result)
     (after-contract .contract .result)
     (after-contract .contract .ensures .0)
-    (after-place-of .place-of .ensures))
-    (by-counts (a .file .now) ts (a .counts) co t (a .none .now) (after-row-fault .row-fault .result) (after-number-at .number-at .result)
+    (c-7 .before .before .place-of .ensures))
+    (by-counts (a .file .now) ts (a .counts) co t (a .none .now) (c .before .before .row-fault .result) (after-number-at .number-at .result)
     (after-contract .contract .result)
-    (after-row-fault .row-fault .ensures) (after-number-at .number-at .ensures)
+    (c .before .before .row-fault .ensures) (after-number-at .number-at .ensures)
     (after-contract .contract .ensures .0))
-    (after-if3 .if3 .taken)
+    (c .before .if3 .taken)
 
 part-requires : tie.Need-part-requires
 part-requires c κs =
@@ -119,13 +112,10 @@ rates-of-requires c κs = search needs
 
 row-answer-requires : tie.Need-row-answer-requires
 row-answer-requires c κs =
-    let after-part = c .before in
-    let after-if3 = after-part .before in
-    let after-row-fault = after-if3 .before in
+    let after-row-fault = c .before .before .before in
     let after-number-at = after-row-fault .before in
     let c-8 = after-number-at .before .before .before .before in
-    let after-kind = c-8 .before in
-    let after-contract = after-kind .before .before in
+    let after-contract = c-8 .before .before .before in
     let c-12 = after-contract .before in
     let c-16 = c-12 .before .before .before .before in
     let s = c-16 in
@@ -133,9 +123,9 @@ row-answer-requires c κs =
     let t = a .ticket .now in
     let x = s .pre .1 in
     let co = x .counts in
-    let row = sym (after-kind .kind .ensures .0)
+    let row = sym (c-8 .before .kind .ensures .0)
     ∙ c-8 .if2 .left in
-    let e = rates-read (a .file .now) (x .tickets) (a .counts) co (a .none .now) (s .pre .0) (after-part .part .result .now) (after-part .part .ensures) in (
+    let e = rates-read (a .file .now) (x .tickets) (a .counts) co (a .none .now) (s .pre .0) (c .before .part .result .now) (c .before .part .ensures) in (
       record {
         isRow = row;
         within =
@@ -147,7 +137,7 @@ row-answer-requires c κs =
             (after-contract .contract .result)
             (after-row-fault .row-fault .ensures) (after-number-at .number-at .ensures)
             (after-contract .contract .ensures .0))
-            (after-if3 .if3 .left);
+            (c .before .before .if3 .left);
       },
       record {
         rates = ratesOf (records (withTickets (a .file .now) (x .tickets)));
@@ -161,17 +151,13 @@ number-of-requires c κs = search needs
 
 returns-4 : tie.Need-returns-4
 returns-4 c =
-    let after-number-of = c .before in
-    let after-row-answer = after-number-of .before in
-    let after-rates-of = after-row-answer .before in
+    let after-rates-of = c .before .before .before in
     let after-part = after-rates-of .before in
     let after-if3 = after-part .before in
     let after-row-fault = after-if3 .before in
     let after-number-at = after-row-fault .before in
     let c-11 = after-number-at .before .before .before .before in
-    let after-kind = c-11 .before in
-    let after-place-of = after-kind .before in
-    let after-contract = after-place-of .before in
+    let after-contract = c-11 .before .before .before in
     let c-15 = after-contract .before in
     let c-17 = c-15 .before .before in
     let s = c-17
@@ -181,7 +167,7 @@ returns-4 c =
     λ ts co.
     tell-rate (a .file .now) ts (a .counts) co t (a .none .now) (s .pre .0)
     (c-15 .if1 .left)
-    (sym (after-kind .kind .ensures .0)
+    (sym (c-11 .before .kind .ensures .0)
     ∙ c-11 .if2 .left)
     (after-row-fault .row-fault .result)
     (by-counts (a .file .now) ts (a .counts) co t (a .none .now) (after-row-fault .row-fault .result)
@@ -191,36 +177,34 @@ returns-4 c =
     (after-number-at .number-at .ensures)
     (after-contract .contract .ensures .0))
     (after-if3 .if3 .left)
-    (after-place-of .place-of .result)
-    (at (a .counts) t (after-place-of .place-of .result)
+    (c-11 .before .before .place-of .result)
+    (at (a .counts) t (c-11 .before .before .place-of .result)
     (after-contract .contract .result)
     (after-contract .contract .ensures .0)
-    (after-place-of .place-of .ensures))
-    (after-row-answer .row-answer .result)
+    (c-11 .before .before .place-of .ensures))
+    (c .before .before .row-answer .result)
     (told-by (a .file .now) ts (a .counts) co t (a .none .now) (s .pre .0) (after-part .part .result .now)
     (after-part .part .ensures) (after-rates-of .rates-of .result)
     (after-rates-of .rates-of .ensures)
-    (after-place-of .place-of .result)
-    (after-row-answer .row-answer .result) (after-row-answer .row-answer .ensures))
-    (λ z. c .if4 .taken (after-number-of .number-of .ensures ∙ z))
+    (c-11 .before .before .place-of .result)
+    (c .before .before .row-answer .result) (c .before .before .row-answer .ensures))
+    (λ z. c .if4 .taken (c .before .number-of .ensures ∙ z))
 
 record-total-requires : tie.Need-record-total-requires
 record-total-requires c κs = search needs
 
 add-if5 : tie.Need-add-if5
 add-if5 c =
-    let after-record-total = c .before in
-    let c-17 = after-record-total .before .before .before .before .before .before .before .before .before .before .before .before .before .before .before
+    let c-17 = c .before .before .before .before .before .before .before .before .before .before .before .before .before .before .before .before
     .before in
     let s = c-17
     .before .before .before .before in
     let p = s .pre .1 in
-    omega (arith, after-record-total .record-total .ensures, many-few (s .args .file .now) (p .tickets) (s .args .counts) (p .counts))
+    omega (arith, c .before .record-total .ensures, many-few (s .args .file .now) (p .tickets) (s .args .counts) (p .counts))
 
 returns-5 : tie.Need-returns-5
 returns-5 c =
-    let after-record-total = c .before .before in
-    let after-if4 = after-record-total .before in
+    let after-if4 = c .before .before .before in
     let after-number-of = after-if4 .before in
     let after-row-answer = after-number-of .before in
     let after-rates-of = after-row-answer .before in
@@ -229,9 +213,7 @@ returns-5 c =
     let after-row-fault = after-if3 .before in
     let after-number-at = after-row-fault .before in
     let c-14 = after-number-at .before .before .before .before in
-    let after-kind = c-14 .before in
-    let after-place-of = after-kind .before in
-    let c-17 = after-place-of .before in
+    let c-17 = c-14 .before .before .before in
     let s = c-17
     .before .before .before .before .before in
     let a = s .args in
@@ -240,7 +222,7 @@ returns-5 c =
     tell-1 (a .file .now) ts (a .counts) co t (a .none .now) (s .pre .0)
     (c-17
     .before .if1 .left)
-    (sym (after-kind .kind .ensures
+    (sym (c-14 .before .kind .ensures
     .0) ∙ c-14 .if2 .left)
     (after-row-fault .row-fault .result)
     (by-counts (a .file .now) ts (a .counts) co t (a .none .now)
@@ -253,21 +235,20 @@ returns-5 c =
     (c-17
     .contract .ensures .0))
     (after-if3 .if3 .left)
-    (after-place-of .place-of
+    (c-14 .before .before .place-of
     .result) (after-row-answer .row-answer .result)
     (told-by (a .file .now) ts (a .counts) co t (a .none .now) (s .pre .0)
     (after-part .part .result .now)
     (after-part .part .ensures)
     (after-rates-of .rates-of .result) (after-rates-of .rates-of .ensures)
-    (after-place-of .place-of
+    (c-14 .before .before .place-of
     .result) (after-row-answer .row-answer .result) (after-row-answer .row-answer .ensures))
     (sym (after-number-of .number-of .ensures) ∙ after-if4 .if4 .left)
-    (omega (arith, c .if5 .taken, after-record-total .record-total .ensures))
+    (omega (arith, c .if5 .taken, c .before .before .record-total .ensures))
 
 returns-6 : tie.Need-returns-6
 returns-6 c =
-    let after-record-total = c .before .before in
-    let after-if4 = after-record-total .before in
+    let after-if4 = c .before .before .before in
     let after-number-of = after-if4 .before in
     let after-row-answer = after-number-of .before in
     let after-rates-of = after-row-answer .before in
@@ -276,9 +257,7 @@ returns-6 c =
     let after-row-fault = after-if3 .before in
     let after-number-at = after-row-fault .before in
     let c-14 = after-number-at .before .before .before .before in
-    let after-kind = c-14 .before in
-    let after-place-of = after-kind .before in
-    let c-17 = after-place-of .before in
+    let c-17 = c-14 .before .before .before in
     let s = c-17
     .before .before .before .before .before in
     let a = s .args in
@@ -287,7 +266,7 @@ returns-6 c =
     tell-0 (a .file .now) ts (a .counts) co t (a .none .now) (s .pre .0)
     (c-17
     .before .if1 .left)
-    (sym (after-kind .kind .ensures
+    (sym (c-14 .before .kind .ensures
     .0) ∙ c-14 .if2 .left)
     (after-row-fault .row-fault .result)
     (by-counts (a .file .now) ts (a .counts) co t (a .none .now)
@@ -300,16 +279,16 @@ returns-6 c =
     (c-17
     .contract .ensures .0))
     (after-if3 .if3 .left)
-    (after-place-of .place-of
+    (c-14 .before .before .place-of
     .result) (after-row-answer .row-answer .result)
     (told-by (a .file .now) ts (a .counts) co t (a .none .now) (s .pre .0)
     (after-part .part .result .now)
     (after-part .part .ensures)
     (after-rates-of .rates-of .result) (after-rates-of .rates-of .ensures)
-    (after-place-of .place-of
+    (c-14 .before .before .place-of
     .result) (after-row-answer .row-answer .result) (after-row-answer .row-answer .ensures))
     (sym (after-number-of .number-of .ensures) ∙ after-if4 .if4 .left)
-    (omega (arith, c .if5 .left, after-record-total .record-total .ensures))
+    (omega (arith, c .if5 .left, c .before .before .record-total .ensures))
 
 pub check-ticket-spec : {M : Type 1} → statement M
 check-ticket-spec =

@@ -19,24 +19,22 @@ slice-aggregate-sum-of c = search needs
 
 sum-of-requires : tie.Need-sum-of-requires
 sum-of-requires c κs =
-    let after-totals-of = c .before .before in
-    let c-5 = after-totals-of .before .before .before in
+    let c-5 = c .before .before .before .before .before in
     let s = c-5 in (
       omega arith,
-      totals-few (s .args .file .now) (s .args .account) (s .pre .1) 2 (omega arith) (after-totals-of .totals-of .result)
-          (after-totals-of .totals-of .ensures),
+      totals-few (s .args .file .now) (s .args .account) (s .pre .1) 2 (omega arith) (c .before .before .totals-of .result)
+          (c .before .before .totals-of .ensures),
     )
 
 add-above : tie.Need-add-above
 add-above c =
-    let after-contract-total = c .before .before in
-    let after-totals-of = after-contract-total .before in
+    let after-totals-of = c .before .before .before in
     let c-6 = after-totals-of .before .before .before in
     let s = c-6 in
     omega (
       arith,
       c .sum-of .ensures,
-      after-contract-total .contract-total .ensures,
+      c .before .before .contract-total .ensures,
       contracts-few (s .args .file .now) (s .args .account) (s .pre .1),
       prompts-few (s .args .file .now) (s .args .account) (s .pre .1) (after-totals-of .totals-of .result)
           (after-totals-of .totals-of .ensures),
@@ -47,14 +45,13 @@ totals-of-requires-2 c κs = search needs
 
 returns : tie.Need-returns
 returns c =
-    let after-sum-of = c .before in
-    let after-contract-total = after-sum-of .before .before in
+    let after-contract-total = c .before .before .before in
     let after-totals-of = after-contract-total .before in
     let c-7 = after-totals-of .before .before .before in
     let s = c-7 in
     counts-start (s .args .file .now) (s .args .account) (s .pre .1) _ (after-totals-of .totals-of .result) refl refl
     (after-totals-of .totals-of .ensures)
-    (ap₂ (λ (x y : ℕ). x + y) (after-contract-total .contract-total .ensures) (after-sum-of .sum-of .ensures)) (c .totals-of2 .ensures)
+    (ap₂ (λ (x y : ℕ). x + y) (after-contract-total .contract-total .ensures) (c .before .sum-of .ensures)) (c .totals-of2 .ensures)
 
 pub counts-of-spec : {M : Type 1} → statement M
 counts-of-spec =

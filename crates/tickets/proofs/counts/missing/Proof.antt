@@ -2,7 +2,7 @@
 -- Assumes nothing.
 use borrow.Author.Needs.{needs}
 use mathlib.Core.Path.{ap, ap₂, _∙_}
-use Prim.Native.Nat.{ℕ, _+_}
+use Prim.Native.Nat.{ℕ}
 use native.Mathlib.Omega.{arith}
 use mathlib.Core.List.{List}
 use lib.Dec.{eqb}
@@ -39,9 +39,7 @@ no-day-requires c κs = search needs
 
 returns : tie.Need-returns
 returns c =
-    let after-day = c .before in
-    let after-part-total = after-day .before in
-    let after-part = after-part-total .before in
+    let after-part = c .before .before .before in
     let after-contract = after-part .before in
     let c-8 = after-contract .before .before .before .before in
     let s = c-8 in
@@ -49,11 +47,11 @@ returns c =
     let number = contract (s .args .row .now) in
     let e = after-contract .contract .ensures .0 in
     both
-    (ap (λ (n : ℕ). eqb n 0) (after-part-total .part-total .ensures ∙ ap (λ (n : ℕ). getD (s .args .account .counts) (16 + n) 0) e))
+    (ap (λ (n : ℕ). eqb n 0) (c .before .before .part-total .ensures ∙ ap (λ (n : ℕ). getD (s .args .account .counts) (part 1 n) 0) e))
     (c .no-day .ensures
     ∙ ap₂ (λ (rs : List Record) (d : ℕ). noDay rs d)
-    (after-part .part .ensures .are ∙ ap (λ (n : ℕ). partRecords (32 + n) account) e ∙ contract-part 2 number (omega arith) (s .pre .1) account)
-    (after-day .day .ensures .0))
+    (after-part .part .ensures .are ∙ ap (λ (n : ℕ). partRecords (part 2 n) account) e ∙ contract-part 2 number (omega arith) (s .pre .1) account)
+    (c .before .day .ensures .0))
 
 pub missing-spec : {M : Type 1} → statement M
 missing-spec =

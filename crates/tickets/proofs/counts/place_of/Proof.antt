@@ -19,13 +19,12 @@ sum-of-requires c κs = search needs
 
 add-result : tie.Need-add-result
 add-result c =
-    let after-sum-of = c .before in
-    let c-4 = after-sum-of .before .before .before in
+    let c-4 = c .before .before .before .before in
     let s = c-4 in
     let xs = s .args .counts .rows in
     omega (
       arith,
-      after-sum-of .sum-of .ensures,
+      c .before .sum-of .ensures,
       sum-take (s .args .c + 1) xs,
       sum-bound mostRecords xs (λ k h. s .pre .0 .rows-few k),
       s .pre .0 .places,

@@ -11,6 +11,7 @@ use Rattle.record.proofs.Within.{contract-known}
 use Rattle.account.specs.code.Notes.{noContract, noDay}
 use Rattle.account.specs.Parts.{promptsOf}
 use Rattle.account.specs.Joined.{accountOf}
+use Rattle.account.specs.Check.{mostRows}
 use Rattle.tickets.proofs.Inserted.{row-known}
 use Rattle.tickets.proofs.Counting.{four-5, four-6, four-7, four-9, four-0}
 use Rattle.tickets.proofs.counts.row_fault.Statement.{statement}
@@ -21,88 +22,74 @@ unused-byte-requires c κs = search needs
 
 returns : tie.Need-returns
 returns c =
-    let after-unused-byte = c .before in
-    let start = after-unused-byte .before .before .before .before in
+    let start = c .before .before .before .before .before in
     let args = start .args in
     let r = args .row .now in
     let m = noContract (args .account .counts) (contract r) || noDay (promptsOf (contract r) (accountOf (args .file .now) (args .none .now))) (day r) in
-    four-5 (unusedByte r) (fieldOutside r) m (leb 128 (args .rows)) (sym (after-unused-byte .unused-byte .ensures) ∙ c .if1 .taken)
+    four-5 (unusedByte r) (fieldOutside r) m (leb mostRows (args .rows)) (sym (c .before .unused-byte .ensures) ∙ c .if1 .taken)
 
 field-outside-requires : tie.Need-field-outside-requires
 field-outside-requires c κs = search needs
 
 returns-2 : tie.Need-returns-2
 returns-2 c =
-    let after-field-outside = c .before in
-    let c-2 = after-field-outside .before in
-    let after-unused-byte = c-2 .before in
+    let after-unused-byte = c .before .before .before in
     let start = after-unused-byte .before .before .before .before in
     let args = start .args in
     let r = args .row .now in
     let m = noContract (args .account .counts) (contract r) || noDay (promptsOf (contract r) (accountOf (args .file .now) (args .none .now))) (day r) in
-    four-6 (unusedByte r) (fieldOutside r) m (leb 128 (args .rows)) (sym (after-unused-byte .unused-byte .ensures) ∙ c-2 .if1 .left)
-    (sym (after-field-outside .field-outside .ensures) ∙ c .if2 .taken)
+    four-6 (unusedByte r) (fieldOutside r) m (leb mostRows (args .rows)) (sym (after-unused-byte .unused-byte .ensures) ∙ c .before .before .if1 .left)
+    (sym (c .before .field-outside .ensures) ∙ c .if2 .taken)
 
 missing-requires : tie.Need-missing-requires
 missing-requires c κs =
-    let after-field-outside = c .before in
-    let c-7 = after-field-outside .before .before .before .before .before .before in
+    let c-7 = c .before .before .before .before .before .before .before in
     let s = c-7 in
     let r = s .args .row .now in (
       s .pre .0,
-      contract-known r (row-known r (s .pre .1)) (sym (after-field-outside .field-outside .ensures) ∙ c .if2 .left),
+      contract-known r (row-known r (s .pre .1)) (sym (c .before .field-outside .ensures) ∙ c .if2 .left),
     )
 
 returns-3 : tie.Need-returns-3
 returns-3 c =
-    let after-missing = c .before in
-    let c-2 = after-missing .before in
-    let after-field-outside = c-2 .before in
+    let after-field-outside = c .before .before .before in
     let c-4 = after-field-outside .before in
     let after-unused-byte = c-4 .before in
     let start = after-unused-byte .before .before .before .before in
     let args = start .args in
     let r = args .row .now in
     let m = noContract (args .account .counts) (contract r) || noDay (promptsOf (contract r) (accountOf (args .file .now) (args .none .now))) (day r) in
-    four-7 (unusedByte r) (fieldOutside r) m (leb 128 (args .rows))
+    four-7 (unusedByte r) (fieldOutside r) m (leb mostRows (args .rows))
     (sym (after-unused-byte .unused-byte .ensures) ∙ c-4 .if1 .left)
-    (sym (after-field-outside .field-outside .ensures) ∙ c-2 .if2 .left) (sym (after-missing .missing .ensures) ∙ c .if3 .taken)
+    (sym (after-field-outside .field-outside .ensures) ∙ c .before .before .if2 .left) (sym (c .before .missing .ensures) ∙ c .if3 .taken)
 
 returns-4 : tie.Need-returns-4
 returns-4 c =
-    let after-if3 = c .before in
-    let after-missing = after-if3 .before in
-    let c-3 = after-missing .before in
-    let after-field-outside = c-3 .before in
-    let c-5 = after-field-outside .before in
-    let after-unused-byte = c-5 .before in
+    let c-3 = c .before .before .before in
+    let after-unused-byte = c-3 .before .before .before in
     let start = after-unused-byte .before .before .before .before in
     let args = start .args in
     let r = args .row .now in
     let m = noContract (args .account .counts) (contract r) || noDay (promptsOf (contract r) (accountOf (args .file .now) (args .none .now))) (day r) in
-    four-9 (unusedByte r) (fieldOutside r) m (leb 128 (args .rows))
-    (sym (after-unused-byte .unused-byte .ensures) ∙ c-5 .if1 .left)
-    (sym (after-field-outside .field-outside .ensures) ∙ c-3 .if2 .left)
-    (sym (after-missing .missing .ensures) ∙ after-if3 .if3 .left)
-    (le-leb 128 (args .rows) (c .if4 .taken))
+    four-9 (unusedByte r) (fieldOutside r) m (leb mostRows (args .rows))
+    (sym (after-unused-byte .unused-byte .ensures) ∙ c-3 .before .before .if1 .left)
+    (sym (c-3 .before .field-outside .ensures) ∙ c-3 .if2 .left)
+    (sym (c .before .before .missing .ensures) ∙ c .before .if3 .left)
+    (le-leb mostRows (args .rows) (c .if4 .taken))
 
 returns-5 : tie.Need-returns-5
 returns-5 c =
-    let after-if3 = c .before in
-    let after-missing = after-if3 .before in
-    let c-3 = after-missing .before in
-    let after-field-outside = c-3 .before in
-    let c-5 = after-field-outside .before in
-    let after-unused-byte = c-5 .before in
+    let c-3 = c .before .before .before in
+    let after-unused-byte = c-3 .before .before .before in
     let start = after-unused-byte .before .before .before .before in
     let args = start .args in
     let r = args .row .now in
     let m = noContract (args .account .counts) (contract r) || noDay (promptsOf (contract r) (accountOf (args .file .now) (args .none .now))) (day r) in
-    four-0 (unusedByte r) (fieldOutside r) m (leb 128 (args .rows))
-    (sym (after-unused-byte .unused-byte .ensures) ∙ c-5 .if1 .left)
-    (sym (after-field-outside .field-outside .ensures) ∙ c-3 .if2 .left)
-    (sym (after-missing .missing .ensures) ∙ after-if3 .if3 .left)
-    (lt-leb 128 (args .rows) (c .if4 .left))
+    four-0 (unusedByte r) (fieldOutside r) m (leb mostRows (args .rows))
+    (sym (after-unused-byte .unused-byte .ensures) ∙ c-3 .before .before .if1 .left)
+    (sym (c-3 .before .field-outside .ensures) ∙ c-3 .if2 .left)
+    (sym (c .before .before .missing .ensures) ∙ c .before .if3 .left)
+    (lt-leb mostRows (args .rows) (c .if4 .left))
 
 pub row-fault-spec : {M : Type 1} → statement M
 row-fault-spec =

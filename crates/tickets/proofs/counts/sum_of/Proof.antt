@@ -26,9 +26,8 @@ number-at-requires c κs = search needs
 
 add-total : tie.Need-add-total Inv-loop μ-loop
 add-total c =
-    let after-loop = c .before .before in
-    let start = after-loop .before .before in
-    let l = after-loop .loop in
+    let start = c .before .before .before .before in
+    let l = c .before .before .loop in
     omega (
       arith,
       c .number-at .ensures,
@@ -41,30 +40,26 @@ add-total c =
 
 add-i : tie.Need-add-i Inv-loop μ-loop
 add-i c =
-    let after-loop = c .before .before in
-    let start = after-loop .before .before in
-    omega (arith, after-loop .loop .inv .1 .0, start .pre .0)
+    let start = c .before .before .before .before in
+    omega (arith, c .before .before .loop .inv .1 .0, start .pre .0)
 
 loop-less : tie.Need-loop-less Inv-loop μ-loop
 loop-less c = omega (arith, c .before .loop-test .taken)
 
 loop-again : tie.Need-loop-again Inv-loop μ-loop
 loop-again c =
-    let after-loop-test = c .before in
-    let after-loop = after-loop-test .before in
-    let start = after-loop .before .before in
-    let l = after-loop .loop in
+    let start = c .before .before .before .before in
+    let l = c .before .before .loop in
     let xs = start .args .numbers .now in
     let e = c .number-at .ensures in (
       omega (arith, e, l .inv .0, next-sum xs (l .i)) ∙ ap (λ (m : ℕ). sum (take m xs)) (sym (add-one (l .i))),
-      (omega (arith, after-loop-test .loop-test .taken), omega (arith, e, start .pre .1 (l .i), l .inv .1 .1)),
+      (omega (arith, c .before .loop-test .taken), omega (arith, e, start .pre .1 (l .i), l .inv .1 .1)),
     )
 
 returns : tie.Need-returns Inv-loop μ-loop
 returns c =
-    let after-loop = c .before in
-    let c-3 = after-loop .before .before in
-    let l = after-loop .loop in
+    let c-3 = c .before .before .before in
+    let l = c .before .loop in
     let s = c-3 in
     let e : l .i ≡ s .args .n = omega (arith, l .inv .1 .0, c .loop-test .left) in
     l .inv .0 ∙ ap (λ (m : ℕ). sum (take m (s .args .numbers .now))) e

@@ -21,13 +21,12 @@ place-of-requires c κs =
 
 returns : tie.Need-returns
 returns c =
-    let after-contract = c .before in
-    let start = after-contract .before .before .before in
+    let start = c .before .before .before .before in
     let a = start .args in
     let k = a .counts in
     λ ts co.
     c .place-of .ensures
-    ∙ ap (λ (i : ℕ). k .above + sum (take (i + 1) (k .rows))) (after-contract .contract .ensures .0)
+    ∙ ap (λ (i : ℕ). k .above + sum (take (i + 1) (k .rows))) (c .before .contract .ensures .0)
     ∙ sym (place-is (a .file .now) ts k co (a .ticket .now))
 
 pub ticket-place-spec : {M : Type 1} → statement M

@@ -7,15 +7,16 @@ use native.Mathlib.Nat.{not-suc-le-zero}
 use native.Mathlib.Omega.{arith}
 use lib.ListN.{length, getD, length-set}
 use Rattle.account.proofs.Filled.{filled-next}
+use Rattle.account.specs.Check.{mostContracts}
 use Rattle.tickets.proofs.counts.totals_of.Statement.{statement}
 use Rattle.tickets.proofs.counts.totals_of.Tie as tie
 
 abbrev Inv-loop : tie.InvT-loop
 Inv-loop account first totals₀ c₀ totals c =
-    (length totals ≡ 16) × ((c ≤ 16) × ((i : ℕ) → i < c → getD totals i 0 ≡ getD (account .counts) (first + i) 0))
+    (length totals ≡ mostContracts) × ((c ≤ mostContracts) × ((i : ℕ) → i < c → getD totals i 0 ≡ getD (account .counts) (first + i) 0))
 
 abbrev μ-loop : tie.MeasureT-loop
-μ-loop account first totals₀ c₀ totals c = 16 - c
+μ-loop account first totals₀ c₀ totals c = mostContracts - c
 
 loop-holds : tie.Need-loop-holds Inv-loop μ-loop
 loop-holds c = (refl, (omega arith, λ i h. absurd (not-suc-le-zero h)))
@@ -40,11 +41,9 @@ loop-less c = omega (arith, c .before .loop-test .taken)
 
 loop-again : tie.Need-loop-again Inv-loop μ-loop
 loop-again c =
-    let after-loop-test = c .before in
-    let after-loop = after-loop-test .before in
-    let c-3 = after-loop .before in
-    let l = after-loop .loop in
-    let h = after-loop-test .loop-test .taken in
+    let c-3 = c .before .before .before in
+    let l = c .before .before .loop in
+    let h = c .before .loop-test .taken in
     let s = c-3 in (
       length-set (l .totals) (l .c) (c .part-total .result) ∙ l .inv .0,
       (

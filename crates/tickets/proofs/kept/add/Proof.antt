@@ -18,10 +18,9 @@ nothing-of-requires c κs = search needs
 
 check-ticket-requires : tie.Need-check-ticket-requires
 check-ticket-requires c κs =
-    let after-nothing-of = c .before in
-    let start = after-nothing-of .before .before .before in
+    let start = c .before .before .before .before in
     let x = start .pre in
-    (after-nothing-of .nothing-of .ensures, record { tickets = x .tickets; counts = x .kept .counts })
+    (c .before .nothing-of .ensures, record { tickets = x .tickets; counts = x .kept .counts })
 
 number-of-requires : tie.Need-number-of-requires
 number-of-requires c κs = search needs
@@ -36,17 +35,15 @@ returns c =
 
 with-row-requires : tie.Need-with-row-requires
 with-row-requires c κs =
-    let after-number-of = c .before in
-    let after-check-ticket = after-number-of .before in
-    let after-nothing-of = after-check-ticket .before .before in
+    let after-nothing-of = c .before .before .before .before in
     let start = after-nothing-of .before .before .before in
     let x = start .pre in (
       after-nothing-of .nothing-of .ensures,
       record {
         tickets = x .tickets;
         kept = x .kept;
-        taken = λ ts kb. sym (after-check-ticket .check-ticket .ensures ts (kb .counts)) ∙ accepted-only (after-check-ticket .check-ticket .result)
-            (sym (after-number-of .number-of .ensures) ∙ c .if1 .left);
+        taken = λ ts kb. sym (c .before .before .check-ticket .ensures ts (kb .counts)) ∙ accepted-only (c .before .before .check-ticket .result)
+            (sym (c .before .number-of .ensures) ∙ c .if1 .left);
       },
     )
 
@@ -55,8 +52,7 @@ contract-requires c κs = search needs
 
 one-more-requires : tie.Need-one-more-requires
 one-more-requires c κs =
-    let c-2 = c .before .before in
-    let after-number-of = c-2 .before in
+    let after-number-of = c .before .before .before in
     let after-check-ticket = after-number-of .before in
     let c-9 = after-check-ticket .before .before .before .before .before in
     let s = c-9 in
@@ -65,24 +61,20 @@ one-more-requires c κs =
     let t = s .args .ticket .now in
     let h = sym (after-check-ticket .check-ticket .ensures (x .tickets) (x .kept .counts))
     ∙ accepted-only (after-check-ticket .check-ticket .result)
-    (sym (after-number-of .number-of .ensures) ∙ c-2 .if1 .left) in (
+    (sym (after-number-of .number-of .ensures) ∙ c .before .before .if1 .left) in (
       small file (x .tickets) (s .args .kept .counts) (x .kept .counts),
       omega (arith, c .contract .ensures .0, low-kept file (x .tickets) t (with-ok file (x .tickets) (s .args .kept .counts) (x .kept .counts)) h),
     )
 
 returns-2 : tie.Need-returns-2
 returns-2 c =
-    let after-contract = c .before in
-    let after-with-row = after-contract .before in
-    let c-3 = after-with-row .before in
-    let after-number-of = c-3 .before in
-    let after-check-ticket = after-number-of .before in
-    let c-10 = after-check-ticket .before .before .before .before .before in
+    let c-3 = c .before .before .before in
+    let c-10 = c-3 .before .before .before .before .before .before .before in
     let s = c-10 in
     let file = s .args .file .now in
     let t = s .args .ticket .now in
-    let z : numberOf (after-check-ticket .check-ticket .result) ≡ 0 = sym
-    (after-number-of .number-of .ensures) ∙ c-3 .if1 .left in
+    let z : numberOf (c-3 .before .before .check-ticket .result) ≡ 0 = sym
+    (c-3 .before .number-of .ensures) ∙ c-3 .if1 .left in
     record {
       told = λ ts kb. c .before .before .before .before .before .check-ticket .ensures ts (kb .counts);
       refused = λ n. absurd (n z);
@@ -90,10 +82,10 @@ returns-2 c =
           record {
             counts =
                 counts-more file ts t (s .args .kept .counts) (c .one-more .result) (kb .counts)
-                (sym (after-check-ticket .check-ticket .ensures ts (kb .counts))
-                ∙ accepted-only (after-check-ticket .check-ticket .result) z)
-                (subst (λ (n : ℕ). OneMore n (s .args .kept .counts) (c .one-more .result)) (after-contract .contract .ensures .0) (c .one-more .ensures));
-            positions = after-with-row .with-row .ensures ts kb;
+                (sym (c-3 .before .before .check-ticket .ensures ts (kb .counts))
+                ∙ accepted-only (c-3 .before .before .check-ticket .result) z)
+                (subst (λ (n : ℕ). OneMore n (s .args .kept .counts) (c .one-more .result)) (c .before .contract .ensures .0) (c .one-more .ensures));
+            positions = c .before .before .with-row .ensures ts kb;
           };
     }
 

@@ -19,22 +19,19 @@ counts-of-requires c κs = search needs
 
 positions-over-requires : tie.Need-positions-over-requires
 positions-over-requires c κs =
-    let after-nothing-of = c .before in
-    let c-3 = after-nothing-of .before .before in
+    let c-3 = c .before .before .before in
     let s = c-3 in
-    stands-in (s .args .file .now) (s .args .account) (s .pre) (after-nothing-of .nothing-of .result .now) (after-nothing-of .nothing-of .ensures)
+    stands-in (s .args .file .now) (s .args .account) (s .pre) (c .before .nothing-of .result .now) (c .before .nothing-of .ensures)
 
 returns : tie.Need-returns
 returns c =
-    let after-counts-of = c .before in
-    let after-nothing-of = after-counts-of .before in
-    let c-4 = after-nothing-of .before .before in
+    let c-4 = c .before .before .before .before in
     let s = c-4 in
     record {
-      counts = after-counts-of .counts-of .ensures;
+      counts = c .before .counts-of .ensures;
       positions =
           subst (λ (rs : List Record). PositionsOf rs (c .positions-over .result))
-          (alone (s .args .file .now) (after-nothing-of .nothing-of .result .now) (after-nothing-of .nothing-of .ensures)
+          (alone (s .args .file .now) (c .before .before .nothing-of .result .now) (c .before .before .nothing-of .ensures)
           (plain (s .args .file .now) (file-ok (s .args .file .now) (s .args .account) (s .pre)) .recorded))
           (c .positions-over .ensures);
     }

@@ -18,16 +18,14 @@ account-of-requires c κs = search needs
 
 answer-from-requires : tie.Need-answer-from-requires
 answer-from-requires c κs =
-    let after-account-of = c .before in
-    let after-nothing-of = after-account-of .before in
-    let c-6 = after-nothing-of .before .before .before .before in
+    let c-6 = c .before .before .before .before .before .before in
     let s = c-6 in
     let x = s .pre in (
-      subst⁻¹ (λ (a : Account). Stands (s .args .file .now) (after-nothing-of .nothing-of .result .now) a) (after-account-of .account-of .ensures)
-          (stands-kept (s .args .file .now) (x .tickets) (s .args .kept) (x .kept) (after-nothing-of .nothing-of .result .now)
-          (after-nothing-of .nothing-of .ensures)),
-      known-kept (s .args .file .now) (x .tickets) (s .args .kept) (x .kept) (after-nothing-of .nothing-of .result .now)
-          (after-nothing-of .nothing-of .ensures),
+      subst⁻¹ (λ (a : Account). Stands (s .args .file .now) (c .before .before .nothing-of .result .now) a) (c .before .account-of .ensures)
+          (stands-kept (s .args .file .now) (x .tickets) (s .args .kept) (x .kept) (c .before .before .nothing-of .result .now)
+          (c .before .before .nothing-of .ensures)),
+      known-kept (s .args .file .now) (x .tickets) (s .args .kept) (x .kept) (c .before .before .nothing-of .result .now)
+          (c .before .before .nothing-of .ensures),
     )
 
 same-length : tie.Need-same-length

@@ -20,20 +20,18 @@ account-of-requires c κs = search needs
 
 needed-over-requires : tie.Need-needed-over-requires
 needed-over-requires c κs =
-    let after-nothing-of = c .before in
-    let c-4 = after-nothing-of .before .before .before in
+    let c-4 = c .before .before .before .before in
     let s = c-4 in
     let x = s .pre in
-    subst⁻¹ (λ (a : Account). Stands (s .args .file .now) (after-nothing-of .nothing-of .result .now) a) (c .account-of .ensures)
-    (stands-kept (s .args .file .now) (x .tickets) (s .args .kept) (x .kept) (after-nothing-of .nothing-of .result .now)
-    (after-nothing-of .nothing-of .ensures))
+    subst⁻¹ (λ (a : Account). Stands (s .args .file .now) (c .before .nothing-of .result .now) a) (c .account-of .ensures)
+    (stands-kept (s .args .file .now) (x .tickets) (s .args .kept) (x .kept) (c .before .nothing-of .result .now)
+    (c .before .nothing-of .ensures))
 
 returns : tie.Need-returns
 returns c =
-    let after-nothing-of = c .before .before in
-    let c-5 = after-nothing-of .before .before .before in
+    let c-5 = c .before .before .before .before .before in
     let s = c-5 in
-    let none = after-nothing-of .nothing-of in (
+    let none = c .before .before .nothing-of in (
       λ ts kb.
           let t = told-kept (s .args .file .now) ts (s .args .kept) kb (none .result .now) (none .ensures) in
           c .needed-over .ensures .0

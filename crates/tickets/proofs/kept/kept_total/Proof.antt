@@ -18,25 +18,23 @@ account-of-requires c κs = search needs
 
 total-from-requires : tie.Need-total-from-requires
 total-from-requires c κs =
-    let after-nothing-of = c .before in
-    let c-5 = after-nothing-of .before .before .before .before in
+    let c-5 = c .before .before .before .before .before in
     let s = c-5 in
     let x = s .pre in (
-      subst⁻¹ (λ (a : Account). Stands (s .args .file .now) (after-nothing-of .nothing-of .result .now) a) (c .account-of .ensures)
-          (stands-kept (s .args .file .now) (x .tickets) (s .args .kept) (x .kept) (after-nothing-of .nothing-of .result .now)
-          (after-nothing-of .nothing-of .ensures)),
-      known-kept (s .args .file .now) (x .tickets) (s .args .kept) (x .kept) (after-nothing-of .nothing-of .result .now)
-          (after-nothing-of .nothing-of .ensures),
+      subst⁻¹ (λ (a : Account). Stands (s .args .file .now) (c .before .nothing-of .result .now) a) (c .account-of .ensures)
+          (stands-kept (s .args .file .now) (x .tickets) (s .args .kept) (x .kept) (c .before .nothing-of .result .now)
+          (c .before .nothing-of .ensures)),
+      known-kept (s .args .file .now) (x .tickets) (s .args .kept) (x .kept) (c .before .nothing-of .result .now)
+          (c .before .nothing-of .ensures),
     )
 
 returns : tie.Need-returns
 returns c =
-    let after-nothing-of = c .before .before in
-    let c-6 = after-nothing-of .before .before .before .before in
+    let c-6 = c .before .before .before .before .before .before in
     let s = c-6 in
     λ ts kb.
     c .total-from .ensures (records (withTickets (s .args .file .now) ts))
-    (told-kept (s .args .file .now) ts (s .args .kept) kb (after-nothing-of .nothing-of .result .now) (after-nothing-of .nothing-of .ensures))
+    (told-kept (s .args .file .now) ts (s .args .kept) kb (c .before .before .nothing-of .result .now) (c .before .before .nothing-of .ensures))
 
 pub kept-total-spec : {M : Type 1} → statement M
 kept-total-spec =

@@ -6,7 +6,7 @@ use mathlib.Core.List.{List, [], _∷_, _++_}
 use Prim.Native.Nat.{ℕ, _-_, _≤_}
 use native.Mathlib.Omega.{arith}
 use lib.ListN.{getD}
-use Rattle.record.specs.Layout.{Record, contract}
+use Rattle.record.specs.Layout.{Record, contract, mostContract}
 use Rattle.account.specs.Records.{recordAt, cut}
 use Rattle.tickets.specs.code.Kept.{KeptBy, withdrawal}
 use Rattle.tickets.specs.code.Counts.{Small, OneLess}
@@ -48,16 +48,14 @@ record-at-requires c κs = search needs
 
 without-row-requires : tie.Need-without-row-requires
 without-row-requires c κs =
-    let after-nothing-of = c .before in
-    let c-2 = after-nothing-of .before in
-    let after-tickets-of = c-2 .before in
+    let after-tickets-of = c .before .before .before in
     let c-7 = after-tickets-of .before .before .before .before in
     let s = c-7 in (
-      after-nothing-of .nothing-of .ensures,
+      c .before .nothing-of .ensures,
       record {
         tickets = cut (after-tickets-of .tickets-of .result - 1) (s .args .tickets .now);
         kept = latest (s .args .file .now) (s .args .tickets .now) (s .args .kept) (after-tickets-of .tickets-of .result)
-            (c .record-at .result .now) (after-tickets-of .tickets-of .ensures) (c-2 .if1 .left) (c .record-at .ensures) (s .pre);
+            (c .record-at .result .now) (after-tickets-of .tickets-of .ensures) (c .before .before .if1 .left) (c .record-at .ensures) (s .pre);
       },
     )
 
@@ -66,19 +64,17 @@ contract-requires c κs = search needs
 
 one-less-requires : tie.Need-one-less-requires
 one-less-requires c κs =
-    let after-record-at = c .before .before in
-    let c-4 = after-record-at .before .before in
-    let after-tickets-of = c-4 .before in
-    let c-9 = after-tickets-of .before .before .before .before in
+    let c-4 = c .before .before .before .before in
+    let c-9 = c-4 .before .before .before .before .before in
     let s = c-9 in
     let file = s .args .file .now in
-    let n = after-tickets-of .tickets-of .result in
+    let n = c-4 .before .tickets-of .result in
     let ts = cut (n - 1) (s .args .tickets .now) in
-    let t = after-record-at .record-at .result .now in
-    let kb = latest file (s .args .tickets .now) (s .args .kept) n t (after-tickets-of .tickets-of .ensures)
-    (c-4 .if1 .left) (after-record-at .record-at .ensures) (s .pre) in
+    let t = c .before .before .record-at .result .now in
+    let kb = latest file (s .args .tickets .now) (s .args .kept) n t (c-4 .before .tickets-of .ensures)
+    (c-4 .if1 .left) (c .before .before .record-at .ensures) (s .pre) in
     subst⁻¹ (λ (i : ℕ). Small (s .args .kept .counts)
-    × ((i ≤ 15) × ((1 ≤ getD (s .args .kept .counts .rows) i 0) × (1 ≤ s .args .kept .counts .tickets)))) (c .contract .ensures .0) (
+    × ((i ≤ mostContract) × ((1 ≤ getD (s .args .kept .counts .rows) i 0) × (1 ≤ s .args .kept .counts .tickets)))) (c .contract .ensures .0) (
       small file (ts ++ t ∷ []) (s .args .kept .counts) (kb .counts),
       (
         known-low file ts t (s .args .kept .counts) (kb .counts),
@@ -88,9 +84,7 @@ one-less-requires c κs =
 
 returns-2 : tie.Need-returns-2
 returns-2 c =
-    let after-contract = c .before in
-    let after-without-row = after-contract .before in
-    let after-record-at = after-without-row .before in
+    let after-record-at = c .before .before .before in
     let c-5 = after-record-at .before .before in
     let after-tickets-of = c-5 .before in
     let c-10 = after-tickets-of .before .before .before .before in
@@ -108,13 +102,13 @@ returns-2 c =
       refused = λ m. absurd (m refl);
       accepted = λ z.
           subst (λ (i : ℕ). KeptBy file (cut (i - 1) (s .args .tickets .now))
-          (record { counts = c .one-less .result; positions = after-without-row .without-row .result }))
+          (record { counts = c .one-less .result; positions = c .before .before .without-row .result }))
           (after-tickets-of .tickets-of .ensures)
           (record {
             counts =
                 counts-less file ts t (s .args .kept .counts) (kb .counts) (c .one-less .result)
-                (subst (λ (i : ℕ). OneLess i (s .args .kept .counts) (c .one-less .result)) (after-contract .contract .ensures .0) (c .one-less .ensures));
-            positions = after-without-row .without-row .ensures ts kb;
+                (subst (λ (i : ℕ). OneLess i (s .args .kept .counts) (c .one-less .result)) (c .before .contract .ensures .0) (c .one-less .ensures));
+            positions = c .before .before .without-row .ensures ts kb;
           });
     }
 

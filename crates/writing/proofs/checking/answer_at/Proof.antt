@@ -12,19 +12,17 @@ kind-requires c κs = search needs
 
 row-answer-requires : tie.Need-row-answer-requires
 row-answer-requires c κs =
-    let after-kind = c .before in
-    let start = after-kind .before .before in
-    (start .pre .0 (sym (after-kind .kind .ensures .0) ∙ c .if1 .taken), start .pre .1)
+    let start = c .before .before .before in
+    (start .pre .0 (sym (c .before .kind .ensures .0) ∙ c .if1 .taken), start .pre .1)
 
 returns : tie.Need-returns
 returns c = search needs
 
 returns-2 : tie.Need-returns-2
 returns-2 c rates of each =
-    let after-kind = c .before in
-    let start = after-kind .before .before in
+    let start = c .before .before .before in
     let r = start .args .r .now in
-    rw (ne-eqb (kind r) 3 (λ e. c .if1 .left (after-kind .kind .ensures .0 ∙ e)))
+    rw (ne-eqb (kind r) 3 (λ e. c .if1 .left (c .before .kind .ensures .0 ∙ e)))
 
 pub answer-at-spec : {M : Type 1} → statement M
 answer-at-spec =

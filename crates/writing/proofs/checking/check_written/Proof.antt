@@ -34,10 +34,9 @@ loop-holds c =
 -- the record is one of the file
 inside : (c : tie.In-loop Inv-loop μ-loop) → c .before .loop .k < recordCount (written (c .before .before .before .before .before .args .entries .now))
 inside c =
-    let after-record-count = c .before .before in
-    let start = after-record-count .before .before .before in
+    let start = c .before .before .before .before .before in
     let e = start .args .entries .now in
-    omega (arith, c .loop-test .taken, after-record-count .record-count .ensures, count-same e)
+    omega (arith, c .loop-test .taken, c .before .before .record-count .ensures, count-same e)
 
 entry-at-requires : tie.Need-entry-at-requires Inv-loop μ-loop
 entry-at-requires c κs =
@@ -68,10 +67,8 @@ room-for : (c : tie.After-asked-of Inv-loop μ-loop)
     (c .before .before .before .loop .counts)
     (c .asked-of .result)
 room-for c =
-    let after-entry-at = c .before in
-    let c-2 = after-entry-at .before in
-    let after-loop = c-2 .before in
-    turn-holdable (after-loop .loop .inv) (inside (c-2)) (after-entry-at .entry-at .ensures) (c .asked-of .ensures)
+    let after-loop = c .before .before .before in
+    turn-holdable (after-loop .loop .inv) (inside (c .before .before)) (c .before .entry-at .ensures) (c .asked-of .ensures)
 
 hold-requires : tie.Need-hold-requires Inv-loop μ-loop
 hold-requires c κs =
@@ -162,11 +159,10 @@ few-before c =
 
 note-first-requires : tie.Need-note-first-requires Inv-loop μ-loop
 note-first-requires c κs =
-    let after-part-of = c .before .before in
-    let c-3 = after-part-of .before in
+    let c-3 = c .before .before .before in
     let p = c-3 in
     let l = p .before .before .before .before .before .before .before .before .before .before .before .before in
-    (omega (arith, passed p .part-in, after-part-of .part-of .ensures, l .before .loop .inv .going .notes .firsts), few-before l)
+    (omega (arith, passed p .part-in, c .before .before .part-of .ensures, l .before .loop .inv .going .notes .firsts), few-before l)
 
 slice-aggregate-note-one : tie.Need-slice-aggregate-note-one Inv-loop μ-loop
 slice-aggregate-note-one c =
@@ -198,12 +194,11 @@ loop-less c =
 
 loop-again : tie.Need-loop-again Inv-loop μ-loop
 loop-again c =
-    let after-note-one = c .before in
-    let after-note-first = after-note-one .before .before .before in
+    let after-note-first = c .before .before .before .before in
     let after-part-of = after-note-first .before .before .before in
     let c-8 = after-part-of .before in
     let p = c-8 in
-    passed p .next (after-note-first .note-first .ensures) (after-note-one .note-one .ensures)
+    passed p .next (after-note-first .note-first .ensures) (c .before .note-one .ensures)
     (after-part-of .part-of .ensures)
 
 slice-aggregate-noted : tie.Need-slice-aggregate-noted Inv-loop μ-loop
@@ -224,35 +219,31 @@ noted-requires-2 c κs = tt
 ended : (c : tie.After-loop Inv-loop μ-loop)
     → Ended (written (c .before .before .before .before .before .args .entries .now)) (c .before .loop .first) (c .before .loop .counts)
 ended c =
-    let after-loop = c .before in
-    let after-record-count = after-loop .before in
-    let c-5 = after-record-count .before .before .before in
+    let c-5 = c .before .before .before .before .before in
     let s = c-5 in
     let e = s .args .entries .now in
-    let done : recordCount (written e) ≤ c .before .loop .k = omega (arith, c .loop-test .left, after-record-count .record-count .ensures, count-same e) in
-    reading-ends (after-loop .loop .inv) done (long-same e ∙ s .pre .1 .0) (cut-same e ∙ s .pre .1 .1)
+    let done : recordCount (written e) ≤ c .before .loop .k = omega (arith, c .loop-test .left, c .before .before .record-count .ensures, count-same e) in
+    reading-ends (c .before .loop .inv) done (long-same e ∙ s .pre .1 .0) (cut-same e ∙ s .pre .1 .1)
 
 rates-in-requires : tie.Need-rates-in-requires Inv-loop μ-loop
 rates-in-requires c κs =
-    let after-noted = c .before .before in
-    let c-4 = after-noted .before .before in
+    let c-4 = c .before .before .before .before in
     let l = c-4 in
     let s = l .before .before .before .before .before in
     let t = ended l in
-    let k = after-noted .noted .ensures in
+    let k = c .before .before .noted .ensures in
     let n = c .noted2 .ensures in
     (s .pre .0, (omega (arith, t .few, n), omega (arith, t .within, k, n, count-same (s .args .entries .now))))
 
 conversions-written-requires : tie.Need-conversions-written-requires Inv-loop μ-loop
 conversions-written-requires c κs =
-    let after-noted2 = c .before in
-    let after-noted = after-noted2 .before .before in
+    let after-noted = c .before .before .before in
     let c-5 = after-noted .before .before in
     let l = c-5 in
     let s = l .before .before .before .before .before in
     let w = written (s .args .entries .now) in
     let t = ended l in
-    let same = ap₂ (λ (x y : ℕ). records (stretch w x y)) (after-noted .noted .ensures) (after-noted2 .noted2 .ensures) in
+    let same = ap₂ (λ (x y : ℕ). records (stretch w x y)) (after-noted .noted .ensures) (c .before .noted2 .ensures) in
     let rates = subst (λ (rs : List Record). RatesOf rs (c .rates-in .result)) (same ∙ t .rates) (c .rates-in .ensures) in
     (s .pre .0, record { accepted = t .accepted; rates = rates })
 

@@ -35,10 +35,9 @@ loop-holds c =
 -- the record is one of the file
 within : (c : tie.In-loop Inv-loop μ-loop) → c .before .loop .k < recordCount (written (c .before .before .before .before .before .args .entries .now))
 within c =
-    let after-record-count = c .before .before in
-    let start = after-record-count .before .before .before in
+    let start = c .before .before .before .before .before in
     let e = start .args .entries .now in
-    omega (arith, c .loop-test .taken, after-record-count .record-count .ensures, count-same e)
+    omega (arith, c .loop-test .taken, c .before .before .record-count .ensures, count-same e)
 
 entry-at-requires : tie.Need-entry-at-requires Inv-loop μ-loop
 entry-at-requires c κs =
@@ -48,12 +47,10 @@ entry-at-requires c κs =
 
 answer-at-requires : tie.Need-answer-at-requires Inv-loop μ-loop
 answer-at-requires c κs =
-    let c-1 = c .before in
-    let after-loop = c-1 .before in
-    let c-6 = after-loop .before .before .before .before in
+    let c-6 = c .before .before .before .before .before .before in
     let s = c-6 in
     let w = written (s .args .entries .now) in
-    let row = row-at w (s .pre .1 .accepted) (after-loop .loop .k) (within (c-1)) in (
+    let row = row-at w (s .pre .1 .accepted) (c .before .before .loop .k) (within (c .before)) in (
       subst (λ (r : Record). kind r ≡ 3 → Row r) (sym (c .entry-at .ensures)) row,
       record { rates = ratesOf (records w); held = s .pre .1 .rates; within = recorded w (s .pre .1 .accepted) .ranges .rates },
     )
@@ -65,15 +62,14 @@ answered : (c : tie.After-answer-at Inv-loop μ-loop)
     (0 + c .before .before .before .loop .k)
     (recordAt (written (c .before .before .before .before .before .before .before .args .entries .now)) (c .before .before .before .loop .k))
 answered c =
-    let after-entry-at = c .before in
-    let after-loop = after-entry-at .before .before in
+    let after-loop = c .before .before .before in
     let c-7 = after-loop .before .before .before .before in
     let s = c-7 in
     let k = after-loop .loop .k in
     let w = written (s .args .entries .now) in
     let rates = ratesOf (records w) in
     c .answer-at .ensures rates (s .pre .1 .rates) (recorded w (s .pre .1 .accepted) .ranges .rates)
-    ∙ ap (rowAnswer rates k) (after-entry-at .entry-at .ensures)
+    ∙ ap (rowAnswer rates k) (c .before .entry-at .ensures)
     ∙ ap (λ (n : ℕ). rowAnswer rates n (recordAt w k)) (sym (zero-add k))
 
 number-of-requires : tie.Need-number-of-requires Inv-loop μ-loop
@@ -81,18 +77,15 @@ number-of-requires c κs = tt
 
 returns : tie.Need-returns Inv-loop μ-loop
 returns c =
-    let after-number-of = c .before in
-    let c-2 = after-number-of .before in
-    let c-4 = c-2 .before .before in
-    let after-loop = c-4 .before in
-    let c-9 = after-loop .before .before .before .before in
+    let c-4 = c .before .before .before .before in
+    let c-9 = c-4 .before .before .before .before .before in
     let s = c-9 in
-    let l = after-loop .loop in
+    let l = c-4 .before .loop in
     let w = written (s .args .entries .now) in
-    let a = answered (c-2) in
+    let a = answered (c .before .before) in
     a
     ∙ sym (l .inv ∙ rows-stop (ratesOf (records w)) 0 w (l .k) (within (c-4))
-    (λ z. c .if1 .taken (after-number-of .number-of .ensures ∙ ap numberOf a ∙ z)))
+    (λ z. c .if1 .taken (c .before .number-of .ensures ∙ ap numberOf a ∙ z)))
 
 add-k : tie.Need-add-k Inv-loop μ-loop
 add-k c =
@@ -106,26 +99,21 @@ loop-less c =
 
 loop-again : tie.Need-loop-again Inv-loop μ-loop
 loop-again c =
-    let after-number-of = c .before in
-    let c-2 = after-number-of .before in
-    let c-4 = c-2 .before .before in
-    let after-loop = c-4 .before in
-    let start = after-loop .before .before .before .before in
-    let l = after-loop .loop in
+    let c-4 = c .before .before .before .before in
+    let start = c-4 .before .before .before .before .before in
+    let l = c-4 .before .loop in
     let w = written (start .args .entries .now) in
     l .inv
     ∙ rows-next (ratesOf (records w)) 0 w (l .k) (within (c-4))
-    (sym (after-number-of .number-of .ensures ∙ ap numberOf (answered (c-2))) ∙ omega (arith, c .if1 .left))
+    (sym (c .before .number-of .ensures ∙ ap numberOf (answered (c .before .before))) ∙ omega (arith, c .if1 .left))
 
 returns-2 : tie.Need-returns-2 Inv-loop μ-loop
 returns-2 c =
-    let after-loop = c .before in
-    let after-record-count = after-loop .before in
-    let start = after-record-count .before .before .before in
-    let l = after-loop .loop in
+    let start = c .before .before .before .before .before in
+    let l = c .before .loop in
     let e = start .args .entries .now in
     let w = written e in
-    sym (l .inv ∙ rows-end (ratesOf (records w)) 0 w (l .k) (omega (arith, c .loop-test .left, after-record-count .record-count .ensures, count-same e)))
+    sym (l .inv ∙ rows-end (ratesOf (records w)) 0 w (l .k) (omega (arith, c .loop-test .left, c .before .before .record-count .ensures, count-same e)))
 
 pub conversions-written-spec : {M : Type 1} → statement M
 conversions-written-spec =

@@ -14,9 +14,8 @@ slice-aggregate-result c = search needs
 
 returns : tie.Need-returns
 returns c =
-    let c-1 = c .before in
-    let start = c-1 .before .before .before in
-    ap (beforeAt (written (start .args .entries .now))) (sym (c-1 .if1 .taken))
+    let start = c .before .before .before .before in
+    ap (beforeAt (written (start .args .entries .now))) (sym (c .before .if1 .taken))
 
 sub-entry-at : tie.Need-sub-entry-at
 sub-entry-at c = search needs
@@ -28,10 +27,9 @@ entry-at-requires c κs =
 
 returns-2 : tie.Need-returns-2
 returns-2 c =
-    let c-1 = c .before in
-    let start = c-1 .before .before .before in
+    let start = c .before .before .before .before in
     let a = start .args in
-    c .entry-at .ensures ∙ before-is (written (a .entries .now)) (a .k) (c-1 .if1 .left)
+    c .entry-at .ensures ∙ before-is (written (a .entries .now)) (a .k) (c .before .if1 .left)
 
 pub entry-before-spec : {M : Type 1} → statement M
 entry-before-spec =

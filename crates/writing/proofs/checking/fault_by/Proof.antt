@@ -23,22 +23,20 @@ mul-size c = search needs
 
 slice-aggregate-fault : tie.Need-slice-aggregate-fault
 slice-aggregate-fault c =
-    let after-noted = c .before in
-    let c-6 = after-noted .before .before .before .before .before in
+    let c-6 = c .before .before .before .before .before .before in
     let s = c-6 in
-    sym (length-take-le (after-noted .noted .result * recordBytes) (s .args .prompts .now) (omega
-    (arith, after-noted .noted .ensures, s .pre .1 .0, s .pre .1 .1)))
+    sym (length-take-le (c .before .noted .result * recordBytes) (s .args .prompts .now) (omega
+    (arith, c .before .noted .ensures, s .pre .1 .0, s .pre .1 .1)))
 
 fault-requires : tie.Need-fault-requires
 fault-requires c κs = search needs
 
 returns : tie.Need-returns
 returns c =
-    let after-noted = c .before .before in
-    let c-7 = after-noted .before .before .before .before .before in
+    let c-7 = c .before .before .before .before .before .before .before in
     let s = c-7 in
     let a = s .args in
-    let same = after-noted .noted .ensures in
+    let same = c .before .before .noted .ensures in
     c .fault .ensures ∙ ap (λ (n : ℕ). faultBy (a .counts .now) (records (take (n * recordBytes) (a .prompts .now))) (a .before .now) (a .r .now)) same
 
 pub fault-by-spec : {M : Type 1} → statement M

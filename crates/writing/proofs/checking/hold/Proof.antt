@@ -31,14 +31,12 @@ noted-requires-2 c κs = search needs
 
 fill-requires : tie.Need-fill-requires
 fill-requires c κs =
-    let after-noted2 = c .before in
-    let after-noted = after-noted2 .before in
-    let c-9 = after-noted .before .before .before .before .before .before .before in
+    let c-9 = c .before .before .before .before .before .before .before .before .before in
     let s = c-9 in (
       s .pre .0,
       (
-        omega (arith, after-noted .noted .ensures, after-noted2 .noted2 .ensures, s .pre .1 .holdable .within, count-same (s .args .entries .now)),
-        omega (arith, after-noted2 .noted2 .ensures, s .pre .1 .holdable .few, s .pre .1 .holds .long),
+        omega (arith, c .before .before .noted .ensures, c .before .noted2 .ensures, s .pre .1 .holdable .within, count-same (s .args .entries .now)),
+        omega (arith, c .before .noted2 .ensures, s .pre .1 .holdable .few, s .pre .1 .holds .long),
       ),
     )
 
@@ -47,14 +45,13 @@ same-length c = c .before .before .fill .kept .1 .1 .1 .1 .0
 
 returns-2 : tie.Need-returns-2
 returns-2 c =
-    let after-fill = c .before .before in
-    let after-noted2 = after-fill .before .before in
+    let after-noted2 = c .before .before .before .before in
     let after-noted = after-noted2 .before in
     let c-12 = after-noted .before .before .before .before .before .before .before in
     let s = c-12 in
     held-now (s .args .entries .now) (s .args .first .now) (s .args .counts .now) (s .args .prompts .now) (s .args .c)
     (after-noted .noted .ensures) (after-noted2 .noted2 .ensures) (s .pre .1 .holdable .within)
-    (after-fill .fill .ensures) (after-fill .fill .kept .1 .1 .1 .1 .0 ∙ s .pre .1 .holds .long)
+    (c .before .before .fill .ensures) (c .before .before .fill .kept .1 .1 .1 .1 .0 ∙ s .pre .1 .holds .long)
 
 pub hold-spec : {M : Type 1} → statement M
 hold-spec =

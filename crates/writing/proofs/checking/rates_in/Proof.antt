@@ -28,10 +28,9 @@ array-share-prefix-rates c = search needs
 
 slice-aggregate-rates-of : tie.Need-slice-aggregate-rates-of
 slice-aggregate-rates-of c =
-    let after-fill = c .before .before in
-    let c-6 = after-fill .before .before .before .before in
+    let c-6 = c .before .before .before .before .before .before in
     let s = c-6 in
-    let f = after-fill .fill in
+    let f = c .before .before .fill in
     sym (length-take-le (s .args .n * recordBytes) (f .last .1 .1 .1 .1 .0) (omega (arith, s .pre .1 .0, f .kept .1 .1 .1 .1 .0)))
 
 rates-of-requires : tie.Need-rates-of-requires

@@ -21,10 +21,8 @@ loop-holds c = (refl, (omega arith, refl))
 
 shared-slice-read-to : tie.Need-shared-slice-read-to Inv-loop μ-loop
 shared-slice-read-to c =
-    let after-loop-test = c .before in
-    let after-loop = after-loop-test .before in
-    let start = after-loop .before in
-    omega (arith, after-loop-test .loop-test .taken, after-loop .loop .inv .0, start .pre)
+    let start = c .before .before .before in
+    omega (arith, c .before .loop-test .taken, c .before .before .loop .inv .0, start .pre)
 
 slice-write-to : tie.Need-slice-write-to Inv-loop μ-loop
 slice-write-to c = search needs
@@ -37,12 +35,10 @@ loop-less c = omega (arith, c .before .loop-test .taken, c .before .before .loop
 
 loop-again : tie.Need-loop-again Inv-loop μ-loop
 loop-again c =
-    let after-loop-test = c .before in
-    let after-loop = after-loop-test .before in
-    let start = after-loop .before in
+    let start = c .before .before .before in
     let a = start .args in
-    let l = after-loop .loop in
-    let h = after-loop-test .loop-test .taken in
+    let l = c .before .before .loop in
+    let h = c .before .loop-test .taken in
     let e = l .inv .0 in
     let p = start .pre in (
       length-set (l .to) (l .i) (getD (a .from .now) (l .i) 0) ∙ e,

@@ -15,20 +15,17 @@ wide-requires c κs = tt
 
 whole-at-requires : tie.Need-whole-at-requires
 whole-at-requires c κs =
-    let after-place-at = c .before in
-    let c-4 = after-place-at .before .before .before in
+    let c-4 = c .before .before .before .before in
     let s = c-4 in
     let p = place-within (s .args .entries .now) (s .args .order .now) (s .pre .0) (s .args .k) (s .pre .1) in
-    omega (arith, c .wide .ensures, after-place-at .place-at .ensures, p)
+    omega (arith, c .wide .ensures, c .before .place-at .ensures, p)
 
 returns : tie.Need-returns
 returns c =
-    let after-wide = c .before in
-    let after-place-at = after-wide .before in
-    let c-5 = after-place-at .before .before .before in
+    let c-5 = c .before .before .before .before .before in
     let s = c-5 in
     let e = s .args .entries .now in
-    c .whole-at .ensures ∙ ap (recordAt e) (after-wide .wide .ensures ∙ after-place-at .place-at .ensures)
+    c .whole-at .ensures ∙ ap (recordAt e) (c .before .wide .ensures ∙ c .before .before .place-at .ensures)
     ∙ entered-at e (s .args .order .now) (s .pre .0) (s .args .k) (s .pre .1)
 
 pub entry-at-spec : {M : Type 1} → statement M

@@ -34,15 +34,13 @@ entry-at-requires c κs =
 
 mul-start : tie.Need-mul-start Inv-loop μ-loop
 mul-start c =
-    let after-loop-test = c .before in
-    let start = after-loop-test .before .before .before .before .before in
-    omega (arith, start .pre .1 .0, after-loop-test .loop-test .taken)
+    let start = c .before .before .before .before .before .before in
+    omega (arith, start .pre .1 .0, c .before .loop-test .taken)
 
 add-end : tie.Need-add-end Inv-loop μ-loop
 add-end c =
-    let after-loop-test = c .before in
-    let start = after-loop-test .before .before .before .before .before in
-    omega (arith, start .pre .1 .0, after-loop-test .loop-test .taken)
+    let start = c .before .before .before .before .before .before in
+    omega (arith, start .pre .1 .0, c .before .loop-test .taken)
 
 sub-copy-bytes : tie.Need-sub-copy-bytes Inv-loop μ-loop
 sub-copy-bytes c = search needs
@@ -52,23 +50,19 @@ part-copy-bytes-start c = search needs
 
 part-copy-bytes-end : tie.Need-part-copy-bytes-end Inv-loop μ-loop
 part-copy-bytes-end c =
-    let after-loop-test = c .before in
-    let after-loop = after-loop-test .before in
-    let start = after-loop .before .before .before .before in
-    omega (arith, start .pre .1 .1, after-loop-test .loop-test .taken, after-loop .loop .inv .long)
+    let start = c .before .before .before .before .before .before in
+    omega (arith, start .pre .1 .1, c .before .loop-test .taken, c .before .before .loop .inv .long)
 
 copy-bytes-requires : tie.Need-copy-bytes-requires Inv-loop μ-loop
 copy-bytes-requires c κs =
-    let after-entry-at = c .before in
-    let after-loop-test = after-entry-at .before in
-    let after-loop = after-loop-test .before in
+    let after-loop = c .before .before .before in
     let c-7 = after-loop .before .before .before .before in
     let s = c-7 in
     let l = after-loop .loop in
     let e = s .args .entries .now in
-    let more = after-loop-test .loop-test .taken in
+    let more = c .before .before .loop-test .taken in
     let p = part-long e (s .args .k) (s .args .n) (s .args .out .now) (l .out) (l .i) (l .inv) more (s .pre .1 .0) (s .pre .1 .1) in
-    let r = ap length (after-entry-at .entry-at .ensures) ∙ record-long (written e) (s .args .k + l .i) (omega (arith, more, s .pre .1 .0, count-same e)) in
+    let r = ap length (c .before .entry-at .ensures) ∙ record-long (written e) (s .args .k + l .i) (omega (arith, more, s .pre .1 .0, count-same e)) in
     omega (arith, p, r)
 
 add-i : tie.Need-add-i Inv-loop μ-loop
@@ -83,8 +77,7 @@ loop-less c =
 
 loop-again : tie.Need-loop-again Inv-loop μ-loop
 loop-again c =
-    let after-copy-bytes = c .before .before in
-    let after-entry-at = after-copy-bytes .before .before in
+    let after-entry-at = c .before .before .before .before in
     let after-loop-test = after-entry-at .before in
     let after-loop = after-loop-test .before in
     let c-10 = after-loop .before .before .before .before in
@@ -94,17 +87,16 @@ loop-again c =
     let more = after-loop-test .loop-test .taken in
     filling-next e (s .args .k) (s .args .n) (s .args .out .now) (l .out) (l .i) (l .inv) more (s .pre .1 .0) (s .pre .1 .1)
     (after-entry-at .entry-at .ensures)
-    (after-copy-bytes .copy-bytes .ensures)
+    (c .before .before .copy-bytes .ensures)
 
 same-length : tie.Need-same-length Inv-loop μ-loop
 same-length c = c .before .loop .inv .long
 
 returns : tie.Need-returns Inv-loop μ-loop
 returns c =
-    let after-loop = c .before in
-    let start = after-loop .before .before .before .before in
+    let start = c .before .before .before .before .before in
     let a = start .args in
-    let l = after-loop .loop in
+    let l = c .before .loop in
     filling-ends (a .entries .now) (a .k) (a .n) (a .out .now) (l .out) (l .i) (l .inv) (omega (arith, c .loop-test .left))
 
 pub fill-spec : {M : Type 1} → statement M

@@ -30,12 +30,11 @@ mul-keys c = search needs
 
 array-write-keys : tie.Need-array-write-keys Inv-loop μ-loop
 array-write-keys c =
-    let after-loop-test = c .before .before in
-    let after-record-count = after-loop-test .before .before in
+    let after-record-count = c .before .before .before .before in
     let start = after-record-count .before .before in
     omega (
       arith,
-      after-loop-test .loop-test .taken,
+      c .before .before .loop-test .taken,
       after-record-count .record-count .ensures,
       start .pre,
     )
@@ -48,13 +47,11 @@ loop-less c = omega (arith, c .before .before .loop-test .taken)
 
 loop-again : tie.Need-loop-again Inv-loop μ-loop
 loop-again c =
-    let after-record-at = c .before in
-    let after-loop-test = after-record-at .before in
-    let after-loop = after-loop-test .before in
+    let after-loop = c .before .before .before in
     let after-record-count = after-loop .before in
     let start = after-record-count .before .before in
     keying-next (after-loop .loop .inv) (start .pre)
-    (omega (arith, after-loop-test .loop-test .taken, after-record-count .record-count .ensures)) (after-record-at .record-at .ensures)
+    (omega (arith, c .before .before .loop-test .taken, after-record-count .record-count .ensures)) (c .before .record-at .ensures)
     (c .rank .ensures)
 
 returns : tie.Need-returns Inv-loop μ-loop

@@ -23,22 +23,19 @@ add-result c = omega (arith, c .before .contract .ensures .1, c .day .ensures .1
 
 returns : tie.Need-returns
 returns c =
-    let after-contract = c .before in
-    let c-2 = after-contract .before in
-    let after-kind = c-2 .before in
+    let after-kind = c .before .before .before in
     let start = after-kind .before .before in
     let r = start .args .r .now in
-    let e = of-prompt r (sym (after-kind .kind .ensures .0) ∙ c-2 .if1 .taken) in (
-      omega (arith, e, after-contract .contract .ensures .0, c .day .ensures .0),
-      omega (arith, after-contract .contract .ensures .1, c .day .ensures .1),
+    let e = of-prompt r (sym (after-kind .kind .ensures .0) ∙ c .before .before .if1 .taken) in (
+      omega (arith, e, c .before .contract .ensures .0, c .day .ensures .0),
+      omega (arith, c .before .contract .ensures .1, c .day .ensures .1),
     )
 
 returns-2 : tie.Need-returns-2
 returns-2 c =
-    let after-kind = c .before .before in
-    let start = after-kind .before .before in
+    let start = c .before .before .before .before in
     let r = start .args .r .now in
-    (sym (of-entry r (sym (after-kind .kind .ensures .0) ∙ c .if2 .taken)), omega arith)
+    (sym (of-entry r (sym (c .before .before .kind .ensures .0) ∙ c .if2 .taken)), omega arith)
 
 contract-requires-2 : tie.Need-contract-requires-2
 contract-requires-2 c κs = tt

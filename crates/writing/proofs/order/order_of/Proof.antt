@@ -29,22 +29,20 @@ slice-aggregate-sort c =
 
 array-borrow-prefix-order : tie.Need-array-borrow-prefix-order
 array-borrow-prefix-order c =
-    let after-order2 = c .before in
-    let after-record-count = after-order2 .before .before .before in
+    let after-record-count = c .before .before .before .before in
     let start = after-record-count .before .before .before in
     omega
-    (arith, after-order2 .order2 .given, after-record-count .record-count .ensures, start .pre)
+    (arith, c .before .order2 .given, after-record-count .record-count .ensures, start .pre)
 
 slice-aggregate-sort-2 : tie.Need-slice-aggregate-sort-2
 slice-aggregate-sort-2 c =
-    let after-order2 = c .before .before in
-    let after-number-up = after-order2 .before in
+    let after-number-up = c .before .before .before in
     let after-record-count = after-number-up .before .before in
     let start = after-record-count .before .before .before in
     sym (length-take-le (after-record-count .record-count .result) (after-number-up .number-up .last .0)
     (omega (
       arith,
-      after-order2 .order2 .given,
+      c .before .before .order2 .given,
       after-record-count .record-count .ensures,
       start .pre,
     )))
@@ -69,8 +67,7 @@ sort-requires c κs =
 
 returns : tie.Need-returns
 returns c =
-    let after-sort = c .before .before in
-    let after-number-up = after-sort .before .before .before .before .before in
+    let after-number-up = c .before .before .before .before .before .before .before in
     let after-record-count = after-number-up .before .before in
     let after-keys-of = after-record-count .before in
     let start = after-keys-of .before .before in
@@ -78,7 +75,7 @@ returns c =
     (start .pre)
     (after-keys-of .keys-of .ensures)
     (after-record-count .record-count .ensures)
-    (after-number-up .number-up .ensures) (after-sort .sort .ensures)
+    (after-number-up .number-up .ensures) (c .before .before .sort .ensures)
 
 pub order-of-spec : {M : Type 1} → statement M
 order-of-spec =

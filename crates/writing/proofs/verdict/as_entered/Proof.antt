@@ -9,9 +9,8 @@ number-of-requires c κs = tt
 
 returns : tie.Need-returns
 returns c =
-    let after-number-of = c .before in
-    let start = after-number-of .before .before in
-    let a = start .args in entered-early (a .order .now) (a .answer) (after-number-of .number-of .ensures) (c .if1 .taken)
+    let start = c .before .before .before in
+    let a = start .args in entered-early (a .order .now) (a .answer) (c .before .number-of .ensures) (c .if1 .taken)
 
 record-of-requires : tie.Need-record-of-requires
 record-of-requires c κs = tt
@@ -27,16 +26,14 @@ refusal-requires c κs = tt
 
 returns-2 : tie.Need-returns-2
 returns-2 c =
-    let after-wide = c .before in
-    let after-place-at = after-wide .before in
-    let after-record-of = after-place-at .before in
+    let after-record-of = c .before .before .before in
     let c-4 = after-record-of .before in
     let after-number-of = c-4 .before in
     let start = after-number-of .before .before in
     let a = start .args in
     entered-late (a .order .now) (a .answer) (after-number-of .number-of .ensures)
-    (c-4 .if1 .left) (after-record-of .record-of .ensures) (after-place-at .place-at .ensures)
-    (after-wide .wide .ensures) (c .refusal .ensures)
+    (c-4 .if1 .left) (after-record-of .record-of .ensures) (c .before .before .place-at .ensures)
+    (c .before .wide .ensures) (c .refusal .ensures)
 
 pub as-entered-spec : {M : Type 1} → statement M
 as-entered-spec =

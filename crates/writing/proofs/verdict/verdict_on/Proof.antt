@@ -15,10 +15,9 @@ as-entered-requires c κs = tt
 
 returns : tie.Need-returns
 returns c =
-    let after-check-written = c .before in
-    let c-4 = after-check-written .before .before .before in
+    let c-4 = c .before .before .before .before in
     let s = c-4 in
-    c .as-entered .ensures ∙ ap (λ (a : Answer). asEntered (s .args .order .now) a) (after-check-written .check-written .ensures)
+    c .as-entered .ensures ∙ ap (λ (a : Answer). asEntered (s .args .order .now) a) (c .before .check-written .ensures)
     ∙ same-places (s .args .entries .now) (s .args .order .now) (s .pre .0)
 
 pub verdict-on-spec : {M : Type 1} → statement M

@@ -6,12 +6,12 @@ use mathlib.Core.Path.{_≡_, sym, _∙_, ap}
 use lib.ListN.{length, length-map}
 use borrow.Author.Needs.{needs}
 use Rattle.spread.specs.Steps.{stepOf}
-use Rattle.spread.specs.code.Cells.{afterIn}
+use Rattle.spread.specs.code.Cells.{afterIn, poolCount}
 use Rattle.spread.proofs.Bounds.{formed-most}
 use Rattle.spread.proofs.pools.Pools.take.Statement.{statement}
 use Rattle.spread.proofs.pools.Pools.take.Tie as tie
 
-size : (s : tie.Start) → length (s .args .self .cell) ≡ 32
+size : (s : tie.Start) → length (s .args .self .cell) ≡ poolCount
 size s = sym (length-map (s .args .self .cell) _) ∙ s .good .0 .1 .1 .0 .1 .0 .1
 
 slice-aggregate-formed : tie.Need-slice-aggregate-formed
@@ -25,24 +25,22 @@ slice-aggregate-lessen c = search needs
 
 lessen-requires : tie.Need-lessen-requires
 lessen-requires c κs =
-    let after-formed = c .before in
-    let c-4 = after-formed .before .before .before in
+    let c-4 = c .before .before .before .before in
     let s = c-4 in (
       size s,
       s .pre .0,
-      omega (arith, after-formed .formed .ensures, formed-most (stepOf (s .args .second) (s .args .spread)) (s .args .self .cell) (s .pre .1)),
+      omega (arith, c .before .formed .ensures, formed-most (stepOf (s .args .second) (s .args .spread)) (s .args .self .cell) (s .pre .1)),
     )
 
 returns : tie.Need-returns
 returns c =
-    let after-lessen = c .before in
-    let after-formed = after-lessen .before .before in
+    let after-formed = c .before .before .before in
     let c-6 = after-formed .before .before .before in
     let s = c-6 in
     let number = after-formed .formed .ensures in
     record {
       formed = number;
-      leaves = after-lessen .lessen .ensures ∙ ap (λ (n : ℕ). afterIn (stepOf (s .args .second) (s .args .spread)) n (s .args .self .cell)) number;
+      leaves = c .before .lessen .ensures ∙ ap (λ (n : ℕ). afterIn (stepOf (s .args .second) (s .args .spread)) n (s .args .self .cell)) number;
     }
 
 pub take-spec : {M : Type 1} → statement M

@@ -18,7 +18,10 @@ const PROVED: &str = "The figures, the delta books and who paid are answers of t
 
 /// What is proved of every accepted account, and the file of the project that states it.
 const CLAIMS: [[&str; 2]; 5] = [
-    ["The figures are those that the rules give, for every accepted account.", "crates/margin/specs/Demands.antt, Figures.antt"],
+    [
+        "The figures are those that the rules give, for every accepted account.",
+        "crates/questions/specs/Demands.antt, crates/margin/specs/Figures.antt",
+    ],
     ["No row is left out: the totals, net deltas and short lots are those of all rows.", "crates/margin/specs/Skipped.antt"],
     [
         "Who paid: at each prompt what the steps took adds up to what is used.",

@@ -35,7 +35,7 @@ use Rattle.account.specs.Answers.{numberOf, recordOf}
 use Rattle.account.specs.Checked.{checked}
 use Rattle.account.specs.Noon.{joinedVerdict, promptPlace}
 use Rattle.account.specs.Records.{records}
-use Rattle.account.specs.Standing.{accountOf}
+use Rattle.account.specs.Joined.{accountOf}
 use Rattle.margin.specs.Books.{answered, book}
 use Rattle.margin.specs.Figures.{figures}
 use Rattle.margin.specs.Uses.{uses}

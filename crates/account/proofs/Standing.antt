@@ -2,7 +2,7 @@
 -- Assumes nothing.
 use Prim.Native.Nat.{ℕ, _+_, _*_, _/_, _%_, _≤_, _<_}
 use native.Mathlib.Omega.{arith}
-use mathlib.Core.Path.{_≡_, refl, sym, ap, _∙_, subst}
+use mathlib.Core.Path.{_≡_, refl, sym, ap, ap₂, _∙_, subst}
 use mathlib.Core.Bool.{Bool, true, false, _&&_, cond}
 use mathlib.Core.List.{List, [], _∷_}
 use borrow.Author.Tests.{eqb-true, eqb-false, lt-ltb, le-ltb, ltb-true, ltb-false}
@@ -111,3 +111,16 @@ module _ (morning noon : List ℕ) (a : Account) (st : Places morning noon a) (v
         whole = ap length er ∙ whole (file b) (getD (a .first) v 0) n many ∙ ap (λ (k : ℕ). k * recordBytes) counted
             ∙ ap (λ (rs : List Record). length rs * recordBytes) (sym (within v h account));
       }
+
+-- a contract's part, by where the account has it
+pub part-where : (morning noon : List ℕ) (a : Account) → Places morning noon a → (k c : ℕ) → k ≤ 4 → c ≤ mostContract → (late : Bool) (first n : ℕ)
+    → late ≡ getD (a .noon) c false → first ≡ getD (a .first) (part k c) 0 → n ≡ getD (a .counts) (part k c) 0
+    → (file r : List ℕ) → file ≡ cond late noon morning → r ≡ stretch file first n → PartOf (accountOf morning noon) (part k c) r
+part-where morning noon a st k c hk hc late first n el ef en file r ei er =
+    let v = part k c in
+    let d : v % mostContracts ≡ c = omega arith in
+    part-stands morning noon a st v (omega arith) late
+    (el
+    ∙ ap (λ (i : ℕ). getD (a .noon) i false) (sym d)
+    ∙ ap (λ (t : Bool). t && getD (a .noon) (v % mostContracts) false) (sym (lt-ltb v entryPart (omega arith))))
+    r (er ∙ ap (λ (f : List ℕ). stretch f first n) ei ∙ ap₂ (stretch (cond late noon morning)) ef en)

@@ -12,8 +12,9 @@ use Rattle.record.specs.Bytes.{recordBytes}
 use Rattle.record.specs.Layout.{Record}
 use Rattle.record.specs.Ranges.{unknownKind, unusedByte, fieldOutside}
 use Rattle.account.specs.Answers.{numberOf, refusal}
-use Rattle.account.specs.Check.{theOneBefore, kindFalls, unlisted, outOfOrder, overLimit, faultOf, orElse, firstFault, tooLong, cutRecord, lengthChecked}
+use Rattle.account.specs.Check.{theOneBefore, kindFalls, unlisted, outOfOrder, overLimit, faultOf, orElse, firstFault, tooLong, cutRecord}
 use Rattle.account.specs.Check.{recordsChecked}
+use Rattle.account.specs.code.Surveyed.{lengthChecked}
 use Rattle.account.specs.Records.{cut, recordAt, records, recordCount, earlier}
 use Rattle.account.specs.declared.answers.Answer.{Answer}
 use Rattle.account.specs.declared.answers.Answer.the-variants.{Accepted, TooLong, CutRecord}

@@ -171,10 +171,6 @@ tooLong file = ltb (mostRecords * recordBytes) (length file)
 abbrev pub cutRecord : List ℕ → Bool
 cutRecord file = not (eqb (length file % recordBytes) 0)
 
--- 1 and 2 alone
-abbrev pub lengthChecked : List ℕ → Answer
-lengthChecked file = cond (tooLong file) TooLong (cond (cutRecord file) CutRecord Accepted)
-
 -- "Order: 1, 2; then records from 0 up"
 abbrev pub recordsChecked : List ℕ → Answer
 recordsChecked file =

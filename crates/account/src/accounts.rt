@@ -15,8 +15,10 @@ use crate::parts::CONTRACTS;
 use crate::parts::ENTRIES;
 use crate::parts::OWN;
 use crate::parts::PARTS;
+use crate::parts::PROMPTS;
 use crate::parts::RATES;
 use crate::parts::ROWS;
+use crate::parts::SPREADS;
 use crate::rates::rates_of;
 use crate::stretches::record_count;
 use crate::stretches::stretch;
@@ -32,8 +34,10 @@ ghost use Rattle.account.specs.Conversions.{inAnother};
 ghost use Rattle.account.specs.Lawful.{Recorded};
 ghost use Rattle.account.specs.PartNumbers.{inPart, parts, rowPart};
 ghost use Rattle.account.specs.Joined.{accountOf};
+ghost use Rattle.record.specs.Layout.{mostContract};
 ghost use Rattle.account.specs.code.Standing as Standing;
-ghost use Rattle.account.specs.code.Standing.{Places, Stands, PartOf, CheckedBy, fromNoon, eitherNote, Filled, Flagged, Numbered, JoinedBy, AloneBy};
+ghost use Rattle.account.specs.code.Standing.{Places, Stands, PartOf, WhereOf, ContractPart, CheckedBy};
+ghost use Rattle.account.specs.code.Standing.{fromNoon, eitherNote, Filled, Flagged, Numbered, JoinedBy, AloneBy};
 ghost use Rattle.account.specs.code.Surveyed.{Surveyed};
 
 // An account: how many records it has, its contracts' numbers in order, which of them the noon file supplies, and of each
@@ -114,6 +118,82 @@ pub(crate) fn placed_part<'a>(
     let late = (v < ENTRIES) & account.noon[v % CONTRACTS];
     let file = supplier(morning, noon, late);
     stretch(file, account.first[v] as usize, account.counts[v] as usize)
+}
+
+// Where the parts of a contract stand: whether the noon file supplies it, and of each part where it begins and how many
+// records it has.
+pub struct Whereabouts {
+    late: bool,
+    own: u16,
+    own_count: u16,
+    prompts: u16,
+    prompt_count: u16,
+    rows: u16,
+    row_count: u16,
+    spreads: u16,
+    spread_count: u16,
+}
+
+// The same of contract `c` of an account.
+pub fn whereabouts_of(account: Account, c: usize) -> Whereabouts
+    requires { ⌜ c ≤ mostContract ⌝ }
+    ensures { λ w. ⌜ WhereOf account c w ⌝ }
+{
+    Whereabouts {
+        late: account.noon[c],
+        own: account.first[OWN + c],
+        own_count: account.counts[OWN + c],
+        prompts: account.first[PROMPTS + c],
+        prompt_count: account.counts[PROMPTS + c],
+        rows: account.first[ROWS + c],
+        row_count: account.counts[ROWS + c],
+        spreads: account.first[SPREADS + c],
+        spread_count: account.counts[SPREADS + c],
+    }
+}
+
+// Its own record, where it is listed.
+pub fn own_part<'a>(morning: &'a [u8], noon: &'a [u8], w: Whereabouts) -> &'a [u8]
+    ensures { λ r. ⌜ ContractPart (now (morning .entry)) (now (noon .entry)) 1 w (now r) ⌝ }
+{
+    stretch(
+        supplier(morning, noon, w.late),
+        w.own as usize,
+        w.own_count as usize,
+    )
+}
+
+// Its prompts.
+pub fn prompts_part<'a>(morning: &'a [u8], noon: &'a [u8], w: Whereabouts) -> &'a [u8]
+    ensures { λ r. ⌜ ContractPart (now (morning .entry)) (now (noon .entry)) 2 w (now r) ⌝ }
+{
+    stretch(
+        supplier(morning, noon, w.late),
+        w.prompts as usize,
+        w.prompt_count as usize,
+    )
+}
+
+// Its rows.
+pub fn rows_part<'a>(morning: &'a [u8], noon: &'a [u8], w: Whereabouts) -> &'a [u8]
+    ensures { λ r. ⌜ ContractPart (now (morning .entry)) (now (noon .entry)) 3 w (now r) ⌝ }
+{
+    stretch(
+        supplier(morning, noon, w.late),
+        w.rows as usize,
+        w.row_count as usize,
+    )
+}
+
+// Its interprompt spreads.
+pub fn spreads_part<'a>(morning: &'a [u8], noon: &'a [u8], w: Whereabouts) -> &'a [u8]
+    ensures { λ r. ⌜ ContractPart (now (morning .entry)) (now (noon .entry)) 4 w (now r) ⌝ }
+{
+    stretch(
+        supplier(morning, noon, w.late),
+        w.spreads as usize,
+        w.spread_count as usize,
+    )
 }
 
 // Whichever file supplies a contract.

@@ -89,6 +89,8 @@ deltas-set (x ∷ xs) (suc i) d = ap (λ (zs : List ℤ). x .0 ∷ zs) (deltas-s
 pub delta-at : (ds : List Delta) (j : ℕ) → getD (deltasIn ds) j (pos 0) ≡ getD ds j (record { 0 = pos 0 }) .0
 delta-at ds j = List·getD-map (λ (d : Delta). d .0) ds j (record { 0 = pos 0 })
 
+-- numbers, as deltas, read back
+
 -- deltas by their numbers
 pub same-deltas : (xs ys : List Delta) → deltasIn xs ≡ deltasIn ys → xs ≡ ys
 same-deltas xs ys e =

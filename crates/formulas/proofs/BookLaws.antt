@@ -3,44 +3,43 @@
 use Prim.Native.Nat.{ℕ, zero, suc, _+_, _*_, _≤_, _<_}
 use native.Mathlib.Nat.{le-of-suc-le-suc, not-suc-le-zero}
 use native.Mathlib.Omega.{arith}
-use mathlib.Core.Path.{_≡_, refl, ap, ap₂, _∙_}
+use mathlib.Core.Path.{_≡_, refl, sym, ap, ap₂, _∙_, subst⁻¹}
 use mathlib.Core.Bool.{Bool, true, cond, _&&_}
 use mathlib.Core.List.{List, [], _∷_, map}
 use lib.IntN.{ℤ}
-use lib.ListN.{length, getD, take}
+use lib.ListN.{length, getD, take, length-map}
 use borrow.Author.Tests.{le-leb}
 use lib.Dec.{leb}
 use Rattle.record.specs.Layout.{Record, tier, spreadRate, outrightRate}
-use Rattle.account.specs.Records.{records}
+use Rattle.account.specs.Records.{records, recordCount}
 use Rattle.spread.specs.Accepted as given
 use Rattle.spread.specs.Accepted.{every, soundPrompt, soundSpread, promptPlaces, spreadPlaces}
 use Rattle.spread.specs.Steps.{Open, Taker, steps, numbers, usedOf, unusedOf}
 use Rattle.spread.specs.declared.Spread.{Spread}
 use Rattle.spread.specs.declared.Table.{Table}
 use Rattle.spread.specs.declared.Prompts.{Prompts}
-use Rattle.spread.specs.Touches.{touches, touchesOf}
+use Rattle.spread.specs.Touches.{touches, touchesOf, mostTouches}
 use Rattle.spread.specs.declared.book.Book.{Book}
 use Rattle.spread.proofs.Both.{and-both}
 use Rattle.spread.proofs.Filling.{entries-at}
+use Rattle.spread.proofs.Touching.{touches-most}
 use Rattle.spread.specs.code.Book.{byPlace, spreadsEntry, deltaEntry, Booked, numbersOf, usedIn, unusedIn}
+use Rattle.spread.specs.code.Lent.{deltasFrom, promptsIn}
+use Rattle.spread.specs.code.Passing.{FormedBy}
 use Rattle.spread.specs.declared.Spreads.{Spreads}
 use Rattle.spread.specs.declared.Delta.{Delta}
 use Rattle.formulas.specs.Charges.{overSteps, promptCharge, promptCharges}
 use Rattle.formulas.specs.Deltas.{opens, interprompt}
-use Rattle.formulas.specs.code.Promised.{BookOf, BookRoom}
+use Rattle.formulas.specs.code.Promised.{BookOf, BookRoom, FormedOf}
 use Rattle.formulas.specs.code.Sums.{interleaved, deltasIn, spreadsAt}
 use Rattle.formulas.specs.code.Tables.{TiersOf, TableOf}
+use Rattle.spread.proofs.Lent.{deltas-again}
 use Rattle.formulas.proofs.RecordLaws.{count-is}
 
 entries-same : {A : Type 0} (n : ℕ) (f g : ℕ → A) → ((k : ℕ) → f k ≡ g k) → byPlace n f ≡ byPlace n g
 unfolding byPlace
 entries-same zero f g h = refl
 entries-same (suc n) f g h = ap₂ _∷_ (h 0) (entries-same n (λ k. f (suc k)) (λ k. g (suc k)) (λ k. h (suc k)))
-
-pub entries-length : {A : Type 0} (n : ℕ) (f : ℕ → A) → length (byPlace n f) ≡ n
-unfolding byPlace
-entries-length zero f = refl
-entries-length (suc n) f = ap suc (entries-length n (λ k. f (suc k)))
 
 -- the numbers of first and second steps, as arrays hold them
 abbrev pub firsts : ℕ → List ℕ → List Spreads
@@ -109,11 +108,15 @@ opens-are part ds p is =
     ∙ ap₂ given.opens (is .tiers-are) (is .nets-are)
     ∙ open-records (records part) ds
 
--- a book of accepted prompts and spreads
+-- the numbers of accepted prompts and spreads, and their book
+numbers-accepted : (ss : List (List Taker)) (ps : List Open) (p : Prompts) (t : Table) → given.openOf p ≡ ps → given.stepsOf t ≡ ss
+    → given.sound p t ≡ true → numbersOf p t ≡ numbers ss ps
+numbers-accepted ss ps p t eo es sound = ap (λ (x : Bool). cond x (numbers (given.stepsOf t) (given.openOf p)) []) sound ∙ ap₂ numbers es eo
+
 pub book-accepted : (ss : List (List Taker)) (ps : List Open) (p : Prompts) (t : Table) (b : Book) → given.openOf p ≡ ps → given.stepsOf t ≡ ss
     → given.sound p t ≡ true → Booked p t b → BookOf ss ps b
 book-accepted ss ps p t b eo es sound is =
-    let n : numbersOf p t ≡ numbers ss ps = ap (λ (x : Bool). cond x (numbers (given.stepsOf t) (given.openOf p)) []) sound ∙ ap₂ numbers es eo in
+    let n = numbers-accepted ss ps p t eo es sound in
     let u : usedIn p t ≡ usedOf ss ps = ap (λ (x : Bool). cond x (usedOf (given.stepsOf t) (given.openOf p)) []) sound ∙ ap₂ usedOf es eo in
     let l : unusedIn p t ≡ unusedOf ss ps = ap (λ (x : Bool). cond x (unusedOf (given.stepsOf t) (given.openOf p)) []) sound ∙ ap₂ unusedOf es eo in
     record {
@@ -138,18 +141,58 @@ contract-sound part spreads ds p t tiers table room =
     (omega (arith, tiers .count-is, room .few-prompts, count-is part)) (omega (arith, table .count-is, room .few-spreads, count-is spreads))
     (room .prompts-sound) (room .spreads-sound)
 
-pub contract-book-is : (part spreads : List ℕ) (ds : List Delta) (p : Prompts) (t : Table) (b : Book) → TiersOf part ds p
-    → TableOf interprompt spreads t → BookRoom (records part) (deltasIn ds) (records spreads) → Booked p t b
-    → BookOf (steps (map interprompt (records spreads))) (opens (records part) (deltasIn ds)) b
-contract-book-is part spreads ds p t b tiers table room is =
-    book-accepted (steps (map interprompt (records spreads))) (opens (records part) (deltasIn ds)) p t b (opens-are part ds p tiers)
-    (ap steps (table .spreads-are))
-    (contract-sound part spreads ds p t tiers table room) is
-
 -- how often the steps touch a prompt
 pub touches-accepted : (ss : List (List Taker)) (ps : List Open) (p : Prompts) (t : Table) → given.openOf p ≡ ps → given.stepsOf t ≡ ss → given.sound p t ≡ true
     → touchesOf p t ≡ touches ss ps
 touches-accepted ss ps p t eo es sound = ap (λ (x : Bool). cond x (touches (given.stepsOf t) (given.openOf p)) 0) sound ∙ ap₂ touches es eo
+
+opens-few : (rs : List Record) (zs : List ℤ) → length (opens rs zs) ≤ length rs
+opens-few [] zs = omega arith
+opens-few (r ∷ rs) [] = omega arith
+opens-few (r ∷ rs) (z ∷ zs) = let h = opens-few rs zs in omega arith
+
+-- the same of lent tiers and net deltas, and the book that comes of them
+module _ (part spreads tiers : List ℕ) (nets : List ℤ) (t : Table) (are : take (recordCount part) tiers ≡ map tier (records part))
+    (table : TableOf interprompt spreads t) (room : BookRoom (records part) nets (records spreads)) where
+  lent-tiers : TiersOf part (deltasFrom nets) (promptsIn (recordCount part) tiers nets)
+  lent-tiers = record { count-is = refl; tiers-are = are; nets-are = refl }
+
+  pub lent-sound : given.sound (promptsIn (recordCount part) tiers nets) t ≡ true
+  lent-sound =
+      contract-sound part spreads (deltasFrom nets) (promptsIn (recordCount part) tiers nets) t lent-tiers table
+      (subst⁻¹ (λ (zs : List ℤ). BookRoom (records part) zs (records spreads)) (deltas-again nets) room)
+
+  lent-opens : given.openOf (promptsIn (recordCount part) tiers nets) ≡ opens (records part) nets
+  lent-opens =
+      opens-are part (deltasFrom nets) (promptsIn (recordCount part) tiers nets) lent-tiers ∙ ap (opens (records part)) (deltas-again nets)
+
+  lent-steps : given.stepsOf t ≡ steps (map interprompt (records spreads))
+  lent-steps = ap steps (table .spreads-are)
+
+  pub lent-book : (b : Book) → Booked (promptsIn (recordCount part) tiers nets) t b
+      → BookOf (steps (map interprompt (records spreads))) (opens (records part) nets) b
+  lent-book b is =
+      book-accepted (steps (map interprompt (records spreads))) (opens (records part) nets) (promptsIn (recordCount part) tiers nets) t b
+      lent-opens lent-steps lent-sound is
+
+  -- the numbers that they form, and how often they touch a prompt
+  pub lent-formed : (first second : List Spreads) → FormedOf (steps (map interprompt (records spreads))) (opens (records part) nets) first second
+      → FormedBy (promptsIn (recordCount part) tiers nets) t first second
+  lent-formed first second is =
+      let p = promptsIn (recordCount part) tiers nets in
+      let n = numbers-accepted (steps (map interprompt (records spreads))) (opens (records part) nets) p t lent-opens lent-steps lent-sound in
+      record {
+        firsts = is .first-is ∙ ap (firsts spreadPlaces) (sym n);
+        seconds = is .second-is ∙ ap (seconds spreadPlaces) (sym n);
+      }
+
+  pub lent-touches : (n : ℕ) → n ≡ touches (given.stepsOf t) (given.openOf (promptsIn (recordCount part) tiers nets))
+      → (n ≡ touches (steps (map interprompt (records spreads))) (opens (records part) nets)) × (n ≤ mostTouches)
+  lent-touches n e =
+      let same = e ∙ ap₂ touches lent-steps lent-opens in
+      let most = touches-most (map interprompt (records spreads)) (opens (records part) nets) (room .spreads-sound)
+      (omega (arith, length-map (records spreads) interprompt, room .few-spreads)) (omega (arith, opens-few (records part) nets, room .few-prompts)) in
+      (same, omega (arith, same, most))
 
 -- ---- a book's arrays, cut to its prompts and spreads
 

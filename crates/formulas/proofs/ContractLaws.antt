@@ -17,8 +17,10 @@ use Rattle.record.specs.Layout.{Record, contract, shortOptionRate, unit, ratePe
 use Rattle.spread.specs.Steps.{Open, Taker, steps, numbers, usedOf, unusedOf}
 use Rattle.spread.specs.declared.Spreads.{Spreads}
 use Rattle.spread.specs.declared.Delta.{Delta}
-use Rattle.spread.specs.declared.book.Book.{Book}
 use Rattle.spread.specs.Accepted.{promptPlaces, spreadPlaces}
+use Rattle.spread.specs.code.Book.{byPlace, spreadsEntry, deltaEntry}
+use Rattle.spread.specs.code.Lent.{deltasFrom, spreadsFrom, bookIn}
+use Rattle.spread.proofs.Filling.{entries-length}
 use Rattle.spread.proofs.Lengths.{used-length, unused-length}
 use Rattle.formulas.specs.declared.rows.Position.{Position}
 use Rattle.formulas.specs.declared.line.Line.{Line}
@@ -32,9 +34,11 @@ use Rattle.formulas.specs.Deltas.{opens, interprompt, netDeltas}
 use Rattle.formulas.specs.code.Position.{PositionOf, Bounded}
 use Rattle.formulas.specs.code.Promised.{BookOf, BookRoom, Charged, LineOf, contractWith}
 use Rattle.formulas.specs.code.Risks.{TotalsWithin, Scanned}
-use Rattle.formulas.specs.code.Sums.{interleaved, deltasIn, SpreadsWithin, PromptsWithin}
+use Rattle.formulas.specs.code.Sums.{interleaved, deltasIn, deltaAt, SpreadsWithin, PromptsWithin}
 use Rattle.formulas.specs.code.Within.{ContractFit}
 use Rattle.formulas.proofs.BookLaws.{over-arrays, prompts-arrays}
+use Rattle.spread.proofs.Lent.{deltas-again}
+use Rattle.formulas.proofs.LentLaws.{delta-from}
 use Rattle.formulas.proofs.LineLaws.{opens-first, opens-length, opens-sizes, opens-sound, spreads-sound, interprompt-whole, numbers-length, sum-zeros}
 use Rattle.formulas.proofs.LineLaws.{size-zeros, first-within, delta-within}
 use Rattle.formulas.proofs.NetLaws.{net-sizes-most}
@@ -107,11 +111,23 @@ module _ (rates : List Record) (own : Record) (prompts rows spreads : List Recor
   prompts-open : length ps ≡ length prompts
   prompts-open = ap length nets-are ∙ opens-length prompts (netDeltas prompts rows) (length-map prompts _)
 
-  module _ (b : Book) (bk : BookOf ss ps b) where
-    pub spreads-room : SpreadsWithin (unit own) spreads (b .first) (b .second)
+  lent-there : (zs ds : List ℤ) → deltasFrom zs ≡ byPlace promptPlaces (deltaEntry ds) → length prompts ≤ length zs
+  lent-there zs ds e =
+      let n : length (deltasFrom zs) ≡ length zs = length-map zs _ in
+      omega (arith, w .few-prompts, ap length e, entries-length promptPlaces (deltaEntry ds))
+
+  lent-within : (zs ds : List ℤ) (j : ℕ) → j < promptPlaces → deltasFrom zs ≡ byPlace promptPlaces (deltaEntry ds)
+      → ((i : ℕ) → natAbs (getD ds i (pos 0)) ≤ mostDelta) → natAbs (getD zs j (pos 0)) ≤ mostDelta
+  lent-within zs ds j l e most =
+      subst (λ (z : ℤ). natAbs z ≤ mostDelta) (sym (ap (λ (xs : List Delta). deltaAt xs j) e) ∙ delta-from zs j) (delta-within ds mostDelta most j l)
+
+  module _ (first second : List ℕ) (used unused : List ℤ) (bk : BookOf ss ps (bookIn first second used unused)) where
+    pub spreads-room : SpreadsWithin (unit own) spreads (spreadsFrom first) (spreadsFrom second)
     spreads-room =
         record {
           most = w .few-spreads;
+          firsts-there = omega (arith, w .few-spreads, ap length (bk .first-is), entries-length spreadPlaces (λ k. spreadsEntry (numbers ss ps) (2 * k)));
+          seconds-there = omega (arith, w .few-spreads, ap length (bk .second-is), entries-length spreadPlaces (λ k. spreadsEntry (numbers ss ps) (2 * k + 1)));
           each =
               λ j h.
               let l : j < spreadPlaces = omega (arith, w .few-spreads) in
@@ -123,10 +139,12 @@ module _ (rates : List Record) (own : Record) (prompts rows spreads : List Recor
               };
         }
 
-    pub prompts-room : PromptsWithin (unit own) prompts (b .used) (b .unused)
+    pub prompts-room : PromptsWithin (unit own) prompts used unused
     prompts-room =
         record {
           most = w .few-prompts;
+          used-there = lent-there used (usedOf ss ps) (bk .used-is);
+          unused-there = lent-there unused (unusedOf ss ps) (bk .unused-is);
           each =
               λ j h.
               let l : j < promptPlaces = omega (arith, w .few-prompts) in
@@ -134,28 +152,29 @@ module _ (rates : List Record) (own : Record) (prompts rows spreads : List Recor
                 unit-within = w .unit-within .most;
                 spread-rate = w .each-prompt j h .spread-rate;
                 outright-rate = w .each-prompt j h .outright-rate;
-                used-within = rw (bk .used-is) (delta-within (usedOf ss ps) mostDelta used-most j l);
-                unused-within = rw (bk .unused-is) (delta-within (unusedOf ss ps) mostDelta unused-most j l);
+                used-within = lent-within used (usedOf ss ps) j l (bk .used-is) used-most;
+                unused-within = lent-within unused (unusedOf ss ps) j l (bk .unused-is) unused-most;
               };
         }
 
-    pub interprompt-is : interpromptCharge (unit own) spreads (interleaved (b .first) (b .second)) ≡ interpromptOf k
+    pub interprompt-is : interpromptCharge (unit own) spreads (interleaved (spreadsFrom first) (spreadsFrom second)) ≡ interpromptOf k
     interprompt-is =
         ap₂ (λ (x y : List Spreads). interpromptCharge (unit own) spreads (interleaved x y)) (bk .first-is) (bk .second-is)
         ∙ over-arrays (λ s. spreadCharge (unit own) (ratePerSpread s)) spreads (numbers ss ps) spreadPlaces (numbers-length interprompt spreads ps)
         (w .few-spreads)
         ∙ ap (λ (x : List Open). interpromptCharge (unit own) spreads (numbers ss x)) nets-are
 
-    pub prompt-is : promptCharges (unit own) prompts (deltasIn (b .used)) (deltasIn (b .unused)) ≡ promptOf k
+    pub prompt-is : promptCharges (unit own) prompts used unused ≡ promptOf k
     prompt-is =
-        ap₂ (λ (x y : List Delta). promptCharges (unit own) prompts (deltasIn x) (deltasIn y)) (bk .used-is) (bk .unused-is)
+        ap₂ (promptCharges (unit own) prompts) (sym (deltas-again used)) (sym (deltas-again unused))
+        ∙ ap₂ (λ (x y : List Delta). promptCharges (unit own) prompts (deltasIn x) (deltasIn y)) (bk .used-is) (bk .unused-is)
         ∙ prompts-arrays (unit own) prompts (usedOf ss ps) (unusedOf ss ps) promptPlaces (used-length ss ps ∙ prompts-open) (unused-length ss ps ∙ prompts-open)
         (w .few-prompts)
         ∙ ap (λ (x : List Open). promptCharges (unit own) prompts (usedOf ss x) (unusedOf ss x)) nets-are
 
     -- the line, from what was made of the rows, the book and the contract's own record
     pub line-is : (l : Line) (rate : ℕ) → l .contract ≡ contract own → l .unit ≡ unit own → Scanned (q .totals .0) (l .active) (l .scanning .0)
-        (l .«twice_price») → Charged (unit own) prompts spreads b (l .interprompt .0) (l .prompt .0)
+        (l .«twice_price») → Charged (unit own) prompts spreads first second used unused (l .interprompt .0) (l .prompt .0)
         → rate ≡ shortOptionRate own → l .minimum .0 ≡ shortOptionMinimum (q .shorts) rate → l .minimum .0 ≤ mostLots * mostRate
         → l .net .0 ≡ sumℤ nets → LineOf k l
     line-is l rate ec eu sc ch er em hm en =

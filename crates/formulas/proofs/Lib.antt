@@ -4,6 +4,8 @@ pub mod BookLaws
 pub mod Calls
 pub mod ContractLaws
 pub mod CreditLaws
+pub mod EarnedLaws
+pub mod LentLaws
 pub mod LineLaws
 pub mod NetLaws
 pub mod PairLaws

@@ -21,8 +21,9 @@ use Rattle.formulas.specs.declared.rows.Position.{Position}
 use Rattle.formulas.specs.Scanning.{product, total, scenarios, totals}
 use Rattle.formulas.specs.Deltas.{rowDelta, ofDay, netDelta, netDeltas}
 use Rattle.formulas.specs.Margin.{shortOptions, shortLots}
-use Rattle.formulas.specs.code.Position.{Added, DaysOf, PositionOf, WithRows, netOn, withNets, deltasIn}
+use Rattle.formulas.specs.code.Position.{Added, DaysOf, PositionOf, WithRows, netOn, withNets, positionIn, deltasIn}
 use Rattle.formulas.proofs.AddedLaws.{same-deltas}
+use Rattle.spread.proofs.Lent.{deltas-again}
 
 -- ---- rows before and rows after
 
@@ -101,6 +102,11 @@ nothing rates unit prompts p few et en es =
       places = thirty-two;
       shorts-are = es;
     }
+
+-- in lent arrays of zeros
+pub nothing-lent : (rates : List Record) (unit : ℕ) (prompts : List Record) (ts ns : List ℤ) → length prompts ≤ promptPlaces
+    → ts ≡ replicate scenarioCount (pos 0) → ns ≡ replicate promptPlaces (pos 0) → PositionOf rates unit prompts [] (positionIn ts ns 0)
+nothing-lent rates unit prompts ts ns few et en = nothing rates unit prompts (positionIn ts ns 0) few et (deltas-again ns ∙ en) refl
 
 -- ---- rows come to one position
 

@@ -1,24 +1,25 @@
 -- Charges and credits, added up place by place: what is done and what is still to do are the whole.
 -- Assumes nothing.
 use Prim.Native.Nat.{ℕ, _+_, _*_, _≤_, _<_, zero-le}
-use native.Mathlib.Nat.{zero-add, add-mul, mul-le-mul}
+use native.Mathlib.Nat.{zero-add, zero-mul, mul-zero, add-mul, mul-le-mul}
 use native.Mathlib.Numerals.{add-one}
 use native.Mathlib.Omega.{arith}
-use mathlib.Core.Path.{_≡_, sym, ap₂, _∙_}
-use mathlib.Core.Bool.{Bool}
+use mathlib.Core.Path.{_≡_, refl, sym, ap, ap₂, _∙_}
+use mathlib.Core.Bool.{Bool, true, false, cond}
 use mathlib.Core.List.{List, []}
-use lib.IntN.{pos}
+use lib.IntN.{ℤ, pos}
 use lib.ListN.{length, getD, drop, drop-of-length-le}
 use lib.Seq.{drop-cons}
-use Rattle.exact.specs.Rounding.{halfUp}
+use Rattle.exact.specs.Rounding.{halfUp, halfUpTo}
+use Rattle.exact.proofs.UnitLaws.{up-none}
+use lib.Dec.{eqb}
 use Rattle.record.specs.Layout.{Record, contract, secondContract, firstRatio, secondRatio, tenths, ratePerSpread, spreadRate, outrightRate, percent}
 use borrow.Author.Tests.{eq-eqb, ne-eqb}
-use Rattle.spread.specs.declared.Delta.{Delta}
 use Rattle.spread.specs.declared.Spreads.{Spreads}
 use Rattle.formulas.specs.Bounds.{mostFormed}
 use Rattle.formulas.specs.Charges.{spreadCharge, interpromptCharge, promptCharge, promptCharges}
-use Rattle.formulas.specs.Credit.{credit, bothTake, entryUse, creditsBy}
-use Rattle.formulas.specs.code.Sums.{interleaved, deltasIn, spreadsAt, deltaAt}
+use Rattle.formulas.specs.Credit.{fromUnit, unitPriceRisk, creditAt, credit, bothTake, entryUse, creditsBy}
+use Rattle.formulas.specs.code.Sums.{interleaved, spreadsAt}
 
 -- a sum over n places: `rest i` is what the places from i on come to, each at most `most`
 pub record ToGo (n most : ℕ) (rest : ℕ → ℕ) (i sum : ℕ) : Type 0 where
@@ -57,18 +58,18 @@ module _ (unit : ℕ) (rs : List Record) (firsts seconds : List Spreads) where
   charge-none i h = rw (drop-of-length-le rs h)
 
 -- the prompt date charges
-module _ (unit : ℕ) (rs : List Record) (used unused : List Delta) where
+module _ (unit : ℕ) (rs : List Record) (used unused : List ℤ) where
   abbrev pub promptAt : ℕ → ℕ
-  promptAt i = promptCharge unit (spreadRate (getD rs i [])) (outrightRate (getD rs i [])) (deltaAt used i) (deltaAt unused i)
+  promptAt i = promptCharge unit (spreadRate (getD rs i [])) (outrightRate (getD rs i [])) (getD used i (pos 0)) (getD unused i (pos 0))
 
   abbrev pub promptFrom : ℕ → ℕ
-  promptFrom i = promptCharges unit (drop i rs) (deltasIn (drop i used)) (deltasIn (drop i unused))
+  promptFrom i = promptCharges unit (drop i rs) (drop i used) (drop i unused)
 
   pub prompt-step : length rs ≤ length used → length rs ≤ length unused → (i : ℕ) → i < length rs → promptFrom i ≡ promptAt i + promptFrom (i + 1)
   prompt-step hu hn i h =
       let u : i < length used = omega arith in
       let n : i < length unused = omega arith in
-      rw (add-one i, drop-cons rs i [], drop-cons used i (record { 0 = pos 0 }), drop-cons unused i (record { 0 = pos 0 }))
+      rw (add-one i, drop-cons rs i [], drop-cons used i (pos 0), drop-cons unused i (pos 0))
 
   pub prompt-none : (i : ℕ) → length rs ≤ i → promptFrom i ≡ 0
   prompt-none i h = rw (drop-of-length-le rs h)
@@ -89,6 +90,20 @@ module _ (unit c twice net : ℕ) (rs : List Record) (firsts seconds : List Spre
 
   pub credit-none : (i : ℕ) → length rs ≤ i → creditFrom i ≡ 0
   credit-none i h = rw (drop-of-length-le rs h)
+
+-- nothing used, nothing earned
+pub nothing-used : (unit twice used percent net : ℕ) → used ≡ 0 → 0 ≡ credit unit twice used percent net
+nothing-used unit twice used percent net e = go (eqb net 0)
+  where
+    none : creditAt unit (unitPriceRisk twice net) used percent ≡ 0
+    none =
+        ap (λ (u : ℕ). creditAt unit (unitPriceRisk twice net) u percent) e
+        ∙ ap (λ (x : ℕ). halfUpTo x fromUnit unit) (ap (λ (x : ℕ). x * percent) (mul-zero (unitPriceRisk twice net)) ∙ zero-mul percent)
+        ∙ up-none unit fromUnit
+
+    go : (b : Bool) → 0 ≡ cond b 0 (creditAt unit (unitPriceRisk twice net) used percent)
+    go true = refl
+    go false = sym none
 
 -- what an entry uses, by the contract that it is asked for
 module _ (c : ℕ) (e : Record) (f s k : ℕ) (ek : k ≡ contract e) where

@@ -2,14 +2,13 @@
 -- Assumes nothing.
 use Prim.Native.Nat.{ℕ, zero, suc, _+_, _/_, _≤_, _<_, zero-le, suc-le-suc}
 use native.Mathlib.Numerals.{add-one}
-use native.Mathlib.Decide.{ℕ-discrete}
 use native.Mathlib.Omega.{arith}
 use mathlib.Core.Path.{_≡_, refl, sym, ap, ap₂, _∙_, subst, subst⁻¹}
 use mathlib.Core.Bool.{Bool, true, false, not, _&&_, _||_}
 use mathlib.Core.List.{List, [], _∷_, _++_, map, map-map}
-use lib.IntN.{ℤ, natAbs}
+use lib.IntN.{ℤ}
 use lib.ListN.{length, getD, take, set, replicate, length-set, length-map}
-use lib.Seq.{take-suc, take-suc-set, getD-set-same, getD-set-other}
+use lib.Seq.{take-suc, take-suc-set}
 use Rattle.record.specs.Bytes.{recordBytes}
 use Rattle.exact.proofs.Lists.{map-take, getD-map}
 use borrow.Author.Tests.{lt-ltb}
@@ -29,15 +28,13 @@ use Rattle.spread.specs.declared.Table.{Table}
 use Rattle.spread.specs.declared.book.Book.{Book}
 use Rattle.spread.specs.Accepted.{tierCount, promptPlaces}
 use Rattle.formulas.specs.declared.amount.Amount.{Amount}
-use Rattle.formulas.specs.declared.charges.Earner.{Earner}
 use Rattle.formulas.specs.declared.line.Line.{Line}
 use Rattle.formulas.specs.Bounds.{mostCredits}
-use Rattle.formulas.specs.Credit.{creditsBy}
 use Rattle.formulas.specs.Deltas.{intercontract}
 use Rattle.formulas.specs.code.Lines.{noLine}
 use Rattle.formulas.specs.code.Within.{EntryFit}
-use Rattle.formulas.specs.code.Sums.{interleaved, deltasIn, EntriesRoom}
-use Rattle.formulas.specs.code.Table.{tierOf, TiersFrom, TableRoom, earns, EarnerOf, CreditsOf}
+use Rattle.formulas.specs.code.Sums.{deltasIn}
+use Rattle.formulas.specs.code.Table.{tierOf, TiersFrom, TableRoom, CreditsOf}
 use Rattle.formulas.specs.code.Tables.{TableOf}
 use Rattle.formulas.specs.code.Promised.{BookOf}
 use Rattle.formulas.proofs.BookLaws.{book-accepted, handed-sound}
@@ -97,37 +94,6 @@ tiered-all lines i count p is e c =
           ∙ map-map (λ q. q .unused) tierOf (take i lines)
           ∙ ap (λ (n : ℕ). map (λ l. l .net .0) (take n lines)) e;
     }
-
--- the first i contracts' credits stand in the array
-pub earned-next : (i : ℕ) (lines : List Line) (entries : List Record) (f g : List Spreads) (xs : List Amount) (a : Amount)
-    → CreditsOf i lines entries f g xs → i < mostContracts → a .0 ≡ earns (getD lines i noLine) entries f g → a .0 ≤ mostCredits
-    → CreditsOf (i + 1) lines entries f g (set xs i a)
-earned-next i lines entries f g xs a is h e m =
-    record {
-      places = rw length-set (is .places);
-      each = λ j l. at j l (λ (x : Amount). x .0 ≡ earns (getD lines j noLine) entries f g)
-          (λ q. subst (λ (k : ℕ). a .0 ≡ earns (getD lines k noLine) entries f g) (sym q) e) (is .each j);
-      most = λ j l. at j l (λ (x : Amount). x .0 ≤ mostCredits) (λ q. m) (is .most j);
-    }
-  where
-    at : (j : ℕ) → j < i + 1 → (P : Amount → Type 0) → (j ≡ i → P a) → (j < i → P (getD xs j (record { 0 = 0 }))) → P (getD (set xs i a) j (record { 0 = 0 }))
-    at j l P same before = go (ℕ-discrete j i)
-      where
-        go : Dec (j ≡ i) → P (getD (set xs i a) j (record { 0 = 0 }))
-        go (yes q) = subst⁻¹ P
-            (ap (λ (k : ℕ). getD (set xs i a) k (record { 0 = 0 })) q ∙ getD-set-same xs i a (record { 0 = 0 }) (omega (arith, is .places))) (same q)
-        go (no q) = subst⁻¹ P (getD-set-other xs i j a (record { 0 = 0 }) q) (before (omega (arith, q)))
-
-module _ (l : Line) (e : Earner) (entries : List Record) (f g : List Spreads) (is : EarnerOf l e) where
-  pub earner-room : EntriesRoom (l .unit) (l .contract) (l .«twice_price») (natAbs (l .net .0)) entries f g
-      → EntriesRoom (e .unit) (e .contract) (e .«twice_price») (e .net) entries f g
-  earner-room h = rw (is .unit-is, is .contract-is, is .price-is, is .net-is) h
-
-  pub earner-earns : (r : ℕ) → r ≡ creditsBy (e .unit) (e .contract) (e .«twice_price») (e .net) entries (interleaved f g) → r ≡ earns l entries f g
-  earner-earns r h =
-      h
-      ∙ ap₂ (λ (u c : ℕ). creditsBy u c (e .«twice_price») (e .net) entries (interleaved f g)) (is .unit-is) (is .contract-is)
-      ∙ ap₂ (λ (t n : ℕ). creditsBy (l .unit) (l .contract) t n entries (interleaved f g)) (is .price-is) (is .net-is)
 
 -- without entries there is nothing to earn
 pub none-earned : (count : ℕ) (lines : List Line) (part : List ℕ) (f g : List Spreads) → length part < recordBytes → CreditsOf count lines (records part) f g

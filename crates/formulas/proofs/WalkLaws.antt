@@ -1,6 +1,6 @@
 -- The walk over rows: what is added so far, that there is room for the next row, and what is added in the end.
 -- Assumes nothing.
-use mathlib.Core.Path.{_≡_, refl, sym, _∙_, ap, subst}
+use mathlib.Core.Path.{_≡_, refl, sym, _∙_, ap, subst, subst₂}
 use mathlib.Core.List.{List, [], _∷_, _++_}
 use Prim.Native.Nat.{ℕ, _+_, _-_, _*_, _≤_, _<_}
 use native.Mathlib.Numerals.{add-one}
@@ -10,13 +10,17 @@ use lib.ListN.{length, getD, take, length-take}
 use lib.Seq.{take-suc, take-all}
 use Rattle.account.specs.Check.{mostRows}
 use Rattle.spread.specs.Accepted.{promptPlaces}
+use Rattle.spread.specs.code.Lent.{deltasFrom}
 use Rattle.record.specs.Layout.{Record, day, scenarioCount}
 use Rattle.formulas.specs.Bounds.{mostProduct}
 use Rattle.formulas.specs.Scanning.{total}
 use Rattle.formulas.specs.Deltas.{rowDelta}
 use Rattle.formulas.specs.Margin.{shortOptions, shortLots}
-use Rattle.formulas.specs.code.Position.{RowFit, RowRated, RowsFit, AtMost, Added, products, addsOn, netOn}
+use Rattle.formulas.specs.declared.rows.Days.{Days}
+use Rattle.formulas.specs.declared.rows.Position.{Position}
+use Rattle.formulas.specs.code.Position.{RowFit, RowRated, RowsFit, AtMost, Added, Bounded, WithRows, products, addsOn, netOn, positionIn, deltasIn}
 use Rattle.formulas.proofs.AddedLaws.{nothing-added, twice, at-most-added, at-most-wider}
+use Rattle.spread.proofs.Lent.{deltas-again}
 use Rattle.formulas.proofs.PositionLaws.{total-append, total-one, net-append, net-one, shorts-append}
 use Rattle.formulas.proofs.PositionBounds.{Rated, total-most, net-most, short-lots-most, each-take}
 
@@ -111,10 +115,61 @@ module _ (rates : List Record) (unit : ℕ) (hu : unit ≤ 1000) (rows : List Re
       }
 
 -- all rows
-pub finish : (rates : List Record) (unit : ℕ) (rows : List Record) (count : ℕ) (days : List ℕ) (ts ns : List ℤ) (u i : ℕ) (us ms : List ℤ) (v : ℕ)
+finish : (rates : List Record) (unit : ℕ) (rows : List Record) (count : ℕ) (days : List ℕ) (ts ns : List ℤ) (u i : ℕ) (us ms : List ℤ) (v : ℕ)
     → length rows ≤ i → SoFar rates unit rows count days ts ns u i us ms v → (Added scenarioCount (λ k. total rates unit rows (k + 1)) ts us)
     × ((Added count (λ j. netOn rows (getD days j 0)) ns ms) × (v ≡ u + shortLots rows))
 finish rates unit rows count days ts ns u i us ms v h s =
     subst (λ (rs : List Record). (Added scenarioCount (λ k. total rates unit rs (k + 1)) ts us)
     × ((Added count (λ j. netOn rs (getD days j 0)) ns ms) × (v ≡ u + shortLots rs)))
     (take-all i rows h) (s .totals-so-far, (s .nets-so-far, s .shorts-so-far))
+
+-- ---- a position of lent numbers
+
+pub most-lent : {n : ℕ} (us ms : List ℤ) (v : ℕ) → Bounded n (positionIn us ms v) → Most n us ms v
+most-lent {n} us ms v b =
+    record {
+      totals-most = b .totals-most;
+      nets-most = subst (λ (zs : List ℤ). AtMost promptPlaces (n * 1000000000) zs) (deltas-again ms) (b .nets-most);
+      shorts-most = b .shorts-most;
+    }
+
+pub bounded-lent : {n : ℕ} (us ms : List ℤ) (v : ℕ) → Most n us ms v → Bounded n (positionIn us ms v)
+bounded-lent {n} us ms v m =
+    record {
+      totals-most = m .totals-most;
+      nets-most = subst (λ (zs : List ℤ). AtMost promptPlaces (n * 1000000000) zs) (sym (deltas-again ms)) (m .nets-most);
+      shorts-most = m .shorts-most;
+    }
+
+pub finish-lent : (rates : List Record) (unit : ℕ) (rows : List Record) (days : Days) (ts ns : List ℤ) (u i : ℕ) (us ms : List ℤ) (v : ℕ)
+    → length rows ≤ i → SoFar rates unit rows (days .count) (days .day) ts ns u i us ms v
+    → WithRows rates unit days (positionIn ts ns u) rows (positionIn us ms v)
+finish-lent rates unit rows days ts ns u i us ms v h s =
+    let all = finish rates unit rows (days .count) (days .day) ts ns u i us ms v h s in
+    record {
+      totals-added = all .0;
+      nets-added = subst₂ (λ (xs ys : List ℤ). Added (days .count) (λ j. netOn rows (getD (days .day) j 0)) xs ys) (sym (deltas-again ns))
+          (sym (deltas-again ms)) (all .1 .0);
+      shorts-added = all .1 .1;
+    }
+
+-- a position with what rows add to its numbers
+module _ (rates : List Record) (unit : ℕ) (rows : List Record) (days : Days) (p : Position) (ts ns : List ℤ) (n : ℕ)
+    (w : WithRows rates unit days (positionIn (p .totals .0) (deltasIn (p .nets)) 0) rows (positionIn ts ns n)) where
+  pub with-lent : WithRows rates unit days p rows (positionIn ts ns (p .shorts + n))
+  with-lent =
+      record {
+        totals-added = w .totals-added;
+        nets-added = subst (λ (xs : List ℤ). Added (days .count) (λ j. netOn rows (getD (days .day) j 0)) xs (deltasIn (deltasFrom ns)))
+            (deltas-again (deltasIn (p .nets))) (w .nets-added);
+        shorts-added = omega (arith, w .shorts-added);
+      }
+
+  pub with-most : RowsFit rows → Bounded (mostRows - length rows) p → Bounded mostRows (positionIn ts ns n)
+      → Bounded mostRows (positionIn ts ns (p .shorts + n))
+  with-most fit b m =
+      record {
+        totals-most = m .totals-most;
+        nets-most = m .nets-most;
+        shorts-most = omega (arith, w .shorts-added, b .shorts-most, short-lots-most rows (fit .each), fit .few);
+      }

@@ -1,34 +1,96 @@
 // The delta book of a contract, by the spread steps.
 use crate::tables::interprompt_table;
-use crate::tables::prompts_with;
+use crate::tables::put_tiers;
 use record::bytes::RECORD_BYTES;
-use spread::Delta;
 use spread::MOST_PROMPTS;
 use spread::MOST_SPREADS;
-use spread::Spreads;
-use spread::book::Book;
-use spread::book::book_of_accepted;
-ghost use mathlib.Core.Bool.{true};
+use spread::book::put_book;
+use spread::touches::touches_in;
 ghost use mathlib.Core.List.{map};
+ghost use mathlib.Core.Path.{_≡_};
+ghost use Prim.Native.Nat.{_≤_};
+ghost use lib.IntN.{pos};
+ghost use lib.ListN.{length, replicate};
 ghost use Rattle.account.specs.Records.{records};
+ghost use Rattle.spread.specs.Accepted.{promptPlaces, spreadPlaces};
 ghost use Rattle.spread.specs.Steps.{steps};
+ghost use Rattle.spread.specs.Touches.{touches, mostTouches};
+ghost use Rattle.spread.specs.code.Lent.{bookIn, spreadsFrom};
 ghost use Rattle.formulas.specs.Deltas.{opens, interprompt};
-ghost use Rattle.formulas.specs.code.Sums.{deltasIn};
-ghost use Rattle.formulas.specs.code.Promised.{BookOf, BookRoom};
+ghost use Rattle.formulas.specs.code.Promised.{BookOf, BookRoom, FormedOf};
 
-// The book of a contract's interprompt spreads, over its prompts and their net deltas. Without spreads nothing is used.
-pub(crate) fn contract_book(prompts: &[u8], nets: [Delta; MOST_PROMPTS], spreads: &[u8]) -> Book
-    requires { ⌜ BookRoom (records (now prompts)) (deltasIn nets) (records (now spreads)) ⌝ }
-    ensures { λ r. ⌜ BookOf (steps (map interprompt (records (now (spreads .entry))))) (opens (records (now (prompts .entry))) (deltasIn nets)) r ⌝ }
+// Nothing is used: what is unused are the net deltas.
+fn put_unused(nets: &[i64], unused: &mut [i64; MOST_PROMPTS])
+    requires { ⌜ (length (now nets) ≡ promptPlaces) × (length (now unused) ≡ promptPlaces) ⌝ }
+    ensures { λ _. ⌜ now (unused .exit) ≡ now (nets .entry) ⌝ }
+{
+    let mut i = 0;
+    while i < MOST_PROMPTS {
+        let net = nets[i];
+        unused[i] = net;
+        i += 1;
+    }
+}
+
+// The book of a contract's interprompt spreads, over its prompts and their net deltas, in lent arrays of zeros. Without spreads nothing is used.
+pub fn put_contract_book(
+    prompts: &[u8],
+    nets: &[i64; MOST_PROMPTS],
+    spreads: &[u8],
+    first: &mut [u64; MOST_SPREADS],
+    second: &mut [u64; MOST_SPREADS],
+    used: &mut [i64; MOST_PROMPTS],
+    unused: &mut [i64; MOST_PROMPTS],
+)
+    requires { ⌜ BookRoom (records (now prompts)) (now nets) (records (now spreads))
+        × (((now first ≡ replicate spreadPlaces 0) × (now second ≡ replicate spreadPlaces 0))
+        × ((now used ≡ replicate promptPlaces (pos 0)) × (now unused ≡ replicate promptPlaces (pos 0)))) ⌝ }
+    ensures { λ _. ⌜ BookOf (steps (map interprompt (records (now (spreads .entry))))) (opens (records (now (prompts .entry))) (now (nets .entry)))
+        (bookIn (now (first .exit)) (now (second .exit)) (now (used .exit)) (now (unused .exit))) ⌝ }
 {
     if spreads.len() < RECORD_BYTES {
-        return Book {
-            accepted: true,
-            first: [Spreads(0); MOST_SPREADS],
-            second: [Spreads(0); MOST_SPREADS],
-            used: [Delta(0); MOST_PROMPTS],
-            unused: nets,
-        };
+        put_unused(nets, unused);
+        return;
     }
-    book_of_accepted(prompts_with(prompts, nets), interprompt_table(spreads))
+    let mut tiers = [0u8; MOST_PROMPTS];
+    put_tiers(&mut tiers, prompts);
+    put_book(
+        prompts.len() / RECORD_BYTES,
+        &tiers,
+        nets,
+        interprompt_table(spreads),
+        first,
+        second,
+        used,
+        unused,
+    );
+}
+
+// How often the steps of a contract's spreads take of a prompt, by the numbers that they formed: without spreads never.
+pub fn contract_touches(
+    prompts: &[u8],
+    nets: &[i64; MOST_PROMPTS],
+    spreads: &[u8],
+    first: &[u64; MOST_SPREADS],
+    second: &[u64; MOST_SPREADS],
+) -> u64
+    requires { ⌜ BookRoom (records (now prompts)) (now nets) (records (now spreads))
+        × FormedOf (steps (map interprompt (records (now spreads)))) (opens (records (now prompts)) (now nets))
+        (spreadsFrom (now first)) (spreadsFrom (now second)) ⌝ }
+    ensures { λ r. ⌜ (r ≡ touches (steps (map interprompt (records (now (spreads .entry))))) (opens (records (now (prompts .entry))) (now (nets .entry))))
+        × (r ≤ mostTouches) ⌝ }
+{
+    if spreads.len() < RECORD_BYTES {
+        return 0;
+    }
+    let mut tiers = [0u8; MOST_PROMPTS];
+    put_tiers(&mut tiers, prompts);
+    touches_in(
+        prompts.len() / RECORD_BYTES,
+        &tiers,
+        nets,
+        interprompt_table(spreads),
+        first,
+        second,
+    )
 }

@@ -3,6 +3,7 @@ use crate::amount::Amount;
 use crate::amount::credit;
 use crate::amount::prompt_charge;
 use crate::amount::spread_charge;
+use account::parts::CONTRACTS;
 use exact::rounding::half_up;
 use record::bytes::RECORD_BYTES;
 use record::fields::contract;
@@ -19,15 +20,19 @@ use spread::MOST_PROMPTS;
 use spread::MOST_SPREADS;
 use spread::Spreads;
 ghost use mathlib.Core.Path.{_≡_};
+ghost use mathlib.Core.Bool.{_&&_};
+ghost use lib.Dec.{eqb};
 ghost use Prim.Native.Nat.{_*_, _≤_, _<_};
 ghost use Rattle.account.specs.Records.{records};
-ghost use Rattle.formulas.specs.Bounds.{mostFormed, mostCharge, mostCredit, mostCredits};
+ghost use Rattle.formulas.specs.Bounds.{mostFormed, mostCharge, mostCredit};
 ghost use Rattle.formulas.specs.Charges.{spreadCharge, interpromptCharge, promptCharge, promptCharges};
-ghost use Rattle.formulas.specs.Credit.{credit, bothTake, entryUse, creditsBy};
-ghost use Rattle.formulas.specs.code.Sums.{interleaved, deltasIn, SpreadRoom, SpreadsWithin, PromptRoom, PromptsWithin, CreditRoom, EntriesRoom};
-ghost use Rattle.account.specs.Check.{mostPrompts, mostSpreads};
+ghost use Rattle.formulas.specs.Credit.{credit, bothTake, entryUse};
+ghost use Rattle.formulas.specs.code.Sums.{interleaved, SpreadRoom, SpreadsWithin, PromptRoom, PromptsWithin, CreditRoom};
+ghost use Rattle.formulas.specs.code.Table.{earnerAt, earnsFrom, EarnerRoom, EntryRoom, EarnedRoom, WithEntry, WalkRoom, EarnedBy};
+ghost use Rattle.account.specs.Check.{mostContracts, mostPrompts, mostSpreads};
 ghost use Rattle.record.specs.Layout.{ratePerSpread, spreadRate, outrightRate, percent};
 ghost use Rattle.spread.specs.Steps.{useOf};
+ghost use Rattle.spread.specs.code.Lent.{spreadsFrom};
 
 fn charge_of_spread(unit: u64, s: &[u8], first: Spreads, second: Spreads) -> Amount
     requires { ⌜ SpreadRoom unit (now s) (first .0) (second .0) ⌝ }
@@ -40,18 +45,24 @@ fn charge_of_spread(unit: u64, s: &[u8], first: Spreads, second: Spreads) -> Amo
 pub(crate) fn interprompt_charge(
     unit: u64,
     spreads: &[u8],
-    first: [Spreads; MOST_SPREADS],
-    second: [Spreads; MOST_SPREADS],
+    first: &[u64; MOST_SPREADS],
+    second: &[u64; MOST_SPREADS],
 ) -> Amount
-    requires { ⌜ SpreadsWithin unit (records (now spreads)) first second ⌝ }
-    ensures { λ r. ⌜ (r .0 ≡ interpromptCharge unit (records (now (spreads .entry))) (interleaved first second)) × (r .0 ≤ mostSpreads * mostCharge) ⌝ }
+    requires { ⌜ SpreadsWithin unit (records (now spreads)) (spreadsFrom (now first)) (spreadsFrom (now second)) ⌝ }
+    ensures { λ r. ⌜ (r .0 ≡ interpromptCharge unit (records (now (spreads .entry)))
+        (interleaved (spreadsFrom (now (first .entry))) (spreadsFrom (now (second .entry))))) × (r .0 ≤ mostSpreads * mostCharge) ⌝ }
 {
     let count = spreads.len() / RECORD_BYTES;
     let mut sum: u64 = 0;
     let mut i = 0;
     while i < count {
         let at = i * RECORD_BYTES;
-        let charge = charge_of_spread(unit, &spreads[at..at + RECORD_BYTES], first[i], second[i]);
+        let charge = charge_of_spread(
+            unit,
+            &spreads[at..at + RECORD_BYTES],
+            Spreads(first[i]),
+            Spreads(second[i]),
+        );
         sum += charge.0;
         i += 1;
     }
@@ -75,18 +86,24 @@ fn charge_of_prompt(unit: u64, p: &[u8], used: Delta, unused: Delta) -> Amount
 pub(crate) fn prompt_charges(
     unit: u64,
     prompts: &[u8],
-    used: [Delta; MOST_PROMPTS],
-    unused: [Delta; MOST_PROMPTS],
+    used: &[i64; MOST_PROMPTS],
+    unused: &[i64; MOST_PROMPTS],
 ) -> Amount
-    requires { ⌜ PromptsWithin unit (records (now prompts)) used unused ⌝ }
-    ensures { λ r. ⌜ (r .0 ≡ promptCharges unit (records (now (prompts .entry))) (deltasIn used) (deltasIn unused)) × (r .0 ≤ mostPrompts * mostCharge) ⌝ }
+    requires { ⌜ PromptsWithin unit (records (now prompts)) (now used) (now unused) ⌝ }
+    ensures { λ r. ⌜ (r .0 ≡ promptCharges unit (records (now (prompts .entry))) (now (used .entry)) (now (unused .entry)))
+        × (r .0 ≤ mostPrompts * mostCharge) ⌝ }
 {
     let count = prompts.len() / RECORD_BYTES;
     let mut sum: u64 = 0;
     let mut i = 0;
     while i < count {
         let at = i * RECORD_BYTES;
-        let charge = charge_of_prompt(unit, &prompts[at..at + RECORD_BYTES], used[i], unused[i]);
+        let charge = charge_of_prompt(
+            unit,
+            &prompts[at..at + RECORD_BYTES],
+            Delta(used[i]),
+            Delta(unused[i]),
+        );
         sum += charge.0;
         i += 1;
     }
@@ -154,25 +171,85 @@ fn credit_from(e: &[u8], earner: Earner, first: Spreads, second: Spreads) -> Amo
     )
 }
 
-// A contract's credits over the entries of the intercontract table.
+// What a contract earns from an entry, by its number. Without a net delta it earns nothing.
+fn credit_at(
+    c: usize,
+    units: &[u64; CONTRACTS],
+    prices: &[u64; CONTRACTS],
+    nets: &[u64; CONTRACTS],
+    e: &[u8],
+    first: Spreads,
+    second: Spreads,
+) -> Amount
+    requires { ⌜ (c < mostContracts) × EarnerRoom (earnerAt (now units) (now prices) (now nets) c) (now e) (first .0) (second .0) ⌝ }
+    ensures { λ r. ⌜ (r .0 ≡ earnsFrom (earnerAt (now (units .entry)) (now (prices .entry)) (now (nets .entry)) c) (now (e .entry)) (first .0) (second .0))
+        × (r .0 ≤ mostCredit) ⌝ }
+{
+    let net = nets[c];
+    if net == 0 {
+        return Amount(0);
+    }
+    let earner = Earner {
+        unit: units[c],
+        contract: c,
+        twice_price: prices[c],
+        net: net,
+    };
+    credit_from(e, earner, first, second)
+}
+
+// Whether an entry formed nothing.
+fn formed_none(first: Spreads, second: Spreads) -> bool
+    ensures { λ r. ⌜ r ≡ eqb (first .0) 0 && eqb (second .0) 0 ⌝ }
+{
+    (first.0 == 0) & (second.0 == 0)
+}
+
+// One entry more in what the contracts earned, by their numbers: it adds to its two contracts alone, and nothing where it formed nothing.
+fn add_credits(
+    earned: &mut [u64; CONTRACTS],
+    units: &[u64; CONTRACTS],
+    prices: &[u64; CONTRACTS],
+    nets: &[u64; CONTRACTS],
+    e: &[u8],
+    first: Spreads,
+    second: Spreads,
+)
+    requires { ⌜ EntryRoom (earnerAt (now units) (now prices) (now nets)) (now e) (first .0) (second .0) × EarnedRoom (now earned) ⌝ }
+    ensures { λ r. ⌜ WithEntry (earnerAt (now (units .entry)) (now (prices .entry)) (now (nets .entry))) (now (e .entry)) (first .0) (second .0)
+        (now (earned .entry)) (now (earned .exit)) ⌝ }
+{
+    if formed_none(first, second) {
+        return;
+    }
+    let a = contract(e);
+    let b = second_contract(e);
+    let to_first = credit_at(a, units, prices, nets, e, first, second);
+    let to_second = credit_at(b, units, prices, nets, e, first, second);
+    earned[a] += to_first.0;
+    earned[b] += to_second.0;
+}
+
+// What the contracts earn from the entries of the intercontract table, by their numbers.
 pub(crate) fn credits(
     entries: &[u8],
-    earner: Earner,
+    units: &[u64; CONTRACTS],
+    prices: &[u64; CONTRACTS],
+    nets: &[u64; CONTRACTS],
     first: [Spreads; MOST_SPREADS],
     second: [Spreads; MOST_SPREADS],
-) -> Amount
-    requires { ⌜ EntriesRoom (earner .unit) (earner .contract) (earner .«twice_price») (earner .net) (records (now entries)) first second ⌝ }
-    ensures { λ r. ⌜ (r .0 ≡ creditsBy (earner .unit) (earner .contract) (earner .«twice_price») (earner .net) (records (now (entries .entry)))
-        (interleaved first second)) × (r .0 ≤ mostCredits) ⌝ }
+) -> [u64; CONTRACTS]
+    requires { ⌜ WalkRoom (earnerAt (now units) (now prices) (now nets)) (records (now entries)) first second ⌝ }
+    ensures { λ r. ⌜ EarnedBy (earnerAt (now (units .entry)) (now (prices .entry)) (now (nets .entry))) (records (now (entries .entry))) first second r ⌝ }
 {
     let count = entries.len() / RECORD_BYTES;
-    let mut sum: u64 = 0;
+    let mut earned = [0u64; CONTRACTS];
     let mut i = 0;
     while i < count {
         let at = i * RECORD_BYTES;
-        let more = credit_from(&entries[at..at + RECORD_BYTES], earner, first[i], second[i]);
-        sum += more.0;
+        let e = &entries[at..at + RECORD_BYTES];
+        add_credits(&mut earned, units, prices, nets, e, first[i], second[i]);
         i += 1;
     }
-    Amount(sum)
+    earned
 }

@@ -1,7 +1,7 @@
 // The formulas of document 01: what the rows of a contract come to, its risks, its delta book, its charges, its line of figures,
 // and the credits of the intercontract table.
 pub mod amount;
-mod books;
+pub mod books;
 mod charges;
 pub mod intercontract;
 pub mod line;

@@ -1,27 +1,33 @@
 // A contract's line of figures, before the intercontract table.
 use crate::amount::Amount;
 use crate::amount::short_option_minimum;
-use crate::books::contract_book;
+use crate::books::put_contract_book;
 use crate::charges::interprompt_charge;
 use crate::charges::prompt_charges;
 use crate::risk::scanned;
 use crate::rows::Position;
 use exact::signed::plus;
+use record::fields::SCENARIOS;
 use record::fields::contract;
 use record::fields::short_option_rate;
 use record::fields::unit;
 use spread::Delta;
 use spread::MOST_PROMPTS;
-use spread::book::Book;
+use spread::MOST_SPREADS;
+use spread::plain::plain;
 ghost use mathlib.Core.Path.{_≡_};
 ghost use mathlib.Core.List.{map};
 ghost use Prim.Native.Nat.{_+_, _^_, _≤_, _<_};
 ghost use lib.IntN.{natAbs, _+ℤ_};
+ghost use lib.ListN.{length};
 ghost use Rattle.exact.specs.Lists.{sum, sumℤ};
 ghost use Rattle.account.specs.Records.{records};
+ghost use Rattle.spread.specs.Accepted.{promptPlaces};
 ghost use Rattle.spread.specs.Steps.{steps};
+ghost use Rattle.spread.specs.code.Lent.{bookIn, spreadsFrom};
 ghost use Rattle.formulas.specs.Bounds.{mostDelta};
 ghost use Rattle.formulas.specs.Deltas.{opens, interprompt};
+ghost use Rattle.formulas.specs.code.Position.{positionIn};
 ghost use Rattle.formulas.specs.code.Promised.{BookOf, Charged, LineOf, PositionFit, contractWith};
 ghost use Rattle.formulas.specs.code.Sums.{deltasIn, SpreadsWithin, PromptsWithin};
 
@@ -47,18 +53,27 @@ fn together(a: Delta, b: Delta) -> Delta
 }
 
 // The net delta of a contract: the sum over its prompts.
-pub fn contract_net(nets: [Delta; MOST_PROMPTS]) -> Delta
-    requires { ⌜ sum (map natAbs (deltasIn nets)) ≤ mostDelta ⌝ }
-    ensures { λ r. ⌜ r .0 ≡ sumℤ (deltasIn nets) ⌝ }
+fn net_in(nets: &[i64; MOST_PROMPTS]) -> Delta
+    requires { ⌜ (length (now nets) ≡ promptPlaces) × (sum (map natAbs (now nets)) ≤ mostDelta) ⌝ }
+    ensures { λ r. ⌜ r .0 ≡ sumℤ (now (nets .entry)) ⌝ }
 {
     let mut net = Delta(0);
     let mut i = 0;
     while i < MOST_PROMPTS {
-        let more = together(net, nets[i]);
+        let more = together(net, Delta(nets[i]));
         net = more;
         i += 1;
     }
     net
+}
+
+// The same of net deltas by value.
+pub fn contract_net(nets: [Delta; MOST_PROMPTS]) -> Delta
+    requires { ⌜ sum (map natAbs (deltasIn nets)) ≤ mostDelta ⌝ }
+    ensures { λ r. ⌜ r .0 ≡ sumℤ (deltasIn nets) ⌝ }
+{
+    let numbers = plain(nets);
+    net_in(&numbers)
 }
 
 // What a contract is charged for its spreads and its prompts.
@@ -67,16 +82,21 @@ struct Charges {
     prompt: Amount,
 }
 
-fn charges_of(unit: u64, prompts: &[u8], spreads: &[u8], book: Book) -> Charges
-    requires { ⌜ SpreadsWithin unit (records (now spreads)) (book .first) (book .second) × PromptsWithin unit (records (now prompts)) (book .used)
-        (book .unused) ⌝ }
-    ensures { λ r. ⌜ Charged unit (records (now (prompts .entry))) (records (now (spreads .entry))) book (r .interprompt .0) (r .prompt .0) ⌝ }
+fn charges_of(
+    unit: u64,
+    prompts: &[u8],
+    spreads: &[u8],
+    first: &[u64; MOST_SPREADS],
+    second: &[u64; MOST_SPREADS],
+    used: &[i64; MOST_PROMPTS],
+    unused: &[i64; MOST_PROMPTS],
+) -> Charges
+    requires { ⌜ SpreadsWithin unit (records (now spreads)) (spreadsFrom (now first)) (spreadsFrom (now second))
+        × PromptsWithin unit (records (now prompts)) (now used) (now unused) ⌝ }
+    ensures { λ r. ⌜ Charged unit (records (now (prompts .entry))) (records (now (spreads .entry)))
+        (now (first .entry)) (now (second .entry)) (now (used .entry)) (now (unused .entry)) (r .interprompt .0) (r .prompt .0) ⌝ }
 {
-    let first = book.first;
-    let second = book.second;
     let interprompt = interprompt_charge(unit, spreads, first, second);
-    let used = book.used;
-    let unused = book.unused;
     let prompt = prompt_charges(unit, prompts, used, unused);
     Charges {
         interprompt: interprompt,
@@ -85,19 +105,29 @@ fn charges_of(unit: u64, prompts: &[u8], spreads: &[u8], book: Book) -> Charges
 }
 
 // The line of a contract, from its own record, its prompts and interprompt spreads, what its rows come to, and its book.
-pub fn line_by(own: &[u8], prompts: &[u8], spreads: &[u8], p: Position, book: Book) -> Line
-    requires { ⌜ PositionFit (now own) (records (now prompts)) (records (now spreads)) p
-        × BookOf (steps (map interprompt (records (now spreads)))) (opens (records (now prompts)) (deltasIn (p .nets))) book ⌝ }
-    ensures { λ r. ⌜ LineOf (contractWith (now (own .entry)) (records (now (prompts .entry))) (records (now (spreads .entry))) p) r ⌝ }
+pub fn line_in(
+    own: &[u8],
+    prompts: &[u8],
+    spreads: &[u8],
+    totals: &[i64; SCENARIOS],
+    nets: &[i64; MOST_PROMPTS],
+    shorts: u64,
+    first: &[u64; MOST_SPREADS],
+    second: &[u64; MOST_SPREADS],
+    used: &[i64; MOST_PROMPTS],
+    unused: &[i64; MOST_PROMPTS],
+) -> Line
+    requires { ⌜ PositionFit (now own) (records (now prompts)) (records (now spreads)) (positionIn (now totals) (now nets) shorts)
+        × BookOf (steps (map interprompt (records (now spreads)))) (opens (records (now prompts)) (now nets))
+        (bookIn (now first) (now second) (now used) (now unused)) ⌝ }
+    ensures { λ r. ⌜ LineOf (contractWith (now (own .entry)) (records (now (prompts .entry))) (records (now (spreads .entry)))
+        (positionIn (now (totals .entry)) (now (nets .entry)) shorts)) r ⌝ }
 {
-    let nets = p.nets;
-    let sixteen = p.totals;
-    let totals = sixteen.0;
-    let risks = scanned(totals);
+    let risks = scanned(*totals);
     let its_unit = unit(own) as u64;
-    let charges = charges_of(its_unit, prompts, spreads, book);
-    let minimum = short_option_minimum(p.shorts, short_option_rate(own) as u64);
-    let net = contract_net(nets);
+    let charges = charges_of(its_unit, prompts, spreads, first, second, used, unused);
+    let minimum = short_option_minimum(shorts, short_option_rate(own) as u64);
+    let net = net_in(nets);
     let scanning = risks.scanning;
     let interprompt = charges.interprompt;
     let prompt = charges.prompt;
@@ -114,12 +144,54 @@ pub fn line_by(own: &[u8], prompts: &[u8], spreads: &[u8], p: Position, book: Bo
     }
 }
 
-// The same without its book, which is run.
+// The line of a contract without its book, which is run.
+pub fn line_over(
+    own: &[u8],
+    prompts: &[u8],
+    spreads: &[u8],
+    totals: &[i64; SCENARIOS],
+    nets: &[i64; MOST_PROMPTS],
+    shorts: u64,
+) -> Line
+    requires { ⌜ PositionFit (now own) (records (now prompts)) (records (now spreads)) (positionIn (now totals) (now nets) shorts) ⌝ }
+    ensures { λ r. ⌜ LineOf (contractWith (now (own .entry)) (records (now (prompts .entry))) (records (now (spreads .entry)))
+        (positionIn (now (totals .entry)) (now (nets .entry)) shorts)) r ⌝ }
+{
+    let mut first = [0; MOST_SPREADS];
+    let mut second = [0; MOST_SPREADS];
+    let mut used = [0; MOST_PROMPTS];
+    let mut unused = [0; MOST_PROMPTS];
+    put_contract_book(
+        prompts,
+        nets,
+        spreads,
+        &mut first,
+        &mut second,
+        &mut used,
+        &mut unused,
+    );
+    line_in(
+        own,
+        prompts,
+        spreads,
+        totals,
+        nets,
+        shorts,
+        &first,
+        &second,
+        &used,
+        &unused,
+    )
+}
+
+// The same of a position by value.
 pub fn line_of(own: &[u8], prompts: &[u8], spreads: &[u8], p: Position) -> Line
     requires { ⌜ PositionFit (now own) (records (now prompts)) (records (now spreads)) p ⌝ }
     ensures { λ r. ⌜ LineOf (contractWith (now (own .entry)) (records (now (prompts .entry))) (records (now (spreads .entry))) p) r ⌝ }
 {
-    let nets = p.nets;
-    let book = contract_book(prompts, nets, spreads);
-    line_by(own, prompts, spreads, p, book)
+    let sixteen = p.totals;
+    let totals = sixteen.0;
+    let its_nets = p.nets;
+    let nets = plain(its_nets);
+    line_over(own, prompts, spreads, &totals, &nets, p.shorts)
 }

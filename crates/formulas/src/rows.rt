@@ -3,10 +3,10 @@ ghost use mathlib.Core.Path.{_≡_};
 ghost use mathlib.Core.Bool.{true};
 ghost use mathlib.Core.List.{List, [], _∷_, _++_};
 ghost use Prim.Native.Nat.{ℕ, _<_, _≤_, _+_, _-_, _*_};
-ghost use lib.IntN.{pos, natAbs, negℤ, _+ℤ_, _-ℤ_, _*ℤ_};
+ghost use lib.IntN.{pos, natAbs, negℤ, _-ℤ_, _*ℤ_};
 ghost use Rattle.spread.specs.Accepted.{promptPlaces};
 ghost use Rattle.exact.specs.Rounding.{halfAwayTo};
-ghost use lib.ListN.{length, getD};
+ghost use lib.ListN.{length, getD, replicate};
 ghost use Rattle.record.specs.Layout.{Record, day, hundredThousand, mostUnit, scenarioCount};
 ghost use Rattle.account.specs.Check.{mostPrompts, mostRows};
 ghost use Rattle.account.specs.Products.{convertedAt, mostConversion, mostFactor};
@@ -17,7 +17,8 @@ ghost use Rattle.formulas.specs.Deltas.{rowDelta};
 ghost use Rattle.formulas.specs.Margin as Margin;
 ghost use Rattle.formulas.specs.Margin.{shortOptions};
 ghost use Rattle.formulas.specs.code.Position.{RowFit, RowsFit, RatedBy, FactorsFit, Sized, AtMost, Added, DaysOf, products, ownProducts};
-ghost use Rattle.formulas.specs.code.Position.{convertedProducts, netOn, withNets, FirstPlace, Rising, PositionOf, Bounded, WithRows, HasRows, deltasIn};
+ghost use Rattle.formulas.specs.code.Position.{convertedProducts, netOn, addsOn, withNets, FirstPlace, Rising, PositionOf, positionIn, Bounded, WithRows};
+ghost use Rattle.formulas.specs.code.Position.{HasRows, deltasIn};
 ghost use Rattle.formulas.specs.declared.rows.Position.{Position};
 use account::rates::Factors;
 use account::rates::Rates;
@@ -40,6 +41,8 @@ use record::fields::lots;
 use record::fields::row_type;
 use spread::Delta;
 use spread::MOST_PROMPTS;
+use spread::plain::deltas_from;
+use spread::plain::plain;
 
 // The sixteen totals, in hundredths of the currency, scenario 1 first.
 pub struct Totals(pub [i64; SCENARIOS]);
@@ -104,14 +107,6 @@ fn short_options(row: &[u8]) -> u64
 {
     let lots_short = short(lots(row));
     if row_type(row) == 0 { 0 } else { lots_short }
-}
-
-// A prompt's net delta with more added to it.
-fn net_with(net: Delta, more: Delta) -> Delta
-    requires { ⌜ (natAbs (net .0) ≤ mostDelta) × (natAbs (more .0) ≤ mostDelta) ⌝ }
-    ensures { λ r. ⌜ r .0 ≡ net .0 +ℤ more .0 ⌝ }
-{
-    Delta(plus(net.0, more.0))
 }
 
 // One row more in the margin currency, added to each total.
@@ -267,7 +262,95 @@ fn next_place(days: &[u32; MOST_PROMPTS], count: usize, rising: bool, j: usize) 
     first_place(days, j + 1, count, days[j])
 }
 
-// What rows come to with more rows, in one walk over these. A ticket is one row more.
+// A row's delta added to the net delta of each prompt of its day.
+fn add_delta(
+    nets: &mut [i64; MOST_PROMPTS],
+    days: &[u32; MOST_PROMPTS],
+    count: usize,
+    rising: bool,
+    d: u32,
+    more: Delta,
+)
+    requires { ⌜ (count ≤ mostPrompts)
+        × ((rising ≡ true → Rising count (now days)) × ((natAbs (more .0) ≤ mostDelta) × AtMost promptPlaces mostDelta (now nets))) ⌝ }
+    ensures { λ r. ⌜ Added count (addsOn (now (days .entry)) d (more .0)) (now (nets .entry)) (now (nets .exit)) ⌝ }
+{
+    let mut j = place_of(days, count, rising, d);
+    while j < count {
+        nets[j] = plus(nets[j], more.0);
+        j = next_place(days, count, rising, j);
+    }
+}
+
+// Totals and net deltas with more rows, in one walk over these; what they add to the short lots.
+pub fn add_rows(
+    totals: &mut [i64; SCENARIOS],
+    nets: &mut [i64; MOST_PROMPTS],
+    days: Days,
+    rates: Rates,
+    unit: u64,
+    rows: &[u8],
+) -> u64
+    requires { ⌜ (unit ≤ mostUnit)
+        × ((days .count ≤ mostPrompts)
+        × (RowsFit (records (now rows)) × (RatedBy rates (records (now rows))
+        × Bounded (mostRows - length (records (now rows))) (positionIn (now totals) (now nets) 0)))) ⌝ }
+    ensures added { λ n. ⌜ ((held : List Record) → RatesOf held rates
+        → WithRows held unit days (positionIn (now (totals .entry)) (now (nets .entry)) 0) (records (now (rows .entry)))
+        (positionIn (now (totals .exit)) (now (nets .exit)) n)) ⌝ }
+    ensures most { λ n. ⌜ Bounded mostRows (positionIn (now (totals .exit)) (now (nets .exit)) n) ⌝ }
+{
+    let count = rows.len() / RECORD_BYTES;
+    let prompts = days.count;
+    let its_days = days.day;
+    let rising = rise(&its_days, prompts);
+    let mut shorts = 0;
+    let mut i = 0;
+    while i < count {
+        let at = i * RECORD_BYTES;
+        let row = &rows[at..at + RECORD_BYTES];
+        add_delta(
+            nets,
+            &its_days,
+            prompts,
+            rising,
+            day_of(row),
+            row_delta(row),
+        );
+        add_row(totals, rates, unit, row);
+        shorts = shorts + short_options(row);
+        i += 1;
+    }
+    shorts
+}
+
+// Net deltas with more rows, in one walk over these: where nothing but they are asked for.
+fn add_nets(nets: &mut [i64; MOST_PROMPTS], days: Days, rows: &[u8])
+    requires { ⌜ (days .count ≤ mostPrompts)
+        × (RowsFit (records (now rows)) × AtMost promptPlaces ((mostRows - length (records (now rows))) * 1000000000) (now nets)) ⌝ }
+    ensures { λ r. ⌜ Added (days .count) (λ j. netOn (records (now (rows .entry))) (getD (days .day) j 0)) (now (nets .entry)) (now (nets .exit)) ⌝ }
+{
+    let count = rows.len() / RECORD_BYTES;
+    let prompts = days.count;
+    let its_days = days.day;
+    let rising = rise(&its_days, prompts);
+    let mut i = 0;
+    while i < count {
+        let at = i * RECORD_BYTES;
+        let row = &rows[at..at + RECORD_BYTES];
+        add_delta(
+            nets,
+            &its_days,
+            prompts,
+            rising,
+            day_of(row),
+            row_delta(row),
+        );
+        i += 1;
+    }
+}
+
+// What rows come to with more rows. A ticket is one row more.
 pub fn with_rows(p: Position, days: Days, rates: Rates, unit: u64, rows: &[u8]) -> Position
     requires { ⌜ (unit ≤ mostUnit)
         × ((days .count ≤ mostPrompts)
@@ -277,63 +360,16 @@ pub fn with_rows(p: Position, days: Days, rates: Rates, unit: u64, rows: &[u8]) 
         → PositionOf held unit prompts (earlier ++ records (now (rows .entry))) q) ⌝ }
     ensures most { λ q. ⌜ Bounded mostRows q ⌝ }
 {
-    let count = rows.len() / RECORD_BYTES;
-    let prompts = days.count;
-    let its_days = days.day;
-    let rising = rise(&its_days, prompts);
     let its_totals = p.totals;
     let mut totals = its_totals.0;
-    let mut nets = p.nets;
-    let mut shorts = p.shorts;
-    let mut i = 0;
-    while i < count {
-        let at = i * RECORD_BYTES;
-        let row = &rows[at..at + RECORD_BYTES];
-        let row_day = day_of(row);
-        let more = row_delta(row);
-        let mut j = place_of(&its_days, prompts, rising, row_day);
-        while j < prompts {
-            let net = net_with(nets[j], more);
-            nets[j] = net;
-            j = next_place(&its_days, prompts, rising, j);
-        }
-        add_row(&mut totals, rates, unit, row);
-        shorts = shorts + short_options(row);
-        i += 1;
-    }
+    let its_nets = p.nets;
+    let mut nets = plain(its_nets);
+    let more = add_rows(&mut totals, &mut nets, days, rates, unit, rows);
     Position {
         totals: Totals(totals),
-        nets,
-        shorts,
+        nets: deltas_from(nets),
+        shorts: p.shorts + more,
     }
-}
-
-// Net deltas with more rows, in one walk over these: where nothing but they are asked for.
-fn nets_with(before: [Delta; MOST_PROMPTS], days: Days, rows: &[u8]) -> [Delta; MOST_PROMPTS]
-    requires { ⌜ (days .count ≤ mostPrompts)
-        × (RowsFit (records (now rows)) × AtMost promptPlaces ((mostRows - length (records (now rows))) * 1000000000) (deltasIn before)) ⌝ }
-    ensures { λ r. ⌜ Added (days .count) (λ j. netOn (records (now (rows .entry))) (getD (days .day) j 0)) (deltasIn before) (deltasIn r) ⌝ }
-{
-    let count = rows.len() / RECORD_BYTES;
-    let prompts = days.count;
-    let its_days = days.day;
-    let rising = rise(&its_days, prompts);
-    let mut nets = before;
-    let mut i = 0;
-    while i < count {
-        let at = i * RECORD_BYTES;
-        let row = &rows[at..at + RECORD_BYTES];
-        let row_day = day_of(row);
-        let more = row_delta(row);
-        let mut j = place_of(&its_days, prompts, rising, row_day);
-        while j < prompts {
-            let net = net_with(nets[j], more);
-            nets[j] = net;
-            j = next_place(&its_days, prompts, rising, j);
-        }
-        i += 1;
-    }
-    nets
 }
 
 // The net deltas alone of what a contract's rows come to.
@@ -342,9 +378,9 @@ pub fn nets_of(prompts: &[u8], rows: &[u8]) -> [Delta; MOST_PROMPTS]
     ensures { λ r. ⌜ ((rates : List Record) (unit : ℕ) → PositionOf rates unit (records (now (prompts .entry))) (records (now (rows .entry)))
         (withNets rates unit (records (now (rows .entry))) r)) ⌝ }
 {
-    let none = flat();
-    let no_nets = none.nets;
-    nets_with(no_nets, days_of(prompts), rows)
+    let mut nets = [0i64; MOST_PROMPTS];
+    add_nets(&mut nets, days_of(prompts), rows);
+    deltas_from(nets)
 }
 
 // Totals with others taken away, one by one.
@@ -404,11 +440,38 @@ pub fn without_rows(p: Position, days: Days, rates: Rates, unit: u64, rows: &[u8
     }
 }
 
-// What a contract's rows come to, at the account's rates, by its unit and its prompts' days.
+// What a contract's rows come to, at the account's rates, by its unit and its prompts' days: put in lent arrays of zeros, but for its short lots.
+pub fn put_position(
+    totals: &mut [i64; SCENARIOS],
+    nets: &mut [i64; MOST_PROMPTS],
+    rates: Rates,
+    unit: u64,
+    prompts: &[u8],
+    rows: &[u8],
+) -> u64
+    requires { ⌜ (unit ≤ mostUnit)
+        × ((recordCount (now prompts) ≤ mostPrompts)
+        × (RowsFit (records (now rows)) × (RatedBy rates (records (now rows))
+        × ((now totals ≡ replicate scenarioCount (pos 0)) × (now nets ≡ replicate promptPlaces (pos 0)))))) ⌝ }
+    ensures is { λ n. ⌜ ((held : List Record) → RatesOf held rates → PositionOf held unit (records (now (prompts .entry))) (records (now (rows .entry)))
+        (positionIn (now (totals .exit)) (now (nets .exit)) n)) ⌝ }
+    ensures most { λ n. ⌜ Bounded mostRows (positionIn (now (totals .exit)) (now (nets .exit)) n) ⌝ }
+{
+    add_rows(totals, nets, days_of(prompts), rates, unit, rows)
+}
+
+// The same as a position.
 pub fn position_of(rates: Rates, unit: u64, prompts: &[u8], rows: &[u8]) -> Position
     requires { ⌜ (unit ≤ mostUnit) × ((recordCount (now prompts) ≤ mostPrompts) × (RowsFit (records (now rows)) × RatedBy rates (records (now rows)))) ⌝ }
     ensures is { λ p. ⌜ ((held : List Record) → RatesOf held rates → PositionOf held unit (records (now (prompts .entry))) (records (now (rows .entry))) p) ⌝ }
     ensures most { λ p. ⌜ Bounded mostRows p ⌝ }
 {
-    with_rows(flat(), days_of(prompts), rates, unit, rows)
+    let mut totals = [0i64; SCENARIOS];
+    let mut nets = [0i64; MOST_PROMPTS];
+    let shorts = put_position(&mut totals, &mut nets, rates, unit, prompts, rows);
+    Position {
+        totals: Totals(totals),
+        nets: deltas_from(nets),
+        shorts,
+    }
 }

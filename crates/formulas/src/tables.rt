@@ -18,9 +18,13 @@ use spread::Prompts;
 use spread::Spread;
 use spread::Table;
 ghost use mathlib.Core.Path.{_≡_};
+ghost use mathlib.Core.List.{map};
 ghost use Prim.Native.Nat.{_≤_};
+ghost use lib.ListN.{length, take};
+ghost use Rattle.record.specs.Layout as Layout;
 ghost use Rattle.account.specs.Check.{mostPrompts, mostSpreads, mostEntries};
-ghost use Rattle.account.specs.Records.{recordCount};
+ghost use Rattle.account.specs.Records.{records, recordCount};
+ghost use Rattle.spread.specs.Accepted.{promptPlaces};
 ghost use Rattle.formulas.specs.Deltas as Deltas;
 ghost use Rattle.formulas.specs.Deltas.{legOf};
 ghost use Rattle.formulas.specs.code.Tables.{TiersOf, TableOf};
@@ -90,17 +94,18 @@ pub fn interprompt_table(spreads: &[u8]) -> Table
     ensures { λ r. ⌜ TableOf Deltas.interprompt (now (spreads .entry)) r ⌝ }
 {
     let count = spreads.len() / RECORD_BYTES;
-    let mut table = [no_spread(); MOST_SPREADS];
+    let mut table = Table {
+        count: count,
+        spread: [no_spread(); MOST_SPREADS],
+    };
     let mut i = 0;
     while i < count {
         let at = i * RECORD_BYTES;
-        table[i] = interprompt(&spreads[at..at + RECORD_BYTES]);
+        let spread = interprompt(&spreads[at..at + RECORD_BYTES]);
+        table.spread[i] = spread;
         i += 1;
     }
-    Table {
-        count: count,
-        spread: table,
-    }
+    table
 }
 
 // The table of intercontract spreads, in file order.
@@ -109,16 +114,31 @@ pub fn intercontract_table(entries: &[u8]) -> Table
     ensures { λ r. ⌜ TableOf Deltas.intercontract (now (entries .entry)) r ⌝ }
 {
     let count = entries.len() / RECORD_BYTES;
-    let mut table = [no_spread(); MOST_SPREADS];
+    let mut table = Table {
+        count: count,
+        spread: [no_spread(); MOST_SPREADS],
+    };
     let mut i = 0;
     while i < count {
         let at = i * RECORD_BYTES;
-        table[i] = intercontract(&entries[at..at + RECORD_BYTES]);
+        let spread = intercontract(&entries[at..at + RECORD_BYTES]);
+        table.spread[i] = spread;
         i += 1;
     }
-    Table {
-        count: count,
-        spread: table,
+    table
+}
+
+// The tiers of a contract's prompts, in lent places.
+pub(crate) fn put_tiers(tiers: &mut [u8; MOST_PROMPTS], prompts: &[u8])
+    requires { ⌜ (length (now tiers) ≡ promptPlaces) × (recordCount (now prompts) ≤ mostPrompts) ⌝ }
+    ensures { λ _. ⌜ take (recordCount (now (prompts .entry))) (now (tiers .exit)) ≡ map Layout.tier (records (now (prompts .entry))) ⌝ }
+{
+    let count = prompts.len() / RECORD_BYTES;
+    let mut i = 0;
+    while i < count {
+        let at = i * RECORD_BYTES;
+        tiers[i] = tier(&prompts[at..at + RECORD_BYTES]) as u8;
+        i += 1;
     }
 }
 
@@ -127,16 +147,10 @@ pub fn prompts_with(prompts: &[u8], nets: [Delta; MOST_PROMPTS]) -> Prompts
     requires { ⌜ recordCount (now prompts) ≤ mostPrompts ⌝ }
     ensures { λ r. ⌜ TiersOf (now (prompts .entry)) nets r ⌝ }
 {
-    let count = prompts.len() / RECORD_BYTES;
     let mut tiers = [0u8; MOST_PROMPTS];
-    let mut i = 0;
-    while i < count {
-        let at = i * RECORD_BYTES;
-        tiers[i] = tier(&prompts[at..at + RECORD_BYTES]) as u8;
-        i += 1;
-    }
+    put_tiers(&mut tiers, prompts);
     Prompts {
-        count: count,
+        count: prompts.len() / RECORD_BYTES,
         tier: tiers,
         net: nets,
     }

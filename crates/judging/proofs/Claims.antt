@@ -14,15 +14,11 @@ use lib.ListN.{length, length-map, getD, take}
 use lib.Seq.{getD-take}
 use lib.Signed.{ltZ, _<ℤ_}
 use borrow.Author.Tests.{ltb-true, lt-ltb, eqb-true, eq-eqb}
-use Rattle.spread.specs.Accepted.{openOf, stepsOf, sound}
 use Rattle.spread.specs.Demand.{Feasible, soundSteps}
 use Rattle.spread.specs.Steps.{Open, Taker, numbers}
 use Rattle.spread.specs.Uses.{inOneList, takings}
-use Rattle.spread.specs.declared.Prompts.{Prompts}
-use Rattle.spread.specs.declared.Table.{Table}
 use Rattle.spread.proofs.Both.{and-left, and-right, and-both}
 use Rattle.spread.proofs.Demand3.{demand3, one-per-step}
-use Rattle.spread.proofs.Soundness.{table-sound}
 use Rattle.spread.proofs.Lengths.{uses-length}
 use Rattle.judging.specs.Claims.{Iff, usesTold, numberTold, useTold, Picked, Reached, IsRight, IsMore, IsLess, IsWrongUse, Says, SameCounts, TheList}
 use Rattle.judging.specs.Claims.{Claims}
@@ -313,7 +309,3 @@ module _ (ss : List (List Taker)) (ps : List Open) (ok : soundSteps ss ≡ true)
           exactly = λ c list p v. subst (λ (l : List ℕ). Iff (judgedList ss ps sent xs us ≡ v) (Says ss ps l ts v)) (sym (only list p)) (exactly-so c v);
           yes = λ list p. subst (λ (l : List ℕ). Iff (judgedList ss ps sent xs us ≡ Right) (TheList ss ps l sent xs us)) (sym (only list p)) yes;
         }
-
--- of all prompts and spreads that are accepted
-pub claims-accepted : (p : Prompts) (t : Table) → sound p t ≡ true → (sent : ℕ) (xs us : List ℤ) → Claims (stepsOf t) (openOf p) sent xs us
-claims-accepted p t e sent xs us = claims (stepsOf t) (openOf p) (table-sound p t e) sent xs us

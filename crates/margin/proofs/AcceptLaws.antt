@@ -158,9 +158,6 @@ module _ (account : List Record) (ok : Lawful account) where
   pub each-unrated : (c k : ℕ) → k < length (rowsOf c account) → RowRated [] (getD (rowsOf c account) k [])
   each-unrated c k h = row-unrated (getD (rowsOf c account) k []) (its-row c k h)
 
-  pub rows-unrated : (c : ℕ) (t : Rates) → RatesOf [] t → RatedBy t (rowsOf c account)
-  rows-unrated c t held = record { rates = []; held = held; each = each-unrated c }
-
   pub own-within : (k : ℕ) → k < length (contractsOf account) → ranges.ContractWithin (getD (contractsOf account) k [])
   own-within k h = every-at ranges.ContractWithin (contractsOf account) (ok .ranges .contracts) k h
 

@@ -1,6 +1,6 @@
 -- The lines of an account's contracts, the intercontract table over them, credits and figures.
 -- Assumes nothing.
-use Prim.Native.Nat.{ℕ, suc, _+_, _*_, _≤_, _<_, zero-le, suc-le-suc}
+use Prim.Native.Nat.{ℕ, zero, suc, _+_, _*_, _≤_, _<_, zero-le, suc-le-suc}
 use native.Mathlib.Nat.{le-trans, le-of-suc-le-suc, not-suc-le-zero, mul-le-mul-right}
 use native.Mathlib.Decide.{ℕ-discrete}
 use native.Mathlib.Omega.{arith}
@@ -8,11 +8,11 @@ use mathlib.Core.Path.{_≡_, refl, sym, ap, ap₂, _∙_, subst, subst⁻¹}
 use mathlib.Core.Bool.{true}
 use mathlib.Core.List.{List, [], _∷_, map}
 use lib.IntN.{ℤ, pos, natAbs}
-use lib.ListN.{length, getD, take, set, length-set, length-map}
+use lib.ListN.{length, getD, take, set, replicate, length-set, length-map, getD-replicate}
 use lib.Seq.{getD-set-same, getD-set-other, getD-take, length-take-le}
 use Rattle.exact.proofs.Lists.{getD-map}
 use Rattle.record.specs.Layout.{Record, contract, unit, percent}
-use Rattle.account.specs.Parts.{contractsOf}
+use Rattle.account.specs.Parts.{contractsOf, entriesOf}
 use Rattle.account.specs.Records.{records}
 use Rattle.account.specs.Lawful.{Lawful}
 use Rattle.account.specs.PartNumbers.{entryPart}
@@ -34,9 +34,13 @@ use Rattle.margin.specs.Figures.{figures, figuresOver}
 use Rattle.formulas.specs.code.Lines.{noLine, figuresFrom}
 use Rattle.margin.specs.code.Numbers.{LinesWithin}
 use Rattle.formulas.specs.code.Promised.{BookOf, LineOf}
+use Rattle.margin.specs.Books.{bookBy, tableQuestion}
+use Rattle.margin.specs.code.Asked.{BookIs}
+use Rattle.margin.specs.code.Beside.{Unspread}
 use Rattle.margin.specs.code.Lined.{LinesOf}
+use Rattle.margin.proofs.AnswerLaws.{book-by-steps}
 use Rattle.formulas.specs.code.Sums.{interleaved, spreadsAt}
-use Rattle.formulas.specs.code.Table.{tierOf, TableRoom, CreditsRoom, CreditsOf, earns, tableFirsts, tableSeconds}
+use Rattle.formulas.specs.code.Table.{tierOf, TableRoom, LinesRise, CreditsRoom, CreditsOf, earns, tableFirsts, tableSeconds}
 use Rattle.margin.proofs.AcceptLaws.{entries-within, numbers-rise}
 use Rattle.formulas.proofs.BookLaws.{first-at, second-at, over-arrays}
 use Rattle.formulas.proofs.CreditLaws.{credits-by}
@@ -86,6 +90,19 @@ credited-from es table (k ∷ ks) d [] h e = absurd (not-suc-le-zero h)
 credited-from es table (k ∷ ks) d (c ∷ cs) h e =
     (e 0 (suc-le-suc zero-le), credited-from es table ks d cs (le-of-suc-le-suc h) (λ i m. e (suc i) (suc-le-suc m)))
 
+-- each contract has its line
+module _ (account : List Record) (all : Lines) (is : LinesOf account all) where
+  pub its-line : (i : ℕ) → i < all .count → LineOf (getD (contracts account) i (partsIn account [])) (getD (all .line) i noLine)
+  its-line i h =
+      subst⁻¹ (λ (k : Contract). LineOf k (getD (all .line) i noLine))
+      (getD-map (partsIn account) (contractsOf account) i [] (partsIn account []) (omega (arith, is .count-is))) (is .each i h)
+
+  pub all-lined : Lined (contracts account) (take (all .count) (all .line))
+  all-lined =
+      let e : length (contracts account) ≡ all .count = length-map (contractsOf account) (partsIn account) ∙ sym (is .count-is) in
+      subst (λ (m : ℕ). Lined (contracts account) (take m (all .line))) e
+      (lined-from (contracts account) (partsIn account []) (all .line) (omega (arith, e, is .few, is .places)) (λ i h. its-line i (omega (arith, e))))
+
 module _ (account : List Record) (law : Lawful account) (all : Lines) (is : LinesOf account all) (part : List ℕ) (ep : PartOf account entryPart part) where
   abbrev n : ℕ
   n = all .count
@@ -105,16 +122,11 @@ module _ (account : List Record) (law : Lawful account) (all : Lines) (is : Line
   ls-length : length ls ≡ n
   ls-length = length-take-le n (all .line) (omega (arith, is .few, is .places))
 
-  k-at : (i : ℕ) → i < n → getD ks i kd ≡ partsIn account (getD (contractsOf account) i [])
-  k-at i h = getD-map (partsIn account) (contractsOf account) i [] kd (omega (arith, is .count-is))
-
   line-at : (i : ℕ) → i < n → LineOf (getD ks i kd) (getD (all .line) i noLine)
-  line-at i h = subst⁻¹ (λ (k : Contract). LineOf k (getD (all .line) i noLine)) (k-at i h) (is .each i h)
+  line-at = its-line account all is
 
   pub lined : Lined ks ls
-  lined =
-      subst (λ (m : ℕ). Lined ks (take m (all .line))) ks-length
-      (lined-from ks kd (all .line) (omega (arith, ks-length, is .few, is .places)) (λ i h. line-at i (omega (arith, ks-length))))
+  lined = all-lined account all is
 
   number-at : (i : ℕ) → i < n → getD (map (λ l. l .contract) ls) i 0 ≡ contract (getD (contractsOf account) i [])
   number-at i h =
@@ -132,6 +144,18 @@ module _ (account : List Record) (law : Lawful account) (all : Lines) (is : Line
       let e = number-at i b in
       let f = number-at j a in
       omega arith)
+
+  rising : LinesRise n (all .line)
+  rising =
+      record {
+        few = is .few;
+        numbers = λ i h. is .each i h .within .contract-within;
+        rise =
+            λ i j k m.
+            let b : i < n = omega arith in
+            let c = numbers-rise account law i j k (omega (arith, is .count-is)) in
+            omega (arith, is .each i b .contract-is, is .each j m .contract-is);
+      }
 
   pub table-room : TableRoom n (all .line) (records part)
   table-room =
@@ -185,7 +209,7 @@ module _ (account : List Record) (law : Lawful account) (all : Lines) (is : Line
     pub credits-room : CreditsRoom n (all .line) (records part) (b .first) (b .second)
     credits-room =
         record {
-          few = is .few;
+          rising = rising;
           each =
               λ i h.
               record {
@@ -240,3 +264,42 @@ module _ (account : List Record) (law : Lawful account) (all : Lines) (is : Line
       answer-is =
           ap (map pos) (figures-are (records part) ks ls (take n cs) lined credited)
           ∙ ap (λ (x : List Record). map pos (figuresOver x ks)) (entries-part account law part ep)
+
+-- the book of a table without spreads goes by the lines
+pub nets-book : (account : List Record) (records : ℕ) (all : Lines) → Unspread account records all
+    → BookIs account tableQuestion [] (map tierOf (take (all .count) (all .line)))
+nets-book account records all is =
+    record {
+      asked-is = refl;
+      is =
+          book-by-steps account (is .lawful) tableQuestion refl
+          ∙ ap₂ (λ (es : List Record) (ps : List Open). bookBy (steps (map intercontract es)) ps) (is .none)
+          (sym (tiers-are (contracts account) (take (all .count) (all .line)) (all-lined account all (is .lines))));
+    }
+
+-- without intercontract spreads no contract has a credit
+none-credited : (table : List Open) (ks : List Contract) (n m : ℕ) → length ks ≤ n → n ≤ m → Credited [] table ks (take n (replicate m (record { 0 = 0 })))
+none-credited table [] n m h g = tt
+none-credited table (k ∷ ks) zero m h g = absurd (not-suc-le-zero h)
+none-credited table (k ∷ ks) (suc n) zero h g = absurd (not-suc-le-zero g)
+none-credited table (k ∷ ks) (suc n) (suc m) h g = (refl, none-credited table ks n m (le-of-suc-le-suc h) (le-of-suc-le-suc g))
+
+module _ (account : List Record) (all : Lines) (is : LinesOf account all) where
+  pub uncredited-within : LinesWithin (all .count) (all .line) (replicate mostContracts (record { 0 = 0 }))
+  uncredited-within =
+      record {
+        most = is .few;
+        line-within = λ k h. is .each k h .within;
+        credit-within = λ k h.
+            omega (arith, is .few, ap (λ (a : Amount). a .0) (getD-replicate mostContracts k (record { 0 = 0 }) (record { 0 = 0 }) (omega (arith, is .few))));
+      }
+
+  pub uncredited : entriesOf account ≡ []
+      → map pos (figuresFrom (take (all .count) (all .line)) (take (all .count) (replicate mostContracts (record { 0 = 0 })))) ≡ figures account
+  uncredited none =
+      let ks = contracts account in
+      ap (map pos) (figures-are [] ks (take (all .count) (all .line)) (take (all .count) (replicate mostContracts (record { 0 = 0 })))
+      (all-lined account all is)
+      (none-credited (map asTier ks) ks (all .count) mostContracts
+      (omega (arith, length-map (contractsOf account) (partsIn account), is .count-is)) (is .few)))
+      ∙ ap (λ (es : List Record). map pos (figuresOver es ks)) (sym none)

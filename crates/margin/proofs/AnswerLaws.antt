@@ -1,53 +1,64 @@
 -- A question's book and uses go by its steps and by what they go over: the numbers that are made of them answer it.
 -- Assumes nothing.
-use Prim.Native.Nat.{ℕ, _+_, _*_, _≤_}
-use native.Mathlib.Nat.{le-trans, mul-le-mul-right}
+use Prim.Native.Nat.{ℕ, zero, suc, _+_, _*_, _≤_}
+use native.Mathlib.Nat.{le-trans, mul-le-mul-right, le-of-suc-le-suc, not-suc-le-zero}
 use native.Mathlib.Omega.{arith}
 use mathlib.Core.Path.{_≡_, refl, sym, ap, ap₂, _∙_}
 use mathlib.Core.Bool.{Bool, true, false, cond}
 use mathlib.Core.List.{List, [], _∷_, _++_, map}
 use borrow.Author.Tests.{eqb-true, eqb-false}
 use lib.Dec.{eqb}
-use lib.IntN.{ℤ, pos}
-use lib.ListN.{length, getD, take, set, length-append, length-map}
+use lib.IntN.{ℤ, pos, +ℤ-invr}
+use lib.ListN.{length, getD, take, replicate, length-append, length-map}
 use lib.Seq.{sets, length-take-le}
 use Rattle.record.specs.Layout.{Record, tier}
 use Rattle.account.specs.Lawful.{Lawful}
+use Rattle.account.specs.Records.{records, recordCount}
 use Rattle.account.specs.Parts.{promptsOf, rowsOf, entriesOf}
 use Rattle.spread.specs.Accepted as given
-use Rattle.spread.specs.Accepted.{openOf, spreadsOf, soundPrompts, soundTable, sound, promptPlaces, spreadPlaces}
-use Rattle.spread.specs.code.Book.{Booked}
-use Rattle.spread.specs.Steps.{Open, Taker, steps, numbers, usedOf, unusedOf}
+use Rattle.spread.specs.Accepted.{openOf, spreadsOf, every, soundPrompt, soundPrompts, soundTable, sound, promptPlaces, spreadPlaces}
+use Rattle.spread.specs.code.Book.{Booked, byPlace}
+use Rattle.spread.specs.code.Lent.{spreadsFrom, bookIn}
+use Rattle.spread.specs.Steps.{Open, Taker, minus, steps, numbers, usedOf, unusedOf}
 use Rattle.spread.specs.Touches.{touches, mostTouches}
 use Rattle.spread.specs.Uses.{usesOf}
 use Rattle.spread.specs.declared.Prompts.{Prompts}
 use Rattle.spread.specs.declared.Spread.{Spread}
 use Rattle.spread.specs.declared.Table.{Table}
-use Rattle.spread.specs.declared.book.Book.{Book}
 use Rattle.spread.proofs.Both.{and-left, and-right}
 use Rattle.spread.proofs.Demand3.{one-per-step}
 use Rattle.spread.proofs.Every.{open-length}
+use Rattle.spread.proofs.Filling.{entries-length}
 use Rattle.spread.proofs.Gathering.{few, all-sound, few-in-table}
 use Rattle.spread.proofs.Touching.{touches-few}
 use Rattle.spread.proofs.Lengths.{steps-length, used-length, unused-length}
 use Rattle.margin.specs.declared.uses.Asking.{Asking}
 use Rattle.margin.specs.Books.{threes, bookBy, contractBook, tableBook, answered, book, tableQuestion}
-use Rattle.formulas.specs.Bounds.{mostDelta}
+use Rattle.formulas.specs.Bounds.{mostDelta, longestBook}
 use Rattle.formulas.specs.Contract.{Contract, contracts, partsOf, asTier, contractNet, contractSteps, opensOf, tableSteps}
-use Rattle.formulas.specs.Deltas.{opens, netDeltas}
-use Rattle.margin.specs.code.Numbers.{SpreadsSigned}
-use Rattle.formulas.specs.code.Promised.{BookOf}
-use Rattle.margin.specs.code.Asked.{AskedBy}
-use Rattle.formulas.specs.code.Sums.{deltasIn}
+use Rattle.formulas.specs.Deltas.{opens, interprompt, netDeltas}
+use Rattle.margin.specs.code.Numbers.{PromptsLent, SpreadsSigned, numbersIn}
+use Rattle.formulas.specs.code.Promised.{BookOf, BookRoom}
+use Rattle.margin.specs.code.Asked.{AskedBy, BookIs}
+use Rattle.margin.specs.declared.asking.Question.the-variants.{Book}
+use Rattle.margin.specs.Questions.{afterOver}
+use Rattle.formulas.specs.code.Sums.{interleaved}
 use Rattle.margin.specs.Uses.{uses, stepsFor, opensFor}
 use Rattle.margin.proofs.AskedLaws.{contract-asked, table-asked, threes-length, book-listed}
-use Rattle.formulas.proofs.BookLaws.{first-at, second-at, entries-length, book-accepted, touches-accepted}
-use Rattle.margin.proofs.NumberLaws.{threesOn, twosOn, twos-length}
-use Rattle.margin.proofs.NumberLaws as written
+use Rattle.formulas.proofs.BookLaws.{first-at, second-at, book-accepted, touches-accepted}
+use Rattle.formulas.proofs.LineLaws.{opens-first, opens-length}
+use Rattle.formulas.proofs.RecordLaws.{count-is}
+use Rattle.spread.proofs.Lent.{deltas-again}
+use Rattle.formulas.proofs.LentLaws.{spread-from}
+use Rattle.margin.proofs.NumberLaws.{sets-front}
+use Rattle.margin.proofs.QuestionLaws.{asked-many, accepted-with}
 use Rattle.formulas.proofs.StepBounds.{number-within}
 use Rattle.margin.proofs.TierLaws.{sound-sizes}
 use Rattle.margin.proofs.UsesLaws.{uses-by-steps}
-use Rattle.formulas.proofs.UnspreadLaws.{unused-given}
+
+-- as many numbers are lent as an array has places
+lent-length {ℓ} : {A B : Type ℓ} (f : A → B) (n : ℕ) (g : ℕ → B) (xs : List A) → map f xs ≡ byPlace n g → length xs ≡ n
+lent-length f n g xs e = sym (length-map xs f) ∙ ap length e ∙ entries-length n g
 
 -- ---- what is unused at first is the net delta
 
@@ -90,7 +101,7 @@ book-by-steps account law question a = go (eqb question tableQuestion) refl
         (sym (unused-nets (promptsOf question account) (netDeltas (promptsOf question account) (rowsOf question account))
         (length-map (promptsOf question account) _)))
 
-by-length : (spreads : List Spread) (ps : List Open) → length (bookBy (steps spreads) ps) ≡ 3 * length ps + 2 * length spreads + 1
+pub by-length : (spreads : List Spread) (ps : List Open) → length (bookBy (steps spreads) ps) ≡ 3 * length ps + 2 * length spreads + 1
 by-length spreads ps =
     let ss = steps spreads in
     let n : length (map (λ p. p .unused) ps) ≡ length ps = length-map ps (λ p. p .unused) in
@@ -102,88 +113,160 @@ by-length spreads ps =
 
 -- ---- the numbers of a book, as the code writes them
 
+module _ (spreads : List Spread) (ps : List Open) (n m : ℕ) (en : length ps ≡ n) (few-ps : n ≤ promptPlaces) (em : length spreads ≡ m)
+    (few-ss : m ≤ spreadPlaces) (first second : List ℕ) (used unused : List ℤ) (is : BookOf (steps spreads) ps (bookIn first second used unused)) where
+  abbrev ss : List (List Taker)
+  ss = steps spreads
+
+  formed-most : every soundPrompt ps ≡ true → (j : ℕ) → getD (numbers ss ps) j 0 ≤ 40960000000000
+  formed-most ok j =
+      let z = sound-sizes ps ok in
+      let m = mul-le-mul-right mostDelta few-ps in
+      le-trans (number-within ss ps j) (omega (arith, ap (λ (x : ℕ). x * mostDelta) en))
+
+  -- as many as are written
+  prompts-lent : (nets : List ℤ) → n ≤ length nets → PromptsLent n nets used unused
+  prompts-lent nets h =
+      let u = lent-length (λ (z : ℤ). record { 0 = z }) promptPlaces _ used (is .used-is) in
+      let v = lent-length (λ (z : ℤ). record { 0 = z }) promptPlaces _ unused (is .unused-is) in
+      record { most = omega arith; nets-there = h; used-there = omega arith; unused-there = omega arith }
+
+  -- the numbers formed can be written signed
+  signed : every soundPrompt ps ≡ true → SpreadsSigned m first second
+  signed ok =
+      let f = lent-length (λ (k : ℕ). record { 0 = k }) spreadPlaces _ first (is .first-is) in
+      let s = lent-length (λ (k : ℕ). record { 0 = k }) spreadPlaces _ second (is .second-is) in
+      record {
+        most = omega arith;
+        firsts-there = omega arith;
+        seconds-there = omega arith;
+        first-within = λ k h. let x = sym (spread-from first k) ∙ first-at is k (omega arith) in let y = formed-most ok (2 * k) in omega arith;
+        second-within = λ k h. let x = sym (spread-from second k) ∙ second-at is k (omega arith) in let y = formed-most ok (2 * k + 1) in omega arith;
+      }
+
+  -- they are those of the book
+  numbers-are : (nets : List ℤ) (touched : ℕ) → take n nets ≡ map (λ p. p .unused) ps → touched ≡ touches ss ps
+      → numbersIn n m nets first second used unused touched ≡ bookBy ss ps
+  numbers-are nets touched e t =
+      ap₂ (λ (zs : List ℤ) (k : ℕ). zs ++ (pos k ∷ []))
+      (book-listed ss ps (bookIn first second used unused) (take n nets) n m _ is en few-ps
+      (one-per-step ss ps ∙ steps-length spreads ∙ ap (λ (x : ℕ). 2 * x) em) few-ss (used-length ss ps ∙ en) (unused-length ss ps ∙ en)
+      (ap₂ (λ (us vs : List ℤ). threes (take n nets) (take n us) (take n vs)
+      ++ map pos (interleaved (take m (spreadsFrom first)) (take m (spreadsFrom second)))) (sym (deltas-again used)) (sym (deltas-again unused)))
+      ∙ ap (λ (zs : List ℤ). threes zs (usedOf ss ps) (unusedOf ss ps) ++ map pos (numbers ss ps)) e)
+      t
+
+-- of a book without spreads nothing is used
+none-used : (n m : ℕ) (zs : List ℤ) → n ≤ m
+    → threes (take n zs) (take n (replicate m (pos 0))) (take n zs) ≡ threes (take n zs) (minus (take n zs) (take n zs)) (take n zs)
+none-used zero m zs h = refl
+none-used (suc n) zero zs h = absurd (not-suc-le-zero h)
+none-used (suc n) (suc m) [] h = refl
+none-used (suc n) (suc m) (z ∷ zs) h =
+    ap₂ (λ (x : ℤ) (xs : List ℤ). z ∷ x ∷ z ∷ xs) (sym (+ℤ-invr z)) (none-used n m zs (le-of-suc-le-suc h))
+
+pub unspread-are : (n : ℕ) (nets : List ℤ) (ps : List Open) → n ≤ promptPlaces → take n nets ≡ map (λ p. p .unused) ps
+    → numbersIn n 0 nets [] [] (replicate promptPlaces (pos 0)) nets 0 ≡ bookBy [] ps
+unspread-are n nets ps few e =
+    ap (λ (zs : List ℤ). (zs ++ []) ++ (pos 0 ∷ []))
+    (none-used n promptPlaces nets few ∙ ap (λ (zs : List ℤ). threes zs (minus zs zs) zs) e)
+
 module _ (p : Prompts) (t : Table) (lt : length (p .tier) ≡ promptPlaces) (ln : length (p .net) ≡ promptPlaces) (ls : length (t .spread) ≡ spreadPlaces)
     (ok : sound p t ≡ true) where
-  abbrev ss : List (List Taker)
-  ss = given.stepsOf t
-
-  abbrev ps : List Open
-  ps = openOf p
-
   prompts-ok : soundPrompts p ≡ true
   prompts-ok = and-left (soundPrompts p) (soundTable t) ok
 
   pub few-prompts : p .count ≤ promptPlaces
   few-prompts = few p prompts-ok
 
-  pub few-spreads : t .count ≤ spreadPlaces
+  few-spreads : t .count ≤ spreadPlaces
   few-spreads = few-in-table t (and-right (soundPrompts p) (soundTable t) ok)
 
-  ps-long : length ps ≡ p .count
+  ps-long : length (openOf p) ≡ p .count
   ps-long = open-length p lt ln few-prompts
 
   spreads-long : length (spreadsOf t) ≡ t .count
   spreads-long = length-take-le (t .count) (t .spread) (omega (arith, ls, few-spreads))
 
-  formed-most : (j : ℕ) → getD (numbers ss ps) j 0 ≤ 40960000000000
-  formed-most j =
-      let z = sound-sizes ps (all-sound p prompts-ok) in
-      let m = mul-le-mul-right mostDelta few-prompts in
-      le-trans (number-within ss ps j) (omega (arith, ap (λ (x : ℕ). x * mostDelta) ps-long))
+  pub book-long : length (bookBy (given.stepsOf t) (openOf p)) ≡ 3 * p .count + 2 * t .count + 1
+  book-long = by-length (spreadsOf t) (openOf p) ∙ ap₂ (λ (x y : ℕ). 3 * x + 2 * y + 1) ps-long spreads-long
 
-  pub book-long : length (bookBy ss ps) ≡ 3 * p .count + 2 * t .count + 1
-  book-long = by-length (spreadsOf t) ps ∙ ap₂ (λ (x y : ℕ). 3 * x + 2 * y + 1) ps-long spreads-long
+  pub touched : touches (given.stepsOf t) (openOf p) ≤ mostTouches
+  touched = omega (arith, touches-few p t lt ln ok, touches-accepted (given.stepsOf t) (openOf p) p t refl refl ok)
 
-  pub touched : touches ss ps ≤ mostTouches
-  touched = omega (arith, touches-few p t lt ln ok, touches-accepted ss ps p t refl refl ok)
+  -- the same of a book that is run
+  module _ (first second : List ℕ) (used unused : List ℤ) (is : Booked p t (bookIn first second used unused)) where
+    run-is : BookOf (given.stepsOf t) (openOf p) (bookIn first second used unused)
+    run-is = book-accepted (given.stepsOf t) (openOf p) p t (bookIn first second used unused) refl refl ok is
 
-  module _ (b : Book) (is : Booked p t b) where
-    book-is : BookOf ss ps b
-    book-is = book-accepted ss ps p t b refl refl ok is
+    pub run-lent : (nets : List ℤ) → p .count ≤ length nets → PromptsLent (p .count) nets used unused
+    run-lent = prompts-lent (spreadsOf t) (openOf p) (p .count) (t .count) ps-long few-prompts spreads-long few-spreads first second used unused run-is
 
-    -- the numbers formed can be written signed
-    pub signed : SpreadsSigned (t .count) (b .first) (b .second)
-    signed =
-        let f = few-spreads in
-        record {
-          most = omega arith;
-          first-within = λ k h. let x = first-at book-is k (omega arith) in let y = formed-most (2 * k) in omega arith;
-          second-within = λ k h. let x = second-at book-is k (omega arith) in let y = formed-most (2 * k + 1) in omega arith;
-        }
+    pub run-signed : SpreadsSigned (t .count) first second
+    run-signed =
+        signed (spreadsOf t) (openOf p) (p .count) (t .count) ps-long few-prompts spreads-long few-spreads first second used unused run-is
+        (all-sound p prompts-ok)
 
-    -- the numbers but for the last
-    listed : threesOn (p .count) (p .net) (b .used) (b .unused) 0 ++ twosOn (t .count) (b .first) (b .second) 0
-        ≡ threes (map (λ p. p .unused) ps) (usedOf ss ps) (unusedOf ss ps) ++ map pos (numbers ss ps)
-    listed =
-        book-listed ss ps b (take (p .count) (deltasIn (p .net))) (p .count) (t .count) _ book-is ps-long few-prompts
-        (one-per-step ss ps ∙ steps-length (spreadsOf t) ∙ ap (λ (x : ℕ). 2 * x) spreads-long) few-spreads (used-length ss ps ∙ ps-long)
-        (unused-length ss ps ∙ ps-long) refl
-        ∙ ap (λ (zs : List ℤ). threes zs (usedOf ss ps) (unusedOf ss ps) ++ map pos (numbers ss ps))
-        (sym (unused-given (p .count) (p .tier) (p .net) (omega (arith, lt, ln))))
+    pub run-numbers : (nets : List ℤ) (n : ℕ) → take (p .count) nets ≡ map (λ o. o .unused) (openOf p) → n ≡ touches (given.stepsOf t) (openOf p)
+        → numbersIn (p .count) (t .count) nets first second used unused n ≡ bookBy (given.stepsOf t) (openOf p)
+    run-numbers = numbers-are (spreadsOf t) (openOf p) (p .count) (t .count) ps-long few-prompts spreads-long few-spreads first second used unused run-is
 
-    places : (length (b .used) ≡ promptPlaces) × (length (b .unused) ≡ promptPlaces) × (length (b .first) ≡ spreadPlaces) × (length (b .second) ≡ spreadPlaces)
-    places = (
-      ap length (is .used) ∙ entries-length promptPlaces _,
-      ap length (is .unused) ∙ entries-length promptPlaces _,
-      ap length (is .first) ∙ entries-length spreadPlaces _,
-      ap length (is .second) ∙ entries-length spreadPlaces _,
-    )
+-- ---- a contract's book
 
-    pub book-written : (out with-prompts with-spreads all : List ℤ) (n : ℕ) → n ≡ touches ss ps
-        → with-prompts ≡ sets out 0 (threesOn (p .count) (p .net) (b .used) (b .unused) 0)
-        → with-spreads ≡ sets with-prompts (p .count * 3) (twosOn (t .count) (b .first) (b .second) 0)
-        → all ≡ set with-spreads (p .count * 3 + t .count * 2) (pos n) → all ≡ sets out 0 (bookBy ss ps)
-    book-written out with-prompts with-spreads all n e f g h =
-        let fp = few-prompts in
-        let fs = few-spreads in
-        written.book-listed (p .count) (t .count) out with-prompts with-spreads all
-        (threesOn (p .count) (p .net) (b .used) (b .unused) 0) (twosOn (t .count) (b .first) (b .second) 0) (pos n)
-        (written.threes-length (p .count) (p .net) (b .used) (b .unused) (omega (arith, ln)) (omega (arith, places .0)) (omega (arith, places .1)))
-        (twos-length (t .count) (b .first) (b .second) (omega (arith, places .2)) (omega (arith, places .3)))
-        f g h
-        ∙ ap₂ (λ (zs : List ℤ) (m : ℕ). sets out 0 (zs ++ (pos m ∷ []))) listed e
+module _ (part spreads : List ℕ) (nets : List ℤ) (ln : length nets ≡ promptPlaces) (room : BookRoom (records part) nets (records spreads)) where
+  abbrev os : List Open
+  os = opens (records part) nets
+
+  abbrev its : List Spread
+  its = map interprompt (records spreads)
+
+  few-records : recordCount part ≤ promptPlaces
+  few-records = omega (arith, room .few-prompts, count-is part)
+
+  few-its : recordCount spreads ≤ spreadPlaces
+  few-its = omega (arith, room .few-spreads, count-is spreads)
+
+  its-nets : length (take (length (records part)) nets) ≡ length (records part)
+  its-nets = length-take-le (length (records part)) nets (omega (arith, room .few-prompts, ln))
+
+  os-long : length os ≡ recordCount part
+  os-long = ap length (opens-first (records part) nets) ∙ opens-length (records part) (take (length (records part)) nets) its-nets ∙ count-is part
+
+  its-long : length its ≡ recordCount spreads
+  its-long = length-map (records spreads) interprompt ∙ count-is spreads
+
+  os-nets : take (recordCount part) nets ≡ map (λ o. o .unused) os
+  os-nets =
+      ap (λ (n : ℕ). take n nets) (sym (count-is part))
+      ∙ sym (ap (map (λ o. o .unused)) (opens-first (records part) nets) ∙ unused-nets (records part) (take (length (records part)) nets) its-nets)
+
+  pub contract-long : length (bookBy (steps its) os) ≤ longestBook
+  contract-long = omega (arith, by-length its os, os-long, its-long, few-records, few-its)
+
+  module _ (first second : List ℕ) (used unused : List ℤ) (is : BookOf (steps its) os (bookIn first second used unused)) where
+    pub contract-lent : PromptsLent (recordCount part) nets used unused
+    contract-lent =
+        prompts-lent its os (recordCount part) (recordCount spreads) os-long few-records its-long few-its first second used unused is nets
+        (omega (arith, few-records, ln))
+
+    pub contract-signed : SpreadsSigned (recordCount spreads) first second
+    contract-signed =
+        signed its os (recordCount part) (recordCount spreads) os-long few-records its-long few-its first second used unused is (room .prompts-sound)
+
+    pub contract-numbers : (n : ℕ) → n ≡ touches (steps its) os
+        → numbersIn (recordCount part) (recordCount spreads) nets first second used unused n ≡ bookBy (steps its) os
+    contract-numbers n =
+        numbers-are its os (recordCount part) (recordCount spreads) os-long few-records its-long few-its first second used unused is nets n os-nets
 
 -- ---- an account's answers
+
+-- a book that is written where it has room
+pub book-after : (account : List Record) (question : ℕ) (ss : List (List Taker)) (ps : List Open) (out left : List ℤ) → BookIs account question ss ps
+    → length (bookBy ss ps) ≤ length out → left ≡ sets out 0 (bookBy ss ps) → left ≡ afterOver account (Book question) out
+book-after account question ss ps out left is room e =
+    let enough : length (book account question) ≤ length out = omega (arith, ap length (is .is)) in
+    accepted-with _ (book account question) out left (length (book account question)) (asked-many account (Book question) (length out) (is .asked-is) enough)
+    refl (e ∙ ap (sets out 0) (sym (is .is)) ∙ sets-front (book account question) out enough) .1
 
 module _ (account : List Record) (question records : ℕ) (a : Asking) (is : AskedBy account question records a) where
   pub book-same : bookBy (given.stepsOf (a .table)) (openOf (a .prompts)) ≡ book account question

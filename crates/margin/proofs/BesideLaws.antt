@@ -3,12 +3,12 @@
 -- Assumes nothing.
 use Prim.Native.Nat.{ℕ, _*_, _≤_, _<_}
 use native.Mathlib.Omega.{arith}
-use mathlib.Core.Path.{_≡_, refl, sym, ap, _∙_, subst, subst⁻¹}
+use mathlib.Core.Path.{_≡_, refl, sym, ap, ap₂, _∙_, subst, subst⁻¹}
 use mathlib.Core.Bool.{Bool, true, false, cond, _||_}
 use mathlib.Core.List.{List, [], _∷_, map}
 use borrow.Author.Tests.{eq-eqb, ne-eqb}
 use lib.IntN.{ℤ, natAbs}
-use lib.ListN.{length, getD}
+use lib.ListN.{length, getD, take}
 use lib.Dec.{eqb}
 use Rattle.record.specs.Bytes.{recordBytes}
 use Rattle.exact.specs.Lists.{any, consIf, keep, sum, sumℤ}
@@ -30,20 +30,25 @@ use Rattle.formulas.specs.declared.line.Line.{Line}
 use Rattle.formulas.specs.declared.rows.Position.{Position}
 use Rattle.margin.specs.declared.uses.Asking.{Asking}
 use Rattle.margin.specs.code.Beside.{ownOf, unitOf, Besides}
-use Rattle.margin.specs.Books.{asks, answered, tableQuestion}
+use Rattle.margin.specs.Books.{bookBy, asks, answered, tableQuestion}
+use Rattle.spread.specs.Steps.{Open, steps}
 use Rattle.formulas.specs.Bounds.{mostDelta}
+use Rattle.formulas.specs.Deltas.{opens, interprompt}
 use Rattle.formulas.specs.Contract.{Contract, contracts, contractFrom, partsIn, partsOf, asTier, contractSteps, opensOf, tableSteps}
 use Rattle.margin.specs.code.Lined.{PositionAt, TierIs}
-use Rattle.formulas.specs.code.Position.{PositionOf, Bounded, RowsFit, RatedBy}
+use Rattle.formulas.specs.code.Position.{PositionOf, positionIn, Bounded, RowsFit, RatedBy}
 use Rattle.margin.specs.code.Positions.{ContractIn}
 use Rattle.formulas.specs.code.Promised.{LineOf, PositionFit, BookFit, contractWith}
-use Rattle.margin.specs.code.Asked.{AskedBy}
+use Rattle.margin.specs.code.Asked.{AskedBy, BookIs}
 use Rattle.formulas.specs.code.Sums.{deltasIn}
 use Rattle.margin.specs.code.Asking.{Asks}
 use Rattle.margin.proofs.AcceptLaws.{none-within, contract-within, rows-rated}
+use Rattle.margin.proofs.AnswerLaws.{book-by-steps}
 use Rattle.margin.proofs.AskedLaws.{count-keep}
 use Rattle.margin.proofs.StandLaws.{kept-at, of-contract, own-by, rows-room, prompts-few, rows-rated-by, position-is, parts-read, parts-told}
 use Rattle.formulas.proofs.ContractLaws.{contract-with}
+use Rattle.spread.proofs.Lent.{deltas-again}
+use Rattle.formulas.proofs.LineLaws.{opens-first}
 use Rattle.margin.proofs.TierLaws as tiers
 
 -- ---- the own record of a contract
@@ -172,11 +177,28 @@ asked-by whole records c prompts spreads p a few is x =
           (subst (λ (ps : List Record). about ps spreads) (is .prompts-are) x)));
     }
 
+-- its book goes by the net deltas that are lent
+pub book-is : (whole : List Record) (records c : ℕ) (prompts spreads : List Record) (totals nets : List ℤ) (shorts : ℕ) → c ≤ mostContract
+    → ContractIn whole records c prompts spreads (positionIn totals nets shorts) → BookIs whole c (steps (map interprompt spreads)) (opens prompts nets)
+book-is whole records c prompts spreads totals nets shorts few is =
+    let apart = ne-eqb c tableQuestion (λ e. omega (arith, few, e)) in
+    let same = opens-first (promptsOf c whole) nets
+    ∙ ap (λ (zs : List ℤ). opens (promptsOf c whole) (take (length (promptsOf c whole)) zs)) (sym (deltas-again nets))
+    ∙ ap (opens (promptsOf c whole)) (is .at .is .nets-are) in
+    record {
+      asked-is = is .asked-is;
+      is =
+          book-by-steps whole (is .lawful) c (is .asked-is)
+          ∙ ap (λ (b : Bool). bookBy (cond b (tableSteps (entriesOf whole)) (contractSteps (partsOf whole c)))
+          (cond b (map asTier (contracts whole)) (opensOf (partsOf whole c)))) apart
+          ∙ ap₂ (λ (ss : List Record) (os : List Open). bookBy (steps (map interprompt ss)) os) (sym (is .spreads-are))
+          (sym (ap (λ (rs : List Record). opens rs nets) (is .prompts-are) ∙ same));
+    }
+
 -- ---- a contract by the parts that it has in the files
 
-module _ (account : List Record) (law : Lawful account) (c : ℕ) (few : c ≤ mostContract) (own prompts rows spreads : List ℕ)
-    (eo : PartOf account (part 1 c) own)
-    (ep : PartOf account (part 2 c) prompts) (er : PartOf account (part 3 c) rows) (es : PartOf account (part 4 c) spreads) (rates : Rates)
+module _ (account : List Record) (law : Lawful account) (c : ℕ) (few : c ≤ mostContract) (own prompts rows : List ℕ)
+    (eo : PartOf account (part 1 c) own) (ep : PartOf account (part 2 c) prompts) (er : PartOf account (part 3 c) rows) (rates : Rates)
     (held : RatesOf (ratesOf account) rates) (u : ℕ) (eu : u ≡ unit own) where
   itself : Besides account account
   itself = record { lawful = law; contracts = refl; prompts = λ c. refl; spreads = λ c. refl; entries = refl; rates = refl }
@@ -203,30 +225,31 @@ module _ (account : List Record) (law : Lawful account) (c : ℕ) (few : c ≤ m
         subst (λ (n : ℕ). PositionAt (ratesOf account) n account c p) its-unit
         (position-is account law c few prompts rows ep er (ratesOf account) u p is most)
 
-    pub fit-here : PositionFit own (records prompts) (records spreads) p
-    fit-here =
-        subst⁻¹ (λ (o : Record). PositionFit o (records prompts) (records spreads) p) (own-by account law c few own eo)
-        (parts-read account law c few prompts spreads ep es (λ (xs ys : List Record). PositionFit (ownOf c account) xs ys p)
-        (fits account account itself c p position-here))
+    module _ (spreads : List ℕ) (es : PartOf account (part 4 c) spreads) where
+      pub fit-here : PositionFit own (records prompts) (records spreads) p
+      fit-here =
+          subst⁻¹ (λ (o : Record). PositionFit o (records prompts) (records spreads) p) (own-by account law c few own eo)
+          (parts-read account law c few prompts spreads ep es (λ (xs ys : List Record). PositionFit (ownOf c account) xs ys p)
+          (fits account account itself c p position-here))
 
-    pub line-here : (i : ℕ) → i < length (contractsOf account) → c ≡ contract (getD (contractsOf account) i []) → (l : Line)
-        → LineOf (contractWith own (records prompts) (records spreads) p) l → LineOf (partsIn account (getD (contractsOf account) i [])) l
-    line-here i listed number l x =
-        line-is account account itself c p position-here i listed number l
-        (parts-told account law c few prompts spreads ep es (λ (xs ys : List Record). LineOf (contractWith (ownOf c account) xs ys p) l)
-        (subst (λ (o : Record). LineOf (contractWith o (records prompts) (records spreads) p) l) (own-by account law c few own eo) x))
+      pub line-here : (i : ℕ) → i < length (contractsOf account) → c ≡ contract (getD (contractsOf account) i []) → (l : Line)
+          → LineOf (contractWith own (records prompts) (records spreads) p) l → LineOf (partsIn account (getD (contractsOf account) i [])) l
+      line-here i listed number l x =
+          line-is account account itself c p position-here i listed number l
+          (parts-told account law c few prompts spreads ep es (λ (xs ys : List Record). LineOf (contractWith (ownOf c account) xs ys p) l)
+          (subst (λ (o : Record). LineOf (contractWith o (records prompts) (records spreads) p) l) (own-by account law c few own eo) x))
 
-    -- a listed contract answers
-    pub contract-in : (i : ℕ) → i < length (contractsOf account) → c ≡ contract (getD (contractsOf account) i [])
-        → ContractIn account (length account) c (records prompts) (records spreads) p
-    contract-in i listed number =
-        record {
-          lawful = law;
-          asked-is =
-              ap (λ (t : Bool). t || any (asks c) (contractsOf account)) (ne-eqb c tableQuestion (λ e. omega (arith, few, e)))
-              ∙ any-at (asks c) (contractsOf account) i [] listed (eq-eqb (contract (getD (contractsOf account) i [])) c (sym number));
-          records-are = refl;
-          prompts-are = of-contract account law c few 2 (omega arith) prompts ep;
-          spreads-are = of-contract account law c few 4 (omega arith) spreads es;
-          at = position-here;
-        }
+      -- a listed contract answers
+      pub contract-in : (i : ℕ) → i < length (contractsOf account) → c ≡ contract (getD (contractsOf account) i [])
+          → ContractIn account (length account) c (records prompts) (records spreads) p
+      contract-in i listed number =
+          record {
+            lawful = law;
+            asked-is =
+                ap (λ (t : Bool). t || any (asks c) (contractsOf account)) (ne-eqb c tableQuestion (λ e. omega (arith, few, e)))
+                ∙ any-at (asks c) (contractsOf account) i [] listed (eq-eqb (contract (getD (contractsOf account) i [])) c (sym number));
+            records-are = refl;
+            prompts-are = of-contract account law c few 2 (omega arith) prompts ep;
+            spreads-are = of-contract account law c few 4 (omega arith) spreads es;
+            at = position-here;
+          }

@@ -2,25 +2,28 @@
 -- Assumes nothing.
 use Prim.Native.Nat.{ℕ, zero, suc, _+_, _*_, _≤_, _<_, zero-le, suc-le-suc}
 use native.Mathlib.Nat.{le-trans, le-of-suc-le-suc, not-suc-le-zero}
+use native.Mathlib.Numerals.{add-one}
 use native.Mathlib.Omega.{arith}
 use mathlib.Core.Path.{_≡_, refl, sym, ap, ap₂, _∙_, subst, subst⁻¹}
 use mathlib.Core.Bool.{Bool, true, false, cond, _&&_}
-use mathlib.Core.List.{List, [], _∷_, _++_, map}
+use mathlib.Core.List.{List, [], _∷_, _++_, map, map-append}
 use borrow.Author.Tests.{lt-ltb, le-leb, eq-eqb, ne-eqb}
 use lib.Dec.{eqb, leb, ltb}
 use lib.IntN.{ℤ, pos, negsuc, natAbs}
-use lib.ListN.{length, getD}
+use lib.ListN.{length, getD, drop, set, length-map}
+use lib.Seq.{sets, drop-cons, drop-length}
 use Rattle.record.specs.Layout.{Record, contract}
+use Rattle.account.specs.Parts.{contractsOf, entriesOf}
 use Rattle.spread.specs.Accepted.{every, soundPrompt, tierCount}
 use Rattle.spread.specs.Steps.{Market, long, short, Open, onSide, pool, steps, numbers}
 use Rattle.spread.proofs.Both.{and-both}
 use Rattle.formulas.specs.declared.amount.Amount.{Amount}
 use Rattle.formulas.specs.declared.line.Line.{Line}
-use Rattle.formulas.specs.Bounds.{mostDelta}
-use Rattle.formulas.specs.Contract.{Contract, asTier, creditOf, marginOf}
+use Rattle.formulas.specs.Bounds.{mostDelta, figuresEach}
+use Rattle.formulas.specs.Contract.{Contract, contracts, partsIn, asTier, creditOf, marginOf}
 use Rattle.formulas.specs.Credit.{unusedBy, afterEntry, entryUse}
 use Rattle.formulas.specs.Deltas.{intercontract}
-use Rattle.margin.specs.Figures.{eight, eights, totalMargin, figuresOver}
+use Rattle.margin.specs.Figures.{eight, eights, totalMargin, figuresOver, figures, accountTotal}
 use Rattle.formulas.specs.code.Lines.{marginWith, eightOf, eightsFrom, totalFrom, figuresFrom}
 use Rattle.formulas.specs.Margin.{risk, margin}
 use Rattle.formulas.specs.code.Promised.{LineOf}
@@ -28,6 +31,7 @@ use Rattle.formulas.specs.code.Table.{tierOf}
 use Rattle.formulas.specs.code.Within.{EntriesFit}
 use Rattle.formulas.proofs.CreditLaws.{used-in, used-within, left-within, rest-within}
 use Rattle.formulas.proofs.StepBounds.{sizes}
+use Rattle.margin.proofs.NumberLaws.{one-more}
 
 -- each contract has its line
 abbrev pub Lined : List Contract → List Line → Type 0
@@ -174,3 +178,67 @@ pub figures-are : (entries : List Record) (ks : List Contract) (ls : List Line) 
     → Credited entries (map asTier ks) ks cs → figuresFrom ls cs ≡ figuresOver entries ks
 figures-are entries ks ls cs h g =
     ap₂ (λ (xs : List ℕ) (n : ℕ). xs ++ (n ∷ [])) (eights-are entries (map asTier ks) ks ls cs h g) (total-is entries (map asTier ks) ks ls cs h g)
+
+pub eights-length : (entries : List Record) (table : List Open) (ks : List Contract) → length (eights entries table ks) ≡ figuresEach * length ks
+eights-length entries table [] = refl
+eights-length entries table (k ∷ ks) = let h = eights-length entries table ks in omega arith
+
+-- ---- the figures contract by contract
+
+module _ (account : List Record) where
+  abbrev es : List Record
+  es = entriesOf account
+
+  abbrev table : List Open
+  table = map asTier (contracts account)
+
+  abbrev owns : List Record
+  owns = contractsOf account
+
+  -- from the i-th contract on
+  abbrev left : ℕ → List Contract
+  left i = map (partsIn account) (drop i owns)
+
+  abbrev pub eightsLeft : ℕ → List ℤ
+  eightsLeft i = map pos (eights es table (left i))
+
+  abbrev pub totalLeft : ℕ → ℕ
+  totalLeft i = totalMargin es table (left i)
+
+  left-at : (i : ℕ) → i < length owns → left i ≡ partsIn account (getD owns i []) ∷ left (i + 1)
+  left-at i h = ap (map (partsIn account)) (drop-cons owns i [] h ∙ ap (λ (n : ℕ). getD owns i [] ∷ drop n owns) (sym (add-one i)))
+
+  -- a contract's line, where there are no entries
+  module _ (none : es ≡ []) (i : ℕ) (h : i < length owns) (l : Line) (is : LineOf (partsIn account (getD owns i [])) l) where
+    abbrev k : Contract
+    k = partsIn account (getD owns i [])
+
+    no-credit : 0 ≡ creditOf es table k
+    no-credit = ap (λ (rs : List Record). creditOf rs table k) (sym none)
+
+    pub eights-next : eightsLeft i ≡ map pos (eightOf l 0) ++ eightsLeft (i + 1)
+    eights-next =
+        ap (λ (ks : List Contract). map pos (eights es table ks)) (left-at i h)
+        ∙ map-append pos (eight es table k) (eights es table (left (i + 1)))
+        ∙ ap (λ (xs : List ℕ). map pos xs ++ eightsLeft (i + 1)) (sym (eight-is es table k l 0 is no-credit))
+
+    pub total-next : totalLeft i ≡ marginWith l 0 + totalLeft (i + 1)
+    total-next =
+        ap (totalMargin es table) (left-at i h) ∙ ap (λ (m : ℕ). m + totalLeft (i + 1)) (sym (margin-is es table k l 0 is no-credit))
+
+  module _ (n : ℕ) (e : n ≡ length owns) where
+    none-left : left n ≡ []
+    none-left = ap left e ∙ ap (map (partsIn account)) (drop-length owns)
+
+    pub eights-done : eightsLeft n ≡ []
+    eights-done = ap (λ (ks : List Contract). map pos (eights es table ks)) none-left
+
+    pub total-done : totalLeft n ≡ 0
+    total-done = ap (totalMargin es table) none-left
+
+    -- the total after the last contract
+    pub figures-written : (out lines-in all : List ℤ) (total : ℕ) → lines-in ≡ sets out 0 (eightsLeft 0) → all ≡ set lines-in (n * figuresEach) (pos total)
+        → total ≡ totalLeft 0 → all ≡ sets out 0 (figures account)
+    figures-written out lines-in all total =
+        one-more (eights es table (contracts account)) (accountTotal account) (n * figuresEach) total out lines-in all
+        (omega (arith, eights-length es table (contracts account), length-map owns (partsIn account), e))

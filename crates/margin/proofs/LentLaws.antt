@@ -14,13 +14,16 @@ use lib.Seq.{drop-drop}
 use Rattle.exact.specs.Lists.{any}
 use Rattle.record.specs.Layout.{Record, contract}
 use Rattle.account.specs.Lawful.{Lawful}
-use Rattle.account.specs.Parts.{contractsOf}
+use Rattle.account.specs.Parts.{contractsOf, entriesOf}
 use Rattle.account.specs.declared.answers.Answer.{Answer}
 use Rattle.account.specs.declared.answers.Answer.the-variants.{Accepted, TooFewNumbers}
 use Rattle.account.specs.Check.{mostContracts}
 use Rattle.margin.specs.Books.{asks, answered, tableQuestion}
 use Rattle.margin.specs.Places.{questions, atPlace, afterEach, lentPlace, lentEach, questionOf, widthOf, allOver, afterAllOver}
-use Rattle.margin.specs.Questions.{notRefused, afterwards, numbersFor, afterOver}
+use Rattle.margin.specs.Questions.{notRefused, afterwards, numbersFor, answerOver, afterOver}
+use Rattle.margin.specs.Uses.{tableUses}
+use Rattle.margin.specs.declared.asking.Question.the-variants.{Uses}
+use Rattle.formulas.specs.Contract.{contracts}
 use Rattle.margin.proofs.AcceptLaws.{numbers-rise}
 use Rattle.margin.proofs.PlaceLaws.{answers-of}
 use Rattle.margin.proofs.PositionsLaws.{found}
@@ -57,6 +60,24 @@ pub lent-enough : (width q : ℕ) (change : List ℤ → List ℤ) (lent left : 
     → left ≡ lentPlace width q change lent
 lent-enough width q change lent left h e =
     e ∙ sym (ap (λ (t : Bool). cond t lent (atPlace width (width * q) change lent)) (le-ltb (length lent) (width * questions) h))
+
+-- a place that nothing changes
+pub lent-same : (width q : ℕ) (change : List ℤ → List ℤ) (lent : List ℤ) → ((xs : List ℤ) → change xs ≡ xs) → lent ≡ lentPlace width q change lent
+lent-same width q change lent same = go (ltb (length lent) (width * questions))
+  where
+    go : (t : Bool) → lent ≡ cond t lent (atPlace width (width * q) change lent)
+    go true = refl
+    go false = sym (same-place width (width * q) change lent same)
+
+-- who paid in a table without spreads is no number
+pub no-uses : (account : List Record) → entriesOf account ≡ [] → (xs : List ℤ) → afterOver account (Uses tableQuestion) xs ≡ xs
+no-uses account none xs =
+    ap (λ (es : List Record). afterwards (answerOver account (Uses tableQuestion) (length xs)) (tableUses es (contracts account)) xs) none
+    ∙ go (notRefused (answerOver account (Uses tableQuestion) (length xs)))
+  where
+    go : (t : Bool) → cond t xs xs ≡ xs
+    go true = refl
+    go false = refl
 
 -- ---- one contract after the other
 

@@ -1,6 +1,6 @@
 -- Numbers written one after the other: what is written and what is still to write are the whole.
 -- Assumes nothing.
-use mathlib.Core.Path.{_≡_, refl, sym, _∙_, ap, subst}
+use mathlib.Core.Path.{_≡_, refl, sym, _∙_, ap, subst, subst⁻¹}
 use mathlib.Core.List.{List, [], _∷_, _++_, map, map-append}
 use Prim.Native.Nat.{ℕ, suc, _+_, _*_, _≤_, _<_, zero-le}
 use native.Mathlib.Nat.{add-suc, suc-add, add-zero, zero-add}
@@ -8,17 +8,19 @@ use native.Mathlib.Numerals.{add-one}
 use native.Mathlib.Omega.{arith}
 use lib.ListN.{length, getD, take, drop, set, length-append, length-map}
 use lib.Seq.{sets, sets-eq, length-take-le, slice, slice-cons, slice-empty}
-use lib.IntN.{ℤ, pos}
-use Rattle.spread.specs.declared.Delta.{Delta}
+use lib.IntN.{ℤ, pos, +ℤ-invr}
 use Rattle.spread.specs.declared.Spreads.{Spreads}
 use Rattle.formulas.specs.declared.amount.Amount.{Amount}
 use Rattle.formulas.specs.declared.line.Line.{Line}
-use Rattle.margin.specs.Books.{threes}
+use Rattle.margin.specs.Books.{threes, bookBy}
 use Rattle.formulas.specs.code.Lines.{marginWith, eightOf, eightsFrom, totalFrom, figuresFrom, noLine}
 use Rattle.margin.specs.code.Numbers.{amountAt}
-use Rattle.formulas.specs.code.Sums.{interleaved, deltasIn, spreadsAt, deltaAt}
-use Rattle.formulas.proofs.AddedLaws.{delta-at}
+use Rattle.formulas.specs.code.Sums.{interleaved}
+use Rattle.formulas.proofs.LentLaws.{spread-from}
+use Rattle.spread.specs.code.Lent.{spreadsFrom}
 use Rattle.formulas.specs.Bounds.{figuresEach}
+use Rattle.formulas.specs.code.Table.{tierOf}
+use Rattle.spread.specs.Steps.{Open, minus}
 
 module _ {ℓ} {A : Type ℓ} where
   -- stores at `at + n`, `at + (n + 1)` and so on, as the code makes them
@@ -76,6 +78,18 @@ module _ {ℓ} {A : Type ℓ} where
       let same : n ≡ i = omega (arith, t .within) in
       ap (sets out at) (sym (subst (λ (k : ℕ). rest k ≡ []) same e)) ∙ t .whole
 
+-- one number more after those at the front
+pub one-more : (xs : List ℕ) (x n total : ℕ) (out front all : List ℤ) → length xs ≡ n → front ≡ sets out 0 (map pos xs) → all ≡ set front n (pos total)
+    → total ≡ x → all ≡ sets out 0 (map pos (xs ++ (x ∷ [])))
+one-more xs x n total out front all l e f t =
+    let at : 0 + length (map pos xs) ≡ n = zero-add (length (map pos xs)) ∙ length-map xs pos ∙ l in
+    f
+    ∙ ap (λ (ys : List ℤ). set ys n (pos total)) e
+    ∙ ap (λ (k : ℕ). set (sets out 0 (map pos xs)) k (pos total)) (sym at)
+    ∙ sym (sets-append out 0 (map pos xs) (pos total ∷ []))
+    ∙ ap (λ (k : ℕ). sets out 0 (map pos xs ++ (pos k ∷ []))) t
+    ∙ ap (sets out 0) (sym (map-append pos xs (x ∷ [])))
+
 -- eight numbers for each line, then the total of the margins
 length-eights : (ls : List Line) (cs : List Amount) → length ls ≤ length cs → length (eightsFrom ls cs) ≡ figuresEach * length ls
 length-eights [] cs h = refl
@@ -103,89 +117,17 @@ module _ (count : ℕ) (lines : List Line) (credits : List Amount) where
     pub total-step : (i : ℕ) → i < count → totalOn i ≡ marginWith (getD lines i noLine) (amountAt credits i) + totalOn (i + 1)
     total-step i h = rw (add-one i, slice-cons i count lines noLine h hl, slice-cons i count credits (record { 0 = 0 }) h hc)
 
-    eights-length : length (eightsOn 0) ≡ figuresEach * count
+    eights-length : length (eightsFrom (take count lines) (take count credits)) ≡ count * figuresEach
     eights-length =
-        length-map (eightsFrom (take count lines) (take count credits)) pos
-        ∙ length-eights (take count lines) (take count credits) (rw (length-take-le count lines hl, length-take-le count credits hc) (omega arith))
-        ∙ ap (λ (n : ℕ). figuresEach * n) (length-take-le count lines hl)
+        let n = length-take-le count lines hl in
+        let m = length-eights (take count lines) (take count credits) (rw (n, length-take-le count credits hc) (omega arith)) in
+        omega arith
 
     -- the total after the last line
     pub figures-listed : (out lines-in all : List ℤ) (total : ℕ) → lines-in ≡ sets out 0 (eightsOn 0) → all ≡ set lines-in (count * figuresEach) (pos total)
         → total ≡ totalOn 0 → all ≡ sets out 0 (map pos (figuresFrom (take count lines) (take count credits)))
-    figures-listed out lines-in all total e f t =
-        let at : 0 + length (eightsOn 0) ≡ count * figuresEach = omega (arith, eights-length) in
-        f
-        ∙ ap (λ (l : List ℤ). set l (count * figuresEach) (pos total)) e
-        ∙ ap (λ (n : ℕ). set (sets out 0 (eightsOn 0)) n (pos total)) (sym at)
-        ∙ sym (sets-append out 0 (eightsOn 0) (pos total ∷ []))
-        ∙ ap (λ (n : ℕ). sets out 0 (eightsOn 0 ++ (pos n ∷ []))) t
-        ∙ ap (sets out 0) (sym (map-append pos (eightsFrom (take count lines) (take count credits)) (totalOn 0 ∷ [])))
-
--- three numbers for each prompt
-length-threes : (xs ys zs : List ℤ) → length xs ≤ length ys → length xs ≤ length zs → length (threes xs ys zs) ≡ 3 * length xs
-length-threes [] ys zs h k = refl
-length-threes (x ∷ xs) [] zs h k = omega arith
-length-threes (x ∷ xs) (y ∷ ys) [] h k = omega arith
-length-threes (x ∷ xs) (y ∷ ys) (z ∷ zs) h k = omega (arith, length-threes xs ys zs (omega arith) (omega arith))
-
-module _ (count : ℕ) (nets used unused : List Delta) where
-  -- from prompt i on
-  abbrev pub threesOn : ℕ → List ℤ
-  threesOn i = threes (slice i count (deltasIn nets)) (slice i count (deltasIn used)) (slice i count (deltasIn unused))
-
-  pub threes-none : threesOn count ≡ []
-  threes-none = rw (slice-empty count (deltasIn nets))
-
-  module _ (hn : count ≤ length nets) (hu : count ≤ length used) (ho : count ≤ length unused) where
-    within : (ds : List Delta) → count ≤ length ds → count ≤ length (deltasIn ds)
-    within ds h = rw (length-map ds (λ (d : Delta). d .0)) h
-
-    pub threes-step : (i : ℕ) → i < count → threesOn i ≡ (deltaAt nets i ∷ deltaAt used i ∷ deltaAt unused i ∷ []) ++ threesOn (i + 1)
-    threes-step i h =
-        rw (
-          add-one i,
-          slice-cons i count (deltasIn nets) (pos 0) h (within nets hn),
-          slice-cons i count (deltasIn used) (pos 0) h
-              (within used hu),
-          slice-cons i count (deltasIn unused) (pos 0) h (within unused ho),
-          delta-at nets i,
-          delta-at used i,
-          delta-at unused i,
-        )
-
-    pub threes-length : length (threesOn 0) ≡ 3 * count
-    threes-length =
-        let n = length-take-le count (deltasIn nets) (within nets hn) in
-        let u = length-take-le count (deltasIn used) (within used hu) in
-        let o = length-take-le count (deltasIn unused) (within unused ho) in
-        length-threes (take count (deltasIn nets)) (take count (deltasIn used)) (take count (deltasIn unused)) (omega arith) (omega arith)
-        ∙ ap (λ (k : ℕ). 3 * k) n
-
--- two numbers for each spread
-length-interleaved : (xs ys : List Spreads) → length xs ≤ length ys → length (interleaved xs ys) ≡ 2 * length xs
-length-interleaved [] ys h = refl
-length-interleaved (x ∷ xs) [] h = omega arith
-length-interleaved (x ∷ xs) (y ∷ ys) h = omega (arith, length-interleaved xs ys (omega arith))
-
-module _ (count : ℕ) (firsts seconds : List Spreads) where
-  -- from spread i on
-  abbrev pub twosOn : ℕ → List ℤ
-  twosOn i = map pos (interleaved (slice i count firsts) (slice i count seconds))
-
-  pub twos-none : twosOn count ≡ []
-  twos-none = rw (slice-empty count firsts)
-
-  module _ (hf : count ≤ length firsts) (hs : count ≤ length seconds) where
-    pub twos-step : (i : ℕ) → i < count → twosOn i ≡ (pos (spreadsAt firsts i) ∷ pos (spreadsAt seconds i) ∷ []) ++ twosOn (i + 1)
-    twos-step i h = rw (add-one i, slice-cons i count firsts (record { 0 = 0 }) h hf, slice-cons i count seconds (record { 0 = 0 }) h hs)
-
-    pub twos-length : length (twosOn 0) ≡ 2 * count
-    twos-length =
-        let f = length-take-le count firsts hf in
-        let s = length-take-le count seconds hs in
-        length-map (interleaved (take count firsts) (take count seconds)) pos
-        ∙ length-interleaved (take count firsts) (take count seconds) (omega arith)
-        ∙ ap (λ (k : ℕ). 2 * k) f
+    figures-listed out lines-in all total =
+        one-more (eightsFrom (take count lines) (take count credits)) (totalOn 0) (count * figuresEach) total out lines-in all eights-length
 
 -- prompts first, then spreads, and one number more at the end
 pub book-listed : (prompts spreads : ℕ) (out with-prompts with-spreads all threes twos : List ℤ) (last : ℤ) → length threes ≡ 3 * prompts
@@ -203,3 +145,108 @@ book-listed prompts spreads out with-prompts with-spreads all threes twos last l
     ∙ sym (sets-append out 0 threes twos))
     ∙ ap (λ (n : ℕ). set (sets out 0 (threes ++ twos)) n last) (sym end)
     ∙ sym (sets-append out 0 (threes ++ twos) (last ∷ []))
+
+-- three numbers for each prompt
+length-threes : (xs ys zs : List ℤ) → length xs ≤ length ys → length xs ≤ length zs → length (threes xs ys zs) ≡ 3 * length xs
+length-threes [] ys zs h k = refl
+length-threes (x ∷ xs) [] zs h k = omega arith
+length-threes (x ∷ xs) (y ∷ ys) [] h k = omega arith
+length-threes (x ∷ xs) (y ∷ ys) (z ∷ zs) h k = omega (arith, length-threes xs ys zs (omega arith) (omega arith))
+
+module _ (count : ℕ) (nets used unused : List ℤ) where
+  -- from prompt i on
+  abbrev pub threesOn : ℕ → List ℤ
+  threesOn i = threes (slice i count nets) (slice i count used) (slice i count unused)
+
+  pub threes-none : threesOn count ≡ []
+  threes-none = rw (slice-empty count nets)
+
+  module _ (hn : count ≤ length nets) (hu : count ≤ length used) (ho : count ≤ length unused) where
+    pub threes-step : (i : ℕ) → i < count
+        → threesOn i ≡ (getD nets i (pos 0) ∷ getD used i (pos 0) ∷ getD unused i (pos 0) ∷ []) ++ threesOn (i + 1)
+    threes-step i h =
+        rw (
+          add-one i,
+          slice-cons i count nets (pos 0) h hn,
+          slice-cons i count used (pos 0) h hu,
+          slice-cons i count unused (pos 0) h ho,
+        )
+
+    pub threes-length : length (threesOn 0) ≡ 3 * count
+    threes-length =
+        let n = length-take-le count nets hn in
+        let u = length-take-le count used hu in
+        let o = length-take-le count unused ho in
+        length-threes (take count nets) (take count used) (take count unused) (omega arith) (omega arith) ∙ ap (λ (k : ℕ). 3 * k) n
+
+-- the same where nothing is used, by lines
+length-minus : (zs : List ℤ) → length (minus zs zs) ≡ length zs
+length-minus [] = refl
+length-minus (z ∷ zs) = ap suc (length-minus zs)
+
+module _ (count : ℕ) (lines : List Line) where
+  -- from line i on
+  abbrev netsOn : ℕ → List ℤ
+  netsOn i = map (λ p. p .unused) (map tierOf (slice i count lines))
+
+  abbrev pub unusedOn : ℕ → List ℤ
+  unusedOn i = threes (netsOn i) (minus (netsOn i) (netsOn i)) (netsOn i)
+
+  pub unused-none : unusedOn count ≡ []
+  unused-none = rw (slice-empty count lines)
+
+  module _ (h : count ≤ length lines) where
+    pub unused-step : (i : ℕ) → i < count
+        → unusedOn i ≡ (getD lines i noLine .net .0 ∷ pos 0 ∷ getD lines i noLine .net .0 ∷ []) ++ unusedOn (i + 1)
+    unused-step i l = rw (add-one i, slice-cons i count lines noLine l h, +ℤ-invr (getD lines i noLine .net .0))
+
+    unused-length : length (unusedOn 0) ≡ 3 * count
+    unused-length =
+        let n = length-map (map tierOf (take count lines)) (λ (p : Open). p .unused) ∙ length-map (take count lines) tierOf ∙ length-take-le count lines h in
+        length-threes (netsOn 0) (minus (netsOn 0) (netsOn 0)) (netsOn 0) (omega (arith, length-minus (netsOn 0))) (omega arith) ∙ ap (λ (k : ℕ). 3 * k) n
+
+    -- no contract is touched
+    pub unused-listed : (out nets-in all : List ℤ) → nets-in ≡ sets out 0 (unusedOn 0) → all ≡ set nets-in (count * 3) (pos 0)
+        → all ≡ sets out 0 (bookBy [] (map tierOf (take count lines)))
+    unused-listed out nets-in all e f =
+        book-listed count 0 out nets-in nets-in all (unusedOn 0) [] (pos 0) unused-length refl e refl
+        (f ∙ ap (λ (n : ℕ). set nets-in n (pos 0)) (sym (add-zero (count * 3))))
+
+-- two numbers for each spread
+length-interleaved : (xs ys : List Spreads) → length xs ≤ length ys → length (interleaved xs ys) ≡ 2 * length xs
+length-interleaved [] ys h = refl
+length-interleaved (x ∷ xs) [] h = omega arith
+length-interleaved (x ∷ xs) (y ∷ ys) h = omega (arith, length-interleaved xs ys (omega arith))
+
+module _ (count : ℕ) (first second : List ℕ) where
+  -- from spread i on
+  abbrev pub twosOn : ℕ → List ℤ
+  twosOn i = map pos (interleaved (slice i count (spreadsFrom first)) (slice i count (spreadsFrom second)))
+
+  pub twos-none : twosOn count ≡ []
+  twos-none = rw (slice-empty count (spreadsFrom first))
+
+  module _ (hf : count ≤ length first) (hs : count ≤ length second) where
+    firsts-there : count ≤ length (spreadsFrom first)
+    firsts-there = subst⁻¹ (λ (k : ℕ). count ≤ k) (length-map first _) hf
+
+    seconds-there : count ≤ length (spreadsFrom second)
+    seconds-there = subst⁻¹ (λ (k : ℕ). count ≤ k) (length-map second _) hs
+
+    pub twos-step : (i : ℕ) → i < count → twosOn i ≡ (pos (getD first i 0) ∷ pos (getD second i 0) ∷ []) ++ twosOn (i + 1)
+    twos-step i h =
+        rw (
+          add-one i,
+          slice-cons i count (spreadsFrom first) (record { 0 = 0 }) h firsts-there,
+          slice-cons i count (spreadsFrom second) (record { 0 = 0 }) h seconds-there,
+          spread-from first i,
+          spread-from second i,
+        )
+
+    pub twos-length : length (twosOn 0) ≡ 2 * count
+    twos-length =
+        let f = length-take-le count (spreadsFrom first) firsts-there in
+        let s = length-take-le count (spreadsFrom second) seconds-there in
+        length-map (interleaved (take count (spreadsFrom first)) (take count (spreadsFrom second))) pos
+        ∙ length-interleaved (take count (spreadsFrom first)) (take count (spreadsFrom second)) (omega arith)
+        ∙ ap (λ (k : ℕ). 2 * k) f

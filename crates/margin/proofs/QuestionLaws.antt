@@ -16,12 +16,12 @@ use Rattle.account.specs.Parts.{contractsOf, entriesOf}
 use Rattle.account.specs.declared.answers.Answer.{Answer}
 use Rattle.account.specs.declared.answers.Answer.the-variants.{Accepted, TooFewNumbers, NoSuchQuestion}
 pub use Rattle.account.proofs.NoonLaws.{accepted-only}
-use Rattle.spread.specs.Steps.{Open}
-use Rattle.formulas.specs.Contract.{Contract, contracts, partsIn, asTier}
+use Rattle.formulas.specs.Contract.{contracts, partsIn, asTier}
 use Rattle.formulas.specs.Bounds.{figuresEach}
 use Rattle.margin.specs.Figures.{eights, figures, figuresOver, totalMargin, accountTotal}
 use Rattle.margin.specs.Questions.{notRefused, ifAccepted, numbersFor, answers, enough, answerOver, afterwards}
 use Rattle.margin.specs.declared.asking.Question.{Question}
+use Rattle.margin.proofs.FigureLaws.{eights-length}
 use Rattle.margin.proofs.NumberLaws.{sets-front}
 
 -- ---- the answer and the lent numbers, case by case
@@ -56,15 +56,6 @@ accepted-with answer numbers out after n e l f =
 
 -- ---- a question: whether it may be asked, then whether enough numbers are lent
 
-pub if-then : (a b next : Answer) → ifAccepted a (ifAccepted b next) ≡ ifAccepted (ifAccepted a b) next
-if-then a b next = go (notRefused a) refl
-  where
-    go : (t : Bool) → notRefused a ≡ t → ifAccepted a (ifAccepted b next) ≡ ifAccepted (ifAccepted a b) next
-    go true e = ap (λ (t : Bool). cond t (ifAccepted b next) a) e ∙ sym (ap (λ (t : Bool). ifAccepted (cond t b a) next) e)
-    go false e =
-        ap (λ (t : Bool). cond t (ifAccepted b next) a) e
-        ∙ sym (ap (λ (t : Bool). ifAccepted (cond t b a) next) e ∙ ap (λ (t : Bool). cond t next a) e)
-
 module _ (account : List Record) (question : Question) (lent : ℕ) where
   pub not-asked : answers account question ≡ false → answerOver account question lent ≡ NoSuchQuestion (length account)
   not-asked e = ap (λ (t : Bool). ifAccepted (cond t Accepted (NoSuchQuestion (length account))) (enough account (numbersFor account question) lent)) e
@@ -80,10 +71,6 @@ module _ (account : List Record) (question : Question) (lent : ℕ) where
   asked-many e h = then-enough e ∙ as-many account (numbersFor account question) lent h
 
 -- ---- how many numbers the figures have
-
-eights-length : (entries : List Record) (table : List Open) (ks : List Contract) → length (eights entries table ks) ≡ figuresEach * length ks
-eights-length entries table [] = refl
-eights-length entries table (k ∷ ks) = let h = eights-length entries table ks in omega arith
 
 pub figures-length : (account : List Record) → length (figures account) ≡ figuresEach * length (contractsOf account) + 1
 figures-length account =

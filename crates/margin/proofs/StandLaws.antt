@@ -68,6 +68,9 @@ module _ (morning noon : List ℕ) (a : Account) (st : Stands morning noon a) wh
   pub listed-at : (i : ℕ) → i < a .contracts → i < length (contractsOf (accountOf morning noon))
   listed-at i h = omega (arith, st .places .contracts)
 
+  pub no-entries : getD (a .counts) entryPart 0 ≡ 0 → entriesOf (accountOf morning noon) ≡ []
+  no-entries z = none-kept (ofKind 5) (accountOf morning noon) (sym (st .places .counts entryPart (omega arith)) ∙ z)
+
 module _ (account : List Record) (law : Lawful account) where
   -- ---- the intercontract spreads
   module _ (bytes : List ℕ) (ep : PartOf account entryPart bytes) where

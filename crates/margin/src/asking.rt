@@ -1,20 +1,22 @@
 // The questions that an account answers. What comes after an account's records is said here once, for one file and for two: 11,
 // then 10, and the answer in lent memory.
-use crate::books::book_by;
 use crate::books::book_count;
 use crate::books::put_book;
+use crate::books::put_contract;
 use crate::numbers::FIGURES_EACH;
 use crate::numbers::LONGEST_BOOK;
 use crate::numbers::LONGEST_USES;
+use crate::numbers::put_nets;
 use crate::over::Lines;
 use crate::over::TABLE;
 use crate::over::asking_over;
 use crate::over::asking_with;
 use crate::over::contract_asking;
 use crate::over::is_asked;
-use crate::over::lines_of;
 use crate::over::no_line;
+use crate::over::put_account;
 use crate::over::put_figures;
+use crate::over::rates_over;
 use crate::over::table_asking;
 use crate::over::tiers_in;
 use crate::positions::Positions;
@@ -27,28 +29,33 @@ use crate::uses::uses_count;
 use account::accounts::Account;
 use account::accounts::contract_number;
 use account::accounts::contract_total;
-use account::accounts::part;
+use account::accounts::own_part;
 use account::accounts::part_total;
+use account::accounts::prompts_part;
 use account::accounts::record_total;
+use account::accounts::rows_part;
+use account::accounts::spreads_part;
+use account::accounts::whereabouts_of;
 use account::answers::Answer;
 use account::parts::CONTRACTS;
 use account::parts::ENTRIES;
-use account::parts::OWN;
 use account::parts::PROMPTS;
-use account::parts::RATES;
-use account::parts::ROWS;
 use account::parts::SPREADS;
 use account::rates::Rates;
-use account::rates::rates_of;
+use formulas::books::put_contract_book;
 use formulas::line::Line;
-use formulas::line::line_by;
+use formulas::line::line_in;
 use formulas::rows::Position;
-use formulas::rows::position_of;
+use formulas::rows::put_position;
+use record::fields::SCENARIOS;
 use record::fields::unit;
+use spread::MOST_PROMPTS;
+use spread::MOST_SPREADS;
 use spread::Prompts;
+use spread::plain::deltas_from;
 ghost use mathlib.Core.Path.{_≡_};
-ghost use mathlib.Core.Bool.{true};
-ghost use mathlib.Core.List.{List};
+ghost use mathlib.Core.Bool.{true, false};
+ghost use mathlib.Core.List.{List, map};
 ghost use Prim.Native.Nat.{ℕ, _+_, _*_, _≤_, _<_};
 ghost use lib.ListN.{length};
 ghost use Rattle.record.specs.Layout.{Record, mostContract};
@@ -58,16 +65,19 @@ ghost use Rattle.account.specs.code.Rates.{RatesOf};
 ghost use Rattle.account.specs.code.Standing.{Stands};
 ghost use Rattle.account.specs.Joined.{accountOf};
 ghost use Rattle.account.specs.Records.{records};
-ghost use Rattle.spread.specs.Accepted.{sound};
-ghost use Rattle.spread.specs.code.Book.{Booked};
-ghost use Rattle.margin.specs.code.Beside.{Besides, LinesKnown, LinedBy, TiersKnown};
+ghost use Rattle.spread.specs.Accepted.{sound, promptPlaces};
+ghost use Rattle.spread.specs.Steps.{steps};
+ghost use Rattle.spread.specs.code.Lent.{bookIn};
+ghost use Rattle.formulas.specs.Deltas.{opens, interprompt};
+ghost use Rattle.formulas.specs.code.Position.{positionIn};
+ghost use Rattle.margin.specs.code.Beside.{Besides, LinesKnown, LinedBy, TiersKnown, Unspread};
 ghost use Rattle.margin.specs.Books.{answered, tableQuestion};
 ghost use Rattle.formulas.specs.Bounds.{longestBook, longestUses, figuresEach};
 ghost use Rattle.margin.specs.code.Lined.{TiersIn};
 ghost use Rattle.margin.specs.code.Positions.{Told, Known, ToldOf, ContractIn};
-ghost use Rattle.formulas.specs.code.Promised.{BookFit, LineOf, PositionFit, contractWith};
+ghost use Rattle.formulas.specs.code.Promised.{BookFit, BookOf, BookRoom, LineOf, PositionFit, contractWith};
 ghost use Rattle.margin.specs.Questions.{answerOver, afterOver, needOver, mostFor};
-ghost use Rattle.margin.specs.code.Asked.{SizesOf, AskedBy};
+ghost use Rattle.margin.specs.code.Asked.{SizesOf, AskedBy, BookIs};
 ghost use Rattle.margin.specs.Places.{questions, atPlace, lentPlace, questionOf, widthOf, allOver, afterAllOver};
 ghost use Rattle.margin.specs.code.Lent.{ContractLent, ContractsLent, EverythingOf};
 ghost use Rattle.margin.specs.declared.asking.Question.{Question};
@@ -117,9 +127,9 @@ fn answer_lines<'a>(
     Answer::Accepted
 }
 
-// The numbers of a book that was run at the front of `out`, likewise.
-fn answer_book(records: usize, asking: Asking, book: spread::book::Book, out: &mut [i64]) -> Answer
-    requires { ⌜ (sound (asking .prompts) (asking .table) ≡ true) × Booked (asking .prompts) (asking .table) book ⌝ }
+// The numbers of a book at the front of `out`, likewise.
+fn answer_book(records: usize, asking: Asking, out: &mut [i64]) -> Answer
+    requires { ⌜ sound (asking .prompts) (asking .table) ≡ true ⌝ }
     ensures { λ r. ⌜
         ((whole : List Record) (question : ℕ) → AskedBy whole question records asking
         → (r ≡ answerOver whole (Book question) (length (now (out .entry)))) × (now (out .exit) ≡ afterOver whole (Book question) (now (out .entry)))) ⌝ }
@@ -129,7 +139,7 @@ fn answer_book(records: usize, asking: Asking, book: spread::book::Book, out: &m
     if out.len() < book_count(prompts, table) {
         return Answer::TooFewNumbers(records);
     }
-    put_book(out, prompts, table, book);
+    put_book(out, prompts, table);
     Answer::Accepted
 }
 
@@ -160,10 +170,7 @@ fn answer_asking(records: usize, asking: Asking, paid: bool, out: &mut [i64]) ->
     if paid {
         return answer_uses(records, asking, out);
     }
-    let prompts = asking.prompts;
-    let table = asking.table;
-    let book = book_by(prompts, table);
-    answer_book(records, asking, book, out)
+    answer_book(records, asking, out)
 }
 
 fn answer_figures<'a>(
@@ -176,8 +183,11 @@ fn answer_figures<'a>(
     ensures { λ r. ⌜ (r ≡ answerOver (accountOf (now (morning .entry)) (now (noon .entry))) Figures (length (now (out .entry))))
         × (now (out .exit) ≡ afterOver (accountOf (now (morning .entry)) (now (noon .entry))) Figures (now (out .entry))) ⌝ }
 {
-    let lines = lines_of(morning, noon, account);
-    answer_lines(morning, noon, account, record_total(account), lines, out)
+    if out.len() < figures_count(account) {
+        return Answer::TooFewNumbers(record_total(account));
+    }
+    put_account(morning, noon, account, out);
+    Answer::Accepted
 }
 
 fn answer_question<'a>(
@@ -488,10 +498,23 @@ pub fn everything_from<'a>(
     }
 }
 
-// The book of a contract in its place where all places are lent.
-fn lend_book(records: usize, c: usize, asking: Asking, book: spread::book::Book, out: &mut [i64])
-    requires { ⌜ (c ≤ mostContract) × ((sound (asking .prompts) (asking .table) ≡ true) × Booked (asking .prompts) (asking .table) book) ⌝ }
-    ensures { λ r. ⌜ ((whole : List Record) → AskedBy whole c records asking
+// The book of a contract that was run, in its place where all places are lent.
+fn lend_book(
+    c: usize,
+    prompts: &[u8],
+    nets: &[i64; MOST_PROMPTS],
+    spreads: &[u8],
+    first: &[u64; MOST_SPREADS],
+    second: &[u64; MOST_SPREADS],
+    used: &[i64; MOST_PROMPTS],
+    unused: &[i64; MOST_PROMPTS],
+    out: &mut [i64],
+)
+    requires { ⌜ (c ≤ mostContract) × ((length (now nets) ≡ promptPlaces) × (BookRoom (records (now prompts)) (now nets) (records (now spreads))
+        × BookOf (steps (map interprompt (records (now spreads)))) (opens (records (now prompts)) (now nets))
+        (bookIn (now first) (now second) (now used) (now unused)))) ⌝ }
+    ensures { λ r. ⌜ ((whole : List Record) → BookIs whole c (steps (map interprompt (records (now (spreads .entry)))))
+        (opens (records (now (prompts .entry))) (now (nets .entry)))
         → now (out .exit) ≡ lentPlace longestBook c (afterOver whole (Book c)) (now (out .entry))) ⌝ }
 {
     if out.len() < ALL_BOOKS {
@@ -499,21 +522,41 @@ fn lend_book(records: usize, c: usize, asking: Asking, book: spread::book::Book,
     }
     let start = LONGEST_BOOK * c;
     let end = start + LONGEST_BOOK;
-    answer_book(records, asking, book, &mut out[start..end]);
+    put_contract(
+        &mut out[start..end],
+        prompts,
+        nets,
+        spreads,
+        first,
+        second,
+        used,
+        unused,
+    );
 }
 
 // Who paid for what in it, likewise.
-fn lend_uses(records: usize, c: usize, asking: Asking, out: &mut [i64])
-    requires { ⌜ (c ≤ mostContract) × (sound (asking .prompts) (asking .table) ≡ true) ⌝ }
-    ensures { λ r. ⌜ ((whole : List Record) → AskedBy whole c records asking
+fn lend_uses(
+    count: usize,
+    c: usize,
+    prompts: &[u8],
+    spreads: &[u8],
+    totals: &[i64; SCENARIOS],
+    nets: &[i64; MOST_PROMPTS],
+    shorts: u64,
+    out: &mut [i64],
+)
+    requires { ⌜ (c ≤ mostContract) × BookFit (records (now prompts)) (records (now spreads)) (positionIn (now totals) (now nets) shorts) ⌝ }
+    ensures { λ r. ⌜ ((whole : List Record) → ContractIn whole count c (records (now (prompts .entry))) (records (now (spreads .entry)))
+        (positionIn (now (totals .entry)) (now (nets .entry)) shorts)
         → now (out .exit) ≡ lentPlace longestUses c (afterOver whole (Uses c)) (now (out .entry))) ⌝ }
 {
     if out.len() < ALL_USES {
         return;
     }
+    let asking = contract_asking(prompts, spreads, deltas_from(*nets));
     let start = LONGEST_USES * c;
     let end = start + LONGEST_USES;
-    answer_uses(records, asking, &mut out[start..end]);
+    answer_uses(count, asking, &mut out[start..end]);
 }
 
 // The line of a contract, and its book and its uses in their places: its steps are run once for its line and its book.
@@ -523,23 +566,57 @@ fn contract_in(
     spreads: &[u8],
     count: usize,
     c: usize,
-    p: Position,
+    totals: &[i64; SCENARIOS],
+    nets: &[i64; MOST_PROMPTS],
+    shorts: u64,
     books: &mut [i64],
     uses: &mut [i64],
 ) -> Line
-    requires { ⌜ (c ≤ mostContract) × PositionFit (now own) (records (now prompts)) (records (now spreads)) p ⌝ }
-    ensures line { λ r. ⌜ LineOf (contractWith (now (own .entry)) (records (now (prompts .entry))) (records (now (spreads .entry))) p) r ⌝ }
-    ensures lent { λ r. ⌜ ((whole : List Record) → ContractIn whole count c (records (now (prompts .entry))) (records (now (spreads .entry))) p
+    requires { ⌜ (c ≤ mostContract) × PositionFit (now own) (records (now prompts)) (records (now spreads)) (positionIn (now totals) (now nets) shorts) ⌝ }
+    ensures line { λ r. ⌜ LineOf (contractWith (now (own .entry)) (records (now (prompts .entry))) (records (now (spreads .entry)))
+        (positionIn (now (totals .entry)) (now (nets .entry)) shorts)) r ⌝ }
+    ensures lent { λ r. ⌜ ((whole : List Record) → ContractIn whole count c (records (now (prompts .entry))) (records (now (spreads .entry)))
+        (positionIn (now (totals .entry)) (now (nets .entry)) shorts)
         → (now (books .exit) ≡ lentPlace longestBook c (afterOver whole (Book c)) (now (books .entry)))
         × (now (uses .exit) ≡ lentPlace longestUses c (afterOver whole (Uses c)) (now (uses .entry)))) ⌝ }
 {
-    let asking = contract_asking(prompts, spreads, p);
-    let its_prompts = asking.prompts;
-    let table = asking.table;
-    let book = book_by(its_prompts, table);
-    lend_book(count, c, asking, book, books);
-    lend_uses(count, c, asking, uses);
-    line_by(own, prompts, spreads, p, book)
+    let mut first = [0; MOST_SPREADS];
+    let mut second = [0; MOST_SPREADS];
+    let mut used = [0; MOST_PROMPTS];
+    let mut unused = [0; MOST_PROMPTS];
+    put_contract_book(
+        prompts,
+        nets,
+        spreads,
+        &mut first,
+        &mut second,
+        &mut used,
+        &mut unused,
+    );
+    lend_book(
+        c,
+        prompts,
+        nets,
+        spreads,
+        &first,
+        &second,
+        &used,
+        &unused,
+        books,
+    );
+    lend_uses(count, c, prompts, spreads, totals, nets, shorts, uses);
+    line_in(
+        own,
+        prompts,
+        spreads,
+        totals,
+        nets,
+        shorts,
+        &first,
+        &second,
+        &used,
+        &unused,
+    )
 }
 
 // The line of the i-th contract; its book and its uses likewise.
@@ -557,18 +634,30 @@ fn contract_over<'a>(
         (now (books .exit)) (now (uses .exit)) ⌝ }
 {
     let c = contract_number(account, i);
-    let own = part(morning, noon, account, OWN + c);
-    let prompts = part(morning, noon, account, PROMPTS + c);
-    let rows = part(morning, noon, account, ROWS + c);
-    let spreads = part(morning, noon, account, SPREADS + c);
-    let p = position_of(rates, unit(own) as u64, prompts, rows);
+    let w = whereabouts_of(account, c);
+    let own = own_part(morning, noon, w);
+    let prompts = prompts_part(morning, noon, w);
+    let rows = rows_part(morning, noon, w);
+    let spreads = spreads_part(morning, noon, w);
+    let mut totals = [0i64; SCENARIOS];
+    let mut nets = [0i64; MOST_PROMPTS];
+    let shorts = put_position(
+        &mut totals,
+        &mut nets,
+        rates,
+        unit(own) as u64,
+        prompts,
+        rows,
+    );
     contract_in(
         own,
         prompts,
         spreads,
         record_total(account),
         c,
-        p,
+        &totals,
+        &nets,
+        shorts,
         books,
         uses,
     )
@@ -587,7 +676,7 @@ fn contracts_over<'a>(
         (now (books .exit)) (now (uses .exit)) ⌝ }
 {
     let count = contract_total(account);
-    let rates = rates_of(part(morning, noon, account, RATES));
+    let rates = rates_over(morning, noon, account);
     let mut lines = [no_line(); CONTRACTS];
     let mut i = 0;
     while i < count {
@@ -622,6 +711,33 @@ fn lend_table<'a>(
     Answer::Accepted
 }
 
+// The book of a table without spreads in its place, likewise.
+fn lend_nets(records: usize, lines: Lines, out: &mut [i64]) -> Answer
+    requires { ⌜ lines .count ≤ mostContracts ⌝ }
+    ensures { λ r. ⌜ ((whole : List Record) → Unspread whole records lines
+        → (r ≡ allOver false whole (length (now (out .entry))))
+        × (now (out .exit) ≡ lentPlace longestBook tableQuestion (afterOver whole (Book tableQuestion)) (now (out .entry)))) ⌝ }
+{
+    if out.len() < ALL_BOOKS {
+        return Answer::TooFewNumbers(records);
+    }
+    let start = LONGEST_BOOK * TABLE;
+    let end = start + LONGEST_BOOK;
+    let its = lines.line;
+    put_nets(&mut out[start..end], lines.count, its);
+    Answer::Accepted
+}
+
+// What all uses are answered where so many numbers are lent.
+fn uses_answer(records: usize, lent: usize) -> Answer
+    ensures { λ r. ⌜ ((whole : List Record) → records ≡ length whole → r ≡ allOver true whole lent) ⌝ }
+{
+    if lent < ALL_USES {
+        return Answer::TooFewNumbers(records);
+    }
+    Answer::Accepted
+}
+
 // The same of an account that stands in the files, what the rows of each contract come to worked out once.
 pub fn everything_over<'a>(
     morning: &'a [u8],
@@ -636,16 +752,17 @@ pub fn everything_over<'a>(
         (now (uses .entry)) r (now (figures .exit)) (now (books .exit)) (now (uses .exit)) ⌝ }
 {
     let lines = contracts_over(morning, noon, account, books, uses);
+    let records = record_total(account);
+    if part_total(account, ENTRIES) == 0 {
+        return Everything {
+            figures: answer_lines(morning, noon, account, records, lines, figures),
+            books: lend_nets(records, lines, books),
+            uses: uses_answer(records, uses.len()),
+        };
+    }
     let tiers = tiers_in(lines);
     Everything {
-        figures: answer_lines(
-            morning,
-            noon,
-            account,
-            record_total(account),
-            lines,
-            figures,
-        ),
+        figures: answer_lines(morning, noon, account, records, lines, figures),
         books: lend_table(morning, noon, account, false, tiers, books),
         uses: lend_table(morning, noon, account, true, tiers, uses),
     }

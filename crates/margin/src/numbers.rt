@@ -8,19 +8,21 @@ use formulas::line::Line;
 use spread::Delta;
 use spread::MOST_PROMPTS;
 use spread::MOST_SPREADS;
-use spread::Spreads;
 ghost use mathlib.Core.Path.{_≡_};
 ghost use mathlib.Core.List.{[], _∷_, map};
 ghost use Prim.Native.Nat.{_+_, _*_, _^_, _≤_, _<_};
 ghost use lib.IntN.{pos};
 ghost use lib.ListN.{length, take, set};
 ghost use lib.Seq.{sets};
-ghost use Rattle.account.specs.Check.{mostPrompts};
+ghost use Rattle.spread.specs.Touches.{mostTouches};
+ghost use Rattle.spread.specs.code.Lent.{spreadsFrom};
 ghost use Rattle.formulas.specs.Bounds.{mostRisk, mostCredits, figuresEach};
 ghost use Rattle.formulas.specs.code.Lines.{LineWithin, marginWith, eightOf, figuresFrom};
-ghost use Rattle.margin.specs.code.Numbers.{LinesWithin, SpreadsSigned};
-ghost use Rattle.margin.specs.Books.{threes};
-ghost use Rattle.formulas.specs.code.Sums.{interleaved, deltasIn};
+ghost use Rattle.margin.specs.code.Numbers.{LinesWithin, PromptsLent, SpreadsSigned, numbersIn};
+ghost use Rattle.margin.specs.Books.{threes, bookBy};
+ghost use Rattle.account.specs.Check.{mostContracts};
+ghost use Rattle.formulas.specs.code.Table.{tierOf};
+ghost use Rattle.formulas.specs.code.Sums.{interleaved};
 
 // The numbers of a contract in the figures.
 pub const FIGURES_EACH: usize = 8;
@@ -66,6 +68,17 @@ fn put_eight(out: &mut [i64], at: usize, l: Line, credit: Amount, margin: Amount
     put(out, at + 7, margin.0);
 }
 
+// The same, by the line and its credit; and the margin.
+pub(crate) fn put_line(out: &mut [i64], at: usize, l: Line, credit: Amount) -> Amount
+    requires { ⌜ (at + figuresEach ≤ length (now out)) × (LineWithin l × (credit .0 ≤ mostCredits)) ⌝ }
+    ensures written { λ r. ⌜ now (out .exit) ≡ sets (now (out .entry)) at (map pos (eightOf l (credit .0))) ⌝ }
+    ensures margin { λ r. ⌜ (r .0 ≡ marginWith l (credit .0)) × (r .0 ≤ 3 * mostRisk) ⌝ }
+{
+    let margin = margin_of(l, credit);
+    put_eight(out, at, l, credit, margin);
+    margin
+}
+
 // A delta, at a place.
 fn put_delta(out: &mut [i64], at: usize, d: Delta)
     requires { ⌜ at < length (now out) ⌝ }
@@ -86,12 +99,12 @@ fn put_three(out: &mut [i64], at: usize, net: Delta, used: Delta, unused: Delta)
 }
 
 // The numbers of a spread's two steps, from a place on.
-fn put_two(out: &mut [i64], at: usize, first: Spreads, second: Spreads)
-    requires { ⌜ (at + 2 ≤ length (now out)) × ((first .0 < 2 ^ 63) × (second .0 < 2 ^ 63)) ⌝ }
-    ensures { λ r. ⌜ now (out .exit) ≡ sets (now (out .entry)) at (pos (first .0) ∷ pos (second .0) ∷ []) ⌝ }
+fn put_two(out: &mut [i64], at: usize, first: u64, second: u64)
+    requires { ⌜ (at + 2 ≤ length (now out)) × ((first < 2 ^ 63) × (second < 2 ^ 63)) ⌝ }
+    ensures { λ r. ⌜ now (out .exit) ≡ sets (now (out .entry)) at (pos first ∷ pos second ∷ []) ⌝ }
 {
-    put(out, at, first.0);
-    put(out, at + 1, second.0);
+    put(out, at, first);
+    put(out, at + 1, second);
 }
 
 // The figures from the front: eight numbers for each of the first `count` lines, then the total of the margins.
@@ -107,49 +120,87 @@ pub(crate) fn put_lines(
     let mut total: u64 = 0;
     let mut i = 0;
     while i < count {
-        let line = lines[i];
-        let credit = credits[i];
-        let margin = margin_of(line, credit);
-        put_eight(out, i * FIGURES_EACH, line, credit, margin);
+        let margin = put_line(out, i * FIGURES_EACH, lines[i], credits[i]);
         total += margin.0;
         i += 1;
     }
     put(out, count * FIGURES_EACH, total);
 }
 
+// The book of the intercontract table where it has no spreads, from the front: of each contract the net delta, nothing used and the same unused.
+pub(crate) fn put_nets(out: &mut [i64], contracts: usize, lines: [Line; CONTRACTS])
+    requires { ⌜ (contracts ≤ mostContracts) × (3 * contracts + 1 ≤ length (now out)) ⌝ }
+    ensures { λ r. ⌜ now (out .exit) ≡ sets (now (out .entry)) 0 (bookBy [] (map tierOf (take contracts lines))) ⌝ }
+{
+    let mut i = 0;
+    while i < contracts {
+        let line = lines[i];
+        let net = line.net;
+        put_three(out, i * 3, net, Delta(0), net);
+        i += 1;
+    }
+    put(out, contracts * 3, 0);
+}
+
 // Three numbers for each prompt, from the front.
-pub(crate) fn put_prompts(
+fn put_prompts(
     out: &mut [i64],
     prompts: usize,
-    nets: [Delta; MOST_PROMPTS],
-    used: [Delta; MOST_PROMPTS],
-    unused: [Delta; MOST_PROMPTS],
+    nets: &[i64; MOST_PROMPTS],
+    used: &[i64; MOST_PROMPTS],
+    unused: &[i64; MOST_PROMPTS],
 )
-    requires { ⌜ (prompts ≤ mostPrompts) × (3 * prompts ≤ length (now out)) ⌝ }
+    requires { ⌜ PromptsLent prompts (now nets) (now used) (now unused) × (3 * prompts ≤ length (now out)) ⌝ }
     ensures { λ r. ⌜ now (out .exit) ≡ sets (now (out .entry)) 0
-        (threes (take prompts (deltasIn nets)) (take prompts (deltasIn used)) (take prompts (deltasIn unused))) ⌝ }
+        (threes (take prompts (now (nets .entry))) (take prompts (now (used .entry))) (take prompts (now (unused .entry)))) ⌝ }
 {
     let mut i = 0;
     while i < prompts {
-        put_three(out, i * 3, nets[i], used[i], unused[i]);
+        let net = nets[i];
+        let taken = used[i];
+        let left = unused[i];
+        put_three(out, i * 3, Delta(net), Delta(taken), Delta(left));
         i += 1;
     }
 }
 
 // Two numbers for each spread, from a place on.
-pub(crate) fn put_spreads(
+fn put_spreads(
     out: &mut [i64],
     at: usize,
     spreads: usize,
-    first: [Spreads; MOST_SPREADS],
-    second: [Spreads; MOST_SPREADS],
+    first: &[u64; MOST_SPREADS],
+    second: &[u64; MOST_SPREADS],
 )
-    requires { ⌜ (at + 2 * spreads ≤ length (now out)) × SpreadsSigned spreads first second ⌝ }
-    ensures { λ r. ⌜ now (out .exit) ≡ sets (now (out .entry)) at (map pos (interleaved (take spreads first) (take spreads second))) ⌝ }
+    requires { ⌜ (at + 2 * spreads ≤ length (now out)) × SpreadsSigned spreads (now first) (now second) ⌝ }
+    ensures { λ r. ⌜ now (out .exit) ≡ sets (now (out .entry)) at
+        (map pos (interleaved (take spreads (spreadsFrom (now (first .entry)))) (take spreads (spreadsFrom (now (second .entry)))))) ⌝ }
 {
     let mut i = 0;
     while i < spreads {
         put_two(out, at + i * 2, first[i], second[i]);
         i += 1;
     }
+}
+
+// The numbers of a book from the front: three for each prompt, two for each spread, and how often a prompt was touched.
+pub(crate) fn put_numbers(
+    out: &mut [i64],
+    prompts: usize,
+    spreads: usize,
+    nets: &[i64; MOST_PROMPTS],
+    first: &[u64; MOST_SPREADS],
+    second: &[u64; MOST_SPREADS],
+    used: &[i64; MOST_PROMPTS],
+    unused: &[i64; MOST_PROMPTS],
+    touches: u64,
+)
+    requires { ⌜ PromptsLent prompts (now nets) (now used) (now unused) × (SpreadsSigned spreads (now first) (now second)
+        × ((touches ≤ mostTouches) × (3 * prompts + 2 * spreads + 1 ≤ length (now out)))) ⌝ }
+    ensures { λ r. ⌜ now (out .exit) ≡ sets (now (out .entry)) 0
+        (numbersIn prompts spreads (now (nets .entry)) (now (first .entry)) (now (second .entry)) (now (used .entry)) (now (unused .entry)) touches) ⌝ }
+{
+    put_prompts(out, prompts, nets, used, unused);
+    put_spreads(out, prompts * 3, spreads, first, second);
+    put(out, prompts * 3 + spreads * 2, touches);
 }

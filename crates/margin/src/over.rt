@@ -1,22 +1,25 @@
 // What an account's answers are made of: the lines of its contracts, its figures, and what is asked about by a question.
 use crate::numbers::FIGURES_EACH;
 use crate::numbers::LONGEST_FIGURES;
+use crate::numbers::put;
+use crate::numbers::put_line;
 use crate::numbers::put_lines;
 use crate::uses::Asking;
 use account::accounts::Account;
 use account::accounts::contract_number;
 use account::accounts::contract_total;
+use account::accounts::own_part;
 use account::accounts::part;
 use account::accounts::part_total;
+use account::accounts::prompts_part;
+use account::accounts::rows_part;
+use account::accounts::spreads_part;
+use account::accounts::whereabouts_of;
 use account::parts::CONTRACTS;
 use account::parts::ENTRIES;
 use account::parts::OWN;
-use account::parts::PROMPTS;
 use account::parts::RATES;
-use account::parts::ROWS;
-use account::parts::SPREADS;
 use account::rates::Rates;
-use account::rates::no_rates;
 use account::rates::rates_of;
 use exact::signed::magnitude;
 use formulas::amount::Amount;
@@ -24,12 +27,15 @@ use formulas::intercontract::table_credits;
 use formulas::line::Line;
 use formulas::line::contract_net;
 use formulas::line::line_of;
+use formulas::line::line_over;
 use formulas::rows::Position;
 use formulas::rows::nets_of;
 use formulas::rows::position_of;
+use formulas::rows::put_position;
 use formulas::tables::intercontract_table;
 use formulas::tables::interprompt_table;
 use formulas::tables::prompts_with;
+use record::fields::SCENARIOS;
 use record::fields::unit;
 use spread::Delta;
 use spread::MOST_PROMPTS;
@@ -46,19 +52,19 @@ ghost use Rattle.account.specs.code.Rates.{RatesOf};
 ghost use Rattle.account.specs.Records.{records};
 ghost use Rattle.account.specs.code.Standing.{Stands};
 ghost use Rattle.account.specs.Joined.{accountOf};
-ghost use Rattle.record.specs.Layout.{Record, mostContract, mostUnit};
+ghost use Rattle.record.specs.Layout.{Record, mostContract};
 ghost use Rattle.margin.specs.Books.{answered};
 ghost use Rattle.margin.specs.code.Asked.{askedBy};
 ghost use Rattle.formulas.specs.Contract.{contracts, partsIn, partsOf, asTier, contractSteps, opensOf, tableSteps};
 ghost use Rattle.margin.specs.Figures.{figures, accountTotal};
-ghost use Rattle.formulas.specs.code.Position.{RatedBy, withNets};
+ghost use Rattle.formulas.specs.code.Position.{withNets};
 ghost use Rattle.formulas.specs.code.Promised.{LineOf, PositionFit, BookFit, contractWith};
 ghost use Rattle.formulas.specs.Bounds.{figuresEach};
 ghost use Rattle.margin.specs.code.Beside.{ownOf, unitOf, Besides, LinesKnown, TiersKnown};
 ghost use Rattle.formulas.specs.code.Lines.{LineWithin, noLine};
 ghost use Rattle.margin.specs.code.Lined.{LinesOf, TierIs, TiersIn, PositionAt};
 ghost use Rattle.margin.specs.Uses.{stepsFor, opensFor};
-ghost use Rattle.margin.specs.code.Asking.{Asks};
+ghost use Rattle.margin.specs.code.Asking.{Asks, NetsFit};
 
 // The question for the intercontract table; those below it are contracts.
 pub const TABLE: usize = CONTRACTS;
@@ -69,28 +75,15 @@ pub struct Lines {
     pub line: [Line; CONTRACTS],
 }
 
-// The unit where none is asked for: net deltas and short lots have none, and are not converted.
-const ONE_HUNDREDTH: u64 = 1;
-
-// What the rows of contract `c` come to at rates and a unit.
-fn position_at<'a>(
-    morning: &'a [u8],
-    noon: &'a [u8],
-    account: Account,
-    c: usize,
-    rates: Rates,
-    unit: u64,
-) -> Position
-    requires { ⌜ Stands (now morning) (now noon) account
-        × ((c ≤ mostContract) × ((unit ≤ mostUnit) × RatedBy rates (rowsOf c (accountOf (now morning) (now noon))))) ⌝ }
-    ensures { λ p. ⌜ ((held : List Record) → RatesOf held rates → PositionAt held unit (accountOf (now (morning .entry)) (now (noon .entry))) c p) ⌝ }
+// The account's rates.
+pub(crate) fn rates_over<'a>(morning: &'a [u8], noon: &'a [u8], account: Account) -> Rates
+    requires { ⌜ Stands (now morning) (now noon) account ⌝ }
+    ensures { λ r. ⌜ RatesOf (ratesOf (accountOf (now (morning .entry)) (now (noon .entry)))) r ⌝ }
 {
-    let prompts = part(morning, noon, account, PROMPTS + c);
-    let rows = part(morning, noon, account, ROWS + c);
-    position_of(rates, unit, prompts, rows)
+    rates_of(part(morning, noon, account, RATES))
 }
 
-// The same at the account's rates and by the unit of the contract.
+// What the rows of contract `c` come to at the account's rates and by the unit of the contract.
 pub(crate) fn position_in<'a>(
     morning: &'a [u8],
     noon: &'a [u8],
@@ -102,8 +95,11 @@ pub(crate) fn position_in<'a>(
     ensures { λ p. ⌜ PositionAt (ratesOf (accountOf (now (morning .entry)) (now (noon .entry))))
         (unitOf c (accountOf (now (morning .entry)) (now (noon .entry)))) (accountOf (now (morning .entry)) (now (noon .entry))) c p ⌝ }
 {
-    let own = part(morning, noon, account, OWN + c);
-    position_at(morning, noon, account, c, rates, unit(own) as u64)
+    let w = whereabouts_of(account, c);
+    let own = own_part(morning, noon, w);
+    let prompts = prompts_part(morning, noon, w);
+    let rows = rows_part(morning, noon, w);
+    position_of(rates, unit(own) as u64, prompts, rows)
 }
 
 // The line of contract `c`, by what its rows come to.
@@ -121,9 +117,10 @@ pub(crate) fn line_with<'a>(
         (contractWith (ownOf c (accountOf (now (morning .entry)) (now (noon .entry))))
         (promptsOf c (accountOf (now (morning .entry)) (now (noon .entry)))) (spreadsOf c (accountOf (now (morning .entry)) (now (noon .entry)))) p) r ⌝ }
 {
-    let own = part(morning, noon, account, OWN + c);
-    let prompts = part(morning, noon, account, PROMPTS + c);
-    let spreads = part(morning, noon, account, SPREADS + c);
+    let w = whereabouts_of(account, c);
+    let own = own_part(morning, noon, w);
+    let prompts = prompts_part(morning, noon, w);
+    let spreads = spreads_part(morning, noon, w);
     line_of(own, prompts, spreads, p)
 }
 
@@ -134,12 +131,22 @@ fn line_at<'a>(morning: &'a [u8], noon: &'a [u8], account: Account, i: usize, ra
         (partsIn (accountOf (now (morning .entry)) (now (noon .entry))) (getD (contractsOf (accountOf (now (morning .entry)) (now (noon .entry)))) i [])) r ⌝ }
 {
     let c = contract_number(account, i);
-    let own = part(morning, noon, account, OWN + c);
-    let prompts = part(morning, noon, account, PROMPTS + c);
-    let rows = part(morning, noon, account, ROWS + c);
-    let spreads = part(morning, noon, account, SPREADS + c);
-    let p = position_of(rates, unit(own) as u64, prompts, rows);
-    line_of(own, prompts, spreads, p)
+    let w = whereabouts_of(account, c);
+    let own = own_part(morning, noon, w);
+    let prompts = prompts_part(morning, noon, w);
+    let rows = rows_part(morning, noon, w);
+    let spreads = spreads_part(morning, noon, w);
+    let mut totals = [0i64; SCENARIOS];
+    let mut nets = [0i64; MOST_PROMPTS];
+    let shorts = put_position(
+        &mut totals,
+        &mut nets,
+        rates,
+        unit(own) as u64,
+        prompts,
+        rows,
+    );
+    line_over(own, prompts, spreads, &totals, &nets, shorts)
 }
 
 pub(crate) fn no_line() -> Line {
@@ -157,12 +164,12 @@ pub(crate) fn no_line() -> Line {
 }
 
 // The lines of all contracts, in file order.
-pub(crate) fn lines_of<'a>(morning: &'a [u8], noon: &'a [u8], account: Account) -> Lines
+fn lines_of<'a>(morning: &'a [u8], noon: &'a [u8], account: Account) -> Lines
     requires { ⌜ Stands (now morning) (now noon) account ⌝ }
     ensures { λ r. ⌜ LinesOf (accountOf (now (morning .entry)) (now (noon .entry))) r ⌝ }
 {
     let count = contract_total(account);
-    let rates = rates_of(part(morning, noon, account, RATES));
+    let rates = rates_over(morning, noon, account);
     let mut lines = [no_line(); CONTRACTS];
     let mut i = 0;
     while i < count {
@@ -190,9 +197,46 @@ pub(crate) fn put_figures<'a>(
 {
     let count = all.count;
     let lines = all.line;
+    let spreads = part_total(account, ENTRIES);
+    if spreads == 0 {
+        put_lines(out, count, lines, [Amount(0); CONTRACTS]);
+        return;
+    }
     let entries = part(morning, noon, account, ENTRIES);
     let credits = table_credits(count, lines, entries);
     put_lines(out, count, lines, credits);
+}
+
+// The figures of an account without intercontract spreads at the front of `out`: its contracts have no credits.
+fn put_uncredited<'a>(morning: &'a [u8], noon: &'a [u8], account: Account, out: &mut [i64])
+    requires { ⌜ Stands (now morning) (now noon) account
+        × ((entriesOf (accountOf (now morning) (now noon)) ≡ []) × (figuresEach * account .contracts + 1 ≤ length (now out))) ⌝ }
+    ensures { λ r. ⌜ now (out .exit) ≡ sets (now (out .entry)) 0 (figures (accountOf (now (morning .entry)) (now (noon .entry)))) ⌝ }
+{
+    let count = contract_total(account);
+    let rates = rates_over(morning, noon, account);
+    let mut total: u64 = 0;
+    let mut i = 0;
+    while i < count {
+        let line = line_at(morning, noon, account, i, rates);
+        let margin = put_line(out, i * FIGURES_EACH, line, Amount(0));
+        total += margin.0;
+        i += 1;
+    }
+    put(out, count * FIGURES_EACH, total);
+}
+
+// The figures of an account at the front of `out`.
+pub(crate) fn put_account<'a>(morning: &'a [u8], noon: &'a [u8], account: Account, out: &mut [i64])
+    requires { ⌜ Stands (now morning) (now noon) account × (figuresEach * account .contracts + 1 ≤ length (now out)) ⌝ }
+    ensures { λ r. ⌜ now (out .exit) ≡ sets (now (out .entry)) 0 (figures (accountOf (now (morning .entry)) (now (noon .entry)))) ⌝ }
+{
+    if part_total(account, ENTRIES) == 0 {
+        put_uncredited(morning, noon, account, out);
+        return;
+    }
+    let lines = lines_of(morning, noon, account);
+    put_figures(morning, noon, account, lines, out);
 }
 
 // The total of the margins, which stands last in the figures.
@@ -200,9 +244,8 @@ pub fn total_over<'a>(morning: &'a [u8], noon: &'a [u8], account: Account) -> Am
     requires { ⌜ Stands (now morning) (now noon) account ⌝ }
     ensures { λ r. ⌜ r .0 ≡ accountTotal (accountOf (now (morning .entry)) (now (noon .entry))) ⌝ }
 {
-    let lines = lines_of(morning, noon, account);
     let mut numbers = [0i64; LONGEST_FIGURES];
-    put_figures(morning, noon, account, lines, &mut numbers);
+    put_account(morning, noon, account, &mut numbers);
     let last = FIGURES_EACH * contract_total(account);
     Amount(magnitude(numbers[last]))
 }
@@ -218,8 +261,9 @@ fn nets_at<'a>(
     ensures { λ r. ⌜ PositionAt [] 1 (accountOf (now (morning .entry)) (now (noon .entry))) c
         (withNets [] 1 (rowsOf c (accountOf (now (morning .entry)) (now (noon .entry)))) r) ⌝ }
 {
-    let prompts = part(morning, noon, account, PROMPTS + c);
-    let rows = part(morning, noon, account, ROWS + c);
+    let w = whereabouts_of(account, c);
+    let prompts = prompts_part(morning, noon, w);
+    let rows = rows_part(morning, noon, w);
     nets_of(prompts, rows)
 }
 
@@ -291,12 +335,12 @@ pub(crate) fn tiers_in(all: Lines) -> Prompts
 }
 
 // A contract's prompts with their net deltas, and its interprompt spreads.
-pub(crate) fn contract_asking(prompts: &[u8], spreads: &[u8], p: Position) -> Asking
-    requires { ⌜ BookFit (records (now prompts)) (records (now spreads)) p ⌝ }
-    ensures { λ r. ⌜ Asks (contractSteps (contractWith [] (records (now (prompts .entry))) (records (now (spreads .entry))) p))
-        (opensOf (contractWith [] (records (now (prompts .entry))) (records (now (spreads .entry))) p)) r ⌝ }
+pub(crate) fn contract_asking(prompts: &[u8], spreads: &[u8], nets: [Delta; MOST_PROMPTS]) -> Asking
+    requires { ⌜ NetsFit (records (now prompts)) (records (now spreads)) nets ⌝ }
+    ensures { λ r. ⌜ ((p : Position) → p .nets ≡ nets
+        → Asks (contractSteps (contractWith [] (records (now (prompts .entry))) (records (now (spreads .entry))) p))
+        (opensOf (contractWith [] (records (now (prompts .entry))) (records (now (spreads .entry))) p)) r) ⌝ }
 {
-    let nets = p.nets;
     Asking {
         prompts: prompts_with(prompts, nets),
         table: interprompt_table(spreads),
@@ -321,9 +365,11 @@ pub(crate) fn asking_with<'a>(
         (contractWith [] (promptsOf c (accountOf (now (morning .entry)) (now (noon .entry))))
         (spreadsOf c (accountOf (now (morning .entry)) (now (noon .entry)))) p)) r ⌝ }
 {
-    let prompts = part(morning, noon, account, PROMPTS + c);
-    let spreads = part(morning, noon, account, SPREADS + c);
-    contract_asking(prompts, spreads, p)
+    let w = whereabouts_of(account, c);
+    let prompts = prompts_part(morning, noon, w);
+    let spreads = spreads_part(morning, noon, w);
+    let nets = p.nets;
+    contract_asking(prompts, spreads, nets)
 }
 
 // The same of a contract that stands in the files.
@@ -332,8 +378,11 @@ fn asking_of<'a>(morning: &'a [u8], noon: &'a [u8], account: Account, c: usize) 
     ensures { λ r. ⌜ Asks (contractSteps (partsOf (accountOf (now (morning .entry)) (now (noon .entry))) c))
         (opensOf (partsOf (accountOf (now (morning .entry)) (now (noon .entry))) c)) r ⌝ }
 {
-    let p = position_at(morning, noon, account, c, no_rates(), ONE_HUNDREDTH);
-    asking_with(morning, noon, account, c, p)
+    let w = whereabouts_of(account, c);
+    let prompts = prompts_part(morning, noon, w);
+    let spreads = spreads_part(morning, noon, w);
+    let nets = nets_at(morning, noon, account, c);
+    contract_asking(prompts, spreads, nets)
 }
 
 // The contracts as tiers, and the intercontract spreads.

@@ -9,16 +9,14 @@ use crate::over::line_with;
 use crate::over::no_line;
 use crate::over::position_in;
 use crate::over::put_figures;
+use crate::over::rates_over;
 use crate::over::table_asking;
 use crate::uses::Asking;
 use account::accounts::Account;
 use account::accounts::contract_number;
 use account::accounts::contract_total;
-use account::accounts::part;
 use account::accounts::record_total;
 use account::parts::CONTRACTS;
-use account::parts::RATES;
-use account::rates::rates_of;
 use exact::signed::magnitude;
 use formulas::amount::Amount;
 use formulas::line::contract_net;
@@ -57,7 +55,7 @@ pub fn positions_over<'a>(morning: &'a [u8], noon: &'a [u8], account: Account) -
     ensures { λ r. ⌜ PositionsOf (accountOf (now (morning .entry)) (now (noon .entry))) r ⌝ }
 {
     let count = contract_total(account);
-    let rates = rates_of(part(morning, noon, account, RATES));
+    let rates = rates_over(morning, noon, account);
     let mut at = [flat(); CONTRACTS];
     let mut i = 0;
     while i < count {

@@ -5,12 +5,14 @@ use Prim.Native.Nat.{ℕ, _+_, _*_}
 use native.Mathlib.Omega.{arith}
 use mathlib.Core.Bool.{Bool, true, false, cond}
 use mathlib.Core.List.{List, []}
-use mathlib.Core.Path.{_≡_, sym, _∙_, ap}
+use mathlib.Core.Path.{_≡_, sym, _∙_, ap, subst}
+use lib.IntN.{ℤ}
 use lib.ListN.{replicate}
 use Rattle.spread.specs.Accepted.{openOf, spreadsOf, stepsOf, sound, promptPlaces, spreadPlaces}
 use Rattle.spread.specs.code.Book.{numbersOf, usedIn, unusedIn, byPlace, spreadsEntry, deltaEntry, Booked, Refused, Run, goneOf, Spent}
 use Rattle.spread.specs.code.Cells.{Pooled, numbersIn}
-use Rattle.spread.specs.Demand.{totalUse, Demand3, soundSteps}
+use Rattle.spread.specs.code.Lent.{deltasFrom, deltasIn, spreadsFrom, promptsIn, bookIn}
+use Rattle.spread.specs.Demand.{totalUse, soundSteps}
 use Rattle.spread.specs.Spend.{spend, deltas}
 use Rattle.spread.specs.Steps.{Market, Open, Taker, pool, numbers, left, minus, usedOf, unusedOf}
 use Rattle.spread.specs.declared.Delta.{Delta}
@@ -18,9 +20,10 @@ use Rattle.spread.specs.declared.Prompts.{Prompts}
 use Rattle.spread.specs.declared.Spreads.{Spreads}
 use Rattle.spread.specs.declared.Table.{Table}
 use Rattle.spread.specs.declared.book.Book.{Book}
-use Rattle.spread.proofs.Demand3.{demand3, demand3-accepted}
+use Rattle.spread.proofs.Demand3.{demand3}
 use Rattle.spread.proofs.Filling.{filled-none, filled-all}
 use Rattle.spread.proofs.Gathering.{noDelta}
+use Rattle.spread.proofs.Lent.{prompts-back}
 use Rattle.spread.proofs.Pooling.{pooled-numbers, pooled-left}
 use Rattle.spread.proofs.Running.{noSpreads}
 use Rattle.spread.proofs.Soundness.{table-sound}
@@ -37,10 +40,6 @@ booked-one p t r s a b =
       used = (a .used ∙ sym (b .used)) i;
       unused = (a .unused ∙ sym (b .unused)) i;
     }
-
--- what a book says of accepted prompts and spreads is what demand 3 asks
-pub booked-demand3 : (p : Prompts) (t : Table) (r : Book) → Booked p t r → r .accepted ≡ true → Demand3 (stepsOf t) (openOf p)
-booked-demand3 p t r b e = demand3-accepted p t (sym (b .accepted) ∙ e)
 
 -- what is refused has no numbers
 
@@ -107,3 +106,13 @@ booked-accepted p t cells l first second used unused e pools run spent =
 
     paid : spend (goneOf cells l) (openOf p) ≡ left (stepsOf t) (openOf p)
     paid = spend-left (stepsOf t) (openOf p) (table-sound p t e) cells l pools after-run
+
+-- a book in lent arrays, taken back into the struct
+pub booked-lent : (p : Prompts) (t : Table) (nets : List ℤ) (ns₁ ns₂ : List ℕ) (zs₁ zs₂ : List ℤ) (first second : List Spreads) (used unused : List Delta)
+    → nets ≡ deltasIn (p .net)
+    → first ≡ spreadsFrom ns₁ → second ≡ spreadsFrom ns₂ → used ≡ deltasFrom zs₁ → unused ≡ deltasFrom zs₂
+    → Booked (promptsIn (p .count) (p .tier) nets) t (bookIn ns₁ ns₂ zs₁ zs₂)
+    → Booked p t (record { accepted = true; first = first; second = second; used = used; unused = unused })
+booked-lent p t nets ns₁ ns₂ zs₁ zs₂ first second used unused e f g h k b =
+    subst (λ (q : Prompts). Booked q t (record { accepted = true; first = first; second = second; used = used; unused = unused })) (prompts-back p nets e)
+    (record { accepted = b .accepted; first = f ∙ b .first; second = g ∙ b .second; used = h ∙ b .used; unused = k ∙ b .unused })

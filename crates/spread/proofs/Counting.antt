@@ -7,12 +7,13 @@ use native.Mathlib.Omega.{arith}
 use mathlib.Core.Bool.{Bool, true, false, cond}
 use mathlib.Core.List.{List, [], _∷_, map}
 use mathlib.Core.Path.{_≡_, sym, _∙_, ap, subst}
-use lib.ListN.{length, getD, drop, drop-of-length-le}
+use lib.ListN.{length, getD, drop, drop-of-length-le, List·getD-map}
 use lib.Seq.{drop-cons, getD-take, take-all}
 use Rattle.spread.specs.Accepted.{openOf, spreadsOf, stepsOf, soundPrompts, sound, promptPlaces, spreadPlaces}
 use Rattle.spread.specs.code.Book.{spreadsEntry, numbersOf}
 use Rattle.spread.specs.Steps.{stepOf, Market, Open, Taker, pool, roomFor, formed, after, numbers, steps}
 use Rattle.spread.specs.code.Cells.{mostPool, mostNumber}
+use Rattle.spread.specs.code.Lent.{spreadsFrom}
 use Rattle.spread.specs.code.Passing.{sizesAfter, stepTouchesIn, StepTaken, FormedBy, Laid}
 use Rattle.spread.specs.Touches.{stepTouches, touches}
 use Rattle.spread.specs.declared.Prompts.{Prompts}
@@ -28,21 +29,26 @@ use Rattle.spread.proofs.Running.{noSpreads, table-length}
 use Rattle.spread.proofs.Spending.{pool-after}
 
 -- the numbers formed are those of the prompts, by spread
-abbrev pub Formed : List Spread → List Open → List Spreads → List Spreads → Type 0
+abbrev pub Formed : List Spread → List Open → List ℕ → List ℕ → Type 0
 Formed ss ps first second = (k : ℕ) → k < spreadPlaces
-    → ((getD first k noSpreads) .0 ≡ getD (numbers (steps ss) ps) (2 * k) 0) × ((getD second k noSpreads) .0 ≡ getD (numbers (steps ss) ps) (2 * k + 1) 0)
+    → (getD first k 0 ≡ getD (numbers (steps ss) ps) (2 * k) 0) × (getD second k 0 ≡ getD (numbers (steps ss) ps) (2 * k + 1) 0)
 
-pub formed-by : (p : Prompts) (t : Table) (first second : List Spreads) → sound p t ≡ true → FormedBy p t first second
+pub formed-by : (p : Prompts) (t : Table) (first second : List ℕ) → sound p t ≡ true → FormedBy p t (spreadsFrom first) (spreadsFrom second)
     → Formed (spreadsOf t) (openOf p) first second
 formed-by p t first second e h k l =
     let all : numbersOf p t ≡ numbers (stepsOf t) (openOf p) = ap (λ (b : Bool). cond b (numbers (stepsOf t) (openOf p)) []) e in (
-      ap (λ (xs : List Spreads). (getD xs k noSpreads) .0) (h .firsts)
+      own first
+          ∙ ap (λ (xs : List Spreads). (getD xs k noSpreads) .0) (h .firsts)
           ∙ ap (λ (s : Spreads). s .0) (entries-at spreadPlaces (λ j. spreadsEntry (numbersOf p t) (2 * j)) k noSpreads l)
           ∙ ap (λ (ns : List ℕ). getD ns (2 * k) 0) all,
-      ap (λ (xs : List Spreads). (getD xs k noSpreads) .0) (h .seconds)
+      own second
+          ∙ ap (λ (xs : List Spreads). (getD xs k noSpreads) .0) (h .seconds)
           ∙ ap (λ (s : Spreads). s .0) (entries-at spreadPlaces (λ j. spreadsEntry (numbersOf p t) (2 * j + 1)) k noSpreads l)
           ∙ ap (λ (ns : List ℕ). getD ns (2 * k + 1) 0) all,
     )
+  where
+    own : (ns : List ℕ) → getD ns k 0 ≡ (getD (spreadsFrom ns) k noSpreads) .0
+    own ns = sym (ap (λ (s : Spreads). s .0) (List·getD-map (λ n. record { 0 = n }) ns k 0))
 
 -- no number outgrows what a step can form
 

@@ -20,6 +20,11 @@ module _ {ℓ} {A : Type ℓ} where
   entries-at (suc n) f zero d h = refl
   entries-at (suc n) f (suc k) d h = entries-at n (λ k. f (suc k)) k d (omega arith)
 
+  pub entries-length : (n : ℕ) (f : ℕ → A) → length (byPlace n f) ≡ n
+  unfolding byPlace
+  entries-length zero f = refl
+  entries-length (suc n) f = ap suc (entries-length n (λ k. f (suc k)))
+
   entries-from : (n : ℕ) (f : ℕ → A) (d : A) (l : List A) → length l ≡ n → ((k : ℕ) → k < n → getD l k d ≡ f k) → l ≡ byPlace n f
   unfolding byPlace
   entries-from zero f d [] e h = refl

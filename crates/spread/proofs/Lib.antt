@@ -16,6 +16,7 @@ pub mod Soundness
 pub mod Spending
 pub mod Stepping
 pub mod Lengths
+pub mod Lent
 pub mod Again
 pub mod Touching
 pub mod Passing

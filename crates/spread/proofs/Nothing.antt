@@ -7,13 +7,12 @@ use mathlib.Core.Bool.{Bool, true, false}
 use mathlib.Core.List.{List, [], _∷_}
 use mathlib.Core.Path.{_≡_, refl, sym, _∙_, ap}
 use lib.Dec.{ltb}
-use lib.ListN.{set}
+use lib.ListN.{getD, set}
 use lib.Seq.{set-getD}
 use borrow.Author.Tests.{ltb-false}
 use Rattle.exact.specs.Rounding.{halfUp}
 use Rattle.spread.specs.code.Cells.{cellOf, poolIn, lowestIn, formedIn, lessIn, afterIn, Taken}
 use Rattle.spread.specs.Steps.{Taker, room, useOf}
-use Rattle.spread.specs.declared.Spreads.{Spreads}
 use Rattle.spread.specs.declared.pools.Pools.{Pools}
 
 pub use-none : (tenths : Bool) (ratio : ℕ) → useOf tenths 0 ratio ≡ 0
@@ -43,21 +42,33 @@ formed-none (k ∷ l ∷ ks) cells e = go (poolIn cells k) refl (formed-none (l 
     go zero f rest = let h = room-none (k .tenths) (poolIn cells k) (k .ratio) f in omega arith
     go (suc p) f rest = let h = rest (omega arith) in omega arith
 
--- the step as taken, or left out
+-- a step as taken, its number written, or left out
 
-pub taken-now : (ks : List Taker) (cells : List ℕ) (took now : Pools) (n number : Spreads) → Taken ks cells (took .cell) (n .0) → now ≡ took → number ≡ n
-    → Taken ks cells (now .cell) (number .0)
-taken-now ks cells took now n number t e f =
-    record { formed = ap (λ (m : Spreads). m .0) f ∙ t .formed; leaves = ap (λ (p : Pools). p .cell) e ∙ t .leaves }
+pub record Written (ks : List Taker) (cells left : List ℕ) (i : ℕ) (was now : List ℕ) : Type 0 where
+  pub number : ℕ
+  pub taken : Taken ks cells left number
+  pub written : now ≡ set was i number
 
-pub taken-none : (ks : List Taker) (was now : Pools) (number : Spreads) → ltb 0 (lowestIn (was .cell) ks) ≡ false → now ≡ was → number ≡ record { 0 = 0 }
-    → Taken ks (was .cell) (now .cell) (number .0)
-taken-none ks was now number h e f =
-    let none = formed-none ks (was .cell) (let l = ltb-false 0 (lowestIn (was .cell) ks) h in omega arith) in
+pub written-now : (ks : List Taker) (cells : List ℕ) (took left : Pools) (n i : ℕ) (was now : List ℕ) → Taken ks cells (took .cell) n → left ≡ took
+    → now ≡ set was i n
+    → Written ks cells (left .cell) i was now
+written-now ks cells took left n i was now t e f =
+    record { number = n; taken = record { formed = t .formed; leaves = ap (λ (p : Pools). p .cell) e ∙ t .leaves }; written = f }
+
+pub written-none : (ks : List Taker) (had left : Pools) (i : ℕ) (was now : List ℕ) → ltb 0 (lowestIn (had .cell) ks) ≡ false → left ≡ had → now ≡ was
+    → getD was i 0 ≡ 0
+    → Written ks (had .cell) (left .cell) i was now
+written-none ks had left i was now h e f zero-there =
+    let none = formed-none ks (had .cell) (let l = ltb-false 0 (lowestIn (had .cell) ks) h in omega arith) in
     record {
-      formed = ap (λ (m : Spreads). m .0) f ∙ sym none;
-      leaves =
-          ap (λ (p : Pools). p .cell) e
-          ∙ sym (after-none ks (was .cell))
-          ∙ ap (λ (n : ℕ). afterIn ks n (was .cell)) (sym none);
+      number = 0;
+      taken =
+          record {
+            formed = sym none;
+            leaves =
+                ap (λ (p : Pools). p .cell) e
+                ∙ sym (after-none ks (had .cell))
+                ∙ ap (λ (n : ℕ). afterIn ks n (had .cell)) (sym none);
+          };
+      written = f ∙ sym (ap (set was i) (sym zero-there) ∙ set-getD was i 0);
     }

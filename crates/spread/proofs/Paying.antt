@@ -4,18 +4,20 @@ use Prim.Native.Nat.{ℕ, suc, _+_, _-_, _≤_, _<_}
 use native.Mathlib.Numerals.{add-one}
 use native.Mathlib.Omega.{arith}
 use mathlib.Core.List.{List, _∷_}
-use mathlib.Core.Path.{_≡_, refl, sym, _∙_, ap, ap₂, subst}
+use mathlib.Core.Path.{_≡_, refl, sym, _∙_, ap, ap₂, subst⁻¹}
 use lib.IntN.{ℤ, pos, natAbs, _-ℤ_}
 use lib.ListN.{length, getD, set, drop, replicate, length-set, drop-of-length-le}
 use lib.Seq.{drop-cons}
 use Rattle.spread.specs.code.Book.{deltaEntry, goneOf, Spent}
 use Rattle.spread.specs.code.Cells.{cellOf, cellAt, poolCount}
+use Rattle.spread.specs.code.Lent.{deltasFrom}
 use Rattle.spread.specs.Spend.{marketOf, spend, deltas, usedBy}
 use Rattle.spread.specs.Steps.{Open, inTier, towardsZero, minus}
 use Rattle.spread.specs.declared.Delta.{Delta}
 use Rattle.spread.specs.Accepted.{promptPlaces}
 use Rattle.spread.proofs.Filling.{Filled, filled-none, filled-next, filled-all}
 use Rattle.spread.proofs.Gathering.{own, in-own-pool, nothing, Placed, noDelta}
+use Rattle.spread.proofs.Lent.{map-set}
 use Rattle.spread.proofs.Pooling.{cell-less}
 use Rattle.spread.proofs.Spending.{spend-same}
 
@@ -126,19 +128,27 @@ paying-all had left ps i now used unused h r =
         ∙ r .toLeave (k - i)
         ∙ ap (λ (l : List Open). getD (deltas (spend (goneOf now left) l)) (k - i) (pos 0)) (drop-of-length-le ps h)
 
--- a turn of the code
-pub pay-next : (had left : List ℕ) (ps : List Open) (i : ℕ) (now more : List ℕ) (used unused : List Delta) (z : ℤ) (cell due : ℕ) (u v : Delta)
+-- a turn of the code, on lent numbers
+pub pay-next : (had left : List ℕ) (ps : List Open) (i : ℕ) (now more : List ℕ) (used unused : List ℤ) (z : ℤ) (cell due : ℕ) (u v : ℤ)
     → i < promptPlaces
     → Placed ps i z cell
     → due ≡ getD now cell 0 - getD left cell 0
-    → u .0 ≡ z -ℤ towardsZero z due
-    → v .0 ≡ towardsZero z due
+    → u ≡ z -ℤ towardsZero z due
+    → v ≡ towardsZero z due
     → more ≡ set now cell (getD now cell 0 - natAbs z)
-    → Paying had left ps i now used unused
-    → Paying had left ps (i + 1) more (set used i u) (set unused i v)
+    → Paying had left ps i now (deltasFrom used) (deltasFrom unused)
+    → Paying had left ps (i + 1) more (deltasFrom (set used i u)) (deltasFrom (set unused i v))
 pay-next had left ps i now more used unused z cell due u v h g ed eu ev e r =
-    subst (λ (l : List ℕ). Paying had left ps (i + 1) l (set used i u) (set unused i v))
-    (sym (e ∙ (λ j. set now (g .own j) (getD now (g .own j) 0 - natAbs (g .net j)))))
-    (paying-next had left ps i now used unused (getD ps i nothing) u v nothing (g .place) h refl
+    as-lent
+    (subst⁻¹ (λ (l : List ℕ). Paying had left ps (i + 1) l (set (deltasFrom used) i (record { 0 = u })) (set (deltasFrom unused) i (record { 0 = v })))
+    (e ∙ (λ j. set now (g .own j) (getD now (g .own j) 0 - natAbs (g .net j))))
+    (paying-next had left ps i now (deltasFrom used) (deltasFrom unused) (getD ps i nothing) (record { 0 = u }) (record { 0 = v }) nothing (g .place) h refl
     (eu ∙ ap (λ (a : ℕ). z -ℤ towardsZero z a) ed ∙ (λ j. g .net j -ℤ towardsZero (g .net j) (getD now (g .own j) 0 - getD left (g .own j) 0)))
-    (ev ∙ ap (towardsZero z) ed ∙ (λ j. towardsZero (g .net j) (getD now (g .own j) 0 - getD left (g .own j) 0))) r)
+    (ev ∙ ap (towardsZero z) ed ∙ (λ j. towardsZero (g .net j) (getD now (g .own j) 0 - getD left (g .own j) 0))) r))
+  where
+    as-lent : Paying had left ps (i + 1) more (set (deltasFrom used) i (record { 0 = u })) (set (deltasFrom unused) i (record { 0 = v }))
+        → Paying had left ps (i + 1) more (deltasFrom (set used i u)) (deltasFrom (set unused i v))
+    as-lent r =
+        subst⁻¹ (λ (l : List Delta). Paying had left ps (i + 1) more l (deltasFrom (set unused i v))) (map-set (λ z. record { 0 = z }) used i u)
+        (subst⁻¹ (λ (l : List Delta). Paying had left ps (i + 1) more (set (deltasFrom used) i (record { 0 = u })) l)
+        (map-set (λ z. record { 0 = z }) unused i v) r)

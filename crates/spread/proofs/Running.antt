@@ -3,23 +3,26 @@
 use Prim.Native.Nat.{ℕ, suc, _+_, _-_, _*_, _≤_, _<_}
 use native.Mathlib.Numerals.{add-one}
 use native.Mathlib.Omega.{arith}
-use mathlib.Core.Bool.{true, false}
+use mathlib.Core.Bool.{Bool, true, false, cond}
 use mathlib.Core.List.{List, _∷_}
-use mathlib.Core.Path.{_≡_, refl, sym, _∙_, ap, ap₂, subst}
+use mathlib.Core.Path.{_≡_, refl, sym, _∙_, ap, ap₂, subst, subst⁻¹}
 use lib.Dec.{leb}
-use lib.ListN.{length, getD, set, drop, replicate, drop-of-length-le}
+use lib.ListN.{length, getD, set, drop, replicate, drop-of-length-le, List·getD-map}
 use lib.Seq.{drop-cons, getD-take, length-take-le}
-use borrow.Author.Tests.{leb-true}
+use borrow.Author.Tests.{leb-true, le-ltb}
 use Rattle.spread.specs.Accepted.{every, spreadsOf, soundSpread, soundTable, spreadPlaces}
 use Rattle.spread.specs.code.Book.{spreadsEntry, Run}
 use Rattle.spread.specs.Steps.{stepOf, steps}
 use Rattle.spread.specs.code.Cells.{numbersIn, leftIn, Taken}
+use Rattle.spread.specs.code.Lent.{spreadsFrom}
 use Rattle.spread.specs.declared.Spread.{Spread}
 use Rattle.spread.specs.declared.Spreads.{Spreads}
 use Rattle.spread.specs.declared.Table.{Table}
 use Rattle.spread.proofs.Both.{and-left, and-right}
 use Rattle.spread.proofs.Every.{every-at}
 use Rattle.spread.proofs.Filling.{Filled, filled-none, filled-next, filled-all}
+use Rattle.spread.proofs.Lent.{map-set}
+use Rattle.spread.proofs.Nothing.{Written}
 
 abbrev pub noSpreads : Spreads
 noSpreads = record { 0 = 0 }
@@ -131,15 +134,29 @@ table-at t i d l e h =
     sym (ap soundSpread (getD-take (t .count) (t .spread) i d h))
     ∙ every-at soundSpread (spreadsOf t) i d (and-right (leb (t .count) spreadPlaces) (every soundSpread (spreadsOf t)) e) (omega arith)
 
-pub table-next : (t : Table) (cells : List ℕ) (i : ℕ) (now l₁ l₂ : List ℕ) (first second : List Spreads) (d : Spread) (n₁ n₂ : Spreads)
+-- a turn of the code, on lent numbers
+
+pub none-yet : (f : ℕ → Spreads) (i : ℕ) (ns : List ℕ) → Filled spreadPlaces noSpreads f i (spreadsFrom ns) → getD ns i 0 ≡ 0
+none-yet f i ns r =
+    ap (λ (s : Spreads). s .0)
+    (sym (List·getD-map (λ n. record { 0 = n }) ns i 0) ∙ r .each i ∙ ap (λ (b : Bool). cond b (f i) noSpreads) (le-ltb i i (omega arith)))
+
+pub table-next : (t : Table) (cells : List ℕ) (i : ℕ) (now l₁ l₂ first second more-first more-second : List ℕ) (d : Spread)
     → length (t .spread) ≡ spreadPlaces → t .count ≤ spreadPlaces → i < t .count
-    → Taken (stepOf false (getD (t .spread) i d)) now l₁ (n₁ .0)
-    → Taken (stepOf true (getD (t .spread) i d)) l₁ l₂ (n₂ .0)
-    → Running cells (spreadsOf t) i now first second
-    → Running cells (spreadsOf t) (i + 1) l₂ (set first i n₁) (set second i n₂)
-table-next t cells i now l₁ l₂ first second d n₁ n₂ l m h a b r =
+    → Written (stepOf false (getD (t .spread) i d)) now l₁ i first more-first
+    → Written (stepOf true (getD (t .spread) i d)) l₁ l₂ i second more-second
+    → Running cells (spreadsOf t) i now (spreadsFrom first) (spreadsFrom second)
+    → Running cells (spreadsOf t) (i + 1) l₂ (spreadsFrom more-first) (spreadsFrom more-second)
+table-next t cells i now l₁ l₂ first second more-first more-second d l m h a b r =
     let e = getD-take (t .count) (t .spread) i d h in
     let n = table-length t l m in
-    running-next cells (spreadsOf t) i now l₁ l₂ first second d n₁ n₂ (omega arith) (omega arith)
-    (subst (λ (s : Spread). Taken (stepOf false s) now l₁ (n₁ .0)) (sym e) a)
-    (subst (λ (s : Spread). Taken (stepOf true s) l₁ l₂ (n₂ .0)) (sym e) b) r
+    subst⁻¹ (λ (ns : List Spreads). Running cells (spreadsOf t) (i + 1) l₂ ns (spreadsFrom more-second)) (with-one first more-first (a .number) (a .written))
+    (subst⁻¹ (λ (ns : List Spreads). Running cells (spreadsOf t) (i + 1) l₂ (set (spreadsFrom first) i (record { 0 = a .number })) ns)
+    (with-one second more-second (b .number) (b .written))
+    (running-next cells (spreadsOf t) i now l₁ l₂ (spreadsFrom first) (spreadsFrom second) d (record { 0 = a .number }) (record { 0 = b .number })
+    (omega arith) (omega arith)
+    (subst (λ (s : Spread). Taken (stepOf false s) now l₁ (a .number)) (sym e) (a .taken))
+    (subst (λ (s : Spread). Taken (stepOf true s) l₁ l₂ (b .number)) (sym e) (b .taken)) r))
+  where
+    with-one : (ns more : List ℕ) (n : ℕ) → more ≡ set ns i n → spreadsFrom more ≡ set (spreadsFrom ns) i (record { 0 = n })
+    with-one ns more n f = ap spreadsFrom f ∙ map-set (λ n. record { 0 = n }) ns i n

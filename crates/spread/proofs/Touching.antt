@@ -307,17 +307,21 @@ at-most-spreads zero l = omega arith
 at-most-spreads (suc n) [] = omega arith
 at-most-spreads (suc n) (x ∷ l) = let r = at-most-spreads n l in omega arith
 
+pub touches-most : (ss : List Spread) (ps : List Open) → every soundSpread ss ≡ true → length ss ≤ spreadPlaces → length ps ≤ promptPlaces
+    → touches (steps ss) ps ≤ mostTouches
+touches-most ss ps e spreads prompts = omega (arith, touched ss ps e .bound, three-each ss e)
+
 pub touches-few : (p : Prompts) (t : Table) → length (p .tier) ≡ promptPlaces → length (p .net) ≡ promptPlaces → sound p t ≡ true → touchesOf p t ≤ mostTouches
 touches-few p t lt ln e =
     let table = and-right (soundPrompts p) (soundTable t) e in
     let all = ap (λ (b : Bool). cond b (touches (stepsOf t) (openOf p)) 0) e in
-    let bound = touched (spreadsOf t) (openOf p) (and-right (leb (t .count) spreadPlaces) (every soundSpread (spreadsOf t)) table) .bound in
     let long = open-length p lt ln (few p (and-left (soundPrompts p) (soundTable t) e)) in
     let prompts = few p (and-left (soundPrompts p) (soundTable t) e) in
     let spreads = leb-true (t .count) spreadPlaces (and-left (leb (t .count) spreadPlaces) (every soundSpread (spreadsOf t)) table) in
-    let legs = three-each (spreadsOf t) (and-right (leb (t .count) spreadPlaces) (every soundSpread (spreadsOf t)) table) in
     let taken = at-most-spreads (t .count) (t .spread) in
-    omega (arith, all, bound, long, prompts, spreads, legs, taken)
+    let most = touches-most (spreadsOf t) (openOf p) (and-right (leb (t .count) spreadPlaces) (every soundSpread (spreadsOf t)) table)
+    (omega (arith, spreads, taken)) (omega (arith, long, prompts)) in
+    omega (arith, all, most)
 
 -- two counted books that the promise allows are the same
 pub counted-one : (p : Prompts) (t : Table) (r q : Counted) → CountedBook p t r → CountedBook p t q → r ≡ q

@@ -1,4 +1,5 @@
 pub mod Book
 pub mod Cells
+pub mod Lent
 pub mod Passing
 pub mod Step

@@ -6,6 +6,9 @@ use crate::Prompts;
 use crate::Spreads;
 use crate::Table;
 use crate::accepted::accepted;
+use crate::plain::deltas_from;
+use crate::plain::plain;
+use crate::plain::spreads_from;
 use crate::pools::CELLS;
 use crate::pools::Pools;
 use crate::pools::beyond;
@@ -15,13 +18,13 @@ use exact::signed::minus;
 use exact::signed::towards_zero;
 ghost use mathlib.Core.Path.{_≡_};
 ghost use mathlib.Core.Bool.{true};
-ghost use lib.ListN.{length};
-ghost use lib.IntN.{_-ℤ_};
-ghost use Rattle.spread.specs.Steps.{towardsZero};
-ghost use Rattle.spread.specs.Accepted.{openOf, spreadsOf, soundPrompts, soundTable, sound};
+ghost use lib.ListN.{length, replicate};
+ghost use lib.IntN.{pos};
+ghost use Rattle.spread.specs.Accepted.{openOf, spreadsOf, soundPrompts, soundTable, sound, promptPlaces, spreadPlaces};
 ghost use Rattle.spread.specs.Spend.{marketOf};
 ghost use Rattle.spread.specs.code.Cells.{cellOf, Pooled, Small, poolCount};
 ghost use Rattle.spread.specs.code.Book.{Booked, Refused, Run, Spent};
+ghost use Rattle.spread.specs.code.Lent.{deltasFrom, spreadsFrom, promptsIn, bookIn};
 
 // Spread k formed first[k] in its first step and second[k] in its second; used[k] and unused[k] are the parts of prompt k's
 // net delta. All are zero beyond the spreads and prompts given, and where these are not accepted.
@@ -33,25 +36,6 @@ pub struct Book {
     pub unused: [Delta; MOST_PROMPTS],
 }
 
-// All steps run: the pools left, and the numbers formed.
-struct Ran {
-    left: Pools,
-    first: [Spreads; MOST_SPREADS],
-    second: [Spreads; MOST_SPREADS],
-}
-
-// The two parts of a net delta.
-struct Split {
-    used: Delta,
-    unused: Delta,
-}
-
-// The two parts of each prompt's net delta.
-pub(crate) struct Paid {
-    pub(crate) used: [Delta; MOST_PROMPTS],
-    pub(crate) unused: [Delta; MOST_PROMPTS],
-}
-
 // The pool of a prompt: its tier's, on the side of its net delta.
 pub(crate) fn pool_of(tier: u8, net: Delta) -> usize
     ensures { λ r. ⌜ r ≡ cellOf (marketOf (net .0)) tier ⌝ }
@@ -60,95 +44,104 @@ pub(crate) fn pool_of(tier: u8, net: Delta) -> usize
 }
 
 // "A tier's long pool is the sum of its positive unused deltas, its short pool that of its negative ones".
-pub(crate) fn pools_of(prompts: Prompts) -> Pools
-    requires { ⌜ soundPrompts prompts ≡ true ⌝ }
-    ensures { λ r. ⌜ Pooled (r .cell) (openOf prompts) ⌝ }
+pub(crate) fn pools_of(count: usize, tiers: &[u8], nets: &[i64]) -> Pools
+    requires { ⌜ (soundPrompts (promptsIn count (now tiers) (now nets)) ≡ true)
+        × ((length (now tiers) ≡ promptPlaces) × (length (now nets) ≡ promptPlaces)) ⌝ }
+    ensures { λ r. ⌜ Pooled (r .cell) (openOf (promptsIn count (now (tiers .entry)) (now (nets .entry)))) ⌝ }
 {
-    let n = prompts.count;
     let mut cells = [0; CELLS];
     let mut i = 0;
-    while i < n {
-        let net = prompts.net[i];
-        let cell = pool_of(prompts.tier[i], net);
+    while i < count {
+        let net = Delta(nets[i]);
+        let cell = pool_of(tiers[i], net);
         cells[cell] = cells[cell] + net.size();
         i += 1;
     }
     Pools { cell: cells }
 }
 
-// "Each spread, in file order, is two steps".
-fn run(pools: Pools, table: Table) -> Ran
-    requires { ⌜ (soundTable table ≡ true) × Small (pools .cell) ⌝ }
-    ensures { λ r. ⌜ Run (pools .cell) (spreadsOf table) (r .left .cell) (r .first) (r .second) ⌝ }
+// "Each spread, in file order, is two steps": the numbers that they form, and the pools that they leave.
+fn run(
+    pools: Pools,
+    table: Table,
+    first: &mut [u64; MOST_SPREADS],
+    second: &mut [u64; MOST_SPREADS],
+) -> Pools
+    requires { ⌜ (soundTable table ≡ true) × (Small (pools .cell)
+        × ((now first ≡ replicate spreadPlaces 0) × (now second ≡ replicate spreadPlaces 0))) ⌝ }
+    ensures { λ r. ⌜ Run (pools .cell) (spreadsOf table) (r .cell) (spreadsFrom (now (first .exit))) (spreadsFrom (now (second .exit))) ⌝ }
 {
     let n = table.count;
     let mut left = pools;
-    let mut ran = Ran {
-        left: pools,
-        first: [Spreads(0); MOST_SPREADS],
-        second: [Spreads(0); MOST_SPREADS],
-    };
     let mut i = 0;
     while i < n {
         let spread = table.spread[i];
-        let mut formed = Spreads(0);
         if has_room(&left.cell, spread, false) {
             let one = left.take(spread, false);
-            formed = one.number;
+            first[i] = one.number.0;
             left = one.left;
         }
-        let mut reverse = Spreads(0);
         if has_room(&left.cell, spread, true) {
             let two = left.take(spread, true);
-            reverse = two.number;
+            second[i] = two.number.0;
             left = two.left;
         }
-        ran.first[i] = formed;
-        ran.second[i] = reverse;
         i += 1;
     }
-    ran.left = left;
-    ran
+    left
 }
 
-// A net delta of which so much is wanted: no prompt goes past zero.
-fn split_of(net: Delta, wanted: u64) -> Split
-    ensures { λ r. ⌜ (r .used .0 ≡ net .0 -ℤ towardsZero (net .0) wanted) × (r .unused .0 ≡ towardsZero (net .0) wanted) ⌝ }
+// What the steps used of each pool, had less left, "from the prompts of its tier on that side, earliest day first": no prompt
+// goes past zero, and one that has paid is no longer among what was had.
+pub(crate) fn pay(
+    count: usize,
+    tiers: &[u8],
+    nets: &[i64],
+    pools: Pools,
+    left: &[u64],
+    used: &mut [i64; MOST_PROMPTS],
+    unused: &mut [i64; MOST_PROMPTS],
+)
+    requires { ⌜ (soundPrompts (promptsIn count (now tiers) (now nets)) ≡ true)
+        × (((length (now tiers) ≡ promptPlaces) × (length (now nets) ≡ promptPlaces)) × ((length (now left) ≡ poolCount)
+        × ((now used ≡ replicate promptPlaces (pos 0)) × (now unused ≡ replicate promptPlaces (pos 0))))) ⌝ }
+    ensures { λ _. ⌜ Spent (pools .cell) (now (left .entry)) (openOf (promptsIn count (now (tiers .entry)) (now (nets .entry))))
+        (deltasFrom (now (used .exit))) (deltasFrom (now (unused .exit))) ⌝ }
 {
-    let unused = towards_zero(net.0, wanted);
-    let used = minus(net.0, unused);
-    Split {
-        used: Delta(used),
-        unused: Delta(unused),
-    }
-}
-
-// What the steps used of each pool, had less left, "from the prompts of its tier on that side, earliest day first". A prompt
-// that has paid is no longer among what was had.
-pub(crate) fn paid_by(prompts: Prompts, pools: Pools, left: &[u64]) -> Paid
-    requires { ⌜ (soundPrompts prompts ≡ true) × (length (now left) ≡ poolCount) ⌝ }
-    ensures { λ r. ⌜ Spent (pools .cell) (now (left .entry)) (openOf prompts) (r .used) (r .unused) ⌝ }
-{
-    let n = prompts.count;
     let mut had = pools.cell;
-    let mut paid = Paid {
-        used: [Delta(0); MOST_PROMPTS],
-        unused: [Delta(0); MOST_PROMPTS],
-    };
     let mut k = 0;
-    while k < n {
-        let net = prompts.net[k];
-        let cell = pool_of(prompts.tier[k], net);
+    while k < count {
+        let net = Delta(nets[k]);
+        let cell = pool_of(tiers[k], net);
         let due = beyond(had[cell], left[cell]);
-        let parts = split_of(net, due);
-        let taken = parts.used;
-        let kept = parts.unused;
-        paid.used[k] = taken;
-        paid.unused[k] = kept;
+        let kept = towards_zero(net.0, due);
+        used[k] = minus(net.0, kept);
+        unused[k] = kept;
         had[cell] = beyond(had[cell], net.size());
         k += 1;
     }
-    paid
+}
+
+// The delta book of prompts and spreads that are accepted, in lent arrays of zeros: they are not tested again.
+pub fn put_book(
+    count: usize,
+    tiers: &[u8; MOST_PROMPTS],
+    nets: &[i64; MOST_PROMPTS],
+    table: Table,
+    first: &mut [u64; MOST_SPREADS],
+    second: &mut [u64; MOST_SPREADS],
+    used: &mut [i64; MOST_PROMPTS],
+    unused: &mut [i64; MOST_PROMPTS],
+)
+    requires { ⌜ (sound (promptsIn count (now tiers) (now nets)) table ≡ true)
+        × (((now first ≡ replicate spreadPlaces 0) × (now second ≡ replicate spreadPlaces 0))
+        × ((now used ≡ replicate promptPlaces (pos 0)) × (now unused ≡ replicate promptPlaces (pos 0)))) ⌝ }
+    ensures { λ _. ⌜ Booked (promptsIn count (now (tiers .entry)) (now (nets .entry))) table
+        (bookIn (now (first .exit)) (now (second .exit)) (now (used .exit)) (now (unused .exit))) ⌝ }
+{
+    let pools = pools_of(count, tiers, nets);
+    let left = run(pools, table, first, second);
+    pay(count, tiers, nets, pools, &left.cell, used, unused);
 }
 
 // Nothing is accepted, and nothing formed or used.
@@ -169,19 +162,33 @@ pub fn book_of_accepted(prompts: Prompts, table: Table) -> Book
     requires { ⌜ sound prompts table ≡ true ⌝ }
     ensures { λ r. ⌜ Booked prompts table r ⌝ }
 {
-    let pools = pools_of(prompts);
-    let ran = run(pools, table);
-    let paid = paid_by(prompts, pools, &ran.left.cell);
-    let first = ran.first;
-    let second = ran.second;
-    let used = paid.used;
-    let unused = paid.unused;
+    let tiers = prompts.tier;
+    let net = prompts.net;
+    let nets = plain(net);
+    let mut first = [0; MOST_SPREADS];
+    let mut second = [0; MOST_SPREADS];
+    let mut used = [0; MOST_PROMPTS];
+    let mut unused = [0; MOST_PROMPTS];
+    put_book(
+        prompts.count,
+        &tiers,
+        &nets,
+        table,
+        &mut first,
+        &mut second,
+        &mut used,
+        &mut unused,
+    );
+    let formed = spreads_from(first);
+    let reverse = spreads_from(second);
+    let taken = deltas_from(used);
+    let kept = deltas_from(unused);
     Book {
         accepted: true,
-        first: first,
-        second: second,
-        used: used,
-        unused: unused,
+        first: formed,
+        second: reverse,
+        used: taken,
+        unused: kept,
     }
 }
 

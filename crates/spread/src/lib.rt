@@ -4,6 +4,7 @@
 pub mod accepted;
 pub mod book;
 pub mod deltas;
+pub mod plain;
 pub mod pools;
 pub mod stepwise;
 pub mod touches;
@@ -26,11 +27,11 @@ pub struct Leg {
     pub ratio: u16,
 }
 
-// A spread: its first `legs` legs, 2 or 3, and whether their ratios are tenths.
+// A spread: its first `legs` legs, 2 or 3, and whether their ratios are tenths. In this order no bytes lie between its fields.
 pub struct Spread {
     pub legs: u8,
-    pub leg: [Leg; 3],
     pub tenths: bool,
+    pub leg: [Leg; 3],
 }
 
 // A table of spreads in order of priority: its first `count` spreads.

@@ -6,8 +6,10 @@ use crate::Spread;
 use crate::Spreads;
 use crate::accepted::sound_prompts;
 use crate::accepted::sound_spread;
-use crate::book::paid_by;
+use crate::book::pay;
 use crate::book::pools_of;
+use crate::plain::deltas_from;
+use crate::plain::plain;
 ghost use mathlib.Core.Path.{_≡_};
 ghost use Rattle.spread.specs.Uses.{soundFor};
 ghost use Rattle.spread.specs.code.Step.{Stepped, NotTaken};
@@ -47,18 +49,31 @@ pub fn step_over(prompts: Prompts, spread: Spread, second: bool) -> Step
     if !can_step(prompts, spread) {
         return not_taken(prompts);
     }
-    let pools = pools_of(prompts);
+    let count = prompts.count;
+    let tiers = prompts.tier;
+    let net = prompts.net;
+    let nets = plain(net);
+    let pools = pools_of(count, &tiers, &nets);
     let took = pools.take(spread, second);
     let after = took.left;
-    let paid = paid_by(prompts, pools, &after.cell);
     let number = took.number;
-    let taken = paid.used;
-    let unused = paid.unused;
-    let tiers = prompts.tier;
+    let mut used = [0; MOST_PROMPTS];
+    let mut unused = [0; MOST_PROMPTS];
+    pay(
+        count,
+        &tiers,
+        &nets,
+        pools,
+        &after.cell,
+        &mut used,
+        &mut unused,
+    );
+    let taken = deltas_from(used);
+    let kept = deltas_from(unused);
     let left = Prompts {
-        count: prompts.count,
+        count: count,
         tier: tiers,
-        net: unused,
+        net: kept,
     };
     Step {
         accepted: true,

@@ -1,4 +1,5 @@
 // How often a prompt is touched: each pool's prompts are passed in order of days, a leg going on where the one before it stopped.
+use crate::Delta;
 use crate::Leg;
 use crate::MOST_PROMPTS;
 use crate::MOST_SPREADS;
@@ -9,6 +10,8 @@ use crate::Table;
 use crate::book::Book;
 use crate::book::delta_book;
 use crate::book::pool_of;
+use crate::plain::numbers_of;
+use crate::plain::plain;
 use crate::pools::CELLS;
 use crate::pools::cell_for;
 use crate::pools::lesser;
@@ -23,6 +26,7 @@ ghost use Rattle.spread.specs.Accepted.{openOf, stepsOf, soundPrompts, s
 ghost use Rattle.spread.specs.code.Cells.{cellOf, mostNumber, poolCount};
 ghost use Rattle.spread.specs.Steps.{marketIn, stepOf, useOf};
 ghost use Rattle.spread.specs.code.Passing.{givesIn, UsedUp, Begun, Ready, Passed, LegTaken, StepTaken, FormedBy, Laid};
+ghost use Rattle.spread.specs.code.Lent.{spreadsFrom, promptsIn};
 ghost use Rattle.spread.specs.Touches.{touches};
 ghost use Rattle.spread.specs.code.Book.{CountedBook};
 
@@ -48,16 +52,24 @@ fn earlier(a: usize, b: usize) -> usize
 }
 
 // Each prompt's pool and the size of its net delta, zero beyond the prompts, and for each pool the place of its first prompt.
-fn lay(pool: &mut [usize], size: &mut [u64], at: &mut [usize], prompts: Prompts)
-    requires { ⌜ (soundPrompts prompts ≡ true)
-        × (length (now pool) ≡ promptPlaces) × (now size ≡ replicate promptPlaces 0) × (length (now at) ≡ poolCount + 1) ⌝ }
-    ensures { λ _. ⌜ Laid (openOf prompts) (now (pool .exit)) (now (size .exit)) × Begun (now (at .exit)) (now (pool .exit)) (now (size .exit)) ⌝ }
+fn lay(
+    pool: &mut [usize],
+    size: &mut [u64],
+    at: &mut [usize],
+    count: usize,
+    tiers: &[u8],
+    nets: &[i64],
+)
+    requires { ⌜ (soundPrompts (promptsIn count (now tiers) (now nets)) ≡ true)
+        × (((length (now tiers) ≡ promptPlaces) × (length (now nets) ≡ promptPlaces))
+        × ((length (now pool) ≡ promptPlaces) × ((now size ≡ replicate promptPlaces 0) × (length (now at) ≡ poolCount + 1)))) ⌝ }
+    ensures { λ _. ⌜ Laid (openOf (promptsIn count (now (tiers .entry)) (now (nets .entry)))) (now (pool .exit)) (now (size .exit))
+        × Begun (now (at .exit)) (now (pool .exit)) (now (size .exit)) ⌝ }
 {
-    let n = prompts.count;
     let mut k = 0;
-    while k < n {
-        let net = prompts.net[k];
-        let cell = pool_of(prompts.tier[k], net);
+    while k < count {
+        let net = Delta(nets[k]);
+        let cell = pool_of(tiers[k], net);
         pool[k] = cell;
         size[k] = net.size();
         at[cell] = earlier(at[cell], k);
@@ -189,7 +201,39 @@ fn step_touches(
     a + b + c
 }
 
-// The steps of what is accepted, with the numbers that they formed: how often they take of a prompt.
+// The steps of what is accepted, with the numbers that they formed, in lent arrays: how often they take of a prompt.
+pub fn touches_in(
+    count: usize,
+    tiers: &[u8; MOST_PROMPTS],
+    nets: &[i64; MOST_PROMPTS],
+    table: Table,
+    first: &[u64; MOST_SPREADS],
+    second: &[u64; MOST_SPREADS],
+) -> u64
+    requires { ⌜ (sound (promptsIn count (now tiers) (now nets)) table ≡ true)
+        × FormedBy (promptsIn count (now tiers) (now nets)) table (spreadsFrom (now first)) (spreadsFrom (now second)) ⌝ }
+    ensures { λ r. ⌜ r ≡ touches (stepsOf table) (openOf (promptsIn count (now (tiers .entry)) (now (nets .entry)))) ⌝ }
+{
+    let mut pool = [0; MOST_PROMPTS];
+    let mut size = [0; MOST_PROMPTS];
+    let mut at = [MOST_PROMPTS; PLACES];
+    lay(&mut pool, &mut size, &mut at, count, tiers, nets);
+    let n = table.count;
+    let mut touches = 0;
+    let mut i = 0;
+    while i < n {
+        let spread = table.spread[i];
+        let formed = first[i];
+        let reverse = second[i];
+        let one = step_touches(&mut size, &mut at, &pool, spread, false, formed);
+        let two = step_touches(&mut size, &mut at, &pool, spread, true, reverse);
+        touches = touches + (one + two);
+        i += 1;
+    }
+    touches
+}
+
+// The same of prompts and numbers by value.
 pub fn touches_of(
     prompts: Prompts,
     table: Table,
@@ -199,23 +243,12 @@ pub fn touches_of(
     requires { ⌜ (sound prompts table ≡ true) × FormedBy prompts table first second ⌝ }
     ensures { λ r. ⌜ r ≡ touches (stepsOf table) (openOf prompts) ⌝ }
 {
-    let mut pool = [0; MOST_PROMPTS];
-    let mut size = [0; MOST_PROMPTS];
-    let mut at = [MOST_PROMPTS; PLACES];
-    lay(&mut pool, &mut size, &mut at, prompts);
-    let n = table.count;
-    let mut touches = 0;
-    let mut i = 0;
-    while i < n {
-        let spread = table.spread[i];
-        let formed = first[i];
-        let reverse = second[i];
-        let one = step_touches(&mut size, &mut at, &pool, spread, false, formed.0);
-        let two = step_touches(&mut size, &mut at, &pool, spread, true, reverse.0);
-        touches = touches + (one + two);
-        i += 1;
-    }
-    touches
+    let tiers = prompts.tier;
+    let net = prompts.net;
+    let nets = plain(net);
+    let formed = numbers_of(first);
+    let reverse = numbers_of(second);
+    touches_in(prompts.count, &tiers, &nets, table, &formed, &reverse)
 }
 
 // The delta book, and "how many times some step moved some prompt's unused delta towards zero". Prompts or spreads that are

@@ -9,7 +9,7 @@ use lib.Dec.{eqb}
 use lib.ListN.{length, take, drop, take-append-drop, length-append, length-drop}
 use lib.Seq.{take-at, drop-at, length-take-le, take-append-le, drop-append-le}
 use native.Mathlib.Omega.{arith}
-use borrow.Author.Tests.{eq-eqb, eqb-true, eqb-false, ltb-false, lt-ltb, le-ltb, le-leb, lt-leb, not-false}
+use borrow.Author.Tests.{eq-eqb, eqb-true, eqb-false, ltb-false, lt-ltb, le-ltb, lt-leb, not-false}
 use Rattle.record.specs.Bytes.{recordBytes}
 use Rattle.exact.proofs.Lists.{count-le}
 use Rattle.record.specs.Layout.{Record, kind}
@@ -285,6 +285,3 @@ module _ (file : List ℕ) (ok : checked file ≡ Accepted) where
         pub full-with : mostRecords ≤ n → checked (withTicket file t) ≡ TooLong
         full-with full = ap (λ (a : Answer). cond (eqb (numberOf a) 0) (ratesChecked (records (withTicket file t))) a)
             (too-long (withTicket file t) (lt-ltb 61440 (length (withTicket file t)) (omega (arith, length-with, plain .bytes))))
-
-        pub told-full : mostRecords ≤ n → ticketChecked file t ≡ orElse (rowFault file t) p TooLong
-        told-full full = told true (le-leb mostRecords n full)

@@ -1,6 +1,6 @@
 -- Tickets put in one after the other: the file with all of them is accepted, and but for its rows has the records of the file.
 -- Assumes nothing.
-use Prim.Native.Nat.{ℕ, suc, _+_, _<_}
+use Prim.Native.Nat.{ℕ, suc, _+_}
 use mathlib.Core.Path.{_≡_, refl, ap, _∙_, subst, subst⁻¹}
 use mathlib.Core.Bool.{Bool, true, false}
 use mathlib.Core.List.{List, [], _∷_, _++_}
@@ -9,12 +9,11 @@ use lib.ListN.{length, getD, take, length-append, List·getD-append}
 use lib.Seq.{take-append-le, take-append-seam, getD-append-seam}
 use native.Mathlib.Omega.{arith}
 use borrow.Author.Tests.{ltb-true, ltb-false}
-use Rattle.account.specs.Check.{mostRecords}
 use Rattle.record.specs.Layout.{Record}
 use Rattle.account.specs.Answers.{numberOf, recordOf}
 use Rattle.account.specs.Checked.{checked}
 use Rattle.account.specs.Parts.{contractsOf, promptsOf, spreadsOf, entriesOf, ratesOf}
-use Rattle.account.specs.Records.{records, recordCount}
+use Rattle.account.specs.Records.{records}
 use Rattle.account.specs.declared.answers.Answer.the-variants.{Accepted}
 use Rattle.tickets.specs.Claims.{Row}
 use Rattle.tickets.specs.code.Counts.{Taken}
@@ -26,12 +25,9 @@ pub tickets-last :
 tickets-last file [] t = refl
 tickets-last file (x ∷ ts) t = tickets-last (withTicket file x) ts t
 
--- an accepted ticket is a row of 96 bytes, and there is room for it
+-- an accepted ticket is a row of 96 bytes
 pub taken-row : (file : List ℕ) (t : Record) → ticketChecked file t ≡ Accepted → Row t
 taken-row file t h = exactly file t .accepted .forth (record { number = ap numberOf h; record-is = ap recordOf h }) .0
-
-pub taken-room : (file : List ℕ) (t : Record) → ticketChecked file t ≡ Accepted → recordCount file < mostRecords
-taken-room file t h = exactly file t .accepted .forth (record { number = ap numberOf h; record-is = ap recordOf h }) .1 .1
 
 pub taken-one : (file : List ℕ) (t : Record) → checked file ≡ Accepted → ticketChecked file t ≡ Accepted → checked (withTicket file t) ≡ Accepted
 taken-one file t ok h = put-in file t ok (taken-row file t h) .accepted .forth h

@@ -22,6 +22,7 @@ use Rattle.account.specs.declared.answers.Answer.the-variants.{Accepted}
 use Rattle.account.specs.declared.check.Survey.{Survey}
 use Rattle.account.specs.declared.accounts.Checked.{Checked}
 use Rattle.account.specs.declared.accounts.Account.{Account}
+use Rattle.account.specs.declared.accounts.Whereabouts.{Whereabouts}
 
 -- whether a file lists a contract, by how many records its parts have
 abbrev pub lists : List ℕ → ℕ → Bool
@@ -92,6 +93,23 @@ pub record Stands (morning noon : List ℕ) (j : Account) : Type 0 where
 pub record PartOf (account : List Record) (v : ℕ) (bytes : List ℕ) : Type 0 where
   pub are : records bytes ≡ partRecords v account
   pub whole : length bytes ≡ length (partRecords v account) * recordBytes
+
+-- where an account has the parts of a contract
+pub record WhereOf (j : Account) (c : ℕ) (w : Whereabouts) : Type 0 where
+  pub late : w .late ≡ getD (j .noon) c false
+  pub own : w .own ≡ getD (j .first) (part 1 c) 0
+  pub own-count : w .«own_count» ≡ getD (j .counts) (part 1 c) 0
+  pub prompts : w .prompts ≡ getD (j .first) (part 2 c) 0
+  pub prompt-count : w .«prompt_count» ≡ getD (j .counts) (part 2 c) 0
+  pub rows : w .rows ≡ getD (j .first) (part 3 c) 0
+  pub row-count : w .«row_count» ≡ getD (j .counts) (part 3 c) 0
+  pub spreads : w .spreads ≡ getD (j .first) (part 4 c) 0
+  pub spread-count : w .«spread_count» ≡ getD (j .counts) (part 4 c) 0
+
+-- the part of a kind of whichever contract has these whereabouts
+abbrev pub ContractPart : List ℕ → List ℕ → ℕ → Whereabouts → List ℕ → Type 0
+ContractPart morning noon k w bytes =
+    (j : Account) (c : ℕ) → Stands morning noon j → c ≤ mostContract → WhereOf j c w → PartOf (accountOf morning noon) (part k c) bytes
 
 -- what the check of one file hands out: its answer, and of an accepted file the account, which stands in it alone
 pub record CheckedBy (file : List ℕ) (r : Checked) : Type 0 where

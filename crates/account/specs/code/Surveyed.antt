@@ -3,13 +3,19 @@
 -- Assumes nothing.
 use Prim.Native.Nat.{ℕ, _<_}
 use mathlib.Core.Path.{_≡_}
+use mathlib.Core.Bool.{cond}
 use mathlib.Core.List.{List}
 use lib.ListN.{length, getD, replicate}
 use Rattle.account.specs.Answers.{numberOf}
-use Rattle.account.specs.Check.{recordsChecked}
+use Rattle.account.specs.Check.{recordsChecked, tooLong, cutRecord}
 use Rattle.account.specs.PartNumbers.{parts, contractCount, partStart, partCount}
 use Rattle.account.specs.declared.answers.Answer.{Answer}
+use Rattle.account.specs.declared.answers.Answer.the-variants.{Accepted, TooLong, CutRecord}
 use Rattle.account.specs.declared.check.Survey.{Survey}
+
+-- what is asked of a file before its records: 1 and 2
+abbrev pub lengthChecked : List ℕ → Answer
+lengthChecked file = cond (tooLong file) TooLong (cond (cutRecord file) CutRecord Accepted)
 
 pub record Surveyed (file : List ℕ) (s : Survey) : Type 0 where
   pub answer : s .answer ≡ recordsChecked file

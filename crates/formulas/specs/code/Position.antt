@@ -18,6 +18,7 @@ use Rattle.account.specs.code.Rates.{RatesOf}
 use Rattle.account.specs.declared.rates.Rates.{Rates}
 use Rattle.spread.specs.declared.Delta.{Delta}
 use Rattle.spread.specs.Accepted.{promptPlaces}
+use Rattle.spread.specs.code.Lent.{deltasFrom}
 use Rattle.formulas.specs.declared.rows.Days.{Days}
 use Rattle.formulas.specs.declared.rows.Position.{Position}
 pub use Rattle.formulas.specs.code.Sums.{deltasIn}
@@ -114,6 +115,10 @@ pub record PositionOf (rates : List Record) (unit : ℕ) (prompts rows : List Re
 -- the position of rows that has these net deltas
 abbrev pub withNets : List Record → ℕ → List Record → List Delta → Position
 withNets rates unit rows nets = record { totals = record { 0 = totals rates unit rows }; nets = nets; shorts = shortLots rows }
+
+-- the position of lent numbers
+abbrev pub positionIn : List ℤ → List ℤ → ℕ → Position
+positionIn totals nets shorts = record { totals = record { 0 = totals }; nets = deltasFrom nets; shorts = shorts }
 
 -- no more than what n rows within their ranges can come to
 pub record Bounded (n : ℕ) (p : Position) : Type 0 where

@@ -12,6 +12,8 @@ use Rattle.account.specs.Check.{mostPrompts, mostRows, mostSpreads}
 use Rattle.spread.specs.Steps.{Open, Taker, numbers, usedOf, unusedOf}
 use Rattle.spread.specs.Accepted.{every, soundPrompt, soundSpread, promptPlaces, spreadPlaces}
 use Rattle.spread.specs.code.Book.{byPlace, spreadsEntry, deltaEntry}
+use Rattle.spread.specs.code.Lent.{spreadsFrom}
+use Rattle.spread.specs.declared.Spreads.{Spreads}
 use Rattle.spread.specs.declared.book.Book.{Book}
 use Rattle.formulas.specs.declared.line.Line.{Line}
 use Rattle.formulas.specs.declared.rows.Position.{Position}
@@ -57,6 +59,11 @@ pub record BookOf (ss : List (List Taker)) (ps : List Open) (b : Book) : Type 0 
   pub used-is : b .used ≡ byPlace promptPlaces (deltaEntry (usedOf ss ps))
   pub unused-is : b .unused ≡ byPlace promptPlaces (deltaEntry (unusedOf ss ps))
 
+-- the numbers alone that the steps form, by spread
+pub record FormedOf (ss : List (List Taker)) (ps : List Open) (first second : List Spreads) : Type 0 where
+  pub first-is : first ≡ byPlace spreadPlaces (λ k. spreadsEntry (numbers ss ps) (2 * k))
+  pub second-is : second ≡ byPlace spreadPlaces (λ k. spreadsEntry (numbers ss ps) (2 * k + 1))
+
 -- prompts and spreads that the spread steps accept; the net deltas past the prompts are 0
 pub record BookRoom (prompts : List Record) (nets : List ℤ) (spreads : List Record) : Type 0 where
   pub few-prompts : length prompts ≤ mostPrompts
@@ -65,10 +72,10 @@ pub record BookRoom (prompts : List Record) (nets : List ℤ) (spreads : List Re
   pub prompts-sound : every soundPrompt (opens prompts nets) ≡ true
   pub spreads-sound : every soundSpread (map interprompt spreads) ≡ true
 
--- what a contract is charged, over the arrays of its book
-pub record Charged (unit : ℕ) (prompts spreads : List Record) (b : Book) (interprompt prompt : ℕ) : Type 0 where
-  pub interprompt-is : interprompt ≡ interpromptCharge unit spreads (interleaved (b .first) (b .second))
-  pub prompt-is : prompt ≡ promptCharges unit prompts (deltasIn (b .used)) (deltasIn (b .unused))
+-- what a contract is charged, over the lent arrays of its book
+pub record Charged (unit : ℕ) (prompts spreads : List Record) (first second : List ℕ) (used unused : List ℤ) (interprompt prompt : ℕ) : Type 0 where
+  pub interprompt-is : interprompt ≡ interpromptCharge unit spreads (interleaved (spreadsFrom first) (spreadsFrom second))
+  pub prompt-is : prompt ≡ promptCharges unit prompts used unused
   pub interprompt-within : interprompt ≤ mostSpreads * mostCharge
   pub prompt-within : prompt ≤ mostPrompts * mostCharge
 

@@ -9,8 +9,9 @@ use lib.Dec.{eqb, ltb}
 use Rattle.record.specs.Layout.{Record}
 use Rattle.account.specs.Check.{mostPrompts, mostSpreads}
 use Rattle.account.specs.Lawful.{Lawful}
+use Rattle.spread.specs.Steps.{Open, Taker}
 use Rattle.margin.specs.declared.uses.Asking.{Asking}
-use Rattle.margin.specs.Books.{answered, book, tableQuestion, asks}
+use Rattle.margin.specs.Books.{answered, book, bookBy, tableQuestion}
 use Rattle.margin.specs.Uses.{uses, stepsFor, opensFor}
 use Rattle.margin.specs.code.Asking.{Asks}
 use Rattle.account.specs.PartNumbers.{part}
@@ -29,7 +30,12 @@ pub record AskedBy (whole : List Record) (question records : ℕ) (a : Asking) :
   pub records-are : records ≡ length whole
   pub asks : Asks (stepsFor whole question) (opensFor whole question) a
 
--- the same by how many records each contract's own part has
+-- a question that is answered, whose book is that of these steps over these prompts
+pub record BookIs (whole : List Record) (question : ℕ) (ss : List (List Taker)) (ps : List Open) : Type 0 where
+  pub asked-is : answered whole question ≡ true
+  pub is : book whole question ≡ bookBy ss ps
+
+-- whether it is answered, by how many records each contract's own part has
 abbrev pub askedBy : List ℕ → ℕ → Bool
 askedBy counts question =
     eqb question tableQuestion || (ltb question tableQuestion && not (eqb (getD counts (part 1 question) 0) 0))

@@ -46,3 +46,10 @@ pub record TiersKnown (standing : List Record) (tiers : Prompts) : Type 0 where
   pub whole : List Record
   pub beside : Besides standing whole
   pub is : TiersIn whole tiers
+
+-- one of so many records with these lines and no intercontract spreads
+pub record Unspread (whole : List Record) (records : ℕ) (ls : Lines) : Type 0 where
+  pub lawful : Lawful whole
+  pub lines : LinesOf whole ls
+  pub records-are : records ≡ length whole
+  pub none : entriesOf whole ≡ []

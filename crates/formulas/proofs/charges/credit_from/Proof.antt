@@ -1,31 +1,13 @@
 -- The credit from an entry, from what the entry uses and its percent.
 -- Assumes nothing.
-use mathlib.Core.Path.{_≡_, refl, sym, _∙_, ap, ap₂}
-use mathlib.Core.Bool.{Bool, true, false, cond}
-use Prim.Native.Nat.{ℕ, _*_}
-use native.Mathlib.Nat.{zero-mul, mul-zero}
+use mathlib.Core.Path.{sym, _∙_, ap₂}
+use Prim.Native.Nat.{ℕ}
 use native.Mathlib.Omega.{arith}
-use lib.Dec.{eqb}
-use Rattle.exact.specs.Rounding.{halfUpTo}
-use Rattle.exact.proofs.UnitLaws.{up-none}
-use Rattle.formulas.specs.Credit.{fromUnit, unitPriceRisk, creditAt, credit}
+use Rattle.formulas.specs.Credit.{credit}
 use borrow.Author.Needs.{needs}
+use Rattle.formulas.proofs.SumLaws.{nothing-used}
 use Rattle.formulas.proofs.charges.credit_from.Statement.{statement}
 use Rattle.formulas.proofs.charges.credit_from.Tie as tie
-
--- nothing used, nothing earned
-nothing-used : (unit twice used percent net : ℕ) → used ≡ 0 → 0 ≡ credit unit twice used percent net
-nothing-used unit twice used percent net e = go (eqb net 0)
-  where
-    none : creditAt unit (unitPriceRisk twice net) used percent ≡ 0
-    none =
-        ap (λ (u : ℕ). creditAt unit (unitPriceRisk twice net) u percent) e
-        ∙ ap (λ (x : ℕ). halfUpTo x fromUnit unit) (ap (λ (x : ℕ). x * percent) (mul-zero (unitPriceRisk twice net)) ∙ zero-mul percent)
-        ∙ up-none unit fromUnit
-
-    go : (b : Bool) → 0 ≡ cond b 0 (creditAt unit (unitPriceRisk twice net) used percent)
-    go true = refl
-    go false = sym none
 
 entry-use-requires : tie.Need-entry-use-requires
 entry-use-requires c κs = search needs

@@ -1,23 +1,32 @@
 -- The charges of the spreads, one after the other.
 -- Assumes nothing.
-use mathlib.Core.Path.{_≡_, _∙_, sym, ap, subst⁻¹}
+use mathlib.Core.Path.{_∙_, sym, ap, ap₂, subst, subst⁻¹}
+use mathlib.Core.List.{List, []}
 use Prim.Native.Nat.{ℕ, _+_, _-_}
 use native.Mathlib.Omega.{arith}
-use borrow.Author.Needs.{needs}
-use lib.ListN.{length, getD}
-use Rattle.spread.specs.Accepted.{spreadPlaces}
+use lib.ListN.{getD}
+use Rattle.spread.specs.code.Lent.{spreadsFrom}
 use Rattle.record.specs.Layout.{Record, ratePerSpread}
 use Rattle.account.specs.Records.{records, recordCount}
 use Rattle.formulas.specs.Bounds.{mostCharge}
 use Rattle.formulas.specs.Charges.{spreadCharge}
-use Rattle.formulas.specs.code.Sums.{SpreadRoom}
+use Rattle.formulas.specs.code.Sums.{spreadsAt, SpreadRoom}
+use Rattle.formulas.proofs.LentLaws.{spread-from}
 use Rattle.formulas.proofs.RecordLaws.{lent-at, below-records, length-cut}
 use Rattle.formulas.proofs.SumLaws.{ToGo, start, next, finish, chargeFrom, charge-step, charge-none}
 use Rattle.formulas.proofs.charges.interprompt_charge.Statement.{statement}
 use Rattle.formulas.proofs.charges.interprompt_charge.Tie as tie
 
+-- the room of a spread, by the lent numbers
+room-from : (unit : ℕ) (r : Record) (first second : List ℕ) (k : ℕ)
+    → SpreadRoom unit r (spreadsAt (spreadsFrom first) k) (spreadsAt (spreadsFrom second) k) → SpreadRoom unit r (getD first k 0) (getD second k 0)
+room-from unit r first second k h =
+    subst (λ (n : ℕ). SpreadRoom unit r n (getD second k 0)) (spread-from first k)
+    (subst (λ (n : ℕ). SpreadRoom unit r (spreadsAt (spreadsFrom first) k) n) (spread-from second k) h)
+
 abbrev Inv-loop : tie.InvT-loop
-Inv-loop unit spreads first second count sum₀ i₀ sum i = ToGo (recordCount spreads) mostCharge (chargeFrom unit (records spreads) first second) i sum
+Inv-loop unit spreads first second count sum₀ i₀ sum i =
+    ToGo (recordCount spreads) mostCharge (chargeFrom unit (records spreads) (spreadsFrom first) (spreadsFrom second)) i sum
 
 abbrev μ-loop : tie.MeasureT-loop
 μ-loop unit spreads first second count sum₀ i₀ sum i = count - i
@@ -40,20 +49,20 @@ part-charge-of-spread-start c = omega arith
 part-charge-of-spread-end : tie.Need-part-charge-of-spread-end Inv-loop μ-loop
 part-charge-of-spread-end c = omega arith
 
-mul-charge-of-spread : tie.Need-mul-charge-of-spread Inv-loop μ-loop
-mul-charge-of-spread c = omega arith
+mul-t17 : tie.Need-mul-t17 Inv-loop μ-loop
+mul-t17 c = omega arith
 
-array-copy-out-charge-of-spread : tie.Need-array-copy-out-charge-of-spread Inv-loop μ-loop
-array-copy-out-charge-of-spread c =
+element-copy-out-t20 : tie.Need-element-copy-out-t20 Inv-loop μ-loop
+element-copy-out-t20 c =
     let c-4 = c .before .before .before .before in
     let s = c-4 in omega
     (arith, s .pre .most, length-cut (recordCount (s .args .spreads .now)) (s .args .spreads .now))
 
-mul-charge-of-spread-2 : tie.Need-mul-charge-of-spread-2 Inv-loop μ-loop
-mul-charge-of-spread-2 c = omega arith
+mul-t22 : tie.Need-mul-t22 Inv-loop μ-loop
+mul-t22 c = omega arith
 
-array-copy-out-charge-of-spread-2 : tie.Need-array-copy-out-charge-of-spread-2 Inv-loop μ-loop
-array-copy-out-charge-of-spread-2 c =
+element-copy-out-t25 : tie.Need-element-copy-out-t25 Inv-loop μ-loop
+element-copy-out-t25 c =
     let c-5 = c .before .before .before .before .before in
     let s = c-5 in omega
     (arith, s .pre .most, length-cut (recordCount (s .args .spreads .now)) (s .args .spreads .now))
@@ -64,9 +73,10 @@ charge-of-spread-requires c κs =
     let c-6 = after-loop .before .before in
     let s = c-6 in
     let l = after-loop .loop in
-    subst⁻¹ (λ (r : Record). SpreadRoom (s .args .unit) r (getD (s .args .t3) (l .i) (record { 0 = 0 }) .0)
-    (getD (s .args .t4) (l .i) (record { 0 = 0 }) .0)) (lent-at (s .args .spreads .now) (l .i) (omega arith))
-    (s .pre .each (l .i) (below-records (s .args .spreads .now) (l .i) (omega arith)))
+    subst⁻¹ (λ (r : Record). SpreadRoom (s .args .unit) r (getD (s .args .first .now) (l .i) 0) (getD (s .args .second .now) (l .i) 0))
+    (lent-at (s .args .spreads .now) (l .i) (omega arith))
+    (room-from (s .args .unit) _ (s .args .first .now) (s .args .second .now) (l .i)
+    (s .pre .each (l .i) (below-records (s .args .spreads .now) (l .i) (omega arith))))
 
 add-sum : tie.Need-add-sum Inv-loop μ-loop
 add-sum c =
@@ -92,15 +102,16 @@ loop-again c =
     let f = s .args .spreads .now in
     let n = length-cut (recordCount f) f in
     let h = s .pre .most in
-    let first : length (s .args .t3) ≡ spreadPlaces = search needs in
-    let second : length (s .args .t4) ≡ spreadPlaces = search needs in
+    let fs = s .args .first .now in
+    let ss = s .args .second .now in
     next (l .i) (l .sum) (c .before .charge-of-spread .result .0) (l .inv) (omega arith)
-    (charge-step (s .args .unit) (records (s .args .spreads .now)) (s .args .t3) (s .args .t4) (omega arith) (omega arith) (l .i)
+    (charge-step (s .args .unit) (records f) (spreadsFrom fs) (spreadsFrom ss) (s .pre .firsts-there) (s .pre .seconds-there) (l .i)
     (below-records f (l .i) (omega arith))
-    ∙ ap (λ (x : ℕ). x + chargeFrom (s .args .unit) (records (s .args .spreads .now)) (s .args .t3) (s .args .t4) (l .i + 1))
+    ∙ ap (λ (x : ℕ). x + chargeFrom (s .args .unit) (records f) (spreadsFrom fs) (spreadsFrom ss) (l .i + 1))
     (sym (c .before .charge-of-spread .ensures .0
-    ∙ ap (λ (r : Record). spreadCharge (s .args .unit) (ratePerSpread r) (getD (s .args .t3) (l .i) (record { 0 = 0 }) .0)
-    (getD (s .args .t4) (l .i) (record { 0 = 0 }) .0)) (lent-at f (l .i) (omega arith)))))
+    ∙ ap (λ (r : Record). spreadCharge (s .args .unit) (ratePerSpread r) (getD fs (l .i) 0) (getD ss (l .i) 0)) (lent-at f (l .i) (omega arith))
+    ∙ ap₂ (λ (x y : ℕ). spreadCharge (s .args .unit) (ratePerSpread (getD (records f) (l .i) [])) x y) (sym (spread-from fs (l .i)))
+    (sym (spread-from ss (l .i))))))
     (c .before .charge-of-spread .ensures .1)
 
 returns : tie.Need-returns Inv-loop μ-loop
@@ -114,7 +125,7 @@ returns c =
     let t = l .inv .small in
     let w = l .inv .within in (
       finish (l .i) (l .sum) (l .inv) (omega arith)
-          (charge-none (s .args .unit) (records (s .args .spreads .now)) (s .args .t3) (s .args .t4) (l .i) (omega arith)),
+          (charge-none (s .args .unit) (records f) (spreadsFrom (s .args .first .now)) (spreadsFrom (s .args .second .now)) (l .i) (omega arith)),
       omega arith,
     )
 
@@ -130,10 +141,10 @@ interprompt-charge-spec =
     sub-charge-of-spread
     part-charge-of-spread-start
     part-charge-of-spread-end
-    mul-charge-of-spread
-    array-copy-out-charge-of-spread
-    mul-charge-of-spread-2
-    array-copy-out-charge-of-spread-2
+    mul-t17
+    element-copy-out-t20
+    mul-t22
+    element-copy-out-t25
     charge-of-spread-requires
     add-sum
     add-i

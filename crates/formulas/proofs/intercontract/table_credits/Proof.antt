@@ -24,9 +24,12 @@ credits-of-requires c κs =
     let c-3 = c .before .before .before in
     let s = c-3 in
     let es = records (s .args .entries .now) in
-    let b = c .table-book in
-    subst (λ (f : List Spreads). CreditsRoom (s .args .count) (s .args .lines) es f (b .result .second)) (sym (b .ensures .first-is))
-    (subst (CreditsRoom (s .args .count) (s .args .lines) es (tableFirsts (s .args .count) (s .args .lines) es)) (sym (b .ensures .second-is)) (s .pre .1))
+    let b = c .table-book in (
+      s .pre .0 .entries-within,
+      subst (λ (f : List Spreads). CreditsRoom (s .args .count) (s .args .lines) es f (b .result .second)) (sym (b .ensures .first-is))
+          (subst (CreditsRoom (s .args .count) (s .args .lines) es (tableFirsts (s .args .count) (s .args .lines) es)) (sym (b .ensures .second-is))
+          (s .pre .1)),
+    )
 
 returns-2 : tie.Need-returns-2
 returns-2 c =

@@ -26,9 +26,6 @@ returns c =
     × (r .last .1 .1 .0 ≡ afterOver whole (questionOf t question) out))
     (c-3 .if1 .taken) (r .ensures whole question h)
 
-book-by-requires : tie.Need-book-by-requires
-book-by-requires c κs = search needs
-
 answer-book-requires : tie.Need-answer-book-requires
 answer-book-requires c κs = search needs
 
@@ -37,14 +34,14 @@ same-length-2 c = search needs
 
 returns-2 : tie.Need-returns-2
 returns-2 c =
-    let c-6 = c .before .before .before .before .before .before in
-    let s = c-6 .before in
+    let c-3 = c .before .before .before in
+    let s = c-3 .before in
     let out = s .args .out .now in
     let r = c .before .answer-book in
     λ whole question h.
     subst⁻¹ (λ (t : Bool). (r .result ≡ answerOver whole (questionOf t question) (length out))
-    × (r .last .1 .1 .1 .0 ≡ afterOver whole (questionOf t question) out))
-    (c-6 .if1 .left) (r .ensures whole question h)
+    × (r .last .1 .1 .0 ≡ afterOver whole (questionOf t question) out))
+    (c-3 .if1 .left) (r .ensures whole question h)
 
 pub answer-asking-spec : {M : Type 1} → statement M
 answer-asking-spec =
@@ -53,7 +50,6 @@ answer-asking-spec =
     answer-uses-requires
     same-length
     returns
-    book-by-requires
     answer-book-requires
     same-length-2
     returns-2)

@@ -1,6 +1,6 @@
 -- A contract's book and uses in their places, and its line, by what its rows come to.
 -- Assumes nothing.
-use mathlib.Core.Path.{_≡_, ap, _∙_, subst⁻¹}
+use mathlib.Core.Path.{_≡_, refl, ap, _∙_, subst⁻¹}
 use mathlib.Core.Bool.{Bool, true, false}
 use mathlib.Core.List.{List, []}
 use Prim.Native.Nat.{ℕ, _≤_}
@@ -12,6 +12,7 @@ use Rattle.record.specs.Layout.{contract, mostContract}
 use Rattle.account.specs.Parts.{contractsOf, ratesOf}
 use Rattle.account.specs.Records.{records}
 use Rattle.account.specs.Joined.{accountOf}
+use Rattle.formulas.specs.code.Position.{positionIn}
 use Rattle.margin.specs.Places.{lentPlace, questionOf, widthOf}
 use Rattle.margin.specs.code.Positions.{ContractIn}
 use Rattle.margin.specs.Questions.{afterOver}
@@ -42,75 +43,76 @@ small c =
     let h = listed-at m n (s .args .account) (s .pre .0) (s .args .i) (s .pre .1 .0) in
     omega (arith, number c, own-number (accountOf m n) (s .pre .0 .lawful) (s .args .i) h)
 
-add-part : tie.Need-add-part
-add-part c = omega (arith, small c)
+whereabouts-of-requires : tie.Need-whereabouts-of-requires
+whereabouts-of-requires c κs = small c
 
-part-requires : tie.Need-part-requires
-part-requires c κs = search needs
+own-part-requires : tie.Need-own-part-requires
+own-part-requires c κs = search needs
 
-add-part-2 : tie.Need-add-part-2
-add-part-2 c = omega (arith, small (c .before))
+prompts-part-requires : tie.Need-prompts-part-requires
+prompts-part-requires c κs = search needs
 
-part-requires-2 : tie.Need-part-requires-2
-part-requires-2 c κs = search needs
+rows-part-requires : tie.Need-rows-part-requires
+rows-part-requires c κs = search needs
 
-add-part-3 : tie.Need-add-part-3
-add-part-3 c = omega (arith, small (c .before .before))
-
-part-requires-3 : tie.Need-part-requires-3
-part-requires-3 c κs = search needs
-
-add-part-4 : tie.Need-add-part-4
-add-part-4 c =
-    let c-3 = c .before .before .before in
-    omega (arith, small (c-3))
-
-part-requires-4 : tie.Need-part-requires-4
-part-requires-4 c κs = search needs
+spreads-part-requires : tie.Need-spreads-part-requires
+spreads-part-requires c κs = search needs
 
 unit-requires : tie.Need-unit-requires
 unit-requires c κs = search needs
 
-position-of-requires : tie.Need-position-of-requires
-position-of-requires c κs =
-    let after-part2 = c .before .before .before in
-    let after-part = after-part2 .before in
-    let c-5 = after-part .before in
-    let ss = c .before .part4 in
-    let rs = c .before .before .part3 in
-    let ps = after-part2 .part2 in
-    let own = after-part .part in
-    let k = c-5 in
+put-position-requires : tie.Need-put-position-requires
+put-position-requires c κs =
+    let after-rows = c .before .before .before .before in
+    let after-prompts = after-rows .before in
+    let after-own = after-prompts .before in
+    let at = after-own .before in
+    let k = at .before in
     let s = k .before .before .before in
-    position-room (accountOf (s .args .morning .now) (s .args .noon .now)) (s .pre .0 .lawful) (k .contract-number .result) (small k)
-    (own .result .now) (ps .result .now) (rs .result .now) (ss .result .now) (own .ensures) (ps .ensures) (rs .ensures) (ss .ensures)
-    (s .args .rates) (s .pre .1 .1) (c .unit .result) (c .unit .ensures .0)
+    let st = s .pre .0 in
+    let j = s .args .account in
+    let n = k .contract-number .result in
+    let w = at .whereabouts-of .ensures in
+    let rs = after-rows .rows-part in
+    let ps = after-prompts .prompts-part in
+    let own = after-own .own-part in
+    let fits = position-room (accountOf (s .args .morning .now) (s .args .noon .now)) (st .lawful) n (small k)
+    (own .result .now) (ps .result .now) (rs .result .now)
+    (own .ensures j n st (small k) w) (ps .ensures j n st (small k) w) (rs .ensures j n st (small k) w)
+    (s .args .rates) (s .pre .1 .1) (c .unit .result) (c .unit .ensures .0) in
+    (fits .0, (fits .1 .0, (fits .1 .1 .0, (fits .1 .1 .1, (refl, refl)))))
 
 record-total-requires : tie.Need-record-total-requires
 record-total-requires c κs = search needs
 
 contract-in-requires : tie.Need-contract-in-requires
 contract-in-requires c κs =
-    let after-position-of = c .before .before .before in
-    let after-unit = after-position-of .before in
-    let after-part4 = after-unit .before in
-    let after-part3 = after-part4 .before in
-    let after-part2 = after-part3 .before in
-    let after-part = after-part2 .before in
-    let c-9 = after-part .before in
-    let p = after-position-of .position-of in
-    let u = after-unit .unit in
-    let ss = after-part4 .part4 in
-    let rs = after-part3 .part3 in
-    let ps = after-part2 .part2 in
-    let own = after-part .part in
-    let k = c-9 in
+    let after-position = c .before .before .before .before .before in
+    let after-unit = after-position .before in
+    let after-spreads = after-unit .before .before .before in
+    let after-rows = after-spreads .before in
+    let after-prompts = after-rows .before in
+    let after-own = after-prompts .before in
+    let at = after-own .before in
+    let k = at .before in
     let s = k .before .before .before in
-    let a = accountOf (s .args .morning .now) (s .args .noon .now) in (
+    let a = accountOf (s .args .morning .now) (s .args .noon .now) in
+    let st = s .pre .0 in
+    let j = s .args .account in
+    let n = k .contract-number .result in
+    let w = at .whereabouts-of .ensures in
+    let r = after-position .put-position in
+    let p = positionIn (r .last .0) (r .last .1 .0) (r .result) in
+    let u = after-unit .unit in
+    let ss = after-spreads .spreads-part in
+    let rs = after-rows .rows-part in
+    let ps = after-prompts .prompts-part in
+    let own = after-own .own-part in (
       small k,
-      fit-here a (s .pre .0 .lawful) (k .contract-number .result) (small k) (own .result .now) (ps .result .now) (rs .result .now) (ss .result .now)
-          (own .ensures) (ps .ensures) (rs .ensures) (ss .ensures) (s .args .rates) (s .pre .1 .1) (u .result) (u .ensures .0)
-          (p .result) (p .ensures .0 (ratesOf a) (s .pre .1 .1)) (p .ensures .1),
+      fit-here a (st .lawful) n (small k) (own .result .now) (ps .result .now) (rs .result .now)
+          (own .ensures j n st (small k) w) (ps .ensures j n st (small k) w) (rs .ensures j n st (small k) w)
+          (s .args .rates) (s .pre .1 .1) (u .result) (u .ensures .0) p (r .ensures .0 (ratesOf a) (s .pre .1 .1)) (r .ensures .1)
+          (ss .result .now) (ss .ensures j n st (small k) w),
     )
 
 same-length : tie.Need-same-length
@@ -121,42 +123,48 @@ same-length-2 c = search needs
 
 returns : tie.Need-returns
 returns c =
-    let after-record-total = c .before .before .before .before .before in
-    let after-position-of = after-record-total .before in
-    let after-unit = after-position-of .before in
-    let after-part4 = after-unit .before in
-    let after-part3 = after-part4 .before in
-    let after-part2 = after-part3 .before in
-    let after-part = after-part2 .before in
-    let c-12 = after-part .before in
-    let r = c .before .before .contract-in in
-    let total = after-record-total .record-total in
-    let p = after-position-of .position-of in
-    let u = after-unit .unit in
-    let ss = after-part4 .part4 in
-    let rs = after-part3 .part3 in
-    let ps = after-part2 .part2 in
-    let own = after-part .part in
-    let k = c-12 in
+    let after-total = c .before .before .before .before .before .before .before in
+    let after-position = after-total .before in
+    let after-unit = after-position .before in
+    let after-spreads = after-unit .before .before .before in
+    let after-rows = after-spreads .before in
+    let after-prompts = after-rows .before in
+    let after-own = after-prompts .before in
+    let at = after-own .before in
+    let k = at .before in
     let s = k .before .before .before in
     let a = accountOf (s .args .morning .now) (s .args .noon .now) in
-    let listed = listed-at (s .args .morning .now) (s .args .noon .now) (s .args .account) (s .pre .0) (s .args .i) (s .pre .1 .0) in
-    let placed : Bool → List ℤ → ℕ → List ℤ = λ paid l j. lentPlace (widthOf paid) j (afterOver a (questionOf paid j)) l in
+    let st = s .pre .0 in
+    let j = s .args .account in
+    let n = k .contract-number .result in
+    let w = at .whereabouts-of .ensures in
+    let r = after-position .put-position in
+    let p = positionIn (r .last .0) (r .last .1 .0) (r .result) in
+    let u = after-unit .unit in
+    let ss = after-spreads .spreads-part in
+    let rs = after-rows .rows-part in
+    let ps = after-prompts .prompts-part in
+    let own = after-own .own-part in
+    let its = c .before .before .contract-in in
+    let listed = listed-at (s .args .morning .now) (s .args .noon .now) j st (s .args .i) (s .pre .1 .0) in
+    let placed : Bool → List ℤ → ℕ → List ℤ = λ paid l q. lentPlace (widthOf paid) q (afterOver a (questionOf paid q)) l in
     let lent =
-    r .ensures .1 a
-    (subst⁻¹ (λ (n : ℕ). ContractIn a n (k .contract-number .result) (records (ps .result .now)) (records (ss .result .now)) (p .result))
-    (total .ensures ∙ s .pre .0 .places .all)
-    (contract-in a (s .pre .0 .lawful) (k .contract-number .result) (small k) (own .result .now) (ps .result .now) (rs .result .now) (ss .result .now)
-    (own .ensures) (ps .ensures) (rs .ensures) (ss .ensures) (s .args .rates) (s .pre .1 .1) (u .result) (u .ensures .0)
-    (p .result) (p .ensures .0 (ratesOf a) (s .pre .1 .1)) (p .ensures .1)
+    its .ensures .1 a
+    (subst⁻¹ (λ (x : ℕ). ContractIn a x n (records (ps .result .now)) (records (ss .result .now)) p)
+    (after-total .record-total .ensures ∙ st .places .all)
+    (contract-in a (st .lawful) n (small k) (own .result .now) (ps .result .now) (rs .result .now)
+    (own .ensures j n st (small k) w) (ps .ensures j n st (small k) w) (rs .ensures j n st (small k) w)
+    (s .args .rates) (s .pre .1 .1) (u .result) (u .ensures .0) p (r .ensures .0 (ratesOf a) (s .pre .1 .1)) (r .ensures .1)
+    (ss .result .now) (ss .ensures j n st (small k) w)
     (s .args .i) listed (number k)))
     in
     record {
       line =
-          line-here a (s .pre .0 .lawful) (k .contract-number .result) (small k) (own .result .now) (ps .result .now) (rs .result .now) (ss .result .now)
-          (own .ensures) (ps .ensures) (rs .ensures) (ss .ensures) (s .args .rates) (s .pre .1 .1) (u .result) (u .ensures .0)
-          (p .result) (p .ensures .0 (ratesOf a) (s .pre .1 .1)) (p .ensures .1)
-          (s .args .i) listed (number k) (r .result) (r .ensures .0);
+          line-here a (st .lawful) n (small k) (own .result .now) (ps .result .now) (rs .result .now)
+          (own .ensures j n st (small k) w) (ps .ensures j n st (small k) w) (rs .ensures j n st (small k) w)
+          (s .args .rates) (s .pre .1 .1) (u .result) (u .ensures .0) p (r .ensures .0 (ratesOf a) (s .pre .1 .1)) (r .ensures .1)
+          (ss .result .now) (ss .ensures j n st (small k) w)
+          (s .args .i) listed (number k) (its .result) (its .ensures .0);
       book = lent .0 ∙ ap (placed false (s .args .books .now)) (number k);
       paid = lent .1 ∙ ap (placed true (s .args .uses .now)) (number k);
     }
@@ -166,16 +174,13 @@ contract-over-spec =
     tie.close
     (tie.spec
     contract-number-requires
-    add-part
-    part-requires
-    add-part-2
-    part-requires-2
-    add-part-3
-    part-requires-3
-    add-part-4
-    part-requires-4
+    whereabouts-of-requires
+    own-part-requires
+    prompts-part-requires
+    rows-part-requires
+    spreads-part-requires
     unit-requires
-    position-of-requires
+    put-position-requires
     record-total-requires
     contract-in-requires
     same-length

@@ -1,15 +1,11 @@
 -- The contracts one after the other: each is answered in its place, and its line put in place.
 -- Assumes nothing.
-use mathlib.Core.Path.{refl, _∙_, subst}
+use mathlib.Core.Path.{refl, _∙_}
 use mathlib.Core.Bool.{true, false}
-use mathlib.Core.List.{List}
 use Prim.Native.Nat.{_-_, _≤_}
 use native.Mathlib.Nat.{not-suc-le-zero}
 use native.Mathlib.Omega.{arith}
 use borrow.Author.Needs.{needs}
-use Rattle.record.specs.Layout.{Record}
-use Rattle.account.specs.Parts.{ratesOf}
-use Rattle.account.specs.code.Rates.{RatesOf}
 use Rattle.account.specs.Joined.{accountOf}
 use Rattle.account.specs.Check.{mostContracts}
 use Rattle.margin.proofs.AccountLaws.{LinedTo, lined-next}
@@ -36,25 +32,16 @@ few c =
 contract-total-requires : tie.Need-contract-total-requires Inv-loop μ-loop
 contract-total-requires c κs = search needs
 
-part-requires : tie.Need-part-requires Inv-loop μ-loop
-part-requires c κs = search needs
-
-rates-of-requires : tie.Need-rates-of-requires Inv-loop μ-loop
-rates-of-requires c κs = search needs
-
--- the table of the account's rates
-table : (c : tie.After-rates-of Inv-loop μ-loop) →
-    let s = c .before .before .before .before .before in
-    RatesOf (ratesOf (accountOf (s .args .morning .now) (s .args .noon .now))) (c .rates-of .result)
-table c = subst (λ (rs : List Record). RatesOf rs (c .rates-of .result)) (c .before .part .ensures .are) (c .rates-of .ensures)
+rates-over-requires : tie.Need-rates-over-requires Inv-loop μ-loop
+rates-over-requires c κs = search needs
 
 no-line-requires : tie.Need-no-line-requires Inv-loop μ-loop
 no-line-requires c κs = search needs
 
 loop-holds : tie.Need-loop-holds Inv-loop μ-loop
 loop-holds c =
-    let c-6 = c .before .before .before .before .before .before in
-    let s = c-6 in
+    let c-5 = c .before .before .before .before .before in
+    let s = c-5 in
     let a = accountOf (s .args .morning .now) (s .args .noon .now) in (
       record { places = refl; each = λ j h. absurd (not-suc-le-zero h) },
       (omega arith, (lent-none a false (s .args .books .now), lent-none a true (s .args .uses .now))),
@@ -64,24 +51,24 @@ contract-over-requires : tie.Need-contract-over-requires Inv-loop μ-loop
 contract-over-requires c κs =
     let c-5 = c .before .before .before .before .before in
     let r = c-5 in
-    let n = r .before .before .contract-total .ensures in
-    (r .before .before .before .before .before .pre, (omega (arith, c .before .before .loop-test .taken, n), table r))
+    let n = r .before .contract-total .ensures in
+    (r .before .before .before .before .pre, (omega (arith, c .before .before .loop-test .taken, n), r .rates-over .ensures))
 
 mul-lines : tie.Need-mul-lines Inv-loop μ-loop
 mul-lines c =
     let c-5 = c .before .before .before .before .before in
-    let t = c-5 in let h = few (t .before .before .before .before .before) in omega (arith, t .loop-test .taken)
+    let t = c-5 in let h = few (t .before .before .before .before) in omega (arith, t .loop-test .taken)
 
 array-set-from-lines : tie.Need-array-set-from-lines Inv-loop μ-loop
 array-set-from-lines c =
     let c-5 = c .before .before .before .before .before in
-    let t = c-5 in let h = few (t .before .before .before .before .before) in omega
+    let t = c-5 in let h = few (t .before .before .before .before) in omega
     (arith, t .loop-test .taken)
 
 add-i : tie.Need-add-i Inv-loop μ-loop
 add-i c =
     let c-5 = c .before .before .before .before .before in
-    let t = c-5 in let h = few (t .before .before .before .before .before) in omega (arith, t .loop-test .taken)
+    let t = c-5 in let h = few (t .before .before .before .before) in omega (arith, t .loop-test .taken)
 
 loop-less : tie.Need-loop-less Inv-loop μ-loop
 loop-less c =
@@ -92,9 +79,9 @@ loop-again : tie.Need-loop-again Inv-loop μ-loop
 loop-again c =
     let after-loop-test = c .before .before .before .before .before in
     let after-loop = after-loop-test .before in
-    let after-contract-total = after-loop .before .before .before .before in
-    let c-13 = after-contract-total .before .before .before in
-    let s = c-13 in
+    let after-contract-total = after-loop .before .before .before in
+    let c-12 = after-contract-total .before .before .before in
+    let s = c-12 in
     let m = s .args .morning .now in
     let n = s .args .noon .now in
     let a = accountOf m n in
@@ -121,9 +108,9 @@ same-length-2 c = c .before .loop .inv .1 .1 .1 .same
 
 returns : tie.Need-returns Inv-loop μ-loop
 returns c =
-    let after-contract-total = c .before .before .before .before .before in
-    let c-8 = after-contract-total .before .before .before in
-    let s = c-8 in
+    let after-contract-total = c .before .before .before .before in
+    let c-7 = after-contract-total .before .before .before in
+    let s = c-7 in
     let a = accountOf (s .args .morning .now) (s .args .noon .now) in
     let l = c .before .loop in
     let h = few (after-contract-total) in
@@ -148,8 +135,7 @@ contracts-over-spec =
     Inv-loop
     μ-loop
     contract-total-requires
-    part-requires
-    rates-of-requires
+    rates-over-requires
     no-line-requires
     loop-holds
     contract-over-requires

@@ -1,11 +1,21 @@
--- The numbers of a book: what the spreads use and form of each prompt, and how often a prompt is touched.
+-- The book of no spreads, or the one that the steps run.
 -- Assumes nothing.
-use mathlib.Core.Path.{_≡_, sym, _∙_}
+use mathlib.Core.Bool.{true}
+use mathlib.Core.List.{List, []}
+use mathlib.Core.Path.{_≡_, sym, ap, _∙_, subst⁻¹}
+use Prim.Native.Nat.{ℕ}
 use native.Mathlib.Omega.{arith}
-use lib.ListN.{length, length-map}
+use lib.ListN.{length, length-map, take}
+use lib.Seq.{sets}
+use Rattle.spread.specs.Accepted.{openOf, stepsOf, sound, promptPlaces, spreadPlaces}
+use Rattle.spread.specs.Steps.{Taker, steps}
+use Rattle.spread.specs.code.Lent.{promptsIn}
+use Rattle.spread.specs.declared.Prompts.{Prompts}
+use Rattle.spread.proofs.Lent.{prompts-back}
+use Rattle.formulas.proofs.UnspreadLaws.{unused-given}
+use Rattle.margin.specs.Books.{bookBy}
+use Rattle.margin.proofs.AnswerLaws.{few-prompts}
 use borrow.Author.Needs.{needs}
-use Rattle.spread.specs.Accepted.{promptPlaces, spreadPlaces}
-use Rattle.margin.proofs.AnswerLaws.{few-prompts, signed, touched, book-written}
 use Rattle.margin.proofs.books.put_book.Statement.{statement}
 use Rattle.margin.proofs.books.put_book.Tie as tie
 
@@ -19,73 +29,66 @@ net-places s = sym (length-map (s .args .prompts .net) _) ∙ s .good .1 .0 .1 .
 spread-places : (s : tie.Start) → length (s .args .table .spread) ≡ spreadPlaces
 spread-places s = sym (length-map (s .args .table .spread) _) ∙ s .good .1 .1 .0 .1 .1 .1 .0 .1 .0 .1
 
-put-prompts-requires : tie.Need-put-prompts-requires
-put-prompts-requires c κs =
-    let c-6 = c .before .before .before .before .before .before in
-    let s = c-6 in
-    (few-prompts (s .args .prompts) (s .args .table) (tier-places s) (net-places s) (spread-places s) (s .pre .0), omega (arith, s .pre .1 .1))
+-- the net deltas as plain numbers
+nets-long : (c : tie.After-plain) → length (c .plain .result) ≡ promptPlaces
+nets-long c =
+    let s = c .before .before .before in ap length (c .plain .ensures) ∙ length-map (s .args .prompts .net) _ ∙ net-places s
 
-mul-put-spreads : tie.Need-mul-put-spreads
-mul-put-spreads c = search needs
+same : (c : tie.After-plain) → let p = c .before .before .before .args .prompts in promptsIn (p .count) (p .tier) (c .plain .result) ≡ p
+same c =
+    let p = c .before .before .before .args .prompts in
+    prompts-back p (c .plain .result) (c .plain .ensures)
 
-put-spreads-requires : tie.Need-put-spreads-requires
-put-spreads-requires c κs =
-    let c-9 = c .before .before .before .before .before .before .before .before .before in
-    let s = c-9 in (
-      omega (arith, s .pre .1 .1, c .before .out .given),
-      signed (s .args .prompts) (s .args .table) (tier-places s) (net-places s) (spread-places s) (s .pre .0) (s .args .book) (s .pre .1 .0),
-    )
+plain-requires : tie.Need-plain-requires
+plain-requires c κs = search needs
 
-touches-in-requires : tie.Need-touches-in-requires
-touches-in-requires c κs = search needs
-
-mul-put : tie.Need-mul-put
-mul-put c = search needs
-
-mul-put-2 : tie.Need-mul-put-2
-mul-put-2 c = search needs
-
-add-put : tie.Need-add-put
-add-put c = search needs
-
-put-requires : tie.Need-put-requires
-put-requires c κs =
-    let after-out = c .before .before .before .before .before in
-    let c-13 = after-out .before .before .before .before .before .before .before .before in
-    let s = c-13 in (
-      omega (arith, s .pre .1 .1, after-out .out .given, c .before .before .out2 .given),
-      omega (
-        arith,
-        c .before .touches-in .ensures,
-        touched (s .args .prompts) (s .args .table) (tier-places s) (net-places s) (spread-places s) (s .pre .0),
-      ),
-    )
+put-unspread-requires : tie.Need-put-unspread-requires
+put-unspread-requires c κs =
+    let after-plain = c .before .before .before .before in
+    let s = after-plain .before .before .before in
+    let few = few-prompts (s .args .prompts) (s .args .table) (tier-places s) (net-places s) (spread-places s) (s .pre .0) in
+    (omega (arith, few), (omega (arith, few, nets-long after-plain), omega (arith, s .pre .1)))
 
 same-length : tie.Need-same-length
 same-length c = search needs
 
 returns : tie.Need-returns
 returns c =
-    let c-3 = c .before .before .before in
-    let t = c-3 in
-    let r = t .before .before in
-    let q = r .before .before .before in
-    let s = q .before .before .before .before .before .before .before in
-    book-written (s .args .prompts) (s .args .table) (tier-places s) (net-places s) (spread-places s) (s .pre .0) (s .args .book) (s .pre .1 .0)
-    (s .args .out .now) (q .put-prompts .last .0) (r .put-spreads .last .0) (c .before .put .last .0)
-    (t .touches-in .result) (t .touches-in .ensures) (q .put-prompts .ensures) (r .put-spreads .ensures) (c .before .put .ensures)
+    let after-if = c .before .before .before .before in
+    let after-plain = after-if .before .before in
+    let s = after-plain .before .before .before in
+    let p = s .args .prompts in
+    let t = s .args .table in
+    let none : stepsOf t ≡ [] = ap (λ (n : ℕ). steps (take n (t .spread))) (after-if .if1 .taken) in
+    c .before .put-unspread .ensures (openOf p)
+    (ap (take (p .count)) (after-plain .plain .ensures) ∙ sym (unused-given (p .count) (p .tier) (p .net) (omega (arith, tier-places s, net-places s))))
+    ∙ ap (λ (ss : List (List Taker)). sets (s .args .out .now) 0 (bookBy ss (openOf p))) (sym none)
+
+put-run-requires : tie.Need-put-run-requires
+put-run-requires c κs =
+    let after-plain = c .before .before .before .before .before in
+    let s = after-plain .before .before .before in (
+      subst⁻¹ (λ (q : Prompts). sound q (s .args .table) ≡ true) (same after-plain) (s .pre .0),
+      ((tier-places s, nets-long after-plain), omega (arith, s .pre .1)),
+    )
+
+same-length-2 : tie.Need-same-length-2
+same-length-2 c = search needs
+
+returns-2 : tie.Need-returns-2
+returns-2 c =
+    let after-plain = c .before .before .before .before .before .before .before in
+    let s = after-plain .before .before .before in
+    c .before .put-run .ensures ∙ ap (λ (q : Prompts). sets (s .args .out .now) 0 (bookBy (stepsOf (s .args .table)) (openOf q))) (same after-plain)
 
 pub put-book-spec : {M : Type 1} → statement M
 put-book-spec =
     tie.close
     (tie.spec
-    put-prompts-requires
-    mul-put-spreads
-    put-spreads-requires
-    touches-in-requires
-    mul-put
-    mul-put-2
-    add-put
-    put-requires
+    plain-requires
+    put-unspread-requires
     same-length
-    returns)
+    returns
+    put-run-requires
+    same-length-2
+    returns-2)

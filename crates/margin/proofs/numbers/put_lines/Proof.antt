@@ -29,53 +29,48 @@ abbrev μ-loop : tie.MeasureT-loop
 loop-holds : tie.Need-loop-holds Inv-loop μ-loop
 loop-holds c = (start _ _ 0 0 _ refl, sums.start _ _ _, refl)
 
-mul-line : tie.Need-mul-line Inv-loop μ-loop
-mul-line c = omega (arith, c .before .before .pre .0 .most)
-
-array-copy-out-line : tie.Need-array-copy-out-line Inv-loop μ-loop
-array-copy-out-line c = omega (arith, c .before .before .pre .0 .most)
-
-mul-credit : tie.Need-mul-credit Inv-loop μ-loop
-mul-credit c =
+mul-put-line : tie.Need-mul-put-line Inv-loop μ-loop
+mul-put-line c =
     let start = c .before .before .before in
     omega (arith, start .pre .0 .most)
 
-array-copy-out-credit : tie.Need-array-copy-out-credit Inv-loop μ-loop
-array-copy-out-credit c =
+mul-put-line-2 : tie.Need-mul-put-line-2 Inv-loop μ-loop
+mul-put-line-2 c =
     let start = c .before .before .before in
     omega (arith, start .pre .0 .most)
 
-margin-of-requires : tie.Need-margin-of-requires Inv-loop μ-loop
-margin-of-requires c κs =
-    let after-loop = c .before .before .before in
-    let c-4 = after-loop .before in
-    let s = c-4 in
-    s .pre .0 .line-within (after-loop .loop .i) (omega arith)
-
-mul-put-eight : tie.Need-mul-put-eight Inv-loop μ-loop
-mul-put-eight c =
-    let start = c .before .before .before .before .before .before in
+array-copy-out-put-line : tie.Need-array-copy-out-put-line Inv-loop μ-loop
+array-copy-out-put-line c =
+    let start = c .before .before .before in
     omega (arith, start .pre .0 .most)
 
-put-eight-requires : tie.Need-put-eight-requires Inv-loop μ-loop
-put-eight-requires c κs =
-    let after-loop = c .before .before .before .before .before in
-    let c-6 = after-loop .before in
-    let s = c-6 in
+mul-put-line-3 : tie.Need-mul-put-line-3 Inv-loop μ-loop
+mul-put-line-3 c =
+    let start = c .before .before .before .before in
+    omega (arith, start .pre .0 .most)
+
+array-copy-out-put-line-2 : tie.Need-array-copy-out-put-line-2 Inv-loop μ-loop
+array-copy-out-put-line-2 c =
+    let start = c .before .before .before .before in
+    omega (arith, start .pre .0 .most)
+
+put-line-requires : tie.Need-put-line-requires Inv-loop μ-loop
+put-line-requires c κs =
+    let after-loop = c .before .before .before .before in
+    let s = after-loop .before in
     let l = after-loop .loop in
     let i = l .i in
     let most = s .pre .0 .most in
-    (omega (arith, l .inv .2), (s .pre .0 .line-within i (omega arith), (s .pre .0 .credit-within i (omega arith), c .before .margin-of .ensures)))
+    (omega (arith, l .inv .2), (s .pre .0 .line-within i (omega arith), s .pre .0 .credit-within i (omega arith)))
 
 add-total : tie.Need-add-total Inv-loop μ-loop
 add-total c =
-    let after-margin-of = c .before .before .before .before in
-    let after-loop = after-margin-of .before .before .before .before in
-    let c-9 = after-loop .before in
-    let s = c-9 in
+    let after-put-line = c .before .before in
+    let after-loop = after-put-line .before .before .before .before .before in
+    let s = after-loop .before in
     let small = after-loop .loop .inv .1 .small in
     let most = s .pre .0 .most in
-    let margin = after-margin-of .margin-of .ensures .1 in
+    let margin = after-put-line .put-line .ensures .1 .1 in
     omega arith
 
 add-i : tie.Need-add-i Inv-loop μ-loop
@@ -86,21 +81,22 @@ loop-less c = omega arith
 
 loop-again : tie.Need-loop-again Inv-loop μ-loop
 loop-again c =
-    let s = c .before .before .before .before .before .before .before .before .before in
-    let l = c .before .before .before .before .before .before .before .before .loop in
-    let margin = c .before .before .before .before .margin-of in
+    let after-loop = c .before .before .before .before .before .before .before in
+    let s = after-loop .before in
+    let l = after-loop .loop in
+    let r = c .before .before .put-line in
     let most = s .pre .0 .most in
     let lines : length (s .args .t3) ≡ mostContracts = search needs in
     let credits : length (s .args .t4) ≡ mostContracts = search needs in (
-      next (l .i) (l .i * figuresEach) ((l .i + 1) * figuresEach) (l .out) (c .before .before .put-eight .last .0)
+      next (l .i) (l .i * figuresEach) ((l .i + 1) * figuresEach) (l .out) (r .last .0)
           (map pos (eightOf (getD (s .args .t3) (l .i) noLine) (amountAt (s .args .t4) (l .i))))
           (l .inv .0) (omega arith)
           (eights-step (s .args .count) (s .args .t3) (s .args .t4) (omega arith) (omega arith) (l .i) (omega arith))
-          (c .before .before .put-eight .ensures) (omega arith),
-      sums.next (l .i) (l .total) (margin .result .0) (l .inv .1) (omega arith)
+          (r .ensures .0) (omega arith),
+      sums.next (l .i) (l .total) (r .result .0) (l .inv .1) (omega arith)
           (total-step (s .args .count) (s .args .t3) (s .args .t4) (omega arith) (omega arith) (l .i) (omega arith)
-          ∙ ap (λ (x : ℕ). x + totalOn (s .args .count) (s .args .t3) (s .args .t4) (l .i + 1)) (sym (margin .ensures .0)))
-          (margin .ensures .1),
+          ∙ ap (λ (x : ℕ). x + totalOn (s .args .count) (s .args .t3) (s .args .t4) (l .i + 1)) (sym (r .ensures .1 .0)))
+          (r .ensures .1 .1),
       c .before .out .given ∙ l .inv .2,
     )
 
@@ -146,13 +142,12 @@ put-lines-spec =
     Inv-loop
     μ-loop
     loop-holds
-    mul-line
-    array-copy-out-line
-    mul-credit
-    array-copy-out-credit
-    margin-of-requires
-    mul-put-eight
-    put-eight-requires
+    mul-put-line
+    mul-put-line-2
+    array-copy-out-put-line
+    mul-put-line-3
+    array-copy-out-put-line-2
+    put-line-requires
     add-total
     add-i
     loop-less

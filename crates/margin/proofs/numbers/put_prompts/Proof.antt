@@ -4,11 +4,10 @@ use mathlib.Core.Path.{_≡_, refl, _∙_}
 use mathlib.Core.List.{[], _∷_}
 use Prim.Native.Nat.{_+_, _*_, _-_}
 use native.Mathlib.Omega.{arith}
-use borrow.Author.Needs.{needs}
-use lib.ListN.{length}
+use lib.IntN.{pos}
+use lib.ListN.{length, getD}
 use lib.Seq.{sets}
-use Rattle.spread.specs.Accepted.{promptPlaces}
-use Rattle.formulas.specs.code.Sums.{deltaAt}
+use Rattle.exact.proofs.Integers.{back}
 use Rattle.margin.proofs.NumberLaws.{ToWrite, start, next, finish, threesOn, threes-step, threes-none}
 use Rattle.margin.proofs.numbers.put_prompts.Statement.{statement}
 use Rattle.margin.proofs.numbers.put_prompts.Tie as tie
@@ -23,31 +22,29 @@ abbrev μ-loop : tie.MeasureT-loop
 loop-holds : tie.Need-loop-holds Inv-loop μ-loop
 loop-holds c = (start _ _ 0 0 _ refl, refl)
 
+mul-net : tie.Need-mul-net Inv-loop μ-loop
+mul-net c = omega arith
+
+element-copy-out-net : tie.Need-element-copy-out-net Inv-loop μ-loop
+element-copy-out-net c = omega arith
+
+mul-taken : tie.Need-mul-taken Inv-loop μ-loop
+mul-taken c = omega arith
+
+element-copy-out-taken : tie.Need-element-copy-out-taken Inv-loop μ-loop
+element-copy-out-taken c = omega arith
+
+mul-left : tie.Need-mul-left Inv-loop μ-loop
+mul-left c = omega arith
+
+element-copy-out-left : tie.Need-element-copy-out-left Inv-loop μ-loop
+element-copy-out-left c = omega arith
+
 mul-put-three : tie.Need-mul-put-three Inv-loop μ-loop
 mul-put-three c = omega arith
 
-mul-put-three-2 : tie.Need-mul-put-three-2 Inv-loop μ-loop
-mul-put-three-2 c = omega arith
-
-array-copy-out-put-three : tie.Need-array-copy-out-put-three Inv-loop μ-loop
-array-copy-out-put-three c = omega arith
-
-mul-put-three-3 : tie.Need-mul-put-three-3 Inv-loop μ-loop
-mul-put-three-3 c = omega arith
-
-array-copy-out-put-three-2 : tie.Need-array-copy-out-put-three-2 Inv-loop μ-loop
-array-copy-out-put-three-2 c = omega arith
-
-mul-put-three-4 : tie.Need-mul-put-three-4 Inv-loop μ-loop
-mul-put-three-4 c = omega arith
-
-array-copy-out-put-three-3 : tie.Need-array-copy-out-put-three-3 Inv-loop μ-loop
-array-copy-out-put-three-3 c = omega arith
-
 put-three-requires : tie.Need-put-three-requires Inv-loop μ-loop
-put-three-requires c κs =
-    let after-loop = c .before .before .before .before .before in
-    let l = after-loop .loop in omega (arith, l .inv .1)
+put-three-requires c κs = let l = c .before .before .before .before .before .loop in omega (arith, l .inv .1)
 
 add-i : tie.Need-add-i Inv-loop μ-loop
 add-i c = omega arith
@@ -57,16 +54,22 @@ loop-less c = omega arith
 
 loop-again : tie.Need-loop-again Inv-loop μ-loop
 loop-again c =
-    let s = c .before .before .before .before .before .before .before .before in
-    let l = c .before .before .before .before .before .before .before .loop in
-    let nets : length (s .args .t3) ≡ promptPlaces = search needs in
-    let used : length (s .args .t4) ≡ promptPlaces = search needs in
-    let unused : length (s .args .t5) ≡ promptPlaces = search needs in (
+    let after-left = c .before .before .before in
+    let after-taken = after-left .before in
+    let after-net = after-taken .before in
+    let l = after-net .before .before .loop in
+    let s = after-net .before .before .before in
+    let nets = s .args .nets .now in
+    let used = s .args .used .now in
+    let unused = s .args .unused .now in
+    let net = back (getD nets (l .i) (pos 0)) (record { sfits = after-net .net .given }) in
+    let taken = back (getD used (l .i) (pos 0)) (record { sfits = after-taken .taken .given }) in
+    let left = back (getD unused (l .i) (pos 0)) (record { sfits = after-left .left .given }) in (
       next (l .i) (l .i * 3) ((l .i + 1) * 3) (l .out) (c .before .put-three .last .0)
-          (deltaAt (s .args .t3) (l .i) ∷ deltaAt (s .args .t4) (l .i) ∷ deltaAt (s .args .t5) (l .i) ∷ [])
+          (getD nets (l .i) (pos 0) ∷ getD used (l .i) (pos 0) ∷ getD unused (l .i) (pos 0) ∷ [])
           (l .inv .0) (omega arith)
-          (threes-step (s .args .prompts) (s .args .t3) (s .args .t4) (s .args .t5) (omega arith) (omega arith) (omega arith) (l .i) (omega arith))
-          (c .before .put-three .ensures) (omega arith),
+          (threes-step (s .args .prompts) nets used unused (s .pre .0 .nets-there) (s .pre .0 .used-there) (s .pre .0 .unused-there) (l .i) (omega arith))
+          (c .before .put-three .ensures ∙ (λ j. sets (l .out) (l .i * 3) (net j ∷ taken j ∷ left j ∷ []))) (omega arith),
       c .out .given ∙ l .inv .1,
     )
 
@@ -77,7 +80,8 @@ returns : tie.Need-returns Inv-loop μ-loop
 returns c =
     let s = c .before .before in
     let l = c .before .loop in
-    finish (l .i) (l .i * 3) (l .out) (l .inv .0) (omega arith) (threes-none (s .args .prompts) (s .args .t3) (s .args .t4) (s .args .t5))
+    finish (l .i) (l .i * 3) (l .out) (l .inv .0) (omega arith)
+    (threes-none (s .args .prompts) (s .args .nets .now) (s .args .used .now) (s .args .unused .now))
 
 pub put-prompts-spec : {M : Type 1} → statement M
 put-prompts-spec =
@@ -86,13 +90,13 @@ put-prompts-spec =
     Inv-loop
     μ-loop
     loop-holds
+    mul-net
+    element-copy-out-net
+    mul-taken
+    element-copy-out-taken
+    mul-left
+    element-copy-out-left
     mul-put-three
-    mul-put-three-2
-    array-copy-out-put-three
-    mul-put-three-3
-    array-copy-out-put-three-2
-    mul-put-three-4
-    array-copy-out-put-three-3
     put-three-requires
     add-i
     loop-less

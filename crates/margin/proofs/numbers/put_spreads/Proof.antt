@@ -4,12 +4,9 @@ use mathlib.Core.Path.{_≡_, refl, _∙_}
 use mathlib.Core.List.{[], _∷_}
 use Prim.Native.Nat.{_+_, _*_, _-_}
 use native.Mathlib.Omega.{arith}
-use borrow.Author.Needs.{needs}
 use lib.IntN.{pos}
-use lib.ListN.{length}
+use lib.ListN.{length, getD}
 use lib.Seq.{sets}
-use Rattle.spread.specs.Accepted.{spreadPlaces}
-use Rattle.formulas.specs.code.Sums.{spreadsAt}
 use Rattle.margin.proofs.NumberLaws.{ToWrite, start, next, finish, twosOn, twos-step, twos-none}
 use Rattle.margin.proofs.numbers.put_spreads.Statement.{statement}
 use Rattle.margin.proofs.numbers.put_spreads.Tie as tie
@@ -33,14 +30,14 @@ add-put-two c = omega arith
 mul-put-two-2 : tie.Need-mul-put-two-2 Inv-loop μ-loop
 mul-put-two-2 c = omega arith
 
-array-copy-out-put-two : tie.Need-array-copy-out-put-two Inv-loop μ-loop
-array-copy-out-put-two c = omega arith
+element-copy-out-put-two : tie.Need-element-copy-out-put-two Inv-loop μ-loop
+element-copy-out-put-two c = omega arith
 
 mul-put-two-3 : tie.Need-mul-put-two-3 Inv-loop μ-loop
 mul-put-two-3 c = omega arith
 
-array-copy-out-put-two-2 : tie.Need-array-copy-out-put-two-2 Inv-loop μ-loop
-array-copy-out-put-two-2 c = omega arith
+element-copy-out-put-two-2 : tie.Need-element-copy-out-put-two-2 Inv-loop μ-loop
+element-copy-out-put-two-2 c = omega arith
 
 put-two-requires : tie.Need-put-two-requires Inv-loop μ-loop
 put-two-requires c κs =
@@ -61,12 +58,12 @@ loop-again : tie.Need-loop-again Inv-loop μ-loop
 loop-again c =
     let s = c .before .before .before .before .before .before .before in
     let l = c .before .before .before .before .before .before .loop in
-    let first : length (s .args .t4) ≡ spreadPlaces = search needs in
-    let second : length (s .args .t5) ≡ spreadPlaces = search needs in (
+    let first = s .args .first .now in
+    let second = s .args .second .now in (
       next (l .i) (s .args .at + l .i * 2) (s .args .at + (l .i + 1) * 2) (l .out) (c .before .put-two .last .0)
-          (pos (spreadsAt (s .args .t4) (l .i)) ∷ pos (spreadsAt (s .args .t5) (l .i)) ∷ [])
+          (pos (getD first (l .i) 0) ∷ pos (getD second (l .i) 0) ∷ [])
           (l .inv .0) (omega arith)
-          (twos-step (s .args .spreads) (s .args .t4) (s .args .t5) (omega arith) (omega arith) (l .i) (omega arith))
+          (twos-step (s .args .spreads) first second (s .pre .1 .firsts-there) (s .pre .1 .seconds-there) (l .i) (omega arith))
           (c .before .put-two .ensures) (omega arith),
       c .out .given ∙ l .inv .1,
     )
@@ -78,7 +75,7 @@ returns : tie.Need-returns Inv-loop μ-loop
 returns c =
     let s = c .before .before in
     let l = c .before .loop in
-    finish (l .i) (s .args .at + l .i * 2) (l .out) (l .inv .0) (omega arith) (twos-none (s .args .spreads) (s .args .t4) (s .args .t5))
+    finish (l .i) (s .args .at + l .i * 2) (l .out) (l .inv .0) (omega arith) (twos-none (s .args .spreads) (s .args .first .now) (s .args .second .now))
 
 pub put-spreads-spec : {M : Type 1} → statement M
 put-spreads-spec =
@@ -90,9 +87,9 @@ put-spreads-spec =
     mul-put-two
     add-put-two
     mul-put-two-2
-    array-copy-out-put-two
+    element-copy-out-put-two
     mul-put-two-3
-    array-copy-out-put-two-2
+    element-copy-out-put-two-2
     put-two-requires
     add-i
     loop-less

@@ -25,7 +25,7 @@ returns c =
     let c-6 = after-put .before .before in
     let s = c-6 in
     rw (c .before .put2 .ensures, after-put .put .ensures)
-    (stores-sets (s .args .out .now) (s .args .at) (pos (s .args .first .0) ∷ pos (s .args .second .0) ∷ []))
+    (stores-sets (s .args .out .now) (s .args .at) (pos (s .args .first) ∷ pos (s .args .second) ∷ []))
 
 pub put-two-spec : {M : Type 1} → statement M
 put-two-spec = tie.close (tie.spec put-requires add-put put-requires-2 same-length returns)

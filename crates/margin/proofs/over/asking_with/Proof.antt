@@ -1,6 +1,7 @@
 -- What is asked about by a contract number: its parts are the account's.
 -- Assumes nothing.
 use mathlib.Core.List.{List, []}
+use mathlib.Core.Path.{refl}
 use borrow.Author.Needs.{needs}
 use Rattle.record.specs.Layout.{Record}
 use Rattle.account.specs.Joined.{accountOf}
@@ -11,46 +12,57 @@ use Rattle.margin.proofs.StandLaws.{parts-read, parts-told}
 use Rattle.margin.proofs.over.asking_with.Statement.{statement}
 use Rattle.margin.proofs.over.asking_with.Tie as tie
 
-add-part : tie.Need-add-part
-add-part c = search needs
+whereabouts-of-requires : tie.Need-whereabouts-of-requires
+whereabouts-of-requires c κs = search needs
 
-part-requires : tie.Need-part-requires
-part-requires c κs = search needs
+prompts-part-requires : tie.Need-prompts-part-requires
+prompts-part-requires c κs = search needs
 
-add-part-2 : tie.Need-add-part-2
-add-part-2 c = search needs
-
-part-requires-2 : tie.Need-part-requires-2
-part-requires-2 c κs = search needs
+spreads-part-requires : tie.Need-spreads-part-requires
+spreads-part-requires c κs = search needs
 
 contract-asking-requires : tie.Need-contract-asking-requires
 contract-asking-requires c κs =
-    let c-4 = c .before .before .before .before in
-    let s = c-4 in
-    let a = accountOf (s .args .morning .now) (s .args .noon .now) in
-    let ps = c .before .part in
-    let ss = c .part2 in
-    parts-read a (s .pre .0 .lawful) (s .args .c) (s .pre .1 .0) (ps .result .now) (ss .result .now) (ps .ensures) (ss .ensures)
-    (λ (xs ys : List Record). BookFit xs ys (s .args .p)) (s .pre .1 .1)
+    let at = c .before .before .before in
+    let s = at .before .before .before in
+    let st = s .pre .0 in
+    let j = s .args .account in
+    let n = s .args .c in
+    let h = s .pre .1 .0 in
+    let w = at .whereabouts-of .ensures in
+    let ps = c .before .before .prompts-part in
+    let ss = c .before .spreads-part in
+    record {
+      position = s .args .p;
+      nets-are = refl;
+      fits =
+          parts-read (accountOf (s .args .morning .now) (s .args .noon .now)) (st .lawful) n h (ps .result .now) (ss .result .now)
+          (ps .ensures j n st h w) (ss .ensures j n st h w) (λ (xs ys : List Record). BookFit xs ys (s .args .p)) (s .pre .1 .1);
+    }
 
 returns : tie.Need-returns
 returns c =
-    let c-5 = c .before .before .before .before .before in
-    let s = c-5 in
-    let a = accountOf (s .args .morning .now) (s .args .noon .now) in
-    let ps = c .before .before .part in
-    let ss = c .before .part2 in
+    let at = c .before .before .before .before in
+    let s = at .before .before .before in
+    let st = s .pre .0 in
+    let j = s .args .account in
+    let n = s .args .c in
+    let h = s .pre .1 .0 in
+    let w = at .whereabouts-of .ensures in
+    let ps = c .before .before .before .prompts-part in
+    let ss = c .before .before .spreads-part in
     let r = c .contract-asking in
-    parts-told a (s .pre .0 .lawful) (s .args .c) (s .pre .1 .0) (ps .result .now) (ss .result .now) (ps .ensures) (ss .ensures)
-    (λ (xs ys : List Record). Asks (contractSteps (contractWith [] xs ys (s .args .p))) (opensOf (contractWith [] xs ys (s .args .p))) (r .result)) (r .ensures)
+    parts-told (accountOf (s .args .morning .now) (s .args .noon .now)) (st .lawful) n h (ps .result .now) (ss .result .now)
+    (ps .ensures j n st h w) (ss .ensures j n st h w)
+    (λ (xs ys : List Record). Asks (contractSteps (contractWith [] xs ys (s .args .p))) (opensOf (contractWith [] xs ys (s .args .p))) (r .result))
+    (r .ensures (s .args .p) refl)
 
 pub asking-with-spec : {M : Type 1} → statement M
 asking-with-spec =
     tie.close
     (tie.spec
-    add-part
-    part-requires
-    add-part-2
-    part-requires-2
+    whereabouts-of-requires
+    prompts-part-requires
+    spreads-part-requires
     contract-asking-requires
     returns)

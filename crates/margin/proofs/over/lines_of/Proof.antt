@@ -1,14 +1,10 @@
 -- The lines are put in place one after the other.
 -- Assumes nothing.
-use mathlib.Core.Path.{refl, _∙_, subst}
-use mathlib.Core.List.{List}
+use mathlib.Core.Path.{refl, _∙_}
 use Prim.Native.Nat.{_-_, _≤_}
 use native.Mathlib.Nat.{not-suc-le-zero}
 use native.Mathlib.Omega.{arith}
 use borrow.Author.Needs.{needs}
-use Rattle.record.specs.Layout.{Record}
-use Rattle.account.specs.Parts.{ratesOf}
-use Rattle.account.specs.code.Rates.{RatesOf}
 use Rattle.account.specs.Joined.{accountOf}
 use Rattle.account.specs.Check.{mostContracts}
 use Rattle.margin.proofs.StandLaws.{few-contracts}
@@ -32,17 +28,8 @@ few c =
 contract-total-requires : tie.Need-contract-total-requires Inv-loop μ-loop
 contract-total-requires c κs = search needs
 
-part-requires : tie.Need-part-requires Inv-loop μ-loop
-part-requires c κs = search needs
-
-rates-of-requires : tie.Need-rates-of-requires Inv-loop μ-loop
-rates-of-requires c κs = search needs
-
--- the table of the account's rates
-table : (c : tie.After-rates-of Inv-loop μ-loop) →
-    let s = c .before .before .before .before .before in
-    RatesOf (ratesOf (accountOf (s .args .morning .now) (s .args .noon .now))) (c .rates-of .result)
-table c = subst (λ (rs : List Record). RatesOf rs (c .rates-of .result)) (c .before .part .ensures .are) (c .rates-of .ensures)
+rates-over-requires : tie.Need-rates-over-requires Inv-loop μ-loop
+rates-over-requires c κs = search needs
 
 no-line-requires : tie.Need-no-line-requires Inv-loop μ-loop
 no-line-requires c κs = search needs
@@ -53,36 +40,36 @@ loop-holds c = (record { places = refl; each = λ j h. absurd (not-suc-le-zero h
 line-at-requires : tie.Need-line-at-requires Inv-loop μ-loop
 line-at-requires c κs =
     let c-3 = c .before .before .before in
-    let start = c-3 .before .before .before .before .before in (
+    let start = c-3 .before .before .before .before in (
       start .pre,
-      (omega (arith, c .loop-test .taken, c-3 .before .before .contract-total .ensures), table (c-3)),
+      (omega (arith, c .loop-test .taken, c-3 .before .contract-total .ensures), c-3 .rates-over .ensures),
     )
 
 mul-lines : tie.Need-mul-lines Inv-loop μ-loop
 mul-lines c =
-    let c-6 = c .before .before .before .before .before .before in
-    let h = few (c-6) in omega arith
+    let c-5 = c .before .before .before .before .before in
+    let h = few (c-5) in omega arith
 
 array-set-from-lines : tie.Need-array-set-from-lines Inv-loop μ-loop
 array-set-from-lines c =
-    let c-6 = c .before .before .before .before .before .before in
-    let h = few (c-6) in omega arith
+    let c-5 = c .before .before .before .before .before in
+    let h = few (c-5) in omega arith
 
 add-i : tie.Need-add-i Inv-loop μ-loop
 add-i c =
-    let c-6 = c .before .before .before .before .before .before in
-    let h = few (c-6) in omega arith
+    let c-5 = c .before .before .before .before .before in
+    let h = few (c-5) in omega arith
 
 loop-less : tie.Need-loop-less Inv-loop μ-loop
 loop-less c = omega arith
 
 loop-again : tie.Need-loop-again Inv-loop μ-loop
 loop-again c =
-    let c-6 = c .before .before .before .before .before .before in
-    let c-9 = c-6 .before .before .before in
-    let s = c-9 in
+    let c-5 = c .before .before .before .before .before in
+    let c-8 = c-5 .before .before .before in
+    let s = c-8 in
     let l = c .before .before .loop in
-    let h = few (c-6) in (
+    let h = few (c-5) in (
       lined-next (accountOf (s .args .morning .now) (s .args .noon .now)) (l .i) (l .lines) (c .line-at .result) (l .inv .0) (omega arith)
           (c .line-at .ensures),
       omega arith,
@@ -90,7 +77,7 @@ loop-again c =
 
 returns : tie.Need-returns Inv-loop μ-loop
 returns c =
-    let after-contract-total = c .before .before .before .before .before in
+    let after-contract-total = c .before .before .before .before in
     let start = after-contract-total .before .before .before in
     let l = c .before .loop in
     let h = few (after-contract-total) in
@@ -109,8 +96,7 @@ lines-of-spec =
     Inv-loop
     μ-loop
     contract-total-requires
-    part-requires
-    rates-of-requires
+    rates-over-requires
     no-line-requires
     loop-holds
     line-at-requires

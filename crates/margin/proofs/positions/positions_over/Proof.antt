@@ -1,14 +1,13 @@
 -- Each listed contract's position is put in its place, one after the other.
 -- Assumes nothing.
-use mathlib.Core.Path.{_≡_, _∙_, subst}
-use mathlib.Core.List.{List, []}
+use mathlib.Core.Path.{_≡_, _∙_}
+use mathlib.Core.List.{[]}
 use lib.ListN.{getD}
 use Prim.Native.Nat.{_-_, _≤_, _<_}
 use native.Mathlib.Omega.{arith}
 use borrow.Author.Needs.{needs}
-use Rattle.record.specs.Layout.{Record, contract, mostContract}
-use Rattle.account.specs.Parts.{contractsOf, ratesOf}
-use Rattle.account.specs.code.Rates.{RatesOf}
+use Rattle.record.specs.Layout.{contract, mostContract}
+use Rattle.account.specs.Parts.{contractsOf}
 use Rattle.account.specs.Joined.{accountOf}
 use Rattle.account.specs.Check.{mostContracts}
 use Rattle.margin.proofs.PositionsLaws.{Placed, placed-none, placed-next, placed-all}
@@ -31,24 +30,24 @@ few c =
 
 -- the turn's contract is listed, and has this number
 within : (c : tie.After-contract-number Inv-loop μ-loop)
-    → c .before .before .loop .i < c .before .before .before .before .before .before .before .before .before .args .account .contracts
+    → c .before .before .loop .i < c .before .before .before .before .before .before .before .before .args .account .contracts
 within c =
-    let after-contract-total = c .before .before .before .before .before .before in
+    let after-contract-total = c .before .before .before .before .before in
     omega (arith, c .before .loop-test .taken, after-contract-total .contract-total .ensures)
 
 number : (c : tie.After-contract-number Inv-loop μ-loop)
-    → let s = c .before .before .before .before .before .before .before .before .before in
+    → let s = c .before .before .before .before .before .before .before .before in
     c .contract-number .result ≡ contract (getD (contractsOf (accountOf (s .args .morning .now) (s .args .noon .now))) (c .before .before .loop .i) [])
 number c =
-    let c-9 = c .before .before .before .before .before .before .before .before .before in
-    let s = c-9 in
+    let c-8 = c .before .before .before .before .before .before .before .before in
+    let s = c-8 in
     number-at (s .args .morning .now) (s .args .noon .now) (s .args .account) (s .pre) (c .before .before .loop .i) (within c)
     (c .contract-number .result) (c .contract-number .ensures)
 
 small : (c : tie.After-contract-number Inv-loop μ-loop) → c .contract-number .result ≤ mostContract
 small c =
-    let c-9 = c .before .before .before .before .before .before .before .before .before in
-    let s = c-9 in
+    let c-8 = c .before .before .before .before .before .before .before .before in
+    let s = c-8 in
     let m = s .args .morning .now in
     let n = s .args .noon .now in
     omega (
@@ -61,25 +60,16 @@ small c =
 contract-total-requires : tie.Need-contract-total-requires Inv-loop μ-loop
 contract-total-requires c κs = search needs
 
-part-requires : tie.Need-part-requires Inv-loop μ-loop
-part-requires c κs = search needs
-
-rates-of-requires : tie.Need-rates-of-requires Inv-loop μ-loop
-rates-of-requires c κs = search needs
-
--- the table of the account's rates
-table : (c : tie.After-rates-of Inv-loop μ-loop) →
-    let s = c .before .before .before .before .before in
-    RatesOf (ratesOf (accountOf (s .args .morning .now) (s .args .noon .now))) (c .rates-of .result)
-table c = subst (λ (rs : List Record). RatesOf rs (c .rates-of .result)) (c .before .part .ensures .are) (c .rates-of .ensures)
+rates-over-requires : tie.Need-rates-over-requires Inv-loop μ-loop
+rates-over-requires c κs = search needs
 
 flat-requires : tie.Need-flat-requires Inv-loop μ-loop
 flat-requires c κs = search needs
 
 loop-holds : tie.Need-loop-holds Inv-loop μ-loop
 loop-holds c =
-    let c-6 = c .before .before .before .before .before .before in
-    let s = c-6 in
+    let c-5 = c .before .before .before .before .before in
+    let s = c-5 in
     (placed-none (accountOf (s .args .morning .now) (s .args .noon .now)) (c .flat .result) (c .flat .ensures), omega arith)
 
 contract-number-requires : tie.Need-contract-number-requires Inv-loop μ-loop
@@ -88,8 +78,8 @@ contract-number-requires c κs = search needs
 position-in-requires : tie.Need-position-in-requires Inv-loop μ-loop
 position-in-requires c κs =
     let c-4 = c .before .before .before .before in
-    let start = c-4 .before .before .before .before .before in
-    (start .pre, (small c, table (c-4)))
+    let start = c-4 .before .before .before .before in
+    (start .pre, (small c, c-4 .rates-over .ensures))
 
 mul-at : tie.Need-mul-at Inv-loop μ-loop
 mul-at c = let h = small (c .before) in omega arith
@@ -99,8 +89,8 @@ array-set-from-at c = let h = small (c .before) in omega arith
 
 add-i : tie.Need-add-i Inv-loop μ-loop
 add-i c =
-    let c-7 = c .before .before .before .before .before .before .before in
-    let h = few (c-7) in omega (arith, c .before .before .loop-test .taken)
+    let c-6 = c .before .before .before .before .before .before in
+    let h = few (c-6) in omega (arith, c .before .before .loop-test .taken)
 
 loop-less : tie.Need-loop-less Inv-loop μ-loop
 loop-less c = omega (arith, c .before .before .loop-test .taken)
@@ -108,8 +98,8 @@ loop-less c = omega (arith, c .before .before .loop-test .taken)
 loop-again : tie.Need-loop-again Inv-loop μ-loop
 loop-again c =
     let after-loop = c .before .before .before in
-    let c-10 = after-loop .before .before .before .before .before .before .before in
-    let s = c-10 in
+    let c-9 = after-loop .before .before .before .before .before .before in
+    let s = c-9 in
     let l = after-loop .loop in
     let k = c .before .contract-number in (
       placed-next (accountOf (s .args .morning .now) (s .args .noon .now)) (l .i) (l .at) (k .result) (c .position-in .result) (l .inv .0)
@@ -122,9 +112,9 @@ record-total-requires c κs = search needs
 
 returns : tie.Need-returns Inv-loop μ-loop
 returns c =
-    let after-contract-total = c .before .before .before .before .before .before in
-    let c-9 = after-contract-total .before .before .before in
-    let s = c-9 in
+    let after-contract-total = c .before .before .before .before .before in
+    let c-8 = after-contract-total .before .before .before in
+    let s = c-8 in
     let l = c .before .before .loop in
     placed-all (accountOf (s .args .morning .now) (s .args .noon .now)) (s .pre .lawful) (l .i) _
     (omega (
@@ -142,8 +132,7 @@ positions-over-spec =
     Inv-loop
     μ-loop
     contract-total-requires
-    part-requires
-    rates-of-requires
+    rates-over-requires
     flat-requires
     loop-holds
     contract-number-requires

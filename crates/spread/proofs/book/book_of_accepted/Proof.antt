@@ -1,45 +1,60 @@
--- `book_of_accepted`: the numbers of the pools, the run and the spend.
+-- `book_of_accepted`: the book of the prompts' plain numbers, taken back into the struct.
 -- Assumes nothing.
-use mathlib.Core.Path.{_≡_, sym, _∙_}
-use lib.ListN.{length, length-map}
-use Rattle.spread.specs.Accepted.{soundPrompts, soundTable, promptPlaces}
-use Rattle.spread.proofs.Booking.{booked-accepted}
-use Rattle.spread.proofs.Both.{and-left, and-right}
-use Rattle.spread.proofs.Bounds.{pooled-small}
+use mathlib.Core.Bool.{true}
+use mathlib.Core.Path.{_≡_, refl, subst⁻¹}
+use borrow.Author.Needs.{needs}
+use Rattle.spread.specs.Accepted.{sound}
+use Rattle.spread.specs.declared.Prompts.{Prompts}
+use Rattle.spread.proofs.Booking.{booked-lent}
+use Rattle.spread.proofs.Lent.{prompts-back}
 use Rattle.spread.proofs.book.book_of_accepted.Statement.{statement}
 use Rattle.spread.proofs.book.book_of_accepted.Tie as tie
 
-pools-of-requires : tie.Need-pools-of-requires
-pools-of-requires c κs = and-left (soundPrompts (c .args .prompts)) (soundTable (c .args .table)) (c .pre)
+plain-requires : tie.Need-plain-requires
+plain-requires c κs = search needs
 
-run-requires : tie.Need-run-requires
-run-requires c κs =
-    let s = c .before in
-    let p = s .args .prompts in
-    let lt : length (p .tier) ≡ promptPlaces = sym (length-map (p .tier) _) ∙ s .good .0 .1 .1 .1 .0 .1 .0 .1 in
-    let ln : length (p .net) ≡ promptPlaces = sym (length-map (p .net) _) ∙ s .good .0 .1 .1 .1 .1 .0 .1 .0 .1 in (
-      and-right (soundPrompts p) (soundTable (s .args .table)) (s .pre),
-      pooled-small p _ lt ln (and-left (soundPrompts p) (soundTable (s .args .table)) (s .pre)) (c .pools-of .ensures),
+put-book-requires : tie.Need-put-book-requires
+put-book-requires c κs =
+    let after-plain = c .before .before .before .before .before .before in
+    let s = after-plain .before .before .before in
+    let p = s .args .prompts in (
+      subst⁻¹ (λ (q : Prompts). sound q (s .args .table) ≡ true) (prompts-back p (after-plain .plain .result) (after-plain .plain .ensures)) (s .pre),
+      ((refl, refl), (refl, refl)),
     )
 
-paid-by-requires : tie.Need-paid-by-requires
-paid-by-requires c κs =
-    let after-run = c .before .before .before in
-    let c-5 = after-run .before .before in
-    let s = c-5 in
-    let r = after-run .run in (
-      and-left (soundPrompts (s .args .prompts)) (soundTable (s .args .table)) (s .pre),
-      sym (length-map (r .result .left .cell) _) ∙ r .ok .1 .1 .0 .1 .1 .0 .1 .0 .1,
-    )
+spreads-from-requires : tie.Need-spreads-from-requires
+spreads-from-requires c κs = search needs
+
+spreads-from-requires-2 : tie.Need-spreads-from-requires-2
+spreads-from-requires-2 c κs = search needs
+
+deltas-from-requires : tie.Need-deltas-from-requires
+deltas-from-requires c κs = search needs
+
+deltas-from-requires-2 : tie.Need-deltas-from-requires-2
+deltas-from-requires-2 c κs = search needs
 
 returns : tie.Need-returns
 returns c =
-    let c-4 = c .before .before .before .before in
-    let b = c-4 in
-    let r = b .before .before .before .before in
-    let s = r .before .before in
-    booked-accepted (s .args .prompts) (s .args .table) _ _ _ _ _ _ (s .pre) (r .before .pools-of .ensures) (r .run .ensures) (b .paid-by .ensures)
+    let after-used = c .before in
+    let after-second = after-used .before in
+    let after-first = after-second .before in
+    let after-put-book = after-first .before in
+    let after-plain = after-put-book .before .before .before .before .before .before .before in
+    let s = after-plain .before .before .before in
+    let ends = after-put-book .put-book .last .1 .1 .1 .1 in
+    booked-lent (s .args .prompts) (s .args .table) (after-plain .plain .result) (ends .0) (ends .1 .0) (ends .1 .1 .0) (ends .1 .1 .1 .0) _ _ _ _
+    (after-plain .plain .ensures) (after-first .spreads-from .ensures)
+    (after-second .spreads-from2 .ensures) (after-used .deltas-from .ensures) (c .deltas-from2 .ensures) (after-put-book .put-book .ensures)
 
 pub book-of-accepted-spec : {M : Type 1} → statement M
 book-of-accepted-spec =
-    tie.close (tie.spec pools-of-requires run-requires paid-by-requires returns)
+    tie.close
+    (tie.spec
+    plain-requires
+    put-book-requires
+    spreads-from-requires
+    spreads-from-requires-2
+    deltas-from-requires
+    deltas-from-requires-2
+    returns)

@@ -3,28 +3,30 @@
 use Prim.Native.Nat.{ℕ, _-_, _≤_}
 use native.Mathlib.Omega.{arith}
 use mathlib.Core.Bool.{true, false}
-use mathlib.Core.List.{[]}
+use mathlib.Core.List.{List, []}
 use mathlib.Core.Logic.{⊎-elim}
-use mathlib.Core.Path.{_≡_, sym, _∙_}
-use lib.ListN.{length, length-map, getD}
+use mathlib.Core.Path.{_≡_, sym, _∙_, subst⁻¹}
+use lib.ListN.{length, length-map, getD, replicate}
 use borrow.Author.Needs.{needs}
 use Rattle.spread.specs.Accepted.{spreadsOf, soundSpread, spreadPlaces}
-use Rattle.spread.specs.code.Cells.{Small, Taken}
+use Rattle.spread.specs.code.Cells.{Small}
+use Rattle.spread.specs.code.Lent.{spreadsFrom}
 use Rattle.spread.specs.Steps.{stepOf}
 use Rattle.spread.specs.declared.Spread.{Spread}
 use Rattle.spread.specs.declared.Table.{Table}
 use Rattle.spread.proofs.Bounds.{small-taken}
-use Rattle.spread.proofs.Nothing.{taken-now, taken-none}
-use Rattle.spread.proofs.Running.{table-length, table-few, table-at, table-next, Running, running-none, running-all}
+use Rattle.spread.proofs.Nothing.{Written, written-now, written-none}
+use Rattle.spread.proofs.Running.{table-length, table-few, table-at, table-next, none-yet, Running, running-none, running-all}
 use Rattle.spread.proofs.book.run.Statement.{statement}
 use Rattle.spread.proofs.book.run.Tie as tie
 
 abbrev Inv-loop : tie.InvT-loop
-Inv-loop table n left₀ ran₀ i₀ left ran i =
-    (i ≤ n) × (n ≤ spreadPlaces) × Small (left .cell) × Running (left₀ .cell) (spreadsOf table) i (left .cell) (ran .first) (ran .second)
+Inv-loop first₀ second₀ table n left₀ i₀ first second left i =
+    (i ≤ n) × (n ≤ spreadPlaces) × Small (left .cell)
+    × Running (left₀ .cell) (spreadsOf table) i (left .cell) (spreadsFrom first) (spreadsFrom second)
 
 abbrev μ-loop : tie.MeasureT-loop
-μ-loop table n left₀ ran₀ i₀ left ran i = n - i
+μ-loop first₀ second₀ table n left₀ i₀ first second left i = n - i
 
 abbrev spread-at : Table → ℕ → Spread
 spread-at t i = getD (t .spread) i (record { legs = 0; leg = []; tenths = false })
@@ -38,33 +40,49 @@ here c = let s = c .before .before in table-at (s .args .t2) (c .before .loop .i
 
 -- the steps of a turn, each taken or left out
 first-step : (c : tie.Joined1 Inv-loop μ-loop)
-    → let l = c .before .before .before .before .before .before .before .loop in
-    let t = c .before .before .before .before .before .before .before .before .args .t2 in
-    Taken (stepOf false (spread-at t (l .i))) (l .left .cell) (c .if1 .left .cell) (c .if1 .formed .0)
+    → let after-loop = c .before .before .before .before .before .before .before in
+    let l = after-loop .loop in
+    Written (stepOf false (spread-at (after-loop .before .args .t2) (l .i))) (l .left .cell) (c .if1 .left .cell) (l .i) (l .first) (c .if1 .first)
 first-step c =
+    let after-loop = c .before .before .before .before .before .before .before in
+    let l = after-loop .loop in
     ⊎-elim
-    (λ w. taken-now _ _ _ _ _ _ (w .1 .ensures) (w .4) (w .5))
-    (λ w. taken-none _ _ _ _ (sym (c .before .has-room .ensures) ∙ w .0 .left) (w .1) (w .2))
+    (λ w. written-now _ _ _ _ _ _ _ _ (w .1 .ensures) (w .4) (w .3))
+    (λ w. written-none _ _ _ _ _ _ (sym (c .before .has-room .ensures) ∙ w .0 .left) (w .2) (w .1) (none-yet _ (l .i) (l .first) (l .inv .3 .firsts)))
     (c .if1 .came)
 
 second-step : (c : tie.Joined2 Inv-loop μ-loop)
-    → let l = c .before .before .before .before .before .before .before .before .before .before .before .before .loop in
-    let t = c .before .before .before .before .before .before .before .before .before .before .before .before .before .args .t2 in
-    Taken (stepOf true (spread-at t (l .i))) (c .before .before .before .before .before .if1 .left .cell) (c .if2 .left .cell) (c .if2 .reverse .0)
+    → let after-first = c .before .before .before .before .before in
+    let after-loop = after-first .before .before .before .before .before .before .before in
+    let l = after-loop .loop in
+    Written (stepOf true (spread-at (after-loop .before .args .t2) (l .i))) (after-first .if1 .left .cell) (c .if2 .left .cell)
+    (l .i) (l .second) (c .if2 .second)
 second-step c =
+    let after-first = c .before .before .before .before .before in
+    let after-loop = after-first .before .before .before .before .before .before .before in
+    let l = after-loop .loop in
     ⊎-elim
-    (λ w. taken-now _ _ _ _ _ _ (w .1 .ensures) (w .4) (w .5))
-    (λ w. taken-none _ _ _ _ (sym (c .before .has-room2 .ensures) ∙ w .0 .left) (w .1) (w .2))
+    (λ w. written-now _ _ _ _ _ _ _ _ (w .1 .ensures) (w .4) (w .3))
+    (λ w. written-none _ _ _ _ _ _ (sym (c .before .has-room2 .ensures) ∙ w .0 .left) (w .2) (w .1) (none-yet _ (l .i) (l .second) (l .inv .3 .seconds)))
     (c .if2 .came)
 
 -- what the first step leaves is small
 between : (c : tie.Joined1 Inv-loop μ-loop) → Small (c .if1 .left .cell)
 between c =
     let after-loop = c .before .before .before .before .before .before .before in
-    let l = after-loop .loop in small-taken _ (l .left .cell) _ _ (first-step c) (l .inv .2)
+    let l = after-loop .loop in small-taken _ (l .left .cell) _ _ (first-step c .taken) (l .inv .2)
 
 loop-holds : tie.Need-loop-holds Inv-loop μ-loop
-loop-holds c = (omega arith, table-few (c .args .t2) (c .pre .0), c .pre .1, running-none (c .args .pools .cell) (spreadsOf (c .args .t2)))
+loop-holds c =
+    let cells = c .args .pools .cell in
+    let ss = spreadsOf (c .args .t2) in (
+      omega arith,
+      table-few (c .args .t2) (c .pre .0),
+      c .pre .1 .0,
+      subst⁻¹ (λ (ns : List ℕ). Running cells ss 0 cells (spreadsFrom ns) (spreadsFrom (c .args .second .now))) (c .pre .1 .1 .0)
+          (subst⁻¹ (λ (ns : List ℕ). Running cells ss 0 cells (spreadsFrom (replicate spreadPlaces 0)) (spreadsFrom ns)) (c .pre .1 .1 .1)
+          (running-none cells ss)),
+    )
 
 mul-spread : tie.Need-mul-spread Inv-loop μ-loop
 mul-spread c = omega arith
@@ -77,28 +95,26 @@ has-room-requires c κs = (search needs, here (c .before .before .before .before
 
 take-requires : tie.Need-take-requires Inv-loop μ-loop
 take-requires c κs =
-    let c-6 = c .before .before .before .before .before .before in
-    let t = c-6 in (here t, t .before .loop .inv .2)
+    let t = c .before .before .before .before .before .before in (here t, t .before .loop .inv .2)
+
+mul-first : tie.Need-mul-first Inv-loop μ-loop
+mul-first c = omega arith
+
+element-write-first : tie.Need-element-write-first Inv-loop μ-loop
+element-write-first c = omega arith
 
 has-room-requires-2 : tie.Need-has-room-requires-2 Inv-loop μ-loop
 has-room-requires-2 c κs = (search needs, here (c .before .before .before .before .before .before .before .before .before))
 
 take-requires-2 : tie.Need-take-requires-2 Inv-loop μ-loop
 take-requires-2 c κs =
-    let c-5 = c .before .before .before .before .before in
-    let j = c-5 in (here (j .before .before .before .before .before .before), between j)
+    let j = c .before .before .before .before .before in (here (j .before .before .before .before .before .before), between j)
 
-mul-formed : tie.Need-mul-formed Inv-loop μ-loop
-mul-formed c = omega arith
+mul-second : tie.Need-mul-second Inv-loop μ-loop
+mul-second c = omega arith
 
-element-set-from-formed : tie.Need-element-set-from-formed Inv-loop μ-loop
-element-set-from-formed c = omega arith
-
-mul-reverse : tie.Need-mul-reverse Inv-loop μ-loop
-mul-reverse c = omega arith
-
-element-set-from-reverse : tie.Need-element-set-from-reverse Inv-loop μ-loop
-element-set-from-reverse c = omega arith
+element-write-second : tie.Need-element-write-second Inv-loop μ-loop
+element-write-second c = omega arith
 
 add-i : tie.Need-add-i Inv-loop μ-loop
 add-i c = omega arith
@@ -108,25 +124,24 @@ loop-less c = omega arith
 
 loop-again : tie.Need-loop-again Inv-loop μ-loop
 loop-again c =
-    let c-5 = c .before .before .before .before .before in
-    let j = c-5 in
-    let l = j .before .before .before .before .before .before .before .loop in
-    let s = j .before .before .before .before .before .before .before .before in
-    let t = s .args .t2 in (
+    let j = c .before .before .before .before .before in
+    let after-test = j .before .before .before .before .before .before in
+    let l = after-test .before .loop in
+    let s = after-test .before .before in (
       omega arith,
       l .inv .1,
-      small-taken _ _ _ _ (second-step c) (between j),
-      table-next t (s .args .pools .cell) (l .i) (l .left .cell) _ _ (l .ran .first) (l .ran .second) _ _ _ (spreads s) (l .inv .1)
-          (j .before .before .before .before .before .before .loop-test .taken)
-          (first-step j) (second-step c) (l .inv .3),
+      small-taken _ _ _ _ (second-step c .taken) (between j),
+      table-next (s .args .t2) (s .args .pools .cell) (l .i) (l .left .cell) _ _ (l .first) (l .second) _ _ _ (spreads s) (l .inv .1)
+          (after-test .loop-test .taken) (first-step j) (second-step c) (l .inv .3),
     )
 
 returns : tie.Need-returns Inv-loop μ-loop
-returns c = let s = c .before .before in
-    let t = s .args .t2 in
+returns c =
     let l = c .before .loop in
+    let s = c .before .before in
+    let t = s .args .t2 in
     let n = table-length t (spreads s) (l .inv .1) in
-    running-all (s .args .pools .cell) (spreadsOf t) (l .i) (l .left .cell) (l .ran .first) (l .ran .second) (omega arith) (l .inv .3)
+    running-all (s .args .pools .cell) (spreadsOf t) (l .i) (l .left .cell) (spreadsFrom (l .first)) (spreadsFrom (l .second)) (omega arith) (l .inv .3)
 
 pub run-spec : {M : Type 1} → statement M
 run-spec =
@@ -139,12 +154,12 @@ run-spec =
     element-copy-out-spread
     has-room-requires
     take-requires
+    mul-first
+    element-write-first
     has-room-requires-2
     take-requires-2
-    mul-formed
-    element-set-from-formed
-    mul-reverse
-    element-set-from-reverse
+    mul-second
+    element-write-second
     add-i
     loop-less
     loop-again

@@ -10,7 +10,7 @@ use Rattle.spread.proofs.pools.formed.Statement.{statement}
 use Rattle.spread.proofs.pools.formed.Tie as tie
 
 legs : (s : tie.Start) → length (s .args .t2 .leg) ≡ 3
-legs s = sym (length-map (s .args .t2 .leg) _) ∙ s .good .1 .0 .1 .1 .1 .0 .1 .0 .1
+legs s = sym (length-map (s .args .t2 .leg) _) ∙ s .good .1 .0 .1 .1 .1 .1 .0 .1 .0 .1
 
 element-copy-out-room-for : tie.Need-element-copy-out-room-for
 element-copy-out-room-for c = search needs

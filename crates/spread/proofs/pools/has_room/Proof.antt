@@ -11,7 +11,7 @@ use Rattle.spread.proofs.pools.has_room.Statement.{statement}
 use Rattle.spread.proofs.pools.has_room.Tie as tie
 
 legs : (s : tie.Start) → length (s .args .t2 .leg) ≡ 3
-legs s = sym (length-map (s .args .t2 .leg) _) ∙ s .good .1 .0 .1 .1 .1 .0 .1 .0 .1
+legs s = sym (length-map (s .args .t2 .leg) _) ∙ s .good .1 .0 .1 .1 .1 .1 .0 .1 .0 .1
 
 element-copy-out-pool-for : tie.Need-element-copy-out-pool-for
 element-copy-out-pool-for c = search needs

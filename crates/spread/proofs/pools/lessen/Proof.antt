@@ -9,7 +9,7 @@ use Rattle.spread.proofs.pools.lessen.Statement.{statement}
 use Rattle.spread.proofs.pools.lessen.Tie as tie
 
 legs : (s : tie.Start) → length (s .args .t2 .leg) ≡ 3
-legs s = sym (length-map (s .args .t2 .leg) _) ∙ s .good .1 .0 .1 .1 .1 .0 .1 .0 .1
+legs s = sym (length-map (s .args .t2 .leg) _) ∙ s .good .1 .0 .1 .1 .1 .1 .0 .1 .0 .1
 
 element-copy-out-less : tie.Need-element-copy-out-less
 element-copy-out-less c = search needs

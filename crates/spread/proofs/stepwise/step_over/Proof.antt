@@ -1,15 +1,50 @@
 -- `step_over`: what is refused takes nothing; what is accepted has what the pools, the take and the spend give.
 -- Assumes nothing.
-use mathlib.Core.Path.{_≡_, sym, _∙_}
+use mathlib.Core.Bool.{true}
+use mathlib.Core.Path.{_≡_, refl, sym, _∙_, ap, subst, subst⁻¹}
 use lib.ListN.{length, length-map}
 use borrow.Author.Needs.{needs}
 use borrow.Author.Tests.{not-true, not-false}
-use Rattle.spread.specs.Accepted.{soundPrompts, soundSpread, promptPlaces}
+use Rattle.spread.specs.Accepted.{openOf, soundPrompts, soundSpread, promptPlaces}
+use Rattle.spread.specs.Uses.{soundFor}
+use Rattle.spread.specs.code.Book.{Spent}
+use Rattle.spread.specs.code.Cells.{Pooled}
+use Rattle.spread.specs.code.Lent.{promptsIn}
+use Rattle.spread.specs.declared.Prompts.{Prompts}
 use Rattle.spread.proofs.Both.{and-left, and-right}
 use Rattle.spread.proofs.Bounds.{pooled-small}
+use Rattle.spread.proofs.Lent.{prompts-back}
 use Rattle.spread.proofs.Stepping.{stepped-refused, stepped-accepted}
 use Rattle.spread.proofs.stepwise.step_over.Statement.{statement}
 use Rattle.spread.proofs.stepwise.step_over.Tie as tie
+
+-- prompts that are accepted, and their plain numbers
+module _ (c : tie.After-plain) where
+  abbrev given : Prompts
+  given = c .before .before .before .before .before .args .prompts
+
+  abbrev lent : Prompts
+  lent = promptsIn (given .count) (given .tier) (c .plain .result)
+
+  same : lent ≡ given
+  same = prompts-back given (c .plain .result) (c .plain .ensures)
+
+  both : soundFor given (c .before .before .before .before .before .args .spread) ≡ true
+  both = sym (c .before .before .before .before .can-step .ensures) ∙ not-false _ (c .before .before .before .if1 .left)
+
+  sound-lent : soundPrompts lent ≡ true
+  sound-lent =
+      subst⁻¹ (λ (p : Prompts). soundPrompts p ≡ true) same
+      (and-left (soundPrompts given) (soundSpread (c .before .before .before .before .before .args .spread)) both)
+
+  tiers : length (given .tier) ≡ promptPlaces
+  tiers = let s = c .before .before .before .before .before in sym (length-map (given .tier) _) ∙ s .good .0 .1 .1 .1 .0 .1 .0 .1
+
+  nets : length (given .net) ≡ promptPlaces
+  nets = let s = c .before .before .before .before .before in sym (length-map (given .net) _) ∙ s .good .0 .1 .1 .1 .1 .0 .1 .0 .1
+
+  numbers : length (c .plain .result) ≡ promptPlaces
+  numbers = ap length (c .plain .ensures) ∙ length-map (given .net) _ ∙ nets
 
 can-step-requires : tie.Need-can-step-requires
 can-step-requires c κs = search needs
@@ -19,53 +54,81 @@ not-taken-requires c κs = search needs
 
 returns : tie.Need-returns
 returns c =
-    let c-3 = c .before .before .before in
-    let s = c-3 in
+    let s = c .before .before .before in
     stepped-refused (s .args .prompts) (s .args .spread) (s .args .second) (c .not-taken .result)
     (sym (c .before .before .can-step .ensures) ∙ not-true _ (c .before .if1 .taken)) (c .not-taken .ensures)
 
+plain-requires : tie.Need-plain-requires
+plain-requires c κs = search needs
+
+slice-aggregate-pools-of : tie.Need-slice-aggregate-pools-of
+slice-aggregate-pools-of c = search needs
+
+slice-aggregate-pools-of-2 : tie.Need-slice-aggregate-pools-of-2
+slice-aggregate-pools-of-2 c = search needs
+
 pools-of-requires : tie.Need-pools-of-requires
-pools-of-requires c κs =
-    let s = c .before .before in
-    and-left (soundPrompts (s .args .prompts)) (soundSpread (s .args .spread)) (sym (c .before .can-step .ensures) ∙ not-false _ (c .if1 .left))
+pools-of-requires c κs = let p = c .before .before in (sound-lent p, (tiers p, numbers p))
 
 take-requires : tie.Need-take-requires
 take-requires c κs =
-    let c-3 = c .before .before .before in
-    let s = c-3 in
-    let q = s .args .prompts in
-    let lt : length (q .tier) ≡ promptPlaces = sym (length-map (q .tier) _) ∙ s .good .0 .1 .1 .1 .0 .1 .0 .1 in
-    let ln : length (q .net) ≡ promptPlaces = sym (length-map (q .net) _) ∙ s .good .0 .1 .1 .1 .1 .0 .1 .0 .1 in
-    let e = sym (c .before .before .can-step .ensures) ∙ not-false _ (c .before .if1 .left) in (
-      and-right (soundPrompts q) (soundSpread (s .args .spread)) e,
-      pooled-small q _ lt ln (and-left (soundPrompts q) (soundSpread (s .args .spread)) e) (c .pools-of .ensures),
+    let p = c .before .before .before in
+    let s = p .before .before .before .before .before in (
+      and-right (soundPrompts (given p)) (soundSpread (s .args .spread)) (both p),
+      pooled-small (lent p) _ (tiers p) (length-map (p .plain .result) _ ∙ numbers p) (sound-lent p) (c .pools-of .ensures),
     )
 
-paid-by-requires : tie.Need-paid-by-requires
-paid-by-requires c κs =
-    let after-take = c .before .before .before .before in
-    let c-6 = after-take .before .before in
-    let b = c-6 in
-    let s = b .before .before in
+slice-aggregate-pay : tie.Need-slice-aggregate-pay
+slice-aggregate-pay c = search needs
+
+slice-aggregate-pay-2 : tie.Need-slice-aggregate-pay-2
+slice-aggregate-pay-2 c = search needs
+
+pay-requires : tie.Need-pay-requires
+pay-requires c κs =
+    let after-take = c .before .before .before .before .before .before .before .before .before in
+    let p = after-take .before .before .before .before in
     let t = after-take .take in (
-      and-left (soundPrompts (s .args .prompts)) (soundSpread (s .args .spread)) (sym (b .before .can-step .ensures) ∙ not-false _ (b .if1 .left)),
-      sym (length-map (t .result .left .cell) _) ∙ t .ok .1 .1 .0 .1 .1 .0 .1 .0 .1,
+      sound-lent p,
+      ((tiers p, numbers p), (sym (length-map (t .result .left .cell) _) ∙ t .ok .1 .1 .0 .1 .1 .0 .1 .0 .1, (refl, refl))),
     )
+
+deltas-from-requires : tie.Need-deltas-from-requires
+deltas-from-requires c κs = search needs
+
+deltas-from-requires-2 : tie.Need-deltas-from-requires-2
+deltas-from-requires-2 c κs = search needs
 
 returns-2 : tie.Need-returns-2
 returns-2 c =
-    let c-4 = c .before .before .before .before in
-    let b = c-4 in
-    let t = b .before .before .before .before .before in
-    let p = t .before in
-    let s = p .before .before .before in
-    let q = s .args .prompts in
-    let lt : length (q .tier) ≡ promptPlaces = sym (length-map (q .tier) _) ∙ s .good .0 .1 .1 .1 .0 .1 .0 .1 in
-    let ln : length (q .net) ≡ promptPlaces = sym (length-map (q .net) _) ∙ s .good .0 .1 .1 .1 .1 .0 .1 .0 .1 in
-    stepped-accepted q (s .args .spread) (s .args .second) (sym (p .before .before .can-step .ensures) ∙ not-false _ (p .before .if1 .left)) lt ln _ _ _ _ _
-    (p .pools-of .ensures) (t .take .ensures) (b .paid-by .ensures)
+    let after-used = c .before in
+    let after-pay = after-used .before in
+    let after-take = after-pay .before .before .before .before .before .before .before .before .before .before in
+    let after-pools-of = after-take .before in
+    let p = after-pools-of .before .before .before in
+    let s = p .before .before .before .before .before in
+    let cells = after-pools-of .pools-of .result .cell in
+    let spent = after-pay .pay .ensures in
+    stepped-accepted (given p) (s .args .spread) (s .args .second) (both p) (tiers p) (nets p) _ _ _ _ _
+    (subst (λ (q : Prompts). Pooled cells (openOf q)) (same p) (after-pools-of .pools-of .ensures)) (after-take .take .ensures)
+    (subst (λ (q : Prompts). Spent cells (after-take .take .result .left .cell) (openOf q) (after-used .deltas-from .result) (c .deltas-from2 .result)) (same p)
+    (record { useds = after-used .deltas-from .ensures ∙ spent .useds; unuseds = c .deltas-from2 .ensures ∙ spent .unuseds }))
 
 pub step-over-spec : {M : Type 1} → statement M
 step-over-spec =
     tie.close
-    (tie.spec can-step-requires not-taken-requires returns pools-of-requires take-requires paid-by-requires returns-2)
+    (tie.spec
+    can-step-requires
+    not-taken-requires
+    returns
+    plain-requires
+    slice-aggregate-pools-of
+    slice-aggregate-pools-of-2
+    pools-of-requires
+    take-requires
+    slice-aggregate-pay
+    slice-aggregate-pay-2
+    pay-requires
+    deltas-from-requires
+    deltas-from-requires-2
+    returns-2)

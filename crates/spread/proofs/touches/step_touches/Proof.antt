@@ -59,7 +59,7 @@ returns-2 c =
     let second = third .before .before .before .before .before .before .before .before in
     let first = second .before .before .before .before .before .before .before .before in
     let s = first .before .before .before .before .before .before .before .before .before .before .before in
-    let l : length (s .args .t4 .leg) ≡ 3 = sym (length-map (s .args .t4 .leg) _) ∙ s .good .1 .1 .1 .0 .1 .1 .1 .0 .1 .0 .1 in
+    let l : length (s .args .t4 .leg) ≡ 3 = sym (length-map (s .args .t4 .leg) _) ∙ s .good .1 .1 .1 .0 .1 .1 .1 .1 .0 .1 .0 .1 in
     step-taken (s .args .second) (s .args .t4) _ _ _ (three _ (s .args .t4 .leg) l) (s .args .number) (s .args .pool .now)
     (s .args .size .now) _ _ _ _ _ _ _ _ _ _ _ _
     (first .before .wanted-by .ensures) (second .before .wanted-by2 .ensures) (third .before .wanted-by3 .ensures)

@@ -1,6 +1,6 @@
 -- An account that stands in one file, joined with an empty noon file, of which the check hands out nothing.
 -- Assumes nothing.
-use Prim.Native.Nat.{ℕ, _%_, _<_}
+use Prim.Native.Nat.{ℕ, _%_, _≤_, _<_}
 use native.Mathlib.Omega.{arith}
 use mathlib.Core.Path.{_≡_, refl, sym, ap, _∙_, subst, subst⁻¹}
 use mathlib.Core.Bool.{Bool, true, false, not, _&&_, cond}
@@ -18,17 +18,18 @@ use Rattle.account.specs.declared.answers.Answer.{Answer}
 use Rattle.account.specs.PartNumbers.{parts, entryPart, part}
 use Rattle.account.specs.Parts.{ratesOf}
 use Rattle.account.specs.Records.{records, recordCount}
-use Rattle.account.specs.code.Standing.{lists, fromNoon, eitherNote, Filled, Flagged, JoinedBy, AloneBy, Places, Stands, CheckedBy}
+use Rattle.account.specs.code.Standing.{lists, listedIn, fromNoon, eitherNote, Filled, Flagged, JoinedBy, AloneBy, Places, Stands, CheckedBy}
 use Rattle.account.specs.Joined.{accountOf}
-use Rattle.account.specs.code.Surveyed.{Surveyed}
+use Rattle.account.specs.code.Surveyed.{Surveyed, Empty, Tallied}
 use Rattle.account.specs.declared.answers.Answer.the-variants.{Accepted}
 use Rattle.account.specs.declared.check.Survey.{Survey}
 use Rattle.account.specs.declared.accounts.Account.{Account}
-use Rattle.account.proofs.Going.{same-survey}
+use Rattle.account.proofs.Going as Going
+use Rattle.account.proofs.Going.{same-survey, tallied-as}
 use Rattle.account.proofs.AcceptedOnly.{accepted-only}
 use Rattle.account.proofs.RateLaws.{lawful-of, no-other-row}
 use Rattle.account.proofs.Lawful.{recorded}
-use Rattle.account.proofs.Places.{alone, alone-recorded, records-are, places}
+use Rattle.account.proofs.Places.{alone, alone-recorded, listed-few, records-are, places}
 use Rattle.account.proofs.Walk.{length-cut}
 
 abbrev zeros : List ℕ
@@ -63,7 +64,7 @@ none-supplied v = ap (λ (t : Bool). ltb v entryPart && t) (none-listed (v % mos
 noted : (xs : List ℕ) → length xs ≡ parts → Filled parts (eitherNote xs zeros zeros) xs
 noted xs l = record { long = l; each = λ v h. sym (ap (λ (t : Bool). cond t (getD zeros v 0) (getD xs v 0)) (none-supplied v)) }
 
-module _ (file : List ℕ) (s : Survey) (k : ℕ) (j : Account) (sv : Surveyed file s) (by : AloneBy s k j) where
+module _ (file : List ℕ) (s : Survey) (k : ℕ) (j : Account) (sv : Surveyed file s) (by : AloneBy (s .first) (s .counts) k j) where
   -- the same with the records added up from the parts
   added : Account
   added = record { records = sum (j .counts); contracts = j .contracts; numbers = j .numbers; noon = j .noon; first = j .first; counts = j .counts }
@@ -113,7 +114,7 @@ module _ (file : List ℕ) (a : Answer) (e : a ≡ recordsChecked file) where
   refused-there d = e ∙ sym (records-refused file (λ z. d (ap numberOf e ∙ z)))
 
   -- no row is in another currency
-  pub none-other : numberOf a ≡ 0 → any otherRow (records file) ≡ false → a ≡ checked file
+  none-other : numberOf a ≡ 0 → any otherRow (records file) ≡ false → a ≡ checked file
   none-other z none =
       let ok = accepted-only (recordsChecked file) (ap numberOf (sym e) ∙ z) in
       e ∙ ok ∙ sym (records-decide file ok ∙ no-other-row (ratesOf (records file)) 0 (records file) none)
@@ -138,7 +139,7 @@ pub lawful : (file : List ℕ) → checked file ≡ Accepted → Lawful (records
 lawful file ok = let p = passes file ok in lawful-of (records file) (recorded file (p .recorded)) (p .rated)
 
 -- what the check of a file hands out
-module _ (file : List ℕ) (s : Survey) (j : Account) (sv : Surveyed file s) (by : AloneBy s (recordCount file) j) where
+module _ (file : List ℕ) (s : Survey) (j : Account) (sv : Surveyed file s) (by : AloneBy (s .first) (s .counts) (recordCount file) j) where
   alone-stands : checked file ≡ Accepted → (none : List ℕ) → none ≡ [] → Stands file none j
   alone-stands ok none z =
       let p = passes file ok in
@@ -147,22 +148,51 @@ module _ (file : List ℕ) (s : Survey) (j : Account) (sv : Surveyed file s) (by
         places = alone-places file s (recordCount file) j sv by (p .recorded) refl none z;
       }
 
-  pub checked-alone : (a : Answer) → a ≡ checked file → CheckedBy file (record { answer = a; account = j })
+  checked-alone : (a : Answer) → a ≡ checked file → CheckedBy file (record { answer = a; account = j })
   checked-alone a e =
       record {
         answer-is = e;
-        alone-by = λ s′ sv′. subst (λ (x : Survey). AloneBy x (recordCount file) j) (same-survey file s s′ sv sv′) by;
+        alone-by = λ s′ sv′. subst (λ (x : Survey). AloneBy (x .first) (x .counts) (recordCount file) j) (same-survey file s s′ sv sv′) by;
         stands = alone-stands;
       }
 
-  -- the records are accepted: the rates are looked at
-  module _ (z : numberOf (s .answer) ≡ 0) where
-    accepted-alone : recordsChecked file ≡ Accepted
-    accepted-alone = accepted-only (recordsChecked file) (ap numberOf (sym (sv .answer)) ∙ z)
+-- a refused file: nothing is noted
+pub checked-refused :
+    (file : List ℕ) (a : Answer) (n : ℕ) (j : Account) → a ≡ recordsChecked file → (numberOf a ≡ 0 → ⊥) → n ≡ recordCount file
+    → AloneBy zeros zeros n j → CheckedBy file (record { answer = a; account = j })
+checked-refused file a n j e d m by =
+    let s : Survey = record { answer = a; contracts = 0; first = zeros; counts = zeros } in
+    let none : Empty a s = record { answer = refl; contracts = refl; first = refl; counts = refl } in
+    checked-alone file s j (Going.nothing file a s (sym e) d none) (subst (λ (k : ℕ). AloneBy zeros zeros k j) m by) a (refused-there file a e d)
 
+-- the records are accepted: the rates are looked at, by what is noted
+pub tallied-accepted :
+    {file first counts : List ℕ} {a : Answer} {contracts : ℕ} → Tallied file a contracts first counts → numberOf a ≡ 0
+    → Tallied file Accepted contracts first counts
+tallied-accepted {file} {first} {counts} {a} {contracts} t z = tallied-as (sym (accepted-only a z)) t
+
+module _ (file : List ℕ) (contracts : ℕ) (first counts : List ℕ) (t : Tallied file Accepted contracts first counts) where
+  abbrev its : Survey
+  its = record { answer = Accepted; contracts = contracts; first = first; counts = counts }
+
+  sv : Surveyed file its
+  sv = t .accepted refl
+
+  ok : recordsChecked file ≡ Accepted
+  ok = sym (t .answer-is)
+
+  pub few-listed : length (listedIn counts) ≤ contracts
+  few-listed = listed-few file its sv ok
+
+  pub no-rates-asked : any otherRow (records file) ≡ false → Accepted ≡ checked file
+  no-rates-asked none = none-other file Accepted (t .answer-is) refl none
+
+  module _ (n : ℕ) (j : Account) (e : n ≡ recordCount file) (by : AloneBy first counts n j) where
     pub rated-alone : (none : List ℕ) → none ≡ [] → Places file none j × Recorded (accountOf file none)
-    rated-alone none e =
-        (alone-places file s (recordCount file) j sv by accepted-alone refl none e, alone-recorded file none e accepted-alone)
+    rated-alone none z = (alone-places file its n j sv by ok e none z, alone-recorded file none z ok)
 
     pub rates-alone : (none : List ℕ) → none ≡ [] → ratesChecked (accountOf file none) ≡ checked file
-    rates-alone none e = ap ratesChecked (alone file none e accepted-alone) ∙ sym (records-decide file accepted-alone)
+    rates-alone none z = ap ratesChecked (alone file none z ok) ∙ sym (records-decide file ok)
+
+    pub checked-noted : (a : Answer) → a ≡ checked file → CheckedBy file (record { answer = a; account = j })
+    checked-noted = checked-alone file its j sv (subst (λ (k : ℕ). AloneBy first counts k j) e by)

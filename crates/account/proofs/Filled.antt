@@ -1,14 +1,16 @@
 -- Arrays filled place by place: the notes of a joined account.
 -- Assumes nothing.
-use Prim.Native.Nat.{ℕ, zero, suc, _+_, _-_, _<_}
+use Prim.Native.Nat.{ℕ, zero, suc, _+_, _-_, _≤_, _<_}
 use native.Mathlib.Nat.{le-of-suc-le-suc, not-suc-le-zero}
 use native.Mathlib.Decide.{ℕ-discrete}
 use native.Mathlib.Omega.{arith}
 use mathlib.Core.Path.{_≡_, refl, sym, ap, ap₂, _∙_}
-use mathlib.Core.Bool.{Bool, true, false, cond}
+use mathlib.Core.Bool.{Bool, true, false, _&&_, cond}
 use mathlib.Core.List.{List, [], _∷_, _++_, append-nil}
-use lib.ListN.{length, getD, take, drop, set, replicate}
+use lib.Dec.{ltb}
+use lib.ListN.{length, getD, take, drop, set, replicate, length-append}
 use lib.Seq.{getD-set-same, getD-set-other}
+use borrow.Author.Tests.{ltb-false}
 use Rattle.exact.specs.Lists.{consIf, keep, oneIf, sum}
 use Rattle.record.specs.Bytes.{countFrom}
 
@@ -25,16 +27,55 @@ take-next [] n x h = absurd (not-suc-le-zero h)
 take-next (y ∷ xs) zero x h = refl
 take-next (y ∷ xs) (suc n) x h = ap (λ (ys : List ℕ). y ∷ ys) (take-next xs n x (le-of-suc-le-suc h))
 
+put-before : (t : Bool) (x : ℕ) (xs ys : List ℕ) → consIf t x (xs ++ ys) ≡ consIf t x xs ++ ys
+put-before true x xs ys = refl
+put-before false x xs ys = refl
+
+-- the first n numbers and those after them
+keep-parts : (p : ℕ → Bool) (from n m : ℕ) → keep p (countFrom from (n + m)) ≡ keep p (countFrom from n) ++ keep p (countFrom (from + n) m)
+keep-parts p from zero m =
+    let e : 0 + m ≡ m = omega arith in
+    let z : from ≡ from + 0 = omega arith in
+    ap (λ (k : ℕ). keep p (countFrom from k)) e ∙ ap (λ (k : ℕ). keep p (countFrom k m)) z
+keep-parts p from (suc n) m =
+    let e : suc n + m ≡ suc (n + m) = omega arith in
+    let d : from + 1 + n ≡ from + suc n = omega arith in
+    ap (λ (k : ℕ). keep p (countFrom from k)) e
+    ∙ ap (consIf (p from) from) (keep-parts p (from + 1) n m ∙ ap (λ (k : ℕ). keep p (countFrom (from + 1) n) ++ keep p (countFrom k m)) d)
+    ∙ put-before (p from) from (keep p (countFrom (from + 1) n)) (keep p (countFrom (from + suc n) m))
+
 keep-next : (p : ℕ → Bool) (from n : ℕ) → keep p (countFrom from (suc n)) ≡ keep p (countFrom from n) ++ consIf (p (from + n)) (from + n) []
-keep-next p from zero = let e : from ≡ from + 0 = omega arith in ap (λ (k : ℕ). consIf (p k) k []) e
-keep-next p from (suc n) =
-    let e : from + 1 + n ≡ from + suc n = omega arith in
-    ap (consIf (p from) from) (keep-next p (from + 1) n ∙ ap (λ (k : ℕ). keep p (countFrom (from + 1) n) ++ consIf (p k) k []) e)
-    ∙ first (p from) from (keep p (countFrom (from + 1) n)) (consIf (p (from + suc n)) (from + suc n) [])
+keep-next p from n = let e : suc n ≡ n + 1 = omega arith in ap (λ (k : ℕ). keep p (countFrom from k)) e ∙ keep-parts p from n 1
+
+pub kept-few : (p : ℕ → Bool) (from n : ℕ) → length (keep p (countFrom from n)) ≤ n
+kept-few p from zero = omega arith
+kept-few p from (suc n) = go (p from) (kept-few p (from + 1) n)
   where
-    first : (t : Bool) (x : ℕ) (xs ys : List ℕ) → consIf t x (xs ++ ys) ≡ consIf t x xs ++ ys
-    first true x xs ys = refl
-    first false x xs ys = refl
+    go : (t : Bool) → length (keep p (countFrom (from + 1) n)) ≤ n → length (consIf t from (keep p (countFrom (from + 1) n))) ≤ suc n
+    go true h = omega arith
+    go false h = omega arith
+
+no-length : (xs : List ℕ) → length xs ≡ 0 → xs ≡ []
+no-length [] e = refl
+no-length (x ∷ xs) e = absurd (omega (arith, e))
+
+-- as many are found as there are, or all are looked at
+module _ (p : ℕ → Bool) (most n c m : ℕ) (many : n ≡ length (keep p (countFrom 0 c))) (h : c ≤ m) (few : length (keep p (countFrom 0 m)) ≤ most) where
+  pub all-found : ltb n most && ltb c m ≡ false → keep p (countFrom 0 c) ≡ keep p (countFrom 0 m)
+  all-found stop =
+      sym (whole ∙ ap (λ (ys : List ℕ). keep p (countFrom 0 c) ++ ys) (no-length later (go (ltb n most) refl)) ∙ append-nil (keep p (countFrom 0 c)))
+    where
+      later : List ℕ
+      later = keep p (countFrom (0 + c) (m - c))
+
+      whole : keep p (countFrom 0 m) ≡ keep p (countFrom 0 c) ++ later
+      whole = let e : m ≡ c + (m - c) = omega arith in ap (λ (k : ℕ). keep p (countFrom 0 k)) e ∙ keep-parts p 0 c (m - c)
+
+      go : (t : Bool) → ltb n most ≡ t → length later ≡ 0
+      go true e =
+          let l = ltb-false c m (ap (λ (b : Bool). b && ltb c m) (sym e) ∙ stop) in
+          omega (arith, kept-few p (0 + c) (m - c))
+      go false e = omega (arith, ltb-false n most e, ap length whole, length-append (keep p (countFrom 0 c)) later, many, few)
 
 drop-set : (xs : List ℕ) (n x : ℕ) → drop (suc n) (set xs n x) ≡ drop (suc n) xs
 drop-set [] zero x = refl

@@ -11,6 +11,7 @@ pub mod Noted
 pub mod Faults
 pub mod Verdict
 pub mod Going
+pub mod Legs
 pub mod Runs
 pub mod Exactly
 pub mod Every

@@ -7,7 +7,7 @@ use mathlib.Core.List.{List, _++_, map}
 use lib.ListN.{length, getD, replicate, length-map, take-append-drop}
 use lib.Seq.{ext-getD, length-take-le}
 use native.Mathlib.Omega.{arith}
-use Rattle.exact.specs.Lists.{keep, sum}
+use Rattle.exact.specs.Lists.{sum}
 use Rattle.exact.proofs.Lists.{getD-map}
 use Rattle.record.specs.Bytes.{countFrom}
 use Rattle.account.specs.Check.{recordsChecked, mostContracts}
@@ -15,7 +15,7 @@ use Rattle.account.specs.code.Determined.{Determined}
 use Rattle.account.specs.code.Pair.{PairBy}
 use Rattle.account.specs.PartNumbers.{parts, contractCount, partStart, partCount}
 use Rattle.account.specs.Records.{recordCount}
-use Rattle.account.specs.code.Standing.{lists, Filled, Flagged, Numbered, JoinedBy, AloneBy, CheckedBy}
+use Rattle.account.specs.code.Standing.{listedIn, Filled, Flagged, Numbered, JoinedBy, AloneBy, CheckedBy}
 use Rattle.account.specs.code.Surveyed.{Surveyed}
 use Rattle.account.specs.declared.check.Survey.{Survey}
 use Rattle.account.specs.declared.accounts.Account.{Account}
@@ -36,7 +36,7 @@ one-flagged counts xs ys a b =
 -- the numbers, and how many there are
 module _ (counts : List ℕ) where
   abbrev listed : List ℕ
-  listed = keep (lists counts) (countFrom 0 mostContracts)
+  listed = listedIn counts
 
   how-many : (n : ℕ) (xs : List ℕ) → Numbered counts n xs → n ≡ length listed
   how-many n xs a = sym (length-take-le n xs (omega (arith, a .long, a .few))) ∙ ap length (a .those)
@@ -74,8 +74,8 @@ one-joined m n j k a b =
       counts = counts i;
     }
 
-pub one-alone : (s : Survey) (records : ℕ) (j k : Account) → AloneBy s records j → AloneBy s records k → j ≡ k
-one-alone s records j k a b =
+pub one-alone : (first counts : List ℕ) (records : ℕ) (j k : Account) → AloneBy first counts records j → AloneBy first counts records k → j ≡ k
+one-alone first-noted counted records j k a b =
     let counts : j .counts ≡ k .counts = a .counts ∙ sym (b .counts) in
     let own = same-numbered j k counts (b .numbers) in
     λ i.
@@ -131,7 +131,7 @@ pub one-file : (file : List ℕ) (r s : Checked) → CheckedBy file r → Checke
 one-file file r s a b =
     let m = taken file in
     let account =
-    one-alone m (recordCount file) (r .account) (s .account) (a .alone-by m (surveyed file)) (b .alone-by m (surveyed file))
+    one-alone (m .first) (m .counts) (recordCount file) (r .account) (s .account) (a .alone-by m (surveyed file)) (b .alone-by m (surveyed file))
     in
     λ i. record { answer = (a .answer-is ∙ sym (b .answer-is)) i; account = account i }
 

@@ -20,7 +20,7 @@ use Rattle.account.specs.Lawful.{Recorded}
 use Rattle.account.specs.PartNumbers.{part, parts, inPart, partStart, partCount, entryPart, ratePart}
 use Rattle.account.specs.Parts.{ofKind, ofContract, contractsOf, entriesOf, ratesOf}
 use Rattle.account.specs.Records.{records, stretch}
-use Rattle.account.specs.code.Standing.{lists, fromNoon, JoinedBy, supplies, Places}
+use Rattle.account.specs.code.Standing.{lists, listedIn, fromNoon, JoinedBy, supplies, Places}
 use Rattle.account.specs.code.Surveyed.{Surveyed}
 use Rattle.account.specs.declared.answers.Answer.the-variants.{Accepted}
 use Rattle.account.specs.declared.check.Survey.{Survey}
@@ -67,6 +67,11 @@ module _ (v : ℕ) (low : v < mostContracts) where
 counted : (file : List ℕ) → recordsChecked file ≡ Accepted → (v : ℕ) → partCount file v ≡ count (inPart v) (records file)
 counted file ok v = if-accepted (recordsChecked file) (count (inPart v) (records file)) ok
 
+same-below :
+    (p q : ℕ → Bool) (a n : ℕ) → ((c : ℕ) → c < a + n → p c ≡ q c) → keep p (countFrom a n) ≡ keep q (countFrom a n)
+same-below p q a zero f = refl
+same-below p q a (suc n) f = rw (f a (omega arith), same-below p q (a + 1) n (λ c h. f c (omega arith)))
+
 -- which contracts are listed, by the counts
 lists-is :
     (counts : List ℕ) (rs : List Record) (c : ℕ) → c ≤ mostContract → getD counts (part 1 c) 0 ≡ count (inPart (part 1 c)) rs
@@ -75,6 +80,23 @@ lists-is counts rs c h e =
     ap (λ (i : ℕ). not (eqb i 0)) (e ∙ ap (λ (p : Record → Bool). count p rs) (part-is 1 c (omega arith) h))
     ∙ ap not (none-counted (ofContract 1 c) rs)
     ∙ Bool·not-not (listed c rs)
+
+-- as many contracts as an accepted file lists
+pub listed-few :
+    (file : List ℕ) (s : Survey) → Surveyed file s → recordsChecked file ≡ Accepted → length (listedIn (s .counts)) ≤ s .contracts
+listed-few file s sv ok =
+    let rs = records file in
+    let same =
+    same-below (lists (s .counts)) (λ c. listed c rs) 0 mostContracts
+    (λ c h. lists-is (s .counts) rs c (omega arith) (sv .counts (part 1 c) (omega arith) ∙ counted file ok (part 1 c)))
+    in
+    omega (
+      arith,
+      ap length (same ∙ sym (numbered rs (recorded file ok))),
+      length-map (contractsOf rs) contract,
+      length-kept (ofKind 1) rs,
+      sv .contracts ∙ if-accepted (recordsChecked file) (count (ofKind 1) rs) ok,
+    )
 
 from-noon : (counts : List ℕ) (k c : ℕ) → k ≤ 4 → c ≤ mostContract → fromNoon counts (part k c) ≡ lists counts c
 from-noon counts k c hk hc =
@@ -93,11 +115,6 @@ from-places f (x ∷ xs) a h =
     (λ v l.
     let d : a + suc v ≡ a + 1 + v = omega arith in
     h (suc v) (omega arith) ∙ ap f d))
-
-same-below :
-    (p q : ℕ → Bool) (a n : ℕ) → ((c : ℕ) → c < a + n → p c ≡ q c) → keep p (countFrom a n) ≡ keep q (countFrom a n)
-same-below p q a zero f = refl
-same-below p q a (suc n) f = rw (f a (omega arith), same-below p q (a + 1) n (λ c h. f c (omega arith)))
 
 -- ---- a part of either of two accepted files
 module _ (morning noon : List ℕ) (okm : recordsChecked morning ≡ Accepted) (okn : recordsChecked noon ≡ Accepted) where

@@ -13,27 +13,28 @@ use borrow.Author.Tests.{ltb-true, ltb-false, eqb-true, eqb-false, eq-eqb, ne-eq
 use Rattle.exact.specs.Lists.{any, oneIf}
 use Rattle.exact.proofs.Lists.{any-at, any-true, getD-map}
 use Rattle.record.specs.Bytes.{countFrom}
-use Rattle.record.specs.Layout.{Record, kind, contract, tier, day, legCount, twoLegs, legsOf, legTier, mostContract, mostTier}
+use Rattle.record.specs.Layout.{Record, kind, contract, tier, day, legCount, twoLegs, legsOf, legTier, secondContract, mostTier}
 use Rattle.record.specs.Ranges.{unknownKind, unusedByte, fieldOutside, sound}
 use Rattle.record.specs.Within.{SpreadWithin}
 use Rattle.record.proofs.Reading.{byte-past}
 use Rattle.record.proofs.Sound.{Sound, sound-known}
 use Rattle.record.proofs.Tests.{any-append, or-false, both}
-use Rattle.record.proofs.Within.{both-true, neither, row-within, spread-within, contract-known}
-use Rattle.account.specs.Check.{kindFalls, dayNotAbove, tierFalls, contractFalls, legsClash, outOfOrder, mostContracts, mostPrompts, mostRows}
-use Rattle.account.specs.Check.{mostSpreads}
-use Rattle.account.specs.PartNumbers.{part, parts}
+use Rattle.record.proofs.Within.{both-true, neither, row-within, spread-within, entry-within, contract-known}
+use Rattle.account.specs.Check.{kindFalls, dayNotAbove, tierFalls, contractFalls, outOfOrder, mostContracts, mostPrompts, mostRows}
+use Rattle.account.specs.Check.{withItself, mostSpreads, mostEntries}
+use Rattle.account.specs.PartNumbers.{part, parts, entryPart}
 use Rattle.account.specs.code.Notes.{partOf, oneMore, startNoted, noContract, noDay, noTier, unlistedBy, overLimitBy, faultBy, promptsNoted, beforeAt}
 use Rattle.account.specs.code.Notes.{faultAt}
 use Rattle.account.specs.Parts.{ofKind, onDay, onTier}
-use Rattle.account.specs.code.Passing.{DaysOf, hasDay, TiersOf, legUnlistedIn, promptPasses, rowPasses, spreadPasses, RunTo, partAtRecord, countedTo}
-use Rattle.account.specs.code.Passing.{PassesAt, Passes, After, Begins, Runs, NotedTo, StepBy}
+use Rattle.account.specs.code.Passing.{DaysOf, hasDay, TiersOf, legUnlistedIn, legsMeet, promptPasses, rowPasses, spreadPasses, entryPasses}
+use Rattle.account.specs.code.Passing.{RunTo, partAtRecord, countedTo, PassesAt, Passes, After, Begins, Runs, NotedTo, StepBy}
 use Rattle.account.specs.Records.{cut, recordAt, recordCount, records, stretch}
-use Rattle.account.proofs.Dispatch.{order-2, order-3, order-4, listed-2, listed-3, listed-4, limit-2, limit-3, limit-4}
+use Rattle.account.proofs.Dispatch.{order-2, order-3, order-4, order-5, listed-2, listed-3, listed-4, listed-5, limit-2, limit-3, limit-4, limit-5}
 use Rattle.account.proofs.Earlier.{cut-more}
 use Rattle.account.proofs.Firsts.{is-0}
+use Rattle.account.proofs.Legs.{or-true, or-off, legs-apart}
 use Rattle.account.proofs.Orders.{cut-at}
-use Rattle.account.proofs.Passed.{part-other}
+use Rattle.account.proofs.Passed.{part-entry, part-other}
 use Rattle.account.proofs.Walk.{before-is, length-cut}
 
 -- ---- the days of prompts, the first j of them so far
@@ -124,10 +125,6 @@ pub tiers-start : (prompts : List ℕ) → TiersTo prompts (replicate 256 false)
 tiers-start prompts =
     record { long = length-replicate {A = Bool} 256 false; each = λ t h. getD-replicate {A = Bool} 256 t false false h }
 
-or-true : (a : Bool) → a || true ≡ true
-or-true true = refl
-or-true false = refl
-
 pub tiers-next :
     {prompts : List ℕ} {listed : List Bool} {j : ℕ} → TiersTo prompts listed j → (u : ℕ) → u ≡ tier (recordAt prompts j)
     → u < 256 → TiersTo prompts (set listed u true) (j + 1)
@@ -176,9 +173,6 @@ run-next passes {k} {end} {i} s h e =
         s .each j l (omega arith)
 
 -- ---- a record that passes gets no fault
-or-off : {a b : Bool} → a ≡ false → b ≡ false → a || b ≡ false
-or-off p q = rw (p, q)
-
 and-off : (a : Bool) {b : Bool} → b ≡ false → a && b ≡ false
 and-off true q = q
 and-off false q = refl
@@ -187,34 +181,50 @@ part-of-sound : (n c : ℕ) (r : Record) → 2 ≤ n → n ≤ 4 → kind r ≡ 
 part-of-sound n c r low high k e =
     part-other r (λ z. omega arith) (λ z. omega arith) ∙ (λ i. mostContracts * k i + e i)
 
-known-kind : (n : ℕ) (r : Record) → 2 ≤ n → n ≤ 4 → kind r ≡ n → unknownKind r ≡ false
+known-kind : (n : ℕ) (r : Record) → 2 ≤ n → n ≤ 5 → kind r ≡ n → unknownKind r ≡ false
 known-kind n r low high k = rw (le-leb 1 (kind r) (omega arith), le-leb (kind r) 6 (omega arith))
 
-contract-small : (n c : ℕ) (r : Record) → 2 ≤ n → n ≤ 4 → Sound n c r → c ≤ mostContract
-contract-small n c r low high s =
-    let h = contract-known r (known-kind n r low high (s .kinds)) (s .within) in
+-- a sound record of a kind, in a part
+pub record SoundIn (n p : ℕ) (r : Record) : Type 0 where
+  pub kinds : kind r ≡ n
+  pub unused : unusedByte r ≡ false
+  pub within : fieldOutside r ≡ false
+  pub part-is : partOf r ≡ p
+  pub bound : p < parts
+
+sound-in : (n c : ℕ) (r : Record) → 2 ≤ n → n ≤ 4 → Sound n c r → SoundIn n (part n c) r
+sound-in n c r low high s =
+    let h = contract-known r (known-kind n r low (omega arith) (s .kinds)) (s .within) in
     let x = s .contracts in
-    omega arith
+    record {
+      kinds = s .kinds;
+      unused = s .unused;
+      within = s .within;
+      part-is = part-of-sound n c r low high (s .kinds) (s .contracts);
+      bound = omega arith;
+    }
 
 no-fault :
-    (n c : ℕ) (counts : List ℕ) (prompts : List Record) (before r : Record) → 2 ≤ n → n ≤ 4 → Sound n c r
+    (n p : ℕ) (counts : List ℕ) (prompts : List Record) (before r : Record) → 2 ≤ n → n ≤ 5 → SoundIn n p r
     → kindFalls before r ≡ false → unlistedBy counts prompts r ≡ false → outOfOrder before r ≡ false → overLimitBy counts r ≡ false
     → faultBy counts prompts before r ≡ 0
-no-fault n c counts prompts before r low high s b l o m =
+no-fault n p counts prompts before r low high s b l o m =
     let u = known-kind n r low high (s .kinds) in
     sym
     (is-0 (unknownKind r) (kindFalls before r) (unusedByte r) (fieldOutside r) (unlistedBy counts prompts r) (outOfOrder before r)
     (overLimitBy counts r) u b (s .unused) (s .within) l o m)
 
--- the records after record k, of its kind and contract, as far as each is sound
-pub record Following (n most : ℕ) (file counts : List ℕ) (k c : ℕ) (passes : ℕ → Bool) (i : ℕ) : Type 0 where
+-- the records after record k, of its kind and part, as far as each is sound
+pub record Alike (n most p : ℕ) (file counts : List ℕ) (k : ℕ) (passes : ℕ → Bool) (i : ℕ) : Type 0 where
   pub low : 2 ≤ n
-  pub high : n ≤ 4
-  pub after : After n file counts k c
-  pub soundAt : (j : ℕ) → passes j ≡ true → Sound n c (recordAt file j)
-  pub run : RunTo passes (k + 1) (min (k + 1 + (most - getD counts (part n c) 0)) (recordCount file)) i
+  pub high : n ≤ 5
+  pub sizes : length counts ≡ parts
+  pub kinds : kind (recordAt file k) ≡ n
+  pub here : partAtRecord file k ≡ p
+  pub soundAt : (j : ℕ) → passes j ≡ true → SoundIn n p (recordAt file j)
+  pub run : RunTo passes (k + 1) (min (k + 1 + (most - getD counts p 0)) (recordCount file)) i
 
-module _ {n most : ℕ} {file counts : List ℕ} {k c : ℕ} {passes : ℕ → Bool} {i : ℕ} (f : Following n most file counts k c passes i)
+module _ {n most p : ℕ} {file counts : List ℕ} {k : ℕ} {passes : ℕ → Bool} {i : ℕ} (f : Alike n most p file counts k passes i)
     (first : List ℕ) where
   abbrev countsAt : ℕ → List ℕ
   countsAt j = countedTo file counts k j
@@ -222,72 +232,48 @@ module _ {n most : ℕ} {file counts : List ℕ} {k c : ℕ} {passes : ℕ → B
   abbrev promptsAt : ℕ → List Record
   promptsAt j = promptsNoted file first (countsAt j) (contract (recordAt file j))
 
-  part-here : partAtRecord file k ≡ part n c
-  part-here = part-of-sound n c (recordAt file k) (f .low) (f .high) (f .after .kinds) (f .after .contracts)
+  counts-are : (j : ℕ) → countsAt j ≡ set counts p (getD counts p 0 + (j - (k + 1)))
+  counts-are j = ap (λ (v : ℕ). set counts v (getD counts v 0 + (j - (k + 1)))) (f .here)
 
-  counts-are : (j : ℕ) → countsAt j ≡ set counts (part n c) (getD counts (part n c) 0 + (j - (k + 1)))
-  counts-are j = ap (λ (v : ℕ). set counts v (getD counts v 0 + (j - (k + 1)))) part-here
+  -- the notes of the other parts stand
+  pub kept : (j u : ℕ) → (u ≡ p → ⊥) → getD (countsAt j) u 0 ≡ getD counts u 0
+  kept j u d =
+      ap (λ (l : List ℕ). getD l u 0) (counts-are j) ∙ getD-set-other counts p u (getD counts p 0 + (j - (k + 1))) 0 d
 
   module _ (j : ℕ) (after : k < j) (before : j < i) where
-    its : Sound n c (recordAt file j)
+    its : SoundIn n p (recordAt file j)
     its = f .soundAt j (f .run .each j (omega arith) before)
 
-    small : c ≤ mostContract
-    small = contract-small n c (recordAt file j) (f .low) (f .high) its
-
-    -- the notes of the other parts stand
-    kept : (m : ℕ) → m < n → getD (countsAt j) (part m c) 0 ≡ getD counts (part m c) 0
-    kept m h =
-        let l = small in
-        let hi = f .high in
-        ap (λ (l : List ℕ). getD l (part m c) 0) (counts-are j)
-        ∙ getD-set-other counts (part n c) (part m c) (getD counts (part n c) 0 + (j - (k + 1))) 0 (λ z. omega arith)
-
-    counted : getD (countsAt j) (part n c) 0 ≡ getD counts (part n c) 0 + (j - (k + 1))
+    counted : getD (countsAt j) p 0 ≡ getD counts p 0 + (j - (k + 1))
     counted =
-        let l = small in
-        let hi = f .high in
-        ap (λ (l : List ℕ). getD l (part n c) 0) (counts-are j)
-        ∙ getD-set-same counts (part n c) (getD counts (part n c) 0 + (j - (k + 1))) 0 (omega (arith, f .after .sizes))
+        ap (λ (l : List ℕ). getD l p 0) (counts-are j)
+        ∙ getD-set-same counts p (getD counts p 0 + (j - (k + 1))) 0 (omega (arith, f .sizes, its .bound))
 
     below : getD (countsAt j) (partOf (recordAt file j)) 0 < most
     below =
-        let e = ap (λ (v : ℕ). getD (countsAt j) v 0) (part-of-sound n c (recordAt file j) (f .low) (f .high) (its .kinds) (its .contracts)) in
+        let e = ap (λ (v : ℕ). getD (countsAt j) v 0) (its .part-is) in
         let h = f .run .high in
         omega (arith, counted)
 
     pub unfilled : leb most (getD (countsAt j) (partOf (recordAt file j)) 0) ≡ false
     unfilled = lt-leb most _ below
 
-    pub contract-listed : noContract (countsAt j) (contract (recordAt file j)) ≡ false
-    contract-listed =
-        ap (noContract (countsAt j)) (its .contracts) ∙ ap (λ (m : ℕ). eqb m 0) (kept 1 (omega (arith, f .low))) ∙ f .after .listed
-
-    pub prompts-kept : 2 < n → promptsAt j ≡ promptsNoted file first counts c
-    prompts-kept h =
-        ap (promptsNoted file first (countsAt j)) (its .contracts)
-        ∙ ap (λ (m : ℕ). records (stretch file (getD first (part 2 c) 0) m)) (kept 2 h)
-
     pub before-is-at : recordAt file (j - 1) ≡ beforeAt file j
     before-is-at = before-is file j (λ z. omega arith)
 
-    pub its-before : (kind (beforeAt file j) ≡ n) × (contract (beforeAt file j) ≡ c)
-    its-before =
-        subst (λ (r : Record). (kind r ≡ n) × (contract r ≡ c)) before-is-at (go (eqb (j - 1) k) refl)
+    kind-before : kind (beforeAt file j) ≡ n
+    kind-before = ap kind (sym before-is-at) ∙ go (eqb (j - 1) k) refl
       where
-        go : (b : Bool) → eqb (j - 1) k ≡ b → (kind (recordAt file (j - 1)) ≡ n) × (contract (recordAt file (j - 1)) ≡ c)
-        go true b =
-            let e = ap (recordAt file) (eqb-true (j - 1) k b) in
-            (ap kind e ∙ f .after .kinds, ap contract e ∙ f .after .contracts)
+        go : (b : Bool) → eqb (j - 1) k ≡ b → kind (recordAt file (j - 1)) ≡ n
+        go true b = ap (λ (m : ℕ). kind (recordAt file m)) (eqb-true (j - 1) k b) ∙ f .kinds
         go false b =
             let d = eqb-false (j - 1) k b in
-            let s = f .soundAt (j - 1) (f .run .each (j - 1) (omega arith) (omega arith)) in
-            (s .kinds, s .contracts)
+            f .soundAt (j - 1) (f .run .each (j - 1) (omega arith) (omega arith)) .kinds
 
     rises : kindFalls (beforeAt file j) (recordAt file j) ≡ false
     rises =
         let x = its .kinds in
-        let y = its-before .0 in
+        let y = kind-before in
         le-ltb (kind (recordAt file j)) (kind (beforeAt file j)) (omega arith)
 
     pub passes-at :
@@ -295,27 +281,73 @@ module _ {n most : ℕ} {file counts : List ℕ} {k c : ℕ} {passes : ℕ → B
         → overLimitBy (countsAt j) (recordAt file j) ≡ false → PassesAt file first counts k j
     passes-at l o m =
         record {
-          fine = no-fault n c (countsAt j) (promptsAt j) (beforeAt file j) (recordAt file j) (f .low) (f .high) its rises l o m;
-          alike = part-of-sound n c (recordAt file j) (f .low) (f .high) (its .kinds) (its .contracts) ∙ sym part-here;
+          fine = no-fault n p (countsAt j) (promptsAt j) (beforeAt file j) (recordAt file j) (f .low) (f .high) its rises l o m;
+          alike = its .part-is ∙ sym (f .here);
           other =
               let e = its .kinds in
               let lo = f .low in
               ne-eqb (kind (recordAt file j)) 1 (λ z. omega arith);
         }
 
-    -- a row or an interprompt spread is not below the one before
-    pub contract-stays : contractFalls (beforeAt file j) (recordAt file j) ≡ false
-    contract-stays =
-        let x = its .contracts in
-        let y = its-before .1 in
-        and-off (ofKind (kind (recordAt file j)) (beforeAt file j))
-        (le-ltb (contract (recordAt file j)) (contract (beforeAt file j)) (omega arith))
-
   pub run-passes : ((j : ℕ) → k < j → j < i → PassesAt file first counts k j) → Passes file first counts k i
   run-passes each =
       let l = f .run .low in
       let h = f .run .high in
       record { low = omega arith; high = omega arith; each = each }
+
+-- the same of one contract
+pub record Following (n most : ℕ) (file counts : List ℕ) (k c : ℕ) (passes : ℕ → Bool) (i : ℕ) : Type 0 where
+  pub low : 2 ≤ n
+  pub high : n ≤ 4
+  pub after : After n file counts k c
+  pub soundAt : (j : ℕ) → passes j ≡ true → Sound n c (recordAt file j)
+  pub run : RunTo passes (k + 1) (min (k + 1 + (most - getD counts (part n c) 0)) (recordCount file)) i
+
+module _ {n most : ℕ} {file counts : List ℕ} {k c : ℕ} {passes : ℕ → Bool} {i : ℕ} (f : Following n most file counts k c passes i) where
+  pub alike : Alike n most (part n c) file counts k passes i
+  alike =
+      record {
+        low = f .low;
+        high = omega (arith, f .high);
+        sizes = f .after .sizes;
+        kinds = f .after .kinds;
+        here = part-of-sound n c (recordAt file k) (f .low) (f .high) (f .after .kinds) (f .after .contracts);
+        soundAt = λ j e. sound-in n c (recordAt file j) (f .low) (f .high) (f .soundAt j e);
+        run = f .run;
+      }
+
+  module _ (first : List ℕ) (j : ℕ) (after : k < j) (before : j < i) where
+    own : contract (recordAt file j) ≡ c
+    own = f .soundAt j (f .run .each j (omega arith) before) .contracts
+
+    kept-of : (m : ℕ) → m < n → getD (countedTo file counts k j) (part m c) 0 ≡ getD counts (part m c) 0
+    kept-of m h = kept alike first j (part m c) (λ z. omega arith)
+
+    pub contract-listed : noContract (countedTo file counts k j) (contract (recordAt file j)) ≡ false
+    contract-listed =
+        ap (noContract (countedTo file counts k j)) own ∙ ap (λ (m : ℕ). eqb m 0) (kept-of 1 (omega (arith, f .low))) ∙ f .after .listed
+
+    pub prompts-kept : 2 < n → promptsNoted file first (countedTo file counts k j) (contract (recordAt file j)) ≡ promptsNoted file first counts c
+    prompts-kept h =
+        ap (promptsNoted file first (countedTo file counts k j)) own
+        ∙ ap (λ (m : ℕ). records (stretch file (getD first (part 2 c) 0) m)) (kept-of 2 h)
+
+    own-before : contract (beforeAt file j) ≡ c
+    own-before = ap contract (sym (before-is-at alike first j after before)) ∙ go (eqb (j - 1) k) refl
+      where
+        go : (b : Bool) → eqb (j - 1) k ≡ b → contract (recordAt file (j - 1)) ≡ c
+        go true b = ap (λ (m : ℕ). contract (recordAt file m)) (eqb-true (j - 1) k b) ∙ f .after .contracts
+        go false b =
+            let d = eqb-false (j - 1) k b in
+            f .soundAt (j - 1) (f .run .each (j - 1) (omega arith) (omega arith)) .contracts
+
+    -- a row or an interprompt spread is not below the one before
+    pub contract-stays : contractFalls (beforeAt file j) (recordAt file j) ≡ false
+    contract-stays =
+        let x = own in
+        let y = own-before in
+        and-off (ofKind (kind (recordAt file j)) (beforeAt file j))
+        (le-ltb (contract (recordAt file j)) (contract (beforeAt file j)) (omega arith))
 
 -- the legs whose tier has no prompt, by the prompts and by the tiers noted of them
 module _ (prompts : List Record) (listed : List Bool) (t : TiersOf prompts listed) (r : Record) where
@@ -348,7 +380,7 @@ module _ (file first counts : List ℕ) (k c : ℕ) {i : ℕ} where
       → RunTo (λ j. promptPasses c (recordAt file (j - 1)) (recordAt file j)) (k + 1)
       (min (k + 1 + (mostPrompts - getD counts (part 2 c) 0)) (recordCount file)) i
       → Passes file first counts k i
-  prompts-pass a run = run-passes following first each
+  prompts-pass a run = run-passes (alike following) first each
     where
       passes : ℕ → Bool
       passes j = promptPasses c (recordAt file (j - 1)) (recordAt file j)
@@ -364,19 +396,19 @@ module _ (file first counts : List ℕ) (k c : ℕ) {i : ℕ} where
           let r = recordAt file j in
           let e = soundAt j (run .each j (omega arith) h) .kinds in
           let o = not-true _ (both-true (sound 2 c r) _ (run .each j (omega arith) h) .1) in
-          passes-at following first j l h
+          passes-at (alike following) first j l h
           (listed-2 (countedTo file counts k j) (promptsNoted file first (countedTo file counts k j) (contract r)) r e ∙ contract-listed following first j l h)
           (order-2 (beforeAt file j) r e
           ∙ ap (λ (b : Record). dayNotAbove b r || tierFalls b r)
-          (sym (before-is-at following first j l h))
+          (sym (before-is-at (alike following) first j l h))
           ∙ o)
-          (limit-2 (countedTo file counts k j) r e ∙ unfilled following first j l h)
+          (limit-2 (countedTo file counts k j) r e ∙ unfilled (alike following) first j l h)
 
   pub rows-pass :
       After 3 file counts k c → (days : List ℕ) → DaysOf (promptsNoted file first counts c) days
       → RunTo (λ j. rowPasses c days (recordAt file j)) (k + 1) (min (k + 1 + (mostRows - getD counts (part 3 c) 0)) (recordCount file)) i
       → Passes file first counts k i
-  rows-pass a days t run = run-passes following first each
+  rows-pass a days t run = run-passes (alike following) first each
     where
       passes : ℕ → Bool
       passes j = rowPasses c days (recordAt file j)
@@ -393,20 +425,20 @@ module _ (file first counts : List ℕ) (k c : ℕ) {i : ℕ} where
           let s = soundAt j (run .each j (omega arith) h) in
           let e = s .kinds in
           let d = both-true (sound 3 c r) _ (run .each j (omega arith) h) .1 in
-          passes-at following first j l h
+          passes-at (alike following) first j l h
           (listed-3 (countedTo file counts k j) (promptsNoted file first (countedTo file counts k j) (contract r)) r e
           ∙ or-off (contract-listed following first j l h)
           (ap (λ (ps : List Record). noDay ps (day r))
           (prompts-kept following first j l h (omega arith))
           ∙ day-listed (promptsNoted file first counts c) days (day r) t (row-within r e (s .within) .days .least) d))
           (order-3 (beforeAt file j) r e ∙ contract-stays following first j l h)
-          (limit-3 (countedTo file counts k j) r e ∙ unfilled following first j l h)
+          (limit-3 (countedTo file counts k j) r e ∙ unfilled (alike following) first j l h)
 
   pub spreads-pass :
       After 4 file counts k c → (listed : List Bool) → TiersOf (promptsNoted file first counts c) listed
       → RunTo (λ j. spreadPasses c listed (recordAt file j)) (k + 1) (min (k + 1 + (mostSpreads - getD counts (part 4 c) 0)) (recordCount file)) i
       → Passes file first counts k i
-  spreads-pass a listed t run = run-passes following first each
+  spreads-pass a listed t run = run-passes (alike following) first each
     where
       passes : ℕ → Bool
       passes j = spreadPasses c listed (recordAt file j)
@@ -422,27 +454,28 @@ module _ (file first counts : List ℕ) (k c : ℕ) {i : ℕ} where
           let r = recordAt file j in
           let s = soundAt j (run .each j (omega arith) h) in
           let e = s .kinds in
-          let o = neither (legsClash r) _ (not-true _ (both-true (sound 4 c r) _ (run .each j (omega arith) h) .1)) in
-          passes-at following first j l h
+          let o = neither (legsMeet r) _ (not-true _ (both-true (sound 4 c r) _ (run .each j (omega arith) h) .1)) in
+          passes-at (alike following) first j l h
           (listed-4 (countedTo file counts k j) (promptsNoted file first (countedTo file counts k j) (contract r)) r e
           ∙ or-off (contract-listed following first j l h)
           (ap (λ (ps : List Record). any (λ leg. noTier ps (legTier r leg)) (legsOf r))
           (prompts-kept following first j l h (omega arith))
           ∙ legs-same (promptsNoted file first counts c) listed t r e (s .within) ∙ o .1))
           (order-4 (beforeAt file j) r e
-          ∙ or-off (contract-stays following first j l h) (o .0))
-          (limit-4 (countedTo file counts k j) r e ∙ unfilled following first j l h)
+          ∙ or-off (contract-stays following first j l h) (legs-apart r (spread-within r e (s .within)) (o .0)))
+          (limit-4 (countedTo file counts k j) r e ∙ unfilled (alike following) first j l h)
 
 -- ---- a run from record k on: the first by itself, then those after it
-pub record Beginning (n most : ℕ) (file counts : List ℕ) (k c : ℕ) (passes : ℕ → Bool) (i : ℕ) : Type 0 where
+pub record Starting (n most p : ℕ) (file counts : List ℕ) (k : ℕ) (passes : ℕ → Bool) (i : ℕ) : Type 0 where
   pub low : 2 ≤ n
-  pub high : n ≤ 4
-  pub begins : Begins n file counts k c
-  pub soundAt : (j : ℕ) → passes j ≡ true → Sound n c (recordAt file j)
-  pub run : RunTo passes k (min (k + (most - getD counts (part n c) 0)) (recordCount file)) i
+  pub high : n ≤ 5
+  pub sizes : length counts ≡ parts
+  pub rises : kindFalls (beforeAt file k) (recordAt file k) ≡ false
+  pub soundAt : (j : ℕ) → passes j ≡ true → SoundIn n p (recordAt file j)
+  pub run : RunTo passes k (min (k + (most - getD counts p 0)) (recordCount file)) i
   pub some : k < i
 
-module _ {n most : ℕ} {file counts : List ℕ} {k c : ℕ} {passes : ℕ → Bool} {i : ℕ} (f : Beginning n most file counts k c passes i)
+module _ {n most p : ℕ} {file counts : List ℕ} {k : ℕ} {passes : ℕ → Bool} {i : ℕ} (f : Starting n most p file counts k passes i)
     (first : List ℕ) where
   abbrev v : ℕ
   v = partAtRecord file k
@@ -453,70 +486,38 @@ module _ {n most : ℕ} {file counts : List ℕ} {k c : ℕ} {passes : ℕ → B
   abbrev counts₁ : List ℕ
   counts₁ = oneMore counts v
 
-  it-passes : passes k ≡ true
-  it-passes =
+  it : SoundIn n p (recordAt file k)
+  it =
       let h = f .some in
-      f .run .each k (omega arith) h
+      f .soundAt k (f .run .each k (omega arith) h)
 
-  it : Sound n c (recordAt file k)
-  it = f .soundAt k it-passes
-
-  part-it : v ≡ part n c
-  part-it = part-of-sound n c (recordAt file k) (f .low) (f .high) (f .begins .after .kinds) (f .begins .after .contracts)
-
-  small-it : c ≤ mostContract
-  small-it = contract-small n c (recordAt file k) (f .low) (f .high) it
-
-  room-it : getD counts (part n c) 0 < most
+  room-it : getD counts p 0 < most
   room-it =
       let h = f .run .high in
       let s = f .some in
       omega arith
 
-  one-more : getD counts₁ (part n c) 0 ≡ getD counts (part n c) 0 + 1
+  one-more : getD counts₁ p 0 ≡ getD counts p 0 + 1
   one-more =
-      let l = small-it in
-      let hi = f .high in
-      ap (λ (u : ℕ). getD (oneMore counts u) (part n c) 0) part-it
-      ∙ getD-set-same counts (part n c) (getD counts (part n c) 0 + 1) 0 (omega (arith, f .begins .after .sizes))
+      ap (λ (u : ℕ). getD (oneMore counts u) p 0) (it .part-is)
+      ∙ getD-set-same counts p (getD counts p 0 + 1) 0 (omega (arith, f .sizes, it .bound))
 
-  others : (m : ℕ) → m < n → getD counts₁ (part m c) 0 ≡ getD counts (part m c) 0
-  others m h =
-      let l = small-it in
-      let hi = f .high in
-      ap (λ (u : ℕ). getD (oneMore counts u) (part m c) 0) part-it
-      ∙ getD-set-other counts (part n c) (part m c) (getD counts (part n c) 0 + 1) 0 (λ z. omega arith)
+  -- the notes of the other parts stand
+  pub others : (u : ℕ) → (u ≡ p → ⊥) → getD counts₁ u 0 ≡ getD counts u 0
+  others u d =
+      ap (λ (w : ℕ). getD (oneMore counts w) u 0) (it .part-is) ∙ getD-set-other counts p u (getD counts p 0 + 1) 0 d
 
-  first-kept : (m : ℕ) → m < n → getD first₁ (part m c) 0 ≡ getD first (part m c) 0
-  first-kept m h = go (eqb (getD counts v 0) 0)
+  pub first-kept : (u : ℕ) → (u ≡ p → ⊥) → getD first₁ u 0 ≡ getD first u 0
+  first-kept u d = go (eqb (getD counts v 0) 0)
     where
-      apart : part m c ≡ v → ⊥
-      apart z =
-          let l = small-it in
-          let hi = f .high in
-          let e = part-it in
-          omega arith
-
-      go : (b : Bool) → getD (cond b (set first v k) first) (part m c) 0 ≡ getD first (part m c) 0
-      go true = getD-set-other first v (part m c) k 0 apart
+      go : (b : Bool) → getD (cond b (set first v k) first) u 0 ≡ getD first u 0
+      go true = getD-set-other first v u k 0 (λ z. d (z ∙ it .part-is))
       go false = refl
 
-  pub prompts-same : 2 < n → promptsNoted file first₁ counts₁ c ≡ promptsNoted file first counts c
-  prompts-same h =
-      (λ i. records (stretch file (first-kept 2 h i) (others 2 h i)))
+  pub sizes-after : length counts₁ ≡ parts
+  sizes-after = length-set counts v (getD counts v 0 + 1) ∙ f .sizes
 
-  pub after-it : After n file counts₁ k c
-  after-it =
-      let a = f .begins .after in
-      record {
-        inside = a .inside;
-        sizes = length-set counts v (getD counts v 0 + 1) ∙ a .sizes;
-        kinds = a .kinds;
-        contracts = a .contracts;
-        listed = ap (λ (m : ℕ). eqb m 0) (others 1 (omega (arith, f .low))) ∙ a .listed;
-      }
-
-  pub run-after : RunTo passes (k + 1) (min (k + 1 + (most - getD counts₁ (part n c) 0)) (recordCount file)) i
+  pub run-after : RunTo passes (k + 1) (min (k + 1 + (most - getD counts₁ p 0)) (recordCount file)) i
   run-after =
       let s = f .some in
       let h = f .run .high in
@@ -524,36 +525,76 @@ module _ {n most : ℕ} {file counts : List ℕ} {k c : ℕ} {passes : ℕ → B
       let e = one-more in
       record { low = omega arith; high = omega arith; each = λ j l m. f .run .each j (omega arith) m }
 
-  pub contract-here : noContract counts (contract (recordAt file k)) ≡ false
-  contract-here = ap (noContract counts) (it .contracts) ∙ f .begins .after .listed
-
   pub unfilled-here : leb most (getD counts (partOf (recordAt file k)) 0) ≡ false
-  unfilled-here =
-      lt-leb most _ (subst (λ (u : ℕ). getD counts u 0 < most)
-      (sym (part-of-sound n c (recordAt file k) (f .low) (f .high) (it .kinds) (it .contracts))) room-it)
-
-  pub prompts-here : promptsNoted file first counts (contract (recordAt file k)) ≡ promptsNoted file first counts c
-  prompts-here = ap (promptsNoted file first counts) (it .contracts)
+  unfilled-here = lt-leb most _ (subst (λ (u : ℕ). getD counts u 0 < most) (sym (it .part-is)) room-it)
 
   pub runs-from :
       unlistedBy counts (promptsNoted file first counts (contract (recordAt file k))) (recordAt file k) ≡ false
       → outOfOrder (beforeAt file k) (recordAt file k) ≡ false → overLimitBy counts (recordAt file k) ≡ false
       → Passes file first₁ counts₁ k i → Runs file first counts k i
-  runs-from l o m p =
+  runs-from l o m p′ =
       let h = f .run .high in
       let s = f .some in
       record {
         low = omega arith;
         high = omega arith;
         fine = λ z.
-            no-fault n c counts (promptsNoted file first counts (contract (recordAt file k))) (beforeAt file k) (recordAt file k) (f .low)
-            (f .high) it (f .begins .rises) l o m;
+            no-fault n p counts (promptsNoted file first counts (contract (recordAt file k))) (beforeAt file k) (recordAt file k) (f .low)
+            (f .high) it (f .rises) l o m;
         other = λ z.
             let e = it .kinds in
             let lo = f .low in
             ne-eqb (kind (recordAt file k)) 1 (λ y. omega arith);
-        later = λ z. p;
+        later = λ z. p′;
       }
+
+-- the same of one contract
+pub record Beginning (n most : ℕ) (file counts : List ℕ) (k c : ℕ) (passes : ℕ → Bool) (i : ℕ) : Type 0 where
+  pub low : 2 ≤ n
+  pub high : n ≤ 4
+  pub begins : Begins n file counts k c
+  pub soundAt : (j : ℕ) → passes j ≡ true → Sound n c (recordAt file j)
+  pub run : RunTo passes k (min (k + (most - getD counts (part n c) 0)) (recordCount file)) i
+  pub some : k < i
+
+module _ {n most : ℕ} {file counts : List ℕ} {k c : ℕ} {passes : ℕ → Bool} {i : ℕ} (f : Beginning n most file counts k c passes i) where
+  pub starting : Starting n most (part n c) file counts k passes i
+  starting =
+      record {
+        low = f .low;
+        high = omega (arith, f .high);
+        sizes = f .begins .after .sizes;
+        rises = f .begins .rises;
+        soundAt = λ j e. sound-in n c (recordAt file j) (f .low) (f .high) (f .soundAt j e);
+        run = f .run;
+        some = f .some;
+      }
+
+  module _ (first : List ℕ) where
+    apart : (m : ℕ) → m < n → part m c ≡ part n c → ⊥
+    apart m h z = omega arith
+
+    pub prompts-same : 2 < n
+        → promptsNoted file (startNoted first counts (partAtRecord file k) k) (oneMore counts (partAtRecord file k)) c ≡ promptsNoted file first counts c
+    prompts-same h =
+        (λ i. records (stretch file (first-kept starting first (part 2 c) (apart 2 h) i) (others starting first (part 2 c) (apart 2 h) i)))
+
+    pub after-it : After n file (oneMore counts (partAtRecord file k)) k c
+    after-it =
+        let a = f .begins .after in
+        record {
+          inside = a .inside;
+          sizes = sizes-after starting first;
+          kinds = a .kinds;
+          contracts = a .contracts;
+          listed = ap (λ (m : ℕ). eqb m 0) (others starting first (part 1 c) (apart 1 (omega (arith, f .low)))) ∙ a .listed;
+        }
+
+    pub contract-here : noContract counts (contract (recordAt file k)) ≡ false
+    contract-here = ap (noContract counts) (f .begins .after .contracts) ∙ f .begins .after .listed
+
+    pub prompts-here : promptsNoted file first counts (contract (recordAt file k)) ≡ promptsNoted file first counts c
+    prompts-here = ap (promptsNoted file first counts) (f .begins .after .contracts)
 
 -- nothing is passed over
 pub none-run : (file first counts : List ℕ) (k : ℕ) → k ≤ recordCount file → Runs file first counts k k
@@ -597,13 +638,13 @@ module _ (file first counts : List ℕ) (k c : ℕ) {i : ℕ} where
           let r = recordAt file k in
           let e = b .after .kinds in
           let o = not-true _ (both-true (sound 2 c r) _ (run .each k (omega arith) h) .1) in
-          runs-from f first
+          runs-from (starting f) first
           (listed-2 counts (promptsNoted file first counts (contract r)) r e ∙ contract-here f first)
           (order-2 (beforeAt file k) r e
           ∙ ap (λ (q : Record). dayNotAbove q r || tierFalls q r) (sym (before-is file k (λ z. omega (arith, b .later)))) ∙ o)
-          (limit-2 counts r e ∙ unfilled-here f first)
+          (limit-2 counts r e ∙ unfilled-here (starting f) first)
           (prompts-pass file (startNoted first counts (partAtRecord file k) k) (oneMore counts (partAtRecord file k)) k c
-          (after-it f first) (run-after f first))
+          (after-it f first) (run-after (starting f) first))
 
   pub rows-run :
       Begins 3 file counts k c → (days : List ℕ) → DaysOf (promptsNoted file first counts c) days
@@ -625,16 +666,16 @@ module _ (file first counts : List ℕ) (k c : ℕ) {i : ℕ} where
           let e = b .after .kinds in
           let s = soundAt k (run .each k (omega arith) h) in
           let d = both-true (sound 3 c r) _ (run .each k (omega arith) h) .1 in
-          runs-from f first
+          runs-from (starting f) first
           (listed-3 counts (promptsNoted file first counts (contract r)) r e
           ∙ or-off (contract-here f first)
           (ap (λ (ps : List Record). noDay ps (day r)) (prompts-here f first)
           ∙ day-listed (promptsNoted file first counts c) days (day r) t (row-within r e (s .within) .days .least) d))
           (order-3 (beforeAt file k) r e ∙ b .stays)
-          (limit-3 counts r e ∙ unfilled-here f first)
+          (limit-3 counts r e ∙ unfilled-here (starting f) first)
           (rows-pass file (startNoted first counts (partAtRecord file k) k) (oneMore counts (partAtRecord file k)) k c
           (after-it f first) days
-          (subst (λ (ps : List Record). DaysOf ps days) (sym (prompts-same f first (omega arith))) t) (run-after f first))
+          (subst (λ (ps : List Record). DaysOf ps days) (sym (prompts-same f first (omega arith))) t) (run-after (starting f) first))
 
   pub spreads-run :
       Begins 4 file counts k c → (listed : List Bool) → TiersOf (promptsNoted file first counts c) listed
@@ -655,17 +696,106 @@ module _ (file first counts : List ℕ) (k c : ℕ) {i : ℕ} where
           let r = recordAt file k in
           let e = b .after .kinds in
           let s = soundAt k (run .each k (omega arith) h) in
-          let o = neither (legsClash r) _ (not-true _ (both-true (sound 4 c r) _ (run .each k (omega arith) h) .1)) in
-          runs-from f first
+          let o = neither (legsMeet r) _ (not-true _ (both-true (sound 4 c r) _ (run .each k (omega arith) h) .1)) in
+          runs-from (starting f) first
           (listed-4 counts (promptsNoted file first counts (contract r)) r e
           ∙ or-off (contract-here f first)
           (ap (λ (ps : List Record). any (λ leg. noTier ps (legTier r leg)) (legsOf r)) (prompts-here f first)
           ∙ legs-same (promptsNoted file first counts c) listed t r e (s .within) ∙ o .1))
-          (order-4 (beforeAt file k) r e ∙ or-off (b .stays) (o .0))
-          (limit-4 counts r e ∙ unfilled-here f first)
+          (order-4 (beforeAt file k) r e ∙ or-off (b .stays) (legs-apart r (spread-within r e (s .within)) (o .0)))
+          (limit-4 counts r e ∙ unfilled-here (starting f) first)
           (spreads-pass file (startNoted first counts (partAtRecord file k) k) (oneMore counts (partAtRecord file k)) k c
           (after-it f first) listed
-          (subst (λ (ps : List Record). TiersOf ps listed) (sym (prompts-same f first (omega arith))) t) (run-after f first))
+          (subst (λ (ps : List Record). TiersOf ps listed) (sym (prompts-same f first (omega arith))) t) (run-after (starting f) first))
+
+-- ---- intercontract spreads: one part, of whichever contracts
+pub record EntryPassed (own : List ℕ) (r : Record) : Type 0 where
+  pub its-sound : SoundIn 5 entryPart r
+  pub names : (counts : List ℕ) → ((u : ℕ) → u < part 2 0 → getD counts u 0 ≡ getD own u 0)
+      → noContract counts (contract r) || noContract counts (secondContract r) ≡ false
+  pub two : withItself r ≡ false
+
+entry-passed : (own : List ℕ) (r : Record) → entryPasses own r ≡ true → EntryPassed own r
+entry-passed own r h =
+    let e = both-true (sound 5 (contract r) r) _ h in
+    let s = sound-known 5 (contract r) r (e .0) in
+    let o = neither (noContract own (contract r)) _ (not-true _ (e .1)) in
+    let q = neither (noContract own (secondContract r)) _ (o .1) in
+    let w = entry-within r (s .kinds) (s .within) in
+    record {
+      its-sound = record { kinds = s .kinds; unused = s .unused; within = s .within; part-is = part-entry r (s .kinds); bound = omega arith };
+      names = λ counts same.
+          or-off
+          (ap (λ (m : ℕ). eqb m 0) (same (part 1 (contract r)) (omega (arith, w .contracts))) ∙ o .0)
+          (ap (λ (m : ℕ). eqb m 0) (same (part 1 (secondContract r)) (omega (arith, w .seconds))) ∙ q .0);
+      two = q .1;
+    }
+
+-- `own` are the notes at the beginning of the run
+module _ (file first counts own : List ℕ) (k : ℕ) (same : (u : ℕ) → u < part 2 0 → getD counts u 0 ≡ getD own u 0) where
+  abbrev entryAt : ℕ → Bool
+  entryAt j = entryPasses own (recordAt file j)
+
+  pub entries-pass :
+      {i : ℕ} → length counts ≡ parts → kind (recordAt file k) ≡ 5
+      → RunTo entryAt (k + 1) (min (k + 1 + (mostEntries - getD counts entryPart 0)) (recordCount file)) i
+      → Passes file first counts k i
+  entries-pass {i} sizes e run = run-passes all first each
+    where
+      all : Alike 5 mostEntries entryPart file counts k entryAt i
+      all =
+          record {
+            low = omega arith;
+            high = omega arith;
+            sizes = sizes;
+            kinds = e;
+            here = part-entry (recordAt file k) e;
+            soundAt = λ j h. entry-passed own (recordAt file j) h .its-sound;
+            run = run;
+          }
+
+      each : (j : ℕ) → k < j → j < i → PassesAt file first counts k j
+      each j l h =
+          let r = recordAt file j in
+          let p = entry-passed own r (run .each j (omega arith) h) in
+          let n = p .its-sound .kinds in
+          passes-at all first j l h
+          (listed-5 (countedTo file counts k j) (promptsNoted file first (countedTo file counts k j) (contract r)) r n
+          ∙ p .names (countedTo file counts k j) (λ u b. kept all first j u (λ z. omega arith) ∙ same u b))
+          (order-5 (beforeAt file j) r n ∙ p .two)
+          (limit-5 (countedTo file counts k j) r n ∙ unfilled all first j l h)
+
+pub entries-run :
+    (file first counts : List ℕ) (k : ℕ) {i : ℕ} → k < recordCount file → length counts ≡ parts
+    → kindFalls (beforeAt file k) (recordAt file k) ≡ false
+    → RunTo (λ j. entryPasses counts (recordAt file j)) k (min (k + (mostEntries - getD counts entryPart 0)) (recordCount file)) i
+    → Runs file first counts k i
+entries-run file first counts k {i} inside sizes rises run = or-none (omega arith) (run .low) go
+  where
+    passes : ℕ → Bool
+    passes j = entryPasses counts (recordAt file j)
+
+    go : k < i → Runs file first counts k i
+    go h =
+        let f : Starting 5 mostEntries entryPart file counts k passes i =
+        record {
+          low = omega arith;
+          high = omega arith;
+          sizes = sizes;
+          rises = rises;
+          soundAt = λ j e. entry-passed counts (recordAt file j) e .its-sound;
+          run = run;
+          some = h;
+        } in
+        let r = recordAt file k in
+        let p = entry-passed counts r (run .each k (omega arith) h) in
+        let e = p .its-sound .kinds in
+        runs-from f first
+        (listed-5 counts (promptsNoted file first counts (contract r)) r e ∙ p .names counts (λ u b. refl))
+        (order-5 (beforeAt file k) r e ∙ p .two)
+        (limit-5 counts r e ∙ unfilled-here f first)
+        (entries-pass file (startNoted first counts (partAtRecord file k) k) (oneMore counts (partAtRecord file k)) counts k
+        (λ u b. others f first u (λ z. omega arith)) (sizes-after f first) e (run-after f first))
 
 -- a run may begin at record k, from what is read of it
 pub begins-read :

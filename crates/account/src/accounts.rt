@@ -4,7 +4,6 @@ use crate::answers::Answer;
 use crate::answers::number_of;
 use crate::check::Survey;
 use crate::check::note_file;
-use crate::check::take_survey;
 use crate::conversions::any_in_another;
 use crate::conversions::any_other_row;
 use crate::conversions::rows_answer;
@@ -27,7 +26,6 @@ ghost use mathlib.Core.Bool.{cond};
 ghost use Prim.Native.Nat.{_≤_, _<_};
 ghost use lib.ListN.{length, getD, set, take};
 ghost use Rattle.exact.specs.Lists.{any, keep, oneIf, sum};
-ghost use Rattle.account.specs.Answers.{numberOf};
 ghost use Rattle.account.specs.Check.{mostContracts};
 ghost use Rattle.account.specs.Checked.{ratesChecked, checked};
 ghost use Rattle.account.specs.Conversions.{inAnother};
@@ -37,8 +35,9 @@ ghost use Rattle.account.specs.Joined.{accountOf};
 ghost use Rattle.record.specs.Layout.{mostContract};
 ghost use Rattle.account.specs.code.Standing as Standing;
 ghost use Rattle.account.specs.code.Standing.{Places, Stands, PartOf, WhereOf, ContractPart, CheckedBy};
-ghost use Rattle.account.specs.code.Standing.{fromNoon, eitherNote, Filled, Flagged, Numbered, JoinedBy, AloneBy};
-ghost use Rattle.account.specs.code.Surveyed.{Surveyed};
+ghost use Rattle.account.specs.code.Standing.{fromNoon, eitherNote, Filled, Flagged, listedIn, Numbered, JoinedBy, AloneBy};
+ghost use Rattle.account.specs.code.Surveyed.{Tallied};
+ghost use Rattle.account.specs.declared.answers.Answer.the-variants.{Accepted};
 
 // An account: how many records it has, its contracts' numbers in order, which of them the noon file supplies, and of each
 // part where it begins in its file and how many records it has. Only the check and a join of two checked files make one:
@@ -279,14 +278,15 @@ fn one_if(b: bool) -> usize
     if b { 1 } else { 0 }
 }
 
-// Their numbers in order: the first `count`.
-fn numbers_of(counts: &[u16]) -> ContractNumbers
+// Their numbers in order, the first `count`, where there are at most `most`.
+fn numbers_of(counts: &[u16], most: usize) -> ContractNumbers
+    requires { ⌜ length (listedIn (now counts)) ≤ most ⌝ }
     ensures { λ r. ⌜ Numbered (now (counts .entry)) (r .count) (r .number) ⌝ }
 {
     let mut count = 0;
     let mut number = [0u8; CONTRACTS];
     let mut c = 0;
-    while c < CONTRACTS {
+    while (count < most) & (c < CONTRACTS) {
         let listed = lists(counts, c);
         put_number(&mut number, count, c, listed);
         count += one_if(listed);
@@ -323,7 +323,7 @@ pub(crate) fn join(morning: Survey, noon: Survey) -> Account
     either_notes(&mut first, &morning_first, &noon_first, &noon_counts);
     either_notes(&mut counts, &morning_counts, &noon_counts, &noon_counts);
     let records = records_in(&counts);
-    let listed = numbers_of(&counts);
+    let listed = numbers_of(&counts, CONTRACTS);
     let contracts = listed.count;
     let numbers = listed.number;
     Account {
@@ -336,22 +336,26 @@ pub(crate) fn join(morning: Survey, noon: Survey) -> Account
     }
 }
 
-// An account of so many records that stands in one file: no noon file supplies anything.
-fn in_one_file(survey: Survey, records: usize) -> Account
-    ensures { λ j. ⌜ AloneBy survey records j ⌝ }
+// An account of so many records and at most so many contracts that stands in one file, by what is noted of its parts: no noon file
+// supplies anything.
+fn in_one_file(
+    first: &[u16; PARTS],
+    counts: &[u16; PARTS],
+    contracts: usize,
+    records: usize,
+) -> Account
+    requires { ⌜ length (listedIn (now counts)) ≤ contracts ⌝ }
+    ensures { λ j. ⌜ AloneBy (now (first .entry)) (now (counts .entry)) records j ⌝ }
 {
-    let first = survey.first;
-    let counts = survey.counts;
-    let listed = numbers_of(&counts);
-    let contracts = listed.count;
+    let listed = numbers_of(counts, contracts);
     let numbers = listed.number;
     Account {
         records,
-        contracts,
+        contracts: listed.count,
         numbers,
         noon: [false; CONTRACTS],
-        first,
-        counts,
+        first: *first,
+        counts: *counts,
     }
 }
 
@@ -411,13 +415,21 @@ pub(crate) fn conversions_checked<'a>(morning: &'a [u8], noon: &'a [u8], account
     Answer::Accepted
 }
 
-// The same of one file, by its survey.
-fn rates_answer(file: &[u8], survey: Survey) -> Answer
-    requires { ⌜ Surveyed (now file) survey × (numberOf (survey .answer) ≡ 0) ⌝ }
+// The same of one file, by what is noted of it.
+fn rates_answer(
+    file: &[u8],
+    first: &[u16; PARTS],
+    counts: &[u16; PARTS],
+    contracts: usize,
+) -> Answer
+    requires { ⌜ Tallied (now file) Accepted contracts (now first) (now counts) ⌝ }
     ensures { λ a. ⌜ a ≡ checked (now (file .entry)) ⌝ }
 {
-    let account = in_one_file(survey, record_count(file));
-    conversions_answer(file, &file[..0], account)
+    if any_other_row(file) {
+        let account = in_one_file(first, counts, contracts, record_count(file));
+        return conversions_answer(file, &file[..0], account);
+    }
+    Answer::Accepted
 }
 
 // What the check of a file hands out: its answer, and of an accepted file the account.
@@ -429,22 +441,19 @@ pub struct Checked {
 pub fn check_file(file: &[u8]) -> Checked
     ensures { λ r. ⌜ CheckedBy (now (file .entry)) r ⌝ }
 {
-    let survey = take_survey(file);
-    let account = in_one_file(survey, record_count(file));
-    let first = survey.answer;
-    if number_of(first) != 0 {
-        return Checked {
-            answer: first,
-            account,
-        };
-    }
-    if any_other_row(file) {
-        let answer = rates_answer(file, survey);
+    let mut first = [0u16; PARTS];
+    let mut counts = [0u16; PARTS];
+    let tally = note_file(file, &mut first, &mut counts);
+    let answer = tally.answer;
+    let records = record_count(file);
+    if number_of(answer) != 0 {
+        let none = [0u16; PARTS];
+        let account = in_one_file(&none, &none, 0, records);
         return Checked { answer, account };
     }
     Checked {
-        answer: first,
-        account,
+        answer: rates_answer(file, &first, &counts, tally.contracts),
+        account: in_one_file(&first, &counts, tally.contracts, records),
     }
 }
 
@@ -459,14 +468,5 @@ pub fn check(file: &[u8]) -> Answer
     if number_of(answer) != 0 {
         return answer;
     }
-    if any_other_row(file) {
-        let survey = Survey {
-            answer,
-            contracts: tally.contracts,
-            first,
-            counts,
-        };
-        return rates_answer(file, survey);
-    }
-    answer
+    rates_answer(file, &first, &counts, tally.contracts)
 }

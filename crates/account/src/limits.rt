@@ -12,7 +12,7 @@ pub const MOST_ROWS: usize = 128;
 
 pub(crate) const MOST_SPREADS: usize = 32;
 
-const MOST_ENTRIES: usize = 32;
+pub(crate) const MOST_ENTRIES: usize = 32;
 
 pub(crate) fn over_limit(counts: &[u16], r: &[u8]) -> bool
     ensures { λ b. ⌜ b ≡ overLimitBy (now (counts .entry)) (now (r .entry)) ⌝ }

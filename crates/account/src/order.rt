@@ -79,7 +79,7 @@ fn no_leg_on(r: &[u8], side: usize) -> bool
     }
 }
 
-pub(crate) fn legs_clash(r: &[u8]) -> bool
+fn legs_clash(r: &[u8]) -> bool
     ensures { λ b. ⌜ b ≡ legsClash (now (r .entry)) ⌝ }
 {
     some_alike(r) | (no_leg_on(r, 1) | no_leg_on(r, 2))

@@ -1,16 +1,18 @@
-// Runs of sound records: the prompts, rows or interprompt spreads of a contract that get no refusal. A record that stops a run is asked
-// about by itself.
+// Runs of sound records: the prompts, rows or interprompt spreads of a contract, or intercontract spreads, that get no refusal. A record that
+// stops a run is asked about by itself.
 ghost use mathlib.Core.Path.{_≡_};
 ghost use mathlib.Core.Bool.{not, _||_};
 ghost use Prim.Native.Nat.{_+_, _≤_, _<_, _-_, min};
 ghost use lib.ListN.{length};
 ghost use Rattle.exact.specs.Lists.{any};
-ghost use Rattle.record.specs.Layout.{day, legsOf};
-ghost use Rattle.account.specs.Check.{kindFalls, contractFalls, mostRows};
+ghost use Rattle.record.specs.Layout.{recordBytes, day, twoLegs, legsOf};
+ghost use Rattle.account.specs.Check.{kindFalls, contractFalls, sameLeg, mostRows};
 ghost use Rattle.account.specs.PartNumbers.{parts};
 ghost use Rattle.account.specs.code.Notes.{noContract};
-ghost use Rattle.account.specs.code.Passing.{DaysOf, hasDay, TiersOf, legUnlistedIn, promptPasses, rowPasses, spreadPasses, RunTo, Begins, Runs};
+ghost use Rattle.account.specs.code.Passing.{DaysOf, hasDay, TiersOf, legUnlistedIn, onOneSide, legsMeet};
+ghost use Rattle.account.specs.code.Passing.{promptPasses, rowPasses, spreadPasses, entryPasses, RunTo, Begins, Runs};
 ghost use Rattle.account.specs.Records.{recordAt, recordCount, records};
+use crate::limits::MOST_ENTRIES;
 use crate::limits::MOST_PROMPTS;
 use crate::limits::MOST_ROWS;
 use crate::limits::MOST_SPREADS;
@@ -19,20 +21,25 @@ use crate::notes::noted;
 use crate::order::contract_falls;
 use crate::order::day_not_above;
 use crate::order::kind_falls;
-use crate::order::legs_clash;
 use crate::order::tier_falls;
+use crate::parts::ENTRIES;
 use crate::parts::PROMPTS;
 use crate::parts::ROWS;
 use crate::parts::SPREADS;
 use crate::parts::part_at;
 use crate::stretches::record_count;
 use crate::stretches::whole_at;
+use crate::stretches::whole_before;
+use record::bytes::RECORD_BYTES;
 use record::fields::contract;
 use record::fields::day;
 use record::fields::kind;
-use record::fields::leg_count;
-use record::fields::leg_tier;
+use record::fields::leg_count_in;
+use record::fields::leg_side_in;
+use record::fields::leg_tier_in;
+use record::fields::second_contract;
 use record::fields::tier;
+use record::refusals::sound_entry;
 use record::refusals::sound_prompt;
 use record::refusals::sound_row;
 use record::refusals::sound_spread;
@@ -94,21 +101,52 @@ fn tiers_of(prompts: &[u8]) -> [bool; TIER_BYTES]
     listed
 }
 
+fn two_legs(r: &[u8]) -> bool
+    requires { ⌜ recordBytes ≤ length (now r) ⌝ }
+    ensures { λ b. ⌜ b ≡ twoLegs (now (r .entry)) ⌝ }
+{
+    leg_count_in(r) == 2
+}
+
 fn leg_unlisted(listed: &[bool; TIER_BYTES], r: &[u8], leg: usize) -> bool
+    requires { ⌜ (leg ≤ 2) × (recordBytes ≤ length (now r)) ⌝ }
     ensures { λ b. ⌜ b ≡ legUnlistedIn (now (listed .entry)) (now (r .entry)) leg ⌝ }
 {
-    let t = leg_tier(r, leg);
+    let t = leg_tier_in(r, leg);
     !listed[t]
 }
 
+// Of a whole spread. Here and below there is no way out before the end.
 fn some_leg_unlisted(listed: &[bool; TIER_BYTES], r: &[u8]) -> bool
+    requires { ⌜ recordBytes ≤ length (now r) ⌝ }
     ensures { λ b. ⌜ b ≡ any (legUnlistedIn (now (listed .entry)) (now (r .entry))) (legsOf (now (r .entry))) ⌝ }
 {
-    if leg_count(r) == 2 {
-        leg_unlisted(listed, r, 0) | leg_unlisted(listed, r, 1)
-    } else {
-        leg_unlisted(listed, r, 0) | (leg_unlisted(listed, r, 1) | leg_unlisted(listed, r, 2))
-    }
+    leg_unlisted(listed, r, 0)
+        | (leg_unlisted(listed, r, 1) | (!two_legs(r) & leg_unlisted(listed, r, 2)))
+}
+
+fn on_one_side(r: &[u8], i: usize, j: usize) -> bool
+    requires { ⌜ (i ≤ 2) × ((j ≤ 2) × (recordBytes ≤ length (now r))) ⌝ }
+    ensures { λ b. ⌜ b ≡ onOneSide (now (r .entry)) i j ⌝ }
+{
+    leg_side_in(r, i) == leg_side_in(r, j)
+}
+
+fn are_alike(r: &[u8], i: usize, j: usize) -> bool
+    requires { ⌜ (i ≤ 2) × ((j ≤ 2) × (recordBytes ≤ length (now r))) ⌝ }
+    ensures { λ b. ⌜ b ≡ sameLeg (now (r .entry)) i j ⌝ }
+{
+    (leg_tier_in(r, i) == leg_tier_in(r, j)) & on_one_side(r, i, j)
+}
+
+// Two legs are alike, or all are on one side. The bytes of a third leg that is none are like no leg's.
+fn legs_meet(r: &[u8]) -> bool
+    requires { ⌜ recordBytes ≤ length (now r) ⌝ }
+    ensures { λ b. ⌜ b ≡ legsMeet (now (r .entry)) ⌝ }
+{
+    are_alike(r, 0, 1)
+        | (are_alike(r, 0, 2)
+            | (are_alike(r, 1, 2) | (on_one_side(r, 0, 1) & (two_legs(r) | on_one_side(r, 1, 2)))))
 }
 
 fn prompt_passes(before: &[u8], r: &[u8], c: usize) -> bool
@@ -126,7 +164,18 @@ fn row_passes(days: &[u32; MOST_PROMPTS], r: &[u8], c: usize) -> bool
 fn spread_passes(listed: &[bool; TIER_BYTES], r: &[u8], c: usize) -> bool
     ensures { λ b. ⌜ b ≡ spreadPasses c (now (listed .entry)) (now (r .entry)) ⌝ }
 {
-    sound_spread(r, c) & !(legs_clash(r) | some_leg_unlisted(listed, r))
+    if r.len() < RECORD_BYTES {
+        return false;
+    }
+    sound_spread(r, c) & !(legs_meet(r) | some_leg_unlisted(listed, r))
+}
+
+fn entry_passes(counts: &[u16], r: &[u8]) -> bool
+    ensures { λ b. ⌜ b ≡ entryPasses (now (counts .entry)) (now (r .entry)) ⌝ }
+{
+    let c = contract(r);
+    let other = second_contract(r);
+    sound_entry(r) & !(no_contract(counts, c) | (no_contract(counts, other) | (c == other)))
 }
 
 // The first record from `k` on that does not pass as a prompt of contract `c`, or `end`.
@@ -167,6 +216,21 @@ fn spreads_to(file: &[u8], listed: &[bool; TIER_BYTES], c: usize, k: usize, end:
     let mut i = k;
     while i < end {
         if !spread_passes(listed, whole_at(file, i), c) {
+            return i;
+        }
+        i += 1;
+    }
+    i
+}
+
+// The same of an intercontract spread.
+fn entries_to(file: &[u8], counts: &[u16], k: usize, end: usize) -> usize
+    requires { ⌜ (k ≤ end) × (end ≤ recordCount (now file)) ⌝ }
+    ensures { λ i. ⌜ RunTo (λ j. entryPasses (now (counts .entry)) (recordAt (now (file .entry)) j)) k end i ⌝ }
+{
+    let mut i = k;
+    while i < end {
+        if !entry_passes(counts, whole_at(file, i)) {
             return i;
         }
         i += 1;
@@ -224,6 +288,18 @@ fn spreads_from(file: &[u8], first: &[u16], counts: &[u16], k: usize, c: usize) 
     spreads_to(file, &listed, c, k, end)
 }
 
+// Intercontract spreads have no order among themselves.
+fn entries_from(file: &[u8], first: &[u16], counts: &[u16], k: usize) -> usize
+    requires { ⌜ (k < recordCount (now file)) × (length (now counts) ≡ parts) ⌝ }
+    ensures { λ next. ⌜ Runs (now (file .entry)) (now (first .entry)) (now (counts .entry)) k next ⌝ }
+{
+    if kind_falls(whole_before(file, k), whole_at(file, k)) {
+        return k;
+    }
+    let end = room_to(k, record_count(file), noted(counts, ENTRIES), MOST_ENTRIES);
+    entries_to(file, counts, k, end)
+}
+
 // Whether a record of contract `c` may begin or go on a run.
 fn may_run(counts: &[u16], before: &[u8], r: &[u8], c: usize) -> bool
     requires { ⌜ c < 256 ⌝ }
@@ -233,8 +309,8 @@ fn may_run(counts: &[u16], before: &[u8], r: &[u8], c: usize) -> bool
     !(no_contract(counts, c) | (kind_falls(before, r) | contract_falls(before, r)))
 }
 
-// The first record from record `k` on that does not pass as a prompt, a row or an interprompt spread of record `k`'s contract: `k` itself
-// where it is none of these.
+// The first record from record `k` on that does not pass as a prompt, a row or an interprompt spread of record `k`'s contract, or as an
+// intercontract spread: `k` itself where it is none of these.
 pub(crate) fn passes_from(file: &[u8], first: &[u16], counts: &[u16], k: usize) -> usize
     requires { ⌜ (k < recordCount (now file)) × (length (now counts) ≡ parts) ⌝ }
     ensures { λ next. ⌜ Runs (now (file .entry)) (now (first .entry)) (now (counts .entry)) k next ⌝ }
@@ -244,6 +320,9 @@ pub(crate) fn passes_from(file: &[u8], first: &[u16], counts: &[u16], k: usize) 
     }
     let r = whole_at(file, k);
     let n = kind(r);
+    if n == 5 {
+        return entries_from(file, first, counts, k);
+    }
     let c = contract(r);
     if !may_run(counts, whole_at(file, k - 1), r, c) {
         return k;

@@ -5,7 +5,7 @@ mod sums;
 
 use crate::figures::answer_account;
 use crate::sums::none;
-use crate::sums::put_numbers;
+use crate::sums::put_sums;
 use crate::sums::with_account;
 use account::answers::Answer;
 use runs::add_up;
@@ -49,6 +49,6 @@ pub fn answer_committee(accounts: &[u8], lengths: &[usize], out: &mut [i64]) -> 
         at = end;
         i += 1;
     }
-    put_numbers(sums, out);
+    put_sums(sums, out);
     Answer::Accepted
 }

@@ -160,7 +160,7 @@ fn number_at(sums: Sums, k: usize) -> u64
 }
 
 // All of them, at the front of `out`.
-pub(crate) fn put_numbers(sums: Sums, out: &mut [i64])
+pub(crate) fn put_sums(sums: Sums, out: &mut [i64])
     requires { ⌜ Within mostAccounts sums × (committeeNumbers ≤ length (now out)) ⌝ }
     ensures { λ r. ⌜ now (out .exit) ≡ map pos (sumsNumbers sums) ++ drop committeeNumbers (now (out .entry)) ⌝ }
 {

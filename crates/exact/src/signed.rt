@@ -6,7 +6,6 @@ ghost use lib.IntN.{pos, natAbs, _+ℤ_, _-ℤ_, _*ℤ_};
 ghost use lib.Signed.{ltZ};
 ghost use mir.Syntax.{w64};
 ghost use mir.Val.{SFits};
-ghost use Rattle.exact.specs.Signed as Signed;
 ghost use Rattle.exact.specs.Signed.{negative, orZero, withSignOf, towardsZero};
 
 pub fn plus(a: i64, b: i64) -> i64
@@ -66,13 +65,6 @@ pub fn magnitude(z: i64) -> u64
     } else {
         or_zero(z)
     }
-}
-
-// The larger of two numbers.
-pub fn larger(a: i64, b: i64) -> i64
-    ensures { λ r. ⌜ r ≡ Signed.larger a b ⌝ }
-{
-    if below(a, b) { b } else { a }
 }
 
 // The size m with the sign of z.

@@ -4,11 +4,13 @@ use Prim.Native.Nat.{ℕ, _+_, _≤_, _<_, zero-le}
 use native.Mathlib.Numerals.{add-one}
 use native.Mathlib.Omega.{arith}
 use mathlib.Core.Path.{_≡_, refl, sym, ap, ap₂, _∙_}
-use mathlib.Core.List.{List, [], _∷_, _++_}
+use mathlib.Core.List.{List, [], _∷_, _++_, map}
 use lib.IntN.{ℤ, pos}
-use lib.ListN.{length, getD, take, set, length-set, List·getD-map}
+use lib.ListN.{length, getD, take, set, length-map, length-set, List·getD-map}
 use lib.Seq.{take-suc, take-suc-set, take-all}
+use Rattle.spread.specs.code.Book.{byPlace}
 use Rattle.spread.specs.code.Lent.{deltasFrom, spreadsFrom}
+use Rattle.spread.proofs.Filling.{entries-length}
 use Rattle.spread.proofs.Lent.{deltas-back}
 use Rattle.spread.specs.declared.Delta.{Delta}
 use Rattle.spread.specs.declared.Spreads.{Spreads}
@@ -21,6 +23,10 @@ delta-from zs k = ap (λ (d : Delta). d .0) (List·getD-map (λ (z : ℤ). recor
 
 pub spread-from : (ns : List ℕ) (k : ℕ) → spreadsAt (spreadsFrom ns) k ≡ getD ns k 0
 spread-from ns k = ap (λ (s : Spreads). s .0) (List·getD-map (λ (n : ℕ). record { 0 = n }) ns k 0)
+
+-- as many numbers are lent as an array has places
+pub lent-length {ℓ} : {A B : Type ℓ} (f : A → B) (n : ℕ) (g : ℕ → B) (xs : List A) → map f xs ≡ byPlace n g → length xs ≡ n
+lent-length f n g xs e = sym (length-map xs f) ∙ ap length e ∙ entries-length n g
 
 -- the position of which the net deltas are lent
 pub position-lent : (p : Position) (nets : List ℤ) → nets ≡ deltasIn (p .nets) → positionIn (p .totals .0) nets (p .shorts) ≡ p

@@ -19,7 +19,7 @@ use Rattle.formulas.specs.Bounds.{mostProduct}
 use Rattle.formulas.specs.Scanning.{inHundredths, product, total}
 use Rattle.formulas.specs.Deltas.{rowDelta, ofDay}
 use Rattle.formulas.specs.Margin.{short, shortOptions, shortLots}
-use Rattle.formulas.specs.code.Position.{RowFit, RowRated, RowsFit, PositionOf, Bounded, deltasIn, netOn}
+use Rattle.formulas.specs.code.Position.{RowFit, RowRated, RowsFit, PositionOf, Bounded, deltasIn, netOn, rowsNet}
 use Rattle.formulas.proofs.SignedCalls.{abs-times, abs-plus}
 use Rattle.formulas.proofs.PositionLaws.{totals-at, net-here}
 
@@ -71,6 +71,12 @@ net-most (row ∷ rows) e d = go (ofDay d row) (net-most rows (λ k l. e (suc k)
         let both = abs-plus (rowDelta row) (netOn rows d) (delta-most row (e 0 (omega arith))) rest in
         omega arith
     go false rest = omega arith
+
+pub rows-net-most : (rows : List Record) → Each rows → natAbs (rowsNet rows) ≤ length rows * 1000000000
+rows-net-most [] e = zero-le
+rows-net-most (row ∷ rows) e =
+    let both = abs-plus (rowDelta row) (rowsNet rows) (delta-most row (e 0 (omega arith))) (rows-net-most rows (λ k l. e (suc k) (omega arith))) in
+    omega arith
 
 pub short-lots-most : (rows : List Record) → Each rows → shortLots rows ≤ length rows * 100000
 short-lots-most [] e = zero-le

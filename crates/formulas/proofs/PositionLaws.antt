@@ -21,7 +21,7 @@ use Rattle.formulas.specs.declared.rows.Position.{Position}
 use Rattle.formulas.specs.Scanning.{product, total, scenarios, totals}
 use Rattle.formulas.specs.Deltas.{rowDelta, ofDay, netDelta, netDeltas}
 use Rattle.formulas.specs.Margin.{shortOptions, shortLots}
-use Rattle.formulas.specs.code.Position.{Added, DaysOf, PositionOf, WithRows, netOn, withNets, positionIn, deltasIn}
+use Rattle.formulas.specs.code.Position.{Added, DaysOf, PositionOf, WithRows, netOn, rowsNet, withNets, positionIn, deltasIn}
 use Rattle.formulas.proofs.AddedLaws.{same-deltas}
 use Rattle.spread.proofs.Lent.{deltas-again}
 
@@ -32,11 +32,11 @@ pub total-append : (rates : List Record) (unit : ℕ) (xs ys : List Record) (s :
 total-append rates unit xs ys s =
     ap sumℤ (map-append (product rates unit s) xs ys) ∙ sumℤ-append (map (product rates unit s) xs) (map (product rates unit s) ys)
 
+pub rows-net-append : (xs ys : List Record) → rowsNet (xs ++ ys) ≡ rowsNet xs +ℤ rowsNet ys
+rows-net-append xs ys = ap sumℤ (map-append rowDelta xs ys) ∙ sumℤ-append (map rowDelta xs) (map rowDelta ys)
+
 pub net-append : (xs ys : List Record) (d : ℕ) → netOn (xs ++ ys) d ≡ netOn xs d +ℤ netOn ys d
-net-append xs ys d =
-    ap (λ (rs : List Record). sumℤ (map rowDelta rs)) (keep-append (ofDay d) xs ys)
-    ∙ ap sumℤ (map-append rowDelta (keep (ofDay d) xs) (keep (ofDay d) ys))
-    ∙ sumℤ-append (map rowDelta (keep (ofDay d) xs)) (map rowDelta (keep (ofDay d) ys))
+net-append xs ys d = ap rowsNet (keep-append (ofDay d) xs ys) ∙ rows-net-append (keep (ofDay d) xs) (keep (ofDay d) ys)
 
 pub shorts-append : (xs ys : List Record) → shortLots (xs ++ ys) ≡ shortLots xs + shortLots ys
 shorts-append xs ys = ap sum (map-append shortOptions xs ys) ∙ sum-append (map shortOptions xs) (map shortOptions ys)

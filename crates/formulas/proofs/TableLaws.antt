@@ -23,6 +23,8 @@ use Rattle.account.specs.Check.{mostContracts}
 use Rattle.spread.specs.code.Book.{Booked}
 use Rattle.spread.proofs.Every.{opens-length}
 use Rattle.spread.proofs.Filling.{getD-same}
+use Rattle.spread.proofs.Lent.{map-set}
+use Rattle.spread.specs.code.Lent.{deltasFrom}
 use Rattle.spread.specs.declared.Spreads.{Spreads}
 use Rattle.spread.specs.declared.Table.{Table}
 use Rattle.spread.specs.declared.book.Book.{Book}
@@ -72,6 +74,13 @@ tiered-next lines i ts ds t d is h l e =
           ∙ ap (λ (k : ℕ). take k (map tierOf lines)) (sym (add-one i))
           ∙ sym (map-take tierOf (i + 1) lines);
     }
+
+-- the same in lent numbers
+pub lent-next : (lines : List Line) (i : ℕ) (ts : List ℕ) (zs : List ℤ) (t : ℕ) (z : ℤ) → Tiered lines i ts (deltasFrom zs) → i < promptPlaces
+    → i < length lines → record { tier = t; unused = z } ≡ tierOf (getD lines i noLine) → Tiered lines (i + 1) (set ts i t) (deltasFrom (set zs i z))
+lent-next lines i ts zs t z is h l e =
+    subst⁻¹ (λ (ds : List Delta). Tiered lines (i + 1) (set ts i t) ds) (map-set (λ z. record { 0 = z }) zs i z)
+    (tiered-next lines i ts (deltasFrom zs) t (record { 0 = z }) is h l e)
 
 -- the net deltas of what stands open
 open-deltas : (ts : List ℕ) (ds : List Delta) → length ts ≡ length ds → map (λ p. p .unused) (given.opens ts ds) ≡ deltasIn ds

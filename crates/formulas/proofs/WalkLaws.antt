@@ -1,28 +1,29 @@
 -- The walk over rows: what is added so far, that there is room for the next row, and what is added in the end.
 -- Assumes nothing.
-use mathlib.Core.Path.{_≡_, refl, sym, _∙_, ap, subst, subst₂}
+use mathlib.Core.Path.{_≡_, refl, sym, _∙_, ap, ap₂, subst, subst₂}
 use mathlib.Core.List.{List, [], _∷_, _++_}
 use Prim.Native.Nat.{ℕ, _+_, _-_, _*_, _≤_, _<_}
 use native.Mathlib.Numerals.{add-one}
 use native.Mathlib.Omega.{arith}
-use lib.IntN.{ℤ, _+ℤ_}
+use lib.IntN.{ℤ, natAbs, _+ℤ_, +ℤ-idr}
 use lib.ListN.{length, getD, take, length-take}
 use lib.Seq.{take-suc, take-all}
 use Rattle.account.specs.Check.{mostRows}
 use Rattle.spread.specs.Accepted.{promptPlaces}
 use Rattle.spread.specs.code.Lent.{deltasFrom}
 use Rattle.record.specs.Layout.{Record, day, scenarioCount}
-use Rattle.formulas.specs.Bounds.{mostProduct}
+use Rattle.formulas.specs.Bounds.{mostDelta, mostProduct}
 use Rattle.formulas.specs.Scanning.{total}
 use Rattle.formulas.specs.Deltas.{rowDelta}
 use Rattle.formulas.specs.Margin.{shortOptions, shortLots}
 use Rattle.formulas.specs.declared.rows.Days.{Days}
 use Rattle.formulas.specs.declared.rows.Position.{Position}
 use Rattle.formulas.specs.code.Position.{RowFit, RowRated, RowsFit, AtMost, Added, Bounded, WithRows, products, addsOn, netOn, positionIn, deltasIn}
+use Rattle.formulas.specs.code.Position.{rowsNet}
 use Rattle.formulas.proofs.AddedLaws.{nothing-added, twice, at-most-added, at-most-wider}
 use Rattle.spread.proofs.Lent.{deltas-again}
-use Rattle.formulas.proofs.PositionLaws.{total-append, total-one, net-append, net-one, shorts-append}
-use Rattle.formulas.proofs.PositionBounds.{Rated, total-most, net-most, short-lots-most, each-take}
+use Rattle.formulas.proofs.PositionLaws.{total-append, total-one, net-append, net-one, rows-net-append, shorts-append}
+use Rattle.formulas.proofs.PositionBounds.{Rated, total-most, net-most, rows-net-most, short-lots-most, each-take}
 
 -- one row more
 passed-row : (rows : List Record) (i : ℕ) (row : Record) → i < length rows → getD rows i [] ≡ row → take i rows ++ row ∷ [] ≡ take (i + 1) rows
@@ -49,6 +50,20 @@ nets-room rows count days ns w most i n ms a h =
     (at-most-added promptPlaces count ((mostRows - length rows) * 1000000000) (length (take i rows) * 1000000000)
     (λ j. netOn (take i rows) (getD days j 0)) ns ms
     most a (λ j l. net-most (take i rows) (each-take RowFit rows i (w .each)) (getD days j 0)))
+
+-- the net delta of all rows together with it, and that there is room for it
+pub rows-net-next : (rows : List Record) (i : ℕ) (z r : ℤ) (row : Record) → i < length rows → getD rows i [] ≡ row → z ≡ rowsNet (take i rows)
+    → r ≡ z +ℤ rowDelta row → r ≡ rowsNet (take (i + 1) rows)
+rows-net-next rows i z r row h e so-far f =
+    f
+    ∙ ap₂ _+ℤ_ so-far (sym (+ℤ-idr (rowDelta row)))
+    ∙ sym (rows-net-append (take i rows) (row ∷ []))
+    ∙ ap rowsNet (passed-row rows i row h e)
+
+pub rows-net-room : (rows : List Record) → RowsFit rows → (i : ℕ) (z : ℤ) → z ≡ rowsNet (take i rows) → natAbs z ≤ mostDelta
+rows-net-room rows w i z e =
+    let most = rows-net-most (take i rows) (each-take RowFit rows i (w .each)) in
+    omega (arith, ap natAbs e, length-take i rows, w .few)
 
 -- totals us, nets ms and short lots v are ts, ns and u with the first i rows
 pub record SoFar (rates : List Record) (unit : ℕ) (rows : List Record) (count : ℕ) (days : List ℕ) (ts ns : List ℤ) (u i : ℕ) (us ms : List ℤ)

@@ -23,6 +23,7 @@ ghost use mathlib.Core.Path.{_≡_};
 ghost use mathlib.Core.Bool.{_&&_};
 ghost use lib.Dec.{eqb};
 ghost use Prim.Native.Nat.{_*_, _≤_, _<_};
+ghost use lib.ListN.{length};
 ghost use Rattle.account.specs.Records.{records};
 ghost use Rattle.formulas.specs.Bounds.{mostFormed, mostCharge, mostCredit};
 ghost use Rattle.formulas.specs.Charges.{spreadCharge, interpromptCharge, promptCharge, promptCharges};
@@ -31,6 +32,7 @@ ghost use Rattle.formulas.specs.code.Sums.{interleaved, SpreadRoom, Spre
 ghost use Rattle.formulas.specs.code.Table.{earnerAt, earnsFrom, EarnerRoom, EntryRoom, EarnedRoom, WithEntry, WalkRoom, EarnedBy};
 ghost use Rattle.account.specs.Check.{mostContracts, mostPrompts, mostSpreads};
 ghost use Rattle.record.specs.Layout.{ratePerSpread, spreadRate, outrightRate, percent};
+ghost use Rattle.spread.specs.Accepted.{spreadPlaces};
 ghost use Rattle.spread.specs.Steps.{useOf};
 ghost use Rattle.spread.specs.code.Lent.{spreadsFrom};
 
@@ -236,11 +238,13 @@ pub(crate) fn credits(
     units: &[u64; CONTRACTS],
     prices: &[u64; CONTRACTS],
     nets: &[u64; CONTRACTS],
-    first: [Spreads; MOST_SPREADS],
-    second: [Spreads; MOST_SPREADS],
+    first: &[u64; MOST_SPREADS],
+    second: &[u64; MOST_SPREADS],
 ) -> [u64; CONTRACTS]
-    requires { ⌜ WalkRoom (earnerAt (now units) (now prices) (now nets)) (records (now entries)) first second ⌝ }
-    ensures { λ r. ⌜ EarnedBy (earnerAt (now (units .entry)) (now (prices .entry)) (now (nets .entry))) (records (now (entries .entry))) first second r ⌝ }
+    requires { ⌜ WalkRoom (earnerAt (now units) (now prices) (now nets)) (records (now entries)) (spreadsFrom (now first)) (spreadsFrom (now second))
+        × ((length (now first) ≡ spreadPlaces) × (length (now second) ≡ spreadPlaces)) ⌝ }
+    ensures { λ r. ⌜ EarnedBy (earnerAt (now (units .entry)) (now (prices .entry)) (now (nets .entry))) (records (now (entries .entry)))
+        (spreadsFrom (now (first .entry))) (spreadsFrom (now (second .entry))) r ⌝ }
 {
     let count = entries.len() / RECORD_BYTES;
     let mut earned = [0u64; CONTRACTS];
@@ -248,7 +252,15 @@ pub(crate) fn credits(
     while i < count {
         let at = i * RECORD_BYTES;
         let e = &entries[at..at + RECORD_BYTES];
-        add_credits(&mut earned, units, prices, nets, e, first[i], second[i]);
+        add_credits(
+            &mut earned,
+            units,
+            prices,
+            nets,
+            e,
+            Spreads(first[i]),
+            Spreads(second[i]),
+        );
         i += 1;
     }
     earned

@@ -7,53 +7,42 @@ use crate::tables::intercontract_table;
 use account::parts::CONTRACTS;
 use exact::signed::magnitude;
 use record::bytes::RECORD_BYTES;
-use spread::Delta;
 use spread::MOST_PROMPTS;
-use spread::Prompts;
-use spread::book::Book;
-use spread::book::book_of_accepted;
+use spread::MOST_SPREADS;
+use spread::book::put_book;
 ghost use mathlib.Core.Path.{_≡_};
-ghost use mathlib.Core.List.{map};
 ghost use Prim.Native.Nat.{ℕ, _≤_, _<_};
-ghost use lib.ListN.{getD, take, replicate};
+ghost use lib.ListN.{length, getD, replicate};
 ghost use Rattle.account.specs.Check.{mostContracts};
 ghost use Rattle.account.specs.Records.{records};
-ghost use Rattle.spread.specs.Steps.{steps};
-ghost use Rattle.formulas.specs.Deltas.{intercontract};
+ghost use Rattle.spread.specs.Accepted.{promptPlaces, spreadPlaces};
+ghost use Rattle.spread.specs.code.Lent.{spreadsFrom, promptsIn};
 ghost use Rattle.formulas.specs.code.Lines.{LineWithin, noLine};
-ghost use Rattle.formulas.specs.code.Promised.{BookOf};
-ghost use Rattle.formulas.specs.code.Table.{tierOf, TiersFrom, TableRoom, LinesRise, EarnerOf, earnerAt, EarnersOf, ByLine};
+ghost use Rattle.formulas.specs.code.Table.{TiersFrom, TableRoom, LinesRise, EarnerOf, earnerAt, EarnersOf, ByLine};
 ghost use Rattle.formulas.specs.code.Table.{CreditsRoom, CreditsOf, tableFirsts, tableSeconds};
 ghost use Rattle.formulas.specs.code.Within.{EntriesFit};
 
-// The contracts as the spread steps take them.
-fn tiers_of(count: usize, lines: [Line; CONTRACTS]) -> Prompts
-    requires { ⌜ (count ≤ mostContracts) × ((k : ℕ) → k < count → LineWithin (getD lines k noLine)) ⌝ }
-    ensures { λ r. ⌜ TiersFrom count lines r ⌝ }
+// The contracts as the spread steps take them, in lent places: their numbers and their net deltas.
+pub fn put_contract_tiers(
+    count: usize,
+    lines: [Line; CONTRACTS],
+    tiers: &mut [u8; MOST_PROMPTS],
+    nets: &mut [i64; MOST_PROMPTS],
+)
+    requires { ⌜ ((count ≤ mostContracts) × ((k : ℕ) → k < count → LineWithin (getD lines k noLine)))
+        × ((length (now tiers) ≡ promptPlaces) × (length (now nets) ≡ promptPlaces)) ⌝ }
+    ensures { λ _. ⌜ TiersFrom count lines (promptsIn count (now (tiers .exit)) (now (nets .exit)))
+        × ((length (now (tiers .exit)) ≡ promptPlaces) × (length (now (nets .exit)) ≡ promptPlaces)) ⌝ }
 {
-    let mut tiers = [0u8; MOST_PROMPTS];
-    let mut nets = [Delta(0); MOST_PROMPTS];
     let mut i = 0;
     while i < count {
         let line = lines[i];
         tiers[i] = line.contract as u8;
         let net = line.net;
-        nets[i] = net;
+        let number = net.0;
+        nets[i] = number;
         i += 1;
     }
-    Prompts {
-        count: count,
-        tier: tiers,
-        net: nets,
-    }
-}
-
-// The book of the intercontract spreads, over the contracts.
-fn table_book(count: usize, lines: [Line; CONTRACTS], entries: &[u8]) -> Book
-    requires { ⌜ TableRoom count lines (records (now entries)) ⌝ }
-    ensures { λ r. ⌜ BookOf (steps (map intercontract (records (now (entries .entry))))) (map tierOf (take count lines)) r ⌝ }
-{
-    book_of_accepted(tiers_of(count, lines), intercontract_table(entries))
 }
 
 fn earner_of(line: Line) -> Earner
@@ -111,18 +100,19 @@ fn credits_by_line(
     credits
 }
 
-// Each contract's credits from the entries of the table.
-fn credits_of(
+// Each contract's credits from the entries of the table, by the numbers that these formed.
+pub fn credits_of(
     count: usize,
     lines: [Line; CONTRACTS],
     entries: &[u8],
-    book: Book,
+    first: &[u64; MOST_SPREADS],
+    second: &[u64; MOST_SPREADS],
 ) -> [Amount; CONTRACTS]
-    requires { ⌜ EntriesFit (records (now entries)) × CreditsRoom count lines (records (now entries)) (book .first) (book .second) ⌝ }
-    ensures { λ r. ⌜ CreditsOf count lines (records (now (entries .entry))) (book .first) (book .second) r ⌝ }
+    requires { ⌜ (EntriesFit (records (now entries))
+        × CreditsRoom count lines (records (now entries)) (spreadsFrom (now first)) (spreadsFrom (now second)))
+        × ((length (now first) ≡ spreadPlaces) × (length (now second) ≡ spreadPlaces)) ⌝ }
+    ensures { λ r. ⌜ CreditsOf count lines (records (now (entries .entry))) (spreadsFrom (now (first .entry))) (spreadsFrom (now (second .entry))) r ⌝ }
 {
-    let first = book.first;
-    let second = book.second;
     let mut units = [0u64; CONTRACTS];
     let mut prices = [0u64; CONTRACTS];
     let mut nets = [0u64; CONTRACTS];
@@ -141,6 +131,22 @@ pub fn table_credits(count: usize, lines: [Line; CONTRACTS], entries: &[u8]) -> 
     if entries.len() < RECORD_BYTES {
         return [Amount(0); CONTRACTS];
     }
-    let book = table_book(count, lines, entries);
-    credits_of(count, lines, entries, book)
+    let mut tiers = [0u8; MOST_PROMPTS];
+    let mut nets = [0i64; MOST_PROMPTS];
+    put_contract_tiers(count, lines, &mut tiers, &mut nets);
+    let mut first = [0; MOST_SPREADS];
+    let mut second = [0; MOST_SPREADS];
+    let mut used = [0; MOST_PROMPTS];
+    let mut unused = [0; MOST_PROMPTS];
+    put_book(
+        count,
+        &tiers,
+        &nets,
+        intercontract_table(entries),
+        &mut first,
+        &mut second,
+        &mut used,
+        &mut unused,
+    );
+    credits_of(count, lines, entries, &first, &second)
 }

@@ -3,8 +3,9 @@ ghost use mathlib.Core.Path.{_≡_};
 ghost use mathlib.Core.Bool.{true};
 ghost use mathlib.Core.List.{List, [], _∷_, _++_};
 ghost use Prim.Native.Nat.{ℕ, _<_, _≤_, _+_, _-_, _*_};
-ghost use lib.IntN.{pos, natAbs, negℤ, _-ℤ_, _*ℤ_};
+ghost use lib.IntN.{pos, natAbs, negℤ, _+ℤ_, _-ℤ_, _*ℤ_};
 ghost use Rattle.spread.specs.Accepted.{promptPlaces};
+ghost use Rattle.spread.specs.code.Lent.{deltasFrom};
 ghost use Rattle.exact.specs.Rounding.{halfAwayTo};
 ghost use lib.ListN.{length, getD, replicate};
 ghost use Rattle.record.specs.Layout.{Record, day, hundredThousand, mostUnit, scenarioCount};
@@ -18,7 +19,7 @@ ghost use Rattle.formulas.specs.Margin as Margin;
 ghost use Rattle.formulas.specs.Margin.{shortOptions};
 ghost use Rattle.formulas.specs.code.Position.{RowFit, RowsFit, RatedBy, FactorsFit, Sized, AtMost, Added, DaysOf, products, ownProducts};
 ghost use Rattle.formulas.specs.code.Position.{convertedProducts, netOn, addsOn, withNets, FirstPlace, Rising, PositionOf, positionIn, Bounded, WithRows};
-ghost use Rattle.formulas.specs.code.Position.{HasRows, deltasIn};
+ghost use Rattle.formulas.specs.code.Position.{HasRows, deltasIn, rowsNet};
 ghost use Rattle.formulas.specs.declared.rows.Position.{Position};
 use account::rates::Factors;
 use account::rates::Rates;
@@ -62,6 +63,9 @@ pub struct Days {
 
 // Every day is as early, or earlier.
 const LATEST: u32 = 4_294_967_295;
+
+// The last byte of a day has so many values.
+const GUESSES: usize = 256;
 
 // Lots × value × loss, rounded to the contract's unit.
 fn product(each: i64, loss: i64, unit: u64) -> i64
@@ -235,12 +239,37 @@ fn first_place(days: &[u32; MOST_PROMPTS], start: usize, count: usize, d: u32) -
     j
 }
 
-// The first place of a day. Where the days rise it is looked for at once where it must stand.
-fn place_of(days: &[u32; MOST_PROMPTS], count: usize, rising: bool, d: u32) -> usize
+// For each last byte of a day a place where such a day may stand. Nothing is promised of it: a guess is compared before it is used.
+fn guesses(days: &[u32; MOST_PROMPTS], count: usize) -> [u8; GUESSES]
+    requires { ⌜ count ≤ mostPrompts ⌝ }
+{
+    let mut guess = [0u8; GUESSES];
+    let mut j = 0;
+    while j < count {
+        guess[(days[j] % 256) as usize] = j as u8;
+        j += 1;
+    }
+    guess
+}
+
+// The first place of a day. Where the days rise it is looked for by a guess, then at once where it must stand.
+fn place_of(
+    days: &[u32; MOST_PROMPTS],
+    guess: &[u8; GUESSES],
+    count: usize,
+    rising: bool,
+    d: u32,
+) -> usize
     requires { ⌜ (count ≤ mostPrompts) × (rising ≡ true → Rising count (now days)) ⌝ }
     ensures { λ r. ⌜ FirstPlace (now (days .entry)) 0 count d r ⌝ }
 {
     if rising {
+        let guessed = (guess[(d % 256) as usize] % MOST_PROMPTS as u8) as usize;
+        if guessed < count {
+            if days[guessed] == d {
+                return guessed;
+            }
+        }
         let place = earlier(days, d) as usize;
         if place < count {
             if days[place] == d {
@@ -266,6 +295,7 @@ fn next_place(days: &[u32; MOST_PROMPTS], count: usize, rising: bool, j: usize) 
 fn add_delta(
     nets: &mut [i64; MOST_PROMPTS],
     days: &[u32; MOST_PROMPTS],
+    guess: &[u8; GUESSES],
     count: usize,
     rising: bool,
     d: u32,
@@ -275,7 +305,7 @@ fn add_delta(
         × ((rising ≡ true → Rising count (now days)) × ((natAbs (more .0) ≤ mostDelta) × AtMost promptPlaces mostDelta (now nets))) ⌝ }
     ensures { λ r. ⌜ Added count (addsOn (now (days .entry)) d (more .0)) (now (nets .entry)) (now (nets .exit)) ⌝ }
 {
-    let mut j = place_of(days, count, rising, d);
+    let mut j = place_of(days, guess, count, rising, d);
     while j < count {
         nets[j] = plus(nets[j], more.0);
         j = next_place(days, count, rising, j);
@@ -304,6 +334,7 @@ pub fn add_rows(
     let prompts = days.count;
     let its_days = days.day;
     let rising = rise(&its_days, prompts);
+    let guess = guesses(&its_days, prompts);
     let mut shorts = 0;
     let mut i = 0;
     while i < count {
@@ -312,6 +343,7 @@ pub fn add_rows(
         add_delta(
             nets,
             &its_days,
+            &guess,
             prompts,
             rising,
             day_of(row),
@@ -334,6 +366,7 @@ fn add_nets(nets: &mut [i64; MOST_PROMPTS], days: Days, rows: &[u8])
     let prompts = days.count;
     let its_days = days.day;
     let rising = rise(&its_days, prompts);
+    let guess = guesses(&its_days, prompts);
     let mut i = 0;
     while i < count {
         let at = i * RECORD_BYTES;
@@ -341,6 +374,7 @@ fn add_nets(nets: &mut [i64; MOST_PROMPTS], days: Days, rows: &[u8])
         add_delta(
             nets,
             &its_days,
+            &guess,
             prompts,
             rising,
             day_of(row),
@@ -372,15 +406,50 @@ pub fn with_rows(p: Position, days: Days, rates: Rates, unit: u64, rows: &[u8]) 
     }
 }
 
-// The net deltas alone of what a contract's rows come to.
+// The net deltas alone of what a contract's rows come to, put in a lent array of zeros.
+pub fn put_net_deltas(nets: &mut [i64; MOST_PROMPTS], prompts: &[u8], rows: &[u8])
+    requires { ⌜ (recordCount (now prompts) ≤ mostPrompts) × (RowsFit (records (now rows)) × (now nets ≡ replicate promptPlaces (pos 0))) ⌝ }
+    ensures { λ _. ⌜ ((rates : List Record) (unit : ℕ) → PositionOf rates unit (records (now (prompts .entry))) (records (now (rows .entry)))
+        (withNets rates unit (records (now (rows .entry))) (deltasFrom (now (nets .exit))))) ⌝ }
+{
+    add_nets(nets, days_of(prompts), rows);
+}
+
+// The same in an array of their own.
 pub fn nets_of(prompts: &[u8], rows: &[u8]) -> [Delta; MOST_PROMPTS]
     requires { ⌜ (recordCount (now prompts) ≤ mostPrompts) × RowsFit (records (now rows)) ⌝ }
     ensures { λ r. ⌜ ((rates : List Record) (unit : ℕ) → PositionOf rates unit (records (now (prompts .entry))) (records (now (rows .entry)))
         (withNets rates unit (records (now (rows .entry))) r)) ⌝ }
 {
     let mut nets = [0i64; MOST_PROMPTS];
-    add_nets(&mut nets, days_of(prompts), rows);
+    put_net_deltas(&mut nets, prompts, rows);
     deltas_from(nets)
+}
+
+// A net delta with one row more.
+fn net_with(net: Delta, row: &[u8]) -> Delta
+    requires { ⌜ RowFit (now row) × (natAbs (net .0) ≤ mostDelta) ⌝ }
+    ensures { λ r. ⌜ r .0 ≡ net .0 +ℤ rowDelta (now (row .entry)) ⌝ }
+{
+    let more = row_delta(row);
+    Delta(plus(net.0, more.0))
+}
+
+// The net delta of rows together, of whatever days: that of a contract, each of whose rows is of one prompt's day.
+pub fn rows_net(rows: &[u8]) -> Delta
+    requires { ⌜ RowsFit (records (now rows)) ⌝ }
+    ensures { λ r. ⌜ Sized mostDelta (rowsNet (records (now (rows .entry)))) (r .0) ⌝ }
+{
+    let count = rows.len() / RECORD_BYTES;
+    let mut net = Delta(0);
+    let mut i = 0;
+    while i < count {
+        let at = i * RECORD_BYTES;
+        let more = net_with(net, &rows[at..at + RECORD_BYTES]);
+        net = more;
+        i += 1;
+    }
+    net
 }
 
 // Totals with others taken away, one by one.

@@ -6,7 +6,7 @@ use native.Mathlib.Decide.{ℕ-discrete}
 use native.Mathlib.Omega.{arith}
 use mathlib.Core.Path.{_≡_, refl, sym, ap, ap₂, _∙_, subst, subst⁻¹}
 use mathlib.Core.Bool.{true}
-use mathlib.Core.List.{List, [], _∷_, map}
+use mathlib.Core.List.{List, [], _∷_, map, map-map}
 use lib.IntN.{ℤ, pos, natAbs}
 use lib.ListN.{length, getD, take, set, replicate, length-set, length-map, getD-replicate}
 use lib.Seq.{getD-set-same, getD-set-other, getD-take, length-take-le}
@@ -20,8 +20,11 @@ use Rattle.account.specs.code.Standing.{PartOf}
 use Rattle.account.specs.Check.{mostContracts}
 use Rattle.spread.specs.code.Book.{byPlace, deltaEntry}
 use Rattle.spread.specs.Steps.{Open, steps, numbers, usedOf, unusedOf}
+use Rattle.spread.specs.declared.Prompts.{Prompts}
 use Rattle.spread.specs.declared.Spreads.{Spreads}
+use Rattle.spread.specs.declared.Table.{Table}
 use Rattle.spread.specs.declared.book.Book.{Book}
+use Rattle.spread.specs.Accepted as given
 use Rattle.spread.specs.Accepted.{promptPlaces, spreadPlaces}
 use Rattle.margin.specs.declared.over.Lines.{Lines}
 use Rattle.formulas.specs.declared.amount.Amount.{Amount}
@@ -33,14 +36,14 @@ use Rattle.formulas.specs.Deltas.{intercontract}
 use Rattle.margin.specs.Figures.{figures, figuresOver}
 use Rattle.formulas.specs.code.Lines.{noLine, figuresFrom}
 use Rattle.margin.specs.code.Numbers.{LinesWithin}
-use Rattle.formulas.specs.code.Promised.{BookOf, LineOf}
+use Rattle.formulas.specs.code.Promised.{BookOf, FormedOf, LineOf}
 use Rattle.margin.specs.Books.{bookBy, tableQuestion}
 use Rattle.margin.specs.code.Asked.{BookIs}
-use Rattle.margin.specs.code.Beside.{Unspread}
-use Rattle.margin.specs.code.Lined.{LinesOf}
+use Rattle.margin.specs.code.Lined.{LinesOf, TiersIn}
 use Rattle.margin.proofs.AnswerLaws.{book-by-steps}
-use Rattle.formulas.specs.code.Sums.{interleaved, spreadsAt}
-use Rattle.formulas.specs.code.Table.{tierOf, TableRoom, LinesRise, CreditsRoom, CreditsOf, earns, tableFirsts, tableSeconds}
+use Rattle.formulas.specs.code.Sums.{interleaved, deltasIn, spreadsAt}
+use Rattle.formulas.specs.code.Tables.{TableOf}
+use Rattle.formulas.specs.code.Table.{tierOf, TiersFrom, TableRoom, LinesRise, CreditsRoom, CreditsOf, earns, tableFirsts, tableSeconds}
 use Rattle.margin.proofs.AcceptLaws.{entries-within, numbers-rise}
 use Rattle.formulas.proofs.BookLaws.{first-at, second-at, over-arrays}
 use Rattle.formulas.proofs.CreditLaws.{credits-by}
@@ -66,6 +69,36 @@ lined-next account i ls l is h e =
         (subst⁻¹ (LineOf (partsIn account (getD (contractsOf account) i []))) (getD-set-same ls i l noLine (omega (arith, is .places))) e)
     go j k (no q) =
         subst⁻¹ (LineOf (partsIn account (getD (contractsOf account) j []))) (getD-set-other ls i j l noLine q) (is .each j (omega (arith, q)))
+
+-- ---- net deltas, filled place by place
+
+pub record NetsTo (account : List Record) (i : ℕ) (nets : List ℤ) : Type 0 where
+  pub places : length nets ≡ promptPlaces
+  pub each : (j : ℕ) → j < i → getD nets j (pos 0) ≡ contractNet (partsIn account (getD (contractsOf account) j []))
+
+pub nets-next : (account : List Record) (i : ℕ) (nets : List ℤ) (z : ℤ) → NetsTo account i nets → i < promptPlaces
+    → z ≡ contractNet (partsIn account (getD (contractsOf account) i [])) → NetsTo account (i + 1) (set nets i z)
+nets-next account i nets z is h e =
+    record { places = rw length-set (is .places); each = λ j k. go j k (ℕ-discrete j i) }
+  where
+    go : (j : ℕ) → j < i + 1 → Dec (j ≡ i) → getD (set nets i z) j (pos 0) ≡ contractNet (partsIn account (getD (contractsOf account) j []))
+    go j k (yes q) =
+        subst⁻¹ (λ (n : ℕ). getD (set nets i z) n (pos 0) ≡ contractNet (partsIn account (getD (contractsOf account) n []))) q
+        (getD-set-same nets i z (pos 0) (omega (arith, is .places)) ∙ e)
+    go j k (no q) = getD-set-other nets i j z (pos 0) q ∙ is .each j (omega (arith, q))
+
+nets-from : (account : List Record) (rs : List Record) (nets : List ℤ) → length rs ≤ length nets
+    → ((i : ℕ) → i < length rs → getD nets i (pos 0) ≡ contractNet (partsIn account (getD rs i [])))
+    → take (length rs) nets ≡ map (λ p. p .unused) (map asTier (map (partsIn account) rs))
+nets-from account [] nets h e = refl
+nets-from account (r ∷ rs) [] h e = absurd (not-suc-le-zero h)
+nets-from account (r ∷ rs) (z ∷ nets) h e =
+    ap₂ _∷_ (e 0 (suc-le-suc zero-le)) (nets-from account rs nets (le-of-suc-le-suc h) (λ i m. e (suc i) (suc-le-suc m)))
+
+pub nets-all : (account : List Record) (i : ℕ) (nets : List ℤ) → NetsTo account i nets → i ≡ length (contractsOf account) → i ≤ mostContracts
+    → take (length (contractsOf account)) nets ≡ map (λ p. p .unused) (map asTier (contracts account))
+nets-all account i nets is all few =
+    nets-from account (contractsOf account) nets (omega (arith, is .places)) (λ j h. is .each j (omega arith))
 
 -- ---- from places to lists
 
@@ -102,6 +135,25 @@ module _ (account : List Record) (all : Lines) (is : LinesOf account all) where
       let e : length (contracts account) ≡ all .count = length-map (contractsOf account) (partsIn account) ∙ sym (is .count-is) in
       subst (λ (m : ℕ). Lined (contracts account) (take m (all .line))) e
       (lined-from (contracts account) (partsIn account []) (all .line) (omega (arith, e, is .few, is .places)) (λ i h. its-line i (omega (arith, e))))
+
+  -- the contracts as tiers, by their lines
+  pub lined-tiers : (p : Prompts) → TiersFrom (all .count) (all .line) p → TiersIn account p
+  lined-tiers p tiers =
+      let ks = contracts account in
+      let ls = take (all .count) (all .line) in
+      let same = tiers-are ks ls all-lined in
+      record {
+        count-is = tiers .count-is ∙ is .count-is;
+        few = omega (arith, tiers .count-is, is .few);
+        opens-are = tiers .opens-are ∙ same;
+        nets-are =
+            ap (λ (n : ℕ). take n (deltasIn (p .net))) (tiers .count-is)
+            ∙ tiers .nets-are
+            ∙ sym (map-map (λ q. q .unused) tierOf ls)
+            ∙ ap (map (λ q. q .unused)) same
+            ∙ map-map (λ q. q .unused) asTier ks;
+        tiers-sound = subst (λ (ps : List Open). given.every given.soundPrompt ps ≡ true) same (tiers-sound ks ls all-lined);
+      }
 
 module _ (account : List Record) (law : Lawful account) (all : Lines) (is : LinesOf account all) (part : List ℕ) (ep : PartOf account entryPart part) where
   abbrev n : ℕ
@@ -166,19 +218,41 @@ module _ (account : List Record) (law : Lawful account) (all : Lines) (is : Line
         entries-within = entries-fit account law part ep;
       }
 
-  -- the book of the table, run or not
-  abbrev pub its : Book
-  its =
+  -- a book of the table that formed these numbers
+  abbrev pub bookOf : List Spreads → List Spreads → Book
+  bookOf firsts seconds =
       record {
         accepted = true;
-        first = tableFirsts n (all .line) (records part);
-        second = tableSeconds n (all .line) (records part);
+        first = firsts;
+        second = seconds;
         used = byPlace promptPlaces (deltaEntry (usedOf (steps (map intercontract (records part))) (map tierOf ls)));
         unused = byPlace promptPlaces (deltaEntry (unusedOf (steps (map intercontract (records part))) (map tierOf ls)));
       }
 
+  pub book-formed : (firsts seconds : List Spreads) → FormedOf (steps (map intercontract (records part))) (map tierOf ls) firsts seconds
+      → BookOf (steps (map intercontract (records part))) (map tierOf ls) (bookOf firsts seconds)
+  book-formed firsts seconds is =
+      record { first-is = is .first-is; second-is = is .second-is; used-is = refl; unused-is = refl }
+
+  -- the table's own, run or not
+  abbrev pub its : Book
+  its = bookOf (tableFirsts n (all .line) (records part)) (tableSeconds n (all .line) (records part))
+
   pub its-book : BookOf (steps (map intercontract (records part))) (map tierOf ls) its
   its-book = record { first-is = refl; second-is = refl; used-is = refl; unused-is = refl }
+
+  -- where its steps are run, it is the question's book
+  pub run-book : (p : Prompts) (t : Table) → TiersFrom n (all .line) p → TableOf intercontract part t
+      → BookIs account tableQuestion (given.stepsOf t) (given.openOf p)
+  run-book p t tiers table =
+      record {
+        asked-is = refl;
+        is =
+            book-by-steps account law tableQuestion refl
+            ∙ ap₂ bookBy
+            (ap (λ (es : List Record). steps (map intercontract es)) (sym (entries-part account law part ep)) ∙ sym (ap steps (table .spreads-are)))
+            (sym (tiers .opens-are ∙ tiers-are ks ls lined));
+      }
 
   module _ (b : Book) (bk : BookOf (steps (map intercontract (records part))) (map tierOf ls) b) where
     abbrev ns : List ℕ
@@ -265,16 +339,14 @@ module _ (account : List Record) (law : Lawful account) (all : Lines) (is : Line
           ap (map pos) (figures-are (records part) ks ls (take n cs) lined credited)
           ∙ ap (λ (x : List Record). map pos (figuresOver x ks)) (entries-part account law part ep)
 
--- the book of a table without spreads goes by the lines
-pub nets-book : (account : List Record) (records : ℕ) (all : Lines) → Unspread account records all
-    → BookIs account tableQuestion [] (map tierOf (take (all .count) (all .line)))
-nets-book account records all is =
+-- the book of a table without spreads goes by the contracts
+pub unspread-book : (account : List Record) → Lawful account → entriesOf account ≡ [] → BookIs account tableQuestion [] (map asTier (contracts account))
+unspread-book account law none =
     record {
       asked-is = refl;
       is =
-          book-by-steps account (is .lawful) tableQuestion refl
-          ∙ ap₂ (λ (es : List Record) (ps : List Open). bookBy (steps (map intercontract es)) ps) (is .none)
-          (sym (tiers-are (contracts account) (take (all .count) (all .line)) (all-lined account all (is .lines))));
+          book-by-steps account law tableQuestion refl
+          ∙ ap (λ (es : List Record). bookBy (steps (map intercontract es)) (map asTier (contracts account))) none;
     }
 
 -- without intercontract spreads no contract has a credit

@@ -1,15 +1,15 @@
 -- A question's book and uses go by its steps and by what they go over: the numbers that are made of them answer it.
 -- Assumes nothing.
-use Prim.Native.Nat.{ℕ, zero, suc, _+_, _*_, _≤_}
-use native.Mathlib.Nat.{le-trans, mul-le-mul-right, le-of-suc-le-suc, not-suc-le-zero}
+use Prim.Native.Nat.{ℕ, _+_, _*_, _≤_}
+use native.Mathlib.Nat.{le-trans, mul-le-mul-right}
 use native.Mathlib.Omega.{arith}
 use mathlib.Core.Path.{_≡_, refl, sym, ap, ap₂, _∙_}
 use mathlib.Core.Bool.{Bool, true, false, cond}
 use mathlib.Core.List.{List, [], _∷_, _++_, map}
 use borrow.Author.Tests.{eqb-true, eqb-false}
 use lib.Dec.{eqb}
-use lib.IntN.{ℤ, pos, +ℤ-invr}
-use lib.ListN.{length, getD, take, replicate, length-append, length-map}
+use lib.IntN.{ℤ, pos}
+use lib.ListN.{length, getD, take, length-append, length-map}
 use lib.Seq.{sets, length-take-le}
 use Rattle.record.specs.Layout.{Record, tier}
 use Rattle.account.specs.Lawful.{Lawful}
@@ -17,9 +17,9 @@ use Rattle.account.specs.Records.{records, recordCount}
 use Rattle.account.specs.Parts.{promptsOf, rowsOf, entriesOf}
 use Rattle.spread.specs.Accepted as given
 use Rattle.spread.specs.Accepted.{openOf, spreadsOf, every, soundPrompt, soundPrompts, soundTable, sound, promptPlaces, spreadPlaces}
-use Rattle.spread.specs.code.Book.{Booked, byPlace}
+use Rattle.spread.specs.code.Book.{Booked}
 use Rattle.spread.specs.code.Lent.{spreadsFrom, bookIn}
-use Rattle.spread.specs.Steps.{Open, Taker, minus, steps, numbers, usedOf, unusedOf}
+use Rattle.spread.specs.Steps.{Open, Taker, steps, numbers, usedOf, unusedOf}
 use Rattle.spread.specs.Touches.{touches, mostTouches}
 use Rattle.spread.specs.Uses.{usesOf}
 use Rattle.spread.specs.declared.Prompts.{Prompts}
@@ -28,7 +28,6 @@ use Rattle.spread.specs.declared.Table.{Table}
 use Rattle.spread.proofs.Both.{and-left, and-right}
 use Rattle.spread.proofs.Demand3.{one-per-step}
 use Rattle.spread.proofs.Every.{open-length}
-use Rattle.spread.proofs.Filling.{entries-length}
 use Rattle.spread.proofs.Gathering.{few, all-sound, few-in-table}
 use Rattle.spread.proofs.Touching.{touches-few}
 use Rattle.spread.proofs.Lengths.{steps-length, used-length, unused-length}
@@ -41,7 +40,8 @@ use Rattle.margin.specs.code.Numbers.{PromptsLent, SpreadsSigned, number
 use Rattle.formulas.specs.code.Promised.{BookOf, BookRoom}
 use Rattle.margin.specs.code.Asked.{AskedBy, BookIs}
 use Rattle.margin.specs.declared.asking.Question.the-variants.{Book}
-use Rattle.margin.specs.Questions.{afterOver}
+use Rattle.account.specs.declared.answers.Answer.the-variants.{Accepted}
+use Rattle.margin.specs.Questions.{answerOver, afterOver}
 use Rattle.formulas.specs.code.Sums.{interleaved}
 use Rattle.margin.specs.Uses.{uses, stepsFor, opensFor}
 use Rattle.margin.proofs.AskedLaws.{contract-asked, table-asked, threes-length, book-listed}
@@ -49,16 +49,12 @@ use Rattle.formulas.proofs.BookLaws.{first-at, second-at, book-accepted, touche
 use Rattle.formulas.proofs.LineLaws.{opens-first, opens-length}
 use Rattle.formulas.proofs.RecordLaws.{count-is}
 use Rattle.spread.proofs.Lent.{deltas-again}
-use Rattle.formulas.proofs.LentLaws.{spread-from}
+use Rattle.formulas.proofs.LentLaws.{spread-from, lent-length}
 use Rattle.margin.proofs.NumberLaws.{sets-front}
-use Rattle.margin.proofs.QuestionLaws.{asked-many, accepted-with}
+use Rattle.margin.proofs.QuestionLaws.{Answers, asked-many, accepted-with}
 use Rattle.formulas.proofs.StepBounds.{number-within}
 use Rattle.margin.proofs.TierLaws.{sound-sizes}
 use Rattle.margin.proofs.UsesLaws.{uses-by-steps}
-
--- as many numbers are lent as an array has places
-lent-length {ℓ} : {A B : Type ℓ} (f : A → B) (n : ℕ) (g : ℕ → B) (xs : List A) → map f xs ≡ byPlace n g → length xs ≡ n
-lent-length f n g xs e = sym (length-map xs f) ∙ ap length e ∙ entries-length n g
 
 -- ---- what is unused at first is the net delta
 
@@ -156,21 +152,6 @@ module _ (spreads : List Spread) (ps : List Open) (n m : ℕ) (en : length ps �
       ∙ ap (λ (zs : List ℤ). threes zs (usedOf ss ps) (unusedOf ss ps) ++ map pos (numbers ss ps)) e)
       t
 
--- of a book without spreads nothing is used
-none-used : (n m : ℕ) (zs : List ℤ) → n ≤ m
-    → threes (take n zs) (take n (replicate m (pos 0))) (take n zs) ≡ threes (take n zs) (minus (take n zs) (take n zs)) (take n zs)
-none-used zero m zs h = refl
-none-used (suc n) zero zs h = absurd (not-suc-le-zero h)
-none-used (suc n) (suc m) [] h = refl
-none-used (suc n) (suc m) (z ∷ zs) h =
-    ap₂ (λ (x : ℤ) (xs : List ℤ). z ∷ x ∷ z ∷ xs) (sym (+ℤ-invr z)) (none-used n m zs (le-of-suc-le-suc h))
-
-pub unspread-are : (n : ℕ) (nets : List ℤ) (ps : List Open) → n ≤ promptPlaces → take n nets ≡ map (λ p. p .unused) ps
-    → numbersIn n 0 nets [] [] (replicate promptPlaces (pos 0)) nets 0 ≡ bookBy [] ps
-unspread-are n nets ps few e =
-    ap (λ (zs : List ℤ). (zs ++ []) ++ (pos 0 ∷ []))
-    (none-used n promptPlaces nets few ∙ ap (λ (zs : List ℤ). threes zs (minus zs zs) zs) e)
-
 module _ (p : Prompts) (t : Table) (lt : length (p .tier) ≡ promptPlaces) (ln : length (p .net) ≡ promptPlaces) (ls : length (t .spread) ≡ spreadPlaces)
     (ok : sound p t ≡ true) where
   prompts-ok : soundPrompts p ≡ true
@@ -190,6 +171,9 @@ module _ (p : Prompts) (t : Table) (lt : length (p .tier) ≡ promptPlaces) (ln 
 
   pub book-long : length (bookBy (given.stepsOf t) (openOf p)) ≡ 3 * p .count + 2 * t .count + 1
   book-long = by-length (spreadsOf t) (openOf p) ∙ ap₂ (λ (x y : ℕ). 3 * x + 2 * y + 1) ps-long spreads-long
+
+  pub run-long : 3 * p .count + 2 * t .count + 1 ≤ longestBook
+  run-long = omega (arith, few-prompts, few-spreads)
 
   pub touched : touches (given.stepsOf t) (openOf p) ≤ mostTouches
   touched = omega (arith, touches-few p t lt ln ok, touches-accepted (given.stepsOf t) (openOf p) p t refl refl ok)
@@ -235,8 +219,8 @@ module _ (part spreads : List ℕ) (nets : List ℤ) (ln : length nets ≡ promp
   its-long : length its ≡ recordCount spreads
   its-long = length-map (records spreads) interprompt ∙ count-is spreads
 
-  os-nets : take (recordCount part) nets ≡ map (λ o. o .unused) os
-  os-nets =
+  pub contract-nets : take (recordCount part) nets ≡ map (λ o. o .unused) os
+  contract-nets =
       ap (λ (n : ℕ). take n nets) (sym (count-is part))
       ∙ sym (ap (map (λ o. o .unused)) (opens-first (records part) nets) ∙ unused-nets (records part) (take (length (records part)) nets) its-nets)
 
@@ -256,17 +240,21 @@ module _ (part spreads : List ℕ) (nets : List ℤ) (ln : length nets ≡ promp
     pub contract-numbers : (n : ℕ) → n ≡ touches (steps its) os
         → numbersIn (recordCount part) (recordCount spreads) nets first second used unused n ≡ bookBy (steps its) os
     contract-numbers n =
-        numbers-are its os (recordCount part) (recordCount spreads) os-long few-records its-long few-its first second used unused is nets n os-nets
+        numbers-are its os (recordCount part) (recordCount spreads) os-long few-records its-long few-its first second used unused is nets n contract-nets
 
 -- ---- an account's answers
 
 -- a book that is written where it has room
-pub book-after : (account : List Record) (question : ℕ) (ss : List (List Taker)) (ps : List Open) (out left : List ℤ) → BookIs account question ss ps
-    → length (bookBy ss ps) ≤ length out → left ≡ sets out 0 (bookBy ss ps) → left ≡ afterOver account (Book question) out
-book-after account question ss ps out left is room e =
-    let enough : length (book account question) ≤ length out = omega (arith, ap length (is .is)) in
-    accepted-with _ (book account question) out left (length (book account question)) (asked-many account (Book question) (length out) (is .asked-is) enough)
-    refl (e ∙ ap (sets out 0) (sym (is .is)) ∙ sets-front (book account question) out enough) .1
+module _ (account : List Record) (question : ℕ) (ss : List (List Taker)) (ps : List Open) (out left : List ℤ) (is : BookIs account question ss ps)
+    (room : length (bookBy ss ps) ≤ length out) (e : left ≡ sets out 0 (bookBy ss ps)) where
+  pub book-written : Answers Accepted left (answerOver account (Book question) (length out)) (book account question) out
+  book-written =
+      let enough : length (book account question) ≤ length out = omega (arith, ap length (is .is)) in
+      accepted-with _ (book account question) out left (length (book account question)) (asked-many account (Book question) (length out) (is .asked-is) enough)
+      refl (e ∙ ap (sets out 0) (sym (is .is)) ∙ sets-front (book account question) out enough)
+
+  pub book-after : left ≡ afterOver account (Book question) out
+  book-after = book-written .1
 
 module _ (account : List Record) (question records : ℕ) (a : Asking) (is : AskedBy account question records a) where
   pub book-same : bookBy (given.stepsOf (a .table)) (openOf (a .prompts)) ≡ book account question

@@ -1,7 +1,7 @@
 -- An account that but for its rows stands in the files: its lines, its tiers and what is asked about, by what each contract's rows
 -- come to.
 -- Assumes nothing.
-use Prim.Native.Nat.{ℕ, _*_, _≤_, _<_}
+use Prim.Native.Nat.{ℕ, _+_, _*_, _≤_, _<_}
 use native.Mathlib.Omega.{arith}
 use mathlib.Core.Path.{_≡_, refl, sym, ap, ap₂, _∙_, subst, subst⁻¹}
 use mathlib.Core.Bool.{Bool, true, false, cond, _||_}
@@ -25,28 +25,31 @@ use Rattle.account.specs.code.Standing.{PartOf, Stands}
 use Rattle.account.specs.Joined.{accountOf}
 use Rattle.account.specs.declared.accounts.Account.{Account}
 use Rattle.account.specs.declared.rates.Rates.{Rates}
-use Rattle.account.specs.Check.{mostPrompts, mostRows}
+use Rattle.account.specs.Check.{mostPrompts, mostRows, mostSpreads}
 use Rattle.formulas.specs.declared.line.Line.{Line}
 use Rattle.formulas.specs.declared.rows.Position.{Position}
 use Rattle.margin.specs.declared.uses.Asking.{Asking}
 use Rattle.margin.specs.code.Beside.{ownOf, unitOf, Besides}
-use Rattle.margin.specs.Books.{bookBy, asks, answered, tableQuestion}
+use Rattle.margin.specs.Books.{book, bookBy, asks, answered, tableQuestion}
 use Rattle.spread.specs.Steps.{Open, steps}
+use Rattle.spread.specs.code.Lent.{deltasFrom}
 use Rattle.formulas.specs.Bounds.{mostDelta}
-use Rattle.formulas.specs.Deltas.{opens, interprompt}
+use Rattle.formulas.specs.Deltas.{opens, interprompt, netDeltas}
 use Rattle.formulas.specs.Contract.{Contract, contracts, contractFrom, partsIn, partsOf, asTier, contractSteps, opensOf, tableSteps}
 use Rattle.margin.specs.code.Lined.{PositionAt, TierIs}
-use Rattle.formulas.specs.code.Position.{PositionOf, positionIn, Bounded, RowsFit, RatedBy}
+use Rattle.formulas.specs.code.Position.{PositionOf, positionIn, withNets, Bounded, RowsFit, RatedBy}
 use Rattle.margin.specs.code.Positions.{ContractIn}
-use Rattle.formulas.specs.code.Promised.{LineOf, PositionFit, BookFit, contractWith}
+use Rattle.formulas.specs.code.Promised.{LineOf, PositionFit, BookFit, BookRoom, contractWith}
 use Rattle.margin.specs.code.Asked.{AskedBy, BookIs}
 use Rattle.formulas.specs.code.Sums.{deltasIn}
 use Rattle.margin.specs.code.Asking.{Asks}
 use Rattle.margin.proofs.AcceptLaws.{none-within, contract-within, rows-rated}
 use Rattle.margin.proofs.AnswerLaws.{book-by-steps}
-use Rattle.margin.proofs.AskedLaws.{count-keep}
-use Rattle.margin.proofs.StandLaws.{kept-at, of-contract, own-by, rows-room, prompts-few, rows-rated-by, position-is, parts-read, parts-told}
-use Rattle.formulas.proofs.ContractLaws.{contract-with}
+use Rattle.margin.proofs.AskedLaws.{count-keep, contract-length, one-book}
+use Rattle.margin.proofs.StandLaws.{kept-at, of-contract, own-by, rows-room, prompts-few, rows-rated-by, position-is, nets-here, parts-read, parts-told}
+use Rattle.margin.proofs.StandLaws.{book-fits}
+use Rattle.formulas.proofs.ContractLaws.{contract-with, book-room}
+use Rattle.formulas.proofs.RecordLaws.{count-is}
 use Rattle.spread.proofs.Lent.{deltas-again}
 use Rattle.formulas.proofs.LineLaws.{opens-first}
 use Rattle.margin.proofs.TierLaws as tiers
@@ -178,22 +181,69 @@ asked-by whole records c prompts spreads p a few is x =
     }
 
 -- its book goes by the net deltas that are lent
-pub book-is : (whole : List Record) (records c : ℕ) (prompts spreads : List Record) (totals nets : List ℤ) (shorts : ℕ) → c ≤ mostContract
-    → ContractIn whole records c prompts spreads (positionIn totals nets shorts) → BookIs whole c (steps (map interprompt spreads)) (opens prompts nets)
-book-is whole records c prompts spreads totals nets shorts few is =
+book-of : (whole : List Record) → Lawful whole → (c : ℕ) → c ≤ mostContract → answered whole c ≡ true → (prompts spreads : List Record) (nets : List ℤ)
+    → prompts ≡ promptsOf c whole → spreads ≡ spreadsOf c whole
+    → take (length (promptsOf c whole)) (deltasIn (deltasFrom nets)) ≡ netDeltas (promptsOf c whole) (rowsOf c whole)
+    → BookIs whole c (steps (map interprompt spreads)) (opens prompts nets)
+book-of whole law c few asked prompts spreads nets ep es en =
     let apart = ne-eqb c tableQuestion (λ e. omega (arith, few, e)) in
     let same = opens-first (promptsOf c whole) nets
     ∙ ap (λ (zs : List ℤ). opens (promptsOf c whole) (take (length (promptsOf c whole)) zs)) (sym (deltas-again nets))
-    ∙ ap (opens (promptsOf c whole)) (is .at .is .nets-are) in
+    ∙ ap (opens (promptsOf c whole)) en in
     record {
-      asked-is = is .asked-is;
+      asked-is = asked;
       is =
-          book-by-steps whole (is .lawful) c (is .asked-is)
+          book-by-steps whole law c asked
           ∙ ap (λ (b : Bool). bookBy (cond b (tableSteps (entriesOf whole)) (contractSteps (partsOf whole c)))
           (cond b (map asTier (contracts whole)) (opensOf (partsOf whole c)))) apart
-          ∙ ap₂ (λ (ss : List Record) (os : List Open). bookBy (steps (map interprompt ss)) os) (sym (is .spreads-are))
-          (sym (ap (λ (rs : List Record). opens rs nets) (is .prompts-are) ∙ same));
+          ∙ ap₂ (λ (ss : List Record) (os : List Open). bookBy (steps (map interprompt ss)) os) (sym es)
+          (sym (ap (λ (rs : List Record). opens rs nets) ep ∙ same));
     }
+
+pub book-is : (whole : List Record) (records c : ℕ) (prompts spreads : List Record) (totals nets : List ℤ) (shorts : ℕ) → c ≤ mostContract
+    → ContractIn whole records c prompts spreads (positionIn totals nets shorts) → BookIs whole c (steps (map interprompt spreads)) (opens prompts nets)
+book-is whole records c prompts spreads totals nets shorts few is =
+    book-of whole (is .lawful) c few (is .asked-is) prompts spreads nets (is .prompts-are) (is .spreads-are) (is .at .is .nets-are)
+
+-- ---- a contract's book by the parts that it has in the files
+
+module _ (account : List Record) (law : Lawful account) (c : ℕ) (few : c ≤ mostContract) (prompts spreads : List ℕ)
+    (ep : PartOf account (part 2 c) prompts) (es : PartOf account (part 4 c) spreads) where
+  prompts-are : records prompts ≡ promptsOf c account
+  prompts-are = of-contract account law c few 2 (omega arith) prompts ep
+
+  spreads-are : records spreads ≡ spreadsOf c account
+  spreads-are = of-contract account law c few 4 (omega arith) spreads es
+
+  pub book-few : (recordCount prompts ≤ mostPrompts) × (recordCount spreads ≤ mostSpreads)
+  book-few = (
+    omega (arith, count-is prompts, ap length prompts-are, law .limits .prompts c),
+    omega (arith, count-is spreads, ap length spreads-are, law .limits .spreads c),
+  )
+
+  pub book-length : answered account c ≡ true → length (book account c) ≡ 3 * recordCount prompts + 2 * recordCount spreads + 1
+  book-length asked =
+      ap length (one-book account law c asked (λ e. omega (arith, few, e)))
+      ∙ contract-length [] [] (promptsOf c account) (rowsOf c account) (spreadsOf c account)
+      ∙ ap₂ (λ (x y : ℕ). 3 * x + 2 * y + 1) (sym (ap length prompts-are) ∙ count-is prompts) (sym (ap length spreads-are) ∙ count-is spreads)
+
+  -- by net deltas that are lent
+  module _ (rows : List ℕ) (er : PartOf account (part 3 c) rows) (nets : List ℤ)
+      (is : PositionOf [] 1 (records prompts) (records rows) (withNets [] 1 (records rows) (deltasFrom nets))) where
+    its-nets : PositionAt [] 1 account c (withNets [] 1 (rowsOf c account) (deltasFrom nets))
+    its-nets = nets-here account law c few prompts rows ep er (deltasFrom nets) is
+
+    -- the spread steps accept it
+    pub nets-room : BookRoom (records prompts) nets (records spreads)
+    nets-room =
+        let fit = book-fits account law c few (withNets [] 1 (rowsOf c account) (deltasFrom nets)) its-nets in
+        let w = fit .fits in
+        parts-read account law c few prompts spreads ep es (λ (ps ss : List Record). BookRoom ps nets ss)
+        (subst (λ (zs : List ℤ). BookRoom (promptsOf c account) zs (spreadsOf c account)) (deltas-again nets)
+        (book-room (w .rates) (fit .own) (promptsOf c account) (w .rows) (spreadsOf c account) (w .fit) _ (w .is) (w .most)))
+
+    pub nets-book : answered account c ≡ true → BookIs account c (steps (map interprompt (records spreads))) (opens (records prompts) nets)
+    nets-book asked = book-of account law c few asked (records prompts) (records spreads) nets prompts-are spreads-are (its-nets .is .nets-are)
 
 -- ---- a contract by the parts that it has in the files
 

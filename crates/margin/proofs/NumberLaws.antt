@@ -19,7 +19,6 @@ use Rattle.formulas.specs.code.Sums.{interleaved}
 use Rattle.formulas.proofs.LentLaws.{spread-from}
 use Rattle.spread.specs.code.Lent.{spreadsFrom}
 use Rattle.formulas.specs.Bounds.{figuresEach}
-use Rattle.formulas.specs.code.Table.{tierOf}
 use Rattle.spread.specs.Steps.{Open, minus}
 
 module _ {ℓ} {A : Type ℓ} where
@@ -179,38 +178,35 @@ module _ (count : ℕ) (nets used unused : List ℤ) where
         let o = length-take-le count unused ho in
         length-threes (take count nets) (take count used) (take count unused) (omega arith) (omega arith) ∙ ap (λ (k : ℕ). 3 * k) n
 
--- the same where nothing is used, by lines
+-- the same where nothing is used
 length-minus : (zs : List ℤ) → length (minus zs zs) ≡ length zs
 length-minus [] = refl
 length-minus (z ∷ zs) = ap suc (length-minus zs)
 
-module _ (count : ℕ) (lines : List Line) where
-  -- from line i on
-  abbrev netsOn : ℕ → List ℤ
-  netsOn i = map (λ p. p .unused) (map tierOf (slice i count lines))
+module _ (count : ℕ) (nets : List ℤ) where
+  -- from prompt i on
+  abbrev pub restOn : ℕ → List ℤ
+  restOn i = threes (slice i count nets) (minus (slice i count nets) (slice i count nets)) (slice i count nets)
 
-  abbrev pub unusedOn : ℕ → List ℤ
-  unusedOn i = threes (netsOn i) (minus (netsOn i) (netsOn i)) (netsOn i)
+  pub rest-none : restOn count ≡ []
+  rest-none = rw (slice-empty count nets)
 
-  pub unused-none : unusedOn count ≡ []
-  unused-none = rw (slice-empty count lines)
+  module _ (h : count ≤ length nets) where
+    pub rest-step : (i : ℕ) → i < count → restOn i ≡ (getD nets i (pos 0) ∷ pos 0 ∷ getD nets i (pos 0) ∷ []) ++ restOn (i + 1)
+    rest-step i l = rw (add-one i, slice-cons i count nets (pos 0) l h, +ℤ-invr (getD nets i (pos 0)))
 
-  module _ (h : count ≤ length lines) where
-    pub unused-step : (i : ℕ) → i < count
-        → unusedOn i ≡ (getD lines i noLine .net .0 ∷ pos 0 ∷ getD lines i noLine .net .0 ∷ []) ++ unusedOn (i + 1)
-    unused-step i l = rw (add-one i, slice-cons i count lines noLine l h, +ℤ-invr (getD lines i noLine .net .0))
+    rest-length : length (restOn 0) ≡ 3 * count
+    rest-length =
+        let ns = take count nets in
+        length-threes ns (minus ns ns) ns (omega (arith, length-minus ns)) (omega arith) ∙ ap (λ (k : ℕ). 3 * k) (length-take-le count nets h)
 
-    unused-length : length (unusedOn 0) ≡ 3 * count
-    unused-length =
-        let n = length-map (map tierOf (take count lines)) (λ (p : Open). p .unused) ∙ length-map (take count lines) tierOf ∙ length-take-le count lines h in
-        length-threes (netsOn 0) (minus (netsOn 0) (netsOn 0)) (netsOn 0) (omega (arith, length-minus (netsOn 0))) (omega arith) ∙ ap (λ (k : ℕ). 3 * k) n
-
-    -- no contract is touched
-    pub unused-listed : (out nets-in all : List ℤ) → nets-in ≡ sets out 0 (unusedOn 0) → all ≡ set nets-in (count * 3) (pos 0)
-        → all ≡ sets out 0 (bookBy [] (map tierOf (take count lines)))
-    unused-listed out nets-in all e f =
-        book-listed count 0 out nets-in nets-in all (unusedOn 0) [] (pos 0) unused-length refl e refl
+    -- no prompt is touched
+    pub rest-listed : (ps : List Open) → take count nets ≡ map (λ p. p .unused) ps → (out nets-in all : List ℤ) → nets-in ≡ sets out 0 (restOn 0)
+        → all ≡ set nets-in (count * 3) (pos 0) → all ≡ sets out 0 (bookBy [] ps)
+    rest-listed ps same out nets-in all e f =
+        book-listed count 0 out nets-in nets-in all (restOn 0) [] (pos 0) rest-length refl e refl
         (f ∙ ap (λ (n : ℕ). set nets-in n (pos 0)) (sym (add-zero (count * 3))))
+        ∙ ap (λ (zs : List ℤ). sets out 0 ((threes zs (minus zs zs) zs ++ []) ++ (pos 0 ∷ []))) same
 
 -- two numbers for each spread
 length-interleaved : (xs ys : List Spreads) → length xs ≤ length ys → length (interleaved xs ys) ≡ 2 * length xs

@@ -6,6 +6,7 @@ use native.Mathlib.Omega.{arith}
 use mathlib.Core.Path.{_≡_, refl, sym, ap, _∙_, subst, subst⁻¹}
 use mathlib.Core.Bool.{Bool, true, false, _&&_}
 use mathlib.Core.List.{List, [], _∷_}
+use lib.Dec.{lit≤}
 use lib.ListN.{length, getD}
 use Rattle.record.specs.Bytes.{recordBytes}
 use Rattle.exact.specs.Lists.{consIf, keep, count, oneIf}
@@ -23,15 +24,17 @@ use Rattle.account.proofs.Days.{none-kept}
 use Rattle.account.proofs.Every.{length-kept}
 use Rattle.account.proofs.Standing.{contract-part, one-record}
 use Rattle.account.specs.Check.{mostContracts, mostPrompts, mostRows}
+use Rattle.spread.specs.declared.Delta.{Delta}
 use Rattle.formulas.specs.declared.rows.Position.{Position}
 use Rattle.margin.specs.code.Beside.{ownOf}
 use Rattle.margin.specs.Books.{asks}
 use Rattle.formulas.specs.Contract.{partsOf}
 use Rattle.margin.specs.code.Lined.{PositionAt}
-use Rattle.formulas.specs.code.Position.{RatedBy, PositionOf, Bounded}
+use Rattle.formulas.specs.code.Position.{RatedBy, PositionOf, Bounded, withNets}
 use Rattle.formulas.specs.code.Promised.{BookFit, contractWith}
 use Rattle.formulas.specs.code.Within.{ContractFit, EntriesFit}
-use Rattle.margin.proofs.AcceptLaws.{none-within, contract-within, own-within, entries-within}
+use Rattle.margin.proofs.AcceptLaws.{none-within, contract-within, own-within, entries-within, each-unrated}
+use Rattle.formulas.proofs.PositionBounds.{Rated, bounded, wider}
 use Rattle.formulas.proofs.RecordLaws.{count-is}
 use Rattle.formulas.proofs.ContractLaws.{contract-with}
 
@@ -126,6 +129,18 @@ module _ (account : List Record) (law : Lawful account) where
                 (subst (λ (ps : List Record). PositionOf rates u ps (records rows) p) (of-contract 2 (omega arith) prompts ep) is);
             most = most;
           }
+
+      -- the same of its net deltas alone
+      pub nets-here : (nets : List Delta) → PositionOf [] 1 (records prompts) (records rows) (withNets [] 1 (records rows) nets)
+          → PositionAt [] 1 account c (withNets [] 1 (rowsOf c account) nets)
+      nets-here nets is =
+          let same = of-contract 3 (omega arith) rows er in
+          let fit = rows-room .rows-within in
+          let p = withNets [] 1 (records rows) nets in
+          let rated : Rated [] (records rows) = subst⁻¹ (Rated []) same (each-unrated account law c) in
+          subst (λ (its : List Record). PositionAt [] 1 account c (withNets [] 1 its nets)) same
+          (position-is [] 1 p is
+          (wider (length (records rows)) mostRows p (omega (arith, fit .few)) (bounded [] 1 (lit≤ tt) (records prompts) (records rows) p fit rated is)))
 
     -- its prompts and interprompt spreads
     module _ (prompts spreads : List ℕ) (ep : PartOf account (part 2 c) prompts) (es : PartOf account (part 4 c) spreads)

@@ -36,7 +36,7 @@ use Rattle.formulas.specs.Contract.{Contract, contracts, partsIn, asTier, contr
 use Rattle.formulas.specs.Deltas.{netDeltas, intercontract}
 use Rattle.formulas.specs.code.Lines.{noLine}
 use Rattle.margin.specs.code.Lined.{TierIs, TiersIn, PositionAt}
-use Rattle.formulas.specs.code.Promised.{LineOf}
+use Rattle.formulas.specs.code.Position.{Sized, rowsNet}
 use Rattle.formulas.specs.code.Sums.{deltasIn}
 use Rattle.formulas.specs.code.Table.{tierOf}
 use Rattle.formulas.specs.code.Tables.{TableOf}
@@ -44,6 +44,7 @@ use Rattle.margin.proofs.AcceptLaws.{contract-within}
 use Rattle.formulas.proofs.BookLaws.{handed-sound}
 use Rattle.formulas.proofs.ContractLaws.{net-is, net-sizes}
 use Rattle.formulas.proofs.LineLaws.{spreads-sound}
+use Rattle.formulas.proofs.NetLaws.{all-rows}
 use Rattle.formulas.proofs.RecordLaws.{count-is}
 use Rattle.margin.proofs.StandLaws.{entries-fit}
 use Rattle.formulas.proofs.StepBounds.{sizes, number-within}
@@ -68,10 +69,19 @@ module _ (account : List Record) (law : Lawful account) (rates : List Record) (o
         net-within = subst⁻¹ (λ (x : ℤ). natAbs x ≤ mostDelta) ez (le-trans (abs-sum (deltasIn (q .nets))) tier-sizes);
       }
 
--- and by its line
-pub line-tier : (k : Contract) (l : Line) → LineOf k l → TierIs k (l .contract) (l .net .0)
-line-tier k l is =
-    record { number-is = is .contract-is; net-is = is .net-is; number-within = is .within .contract-within; net-within = is .net-within }
+-- by its rows: each counts at one prompt
+pub rows-tier : (account : List Record) → Lawful account → (c : ℕ) (its : Record) (z : ℤ) → c ≡ contract its → c ≤ mostContract
+    → Sized mostDelta (rowsNet (rowsOf c account)) z → TierIs (partsIn account its) c z
+rows-tier account law c its z ec few is =
+    record {
+      number-is = ec;
+      net-is =
+          is .is
+          ∙ sym (all-rows (promptsOf c account) (rowsOf c account) (law .onePrompt c))
+          ∙ ap (λ (n : ℕ). sumℤ (netDeltas (promptsOf n account) (rowsOf n account))) ec;
+      number-within = few;
+      net-within = is .size;
+    }
 
 -- a line with a contract's number and net delta alone
 abbrev pub lean : Contract → Line

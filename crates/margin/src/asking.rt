@@ -1,12 +1,19 @@
 // The questions that an account answers. What comes after an account's records is said here once, for one file and for two: 11,
 // then 10, and the answer in lent memory.
 use crate::books::book_count;
-use crate::books::put_book;
+use crate::books::contract_count;
+use crate::books::put_asked;
 use crate::books::put_contract;
+use crate::books::put_table;
+use crate::books::run_contract;
 use crate::numbers::FIGURES_EACH;
 use crate::numbers::LONGEST_BOOK;
+use crate::numbers::LONGEST_FIGURES;
 use crate::numbers::LONGEST_USES;
-use crate::numbers::put_nets;
+use crate::numbers::put;
+use crate::numbers::put_line;
+use crate::numbers::put_lines;
+use crate::numbers::put_unspread;
 use crate::over::Lines;
 use crate::over::TABLE;
 use crate::over::asking_over;
@@ -18,7 +25,6 @@ use crate::over::put_account;
 use crate::over::put_figures;
 use crate::over::rates_over;
 use crate::over::table_asking;
-use crate::over::tiers_in;
 use crate::positions::Positions;
 use crate::positions::asking_from;
 use crate::positions::lines_from;
@@ -30,6 +36,7 @@ use account::accounts::Account;
 use account::accounts::contract_number;
 use account::accounts::contract_total;
 use account::accounts::own_part;
+use account::accounts::part;
 use account::accounts::part_total;
 use account::accounts::prompts_part;
 use account::accounts::record_total;
@@ -42,36 +49,45 @@ use account::parts::ENTRIES;
 use account::parts::PROMPTS;
 use account::parts::SPREADS;
 use account::rates::Rates;
+use formulas::amount::Amount;
 use formulas::books::put_contract_book;
+use formulas::intercontract::credits_of;
+use formulas::intercontract::put_contract_tiers;
 use formulas::line::Line;
 use formulas::line::line_in;
 use formulas::rows::Position;
+use formulas::rows::put_net_deltas;
 use formulas::rows::put_position;
+use formulas::tables::intercontract_table;
 use record::fields::SCENARIOS;
 use record::fields::unit;
 use spread::MOST_PROMPTS;
 use spread::MOST_SPREADS;
 use spread::Prompts;
+use spread::Table;
 use spread::plain::deltas_from;
 ghost use mathlib.Core.Path.{_≡_};
 ghost use mathlib.Core.Bool.{true, false};
-ghost use mathlib.Core.List.{List, map};
+ghost use mathlib.Core.List.{List, [], map};
 ghost use Prim.Native.Nat.{ℕ, _+_, _*_, _≤_, _<_};
 ghost use lib.ListN.{length};
+ghost use lib.Seq.{sets};
 ghost use Rattle.record.specs.Layout.{Record, mostContract};
 ghost use Rattle.account.specs.Check.{mostContracts};
-ghost use Rattle.account.specs.Parts.{promptsOf, spreadsOf, ratesOf};
+ghost use Rattle.account.specs.Parts.{promptsOf, spreadsOf, entriesOf, ratesOf};
 ghost use Rattle.account.specs.code.Rates.{RatesOf};
 ghost use Rattle.account.specs.code.Standing.{Stands};
 ghost use Rattle.account.specs.Joined.{accountOf};
 ghost use Rattle.account.specs.Records.{records};
-ghost use Rattle.spread.specs.Accepted.{sound, promptPlaces};
+ghost use Rattle.spread.specs.Accepted.{openOf, stepsOf, sound, promptPlaces};
 ghost use Rattle.spread.specs.Steps.{steps};
-ghost use Rattle.spread.specs.code.Lent.{bookIn};
+ghost use Rattle.spread.specs.code.Book.{Booked};
+ghost use Rattle.spread.specs.code.Lent.{promptsIn, bookIn};
 ghost use Rattle.formulas.specs.Deltas.{opens, interprompt};
 ghost use Rattle.formulas.specs.code.Position.{positionIn};
-ghost use Rattle.margin.specs.code.Beside.{Besides, LinesKnown, LinedBy, TiersKnown, Unspread};
+ghost use Rattle.margin.specs.code.Beside.{Besides, LinesKnown, LinedBy, TiersKnown, Unspread, FormedIn, FormedKnown};
 ghost use Rattle.margin.specs.Books.{answered, tableQuestion};
+ghost use Rattle.margin.specs.Figures as shown;
 ghost use Rattle.formulas.specs.Bounds.{longestBook, longestUses, figuresEach};
 ghost use Rattle.margin.specs.code.Lined.{TiersIn};
 ghost use Rattle.margin.specs.code.Positions.{Told, Known, ToldOf, ContractIn};
@@ -79,7 +95,7 @@ ghost use Rattle.formulas.specs.code.Promised.{BookFit, BookOf, BookRoom, LineO
 ghost use Rattle.margin.specs.Questions.{answerOver, afterOver, needOver, mostFor};
 ghost use Rattle.margin.specs.code.Asked.{SizesOf, AskedBy, BookIs};
 ghost use Rattle.margin.specs.Places.{questions, atPlace, lentPlace, questionOf, widthOf, allOver, afterAllOver};
-ghost use Rattle.margin.specs.code.Lent.{ContractLent, ContractsLent, EverythingOf};
+ghost use Rattle.margin.specs.code.Lent.{ContractLent, ContractsLent, NetsLent, TableLent, EverythingOf};
 ghost use Rattle.margin.specs.declared.asking.Question.{Question};
 ghost use Rattle.margin.specs.declared.asking.Question.the-variants.{Figures, Book, Uses};
 
@@ -139,7 +155,7 @@ fn answer_book(records: usize, asking: Asking, out: &mut [i64]) -> Answer
     if out.len() < book_count(prompts, table) {
         return Answer::TooFewNumbers(records);
     }
-    put_book(out, prompts, table);
+    put_asked(out, prompts, table);
     Answer::Accepted
 }
 
@@ -190,6 +206,31 @@ fn answer_figures<'a>(
     Answer::Accepted
 }
 
+// The book of a contract that is listed, by its records in the files.
+fn answer_contract_book<'a>(
+    morning: &'a [u8],
+    noon: &'a [u8],
+    account: Account,
+    c: usize,
+    out: &mut [i64],
+) -> Answer
+    requires { ⌜ Stands (now morning) (now noon) account × ((c ≤ mostContract) × (answered (accountOf (now morning) (now noon)) c ≡ true)) ⌝ }
+    ensures { λ r. ⌜ (r ≡ answerOver (accountOf (now (morning .entry)) (now (noon .entry))) (Book c) (length (now (out .entry))))
+        × (now (out .exit) ≡ afterOver (accountOf (now (morning .entry)) (now (noon .entry))) (Book c) (now (out .entry))) ⌝ }
+{
+    let w = whereabouts_of(account, c);
+    let prompts = prompts_part(morning, noon, w);
+    let spreads = spreads_part(morning, noon, w);
+    if out.len() < contract_count(prompts, spreads) {
+        return Answer::TooFewNumbers(record_total(account));
+    }
+    let rows = rows_part(morning, noon, w);
+    let mut nets = [0i64; MOST_PROMPTS];
+    put_net_deltas(&mut nets, prompts, rows);
+    run_contract(out, prompts, &nets, spreads);
+    Answer::Accepted
+}
+
 fn answer_question<'a>(
     morning: &'a [u8],
     noon: &'a [u8],
@@ -204,6 +245,9 @@ fn answer_question<'a>(
 {
     if !is_asked(account, question) {
         return Answer::NoSuchQuestion(record_total(account));
+    }
+    if !paid & (question != TABLE) {
+        return answer_contract_book(morning, noon, account, question, out);
     }
     let asking = asking_over(morning, noon, account, question);
     answer_asking(record_total(account), asking, paid, out)
@@ -689,32 +733,53 @@ fn contracts_over<'a>(
     }
 }
 
-// The book of the intercontract table, or who paid for what in it, likewise: the last place of all.
-fn lend_table<'a>(
+// Who paid for what in the intercontract table, likewise: the last place of all.
+fn lend_table_uses<'a>(
     morning: &'a [u8],
     noon: &'a [u8],
     account: Account,
-    paid: bool,
-    tiers: Prompts,
+    records: usize,
+    count: usize,
+    tiers: &[u8; MOST_PROMPTS],
+    nets: &[i64; MOST_PROMPTS],
     out: &mut [i64],
 ) -> Answer
-    requires { ⌜ Stands (now morning) (now noon) account × TiersIn (accountOf (now morning) (now noon)) tiers ⌝ }
-    ensures { λ r. ⌜ (r ≡ allOver paid (accountOf (now (morning .entry)) (now (noon .entry))) (length (now (out .entry))))
-        × (now (out .exit) ≡ lentPlace (widthOf paid) tableQuestion
-        (afterOver (accountOf (now (morning .entry)) (now (noon .entry))) (questionOf paid tableQuestion)) (now (out .entry))) ⌝ }
+    requires { ⌜ Stands (now morning) (now noon) account × ((records ≡ length (accountOf (now morning) (now noon)))
+        × TiersIn (accountOf (now morning) (now noon)) (promptsIn count (now tiers) (now nets))) ⌝ }
+    ensures { λ r. ⌜ (r ≡ allOver true (accountOf (now (morning .entry)) (now (noon .entry))) (length (now (out .entry))))
+        × (now (out .exit) ≡ lentPlace longestUses tableQuestion
+        (afterOver (accountOf (now (morning .entry)) (now (noon .entry))) (Uses tableQuestion)) (now (out .entry))) ⌝ }
 {
-    let records = record_total(account);
-    if out.len() < width_of(paid) * QUESTIONS {
+    if out.len() < ALL_USES {
         return Answer::TooFewNumbers(records);
     }
-    place_table(morning, noon, account, records, paid, tiers, out);
+    let prompts = Prompts {
+        count: count,
+        tier: *tiers,
+        net: deltas_from(*nets),
+    };
+    place_table(morning, noon, account, records, true, prompts, out);
     Answer::Accepted
 }
 
-// The book of a table without spreads in its place, likewise.
-fn lend_nets(records: usize, lines: Lines, out: &mut [i64]) -> Answer
-    requires { ⌜ lines .count ≤ mostContracts ⌝ }
-    ensures { λ r. ⌜ ((whole : List Record) → Unspread whole records lines
+// The book of the table that was run, likewise.
+fn lend_table_book(
+    records: usize,
+    count: usize,
+    tiers: &[u8; MOST_PROMPTS],
+    nets: &[i64; MOST_PROMPTS],
+    table: Table,
+    first: &[u64; MOST_SPREADS],
+    second: &[u64; MOST_SPREADS],
+    used: &[i64; MOST_PROMPTS],
+    unused: &[i64; MOST_PROMPTS],
+    out: &mut [i64],
+) -> Answer
+    requires { ⌜ (sound (promptsIn count (now tiers) (now nets)) table ≡ true)
+        × (((length (now tiers) ≡ promptPlaces) × (length (now nets) ≡ promptPlaces))
+        × Booked (promptsIn count (now tiers) (now nets)) table (bookIn (now first) (now second) (now used) (now unused))) ⌝ }
+    ensures { λ r. ⌜ ((whole : List Record) → records ≡ length whole
+        → BookIs whole tableQuestion (stepsOf table) (openOf (promptsIn count (now (tiers .entry)) (now (nets .entry))))
         → (r ≡ allOver false whole (length (now (out .entry))))
         × (now (out .exit) ≡ lentPlace longestBook tableQuestion (afterOver whole (Book tableQuestion)) (now (out .entry)))) ⌝ }
 {
@@ -723,8 +788,120 @@ fn lend_nets(records: usize, lines: Lines, out: &mut [i64]) -> Answer
     }
     let start = LONGEST_BOOK * TABLE;
     let end = start + LONGEST_BOOK;
+    put_table(
+        &mut out[start..end],
+        count,
+        tiers,
+        nets,
+        table,
+        first,
+        second,
+        used,
+        unused,
+    );
+    Answer::Accepted
+}
+
+// The figures at the front of `out`, by the lines and the numbers that the intercontract spreads formed. A refusal writes nothing.
+fn answer_formed(
+    records: usize,
+    lines: Lines,
+    entries: &[u8],
+    first: &[u64; MOST_SPREADS],
+    second: &[u64; MOST_SPREADS],
+    out: &mut [i64],
+) -> Answer
+    requires { ⌜ FormedKnown records lines (now entries) (now first) (now second) ⌝ }
+    ensures { λ r. ⌜ ((whole : List Record) → FormedIn whole records lines (now (entries .entry)) (now (first .entry)) (now (second .entry))
+        → (r ≡ answerOver whole Figures (length (now (out .entry)))) × (now (out .exit) ≡ afterOver whole Figures (now (out .entry)))) ⌝ }
+{
+    let count = lines.count;
+    if out.len() < FIGURES_EACH * count + 1 {
+        return Answer::TooFewNumbers(records);
+    }
     let its = lines.line;
-    put_nets(&mut out[start..end], lines.count, its);
+    let credits = credits_of(count, its, entries, first, second);
+    put_lines(out, count, its, credits);
+    Answer::Accepted
+}
+
+// The figures of an account without intercontract spreads at the front of `figures`, each contract's as its line comes; the books and uses of
+// the contracts in their places, and their net deltas.
+fn put_contracts<'a>(
+    morning: &'a [u8],
+    noon: &'a [u8],
+    account: Account,
+    figures: &mut [i64],
+    books: &mut [i64],
+    uses: &mut [i64],
+    nets: &mut [i64; MOST_PROMPTS],
+)
+    requires { ⌜ Stands (now morning) (now noon) account × ((entriesOf (accountOf (now morning) (now noon)) ≡ [])
+        × ((figuresEach * account .contracts + 1 ≤ length (now figures)) × (length (now nets) ≡ promptPlaces))) ⌝ }
+    ensures figures { λ r. ⌜ now (figures .exit) ≡ sets (now (figures .entry)) 0 (shown.figures (accountOf (now (morning .entry)) (now (noon .entry)))) ⌝ }
+    ensures lent { λ r. ⌜ NetsLent (accountOf (now (morning .entry)) (now (noon .entry))) (now (books .entry)) (now (uses .entry))
+        (now (books .exit)) (now (uses .exit)) (now (nets .exit)) ⌝ }
+{
+    let count = contract_total(account);
+    let rates = rates_over(morning, noon, account);
+    let mut total: u64 = 0;
+    let mut i = 0;
+    while i < count {
+        let line = contract_over(morning, noon, account, i, rates, books, uses);
+        let net = line.net;
+        let number = net.0;
+        nets[i] = number;
+        let margin = put_line(figures, i * FIGURES_EACH, line, Amount(0));
+        total += margin.0;
+        i += 1;
+    }
+    put(figures, count * FIGURES_EACH, total);
+}
+
+// The same however many numbers are lent for the figures: a refusal of the figures writes none of them.
+fn answer_contracts<'a>(
+    morning: &'a [u8],
+    noon: &'a [u8],
+    account: Account,
+    figures: &mut [i64],
+    books: &mut [i64],
+    uses: &mut [i64],
+    nets: &mut [i64; MOST_PROMPTS],
+) -> Answer
+    requires { ⌜ Stands (now morning) (now noon) account
+        × ((entriesOf (accountOf (now morning) (now noon)) ≡ []) × (length (now nets) ≡ promptPlaces)) ⌝ }
+    ensures figures { λ r. ⌜ (r ≡ answerOver (accountOf (now (morning .entry)) (now (noon .entry))) Figures (length (now (figures .entry))))
+        × (now (figures .exit) ≡ afterOver (accountOf (now (morning .entry)) (now (noon .entry))) Figures (now (figures .entry))) ⌝ }
+    ensures lent { λ r. ⌜ NetsLent (accountOf (now (morning .entry)) (now (noon .entry))) (now (books .entry)) (now (uses .entry))
+        (now (books .exit)) (now (uses .exit)) (now (nets .exit)) ⌝ }
+{
+    if figures.len() < figures_count(account) {
+        let mut unlent = [0i64; LONGEST_FIGURES];
+        put_contracts(morning, noon, account, &mut unlent, books, uses, nets);
+        return Answer::TooFewNumbers(record_total(account));
+    }
+    put_contracts(morning, noon, account, figures, books, uses, nets);
+    Answer::Accepted
+}
+
+// The book of a table without spreads in its place, by the net deltas of so many contracts.
+fn lend_unspread(
+    records: usize,
+    count: usize,
+    nets: &[i64; MOST_PROMPTS],
+    out: &mut [i64],
+) -> Answer
+    requires { ⌜ (count ≤ mostContracts) × (length (now nets) ≡ promptPlaces) ⌝ }
+    ensures { λ r. ⌜ ((whole : List Record) → Unspread whole records count (now (nets .entry))
+        → (r ≡ allOver false whole (length (now (out .entry))))
+        × (now (out .exit) ≡ lentPlace longestBook tableQuestion (afterOver whole (Book tableQuestion)) (now (out .entry)))) ⌝ }
+{
+    if out.len() < ALL_BOOKS {
+        return Answer::TooFewNumbers(records);
+    }
+    let start = LONGEST_BOOK * TABLE;
+    let end = start + LONGEST_BOOK;
+    put_unspread(&mut out[start..end], count, nets);
     Answer::Accepted
 }
 
@@ -736,6 +913,84 @@ fn uses_answer(records: usize, lent: usize) -> Answer
         return Answer::TooFewNumbers(records);
     }
     Answer::Accepted
+}
+
+// Everything of an account without intercontract spreads: nobody paid in its table.
+fn unspread_over<'a>(
+    morning: &'a [u8],
+    noon: &'a [u8],
+    account: Account,
+    figures: &mut [i64],
+    books: &mut [i64],
+    uses: &mut [i64],
+) -> Everything
+    requires { ⌜ Stands (now morning) (now noon) account × (entriesOf (accountOf (now morning) (now noon)) ≡ []) ⌝ }
+    ensures { λ r. ⌜ EverythingOf (accountOf (now (morning .entry)) (now (noon .entry))) (now (figures .entry)) (now (books .entry))
+        (now (uses .entry)) r (now (figures .exit)) (now (books .exit)) (now (uses .exit)) ⌝ }
+{
+    let records = record_total(account);
+    let mut nets = [0i64; MOST_PROMPTS];
+    let answer = answer_contracts(morning, noon, account, figures, books, uses, &mut nets);
+    Everything {
+        figures: answer,
+        books: lend_unspread(records, contract_total(account), &nets, books),
+        uses: uses_answer(records, uses.len()),
+    }
+}
+
+// The figures, and the book and the uses of the intercontract table in their places: its steps are run once for the credits and its book.
+fn table_over<'a>(
+    morning: &'a [u8],
+    noon: &'a [u8],
+    account: Account,
+    records: usize,
+    lines: Lines,
+    figures: &mut [i64],
+    books: &mut [i64],
+    uses: &mut [i64],
+) -> Everything
+    requires { ⌜ Stands (now morning) (now noon) account
+        × LinedBy (accountOf (now morning) (now noon)) lines records (accountOf (now morning) (now noon)) ⌝ }
+    ensures { λ r. ⌜ TableLent (accountOf (now (morning .entry)) (now (noon .entry))) (now (figures .entry)) (now (books .entry))
+        (now (uses .entry)) r (now (figures .exit)) (now (books .exit)) (now (uses .exit)) ⌝ }
+{
+    let entries = part(morning, noon, account, ENTRIES);
+    let table = intercontract_table(entries);
+    let count = lines.count;
+    let its = lines.line;
+    let mut tiers = [0u8; MOST_PROMPTS];
+    let mut nets = [0i64; MOST_PROMPTS];
+    put_contract_tiers(count, its, &mut tiers, &mut nets);
+    let mut first = [0; MOST_SPREADS];
+    let mut second = [0; MOST_SPREADS];
+    let mut used = [0; MOST_PROMPTS];
+    let mut unused = [0; MOST_PROMPTS];
+    spread::book::put_book(
+        count,
+        &tiers,
+        &nets,
+        table,
+        &mut first,
+        &mut second,
+        &mut used,
+        &mut unused,
+    );
+    Everything {
+        figures: answer_formed(records, lines, entries, &first, &second, figures),
+        books: lend_table_book(
+            records,
+            count,
+            &tiers,
+            &nets,
+            table,
+            &first,
+            &second,
+            &used,
+            &unused,
+            books,
+        ),
+        uses: lend_table_uses(morning, noon, account, records, count, &tiers, &nets, uses),
+    }
 }
 
 // The same of an account that stands in the files, what the rows of each contract come to worked out once.
@@ -751,19 +1006,10 @@ pub fn everything_over<'a>(
     ensures { λ r. ⌜ EverythingOf (accountOf (now (morning .entry)) (now (noon .entry))) (now (figures .entry)) (now (books .entry))
         (now (uses .entry)) r (now (figures .exit)) (now (books .exit)) (now (uses .exit)) ⌝ }
 {
+    if part_total(account, ENTRIES) == 0 {
+        return unspread_over(morning, noon, account, figures, books, uses);
+    }
     let lines = contracts_over(morning, noon, account, books, uses);
     let records = record_total(account);
-    if part_total(account, ENTRIES) == 0 {
-        return Everything {
-            figures: answer_lines(morning, noon, account, records, lines, figures),
-            books: lend_nets(records, lines, books),
-            uses: uses_answer(records, uses.len()),
-        };
-    }
-    let tiers = tiers_in(lines);
-    Everything {
-        figures: answer_lines(morning, noon, account, records, lines, figures),
-        books: lend_table(morning, noon, account, false, tiers, books),
-        uses: lend_table(morning, noon, account, true, tiers, uses),
-    }
+    table_over(morning, noon, account, records, lines, figures, books, uses)
 }

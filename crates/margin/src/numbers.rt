@@ -9,19 +9,19 @@ use spread::Delta;
 use spread::MOST_PROMPTS;
 use spread::MOST_SPREADS;
 ghost use mathlib.Core.Path.{_≡_};
-ghost use mathlib.Core.List.{[], _∷_, map};
+ghost use mathlib.Core.List.{List, [], _∷_, map};
 ghost use Prim.Native.Nat.{_+_, _*_, _^_, _≤_, _<_};
 ghost use lib.IntN.{pos};
 ghost use lib.ListN.{length, take, set};
 ghost use lib.Seq.{sets};
+ghost use Rattle.spread.specs.Steps.{Open};
 ghost use Rattle.spread.specs.Touches.{mostTouches};
 ghost use Rattle.spread.specs.code.Lent.{spreadsFrom};
 ghost use Rattle.formulas.specs.Bounds.{mostRisk, mostCredits, figuresEach};
 ghost use Rattle.formulas.specs.code.Lines.{LineWithin, marginWith, eightOf, figuresFrom};
 ghost use Rattle.margin.specs.code.Numbers.{LinesWithin, PromptsLent, SpreadsSigned, numbersIn};
 ghost use Rattle.margin.specs.Books.{threes, bookBy};
-ghost use Rattle.account.specs.Check.{mostContracts};
-ghost use Rattle.formulas.specs.code.Table.{tierOf};
+ghost use Rattle.account.specs.Check.{mostPrompts};
 ghost use Rattle.formulas.specs.code.Sums.{interleaved};
 
 // The numbers of a contract in the figures.
@@ -127,19 +127,19 @@ pub(crate) fn put_lines(
     put(out, count * FIGURES_EACH, total);
 }
 
-// The book of the intercontract table where it has no spreads, from the front: of each contract the net delta, nothing used and the same unused.
-pub(crate) fn put_nets(out: &mut [i64], contracts: usize, lines: [Line; CONTRACTS])
-    requires { ⌜ (contracts ≤ mostContracts) × (3 * contracts + 1 ≤ length (now out)) ⌝ }
-    ensures { λ r. ⌜ now (out .exit) ≡ sets (now (out .entry)) 0 (bookBy [] (map tierOf (take contracts lines))) ⌝ }
+// The numbers of a book without spreads from the front: of each prompt the net delta, nothing used and the same unused.
+pub(crate) fn put_unspread(out: &mut [i64], prompts: usize, nets: &[i64; MOST_PROMPTS])
+    requires { ⌜ (prompts ≤ mostPrompts) × ((prompts ≤ length (now nets)) × (3 * prompts + 1 ≤ length (now out))) ⌝ }
+    ensures { λ r. ⌜ ((ps : List Open) → take prompts (now (nets .entry)) ≡ map (λ p. p .unused) ps
+        → now (out .exit) ≡ sets (now (out .entry)) 0 (bookBy [] ps)) ⌝ }
 {
     let mut i = 0;
-    while i < contracts {
-        let line = lines[i];
-        let net = line.net;
-        put_three(out, i * 3, net, Delta(0), net);
+    while i < prompts {
+        let net = nets[i];
+        put_three(out, i * 3, Delta(net), Delta(0), Delta(net));
         i += 1;
     }
-    put(out, contracts * 3, 0);
+    put(out, prompts * 3, 0);
 }
 
 // Three numbers for each prompt, from the front.

@@ -25,13 +25,13 @@ use exact::signed::magnitude;
 use formulas::amount::Amount;
 use formulas::intercontract::table_credits;
 use formulas::line::Line;
-use formulas::line::contract_net;
 use formulas::line::line_of;
 use formulas::line::line_over;
 use formulas::rows::Position;
 use formulas::rows::nets_of;
 use formulas::rows::position_of;
 use formulas::rows::put_position;
+use formulas::rows::rows_net;
 use formulas::tables::intercontract_table;
 use formulas::tables::interprompt_table;
 use formulas::tables::prompts_with;
@@ -43,10 +43,9 @@ use spread::Prompts;
 ghost use mathlib.Core.Path.{_≡_};
 ghost use mathlib.Core.Bool.{true};
 ghost use mathlib.Core.List.{List, [], map};
-ghost use Prim.Native.Nat.{ℕ, _+_, _*_, _≤_, _<_};
+ghost use Prim.Native.Nat.{_+_, _*_, _≤_, _<_};
 ghost use lib.ListN.{length, getD};
 ghost use lib.Seq.{sets};
-ghost use Rattle.account.specs.Check.{mostContracts};
 ghost use Rattle.account.specs.Parts.{contractsOf, promptsOf, rowsOf, spreadsOf, entriesOf, ratesOf};
 ghost use Rattle.account.specs.code.Rates.{RatesOf};
 ghost use Rattle.account.specs.Records.{records};
@@ -61,7 +60,6 @@ ghost use Rattle.formulas.specs.code.Position.{withNets};
 ghost use Rattle.formulas.specs.code.Promised.{LineOf, PositionFit, BookFit, contractWith};
 ghost use Rattle.formulas.specs.Bounds.{figuresEach};
 ghost use Rattle.margin.specs.code.Beside.{ownOf, unitOf, Besides, LinesKnown, TiersKnown};
-ghost use Rattle.formulas.specs.code.Lines.{LineWithin, noLine};
 ghost use Rattle.margin.specs.code.Lined.{LinesOf, TierIs, TiersIn, PositionAt};
 ghost use Rattle.margin.specs.Uses.{stepsFor, opensFor};
 ghost use Rattle.margin.specs.code.Asking.{Asks, NetsFit};
@@ -273,7 +271,7 @@ pub struct Tier {
     pub net: Delta,
 }
 
-// The i-th contract as a tier: its net delta, without its book and its charges.
+// The i-th contract as a tier: its net delta, which is that of its rows, each being of one prompt's day.
 fn tier_at<'a>(morning: &'a [u8], noon: &'a [u8], account: Account, i: usize) -> Tier
     requires { ⌜ Stands (now morning) (now noon) account × (i < account .contracts) ⌝ }
     ensures { λ r. ⌜ TierIs
@@ -281,7 +279,9 @@ fn tier_at<'a>(morning: &'a [u8], noon: &'a [u8], account: Account, i: usize) ->
         (getD (contractsOf (accountOf (now (morning .entry)) (now (noon .entry)))) i [])) (r .contract) (r .net .0) ⌝ }
 {
     let c = contract_number(account, i);
-    let net = contract_net(nets_at(morning, noon, account, c));
+    let w = whereabouts_of(account, c);
+    let rows = rows_part(morning, noon, w);
+    let net = rows_net(rows);
     Tier {
         contract: c as u8,
         net: net,
@@ -301,29 +301,6 @@ fn tiers_over<'a>(morning: &'a [u8], noon: &'a [u8], account: Account) -> Prompt
         let one = tier_at(morning, noon, account, i);
         tiers[i] = one.contract;
         let net = one.net;
-        nets[i] = net;
-        i += 1;
-    }
-    Prompts {
-        count: count,
-        tier: tiers,
-        net: nets,
-    }
-}
-
-// The contracts as tiers, by their lines.
-pub(crate) fn tiers_in(all: Lines) -> Prompts
-    requires { ⌜ (all .count ≤ mostContracts) × ((k : ℕ) → k < all .count → LineWithin (getD (all .line) k noLine)) ⌝ }
-    ensures { λ r. ⌜ ((whole : List Record) → LinesOf whole all → TiersIn whole r) ⌝ }
-{
-    let count = all.count;
-    let mut tiers = [0u8; MOST_PROMPTS];
-    let mut nets = [Delta(0); MOST_PROMPTS];
-    let mut i = 0;
-    while i < count {
-        let line = all.line[i];
-        tiers[i] = line.contract as u8;
-        let net = line.net;
         nets[i] = net;
         i += 1;
     }

@@ -1,11 +1,13 @@
 // The fields of a record, by document 01's table. Unsigned fields come as they stand, signed ones as signed numbers.
 ghost use mathlib.Core.Path.{_≡_};
-ghost use Prim.Native.Nat.{_<_};
+ghost use Prim.Native.Nat.{_≤_, _<_};
+ghost use lib.ListN.{length};
 ghost use Rattle.record.specs.Layout as Layout;
 ghost use Rattle.record.specs.Layout.{shortOptionRate, unitField, spreadRate, outrightRate, rowType, legCount, ratePerSpread, legTier, legSide, legRatio};
 ghost use Rattle.record.specs.Layout.{secondContract, firstRatio, secondRatio, tenthsField, rateCurrency, spotRate};
-ghost use Rattle.record.specs.Bytes.{numberIn};
+ghost use Rattle.record.specs.Bytes.{recordBytes, numberIn};
 use crate::bytes::byte_at;
+use crate::bytes::byte_in;
 use crate::bytes::i32_at;
 use crate::bytes::u16_at;
 use crate::bytes::u32_at;
@@ -167,6 +169,28 @@ pub fn leg_ratio(r: &[u8], leg: usize) -> usize
     } else {
         u16_at(r, layout::LEG_RATIO + 4 * leg)
     }
+}
+
+// The same of a whole record, read without a test.
+pub fn leg_count_in(r: &[u8]) -> usize
+    requires { ⌜ recordBytes ≤ length (now r) ⌝ }
+    ensures { λ n. ⌜ (n ≡ legCount (now (r .entry))) × (n < 256) ⌝ }
+{
+    byte_in(r, layout::LEG_COUNT)
+}
+
+pub fn leg_tier_in(r: &[u8], leg: usize) -> usize
+    requires { ⌜ (leg ≤ 2) × (recordBytes ≤ length (now r)) ⌝ }
+    ensures { λ n. ⌜ (n ≡ legTier (now (r .entry)) leg) × (n < 256) ⌝ }
+{
+    byte_in(r, layout::LEG_TIER + 4 * leg)
+}
+
+pub fn leg_side_in(r: &[u8], leg: usize) -> usize
+    requires { ⌜ (leg ≤ 2) × (recordBytes ≤ length (now r)) ⌝ }
+    ensures { λ n. ⌜ (n ≡ legSide (now (r .entry)) leg) × (n < 256) ⌝ }
+{
+    byte_in(r, layout::LEG_SIDE + 4 * leg)
 }
 
 // Of an intercontract spread.

@@ -3,6 +3,7 @@ ghost use mathlib.Core.Path.{_≡_};
 ghost use Prim.Native.Nat.{ℕ, _≤_, _<_};
 ghost use lib.ListN.{length};
 ghost use Rattle.record.specs.Bytes.{recordBytes, byteAt};
+ghost use Rattle.record.specs.Layout.{contract};
 ghost use Rattle.record.specs.Ranges.{unknownKind, unusedByte, fieldOutside, ofKindAndContract, sound};
 use crate::bytes::RECORD_BYTES;
 use crate::bytes::byte_in;
@@ -140,4 +141,15 @@ pub fn sound_spread(r: &[u8], c: usize) -> bool
         return false;
     }
     is_of(r, 4, c) & !(unused::beside_spread(r) | ranges::spread_outside(r))
+}
+
+// An intercontract spread, of any contract.
+pub fn sound_entry(r: &[u8]) -> bool
+    ensures { λ b. ⌜ b ≡ sound 5 (contract (now (r .entry))) (now (r .entry)) ⌝ }
+{
+    if r.len() < RECORD_BYTES {
+        return false;
+    }
+    is_of(r, 5, byte_in(r, layout::CONTRACT))
+        & !(unused::beside_entry(r) | ranges::entry_outside(r))
 }

@@ -10,7 +10,7 @@ use lib.IntN.{ℤ}
 use lib.ListN.{replicate}
 use Rattle.spread.specs.Accepted.{openOf, spreadsOf, stepsOf, sound, promptPlaces, spreadPlaces}
 use Rattle.spread.specs.code.Book.{numbersOf, usedIn, unusedIn, byPlace, spreadsEntry, deltaEntry, Booked, Refused, Run, goneOf, Spent}
-use Rattle.spread.specs.code.Cells.{Pooled, numbersIn}
+use Rattle.spread.specs.code.Cells.{Pooled, numbersOver}
 use Rattle.spread.specs.code.Lent.{deltasFrom, deltasIn, spreadsFrom, promptsIn, bookIn}
 use Rattle.spread.specs.Demand.{totalUse, soundSteps}
 use Rattle.spread.specs.Spend.{spend, deltas}
@@ -96,7 +96,7 @@ booked-accepted p t cells l first second used unused e pools run spent =
           ∙ ap (λ (b : Bool). byPlace promptPlaces (deltaEntry (cond b (unusedOf (stepsOf t) (openOf p)) []))) (sym e);
     }
   where
-    formed : numbersIn (stepsOf t) cells ≡ numbersOf p t
+    formed : numbersOver (stepsOf t) cells ≡ numbersOf p t
     formed =
         pooled-numbers (stepsOf t) cells (openOf p) pools
         ∙ ap (λ (b : Bool). cond b (numbers (stepsOf t) (openOf p)) []) (sym e)

@@ -11,7 +11,7 @@ use lib.ListN.{length, getD, set, length-set, List·getD-eq-default}
 use lib.Seq.{getD-set-same, getD-set-other, set-out}
 use borrow.Author.Tests.{eqb-true, eqb-false, eq-eqb, ne-eqb, ltb-true, ltb-false, lt-ltb, le-ltb}
 use Rattle.exact.specs.Lists.{least}
-use Rattle.spread.specs.code.Cells.{parity, cellOf, shortIf, cellAt, Pooled, formedIn, lessIn, afterIn, numbersIn, leftIn, poolCount}
+use Rattle.spread.specs.code.Cells.{parity, cellOf, shortIf, cellAt, Pooled, formedIn, lessIn, afterIn, numbersOver, leftIn, poolCount}
 use Rattle.spread.specs.Steps.{marketIn, Market, long, short, Open, Taker, pool, room, legTakes, takeFrom, formed, after, numbers, left}
 use Rattle.spread.specs.Demand.{sameMarket, draws}
 use Rattle.spread.specs.declared.Leg.{Leg}
@@ -149,7 +149,7 @@ pooled-step ks cells ps h =
     subst (λ (n : ℕ). Pooled (afterIn ks (formedIn ks cells) cells) (after ks n ps)) (pooled-formed ks cells ps h)
     (pooled-after ks (formedIn ks cells) cells ps h)
 
-pub pooled-numbers : (ss : List (List Taker)) (cells : List ℕ) (ps : List Open) → Pooled cells ps → numbersIn ss cells ≡ numbers ss ps
+pub pooled-numbers : (ss : List (List Taker)) (cells : List ℕ) (ps : List Open) → Pooled cells ps → numbersOver ss cells ≡ numbers ss ps
 pooled-numbers [] cells ps h = refl
 pooled-numbers (s ∷ ss) cells ps h =
     ap₂ _∷_ (pooled-formed s cells ps h)

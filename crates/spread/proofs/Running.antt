@@ -13,7 +13,7 @@ use borrow.Author.Tests.{leb-true, le-ltb}
 use Rattle.spread.specs.Accepted.{every, spreadsOf, soundSpread, soundTable, spreadPlaces}
 use Rattle.spread.specs.code.Book.{spreadsEntry, Run}
 use Rattle.spread.specs.Steps.{stepOf, steps}
-use Rattle.spread.specs.code.Cells.{numbersIn, leftIn, Taken}
+use Rattle.spread.specs.code.Cells.{numbersOver, leftIn, Taken}
 use Rattle.spread.specs.code.Lent.{spreadsFrom}
 use Rattle.spread.specs.declared.Spread.{Spread}
 use Rattle.spread.specs.declared.Spreads.{Spreads}
@@ -28,17 +28,17 @@ abbrev pub noSpreads : Spreads
 noSpreads = record { 0 = 0 }
 
 abbrev firstOf : List ℕ → List Spread → ℕ → Spreads
-firstOf cells ss k = spreadsEntry (numbersIn (steps ss) cells) (2 * k)
+firstOf cells ss k = spreadsEntry (numbersOver (steps ss) cells) (2 * k)
 
 abbrev secondOf : List ℕ → List Spread → ℕ → Spreads
-secondOf cells ss k = spreadsEntry (numbersIn (steps ss) cells) (2 * k + 1)
+secondOf cells ss k = spreadsEntry (numbersOver (steps ss) cells) (2 * k + 1)
 
 -- i spreads are done, and the cells are as they leave them
 pub record Running (cells : List ℕ) (ss : List Spread) (i : ℕ) (now : List ℕ) (first second : List Spreads) : Type 0 where
   pub place : i ≤ length ss
   pub firsts : Filled spreadPlaces noSpreads (firstOf cells ss) i first
   pub seconds : Filled spreadPlaces noSpreads (secondOf cells ss) i second
-  pub toGo : (j : ℕ) → getD (numbersIn (steps ss) cells) (2 * i + j) 0 ≡ getD (numbersIn (steps (drop i ss)) now) j 0
+  pub toGo : (j : ℕ) → getD (numbersOver (steps ss) cells) (2 * i + j) 0 ≡ getD (numbersOver (steps (drop i ss)) now) j 0
   pub leaves : leftIn (steps ss) cells ≡ leftIn (steps (drop i ss)) now
 
 pub running-none : (cells : List ℕ) (ss : List Spread) → Running cells ss 0 cells (replicate spreadPlaces noSpreads) (replicate spreadPlaces noSpreads)
@@ -47,7 +47,7 @@ running-none cells ss =
       place = omega arith;
       firsts = filled-none spreadPlaces noSpreads (firstOf cells ss);
       seconds = filled-none spreadPlaces noSpreads (secondOf cells ss);
-      toGo = λ j. ap (λ (k : ℕ). getD (numbersIn (steps ss) cells) k 0) (omega arith);
+      toGo = λ j. ap (λ (k : ℕ). getD (numbersOver (steps ss) cells) k 0) (omega arith);
       leaves = refl;
     }
 
@@ -58,10 +58,10 @@ pair-left s ss now l₁ l₂ n₁ n₂ a b =
     ap (λ (l : List ℕ). leftIn (stepOf true s ∷ steps ss) l) (sym (a .leaves)) ∙ ap (leftIn (steps ss)) (sym (b .leaves))
 
 pair-numbers : (s : Spread) (ss : List Spread) (now l₁ l₂ : List ℕ) (n₁ n₂ : ℕ) → Taken (stepOf false s) now l₁ n₁ → Taken (stepOf true s) l₁ l₂ n₂
-    → numbersIn (steps (s ∷ ss)) now ≡ n₁ ∷ n₂ ∷ numbersIn (steps ss) l₂
+    → numbersOver (steps (s ∷ ss)) now ≡ n₁ ∷ n₂ ∷ numbersOver (steps ss) l₂
 pair-numbers s ss now l₁ l₂ n₁ n₂ a b =
-    ap₂ (λ (n : ℕ) (l : List ℕ). n ∷ numbersIn (stepOf true s ∷ steps ss) l) (sym (a .formed)) (sym (a .leaves))
-    ∙ ap₂ (λ (n : ℕ) (l : List ℕ). n₁ ∷ n ∷ numbersIn (steps ss) l) (sym (b .formed)) (sym (b .leaves))
+    ap₂ (λ (n : ℕ) (l : List ℕ). n ∷ numbersOver (stepOf true s ∷ steps ss) l) (sym (a .formed)) (sym (a .leaves))
+    ∙ ap₂ (λ (n : ℕ) (l : List ℕ). n₁ ∷ n ∷ numbersOver (steps ss) l) (sym (b .formed)) (sym (b .leaves))
 
 pub running-next : (cells : List ℕ) (ss : List Spread) (i : ℕ) (now l₁ l₂ : List ℕ) (first second : List Spreads) (d : Spread) (n₁ n₂ : Spreads)
     → i < length ss → i < spreadPlaces
@@ -74,8 +74,8 @@ running-next cells ss i now l₁ l₂ first second d n₁ n₂ h g a b r =
       place = omega arith;
       firsts = filled-next spreadPlaces noSpreads (firstOf cells ss) i first n₁ (r .firsts) g (ap (λ (n : ℕ). record { 0 = n }) own);
       seconds = filled-next spreadPlaces noSpreads (secondOf cells ss) i second n₂ (r .seconds) g (ap (λ (n : ℕ). record { 0 = n }) reverse);
-      toGo = λ j. ap (λ (k : ℕ). getD (numbersIn (steps ss) cells) k 0) (shift j) ∙ at (suc (suc j))
-          ∙ ap (λ (k : ℕ). getD (numbersIn (steps (drop k ss)) l₂) j 0) (sym (add-one i));
+      toGo = λ j. ap (λ (k : ℕ). getD (numbersOver (steps ss) cells) k 0) (shift j) ∙ at (suc (suc j))
+          ∙ ap (λ (k : ℕ). getD (numbersOver (steps (drop k ss)) l₂) j 0) (sym (add-one i));
       leaves =
           r .leaves
           ∙ ap (λ (l : List Spread). leftIn (steps l) now) (drop-cons ss i d h)
@@ -83,16 +83,16 @@ running-next cells ss i now l₁ l₂ first second d n₁ n₂ h g a b r =
           ∙ ap (λ (k : ℕ). leftIn (steps (drop k ss)) l₂) (sym (add-one i));
     }
   where
-    at : (j : ℕ) → getD (numbersIn (steps ss) cells) (2 * i + j) 0 ≡ getD (n₁ .0 ∷ n₂ .0 ∷ numbersIn (steps (drop (suc i) ss)) l₂) j 0
+    at : (j : ℕ) → getD (numbersOver (steps ss) cells) (2 * i + j) 0 ≡ getD (n₁ .0 ∷ n₂ .0 ∷ numbersOver (steps (drop (suc i) ss)) l₂) j 0
     at j =
         r .toGo j
-        ∙ ap (λ (l : List Spread). getD (numbersIn (steps l) now) j 0) (drop-cons ss i d h)
+        ∙ ap (λ (l : List Spread). getD (numbersOver (steps l) now) j 0) (drop-cons ss i d h)
         ∙ ap (λ (l : List ℕ). getD l j 0) (pair-numbers (getD ss i d) (drop (suc i) ss) now l₁ l₂ (n₁ .0) (n₂ .0) a b)
 
-    own : n₁ .0 ≡ getD (numbersIn (steps ss) cells) (2 * i) 0
-    own = sym (at 0) ∙ ap (λ (k : ℕ). getD (numbersIn (steps ss) cells) k 0) (omega arith)
+    own : n₁ .0 ≡ getD (numbersOver (steps ss) cells) (2 * i) 0
+    own = sym (at 0) ∙ ap (λ (k : ℕ). getD (numbersOver (steps ss) cells) k 0) (omega arith)
 
-    reverse : n₂ .0 ≡ getD (numbersIn (steps ss) cells) (2 * i + 1) 0
+    reverse : n₂ .0 ≡ getD (numbersOver (steps ss) cells) (2 * i + 1) 0
     reverse = sym (at 1)
 
     shift : (j : ℕ) → 2 * (i + 1) + j ≡ 2 * i + suc (suc j)
@@ -109,11 +109,11 @@ running-all cells ss i now first second h r =
       leaves = sym (r .leaves ∙ ap (λ (l : List Spread). leftIn (steps l) now) (drop-of-length-le ss h));
     }
   where
-    beyond : (k : ℕ) → 2 * i ≤ k → getD (numbersIn (steps ss) cells) k 0 ≡ 0
+    beyond : (k : ℕ) → 2 * i ≤ k → getD (numbersOver (steps ss) cells) k 0 ≡ 0
     beyond k g =
-        ap (λ (j : ℕ). getD (numbersIn (steps ss) cells) j 0) (split k g)
+        ap (λ (j : ℕ). getD (numbersOver (steps ss) cells) j 0) (split k g)
         ∙ r .toGo (k - 2 * i)
-        ∙ ap (λ (l : List Spread). getD (numbersIn (steps l) now) (k - 2 * i) 0) (drop-of-length-le ss h)
+        ∙ ap (λ (l : List Spread). getD (numbersOver (steps l) now) (k - 2 * i) 0) (drop-of-length-le ss h)
       where
         split : (k : ℕ) → 2 * i ≤ k → k ≡ 2 * i + (k - 2 * i)
         split k g = omega arith

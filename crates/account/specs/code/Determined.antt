@@ -15,6 +15,6 @@ use Rattle.account.specs.declared.noon.CheckedPair.{CheckedPair}
 pub record Determined : Type 0 where
   pub survey : (file : List ℕ) (s t : Survey) → Surveyed file s → Surveyed file t → s ≡ t
   pub joined : (m n : Survey) (j k : Account) → JoinedBy m n j → JoinedBy m n k → j ≡ k
-  pub alone : (s : Survey) (records : ℕ) (j k : Account) → AloneBy s records j → AloneBy s records k → j ≡ k
+  pub alone : (first counts : List ℕ) (records : ℕ) (j k : Account) → AloneBy first counts records j → AloneBy first counts records k → j ≡ k
   pub file : (file : List ℕ) (r s : Checked) → CheckedBy file r → CheckedBy file s → r ≡ s
   pub pair : (morning noon : List ℕ) (r s : CheckedPair) → PairBy morning noon r → PairBy morning noon s → r ≡ s

@@ -1,4 +1,5 @@
--- Runs of sound records: the prompts, rows or interprompt spreads of a contract after one that has passed, as far as they pass like it.
+-- Runs of sound records: the prompts, rows or interprompt spreads of a contract, or intercontract spreads, after one that has passed, as far
+-- as they pass like it.
 -- Assumes nothing.
 use Prim.Native.Nat.{ℕ, _+_, _-_, _≤_, _<_}
 use mathlib.Core.Path.{_≡_}
@@ -8,9 +9,9 @@ use lib.ListN.{length, getD, set}
 use lib.Dec.{eqb}
 use Rattle.exact.specs.Lists.{any, oneIf}
 use Rattle.record.specs.Bytes.{countFrom}
-use Rattle.record.specs.Layout.{Record, kind, contract, day, legsOf, legTier}
+use Rattle.record.specs.Layout.{Record, kind, contract, day, twoLegs, legsOf, legTier, legSide, secondContract}
 use Rattle.record.specs.Ranges.{sound}
-use Rattle.account.specs.Check.{mostRecords, mostPrompts, kindFalls, contractFalls, dayNotAbove, tierFalls, legsClash}
+use Rattle.account.specs.Check.{mostRecords, mostPrompts, kindFalls, contractFalls, dayNotAbove, tierFalls, sameLeg, withItself}
 use Rattle.account.specs.PartNumbers.{parts}
 use Rattle.account.specs.code.Notes.{partOf, oneMore, startNoted, noContract, beforeAt, faultAt}
 use Rattle.account.specs.Parts.{ofKind, onTier}
@@ -35,6 +36,15 @@ pub record TiersOf (prompts : List Record) (listed : List Bool) : Type 0 where
 abbrev pub legUnlistedIn : List Bool → Record → ℕ → Bool
 legUnlistedIn listed r leg = not (getD listed (legTier r leg) false)
 
+-- Two legs alike, or all legs on one side: where this fails, the legs of a sound spread do not clash (`legs-apart`, Legs). The third leg's
+-- bytes are looked at where there is none, too: a sound spread has zeros there, which no tier of its legs is.
+abbrev pub onOneSide : Record → ℕ → ℕ → Bool
+onOneSide r i j = eqb (legSide r i) (legSide r j)
+
+abbrev pub legsMeet : Record → Bool
+legsMeet r =
+    sameLeg r 0 1 || (sameLeg r 0 2 || (sameLeg r 1 2 || (onOneSide r 0 1 && (twoLegs r || onOneSide r 1 2))))
+
 -- a record that passes after one of its kind and contract
 abbrev pub promptPasses : ℕ → Record → Record → Bool
 promptPasses c before r = sound 2 c r && not (dayNotAbove before r || tierFalls before r)
@@ -43,7 +53,12 @@ abbrev pub rowPasses : ℕ → List ℕ → Record → Bool
 rowPasses c days r = sound 3 c r && hasDay days (day r)
 
 abbrev pub spreadPasses : ℕ → List Bool → Record → Bool
-spreadPasses c listed r = sound 4 c r && not (legsClash r || any (legUnlistedIn listed r) (legsOf r))
+spreadPasses c listed r = sound 4 c r && not (legsMeet r || any (legUnlistedIn listed r) (legsOf r))
+
+-- an intercontract spread of two contracts that are listed
+abbrev pub entryPasses : List ℕ → Record → Bool
+entryPasses counts r =
+    sound 5 (contract r) r && not (noContract counts (contract r) || (noContract counts (secondContract r) || withItself r))
 
 -- numbers from k on that pass a test, up to one at most at the end
 pub record RunTo (passes : ℕ → Bool) (k end i : ℕ) : Type 0 where

@@ -44,10 +44,13 @@ pub record Flagged (counts : List ℕ) (xs : List Bool) : Type 0 where
   pub each : (c : ℕ) → c < mostContracts → getD xs c false ≡ lists counts c
 
 -- the listed contracts' numbers
+abbrev pub listedIn : List ℕ → List ℕ
+listedIn counts = keep (lists counts) (countFrom 0 mostContracts)
+
 pub record Numbered (counts : List ℕ) (n : ℕ) (xs : List ℕ) : Type 0 where
   pub long : length xs ≡ mostContracts
   pub few : n ≤ mostContracts
-  pub those : take n xs ≡ keep (lists counts) (countFrom 0 mostContracts)
+  pub those : take n xs ≡ listedIn counts
   pub rest : drop n xs ≡ replicate (mostContracts - n) 0
 
 pub record JoinedBy (m n : Survey) (j : Account) : Type 0 where
@@ -57,10 +60,10 @@ pub record JoinedBy (m n : Survey) (j : Account) : Type 0 where
   pub numbers : Numbered (j .counts) (j .contracts) (j .numbers)
   pub records : j .records ≡ sum (j .counts)
 
--- one file alone
-pub record AloneBy (s : Survey) (records : ℕ) (j : Account) : Type 0 where
-  pub first : j .first ≡ s .first
-  pub counts : j .counts ≡ s .counts
+-- one file alone, by what is noted of its parts
+pub record AloneBy (first-noted counted : List ℕ) (records : ℕ) (j : Account) : Type 0 where
+  pub first : j .first ≡ first-noted
+  pub counts : j .counts ≡ counted
   pub noon : j .noon ≡ replicate mostContracts false
   pub numbers : Numbered (j .counts) (j .contracts) (j .numbers)
   pub records-are : j .records ≡ records
@@ -114,5 +117,5 @@ ContractPart morning noon k w bytes =
 -- what the check of one file hands out: its answer, and of an accepted file the account, which stands in it alone
 pub record CheckedBy (file : List ℕ) (r : Checked) : Type 0 where
   pub answer-is : r .answer ≡ checked file
-  pub alone-by : (s : Survey) → Surveyed file s → AloneBy s (recordCount file) (r .account)
+  pub alone-by : (s : Survey) → Surveyed file s → AloneBy (s .first) (s .counts) (recordCount file) (r .account)
   pub stands : checked file ≡ Accepted → (none : List ℕ) → none ≡ [] → Stands file none (r .account)

@@ -134,8 +134,8 @@ loop-again c =
     (subst (λ (k : ℕ). AccountOf (answered (take k (drop (l .at) (s .accounts .now)))) (a .result)) part (a .ensures))
     (w .ensures))
 
-put-numbers-requires : tie.Need-put-numbers-requires Inv-loop μ-loop
-put-numbers-requires c κs =
+put-sums-requires : tie.Need-put-sums-requires Inv-loop μ-loop
+put-sums-requires c κs =
     let after-if3 = c .before .before .before .before in
     let c-7 = after-if3 .before .before .before in
     let l = c .before .before .loop in
@@ -166,7 +166,7 @@ returns-4 c =
     all (s .accounts .now) (s .lengths .now) (s .out .now) (omega (arith, few))
     (sym (after-add-up .add-up .ensures)
     ∙ not-false _ (c-7 .if2 .left)) (omega (arith, room))
-    (c .before .put-numbers .last .1 .0) (c .before .put-numbers .ensures
+    (c .before .put-sums .last .1 .0) (c .before .put-sums .ensures
     ∙ ap (λ (xs : List ℕ). map pos xs ++ drop committeeNumbers (s .out .now)) e)
     in
     (h .is, h .out-is)
@@ -194,6 +194,6 @@ answer-committee-spec =
     add-i
     loop-less
     loop-again
-    put-numbers-requires
+    put-sums-requires
     same-length
     returns-4)

@@ -67,6 +67,10 @@ pub record Added (n : ℕ) (more : ℕ → ℤ) (xs ys : List ℤ) : Type 0 wher
 abbrev pub netOn : List Record → ℕ → ℤ
 netOn rows d = sumℤ (map rowDelta (keep (ofDay d) rows))
 
+-- the same over rows of whatever days
+abbrev pub rowsNet : List Record → ℤ
+rowsNet rows = sumℤ (map rowDelta rows)
+
 -- what a row adds to each total, scenario 1 first
 abbrev pub products : List Record → ℕ → Record → ℕ → ℤ
 products rates unit row k = product rates unit (k + 1) row

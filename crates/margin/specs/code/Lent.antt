@@ -3,18 +3,19 @@
 use Prim.Native.Nat.{ℕ}
 use mathlib.Core.Path.{_≡_}
 use mathlib.Core.Bool.{true, false}
-use mathlib.Core.List.{List, []}
+use mathlib.Core.List.{List, [], map}
 use lib.IntN.{ℤ}
-use lib.ListN.{length, getD}
+use lib.ListN.{length, getD, take}
 use Rattle.record.specs.Layout.{Record, contract}
 use Rattle.account.specs.Parts.{contractsOf}
+use Rattle.spread.specs.Accepted.{promptPlaces}
 use Rattle.margin.specs.declared.asking.Everything.{Everything}
 use Rattle.margin.specs.declared.asking.Question.the-variants.{Figures, Book, Uses}
 use Rattle.formulas.specs.declared.line.Line.{Line}
 use Rattle.margin.specs.declared.over.Lines.{Lines}
 use Rattle.margin.specs.Books.{tableQuestion}
 use Rattle.formulas.specs.Bounds.{longestBook, longestUses}
-use Rattle.formulas.specs.Contract.{partsIn}
+use Rattle.formulas.specs.Contract.{contracts, partsIn, asTier}
 use Rattle.margin.specs.code.Lined.{LinesOf}
 use Rattle.formulas.specs.code.Promised.{LineOf}
 use Rattle.margin.specs.Questions.{answerOver, afterOver}
@@ -35,6 +36,22 @@ pub record ContractsLent (account : List Record) (ls : Lines) (books uses books�
   pub lines : LinesOf account ls
   pub book : books′ ≡ lentEach longestBook (λ q. afterOver account (Book q)) tableQuestion books
   pub paid : uses′ ≡ lentEach longestUses (λ q. afterOver account (Uses q)) tableQuestion uses
+
+-- the books and uses of all contracts, and their net deltas
+pub record NetsLent (account : List Record) (books uses books′ uses′ nets′ : List ℤ) : Type 0 where
+  pub book : books′ ≡ lentEach longestBook (λ q. afterOver account (Book q)) tableQuestion books
+  pub paid : uses′ ≡ lentEach longestUses (λ q. afterOver account (Uses q)) tableQuestion uses
+  pub places : length nets′ ≡ promptPlaces
+  pub nets-are : take (length (contractsOf account)) nets′ ≡ map (λ p. p .unused) (map asTier (contracts account))
+
+-- the figures, and the book and uses of the intercontract table in their places
+pub record TableLent (account : List Record) (figures books uses : List ℤ) (r : Everything) (figures′ books′ uses′ : List ℤ) : Type 0 where
+  pub figures-answer : r .figures ≡ answerOver account Figures (length figures)
+  pub figures-after : figures′ ≡ afterOver account Figures figures
+  pub books-answer : r .books ≡ allOver false account (length books)
+  pub book : books′ ≡ lentPlace longestBook tableQuestion (afterOver account (Book tableQuestion)) books
+  pub uses-answer : r .uses ≡ allOver true account (length uses)
+  pub paid : uses′ ≡ lentPlace longestUses tableQuestion (afterOver account (Uses tableQuestion)) uses
 
 -- the figures, and the books and uses of all questions
 pub record EverythingOf (account : List Record) (figures books uses : List ℤ) (r : Everything) (figures′ books′ uses′ : List ℤ) : Type 0 where

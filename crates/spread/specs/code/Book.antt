@@ -8,7 +8,7 @@ use lib.ListN.{getD, replicate}
 use lib.IntN.{ℤ, pos}
 use Rattle.spread.specs.Steps.{Market, Open, steps, numbers, usedOf, unusedOf}
 use Rattle.spread.specs.Spend.{spend, deltas, usedBy}
-use Rattle.spread.specs.code.Cells.{cellAt, numbersIn, leftIn}
+use Rattle.spread.specs.code.Cells.{cellAt, numbersOver, leftIn}
 use Rattle.spread.specs.Accepted.{openOf, stepsOf, sound, promptPlaces, spreadPlaces}
 use Rattle.spread.specs.declared.Delta.{Delta}
 use Rattle.spread.specs.declared.Spreads.{Spreads}
@@ -59,8 +59,8 @@ pub record Refused (r : Book) : Type 0 where
 
 -- The run of all steps on the cells: the numbers by spread, and the cells left.
 pub record Run (cells : List ℕ) (ss : List Spread) (left : List ℕ) (first second : List Spreads) : Type 0 where
-  pub firsts : first ≡ byPlace spreadPlaces (λ k. spreadsEntry (numbersIn (steps ss) cells) (2 * k))
-  pub seconds : second ≡ byPlace spreadPlaces (λ k. spreadsEntry (numbersIn (steps ss) cells) (2 * k + 1))
+  pub firsts : first ≡ byPlace spreadPlaces (λ k. spreadsEntry (numbersOver (steps ss) cells) (2 * k))
+  pub seconds : second ≡ byPlace spreadPlaces (λ k. spreadsEntry (numbersOver (steps ss) cells) (2 * k + 1))
   pub leaves : left ≡ leftIn (steps ss) cells
 
 -- what is gone of each pool

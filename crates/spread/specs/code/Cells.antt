@@ -65,9 +65,9 @@ abbrev pub afterIn : List Taker → ℕ → List ℕ → List ℕ
 afterIn [] number cells = cells
 afterIn (k ∷ ks) number cells = afterIn ks number (lessIn number k cells)
 
-abbrev pub numbersIn : List (List Taker) → List ℕ → List ℕ
-numbersIn [] cells = []
-numbersIn (s ∷ ss) cells = formedIn s cells ∷ numbersIn ss (afterIn s (formedIn s cells) cells)
+abbrev pub numbersOver : List (List Taker) → List ℕ → List ℕ
+numbersOver [] cells = []
+numbersOver (s ∷ ss) cells = formedIn s cells ∷ numbersOver ss (afterIn s (formedIn s cells) cells)
 
 abbrev pub leftIn : List (List Taker) → List ℕ → List ℕ
 leftIn [] cells = cells

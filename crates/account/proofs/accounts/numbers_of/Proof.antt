@@ -1,31 +1,41 @@
--- The listed numbers are put one after the other.
+-- The listed numbers are put one after the other, until there are no more.
 -- Assumes nothing.
 use Prim.Native.Nat.{ℕ, _+_, _-_, _≤_, _<_}
 use mathlib.Core.Path.{_≡_, refl, sym, ap, ap₂, _∙_}
 use native.Mathlib.Omega.{arith}
+use lib.Dec.{ltb}
 use lib.ListN.{length, take, drop, replicate}
+use lib.Seq.{length-take-le}
+use borrow.Author.Tests.{ltb-true}
 use Rattle.exact.specs.Lists.{keep}
 use Rattle.exact.proofs.Tests.{one-at-most}
 use Rattle.record.specs.Bytes.{countFrom}
+use Rattle.record.proofs.Within.{both-true}
 use Rattle.account.specs.code.Standing.{lists}
 use Rattle.account.specs.Check.{mostContracts}
-use Rattle.account.proofs.Filled.{numbers-next, left-after}
+use Rattle.account.proofs.Filled.{numbers-next, left-after, all-found}
 use Rattle.account.proofs.accounts.numbers_of.Statement.{statement}
 use Rattle.account.proofs.accounts.numbers_of.Tie as tie
 
 abbrev Inv-loop : tie.InvT-loop
-Inv-loop counts count₀ number₀ c₀ count number c = (length number ≡ mostContracts)
+Inv-loop counts most count₀ number₀ c₀ count number c = (length number ≡ mostContracts)
     × ((count ≤ c) × ((c ≤ mostContracts) × ((take count number ≡ keep (lists counts) (countFrom 0 c))
     × (drop count number ≡ replicate (mostContracts - count) 0))))
 
 abbrev μ-loop : tie.MeasureT-loop
-μ-loop counts count₀ number₀ c₀ count number c = mostContracts - c
+μ-loop counts most count₀ number₀ c₀ count number c = mostContracts - c
 
 loop-holds : tie.Need-loop-holds Inv-loop μ-loop
 loop-holds c = (refl, (omega arith, (omega arith, (refl, refl))))
 
+-- a contract is still to be looked at
+below : (c : tie.In-loop Inv-loop μ-loop) → c .before .loop .c < mostContracts
+below c =
+    ltb-true (c .before .loop .c) mostContracts
+    (both-true (ltb (c .before .loop .count) (c .before .before .before .args .most)) (ltb (c .before .loop .c) mostContracts) (c .loop-test .taken) .1)
+
 lists-requires : tie.Need-lists-requires Inv-loop μ-loop
-lists-requires c κs = c .loop-test .taken
+lists-requires c κs = below c
 
 slice-aggregate-put-number : tie.Need-slice-aggregate-put-number Inv-loop μ-loop
 slice-aggregate-put-number c =
@@ -35,8 +45,8 @@ slice-aggregate-put-number c =
 put-number-requires : tie.Need-put-number-requires Inv-loop μ-loop
 put-number-requires c κs =
     let after-loop = c .before .before .before in (
-      omega (arith, after-loop .loop .inv .0, after-loop .loop .inv .1 .0, c .before .before .loop-test .taken),
-      c .before .before .loop-test .taken,
+      omega (arith, after-loop .loop .inv .0, after-loop .loop .inv .1 .0, below (c .before .before)),
+      below (c .before .before),
     )
 
 one-if-requires : tie.Need-one-if-requires Inv-loop μ-loop
@@ -53,18 +63,18 @@ add-count c =
       one-at-most
           (after-lists .lists .result),
       after-loop .loop .inv .1 .0,
-      after-loop-test .loop-test .taken,
+      below after-loop-test,
     )
 
 add-c : tie.Need-add-c Inv-loop μ-loop
 add-c c =
     let after-loop-test = c .before .before .before .before .before in
-    omega (arith, after-loop-test .loop-test .taken)
+    omega (arith, below after-loop-test)
 
 loop-less : tie.Need-loop-less Inv-loop μ-loop
 loop-less c =
     let after-loop-test = c .before .before .before .before .before in
-    omega (arith, after-loop-test .loop-test .taken)
+    omega (arith, below after-loop-test)
 
 loop-again : tie.Need-loop-again Inv-loop μ-loop
 loop-again c =
@@ -73,7 +83,7 @@ loop-again c =
     let after-loop = after-loop-test .before in
     let start = after-loop .before .before in
     let l = after-loop .loop in
-    let h = after-loop-test .loop-test .taken in
+    let h = below after-loop-test in
     let b = after-lists .lists in
     let u = c .before .before .put-number in
     let o = c .one-if .ensures in
@@ -101,11 +111,12 @@ returns : tie.Need-returns Inv-loop μ-loop
 returns c =
     let start = c .before .before .before in
     let l = c .before .loop in
-    let e : l .c ≡ mostContracts = omega (arith, c .loop-test .left, l .inv .1 .1 .0) in
+    let p = lists (start .args .counts .now) in
+    let many = sym (length-take-le (l .count) (l .number) (omega (arith, l .inv .0, l .inv .1 .0, l .inv .1 .1 .0))) ∙ ap length (l .inv .1 .1 .1 .0) in
     record {
       long = l .inv .0;
       few = omega (arith, l .inv .1 .0, l .inv .1 .1 .0);
-      those = l .inv .1 .1 .1 .0 ∙ ap (λ (n : ℕ). keep (lists (start .args .counts .now)) (countFrom 0 n)) e;
+      those = l .inv .1 .1 .1 .0 ∙ all-found p (start .args .most) (l .count) (l .c) mostContracts many (l .inv .1 .1 .0) (start .pre) (c .loop-test .left);
       rest = l .inv .1 .1 .1 .1;
     }
 

@@ -1,14 +1,16 @@
 -- The entries, one after the other.
 -- Assumes nothing.
-use mathlib.Core.Path.{_≡_, sym, subst, subst⁻¹}
-use Prim.Native.Nat.{_-_, _<_}
+use mathlib.Core.Path.{_≡_, sym, _∙_, subst, subst₂, subst⁻¹}
+use mathlib.Core.List.{[]}
+use Prim.Native.Nat.{ℕ, _-_, _<_}
 use native.Mathlib.Omega.{arith}
-use borrow.Author.Needs.{needs}
-use lib.ListN.{length, getD}
+use lib.ListN.{length, length-map, getD}
 use Rattle.spread.specs.Accepted.{spreadPlaces}
+use Rattle.spread.specs.code.Lent.{spreadsFrom}
 use Rattle.record.specs.Layout.{Record}
 use Rattle.account.specs.Records.{records, recordCount}
 use Rattle.formulas.specs.code.Table.{earnerAt, EntryRoom, WithEntry}
+use Rattle.formulas.proofs.LentLaws.{spread-from}
 use Rattle.formulas.proofs.RecordLaws.{lent-at, below-records, length-cut}
 use Rattle.formulas.proofs.EarnedLaws.{Walked, walk-start, walk-next, walk-all}
 use Rattle.formulas.proofs.charges.credits.Statement.{statement}
@@ -16,7 +18,7 @@ use Rattle.formulas.proofs.charges.credits.Tie as tie
 
 abbrev Inv-loop : tie.InvT-loop
 Inv-loop entries units prices nets first second count earned₀ i₀ earned i =
-    Walked units prices nets (records entries) first second (recordCount entries) i earned
+    Walked units prices nets (records entries) (spreadsFrom first) (spreadsFrom second) (recordCount entries) i earned
 
 abbrev μ-loop : tie.MeasureT-loop
 μ-loop entries units prices nets first second count earned₀ i₀ earned i = count - i
@@ -39,21 +41,21 @@ part-e-start c = omega arith
 part-e-end : tie.Need-part-e-end Inv-loop μ-loop
 part-e-end c = omega arith
 
-mul-add-credits : tie.Need-mul-add-credits Inv-loop μ-loop
-mul-add-credits c = omega arith
+mul-t14 : tie.Need-mul-t14 Inv-loop μ-loop
+mul-t14 c = omega arith
 
-array-copy-out-add-credits : tie.Need-array-copy-out-add-credits Inv-loop μ-loop
-array-copy-out-add-credits c =
+element-copy-out-t22 : tie.Need-element-copy-out-t22 Inv-loop μ-loop
+element-copy-out-t22 c =
     let s = c .before .before .before .before .before in
-    omega (arith, s .pre .most, length-cut (recordCount (s .args .entries .now)) (s .args .entries .now))
+    omega (arith, s .pre .0 .most, length-cut (recordCount (s .args .entries .now)) (s .args .entries .now))
 
-mul-add-credits-2 : tie.Need-mul-add-credits-2 Inv-loop μ-loop
-mul-add-credits-2 c = omega arith
+mul-t16 : tie.Need-mul-t16 Inv-loop μ-loop
+mul-t16 c = omega arith
 
-array-copy-out-add-credits-2 : tie.Need-array-copy-out-add-credits-2 Inv-loop μ-loop
-array-copy-out-add-credits-2 c =
+element-copy-out-t26 : tie.Need-element-copy-out-t26 Inv-loop μ-loop
+element-copy-out-t26 c =
     let s = c .before .before .before .before .before .before in
-    omega (arith, s .pre .most, length-cut (recordCount (s .args .entries .now)) (s .args .entries .now))
+    omega (arith, s .pre .0 .most, length-cut (recordCount (s .args .entries .now)) (s .args .entries .now))
 
 add-credits-requires : tie.Need-add-credits-requires Inv-loop μ-loop
 add-credits-requires c κs =
@@ -61,12 +63,15 @@ add-credits-requires c κs =
     let s = after-loop .before .before in
     let l = after-loop .loop in
     let f = s .args .entries .now in
+    let first = s .args .first .now in
+    let second = s .args .second .now in
     let turn : l .i < recordCount f = omega arith in
-    let few = s .pre .most in
-    let n = length-cut (recordCount f) f in (
-      subst⁻¹ (λ (r : Record). EntryRoom (earnerAt (s .args .units .now) (s .args .prices .now) (s .args .nets .now)) r
-          (getD (s .args .t5) (l .i) (record { 0 = 0 }) .0) (getD (s .args .t6) (l .i) (record { 0 = 0 }) .0))
-          (lent-at f (l .i) turn) (s .pre .each (l .i) (below-records f (l .i) turn)),
+    let few = s .pre .0 .most in
+    let n = length-cut (recordCount f) f in
+    let at = earnerAt (s .args .units .now) (s .args .prices .now) (s .args .nets .now) in (
+      subst⁻¹ (λ (r : Record). EntryRoom at r (getD first (l .i) 0) (getD second (l .i) 0)) (lent-at f (l .i) turn)
+          (subst₂ (λ (x y : ℕ). EntryRoom at (getD (records f) (l .i) []) x y) (spread-from first (l .i)) (spread-from second (l .i))
+          (s .pre .0 .each (l .i) (below-records f (l .i) turn))),
       record { places = l .inv .places; most = λ k h. let t = l .inv .each k h .small in omega arith },
     )
 
@@ -82,16 +87,20 @@ loop-again c =
     let s = after-loop .before .before in
     let l = after-loop .loop in
     let f = s .args .entries .now in
+    let first = s .args .first .now in
+    let second = s .args .second .now in
     let turn : l .i < recordCount f = omega arith in
     let n = length-cut (recordCount f) f in
-    let few = s .pre .most in
-    let first : length (s .args .t5) ≡ spreadPlaces = search needs in
-    let second : length (s .args .t6) ≡ spreadPlaces = search needs in
-    walk-next (s .args .units .now) (s .args .prices .now) (s .args .nets .now) (records f) (s .args .t5) (s .args .t6) (recordCount f) (l .i) (l .earned)
-    (c .add-credits .last .0) (sym n) (omega arith) (omega arith) turn (l .inv)
-    (subst (λ (r : Record). WithEntry (earnerAt (s .args .units .now) (s .args .prices .now) (s .args .nets .now)) r
-    (getD (s .args .t5) (l .i) (record { 0 = 0 }) .0) (getD (s .args .t6) (l .i) (record { 0 = 0 }) .0) (l .earned) (c .add-credits .last .0))
-    (lent-at f (l .i) turn) (c .add-credits .ensures))
+    let few = s .pre .0 .most in
+    let at = earnerAt (s .args .units .now) (s .args .prices .now) (s .args .nets .now) in
+    let firsts : length (spreadsFrom first) ≡ spreadPlaces = length-map first _ ∙ s .pre .1 .0 in
+    let seconds : length (spreadsFrom second) ≡ spreadPlaces = length-map second _ ∙ s .pre .1 .1 in
+    walk-next (s .args .units .now) (s .args .prices .now) (s .args .nets .now) (records f) (spreadsFrom first) (spreadsFrom second) (recordCount f) (l .i)
+    (l .earned) (c .add-credits .last .0) (sym n) (omega arith) (omega arith) turn (l .inv)
+    (subst₂ (λ (x y : ℕ). WithEntry at (getD (records f) (l .i) []) x y (l .earned) (c .add-credits .last .0)) (sym (spread-from first (l .i)))
+    (sym (spread-from second (l .i)))
+    (subst (λ (r : Record). WithEntry at r (getD first (l .i) 0) (getD second (l .i) 0) (l .earned) (c .add-credits .last .0)) (lent-at f (l .i) turn)
+    (c .add-credits .ensures)))
 
 returns : tie.Need-returns Inv-loop μ-loop
 returns c =
@@ -99,9 +108,9 @@ returns c =
     let l = c .before .loop in
     let f = s .args .entries .now in
     let n = length-cut (recordCount f) f in
-    let few = s .pre .most in
-    walk-all (s .args .units .now) (s .args .prices .now) (s .args .nets .now) (records f) (s .args .t5) (s .args .t6) (recordCount f) (l .i) (l .earned)
-    (sym n) (omega arith) (omega arith) (l .inv)
+    let few = s .pre .0 .most in
+    walk-all (s .args .units .now) (s .args .prices .now) (s .args .nets .now) (records f) (spreadsFrom (s .args .first .now))
+    (spreadsFrom (s .args .second .now)) (recordCount f) (l .i) (l .earned) (sym n) (omega arith) (omega arith) (l .inv)
 
 pub credits-spec : {M : Type 1} → statement M
 credits-spec =
@@ -115,10 +124,10 @@ credits-spec =
     sub-e
     part-e-start
     part-e-end
-    mul-add-credits
-    array-copy-out-add-credits
-    mul-add-credits-2
-    array-copy-out-add-credits-2
+    mul-t14
+    element-copy-out-t22
+    mul-t16
+    element-copy-out-t26
     add-credits-requires
     add-i
     loop-less

@@ -19,10 +19,10 @@ use Rattle.formulas.proofs.rows.add_delta.Statement.{statement}
 use Rattle.formulas.proofs.rows.add_delta.Tie as tie
 
 abbrev Inv-loop : tie.InvT-loop
-Inv-loop nets₀ days count rising d more j₀ nets j = (j ≤ count) × ((j < count → getD days j 0 ≡ d) × Added j (addsOn days d (more .0)) nets₀ nets)
+Inv-loop nets₀ days guess count rising d more j₀ nets j = (j ≤ count) × ((j < count → getD days j 0 ≡ d) × Added j (addsOn days d (more .0)) nets₀ nets)
 
 abbrev μ-loop : tie.MeasureT-loop
-μ-loop nets₀ days count rising d more j₀ nets j = count - j
+μ-loop nets₀ days guess count rising d more j₀ nets j = count - j
 
 place-of-requires : tie.Need-place-of-requires Inv-loop μ-loop
 place-of-requires c κs = (c .pre .0, c .pre .1 .0)
@@ -62,8 +62,8 @@ plus-requires c κs =
     plus-fits x more a more mostDelta mostDelta (sfits-abs x (omega (arith, ap natAbs same))) (sfits-abs more (omega (arith, s .pre .1 .1 .0)))
     same refl here (s .pre .1 .1 .0) (omega arith)
 
-mul-t14 : tie.Need-mul-t14 Inv-loop μ-loop
-mul-t14 c =
+mul-t15 : tie.Need-mul-t15 Inv-loop μ-loop
+mul-t15 c =
     let after-plus-arg = c .before .before in
     let s = after-plus-arg .before .before .before .before in
     omega (arith, s .pre .0)
@@ -130,7 +130,7 @@ add-delta-spec =
     mul-plus
     element-copy-out-plus
     plus-requires
-    mul-t14
+    mul-t15
     element-set-from-nets
     next-place-requires
     loop-less

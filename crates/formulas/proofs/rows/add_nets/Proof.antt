@@ -24,39 +24,41 @@ use Rattle.formulas.proofs.rows.add_nets.Statement.{statement}
 use Rattle.formulas.proofs.rows.add_nets.Tie as tie
 
 abbrev Inv-loop : tie.InvT-loop
-Inv-loop nets₀ rows count prompts its-days rising i₀ nets i = (i ≤ length rows / recordBytes)
+Inv-loop nets₀ rows count prompts its-days rising guess i₀ nets i = (i ≤ length rows / recordBytes)
     × Added prompts (λ j. netOn (take i (records rows)) (getD its-days j 0)) nets₀ nets
 
 abbrev μ-loop : tie.MeasureT-loop
-μ-loop nets₀ rows count prompts its-days rising i₀ nets i = length rows / recordBytes - i
+μ-loop nets₀ rows count prompts its-days rising guess i₀ nets i = length rows / recordBytes - i
 
 rise-requires : tie.Need-rise-requires Inv-loop μ-loop
 rise-requires c κs =
     let start = c .before .before .before in
     start .pre .0
 
+guesses-requires : tie.Need-guesses-requires Inv-loop μ-loop
+guesses-requires c κs =
+    let start = c .before .before .before .before .before in
+    start .pre .0
+
 loop-holds : tie.Need-loop-holds Inv-loop μ-loop
 loop-holds c =
-    let c-4 = c .before .before .before .before in
-    let s = c-4 in
+    let s = c .before .before .before .before .before .before in
     (omega arith, nothing-added (s .args .days .count) (λ j. netOn [] (getD (s .args .days .day) j 0)) (now (s .args .nets)) (λ j. refl))
 
 -- at the head of a turn: the row is within its ranges, and there is room for it
 row-within : (c : tie.In-loop Inv-loop μ-loop)
     → RowFit
     (take (c .before .loop .i * recordBytes + recordBytes - c .before .loop .i * recordBytes)
-    (drop (c .before .loop .i * recordBytes) (now (c .before .before .before .before .before .before .args .rows))))
+    (drop (c .before .loop .i * recordBytes) (now (c .before .before .before .before .before .before .before .before .args .rows))))
 row-within c =
-    let c-6 = c .before .before .before .before .before .before in
-    let s = c-6 in
+    let s = c .before .before .before .before .before .before .before .before in
     let file = now (s .args .rows) in
     let more : c .before .loop .i < length file / recordBytes = c .loop-test .taken in
     subst (λ (row : Record). RowFit row) (record-at file (c .before .loop .i) more) (s .pre .1 .0 .each (c .before .loop .i) (omega (arith, count-is file)))
 
 has-room : (c : tie.In-loop Inv-loop μ-loop) → AtMost promptPlaces mostDelta (c .before .loop .nets)
 has-room c =
-    let c-6 = c .before .before .before .before .before .before in
-    let s = c-6 in
+    let s = c .before .before .before .before .before .before .before .before in
     let i = c .before .loop in
     let file = now (s .args .rows) in
     nets-room (records file) (s .args .days .count) (s .args .days .day) (now (s .args .nets)) (s .pre .1 .0) (s .pre .1 .1) (i .i) mostRows
@@ -83,13 +85,13 @@ day-of-requires c κs = search needs
 
 row-delta-requires : tie.Need-row-delta-requires Inv-loop μ-loop
 row-delta-requires c κs =
-    let after-loop-test = c .before .before .before .before in
+    let after-loop-test = c .before .before .before .before .before in
     row-within after-loop-test
 
 add-delta-requires : tie.Need-add-delta-requires Inv-loop μ-loop
 add-delta-requires c κs =
-    let after-loop-test = c .before .before .before .before .before in
-    let after-rise = after-loop-test .before .before in
+    let after-loop-test = c .before .before .before .before .before .before in
+    let after-rise = after-loop-test .before .before .before .before in
     let start = after-rise .before .before .before .before in (
       start .pre .0,
       (after-rise .rise .ensures, (omega (arith, c .row-delta .ensures .size), has-room after-loop-test)),
@@ -97,20 +99,20 @@ add-delta-requires c κs =
 
 add-i : tie.Need-add-i Inv-loop μ-loop
 add-i c =
-    let after-loop-test = c .before .before .before .before .before .before in
+    let after-loop-test = c .before .before .before .before .before .before .before in
     omega (arith, after-loop-test .loop-test .taken)
 
 loop-less : tie.Need-loop-less Inv-loop μ-loop
 loop-less c =
-    let after-loop-test = c .before .before .before .before .before .before in
+    let after-loop-test = c .before .before .before .before .before .before .before in
     omega (arith, after-loop-test .loop-test .taken)
 
 loop-again : tie.Need-loop-again Inv-loop μ-loop
 loop-again c =
     let after-day-of = c .before .before in
-    let after-loop-test = after-day-of .before .before .before .before in
+    let after-loop-test = after-day-of .before .before .before .before .before in
     let after-loop = after-loop-test .before in
-    let s = after-loop .before .before .before .before .before in
+    let s = after-loop .before .before .before .before .before .before .before in
     let i = after-loop .loop in
     let file = now (s .args .rows) in
     let days = s .args .days .day in
@@ -128,8 +130,7 @@ loop-again c =
 
 returns : tie.Need-returns Inv-loop μ-loop
 returns c =
-    let c-6 = c .before .before .before .before .before .before in
-    let s = c-6 in
+    let s = c .before .before .before .before .before .before .before .before in
     let i = c .before .loop in
     let rows = records (now (s .args .rows)) in
     subst (λ (rs : List Record). Added (s .args .days .count) (λ j. netOn rs (getD (s .args .days .day) j 0)) (now (s .args .nets)) (i .nets))
@@ -142,6 +143,7 @@ add-nets-spec =
     Inv-loop
     μ-loop
     rise-requires
+    guesses-requires
     loop-holds
     mul-at
     add-row

@@ -34,28 +34,32 @@ one-rated t rates row held is = record { rates = rates; held = held; each = λ k
     only (suc k) h = absurd (omega arith)
 
 abbrev Inv-loop : tie.InvT-loop
-Inv-loop totals₀ nets₀ rates unit rows count prompts its-days rising shorts₀ i₀ totals nets shorts i =
+Inv-loop totals₀ nets₀ rates unit rows count prompts its-days rising guess shorts₀ i₀ totals nets shorts i =
     (held : List Record) → RatesOf held rates → SoFar held unit (records rows) prompts its-days totals₀ nets₀ 0 i totals nets shorts
 
 abbrev μ-loop : tie.MeasureT-loop
-μ-loop totals₀ nets₀ rates unit rows count prompts its-days rising shorts₀ i₀ totals nets shorts i = length rows / recordBytes - i
+μ-loop totals₀ nets₀ rates unit rows count prompts its-days rising guess shorts₀ i₀ totals nets shorts i = length rows / recordBytes - i
 
 rise-requires : tie.Need-rise-requires Inv-loop μ-loop
 rise-requires c κs =
     let start = c .before .before .before in
     start .pre .1 .0
 
+guesses-requires : tie.Need-guesses-requires Inv-loop μ-loop
+guesses-requires c κs =
+    let start = c .before .before .before .before .before in
+    start .pre .1 .0
+
 loop-holds : tie.Need-loop-holds Inv-loop μ-loop
 loop-holds c =
-    let c-4 = c .before .before .before .before in
-    let s = c-4 in
+    let s = c .before .before .before .before .before .before in
     λ held is. start held (s .args .unit) (records (now (s .args .rows))) (s .args .days .count) (s .args .days .day) (now (s .args .totals))
     (now (s .args .nets)) 0
 
 -- at the head of a turn: the row is within its ranges, and there is room for it
 module _ (c : tie.In-loop Inv-loop μ-loop) where
   abbrev s : tie.Start Inv-loop μ-loop
-  s = c .before .before .before .before .before .before
+  s = c .before .before .before .before .before .before .before .before
 
   abbrev file : List ℕ
   file = now (s .args .rows)
@@ -109,13 +113,13 @@ day-of-requires c κs = search needs
 
 row-delta-requires : tie.Need-row-delta-requires Inv-loop μ-loop
 row-delta-requires c κs =
-    let after-loop-test = c .before .before .before .before in
+    let after-loop-test = c .before .before .before .before .before in
     row-within after-loop-test
 
 add-delta-requires : tie.Need-add-delta-requires Inv-loop μ-loop
 add-delta-requires c κs =
-    let after-loop-test = c .before .before .before .before .before in
-    let after-rise = after-loop-test .before .before in
+    let after-loop-test = c .before .before .before .before .before .before in
+    let after-rise = after-loop-test .before .before .before .before in
     let start = after-rise .before .before .before .before in (
       start .pre .1 .0,
       (
@@ -129,8 +133,8 @@ add-delta-requires c κs =
 
 add-row-requires : tie.Need-add-row-requires Inv-loop μ-loop
 add-row-requires c κs =
-    let after-loop-test = c .before .before .before .before .before .before .before in
-    let start = after-loop-test .before .before .before .before .before .before in
+    let after-loop-test = c .before .before .before .before .before .before .before .before in
+    let start = after-loop-test .before .before .before .before .before .before .before .before in
     (start .pre .0, (row-within after-loop-test, (row-rated after-loop-test, has-room after-loop-test .totals-most)))
 
 short-options-requires : tie.Need-short-options-requires Inv-loop μ-loop
@@ -138,27 +142,27 @@ short-options-requires c κs = search needs
 
 add-shorts : tie.Need-add-shorts Inv-loop μ-loop
 add-shorts c =
-    let after-loop-test = c .before .before .before .before .before .before .before .before .before in
+    let after-loop-test = c .before .before .before .before .before .before .before .before .before .before in
     omega (arith, c .short-options .ensures, shorts-most _ (row-within after-loop-test), has-room after-loop-test .shorts-most)
 
 add-i : tie.Need-add-i Inv-loop μ-loop
 add-i c =
-    let after-loop-test = c .before .before .before .before .before .before .before .before .before in
-    let start = after-loop-test .before .before .before .before .before .before in
+    let after-loop-test = c .before .before .before .before .before .before .before .before .before .before in
+    let start = after-loop-test .before .before .before .before .before .before .before .before in
     omega (arith, after-loop-test .loop-test .taken, start .good)
 
 loop-less : tie.Need-loop-less Inv-loop μ-loop
 loop-less c =
-    let after-loop-test = c .before .before .before .before .before .before .before .before .before in
+    let after-loop-test = c .before .before .before .before .before .before .before .before .before .before in
     omega (arith, after-loop-test .loop-test .taken)
 
 loop-again : tie.Need-loop-again Inv-loop μ-loop
 loop-again c =
     let after-add-delta = c .before .before .before in
     let after-day-of = after-add-delta .before .before in
-    let after-loop-test = after-day-of .before .before .before .before in
+    let after-loop-test = after-day-of .before .before .before .before .before in
     let after-loop = after-loop-test .before in
-    let s = after-loop .before .before .before .before .before in
+    let s = after-loop .before .before .before .before .before .before .before in
     let i = after-loop .loop in
     let file = now (s .args .rows) in
     let days = s .args .days .day in
@@ -178,8 +182,7 @@ loop-again c =
 
 returns : tie.Need-returns Inv-loop μ-loop
 returns c =
-    let c-6 = c .before .before .before .before .before .before in
-    let s = c-6 in
+    let s = c .before .before .before .before .before .before .before .before in
     let i = c .before .loop in
     let file = now (s .args .rows) in
     let ts = now (s .args .totals) in
@@ -201,6 +204,7 @@ add-rows-spec =
     Inv-loop
     μ-loop
     rise-requires
+    guesses-requires
     loop-holds
     mul-at
     add-row

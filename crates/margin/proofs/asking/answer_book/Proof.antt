@@ -43,8 +43,8 @@ returns c =
     (omega (arith, many s whole question h, c .before .book-count .ensures, c .if1 .taken))
     ∙ ap TooFewNumbers (sym (h .records-are))) (λ e. omega arith)
 
-put-book-requires : tie.Need-put-book-requires
-put-book-requires c κs = search needs
+put-asked-requires : tie.Need-put-asked-requires
+put-asked-requires c κs = search needs
 
 same-length : tie.Need-same-length
 same-length c = search needs
@@ -64,9 +64,9 @@ returns-2 c =
       c-3 .if1 .left,
     )
     in
-    accepted-with _ (book whole question) out (c .before .put-book .last .0) (length (book whole question))
+    accepted-with _ (book whole question) out (c .before .put-asked .last .0) (length (book whole question))
     (asked-many whole (Book question) (length out) (h .asked-is) enough) refl
-    (c .before .put-book .ensures ∙ ap (sets out 0) (book-same whole question (s .args .records) (s .args .asking) h)
+    (c .before .put-asked .ensures ∙ ap (sets out 0) (book-same whole question (s .args .records) (s .args .asking) h)
     ∙ sets-front (book whole question) out enough)
 
 pub answer-book-spec : {M : Type 1} → statement M
@@ -75,6 +75,6 @@ answer-book-spec =
     (tie.spec
     book-count-requires
     returns
-    put-book-requires
+    put-asked-requires
     same-length
     returns-2)

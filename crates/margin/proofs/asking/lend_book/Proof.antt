@@ -1,13 +1,14 @@
 -- A contract's book is written to its place where all places are lent, and else none is.
 -- Assumes nothing.
-use Prim.Native.Nat.{_*_, _-_}
+use Prim.Native.Nat.{_+_, _*_, _-_, _≤_}
 use mathlib.Core.List.{map}
 use native.Mathlib.Nat.{le-trans}
 use native.Mathlib.Omega.{arith}
-use Rattle.account.specs.Records.{records}
+use Rattle.account.specs.Records.{records, recordCount}
 use Rattle.spread.specs.Steps.{steps}
 use Rattle.formulas.specs.Bounds.{longestBook}
 use Rattle.formulas.specs.Deltas.{opens, interprompt}
+use Rattle.formulas.proofs.RecordLaws.{count-is}
 use Rattle.margin.specs.Questions.{afterOver}
 use Rattle.margin.specs.declared.asking.Question.the-variants.{Book}
 use Rattle.margin.proofs.AnswerLaws.{contract-long, book-after}
@@ -41,7 +42,14 @@ part-put-contract-end : tie.Need-part-put-contract-end
 part-put-contract-end c = search needs
 
 put-contract-requires : tie.Need-put-contract-requires
-put-contract-requires c κs = search needs
+put-contract-requires c κs =
+    let s = c .before .before .before .before in
+    let prompts = s .args .prompts .now in
+    let spreads = s .args .spreads .now in
+    let room = s .pre .1 .1 .0 in
+    let few : 3 * recordCount prompts + 2 * recordCount spreads + 1 ≤ longestBook =
+    omega (arith, room .few-prompts, room .few-spreads, count-is prompts, count-is spreads) in
+    (le-trans few (search needs), s .pre .1)
 
 same-length : tie.Need-same-length
 same-length c = search needs

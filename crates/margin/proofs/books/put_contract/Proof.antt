@@ -3,7 +3,6 @@
 use mathlib.Core.Path.{ap, _∙_}
 use native.Mathlib.Omega.{arith}
 use lib.Seq.{sets}
-use Rattle.formulas.proofs.RecordLaws.{count-is}
 use Rattle.margin.proofs.AnswerLaws.{contract-lent, contract-signed, contract-numbers}
 use borrow.Author.Needs.{needs}
 use Rattle.margin.proofs.books.put_contract.Statement.{statement}
@@ -25,7 +24,7 @@ put-numbers-requires c κs =
         contract-signed prompts spreads nets (s .pre .1 .0) room (s .args .first .now) (s .args .second .now) (s .args .used .now) (s .args .unused .now) is,
         (
           c .before .contract-touches .ensures .1,
-          omega (arith, s .pre .0, room .few-prompts, room .few-spreads, count-is prompts, count-is spreads),
+          omega (arith, s .pre .0),
         ),
       ),
     )

@@ -1,18 +1,21 @@
 -- The i-th contract as a tier: its number, and what its rows' deltas come to.
 -- Assumes nothing.
 use Prim.Native.Nat.{_≤_}
+use mathlib.Core.Path.{_≡_, subst, subst⁻¹}
 use mathlib.Core.List.{List, []}
 use native.Mathlib.Omega.{arith}
 use borrow.Author.Needs.{needs}
+use lib.Dec.{lit≤}
 use lib.ListN.{getD}
 use Rattle.record.specs.Layout.{Record, mostContract}
 use Rattle.account.specs.Parts.{contractsOf, rowsOf}
 use Rattle.account.specs.Joined.{accountOf}
-use Rattle.formulas.specs.declared.rows.Position.{Position}
-use Rattle.formulas.specs.code.Position.{withNets}
-use Rattle.margin.proofs.AcceptLaws.{none-within}
-use Rattle.margin.proofs.StandLaws.{number-at, listed-at, own-number}
-use Rattle.margin.proofs.TierLaws.{tier-sizes, tier-is}
+use Rattle.account.specs.Records.{records}
+use Rattle.formulas.specs.Bounds.{mostDelta}
+use Rattle.formulas.specs.code.Position.{RowsFit, Sized, rowsNet}
+use Rattle.margin.proofs.AcceptLaws.{none-within, contract-within}
+use Rattle.margin.proofs.StandLaws.{number-at, listed-at, own-number, of-contract}
+use Rattle.margin.proofs.TierLaws.{rows-tier}
 use Rattle.margin.proofs.over.tier_at.Statement.{statement}
 use Rattle.margin.proofs.over.tier_at.Tie as tie
 
@@ -32,39 +35,52 @@ small c =
       own-number (accountOf m n) (s .pre .0 .lawful) (s .args .i) (listed-at m n (s .args .account) (s .pre .0) (s .args .i) (s .pre .1)),
     )
 
-nets-at-requires : tie.Need-nets-at-requires
-nets-at-requires c κs =
-    let c-3 = c .before .before .before in
-    let s = c-3 in (s .pre .0, small c)
+whereabouts-of-requires : tie.Need-whereabouts-of-requires
+whereabouts-of-requires c κs = small c
 
--- the position that has these net deltas
-module _ (c : tie.After-nets-at) where
+rows-part-requires : tie.Need-rows-part-requires
+rows-part-requires c κs = search needs
+
+-- its rows
+module _ (c : tie.After-rows-part) where
+  abbrev s : tie.Start
+  s = c .before .before .before .before .before
+
   abbrev whole : List Record
-  whole = let s = c .before .before .before .before in accountOf (s .args .morning .now) (s .args .noon .now)
+  whole = accountOf (s .args .morning .now) (s .args .noon .now)
 
-  abbrev its : Position
-  its = withNets [] 1 (rowsOf (c .before .contract-number .result) whole) (c .nets-at .result)
+  rows-are : records (c .rows-part .result .now) ≡ rowsOf (c .before .before .contract-number .result) whole
+  rows-are =
+      let n = c .before .before .contract-number .result in
+      let h = small (c .before .before) in
+      let st = s .pre .0 in
+      of-contract whole (st .lawful) n h 3 (lit≤ tt) (c .rows-part .result .now)
+      (c .rows-part .ensures (s .args .account) n st h (c .before .whereabouts-of .ensures))
 
-contract-net-requires : tie.Need-contract-net-requires
-contract-net-requires c κs =
-    let c-4 = c .before .before .before .before in
-    let s = c-4 in
-    tier-sizes (whole c) (s .pre .0 .lawful) [] [] none-within (c .before .contract-number .result) (its c) (c .nets-at .ensures)
+rows-net-requires : tie.Need-rows-net-requires
+rows-net-requires c κs =
+    subst⁻¹ RowsFit (rows-are c) (contract-within (whole c) (s c .pre .0 .lawful) [] (c .before .before .contract-number .result) none-within .rows-within)
 
-cast-t8 : tie.Need-cast-t8
-cast-t8 c = omega (arith, small (c .before .before))
+cast-t9 : tie.Need-cast-t9
+cast-t9 c = omega (arith, small (c .before .before .before))
 
 returns : tie.Need-returns
 returns c =
-    let c-5 = c .before .before .before .before .before in
-    let s = c-5 in
-    let m = s .args .morning .now in
-    let n = s .args .noon .now in
-    let k = c .before .before .contract-number in
-    tier-is (accountOf m n) (s .pre .0 .lawful) [] [] none-within (k .result) (its (c .before)) (c .before .nets-at .ensures)
-    (getD (contractsOf (accountOf m n)) (s .args .i) []) (c .contract-net .result .0)
-    (number-at m n (s .args .account) (s .pre .0) (s .args .i) (s .pre .1) (k .result) (k .ensures)) (small (c .before .before)) (c .contract-net .ensures)
+    let st = s (c .before) in
+    let m = st .args .morning .now in
+    let n = st .args .noon .now in
+    let k = c .before .before .before .contract-number in
+    rows-tier (accountOf m n) (st .pre .0 .lawful) (k .result) (getD (contractsOf (accountOf m n)) (st .args .i) []) (c .rows-net .result .0)
+    (number-at m n (st .args .account) (st .pre .0) (st .args .i) (st .pre .1) (k .result) (k .ensures)) (small (c .before .before .before))
+    (subst (λ (rows : List Record). Sized mostDelta (rowsNet rows) (c .rows-net .result .0)) (rows-are (c .before)) (c .rows-net .ensures))
 
 pub tier-at-spec : {M : Type 1} → statement M
 tier-at-spec =
-    tie.close (tie.spec contract-number-requires nets-at-requires contract-net-requires cast-t8 returns)
+    tie.close
+    (tie.spec
+    contract-number-requires
+    whereabouts-of-requires
+    rows-part-requires
+    rows-net-requires
+    cast-t9
+    returns)

@@ -7,13 +7,13 @@ use mathlib.Core.Bool.{Bool, true, false, not, cond, false≢true, true≢false}
 use Prim.Native.Nat.{ℕ, zero, suc, _+_, _*_, _-_, _^_, _≤_, _<_, min}
 use native.Mathlib.Nat.{le-refl}
 use native.Mathlib.Omega.{arith}
-use lib.Dec.{leb, ltb}
+use lib.Dec.{T, leb, ltb}
 use lib.IntN.{ℤ, pos, negsuc, negℤ, natAbs, subℕ, sucℤ, predℤ, _+ℤ_, _-ℤ_, _*ℤ_, +ℤ-idl, +ℤ-assoc, +ℤ-comm, +ℤ-negℤ-cancel, negℤ-negℤ, negℤ-+ℤ, zero-*ℤ}
 use lib.IntN.{*ℤ-comm, sucℤ-+ℤ, predℤ-+ℤ, sucℤ-*ℤ, predℤ-*ℤ}
-use lib.Signed.{ltZ, leZ}
+use lib.Signed.{nonNeg, ltZ, leZ}
 use mir.Syntax.{w64}
-use mir.Val.{SFits, toZ, ofZ}
-use mir.Facts.{toZ-ofZ}
+use mir.Val.{SFits, Fits, toZ, ofZ}
+use mir.Facts.{toZ-ofZ, fits-natAbs}
 use borrow.Author.Tests.{ltb-true, ltb-false, leb-true, le-ltb, le-leb, lt-leb}
 use Rattle.exact.specs.Signed.{negative, larger, orZero, withSignOf, towardsZero}
 
@@ -38,6 +38,15 @@ sfits-abs (negsuc n) h = record { sfits = omega arith }
 pub abs-sfits : (z : ℤ) → SFits w64 z → natAbs z ≤ 2 ^ 63
 abs-sfits (pos n) h = omega (arith, h .sfits)
 abs-sfits (negsuc n) h = omega (arith, h .sfits)
+
+-- a number that is not negative can be cast to a natural one
+pub natural : (z : ℤ) → SFits w64 z → negative z ≡ false → T (nonNeg z) × Fits w64 (natAbs z)
+natural (pos n) f h = (tt, fits-natAbs {w = w64} {w′ = w64} {z = pos n} tt f)
+natural (negsuc n) f h = absurd (true≢false h)
+
+pub natural-size : (z : ℤ) → negative z ≡ false → pos (natAbs z) ≡ z
+natural-size (pos n) h = refl
+natural-size (negsuc n) h = absurd (true≢false h)
 
 -- ---- size
 
@@ -120,23 +129,6 @@ add-times (negsuc (suc n)) b c = one-step predℤ negℤ predℤ-+ℤ predℤ-*�
 
 pub times-add : (a b c : ℤ) → a *ℤ (b +ℤ c) ≡ a *ℤ b +ℤ a *ℤ c
 times-add a b c = *ℤ-comm a (b +ℤ c) ∙ add-times b c a ∙ ap₂ _+ℤ_ (*ℤ-comm b a) (*ℤ-comm c a)
-
-one-factor : (s : ℤ → ℤ) (by : ℤ → ℤ) → ((a c : ℤ) → s a *ℤ c ≡ a *ℤ c +ℤ by c) → ((b c : ℤ) → by b *ℤ c ≡ by (b *ℤ c))
-    → (a b c : ℤ) → a *ℤ b *ℤ c ≡ a *ℤ (b *ℤ c) → s a *ℤ b *ℤ c ≡ s a *ℤ (b *ℤ c)
-one-factor s by prod out a b c h =
-    ap (λ (z : ℤ). z *ℤ c) (prod a b)
-    ∙ add-times (a *ℤ b) (by b) c
-    ∙ ap₂ _+ℤ_ h (out b c)
-    ∙ sym (prod a (b *ℤ c))
-
-none-factor : (b c : ℤ) → pos 0 *ℤ b *ℤ c ≡ pos 0 *ℤ (b *ℤ c)
-none-factor b c = ap (λ (z : ℤ). z *ℤ c) (zero-*ℤ b) ∙ zero-*ℤ c ∙ sym (zero-*ℤ (b *ℤ c))
-
-pub times-assoc : (a b c : ℤ) → a *ℤ b *ℤ c ≡ a *ℤ (b *ℤ c)
-times-assoc (pos zero) b c = none-factor b c
-times-assoc (pos (suc n)) b c = one-factor sucℤ (λ z. z) sucℤ-*ℤ (λ y z. refl) (pos n) b c (times-assoc (pos n) b c)
-times-assoc (negsuc zero) b c = one-factor predℤ negℤ predℤ-*ℤ mul-neg (pos zero) b c (none-factor b c)
-times-assoc (negsuc (suc n)) b c = one-factor predℤ negℤ predℤ-*ℤ mul-neg (negsuc n) b c (times-assoc (negsuc n) b c)
 
 -- ---- order
 

@@ -6,14 +6,12 @@ use mathlib.Core.Path.{_≡_, refl, sym, _∙_, ap, ap₂}
 use mathlib.Core.Bool.{Bool, true, false, _||_, or-assoc, or-true, false≢true}
 use mathlib.Core.List.{List, [], _∷_, _++_, map}
 use Prim.Native.Nat.{ℕ, zero, suc, _+_, _*_, _≤_, _<_, zero-le}
-use native.Mathlib.Nat.{le-refl, mul-zero, le-of-suc-le-suc, not-suc-le-zero}
+use native.Mathlib.Nat.{mul-zero, le-of-suc-le-suc, not-suc-le-zero}
 use native.Mathlib.Omega.{arith}
 use lib.IntN.{ℤ, pos, natAbs, _+ℤ_, _*ℤ_, +ℤ-idl, +ℤ-idr, +ℤ-assoc, *ℤ-zero}
 use lib.ListN.{length, getD, take, drop}
 use lib.Seq.{take-suc}
-use lib.Dec.{leb}
-use borrow.Author.Tests.{leb-true, leb-false}
-use Rattle.exact.specs.Lists.{consIf, keep, any, oneIf, count, sum, sumℤ, least}
+use Rattle.exact.specs.Lists.{consIf, keep, any, oneIf, count, sum, sumℤ}
 use Rattle.exact.proofs.Integers.{abs-add, sums-cross, times-add}
 
 -- ---- over `++`
@@ -157,31 +155,8 @@ module _ {ℓ} {A : Type ℓ} where
       go true h rest e = record { place = 0; within = omega arith; passes = h }
       go false h rest e = later (rest e)
 
--- ---- least: at most each, the greatest such, and one of them
-
-pub least-at : (xs : List ℕ) (k : ℕ) → k < length xs → least xs ≤ getD xs k 0
-least-at [] k h = zero-le
-least-at (x ∷ []) zero h = le-refl x
-least-at (x ∷ []) (suc k) h = absurd (not-suc-le-zero (le-of-suc-le-suc h))
-least-at (x ∷ y ∷ ys) zero h = omega arith
-least-at (x ∷ y ∷ ys) (suc k) h = omega (arith, least-at (y ∷ ys) k (le-of-suc-le-suc h))
-
-pub least-most : (b : ℕ) (xs : List ℕ) → 0 < length xs → ((k : ℕ) → k < length xs → b ≤ getD xs k 0) → b ≤ least xs
-least-most b [] above h = absurd (not-suc-le-zero above)
-least-most b (x ∷ []) above h = h 0 (omega arith)
-least-most b (x ∷ y ∷ ys) above h =
-    omega (arith, h 0 (omega arith), least-most b (y ∷ ys) (omega arith) (λ k l. h (suc k) (omega arith)))
-
+-- a number that a list holds
 pub record Held {ℓ} {A : Type ℓ} (xs : List A) (d x : A) : Type ℓ where
   pub place : ℕ
   pub within : place < length xs
   pub holds : getD xs place d ≡ x
-
-pub least-held : (xs : List ℕ) → 0 < length xs → Held xs 0 (least xs)
-least-held [] h = absurd (not-suc-le-zero h)
-least-held (x ∷ []) h = record { place = 0; within = omega arith; holds = refl }
-least-held (x ∷ y ∷ ys) h = go (leb x (least (y ∷ ys))) refl (least-held (y ∷ ys) (omega arith))
-  where
-    go : (t : Bool) → leb x (least (y ∷ ys)) ≡ t → Held (y ∷ ys) 0 (least (y ∷ ys)) → Held (x ∷ y ∷ ys) 0 (least (x ∷ y ∷ ys))
-    go true e r = record { place = 0; within = omega arith; holds = omega (arith, leb-true x (least (y ∷ ys)) e) }
-    go false e r = record { place = suc (r .place); within = omega (arith, r .within); holds = omega (arith, r .holds, leb-false x (least (y ∷ ys)) e) }

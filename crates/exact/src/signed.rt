@@ -1,6 +1,7 @@
 // Signed numbers as the integers that they stand for. Each operation says its result in ℤ, so that a caller sees sums and
 // products of integers and no bits.
 ghost use mathlib.Core.Path.{_≡_};
+ghost use mathlib.Core.Bool.{false};
 ghost use Prim.Native.Nat.{_^_, _<_};
 ghost use lib.IntN.{pos, natAbs, _+ℤ_, _-ℤ_, _*ℤ_};
 ghost use lib.Signed.{ltZ};
@@ -47,6 +48,14 @@ pub fn as_signed(m: u64) -> i64
     ensures { λ r. ⌜ r ≡ pos m ⌝ }
 {
     m as i64
+}
+
+// A signed number that is not negative, as a natural one.
+pub fn as_natural(z: i64) -> u64
+    requires { ⌜ negative z ≡ false ⌝ }
+    ensures { λ r. ⌜ pos r ≡ z ⌝ }
+{
+    z as u64
 }
 
 // z, or 0 if that is negative.

@@ -12,6 +12,7 @@ pub mod PairLaws
 pub mod PlacedLaws
 pub mod PositionBounds
 pub mod PositionLaws
+pub mod RaisedLaws
 pub mod RecordLaws
 pub mod RiskLaws
 pub mod SignedCalls

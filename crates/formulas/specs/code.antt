@@ -1,6 +1,7 @@
 pub mod Lines
 pub mod Position
 pub mod Promised
+pub mod Raised
 pub mod Risks
 pub mod Sums
 pub mod Table

@@ -233,7 +233,7 @@ fn add_credits(
 }
 
 // What the contracts earn from the entries of the intercontract table, by their numbers.
-pub(crate) fn credits(
+pub fn credits(
     entries: &[u8],
     units: &[u64; CONTRACTS],
     prices: &[u64; CONTRACTS],

@@ -2,7 +2,7 @@
 // and the credits of the intercontract table.
 pub mod amount;
 pub mod books;
-mod charges;
+pub mod charges;
 pub mod intercontract;
 pub mod line;
 pub mod pairs;

@@ -31,7 +31,7 @@ ghost use Rattle.formulas.specs.code.Position.{positionIn};
 ghost use Rattle.formulas.specs.code.Promised.{BookOf, Charged, LineOf, PositionFit, contractWith};
 ghost use Rattle.formulas.specs.code.Sums.{deltasIn, SpreadsWithin, PromptsWithin};
 
-// What the figures say of a contract, but for its credit and its margin; and what its credit is reckoned from.
+// What the figures say of a contract, but for its credit and its margin; and what its credit is worked out from.
 pub struct Line {
     pub contract: usize,
     pub unit: u64,

@@ -20,6 +20,7 @@ ghost use Rattle.formulas.specs.Margin.{shortOptions};
 ghost use Rattle.formulas.specs.code.Position.{RowFit, RowsFit, RatedBy, FactorsFit, Sized, AtMost, Added, DaysOf, products, ownProducts};
 ghost use Rattle.formulas.specs.code.Position.{convertedProducts, netOn, addsOn, withNets, FirstPlace, Rising, PositionOf, positionIn, Bounded, WithRows};
 ghost use Rattle.formulas.specs.code.Position.{HasRows, deltasIn, rowsNet};
+ghost use Rattle.formulas.specs.code.Raised.{SumsRoom, raisedProducts, settled, mostRaised};
 ghost use Rattle.formulas.specs.declared.rows.Position.{Position};
 use account::rates::Factors;
 use account::rates::Rates;
@@ -27,11 +28,13 @@ use account::rates::converted;
 use account::rates::factors_of;
 use account::rates::per_tick;
 use exact::rounding::half_away_to;
+use exact::signed::as_natural;
 use exact::signed::is_negative;
 use exact::signed::magnitude;
 use exact::signed::minus;
 use exact::signed::plus;
 use exact::signed::times;
+use exact::signed::with_sign_of;
 use record::bytes::RECORD_BYTES;
 use record::fields::SCENARIOS;
 use record::fields::currency;
@@ -142,18 +145,76 @@ fn add_converted(totals: &mut [i64; SCENARIOS], f: Factors, unit: u64, row: &[u8
     }
 }
 
-// Each total with one row more: whether it is converted is decided once.
-fn add_row(totals: &mut [i64; SCENARIOS], rates: Rates, unit: u64, row: &[u8])
-    requires { ⌜ (unit ≤ mostUnit) × (RowFit (now row) × (RatedBy rates (now row ∷ []) × AtMost scenarioCount ((mostRows - 1) * mostProduct) (now totals))) ⌝ }
-    ensures { λ r. ⌜
-        ((held : List Record) → RatesOf held rates → Added scenarioCount (products held unit (now (row .entry))) (now (totals .entry)) (now (totals .exit))) ⌝ }
+// A loss raised by the most that a gain can be, so that it is no longer negative.
+fn raised(loss: i64) -> u64
+    requires { ⌜ natAbs loss ≤ hundredThousand ⌝ }
+    ensures { λ r. ⌜ (r ≡ natAbs (loss +ℤ pos hundredThousand)) × (r ≤ 2 * hundredThousand) ⌝ }
+{
+    as_natural(plus(loss, 100000)) % 4294967296
+}
+
+// One row more in the margin currency at a unit of one hundredth, added to the sums. Both factors have 32 bits and no sign, so that several are
+// multiplied at once.
+fn add_raised(sums: &mut [i64; SCENARIOS], each: i64, row: &[u8])
+    requires { ⌜ (natAbs each ≤ 1000000000) × (RowFit (now row) × AtMost scenarioCount ((mostRows - 1) * mostRaised) (now sums)) ⌝ }
+    ensures { λ _. ⌜ Added scenarioCount (raisedProducts each (now (row .entry))) (now (sums .entry)) (now (sums .exit)) ⌝ }
+{
+    let size = magnitude(each) % 4294967296;
+    let mut s = 0;
+    while s < SCENARIOS {
+        let more = with_sign_of(each, size * raised(loss(row, s + 1)));
+        sums[s] = plus(sums[s], more);
+        s += 1;
+    }
+}
+
+// What a sum comes to: its rows' lots × value together are `each`, and each loss was raised.
+fn unraised(sum: i64, each: i64) -> i64
+    requires { ⌜ (natAbs sum ≤ mostRows * mostRaised) × (natAbs each ≤ mostRows * 1000000000) ⌝ }
+    ensures { λ r. ⌜ Sized (2 * (mostRows * mostRaised)) (sum -ℤ each *ℤ pos hundredThousand) r ⌝ }
+{
+    minus(sum, times(each, 100000))
+}
+
+// The totals with what stands in the sums.
+fn settle(totals: &mut [i64; SCENARIOS], sums: &[i64; SCENARIOS], each: i64)
+    requires { ⌜ SumsRoom mostRows (now totals) (now sums) each ⌝ }
+    ensures { λ _. ⌜ now (totals .exit) ≡ settled (now (totals .entry)) (now (sums .entry)) each ⌝ }
+{
+    let mut s = 0;
+    while s < SCENARIOS {
+        let more = unraised(sums[s], each);
+        totals[s] = plus(totals[s], more);
+        s += 1;
+    }
+}
+
+// One row more, in the totals or, where it is neither converted nor rounded, in the sums. It gives lots × value of the rows in these.
+fn add_row(
+    totals: &mut [i64; SCENARIOS],
+    sums: &mut [i64; SCENARIOS],
+    each: i64,
+    rates: Rates,
+    unit: u64,
+    row: &[u8],
+) -> i64
+    requires { ⌜ (unit ≤ mostUnit) × (RowFit (now row) × (RatedBy rates (now row ∷ []) × SumsRoom (mostRows - 1) (now totals) (now sums) each)) ⌝ }
+    ensures added { λ r. ⌜ ((held : List Record) → RatesOf held rates → Added scenarioCount (products held unit (now (row .entry)))
+        (settled (now (totals .entry)) (now (sums .entry)) each) (settled (now (totals .exit)) (now (sums .exit)) r)) ⌝ }
+    ensures room { λ r. ⌜ ((n : ℕ) → SumsRoom n (now (totals .entry)) (now (sums .entry)) each → SumsRoom (n + 1) (now (totals .exit)) (now (sums .exit)) r) ⌝ }
 {
     let c = currency(row);
-    if c == 0 {
-        add_own(totals, unit, row);
-    } else {
+    if c != 0 {
         add_converted(totals, factors_of(rates, c), unit, row);
+        return each;
     }
+    if unit != 1 {
+        add_own(totals, unit, row);
+        return each;
+    }
+    let more = per_tick(row);
+    add_raised(sums, more, row);
+    plus(each, more)
 }
 
 // The day of a row or of a prompt.
@@ -335,6 +396,8 @@ pub fn add_rows(
     let its_days = days.day;
     let rising = rise(&its_days, prompts);
     let guess = guesses(&its_days, prompts);
+    let mut sums = [0i64; SCENARIOS];
+    let mut each: i64 = 0;
     let mut shorts = 0;
     let mut i = 0;
     while i < count {
@@ -349,10 +412,11 @@ pub fn add_rows(
             day_of(row),
             row_delta(row),
         );
-        add_row(totals, rates, unit, row);
+        each = add_row(totals, &mut sums, each, rates, unit, row);
         shorts = shorts + short_options(row);
         i += 1;
     }
+    settle(totals, &sums, each);
     shorts
 }
 

@@ -18,3 +18,4 @@ pub mod AnswerLaws
 pub mod BesideLaws
 pub mod PositionsLaws
 pub mod LentLaws
+pub mod TabledLaws

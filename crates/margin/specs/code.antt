@@ -5,3 +5,4 @@ pub mod Lent
 pub mod Lined
 pub mod Numbers
 pub mod Positions
+pub mod Tabled

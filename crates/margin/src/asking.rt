@@ -12,7 +12,6 @@ use crate::numbers::LONGEST_FIGURES;
 use crate::numbers::LONGEST_USES;
 use crate::numbers::put;
 use crate::numbers::put_line;
-use crate::numbers::put_lines;
 use crate::numbers::put_unspread;
 use crate::over::Lines;
 use crate::over::TABLE;
@@ -20,7 +19,6 @@ use crate::over::asking_over;
 use crate::over::asking_with;
 use crate::over::contract_asking;
 use crate::over::is_asked;
-use crate::over::no_line;
 use crate::over::put_account;
 use crate::over::put_figures;
 use crate::over::rates_over;
@@ -29,6 +27,8 @@ use crate::positions::Positions;
 use crate::positions::asking_from;
 use crate::positions::lines_from;
 use crate::positions::tiers_from;
+use crate::tabled::place_line;
+use crate::tabled::put_formed;
 use crate::uses::Asking;
 use crate::uses::put_uses;
 use crate::uses::uses_count;
@@ -51,8 +51,6 @@ use account::parts::SPREADS;
 use account::rates::Rates;
 use formulas::amount::Amount;
 use formulas::books::put_contract_book;
-use formulas::intercontract::credits_of;
-use formulas::intercontract::put_contract_tiers;
 use formulas::line::Line;
 use formulas::line::line_in;
 use formulas::rows::Position;
@@ -85,7 +83,7 @@ ghost use Rattle.spread.specs.code.Book.{Booked};
 ghost use Rattle.spread.specs.code.Lent.{promptsIn, bookIn};
 ghost use Rattle.formulas.specs.Deltas.{opens, interprompt};
 ghost use Rattle.formulas.specs.code.Position.{positionIn};
-ghost use Rattle.margin.specs.code.Beside.{Besides, LinesKnown, LinedBy, TiersKnown, Unspread, FormedIn, FormedKnown};
+ghost use Rattle.margin.specs.code.Beside.{Besides, LinesKnown, LinedBy, TiersKnown, Unspread};
 ghost use Rattle.margin.specs.Books.{answered, tableQuestion};
 ghost use Rattle.margin.specs.Figures as shown;
 ghost use Rattle.formulas.specs.Bounds.{longestBook, longestUses, figuresEach};
@@ -96,6 +94,7 @@ ghost use Rattle.margin.specs.Questions.{answerOver, afterOver, needOver
 ghost use Rattle.margin.specs.code.Asked.{SizesOf, AskedBy, BookIs};
 ghost use Rattle.margin.specs.Places.{questions, atPlace, lentPlace, questionOf, widthOf, allOver, afterAllOver};
 ghost use Rattle.margin.specs.code.Lent.{ContractLent, ContractsLent, NetsLent, TableLent, EverythingOf};
+ghost use Rattle.margin.specs.code.Tabled.{TableCleared, TabledIn, TabledOver};
 ghost use Rattle.margin.specs.declared.asking.Question.{Question};
 ghost use Rattle.margin.specs.declared.asking.Question.the-variants.{Figures, Book, Uses};
 
@@ -707,29 +706,34 @@ fn contract_over<'a>(
     )
 }
 
-// The lines of all contracts, in file order; their books and uses likewise.
-fn contracts_over<'a>(
+// The lines of all contracts, in file order, in their places: no credit is known yet. Their books and uses likewise.
+fn place_contracts<'a>(
     morning: &'a [u8],
     noon: &'a [u8],
     account: Account,
+    figures: &mut [i64],
     books: &mut [i64],
     uses: &mut [i64],
-) -> Lines
-    requires { ⌜ Stands (now morning) (now noon) account ⌝ }
-    ensures { λ r. ⌜ ContractsLent (accountOf (now (morning .entry)) (now (noon .entry))) r (now (books .entry)) (now (uses .entry))
+    tiers: &mut [u8; MOST_PROMPTS],
+    nets: &mut [i64; MOST_PROMPTS],
+    units: &mut [u64; CONTRACTS],
+    prices: &mut [u64; CONTRACTS],
+    sizes: &mut [u64; CONTRACTS],
+)
+    requires { ⌜ Stands (now morning) (now noon) account × ((figuresEach * account .contracts + 1 ≤ length (now figures))
+        × TableCleared (now tiers) (now nets) (now units) (now prices) (now sizes)) ⌝ }
+    ensures table { λ _. ⌜ TabledOver (accountOf (now (morning .entry)) (now (noon .entry))) (now (figures .entry)) (now (figures .exit))
+        (now (tiers .exit)) (now (nets .exit)) (now (units .exit)) (now (prices .exit)) (now (sizes .exit)) ⌝ }
+    ensures lent { λ _. ⌜ ContractsLent (accountOf (now (morning .entry)) (now (noon .entry))) (now (books .entry)) (now (uses .entry))
         (now (books .exit)) (now (uses .exit)) ⌝ }
 {
     let count = contract_total(account);
     let rates = rates_over(morning, noon, account);
-    let mut lines = [no_line(); CONTRACTS];
     let mut i = 0;
     while i < count {
-        lines[i] = contract_over(morning, noon, account, i, rates, books, uses);
+        let line = contract_over(morning, noon, account, i, rates, books, uses);
+        place_line(i, line, figures, tiers, nets, units, prices, sizes);
         i += 1;
-    }
-    Lines {
-        count: count,
-        line: lines,
     }
 }
 
@@ -799,29 +803,6 @@ fn lend_table_book(
         used,
         unused,
     );
-    Answer::Accepted
-}
-
-// The figures at the front of `out`, by the lines and the numbers that the intercontract spreads formed. A refusal writes nothing.
-fn answer_formed(
-    records: usize,
-    lines: Lines,
-    entries: &[u8],
-    first: &[u64; MOST_SPREADS],
-    second: &[u64; MOST_SPREADS],
-    out: &mut [i64],
-) -> Answer
-    requires { ⌜ FormedKnown records lines (now entries) (now first) (now second) ⌝ }
-    ensures { λ r. ⌜ ((whole : List Record) → FormedIn whole records lines (now (entries .entry)) (now (first .entry)) (now (second .entry))
-        → (r ≡ answerOver whole Figures (length (now (out .entry)))) × (now (out .exit) ≡ afterOver whole Figures (now (out .entry)))) ⌝ }
-{
-    let count = lines.count;
-    if out.len() < FIGURES_EACH * count + 1 {
-        return Answer::TooFewNumbers(records);
-    }
-    let its = lines.line;
-    let credits = credits_of(count, its, entries, first, second);
-    put_lines(out, count, its, credits);
     Answer::Accepted
 }
 
@@ -938,50 +919,61 @@ fn unspread_over<'a>(
     }
 }
 
-// The figures, and the book and the uses of the intercontract table in their places: its steps are run once for the credits and its book.
+// The figures of an account whose lines are in their places, and the book and the uses of the intercontract table in theirs: its steps are
+// run once for the credits and its book.
 fn table_over<'a>(
     morning: &'a [u8],
     noon: &'a [u8],
     account: Account,
-    records: usize,
-    lines: Lines,
+    tiers: &[u8; MOST_PROMPTS],
+    nets: &[i64; MOST_PROMPTS],
+    units: &[u64; CONTRACTS],
+    prices: &[u64; CONTRACTS],
+    sizes: &[u64; CONTRACTS],
     figures: &mut [i64],
     books: &mut [i64],
     uses: &mut [i64],
 ) -> Everything
-    requires { ⌜ Stands (now morning) (now noon) account
-        × LinedBy (accountOf (now morning) (now noon)) lines records (accountOf (now morning) (now noon)) ⌝ }
+    requires { ⌜ Stands (now morning) (now noon) account × ((figuresEach * account .contracts + 1 ≤ length (now figures))
+        × TabledIn (accountOf (now morning) (now noon)) (now figures) (now tiers) (now nets) (now units) (now prices) (now sizes)) ⌝ }
     ensures { λ r. ⌜ TableLent (accountOf (now (morning .entry)) (now (noon .entry))) (now (figures .entry)) (now (books .entry))
         (now (uses .entry)) r (now (figures .exit)) (now (books .exit)) (now (uses .exit)) ⌝ }
 {
+    let records = record_total(account);
+    let count = contract_total(account);
     let entries = part(morning, noon, account, ENTRIES);
     let table = intercontract_table(entries);
-    let count = lines.count;
-    let its = lines.line;
-    let mut tiers = [0u8; MOST_PROMPTS];
-    let mut nets = [0i64; MOST_PROMPTS];
-    put_contract_tiers(count, its, &mut tiers, &mut nets);
     let mut first = [0; MOST_SPREADS];
     let mut second = [0; MOST_SPREADS];
     let mut used = [0; MOST_PROMPTS];
     let mut unused = [0; MOST_PROMPTS];
     spread::book::put_book(
         count,
-        &tiers,
-        &nets,
+        tiers,
+        nets,
         table,
         &mut first,
         &mut second,
         &mut used,
         &mut unused,
     );
+    put_formed(
+        count,
+        entries,
+        units,
+        prices,
+        sizes,
+        &first,
+        &second,
+        figures,
+    );
     Everything {
-        figures: answer_formed(records, lines, entries, &first, &second, figures),
+        figures: Answer::Accepted,
         books: lend_table_book(
             records,
             count,
-            &tiers,
-            &nets,
+            tiers,
+            nets,
             table,
             &first,
             &second,
@@ -989,7 +981,80 @@ fn table_over<'a>(
             &unused,
             books,
         ),
-        uses: lend_table_uses(morning, noon, account, records, count, &tiers, &nets, uses),
+        uses: lend_table_uses(morning, noon, account, records, count, tiers, nets, uses),
+    }
+}
+
+// Everything of an account, where enough numbers are lent for the figures.
+fn spread_in<'a>(
+    morning: &'a [u8],
+    noon: &'a [u8],
+    account: Account,
+    figures: &mut [i64],
+    books: &mut [i64],
+    uses: &mut [i64],
+) -> Everything
+    requires { ⌜ Stands (now morning) (now noon) account × (figuresEach * account .contracts + 1 ≤ length (now figures)) ⌝ }
+    ensures { λ r. ⌜ EverythingOf (accountOf (now (morning .entry)) (now (noon .entry))) (now (figures .entry)) (now (books .entry))
+        (now (uses .entry)) r (now (figures .exit)) (now (books .exit)) (now (uses .exit)) ⌝ }
+{
+    let mut tiers = [0u8; MOST_PROMPTS];
+    let mut nets = [0i64; MOST_PROMPTS];
+    let mut units = [0u64; CONTRACTS];
+    let mut prices = [0u64; CONTRACTS];
+    let mut sizes = [0u64; CONTRACTS];
+    place_contracts(
+        morning,
+        noon,
+        account,
+        figures,
+        books,
+        uses,
+        &mut tiers,
+        &mut nets,
+        &mut units,
+        &mut prices,
+        &mut sizes,
+    );
+    table_over(
+        morning,
+        noon,
+        account,
+        &tiers,
+        &nets,
+        &units,
+        &prices,
+        &sizes,
+        figures,
+        books,
+        uses,
+    )
+}
+
+// The same however many numbers are lent for the figures: a refusal of the figures writes none of them.
+fn spread_over<'a>(
+    morning: &'a [u8],
+    noon: &'a [u8],
+    account: Account,
+    figures: &mut [i64],
+    books: &mut [i64],
+    uses: &mut [i64],
+) -> Everything
+    requires { ⌜ Stands (now morning) (now noon) account ⌝ }
+    ensures { λ r. ⌜ EverythingOf (accountOf (now (morning .entry)) (now (noon .entry))) (now (figures .entry)) (now (books .entry))
+        (now (uses .entry)) r (now (figures .exit)) (now (books .exit)) (now (uses .exit)) ⌝ }
+{
+    if figures_count(account) <= figures.len() {
+        return spread_in(morning, noon, account, figures, books, uses);
+    }
+    let mut unlent = [0i64; LONGEST_FIGURES];
+    let all = spread_in(morning, noon, account, &mut unlent, books, uses);
+    let of_books = all.books;
+    let of_uses = all.uses;
+    Everything {
+        figures: Answer::TooFewNumbers(record_total(account)),
+        books: of_books,
+        uses: of_uses,
     }
 }
 
@@ -1009,7 +1074,5 @@ pub fn everything_over<'a>(
     if part_total(account, ENTRIES) == 0 {
         return unspread_over(morning, noon, account, figures, books, uses);
     }
-    let lines = contracts_over(morning, noon, account, books, uses);
-    let records = record_total(account);
-    table_over(morning, noon, account, records, lines, figures, books, uses)
+    spread_over(morning, noon, account, figures, books, uses)
 }

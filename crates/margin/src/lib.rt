@@ -5,4 +5,5 @@ pub mod lists;
 pub mod numbers;
 pub mod over;
 pub mod positions;
+mod tabled;
 mod uses;

@@ -4,6 +4,8 @@ use crate::numbers::LONGEST_FIGURES;
 use crate::numbers::put;
 use crate::numbers::put_line;
 use crate::numbers::put_lines;
+use crate::tabled::place_line;
+use crate::tabled::put_formed;
 use crate::uses::Asking;
 use account::accounts::Account;
 use account::accounts::contract_number;
@@ -39,7 +41,9 @@ use record::fields::SCENARIOS;
 use record::fields::unit;
 use spread::Delta;
 use spread::MOST_PROMPTS;
+use spread::MOST_SPREADS;
 use spread::Prompts;
+use spread::book::put_book;
 ghost use mathlib.Core.Path.{_≡_};
 ghost use mathlib.Core.Bool.{true};
 ghost use mathlib.Core.List.{List, [], map};
@@ -61,6 +65,7 @@ ghost use Rattle.formulas.specs.code.Promised.{LineOf, PositionFit, BookFit, co
 ghost use Rattle.formulas.specs.Bounds.{figuresEach};
 ghost use Rattle.margin.specs.code.Beside.{ownOf, unitOf, Besides, LinesKnown, TiersKnown};
 ghost use Rattle.margin.specs.code.Lined.{LinesOf, TierIs, TiersIn, PositionAt};
+ghost use Rattle.margin.specs.code.Tabled.{TableCleared, TabledIn, TabledOver};
 ghost use Rattle.margin.specs.Uses.{stepsFor, opensFor};
 ghost use Rattle.margin.specs.code.Asking.{Asks, NetsFit};
 
@@ -161,25 +166,6 @@ pub(crate) fn no_line() -> Line {
     }
 }
 
-// The lines of all contracts, in file order.
-fn lines_of<'a>(morning: &'a [u8], noon: &'a [u8], account: Account) -> Lines
-    requires { ⌜ Stands (now morning) (now noon) account ⌝ }
-    ensures { λ r. ⌜ LinesOf (accountOf (now (morning .entry)) (now (noon .entry))) r ⌝ }
-{
-    let count = contract_total(account);
-    let rates = rates_over(morning, noon, account);
-    let mut lines = [no_line(); CONTRACTS];
-    let mut i = 0;
-    while i < count {
-        lines[i] = line_at(morning, noon, account, i, rates);
-        i += 1;
-    }
-    Lines {
-        count: count,
-        line: lines,
-    }
-}
-
 // The figures, from the lines of the contracts, at the front of `out`.
 pub(crate) fn put_figures<'a>(
     morning: &'a [u8],
@@ -224,6 +210,69 @@ fn put_uncredited<'a>(morning: &'a [u8], noon: &'a [u8], account: Account, out: 
     put(out, count * FIGURES_EACH, total);
 }
 
+// The lines of all contracts, in file order, in their places: no credit is known yet.
+fn place_lines<'a>(
+    morning: &'a [u8],
+    noon: &'a [u8],
+    account: Account,
+    out: &mut [i64],
+    tiers: &mut [u8; MOST_PROMPTS],
+    nets: &mut [i64; MOST_PROMPTS],
+    units: &mut [u64; CONTRACTS],
+    prices: &mut [u64; CONTRACTS],
+    sizes: &mut [u64; CONTRACTS],
+)
+    requires { ⌜ Stands (now morning) (now noon) account × ((figuresEach * account .contracts + 1 ≤ length (now out))
+        × TableCleared (now tiers) (now nets) (now units) (now prices) (now sizes)) ⌝ }
+    ensures { λ _. ⌜ TabledOver (accountOf (now (morning .entry)) (now (noon .entry))) (now (out .entry)) (now (out .exit)) (now (tiers .exit))
+        (now (nets .exit)) (now (units .exit)) (now (prices .exit)) (now (sizes .exit)) ⌝ }
+{
+    let count = contract_total(account);
+    let rates = rates_over(morning, noon, account);
+    let mut i = 0;
+    while i < count {
+        let line = line_at(morning, noon, account, i, rates);
+        place_line(i, line, out, tiers, nets, units, prices, sizes);
+        i += 1;
+    }
+}
+
+// The figures of an account whose lines are in their places, at the front of `out`: the steps of its intercontract spreads are run.
+fn put_credited<'a>(
+    morning: &'a [u8],
+    noon: &'a [u8],
+    account: Account,
+    tiers: &[u8; MOST_PROMPTS],
+    nets: &[i64; MOST_PROMPTS],
+    units: &[u64; CONTRACTS],
+    prices: &[u64; CONTRACTS],
+    sizes: &[u64; CONTRACTS],
+    out: &mut [i64],
+)
+    requires { ⌜ Stands (now morning) (now noon) account × ((figuresEach * account .contracts + 1 ≤ length (now out))
+        × TabledIn (accountOf (now morning) (now noon)) (now out) (now tiers) (now nets) (now units) (now prices) (now sizes)) ⌝ }
+    ensures { λ _. ⌜ now (out .exit) ≡ sets (now (out .entry)) 0 (figures (accountOf (now (morning .entry)) (now (noon .entry)))) ⌝ }
+{
+    let count = contract_total(account);
+    let entries = part(morning, noon, account, ENTRIES);
+    let table = intercontract_table(entries);
+    let mut first = [0; MOST_SPREADS];
+    let mut second = [0; MOST_SPREADS];
+    let mut used = [0; MOST_PROMPTS];
+    let mut unused = [0; MOST_PROMPTS];
+    put_book(
+        count,
+        tiers,
+        nets,
+        table,
+        &mut first,
+        &mut second,
+        &mut used,
+        &mut unused,
+    );
+    put_formed(count, entries, units, prices, sizes, &first, &second, out);
+}
+
 // The figures of an account at the front of `out`.
 pub(crate) fn put_account<'a>(morning: &'a [u8], noon: &'a [u8], account: Account, out: &mut [i64])
     requires { ⌜ Stands (now morning) (now noon) account × (figuresEach * account .contracts + 1 ≤ length (now out)) ⌝ }
@@ -233,8 +282,33 @@ pub(crate) fn put_account<'a>(morning: &'a [u8], noon: &'a [u8], account: Accoun
         put_uncredited(morning, noon, account, out);
         return;
     }
-    let lines = lines_of(morning, noon, account);
-    put_figures(morning, noon, account, lines, out);
+    let mut tiers = [0u8; MOST_PROMPTS];
+    let mut nets = [0i64; MOST_PROMPTS];
+    let mut units = [0u64; CONTRACTS];
+    let mut prices = [0u64; CONTRACTS];
+    let mut sizes = [0u64; CONTRACTS];
+    place_lines(
+        morning,
+        noon,
+        account,
+        out,
+        &mut tiers,
+        &mut nets,
+        &mut units,
+        &mut prices,
+        &mut sizes,
+    );
+    put_credited(
+        morning,
+        noon,
+        account,
+        &tiers,
+        &nets,
+        &units,
+        &prices,
+        &sizes,
+        out,
+    );
 }
 
 // The total of the margins, which stands last in the figures.

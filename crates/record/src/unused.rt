@@ -1,7 +1,7 @@
 // The bytes of a whole record that no field of its kind covers.
 ghost use mathlib.Core.Path.{_≡_};
 ghost use mathlib.Core.List.{[]};
-ghost use Prim.Native.Nat.{_-_, _≤_, _<_};
+ghost use Prim.Native.Nat.{_+_, _-_, _≤_, _<_};
 ghost use lib.ListN.{length};
 ghost use Rattle.exact.specs.Lists.{any};
 ghost use Rattle.record.specs.Bytes.{countFrom};
@@ -9,6 +9,7 @@ ghost use Rattle.record.specs.Layout.{recordBytes, contractFields, promp
 ghost use Rattle.record.specs.Ranges.{notZero, unusedBeside};
 use crate::bytes::RECORD_BYTES;
 use crate::bytes::byte_in;
+use crate::bytes::u32_in;
 use crate::layout;
 
 fn is_set(r: &[u8], o: usize) -> bool
@@ -32,6 +33,14 @@ fn set_between(r: &[u8], o: usize, end: usize) -> bool
     set
 }
 
+// Whether any of the four bytes from `o` on is set: they are read as one number.
+fn any_of_four(r: &[u8], o: usize) -> bool
+    requires { ⌜ o + 3 < length (now r) ⌝ }
+    ensures { λ b. ⌜ b ≡ any (notZero (now (r .entry))) (countFrom o 4) ⌝ }
+{
+    u32_in(r, o) != 0
+}
+
 pub(crate) fn beside_contract(r: &[u8]) -> bool
     requires { ⌜ recordBytes ≤ length (now r) ⌝ }
     ensures { λ b. ⌜ b ≡ unusedBeside contractFields (now (r .entry)) ⌝ }
@@ -51,7 +60,7 @@ pub(crate) fn beside_row(r: &[u8]) -> bool
     requires { ⌜ recordBytes ≤ length (now r) ⌝ }
     ensures { λ b. ⌜ b ≡ unusedBeside (rowFields (now (r .entry))) (now (r .entry)) ⌝ }
 {
-    set_between(r, layout::ROW_END, RECORD_BYTES)
+    any_of_four(r, layout::ROW_END) | any_of_four(r, layout::ROW_END + 4)
 }
 
 pub(crate) fn beside_spread(r: &[u8]) -> bool

@@ -12,10 +12,9 @@ use lib.Dec.{eqb, leb, ltb}
 use lib.IntN.{ℤ, pos, negsuc, negℤ, natAbs, _-ℤ_}
 use lib.ListN.{length, length-map, take}
 use borrow.Author.Tests.{eqb-true, leb-true, leb-false, lt-ltb}
-use Rattle.exact.proofs.Integers.{abs-neg, abs-towards-zero, taken-sign, towards-zero-none}
+use Rattle.exact.proofs.Integers.{abs-sign, abs-towards-zero, taken-sign, towards-zero-none}
 use Rattle.exact.proofs.Lists.{count-append, count-le}
 use Rattle.exact.specs.Lists.{oneIf, count, sum}
-use Rattle.exact.specs.Signed.{withSignOf}
 use Rattle.spread.specs.Accepted.{openOf, spreadsOf, stepsOf, every, soundLegsOf, soundSpread, soundPrompts, soundTable, sound, promptPlaces}
 use Rattle.spread.specs.Accepted.{spreadPlaces}
 use Rattle.spread.specs.Demand.{draws, sameMarket, legUse, stepUse, soundLegs, soundStep, soundSteps}
@@ -150,10 +149,6 @@ spend-touches w (p ∷ ps) = min 1 (min (w (marketOf (p .unused)) (p .tier)) (na
 spend-touches-same : (ps : List Open) (w v : Market → ℕ → ℕ) → ((m : Market) (t : ℕ) → w m t ≡ v m t) → spend-touches w ps ≡ spend-touches v ps
 spend-touches-same ps w v h = ap (λ f. spend-touches f ps) (fun-ext (λ m. fun-ext (λ t. h m t)))
 
-signed-size : (z : ℤ) (n : ℕ) → natAbs (withSignOf z n) ≡ n
-signed-size (pos k) n = refl
-signed-size (negsuc k) n = abs-neg (pos n)
-
 moved-by : (w : Market → ℕ → ℕ) (ps : List Open) → count moved (usedBy w ps) ≡ spend-touches w ps
 unfolding spend-touches
 moved-by w [] = refl
@@ -161,7 +156,7 @@ moved-by w (p ∷ ps) =
     ap₂ _+_
     (above (natAbs (p .unused -ℤ towardsZero (p .unused) (w (marketOf (p .unused)) (p .tier))))
     ∙ ap (λ (z : ℤ). min 1 (natAbs z)) (taken-sign (p .unused) (w (marketOf (p .unused)) (p .tier)))
-    ∙ ap (min 1) (signed-size (p .unused) (min (w (marketOf (p .unused)) (p .tier)) (natAbs (p .unused)))))
+    ∙ ap (min 1) (abs-sign (p .unused) (min (w (marketOf (p .unused)) (p .tier)) (natAbs (p .unused)))))
     (moved-by (λ m t. w m t - inTier m t p) ps)
 
 -- two spends on different pools

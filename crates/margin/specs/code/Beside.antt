@@ -8,17 +8,9 @@ use lib.ListN.{length, getD, take}
 use Rattle.exact.specs.Lists.{keep}
 use Rattle.record.specs.Layout.{Record, unit}
 use Rattle.account.specs.Lawful.{Lawful}
-use Rattle.account.specs.PartNumbers.{entryPart}
 use Rattle.account.specs.Parts.{contractsOf, promptsOf, spreadsOf, entriesOf, ratesOf}
-use Rattle.account.specs.Records.{records}
-use Rattle.account.specs.code.Standing.{PartOf}
-use Rattle.spread.specs.Steps.{steps}
-use Rattle.spread.specs.code.Lent.{spreadsFrom}
 use Rattle.spread.specs.declared.Prompts.{Prompts}
 use Rattle.formulas.specs.Contract.{contracts, asTier}
-use Rattle.formulas.specs.Deltas.{intercontract}
-use Rattle.formulas.specs.code.Promised.{FormedOf}
-use Rattle.formulas.specs.code.Table.{tierOf}
 use Rattle.margin.specs.declared.over.Lines.{Lines}
 use Rattle.margin.specs.Books.{asks}
 use Rattle.margin.specs.code.Lined.{LinesOf, TiersIn}
@@ -63,16 +55,3 @@ pub record Unspread (whole : List Record) (records count : ℕ) (nets : List ℤ
   pub records-are : records ≡ length whole
   pub none : entriesOf whole ≡ []
   pub nets-are : take count nets ≡ map (λ p. p .unused) (map asTier (contracts whole))
-
--- one of so many records with these lines, these intercontract spreads, and the numbers that they formed
-pub record FormedIn (whole : List Record) (total : ℕ) (ls : Lines) (entries first second : List ℕ) : Type 0 where
-  pub lawful : Lawful whole
-  pub lines : LinesOf whole ls
-  pub records-are : total ≡ length whole
-  pub part : PartOf whole entryPart entries
-  pub formed : FormedOf (steps (map intercontract (records entries))) (map tierOf (take (ls .count) (ls .line))) (spreadsFrom first) (spreadsFrom second)
-
--- there is one
-pub record FormedKnown (total : ℕ) (ls : Lines) (entries first second : List ℕ) : Type 0 where
-  pub whole : List Record
-  pub is : FormedIn whole total ls entries first second

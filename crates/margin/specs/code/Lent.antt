@@ -6,17 +6,18 @@ use mathlib.Core.Bool.{true, false}
 use mathlib.Core.List.{List, [], map}
 use lib.IntN.{ℤ}
 use lib.ListN.{length, getD, take}
+use lib.Seq.{sets}
 use Rattle.record.specs.Layout.{Record, contract}
 use Rattle.account.specs.Parts.{contractsOf}
 use Rattle.spread.specs.Accepted.{promptPlaces}
 use Rattle.margin.specs.declared.asking.Everything.{Everything}
 use Rattle.margin.specs.declared.asking.Question.the-variants.{Figures, Book, Uses}
 use Rattle.formulas.specs.declared.line.Line.{Line}
-use Rattle.margin.specs.declared.over.Lines.{Lines}
+use Rattle.account.specs.declared.answers.Answer.the-variants.{Accepted}
 use Rattle.margin.specs.Books.{tableQuestion}
+use Rattle.margin.specs.Figures as shown
 use Rattle.formulas.specs.Bounds.{longestBook, longestUses}
 use Rattle.formulas.specs.Contract.{contracts, partsIn, asTier}
-use Rattle.margin.specs.code.Lined.{LinesOf}
 use Rattle.formulas.specs.code.Promised.{LineOf}
 use Rattle.margin.specs.Questions.{answerOver, afterOver}
 use Rattle.margin.specs.Places.{lentPlace, lentEach, allOver, afterAllOver}
@@ -31,13 +32,12 @@ pub record ContractLent (account : List Record) (i : ℕ) (l : Line) (books uses
       let c = contract (getD (contractsOf account) i []) in
       uses′ ≡ lentPlace longestUses c (afterOver account (Uses c)) uses
 
--- and of all contracts
-pub record ContractsLent (account : List Record) (ls : Lines) (books uses books′ uses′ : List ℤ) : Type 0 where
-  pub lines : LinesOf account ls
+-- the books and uses of all contracts
+pub record ContractsLent (account : List Record) (books uses books′ uses′ : List ℤ) : Type 0 where
   pub book : books′ ≡ lentEach longestBook (λ q. afterOver account (Book q)) tableQuestion books
   pub paid : uses′ ≡ lentEach longestUses (λ q. afterOver account (Uses q)) tableQuestion uses
 
--- the books and uses of all contracts, and their net deltas
+-- and their net deltas
 pub record NetsLent (account : List Record) (books uses books′ uses′ nets′ : List ℤ) : Type 0 where
   pub book : books′ ≡ lentEach longestBook (λ q. afterOver account (Book q)) tableQuestion books
   pub paid : uses′ ≡ lentEach longestUses (λ q. afterOver account (Uses q)) tableQuestion uses
@@ -46,8 +46,8 @@ pub record NetsLent (account : List Record) (books uses books′ uses′ nets′
 
 -- the figures, and the book and uses of the intercontract table in their places
 pub record TableLent (account : List Record) (figures books uses : List ℤ) (r : Everything) (figures′ books′ uses′ : List ℤ) : Type 0 where
-  pub figures-answer : r .figures ≡ answerOver account Figures (length figures)
-  pub figures-after : figures′ ≡ afterOver account Figures figures
+  pub figures-answer : r .figures ≡ Accepted
+  pub figures-after : figures′ ≡ sets figures 0 (shown.figures account)
   pub books-answer : r .books ≡ allOver false account (length books)
   pub book : books′ ≡ lentPlace longestBook tableQuestion (afterOver account (Book tableQuestion)) books
   pub uses-answer : r .uses ≡ allOver true account (length uses)

@@ -1,21 +1,11 @@
 -- `or_zero`: by the sign.
-use mathlib.Core.Path.{_≡_, _∙_, sym, ap}
-use mathlib.Core.Bool.{false, true≢false}
-use lib.Dec.{T}
-use lib.IntN.{ℤ, pos, negsuc, natAbs}
-use lib.Signed.{nonNeg}
-use mir.Syntax.{w64}
-use mir.Val.{SFits, Fits}
-use mir.Facts.{fits-natAbs}
+use mathlib.Core.Path.{_∙_, sym, ap}
+use lib.IntN.{natAbs}
 use borrow.Author.Needs.{needs}
 use Rattle.exact.specs.Signed.{negative}
-use Rattle.exact.proofs.Integers.{back, seen, or-zero-negative, or-zero-natural}
+use Rattle.exact.proofs.Integers.{back, seen, natural, or-zero-negative, or-zero-natural}
 use Rattle.exact.proofs.signed.or_zero.Statement.{statement}
 use Rattle.exact.proofs.signed.or_zero.Tie as tie
-
-natural : (z : ℤ) → SFits w64 z → negative z ≡ false → T (nonNeg z) × Fits w64 (natAbs z)
-natural (pos n) f h = (tt, fits-natAbs {w = w64} {w′ = w64} {z = pos n} tt f)
-natural (negsuc n) f h = absurd (true≢false h)
 
 is-negative-requires : tie.Need-is-negative-requires
 is-negative-requires c κs = search needs

@@ -1,22 +1,31 @@
--- `add_row`: by the row's currency.
+-- `add_row`: by the row's currency and the contract's unit.
 -- Assumes nothing.
-use mathlib.Core.Path.{_≡_, sym, _∙_, ap, ap₂, subst}
+use mathlib.Core.Path.{_≡_, refl, sym, _∙_, ap, ap₂, subst}
 use mathlib.Core.Bool.{Bool, true, false, cond}
 use mathlib.Core.List.{List}
-use Prim.Native.Nat.{ℕ, _+_, _≤_}
+use Prim.Native.Nat.{ℕ, _+_, _-_, _*_, _≤_}
 use native.Mathlib.Omega.{arith}
 use lib.Dec.{eqb}
-use lib.IntN.{ℤ, natAbs}
+use lib.IntN.{ℤ, pos, natAbs, _+ℤ_, _*ℤ_}
 use lib.ListN.{getD}
 use denote.Ref.{now}
 use borrow.Author.Needs.{needs}
 use borrow.Author.Tests.{eq-eqb, ne-eqb}
+use mir.Syntax.{w64}
+use mir.Val.{toZ, ofZ}
 use Rattle.exact.specs.Rounding.{halfAwayTo}
-use Rattle.record.specs.Layout.{Record, currency, mostCurrency, scenarioCount}
+use Rattle.exact.proofs.Integers.{back}
+use Rattle.exact.proofs.UnitLaws.{one-away}
+use Rattle.record.specs.Layout.{Record, lots, value, loss, currency, mostCurrency, scenarioCount}
+use Rattle.account.specs.Check.{mostRows}
 use Rattle.account.specs.Products.{inOwn, rateFor, raised, lowered, converted, convertedAt, mostConversion, mostFactor}
 use Rattle.account.specs.code.Rates.{RatesOf}
-use Rattle.formulas.specs.code.Position.{FactorsFit, products, ownProducts, convertedProducts}
+use Rattle.formulas.specs.code.Position.{Added, FactorsFit, products, ownProducts, convertedProducts}
+use Rattle.formulas.specs.code.Raised.{SumsRoom, settled}
 use Rattle.formulas.proofs.AddedLaws.{same-added}
+use Rattle.formulas.proofs.PositionBounds.{product-most}
+use Rattle.formulas.proofs.RaisedLaws.{totals-added, totals-room, sums-added, sums-room}
+use Rattle.formulas.proofs.SignedCalls.{plus-fits}
 use Rattle.formulas.proofs.rows.add_row.Statement.{statement}
 use Rattle.formulas.proofs.rows.add_row.Tie as tie
 
@@ -27,13 +36,9 @@ by-currency rates row s own = cond own (inOwn s row) (converted (rateFor rates (
 currency-requires : tie.Need-currency-requires
 currency-requires c κs = search needs
 
-add-own-requires : tie.Need-add-own-requires
-add-own-requires c κs = search needs
-
 factors-of-requires : tie.Need-factors-of-requires
 factors-of-requires c κs =
-    let c-4 = c .before .before .before .before in
-    let s = c-4 in
+    let s = c .before .before .before .before in
     omega (arith, c .before .before .currency .ensures .0, s .pre .1 .1 .0 .each 0 (omega arith) .currency-within)
 
 -- the factors are those of the row's currency
@@ -45,7 +50,7 @@ module _ (c : tie.After-factors-of) where
   number = c .before .before .before .currency .ensures .0
 
   other : eqb (currency row) 0 ≡ false
-  other = ne-eqb (currency row) 0 (λ e. c .before .before .if1 .left (number ∙ e))
+  other = ne-eqb (currency row) 0 (λ e. c .before .before .if1 .taken (number ∙ e))
 
   raised-is : (rates : List Record) → RatesOf rates (c .before .before .before .before .before .args .rates) → currency row ≤ mostCurrency
       → c .factors-of .result .raised ≡ raised (rateFor rates (currency row))
@@ -79,44 +84,129 @@ module _ (c : tie.After-factors-of) where
 
 add-converted-requires : tie.Need-add-converted-requires
 add-converted-requires c κs =
-    let c-5 = c .before .before .before .before .before in
-    let s = c-5 in
-    (s .pre .0, (s .pre .1 .0, (factors-fit c, s .pre .1 .1 .1)))
+    let s = c .before .before .before .before .before in
+    (s .pre .0, (s .pre .1 .0, (factors-fit c, s .pre .1 .1 .1 .totals-most)))
+
+-- a row that the totals have, the sums being as they were
+module _ (s : tie.Start) (us : List ℤ)
+    (a : (held : List Record) → RatesOf held (s .args .rates) → Added scenarioCount (products held (s .args .unit) (now (s .args .row))) (now (s .args .totals)) us) where
+  abbrev read : ℤ
+  read = toZ w64 (ofZ w64 (s .args .each))
+
+  in-totals : ((held : List Record) → RatesOf held (s .args .rates) → Added scenarioCount (products held (s .args .unit) (now (s .args .row)))
+      (settled (now (s .args .totals)) (now (s .args .sums)) (s .args .each)) (settled us (now (s .args .sums)) read))
+      × ((n : ℕ) → SumsRoom n (now (s .args .totals)) (now (s .args .sums)) (s .args .each) → SumsRoom (n + 1) us (now (s .args .sums)) read)
+  in-totals =
+      let row = now (s .args .row) in
+      let ts = now (s .args .totals) in
+      let sums = now (s .args .sums) in
+      let each = s .args .each in
+      let again = sym (back each (s .fits .each)) in
+      let by = s .pre .1 .1 .0 in (
+        λ held is.
+            subst (λ (z : ℤ). Added scenarioCount (products held (s .args .unit) row) (settled ts sums each) (settled us sums z)) again
+            (totals-added ts us sums each (products held (s .args .unit) row) (s .pre .1 .1 .1 .totals-most .as-many) (a held is)),
+        λ n r.
+            subst (λ (z : ℤ). SumsRoom (n + 1) us sums z) again
+            (totals-room n ts us sums each (products (by .rates) (s .args .unit) row) r (a (by .rates) (by .held))
+            (λ k h. product-most (by .rates) (s .args .unit) (s .pre .0) row (by .each 0 (omega arith)) (k + 1) (omega arith) (omega arith))),
+      )
 
 returns : tie.Need-returns
 returns c =
-    let after-currency = c .before .before .before in
-    let c-5 = after-currency .before .before in
-    let s = c-5 in
-    let row = now (s .args .row) in
-    let own : eqb (currency row) 0 ≡ true = eq-eqb (currency row) 0 (sym (after-currency .currency .ensures .0) ∙ c .before .before .if1 .taken) in
-    λ held is.
-    same-added scenarioCount (ownProducts (s .args .unit) row) (products held (s .args .unit) row) (now (s .args .totals)) (c .add-own .last .0)
-    (λ k. ap (λ (t : Bool). halfAwayTo (by-currency held row (k + 1) t) (s .args .unit)) (sym own)) (c .add-own .ensures)
-
-returns-2 : tie.Need-returns-2
-returns-2 c =
-    let c-6 = c .before .before .before .before .before .before in
-    let s = c-6 in
+    let s = c .before .before .before .before .before .before in
     let row = now (s .args .row) in
     let f = c .before .factors-of .result in
     let unit = s .args .unit in
     let small = s .pre .1 .1 .0 .each 0 (omega arith) .currency-within in
-    λ held is.
+    in-totals s (c .add-converted .last .0)
+    (λ held is.
     same-added scenarioCount (convertedProducts (f .raised) (f .lowered) unit row) (products held unit row) (now (s .args .totals)) (c .add-converted .last .0)
     (λ k.
     ap₂ (λ (up down : ℕ). halfAwayTo (convertedAt up down (inOwn (k + 1) row)) unit) (raised-is (c .before) held is small)
     (lowered-is (c .before) held is small)
     ∙ ap (λ (t : Bool). halfAwayTo (by-currency held row (k + 1) t) unit) (sym (other (c .before))))
-    (c .add-converted .ensures)
+    (c .add-converted .ensures))
+
+add-own-requires : tie.Need-add-own-requires
+add-own-requires c κs = search needs
+
+-- a row in the margin currency
+own-is : (c : tie.Else1) → eqb (currency (now (c .before .before .before .args .row))) 0 ≡ true
+own-is c = eq-eqb (currency (now (c .before .before .before .args .row))) 0 (sym (c .before .currency .ensures .0) ∙ c .if1 .left)
+
+returns-2 : tie.Need-returns-2
+returns-2 c =
+    let after-if1 = c .before .before .before in
+    let s = after-if1 .before .before .before in
+    let row = now (s .args .row) in
+    let unit = s .args .unit in
+    in-totals s (c .add-own .last .0)
+    (λ held is.
+    same-added scenarioCount (ownProducts unit row) (products held unit row) (now (s .args .totals)) (c .add-own .last .0)
+    (λ k. ap (λ (t : Bool). halfAwayTo (by-currency held row (k + 1) t) unit) (sym (own-is after-if1))) (c .add-own .ensures))
+
+per-tick-requires : tie.Need-per-tick-requires
+per-tick-requires c κs = search needs
+
+add-raised-requires : tie.Need-add-raised-requires
+add-raised-requires c κs =
+    let s = c .before .before .before .before .before .before in
+    let tick = c .before .per-tick in (
+      omega (arith, ap natAbs (back (tick .result) (record { sfits = tick .ok })), tick .ensures .size),
+      (s .pre .1 .0, s .pre .1 .1 .1 .sums-most),
+    )
+
+plus-requires : tie.Need-plus-requires
+plus-requires c κs =
+    let after-per-tick = c .before .before in
+    let s = after-per-tick .before .before .before .before .before in
+    let tick = after-per-tick .per-tick in
+    plus-fits (s .args .each) (tick .result) (s .args .each) (tick .result) ((mostRows - 1) * 1000000000) 1000000000 (s .fits .each)
+    (record { sfits = tick .ok }) refl refl (s .pre .1 .1 .1 .each-most) (tick .ensures .size) (omega arith)
+
+returns-3 : tie.Need-returns-3
+returns-3 c =
+    let after-per-tick = c .before .before .before in
+    let after-if2 = after-per-tick .before in
+    let after-if1 = after-if2 .before in
+    let s = after-if1 .before .before .before in
+    let row = now (s .args .row) in
+    let unit = s .args .unit in
+    let ts = now (s .args .totals) in
+    let xs = now (s .args .sums) in
+    let ys = c .before .add-raised .last .0 in
+    let e = s .args .each in
+    let tick = after-per-tick .per-tick in
+    let z = toZ w64 (ofZ w64 (tick .result)) in
+    let z-is : z ≡ lots row *ℤ pos (value row) = back (tick .result) (record { sfits = tick .ok }) ∙ tick .ensures .is in
+    let again = sym (back (c .plus .result) (record { sfits = c .plus .ok }) ∙ c .plus .ensures ∙ ap (λ (y : ℤ). y +ℤ z) (back e (s .fits .each))) in (
+      λ held is.
+          subst (λ (y : ℤ). Added scenarioCount (products held unit row) (settled ts xs e) (settled ts ys y)) again
+          (same-added scenarioCount (λ k. z *ℤ loss row (k + 1)) (products held unit row) (settled ts xs e) (settled ts ys (e +ℤ z))
+          (λ k.
+          ap (λ (y : ℤ). y *ℤ loss row (k + 1)) z-is
+          ∙ sym (one-away (inOwn (k + 1) row))
+          ∙ ap (halfAwayTo (inOwn (k + 1) row)) (sym (after-if2 .if2 .left))
+          ∙ ap (λ (t : Bool). halfAwayTo (by-currency held row (k + 1) t) unit) (sym (own-is after-if1)))
+          (sums-added ts xs ys e z row (s .pre .1 .1 .1 .totals-most .as-many) (s .pre .1 .0) (c .before .add-raised .ensures))),
+      λ n r.
+          subst (λ (y : ℤ). SumsRoom (n + 1) ts ys y) again
+          (sums-room n ts xs ys e z row r (s .pre .1 .0)
+          (omega (arith, ap natAbs (back (tick .result) (record { sfits = tick .ok })), tick .ensures .size)) (c .before .add-raised .ensures)),
+    )
 
 pub add-row-spec : {M : Type 1} → statement M
 add-row-spec =
     tie.close
     (tie.spec
     currency-requires
-    add-own-requires
     factors-of-requires
     add-converted-requires
     returns
-    returns-2)
+    add-own-requires
+    returns-2
+    per-tick-requires
+    add-raised-requires
+    plus-requires
+    returns-3)

@@ -1,11 +1,17 @@
--- The figures of an account: without entries no contract has a credit, else by its lines.
+-- The figures of an account: without entries no contract has a credit, else the lines in their places first.
 -- Assumes nothing.
-use mathlib.Core.Path.{sym, _∙_}
+use mathlib.Core.Path.{refl, sym, _∙_}
+use Prim.Native.Nat.{_*_}
 use native.Mathlib.Omega.{arith}
 use borrow.Author.Needs.{needs}
+use lib.ListN.{length}
 use Rattle.account.specs.Joined.{accountOf}
-use Rattle.margin.proofs.BesideLaws.{alone}
+use Rattle.account.specs.Parts.{contractsOf}
+use Rattle.formulas.specs.Bounds.{figuresEach}
+use Rattle.margin.specs.Figures.{figures}
+use Rattle.margin.proofs.QuestionLaws.{figures-length}
 use Rattle.margin.proofs.StandLaws.{no-entries}
+use Rattle.margin.proofs.TabledLaws.{sets-same}
 use Rattle.margin.proofs.over.put_account.Statement.{statement}
 use Rattle.margin.proofs.over.put_account.Tie as tie
 
@@ -30,32 +36,39 @@ same-length c = search needs
 returns : tie.Need-returns
 returns c = search needs
 
-lines-of-requires : tie.Need-lines-of-requires
-lines-of-requires c κs = search needs
-
-put-figures-requires : tie.Need-put-figures-requires
-put-figures-requires c κs =
-    let after-lines = c .before in
-    let s = after-lines .before .before .before .before .before in
-    let m = s .args .morning .now in
-    let n = s .args .noon .now in (
+place-lines-requires : tie.Need-place-lines-requires
+place-lines-requires c κs =
+    let after-if = c .before .before .before .before .before .before in
+    let s = after-if .before .before .before .before in (
       s .pre .0,
-      (
-        record { whole = accountOf m n; beside = alone m n (s .args .account) (s .pre .0); lines = after-lines .lines-of .ensures },
-        omega (arith, s .pre .1),
-      ),
+      (omega (arith, s .pre .1), record { tiers-places = refl; nets-places = refl; units-clear = refl; prices-clear = refl; sizes-clear = refl }),
     )
 
+put-credited-requires : tie.Need-put-credited-requires
+put-credited-requires c κs =
+    let after-out = c .before .before .before .before .before .before in
+    let after-place = after-out .before in
+    let after-if = after-place .before .before .before .before .before .before .before in
+    let s = after-if .before .before .before .before in
+    (s .pre .0, (omega (arith, s .pre .1, after-out .out2 .given), after-place .place-lines .ensures .tabled))
+
 same-length-2 : tie.Need-same-length-2
-same-length-2 c = search needs
+same-length-2 c =
+    let after-out = c .before .before .before .before .before .before .before .before in
+    c .out3 .given ∙ after-out .out2 .given
 
 returns-2 : tie.Need-returns-2
 returns-2 c =
-    let after-lines = c .before .before .before in
-    let s = after-lines .before .before .before .before .before in
-    let m = s .args .morning .now in
-    let n = s .args .noon .now in
-    c .before .put-figures .ensures (accountOf m n) (alone m n (s .args .account) (s .pre .0)) (after-lines .lines-of .ensures)
+    let after-out = c .before .before .before .before .before .before .before .before in
+    let after-place = after-out .before in
+    let after-if = after-place .before .before .before .before .before .before .before in
+    let s = after-if .before .before .before .before in
+    let a = accountOf (s .args .morning .now) (s .args .noon .now) in
+    let n = figures-length a in
+    let contracts = s .pre .0 .places .contracts in
+    c .before .put-credited .ensures
+    ∙ sets-same (figures a) (s .args .out .now) _ (length (contractsOf a) * figuresEach) (after-out .out2 .given) (omega (arith, s .pre .1)) (omega arith)
+    (after-place .place-lines .ensures .beyond)
 
 pub put-account-spec : {M : Type 1} → statement M
 put-account-spec =
@@ -65,7 +78,7 @@ put-account-spec =
     put-uncredited-requires
     same-length
     returns
-    lines-of-requires
-    put-figures-requires
+    place-lines-requires
+    put-credited-requires
     same-length-2
     returns-2)

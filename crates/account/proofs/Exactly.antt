@@ -13,7 +13,8 @@ use Rattle.record.specs.Layout.{Record}
 use Rattle.record.proofs.Within.{never}
 use Rattle.account.specs.Answers.{numberOf, recordOf}
 use Rattle.account.specs.Check.{Refusal, firstOf, refusals, faultOf, tooLong, cutRecord, recordsChecked}
-use Rattle.account.specs.Claims.{Iff, givenIn, holdsAt, RecordsGive, First, Clean, RecordsExactly}
+use Rattle.exact.specs.Iff.{Iff}
+use Rattle.account.specs.Claims.{givenIn, holdsAt, RecordsGive, First, Clean, RecordsExactly}
 use Rattle.account.specs.Records.{recordAt, recordCount, earlier}
 use Rattle.account.specs.declared.answers.Answer.{Answer}
 use Rattle.account.proofs.Firsts.{number-refusal, record-refusal}

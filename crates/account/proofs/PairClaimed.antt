@@ -15,7 +15,8 @@ use Rattle.record.specs.Layout.{Record, mostContract}
 use Rattle.account.specs.Accepted.{Each, listed, partBytes}
 use Rattle.account.specs.Answers.{numberOf, recordOf}
 use Rattle.account.specs.Check.{recordsChecked, mostRecords, mostContracts}
-use Rattle.account.specs.Claims.{Iff, Comes, RecordsGive}
+use Rattle.exact.specs.Iff.{Iff}
+use Rattle.account.specs.Claims.{Comes, RecordsGive}
 use Rattle.account.specs.Checked.{ratesChecked}
 use Rattle.account.specs.Noon.{ofJoined, ofMorning, ofNoon, clear, _then_, morningsOwn, noSpread, fewJoined, recordsVerdict, joinedVerdict, nowhere}
 use Rattle.account.specs.Noon.{placeIn, joinedPrompts}

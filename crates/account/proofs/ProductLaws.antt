@@ -16,10 +16,10 @@ use Rattle.exact.specs.Signed.{negative}
 use Rattle.exact.proofs.FractionLaws.{fraction-within}
 use Rattle.exact.proofs.SignedCalls.{abs-times}
 use Rattle.record.specs.Bytes.{countFrom}
-use Rattle.record.specs.Layout.{Record, lots, value, loss, currency, mostCurrency, rateCurrency, adjustment, scenarioCount}
+use Rattle.record.specs.Layout.{Record, lots, value, loss, currency, mostCurrency, rateCurrency, adjustment, scenarioCount, hundredThousand}
 use Rattle.record.specs.Within.{Between, RowWithin, RateWithin}
 use Rattle.account.specs.Accepted.{Each}
-use Rattle.account.specs.Products.{inOwn, ofCurrency, rateFor, raised, lowered, mostFactor, hundredMillion, converted, inHundredths, hasRate}
+use Rattle.account.specs.Products.{inOwn, ofCurrency, rateFor, raised, lowered, mostFactor, hundredMillion, converted, inHundredths, hasRate, mostPerTick}
 use Rattle.account.specs.Products.{mostConversion, beyondIn, conversionBeyond, Convertible}
 use Rattle.account.specs.code.Rates.{RatesOf}
 use Rattle.account.specs.declared.rates.Rates.{Rates}
@@ -84,8 +84,8 @@ rate-known (rate ∷ rates) c each = go (eqb (rateCurrency rate) c) (rate-known 
 
 pub own-within : (row : Record) (s : ℕ) → RowWithin row → Between 1 s scenarioCount → natAbs (inOwn s row) ≤ mostConversion
 own-within row s w b =
-    abs-times (lots row *ℤ pos (value row)) (loss row s) {m = 1000000000} {n = 100000}
-    (abs-times (lots row) (pos (value row)) {m = 100000} {n = 10000} (w .lotss) (w .values .most)) (w .losses s b)
+    abs-times (lots row *ℤ pos (value row)) (loss row s) {m = mostPerTick} {n = hundredThousand}
+    (abs-times (lots row) (pos (value row)) {m = hundredThousand} {n = 10000} (w .lotss) (w .values .most)) (w .losses s b)
 
 -- what none of n numbers from m on does
 none-does : (p : ℕ → Bool) (m n : ℕ) → any p (countFrom m n) ≡ false → (k : ℕ) → m ≤ k → k < m + n → p k ≡ false

@@ -13,7 +13,8 @@ use Rattle.record.specs.Layout.{Record}
 use Rattle.account.specs.Answers.{numberOf, recordOf, refusal}
 use Rattle.account.specs.Check.{orElse, recordsChecked}
 use Rattle.account.specs.Checked.{rateRefusals, rateFaultOf, firstRateFault, ratesChecked, checked}
-use Rattle.account.specs.Claims.{Iff, Comes, RecordsGive, Gives, Clean, FirstRate, RatesExactly, Exactly}
+use Rattle.exact.specs.Iff.{Iff}
+use Rattle.account.specs.Claims.{Comes, RecordsGive, Gives, Clean, FirstRate, RatesExactly, Exactly}
 use Rattle.account.specs.Parts.{ofKind, ratesOf}
 use Rattle.account.specs.Products.{hasRate, conversionBeyond}
 use Rattle.account.specs.Records.{records}

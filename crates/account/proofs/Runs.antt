@@ -14,7 +14,7 @@ use Rattle.exact.specs.Lists.{any, oneIf}
 use Rattle.exact.proofs.Lists.{any-at, any-true, getD-map}
 use Rattle.record.specs.Bytes.{countFrom}
 use Rattle.record.specs.Layout.{Record, kind, contract, tier, day, legCount, twoLegs, legsOf, legTier, secondContract, mostTier}
-use Rattle.record.specs.Ranges.{unknownKind, unusedByte, fieldOutside, sound}
+use Rattle.record.specs.Ranges.{unknownKind, unusedByte, fieldOutside, soundRecord}
 use Rattle.record.specs.Within.{SpreadWithin}
 use Rattle.record.proofs.Reading.{byte-past}
 use Rattle.record.proofs.Sound.{Sound, sound-known}
@@ -26,7 +26,7 @@ use Rattle.account.specs.PartNumbers.{part, parts, entryPart}
 use Rattle.account.specs.code.Notes.{partOf, oneMore, startNoted, noContract, noDay, noTier, unlistedBy, overLimitBy, faultBy, promptsNoted, beforeAt}
 use Rattle.account.specs.code.Notes.{faultAt}
 use Rattle.account.specs.Parts.{ofKind, onDay, onTier}
-use Rattle.account.specs.code.Passing.{DaysOf, hasDay, TiersOf, legUnlistedIn, legsMeet, promptPasses, rowPasses, spreadPasses, entryPasses}
+use Rattle.account.specs.code.Passing.{DaysListed, hasDay, TiersListed, legUnlistedIn, legsMeet, promptPasses, rowPasses, spreadPasses, entryPasses}
 use Rattle.account.specs.code.Passing.{RunTo, partAtRecord, countedTo, PassesAt, Passes, After, Begins, Runs, NotedTo, StepBy}
 use Rattle.account.specs.Records.{cut, recordAt, recordCount, records, stretch}
 use Rattle.account.proofs.Dispatch.{order-2, order-3, order-4, order-5, listed-2, listed-3, listed-4, listed-5, limit-2, limit-3, limit-4, limit-5}
@@ -75,7 +75,7 @@ module _ {prompts days : List ℕ} {j : ℕ} (t : DaysTo prompts days j) where
           let n = eqb-false i j b in
           getD-set-other days j i d 0 n ∙ t .noted i (omega arith)
 
-  pub days-end : j ≡ min (recordCount prompts) mostPrompts → DaysOf (records prompts) days
+  pub days-end : j ≡ min (recordCount prompts) mostPrompts → DaysListed (records prompts) days
   days-end e = record { long = t .long; each = λ i h. go i h (ltb i j) refl }
     where
       many : length (records prompts) ≡ recordCount prompts
@@ -93,7 +93,7 @@ module _ {prompts days : List ℕ} {j : ℕ} (t : DaysTo prompts days j) where
           t .zeros i l ∙ sym (byte-past (map day (records prompts)) i m)
 
 -- a day above 0 that is noted is the day of a prompt
-pub day-listed : (prompts : List Record) (days : List ℕ) (d : ℕ) → DaysOf prompts days → 1 ≤ d → hasDay days d ≡ true → noDay prompts d ≡ false
+pub day-listed : (prompts : List Record) (days : List ℕ) (d : ℕ) → DaysListed prompts days → 1 ≤ d → hasDay days d ≡ true → noDay prompts d ≡ false
 day-listed prompts days d t low h =
     let p = any-true (λ j. eqb (getD days j 0) d) (countFrom 0 mostPrompts) 0 h in
     let j = getD (countFrom 0 mostPrompts) (p .place) 0 in
@@ -154,7 +154,7 @@ tiers-next {prompts} {listed} {j} s u e h =
 
 pub tiers-end :
     {prompts : List ℕ} {listed : List Bool} {j : ℕ} → TiersTo prompts listed j → j ≡ recordCount prompts
-    → TiersOf (records prompts) listed
+    → TiersListed (records prompts) listed
 tiers-end {prompts} {listed} s e =
     record { long = s .long; each = λ t h. s .each t h ∙ ap (λ (n : ℕ). any (onTier t) (cut n prompts)) e }
 
@@ -350,7 +350,7 @@ module _ {n most : ℕ} {file counts : List ℕ} {k c : ℕ} {passes : ℕ → B
         (le-ltb (contract (recordAt file j)) (contract (beforeAt file j)) (omega arith))
 
 -- the legs whose tier has no prompt, by the prompts and by the tiers noted of them
-module _ (prompts : List Record) (listed : List Bool) (t : TiersOf prompts listed) (r : Record) where
+module _ (prompts : List Record) (listed : List Bool) (t : TiersListed prompts listed) (r : Record) where
   leg-same : (leg : ℕ) → legTier r leg ≤ mostTier → noTier prompts (legTier r leg) ≡ legUnlistedIn listed r leg
   leg-same leg h = ap not (sym (t .each (legTier r leg) (omega arith)))
 
@@ -386,7 +386,7 @@ module _ (file first counts : List ℕ) (k c : ℕ) {i : ℕ} where
       passes j = promptPasses c (recordAt file (j - 1)) (recordAt file j)
 
       soundAt : (j : ℕ) → passes j ≡ true → Sound 2 c (recordAt file j)
-      soundAt j e = sound-known 2 c (recordAt file j) (both-true (sound 2 c (recordAt file j)) _ e .0)
+      soundAt j e = sound-known 2 c (recordAt file j) (both-true (soundRecord 2 c (recordAt file j)) _ e .0)
 
       following : Following 2 mostPrompts file counts k c passes i
       following = record { low = omega arith; high = omega arith; after = a; soundAt = soundAt; run = run }
@@ -395,7 +395,7 @@ module _ (file first counts : List ℕ) (k c : ℕ) {i : ℕ} where
       each j l h =
           let r = recordAt file j in
           let e = soundAt j (run .each j (omega arith) h) .kinds in
-          let o = not-true _ (both-true (sound 2 c r) _ (run .each j (omega arith) h) .1) in
+          let o = not-true _ (both-true (soundRecord 2 c r) _ (run .each j (omega arith) h) .1) in
           passes-at (alike following) first j l h
           (listed-2 (countedTo file counts k j) (promptsNoted file first (countedTo file counts k j) (contract r)) r e ∙ contract-listed following first j l h)
           (order-2 (beforeAt file j) r e
@@ -405,7 +405,7 @@ module _ (file first counts : List ℕ) (k c : ℕ) {i : ℕ} where
           (limit-2 (countedTo file counts k j) r e ∙ unfilled (alike following) first j l h)
 
   pub rows-pass :
-      After 3 file counts k c → (days : List ℕ) → DaysOf (promptsNoted file first counts c) days
+      After 3 file counts k c → (days : List ℕ) → DaysListed (promptsNoted file first counts c) days
       → RunTo (λ j. rowPasses c days (recordAt file j)) (k + 1) (min (k + 1 + (mostRows - getD counts (part 3 c) 0)) (recordCount file)) i
       → Passes file first counts k i
   rows-pass a days t run = run-passes (alike following) first each
@@ -414,7 +414,7 @@ module _ (file first counts : List ℕ) (k c : ℕ) {i : ℕ} where
       passes j = rowPasses c days (recordAt file j)
 
       soundAt : (j : ℕ) → passes j ≡ true → Sound 3 c (recordAt file j)
-      soundAt j e = sound-known 3 c (recordAt file j) (both-true (sound 3 c (recordAt file j)) _ e .0)
+      soundAt j e = sound-known 3 c (recordAt file j) (both-true (soundRecord 3 c (recordAt file j)) _ e .0)
 
       following : Following 3 mostRows file counts k c passes i
       following = record { low = omega arith; high = omega arith; after = a; soundAt = soundAt; run = run }
@@ -424,7 +424,7 @@ module _ (file first counts : List ℕ) (k c : ℕ) {i : ℕ} where
           let r = recordAt file j in
           let s = soundAt j (run .each j (omega arith) h) in
           let e = s .kinds in
-          let d = both-true (sound 3 c r) _ (run .each j (omega arith) h) .1 in
+          let d = both-true (soundRecord 3 c r) _ (run .each j (omega arith) h) .1 in
           passes-at (alike following) first j l h
           (listed-3 (countedTo file counts k j) (promptsNoted file first (countedTo file counts k j) (contract r)) r e
           ∙ or-off (contract-listed following first j l h)
@@ -435,7 +435,7 @@ module _ (file first counts : List ℕ) (k c : ℕ) {i : ℕ} where
           (limit-3 (countedTo file counts k j) r e ∙ unfilled (alike following) first j l h)
 
   pub spreads-pass :
-      After 4 file counts k c → (listed : List Bool) → TiersOf (promptsNoted file first counts c) listed
+      After 4 file counts k c → (listed : List Bool) → TiersListed (promptsNoted file first counts c) listed
       → RunTo (λ j. spreadPasses c listed (recordAt file j)) (k + 1) (min (k + 1 + (mostSpreads - getD counts (part 4 c) 0)) (recordCount file)) i
       → Passes file first counts k i
   spreads-pass a listed t run = run-passes (alike following) first each
@@ -444,7 +444,7 @@ module _ (file first counts : List ℕ) (k c : ℕ) {i : ℕ} where
       passes j = spreadPasses c listed (recordAt file j)
 
       soundAt : (j : ℕ) → passes j ≡ true → Sound 4 c (recordAt file j)
-      soundAt j e = sound-known 4 c (recordAt file j) (both-true (sound 4 c (recordAt file j)) _ e .0)
+      soundAt j e = sound-known 4 c (recordAt file j) (both-true (soundRecord 4 c (recordAt file j)) _ e .0)
 
       following : Following 4 mostSpreads file counts k c passes i
       following = record { low = omega arith; high = omega arith; after = a; soundAt = soundAt; run = run }
@@ -454,7 +454,7 @@ module _ (file first counts : List ℕ) (k c : ℕ) {i : ℕ} where
           let r = recordAt file j in
           let s = soundAt j (run .each j (omega arith) h) in
           let e = s .kinds in
-          let o = neither (legsMeet r) _ (not-true _ (both-true (sound 4 c r) _ (run .each j (omega arith) h) .1)) in
+          let o = neither (legsMeet r) _ (not-true _ (both-true (soundRecord 4 c r) _ (run .each j (omega arith) h) .1)) in
           passes-at (alike following) first j l h
           (listed-4 (countedTo file counts k j) (promptsNoted file first (countedTo file counts k j) (contract r)) r e
           ∙ or-off (contract-listed following first j l h)
@@ -629,7 +629,7 @@ module _ (file first counts : List ℕ) (k c : ℕ) {i : ℕ} where
       passes j = promptPasses c (recordAt file (j - 1)) (recordAt file j)
 
       soundAt : (j : ℕ) → passes j ≡ true → Sound 2 c (recordAt file j)
-      soundAt j e = sound-known 2 c (recordAt file j) (both-true (sound 2 c (recordAt file j)) _ e .0)
+      soundAt j e = sound-known 2 c (recordAt file j) (both-true (soundRecord 2 c (recordAt file j)) _ e .0)
 
       go : k < i → Runs file first counts k i
       go h =
@@ -637,7 +637,7 @@ module _ (file first counts : List ℕ) (k c : ℕ) {i : ℕ} where
           record { low = omega arith; high = omega arith; begins = b; soundAt = soundAt; run = run; some = h } in
           let r = recordAt file k in
           let e = b .after .kinds in
-          let o = not-true _ (both-true (sound 2 c r) _ (run .each k (omega arith) h) .1) in
+          let o = not-true _ (both-true (soundRecord 2 c r) _ (run .each k (omega arith) h) .1) in
           runs-from (starting f) first
           (listed-2 counts (promptsNoted file first counts (contract r)) r e ∙ contract-here f first)
           (order-2 (beforeAt file k) r e
@@ -647,7 +647,7 @@ module _ (file first counts : List ℕ) (k c : ℕ) {i : ℕ} where
           (after-it f first) (run-after (starting f) first))
 
   pub rows-run :
-      Begins 3 file counts k c → (days : List ℕ) → DaysOf (promptsNoted file first counts c) days
+      Begins 3 file counts k c → (days : List ℕ) → DaysListed (promptsNoted file first counts c) days
       → RunTo (λ j. rowPasses c days (recordAt file j)) k (min (k + (mostRows - getD counts (part 3 c) 0)) (recordCount file)) i
       → Runs file first counts k i
   rows-run b days t run = or-none (omega (arith, b .after .inside)) (run .low) go
@@ -656,7 +656,7 @@ module _ (file first counts : List ℕ) (k c : ℕ) {i : ℕ} where
       passes j = rowPasses c days (recordAt file j)
 
       soundAt : (j : ℕ) → passes j ≡ true → Sound 3 c (recordAt file j)
-      soundAt j e = sound-known 3 c (recordAt file j) (both-true (sound 3 c (recordAt file j)) _ e .0)
+      soundAt j e = sound-known 3 c (recordAt file j) (both-true (soundRecord 3 c (recordAt file j)) _ e .0)
 
       go : k < i → Runs file first counts k i
       go h =
@@ -665,7 +665,7 @@ module _ (file first counts : List ℕ) (k c : ℕ) {i : ℕ} where
           let r = recordAt file k in
           let e = b .after .kinds in
           let s = soundAt k (run .each k (omega arith) h) in
-          let d = both-true (sound 3 c r) _ (run .each k (omega arith) h) .1 in
+          let d = both-true (soundRecord 3 c r) _ (run .each k (omega arith) h) .1 in
           runs-from (starting f) first
           (listed-3 counts (promptsNoted file first counts (contract r)) r e
           ∙ or-off (contract-here f first)
@@ -675,10 +675,10 @@ module _ (file first counts : List ℕ) (k c : ℕ) {i : ℕ} where
           (limit-3 counts r e ∙ unfilled-here (starting f) first)
           (rows-pass file (startNoted first counts (partAtRecord file k) k) (oneMore counts (partAtRecord file k)) k c
           (after-it f first) days
-          (subst (λ (ps : List Record). DaysOf ps days) (sym (prompts-same f first (omega arith))) t) (run-after (starting f) first))
+          (subst (λ (ps : List Record). DaysListed ps days) (sym (prompts-same f first (omega arith))) t) (run-after (starting f) first))
 
   pub spreads-run :
-      Begins 4 file counts k c → (listed : List Bool) → TiersOf (promptsNoted file first counts c) listed
+      Begins 4 file counts k c → (listed : List Bool) → TiersListed (promptsNoted file first counts c) listed
       → RunTo (λ j. spreadPasses c listed (recordAt file j)) k (min (k + (mostSpreads - getD counts (part 4 c) 0)) (recordCount file)) i
       → Runs file first counts k i
   spreads-run b listed t run = or-none (omega (arith, b .after .inside)) (run .low) go
@@ -687,7 +687,7 @@ module _ (file first counts : List ℕ) (k c : ℕ) {i : ℕ} where
       passes j = spreadPasses c listed (recordAt file j)
 
       soundAt : (j : ℕ) → passes j ≡ true → Sound 4 c (recordAt file j)
-      soundAt j e = sound-known 4 c (recordAt file j) (both-true (sound 4 c (recordAt file j)) _ e .0)
+      soundAt j e = sound-known 4 c (recordAt file j) (both-true (soundRecord 4 c (recordAt file j)) _ e .0)
 
       go : k < i → Runs file first counts k i
       go h =
@@ -696,7 +696,7 @@ module _ (file first counts : List ℕ) (k c : ℕ) {i : ℕ} where
           let r = recordAt file k in
           let e = b .after .kinds in
           let s = soundAt k (run .each k (omega arith) h) in
-          let o = neither (legsMeet r) _ (not-true _ (both-true (sound 4 c r) _ (run .each k (omega arith) h) .1)) in
+          let o = neither (legsMeet r) _ (not-true _ (both-true (soundRecord 4 c r) _ (run .each k (omega arith) h) .1)) in
           runs-from (starting f) first
           (listed-4 counts (promptsNoted file first counts (contract r)) r e
           ∙ or-off (contract-here f first)
@@ -706,7 +706,7 @@ module _ (file first counts : List ℕ) (k c : ℕ) {i : ℕ} where
           (limit-4 counts r e ∙ unfilled-here (starting f) first)
           (spreads-pass file (startNoted first counts (partAtRecord file k) k) (oneMore counts (partAtRecord file k)) k c
           (after-it f first) listed
-          (subst (λ (ps : List Record). TiersOf ps listed) (sym (prompts-same f first (omega arith))) t) (run-after (starting f) first))
+          (subst (λ (ps : List Record). TiersListed ps listed) (sym (prompts-same f first (omega arith))) t) (run-after (starting f) first))
 
 -- ---- intercontract spreads: one part, of whichever contracts
 pub record EntryPassed (own : List ℕ) (r : Record) : Type 0 where
@@ -717,7 +717,7 @@ pub record EntryPassed (own : List ℕ) (r : Record) : Type 0 where
 
 entry-passed : (own : List ℕ) (r : Record) → entryPasses own r ≡ true → EntryPassed own r
 entry-passed own r h =
-    let e = both-true (sound 5 (contract r) r) _ h in
+    let e = both-true (soundRecord 5 (contract r) r) _ h in
     let s = sound-known 5 (contract r) r (e .0) in
     let o = neither (noContract own (contract r)) _ (not-true _ (e .1)) in
     let q = neither (noContract own (secondContract r)) _ (o .1) in

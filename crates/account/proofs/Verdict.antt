@@ -9,16 +9,17 @@ use native.Mathlib.Omega.{arith}
 use native.Mathlib.Numerals.{add-one}
 use borrow.Author.Tests.{ne-eqb}
 use Rattle.record.specs.Bytes.{recordBytes}
-use Rattle.record.specs.Layout.{Record}
+use Rattle.record.specs.Layout.{Record, contract}
 use Rattle.record.specs.Ranges.{unknownKind, unusedByte, fieldOutside}
 use Rattle.account.specs.Answers.{numberOf, refusal}
 use Rattle.account.specs.Check.{theOneBefore, kindFalls, unlisted, outOfOrder, overLimit, faultOf, orElse, firstFault, tooLong, cutRecord}
 use Rattle.account.specs.Check.{recordsChecked}
+use Rattle.account.specs.code.Notes.{beforeAt, promptsNoted, unlistedBy, overLimitBy, faultAt}
 use Rattle.account.specs.code.Surveyed.{lengthChecked}
 use Rattle.account.specs.Records.{cut, recordAt, records, recordCount, earlier}
 use Rattle.account.specs.declared.answers.Answer.{Answer}
 use Rattle.account.specs.declared.answers.Answer.the-variants.{Accepted, TooLong, CutRecord}
-use Rattle.account.proofs.Firsts.{fault-range}
+use Rattle.account.proofs.Firsts.{fault-range, number-refusal}
 use Rattle.account.proofs.Laid.{Faultless}
 use Rattle.account.proofs.Walk.{cut-on}
 
@@ -109,3 +110,12 @@ pub fault-number : (es : List Record) (r : Record) (n : ℕ) → faultOf es r �
 fault-number es r n h nz =
     fault-range (unknownKind r) (kindFalls (theOneBefore es) r) (unusedByte r) (fieldOutside r) (unlisted es r)
     (outOfOrder (theOneBefore es) r) (overLimit es r) n h nz
+
+-- the same of a fault by the notes: its refusal has its number
+pub fault-named : (file first counts : List ℕ) (k n j : ℕ) → n ≡ faultAt file first counts k → (n ≡ 0 → ⊥) → numberOf (refusal n j) ≡ n
+fault-named file first counts k n j e nz =
+    let r = recordAt file k in
+    let before = beforeAt file k in
+    let range = fault-range (unknownKind r) (kindFalls before r) (unusedByte r) (fieldOutside r)
+    (unlistedBy counts (promptsNoted file first counts (contract r)) r) (outOfOrder before r) (overLimitBy counts r) n (sym e) nz in
+    number-refusal n j (range .0) (range .1)

@@ -8,6 +8,7 @@ use mathlib.Core.List.{List, [], _∷_}
 use mathlib.Core.Logic.{_⊎_}
 use lib.ListN.{length, getD}
 use lib.Dec.{eqb}
+use Rattle.exact.specs.Iff.{Iff}
 use Rattle.exact.specs.Lists.{any}
 use Rattle.record.specs.Layout.{Record, _has_, byKind, kind, contract}
 use Rattle.record.specs.Ranges.{unknownKind, fieldOutside}
@@ -22,10 +23,6 @@ use Rattle.account.specs.Parts.{ofKind, ofContract, ratesOf}
 use Rattle.account.specs.Records.{records, recordAt, recordCount, earlier}
 use Rattle.account.specs.declared.answers.Answer.{Answer}
 use Rattle.account.specs.declared.answers.Answer.the-variants.{Accepted}
-
-pub record Iff (A B : Type 0) : Type 0 where
-  pub forth : A → B
-  pub back : B → A
 
 -- whether the table gives refusal n
 abbrev pub givenIn : List Refusal → ℕ → Bool

@@ -11,7 +11,8 @@ use Rattle.record.specs.Layout.{mostContract}
 use Rattle.account.specs.Accepted.{listed, partBytes}
 use Rattle.account.specs.Answers.{numberOf, recordOf}
 use Rattle.account.specs.Check.{recordsChecked, mostRecords}
-use Rattle.account.specs.Claims.{Iff, RecordsGive, FirstRate, Rated}
+use Rattle.exact.specs.Iff.{Iff}
+use Rattle.account.specs.Claims.{RecordsGive, FirstRate, Rated}
 use Rattle.account.specs.Noon.{clear, morningsOwn, joinedVerdict, joinedPrompts}
 use Rattle.account.specs.PartNumbers.{part}
 use Rattle.account.specs.Parts.{promptsOf}

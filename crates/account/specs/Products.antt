@@ -10,12 +10,16 @@ use Rattle.exact.specs.Lists.{any}
 use Rattle.exact.specs.Rounding.{halfAway}
 use Rattle.exact.specs.Signed.{negative}
 use Rattle.record.specs.Bytes.{countFrom}
-use Rattle.record.specs.Layout.{Record, lots, value, loss, scenarioCount, currency, rateCurrency, spotRate, adjustment}
+use Rattle.record.specs.Layout.{Record, lots, value, loss, scenarioCount, currency, rateCurrency, spotRate, adjustment, hundredThousand, mostValue}
 use Rattle.record.specs.Within.{Between}
 
 -- "lots × value × loss": above 0 a loss, below it a gain, in hundredths of the row's own currency
 abbrev pub inOwn : ℕ → Record → ℤ
 inOwn scenario row = lots row *ℤ pos (value row) *ℤ loss row scenario
+
+-- lots × value of a row: 100,000 × 10,000
+abbrev pub mostPerTick : ℕ
+mostPerTick = hundredThousand * mostValue
 
 -- the rate of a currency, and an empty record where none is listed
 abbrev pub ofCurrency : ℕ → Record → Bool

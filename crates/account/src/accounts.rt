@@ -2,8 +2,11 @@
 // file or in two. Nothing above this module knows files, surveys or offsets.
 use crate::answers::Answer;
 use crate::answers::number_of;
+use crate::answers::refusal;
 use crate::check::Survey;
+use crate::check::length_answer;
 use crate::check::note_file;
+use crate::check::note_records;
 use crate::conversions::any_in_another;
 use crate::conversions::any_other_row;
 use crate::conversions::rows_answer;
@@ -21,6 +24,7 @@ use crate::parts::SPREADS;
 use crate::rates::rates_of;
 use crate::stretches::record_count;
 use crate::stretches::stretch;
+ghost use mathlib.Core.List.{[]};
 ghost use mathlib.Core.Path.{_≡_};
 ghost use mathlib.Core.Bool.{cond};
 ghost use Prim.Native.Nat.{_≤_, _<_};
@@ -193,6 +197,13 @@ pub fn spreads_part<'a>(morning: &'a [u8], noon: &'a [u8], w: Whereabouts) -> &'
         w.spreads as usize,
         w.spread_count as usize,
     )
+}
+
+// No records: the noon file of an account that stands in one file.
+pub fn nothing_of(file: &[u8]) -> &[u8]
+    ensures { λ r. ⌜ now r ≡ [] ⌝ }
+{
+    &file[0..0]
 }
 
 // Whichever file supplies a contract.
@@ -461,12 +472,15 @@ pub fn check_file(file: &[u8]) -> Checked
 pub fn check(file: &[u8]) -> Answer
     ensures { λ a. ⌜ a ≡ checked (now (file .entry)) ⌝ }
 {
-    let mut first = [0u16; PARTS];
-    let mut counts = [0u16; PARTS];
-    let tally = note_file(file, &mut first, &mut counts);
-    let answer = tally.answer;
+    let answer = length_answer(file);
     if number_of(answer) != 0 {
         return answer;
     }
-    rates_answer(file, &first, &counts, tally.contracts)
+    let mut first = [0u16; PARTS];
+    let mut counts = [0u16; PARTS];
+    let noted = note_records(file, &mut first, &mut counts);
+    if noted.number != 0 {
+        return refusal(noted.number, noted.next);
+    }
+    rates_answer(file, &first, &counts, noted.contracts)
 }

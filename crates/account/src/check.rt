@@ -4,7 +4,7 @@ ghost use mathlib.Core.Path.{_≡_};
 ghost use Prim.Native.Nat.{_+_, _≤_, _<_};
 ghost use lib.ListN.{length, getD, set, replicate};
 ghost use Rattle.exact.specs.Lists.{oneIf};
-ghost use Rattle.account.specs.Answers.{refusal};
+ghost use Rattle.account.specs.Answers.{numberOf, refusal};
 ghost use Rattle.account.specs.Check.{mostRecords};
 ghost use Rattle.account.specs.code.Notes.{oneMore, startNoted, faultAt};
 ghost use Rattle.account.specs.PartNumbers.{parts};
@@ -93,10 +93,10 @@ fn one_if_contract(r: &[u8]) -> usize
 }
 
 // A step of the check: the fault of a record, or the record to go on at and how many contracts were passed.
-struct Step {
-    number: usize,
-    next: usize,
-    contracts: usize,
+pub(crate) struct Step {
+    pub(crate) number: usize,
+    pub(crate) next: usize,
+    pub(crate) contracts: usize,
 }
 
 // Past record `k`: a run of sound records from it on, or it alone.
@@ -131,9 +131,10 @@ fn go_on(file: &[u8], first: &mut [u16], counts: &mut [u16], k: usize) -> Step
 }
 
 // The records noted up to the first with a fault, or all of them.
-fn note_records(file: &[u8], first: &mut [u16; PARTS], counts: &mut [u16; PARTS]) -> Step
+pub(crate) fn note_records(file: &[u8], first: &mut [u16; PARTS], counts: &mut [u16; PARTS]) -> Step
     requires { ⌜ (lengthChecked (now file) ≡ Accepted) × ((now first ≡ replicate parts 0) × (now counts ≡ replicate parts 0)) ⌝ }
-    ensures { λ s. ⌜ Tallied (now (file .entry)) (refusal (s .number) (s .next)) (s .contracts) (now (first .exit)) (now (counts .exit)) ⌝ }
+    ensures tallied { λ s. ⌜ Tallied (now (file .entry)) (refusal (s .number) (s .next)) (s .contracts) (now (first .exit)) (now (counts .exit)) ⌝ }
+    ensures named { λ s. ⌜ ((s .number ≡ 0 → ⊥) → numberOf (refusal (s .number) (s .next)) ≡ s .number) ⌝ }
 {
     let count = record_count(file);
     let mut contracts = 0;
@@ -158,7 +159,7 @@ fn note_records(file: &[u8], first: &mut [u16; PARTS], counts: &mut [u16; PARTS]
 }
 
 // 1 and 2, of the length of a file.
-fn length_answer(file: &[u8]) -> Answer
+pub(crate) fn length_answer(file: &[u8]) -> Answer
     ensures { λ a. ⌜ a ≡ lengthChecked (now (file .entry)) ⌝ }
 {
     if MOST_BYTES < file.len() {

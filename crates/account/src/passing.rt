@@ -9,7 +9,7 @@ ghost use Rattle.record.specs.Layout.{recordBytes, day, twoLegs, legsOf};
 ghost use Rattle.account.specs.Check.{kindFalls, contractFalls, sameLeg, mostRows};
 ghost use Rattle.account.specs.PartNumbers.{parts};
 ghost use Rattle.account.specs.code.Notes.{noContract};
-ghost use Rattle.account.specs.code.Passing.{DaysOf, hasDay, TiersOf, legUnlistedIn, onOneSide, legsMeet};
+ghost use Rattle.account.specs.code.Passing.{DaysListed, hasDay, TiersListed, legUnlistedIn, onOneSide, legsMeet};
 ghost use Rattle.account.specs.code.Passing.{promptPasses, rowPasses, spreadPasses, entryPasses, RunTo, Begins, Runs};
 ghost use Rattle.account.specs.Records.{recordAt, recordCount, records};
 use crate::limits::MOST_ENTRIES;
@@ -61,7 +61,7 @@ fn short_day(r: &[u8]) -> u32
 
 // The days of a contract's prompts, and 0 beyond them.
 fn days_of(prompts: &[u8]) -> [u32; MOST_PROMPTS]
-    ensures { λ days. ⌜ DaysOf (records (now (prompts .entry))) days ⌝ }
+    ensures { λ days. ⌜ DaysListed (records (now (prompts .entry))) days ⌝ }
 {
     let end = lesser(record_count(prompts), MOST_PROMPTS);
     let mut days = [0u32; MOST_PROMPTS];
@@ -88,7 +88,7 @@ fn has_day(days: &[u32; MOST_PROMPTS], d: u32) -> bool
 
 // Which tiers have a prompt.
 fn tiers_of(prompts: &[u8]) -> [bool; TIER_BYTES]
-    ensures { λ listed. ⌜ TiersOf (records (now (prompts .entry))) listed ⌝ }
+    ensures { λ listed. ⌜ TiersListed (records (now (prompts .entry))) listed ⌝ }
 {
     let count = record_count(prompts);
     let mut listed = [false; TIER_BYTES];

@@ -29,7 +29,7 @@ ghost use Rattle.record.specs.Within.{RowWithin, RateWithin};
 ghost use Rattle.account.specs.Accepted.{Each};
 ghost use Rattle.account.specs.Records.{records};
 ghost use Rattle.account.specs.Products as Products;
-ghost use Rattle.account.specs.Products.{convertedAt, hasRate, conversionBeyond, mostConversion, mostFactor};
+ghost use Rattle.account.specs.Products.{convertedAt, hasRate, conversionBeyond, mostConversion, mostFactor, mostPerTick};
 ghost use Rattle.account.specs.code.Rates.{RatesOf, HoldsRates};
 
 // Currencies are numbered 0 to 7; 0 is the margin currency.
@@ -124,7 +124,7 @@ pub fn factors_of(t: Rates, c: usize) -> Factors
 // Lots × value: what a row loses for each tick.
 pub fn per_tick(row: &[u8]) -> i64
     requires { ⌜ (natAbs (lots (now row)) ≤ hundredThousand) × (value (now row) ≤ mostValue) ⌝ }
-    ensures { λ r. ⌜ Sized 1000000000 (lots (now (row .entry)) *ℤ pos (value (now (row .entry)))) r ⌝ }
+    ensures { λ r. ⌜ Sized mostPerTick (lots (now (row .entry)) *ℤ pos (value (now (row .entry)))) r ⌝ }
 {
     times(lots(row), as_signed(value(row) as u64))
 }
@@ -163,7 +163,7 @@ fn is_beyond(z: i64) -> bool
 
 // Whether a row's conversion in a scenario is beyond the most.
 fn beyond_in(f: Factors, each: i64, loss: i64) -> bool
-    requires { ⌜ (natAbs each ≤ 1000000000) × ((natAbs loss ≤ hundredThousand) × ((f .raised ≤ mostFactor) × (f .lowered ≤ mostFactor))) ⌝ }
+    requires { ⌜ (natAbs each ≤ mostPerTick) × ((natAbs loss ≤ hundredThousand) × ((f .raised ≤ mostFactor) × (f .lowered ≤ mostFactor))) ⌝ }
     ensures { λ r. ⌜ r ≡ ltb mostConversion (natAbs (convertedAt (f .raised) (f .lowered) (each *ℤ loss))) ⌝ }
 {
     is_beyond(converted(f, times(each, loss)))
@@ -171,7 +171,7 @@ fn beyond_in(f: Factors, each: i64, loss: i64) -> bool
 
 // Whether it is in any.
 fn beyond_in_any(f: Factors, each: i64, row: &[u8]) -> bool
-    requires { ⌜ (natAbs each ≤ 1000000000) × (RowWithin (now row) × ((f .raised ≤ mostFactor) × (f .lowered ≤ mostFactor))) ⌝ }
+    requires { ⌜ (natAbs each ≤ mostPerTick) × (RowWithin (now row) × ((f .raised ≤ mostFactor) × (f .lowered ≤ mostFactor))) ⌝ }
     ensures { λ r. ⌜ r ≡ any (λ s. ltb mostConversion (natAbs (convertedAt (f .raised) (f .lowered) (each *ℤ loss (now (row .entry)) s))))
         (countFrom 1 scenarioCount) ⌝ }
 {

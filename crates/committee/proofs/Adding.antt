@@ -12,41 +12,42 @@ use lib.ListN.{length}
 use Rattle.exact.specs.Lists.{oneIf, count, any}
 use Rattle.exact.proofs.Lists.{count-append}
 use Rattle.committee.specs.Answered.{Answered}
-use Rattle.committee.specs.Committee.{totalOf, isAccepted, acceptedCount, ofAccepted, summed, largestMargin, holds, lowestPlace, unlessNone, largestPlace}
+use Rattle.committee.specs.Committee.{totalNumber, isAccepted, acceptedCount, overAccepted, summed, largestMargin, holds}
+use Rattle.committee.specs.Committee.{lowestPlace, unlessNone, largestPlace}
 
 -- ---- counts and sums
 module _ (p : Answered → Bool) (run : List Answered) (a : Answered) where
   pub count-next : count p (run ++ (a ∷ [])) ≡ count p run + oneIf (p a)
   count-next = let e = count-append p run (a ∷ []) in omega arith
 
-pub summed-next : (f : List ℤ → ℕ) (run : List Answered) (a : Answered) → summed f (run ++ (a ∷ [])) ≡ summed f run + ofAccepted f a
+pub summed-next : (f : List ℤ → ℕ) (run : List Answered) (a : Answered) → summed f (run ++ (a ∷ [])) ≡ summed f run + overAccepted f a
 summed-next f [] a = omega arith
 summed-next f (x ∷ run) a = let rest = summed-next f run a in omega arith
 
-pub largest-next : (run : List Answered) (a : Answered) → largestMargin (run ++ (a ∷ [])) ≡ max (largestMargin run) (ofAccepted totalOf a)
+pub largest-next : (run : List Answered) (a : Answered) → largestMargin (run ++ (a ∷ [])) ≡ max (largestMargin run) (overAccepted totalNumber a)
 largest-next [] a = omega arith
 largest-next (x ∷ run) a = let rest = largest-next run a in omega arith
 
 -- ---- one account: what it adds, by whether it is accepted
-pub none-of : (f : List ℤ → ℕ) (a : Answered) → isAccepted a ≡ false → ofAccepted f a ≡ 0
+pub none-of : (f : List ℤ → ℕ) (a : Answered) → isAccepted a ≡ false → overAccepted f a ≡ 0
 none-of f a e = ap (λ (t : Bool). cond t (f (a .numbers)) 0) e
 
-pub all-of : (f : List ℤ → ℕ) (a : Answered) → isAccepted a ≡ true → ofAccepted f a ≡ f (a .numbers)
+pub all-of : (f : List ℤ → ℕ) (a : Answered) → isAccepted a ≡ true → overAccepted f a ≡ f (a .numbers)
 all-of f a e = ap (λ (t : Bool). cond t (f (a .numbers)) 0) e
 
 holds-not : (m : ℕ) (a : Answered) → isAccepted a ≡ false → holds m a ≡ false
-holds-not m a e = ap (λ (t : Bool). t && eqb (totalOf (a .numbers)) m) e
+holds-not m a e = ap (λ (t : Bool). t && eqb (totalNumber (a .numbers)) m) e
 
-holds-if : (m : ℕ) (a : Answered) → isAccepted a ≡ true → ofAccepted totalOf a ≡ m → holds m a ≡ true
+holds-if : (m : ℕ) (a : Answered) → isAccepted a ≡ true → overAccepted totalNumber a ≡ m → holds m a ≡ true
 holds-if m a e h =
-    ap (λ (t : Bool). t && eqb (totalOf (a .numbers)) m) e ∙ eq-eqb (totalOf (a .numbers)) m (sym (all-of totalOf a e) ∙ h)
+    ap (λ (t : Bool). t && eqb (totalNumber (a .numbers)) m) e ∙ eq-eqb (totalNumber (a .numbers)) m (sym (all-of totalNumber a e) ∙ h)
 
-holds-other : (m : ℕ) (a : Answered) → (ofAccepted totalOf a ≡ m → ⊥) → holds m a ≡ false
+holds-other : (m : ℕ) (a : Answered) → (overAccepted totalNumber a ≡ m → ⊥) → holds m a ≡ false
 holds-other m a d = go (isAccepted a) refl
   where
     go : (t : Bool) → isAccepted a ≡ t → holds m a ≡ false
     go true e =
-        ap (λ (t : Bool). t && eqb (totalOf (a .numbers)) m) e ∙ ne-eqb (totalOf (a .numbers)) m (λ z. d (all-of totalOf a e ∙ z))
+        ap (λ (t : Bool). t && eqb (totalNumber (a .numbers)) m) e ∙ ne-eqb (totalNumber (a .numbers)) m (λ z. d (all-of totalNumber a e ∙ z))
     go false e = holds-not m a e
 
 -- ---- who holds the largest margin
@@ -64,7 +65,7 @@ pub none-largest : (run : List Answered) → acceptedCount run ≡ 0 → largest
 none-largest [] e = refl
 none-largest (x ∷ run) e =
     let two = none-more (oneIf (isAccepted x)) (acceptedCount run) e in
-    let first = none-of totalOf x (not-accepted (isAccepted x) (two .0)) in
+    let first = none-of totalNumber x (not-accepted (isAccepted x) (two .0)) in
     let rest = none-largest run (two .1) in
     omega arith
 
@@ -82,29 +83,29 @@ above-holds m (x ∷ run) h =
 pub some-holds : (run : List Answered) → (acceptedCount run ≡ 0 → ⊥) → any (holds (largestMargin run)) run ≡ true
 some-holds [] d = absurd (d refl)
 some-holds (x ∷ run) d =
-    go (isAccepted x) refl (eqb (acceptedCount run) 0) refl (ltb (ofAccepted totalOf x) (largestMargin run)) refl (some-holds run)
+    go (isAccepted x) refl (eqb (acceptedCount run) 0) refl (ltb (overAccepted totalNumber x) (largestMargin run)) refl (some-holds run)
   where
-    first : holds (max (ofAccepted totalOf x) (largestMargin run)) x ≡ true → any (holds (largestMargin (x ∷ run))) (x ∷ run) ≡ true
+    first : holds (max (overAccepted totalNumber x) (largestMargin run)) x ≡ true → any (holds (largestMargin (x ∷ run))) (x ∷ run) ≡ true
     first e = ap (λ (t : Bool). t || any (holds (largestMargin (x ∷ run))) run) e
 
-    later : max (ofAccepted totalOf x) (largestMargin run) ≡ largestMargin run → any (holds (largestMargin run)) run ≡ true
+    later : max (overAccepted totalNumber x) (largestMargin run) ≡ largestMargin run → any (holds (largestMargin run)) run ≡ true
         → any (holds (largestMargin (x ∷ run))) (x ∷ run) ≡ true
     later e h =
         ap (λ (n : ℕ). holds n x || any (holds n) run) e ∙ ap (λ (t : Bool). holds (largestMargin run) x || t) h ∙ or-true (holds (largestMargin run) x)
 
-    go : (t : Bool) → isAccepted x ≡ t → (u : Bool) → eqb (acceptedCount run) 0 ≡ u → (v : Bool) → ltb (ofAccepted totalOf x) (largestMargin run) ≡ v
+    go : (t : Bool) → isAccepted x ≡ t → (u : Bool) → eqb (acceptedCount run) 0 ≡ u → (v : Bool) → ltb (overAccepted totalNumber x) (largestMargin run) ≡ v
         → ((acceptedCount run ≡ 0 → ⊥) → any (holds (largestMargin run)) run ≡ true) → any (holds (largestMargin (x ∷ run))) (x ∷ run) ≡ true
     go false e u f v g rest =
         let one = ap oneIf e in
-        later (let z = none-of totalOf x e in omega arith) (rest (λ z. d (omega arith)))
+        later (let z = none-of totalNumber x e in omega arith) (rest (λ z. d (omega arith)))
     go true e true f v g rest =
         let none = none-largest run (eqb-true (acceptedCount run) 0 f) in
         first (holds-if _ x e (omega arith))
     go true e false f true g rest =
-        let l = ltb-true (ofAccepted totalOf x) (largestMargin run) g in
+        let l = ltb-true (overAccepted totalNumber x) (largestMargin run) g in
         later (omega arith) (rest (eqb-false (acceptedCount run) 0 f))
     go true e false f false g rest =
-        let l = ltb-false (ofAccepted totalOf x) (largestMargin run) g in
+        let l = ltb-false (overAccepted totalNumber x) (largestMargin run) g in
         first (holds-if _ x e (omega arith))
 
 -- ---- the lowest place
@@ -138,14 +139,14 @@ module _ (run : List Answered) (a : Answered) where
   longer = run ++ (a ∷ [])
 
   abbrev pub takesOver : Bool
-  takesOver = isAccepted a && (eqb (acceptedCount run) 0 || ltb (largestMargin run) (ofAccepted totalOf a))
+  takesOver = isAccepted a && (eqb (acceptedCount run) 0 || ltb (largestMargin run) (overAccepted totalNumber a))
 
   pub record Largest (t : Bool) : Type 0 where
-    pub largest-is : largestMargin longer ≡ cond t (ofAccepted totalOf a) (largestMargin run)
+    pub largest-is : largestMargin longer ≡ cond t (overAccepted totalNumber a) (largestMargin run)
     pub place-is : largestPlace longer ≡ cond t (length run) (largestPlace run)
 
   -- it does
-  over : isAccepted a ≡ true → largestMargin longer ≡ ofAccepted totalOf a → any (holds (ofAccepted totalOf a)) run ≡ false → Largest true
+  over : isAccepted a ≡ true → largestMargin longer ≡ overAccepted totalNumber a → any (holds (overAccepted totalNumber a)) run ≡ false → Largest true
   over e l h =
       let one = ap oneIf e in
       let counted = count-next isAccepted run a in
@@ -154,7 +155,7 @@ module _ (run : List Answered) (a : Answered) where
         place-is =
             unless-some longer (lowestPlace (holds (largestMargin longer)) longer) (λ z. omega arith)
             ∙ ap (λ (m : ℕ). lowestPlace (holds m) longer) l
-            ∙ place-past (holds (ofAccepted totalOf a)) run a h (holds-if (ofAccepted totalOf a) a e refl);
+            ∙ place-past (holds (overAccepted totalNumber a)) run a h (holds-if (overAccepted totalNumber a) a e refl);
       }
 
   -- it does not
@@ -185,24 +186,24 @@ module _ (run : List Answered) (a : Answered) where
           }
 
   pub taken : Largest takesOver
-  taken = go (isAccepted a) refl (eqb (acceptedCount run) 0) refl (ltb (largestMargin run) (ofAccepted totalOf a)) refl
+  taken = go (isAccepted a) refl (eqb (acceptedCount run) 0) refl (ltb (largestMargin run) (overAccepted totalNumber a)) refl
     where
-      go : (t : Bool) → isAccepted a ≡ t → (u : Bool) → eqb (acceptedCount run) 0 ≡ u → (v : Bool) → ltb (largestMargin run) (ofAccepted totalOf a) ≡ v
+      go : (t : Bool) → isAccepted a ≡ t → (u : Bool) → eqb (acceptedCount run) 0 ≡ u → (v : Bool) → ltb (largestMargin run) (overAccepted totalNumber a) ≡ v
           → Largest (t && (u || v))
       go false e u f v g =
-          let none = none-of totalOf a e in
+          let none = none-of totalNumber a e in
           let l = largest-next run a in
           kept (omega arith) (λ z. e)
       go true e true f v g =
           let z = eqb-true (acceptedCount run) 0 f in
           let none = none-largest run z in
           let l = largest-next run a in
-          over e (omega arith) (none-holds (ofAccepted totalOf a) run z)
+          over e (omega arith) (none-holds (overAccepted totalNumber a) run z)
       go true e false f true g =
-          let h = ltb-true (largestMargin run) (ofAccepted totalOf a) g in
+          let h = ltb-true (largestMargin run) (overAccepted totalNumber a) g in
           let l = largest-next run a in
-          over e (omega arith) (above-holds (ofAccepted totalOf a) run h)
+          over e (omega arith) (above-holds (overAccepted totalNumber a) run h)
       go true e false f false g =
-          let h = ltb-false (largestMargin run) (ofAccepted totalOf a) g in
+          let h = ltb-false (largestMargin run) (overAccepted totalNumber a) g in
           let l = largest-next run a in
           kept (omega arith) (λ z. absurd (eqb-false (acceptedCount run) 0 f z))

@@ -19,9 +19,10 @@ use Rattle.account.specs.declared.answers.Answer.{Answer}
 use Rattle.account.specs.declared.answers.Answer.the-variants.{Accepted, TooFewNumbers, LengthsDiffer, TooManyAccounts}
 use Rattle.runs.proofs.RunLaws.{accounts-length}
 use Rattle.runs.specs.Runs.{accountsOf}
-use Rattle.committee.specs.Answered.{Answered, answered}
+use Rattle.committee.specs.Answered.{Answered, answeredAccount}
 use Rattle.committee.specs.Claims.{Exactly, Written, Lowest, Mean, Numbers, Claims}
-use Rattle.committee.specs.Committee.{totalOf, isAccepted, acceptedCount, refusedCount, refusalCount, refusalCounts, ofAccepted, summed, marginSummed}
+use Rattle.committee.specs.Committee.{totalNumber, isAccepted, acceptedCount, refusedCount, refusalCount, refusalCounts}
+use Rattle.committee.specs.Committee.{overAccepted, summed, marginSummed}
 use Rattle.committee.specs.Committee.{largestMargin, holds, lowestPlace, largestPlace, committee, mostAccounts, committeeNumbers, committeeAnswer}
 use Rattle.committee.specs.Committee.{answeredRun, afterCommittee}
 use Rattle.committee.specs.code.Sums.{mostTotal}
@@ -153,7 +154,7 @@ first-place p (x ∷ run) d h = go (p x) refl h (first-place p run d)
         earlier zero l = e
         earlier (suc i) l = rest f .before i (omega arith)
 
-most-of : (run : List Answered) (i : ℕ) (d : Answered) → i < length run → ofAccepted totalOf (getD run i d) ≤ largestMargin run
+most-of : (run : List Answered) (i : ℕ) (d : Answered) → i < length run → overAccepted totalNumber (getD run i d) ≤ largestMargin run
 most-of [] i d h = absurd (not-suc-le-zero h)
 most-of (x ∷ run) zero d h = omega arith
 most-of (x ∷ run) (suc i) d h = let rest = most-of run i d (le-of-suc-le-suc h) in omega arith
@@ -175,26 +176,26 @@ module _ (run : List Answered) (some : 0 < acceptedCount run) where
       let f = first-place (holds (largestMargin run)) run d (some-holds run not-none) in
       let e = place-is in
       let h =
-      both (isAccepted (getD run (largestPlace run) d)) (eqb (totalOf (getD run (largestPlace run) d .numbers)) (largestMargin run))
+      both (isAccepted (getD run (largestPlace run) d)) (eqb (totalNumber (getD run (largestPlace run) d .numbers)) (largestMargin run))
       (ap (λ (n : ℕ). holds (largestMargin run) (getD run n d)) e ∙ f .passes)
       in
       let w = f .within in
       record {
         within = omega arith;
         accepted = h .0;
-        holds = eqb-true (totalOf (getD run (largestPlace run) d .numbers)) (largestMargin run) (h .1);
-        most = λ i l a. let m = most-of run i d l in let o = all-of totalOf (getD run i d) a in omega arith;
+        holds = eqb-true (totalNumber (getD run (largestPlace run) d .numbers)) (largestMargin run) (h .1);
+        most = λ i l a. let m = most-of run i d l in let o = all-of totalNumber (getD run i d) a in omega arith;
         before = λ i l a. below i a (omega arith) (f .before i (omega arith));
       }
     where
       below : (i : ℕ) → isAccepted (getD run i d) ≡ true → i < length run → holds (largestMargin run) (getD run i d) ≡ false
-          → totalOf (getD run i d .numbers) < largestMargin run
+          → totalNumber (getD run i d .numbers) < largestMargin run
       below i a l n =
           let m = most-of run i d l in
-          let o = all-of totalOf (getD run i d) a in
+          let o = all-of totalNumber (getD run i d) a in
           let other =
-          eqb-false (totalOf (getD run i d .numbers)) (largestMargin run)
-          (sym (ap (λ (t : Bool). t && eqb (totalOf (getD run i d .numbers)) (largestMargin run)) a) ∙ n)
+          eqb-false (totalNumber (getD run i d .numbers)) (largestMargin run)
+          (sym (ap (λ (t : Bool). t && eqb (totalNumber (getD run i d .numbers)) (largestMargin run)) a) ∙ n)
           in
           omega (arith, other)
 
@@ -230,7 +231,7 @@ none-summed : (run : List Answered) → acceptedCount run ≡ 0 → marginSummed
 none-summed [] e = refl
 none-summed (a ∷ run) e =
     let rest = none-summed run (omega arith) in
-    let none : ofAccepted totalOf a ≡ 0 = none-of totalOf a (off (isAccepted a) (omega arith)) in
+    let none : overAccepted totalNumber a ≡ 0 = none-of totalNumber a (off (isAccepted a) (omega arith)) in
     omega arith
   where
     off : (t : Bool) → oneIf t ≡ 0 → t ≡ false
@@ -292,12 +293,12 @@ by-number (a ∷ run) h =
     let rest = by-number run (h .1) in
     omega arith
 
-all-numbered : (accounts : List (List ℕ)) → Numbered (map answered accounts)
+all-numbered : (accounts : List (List ℕ)) → Numbered (map answeredAccount accounts)
 all-numbered [] = tt
 all-numbered (account ∷ accounts) = (refusal-most account, all-numbered accounts)
 
 -- ---- a hundred margins
-sum-most : (accounts : List (List ℕ)) → marginSummed (map answered accounts) ≤ length accounts * mostTotal
+sum-most : (accounts : List (List ℕ)) → marginSummed (map answeredAccount accounts) ≤ length accounts * mostTotal
 sum-most [] = zero-le
 sum-most (account ∷ accounts) = let first = total-most account in let rest = sum-most accounts in omega arith
 

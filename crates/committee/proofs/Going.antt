@@ -19,16 +19,17 @@ use Rattle.account.specs.Answers.{numberOf}
 use Rattle.account.specs.declared.answers.Answer.{Answer}
 use Rattle.account.specs.declared.answers.Answer.the-variants.{Accepted, TooFewNumbers, LengthsDiffer, TooManyAccounts}
 use Rattle.runs.proofs.RunLaws.{accounts-next, sum-next}
-use Rattle.committee.specs.Answered.{Answered, answered}
-use Rattle.committee.specs.Committee.{isAccepted, refusalCount, refusalCounts, totalOf, hadCredit, aboveRisk, committee, mostAccounts, committeeNumbers}
+use Rattle.committee.specs.Answered.{Answered, answeredAccount}
+use Rattle.committee.specs.Committee.{isAccepted, refusalCount, refusalCounts, totalNumber, hadCredit, aboveRisk, committee}
+use Rattle.committee.specs.Committee.{mostAccounts, committeeNumbers}
 use Rattle.committee.specs.Committee.{committeeAnswer, answeredRun, afterCommittee}
-use Rattle.committee.specs.code.Sums.{mostTotal, AccountOf, SumsOf, Within, leads, Added, sumsNumbers}
+use Rattle.committee.specs.code.Sums.{mostTotal, AccountOf, SumsOf, Within, leads, AccountAdded, sumsNumbers}
 use Rattle.committee.specs.declared.figures.Account.{Account}
 use Rattle.committee.specs.declared.sums.Sums.{Sums}
 use Rattle.committee.proofs.Adding.{count-next, summed-next, takesOver, taken}
 
 -- ---- one account more
-module _ (run : List Answered) (a : Answered) (s t : Sums) (r : Account) (is : AccountOf a r) (added : Added s r (length run) t) where
+module _ (run : List Answered) (a : Answered) (s t : Sums) (r : Account) (is : AccountOf a r) (added : AccountAdded s r (length run) t) where
   -- the sums are those of the run with it
   pub sums-next : SumsOf run s → SumsOf (run ++ (a ∷ [])) t
   sums-next so-far =
@@ -51,7 +52,7 @@ module _ (run : List Answered) (a : Answered) (s t : Sums) (r : Account) (is : A
             added .refusals-are .each k h
             ∙ ap₂ _+_ (so-far .refusals-are k h) (ap (λ (n : ℕ). oneIf (eqb n (suc k))) (is .refusal-is))
             ∙ sym (count-next (λ x. eqb (x .refusal) (suc k)) run a);
-        margin-is = added .margin-is ∙ ap₂ _+_ (so-far .margin-is) (is .margin-is) ∙ sym (summed-next totalOf run a);
+        margin-is = added .margin-is ∙ ap₂ _+_ (so-far .margin-is) (is .margin-is) ∙ sym (summed-next totalNumber run a);
         largest-is = added .largest-is ∙ (λ i. cond (lead i) (is .margin-is i) (so-far .largest-is i)) ∙ sym (l .largest-is);
         place-is = added .place-is ∙ (λ i. cond (lead i) (length run) (so-far .place-is i)) ∙ sym (l .place-is);
         credits-are =
@@ -195,22 +196,22 @@ module _ (bytes lengths : List ℕ) where
     pub ends : at + getD lengths i 0 ≤ length bytes
     ends = let b = g .begins in let n = sum-next lengths i h in omega arith
 
-    pub go-on : (r : Account) (t : Sums) → AccountOf (answered account) r → Added s r i t → Going t (at + getD lengths i 0) (suc i)
+    pub go-on : (r : Account) (t : Sums) → AccountOf (answeredAccount account) r → AccountAdded s r i t → Going t (at + getD lengths i 0) (suc i)
     go-on r t is added =
         let done = g .done in
-        let placed = subst⁻¹ (λ (k : ℕ). Added s r k t) (g .as-many) added in
+        let placed = subst⁻¹ (λ (k : ℕ). AccountAdded s r k t) (g .as-many) added in
         let later = answeredRun (drop (at + getD lengths i 0) bytes) (drop (suc i) lengths) in
         let b = g .begins in
         let n = sum-next lengths i h in
         record {
-          done = done ++ (answered account ∷ []);
+          done = done ++ (answeredAccount account ∷ []);
           whole =
               g .whole
-              ∙ ap (λ (accounts : List (List ℕ)). done ++ map answered accounts) (accounts-next lengths bytes i at h)
-              ∙ sym (append-assoc done (answered account ∷ []) later);
-          as-many = let l = length-append done (answered account ∷ []) in let m = g .as-many in omega arith;
-          so-far = sums-next done (answered account) s t r is placed (g .so-far);
-          small = within-next done (answered account) s t r is placed i (g .as-many) (g .small);
+              ∙ ap (λ (accounts : List (List ℕ)). done ++ map answeredAccount accounts) (accounts-next lengths bytes i at h)
+              ∙ sym (append-assoc done (answeredAccount account ∷ []) later);
+          as-many = let l = length-append done (answeredAccount account ∷ []) in let m = g .as-many in omega arith;
+          so-far = sums-next done (answeredAccount account) s t r is placed (g .so-far);
+          small = within-next done (answeredAccount account) s t r is placed i (g .as-many) (g .small);
           begins = omega arith;
           within = h;
         }

@@ -14,7 +14,7 @@ use Rattle.exact.proofs.Lists.{length-keep}
 use Rattle.exact.proofs.Totals.{largest-held}
 use Rattle.exact.proofs.UnitLaws.{up-above}
 use Rattle.exact.proofs.Integers.{or-zero-abs}
-use Rattle.record.specs.Layout.{Record, contract, unit, ratePerSpread, spreadRate, outrightRate, mostRate}
+use Rattle.record.specs.Layout.{Record, contract, unit, ratePerSpread, spreadRate, outrightRate, mostRate, mostUnit, hundredThousand}
 use Rattle.record.specs.Within.{ContractWithin}
 use Rattle.account.specs.Accepted.{Each}
 use Rattle.account.specs.Lawful.{Lawful}
@@ -37,6 +37,7 @@ use Rattle.formulas.proofs.PositionBounds.{Rated, total-most, short-lots-most}
 use Rattle.formulas.proofs.PositionLaws.{totals-at}
 use Rattle.formulas.proofs.StepBounds.{sizes, whole-number-within, used-within, unused-within}
 use Rattle.committee.specs.code.Sums.{mostTotal}
+use Rattle.formulas.specs.Bounds.{mostRowDelta}
 
 -- ---- charges over places and over prompts
 
@@ -48,14 +49,14 @@ places-most most (suc n) f h =
     omega arith
 
 -- numbers or deltas of a size, at a rate; rounding to the unit adds at most half of the largest
-charge-most : (unit a b size rate rate′ : ℕ) → unit ≤ 1000 → a ≤ size → b ≤ size → rate ≤ mostRate → rate′ ≤ mostRate
+charge-most : (unit a b size rate rate′ : ℕ) → unit ≤ mostUnit → a ≤ size → b ≤ size → rate ≤ mostRate → rate′ ≤ mostRate
     → charged unit (a * rate + b * rate′) ≤ 2000 * size + 500
 charge-most unit a b size rate rate′ hu ha hb hr hr′ =
     let x : a * rate ≤ size * 10000000 = mul-le-mul ha hr in
     let y : b * rate′ ≤ size * 10000000 = mul-le-mul hb hr′ in
     omega (arith, up-above unit 10000 (a * rate + b * rate′))
 
-spread-most : (unit first second size rate : ℕ) → unit ≤ 1000 → first ≤ size → second ≤ size → rate ≤ mostRate
+spread-most : (unit first second size rate : ℕ) → unit ≤ mostUnit → first ≤ size → second ≤ size → rate ≤ mostRate
     → charged unit ((first + second) * rate) ≤ 2000 * size + 500
 spread-most unit first second size rate hu hf hs hr =
     let both : first + second ≤ 2 * size = omega arith in
@@ -63,7 +64,7 @@ spread-most unit first second size rate hu hf hs hr =
     omega (arith, up-above unit 10000 ((first + second) * rate))
 
 -- each prompt is charged for what of its net delta is used and for what is not
-prompts-most : (unit : ℕ) → unit ≤ 1000 → (ps : List Record) (used unused nets : List ℤ) → ((k : ℕ) → k < length ps → PromptFit (getD ps k []))
+prompts-most : (unit : ℕ) → unit ≤ mostUnit → (ps : List Record) (used unused nets : List ℤ) → ((k : ℕ) → k < length ps → PromptFit (getD ps k []))
     → ((k : ℕ) → natAbs (getD used k (pos 0)) ≤ natAbs (getD nets k (pos 0))) → ((k : ℕ) → natAbs (getD unused k (pos 0)) ≤ natAbs (getD nets k (pos 0)))
     → promptCharges unit ps used unused ≤ 2000 * sum (map natAbs nets) + 500 * length ps
 prompts-most unit o [] used unused nets fit hu hn = zero-le
@@ -107,7 +108,7 @@ module _ (rates : List Record) (own : Record) (prompts rows spreads : List Recor
       (subst (λ (z : ℤ). natAbs z ≤ length rows * 100000000000500) (held .holds) here)
 
   -- all deltas of its prompts together
-  sizes-most : sizes (opensOf k) ≤ length rows * 1000000000
+  sizes-most : sizes (opensOf k) ≤ length rows * mostRowDelta
   sizes-most =
       let e = ap sum (map-map natAbs (netDelta rows) prompts) in
       let s = sizes-sum prompts rows (w .one-day) (w .rows-within .each) in
@@ -125,38 +126,38 @@ module _ (rates : List Record) (own : Record) (prompts rows spreads : List Recor
       let s = sizes-most in
       omega arith
 
-  number-most : (j : ℕ) → getD (stepNumbers k) j 0 ≤ length rows * 1000000000
+  number-most : (j : ℕ) → getD (stepNumbers k) j 0 ≤ length rows * mostRowDelta
   number-most j = le-trans (whole-number-within (contractSteps k) (opensOf k) j (interprompt-whole spreads)) sizes-most
 
   -- each of at most 32 spreads, over at most 128 rows
   pub interprompt-most : interpromptOf k ≤ length rows * 32000000000000 + length spreads * 128000000000500
   interprompt-most =
-      let each : (j : ℕ) → j < length spreads → spreadAt k j ≤ 2000 * (length rows * 1000000000) + 500 =
+      let each : (j : ℕ) → j < length spreads → spreadAt k j ≤ 2000 * (length rows * mostRowDelta) + 500 =
       λ j l.
-      spread-most (unit own) (getD (stepNumbers k) (2 * j) 0) (getD (stepNumbers k) (2 * j + 1) 0) (length rows * 1000000000) (ratePerSpread
+      spread-most (unit own) (getD (stepNumbers k) (2 * j) 0) (getD (stepNumbers k) (2 * j + 1) 0) (length rows * mostRowDelta) (ratePerSpread
       (getD spreads j []))
       (w .unit-within .most) (number-most (2 * j)) (number-most (2 * j + 1)) (w .each-spread j l .rate)
       in
-      let all = places-most (2000 * (length rows * 1000000000) + 500) (length spreads) (spreadAt k) each in
+      let all = places-most (2000 * (length rows * mostRowDelta) + 500) (length spreads) (spreadAt k) each in
       let e = over .interprompt in
-      let apart : length spreads * (2000 * (length rows * 1000000000) + 500) ≡ length spreads * length rows * 2000000000000 + length spreads * 500 =
+      let apart : length spreads * (2000 * (length rows * mostRowDelta) + 500) ≡ length spreads * length rows * 2000000000000 + length spreads * 500 =
       product (length spreads) (length rows)
       in
       let by-rows : length spreads * length rows ≤ mostSpreads * length rows = mul-le-mul-right (length rows) (w .few-spreads) in
       let by-spreads : length spreads * length rows ≤ length spreads * mostRows = mul-le-mul-left (length spreads) (w .rows-within .few) in
       omega arith
     where
-      product : (s r : ℕ) → s * (2000 * (r * 1000000000) + 500) ≡ s * r * 2000000000000 + s * 500
+      product : (s r : ℕ) → s * (2000 * (r * mostRowDelta) + 500) ≡ s * r * 2000000000000 + s * 500
       product s r =
-          let e : 2000 * (r * 1000000000) ≡ r * 2000000000000 = omega arith in
-          mul-add s (2000 * (r * 1000000000)) 500
+          let e : 2000 * (r * mostRowDelta) ≡ r * 2000000000000 = omega arith in
+          mul-add s (2000 * (r * mostRowDelta)) 500
           ∙ ap (λ (n : ℕ). s * n + s * 500) e
           ∙ ap (λ (n : ℕ). n + s * 500) (sym (mul-assoc s r 2000000000000))
 
   minimum-most : minimumOf k ≤ length rows * 1000000000000
   minimum-most =
       let l = short-lots-most rows (w .rows-within .each) in
-      let x : minimumOf k ≤ length rows * 100000 * 10000000 = mul-le-mul l (w .rate) in
+      let x : minimumOf k ≤ length rows * hundredThousand * 10000000 = mul-le-mul l (w .rate) in
       omega arith
 
   pub margin-most : (entries : List Record) (table : List Open) → marginOf entries table k ≤ (length prompts + length rows + length spreads) * 134000000001000

@@ -38,9 +38,9 @@ use Rattle.margin.proofs.AcceptLaws.{contract-within, own-within, its-rated}
 use Rattle.margin.proofs.QuestionLaws.{figures-length}
 use Rattle.margin.proofs.Skipped.{file-skips-none}
 use Rattle.runs.proofs.RunLaws.{verdict}
-use Rattle.committee.specs.Answered.{Answered, answered}
-use Rattle.committee.specs.Committee.{numberAt, contractCount, scanningAt, interpromptAt, promptAt, marginAt, totalOf, overContracts, hasCredit}
-use Rattle.committee.specs.Committee.{hadCredit, isAbove, aboveRisk, isAccepted, ofAccepted}
+use Rattle.committee.specs.Answered.{Answered, answeredAccount}
+use Rattle.committee.specs.Committee.{numberAt, contractsIn, scanningAt, interpromptAt, promptAt, marginAt, totalNumber, overContracts, hasCredit}
+use Rattle.committee.specs.Committee.{hadCredit, isAbove, aboveRisk, isAccepted, overAccepted}
 use Rattle.committee.specs.code.Sums.{mostTotal, Fit, FoundIn, AccountOf}
 use Rattle.committee.specs.declared.contracts.Found.{Found}
 use Rattle.committee.specs.declared.figures.Account.{Account}
@@ -52,9 +52,9 @@ use Rattle.committee.proofs.OverContracts.{over-at, same-over, over-pad
 pub record Listed (n : ℕ) (numbers : List ℤ) : Type 0 where
   pub few : n ≤ mostContracts
   pub long : length numbers ≡ figuresEach * n + 1
-  pub total : overContracts n (marginAt numbers) ≡ totalOf numbers
+  pub total : overContracts n (marginAt numbers) ≡ totalNumber numbers
   pub risks : (i : ℕ) → i < n → scanningAt numbers i + interpromptAt numbers i + promptAt numbers i < 2 ^ 64
-  pub most : totalOf numbers ≤ mostTotal
+  pub most : totalNumber numbers ≤ mostTotal
 
 -- ---- all zeros
 abbrev pub zeros : List ℤ
@@ -96,7 +96,7 @@ module _ (n : ℕ) (numbers : List ℤ) (is : Listed n numbers) where
   abbrev lent : List ℤ
   lent = numbers ++ drop (length numbers) zeros
 
-  count-is : contractCount numbers ≡ n
+  count-is : contractsIn numbers ≡ n
   count-is = let l = is .long in omega arith
 
   front : (k : ℕ) → k ≤ figuresEach * n → numberAt lent k ≡ numberAt numbers k
@@ -144,12 +144,12 @@ module _ (n : ℕ) (numbers : List ℤ) (is : Listed n numbers) where
       margin-fits i (no h) = let r = margin-none lent n past i (omega (arith, h)) in omega arith
 
   -- what all places add is what the contracts add
-  margins-are : overContracts mostContracts (marginAt lent) ≡ totalOf numbers
+  margins-are : overContracts mostContracts (marginAt lent) ≡ totalNumber numbers
   margins-are =
       over-padded (marginAt numbers) (marginAt lent) n mostContracts (is .few) (λ i h. front (figuresEach * i + 7) (omega arith)) (margin-none lent n past)
       ∙ is .total
 
-  credits-are : overContracts mostContracts (λ i. oneIf (hasCredit lent i)) ≡ overContracts (contractCount numbers) (λ i. oneIf (hasCredit numbers i))
+  credits-are : overContracts mostContracts (λ i. oneIf (hasCredit lent i)) ≡ overContracts (contractsIn numbers) (λ i. oneIf (hasCredit numbers i))
   credits-are =
       over-padded (λ i. oneIf (hasCredit numbers i)) (λ i. oneIf (hasCredit lent i)) n mostContracts (is .few)
       (λ i h. ap (λ (x : ℕ). oneIf (ltb 0 x)) (front (figuresEach * i + 5) (omega arith))) (credit-none lent n past)
@@ -254,8 +254,8 @@ module _ (account : List ℕ) (ok : checked account ≡ Accepted) where
   listed =
       let law = lawful account ok in
       let long = figures-length rs in
-      let counted : contractCount (figures rs) ≡ n = omega arith in
-      let total : totalOf (figures rs) ≡ totalMargin es table ks = ap (λ (m : ℕ). numberAt (figures rs) (figuresEach * m)) counted ∙ total-is in
+      let counted : contractsIn (figures rs) ≡ n = omega arith in
+      let total : totalNumber (figures rs) ≡ totalMargin es table ks = ap (λ (m : ℕ). numberAt (figures rs) (figuresEach * m)) counted ∙ total-is in
       record {
         few = law .limits .contracts;
         long = long;
@@ -280,11 +280,11 @@ module _ (account : List ℕ) where
   abbrev refused : Bool → List ℤ
   refused t = cond t (numbers ++ drop (length numbers) zeros) zeros
 
-  was-accepted : isAccepted (answered account) ≡ true → checked account ≡ Accepted
+  was-accepted : isAccepted (answeredAccount account) ≡ true → checked account ≡ Accepted
   was-accepted e =
       accepted-only (checked account) (ap numberOf (sym (verdict account)) ∙ eqb-true (numberOf (figuresAnswer account longestFigures)) 0 e)
 
-  left-by : (t : Bool) → isAccepted (answered account) ≡ t → afterFigures account zeros ≡ refused t
+  left-by : (t : Bool) → isAccepted (answeredAccount account) ≡ t → afterFigures account zeros ≡ refused t
   left-by t e = ap refused e
 
   zeros-fit : Fit zeros
@@ -295,9 +295,9 @@ module _ (account : List ℕ) where
   }
 
   pub fit : Fit (afterFigures account zeros)
-  fit = go (isAccepted (answered account)) refl
+  fit = go (isAccepted (answeredAccount account)) refl
     where
-      go : (t : Bool) → isAccepted (answered account) ≡ t → Fit (afterFigures account zeros)
+      go : (t : Bool) → isAccepted (answeredAccount account) ≡ t → Fit (afterFigures account zeros)
       go true e =
           let ok = was-accepted e in
           subst⁻¹ Fit (left-by true e) (listed-fit (length (contractsOf (records account))) numbers (listed account ok))
@@ -308,13 +308,13 @@ module _ (account : List ℕ) where
       (er : refusal ≡ numberOf (figuresAnswer account longestFigures))
       (ec : credit ≡ oneIf (ltb 0 (f .credits))) where
     abbrev a : Answered
-    a = answered account
+    a = answeredAccount account
 
     abbrev r : Account
     r = record { refusal = refusal; margin = f .margin; credit = credit; above = f .above }
 
-    made : f .margin .0 ≤ mostTotal → f .margin .0 ≡ ofAccepted totalOf a → oneIf (ltb 0 (f .credits)) ≡ ofAccepted (λ xs. oneIf (hadCredit xs)) a
-        → f .above ≡ ofAccepted aboveRisk a → AccountOf a r
+    made : f .margin .0 ≤ mostTotal → f .margin .0 ≡ overAccepted totalNumber a → oneIf (ltb 0 (f .credits)) ≡ overAccepted (λ xs. oneIf (hadCredit xs)) a
+        → f .above ≡ overAccepted aboveRisk a → AccountOf a r
     made most em ek ea = record {
       refusal-is = er;
       margin-is = em;
@@ -333,33 +333,33 @@ module _ (account : List ℕ) where
             let m = length (contractsOf (records account)) in
             let l = listed account (was-accepted e) in
             let at = subst (λ (xs : List ℤ). FoundIn xs mostContracts f) (left-by true e) found in
-            let margin : f .margin .0 ≡ totalOf numbers = at .margin-is ∙ margins-are m numbers l in
+            let margin : f .margin .0 ≡ totalNumber numbers = at .margin-is ∙ margins-are m numbers l in
             let most = l .most in
-            made (omega arith) (margin ∙ sym (all-of totalOf a e))
+            made (omega arith) (margin ∙ sym (all-of totalNumber a e))
             (ap (λ (x : ℕ). oneIf (ltb 0 x)) (at .credits-are ∙ credits-are m numbers l) ∙ sym (all-of (λ xs. oneIf (hadCredit xs)) a e))
             (at .above-is ∙ above-are m numbers l ∙ sym (all-of aboveRisk a e))
         go false e =
             let at = subst (λ (xs : List ℤ). FoundIn xs mostContracts f) (left-by false e) found in
             let none : (k : ℕ) → figuresEach * 0 < k → numberAt zeros k ≡ 0 = λ k l. ap orZero (zero-at k) in
             let margin : f .margin .0 ≡ 0 = at .margin-is ∙ over-none (marginAt zeros) mostContracts (λ i. margin-none zeros 0 none i zero-le) in
-            made (omega arith) (margin ∙ sym (none-of totalOf a e))
+            made (omega arith) (margin ∙ sym (none-of totalNumber a e))
             (ap (λ (x : ℕ). oneIf (ltb 0 x)) (at .credits-are
             ∙ over-none (λ i. oneIf (hasCredit zeros i)) mostContracts (λ i. credit-none zeros 0 none i zero-le))
             ∙ sym (none-of (λ xs. oneIf (hadCredit xs)) a e))
             (at .above-is ∙ over-none (λ i. oneIf (isAbove zeros i)) mostContracts (λ i. above-none zeros 0 none i zero-le) ∙ sym (none-of aboveRisk a e))
 
   -- its margin, and the number of its refusal
-  pub total-most : ofAccepted totalOf (answered account) ≤ mostTotal
-  total-most = go (isAccepted (answered account)) refl
+  pub total-most : overAccepted totalNumber (answeredAccount account) ≤ mostTotal
+  total-most = go (isAccepted (answeredAccount account)) refl
     where
-      go : (t : Bool) → isAccepted (answered account) ≡ t → ofAccepted totalOf (answered account) ≤ mostTotal
+      go : (t : Bool) → isAccepted (answeredAccount account) ≡ t → overAccepted totalNumber (answeredAccount account) ≤ mostTotal
       go true e =
           let m = listed account (was-accepted e) .most in
-          let o = all-of totalOf (answered account) e in
+          let o = all-of totalNumber (answeredAccount account) e in
           omega arith
-      go false e = let o = none-of totalOf (answered account) e in omega arith
+      go false e = let o = none-of totalNumber (answeredAccount account) e in omega arith
 
-  pub refusal-most : answered account .refusal ≤ 15
+  pub refusal-most : answeredAccount account .refusal ≤ 15
   refusal-most =
       let e = ap numberOf (verdict account) in
       ⊎-elim (λ m. omega (arith, e, m)) (λ m. omega (arith, e, m .1)) (claimed account .exactly .numbers)

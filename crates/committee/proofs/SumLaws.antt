@@ -12,11 +12,11 @@ use lib.ListN.{length, length-set, length-append, getD, set, List·getD-append}
 use lib.Seq.{getD-set-same, getD-set-other, getD-append-add}
 use Rattle.exact.specs.Lists.{oneIf}
 use Rattle.committee.specs.Committee.{mostAccounts}
-use Rattle.committee.specs.code.Sums.{mostTotal, Counted, Within, laterNumbers, sumsNumbers}
+use Rattle.committee.specs.code.Sums.{mostTotal, RefusalCounted, Within, laterNumbers, sumsNumbers}
 use Rattle.committee.specs.declared.sums.Sums.{Sums}
 
 -- ---- the counts of the refusals
-pub uncounted : (counts : List ℕ) (refusal : ℕ) → length counts ≡ 15 → ((k : ℕ) → k < 15 → refusal ≡ suc k → ⊥) → Counted counts refusal counts
+pub uncounted : (counts : List ℕ) (refusal : ℕ) → length counts ≡ 15 → ((k : ℕ) → k < 15 → refusal ≡ suc k → ⊥) → RefusalCounted counts refusal counts
 uncounted counts refusal n h =
     record { as-many = n; each = λ k l. let e = ap oneIf (ne-eqb refusal (suc k) (h k l)) in omega arith }
 
@@ -35,7 +35,7 @@ module _ (counts : List ℕ) (refusal : ℕ) (n : length counts ≡ 15) (some : 
       let same = getD-set-other counts (refusal - 1) k (getD counts (refusal - 1) 0 + 1) 0 (λ z. other (omega arith)) in
       omega arith
 
-  pub counted : Counted counts refusal more
+  pub counted : RefusalCounted counts refusal more
   counted = record {
     as-many = length-set counts (refusal - 1) (getD counts (refusal - 1) 0 + 1) ∙ n;
     each = λ k l. one-more k l (eqb refusal (suc k)) refl;

@@ -15,5 +15,5 @@ pub record Answered : Type 0 where
   pub refusal : ℕ
   pub numbers : List ℤ
 
-abbrev pub answered : List ℕ → Answered
-answered account = record { refusal = numberOf (figuresAnswer account longestFigures); numbers = figures (records account) }
+abbrev pub answeredAccount : List ℕ → Answered
+answeredAccount account = record { refusal = numberOf (figuresAnswer account longestFigures); numbers = figures (records account) }

@@ -8,9 +8,10 @@ use lib.IntN.{ℤ, pos}
 use lib.ListN.{length, getD, take, drop}
 use Rattle.exact.specs.Lists.{keep, sum}
 use Rattle.account.specs.Answers.{numberOf, recordOf}
-use Rattle.account.specs.Claims.{Iff}
+use Rattle.exact.specs.Iff.{Iff}
 use Rattle.committee.specs.Answered.{Answered}
-use Rattle.committee.specs.Committee.{totalOf, isAccepted, acceptedCount, refusedCount, refusalCounts, summed, marginSummed, largestMargin, largestPlace}
+use Rattle.committee.specs.Committee.{totalNumber, isAccepted, acceptedCount, refusedCount, refusalCounts, summed, marginSummed}
+use Rattle.committee.specs.Committee.{largestMargin, largestPlace}
 use Rattle.committee.specs.Committee.{meanMargin, meanRemainder, committee, mostAccounts, committeeNumbers, committeeAnswer, answeredRun, afterCommittee}
 
 -- ---- "Refusals: as 2026-08, 10 being for this answer; 19, more than 100 accounts, first."
@@ -34,9 +35,9 @@ pub record Written (bytes lengths : List ℕ) (lent : List ℤ) : Type 0 where
 pub record Lowest (run : List Answered) (none : Answered) : Type 0 where
   pub within : largestPlace run < length run
   pub accepted : isAccepted (getD run (largestPlace run) none) ≡ true
-  pub holds : totalOf (getD run (largestPlace run) none .numbers) ≡ largestMargin run
-  pub most : (i : ℕ) → i < length run → isAccepted (getD run i none) ≡ true → totalOf (getD run i none .numbers) ≤ largestMargin run
-  pub before : (i : ℕ) → i < largestPlace run → isAccepted (getD run i none) ≡ true → totalOf (getD run i none .numbers) < largestMargin run
+  pub holds : totalNumber (getD run (largestPlace run) none .numbers) ≡ largestMargin run
+  pub most : (i : ℕ) → i < length run → isAccepted (getD run i none) ≡ true → totalNumber (getD run i none .numbers) ≤ largestMargin run
+  pub before : (i : ℕ) → i < largestPlace run → isAccepted (getD run i none) ≡ true → totalNumber (getD run i none .numbers) < largestMargin run
 
 -- "the mean margin as whole hundredths and a remainder"
 pub record Mean (run : List Answered) : Type 0 where

@@ -15,7 +15,7 @@ use Rattle.account.specs.declared.answers.Answer.the-variants.{Accepted, TooFew
 use Rattle.formulas.specs.Margin.{risk}
 use Rattle.formulas.specs.Bounds.{figuresEach}
 use Rattle.runs.specs.Runs.{accountsOf}
-use Rattle.committee.specs.Answered.{Answered, answered}
+use Rattle.committee.specs.Answered.{Answered, answeredAccount}
 
 -- ---- the figures of one account
 
@@ -24,8 +24,8 @@ abbrev pub numberAt : List ℤ → ℕ → ℕ
 numberAt numbers k = orZero (getD numbers k (pos 0))
 
 -- "for each contract in file order eight numbers .., then the total"
-abbrev pub contractCount : List ℤ → ℕ
-contractCount numbers = length numbers / figuresEach
+abbrev pub contractsIn : List ℤ → ℕ
+contractsIn numbers = length numbers / figuresEach
 
 abbrev pub scanningAt : List ℤ → ℕ → ℕ
 scanningAt numbers i = numberAt numbers (figuresEach * i + 2)
@@ -45,8 +45,8 @@ minimumAt numbers i = numberAt numbers (figuresEach * i + 6)
 abbrev pub marginAt : List ℤ → ℕ → ℕ
 marginAt numbers i = numberAt numbers (figuresEach * i + 7)
 
-abbrev pub totalOf : List ℤ → ℕ
-totalOf numbers = numberAt numbers (figuresEach * contractCount numbers)
+abbrev pub totalNumber : List ℤ → ℕ
+totalNumber numbers = numberAt numbers (figuresEach * contractsIn numbers)
 
 -- the first n contracts together
 abbrev pub overContracts : ℕ → (ℕ → ℕ) → ℕ
@@ -58,7 +58,7 @@ abbrev pub hasCredit : List ℤ → ℕ → Bool
 hasCredit numbers i = ltb 0 (creditAt numbers i)
 
 abbrev pub hadCredit : List ℤ → Bool
-hadCredit numbers = ltb 0 (overContracts (contractCount numbers) (λ i. oneIf (hasCredit numbers i)))
+hadCredit numbers = ltb 0 (overContracts (contractsIn numbers) (λ i. oneIf (hasCredit numbers i)))
 
 -- "how many contracts had a short option minimum above the risk it is compared with"; 01: "the larger of that minimum and (scanning +
 -- interprompt + prompt - credits, not below 0)"
@@ -67,7 +67,7 @@ isAbove numbers i =
     ltb (risk (scanningAt numbers i) (interpromptAt numbers i) (promptAt numbers i) (creditAt numbers i)) (minimumAt numbers i)
 
 abbrev pub aboveRisk : List ℤ → ℕ
-aboveRisk numbers = overContracts (contractCount numbers) (λ i. oneIf (isAbove numbers i))
+aboveRisk numbers = overContracts (contractsIn numbers) (λ i. oneIf (isAbove numbers i))
 
 -- ---- the accounts of a run
 
@@ -89,24 +89,24 @@ abbrev pub refusalCounts : List Answered → List ℕ
 refusalCounts run = map (refusalCount run) (countFrom 1 15)
 
 -- "Refused accounts enter no sum"
-abbrev pub ofAccepted : (List ℤ → ℕ) → Answered → ℕ
-ofAccepted f a = cond (isAccepted a) (f (a .numbers)) 0
+abbrev pub overAccepted : (List ℤ → ℕ) → Answered → ℕ
+overAccepted f a = cond (isAccepted a) (f (a .numbers)) 0
 
 abbrev pub summed : (List ℤ → ℕ) → List Answered → ℕ
-summed f run = sum (map (ofAccepted f) run)
+summed f run = sum (map (overAccepted f) run)
 
 -- "margin summed"
 abbrev pub marginSummed : List Answered → ℕ
-marginSummed = summed totalOf
+marginSummed = summed totalNumber
 
 -- "the largest margin"
 abbrev pub largestMargin : List Answered → ℕ
 largestMargin [] = 0
-largestMargin (a ∷ run) = max (ofAccepted totalOf a) (largestMargin run)
+largestMargin (a ∷ run) = max (overAccepted totalNumber a) (largestMargin run)
 
 -- ".. with the lowest place (from 0) holding it": a refused account holds none, and is a place like another
 abbrev pub holds : ℕ → Answered → Bool
-holds margin a = isAccepted a && eqb (totalOf (a .numbers)) margin
+holds margin a = isAccepted a && eqb (totalNumber (a .numbers)) margin
 
 abbrev pub lowestPlace : (Answered → Bool) → List Answered → ℕ
 lowestPlace p [] = 0
@@ -167,7 +167,7 @@ committeeAnswer bytes lengths lent =
     (cond (ltb lent committeeNumbers) (TooFewNumbers 0) Accepted))
 
 abbrev pub answeredRun : List ℕ → List ℕ → List Answered
-answeredRun bytes lengths = map answered (accountsOf lengths bytes)
+answeredRun bytes lengths = map answeredAccount (accountsOf lengths bytes)
 
 -- the numbers at the front of those lent, and nothing after them; a run that is refused writes nothing
 abbrev pub afterCommittee : List ℕ → List ℕ → List ℤ → List ℤ

@@ -6,7 +6,7 @@ use formulas::amount::Amount;
 use margin::asking::Question;
 use margin::numbers::LONGEST_FIGURES;
 use questions::plain::answer;
-ghost use Rattle.committee.specs.Answered.{answered};
+ghost use Rattle.committee.specs.Answered.{answeredAccount};
 ghost use Rattle.committee.specs.code.Sums.{AccountOf};
 
 // What an account adds: the number of its refusal, 0 where it is accepted; its margin; whether it has credit; and how many of its
@@ -19,7 +19,7 @@ pub struct Account {
 }
 
 pub(crate) fn answer_account(account: &[u8]) -> Account
-    ensures { λ r. ⌜ AccountOf (answered (now (account .entry))) r ⌝ }
+    ensures { λ r. ⌜ AccountOf (answeredAccount (now (account .entry))) r ⌝ }
 {
     let mut numbers = [0i64; LONGEST_FIGURES];
     let told = answer(account, Question::Figures, &mut numbers);

@@ -12,7 +12,7 @@ ghost use lib.IntN.{pos};
 ghost use lib.ListN.{length, getD, drop};
 ghost use Rattle.account.specs.Check.{mostContracts};
 ghost use Rattle.committee.specs.Committee.{committeeNumbers, mostAccounts};
-ghost use Rattle.committee.specs.code.Sums.{Counted, Added, SumsOf, Within, laterNumbers, sumsNumbers};
+ghost use Rattle.committee.specs.code.Sums.{RefusalCounted, AccountAdded, SumsOf, Within, laterNumbers, sumsNumbers};
 
 // The numbers of the refusals that an account can have.
 const REFUSALS: usize = 15;
@@ -50,7 +50,7 @@ pub(crate) fn none() -> Sums
 // The counts of the refusals, with one more.
 fn with_refusal(refusals: [usize; REFUSALS], refusal: usize) -> [usize; REFUSALS]
     requires { ⌜ getD refusals (refusal - 1) 0 ≤ mostAccounts ⌝ }
-    ensures { λ r. ⌜ Counted refusals refusal r ⌝ }
+    ensures { λ r. ⌜ RefusalCounted refusals refusal r ⌝ }
 {
     let mut counts = refusals;
     if refusal == 0 {
@@ -72,7 +72,7 @@ fn either(b: bool, x: u64, y: u64) -> u64
 // The sums with an account more, which stands at a place of the run.
 pub(crate) fn with_account(sums: Sums, account: Account, place: usize) -> Sums
     requires { ⌜ Within mostAccounts sums × (account .margin .0 < 2 ^ 62) × (account .credit ≤ 1) × (account .above ≤ mostContracts) ⌝ }
-    ensures { λ r. ⌜ Added sums account place r ⌝ }
+    ensures { λ r. ⌜ AccountAdded sums account place r ⌝ }
 {
     let refusal = account.refusal;
     let counts = sums.refusals;

@@ -92,13 +92,6 @@ sub-naturals n m h =
     let e : n ≡ n - m + m = omega arith in
     ap (λ (k : ℕ). pos k -ℤ pos m) e ∙ +ℤ-negℤ-cancel (pos (n - m)) (pos m)
 
-pub mul-neg : (a b : ℤ) → negℤ a *ℤ b ≡ negℤ (a *ℤ b)
-mul-neg (pos zero) b = zero-*ℤ b ∙ sym (ap negℤ (zero-*ℤ b))
-mul-neg (pos (suc n)) (pos m) = refl
-mul-neg (pos (suc n)) (negsuc m) = sym (negℤ-negℤ (pos (suc n * suc m)))
-mul-neg (negsuc n) (pos m) = sym (negℤ-negℤ (pos (suc n * m)))
-mul-neg (negsuc n) (negsuc m) = refl
-
 pub sums-cross : (a b c d : ℤ) → a +ℤ b +ℤ (c +ℤ d) ≡ a +ℤ c +ℤ (b +ℤ d)
 sums-cross a b c d =
     +ℤ-assoc a b (c +ℤ d)

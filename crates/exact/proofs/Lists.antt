@@ -57,11 +57,6 @@ module _ {ℓ ℓ′} {A : Type ℓ} {B : Type ℓ′} (f : A → B) where
   map-take (suc n) [] = refl
   map-take (suc n) (x ∷ xs) = ap (λ (zs : List B). f x ∷ zs) (map-take n xs)
 
-  pub map-drop : (n : ℕ) (xs : List A) → map f (drop n xs) ≡ drop n (map f xs)
-  map-drop zero xs = refl
-  map-drop (suc n) [] = refl
-  map-drop (suc n) (x ∷ xs) = map-drop n xs
-
   -- within the list, whatever the two values past the end
   pub getD-map : (xs : List A) (k : ℕ) (d : A) (e : B) → k < length xs → getD (map f xs) k e ≡ f (getD xs k d)
   getD-map [] k d e h = absurd (not-suc-le-zero h)
@@ -78,10 +73,6 @@ module _ {ℓ} {A : Type ℓ} where
   sum-map-add f g [] = refl
   sum-map-add f g (x ∷ xs) = omega (arith, sum-map-add f g xs)
 
-  pub sum-map-mul : (n : ℕ) (f : A → ℕ) (xs : List A) → sum (map (λ x. n * f x) xs) ≡ n * sum (map f xs)
-  sum-map-mul n f [] = sym (mul-zero n)
-  sum-map-mul n f (x ∷ xs) = omega (arith, sum-map-mul n f xs)
-
   pub sum-map-le : (f g : A → ℕ) → ((x : A) → f x ≤ g x) → (xs : List A) → sum (map f xs) ≤ sum (map g xs)
   sum-map-le f g h [] = zero-le
   sum-map-le f g h (x ∷ xs) = omega (arith, h x, sum-map-le f g h xs)
@@ -89,10 +80,6 @@ module _ {ℓ} {A : Type ℓ} where
   pub sumℤ-map-add : (f g : A → ℤ) (xs : List A) → sumℤ (map (λ x. f x +ℤ g x) xs) ≡ sumℤ (map f xs) +ℤ sumℤ (map g xs)
   sumℤ-map-add f g [] = refl
   sumℤ-map-add f g (x ∷ xs) = ap (λ (z : ℤ). f x +ℤ g x +ℤ z) (sumℤ-map-add f g xs) ∙ sums-cross (f x) (g x) (sumℤ (map f xs)) (sumℤ (map g xs))
-
-  pub sumℤ-map-mul : (z : ℤ) (f : A → ℤ) (xs : List A) → sumℤ (map (λ x. z *ℤ f x) xs) ≡ z *ℤ sumℤ (map f xs)
-  sumℤ-map-mul z f [] = sym (*ℤ-zero z)
-  sumℤ-map-mul z f (x ∷ xs) = ap (λ (y : ℤ). z *ℤ f x +ℤ y) (sumℤ-map-mul z f xs) ∙ sym (times-add z (f x) (sumℤ (map f xs)))
 
 -- ---- bounds
 

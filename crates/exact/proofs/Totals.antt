@@ -19,12 +19,6 @@ pub same-refl : (z : ℤ) → same z z ≡ true
 same-refl (pos a) = eq-eqb a a refl
 same-refl (negsuc a) = eq-eqb a a refl
 
-pub same-true : (a b : ℤ) → same a b ≡ true → a ≡ b
-same-true (pos a) (pos b) h = ap pos (eqb-true a b h)
-same-true (pos a) (negsuc b) h = absurd (false≢true h)
-same-true (negsuc a) (pos b) h = absurd (false≢true h)
-same-true (negsuc a) (negsuc b) h = ap negsuc (eqb-true a b h)
-
 pub below-same : (a b : ℤ) → ltZ a b ≡ true → same a b ≡ false
 below-same (pos a) (pos b) h = ne-eqb a b (λ e. omega (arith, ltb-true a b h))
 below-same (pos a) (negsuc b) h = refl
@@ -50,42 +44,6 @@ largest-held (x ∷ y ∷ ys) h = go (ltZ x (largest (y ∷ ys))) (largest-held 
     go : (t : Bool) → Held (y ∷ ys) (pos 0) (largest (y ∷ ys)) → Held (x ∷ y ∷ ys) (pos 0) (cond t (largest (y ∷ ys)) x)
     go true r = record { place = suc (r .place); within = omega (arith, r .within); holds = r .holds }
     go false r = record { place = 0; within = omega arith; holds = refl }
-
--- the first number: it holds z, none before it does, and it is within the list where any place holds z
-pub first-above : (z : ℤ) (xs : List ℤ) → 0 < firstAt z xs
-first-above z [] = omega arith
-first-above z (x ∷ xs) = go (same x z)
-  where
-    go : (t : Bool) → 0 < cond t 1 (suc (firstAt z xs))
-    go true = omega arith
-    go false = omega arith
-
-pub first-holds : (z : ℤ) (xs : List ℤ) (k : ℕ) → firstAt z xs ≡ suc k → k < length xs → getD xs k (pos 0) ≡ z
-first-holds z [] k e h = absurd (not-suc-le-zero h)
-first-holds z (x ∷ xs) zero e h = go (same x z) refl e
-  where
-    go : (t : Bool) → same x z ≡ t → cond t 1 (suc (firstAt z xs)) ≡ 1 → x ≡ z
-    go true q e = same-true x z q
-    go false q e = absurd (omega (arith, first-above z xs))
-first-holds z (x ∷ xs) (suc k) e h = go (same x z) e (λ q. first-holds z xs k q (le-of-suc-le-suc h))
-  where
-    go : (t : Bool) → cond t 1 (suc (firstAt z xs)) ≡ suc (suc k) → (firstAt z xs ≡ suc k → getD xs k (pos 0) ≡ z) → getD xs k (pos 0) ≡ z
-    go true e rest = absurd (omega arith)
-    go false e rest = rest (omega arith)
-
-pub first-none-before : (z : ℤ) (xs : List ℤ) (k : ℕ) → suc k < firstAt z xs → same (getD xs k (pos 0)) z ≡ false
-first-none-before z [] k h = absurd (omega arith)
-first-none-before z (x ∷ xs) zero h = go (same x z) h
-  where
-    go : (t : Bool) → 1 < cond t 1 (suc (firstAt z xs)) → t ≡ false
-    go true h = absurd (omega arith)
-    go false h = refl
-first-none-before z (x ∷ xs) (suc k) h = go (same x z) h (first-none-before z xs k)
-  where
-    go : (t : Bool) → suc (suc k) < cond t 1 (suc (firstAt z xs)) → (suc k < firstAt z xs → same (getD xs k (pos 0)) z ≡ false)
-        → same (getD xs k (pos 0)) z ≡ false
-    go true h rest = absurd (omega arith)
-    go false h rest = rest (omega arith)
 
 pub first-at-most : (z : ℤ) (xs : List ℤ) (k : ℕ) → k < length xs → getD xs k (pos 0) ≡ z → firstAt z xs ≤ suc k
 first-at-most z [] k h e = absurd (not-suc-le-zero h)

@@ -1,4 +1,5 @@
 pub mod Fractions
+pub mod Iff
 pub mod Largest
 pub mod Lists
 pub mod Rounding

@@ -8,11 +8,12 @@ use native.Mathlib.Nat.{not-suc-le-zero, le-trans}
 use native.Mathlib.Omega.{arith}
 use lib.Dec.{ltb}
 use lib.IntN.{ℤ, pos, natAbs, _+ℤ_, +ℤ-idr, +ℤ-assoc}
-use lib.ListN.{length, getD, set, length-set, length-map, List·getD-map}
+use lib.ListN.{length, getD, set, length-set, length-map}
 use lib.Seq.{ext-getD, getD-set-same, getD-set-other}
 use borrow.Author.Count.{below-more}
 use borrow.Author.Tests.{ltb-true, ltb-false}
 use Rattle.spread.specs.declared.Delta.{Delta}
+use Rattle.spread.proofs.Lent.{delta-at}
 use Rattle.formulas.specs.code.Position.{AtMost, Added, deltasIn}
 use Rattle.formulas.proofs.SignedCalls.{abs-plus}
 
@@ -81,16 +82,6 @@ at-most-added m n b c more xs ys a d h = record { as-many = d .as-many ∙ a .as
         subst (λ (z : ℤ). natAbs z ≤ b + c) (sym (d .others k (ltb-false k n e))) (le-trans (a .size k l) (omega arith))
 
 -- deltas, read as integers
-pub deltas-set : (ds : List Delta) (i : ℕ) (d : Delta) → deltasIn (set ds i d) ≡ set (deltasIn ds) i (d .0)
-deltas-set [] i d = refl
-deltas-set (x ∷ xs) zero d = refl
-deltas-set (x ∷ xs) (suc i) d = ap (λ (zs : List ℤ). x .0 ∷ zs) (deltas-set xs i d)
-
-pub delta-at : (ds : List Delta) (j : ℕ) → getD (deltasIn ds) j (pos 0) ≡ getD ds j (record { 0 = pos 0 }) .0
-delta-at ds j = List·getD-map (λ (d : Delta). d .0) ds j (record { 0 = pos 0 })
-
--- numbers, as deltas, read back
-
 -- deltas by their numbers
 pub same-deltas : (xs ys : List Delta) → deltasIn xs ≡ deltasIn ys → xs ≡ ys
 same-deltas xs ys e =

@@ -14,6 +14,7 @@ use Rattle.exact.proofs.UnitLaws.{up-above, up-none}
 use Rattle.formulas.specs.Bounds.{mostDelta, mostRate, mostCharge, mostRisk, mostCredit}
 use Rattle.formulas.specs.Charges.{charged}
 use Rattle.formulas.specs.Credit.{toUnit, fromUnit, unitPriceRisk, creditAt, credit}
+use Rattle.record.specs.Layout.{mostUnit}
 
 -- deltas times a rate
 pub delta-rate : (d rate : ℕ) → d ≤ mostDelta → rate ≤ mostRate → d * rate ≤ 1280000000000000000
@@ -23,7 +24,7 @@ pub spreads-rate : (first second rate : ℕ) → first ≤ mostDelta → second 
 spreads-rate first second rate h k hr = let s : first + second ≤ 256000000000 = omega arith in mul-le-mul s hr
 
 -- a charge of less than its bound
-pub charged-within : (unit n : ℕ) → unit ≤ 1000 → n ≤ 2560000000000000000 → charged unit n ≤ mostCharge
+pub charged-within : (unit n : ℕ) → unit ≤ mostUnit → n ≤ 2560000000000000000 → charged unit n ≤ mostCharge
 charged-within unit n hu h = omega (arith, up-above unit 10000 n)
 
 -- the unit price risk, from a quotient and a remainder
@@ -108,7 +109,8 @@ pub record CreditParts (unit twice used percent net whole part : ℕ) : Type 0 w
   pub share-within : used * percent ≤ 12800000000000
   pub part-within : part * (used * percent) ≤ 6400000000000000000
 
-pub credit-parts : (unit twice used percent net whole part : ℕ) → 1 ≤ unit → unit ≤ 1000 → used ≤ net → net ≤ mostDelta → percent ≤ 100 → twice ≤ 4 * mostRisk
+pub credit-parts : (unit twice used percent net whole part : ℕ) → 1 ≤ unit → unit ≤ mostUnit → used ≤ net → net ≤ mostDelta → percent ≤ 100
+    → twice ≤ 4 * mostRisk
     → whole * toUnit + part ≡ unitPriceRisk twice net → whole * net ≤ twice → part ≤ toUnit → CreditParts unit twice used percent net whole part
 credit-parts unit twice used percent net whole part h1 h2 hu hn hp ht e hw hq =
     let halves = whole * used in

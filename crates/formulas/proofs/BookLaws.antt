@@ -25,12 +25,11 @@ use Rattle.spread.proofs.Filling.{entries-at}
 use Rattle.spread.proofs.Touching.{touches-most}
 use Rattle.spread.specs.code.Book.{byPlace, spreadsEntry, deltaEntry, Booked, numbersOf, usedIn, unusedIn}
 use Rattle.spread.specs.code.Lent.{deltasFrom, promptsIn}
-use Rattle.spread.specs.code.Passing.{FormedBy}
 use Rattle.spread.specs.declared.Spreads.{Spreads}
 use Rattle.spread.specs.declared.Delta.{Delta}
 use Rattle.formulas.specs.Charges.{overSteps, promptCharge, promptCharges}
-use Rattle.formulas.specs.Deltas.{opens, interprompt}
-use Rattle.formulas.specs.code.Promised.{BookOf, BookRoom, FormedOf}
+use Rattle.formulas.specs.Deltas.{opensWith, interprompt}
+use Rattle.formulas.specs.code.Promised.{BookOf, BookRoom}
 use Rattle.formulas.specs.code.Sums.{interleaved, deltasIn, spreadsAt}
 use Rattle.formulas.specs.code.Tables.{TiersOf, TableOf}
 use Rattle.spread.proofs.Lent.{deltas-again}
@@ -91,21 +90,21 @@ prompts-arrays unit (r ∷ rs) (u ∷ used) (v ∷ unused) (suc n) e g h =
 
 -- ---- what the spread steps are handed is what the definitions speak of
 
-open-first : (n : ℕ) (ts : List ℕ) (ds : List Delta) → take n (given.opens ts ds) ≡ given.opens (take n ts) ds
+open-first : (n : ℕ) (ts : List ℕ) (ds : List Delta) → take n (given.opensFrom ts ds) ≡ given.opensFrom (take n ts) ds
 open-first zero ts ds = refl
 open-first (suc n) [] ds = refl
 open-first (suc n) (t ∷ ts) [] = refl
 open-first (suc n) (t ∷ ts) (d ∷ ds) = ap (λ (ps : List Open). record { tier = t; unused = d .0 } ∷ ps) (open-first n ts ds)
 
-open-records : (rs : List Record) (ds : List Delta) → given.opens (map tier rs) ds ≡ opens rs (deltasIn ds)
+open-records : (rs : List Record) (ds : List Delta) → given.opensFrom (map tier rs) ds ≡ opensWith rs (deltasIn ds)
 open-records [] ds = refl
 open-records (r ∷ rs) [] = refl
 open-records (r ∷ rs) (d ∷ ds) = ap (λ (ps : List Open). record { tier = tier r; unused = d .0 } ∷ ps) (open-records rs ds)
 
-pub opens-are : (part : List ℕ) (ds : List Delta) (p : Prompts) → TiersOf part ds p → given.openOf p ≡ opens (records part) (deltasIn ds)
+pub opens-are : (part : List ℕ) (ds : List Delta) (p : Prompts) → TiersOf part ds p → given.openOf p ≡ opensWith (records part) (deltasIn ds)
 opens-are part ds p is =
     open-first (p .count) (p .tier) (p .net)
-    ∙ ap₂ given.opens (is .tiers-are) (is .nets-are)
+    ∙ ap₂ given.opensFrom (is .tiers-are) (is .nets-are)
     ∙ open-records (records part) ds
 
 -- the numbers of accepted prompts and spreads, and their book
@@ -126,18 +125,18 @@ book-accepted ss ps p t b eo es sound is =
       unused-is = is .unused ∙ ap (λ (xs : List ℤ). byPlace promptPlaces (deltaEntry xs)) l;
     }
 
-pub handed-sound : (p : Prompts) (t : Table) (ps : List Open) (spreads : List Spread) → given.openOf p ≡ ps → given.spreadsOf t ≡ spreads
+pub handed-sound : (p : Prompts) (t : Table) (ps : List Open) (spreads : List Spread) → given.openOf p ≡ ps → given.tableSpreads t ≡ spreads
     → p .count ≤ promptPlaces → t .count ≤ spreadPlaces
     → every soundPrompt ps ≡ true → every soundSpread spreads ≡ true → given.sound p t ≡ true
 handed-sound p t ps spreads eo es np nt hp ht =
-    and-both (leb (p .count) promptPlaces && every soundPrompt (given.openOf p)) (leb (t .count) spreadPlaces && every soundSpread (given.spreadsOf t))
+    and-both (leb (p .count) promptPlaces && every soundPrompt (given.openOf p)) (leb (t .count) spreadPlaces && every soundSpread (given.tableSpreads t))
     (and-both (leb (p .count) promptPlaces) (every soundPrompt (given.openOf p)) (le-leb (p .count) promptPlaces np) (ap (every soundPrompt) eo ∙ hp))
-    (and-both (leb (t .count) spreadPlaces) (every soundSpread (given.spreadsOf t)) (le-leb (t .count) spreadPlaces nt) (ap (every soundSpread) es ∙ ht))
+    (and-both (leb (t .count) spreadPlaces) (every soundSpread (given.tableSpreads t)) (le-leb (t .count) spreadPlaces nt) (ap (every soundSpread) es ∙ ht))
 
 pub contract-sound : (part spreads : List ℕ) (ds : List Delta) (p : Prompts) (t : Table) → TiersOf part ds p → TableOf interprompt spreads t
     → BookRoom (records part) (deltasIn ds) (records spreads) → given.sound p t ≡ true
 contract-sound part spreads ds p t tiers table room =
-    handed-sound p t (opens (records part) (deltasIn ds)) (map interprompt (records spreads)) (opens-are part ds p tiers) (table .spreads-are)
+    handed-sound p t (opensWith (records part) (deltasIn ds)) (map interprompt (records spreads)) (opens-are part ds p tiers) (table .spreads-are)
     (omega (arith, tiers .count-is, room .few-prompts, count-is part)) (omega (arith, table .count-is, room .few-spreads, count-is spreads))
     (room .prompts-sound) (room .spreads-sound)
 
@@ -146,7 +145,7 @@ pub touches-accepted : (ss : List (List Taker)) (ps : List Open) (p : Prompts) (
     → touchesOf p t ≡ touches ss ps
 touches-accepted ss ps p t eo es sound = ap (λ (x : Bool). cond x (touches (given.stepsOf t) (given.openOf p)) 0) sound ∙ ap₂ touches es eo
 
-opens-few : (rs : List Record) (zs : List ℤ) → length (opens rs zs) ≤ length rs
+opens-few : (rs : List Record) (zs : List ℤ) → length (opensWith rs zs) ≤ length rs
 opens-few [] zs = omega arith
 opens-few (r ∷ rs) [] = omega arith
 opens-few (r ∷ rs) (z ∷ zs) = let h = opens-few rs zs in omega arith
@@ -162,35 +161,25 @@ module _ (part spreads tiers : List ℕ) (nets : List ℤ) (t : Table) (are : ta
       contract-sound part spreads (deltasFrom nets) (promptsIn (recordCount part) tiers nets) t lent-tiers table
       (subst⁻¹ (λ (zs : List ℤ). BookRoom (records part) zs (records spreads)) (deltas-again nets) room)
 
-  lent-opens : given.openOf (promptsIn (recordCount part) tiers nets) ≡ opens (records part) nets
+  lent-opens : given.openOf (promptsIn (recordCount part) tiers nets) ≡ opensWith (records part) nets
   lent-opens =
-      opens-are part (deltasFrom nets) (promptsIn (recordCount part) tiers nets) lent-tiers ∙ ap (opens (records part)) (deltas-again nets)
+      opens-are part (deltasFrom nets) (promptsIn (recordCount part) tiers nets) lent-tiers ∙ ap (opensWith (records part)) (deltas-again nets)
 
   lent-steps : given.stepsOf t ≡ steps (map interprompt (records spreads))
   lent-steps = ap steps (table .spreads-are)
 
   pub lent-book : (b : Book) → Booked (promptsIn (recordCount part) tiers nets) t b
-      → BookOf (steps (map interprompt (records spreads))) (opens (records part) nets) b
+      → BookOf (steps (map interprompt (records spreads))) (opensWith (records part) nets) b
   lent-book b is =
-      book-accepted (steps (map interprompt (records spreads))) (opens (records part) nets) (promptsIn (recordCount part) tiers nets) t b
+      book-accepted (steps (map interprompt (records spreads))) (opensWith (records part) nets) (promptsIn (recordCount part) tiers nets) t b
       lent-opens lent-steps lent-sound is
 
-  -- the numbers that they form, and how often they touch a prompt
-  pub lent-formed : (first second : List Spreads) → FormedOf (steps (map interprompt (records spreads))) (opens (records part) nets) first second
-      → FormedBy (promptsIn (recordCount part) tiers nets) t first second
-  lent-formed first second is =
-      let p = promptsIn (recordCount part) tiers nets in
-      let n = numbers-accepted (steps (map interprompt (records spreads))) (opens (records part) nets) p t lent-opens lent-steps lent-sound in
-      record {
-        firsts = is .first-is ∙ ap (firsts spreadPlaces) (sym n);
-        seconds = is .second-is ∙ ap (seconds spreadPlaces) (sym n);
-      }
-
+  -- how often they touch a prompt
   pub lent-touches : (n : ℕ) → n ≡ touches (given.stepsOf t) (given.openOf (promptsIn (recordCount part) tiers nets))
-      → (n ≡ touches (steps (map interprompt (records spreads))) (opens (records part) nets)) × (n ≤ mostTouches)
+      → (n ≡ touches (steps (map interprompt (records spreads))) (opensWith (records part) nets)) × (n ≤ mostTouches)
   lent-touches n e =
       let same = e ∙ ap₂ touches lent-steps lent-opens in
-      let most = touches-most (map interprompt (records spreads)) (opens (records part) nets) (room .spreads-sound)
+      let most = touches-most (map interprompt (records spreads)) (opensWith (records part) nets) (room .spreads-sound)
       (omega (arith, length-map (records spreads) interprompt, room .few-spreads)) (omega (arith, opens-few (records part) nets, room .few-prompts)) in
       (same, omega (arith, same, most))
 

@@ -30,11 +30,11 @@ use Rattle.formulas.specs.Contract.{Contract, contractFrom, interpromptO
 use Rattle.formulas.specs.Credit.{twicePriceRisk}
 use Rattle.formulas.specs.Margin.{shortOptionMinimum}
 use Rattle.formulas.specs.Scanning.{totals, scanningRisk, activeScenario}
-use Rattle.formulas.specs.Deltas.{opens, interprompt, netDeltas}
+use Rattle.formulas.specs.Deltas.{opensWith, interprompt, netDeltas}
 use Rattle.formulas.specs.code.Position.{PositionOf, Bounded}
 use Rattle.formulas.specs.code.Promised.{BookOf, BookRoom, Charged, LineOf, contractWith}
 use Rattle.formulas.specs.code.Risks.{TotalsWithin, Scanned}
-use Rattle.formulas.specs.code.Sums.{interleaved, deltasIn, deltaAt, SpreadsWithin, PromptsWithin}
+use Rattle.formulas.specs.code.Sums.{interleaved, deltasIn, deltaIn, SpreadsWithin, PromptsWithin}
 use Rattle.formulas.specs.code.Within.{ContractFit}
 use Rattle.formulas.proofs.BookLaws.{over-arrays, prompts-arrays}
 use Rattle.spread.proofs.Lent.{deltas-again}
@@ -61,7 +61,7 @@ module _ (rates : List Record) (own : Record) (prompts rows spreads : List Recor
   k = contractFrom rates own prompts rows spreads
 
   abbrev ps : List Open
-  ps = opens prompts (deltasIn (q .nets))
+  ps = opensWith prompts (deltasIn (q .nets))
 
   abbrev ss : List (List Taker)
   ss = steps (map interprompt spreads)
@@ -82,8 +82,8 @@ module _ (rates : List Record) (own : Record) (prompts rows spreads : List Recor
   pub totals-room : TotalsWithin (q .totals .0)
   totals-room = record { each = λ s. everywhere scenarioCount mostRisk (q .totals .0) (most .totals-most .as-many) (most .totals-most .size) (s - 1) }
 
-  pub nets-are : opens prompts nets ≡ opens prompts (netDeltas prompts rows)
-  nets-are = opens-first prompts nets ∙ ap (opens prompts) (is .nets-are)
+  pub nets-are : opensWith prompts nets ≡ opensWith prompts (netDeltas prompts rows)
+  nets-are = opens-first prompts nets ∙ ap (opensWith prompts) (is .nets-are)
 
   sizes-within : sizes ps ≤ mostDelta
   sizes-within =
@@ -119,7 +119,7 @@ module _ (rates : List Record) (own : Record) (prompts rows spreads : List Recor
   lent-within : (zs ds : List ℤ) (j : ℕ) → j < promptPlaces → deltasFrom zs ≡ byPlace promptPlaces (deltaEntry ds)
       → ((i : ℕ) → natAbs (getD ds i (pos 0)) ≤ mostDelta) → natAbs (getD zs j (pos 0)) ≤ mostDelta
   lent-within zs ds j l e most =
-      subst (λ (z : ℤ). natAbs z ≤ mostDelta) (sym (ap (λ (xs : List Delta). deltaAt xs j) e) ∙ delta-from zs j) (delta-within ds mostDelta most j l)
+      subst (λ (z : ℤ). natAbs z ≤ mostDelta) (sym (ap (λ (xs : List Delta). deltaIn xs j) e) ∙ delta-from zs j) (delta-within ds mostDelta most j l)
 
   module _ (first second : List ℕ) (used unused : List ℤ) (bk : BookOf ss ps (bookIn first second used unused)) where
     pub spreads-room : SpreadsWithin (unit own) spreads (spreadsFrom first) (spreadsFrom second)

@@ -8,7 +8,7 @@ use mathlib.Core.List.{List, [], _∷_, map}
 use borrow.Author.Tests.{lt-ltb, eqb-true}
 use lib.Dec.{eqb}
 use Rattle.record.specs.Layout.{Record, contract, secondContract, percent, firstRatio, secondRatio, tenths}
-use Rattle.spread.specs.Steps.{Market, long, short, Open, Taker, taker, firstMarket, secondMarket, legsOf, pool, useOf, formed, after, steps, numbers}
+use Rattle.spread.specs.Steps.{Market, long, short, Open, Taker, taker, firstMarket, secondMarket, legsIn, pool, useOf, formed, after, steps, numbers}
 use Rattle.spread.specs.Demand.{totalUse, soundSteps}
 use Rattle.spread.proofs.Demand3.{demand3}
 use Rattle.spread.proofs.Spending.{left-spend, pool-spend}
@@ -24,10 +24,10 @@ entry-sound e w = rw (lt-ltb 0 (firstRatio e) (w .first-ratio), lt-ltb 0 (second
 
 -- the numbers of the entry's two steps
 abbrev firstStep : Record → List Taker
-firstStep e = map (taker (tenths e) firstMarket) (legsOf (intercontract e))
+firstStep e = map (taker (tenths e) firstMarket) (legsIn (intercontract e))
 
 abbrev secondStep : Record → List Taker
-secondStep e = map (taker (tenths e) secondMarket) (legsOf (intercontract e))
+secondStep e = map (taker (tenths e) secondMarket) (legsIn (intercontract e))
 
 abbrev pub firstNumber : Record → List Open → ℕ
 firstNumber e ps = formed (firstStep e) ps

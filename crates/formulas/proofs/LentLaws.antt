@@ -16,9 +16,9 @@ use Rattle.spread.specs.declared.Delta.{Delta}
 use Rattle.spread.specs.declared.Spreads.{Spreads}
 use Rattle.formulas.specs.declared.rows.Position.{Position}
 use Rattle.formulas.specs.code.Position.{positionIn}
-use Rattle.formulas.specs.code.Sums.{deltasIn, spreadsAt, deltaAt}
+use Rattle.formulas.specs.code.Sums.{deltasIn, spreadsAt, deltaIn}
 
-pub delta-from : (zs : List ℤ) (k : ℕ) → deltaAt (deltasFrom zs) k ≡ getD zs k (pos 0)
+pub delta-from : (zs : List ℤ) (k : ℕ) → deltaIn (deltasFrom zs) k ≡ getD zs k (pos 0)
 delta-from zs k = ap (λ (d : Delta). d .0) (List·getD-map (λ (z : ℤ). record { 0 = z }) zs k (pos 0))
 
 pub spread-from : (ns : List ℕ) (k : ℕ) → spreadsAt (spreadsFrom ns) k ≡ getD ns k 0

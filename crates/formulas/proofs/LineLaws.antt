@@ -26,34 +26,34 @@ use Rattle.spread.proofs.Soundness.{whole-steps}
 use Rattle.spread.proofs.Filling.{entries-at}
 use Rattle.spread.proofs.Lengths.{steps-length}
 use Rattle.formulas.specs.Bounds.{mostDelta}
-use Rattle.formulas.specs.Deltas.{opens, interprompt}
-use Rattle.formulas.specs.code.Sums.{spreadsAt, deltaAt}
+use Rattle.formulas.specs.Deltas.{opensWith, interprompt}
+use Rattle.formulas.specs.code.Sums.{spreadsAt, deltaIn}
 use Rattle.formulas.proofs.StepBounds.{sizes}
 
 -- ---- prompts, open
 
-pub opens-first : (rs : List Record) (ds : List ℤ) → opens rs ds ≡ opens rs (take (length rs) ds)
+pub opens-first : (rs : List Record) (ds : List ℤ) → opensWith rs ds ≡ opensWith rs (take (length rs) ds)
 opens-first [] ds = refl
 opens-first (r ∷ rs) [] = refl
 opens-first (r ∷ rs) (d ∷ ds) = ap (λ (ps : List Open). record { tier = tier r; unused = d } ∷ ps) (opens-first rs ds)
 
-pub opens-length : (rs : List Record) (ds : List ℤ) → length ds ≡ length rs → length (opens rs ds) ≡ length rs
+pub opens-length : (rs : List Record) (ds : List ℤ) → length ds ≡ length rs → length (opensWith rs ds) ≡ length rs
 opens-length [] ds e = refl
 opens-length (r ∷ rs) [] e = absurd (omega arith)
 opens-length (r ∷ rs) (d ∷ ds) e = ap suc (opens-length rs ds (omega arith))
 
-pub opens-sizes : (rs : List Record) (ds : List ℤ) → sizes (opens rs ds) ≤ sum (map natAbs ds)
+pub opens-sizes : (rs : List Record) (ds : List ℤ) → sizes (opensWith rs ds) ≤ sum (map natAbs ds)
 opens-sizes [] ds = zero-le
 opens-sizes (r ∷ rs) [] = zero-le
 opens-sizes (r ∷ rs) (d ∷ ds) = let h = opens-sizes rs ds in omega arith
 
 -- the spread steps accept them
 pub opens-sound : (rs : List Record) (ds : List ℤ) → ((k : ℕ) → k < length rs → tier (getD rs k []) < tierCount)
-    → ((k : ℕ) → natAbs (getD ds k (pos 0)) ≤ mostDelta) → every soundPrompt (opens rs ds) ≡ true
+    → ((k : ℕ) → natAbs (getD ds k (pos 0)) ≤ mostDelta) → every soundPrompt (opensWith rs ds) ≡ true
 opens-sound [] ds ht hd = refl
 opens-sound (r ∷ rs) [] ht hd = refl
 opens-sound (r ∷ rs) (d ∷ ds) ht hd =
-    and-both (ltb (tier r) tierCount && leb (natAbs d) mostDelta) (every soundPrompt (opens rs ds))
+    and-both (ltb (tier r) tierCount && leb (natAbs d) mostDelta) (every soundPrompt (opensWith rs ds))
     (and-both (ltb (tier r) tierCount) (leb (natAbs d) mostDelta) (lt-ltb (tier r) tierCount (ht 0 (suc-le-suc zero-le))) (le-leb (natAbs d) mostDelta (hd 0)))
     (opens-sound rs ds (λ k h. ht (suc k) (suc-le-suc h)) (λ k. hd (suc k)))
 
@@ -104,7 +104,7 @@ first-within numbers f most h k l =
     subst⁻¹ (λ (x : Spreads). x .0 ≤ most) (entries-at spreadPlaces (λ i. spreadsEntry numbers (f i)) k (record { 0 = 0 }) l) (h (f k))
 
 pub delta-within : (zs : List ℤ) (most : ℕ) → ((j : ℕ) → natAbs (getD zs j (pos 0)) ≤ most) → (k : ℕ) → k < promptPlaces
-    → natAbs (deltaAt (byPlace promptPlaces (deltaEntry zs)) k) ≤ most
+    → natAbs (deltaIn (byPlace promptPlaces (deltaEntry zs)) k) ≤ most
 delta-within zs most h k l =
     subst⁻¹ (λ (d : Delta). natAbs (d .0) ≤ most) (entries-at promptPlaces (deltaEntry zs) k (record { 0 = pos 0 }) l) (h k)
 

@@ -16,7 +16,7 @@ use Rattle.exact.proofs.Integers.{abs-add}
 use Rattle.exact.proofs.Lists.{sum-map-le, sum-map-add}
 use Rattle.exact.proofs.Tests.{eqb-turned}
 use Rattle.record.specs.Layout.{Record, day}
-use Rattle.formulas.specs.Bounds.{mostDelta}
+use Rattle.formulas.specs.Bounds.{mostDelta, mostRowDelta}
 use Rattle.formulas.specs.Deltas.{rowDelta, ofDay, netDelta, netDeltas}
 use Rattle.formulas.specs.code.Position.{RowFit, RowsFit, OneDay}
 use Rattle.formulas.proofs.PositionBounds.{delta-most}
@@ -63,10 +63,10 @@ size-first-row : (row : Record) (rows : List Record) (p : Record) → netSize (r
 size-first-row row rows p = subst⁻¹ (λ (z : ℤ). natAbs z ≤ addedSize row p + netSize rows p) (first-row row rows p) (abs-add (adds row p) (netDelta rows p))
 
 pub sizes-sum : (prompts rows : List Record) → OneDay prompts rows → ((k : ℕ) → k < length rows → RowFit (getD rows k []))
-    → sum (map (netSize rows) prompts) ≤ length rows * 1000000000
+    → sum (map (netSize rows) prompts) ≤ length rows * mostRowDelta
 sizes-sum prompts [] r e = omega (arith, no-rows prompts)
 sizes-sum prompts (row ∷ rows) r e =
-    let one : sum (map (addedSize row) prompts) ≤ 1000000000 = le-trans (one-day row prompts (r 0 (omega arith))) (delta-most row (e 0 (omega arith))) in
+    let one : sum (map (addedSize row) prompts) ≤ mostRowDelta = le-trans (one-day row prompts (r 0 (omega arith))) (delta-most row (e 0 (omega arith))) in
     let rest = sizes-sum prompts rows (λ k h. r (suc k) (omega arith)) (λ k h. e (suc k) (omega arith)) in
     let each = sum-map-le (netSize (row ∷ rows)) (λ p. addedSize row p + netSize rows p) (size-first-row row rows) prompts in
     let both = sum-map-add (addedSize row) (netSize rows) prompts in

@@ -9,13 +9,13 @@ use lib.Dec.{ltb}
 use lib.IntN.{ℤ, pos, _+ℤ_, +ℤ-idr}
 use lib.ListN.{length, getD, set}
 use borrow.Author.Tests.{eq-eqb, ne-eqb, ltb-true, ltb-false}
-use Rattle.formulas.specs.code.Position.{Added, Rising, FirstPlace, addsOn}
+use Rattle.formulas.specs.code.Position.{Added, DaysRise, FirstPlace, addsOn}
 use Rattle.formulas.proofs.AddedLaws.{next}
 
-pub rising-one : (n : ℕ) (days : List ℕ) → n ≤ 1 → Rising n days
+pub rising-one : (n : ℕ) (days : List ℕ) → n ≤ 1 → DaysRise n days
 rising-one n days h j k l m = absurd (omega arith)
 
-pub rising-more : (n : ℕ) (days : List ℕ) → 1 ≤ n → Rising n days → getD days (n - 1) 0 < getD days n 0 → Rising (n + 1) days
+pub rising-more : (n : ℕ) (days : List ℕ) → 1 ≤ n → DaysRise n days → getD days (n - 1) 0 < getD days n 0 → DaysRise (n + 1) days
 rising-more n days h r later j k l m = go (ltb k n) refl
   where
     last : k ≡ n → (t : Bool) → ltb j (n - 1) ≡ t → getD days j 0 < getD days n 0
@@ -48,7 +48,7 @@ passed-one days start j d earlier here k l h = go (ltb k j) refl
         here (ap (λ (i : ℕ). getD days i 0) (sym at) ∙ same)
 
 -- of days that rise a day has one place
-module _ (n : ℕ) (days : List ℕ) (rising : Rising n days) where
+module _ (n : ℕ) (days : List ℕ) (rising : DaysRise n days) where
   pub the-first : (d r : ℕ) → r < n → getD days r 0 ≡ d → FirstPlace days 0 n d r
   the-first d r h e =
       record {

@@ -17,6 +17,7 @@ use Rattle.formulas.specs.code.Position.{RowFit, AtMost, Added}
 use Rattle.formulas.specs.code.Raised.{SumsRoom, raisedLoss, raisedProducts, mostRaised, unraisedAt, settledFrom, settled}
 use Rattle.formulas.proofs.AddedLaws.{at-most-wider, at-most-added}
 use Rattle.formulas.proofs.SignedCalls.{abs-times}
+use Rattle.account.specs.Products.{mostPerTick}
 
 -- ---- a loss that is raised
 
@@ -159,7 +160,7 @@ totals-room n ts us sums e more r a h =
       each-most = omega (arith, r .each-most);
     }
 
-pub sums-room : (n : ℕ) (ts xs ys : List ℤ) (e each : ℤ) (row : Record) → SumsRoom n ts xs e → RowFit row → natAbs each ≤ 1000000000
+pub sums-room : (n : ℕ) (ts xs ys : List ℤ) (e each : ℤ) (row : Record) → SumsRoom n ts xs e → RowFit row → natAbs each ≤ mostPerTick
     → Added scenarioCount (raisedProducts each row) xs ys → SumsRoom (n + 1) ts ys (e +ℤ each)
 sums-room n ts xs ys e each row r w small a =
     record {

@@ -43,7 +43,7 @@ use Rattle.formulas.proofs.BookLaws.{book-accepted, handed-sound}
 use Rattle.formulas.proofs.LineLaws.{spreads-sound}
 use Rattle.formulas.proofs.RecordLaws.{count-is}
 
-opens-set : (ts : List ℕ) (ds : List Delta) (i t : ℕ) (d : Delta) → given.opens (set ts i t) (set ds i d) ≡ set (given.opens ts ds) i
+opens-set : (ts : List ℕ) (ds : List Delta) (i t : ℕ) (d : Delta) → given.opensFrom (set ts i t) (set ds i d) ≡ set (given.opensFrom ts ds) i
     (record { tier = t; unused = d .0 })
 opens-set [] ds i t d = refl
 opens-set (x ∷ ts) [] zero t d = refl
@@ -55,7 +55,7 @@ opens-set (x ∷ ts) (y ∷ ds) (suc i) t d = ap (λ (ps : List Open). record { 
 pub record Tiered (lines : List Line) (i : ℕ) (ts : List ℕ) (ds : List Delta) : Type 0 where
   pub tiers : length ts ≡ promptPlaces
   pub nets : length ds ≡ promptPlaces
-  pub so-far : take i (given.opens ts ds) ≡ map tierOf (take i lines)
+  pub so-far : take i (given.opensFrom ts ds) ≡ map tierOf (take i lines)
 
 pub tiered-next : (lines : List Line) (i : ℕ) (ts : List ℕ) (ds : List Delta) (t : ℕ) (d : Delta) → Tiered lines i ts ds → i < promptPlaces → i < length lines
     → record { tier = t; unused = d .0 } ≡ tierOf (getD lines i noLine)
@@ -67,7 +67,7 @@ tiered-next lines i ts ds t d is h l e =
       nets = rw length-set (is .nets);
       so-far =
           ap₂ take (add-one i) (opens-set ts ds i t d)
-          ∙ take-suc-set (given.opens ts ds) i (record { tier = t; unused = d .0 }) (omega arith)
+          ∙ take-suc-set (given.opensFrom ts ds) i (record { tier = t; unused = d .0 }) (omega arith)
           ∙ ap₂ (λ (ps : List Open) (p : Open). ps ++ (p ∷ [])) (is .so-far ∙ map-take tierOf i lines)
           (e ∙ sym (getD-map tierOf lines i noLine (tierOf noLine) l))
           ∙ sym (take-suc (map tierOf lines) i (tierOf noLine) (rw length-map l))
@@ -83,7 +83,7 @@ lent-next lines i ts zs t z is h l e =
     (tiered-next lines i ts (deltasFrom zs) t (record { 0 = z }) is h l e)
 
 -- the net deltas of what stands open
-open-deltas : (ts : List ℕ) (ds : List Delta) → length ts ≡ length ds → map (λ p. p .unused) (given.opens ts ds) ≡ deltasIn ds
+open-deltas : (ts : List ℕ) (ds : List Delta) → length ts ≡ length ds → map (λ p. p .unused) (given.opensFrom ts ds) ≡ deltasIn ds
 open-deltas [] [] e = refl
 open-deltas [] (d ∷ ds) e = absurd (omega arith)
 open-deltas (t ∷ ts) [] e = absurd (omega arith)
@@ -94,11 +94,11 @@ tiered-all lines i count p is e c =
     let o = is .so-far in
     record {
       count-is = c;
-      opens-are = ap (λ (n : ℕ). take n (given.opens (p .tier) (p .net))) (c ∙ sym e) ∙ o ∙ ap (λ (n : ℕ). map tierOf (take n lines)) e;
+      opens-are = ap (λ (n : ℕ). take n (given.opensFrom (p .tier) (p .net))) (c ∙ sym e) ∙ o ∙ ap (λ (n : ℕ). map tierOf (take n lines)) e;
       nets-are =
           ap (λ (n : ℕ). take n (deltasIn (p .net))) (sym e)
           ∙ ap (take i) (sym (open-deltas (p .tier) (p .net) (is .tiers ∙ sym (is .nets))))
-          ∙ sym (map-take (λ q. q .unused) i (given.opens (p .tier) (p .net)))
+          ∙ sym (map-take (λ q. q .unused) i (given.opensFrom (p .tier) (p .net)))
           ∙ ap (map (λ q. q .unused)) o
           ∙ map-map (λ q. q .unused) tierOf (take i lines)
           ∙ ap (λ (n : ℕ). map (λ l. l .net .0) (take n lines)) e;

@@ -16,12 +16,13 @@ use Rattle.spread.specs.Touches.{touches}
 use Rattle.spread.specs.Steps.{Open, minus, steps, usedOf}
 use Rattle.spread.specs.declared.Delta.{Delta}
 use Rattle.spread.proofs.Filling.{filled-none, filled-all}
-use Rattle.formulas.specs.Deltas.{opens, interprompt}
+use Rattle.formulas.specs.Deltas.{opensWith, interprompt}
 use Rattle.formulas.specs.code.Promised.{BookOf}
 use Rattle.formulas.specs.code.Sums.{deltasIn}
 use Rattle.spread.specs.Accepted as given
 
-pub unused-given : (n : ℕ) (ts : List ℕ) (ds : List Delta) → length ds ≤ length ts → map (λ p. p .unused) (take n (given.opens ts ds)) ≡ take n (deltasIn ds)
+pub unused-given : (n : ℕ) (ts : List ℕ) (ds : List Delta) → length ds ≤ length ts
+    → map (λ p. p .unused) (take n (given.opensFrom ts ds)) ≡ take n (deltasIn ds)
 unused-given zero ts ds h = refl
 unused-given (suc n) [] [] h = refl
 unused-given (suc n) [] (d ∷ ds) h = absurd (omega arith)
@@ -34,7 +35,7 @@ none-used (z ∷ zs) zero = +ℤ-invr z
 none-used (z ∷ zs) (suc k) = none-used zs k
 
 all-unused : (rs : List Record) (zs : List ℤ) (n : ℕ) → length zs ≡ n → ((j : ℕ) → length rs ≤ j → getD zs j (pos 0) ≡ pos 0)
-    → deltasFrom zs ≡ byPlace n (deltaEntry (map (λ p. p .unused) (opens rs zs)))
+    → deltasFrom zs ≡ byPlace n (deltaEntry (map (λ p. p .unused) (opensWith rs zs)))
 unfolding byPlace
 all-unused rs [] zero e h = refl
 all-unused rs [] (suc n) e h = absurd (omega arith)
@@ -50,10 +51,10 @@ pub unspread : (rs : List Record) (part : List ℕ) (nets : List ℤ) (first sec
     → first ≡ replicate spreadPlaces 0 → second ≡ replicate spreadPlaces 0
     → used ≡ replicate promptPlaces (pos 0)
     → unused ≡ nets
-    → BookOf (steps (map interprompt (records part))) (opens rs nets) (bookIn first second used unused)
+    → BookOf (steps (map interprompt (records part))) (opensWith rs nets) (bookIn first second used unused)
 unspread rs part nets first second used unused short len beyond f s u v =
     let e : length part / recordBytes ≡ 0 = omega arith in
-    let ps = opens rs nets in
+    let ps = opensWith rs nets in
     subst⁻¹ (λ (es : List Record). BookOf (steps (map interprompt es)) ps (bookIn first second used unused)) (ap (λ (n : ℕ). cut n part) e)
     (record {
       first-is = ap spreadsFrom f ∙ filled-all spreadPlaces (record { 0 = 0 }) (λ k. spreadsEntry [] (2 * k)) 0 _

@@ -1,4 +1,4 @@
--- The walk over rows: what is added so far, that there is room for the next row, and what is added in the end.
+-- The walks over rows: what is added so far, that there is room for the next row, and what is added in the end.
 -- Assumes nothing.
 use mathlib.Core.Path.{_≡_, refl, sym, _∙_, ap, ap₂, subst, subst₂}
 use mathlib.Core.List.{List, [], _∷_, _++_}
@@ -11,8 +11,8 @@ use lib.Seq.{take-suc, take-all}
 use Rattle.account.specs.Check.{mostRows}
 use Rattle.spread.specs.Accepted.{promptPlaces}
 use Rattle.spread.specs.code.Lent.{deltasFrom}
-use Rattle.record.specs.Layout.{Record, day, scenarioCount}
-use Rattle.formulas.specs.Bounds.{mostDelta, mostProduct}
+use Rattle.record.specs.Layout.{Record, day, scenarioCount, hundredThousand, mostUnit}
+use Rattle.formulas.specs.Bounds.{mostDelta, mostProduct, mostRowDelta}
 use Rattle.formulas.specs.Scanning.{total}
 use Rattle.formulas.specs.Deltas.{rowDelta}
 use Rattle.formulas.specs.Margin.{shortOptions, shortLots}
@@ -41,13 +41,13 @@ nets-next rows count days i ns ms ms′ row h e =
     ∙ sym (net-append (take i rows) (row ∷ []) (getD days j 0))
     ∙ ap (λ (rs : List Record). netOn rs (getD days j 0)) (passed-row rows i row h e))
 
-pub nets-room : (rows : List Record) (count : ℕ) (days : List ℕ) (ns : List ℤ) → RowsFit rows → AtMost promptPlaces ((mostRows - length rows) * 1000000000) ns
+pub nets-room : (rows : List Record) (count : ℕ) (days : List ℕ) (ns : List ℤ) → RowsFit rows → AtMost promptPlaces ((mostRows - length rows) * mostRowDelta) ns
     → (i n : ℕ) (ms : List ℤ) → Added count (λ j. netOn (take i rows) (getD days j 0)) ns ms → mostRows - length rows + i ≤ n
-    → AtMost promptPlaces (n * 1000000000) ms
+    → AtMost promptPlaces (n * mostRowDelta) ms
 nets-room rows count days ns w most i n ms a h =
     let few : length (take i rows) ≤ i = omega (arith, length-take i rows) in
-    at-most-wider promptPlaces ((mostRows - length rows) * 1000000000 + length (take i rows) * 1000000000) (n * 1000000000) ms (omega arith)
-    (at-most-added promptPlaces count ((mostRows - length rows) * 1000000000) (length (take i rows) * 1000000000)
+    at-most-wider promptPlaces ((mostRows - length rows) * mostRowDelta + length (take i rows) * mostRowDelta) (n * mostRowDelta) ms (omega arith)
+    (at-most-added promptPlaces count ((mostRows - length rows) * mostRowDelta) (length (take i rows) * mostRowDelta)
     (λ j. netOn (take i rows) (getD days j 0)) ns ms
     most a (λ j l. net-most (take i rows) (each-take RowFit rows i (w .each)) (getD days j 0)))
 
@@ -65,28 +65,24 @@ rows-net-room rows w i z e =
     let most = rows-net-most (take i rows) (each-take RowFit rows i (w .each)) in
     omega (arith, ap natAbs e, length-take i rows, w .few)
 
--- totals us, nets ms and short lots v are ts, ns and u with the first i rows
-pub record SoFar (rates : List Record) (unit : ℕ) (rows : List Record) (count : ℕ) (days : List ℕ) (ts ns : List ℤ) (u i : ℕ) (us ms : List ℤ)
-    (v : ℕ) : Type 0 where
+-- totals us are ts with the first i rows, whose short lots are v
+pub record SoFar (rates : List Record) (unit : ℕ) (rows : List Record) (ts : List ℤ) (i : ℕ) (us : List ℤ) (v : ℕ) : Type 0 where
   pub passed : i ≤ length rows
   pub totals-so-far : Added scenarioCount (λ k. total rates unit (take i rows) (k + 1)) ts us
-  pub nets-so-far : Added count (λ j. netOn (take i rows) (getD days j 0)) ns ms
-  pub shorts-so-far : v ≡ u + shortLots (take i rows)
+  pub shorts-so-far : v ≡ shortLots (take i rows)
 
-module _ (rates : List Record) (unit : ℕ) (rows : List Record) (count : ℕ) (days : List ℕ) (ts ns : List ℤ) (u : ℕ) where
-  pub start : SoFar rates unit rows count days ts ns u 0 ts ns u
+module _ (rates : List Record) (unit : ℕ) (rows : List Record) (ts : List ℤ) where
+  pub start : SoFar rates unit rows ts 0 ts 0
   start =
       record {
         passed = omega arith;
         totals-so-far = nothing-added scenarioCount (λ k. total rates unit [] (k + 1)) ts (λ k. refl);
-        nets-so-far = nothing-added count (λ j. netOn [] (getD days j 0)) ns (λ j. refl);
-        shorts-so-far = omega arith;
+        shorts-so-far = refl;
       }
 
-  pub next : (i : ℕ) (us ms us′ ms′ : List ℤ) (v v′ : ℕ) (row : Record) → SoFar rates unit rows count days ts ns u i us ms v → i < length rows
-      → getD rows i [] ≡ row → Added scenarioCount (products rates unit row) us us′ → Added count (addsOn days (day row) (rowDelta row)) ms ms′
-      → v′ ≡ v + shortOptions row → SoFar rates unit rows count days ts ns u (i + 1) us′ ms′ v′
-  next i us ms us′ ms′ v v′ row s h e t n o =
+  pub next : (i : ℕ) (us us′ : List ℤ) (v v′ : ℕ) (row : Record) → SoFar rates unit rows ts i us v → i < length rows → getD rows i [] ≡ row
+      → Added scenarioCount (products rates unit row) us us′ → v′ ≡ v + shortOptions row → SoFar rates unit rows ts (i + 1) us′ v′
+  next i us us′ v v′ row s h e t o =
       let passed = passed-row rows i row h e in
       record {
         passed = omega arith;
@@ -98,75 +94,62 @@ module _ (rates : List Record) (unit : ℕ) (rows : List Record) (count : ℕ) (
             ∙ sym (total-append rates unit (take i rows) (row ∷ []) (k + 1))
             ∙ ap (λ (rs : List Record). total rates unit rs (k + 1)) passed)
             (s .totals-so-far) t;
-        nets-so-far = nets-next rows count days i ns ms ms′ row h e (s .nets-so-far) n;
         shorts-so-far =
             let one : shortLots (take i rows ++ row ∷ []) ≡ shortLots (take i rows) + (shortOptions row + 0) = shorts-append (take i rows) (row ∷ []) in
             let all : shortLots (take i rows ++ row ∷ []) ≡ shortLots (take (i + 1) rows) = ap shortLots passed in
             omega (arith, s .shorts-so-far);
       }
 
--- what is within the bounds of n rows
-pub record Most (n : ℕ) (us ms : List ℤ) (v : ℕ) : Type 0 where
-  pub totals-most : AtMost scenarioCount (n * mostProduct) us
-  pub nets-most : AtMost promptPlaces (n * 1000000000) ms
-  pub shorts-most : v ≤ n * 100000
+  pub shorts-room : RowsFit rows → (i : ℕ) (us : List ℤ) (v : ℕ) → SoFar rates unit rows ts i us v → v ≤ mostRows * hundredThousand
+  shorts-room w i us v s =
+      omega (arith, s .shorts-so-far, short-lots-most (take i rows) (each-take RowFit rows i (w .each)), length-take i rows, w .few)
 
-module _ (rates : List Record) (unit : ℕ) (hu : unit ≤ 1000) (rows : List Record) (count : ℕ) (days : List ℕ) (ts ns : List ℤ) (u : ℕ)
-    (w : RowsFit rows) (rated : Rated rates rows) (m : Most (mostRows - length rows) ts ns u) where
-  -- room for what n rows in all can come to
-  pub room : (i n : ℕ) (us ms : List ℤ) (v : ℕ) → SoFar rates unit rows count days ts ns u i us ms v → mostRows - length rows + i ≤ n → Most n us ms v
-  room i n us ms v s h =
-      let few : length (take i rows) ≤ i = omega (arith, length-take i rows) in
-      let each = each-take RowFit rows i (w .each) in
-      let each-rated = each-take (RowRated rates) rows i rated in
-      record {
-        totals-most =
-            at-most-wider scenarioCount ((mostRows - length rows) * mostProduct + length (take i rows) * mostProduct) (n * mostProduct) us (omega arith)
-            (at-most-added scenarioCount scenarioCount ((mostRows - length rows) * mostProduct) (length (take i rows) * mostProduct)
-            (λ k. total rates unit (take i rows) (k + 1)) ts us
-            (m .totals-most) (s .totals-so-far) (λ k l. total-most rates unit hu (take i rows) each-rated (k + 1) (omega arith) (omega arith)));
-        nets-most = nets-room rows count days ns w (m .nets-most) i n ms (s .nets-so-far) h;
-        shorts-most = omega (arith, s .shorts-so-far, m .shorts-most, short-lots-most (take i rows) each);
-      }
-
--- all rows
-finish : (rates : List Record) (unit : ℕ) (rows : List Record) (count : ℕ) (days : List ℕ) (ts ns : List ℤ) (u i : ℕ) (us ms : List ℤ) (v : ℕ)
-    → length rows ≤ i → SoFar rates unit rows count days ts ns u i us ms v → (Added scenarioCount (λ k. total rates unit rows (k + 1)) ts us)
-    × ((Added count (λ j. netOn rows (getD days j 0)) ns ms) × (v ≡ u + shortLots rows))
-finish rates unit rows count days ts ns u i us ms v h s =
-    subst (λ (rs : List Record). (Added scenarioCount (λ k. total rates unit rs (k + 1)) ts us)
-    × ((Added count (λ j. netOn rs (getD days j 0)) ns ms) × (v ≡ u + shortLots rs)))
-    (take-all i rows h) (s .totals-so-far, (s .nets-so-far, s .shorts-so-far))
+  pub finish : (i : ℕ) (us : List ℤ) (v : ℕ) → length rows ≤ i → SoFar rates unit rows ts i us v
+      → Added scenarioCount (λ k. total rates unit rows (k + 1)) ts us × (v ≡ shortLots rows)
+  finish i us v h s =
+      subst (λ (rs : List Record). Added scenarioCount (λ k. total rates unit rs (k + 1)) ts us × (v ≡ shortLots rs)) (take-all i rows h)
+      (s .totals-so-far, s .shorts-so-far)
 
 -- ---- a position of lent numbers
 
-pub most-lent : {n : ℕ} (us ms : List ℤ) (v : ℕ) → Bounded n (positionIn us ms v) → Most n us ms v
-most-lent {n} us ms v b =
+pub nets-lent : {n : ℕ} (us ms : List ℤ) (v : ℕ) → Bounded n (positionIn us ms v) → AtMost promptPlaces (n * mostRowDelta) ms
+nets-lent {n} us ms v b = subst (λ (zs : List ℤ). AtMost promptPlaces (n * mostRowDelta) zs) (deltas-again ms) (b .nets-most)
+
+pub bounded-lent : {n : ℕ} (us ms : List ℤ) (v : ℕ) → AtMost scenarioCount (n * mostProduct) us → AtMost promptPlaces (n * mostRowDelta) ms
+    → v ≤ n * hundredThousand
+    → Bounded n (positionIn us ms v)
+bounded-lent {n} us ms v totals nets shorts =
     record {
-      totals-most = b .totals-most;
-      nets-most = subst (λ (zs : List ℤ). AtMost promptPlaces (n * 1000000000) zs) (deltas-again ms) (b .nets-most);
-      shorts-most = b .shorts-most;
+      totals-most = totals;
+      nets-most = subst (λ (zs : List ℤ). AtMost promptPlaces (n * mostRowDelta) zs) (sym (deltas-again ms)) nets;
+      shorts-most = shorts;
     }
 
-pub bounded-lent : {n : ℕ} (us ms : List ℤ) (v : ℕ) → Most n us ms v → Bounded n (positionIn us ms v)
-bounded-lent {n} us ms v m =
-    record {
-      totals-most = m .totals-most;
-      nets-most = subst (λ (zs : List ℤ). AtMost promptPlaces (n * 1000000000) zs) (sym (deltas-again ms)) (m .nets-most);
-      shorts-most = m .shorts-most;
-    }
+module _ (rates : List Record) (unit : ℕ) (rows : List Record) (days : Days) (ts ns us ms : List ℤ) (v : ℕ)
+    (t : Added scenarioCount (λ k. total rates unit rows (k + 1)) ts us) (n : Added (days .count) (λ j. netOn rows (getD (days .day) j 0)) ns ms)
+    (o : v ≡ shortLots rows) where
+  pub all-added : WithRows rates unit days (positionIn ts ns 0) rows (positionIn us ms v)
+  all-added =
+      record {
+        totals-added = t;
+        nets-added = subst₂ (λ (xs ys : List ℤ). Added (days .count) (λ j. netOn rows (getD (days .day) j 0)) xs ys) (sym (deltas-again ns))
+            (sym (deltas-again ms)) n;
+        shorts-added = omega (arith, o);
+      }
 
-pub finish-lent : (rates : List Record) (unit : ℕ) (rows : List Record) (days : Days) (ts ns : List ℤ) (u i : ℕ) (us ms : List ℤ) (v : ℕ)
-    → length rows ≤ i → SoFar rates unit rows (days .count) (days .day) ts ns u i us ms v
-    → WithRows rates unit days (positionIn ts ns u) rows (positionIn us ms v)
-finish-lent rates unit rows days ts ns u i us ms v h s =
-    let all = finish rates unit rows (days .count) (days .day) ts ns u i us ms v h s in
-    record {
-      totals-added = all .0;
-      nets-added = subst₂ (λ (xs ys : List ℤ). Added (days .count) (λ j. netOn rows (getD (days .day) j 0)) xs ys) (sym (deltas-again ns))
-          (sym (deltas-again ms)) (all .1 .0);
-      shorts-added = all .1 .1;
-    }
+  pub all-most : unit ≤ mostUnit → RowsFit rows → Rated rates rows → Bounded (mostRows - length rows) (positionIn ts ns 0)
+      → Bounded mostRows (positionIn us ms v)
+  all-most hu w rated b =
+      bounded-lent us ms v
+      (at-most-wider scenarioCount ((mostRows - length rows) * mostProduct + length rows * mostProduct) (mostRows * mostProduct) us
+      (omega (arith, w .few))
+      (at-most-added scenarioCount scenarioCount ((mostRows - length rows) * mostProduct) (length rows * mostProduct)
+      (λ k. total rates unit rows (k + 1)) ts us
+      (b .totals-most) t (λ k l. total-most rates unit hu rows rated (k + 1) (omega arith) (omega arith))))
+      (nets-room rows (days .count) (days .day) ns w (nets-lent ts ns 0 b) (length rows) mostRows ms
+      (subst (λ (rs : List Record). Added (days .count) (λ j. netOn rs (getD (days .day) j 0)) ns ms) (sym (take-all (length rows) rows (omega arith))) n)
+      (omega (arith, w .few)))
+      (omega (arith, o, short-lots-most rows (w .each), w .few))
 
 -- a position with what rows add to its numbers
 module _ (rates : List Record) (unit : ℕ) (rows : List Record) (days : Days) (p : Position) (ts ns : List ℤ) (n : ℕ)

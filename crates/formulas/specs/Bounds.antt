@@ -1,11 +1,15 @@
 -- The largest numbers that an accepted account can bring about.
 -- Assumes nothing.
 use Prim.Native.Nat.{ℕ, _+_, _*_}
-use Rattle.record.specs.Layout.{hundredThousand}
+use Rattle.record.specs.Layout.{hundredThousand, oneLot}
 use Rattle.account.specs.Check.{mostContracts, mostPrompts, mostRows, mostSpreads, mostEntries}
 pub use Rattle.record.specs.Layout.{mostRate}
 -- of a net delta, a pool, a number of interprompt spreads
 pub use Rattle.spread.specs.Accepted.{mostDelta}
+
+-- of a row: 100,000 lots × 10,000
+abbrev pub mostRowDelta : ℕ
+mostRowDelta = hundredThousand * oneLot
 
 -- of a number of intercontract spreads, whose ratios go down to a tenth: 10 × 16 contracts × 128,000,000,000
 abbrev pub mostFormed : ℕ

@@ -9,7 +9,7 @@ use Rattle.account.specs.Parts.{contractsOf, promptsOf, rowsOf, spreadsOf, rate
 use Rattle.spread.specs.Steps.{Open, Taker, steps, numbers, usedOf, unusedOf}
 use Rattle.spread.specs.Touches.{touches}
 use Rattle.formulas.specs.Scanning.{totals, scanningRisk, activeScenario}
-use Rattle.formulas.specs.Deltas.{netDeltas, opens, interprompt, intercontract}
+use Rattle.formulas.specs.Deltas.{netDeltas, opensWith, interprompt, intercontract}
 use Rattle.formulas.specs.Charges.{interpromptCharge, promptCharges}
 use Rattle.formulas.specs.Credit.{twicePriceRisk, credits}
 use Rattle.formulas.specs.Margin.{shortLots, shortOptionMinimum, risk, margin}
@@ -51,7 +51,7 @@ abbrev pub contractSteps : Contract → List (List Taker)
 contractSteps k = steps (map interprompt (k .spreads))
 
 abbrev pub opensOf : Contract → List Open
-opensOf k = opens (k .prompts) (k .nets)
+opensOf k = opensWith (k .prompts) (k .nets)
 
 abbrev pub stepNumbers : Contract → List ℕ
 stepNumbers k = numbers (contractSteps k) (opensOf k)

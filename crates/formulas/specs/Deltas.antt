@@ -25,10 +25,10 @@ abbrev pub netDeltas : List Record → List Record → List ℤ
 netDeltas prompts rows = map (netDelta rows) prompts
 
 -- each prompt with its tier and net delta, all of it unused
-abbrev pub opens : List Record → List ℤ → List Open
-opens [] nets = []
-opens (p ∷ ps) [] = []
-opens (p ∷ ps) (n ∷ nets) = record { tier = tier p; unused = n } ∷ opens ps nets
+abbrev pub opensWith : List Record → List ℤ → List Open
+opensWith [] nets = []
+opensWith (p ∷ ps) [] = []
+opensWith (p ∷ ps) (n ∷ nets) = record { tier = tier p; unused = n } ∷ opensWith ps nets
 
 -- an interprompt spread: its legs' tiers, sides and ratios, which are whole
 abbrev pub legOf : Record → ℕ → Leg

@@ -16,8 +16,8 @@ ghost use Rattle.spread.specs.Accepted.{promptPlaces, spreadPlaces};
 ghost use Rattle.spread.specs.Steps.{steps};
 ghost use Rattle.spread.specs.Touches.{touches, mostTouches};
 ghost use Rattle.spread.specs.code.Lent.{bookIn, spreadsFrom};
-ghost use Rattle.formulas.specs.Deltas.{opens, interprompt};
-ghost use Rattle.formulas.specs.code.Promised.{BookOf, BookRoom, FormedOf};
+ghost use Rattle.formulas.specs.Deltas.{opensWith, interprompt};
+ghost use Rattle.formulas.specs.code.Promised.{BookOf, BookRoom};
 
 // Nothing is used: what is unused are the net deltas.
 fn put_unused(nets: &[i64], unused: &mut [i64; MOST_PROMPTS])
@@ -45,7 +45,7 @@ pub fn put_contract_book(
     requires { ⌜ BookRoom (records (now prompts)) (now nets) (records (now spreads))
         × (((now first ≡ replicate spreadPlaces 0) × (now second ≡ replicate spreadPlaces 0))
         × ((now used ≡ replicate promptPlaces (pos 0)) × (now unused ≡ replicate promptPlaces (pos 0)))) ⌝ }
-    ensures { λ _. ⌜ BookOf (steps (map interprompt (records (now (spreads .entry))))) (opens (records (now (prompts .entry))) (now (nets .entry)))
+    ensures { λ _. ⌜ BookOf (steps (map interprompt (records (now (spreads .entry))))) (opensWith (records (now (prompts .entry))) (now (nets .entry)))
         (bookIn (now (first .exit)) (now (second .exit)) (now (used .exit)) (now (unused .exit))) ⌝ }
 {
     if spreads.len() < RECORD_BYTES {
@@ -66,31 +66,32 @@ pub fn put_contract_book(
     );
 }
 
-// How often the steps of a contract's spreads take of a prompt, by the numbers that they formed: without spreads never.
-pub fn contract_touches(
+// The same, and how often the steps take of a prompt, which they never do without spreads: its tiers and its table are made once for both.
+pub fn put_counted_book(
     prompts: &[u8],
     nets: &[i64; MOST_PROMPTS],
     spreads: &[u8],
-    first: &[u64; MOST_SPREADS],
-    second: &[u64; MOST_SPREADS],
+    first: &mut [u64; MOST_SPREADS],
+    second: &mut [u64; MOST_SPREADS],
+    used: &mut [i64; MOST_PROMPTS],
+    unused: &mut [i64; MOST_PROMPTS],
 ) -> u64
     requires { ⌜ BookRoom (records (now prompts)) (now nets) (records (now spreads))
-        × FormedOf (steps (map interprompt (records (now spreads)))) (opens (records (now prompts)) (now nets))
-        (spreadsFrom (now first)) (spreadsFrom (now second)) ⌝ }
-    ensures { λ r. ⌜ (r ≡ touches (steps (map interprompt (records (now (spreads .entry))))) (opens (records (now (prompts .entry))) (now (nets .entry))))
-        × (r ≤ mostTouches) ⌝ }
+        × (((now first ≡ replicate spreadPlaces 0) × (now second ≡ replicate spreadPlaces 0))
+        × ((now used ≡ replicate promptPlaces (pos 0)) × (now unused ≡ replicate promptPlaces (pos 0)))) ⌝ }
+    ensures book { λ _. ⌜ BookOf (steps (map interprompt (records (now (spreads .entry))))) (opensWith (records (now (prompts .entry))) (now (nets .entry)))
+        (bookIn (now (first .exit)) (now (second .exit)) (now (used .exit)) (now (unused .exit))) ⌝ }
+    ensures counted { λ r. ⌜ (r ≡ touches (steps (map interprompt (records (now (spreads .entry)))))
+        (opensWith (records (now (prompts .entry))) (now (nets .entry)))) × (r ≤ mostTouches) ⌝ }
 {
     if spreads.len() < RECORD_BYTES {
+        put_unused(nets, unused);
         return 0;
     }
     let mut tiers = [0u8; MOST_PROMPTS];
     put_tiers(&mut tiers, prompts);
-    touches_in(
-        prompts.len() / RECORD_BYTES,
-        &tiers,
-        nets,
-        interprompt_table(spreads),
-        first,
-        second,
-    )
+    let count = prompts.len() / RECORD_BYTES;
+    let table = interprompt_table(spreads);
+    put_book(count, &tiers, nets, table, first, second, used, unused);
+    touches_in(count, &tiers, nets, table, first, second)
 }

@@ -23,7 +23,7 @@ ghost use Rattle.formulas.specs.code.Table.{CreditsRoom, CreditsOf, tabl
 ghost use Rattle.formulas.specs.code.Within.{EntriesFit};
 
 // The contracts as the spread steps take them, in lent places: their numbers and their net deltas.
-pub fn put_contract_tiers(
+fn put_contract_tiers(
     count: usize,
     lines: [Line; CONTRACTS],
     tiers: &mut [u8; MOST_PROMPTS],
@@ -101,7 +101,7 @@ fn credits_by_line(
 }
 
 // Each contract's credits from the entries of the table, by the numbers that these formed.
-pub fn credits_of(
+fn credits_of(
     count: usize,
     lines: [Line; CONTRACTS],
     entries: &[u8],

@@ -26,7 +26,7 @@ ghost use Rattle.spread.specs.Accepted.{promptPlaces};
 ghost use Rattle.spread.specs.Steps.{steps};
 ghost use Rattle.spread.specs.code.Lent.{bookIn, spreadsFrom};
 ghost use Rattle.formulas.specs.Bounds.{mostDelta};
-ghost use Rattle.formulas.specs.Deltas.{opens, interprompt};
+ghost use Rattle.formulas.specs.Deltas.{opensWith, interprompt};
 ghost use Rattle.formulas.specs.code.Position.{positionIn};
 ghost use Rattle.formulas.specs.code.Promised.{BookOf, Charged, LineOf, PositionFit, contractWith};
 ghost use Rattle.formulas.specs.code.Sums.{deltasIn, SpreadsWithin, PromptsWithin};
@@ -118,7 +118,7 @@ pub fn line_in(
     unused: &[i64; MOST_PROMPTS],
 ) -> Line
     requires { ⌜ PositionFit (now own) (records (now prompts)) (records (now spreads)) (positionIn (now totals) (now nets) shorts)
-        × BookOf (steps (map interprompt (records (now spreads)))) (opens (records (now prompts)) (now nets))
+        × BookOf (steps (map interprompt (records (now spreads)))) (opensWith (records (now prompts)) (now nets))
         (bookIn (now first) (now second) (now used) (now unused)) ⌝ }
     ensures { λ r. ⌜ LineOf (contractWith (now (own .entry)) (records (now (prompts .entry))) (records (now (spreads .entry)))
         (positionIn (now (totals .entry)) (now (nets .entry)) shorts)) r ⌝ }

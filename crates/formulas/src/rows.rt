@@ -10,16 +10,17 @@ ghost use Rattle.exact.specs.Rounding.{halfAwayTo};
 ghost use lib.ListN.{length, getD, replicate};
 ghost use Rattle.record.specs.Layout.{Record, day, hundredThousand, mostUnit, scenarioCount};
 ghost use Rattle.account.specs.Check.{mostPrompts, mostRows};
-ghost use Rattle.account.specs.Products.{convertedAt, mostConversion, mostFactor};
+ghost use Rattle.account.specs.Products.{convertedAt, mostConversion, mostFactor, mostPerTick};
 ghost use Rattle.account.specs.code.Rates.{RatesOf};
 ghost use Rattle.account.specs.Records.{records, recordCount};
-ghost use Rattle.formulas.specs.Bounds.{mostDelta, mostProduct};
+ghost use Rattle.formulas.specs.Bounds.{mostDelta, mostProduct, mostRowDelta};
 ghost use Rattle.formulas.specs.Deltas.{rowDelta};
 ghost use Rattle.formulas.specs.Margin as Margin;
-ghost use Rattle.formulas.specs.Margin.{shortOptions};
+ghost use Rattle.formulas.specs.Margin.{shortOptions, shortLots};
+ghost use Rattle.formulas.specs.Scanning.{total};
 ghost use Rattle.formulas.specs.code.Position.{RowFit, RowsFit, RatedBy, FactorsFit, Sized, AtMost, Added, DaysOf, products, ownProducts};
-ghost use Rattle.formulas.specs.code.Position.{convertedProducts, netOn, addsOn, withNets, FirstPlace, Rising, PositionOf, positionIn, Bounded, WithRows};
-ghost use Rattle.formulas.specs.code.Position.{HasRows, deltasIn, rowsNet};
+ghost use Rattle.formulas.specs.code.Position.{convertedProducts, netOn, addsOn, withNets, FirstPlace, DaysRise, PositionOf};
+ghost use Rattle.formulas.specs.code.Position.{positionIn, Bounded, WithRows, HasRows, deltasIn, rowsNet};
 ghost use Rattle.formulas.specs.code.Raised.{SumsRoom, raisedProducts, settled, mostRaised};
 ghost use Rattle.formulas.specs.declared.rows.Position.{Position};
 use account::rates::Factors;
@@ -64,6 +65,9 @@ pub struct Days {
     pub day: [u32; MOST_PROMPTS],
 }
 
+// What a loss is raised by: the most that a gain can be.
+const RAISE: i64 = 100_000;
+
 // Every day is as early, or earlier.
 const LATEST: u32 = 4_294_967_295;
 
@@ -72,7 +76,7 @@ const GUESSES: usize = 256;
 
 // Lots × value × loss, rounded to the contract's unit.
 fn product(each: i64, loss: i64, unit: u64) -> i64
-    requires { ⌜ (natAbs each ≤ 1000000000) × (natAbs loss ≤ hundredThousand) × (unit ≤ mostUnit) ⌝ }
+    requires { ⌜ (natAbs each ≤ mostPerTick) × (natAbs loss ≤ hundredThousand) × (unit ≤ mostUnit) ⌝ }
     ensures { λ r. ⌜ Sized mostProduct (halfAwayTo (each *ℤ loss) unit) r ⌝ }
 {
     half_away_to(times(each, loss), unit)
@@ -80,7 +84,7 @@ fn product(each: i64, loss: i64, unit: u64) -> i64
 
 // The same in another currency, converted at its rate.
 fn converted_product(f: Factors, each: i64, loss: i64, unit: u64) -> i64
-    requires { ⌜ (natAbs each ≤ 1000000000)
+    requires { ⌜ (natAbs each ≤ mostPerTick)
         × ((natAbs loss ≤ hundredThousand)
         × ((unit ≤ mostUnit)
         × ((f .raised ≤ mostFactor) × ((f .lowered ≤ mostFactor) × (natAbs (convertedAt (f .raised) (f .lowered) (each *ℤ loss)) ≤ mostConversion))))) ⌝ }
@@ -92,7 +96,7 @@ fn converted_product(f: Factors, each: i64, loss: i64, unit: u64) -> i64
 // Lots × delta.
 fn row_delta(row: &[u8]) -> Delta
     requires { ⌜ RowFit (now row) ⌝ }
-    ensures { λ r. ⌜ Sized 1000000000 (rowDelta (now (row .entry))) (r .0) ⌝ }
+    ensures { λ r. ⌜ Sized mostRowDelta (rowDelta (now (row .entry))) (r .0) ⌝ }
 {
     Delta(times(lots(row), delta(row)))
 }
@@ -145,24 +149,25 @@ fn add_converted(totals: &mut [i64; SCENARIOS], f: Factors, unit: u64, row: &[u8
     }
 }
 
-// A loss raised by the most that a gain can be, so that it is no longer negative.
+// A loss, raised so that it is no longer negative.
 fn raised(loss: i64) -> u64
     requires { ⌜ natAbs loss ≤ hundredThousand ⌝ }
     ensures { λ r. ⌜ (r ≡ natAbs (loss +ℤ pos hundredThousand)) × (r ≤ 2 * hundredThousand) ⌝ }
 {
-    as_natural(plus(loss, 100000)) % 4294967296
+    as_natural(plus(loss, RAISE)) % 4294967296
 }
 
 // One row more in the margin currency at a unit of one hundredth, added to the sums. Both factors have 32 bits and no sign, so that several are
-// multiplied at once.
+// multiplied at once; lots × value stand once for each scenario, so that their sign is given to several at once too, without a branch.
 fn add_raised(sums: &mut [i64; SCENARIOS], each: i64, row: &[u8])
-    requires { ⌜ (natAbs each ≤ 1000000000) × (RowFit (now row) × AtMost scenarioCount ((mostRows - 1) * mostRaised) (now sums)) ⌝ }
+    requires { ⌜ (natAbs each ≤ mostPerTick) × (RowFit (now row) × AtMost scenarioCount ((mostRows - 1) * mostRaised) (now sums)) ⌝ }
     ensures { λ _. ⌜ Added scenarioCount (raisedProducts each (now (row .entry))) (now (sums .entry)) (now (sums .exit)) ⌝ }
 {
     let size = magnitude(each) % 4294967296;
+    let signed = [each; SCENARIOS];
     let mut s = 0;
     while s < SCENARIOS {
-        let more = with_sign_of(each, size * raised(loss(row, s + 1)));
+        let more = with_sign_of(signed[s], size * raised(loss(row, s + 1)));
         sums[s] = plus(sums[s], more);
         s += 1;
     }
@@ -170,10 +175,10 @@ fn add_raised(sums: &mut [i64; SCENARIOS], each: i64, row: &[u8])
 
 // What a sum comes to: its rows' lots × value together are `each`, and each loss was raised.
 fn unraised(sum: i64, each: i64) -> i64
-    requires { ⌜ (natAbs sum ≤ mostRows * mostRaised) × (natAbs each ≤ mostRows * 1000000000) ⌝ }
+    requires { ⌜ (natAbs sum ≤ mostRows * mostRaised) × (natAbs each ≤ mostRows * mostPerTick) ⌝ }
     ensures { λ r. ⌜ Sized (2 * (mostRows * mostRaised)) (sum -ℤ each *ℤ pos hundredThousand) r ⌝ }
 {
-    minus(sum, times(each, 100000))
+    minus(sum, times(each, RAISE))
 }
 
 // The totals with what stands in the sums.
@@ -273,7 +278,7 @@ fn earlier(days: &[u32; MOST_PROMPTS], d: u32) -> u32
 // Whether days rise.
 fn rise(days: &[u32; MOST_PROMPTS], count: usize) -> bool
     requires { ⌜ count ≤ mostPrompts ⌝ }
-    ensures { λ r. ⌜ (r ≡ true → Rising count (now (days .entry))) ⌝ }
+    ensures { λ r. ⌜ (r ≡ true → DaysRise count (now (days .entry))) ⌝ }
 {
     let mut j = 1;
     while j < count {
@@ -321,7 +326,7 @@ fn place_of(
     rising: bool,
     d: u32,
 ) -> usize
-    requires { ⌜ (count ≤ mostPrompts) × (rising ≡ true → Rising count (now days)) ⌝ }
+    requires { ⌜ (count ≤ mostPrompts) × (rising ≡ true → DaysRise count (now days)) ⌝ }
     ensures { λ r. ⌜ FirstPlace (now (days .entry)) 0 count d r ⌝ }
 {
     if rising {
@@ -343,7 +348,7 @@ fn place_of(
 
 // The next place of the same day: there is none where the days rise.
 fn next_place(days: &[u32; MOST_PROMPTS], count: usize, rising: bool, j: usize) -> usize
-    requires { ⌜ (j < count) × ((count ≤ mostPrompts) × (rising ≡ true → Rising count (now days))) ⌝ }
+    requires { ⌜ (j < count) × ((count ≤ mostPrompts) × (rising ≡ true → DaysRise count (now days))) ⌝ }
     ensures { λ r. ⌜ FirstPlace (now (days .entry)) (j + 1) count (getD (now (days .entry)) j 0) r ⌝ }
 {
     if rising {
@@ -363,7 +368,7 @@ fn add_delta(
     more: Delta,
 )
     requires { ⌜ (count ≤ mostPrompts)
-        × ((rising ≡ true → Rising count (now days)) × ((natAbs (more .0) ≤ mostDelta) × AtMost promptPlaces mostDelta (now nets))) ⌝ }
+        × ((rising ≡ true → DaysRise count (now days)) × ((natAbs (more .0) ≤ mostDelta) × AtMost promptPlaces mostDelta (now nets))) ⌝ }
     ensures { λ r. ⌜ Added count (addsOn (now (days .entry)) d (more .0)) (now (nets .entry)) (now (nets .exit)) ⌝ }
 {
     let mut j = place_of(days, guess, count, rising, d);
@@ -373,57 +378,10 @@ fn add_delta(
     }
 }
 
-// Totals and net deltas with more rows, in one walk over these; what they add to the short lots.
-pub fn add_rows(
-    totals: &mut [i64; SCENARIOS],
-    nets: &mut [i64; MOST_PROMPTS],
-    days: Days,
-    rates: Rates,
-    unit: u64,
-    rows: &[u8],
-) -> u64
-    requires { ⌜ (unit ≤ mostUnit)
-        × ((days .count ≤ mostPrompts)
-        × (RowsFit (records (now rows)) × (RatedBy rates (records (now rows))
-        × Bounded (mostRows - length (records (now rows))) (positionIn (now totals) (now nets) 0)))) ⌝ }
-    ensures added { λ n. ⌜ ((held : List Record) → RatesOf held rates
-        → WithRows held unit days (positionIn (now (totals .entry)) (now (nets .entry)) 0) (records (now (rows .entry)))
-        (positionIn (now (totals .exit)) (now (nets .exit)) n)) ⌝ }
-    ensures most { λ n. ⌜ Bounded mostRows (positionIn (now (totals .exit)) (now (nets .exit)) n) ⌝ }
-{
-    let count = rows.len() / RECORD_BYTES;
-    let prompts = days.count;
-    let its_days = days.day;
-    let rising = rise(&its_days, prompts);
-    let guess = guesses(&its_days, prompts);
-    let mut sums = [0i64; SCENARIOS];
-    let mut each: i64 = 0;
-    let mut shorts = 0;
-    let mut i = 0;
-    while i < count {
-        let at = i * RECORD_BYTES;
-        let row = &rows[at..at + RECORD_BYTES];
-        add_delta(
-            nets,
-            &its_days,
-            &guess,
-            prompts,
-            rising,
-            day_of(row),
-            row_delta(row),
-        );
-        each = add_row(totals, &mut sums, each, rates, unit, row);
-        shorts = shorts + short_options(row);
-        i += 1;
-    }
-    settle(totals, &sums, each);
-    shorts
-}
-
-// Net deltas with more rows, in one walk over these: where nothing but they are asked for.
+// Net deltas with more rows, in one walk over these.
 fn add_nets(nets: &mut [i64; MOST_PROMPTS], days: Days, rows: &[u8])
     requires { ⌜ (days .count ≤ mostPrompts)
-        × (RowsFit (records (now rows)) × AtMost promptPlaces ((mostRows - length (records (now rows))) * 1000000000) (now nets)) ⌝ }
+        × (RowsFit (records (now rows)) × AtMost promptPlaces ((mostRows - length (records (now rows))) * mostRowDelta) (now nets)) ⌝ }
     ensures { λ r. ⌜ Added (days .count) (λ j. netOn (records (now (rows .entry))) (getD (days .day) j 0)) (now (nets .entry)) (now (nets .exit)) ⌝ }
 {
     let count = rows.len() / RECORD_BYTES;
@@ -446,6 +404,53 @@ fn add_nets(nets: &mut [i64; MOST_PROMPTS], days: Days, rows: &[u8])
         );
         i += 1;
     }
+}
+
+// Totals with more rows, in one walk over these; the short lots of the rows.
+fn add_totals(totals: &mut [i64; SCENARIOS], rates: Rates, unit: u64, rows: &[u8]) -> u64
+    requires { ⌜ (unit ≤ mostUnit)
+        × (RowsFit (records (now rows)) × (RatedBy rates (records (now rows))
+        × AtMost scenarioCount ((mostRows - length (records (now rows))) * mostProduct) (now totals))) ⌝ }
+    ensures added { λ _. ⌜ ((held : List Record) → RatesOf held rates → Added scenarioCount (λ k. total held unit (records (now (rows .entry))) (k + 1))
+        (now (totals .entry)) (now (totals .exit))) ⌝ }
+    ensures shorts { λ n. ⌜ n ≡ shortLots (records (now (rows .entry))) ⌝ }
+{
+    let count = rows.len() / RECORD_BYTES;
+    let mut sums = [0i64; SCENARIOS];
+    let mut each: i64 = 0;
+    let mut shorts = 0;
+    let mut i = 0;
+    while i < count {
+        let at = i * RECORD_BYTES;
+        let row = &rows[at..at + RECORD_BYTES];
+        each = add_row(totals, &mut sums, each, rates, unit, row);
+        shorts = shorts + short_options(row);
+        i += 1;
+    }
+    settle(totals, &sums, each);
+    shorts
+}
+
+// Totals and net deltas with more rows, in a walk each, so that the sums stay in registers; what the rows add to the short lots.
+pub fn add_rows(
+    totals: &mut [i64; SCENARIOS],
+    nets: &mut [i64; MOST_PROMPTS],
+    days: Days,
+    rates: Rates,
+    unit: u64,
+    rows: &[u8],
+) -> u64
+    requires { ⌜ (unit ≤ mostUnit)
+        × ((days .count ≤ mostPrompts)
+        × (RowsFit (records (now rows)) × (RatedBy rates (records (now rows))
+        × Bounded (mostRows - length (records (now rows))) (positionIn (now totals) (now nets) 0)))) ⌝ }
+    ensures added { λ n. ⌜ ((held : List Record) → RatesOf held rates
+        → WithRows held unit days (positionIn (now (totals .entry)) (now (nets .entry)) 0) (records (now (rows .entry)))
+        (positionIn (now (totals .exit)) (now (nets .exit)) n)) ⌝ }
+    ensures most { λ n. ⌜ Bounded mostRows (positionIn (now (totals .exit)) (now (nets .exit)) n) ⌝ }
+{
+    add_nets(nets, days, rows);
+    add_totals(totals, rates, unit, rows)
 }
 
 // What rows come to with more rows. A ticket is one row more.

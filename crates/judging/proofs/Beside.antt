@@ -18,7 +18,7 @@ use Rattle.spread.proofs.Both.{and-left, and-right}
 use Rattle.spread.proofs.Stepping.{after-length}
 use Rattle.spread.proofs.Lengths.{used-length}
 use Rattle.judging.specs.Claims.{numbersTold, usesTold, numberTold, useTold, ToldWhole}
-use Rattle.judging.specs.Judged.{Told, toldOf, same, alike, verdictOf, judgedFrom}
+use Rattle.judging.specs.Judged.{Told, toldOf, level, alike, verdictOf, judgedFrom}
 use Rattle.judging.specs.declared.Verdict.{Verdict}
 use Rattle.judging.specs.declared.Verdict.the-variants.{Right, OtherCounts}
 use Rattle.judging.proofs.Comparing.{says-none}
@@ -44,10 +44,10 @@ alike-same [] [] e = refl
 alike-same [] (y ∷ ys) e = absurd (false≢true e)
 alike-same (x ∷ xs) [] e = absurd (false≢true e)
 alike-same (x ∷ xs) (y ∷ ys) e =
-    let s = and-left (same x y) (alike xs ys) e in
+    let s = and-left (level x y) (alike xs ys) e in
     ap₂ _∷_
     (neither-below x y (not-true (ltZ x y) (and-left (not (ltZ x y)) (not (ltZ y x)) s)) (not-true (ltZ y x) (and-right (not (ltZ x y)) (not (ltZ y x)) s)))
-    (alike-same xs ys (and-right (same x y) (alike xs ys) e))
+    (alike-same xs ys (and-right (level x y) (alike xs ys) e))
 
 pub same-alike : (xs ys : List ℤ) → xs ≡ ys → alike xs ys ≡ true
 same-alike xs ys e = subst (λ (l : List ℤ). alike xs l ≡ true) e (alike-self xs)

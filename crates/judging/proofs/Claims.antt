@@ -20,7 +20,8 @@ use Rattle.spread.specs.Uses.{inOneList, takings}
 use Rattle.spread.proofs.Both.{and-left, and-right, and-both}
 use Rattle.spread.proofs.Demand3.{demand3, one-per-step}
 use Rattle.spread.proofs.Lengths.{uses-length}
-use Rattle.judging.specs.Claims.{Iff, usesTold, numberTold, useTold, Picked, Reached, IsRight, IsMore, IsLess, IsWrongUse, Says, SameCounts, TheList}
+use Rattle.exact.specs.Iff.{Iff}
+use Rattle.judging.specs.Claims.{usesTold, numberTold, useTold, Picked, Reached, IsRight, IsMore, IsLess, IsWrongUse, VerdictSays, SameCounts, TheList}
 use Rattle.judging.specs.Claims.{Claims}
 use Rattle.judging.specs.Judged.{Told, toldOf, alike, verdictOf, judgedFrom, sameCounts, judgedList}
 use Rattle.judging.specs.declared.Verdict.{Verdict}
@@ -188,7 +189,7 @@ module _ (ss : List (List Taker)) (ps : List Open) (ok : soundSteps ss ≡ true)
     gives-right : IsRight ss ps ours ts → judgedFrom 0 ss ps ts ≡ Right
     gives-right m = judged-beside 0 ss ps ts ∙ all-right 0 ours us ts (m .numbers) (m .uses)
 
-    gives : (v : Verdict) → Says ss ps ours ts v → judgedFrom 0 ss ps ts ≡ v
+    gives : (v : Verdict) → VerdictSays ss ps ours ts v → judgedFrom 0 ss ps ts ≡ v
     gives Right m = gives-right m
     gives (MoreThanFormed j) m = gives-more j m
     gives (LessThanFormed j) m = gives-less j m
@@ -196,16 +197,16 @@ module _ (ss : List (List Taker)) (ps : List Open) (ok : soundSteps ss ≡ true)
     gives OtherCounts m = absurd m
 
     -- the verdict that is given says the truth
-    true-of : (v : Verdict) → Says ss ps ours ts v → Says ss ps ours ts (judgedFrom 0 ss ps ts)
-    true-of v m = subst (Says ss ps ours ts) (sym (gives v m)) m
+    true-of : (v : Verdict) → VerdictSays ss ps ours ts v → VerdictSays ss ps ours ts (judgedFrom 0 ss ps ts)
+    true-of v m = subst (VerdictSays ss ps ours ts) (sym (gives v m)) m
 
-    says : Says ss ps ours ts (judgedFrom 0 ss ps ts)
+    says : VerdictSays ss ps ours ts (judgedFrom 0 ss ps ts)
     says = go (first-wrong ours us ts eu et)
       where
         wrong : (w : Wrong ours us ts) → (ltZ (pos (getD ours (w .step) 0)) (numberTold ts (w .step)) ≡ true)
             ⊎ ((ltZ (numberTold ts (w .step)) (pos (getD ours (w .step) 0)) ≡ true)
             ⊎ ((numberTold ts (w .step) ≡ pos (getD ours (w .step) 0)) × (alike (useTold ts (w .step)) (getD us (w .step) []) ≡ false)))
-            → Says ss ps ours ts (judgedFrom 0 ss ps ts)
+            → VerdictSays ss ps ours ts (judgedFrom 0 ss ps ts)
         wrong w (inl m) = true-of (MoreThanFormed (w .step)) (more-words (w .step) (reached (w .step) (w .there) (w .before)) (below m))
         wrong w (inr (inl l)) = true-of (LessThanFormed (w .step)) (less-words (w .step) (reached (w .step) (w .there) (w .before)) (below l))
         wrong w (inr (inr (n, u))) =
@@ -216,12 +217,12 @@ module _ (ss : List (List Taker)) (ps : List Open) (ok : soundSteps ss ≡ true)
               wrong = λ e. false≢true (sym u ∙ same-alike (useTold ts (w .step)) (getD us (w .step) []) e);
             })
 
-        go : AllRight ours us ts ⊎ Wrong ours us ts → Says ss ps ours ts (judgedFrom 0 ss ps ts)
+        go : AllRight ours us ts ⊎ Wrong ours us ts → VerdictSays ss ps ours ts (judgedFrom 0 ss ps ts)
         go (inl r) = true-of Right (record { numbers = r .numbers; uses = r .uses })
         go (inr w) = wrong w (w .why)
 
-    exactly : (v : Verdict) → Iff (judgedFrom 0 ss ps ts ≡ v) (Says ss ps ours ts v)
-    exactly v = record { forth = λ e. subst (Says ss ps ours ts) e says; back = gives v }
+    exactly : (v : Verdict) → Iff (judgedFrom 0 ss ps ts ≡ v) (VerdictSays ss ps ours ts v)
+    exactly v = record { forth = λ e. subst (VerdictSays ss ps ours ts) e says; back = gives v }
 
   -- ---- the counts
 
@@ -242,7 +243,7 @@ module _ (ss : List (List Taker)) (ps : List Open) (ok : soundSteps ss ≡ true)
     told-many : SameCounts ss ps sent xs us → length ts ≡ length ss
     told-many c = told-length sent xs us ∙ c .steps
 
-    exactly-so : SameCounts ss ps sent xs us → (v : Verdict) → Iff (judgedList ss ps sent xs us ≡ v) (Says ss ps ours ts v)
+    exactly-so : SameCounts ss ps sent xs us → (v : Verdict) → Iff (judgedList ss ps sent xs us ≡ v) (VerdictSays ss ps ours ts v)
     exactly-so c v =
         let e = exactly ts (told-many c) v in
         record { forth = λ g. e .forth (sym (counted c) ∙ g); back = λ m. counted c ∙ e .back m }
@@ -306,6 +307,6 @@ module _ (ss : List (List Taker)) (ps : List Open) (ok : soundSteps ss ≡ true)
           only = only;
           counts = counts;
           whole = λ c. told-whole sent xs us (c .uses ∙ ap₂ _*_ (sym (c .steps)) (sym (c .prompts)));
-          exactly = λ c list p v. subst (λ (l : List ℕ). Iff (judgedList ss ps sent xs us ≡ v) (Says ss ps l ts v)) (sym (only list p)) (exactly-so c v);
+          exactly = λ c list p v. subst (λ (l : List ℕ). Iff (judgedList ss ps sent xs us ≡ v) (VerdictSays ss ps l ts v)) (sym (only list p)) (exactly-so c v);
           yes = λ list p. subst (λ (l : List ℕ). Iff (judgedList ss ps sent xs us ≡ Right) (TheList ss ps l sent xs us)) (sym (only list p)) yes;
         }

@@ -13,8 +13,10 @@ use lib.Signed.{ltZ}
 use Rattle.exact.specs.Signed.{negative}
 use Rattle.spread.specs.declared.Delta.{Delta}
 use Rattle.spread.proofs.Gathering.{noDelta}
-use Rattle.judging.specs.Compared.{isRight, deltasIn}
-use Rattle.judging.specs.Judged.{same, alike, verdictOf}
+use Rattle.spread.proofs.Lent.{delta-at}
+use Rattle.spread.specs.code.Lent.{deltasIn}
+use Rattle.judging.specs.code.Compared.{isRight}
+use Rattle.judging.specs.Judged.{level, alike, verdictOf}
 use Rattle.judging.specs.declared.Verdict.{Verdict}
 use Rattle.judging.specs.declared.Verdict.the-variants.{Right, MoreThanFormed, LessThanFormed, WrongUse}
 
@@ -28,14 +30,11 @@ less-is f (negsuc n) = refl
 
 -- one use after the other: what is still to be compared decides
 alike-at : (xs ys : List ℤ) (i : ℕ) → i < length xs → length ys ≡ length xs
-    → alike (drop i xs) (drop i ys) ≡ same (getD xs i (pos 0)) (getD ys i (pos 0)) && alike (drop (suc i) xs) (drop (suc i) ys)
+    → alike (drop i xs) (drop i ys) ≡ level (getD xs i (pos 0)) (getD ys i (pos 0)) && alike (drop (suc i) xs) (drop (suc i) ys)
 alike-at xs ys i h e = ap₂ alike (drop-cons xs i (pos 0) h) (drop-cons ys i (pos 0) (omega arith))
 
 alike-end : (xs ys : List ℤ) (i : ℕ) → length xs ≤ i → length ys ≡ length xs → alike (drop i xs) (drop i ys) ≡ true
 alike-end xs ys i h e = ap₂ alike (drop-of-length-le xs {i = i} h) (drop-of-length-le ys {i = i} (omega arith))
-
-delta-at : (ds : List Delta) (j : ℕ) → getD (deltasIn ds) j (pos 0) ≡ getD ds j noDelta .0
-delta-at ds j = List·getD-map (λ (d : Delta). d .0) ds j noDelta
 
 -- the same of uses that are sent and deltas that a step takes, of which there are enough
 module _ (uses : List ℤ) (taken : List Delta) (few : length uses ≤ length taken) where
@@ -46,10 +45,10 @@ module _ (uses : List ℤ) (taken : List Delta) (few : length uses ≤ length ta
   long = length-take-le (length uses) (deltasIn taken) (let e = length-map taken (λ (d : Delta). d .0) in omega arith)
 
   pub uses-at : (i : ℕ) → i < length uses
-      → alike (drop i uses) (drop i right) ≡ same (getD uses i (pos 0)) (getD taken i noDelta .0) && alike (drop (suc i) uses) (drop (suc i) right)
+      → alike (drop i uses) (drop i right) ≡ level (getD uses i (pos 0)) (getD taken i noDelta .0) && alike (drop (suc i) uses) (drop (suc i) right)
   uses-at i h =
       alike-at uses right i h long
-      ∙ ap (λ (z : ℤ). same (getD uses i (pos 0)) z && alike (drop (suc i) uses) (drop (suc i) right))
+      ∙ ap (λ (z : ℤ). level (getD uses i (pos 0)) z && alike (drop (suc i) uses) (drop (suc i) right))
       (getD-take (length uses) (deltasIn taken) i (pos 0) h ∙ delta-at taken i)
 
   pub uses-end : (i : ℕ) → length uses ≤ i → alike (drop i uses) (drop i right) ≡ true

@@ -12,7 +12,7 @@ use lib.IntN.{ℤ, pos}
 use lib.ListN.{length, length-drop, getD, take, drop, drop-of-length-le}
 use lib.Seq.{drop-cons, drop-drop, getD-take, length-take-le}
 use borrow.Author.Tests.{eqb-true}
-use Rattle.spread.specs.Accepted.{openOf, spreadsOf, stepsOf, soundSpread, soundPrompts, soundTable, sound, promptPlaces, spreadPlaces}
+use Rattle.spread.specs.Accepted.{openOf, tableSpreads, stepsOf, soundSpread, soundPrompts, soundTable, sound, promptPlaces, spreadPlaces}
 use Rattle.spread.specs.code.Book.{byPlace, deltaEntry}
 use Rattle.spread.specs.Steps.{stepOf, Open, Taker, steps, formed, after, left}
 use Rattle.spread.specs.Uses.{takenOf, soundFor}
@@ -28,7 +28,8 @@ use Rattle.spread.proofs.Gathering.{few, few-in-table, sound-in-table}
 use Rattle.spread.proofs.Lengths.{steps-length, used-length}
 use Rattle.spread.proofs.Filling.{take-deltas}
 use Rattle.spread.proofs.Running.{table-length}
-use Rattle.judging.specs.Compared.{isRight, deltasIn, ComparedTo}
+use Rattle.spread.specs.code.Lent.{deltasIn}
+use Rattle.judging.specs.code.Compared.{isRight, ComparedTo}
 use Rattle.judging.specs.Judged.{Told, alike, toldOf, verdictOf, judgedFrom, sameCounts, judgedList, judged}
 use Rattle.judging.specs.declared.Compared.{Compared}
 use Rattle.judging.specs.declared.Verdict.{Verdict}
@@ -79,15 +80,15 @@ steps-at (s ∷ ss) (suc (suc j)) d h =
     ∙ ap₂ (λ (r q : ℕ). stepOf (eqb r 1) (getD (s ∷ ss) q d) ∷ drop (suc j) (steps ss)) (sym odd) (sym half)
 
 module _ (t : Table) (len : length (t .spread) ≡ spreadPlaces) (ok : soundTable t ≡ true) where
-  spreads-there : length (spreadsOf t) ≡ t .count
+  spreads-there : length (tableSpreads t) ≡ t .count
   spreads-there = table-length t len (few-in-table t ok)
 
   pub table-steps : length (stepsOf t) ≡ 2 * t .count
-  table-steps = let a = steps-length (spreadsOf t) in let b = spreads-there in omega arith
+  table-steps = let a = steps-length (tableSpreads t) in let b = spreads-there in omega arith
 
   table-at : (j : ℕ) (d : Spread) → j < 2 * t .count → drop j (stepsOf t) ≡ stepOf (eqb (j % 2) 1) (getD (t .spread) (j / 2) d) ∷ drop (suc j) (stepsOf t)
   table-at j d h =
-      steps-at (spreadsOf t) j d (omega (arith, spreads-there))
+      steps-at (tableSpreads t) j d (omega (arith, spreads-there))
       ∙ ap (λ (s : Spread). stepOf (eqb (j % 2) 1) s ∷ drop (suc j) (stepsOf t)) (getD-take (t .count) (t .spread) (j / 2) d (omega arith))
 
 -- ---- what is told of a step and of those after it

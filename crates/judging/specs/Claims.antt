@@ -6,16 +6,13 @@ use mathlib.Core.List.{List, [], map}
 use lib.IntN.{ℤ, pos}
 use lib.ListN.{length, getD, take}
 use lib.Signed.{_<ℤ_}
+use Rattle.exact.specs.Iff.{Iff}
 use Rattle.spread.specs.Demand.{Feasible, FirstDifference}
 use Rattle.spread.specs.Steps.{Open, Taker, numbers}
 use Rattle.spread.specs.Uses.{inOneList, takings}
 use Rattle.judging.specs.Judged.{Told, toldOf, judgedList}
 use Rattle.judging.specs.declared.Verdict.{Verdict}
 use Rattle.judging.specs.declared.Verdict.the-variants.{Right, MoreThanFormed, LessThanFormed, WrongUse, OtherCounts}
-
-pub record Iff (A B : Type 0) : Type 0 where
-  pub forth : A → B
-  pub back : B → A
 
 -- the numbers and the uses that are sent
 abbrev pub numbersTold : List Told → List ℤ
@@ -68,12 +65,12 @@ pub record IsWrongUse (ss : List (List Taker)) (ps : List Open) (ours : List ℕ
   pub wrong : useTold told j ≡ getD (takings ss ps) j [] → ⊥
 
 -- what a verdict says of a list that has the counts
-abbrev pub Says : List (List Taker) → List Open → List ℕ → List Told → Verdict → Type 0
-Says ss ps ours told Right = IsRight ss ps ours told
-Says ss ps ours told (MoreThanFormed j) = IsMore ss ps ours told j
-Says ss ps ours told (LessThanFormed j) = IsLess ss ps ours told j
-Says ss ps ours told (WrongUse j) = IsWrongUse ss ps ours told j
-Says ss ps ours told OtherCounts = ⊥
+abbrev pub VerdictSays : List (List Taker) → List Open → List ℕ → List Told → Verdict → Type 0
+VerdictSays ss ps ours told Right = IsRight ss ps ours told
+VerdictSays ss ps ours told (MoreThanFormed j) = IsMore ss ps ours told j
+VerdictSays ss ps ours told (LessThanFormed j) = IsLess ss ps ours told j
+VerdictSays ss ps ours told (WrongUse j) = IsWrongUse ss ps ours told j
+VerdictSays ss ps ours told OtherCounts = ⊥
 
 -- "step count or prompt count" as the steps and prompts have them
 pub record SameCounts (ss : List (List Taker)) (ps : List Open) (sent : ℕ) (xs us : List ℤ) : Type 0 where
@@ -101,4 +98,4 @@ pub record Claims (ss : List (List Taker)) (ps : List Open) (sent : ℕ) (xs us 
   pub counts : Iff (judgedList ss ps sent xs us ≡ OtherCounts) (SameCounts ss ps sent xs us → ⊥)
   pub whole : SameCounts ss ps sent xs us → ToldWhole sent xs us
   pub exactly : SameCounts ss ps sent xs us → (ours : List ℕ) → Picked ss ps ours
-      → (v : Verdict) → Iff (judgedList ss ps sent xs us ≡ v) (Says ss ps ours (toldOf sent xs us) v)
+      → (v : Verdict) → Iff (judgedList ss ps sent xs us ≡ v) (VerdictSays ss ps ours (toldOf sent xs us) v)

@@ -27,14 +27,14 @@ toldOf prompts [] uses = []
 toldOf prompts (x ∷ numbers) uses = record { number = x; used = take prompts uses } ∷ toldOf prompts numbers (drop prompts uses)
 
 -- neither is below the other
-abbrev pub same : ℤ → ℤ → Bool
-same a b = not (ltZ a b) && not (ltZ b a)
+abbrev pub level : ℤ → ℤ → Bool
+level a b = not (ltZ a b) && not (ltZ b a)
 
 abbrev pub alike : List ℤ → List ℤ → Bool
 alike [] [] = true
 alike [] (y ∷ ys) = false
 alike (x ∷ xs) [] = false
-alike (x ∷ xs) (y ∷ ys) = same x y && alike xs ys
+alike (x ∷ xs) (y ∷ ys) = level x y && alike xs ys
 
 -- "its number is more than can be formed, or less, or the number is right and some prompt's use is not"
 abbrev pub verdictOf : ℕ → ℕ → ℤ → Bool → Verdict → Verdict

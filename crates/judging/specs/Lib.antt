@@ -1,3 +1,3 @@
 pub mod Claims
-pub mod Compared
 pub mod Judged
+pub mod code

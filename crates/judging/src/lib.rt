@@ -18,8 +18,9 @@ ghost use lib.ListN.{length, take};
 ghost use lib.Signed.{ltZ};
 ghost use Rattle.spread.specs.Accepted.{openOf, stepsOf, sound, promptPlaces, spreadPlaces};
 ghost use Rattle.spread.specs.Uses.{soundFor};
-ghost use Rattle.judging.specs.Judged.{same, alike, toldOf, verdictOf, judgedFrom, judged};
-ghost use Rattle.judging.specs.Compared.{isRight, deltasIn, ComparedTo};
+ghost use Rattle.judging.specs.Judged.{level, alike, toldOf, verdictOf, judgedFrom, judged};
+ghost use Rattle.spread.specs.code.Lent.{deltasIn};
+ghost use Rattle.judging.specs.code.Compared.{isRight, ComparedTo};
 
 // What is said of a list. A step is named by its place, from 0.
 pub enum Verdict {
@@ -51,7 +52,7 @@ fn is_less(formed: u64, number: i64) -> bool
 }
 
 fn same_use(sent: i64, taken: Delta) -> bool
-    ensures { λ r. ⌜ r ≡ same sent (taken .0) ⌝ }
+    ensures { λ r. ⌜ r ≡ level sent (taken .0) ⌝ }
 {
     !below(sent, taken.0) & !below(taken.0, sent)
 }

@@ -14,7 +14,8 @@ use Rattle.account.specs.Records.{records}
 use Rattle.account.specs.Joined.{accountOf}
 use Rattle.account.specs.declared.answers.Answer.the-variants.{NoSuchQuestion, OtherCounts}
 use Rattle.judging.specs.Claims as judging
-use Rattle.judging.specs.Claims.{Iff, SameCounts}
+use Rattle.exact.specs.Iff.{Iff}
+use Rattle.judging.specs.Claims.{SameCounts}
 use Rattle.judging.specs.Judged.{judgedList}
 use Rattle.margin.specs.Books.{answered}
 use Rattle.margin.specs.Lists.{saidOf}

@@ -1,21 +1,14 @@
 // A list of spreads that others send, judged against an account (request 2026-10): of one file, or of a noon file joined to the
 // morning's.
 use account::accounts::check_file;
+use account::accounts::nothing_of;
 use account::answers::number_of;
 use account::noon::JOINED;
 use account::noon::check_pair;
 use margin::lists::Judged;
 use margin::lists::judge_over;
 ghost use mathlib.Core.Path.{_≡_};
-ghost use mathlib.Core.List.{[]};
 ghost use Rattle.lists.specs.Lists.{judgedTo, joinedJudged};
-
-// No records: the noon file of an account that stands in one file.
-fn nothing_of(file: &[u8]) -> &[u8]
-    ensures { λ r. ⌜ now r ≡ [] ⌝ }
-{
-    &file[0..0]
-}
 
 // What is said of a list of spreads that is sent for a question, 0 to 15 for that contract or 16 for the intercontract table. The
 // list has a number for each step, of each spread its first step and then its second, in `numbers`; what each step used of each

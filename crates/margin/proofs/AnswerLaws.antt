@@ -16,7 +16,7 @@ use Rattle.account.specs.Lawful.{Lawful}
 use Rattle.account.specs.Records.{records, recordCount}
 use Rattle.account.specs.Parts.{promptsOf, rowsOf, entriesOf}
 use Rattle.spread.specs.Accepted as given
-use Rattle.spread.specs.Accepted.{openOf, spreadsOf, every, soundPrompt, soundPrompts, soundTable, sound, promptPlaces, spreadPlaces}
+use Rattle.spread.specs.Accepted.{openOf, tableSpreads, every, soundPrompt, soundPrompts, soundTable, sound, promptPlaces, spreadPlaces}
 use Rattle.spread.specs.code.Book.{Booked}
 use Rattle.spread.specs.code.Lent.{spreadsFrom, bookIn}
 use Rattle.spread.specs.Steps.{Open, Taker, steps, numbers, usedOf, unusedOf}
@@ -35,7 +35,7 @@ use Rattle.margin.specs.declared.uses.Asking.{Asking}
 use Rattle.margin.specs.Books.{threes, bookBy, contractBook, tableBook, answered, book, tableQuestion}
 use Rattle.formulas.specs.Bounds.{mostDelta, longestBook}
 use Rattle.formulas.specs.Contract.{Contract, contracts, partsOf, asTier, contractNet, contractSteps, opensOf, tableSteps}
-use Rattle.formulas.specs.Deltas.{opens, interprompt, netDeltas}
+use Rattle.formulas.specs.Deltas.{opensWith, interprompt, netDeltas}
 use Rattle.margin.specs.code.Numbers.{PromptsLent, SpreadsSigned, numbersIn}
 use Rattle.formulas.specs.code.Promised.{BookOf, BookRoom}
 use Rattle.margin.specs.code.Asked.{AskedBy, BookIs}
@@ -58,7 +58,7 @@ use Rattle.margin.proofs.UsesLaws.{uses-by-steps}
 
 -- ---- what is unused at first is the net delta
 
-unused-nets : (rs : List Record) (ns : List ℤ) → length ns ≡ length rs → map (λ p. p .unused) (opens rs ns) ≡ ns
+unused-nets : (rs : List Record) (ns : List ℤ) → length ns ≡ length rs → map (λ p. p .unused) (opensWith rs ns) ≡ ns
 unused-nets [] [] e = refl
 unused-nets [] (n ∷ ns) e = absurd (omega arith)
 unused-nets (r ∷ rs) [] e = absurd (omega arith)
@@ -166,11 +166,11 @@ module _ (p : Prompts) (t : Table) (lt : length (p .tier) ≡ promptPlaces) (ln 
   ps-long : length (openOf p) ≡ p .count
   ps-long = open-length p lt ln few-prompts
 
-  spreads-long : length (spreadsOf t) ≡ t .count
+  spreads-long : length (tableSpreads t) ≡ t .count
   spreads-long = length-take-le (t .count) (t .spread) (omega (arith, ls, few-spreads))
 
   pub book-long : length (bookBy (given.stepsOf t) (openOf p)) ≡ 3 * p .count + 2 * t .count + 1
-  book-long = by-length (spreadsOf t) (openOf p) ∙ ap₂ (λ (x y : ℕ). 3 * x + 2 * y + 1) ps-long spreads-long
+  book-long = by-length (tableSpreads t) (openOf p) ∙ ap₂ (λ (x y : ℕ). 3 * x + 2 * y + 1) ps-long spreads-long
 
   pub run-long : 3 * p .count + 2 * t .count + 1 ≤ longestBook
   run-long = omega (arith, few-prompts, few-spreads)
@@ -184,22 +184,22 @@ module _ (p : Prompts) (t : Table) (lt : length (p .tier) ≡ promptPlaces) (ln 
     run-is = book-accepted (given.stepsOf t) (openOf p) p t (bookIn first second used unused) refl refl ok is
 
     pub run-lent : (nets : List ℤ) → p .count ≤ length nets → PromptsLent (p .count) nets used unused
-    run-lent = prompts-lent (spreadsOf t) (openOf p) (p .count) (t .count) ps-long few-prompts spreads-long few-spreads first second used unused run-is
+    run-lent = prompts-lent (tableSpreads t) (openOf p) (p .count) (t .count) ps-long few-prompts spreads-long few-spreads first second used unused run-is
 
     pub run-signed : SpreadsSigned (t .count) first second
     run-signed =
-        signed (spreadsOf t) (openOf p) (p .count) (t .count) ps-long few-prompts spreads-long few-spreads first second used unused run-is
+        signed (tableSpreads t) (openOf p) (p .count) (t .count) ps-long few-prompts spreads-long few-spreads first second used unused run-is
         (all-sound p prompts-ok)
 
     pub run-numbers : (nets : List ℤ) (n : ℕ) → take (p .count) nets ≡ map (λ o. o .unused) (openOf p) → n ≡ touches (given.stepsOf t) (openOf p)
         → numbersIn (p .count) (t .count) nets first second used unused n ≡ bookBy (given.stepsOf t) (openOf p)
-    run-numbers = numbers-are (spreadsOf t) (openOf p) (p .count) (t .count) ps-long few-prompts spreads-long few-spreads first second used unused run-is
+    run-numbers = numbers-are (tableSpreads t) (openOf p) (p .count) (t .count) ps-long few-prompts spreads-long few-spreads first second used unused run-is
 
 -- ---- a contract's book
 
 module _ (part spreads : List ℕ) (nets : List ℤ) (ln : length nets ≡ promptPlaces) (room : BookRoom (records part) nets (records spreads)) where
   abbrev os : List Open
-  os = opens (records part) nets
+  os = opensWith (records part) nets
 
   abbrev its : List Spread
   its = map interprompt (records spreads)

@@ -34,7 +34,7 @@ use Rattle.margin.specs.Books.{book, bookBy, asks, answered, tableQuesti
 use Rattle.spread.specs.Steps.{Open, steps}
 use Rattle.spread.specs.code.Lent.{deltasFrom}
 use Rattle.formulas.specs.Bounds.{mostDelta}
-use Rattle.formulas.specs.Deltas.{opens, interprompt, netDeltas}
+use Rattle.formulas.specs.Deltas.{opensWith, interprompt, netDeltas}
 use Rattle.formulas.specs.Contract.{Contract, contracts, contractFrom, partsIn, partsOf, asTier, contractSteps, opensOf, tableSteps}
 use Rattle.margin.specs.code.Lined.{PositionAt, TierIs}
 use Rattle.formulas.specs.code.Position.{PositionOf, positionIn, withNets, Bounded, RowsFit, RatedBy}
@@ -184,12 +184,12 @@ asked-by whole records c prompts spreads p a few is x =
 book-of : (whole : List Record) → Lawful whole → (c : ℕ) → c ≤ mostContract → answered whole c ≡ true → (prompts spreads : List Record) (nets : List ℤ)
     → prompts ≡ promptsOf c whole → spreads ≡ spreadsOf c whole
     → take (length (promptsOf c whole)) (deltasIn (deltasFrom nets)) ≡ netDeltas (promptsOf c whole) (rowsOf c whole)
-    → BookIs whole c (steps (map interprompt spreads)) (opens prompts nets)
+    → BookIs whole c (steps (map interprompt spreads)) (opensWith prompts nets)
 book-of whole law c few asked prompts spreads nets ep es en =
     let apart = ne-eqb c tableQuestion (λ e. omega (arith, few, e)) in
     let same = opens-first (promptsOf c whole) nets
-    ∙ ap (λ (zs : List ℤ). opens (promptsOf c whole) (take (length (promptsOf c whole)) zs)) (sym (deltas-again nets))
-    ∙ ap (opens (promptsOf c whole)) en in
+    ∙ ap (λ (zs : List ℤ). opensWith (promptsOf c whole) (take (length (promptsOf c whole)) zs)) (sym (deltas-again nets))
+    ∙ ap (opensWith (promptsOf c whole)) en in
     record {
       asked-is = asked;
       is =
@@ -197,11 +197,11 @@ book-of whole law c few asked prompts spreads nets ep es en =
           ∙ ap (λ (b : Bool). bookBy (cond b (tableSteps (entriesOf whole)) (contractSteps (partsOf whole c)))
           (cond b (map asTier (contracts whole)) (opensOf (partsOf whole c)))) apart
           ∙ ap₂ (λ (ss : List Record) (os : List Open). bookBy (steps (map interprompt ss)) os) (sym es)
-          (sym (ap (λ (rs : List Record). opens rs nets) ep ∙ same));
+          (sym (ap (λ (rs : List Record). opensWith rs nets) ep ∙ same));
     }
 
 pub book-is : (whole : List Record) (records c : ℕ) (prompts spreads : List Record) (totals nets : List ℤ) (shorts : ℕ) → c ≤ mostContract
-    → ContractIn whole records c prompts spreads (positionIn totals nets shorts) → BookIs whole c (steps (map interprompt spreads)) (opens prompts nets)
+    → ContractIn whole records c prompts spreads (positionIn totals nets shorts) → BookIs whole c (steps (map interprompt spreads)) (opensWith prompts nets)
 book-is whole records c prompts spreads totals nets shorts few is =
     book-of whole (is .lawful) c few (is .asked-is) prompts spreads nets (is .prompts-are) (is .spreads-are) (is .at .is .nets-are)
 
@@ -242,7 +242,7 @@ module _ (account : List Record) (law : Lawful account) (c : ℕ) (few : c ≤ m
         (subst (λ (zs : List ℤ). BookRoom (promptsOf c account) zs (spreadsOf c account)) (deltas-again nets)
         (book-room (w .rates) (fit .own) (promptsOf c account) (w .rows) (spreadsOf c account) (w .fit) _ (w .is) (w .most)))
 
-    pub nets-book : answered account c ≡ true → BookIs account c (steps (map interprompt (records spreads))) (opens (records prompts) nets)
+    pub nets-book : answered account c ≡ true → BookIs account c (steps (map interprompt (records spreads))) (opensWith (records prompts) nets)
     nets-book asked = book-of account law c few asked (records prompts) (records spreads) nets prompts-are spreads-are (its-nets .is .nets-are)
 
 -- ---- a contract by the parts that it has in the files

@@ -18,7 +18,7 @@ use Rattle.account.specs.Lawful.{Lawful}
 use Rattle.account.specs.PartNumbers.{entryPart}
 use Rattle.account.specs.code.Standing.{PartOf}
 use Rattle.record.specs.Layout.{Record}
-use Rattle.spread.specs.Accepted.{openOf, spreadsOf, soundSpread, soundPrompts, soundTable, sound, promptPlaces, spreadPlaces}
+use Rattle.spread.specs.Accepted.{openOf, tableSpreads, soundSpread, soundPrompts, soundTable, sound, promptPlaces, spreadPlaces}
 use Rattle.spread.specs.code.Book.{byPlace, deltaEntry}
 use Rattle.spread.specs.Steps.{stepOf, Open, steps, formed, after}
 use Rattle.spread.specs.Uses.{takenOf, usesOf, soundFor}
@@ -38,7 +38,7 @@ use Rattle.spread.proofs.Running.{table-length}
 use Rattle.formulas.specs.declared.rows.Position.{Position}
 use Rattle.margin.specs.Books.{answered, tableQuestion}
 use Rattle.formulas.specs.Contract.{contracts, partsOf, asTier, contractSteps, opensOf, tableSteps}
-use Rattle.formulas.specs.Deltas.{opens, interprompt, intercontract}
+use Rattle.formulas.specs.Deltas.{opensWith, interprompt, intercontract}
 use Rattle.formulas.specs.code.Promised.{BookFit, contractWith}
 use Rattle.margin.specs.code.Lined.{TiersIn}
 use Rattle.formulas.specs.code.Sums.{deltasIn}
@@ -75,7 +75,7 @@ module _ (p : Prompts) (s : Spread) (second : Bool) (r : Step) (is : Stepped p s
 -- ---- all steps: what is written and what the steps still to come take are the whole
 
 pub record Putting (n : ℕ) (t : Table) (all : List ℤ) (i at : ℕ) (left : Prompts) (out : List ℤ) : Type 0 where
-  pub whole : sets out at (usesOf (steps (drop i (spreadsOf t))) (openOf left)) ≡ all
+  pub whole : sets out at (usesOf (steps (drop i (tableSpreads t))) (openOf left)) ≡ all
   pub sound : soundPrompts left ≡ true
   pub count : left .count ≡ n
   pub room : at + (t .count - i) * (2 * n) ≤ length out
@@ -83,10 +83,10 @@ pub record Putting (n : ℕ) (t : Table) (all : List ℤ) (i at : ℕ) (left : P
   pub long : length (openOf left) ≡ n
 
 module _ (t : Table) (len : length (t .spread) ≡ spreadPlaces) (ok : soundTable t ≡ true) where
-  spreads-there : length (spreadsOf t) ≡ t .count
+  spreads-there : length (tableSpreads t) ≡ t .count
   spreads-there = table-length t len (few-in-table t ok)
 
-  pub spread-here : (i : ℕ) (d : Spread) → i < t .count → getD (spreadsOf t) i d ≡ getD (t .spread) i d
+  pub spread-here : (i : ℕ) (d : Spread) → i < t .count → getD (tableSpreads t) i d ≡ getD (t .spread) i d
   spread-here i d h = getD-take (t .count) (t .spread) i d h
 
   module _ (n : ℕ) (all : List ℤ) (i at : ℕ) (left between rest : Prompts) (out out₁ out₂ : List ℤ) (d : Spread) (is : Putting n t all i at left out)
@@ -127,7 +127,7 @@ module _ (t : Table) (len : length (t .spread) ≡ spreadPlaces) (ok : soundTabl
         y = takenOf (stepOf true s) (openOf between)
 
         abbrev z : List ℤ
-        z = usesOf (steps (drop (i + 1) (spreadsOf t))) (openOf rest)
+        z = usesOf (steps (drop (i + 1) (tableSpreads t))) (openOf rest)
 
         xs : length x ≡ n
         xs = used-length (stepOf false s ∷ []) (openOf left) ∙ is .long
@@ -135,15 +135,15 @@ module _ (t : Table) (len : length (t .spread) ≡ spreadPlaces) (ok : soundTabl
         ys : length y ≡ n
         ys = used-length (stepOf true s ∷ []) (openOf between) ∙ long-between
 
-        to-come : x ++ (y ++ z) ≡ usesOf (steps (drop i (spreadsOf t))) (openOf left)
+        to-come : x ++ (y ++ z) ≡ usesOf (steps (drop i (tableSpreads t))) (openOf left)
         to-come =
-            ap₂ (λ (l : List Open) (k : ℕ). x ++ (y ++ usesOf (steps (drop k (spreadsOf t))) l)) (b .opens) (add-one i)
+            ap₂ (λ (l : List Open) (k : ℕ). x ++ (y ++ usesOf (steps (drop k (tableSpreads t))) l)) (b .opens) (add-one i)
             ∙ ap (λ (l : List Open). x ++
-            (takenOf (stepOf true s) l ++ usesOf (steps (drop (suc i) (spreadsOf t))) (after (stepOf true s) (formed (stepOf true s) l) l))) (a .opens)
+            (takenOf (stepOf true s) l ++ usesOf (steps (drop (suc i) (tableSpreads t))) (after (stepOf true s) (formed (stepOf true s) l) l))) (a .opens)
             ∙ ap (λ (l : List Spread). usesOf (steps l) (openOf left))
-            (sym (drop-cons (spreadsOf t) i d (omega (arith, spreads-there)) ∙ ap (λ (u : Spread). u ∷ drop (suc i) (spreadsOf t)) (spread-here i d h)))
+            (sym (drop-cons (tableSpreads t) i d (omega (arith, spreads-there)) ∙ ap (λ (u : Spread). u ∷ drop (suc i) (tableSpreads t)) (spread-here i d h)))
 
-        written : sets out₂ (at + 2 * n) z ≡ sets out at (usesOf (steps (drop i (spreadsOf t))) (openOf left))
+        written : sets out₂ (at + 2 * n) z ≡ sets out at (usesOf (steps (drop i (tableSpreads t))) (openOf left))
         written =
             ap₂ (λ (l : List ℤ) (k : ℕ). sets l k z) q (let e = ys in omega arith)
             ∙ sym (sets-append out₁ (at + n) y z)
@@ -167,13 +167,13 @@ module _ (t : Table) (len : length (t .spread) ≡ spreadPlaces) (ok : soundTabl
 
   pub put-all : (n : ℕ) (all : List ℤ) (i at : ℕ) (left : Prompts) (out : List ℤ) → Putting n t all i at left out → t .count ≤ i → out ≡ all
   put-all n all i at left out is h =
-      let past : length (spreadsOf t) ≤ i = omega (arith, spreads-there) in
-      ap (λ (l : List Spread). sets out at (usesOf (steps l) (openOf left))) (sym (drop-of-length-le (spreadsOf t) past)) ∙ is .whole
+      let past : length (tableSpreads t) ≤ i = omega (arith, spreads-there) in
+      ap (λ (l : List Spread). sets out at (usesOf (steps l) (openOf left))) (sym (drop-of-length-le (tableSpreads t) past)) ∙ is .whole
 
 -- nothing is written yet
 pub put-none : (p : Prompts) (t : Table) (out : List ℤ) → length (p .tier) ≡ promptPlaces → length (p .net) ≡ promptPlaces → sound p t ≡ true
     → t .count * (2 * p .count) ≤ length out
-    → Putting (p .count) t (sets out 0 (usesOf (steps (spreadsOf t)) (openOf p))) 0 0 p out
+    → Putting (p .count) t (sets out 0 (usesOf (steps (tableSpreads t)) (openOf p))) 0 0 p out
 put-none p t out lt ln ok h =
     let a = and-left (soundPrompts p) (soundTable t) ok in
     let none : t .count - 0 ≡ t .count = omega arith in
@@ -197,7 +197,7 @@ spread-uses spreads ps =
     ∙ mul-assoc (length spreads) 2 (length ps)
 
 -- the steps of a table over prompts
-pub asks : (p : Prompts) (t : Table) (ps : List Open) (spreads : List Spread) → openOf p ≡ ps → spreadsOf t ≡ spreads → sound p t ≡ true
+pub asks : (p : Prompts) (t : Table) (ps : List Open) (spreads : List Spread) → openOf p ≡ ps → tableSpreads t ≡ spreads → sound p t ≡ true
     → p .count ≡ length ps → t .count ≡ length spreads
     → Asks (steps spreads) ps (record { prompts = p; table = t })
 asks p t ps spreads eo es ok np nt =
@@ -218,7 +218,7 @@ contract-asks prompts spreads q w p t tiers table =
     let room = book-room (f .rates) (w .own) ps (f .rows) (records spreads) (f .fit) q (f .is) (f .most) in
     let same = opens-first ps (deltasIn (q .nets)) in
     let few : length (take (length ps) (deltasIn (q .nets))) ≡ length ps = ap length (f .is .nets-are) ∙ length-map ps _ in
-    asks p t (opens ps (take (length ps) (deltasIn (q .nets)))) (map interprompt (records spreads)) (opens-are prompts (q .nets) p tiers ∙ same)
+    asks p t (opensWith ps (take (length ps) (deltasIn (q .nets)))) (map interprompt (records spreads)) (opens-are prompts (q .nets) p tiers ∙ same)
     (table .spreads-are)
     (contract-sound prompts spreads (q .nets) p t tiers table room)
     (tiers .count-is ∙ sym (count-is prompts) ∙ sym (opens-length ps (take (length ps) (deltasIn (q .nets))) few))

@@ -50,7 +50,7 @@ use account::parts::PROMPTS;
 use account::parts::SPREADS;
 use account::rates::Rates;
 use formulas::amount::Amount;
-use formulas::books::put_contract_book;
+use formulas::books::put_counted_book;
 use formulas::line::Line;
 use formulas::line::line_in;
 use formulas::rows::Position;
@@ -78,17 +78,18 @@ ghost use Rattle.account.specs.code.Standing.{Stands};
 ghost use Rattle.account.specs.Joined.{accountOf};
 ghost use Rattle.account.specs.Records.{records};
 ghost use Rattle.spread.specs.Accepted.{openOf, stepsOf, sound, promptPlaces};
+ghost use Rattle.spread.specs.Touches.{touches, mostTouches};
 ghost use Rattle.spread.specs.Steps.{steps};
 ghost use Rattle.spread.specs.code.Book.{Booked};
 ghost use Rattle.spread.specs.code.Lent.{promptsIn, bookIn};
-ghost use Rattle.formulas.specs.Deltas.{opens, interprompt};
+ghost use Rattle.formulas.specs.Deltas.{opensWith, interprompt};
 ghost use Rattle.formulas.specs.code.Position.{positionIn};
 ghost use Rattle.margin.specs.code.Beside.{Besides, LinesKnown, LinedBy, TiersKnown, Unspread};
 ghost use Rattle.margin.specs.Books.{answered, tableQuestion};
 ghost use Rattle.margin.specs.Figures as shown;
 ghost use Rattle.formulas.specs.Bounds.{longestBook, longestUses, figuresEach};
 ghost use Rattle.margin.specs.code.Lined.{TiersIn};
-ghost use Rattle.margin.specs.code.Positions.{Told, Known, ToldOf, ContractIn};
+ghost use Rattle.margin.specs.code.Positions.{PositionsTell, Known, ToldOf, ContractIn};
 ghost use Rattle.formulas.specs.code.Promised.{BookFit, BookOf, BookRoom, LineOf, PositionFit, contractWith};
 ghost use Rattle.margin.specs.Questions.{answerOver, afterOver, needOver, mostFor};
 ghost use Rattle.margin.specs.code.Asked.{SizesOf, AskedBy, BookIs};
@@ -279,7 +280,7 @@ fn figures_answer<'a>(
     out: &mut [i64],
 ) -> Answer
     requires { ⌜ Stands (now morning) (now noon) account × Known (accountOf (now morning) (now noon)) positions ⌝ }
-    ensures { λ r. ⌜ ((whole : List Record) → Told (accountOf (now (morning .entry)) (now (noon .entry))) positions whole
+    ensures { λ r. ⌜ ((whole : List Record) → PositionsTell (accountOf (now (morning .entry)) (now (noon .entry))) positions whole
         → (r ≡ answerOver whole Figures (length (now (out .entry)))) × (now (out .exit) ≡ afterOver whole Figures (now (out .entry)))) ⌝ }
 {
     let lines = lines_from(morning, noon, account, positions);
@@ -296,7 +297,7 @@ fn question_answer<'a>(
     out: &mut [i64],
 ) -> Answer
     requires { ⌜ Stands (now morning) (now noon) account × Known (accountOf (now morning) (now noon)) positions ⌝ }
-    ensures { λ r. ⌜ ((whole : List Record) → Told (accountOf (now (morning .entry)) (now (noon .entry))) positions whole
+    ensures { λ r. ⌜ ((whole : List Record) → PositionsTell (accountOf (now (morning .entry)) (now (noon .entry))) positions whole
         → (r ≡ answerOver whole (questionOf paid question) (length (now (out .entry))))
         × (now (out .exit) ≡ afterOver whole (questionOf paid question) (now (out .entry)))) ⌝ }
 {
@@ -317,7 +318,7 @@ pub fn answer_from<'a>(
     out: &mut [i64],
 ) -> Answer
     requires { ⌜ Stands (now morning) (now noon) account × Known (accountOf (now morning) (now noon)) positions ⌝ }
-    ensures { λ r. ⌜ ((whole : List Record) → Told (accountOf (now (morning .entry)) (now (noon .entry))) positions whole
+    ensures { λ r. ⌜ ((whole : List Record) → PositionsTell (accountOf (now (morning .entry)) (now (noon .entry))) positions whole
         → (r ≡ answerOver whole question (length (now (out .entry)))) × (now (out .exit) ≡ afterOver whole question (now (out .entry)))) ⌝ }
 {
     match question {
@@ -487,7 +488,7 @@ pub fn all_from<'a>(
     out: &mut [i64],
 ) -> Answer
     requires { ⌜ Stands (now morning) (now noon) account × Known (accountOf (now morning) (now noon)) positions ⌝ }
-    ensures { λ r. ⌜ ((whole : List Record) → Told (accountOf (now (morning .entry)) (now (noon .entry))) positions whole
+    ensures { λ r. ⌜ ((whole : List Record) → PositionsTell (accountOf (now (morning .entry)) (now (noon .entry))) positions whole
         → (r ≡ allOver paid whole (length (now (out .entry)))) × (now (out .exit) ≡ afterAllOver paid whole (now (out .entry)))) ⌝ }
 {
     let records = positions.records;
@@ -531,7 +532,7 @@ pub fn everything_from<'a>(
     uses: &mut [i64],
 ) -> Everything
     requires { ⌜ Stands (now morning) (now noon) account × Known (accountOf (now morning) (now noon)) positions ⌝ }
-    ensures { λ r. ⌜ ((whole : List Record) → Told (accountOf (now (morning .entry)) (now (noon .entry))) positions whole
+    ensures { λ r. ⌜ ((whole : List Record) → PositionsTell (accountOf (now (morning .entry)) (now (noon .entry))) positions whole
         → EverythingOf whole (now (figures .entry)) (now (books .entry)) (now (uses .entry)) r (now (figures .exit)) (now (books .exit)) (now (uses .exit))) ⌝ }
 {
     Everything {
@@ -551,13 +552,16 @@ fn lend_book(
     second: &[u64; MOST_SPREADS],
     used: &[i64; MOST_PROMPTS],
     unused: &[i64; MOST_PROMPTS],
+    touched: u64,
     out: &mut [i64],
 )
     requires { ⌜ (c ≤ mostContract) × ((length (now nets) ≡ promptPlaces) × (BookRoom (records (now prompts)) (now nets) (records (now spreads))
-        × BookOf (steps (map interprompt (records (now spreads)))) (opens (records (now prompts)) (now nets))
-        (bookIn (now first) (now second) (now used) (now unused)))) ⌝ }
+        × (BookOf (steps (map interprompt (records (now spreads)))) (opensWith (records (now prompts)) (now nets))
+        (bookIn (now first) (now second) (now used) (now unused))
+        × ((touched ≡ touches (steps (map interprompt (records (now spreads)))) (opensWith (records (now prompts)) (now nets)))
+        × (touched ≤ mostTouches))))) ⌝ }
     ensures { λ r. ⌜ ((whole : List Record) → BookIs whole c (steps (map interprompt (records (now (spreads .entry)))))
-        (opens (records (now (prompts .entry))) (now (nets .entry)))
+        (opensWith (records (now (prompts .entry))) (now (nets .entry)))
         → now (out .exit) ≡ lentPlace longestBook c (afterOver whole (Book c)) (now (out .entry))) ⌝ }
 {
     if out.len() < ALL_BOOKS {
@@ -574,6 +578,7 @@ fn lend_book(
         second,
         used,
         unused,
+        touched,
     );
 }
 
@@ -627,7 +632,7 @@ fn contract_in(
     let mut second = [0; MOST_SPREADS];
     let mut used = [0; MOST_PROMPTS];
     let mut unused = [0; MOST_PROMPTS];
-    put_contract_book(
+    let touched = put_counted_book(
         prompts,
         nets,
         spreads,
@@ -645,6 +650,7 @@ fn contract_in(
         &second,
         &used,
         &unused,
+        touched,
         books,
     );
     lend_uses(count, c, prompts, spreads, totals, nets, shorts, uses);

@@ -1,8 +1,7 @@
 // The numbers of a question's book, by the spread steps.
 use crate::numbers::put_numbers;
 use crate::numbers::put_unspread;
-use formulas::books::contract_touches;
-use formulas::books::put_contract_book;
+use formulas::books::put_counted_book;
 use record::bytes::RECORD_BYTES;
 use spread::MOST_PROMPTS;
 use spread::MOST_SPREADS;
@@ -19,10 +18,11 @@ ghost use lib.Seq.{sets};
 ghost use Rattle.account.specs.Check.{mostPrompts, mostSpreads};
 ghost use Rattle.account.specs.Records.{records, recordCount};
 ghost use Rattle.spread.specs.Accepted.{openOf, stepsOf, sound, promptPlaces};
+ghost use Rattle.spread.specs.Touches.{touches, mostTouches};
 ghost use Rattle.spread.specs.Steps.{steps};
 ghost use Rattle.spread.specs.code.Book.{Booked};
 ghost use Rattle.spread.specs.code.Lent.{promptsIn, bookIn};
-ghost use Rattle.formulas.specs.Deltas.{opens, interprompt};
+ghost use Rattle.formulas.specs.Deltas.{opensWith, interprompt};
 ghost use Rattle.formulas.specs.code.Promised.{BookOf, BookRoom};
 ghost use Rattle.margin.specs.Books.{bookBy};
 
@@ -139,15 +139,17 @@ pub(crate) fn put_contract(
     second: &[u64; MOST_SPREADS],
     used: &[i64; MOST_PROMPTS],
     unused: &[i64; MOST_PROMPTS],
+    touched: u64,
 )
     requires { ⌜ (3 * recordCount (now prompts) + 2 * recordCount (now spreads) + 1 ≤ length (now out)) × ((length (now nets) ≡ promptPlaces)
         × (BookRoom (records (now prompts)) (now nets) (records (now spreads))
-        × BookOf (steps (map interprompt (records (now spreads)))) (opens (records (now prompts)) (now nets))
-        (bookIn (now first) (now second) (now used) (now unused)))) ⌝ }
+        × (BookOf (steps (map interprompt (records (now spreads)))) (opensWith (records (now prompts)) (now nets))
+        (bookIn (now first) (now second) (now used) (now unused))
+        × ((touched ≡ touches (steps (map interprompt (records (now spreads)))) (opensWith (records (now prompts)) (now nets)))
+        × (touched ≤ mostTouches))))) ⌝ }
     ensures { λ r. ⌜ now (out .exit) ≡ sets (now (out .entry)) 0
-        (bookBy (steps (map interprompt (records (now (spreads .entry))))) (opens (records (now (prompts .entry))) (now (nets .entry)))) ⌝ }
+        (bookBy (steps (map interprompt (records (now (spreads .entry))))) (opensWith (records (now (prompts .entry))) (now (nets .entry)))) ⌝ }
 {
-    let touches = contract_touches(prompts, nets, spreads, first, second);
     put_numbers(
         out,
         prompts.len() / RECORD_BYTES,
@@ -157,7 +159,7 @@ pub(crate) fn put_contract(
         second,
         used,
         unused,
-        touches,
+        touched,
     );
 }
 
@@ -171,7 +173,7 @@ pub(crate) fn run_contract(
     requires { ⌜ (3 * recordCount (now prompts) + 2 * recordCount (now spreads) + 1 ≤ length (now out)) × ((length (now nets) ≡ promptPlaces)
         × BookRoom (records (now prompts)) (now nets) (records (now spreads))) ⌝ }
     ensures { λ r. ⌜ now (out .exit) ≡ sets (now (out .entry)) 0
-        (bookBy (steps (map interprompt (records (now (spreads .entry))))) (opens (records (now (prompts .entry))) (now (nets .entry)))) ⌝ }
+        (bookBy (steps (map interprompt (records (now (spreads .entry))))) (opensWith (records (now (prompts .entry))) (now (nets .entry)))) ⌝ }
 {
     if spreads.len() < RECORD_BYTES {
         put_unspread(out, prompts.len() / RECORD_BYTES, nets);
@@ -181,7 +183,7 @@ pub(crate) fn run_contract(
     let mut second = [0; MOST_SPREADS];
     let mut used = [0; MOST_PROMPTS];
     let mut unused = [0; MOST_PROMPTS];
-    put_contract_book(
+    let touched = put_counted_book(
         prompts,
         nets,
         spreads,
@@ -190,5 +192,15 @@ pub(crate) fn run_contract(
         &mut used,
         &mut unused,
     );
-    put_contract(out, prompts, nets, spreads, &first, &second, &used, &unused);
+    put_contract(
+        out,
+        prompts,
+        nets,
+        spreads,
+        &first,
+        &second,
+        &used,
+        &unused,
+        touched,
+    );
 }

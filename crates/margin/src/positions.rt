@@ -38,7 +38,7 @@ ghost use Rattle.margin.specs.Books.{answered};
 ghost use Rattle.formulas.specs.Bounds.{mostDelta};
 ghost use Rattle.margin.specs.Figures.{accountTotal};
 ghost use Rattle.margin.specs.code.Lined.{LinesOf, TiersIn};
-ghost use Rattle.margin.specs.code.Positions.{PositionsOf, Told, Known};
+ghost use Rattle.margin.specs.code.Positions.{PositionsOf, PositionsTell, Known};
 ghost use Rattle.formulas.specs.code.Sums.{deltasIn};
 ghost use Rattle.margin.specs.Uses.{stepsFor, opensFor};
 ghost use Rattle.margin.specs.code.Asking.{Asks};
@@ -77,7 +77,7 @@ pub(crate) fn lines_from<'a>(
     positions: Positions,
 ) -> Lines
     requires { ⌜ Stands (now morning) (now noon) account × Known (accountOf (now morning) (now noon)) positions ⌝ }
-    ensures { λ r. ⌜ ((whole : List Record) → Told (accountOf (now (morning .entry)) (now (noon .entry))) positions whole → LinesOf whole r) ⌝ }
+    ensures { λ r. ⌜ ((whole : List Record) → PositionsTell (accountOf (now (morning .entry)) (now (noon .entry))) positions whole → LinesOf whole r) ⌝ }
 {
     let count = contract_total(account);
     let mut lines = [no_line(); CONTRACTS];
@@ -101,7 +101,8 @@ pub fn total_from<'a>(
     positions: Positions,
 ) -> Amount
     requires { ⌜ Stands (now morning) (now noon) account × Known (accountOf (now morning) (now noon)) positions ⌝ }
-    ensures { λ r. ⌜ ((whole : List Record) → Told (accountOf (now (morning .entry)) (now (noon .entry))) positions whole → r .0 ≡ accountTotal whole) ⌝ }
+    ensures { λ r. ⌜ ((whole : List Record) → PositionsTell (accountOf (now (morning .entry)) (now (noon .entry))) positions whole
+        → r .0 ≡ accountTotal whole) ⌝ }
 {
     let lines = lines_from(morning, noon, account, positions);
     let mut numbers = [0i64; LONGEST_FIGURES];
@@ -131,7 +132,7 @@ pub(crate) fn tiers_from<'a>(
     positions: Positions,
 ) -> Prompts
     requires { ⌜ Stands (now morning) (now noon) account × Known (accountOf (now morning) (now noon)) positions ⌝ }
-    ensures { λ r. ⌜ ((whole : List Record) → Told (accountOf (now (morning .entry)) (now (noon .entry))) positions whole → TiersIn whole r) ⌝ }
+    ensures { λ r. ⌜ ((whole : List Record) → PositionsTell (accountOf (now (morning .entry)) (now (noon .entry))) positions whole → TiersIn whole r) ⌝ }
 {
     let count = contract_total(account);
     let mut tiers = [0u8; MOST_PROMPTS];
@@ -162,7 +163,7 @@ pub(crate) fn asking_from<'a>(
 ) -> Asking
     requires { ⌜ Stands (now morning) (now noon) account
         × (Known (accountOf (now morning) (now noon)) positions × (answered (accountOf (now morning) (now noon)) question ≡ true)) ⌝ }
-    ensures { λ r. ⌜ ((whole : List Record) → Told (accountOf (now (morning .entry)) (now (noon .entry))) positions whole
+    ensures { λ r. ⌜ ((whole : List Record) → PositionsTell (accountOf (now (morning .entry)) (now (noon .entry))) positions whole
         → Asks (stepsFor whole question) (opensFor whole question) r) ⌝ }
 {
     if question == TABLE {

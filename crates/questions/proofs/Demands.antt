@@ -11,7 +11,7 @@ use lib.ListN.{length, getD}
 use Rattle.record.specs.Layout.{Record}
 use Rattle.account.specs.Answers.{numberOf, recordOf}
 use Rattle.account.specs.Checked.{checked}
-use Rattle.account.specs.Claims.{Iff}
+use Rattle.exact.specs.Iff.{Iff}
 use Rattle.account.specs.Lawful.{Lawful}
 use Rattle.account.specs.Noon.{clear, joinedVerdict}
 use Rattle.account.specs.Joined.{accountOf}

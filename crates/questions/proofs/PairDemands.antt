@@ -13,7 +13,7 @@ use lib.ListN.{length}
 use Rattle.record.specs.Layout.{Record}
 use Rattle.record.proofs.Within.{neither}
 use Rattle.account.specs.Answers.{numberOf, recordOf}
-use Rattle.account.specs.Claims.{Iff}
+use Rattle.exact.specs.Iff.{Iff}
 use Rattle.account.specs.Noon.{ofJoined, clear, _then_, joinedVerdict}
 use Rattle.account.specs.PairClaims.{OfMorning, OfNoon, OfJoined}
 use Rattle.account.specs.Joined.{accountOf}

@@ -10,7 +10,8 @@ use lib.ListN.{length, drop}
 use Rattle.account.specs.Answers.{numberOf, recordOf}
 use Rattle.record.specs.Layout.{Record, mostContract}
 use Rattle.account.specs.Checked.{checked}
-use Rattle.account.specs.Claims.{Iff, Claims}
+use Rattle.exact.specs.Iff.{Iff}
+use Rattle.account.specs.Claims.{Claims}
 use Rattle.account.specs.Orders.{Later}
 use Rattle.account.specs.Parts.{promptsOf, entriesOf}
 use Rattle.account.specs.Records.{records, recordCount}

@@ -8,7 +8,7 @@ use mathlib.Core.List.{List}
 use lib.IntN.{ℤ, pos, natAbs}
 use lib.ListN.{length}
 use Rattle.account.specs.Answers.{numberOf, recordOf}
-use Rattle.account.specs.Claims.{Iff}
+use Rattle.exact.specs.Iff.{Iff}
 use Rattle.account.specs.Noon.{clear, joinedVerdict}
 use Rattle.account.specs.PairClaims.{PairClaims}
 use Rattle.account.specs.Joined.{accountOf}

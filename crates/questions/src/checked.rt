@@ -1,24 +1,17 @@
 // The questions over a file that is checked: its refusal, or what the account answers that stands in it alone.
 use account::accounts::Checked;
+use account::accounts::nothing_of;
 use account::answers::Answer;
 use account::answers::number_of;
 use margin::asking::Question;
 use margin::asking::answer_over;
 use margin::asking::needed_over;
 ghost use mathlib.Core.Path.{_≡_};
-ghost use mathlib.Core.List.{[]};
 ghost use Prim.Native.Nat.{_≤_};
 ghost use lib.ListN.{length};
 ghost use Rattle.account.specs.code.Standing.{CheckedBy};
 ghost use Rattle.margin.specs.Questions.{mostFor};
 ghost use Rattle.questions.specs.Questions.{answerTo, afterTo, needTo};
-
-// No records: the noon file of an account that stands in one file.
-pub(crate) fn nothing_of(file: &[u8]) -> &[u8]
-    ensures { λ r. ⌜ now r ≡ [] ⌝ }
-{
-    &file[0..0]
-}
 
 // A question's answer, at the front of `out`. A refusal writes nothing.
 pub(crate) fn answer_checked(

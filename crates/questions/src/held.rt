@@ -1,9 +1,9 @@
 // "One accepted file is held while several questions are put to it, without checking it again."
 use crate::checked::answer_checked;
 use crate::checked::needed_checked;
-use crate::checked::nothing_of;
 use account::accounts::Checked;
 use account::accounts::check_file;
+use account::accounts::nothing_of;
 use account::answers::Answer;
 use account::answers::number_of;
 use margin::asking::Question;

@@ -9,20 +9,20 @@ use lib.Dec.{eqb, leb}
 use borrow.Author.Tests.{eqb-true}
 use Rattle.record.specs.Bytes.{Record, Field, recordBytes}
 use Rattle.record.specs.Layout.{kind, contract, fieldsOf}
-use Rattle.record.specs.Ranges.{unusedBeside, outsideAmong, unusedByte, fieldOutside, ofKindAndContract, sound}
+use Rattle.record.specs.Ranges.{unusedBeside, outsideAmong, unusedByte, fieldOutside, ofKindAndContract, soundRecord}
 use Rattle.record.proofs.Within.{both-true, neither}
 
 module _ (n c : ℕ) (r : Record) where
-  pub sound-short : leb recordBytes (length r) ≡ false → false ≡ sound n c r
+  pub sound-short : leb recordBytes (length r) ≡ false → false ≡ soundRecord n c r
   sound-short h = rw h
 
   pub sound-whole :
       (fs : List Field) → (kind r ≡ n → fieldsOf r ≡ fs) → leb recordBytes (length r) ≡ true → {b u o : Bool}
-      → b ≡ ofKindAndContract n c r → u ≡ unusedBeside fs r → o ≡ outsideAmong fs r → b && not (u || o) ≡ sound n c r
+      → b ≡ ofKindAndContract n c r → u ≡ unusedBeside fs r → o ≡ outsideAmong fs r → b && not (u || o) ≡ soundRecord n c r
   sound-whole fs f h {b} {u} {o} eb eu eo =
       λ i. go (ofKindAndContract n c r) refl i
     where
-      go : (t : Bool) → ofKindAndContract n c r ≡ t → b && not (u || o) ≡ sound n c r
+      go : (t : Bool) → ofKindAndContract n c r ≡ t → b && not (u || o) ≡ soundRecord n c r
       go true e =
           let k = f (eqb-true (kind r) n (both-true (eqb (kind r) n) (eqb (contract r) c) e .0)) in
           let v : unusedByte r ≡ u = ap (λ (gs : List Field). unusedBeside gs r) k ∙ sym eu in
@@ -41,7 +41,7 @@ module _ (n c : ℕ) (r : Record) where
   off true h = sym h
   off false h = refl
 
-  pub sound-known : sound n c r ≡ true → Sound
+  pub sound-known : soundRecord n c r ≡ true → Sound
   sound-known h =
       let a = both-true (leb recordBytes (length r)) _ h .1 in
       let b = both-true (ofKindAndContract n c r) _ a in

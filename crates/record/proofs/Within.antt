@@ -11,7 +11,7 @@ use native.Mathlib.Omega.{arith}
 use borrow.Author.Tests.{leb-true, not-false, eqb-true, eqb-false}
 use mathlib.Core.Logic.{_⊎_, inl, inr, ⊎-elim}
 use Rattle.record.specs.Bytes.{Record, Field, countFrom, numberIn, plain, signed, twosComplement}
-use Rattle.record.specs.Layout.{kind, contract, shortOptionRate, unitField, unitOf, tier, day, spreadRate, outrightRate, rowType, currency, value, put}
+use Rattle.record.specs.Layout.{kind, contract, shortOptionRate, unitField, unitFrom, tier, day, spreadRate, outrightRate, rowType, currency, value, put}
 use Rattle.record.specs.Layout.{legCount, ratePerSpread, legTier, legSide, legRatio, secondContract, percent, firstRatio, secondRatio, tenths, mostTier}
 use Rattle.record.specs.Layout.{mostEntryRatio, fieldsOf, contractFields, promptFields, rowFields, spreadFields, entryFields, rateFields, legFields}
 use Rattle.record.specs.Layout.{thirdLeg, rateCurrency, spotRate, adjustment, lotsField, deltaField, lossField, hundredThousands, scenarioCount}
@@ -90,7 +90,7 @@ module _ (r : Record) where
         units = unit-in (numberIn unitField r) (most 0 1000 (numberIn unitField r) (a .1 .1 .0));
       }
     where
-      unit-in : (n : ℕ) → n ≤ 1000 → Between 1 (unitOf n) 1000
+      unit-in : (n : ℕ) → n ≤ 1000 → Between 1 (unitFrom n) 1000
       unit-in n h = go (eqb n 0) refl
         where
           go : (t : Bool) → eqb n 0 ≡ t → Between 1 (cond t 1 n) 1000

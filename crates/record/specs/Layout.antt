@@ -72,8 +72,8 @@ mostUnit = 1000
 abbrev pub unitField : Field
 unitField = field 8 two (plain 0 mostUnit)
 
-abbrev pub unitOf : ℕ → ℕ
-unitOf n = cond (eqb n 0) 1 n
+abbrev pub unitFrom : ℕ → ℕ
+unitFrom n = cond (eqb n 0) 1 n
 
 abbrev pub contractFields : List Field
 contractFields = contractField ∷ shortOptionRateField ∷ unitField ∷ []
@@ -272,7 +272,7 @@ shortOptionRate = numberIn shortOptionRateField
 
 -- the unit of a contract's amounts, in hundredths
 abbrev pub unit : Record → ℕ
-unit r = unitOf (numberIn unitField r)
+unit r = unitFrom (numberIn unitField r)
 
 abbrev pub tier : Record → ℕ
 tier = numberIn tierField

@@ -52,6 +52,6 @@ fieldOutside r = outsideAmong (fieldsOf r) r
 abbrev pub ofKindAndContract : ℕ → ℕ → Record → Bool
 ofKindAndContract n c r = eqb (kind r) n && eqb (contract r) c
 
-abbrev pub sound : ℕ → ℕ → Record → Bool
-sound n c r =
+abbrev pub soundRecord : ℕ → ℕ → Record → Bool
+soundRecord n c r =
     leb recordBytes (length r) && (ofKindAndContract n c r && not (unusedByte r || fieldOutside r))

@@ -4,7 +4,7 @@ ghost use Prim.Native.Nat.{ℕ, _≤_, _<_};
 ghost use lib.ListN.{length};
 ghost use Rattle.record.specs.Bytes.{recordBytes, byteAt};
 ghost use Rattle.record.specs.Layout.{contract};
-ghost use Rattle.record.specs.Ranges.{unknownKind, unusedByte, fieldOutside, ofKindAndContract, sound};
+ghost use Rattle.record.specs.Ranges.{unknownKind, unusedByte, fieldOutside, ofKindAndContract, soundRecord};
 use crate::bytes::RECORD_BYTES;
 use crate::bytes::byte_in;
 use crate::fields::kind;
@@ -116,7 +116,7 @@ fn is_of(r: &[u8], kind: usize, c: usize) -> bool
 
 // A prompt of contract `c`, whole and with neither 5 nor 6. Here and below there is no way out before the end, so that much is tested at once.
 pub fn sound_prompt(r: &[u8], c: usize) -> bool
-    ensures { λ b. ⌜ b ≡ sound 2 c (now (r .entry)) ⌝ }
+    ensures { λ b. ⌜ b ≡ soundRecord 2 c (now (r .entry)) ⌝ }
 {
     if r.len() < RECORD_BYTES {
         return false;
@@ -125,7 +125,7 @@ pub fn sound_prompt(r: &[u8], c: usize) -> bool
 }
 
 pub fn sound_row(r: &[u8], c: usize) -> bool
-    ensures { λ b. ⌜ b ≡ sound 3 c (now (r .entry)) ⌝ }
+    ensures { λ b. ⌜ b ≡ soundRecord 3 c (now (r .entry)) ⌝ }
 {
     if r.len() < RECORD_BYTES {
         return false;
@@ -135,7 +135,7 @@ pub fn sound_row(r: &[u8], c: usize) -> bool
 }
 
 pub fn sound_spread(r: &[u8], c: usize) -> bool
-    ensures { λ b. ⌜ b ≡ sound 4 c (now (r .entry)) ⌝ }
+    ensures { λ b. ⌜ b ≡ soundRecord 4 c (now (r .entry)) ⌝ }
 {
     if r.len() < RECORD_BYTES {
         return false;
@@ -145,7 +145,7 @@ pub fn sound_spread(r: &[u8], c: usize) -> bool
 
 // An intercontract spread, of any contract.
 pub fn sound_entry(r: &[u8]) -> bool
-    ensures { λ b. ⌜ b ≡ sound 5 (contract (now (r .entry))) (now (r .entry)) ⌝ }
+    ensures { λ b. ⌜ b ≡ soundRecord 5 (contract (now (r .entry))) (now (r .entry)) ⌝ }
 {
     if r.len() < RECORD_BYTES {
         return false;

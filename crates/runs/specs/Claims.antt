@@ -9,7 +9,7 @@ use lib.ListN.{length, getD, take, drop}
 use Rattle.exact.specs.Lists.{sum}
 use Rattle.account.specs.Answers.{numberOf, recordOf}
 use Rattle.account.specs.Checked.{checked}
-use Rattle.account.specs.Claims.{Iff}
+use Rattle.exact.specs.Iff.{Iff}
 use Rattle.formulas.specs.Bounds.{longestFigures}
 use Rattle.questions.specs.Questions.{figuresAnswer, afterFigures}
 use Rattle.margin.specs.Places.{place}

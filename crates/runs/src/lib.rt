@@ -3,6 +3,7 @@ use account::answers::Answer;
 use account::answers::number_of;
 use account::answers::record_of;
 use margin::asking::Question;
+use margin::numbers::LONGEST_FIGURES;
 use questions::plain::answer;
 ghost use mathlib.Core.Path.{_≡_};
 ghost use Prim.Native.Nat.{_+_, _*_, _≤_};
@@ -13,9 +14,6 @@ ghost use Rattle.formulas.specs.Bounds.{longestFigures};
 ghost use Rattle.questions.specs.Questions.{figuresAnswer, afterFigures};
 ghost use Rattle.runs.specs.Runs.{outcomeNumbers, outcomeOf, runAnswer, runFigures, runOutcomes};
 ghost use Rattle.margin.specs.Places.{atPlace};
-
-// The numbers of an account's place for figures.
-const FIGURES: usize = 129;
 
 // The numbers of an account's place for refusal and record.
 const OUTCOME: usize = 2;
@@ -43,8 +41,12 @@ fn place_figures(account: &[u8], place: usize, out: &mut [i64]) -> Answer
     ensures { λ r. ⌜ (r ≡ figuresAnswer (now (account .entry)) longestFigures)
         × (now (out .exit) ≡ atPlace longestFigures (longestFigures * place) (afterFigures (now (account .entry))) (now (out .entry))) ⌝ }
 {
-    let start = FIGURES * place;
-    answer(account, Question::Figures, &mut out[start..start + FIGURES])
+    let start = LONGEST_FIGURES * place;
+    answer(
+        account,
+        Question::Figures,
+        &mut out[start..start + LONGEST_FIGURES],
+    )
 }
 
 // Refusal and record of an answer, in their place.
@@ -75,7 +77,7 @@ pub fn answer_run(
         return Answer::LengthsDiffer;
     }
     let count = lengths.len();
-    if out.len() / FIGURES < count {
+    if out.len() / LONGEST_FIGURES < count {
         return Answer::TooFewNumbers(0);
     }
     if outcomes.len() / OUTCOME < count {

@@ -22,7 +22,7 @@ use Rattle.margin.specs.Figures.{accountTotal}
 use Rattle.margin.specs.Questions.{notRefused, ifAccepted}
 use Rattle.margin.proofs.QuestionLaws.{accepted-only, if-accepted, if-refused}
 use Rattle.tickets.specs.Ticket.{place, withTicket, ticketChecked}
-use Rattle.screen.specs.Claims.{Says, LoadExactly, OrderExactly, AddExactly, LimitExactly, AfterAdding, Adding, Agree, Claims}
+use Rattle.screen.specs.Claims.{AnswerSays, LoadExactly, OrderExactly, AddExactly, LimitExactly, AfterAdding, Adding, Agree, Claims}
 use Rattle.screen.specs.Screen.{held, loadAnswer, orderAnswer, noRoom, addAnswer, afterAdd, amountOf, totalHeld, totalWith, limitAnswer, weighed, limited}
 use Rattle.screen.specs.Screen.{limitNumber, limitTotal}
 use Rattle.screen.specs.declared.Limited.the-variants.{Refused, Within, Over}
@@ -34,20 +34,20 @@ use Rattle.screen.proofs.TicketLaws.{check-low, ticket-low, ticket-long
 -- ---- one answer, then the next
 
 module _ (a next : Answer) where
-  either : (n k : ℕ) → Says (ifAccepted a next) n k → (n ≡ 0 → ⊥) → Says a n k ⊎ ((a ≡ Accepted) × Says next n k)
+  either : (n k : ℕ) → AnswerSays (ifAccepted a next) n k → (n ≡ 0 → ⊥) → AnswerSays a n k ⊎ ((a ≡ Accepted) × AnswerSays next n k)
   either n k says some = go (notRefused a) refl
     where
-      go : (t : Bool) → notRefused a ≡ t → Says a n k ⊎ ((a ≡ Accepted) × Says next n k)
+      go : (t : Bool) → notRefused a ≡ t → AnswerSays a n k ⊎ ((a ≡ Accepted) × AnswerSays next n k)
       go true h =
           let ok = accepted-only a (eqb-true (numberOf a) 0 h) in
-          inr (ok, subst (λ (x : Answer). Says x n k) (if-accepted a next ok) says)
-      go false h = inl (subst (λ (x : Answer). Says x n k) (if-refused a next (eqb-false (numberOf a) 0 h)) says)
+          inr (ok, subst (λ (x : Answer). AnswerSays x n k) (if-accepted a next ok) says)
+      go false h = inl (subst (λ (x : Answer). AnswerSays x n k) (if-refused a next (eqb-false (numberOf a) 0 h)) says)
 
-  first-says : (n k : ℕ) → (n ≡ 0 → ⊥) → Says a n k → Says (ifAccepted a next) n k
-  first-says n k some says = subst⁻¹ (λ (x : Answer). Says x n k) (if-refused a next (λ z. some (sym (says .number) ∙ z))) says
+  first-says : (n k : ℕ) → (n ≡ 0 → ⊥) → AnswerSays a n k → AnswerSays (ifAccepted a next) n k
+  first-says n k some says = subst⁻¹ (λ (x : Answer). AnswerSays x n k) (if-refused a next (λ z. some (sym (says .number) ∙ z))) says
 
-  next-says : (n k : ℕ) → a ≡ Accepted → Says next n k → Says (ifAccepted a next) n k
-  next-says n k ok says = subst⁻¹ (λ (x : Answer). Says x n k) (if-accepted a next ok) says
+  next-says : (n k : ℕ) → a ≡ Accepted → AnswerSays next n k → AnswerSays (ifAccepted a next) n k
+  next-says n k ok says = subst⁻¹ (λ (x : Answer). AnswerSays x n k) (if-accepted a next ok) says
 
   then-most : (m : ℕ) → numberOf a ≤ m → numberOf next ≤ m → numberOf (ifAccepted a next) ≤ m
   then-most m f g = go (notRefused a) refl
@@ -57,7 +57,7 @@ module _ (a next : Answer) where
       go false h = f
 
 -- an answer by its number, with its record
-itself : (a : Answer) → Says a (numberOf a) (recordOf a)
+itself : (a : Answer) → AnswerSays a (numberOf a) (recordOf a)
 itself a = record { number = refl; place = refl }
 
 -- ---- "load an account"
@@ -68,7 +68,7 @@ module _ (lent : List ℕ) (named : ℕ) where
     sixteen = record { forth = λ e. sixteen (ltb (length lent) named) refl e; back = λ h. ap numberOf (lacking lent named h) };
     accounts = λ n k other. record {
       forth = λ says. account n k other says (ltb (length lent) named) refl;
-      back = λ h. subst⁻¹ (λ (x : Answer). Says x n k) (all-lent lent named (h .0)) (h .1);
+      back = λ h. subst⁻¹ (λ (x : Answer). AnswerSays x n k) (all-lent lent named (h .0)) (h .1);
     };
   }
     where
@@ -76,13 +76,13 @@ module _ (lent : List ℕ) (named : ℕ) where
       sixteen true h e = ltb-true (length lent) named h
       sixteen false h e = absurd (let m = check-low (held lent named) in omega (arith, m, e))
 
-      account : (n k : ℕ) → (n ≡ 16 → ⊥) → Says (loadAnswer lent named) n k → (t : Bool) → ltb (length lent) named ≡ t
-          → (named ≤ length lent) × Says (checked (held lent named)) n k
+      account : (n k : ℕ) → (n ≡ 16 → ⊥) → AnswerSays (loadAnswer lent named) n k → (t : Bool) → ltb (length lent) named ≡ t
+          → (named ≤ length lent) × AnswerSays (checked (held lent named)) n k
       account n k other says true h =
           absurd (other (sym (says .number) ∙ ap numberOf (lacking lent named (ltb-true (length lent) named h))))
       account n k other says false h =
           let l = ltb-false (length lent) named h in
-          (l, subst (λ (x : Answer). Says x n k) (all-lent lent named l) says)
+          (l, subst (λ (x : Answer). AnswerSays x n k) (all-lent lent named l) says)
 
   -- ---- a ticket
 
@@ -113,7 +113,8 @@ module _ (lent : List ℕ) (named : ℕ) where
         sixteen true h e = ltb-true (length lent) named h
         sixteen false h e = absurd (let m = order-most (ltb-false (length lent) named h) in omega (arith, m, e))
 
-        backwards : (n k : ℕ) → (n ≡ 0 → ⊥) → Says (loadAnswer lent named) n k ⊎ ((loadAnswer lent named ≡ Accepted) × Says row n k) → Says order n k
+        backwards : (n k : ℕ) → (n ≡ 0 → ⊥) → AnswerSays (loadAnswer lent named) n k ⊎ ((loadAnswer lent named ≡ Accepted) × AnswerSays row n k)
+            → AnswerSays order n k
         backwards n k some (inl says) = first-says (loadAnswer lent named) row n k some says
         backwards n k some (inr h) = next-says (loadAnswer lent named) row n k (h .0) (h .1)
 
@@ -129,10 +130,10 @@ module _ (lent : List ℕ) (named : ℕ) where
         go true h e = absurd (let n = ap numberOf e in omega (arith, n))
         go false h e = ltb-false (length lent) (named + recordBytes) h
 
-    no-room : (n k : ℕ) → (n ≡ 0 → ⊥) → Says room n k → (n ≡ 16) × (length lent < named + recordBytes)
+    no-room : (n k : ℕ) → (n ≡ 0 → ⊥) → AnswerSays room n k → (n ≡ 16) × (length lent < named + recordBytes)
     no-room n k some says = go (noRoom lent named) refl says
       where
-        go : (t : Bool) → noRoom lent named ≡ t → Says (cond t TooFewBytes Accepted) n k → (n ≡ 16) × (length lent < named + recordBytes)
+        go : (t : Bool) → noRoom lent named ≡ t → AnswerSays (cond t TooFewBytes Accepted) n k → (n ≡ 16) × (length lent < named + recordBytes)
         go true h s = (sym (s .number), ltb-true (length lent) (named + recordBytes) h)
         go false h s = absurd (some (sym (s .number)))
 
@@ -146,14 +147,15 @@ module _ (lent : List ℕ) (named : ℕ) where
       accepted = record { forth = λ e. let h = both order room e in (h .0, has-room (h .1)); back = λ h. add-room lent named ticket (h .0) (h .1) };
     }
       where
-        other-of : (n k : ℕ) → (n ≡ 0 → ⊥) → (n ≡ 16 → ⊥) → Says order n k ⊎ ((order ≡ Accepted) × Says room n k) → Says order n k
+        other-of : (n k : ℕ) → (n ≡ 0 → ⊥) → (n ≡ 16 → ⊥) → AnswerSays order n k ⊎ ((order ≡ Accepted) × AnswerSays room n k) → AnswerSays order n k
         other-of n k some other (inl says) = says
         other-of n k some other (inr h) = absurd (other (no-room n k some (h .1) .0))
 
         sixteen : numberOf (addAnswer lent named ticket) ≡ 16 → (length lent < named) ⊎ ((order ≡ Accepted) × (length lent < named + recordBytes))
         sixteen e = go (either order room 16 (recordOf (addAnswer lent named ticket)) (record { number = e; place = refl }) (λ z. omega (arith, z)))
           where
-            go : Says order 16 (recordOf (addAnswer lent named ticket)) ⊎ ((order ≡ Accepted) × Says room 16 (recordOf (addAnswer lent named ticket)))
+            go : AnswerSays order 16 (recordOf (addAnswer lent named ticket))
+                ⊎ ((order ≡ Accepted) × AnswerSays room 16 (recordOf (addAnswer lent named ticket)))
                 → (length lent < named) ⊎ ((order ≡ Accepted) × (length lent < named + recordBytes))
             go (inl says) = inl (order-exactly .sixteen .forth (says .number))
             go (inr h) = inr (h .0, no-room 16 (recordOf (addAnswer lent named ticket)) (λ z. omega (arith, z)) (h .1) .1)
@@ -282,7 +284,7 @@ module _ (lent : List ℕ) (named : ℕ) where
         twenty = record { forth = λ e. twenty (ltZ limit (pos 0)) refl e; back = λ h. ap numberOf (limit-below lent named ticket limit h) };
         others = λ n k other. record {
           forth = λ says. others n k other says (ltZ limit (pos 0)) refl;
-          back = λ h. subst⁻¹ (λ (x : Answer). Says x n k) (limit-stands lent named ticket limit (h .0)) (h .1);
+          back = λ h. subst⁻¹ (λ (x : Answer). AnswerSays x n k) (limit-stands lent named ticket limit (h .0)) (h .1);
         };
         yes = λ n. record {
           forth = yes-of n (notRefused asked) refl (leb total (natAbs limit)) refl;
@@ -302,9 +304,9 @@ module _ (lent : List ℕ) (named : ℕ) where
           twenty true h e = h
           twenty false h e = absurd (let n = ap numberOf (limit-stands lent named ticket limit h) in let b = order-below in omega (arith, n, b, e))
 
-          others : (n k : ℕ) → (n ≡ 20 → ⊥) → Says asked n k → (t : Bool) → ltZ limit (pos 0) ≡ t → (ltZ limit (pos 0) ≡ false) × Says order n k
+          others : (n k : ℕ) → (n ≡ 20 → ⊥) → AnswerSays asked n k → (t : Bool) → ltZ limit (pos 0) ≡ t → (ltZ limit (pos 0) ≡ false) × AnswerSays order n k
           others n k other says true h = absurd (other (sym (says .number) ∙ ap numberOf (limit-below lent named ticket limit h)))
-          others n k other says false h = (h, subst (λ (x : Answer). Says x n k) (limit-stands lent named ticket limit h) says)
+          others n k other says false h = (h, subst (λ (x : Answer). AnswerSays x n k) (limit-stands lent named ticket limit h) says)
 
       agree : Agree lent named ticket limit
       agree = record {

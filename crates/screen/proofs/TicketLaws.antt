@@ -16,7 +16,7 @@ use Rattle.account.specs.declared.answers.Answer.{Answer}
 use Rattle.account.specs.declared.answers.Answer.the-variants.{Accepted, UnknownKind, KindFalls, UnusedByte, FieldOutside, Unlisted, OutOfOrder, OverLimit}
 use Rattle.account.specs.declared.answers.Answer.the-variants.{NoRate, ConversionBeyond}
 use Rattle.account.proofs.Claimed.{claimed}
-use Rattle.tickets.specs.Claims.{Row}
+use Rattle.tickets.specs.Claims.{TicketRow}
 use Rattle.tickets.specs.Ticket.{place, withTicket, rowFault, ticketChecked}
 use Rattle.tickets.proofs.Claims.{claims, told}
 use Rattle.tickets.proofs.Placed.{plain, place-within}
@@ -68,7 +68,7 @@ ticket-low file ticket =
 -- ---- an accepted ticket
 
 module _ (file : List ℕ) (ticket : Record) (ok : checked file ≡ Accepted) (taken : ticketChecked file ticket ≡ Accepted) where
-  is-row : Row ticket
+  is-row : TicketRow ticket
   is-row = claims file ticket .exactly .accepted .forth (record { number = ap numberOf taken; record-is = ap recordOf taken }) .0
 
   pub ticket-long : length ticket ≡ recordBytes

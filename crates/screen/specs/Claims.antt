@@ -11,7 +11,7 @@ use lib.Signed.{ltZ}
 use Rattle.record.specs.Layout.{Record, recordBytes}
 use Rattle.account.specs.Answers.{numberOf, recordOf}
 use Rattle.account.specs.Checked.{checked}
-use Rattle.account.specs.Claims.{Iff}
+use Rattle.exact.specs.Iff.{Iff}
 use Rattle.account.specs.declared.answers.Answer.{Answer}
 use Rattle.account.specs.declared.answers.Answer.the-variants.{Accepted}
 use Rattle.tickets.specs.Ticket.{withTicket, ticketChecked}
@@ -20,7 +20,7 @@ use Rattle.screen.specs.declared.Limited.the-variants.{Within, Over}
 use Rattle.screen.specs.declared.Told.the-variants.{Total}
 
 -- an answer is refusal n with record k
-pub record Says (a : Answer) (n k : ℕ) : Type 0 where
+pub record AnswerSays (a : Answer) (n k : ℕ) : Type 0 where
   pub number : numberOf a ≡ n
   pub place : recordOf a ≡ k
 
@@ -29,22 +29,22 @@ pub record Says (a : Answer) (n k : ℕ) : Type 0 where
 -- "16, more bytes named than lent; then 01's as amended for the account held"
 pub record LoadExactly (lent : List ℕ) (named : ℕ) : Type 0 where
   pub sixteen : Iff (numberOf (loadAnswer lent named) ≡ 16) (length lent < named)
-  pub accounts : (n k : ℕ) → (n ≡ 16 → ⊥) → Iff (Says (loadAnswer lent named) n k) ((named ≤ length lent) × Says (checked (held lent named)) n k)
+  pub accounts : (n k : ℕ) → (n ≡ 16 → ⊥) → Iff (AnswerSays (loadAnswer lent named) n k) ((named ≤ length lent) × AnswerSays (checked (held lent named)) n k)
 
 -- ---- a ticket
 
 -- "then 2026-07's for the ticket"
 pub record OrderExactly (lent : List ℕ) (named : ℕ) (ticket : Record) : Type 0 where
   pub sixteen : Iff (numberOf (orderAnswer lent named ticket) ≡ 16) (length lent < named)
-  pub others : (n k : ℕ) → (n ≡ 0 → ⊥) → Iff (Says (orderAnswer lent named ticket) n k)
-      (Says (loadAnswer lent named) n k ⊎ ((loadAnswer lent named ≡ Accepted) × Says (ticketChecked (held lent named) ticket) n k))
+  pub others : (n k : ℕ) → (n ≡ 0 → ⊥) → Iff (AnswerSays (orderAnswer lent named ticket) n k)
+      (AnswerSays (loadAnswer lent named) n k ⊎ ((loadAnswer lent named ≡ Accepted) × AnswerSays (ticketChecked (held lent named) ticket) n k))
   pub accepted : Iff (orderAnswer lent named ticket ≡ Accepted) ((loadAnswer lent named ≡ Accepted) × (ticketChecked (held lent named) ticket ≡ Accepted))
 
 -- "16, adding without room for it"
 pub record AddExactly (lent : List ℕ) (named : ℕ) (ticket : Record) : Type 0 where
   pub sixteen : Iff (numberOf (addAnswer lent named ticket) ≡ 16)
       ((length lent < named) ⊎ ((orderAnswer lent named ticket ≡ Accepted) × (length lent < named + recordBytes)))
-  pub others : (n k : ℕ) → (n ≡ 0 → ⊥) → (n ≡ 16 → ⊥) → Iff (Says (addAnswer lent named ticket) n k) (Says (orderAnswer lent named ticket) n k)
+  pub others : (n k : ℕ) → (n ≡ 0 → ⊥) → (n ≡ 16 → ⊥) → Iff (AnswerSays (addAnswer lent named ticket) n k) (AnswerSays (orderAnswer lent named ticket) n k)
   pub accepted : Iff (addAnswer lent named ticket ≡ Accepted) ((orderAnswer lent named ticket ≡ Accepted) × (named + recordBytes ≤ length lent))
 
 -- "20, limit below zero, first of all"; "A yes is given exactly in that case. .. A ticket that is over the limit comes back with that
@@ -52,7 +52,7 @@ pub record AddExactly (lent : List ℕ) (named : ℕ) (ticket : Record) : Type 0
 pub record LimitExactly (lent : List ℕ) (named : ℕ) (ticket : Record) (limit : ℤ) : Type 0 where
   pub twenty : Iff (numberOf (limitAnswer lent named ticket limit) ≡ 20) (ltZ limit (pos 0) ≡ true)
   pub others : (n k : ℕ) → (n ≡ 20 → ⊥)
-      → Iff (Says (limitAnswer lent named ticket limit) n k) ((ltZ limit (pos 0) ≡ false) × Says (orderAnswer lent named ticket) n k)
+      → Iff (AnswerSays (limitAnswer lent named ticket limit) n k) ((ltZ limit (pos 0) ≡ false) × AnswerSays (orderAnswer lent named ticket) n k)
   pub yes : (total : ℕ) → Iff (limited lent named ticket limit ≡ Within (amountOf total))
       ((limitAnswer lent named ticket limit ≡ Accepted) × ((totalWith lent named ticket ≡ total) × (total ≤ natAbs limit)))
   pub no : (total : ℕ) → Iff (limited lent named ticket limit ≡ Over (amountOf total))

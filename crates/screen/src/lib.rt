@@ -3,6 +3,7 @@
 use crate::inserting::insert;
 use account::accounts::check;
 use account::accounts::check_file;
+use account::accounts::nothing_of;
 use account::answers::Answer;
 use account::answers::number_of;
 use exact::signed::below;
@@ -16,7 +17,6 @@ use tickets::counts::ticket_place;
 use tickets::kept::keep;
 use tickets::kept::kept_total;
 ghost use mathlib.Core.Path.{_≡_};
-ghost use mathlib.Core.List.{[]};
 ghost use Rattle.screen.specs.Screen.{loadAnswer, added, afterAdd, totalRead, weighed, limited};
 ghost use Rattle.screen.specs.code.Held.{PlacedIn, AskedIn, totalIn};
 
@@ -39,13 +39,6 @@ pub enum Limited {
     Refused(Answer),
     Within(Amount),
     Over(Amount),
-}
-
-// No records: the noon file of an account that stands in one file.
-fn nothing_of(file: &[u8]) -> &[u8]
-    ensures { λ r. ⌜ now r ≡ [] ⌝ }
-{
-    &file[0..0]
 }
 
 // Whether the first `named` of the lent bytes are an accepted account file.

@@ -8,7 +8,7 @@ use mathlib.Core.List.{List, []}
 use mathlib.Core.Path.{_≡_, sym, _∙_, ap, subst}
 use lib.IntN.{ℤ}
 use lib.ListN.{replicate}
-use Rattle.spread.specs.Accepted.{openOf, spreadsOf, stepsOf, sound, promptPlaces, spreadPlaces}
+use Rattle.spread.specs.Accepted.{openOf, tableSpreads, stepsOf, sound, promptPlaces, spreadPlaces}
 use Rattle.spread.specs.code.Book.{numbersOf, usedIn, unusedIn, byPlace, spreadsEntry, deltaEntry, Booked, Refused, Run, goneOf, Spent}
 use Rattle.spread.specs.code.Cells.{Pooled, numbersOver}
 use Rattle.spread.specs.code.Lent.{deltasFrom, deltasIn, spreadsFrom, promptsIn, bookIn}
@@ -79,7 +79,7 @@ module _ (ss : List (List Taker)) (ps : List Open) (e : soundSteps ss ≡ true) 
 -- what is accepted
 
 pub booked-accepted : (p : Prompts) (t : Table) (cells l : List ℕ) (first second : List Spreads) (used unused : List Delta) → sound p t ≡ true
-    → Pooled cells (openOf p) → Run cells (spreadsOf t) l first second → Spent cells l (openOf p) used unused
+    → Pooled cells (openOf p) → Run cells (tableSpreads t) l first second → Spent cells l (openOf p) used unused
     → Booked p t (record { accepted = true; first = first; second = second; used = used; unused = unused })
 booked-accepted p t cells l first second used unused e pools run spent =
     record {

@@ -9,7 +9,7 @@ use mathlib.Core.List.{List, [], _∷_, map}
 use mathlib.Core.Path.{_≡_, sym, _∙_, ap, subst}
 use lib.ListN.{length, getD, drop, drop-of-length-le, List·getD-map}
 use lib.Seq.{drop-cons, getD-take, take-all}
-use Rattle.spread.specs.Accepted.{openOf, spreadsOf, stepsOf, soundPrompts, sound, promptPlaces, spreadPlaces}
+use Rattle.spread.specs.Accepted.{openOf, tableSpreads, stepsOf, soundPrompts, sound, promptPlaces, spreadPlaces}
 use Rattle.spread.specs.code.Book.{spreadsEntry, numbersOf}
 use Rattle.spread.specs.Steps.{stepOf, Market, Open, Taker, pool, roomFor, formed, after, numbers, steps}
 use Rattle.spread.specs.code.Cells.{mostPool, mostNumber}
@@ -34,7 +34,7 @@ Formed ss ps first second = (k : ℕ) → k < spreadPlaces
     → (getD first k 0 ≡ getD (numbers (steps ss) ps) (2 * k) 0) × (getD second k 0 ≡ getD (numbers (steps ss) ps) (2 * k + 1) 0)
 
 pub formed-by : (p : Prompts) (t : Table) (first second : List ℕ) → sound p t ≡ true → FormedBy p t (spreadsFrom first) (spreadsFrom second)
-    → Formed (spreadsOf t) (openOf p) first second
+    → Formed (tableSpreads t) (openOf p) first second
 formed-by p t first second e h k l =
     let all : numbersOf p t ≡ numbers (stepsOf t) (openOf p) = ap (λ (b : Bool). cond b (numbers (stepsOf t) (openOf p)) []) e in (
       own first
@@ -174,11 +174,11 @@ pub table-counting : (t : Table) (ps : List Open) (i : ℕ) (cs xs ys zs a₁ a�
     → n₂ ≡ getD (numbers (stepsOf t) ps) (2 * i + 1) 0
     → StepTaken (stepOf false (getD (t .spread) i d)) n₁ cs xs ys a₁ t₁
     → StepTaken (stepOf true (getD (t .spread) i d)) n₂ cs ys zs a₂ t₂
-    → Counting (spreadsOf t) ps i cs xs so-far
-    → Counting (spreadsOf t) ps (i + 1) cs zs (so-far + (t₁ + t₂))
+    → Counting (tableSpreads t) ps i cs xs so-far
+    → Counting (tableSpreads t) ps (i + 1) cs zs (so-far + (t₁ + t₂))
 table-counting t ps i cs xs ys zs a₁ a₂ so-far n₁ n₂ t₁ t₂ d l m h e₁ e₂ s₁ s₂ r =
     let e = getD-take (t .count) (t .spread) i d h in
     let n = table-length t l m in
-    counting-next (spreadsOf t) ps i cs xs ys zs a₁ a₂ so-far n₁ n₂ t₁ t₂ d (omega arith) e₁ e₂
+    counting-next (tableSpreads t) ps i cs xs ys zs a₁ a₂ so-far n₁ n₂ t₁ t₂ d (omega arith) e₁ e₂
     (subst (λ (s : Spread). StepTaken (stepOf false s) n₁ cs xs ys a₁ t₁) (sym e) s₁)
     (subst (λ (s : Spread). StepTaken (stepOf true s) n₂ cs ys zs a₂ t₂) (sym e) s₂) r

@@ -8,7 +8,7 @@ use mathlib.Core.List.{List, [], _∷_}
 use mathlib.Core.Path.{_≡_, refl, sym, _∙_, ap}
 use lib.ListN.{length, getD, drop, drop-of-length-le}
 use lib.Seq.{drop-cons, getD-take, length-take-le}
-use Rattle.spread.specs.Accepted.{every, opens, openOf, promptPlaces}
+use Rattle.spread.specs.Accepted.{every, opensFrom, openOf, promptPlaces}
 use Rattle.spread.specs.Steps.{Open}
 use Rattle.spread.specs.declared.Delta.{Delta}
 use Rattle.spread.specs.declared.Prompts.{Prompts}
@@ -43,14 +43,14 @@ module _ {ℓ} {A : Type ℓ} where
 
 -- the prompts by place
 
-pub opens-length : (ts : List ℕ) (ds : List Delta) (n : ℕ) → length ts ≡ n → length ds ≡ n → length (opens ts ds) ≡ n
+pub opens-length : (ts : List ℕ) (ds : List Delta) (n : ℕ) → length ts ≡ n → length ds ≡ n → length (opensFrom ts ds) ≡ n
 opens-length [] ds n e f = e
 opens-length (t ∷ ts) [] n e f = f
 opens-length (t ∷ ts) (d ∷ ds) zero e f = absurd (omega arith)
 opens-length (t ∷ ts) (d ∷ ds) (suc n) e f = ap suc (opens-length ts ds n (omega arith) (omega arith))
 
 opens-at : (ts : List ℕ) (ds : List Delta) (i : ℕ) (dt : ℕ) (dd : Delta) (do' : Open) → i < length ts → i < length ds
-    → getD (opens ts ds) i do' ≡ record { tier = getD ts i dt; unused = (getD ds i dd) .0 }
+    → getD (opensFrom ts ds) i do' ≡ record { tier = getD ts i dt; unused = (getD ds i dd) .0 }
 opens-at [] ds i dt dd do' h g = absurd (omega arith)
 opens-at (t ∷ ts) [] i dt dd do' h g = absurd (omega arith)
 opens-at (t ∷ ts) (d ∷ ds) zero dt dd do' h g = refl
@@ -58,11 +58,11 @@ opens-at (t ∷ ts) (d ∷ ds) (suc i) dt dd do' h g = opens-at ts ds i dt dd do
 
 -- of prompts whose arrays have 32 places
 pub open-length : (p : Prompts) → length (p .tier) ≡ promptPlaces → length (p .net) ≡ promptPlaces → p .count ≤ promptPlaces → length (openOf p) ≡ p .count
-open-length p e f h = length-take-le (p .count) (opens (p .tier) (p .net)) (let l = opens-length (p .tier) (p .net) promptPlaces e f in omega arith)
+open-length p e f h = length-take-le (p .count) (opensFrom (p .tier) (p .net)) (let l = opens-length (p .tier) (p .net) promptPlaces e f in omega arith)
 
 pub open-at : (p : Prompts) (i : ℕ) (dt : ℕ) (dd : Delta) (do' : Open) → length (p .tier) ≡ promptPlaces → length (p .net) ≡ promptPlaces
     → p .count ≤ promptPlaces → i < p .count
     → getD (openOf p) i do' ≡ record { tier = getD (p .tier) i dt; unused = (getD (p .net) i dd) .0 }
 open-at p i dt dd do' e f h g =
-    getD-take (p .count) (opens (p .tier) (p .net)) i do' g
+    getD-take (p .count) (opensFrom (p .tier) (p .net)) i do' g
     ∙ opens-at (p .tier) (p .net) i dt dd do' (omega arith) (omega arith)

@@ -13,7 +13,7 @@ use lib.Seq.{take-suc, getD-take, length-take-le}
 use borrow.Author.Tests.{ltb-true, leb-true}
 use Rattle.exact.specs.Signed.{negative}
 use Rattle.exact.proofs.Tests.{eqb-turned}
-use Rattle.spread.specs.Accepted.{openOf, every, mostDelta, soundPrompt, soundPrompts, tierCount, promptPlaces, spreadsOf, soundSpread, soundTable}
+use Rattle.spread.specs.Accepted.{openOf, every, mostDelta, soundPrompt, soundPrompts, tierCount, promptPlaces, tableSpreads, soundSpread, soundTable}
 use Rattle.spread.specs.Accepted.{spreadPlaces}
 use Rattle.spread.specs.code.Cells.{shortIf, cellOf, cellAt, Pooled, poolCount}
 use Rattle.spread.specs.Demand.{sameMarket, draws}
@@ -85,14 +85,14 @@ pub few : (p : Prompts) → soundPrompts p ≡ true → p .count ≤ promptPlace
 few p e = leb-true (p .count) promptPlaces (and-left (leb (p .count) promptPlaces) (every soundPrompt (openOf p)) e)
 
 pub few-in-table : (t : Table) → soundTable t ≡ true → t .count ≤ spreadPlaces
-few-in-table t e = leb-true (t .count) spreadPlaces (and-left (leb (t .count) spreadPlaces) (every soundSpread (spreadsOf t)) e)
+few-in-table t e = leb-true (t .count) spreadPlaces (and-left (leb (t .count) spreadPlaces) (every soundSpread (tableSpreads t)) e)
 
 pub sound-in-table : (t : Table) → length (t .spread) ≡ spreadPlaces → soundTable t ≡ true → (i : ℕ) (d : Spread) → i < t .count
     → soundSpread (getD (t .spread) i d) ≡ true
 sound-in-table t len e i d h =
     let n = length-take-le (t .count) (t .spread) (omega (arith, len, few-in-table t e)) in
     subst (λ (s : Spread). soundSpread s ≡ true) (getD-take (t .count) (t .spread) i d h)
-    (every-at soundSpread (spreadsOf t) i d (and-right (leb (t .count) spreadPlaces) (every soundSpread (spreadsOf t)) e) (omega (arith, n)))
+    (every-at soundSpread (tableSpreads t) i d (and-right (leb (t .count) spreadPlaces) (every soundSpread (tableSpreads t)) e) (omega (arith, n)))
 
 pub all-sound : (p : Prompts) → soundPrompts p ≡ true → every soundPrompt (openOf p) ≡ true
 all-sound p e = and-right (leb (p .count) promptPlaces) (every soundPrompt (openOf p)) e

@@ -17,7 +17,7 @@ use Rattle.spread.specs.declared.Delta.{Delta}
 use Rattle.spread.specs.declared.Prompts.{Prompts}
 use Rattle.spread.specs.declared.Spreads.{Spreads}
 use Rattle.spread.proofs.Filling.{Filled}
-use Rattle.spread.proofs.Gathering.{Placed, netOf, placed}
+use Rattle.spread.proofs.Gathering.{Placed, netOf, noDelta, placed}
 
 module _ {ℓ} {A B : Type ℓ} (f : A → B) where
   pub map-set : (l : List A) (i : ℕ) (x : A) → map f (set l i x) ≡ set (map f l) i (f x)
@@ -33,6 +33,9 @@ module _ {ℓ} {A B : Type ℓ} (f : A → B) where
       r .each k
       ∙ ap (λ (b : Bool). cond b (f (getD xs k d)) (f d)) (lt-ltb k i (let s = r .size in omega arith))
       ∙ sym (List·getD-map f xs k d))
+
+pub delta-at : (ds : List Delta) (j : ℕ) → getD (deltasIn ds) j (pos 0) ≡ getD ds j noDelta .0
+delta-at ds j = List·getD-map (λ (d : Delta). d .0) ds j noDelta
 
 pub deltas-again : (zs : List ℤ) → deltasIn (deltasFrom zs) ≡ zs
 deltas-again [] = refl

@@ -10,7 +10,7 @@ use lib.Dec.{leb}
 use lib.ListN.{length, getD, set, drop, replicate, drop-of-length-le, List·getD-map}
 use lib.Seq.{drop-cons, getD-take, length-take-le}
 use borrow.Author.Tests.{leb-true, le-ltb}
-use Rattle.spread.specs.Accepted.{every, spreadsOf, soundSpread, soundTable, spreadPlaces}
+use Rattle.spread.specs.Accepted.{every, tableSpreads, soundSpread, soundTable, spreadPlaces}
 use Rattle.spread.specs.code.Book.{spreadsEntry, Run}
 use Rattle.spread.specs.Steps.{stepOf, steps}
 use Rattle.spread.specs.code.Cells.{numbersOver, leftIn, Taken}
@@ -120,19 +120,8 @@ running-all cells ss i now first second h r =
 
 -- the same of the spreads of a table whose array has 32 places
 
-pub table-length : (t : Table) → length (t .spread) ≡ spreadPlaces → t .count ≤ spreadPlaces → length (spreadsOf t) ≡ t .count
+pub table-length : (t : Table) → length (t .spread) ≡ spreadPlaces → t .count ≤ spreadPlaces → length (tableSpreads t) ≡ t .count
 table-length t l h = length-take-le (t .count) (t .spread) (omega arith)
-
--- of a table that is accepted
-pub table-few : (t : Table) → soundTable t ≡ true → t .count ≤ spreadPlaces
-table-few t e = leb-true (t .count) spreadPlaces (and-left (leb (t .count) spreadPlaces) (every soundSpread (spreadsOf t)) e)
-
-pub table-at : (t : Table) (i : ℕ) (d : Spread) → length (t .spread) ≡ spreadPlaces → soundTable t ≡ true → i < t .count
-    → soundSpread (getD (t .spread) i d) ≡ true
-table-at t i d l e h =
-    let n = table-length t l (table-few t e) in
-    sym (ap soundSpread (getD-take (t .count) (t .spread) i d h))
-    ∙ every-at soundSpread (spreadsOf t) i d (and-right (leb (t .count) spreadPlaces) (every soundSpread (spreadsOf t)) e) (omega arith)
 
 -- a turn of the code, on lent numbers
 
@@ -145,15 +134,15 @@ pub table-next : (t : Table) (cells : List ℕ) (i : ℕ) (now l₁ l₂ first s
     → length (t .spread) ≡ spreadPlaces → t .count ≤ spreadPlaces → i < t .count
     → Written (stepOf false (getD (t .spread) i d)) now l₁ i first more-first
     → Written (stepOf true (getD (t .spread) i d)) l₁ l₂ i second more-second
-    → Running cells (spreadsOf t) i now (spreadsFrom first) (spreadsFrom second)
-    → Running cells (spreadsOf t) (i + 1) l₂ (spreadsFrom more-first) (spreadsFrom more-second)
+    → Running cells (tableSpreads t) i now (spreadsFrom first) (spreadsFrom second)
+    → Running cells (tableSpreads t) (i + 1) l₂ (spreadsFrom more-first) (spreadsFrom more-second)
 table-next t cells i now l₁ l₂ first second more-first more-second d l m h a b r =
     let e = getD-take (t .count) (t .spread) i d h in
     let n = table-length t l m in
-    subst⁻¹ (λ (ns : List Spreads). Running cells (spreadsOf t) (i + 1) l₂ ns (spreadsFrom more-second)) (with-one first more-first (a .number) (a .written))
-    (subst⁻¹ (λ (ns : List Spreads). Running cells (spreadsOf t) (i + 1) l₂ (set (spreadsFrom first) i (record { 0 = a .number })) ns)
+    subst⁻¹ (λ (ns : List Spreads). Running cells (tableSpreads t) (i + 1) l₂ ns (spreadsFrom more-second)) (with-one first more-first (a .number) (a .written))
+    (subst⁻¹ (λ (ns : List Spreads). Running cells (tableSpreads t) (i + 1) l₂ (set (spreadsFrom first) i (record { 0 = a .number })) ns)
     (with-one second more-second (b .number) (b .written))
-    (running-next cells (spreadsOf t) i now l₁ l₂ (spreadsFrom first) (spreadsFrom second) d (record { 0 = a .number }) (record { 0 = b .number })
+    (running-next cells (tableSpreads t) i now l₁ l₂ (spreadsFrom first) (spreadsFrom second) d (record { 0 = a .number }) (record { 0 = b .number })
     (omega arith) (omega arith)
     (subst (λ (s : Spread). Taken (stepOf false s) now l₁ (a .number)) (sym e) (a .taken))
     (subst (λ (s : Spread). Taken (stepOf true s) l₁ l₂ (b .number)) (sym e) (b .taken)) r))

@@ -9,9 +9,9 @@ use lib.Dec.{eqb, leb, ltb}
 use lib.ListN.{length, getD, take}
 use borrow.Author.Tests.{eqb-true, ltb-true, not-true}
 use Rattle.exact.specs.Lists.{any}
-use Rattle.spread.specs.Accepted.{spreadsOf, stepsOf, every, whole, soundLeg, sameLeg, soundLegsOf, soundSpread, soundPrompts, soundTable, sound}
+use Rattle.spread.specs.Accepted.{tableSpreads, stepsOf, every, whole, soundLeg, legsAlike, soundLegsOf, soundSpread, soundPrompts, soundTable, sound}
 use Rattle.spread.specs.Accepted.{tierCount, spreadPlaces}
-use Rattle.spread.specs.Steps.{marketIn, stepOf, Market, taker, firstMarket, secondMarket, legsOf, steps}
+use Rattle.spread.specs.Steps.{marketIn, stepOf, Market, taker, firstMarket, secondMarket, legsIn, steps}
 use Rattle.spread.specs.Demand.{sameMarket, draws, wholeStep, wholeSteps, soundLegs, soundStep, soundSteps}
 use Rattle.spread.specs.declared.Leg.{Leg}
 use Rattle.spread.specs.declared.Prompts.{Prompts}
@@ -55,18 +55,18 @@ tier-of l e = ltb-true (l .tier) tierCount (and-left (ltb (l .tier) tierCount) (
 
 first-sound : (l : Leg) (ls : List Leg) → soundLegsOf (l ∷ ls) ≡ true → soundLeg l ≡ true
 first-sound l [] e = e
-first-sound l (k ∷ ls) e = and-left (soundLeg l) (not (any (sameLeg l) (k ∷ ls)) && soundLegsOf (k ∷ ls)) e
+first-sound l (k ∷ ls) e = and-left (soundLeg l) (not (any (legsAlike l) (k ∷ ls)) && soundLegsOf (k ∷ ls)) e
 
 others-sound : (l k : Leg) (ls : List Leg) → soundLegsOf (l ∷ k ∷ ls) ≡ true → soundLegsOf (k ∷ ls) ≡ true
 others-sound l k ls e =
-    and-right (not (any (sameLeg l) (k ∷ ls))) (soundLegsOf (k ∷ ls))
-    (and-right (soundLeg l) (not (any (sameLeg l) (k ∷ ls)) && soundLegsOf (k ∷ ls)) e)
+    and-right (not (any (legsAlike l) (k ∷ ls))) (soundLegsOf (k ∷ ls))
+    (and-right (soundLeg l) (not (any (legsAlike l) (k ∷ ls)) && soundLegsOf (k ∷ ls)) e)
 
-others-apart : (l k : Leg) (ls : List Leg) → soundLegsOf (l ∷ k ∷ ls) ≡ true → any (sameLeg l) (k ∷ ls) ≡ false
+others-apart : (l k : Leg) (ls : List Leg) → soundLegsOf (l ∷ k ∷ ls) ≡ true → any (legsAlike l) (k ∷ ls) ≡ false
 others-apart l k ls e =
-    not-true (any (sameLeg l) (k ∷ ls))
-    (and-left (not (any (sameLeg l) (k ∷ ls))) (soundLegsOf (k ∷ ls))
-    (and-right (soundLeg l) (not (any (sameLeg l) (k ∷ ls)) && soundLegsOf (k ∷ ls)) e))
+    not-true (any (legsAlike l) (k ∷ ls))
+    (and-left (not (any (legsAlike l) (k ∷ ls))) (soundLegsOf (k ∷ ls))
+    (and-right (soundLeg l) (not (any (legsAlike l) (k ∷ ls)) && soundLegsOf (k ∷ ls)) e))
 
 or-left : (a b : Bool) → a || b ≡ false → a ≡ false
 or-left true b e = e
@@ -81,7 +81,7 @@ neither true b e f = absurd (true≢false e)
 neither false b e f = f
 
 module _ (tenths second : Bool) where
-  leg-apart : (l k : Leg) → soundLeg l ≡ true → soundLeg k ≡ true → sameLeg l k ≡ false → draws (marketIn second (l .side)) (l .tier)
+  leg-apart : (l k : Leg) → soundLeg l ≡ true → soundLeg k ≡ true → legsAlike l k ≡ false → draws (marketIn second (l .side)) (l .tier)
       (taker tenths (marketIn second) k) ≡ false
   leg-apart l k sl sk h = go (eqb (l .tier) (k .tier)) h
     where
@@ -93,15 +93,15 @@ module _ (tenths second : Bool) where
       go true f = rw (market-apart second (l .side) (k .side) (side-of l sl) (side-of k sk) f)
       go false f = none (sameMarket (marketIn second (k .side)) (marketIn second (l .side)))
 
-  none-drawn : (l : Leg) (ls : List Leg) → soundLeg l ≡ true → soundLegsOf ls ≡ true → any (sameLeg l) ls ≡ false
+  none-drawn : (l : Leg) (ls : List Leg) → soundLeg l ≡ true → soundLegsOf ls ≡ true → any (legsAlike l) ls ≡ false
       → any (draws (marketIn second (l .side)) (l .tier)) (map (taker tenths (marketIn second)) ls) ≡ false
   none-drawn l [] sl ss h = refl
-  none-drawn l (k ∷ []) sl ss h = neither _ false (leg-apart l k sl ss (or-left (sameLeg l k) false h)) refl
+  none-drawn l (k ∷ []) sl ss h = neither _ false (leg-apart l k sl ss (or-left (legsAlike l k) false h)) refl
   none-drawn l (k ∷ j ∷ ls) sl ss h =
       neither (draws (marketIn second (l .side)) (l .tier) (taker tenths (marketIn second) k))
       (any (draws (marketIn second (l .side)) (l .tier)) (map (taker tenths (marketIn second)) (j ∷ ls)))
-      (leg-apart l k sl (first-sound k (j ∷ ls) ss) (or-left (sameLeg l k) (any (sameLeg l) (j ∷ ls)) h))
-      (none-drawn l (j ∷ ls) sl (others-sound k j ls ss) (or-right (sameLeg l k) (any (sameLeg l) (j ∷ ls)) h))
+      (leg-apart l k sl (first-sound k (j ∷ ls) ss) (or-left (legsAlike l k) (any (legsAlike l) (j ∷ ls)) h))
+      (none-drawn l (j ∷ ls) sl (others-sound k j ls ss) (or-right (legsAlike l k) (any (legsAlike l) (j ∷ ls)) h))
 
   legs-sound : (l : Leg) (ls : List Leg) → soundLegsOf (l ∷ ls) ≡ true → soundLegs (map (taker tenths (marketIn second)) (l ∷ ls)) ≡ true
   legs-sound l [] e = rw (ratio-of l e)
@@ -124,7 +124,7 @@ pub with-three : (s : Spread) (d : Leg) → length (s .leg) ≡ 3 → s .legs �
 with-three s d l e = rw e (ap (λ (k : List Leg). soundLegsOf (take 3 k)) (three d (s .leg) l))
 
 pub leg-count : (s : Spread) → soundSpread s ≡ true → (s .legs ≡ 2) ⊎ (s .legs ≡ 3)
-leg-count s e = one-of (s .legs) 2 3 (and-left (eqb (s .legs) 2 || eqb (s .legs) 3) (soundLegsOf (legsOf s)) e)
+leg-count s e = one-of (s .legs) 2 3 (and-left (eqb (s .legs) 2 || eqb (s .legs) 3) (soundLegsOf (legsIn s)) e)
 
 pub has-three : (s : Spread) → soundSpread s ≡ true → (s .legs ≡ 2 → ⊥) → s .legs ≡ 3
 has-three s e h = ⊎-elim (λ two. absurd (h two)) (λ three. three) (leg-count s e)
@@ -154,7 +154,7 @@ module _ (s : Spread) (d : Leg) (l : length (s .leg) ≡ 3) (e : soundSpread s �
       (others-sound (getD (s .leg) 0 d) (getD (s .leg) 1 d) (getD (s .leg) 2 d ∷ []) (sym (with-three s d l three) ∙ e))
 
 pub spread-sound : (second : Bool) (s : Spread) → soundSpread s ≡ true → soundStep (stepOf second s) ≡ true
-spread-sound second s e = step-sound (s .tenths) second (legsOf s) (and-right (eqb (s .legs) 2 || eqb (s .legs) 3) (soundLegsOf (legsOf s)) e)
+spread-sound second s e = step-sound (s .tenths) second (legsIn s) (and-right (eqb (s .legs) 2 || eqb (s .legs) 3) (soundLegsOf (legsIn s)) e)
 
 pub steps-sound : (ss : List Spread) → every soundSpread ss ≡ true → soundSteps (steps ss) ≡ true
 steps-sound [] e = refl
@@ -166,8 +166,8 @@ steps-sound (s ∷ ss) e =
 
 pub table-sound : (p : Prompts) (t : Table) → sound p t ≡ true → soundSteps (stepsOf t) ≡ true
 table-sound p t e =
-    steps-sound (spreadsOf t)
-    (and-right (leb (t .count) spreadPlaces) (every soundSpread (spreadsOf t)) (and-right (soundPrompts p) (soundTable t) e))
+    steps-sound (tableSpreads t)
+    (and-right (leb (t .count) spreadPlaces) (every soundSpread (tableSpreads t)) (and-right (soundPrompts p) (soundTable t) e))
 
 -- of a table without tenths no step has any
 
@@ -179,8 +179,8 @@ pub whole-steps : (ss : List Spread) → every whole ss ≡ true → wholeSteps 
 whole-steps [] e = refl
 whole-steps (s ∷ ss) e =
     let here = not-true (s .tenths) (and-left (whole s) (every whole ss) e) in
-    let each : (market : ℕ → Market) → wholeStep (map (taker (s .tenths) market) (legsOf s)) ≡ true =
-    λ market. ap (λ (b : Bool). wholeStep (map (taker b market) (legsOf s))) here ∙ whole-legs market (legsOf s)
+    let each : (market : ℕ → Market) → wholeStep (map (taker (s .tenths) market) (legsIn s)) ≡ true =
+    λ market. ap (λ (b : Bool). wholeStep (map (taker b market) (legsIn s))) here ∙ whole-legs market (legsIn s)
     in
     and-both (wholeStep (stepOf false s)) (wholeStep (stepOf true s) && wholeSteps (steps ss)) (each firstMarket)
     (and-both (wholeStep (stepOf true s)) (wholeSteps (steps ss)) (each secondMarket) (whole-steps ss (and-right (whole s) (every whole ss) e)))

@@ -13,7 +13,7 @@ use borrow.Author.Tests.{leb-true, le-leb}
 use native.Mathlib.Nat.{add-zero}
 use Rattle.exact.specs.Lists.{sumℤ}
 use Rattle.exact.proofs.Integers.{abs-towards-zero}
-use Rattle.spread.specs.Accepted.{mostDelta, every, opens, openOf, soundPrompt, soundPrompts, soundSpread, tierCount, promptPlaces}
+use Rattle.spread.specs.Accepted.{mostDelta, every, opensFrom, openOf, soundPrompt, soundPrompts, soundSpread, tierCount, promptPlaces}
 use Rattle.spread.specs.code.Book.{byPlace, deltaEntry, goneOf, Spent}
 use Rattle.spread.specs.Steps.{stepOf, Market, Open, Taker, onSide, inTier, towardsZero, less, formed, after, numbers, left, minus, usedOf, unusedOf}
 use Rattle.spread.specs.code.Cells.{Pooled, Taken}
@@ -87,7 +87,7 @@ spend-length w (p ∷ ps) = ap suc (spend-length (λ m t. w m t - inTier m t p) 
 pub after-length : (s : List Taker) (n : ℕ) (ps : List Open) → length (after s n ps) ≡ length ps
 after-length s n ps = ap length (after-spend s n ps) ∙ spend-length (λ m t. stepUse m t s n) ps
 
-opens-tiers : (n : ℕ) (ts : List ℕ) (ds : List Delta) → n ≤ length ts → n ≤ length ds → tiers (take n (opens ts ds)) ≡ take n ts
+opens-tiers : (n : ℕ) (ts : List ℕ) (ds : List Delta) → n ≤ length ts → n ≤ length ds → tiers (take n (opensFrom ts ds)) ≡ take n ts
 unfolding tiers
 opens-tiers zero ts ds h g = refl
 opens-tiers (suc n) [] ds h g = absurd (omega arith)
@@ -96,7 +96,7 @@ opens-tiers (suc n) (t ∷ ts) (d ∷ ds) h g = ap (λ (us : List ℕ). t ∷ us
 
 -- prompts made again of their tiers and deltas
 again : (m : ℕ) (qs : List Open) (ts : List ℕ) → tiers qs ≡ take (length qs) ts → length qs ≤ m
-    → take (length qs) (opens ts (byPlace m (deltaEntry (deltas qs)))) ≡ qs
+    → take (length qs) (opensFrom ts (byPlace m (deltaEntry (deltas qs)))) ≡ qs
 unfolding tiers byPlace
 again m [] ts e h = refl
 again m (q ∷ qs) [] e h = absurd (let l : suc (length (tiers qs)) ≡ 0 = ap length e in omega arith)
@@ -114,10 +114,10 @@ module _ (p : Prompts) (s : Spread) (second : Bool) (e : soundFor p s ≡ true) 
   rest : List Open
   rest = after (stepOf second s) (formed (stepOf second s) (openOf p)) (openOf p)
 
-  leaves-rest : take (p .count) (opens (p .tier) (byPlace promptPlaces (deltaEntry (deltas rest)))) ≡ rest
+  leaves-rest : take (p .count) (opensFrom (p .tier) (byPlace promptPlaces (deltaEntry (deltas rest)))) ≡ rest
   unfolding rest
   leaves-rest =
-      ap (λ (n : ℕ). take n (opens (p .tier) (byPlace promptPlaces (deltaEntry (deltas rest))))) (sym long)
+      ap (λ (n : ℕ). take n (opensFrom (p .tier) (byPlace promptPlaces (deltaEntry (deltas rest))))) (sym long)
       ∙ again promptPlaces rest (p .tier) same (omega (arith, long, few-prompts))
     where
       long : length rest ≡ p .count
@@ -156,7 +156,7 @@ module _ (p : Prompts) (s : Spread) (second : Bool) (e : soundFor p s ≡ true) 
 
   left-opens : (ds : List Delta) → ds ≡ byPlace promptPlaces (deltaEntry (deltas rest)) → openOf (left-prompts ds) ≡ rest
   unfolding left-prompts
-  left-opens ds h = ap (λ (xs : List Delta). take (p .count) (opens (p .tier) xs)) h ∙ leaves-rest
+  left-opens ds h = ap (λ (xs : List Delta). take (p .count) (opensFrom (p .tier) xs)) h ∙ leaves-rest
 
   left-sound : (ds : List Delta) → ds ≡ byPlace promptPlaces (deltaEntry (deltas rest)) → soundPrompts (left-prompts ds) ≡ true
   unfolding left-prompts

@@ -15,12 +15,12 @@ use borrow.Author.Tests.{eqb-true, leb-true, leb-false, lt-ltb}
 use Rattle.exact.proofs.Integers.{abs-sign, abs-towards-zero, taken-sign, towards-zero-none}
 use Rattle.exact.proofs.Lists.{count-append, count-le}
 use Rattle.exact.specs.Lists.{oneIf, count, sum}
-use Rattle.spread.specs.Accepted.{openOf, spreadsOf, stepsOf, every, soundLegsOf, soundSpread, soundPrompts, soundTable, sound, promptPlaces}
+use Rattle.spread.specs.Accepted.{openOf, tableSpreads, stepsOf, every, soundLegsOf, soundSpread, soundPrompts, soundTable, sound, promptPlaces}
 use Rattle.spread.specs.Accepted.{spreadPlaces}
 use Rattle.spread.specs.Demand.{draws, sameMarket, legUse, stepUse, soundLegs, soundStep, soundSteps}
 use Rattle.spread.specs.Spend.{marketOf, spend, deltas, usedBy}
 use Rattle.spread.specs.Steps.{Market, long, short, Open, Taker, onSide, inTier, towardsZero, less, gives, legTakes, takeFrom, formed, after, left, minus}
-use Rattle.spread.specs.Steps.{taker, firstMarket, secondMarket, steps, legsOf}
+use Rattle.spread.specs.Steps.{taker, firstMarket, secondMarket, steps, legsIn}
 use Rattle.spread.specs.Touches.{legTouches, stepTouches, touches, touchesOf, bothSteps, mostTouches, moved, Touched}
 use Rattle.spread.specs.code.Book.{CountedBook}
 use Rattle.spread.specs.Uses.{takenOf, usesOf}
@@ -135,8 +135,8 @@ legs-both [] = omega arith
 legs-both (s ∷ ss) =
     let rest = legs-both ss in
     let one = at-most (s .legs) (s .leg) in
-    let first = length-map (legsOf s) (taker (s .tenths) firstMarket) in
-    let second = length-map (legsOf s) (taker (s .tenths) secondMarket) in
+    let first = length-map (legsIn s) (taker (s .tenths) firstMarket) in
+    let second = length-map (legsIn s) (taker (s .tenths) secondMarket) in
     omega arith
 
 -- ---- the prompts moved
@@ -293,7 +293,7 @@ two-or-three n b e = go (eqb n 2) refl (and-left (eqb n 2 || eqb n 3) b e)
 three-each : (ss : List Spread) → every soundSpread ss ≡ true → sum (map (λ s. s .legs) ss) ≤ 3 * length ss
 three-each [] e = omega arith
 three-each (s ∷ ss) e =
-    let a = two-or-three (s .legs) (soundLegsOf (legsOf s)) (and-left (soundSpread s) (every soundSpread ss) e) in
+    let a = two-or-three (s .legs) (soundLegsOf (legsIn s)) (and-left (soundSpread s) (every soundSpread ss) e) in
     let r = three-each ss (and-right (soundSpread s) (every soundSpread ss) e) in
     omega arith
 
@@ -312,9 +312,9 @@ touches-few p t lt ln e =
     let all = ap (λ (b : Bool). cond b (touches (stepsOf t) (openOf p)) 0) e in
     let long = open-length p lt ln (few p (and-left (soundPrompts p) (soundTable t) e)) in
     let prompts = few p (and-left (soundPrompts p) (soundTable t) e) in
-    let spreads = leb-true (t .count) spreadPlaces (and-left (leb (t .count) spreadPlaces) (every soundSpread (spreadsOf t)) table) in
+    let spreads = leb-true (t .count) spreadPlaces (and-left (leb (t .count) spreadPlaces) (every soundSpread (tableSpreads t)) table) in
     let taken = at-most-spreads (t .count) (t .spread) in
-    let most = touches-most (spreadsOf t) (openOf p) (and-right (leb (t .count) spreadPlaces) (every soundSpread (spreadsOf t)) table)
+    let most = touches-most (tableSpreads t) (openOf p) (and-right (leb (t .count) spreadPlaces) (every soundSpread (tableSpreads t)) table)
     (omega (arith, spreads, taken)) (omega (arith, long, prompts)) in
     omega (arith, all, most)
 

@@ -7,7 +7,7 @@ use lib.ListN.{take}
 use lib.Dec.{eqb, leb, ltb}
 use lib.IntN.{natAbs}
 use Rattle.exact.specs.Lists.{any}
-use Rattle.spread.specs.Steps.{Open, Taker, legsOf, steps}
+use Rattle.spread.specs.Steps.{Open, Taker, legsIn, steps}
 use Rattle.spread.specs.declared.Delta.{Delta}
 use Rattle.spread.specs.declared.Leg.{Leg}
 use Rattle.spread.specs.declared.Spread.{Spread}
@@ -15,20 +15,20 @@ use Rattle.spread.specs.declared.Table.{Table}
 use Rattle.spread.specs.declared.Prompts.{Prompts}
 
 -- the first `count` prompts, nothing of their net deltas used yet
-abbrev pub opens : List ℕ → List Delta → List Open
-opens [] ds = []
-opens (t ∷ ts) [] = []
-opens (t ∷ ts) (d ∷ ds) = record { tier = t; unused = d .0 } ∷ opens ts ds
+abbrev pub opensFrom : List ℕ → List Delta → List Open
+opensFrom [] ds = []
+opensFrom (t ∷ ts) [] = []
+opensFrom (t ∷ ts) (d ∷ ds) = record { tier = t; unused = d .0 } ∷ opensFrom ts ds
 
 abbrev pub openOf : Prompts → List Open
-openOf p = take (p .count) (opens (p .tier) (p .net))
+openOf p = take (p .count) (opensFrom (p .tier) (p .net))
 
 -- the first `count` spreads, and their steps
-abbrev pub spreadsOf : Table → List Spread
-spreadsOf t = take (t .count) (t .spread)
+abbrev pub tableSpreads : Table → List Spread
+tableSpreads t = take (t .count) (t .spread)
 
 abbrev pub stepsOf : Table → List (List Taker)
-stepsOf t = steps (spreadsOf t)
+stepsOf t = steps (tableSpreads t)
 
 abbrev pub every {ℓ} : {A : Type ℓ} → (A → Bool) → List A → Bool
 every p [] = true
@@ -59,24 +59,24 @@ soundPrompts p = leb (p .count) promptPlaces && every soundPrompt (openOf p)
 abbrev pub soundLeg : Leg → Bool
 soundLeg l = ltb (l .tier) tierCount && ((eqb (l .side) 1 || eqb (l .side) 2) && ltb 0 (l .ratio))
 
-abbrev pub sameLeg : Leg → Leg → Bool
-sameLeg l k = eqb (l .tier) (k .tier) && eqb (l .side) (k .side)
+abbrev pub legsAlike : Leg → Leg → Bool
+legsAlike l k = eqb (l .tier) (k .tier) && eqb (l .side) (k .side)
 
 -- each leg is sound, and no two have the same tier and side
 abbrev pub soundLegsOf : List Leg → Bool
 soundLegsOf [] = false
 soundLegsOf (l ∷ []) = soundLeg l
-soundLegsOf (l ∷ k ∷ ls) = soundLeg l && (not (any (sameLeg l) (k ∷ ls)) && soundLegsOf (k ∷ ls))
+soundLegsOf (l ∷ k ∷ ls) = soundLeg l && (not (any (legsAlike l) (k ∷ ls)) && soundLegsOf (k ∷ ls))
 
 abbrev pub soundSpread : Spread → Bool
-soundSpread s = (eqb (s .legs) 2 || eqb (s .legs) 3) && soundLegsOf (legsOf s)
+soundSpread s = (eqb (s .legs) 2 || eqb (s .legs) 3) && soundLegsOf (legsIn s)
 
 -- no ratio of the spread is in tenths
 abbrev pub whole : Spread → Bool
 whole s = not (s .tenths)
 
 abbrev pub soundTable : Table → Bool
-soundTable t = leb (t .count) spreadPlaces && every soundSpread (spreadsOf t)
+soundTable t = leb (t .count) spreadPlaces && every soundSpread (tableSpreads t)
 
 abbrev pub sound : Prompts → Table → Bool
 sound p t = soundPrompts p && soundTable t

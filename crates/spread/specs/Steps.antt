@@ -53,13 +53,13 @@ secondMarket side = cond (eqb side 1) short long
 abbrev pub taker : Bool → (ℕ → Market) → Leg → Taker
 taker inTenths market l = record { market = market (l .side); tier = l .tier; ratio = l .ratio; tenths = inTenths }
 
-abbrev pub legsOf : Spread → List Leg
-legsOf s = take (s .legs) (s .leg)
+abbrev pub legsIn : Spread → List Leg
+legsIn s = take (s .legs) (s .leg)
 
 abbrev pub steps : List Spread → List (List Taker)
 steps [] = []
 steps (s ∷ ss) =
-    map (taker (s .tenths) firstMarket) (legsOf s) ∷ map (taker (s .tenths) secondMarket) (legsOf s) ∷ steps ss
+    map (taker (s .tenths) firstMarket) (legsIn s) ∷ map (taker (s .tenths) secondMarket) (legsIn s) ∷ steps ss
 
 -- "The number formed is the smallest over its legs of pool divided by ratio, whole ten-thousandths, rounded down." Where
 -- ratios are tenths, "The number is the smallest of 10 × pool / ratio, rounded down".
@@ -125,4 +125,4 @@ marketIn false = firstMarket
 marketIn true = secondMarket
 
 abbrev pub stepOf : Bool → Spread → List Taker
-stepOf second s = map (taker (s .tenths) (marketIn second)) (legsOf s)
+stepOf second s = map (taker (s .tenths) (marketIn second)) (legsIn s)

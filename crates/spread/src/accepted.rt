@@ -9,7 +9,7 @@ use crate::Table;
 use crate::pools::TIERS;
 ghost use mathlib.Core.Path.{_≡_};
 ghost use mathlib.Core.List.{[], _∷_};
-ghost use Rattle.spread.specs.Accepted.{soundLeg, sameLeg, soundLegsOf, soundSpread, soundTable, soundPrompt, soundPrompts, sound};
+ghost use Rattle.spread.specs.Accepted.{soundLeg, legsAlike, soundLegsOf, soundSpread, soundTable, soundPrompt, soundPrompts, sound};
 
 // 128 rows of 100,000 lots at a delta of 1.0000.
 pub const MOST_DELTA: u64 = 128_000_000_000;
@@ -21,7 +21,7 @@ fn sound_leg(leg: Leg) -> bool
 }
 
 fn same_leg(a: Leg, b: Leg) -> bool
-    ensures { λ r. ⌜ r ≡ sameLeg a b ⌝ }
+    ensures { λ r. ⌜ r ≡ legsAlike a b ⌝ }
 {
     (a.tier == b.tier) & (a.side == b.side)
 }

@@ -20,7 +20,7 @@ ghost use mathlib.Core.Path.{_≡_};
 ghost use mathlib.Core.Bool.{true};
 ghost use lib.ListN.{length, replicate};
 ghost use lib.IntN.{pos};
-ghost use Rattle.spread.specs.Accepted.{openOf, spreadsOf, soundPrompts, soundTable, sound, promptPlaces, spreadPlaces};
+ghost use Rattle.spread.specs.Accepted.{openOf, tableSpreads, soundPrompts, soundTable, sound, promptPlaces, spreadPlaces};
 ghost use Rattle.spread.specs.Spend.{marketOf};
 ghost use Rattle.spread.specs.code.Cells.{cellOf, Pooled, Small, poolCount};
 ghost use Rattle.spread.specs.code.Book.{Booked, Refused, Run, Spent};
@@ -69,7 +69,7 @@ fn run(
 ) -> Pools
     requires { ⌜ (soundTable table ≡ true) × (Small (pools .cell)
         × ((now first ≡ replicate spreadPlaces 0) × (now second ≡ replicate spreadPlaces 0))) ⌝ }
-    ensures { λ r. ⌜ Run (pools .cell) (spreadsOf table) (r .cell) (spreadsFrom (now (first .exit))) (spreadsFrom (now (second .exit))) ⌝ }
+    ensures { λ r. ⌜ Run (pools .cell) (tableSpreads table) (r .cell) (spreadsFrom (now (first .exit))) (spreadsFrom (now (second .exit))) ⌝ }
 {
     let n = table.count;
     let mut left = pools;

@@ -21,7 +21,7 @@ use Rattle.account.proofs.Earlier.{cut-more, take-cut}
 use Rattle.account.proofs.AcceptedOnly.{accepted-only}
 use Rattle.account.proofs.Walk.{cut-on, length-cut}
 use Rattle.margin.specs.Questions.{notRefused}
-use Rattle.tickets.specs.Asked.{ticketsIn, of, inTurn, standing, total, refusedBy, answeredBy, askedAbout, withdrawnFrom}
+use Rattle.tickets.specs.Asked.{ticketsIn, of, oneByOne, standing, marginTotal, refusedBy, answeredBy, askedAbout, withdrawnFrom}
 use Rattle.tickets.specs.code.Kept.{KeptBy, withdrawal}
 use Rattle.tickets.specs.Ticket.{withTicket, withTickets, ticketChecked}
 use Rattle.tickets.specs.declared.ask.Asked.{Asked}
@@ -49,12 +49,12 @@ module _ {A : Type 0} (a : Answer) (x y : A) where
 module _ (file bytes : List ℕ) (n : ℕ) where
   -- those from ticket i on, once the first i are put in
   abbrev pub FromOn : ℕ → Ticketed
-  FromOn i = inTurn i (withTickets file (cut i bytes)) (cut (n - i) (drop (i * recordBytes) bytes))
+  FromOn i = oneByOne i (withTickets file (cut i bytes)) (cut (n - i) (drop (i * recordBytes) bytes))
 
-  pub from-start : inTurn 0 file (cut n bytes) ≡ FromOn 0
+  pub from-start : oneByOne 0 file (cut n bytes) ≡ FromOn 0
   from-start =
       let e : n - 0 ≡ n = omega arith in
-      ap (λ (m : ℕ). inTurn 0 file (cut m bytes)) (sym e)
+      ap (λ (m : ℕ). oneByOne 0 file (cut m bytes)) (sym e)
 
   module _ (i : ℕ) (h : i < n) where
     one-more : withTicket (withTickets file (cut i bytes)) (recordAt bytes i) ≡ withTickets file (cut (i + 1) bytes)
@@ -64,21 +64,21 @@ module _ (file bytes : List ℕ) (n : ℕ) where
 
     pub from-next : numberOf (ticketChecked (withTickets file (cut i bytes)) (recordAt bytes i)) ≡ 0 → FromOn i ≡ FromOn (i + 1)
     from-next z =
-        ap (inTurn i (withTickets file (cut i bytes))) (cut-on bytes n i h)
+        ap (oneByOne i (withTickets file (cut i bytes))) (cut-on bytes n i h)
         ∙ if-yes (ticketChecked (withTickets file (cut i bytes)) (recordAt bytes i)) _ _ z
-        ∙ ap (λ (g : List ℕ). inTurn (i + 1) g (cut (n - (i + 1)) (drop ((i + 1) * recordBytes) bytes))) one-more
+        ∙ ap (λ (g : List ℕ). oneByOne (i + 1) g (cut (n - (i + 1)) (drop ((i + 1) * recordBytes) bytes))) one-more
 
     pub from-stops :
         (a : Answer) → a ≡ ticketChecked (withTickets file (cut i bytes)) (recordAt bytes i) → (numberOf a ≡ 0 → ⊥) → of (i + 1) a ≡ FromOn i
     from-stops a e nz =
         ap (of (i + 1)) e
-        ∙ sym (ap (inTurn i (withTickets file (cut i bytes))) (cut-on bytes n i h)
+        ∙ sym (ap (oneByOne i (withTickets file (cut i bytes))) (cut-on bytes n i h)
         ∙ if-no (ticketChecked (withTickets file (cut i bytes)) (recordAt bytes i)) _ _ (λ z. nz (ap numberOf e ∙ z)))
 
   pub from-end : (i : ℕ) → n ≤ i → of i Accepted ≡ FromOn i
   from-end i h =
       let e : n - i ≡ 0 = omega arith in
-      ap (λ (m : ℕ). inTurn i (withTickets file (cut i bytes)) (cut m (drop (i * recordBytes) bytes))) (sym e)
+      ap (λ (m : ℕ). oneByOne i (withTickets file (cut i bytes)) (cut m (drop (i * recordBytes) bytes))) (sym e)
 
 -- ---- what is told in the end
 module _ (file : List ℕ) (ts : List Record) where
@@ -88,20 +88,21 @@ module _ (file : List ℕ) (ts : List Record) where
   abbrev askBy : Record → Ticketed → Asked
   askBy t v =
       cond (notRefused (v .answer))
-      (cond (notRefused (ticketChecked held t)) (answeredBy (v .ticket + 1) (total held) (total (withTicket held t)))
+      (cond (notRefused (ticketChecked held t)) (answeredBy (v .ticket + 1) (marginTotal held) (marginTotal (withTicket held t)))
       (refusedBy (of (v .ticket + 1) (ticketChecked held t))))
       (refusedBy v)
 
   abbrev withdrawBy : Ticketed → Asked
   withdrawBy v =
       cond (notRefused (v .answer))
-      (cond (eqb (v .ticket) 0) (refusedBy (of 0 NoTicketLeft)) (answeredBy (v .ticket) (total held) (total (withTickets file (take (length ts - 1) ts)))))
+      (cond (eqb (v .ticket) 0) (refusedBy (of 0 NoTicketLeft)) (answeredBy (v .ticket) (marginTotal held)
+      (marginTotal (withTickets file (take (length ts - 1) ts)))))
       (refusedBy v)
 
   -- the file itself is refused
   module _ (a : Answer) (e : a ≡ checked file) (nz : numberOf a ≡ 0 → ⊥) where
     no-file : of 0 a ≡ standing file ts
-    no-file = ap (of 0) e ∙ sym (if-no (checked file) (inTurn 0 file ts) (of 0 (checked file)) (λ z. nz (ap numberOf e ∙ z)))
+    no-file = ap (of 0) e ∙ sym (if-no (checked file) (oneByOne 0 file ts) (of 0 (checked file)) (λ z. nz (ap numberOf e ∙ z)))
 
     pub ask-no-file : (t : Record) → refusedBy (of 0 a) ≡ askedAbout file ts t
     ask-no-file t = sym (ap (askBy t) (sym no-file) ∙ if-no a _ _ nz)
@@ -110,9 +111,9 @@ module _ (file : List ℕ) (ts : List Record) where
     withdraw-no-file = sym (ap withdrawBy (sym no-file) ∙ if-no a _ _ nz)
 
   -- the file is accepted
-  module _ (ok : checked file ≡ Accepted) (n : ℕ) (a : Answer) (told : of n a ≡ inTurn 0 file ts) where
+  module _ (ok : checked file ≡ Accepted) (n : ℕ) (a : Answer) (told : of n a ≡ oneByOne 0 file ts) where
     its : of n a ≡ standing file ts
-    its = told ∙ sym (if-yes (checked file) (inTurn 0 file ts) (of 0 (checked file)) (ap numberOf ok))
+    its = told ∙ sym (if-yes (checked file) (oneByOne 0 file ts) (of 0 (checked file)) (ap numberOf ok))
 
     pub ask-no-ticket : (numberOf a ≡ 0 → ⊥) → (t : Record) → refusedBy (of n a) ≡ askedAbout file ts t
     ask-no-ticket nz t = sym (ap (askBy t) (sym its) ∙ if-no a _ _ nz)
@@ -123,7 +124,7 @@ module _ (file : List ℕ) (ts : List Record) where
     module _ (z : numberOf a ≡ 0) where
       module _ (t : Record) (b : Answer) (i : b ≡ ticketChecked held t) where
         here : askedAbout file ts t
-            ≡ cond (notRefused (ticketChecked held t)) (answeredBy (n + 1) (total held) (total (withTicket held t)))
+            ≡ cond (notRefused (ticketChecked held t)) (answeredBy (n + 1) (marginTotal held) (marginTotal (withTicket held t)))
             (refusedBy (of (n + 1) (ticketChecked held t)))
         here = ap (askBy t) (sym its) ∙ if-yes a _ _ z
 
@@ -131,14 +132,14 @@ module _ (file : List ℕ) (ts : List Record) where
         ask-refused nz = ap (λ (x : Answer). refusedBy (of (n + 1) x)) i ∙ sym (here ∙ if-no (ticketChecked held t) _ _ (λ y. nz (ap numberOf i ∙ y)))
 
         pub ask-answered :
-            numberOf b ≡ 0 → (r : Asked) → r .ticket ≡ n + 1 → r .answer ≡ b → r .before .0 ≡ total held → r .after .0 ≡ total (withTicket held t)
+            numberOf b ≡ 0 → (r : Asked) → r .ticket ≡ n + 1 → r .answer ≡ b → r .before .0 ≡ marginTotal held → r .after .0 ≡ marginTotal (withTicket held t)
             → r ≡ askedAbout file ts t
         ask-answered y r e f g h =
             (λ j. record { ticket = e j; answer = (f ∙ accepted-only b y) j; before = record { 0 = g j }; after = record { 0 = h j } })
             ∙ sym (here ∙ if-yes (ticketChecked held t) _ _ (ap numberOf (sym i) ∙ y))
 
       there : withdrawnFrom file ts ≡ cond (eqb n 0) (refusedBy (of 0 NoTicketLeft))
-          (answeredBy n (total held) (total (withTickets file (take (length ts - 1) ts))))
+          (answeredBy n (marginTotal held) (marginTotal (withTickets file (take (length ts - 1) ts))))
       there = ap withdrawBy (sym its) ∙ if-yes a _ _ z
 
       pub withdraw-none : (b : Answer) → n ≡ 0 → b ≡ NoTicketLeft → refusedBy (of n b) ≡ withdrawnFrom file ts
@@ -146,16 +147,16 @@ module _ (file : List ℕ) (ts : List Record) where
           ap₂ (λ (m : ℕ) (x : Answer). refusedBy (of m x)) e f
           ∙ sym (there
           ∙ ap (λ (t : Bool). cond t (refusedBy (of 0 NoTicketLeft))
-          (answeredBy n (total held) (total (withTickets file (take (length ts - 1) ts))))) (eq-eqb n 0 e))
+          (answeredBy n (marginTotal held) (marginTotal (withTickets file (take (length ts - 1) ts))))) (eq-eqb n 0 e))
 
       pub withdraw-answered :
-          (n ≡ 0 → ⊥) → (r : Asked) → r .ticket ≡ n → r .answer ≡ Accepted → r .before .0 ≡ total held
-          → r .after .0 ≡ total (withTickets file (take (length ts - 1) ts)) → r ≡ withdrawnFrom file ts
+          (n ≡ 0 → ⊥) → (r : Asked) → r .ticket ≡ n → r .answer ≡ Accepted → r .before .0 ≡ marginTotal held
+          → r .after .0 ≡ marginTotal (withTickets file (take (length ts - 1) ts)) → r ≡ withdrawnFrom file ts
       withdraw-answered nz r e f g h =
           (λ j. record { ticket = e j; answer = f j; before = record { 0 = g j }; after = record { 0 = h j } })
           ∙ sym (there
           ∙ ap (λ (t : Bool). cond t (refusedBy (of 0 NoTicketLeft))
-          (answeredBy n (total held) (total (withTickets file (take (length ts - 1) ts))))) (ne-eqb n 0 nz))
+          (answeredBy n (marginTotal held) (marginTotal (withTickets file (take (length ts - 1) ts))))) (ne-eqb n 0 nz))
 
 -- ---- the tickets that are kept
 none-left : (m : ℕ) → (numberOf (withdrawal m) ≡ 0 → ⊥) → m ≡ 0

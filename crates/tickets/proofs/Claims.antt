@@ -14,14 +14,14 @@ use Rattle.account.specs.Answers.{numberOf, recordOf, refusal}
 use Rattle.record.specs.Ranges.{unusedByte, fieldOutside}
 use Rattle.account.specs.Check.{theOneBefore, unlisted, outOfOrder, overLimit, _when_, firstOf, mostRecords}
 use Rattle.account.specs.Checked.{checked}
-use Rattle.account.specs.Claims.{Iff}
+use Rattle.exact.specs.Iff.{Iff}
 use Rattle.account.specs.Parts.{ofKind, ratesOf}
 use Rattle.account.specs.Products.{hasRate, conversionBeyond}
 use Rattle.account.specs.Records.{records, recordCount}
 use Rattle.account.specs.declared.answers.Answer.{Answer}
 use Rattle.account.specs.declared.answers.Answer.the-variants.{Accepted, TooLong, CutRecord, UnknownKind}
 use Rattle.account.proofs.Exactly.{Rising, none-given, leads, leads-back, clean-back}
-use Rattle.tickets.specs.Claims.{OneRowMore, PutIn, Gives, Row, FirstFor, NoneFor, Exactly, Claims}
+use Rattle.tickets.specs.Claims.{OneRowMore, PutIn, TicketGives, TicketRow, FirstFor, NoneFor, Exactly, Claims}
 use Rattle.tickets.specs.Ticket.{place, withTicket, ahead, rowRefusals, rowFault, ticketChecked}
 use Rattle.tickets.proofs.Inserted.{rows-with, rows-without, contracts-same, prompts-same, spreads-same, entries-same, rates-same, never-4, never-8}
 use Rattle.tickets.proofs.Placed.{records-with, apart-at, before-at, checked-with, full-with}
@@ -89,9 +89,9 @@ module _ (file : List ℕ) (t : Record) where
   pub record Told (P : Type 0) : Type 0 where
     pub two : (length t ≡ recordBytes → ⊥) → ticketChecked file t ≡ CutRecord → P
     pub three : length t ≡ recordBytes → (kind t ≡ 3 → ⊥) → ticketChecked file t ≡ UnknownKind p → P
-    pub row : Row t → (fault ≡ 0 → ⊥) → ticketChecked file t ≡ refusal fault p → P
-    pub one : Row t → fault ≡ 0 → mostRecords ≤ recordCount file → ticketChecked file t ≡ TooLong → P
-    pub accepted : Row t → fault ≡ 0 → recordCount file < mostRecords → ticketChecked file t ≡ Accepted → P
+    pub row : TicketRow t → (fault ≡ 0 → ⊥) → ticketChecked file t ≡ refusal fault p → P
+    pub one : TicketRow t → fault ≡ 0 → mostRecords ≤ recordCount file → ticketChecked file t ≡ TooLong → P
+    pub accepted : TicketRow t → fault ≡ 0 → recordCount file < mostRecords → ticketChecked file t ≡ Accepted → P
 
   pub told : {P : Type 0} → Told P → P
   told {P} cases = go (eqb (length t) recordBytes) refl (eqb (kind t) 3) refl (eqb fault 0) refl (leb mostRecords (recordCount file)) refl
@@ -111,10 +111,10 @@ module _ (file : List ℕ) (t : Record) where
           cases .accepted (record { whole = eqb-true (length t) recordBytes e; row = eqb-true (kind t) 3 i }) (eqb-true fault 0 h)
           (leb-false mostRecords (recordCount file) l) (shaped true true true false e i h l)
 
-  gives : {a : Answer} (n k : ℕ) → ticketChecked file t ≡ a → numberOf a ≡ n → recordOf a ≡ k → Gives file t n k
+  gives : {a : Answer} (n k : ℕ) → ticketChecked file t ≡ a → numberOf a ≡ n → recordOf a ≡ k → TicketGives file t n k
   gives n k e i j = record { number = ap numberOf e ∙ i; record-is = ap recordOf e ∙ j }
 
-  other : {a : Answer} {P : Type 0} (n m k : ℕ) → Gives file t n k → ticketChecked file t ≡ a → numberOf a ≡ m → (n ≡ m → ⊥) → P
+  other : {a : Answer} {P : Type 0} (n m k : ℕ) → TicketGives file t n k → ticketChecked file t ≡ a → numberOf a ≡ m → (n ≡ m → ⊥) → P
   other n m k g e i d = absurd (d (sym (g .number) ∙ ap numberOf e ∙ i))
 
   fault-gives : (fault ≡ 0 → ⊥) → numberOf (refusal fault p) ≡ fault
@@ -264,7 +264,7 @@ module _ (file : List ℕ) (t : Record) where
       }
 
   -- ---- a row put into an accepted file
-  module _ (ok : checked file ≡ Accepted) (r : Row t) where
+  module _ (ok : checked file ≡ Accepted) (r : TicketRow t) where
     pub one-row-more : OneRowMore t (records file) (records (withTicket file t))
     one-row-more =
         let rs = records file in

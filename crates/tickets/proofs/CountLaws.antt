@@ -41,8 +41,8 @@ use Rattle.account.proofs.Noted.{part-is}
 use Rattle.account.proofs.Passed.{Passed, passed, Known, known-of}
 use Rattle.account.proofs.Places.{alone}
 use Rattle.account.proofs.Walk.{length-cut}
-use Rattle.tickets.specs.Claims.{Row, OneRowMore}
-use Rattle.tickets.specs.code.Counts.{CountsOf, Small, rowFaultBy, OneMore, OneLess}
+use Rattle.tickets.specs.Claims.{TicketRow, OneRowMore}
+use Rattle.tickets.specs.code.Counts.{CountsOf, SmallCounts, rowFaultBy, OneMore, OneLess}
 use Rattle.tickets.specs.Ticket.{place, withTicket, withTickets, ahead, rowFault, ticketChecked}
 use Rattle.tickets.specs.declared.counts.Counts.{Counts}
 use Rattle.tickets.proofs.Claims.{shaped, one-row-more, none-told}
@@ -139,7 +139,7 @@ module _ (file : List ℕ) (ts : List Record) (k : Counts) (co : CountsOf file t
       omega (arith, place-by t (records G) (k .rows) (co .rows-are), contracts-same, prompts-same, co .above-is)
       ∙ ap (λ (n : ℕ). k .above + sum (take n (k .rows))) (sym (add-one (contract t)))
 
-  pub small : Small k
+  pub small : SmallCounts k
   small =
       record {
         above-few = above-most;
@@ -205,7 +205,7 @@ module _ (file : List ℕ) (ts : List Record) (k : Counts) (co : CountsOf file t
     rates = ratesOf (records G)
 
     parts-fault :
-        (none : List ℕ) → none ≡ [] → Row t
+        (none : List ℕ) → none ≡ [] → TicketRow t
         → by-parts none
         ≡ rowFaultBy (not (any (ofContract 1 (contract t)) (records G)) || noDay (promptsOf (contract t) (records G)) (day t))
         (count (ofContract 3 (contract t)) (records G)) t
@@ -217,7 +217,7 @@ module _ (file : List ℕ) (ts : List Record) (k : Counts) (co : CountsOf file t
         ∙ ap (λ (n : ℕ). rowFaultBy (not (any (ofContract 1 c) (records G)) || noDay (promptsOf c (records G)) (day t)) n t) (co .rows-are c)
 
     -- 5 to 9 by the parts of the account, then 14 and 15
-    fault-is : (none : List ℕ) → none ≡ [] → Row t → rowFault G t ≡ cond (eqb (by-parts none) 0) (rateFaultOf rates t) (by-parts none)
+    fault-is : (none : List ℕ) → none ≡ [] → TicketRow t → rowFault G t ≡ cond (eqb (by-parts none) 0) (rateFaultOf rates t) (by-parts none)
     fault-is none e r =
         fault-by G with-ok t r ∙ ap (λ (n : ℕ). cond (eqb n 0) (rateFaultOf rates t) n) (sym (parts-fault none e r))
 
@@ -231,7 +231,7 @@ module _ (file : List ℕ) (ts : List Record) (k : Counts) (co : CountsOf file t
         ∙ sym (shaped G t true false (eqb (rowFault G t) 0) (leb mostRecords (recordCount G)) (eq-eqb (length t) recordBytes w) (ne-eqb (kind t) 3 d) refl refl)
 
     module _ (none : List ℕ) (nothing : none ≡ []) (w : length t ≡ recordBytes) (row : kind t ≡ 3) where
-      is-row : Row t
+      is-row : TicketRow t
       is-row = record { whole = w; row = row }
 
       pub tell-row :

@@ -24,7 +24,7 @@ use Rattle.account.proofs.Dispatch.{unlisted-3, over-3}
 use Rattle.account.proofs.Earlier.{any-earlier, count-earlier, take-cut}
 use Rattle.account.proofs.Lists.{any-keep}
 use Rattle.account.proofs.Passed.{Known, known-of, passed}
-use Rattle.tickets.specs.Claims.{Row}
+use Rattle.tickets.specs.Claims.{TicketRow}
 use Rattle.tickets.specs.code.Counts.{rowFaultBy}
 use Rattle.tickets.specs.Ticket.{standsBefore, place, ahead, rowFault}
 use Rattle.tickets.proofs.Claims.{put-in}
@@ -154,7 +154,7 @@ pub kind-places : (n : ℕ) (rs : List Record) → Each Known rs → count (ofKi
 kind-places n rs e = kind-within n rs e ∙ up-to n mostContract rs
 
 -- ---- the records before the ticket's place, and all records
-module _ (file : List ℕ) (ok : checked file ≡ Accepted) (t : Record) (r : Row t) where
+module _ (file : List ℕ) (ok : checked file ≡ Accepted) (t : Record) (r : TicketRow t) where
   abbrev rs : List Record
   rs = records file
 
@@ -237,7 +237,7 @@ staged false false false true rest = refl
 staged false false false false rest = refl
 
 pub fault-by :
-    (file : List ℕ) (ok : checked file ≡ Accepted) (t : Record) (r : Row t)
+    (file : List ℕ) (ok : checked file ≡ Accepted) (t : Record) (r : TicketRow t)
     → rowFault file t
     ≡ cond (eqb (rowFaultBy (not (any (ofContract 1 (contract t)) (records file)) || noDay (promptsOf (contract t) (records file)) (day t))
     (count (ofContract 3 (contract t)) (records file)) t) 0)

@@ -11,7 +11,7 @@ use lib.ListN.{length, getD, set, length-append, length-set}
 use lib.Seq.{take-all, getD-set-same, getD-set-other, getD-append-seam}
 use Rattle.account.specs.Check.{mostRecords, mostContracts, mostPrompts, mostRows}
 use Rattle.record.specs.Bytes.{recordBytes}
-use Rattle.record.specs.Layout.{Record, contract, unit, mostContract}
+use Rattle.record.specs.Layout.{Record, contract, unit, mostContract, mostUnit}
 use Rattle.account.specs.Checked.{checked}
 use Rattle.account.specs.Lawful.{Lawful}
 use Rattle.account.specs.PartNumbers.{part, ratePart}
@@ -31,7 +31,7 @@ use Rattle.margin.specs.code.Lined.{PositionAt}
 use Rattle.exact.specs.Lists.{keep}
 use Rattle.margin.specs.Books.{asks}
 use Rattle.formulas.specs.code.Position.{RowFit, RowRated, RowsFit, RatedBy, DaysOf, PositionOf, Bounded, WithRows, HasRows}
-use Rattle.margin.specs.code.Positions.{noPosition, PositionsOf, Told, Known}
+use Rattle.margin.specs.code.Positions.{noPosition, PositionsOf, PositionsTell, Known}
 use Rattle.margin.specs.declared.positions.Positions.{Positions}
 use Rattle.formulas.specs.declared.rows.Days.{Days}
 use Rattle.formulas.specs.declared.rows.Position.{Position}
@@ -58,7 +58,7 @@ module _ (file : List ℕ) (ts : List Record) (k : Kept) (kb : KeptBy file ts k)
   pub lawful-kept : Lawful (records (withTickets file ts))
   lawful-kept = lawful (withTickets file ts) (with-ok file ts (k .counts) (kb .counts))
 
-  pub told-kept : (none : List ℕ) → none ≡ [] → Told (accountOf file none) (k .positions) (records (withTickets file ts))
+  pub told-kept : (none : List ℕ) → none ≡ [] → PositionsTell (accountOf file none) (k .positions) (records (withTickets file ts))
   told-kept none e =
       let ok = file-ok file (k .counts .account) (kb .counts .from-check) in
       let back = sym (alone file none e (plain file ok .recorded)) in
@@ -157,7 +157,7 @@ module _ (t : Record) (whole more : List Record) (one : OneRowMore t whole more)
           subst (λ (n : ℕ). RowRated held (getD (t ∷ []) n [])) z
           (subst (RowRated held) (getD-append-seam (rowsOf c whole) t [] []) (rated′ (length (rowsOf c whole)) (omega (arith, long))))
 
-  pub unit-within : unitOf c whole ≤ 1000
+  pub unit-within : unitOf c whole ≤ mostUnit
   unit-within = own-fit whole law c .units .most
 
   pub prompts-few : length (promptsOf c whole) ≤ mostPrompts
@@ -336,7 +336,7 @@ module _ (file : List ℕ) (account : Account) (none : List ℕ) (st : Stands fi
     rates-are : RatesOf (ratesOf whole) table
     rates-are = subst (λ (rs : List Record). RatesOf rs table) (er .are ∙ sym (b .rates)) held
 
-    unit-few : u ≤ 1000
+    unit-few : u ≤ mostUnit
     unit-few = omega (arith, unit-is, unit-within t whole more one law law′)
 
     fits : RowsFit (records t)
@@ -353,7 +353,7 @@ module _ (file : List ℕ) (account : Account) (none : List ℕ) (st : Stands fi
       at-unit : PositionOf (ratesOf whole) u (promptsOf n whole) (rowsOf n whole) p
       at-unit = same-position p refl unit-is refl refl (of .each n small .is)
 
-      pub more-asks : (u ≤ 1000) × ((days .count ≤ mostPrompts)
+      pub more-asks : (u ≤ mostUnit) × ((days .count ≤ mostPrompts)
           × (RowsFit (records t) × (RatedBy table (records t) × Bounded (mostRows - length (records t)) p)))
       more-asks = (
         unit-few,
@@ -379,7 +379,7 @@ module _ (file : List ℕ) (account : Account) (none : List ℕ) (st : Stands fi
       abbrev p′ : Position
       p′ = getD (ps .at) n noPosition
 
-      pub less-asks : (u ≤ 1000)
+      pub less-asks : (u ≤ mostUnit)
           × ((days .count ≤ mostPrompts) × (RowsFit (records t) × (RatedBy table (records t) × (Bounded mostRows p′ × HasRows table u days (records t) p′))))
       less-asks = (
         unit-few,

@@ -15,8 +15,8 @@ use Rattle.account.specs.Checked.{checked}
 use Rattle.account.specs.Parts.{contractsOf, promptsOf, spreadsOf, entriesOf, ratesOf}
 use Rattle.account.specs.Records.{records}
 use Rattle.account.specs.declared.answers.Answer.the-variants.{Accepted}
-use Rattle.tickets.specs.Claims.{Row}
-use Rattle.tickets.specs.code.Counts.{Taken}
+use Rattle.tickets.specs.Claims.{TicketRow}
+use Rattle.tickets.specs.code.Counts.{TakenRows}
 use Rattle.tickets.specs.Ticket.{withTicket, withTickets, ticketChecked}
 use Rattle.tickets.proofs.Claims.{exactly, one-row-more, put-in}
 
@@ -26,16 +26,16 @@ tickets-last file [] t = refl
 tickets-last file (x ∷ ts) t = tickets-last (withTicket file x) ts t
 
 -- an accepted ticket is a row of 96 bytes
-pub taken-row : (file : List ℕ) (t : Record) → ticketChecked file t ≡ Accepted → Row t
+pub taken-row : (file : List ℕ) (t : Record) → ticketChecked file t ≡ Accepted → TicketRow t
 taken-row file t h = exactly file t .accepted .forth (record { number = ap numberOf h; record-is = ap recordOf h }) .0
 
 pub taken-one : (file : List ℕ) (t : Record) → checked file ≡ Accepted → ticketChecked file t ≡ Accepted → checked (withTicket file t) ≡ Accepted
 taken-one file t ok h = put-in file t ok (taken-row file t h) .accepted .forth h
 
-taken-rest : (file : List ℕ) (t : Record) (ts : List Record) → Taken file (t ∷ ts) → Taken (withTicket file t) ts
+taken-rest : (file : List ℕ) (t : Record) (ts : List Record) → TakenRows file (t ∷ ts) → TakenRows (withTicket file t) ts
 taken-rest file t ts taken n h = taken (suc n) (omega arith)
 
-pub accepted-with : (file : List ℕ) (ts : List Record) → checked file ≡ Accepted → Taken file ts → checked (withTickets file ts) ≡ Accepted
+pub accepted-with : (file : List ℕ) (ts : List Record) → checked file ≡ Accepted → TakenRows file ts → checked (withTickets file ts) ≡ Accepted
 accepted-with file [] ok taken = ok
 accepted-with file (t ∷ ts) ok taken =
     accepted-with (withTicket file t) ts (taken-one file t ok (taken 0 (omega arith))) (taken-rest file t ts taken)
@@ -48,7 +48,7 @@ pub record SameParts (whole more : List Record) : Type 0 where
   pub entries : entriesOf more ≡ entriesOf whole
   pub rates : ratesOf more ≡ ratesOf whole
 
-pub same-with : (file : List ℕ) (ts : List Record) → checked file ≡ Accepted → Taken file ts → SameParts (records file) (records (withTickets file ts))
+pub same-with : (file : List ℕ) (ts : List Record) → checked file ≡ Accepted → TakenRows file ts → SameParts (records file) (records (withTickets file ts))
 same-with file [] ok taken = record { contracts = refl; prompts = λ c. refl; spreads = λ c. refl; entries = refl; rates = refl }
 same-with file (t ∷ ts) ok taken =
     let h = taken 0 (omega arith) in
@@ -63,7 +63,7 @@ same-with file (t ∷ ts) ok taken =
     }
 
 pub length-all :
-    (file : List ℕ) (ts : List Record) → checked file ≡ Accepted → Taken file ts
+    (file : List ℕ) (ts : List Record) → checked file ≡ Accepted → TakenRows file ts
     → length (records (withTickets file ts)) ≡ length (records file) + length ts
 length-all file [] ok taken = omega arith
 length-all file (t ∷ ts) ok taken =
@@ -80,7 +80,7 @@ module _ (file : List ℕ) (ts : List Record) (t : Record) where
   abbrev At : List Record → Record → Type 0
   At us u = ticketChecked (withTickets file us) u ≡ Accepted
 
-  pub taken-more : Taken file ts → ticketChecked (withTickets file ts) t ≡ Accepted → Taken file (ts ++ t ∷ [])
+  pub taken-more : TakenRows file ts → ticketChecked (withTickets file ts) t ≡ Accepted → TakenRows file (ts ++ t ∷ [])
   taken-more taken h n l = go (ltb n (length ts)) refl
     where
       go : (b : Bool) → ltb n (length ts) ≡ b → At (take n (ts ++ t ∷ [])) (getD (ts ++ t ∷ []) n [])
@@ -95,12 +95,12 @@ module _ (file : List ℕ) (ts : List Record) (t : Record) where
           (subst⁻¹ (λ (us : List Record). At us (getD (ts ++ t ∷ []) (length ts) [])) (take-append-seam ts (t ∷ []))
           (subst⁻¹ (At ts) (getD-append-seam ts t [] []) h))
 
-  pub taken-less : Taken file (ts ++ t ∷ []) → Taken file ts
+  pub taken-less : TakenRows file (ts ++ t ∷ []) → TakenRows file ts
   taken-less taken n l =
       subst (λ (us : List Record). At us (getD ts n [])) (take-append-le n ts (t ∷ []) (omega arith))
       (subst (At (take n (ts ++ t ∷ []))) (List·getD-append ts (t ∷ []) [] n l) (taken n (omega (arith, long))))
 
-  pub taken-last : Taken file (ts ++ t ∷ []) → ticketChecked (withTickets file ts) t ≡ Accepted
+  pub taken-last : TakenRows file (ts ++ t ∷ []) → ticketChecked (withTickets file ts) t ≡ Accepted
   taken-last taken =
       subst (λ (us : List Record). At us t) (take-append-seam ts (t ∷ []))
       (subst (At (take (length ts) (ts ++ t ∷ []))) (getD-append-seam ts t [] []) (taken (length ts) (omega (arith, long))))

@@ -26,17 +26,17 @@ abbrev pub of : ℕ → Answer → Ticketed
 of n a = record { ticket = n; answer = a }
 
 -- tickets in turn, each put in where it is accepted: the first refusal, or how many there are
-abbrev pub inTurn : ℕ → List ℕ → List Record → Ticketed
-inTurn n file [] = of n Accepted
-inTurn n file (ticket ∷ tickets) =
-    cond (notRefused (ticketChecked file ticket)) (inTurn (n + 1) (withTicket file ticket) tickets) (of (n + 1) (ticketChecked file ticket))
+abbrev pub oneByOne : ℕ → List ℕ → List Record → Ticketed
+oneByOne n file [] = of n Accepted
+oneByOne n file (ticket ∷ tickets) =
+    cond (notRefused (ticketChecked file ticket)) (oneByOne (n + 1) (withTicket file ticket) tickets) (of (n + 1) (ticketChecked file ticket))
 
 -- a file and its tickets
 abbrev pub standing : List ℕ → List Record → Ticketed
-standing file tickets = cond (notRefused (checked file)) (inTurn 0 file tickets) (of 0 (checked file))
+standing file tickets = cond (notRefused (checked file)) (oneByOne 0 file tickets) (of 0 (checked file))
 
-abbrev pub total : List ℕ → ℕ
-total file = accountTotal (records file)
+abbrev pub marginTotal : List ℕ → ℕ
+marginTotal file = accountTotal (records file)
 
 -- a refusal comes with no totals
 abbrev pub refusedBy : Ticketed → Asked
@@ -52,7 +52,7 @@ askedAbout file tickets ticket =
     let held = withTickets file tickets in
     cond (notRefused (v .answer))
     (cond (notRefused (ticketChecked held ticket))
-    (answeredBy (v .ticket + 1) (total held) (total (withTicket held ticket)))
+    (answeredBy (v .ticket + 1) (marginTotal held) (marginTotal (withTicket held ticket)))
     (refusedBy (of (v .ticket + 1) (ticketChecked held ticket))))
     (refusedBy v)
 
@@ -62,5 +62,5 @@ withdrawnFrom file tickets =
     let v = standing file tickets in
     cond (notRefused (v .answer))
     (cond (eqb (v .ticket) 0) (refusedBy (of 0 NoTicketLeft))
-    (answeredBy (v .ticket) (total (withTickets file tickets)) (total (withTickets file (take (length tickets - 1) tickets)))))
+    (answeredBy (v .ticket) (marginTotal (withTickets file tickets)) (marginTotal (withTickets file (take (length tickets - 1) tickets)))))
     (refusedBy v)

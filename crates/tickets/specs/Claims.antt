@@ -9,7 +9,8 @@ use Rattle.record.specs.Layout.{Record, recordBytes, kind, contract}
 use Rattle.account.specs.Answers.{numberOf, recordOf}
 use Rattle.account.specs.Check.{theOneBefore, kindFalls, outOfOrder, mostRecords}
 use Rattle.account.specs.Checked.{checked}
-use Rattle.account.specs.Claims.{Iff, givenIn}
+use Rattle.exact.specs.Iff.{Iff}
+use Rattle.account.specs.Claims.{givenIn}
 use Rattle.account.specs.Parts.{contractsOf, promptsOf, rowsOf, spreadsOf, entriesOf, ratesOf}
 use Rattle.account.specs.Records.{records, recordCount}
 use Rattle.account.specs.declared.answers.Answer.the-variants.{Accepted}
@@ -40,12 +41,12 @@ pub record PutIn (file : List ℕ) (ticket : Record) : Type 0 where
   pub never-8 : outOfOrder (theOneBefore (ahead file ticket)) ticket ≡ false
 
 -- ---- "Refusals, changing nothing": each is given exactly when
-pub record Gives (file : List ℕ) (ticket : Record) (n k : ℕ) : Type 0 where
+pub record TicketGives (file : List ℕ) (ticket : Record) (n k : ℕ) : Type 0 where
   pub number : numberOf (ticketChecked file ticket) ≡ n
   pub record-is : recordOf (ticketChecked file ticket) ≡ k
 
 -- a row of 96 bytes
-pub record Row (ticket : Record) : Type 0 where
+pub record TicketRow (ticket : Record) : Type 0 where
   pub whole : length ticket ≡ recordBytes
   pub row : kind ticket ≡ 3
 
@@ -58,12 +59,12 @@ abbrev pub NoneFor : List ℕ → Record → Type 0
 NoneFor file ticket = (m : ℕ) → givenIn (rowRefusals file ticket) m ≡ false
 
 pub record Exactly (file : List ℕ) (ticket : Record) : Type 0 where
-  pub two : Iff (Gives file ticket 2 0) (length ticket ≡ recordBytes → ⊥)
-  pub three : Iff (Gives file ticket 3 (place ticket (records file))) ((length ticket ≡ recordBytes) × (kind ticket ≡ 3 → ⊥))
-  pub row : (n : ℕ) → 5 ≤ n → n ≤ 15 → Iff (Gives file ticket n (place ticket (records file))) (Row ticket × FirstFor file ticket n)
-  pub one : Iff (Gives file ticket 1 0) (Row ticket × (NoneFor file ticket × (mostRecords ≤ recordCount file)))
-  pub accepted : Iff (Gives file ticket 0 0) (Row ticket × (NoneFor file ticket × (recordCount file < mostRecords)))
+  pub two : Iff (TicketGives file ticket 2 0) (length ticket ≡ recordBytes → ⊥)
+  pub three : Iff (TicketGives file ticket 3 (place ticket (records file))) ((length ticket ≡ recordBytes) × (kind ticket ≡ 3 → ⊥))
+  pub row : (n : ℕ) → 5 ≤ n → n ≤ 15 → Iff (TicketGives file ticket n (place ticket (records file))) (TicketRow ticket × FirstFor file ticket n)
+  pub one : Iff (TicketGives file ticket 1 0) (TicketRow ticket × (NoneFor file ticket × (mostRecords ≤ recordCount file)))
+  pub accepted : Iff (TicketGives file ticket 0 0) (TicketRow ticket × (NoneFor file ticket × (recordCount file < mostRecords)))
 
 pub record Claims (file : List ℕ) (ticket : Record) : Type 0 where
   pub exactly : Exactly file ticket
-  pub put-in : checked file ≡ Accepted → Row ticket → PutIn file ticket
+  pub put-in : checked file ≡ Accepted → TicketRow ticket → PutIn file ticket

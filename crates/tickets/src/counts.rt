@@ -39,7 +39,7 @@ ghost use Rattle.account.specs.code.Standing.{Stands, Filled, CheckedBy};
 ghost use Rattle.account.specs.Joined.{accountOf};
 ghost use Rattle.account.specs.declared.answers.Answer.the-variants.{Accepted};
 ghost use Rattle.account.specs.PartNumbers.{part};
-ghost use Rattle.tickets.specs.code.Counts.{CountsOf, Counted, Small, rowFaultBy, OneMore, OneLess};
+ghost use Rattle.tickets.specs.code.Counts.{CountsOf, CountedIn, SmallCounts, rowFaultBy, OneMore, OneLess};
 ghost use Rattle.tickets.specs.Ticket.{place, withTickets, ticketChecked};
 
 // The account of the file, how many of its records are of kinds 1 and 2, how many rows each contract has, and how many tickets there
@@ -116,7 +116,7 @@ pub fn counts_of<'a>(file: &'a [u8], none: &'a [u8], account: Account) -> Counts
 
 // The place of a ticket by its byte 1: after kinds 1 and 2 and every row whose byte 1 is not above its own.
 fn place_of(counts: Counts, c: usize) -> usize
-    requires { ⌜ Small counts × (c < 256) ⌝ }
+    requires { ⌜ SmallCounts counts × (c < 256) ⌝ }
     ensures { λ n. ⌜ n ≡ counts .above + sum (take (c + 1) (counts .rows)) ⌝ }
 {
     let rows = counts.rows;
@@ -159,7 +159,7 @@ fn row_fault<'a>(file: &'a [u8], none: &'a [u8], account: Account, rows: usize, 
 
 // What a ticket is told.
 pub fn check_ticket<'a>(file: &'a [u8], none: &'a [u8], counts: Counts, ticket: &[u8]) -> Answer
-    requires { ⌜ (now none ≡ []) × Counted (now file) counts ⌝ }
+    requires { ⌜ (now none ≡ []) × CountedIn (now file) counts ⌝ }
     ensures { λ a. ⌜
         ((tickets : List Record) → CountsOf (now (file .entry)) tickets counts → a ≡ ticketChecked (withTickets (now (file .entry)) tickets)
         (now (ticket .entry))) ⌝ }
@@ -191,7 +191,7 @@ pub fn check_ticket<'a>(file: &'a [u8], none: &'a [u8], counts: Counts, ticket: 
 
 // The place at which a ticket would stand.
 pub fn ticket_place(file: &[u8], counts: Counts, ticket: &[u8]) -> usize
-    requires { ⌜ Counted (now file) counts ⌝ }
+    requires { ⌜ CountedIn (now file) counts ⌝ }
     ensures { λ n. ⌜
         ((tickets : List Record) → CountsOf (now (file .entry)) tickets counts
         → n ≡ place (now (ticket .entry)) (records (withTickets (now (file .entry)) tickets))) ⌝ }
@@ -201,7 +201,7 @@ pub fn ticket_place(file: &[u8], counts: Counts, ticket: &[u8]) -> usize
 
 // The counts with one row more of contract `c`.
 pub(crate) fn one_more(counts: Counts, c: usize) -> Counts
-    requires { ⌜ Small counts × (c ≤ mostContract) ⌝ }
+    requires { ⌜ SmallCounts counts × (c ≤ mostContract) ⌝ }
     ensures { λ r. ⌜ OneMore c counts r ⌝ }
 {
     let account = counts.account;
@@ -217,7 +217,7 @@ pub(crate) fn one_more(counts: Counts, c: usize) -> Counts
 
 // The counts with one row less of contract `c`.
 pub(crate) fn one_less(counts: Counts, c: usize) -> Counts
-    requires { ⌜ Small counts × ((c ≤ mostContract) × ((1 ≤ getD (counts .rows) c 0) × (1 ≤ counts .tickets))) ⌝ }
+    requires { ⌜ SmallCounts counts × ((c ≤ mostContract) × ((1 ≤ getD (counts .rows) c 0) × (1 ≤ counts .tickets))) ⌝ }
     ensures { λ r. ⌜ OneLess c counts r ⌝ }
 {
     let account = counts.account;

@@ -8,6 +8,7 @@ use crate::counts::one_less;
 use crate::counts::one_more;
 use crate::counts::tickets_of;
 use account::accounts::Account;
+use account::accounts::nothing_of;
 use account::accounts::part;
 use account::answers::Answer;
 use account::answers::number_of;
@@ -55,13 +56,6 @@ pub struct Kept {
 pub struct Keeping {
     pub answer: Answer,
     pub kept: Kept,
-}
-
-// No records: the noon file of an account that stands in one file.
-fn nothing_of(file: &[u8]) -> &[u8]
-    ensures { λ r. ⌜ now r ≡ [] ⌝ }
-{
-    &file[0..0]
 }
 
 // The account that the check of an accepted file handed out, kept, without tickets.

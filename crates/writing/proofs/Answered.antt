@@ -19,7 +19,7 @@ use Rattle.account.specs.declared.answers.Answer.the-variants.{Accepted, TooLon
 use Rattle.account.proofs.NoonLaws.{accepted-only}
 use Rattle.account.proofs.Verdict.{too-long, cut-short}
 use Rattle.writing.specs.Order.{places}
-use Rattle.writing.specs.Written.{written, filled, asEntered, verdictOn, fine, answerTo, WrittenBy}
+use Rattle.writing.specs.Written.{written, filledIn, asEntered, verdictOn, fine, writingAnswer, WrittenBy}
 use Rattle.writing.specs.declared.Written.{Written}
 use Rattle.writing.proofs.Placed.{written-long, nothing-over, long-same, cut-same}
 
@@ -47,9 +47,9 @@ module _ (entries lent after : List ℕ) (w : Written) (same : after ≡ lent) w
       → WrittenBy entries lent w after
   refuses a e nz h =
       let f : fine (verdictOn entries) ≡ false = ap fine e ∙ ne-eqb (numberOf a) 0 nz in
-      let is : answerTo entries (length lent) ≡ a =
+      let is : writingAnswer entries (length lent) ≡ a =
       ap (λ (b : Bool). cond (b && ltb (length lent) (length (written entries))) TooFewBytes (verdictOn entries)) f ∙ e in
-      let off : fine (answerTo entries (length lent)) ≡ false = ap fine is ∙ ne-eqb (numberOf a) 0 nz in
+      let off : fine (writingAnswer entries (length lent)) ≡ false = ap fine is ∙ ne-eqb (numberOf a) 0 nz in
       record {
         answer = ap (λ (x : Written). x .answer) h ∙ sym is;
         bytes = ap (λ (x : Written). x .bytes) h ∙ sym (ap (λ (b : Bool). cond b (length (written entries)) 0) off);
@@ -71,10 +71,10 @@ module _ (entries lent after : List ℕ) (w : Written) (same : after ≡ lent) w
       let f : fine (verdictOn entries) ≡ true = eq-eqb (numberOf (verdictOn entries)) 0 z in
       let s : ltb (length lent) (length (written entries)) ≡ true =
       lt-ltb (length lent) (length (written entries)) (omega (arith, written-long entries)) in
-      let is : answerTo entries (length lent) ≡ TooFewBytes =
+      let is : writingAnswer entries (length lent) ≡ TooFewBytes =
       ap (λ (b : Bool). cond (b && ltb (length lent) (length (written entries))) TooFewBytes (verdictOn entries)) f
       ∙ ap (λ (b : Bool). cond b TooFewBytes (verdictOn entries)) s in
-      let off : fine (answerTo entries (length lent)) ≡ false = ap fine is in
+      let off : fine (writingAnswer entries (length lent)) ≡ false = ap fine is in
       record {
         answer = ap (λ (x : Written). x .answer) h ∙ sym is;
         bytes = ap (λ (x : Written). x .bytes) h ∙ sym (ap (λ (b : Bool). cond b (length (written entries)) 0) off);
@@ -83,16 +83,16 @@ module _ (entries lent after : List ℕ) (w : Written) (same : after ≡ lent) w
 
 pub writes :
     (entries lent after : List ℕ) (w : Written) → cutRecord entries ≡ false → numberOf (verdictOn entries) ≡ 0
-    → length entries ≤ length lent → after ≡ filled entries 0 (recordCount entries) lent
+    → length entries ≤ length lent → after ≡ filledIn entries 0 (recordCount entries) lent
     → w .answer ≡ Accepted → w .bytes ≡ length entries → WrittenBy entries lent w after
 writes entries lent after w whole z l h ha hb =
     let f : fine (verdictOn entries) ≡ true = eq-eqb (numberOf (verdictOn entries)) 0 z in
     let s : ltb (length lent) (length (written entries)) ≡ false =
     le-ltb (length lent) (length (written entries)) (omega (arith, written-long entries)) in
-    let is : answerTo entries (length lent) ≡ Accepted =
+    let is : writingAnswer entries (length lent) ≡ Accepted =
     ap (λ (b : Bool). cond (b && ltb (length lent) (length (written entries))) TooFewBytes (verdictOn entries)) f
     ∙ ap (λ (b : Bool). cond b TooFewBytes (verdictOn entries)) s ∙ accepted-only (verdictOn entries) z in
-    let on : fine (answerTo entries (length lent)) ≡ true = ap fine is in
+    let on : fine (writingAnswer entries (length lent)) ≡ true = ap fine is in
     let n : recordCount entries * recordBytes ≡ length (written entries) = nothing-over entries whole ∙ sym (written-long entries) in
     record {
       answer = ha ∙ sym is;

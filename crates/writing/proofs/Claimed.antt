@@ -27,7 +27,7 @@ use Rattle.account.proofs.NoonLaws.{accepted-only}
 use Rattle.account.proofs.RatesExactly.{by-two}
 use Rattle.writing.specs.Claims.{Bytes, Answers, FirstEntered, RateEntered, Refuses, Never, RoundTrips, Claims}
 use Rattle.writing.specs.Order.{ofItsKind, places}
-use Rattle.writing.specs.Written.{written, verdictOn, answerTo}
+use Rattle.writing.specs.Written.{written, verdictOn, writingAnswer}
 use Rattle.writing.proofs.Placed.{written-long, long-same, cut-same, count-same, record-is, read-back, through, places-long, places-all, all-at}
 use Rattle.writing.proofs.Same.{same-bytes, its-small}
 use Rattle.writing.proofs.Stable.{sorts}
@@ -73,21 +73,21 @@ module _ (entries : List ℕ) where
   late-record h = ap recordOf (late h) ∙ record-named (numberOf told) (getD (places entries) (recordOf told) 0) h (exactly .numbers)
 
   module _ (lent : ℕ) where
-    refused : (numberOf told ≡ 0 → ⊥) → answerTo entries lent ≡ verdictOn entries
+    refused : (numberOf told ≡ 0 → ⊥) → writingAnswer entries lent ≡ verdictOn entries
     refused nz =
         ap (λ (b : Bool). cond (b && ltb lent (length W)) TooFewBytes (verdictOn entries))
         (ne-eqb (numberOf (verdictOn entries)) 0 (λ z. nz (sym same-number ∙ z)))
 
-    passes : numberOf told ≡ 0 → answerTo entries lent ≡ cond (ltb lent (length W)) TooFewBytes (verdictOn entries)
+    passes : numberOf told ≡ 0 → writingAnswer entries lent ≡ cond (ltb lent (length W)) TooFewBytes (verdictOn entries)
     passes z =
         ap (λ (b : Bool). cond (b && ltb lent (length W)) TooFewBytes (verdictOn entries))
         (eq-eqb (numberOf (verdictOn entries)) 0 (same-number ∙ z))
 
-    short : numberOf told ≡ 0 → lent < length entries → answerTo entries lent ≡ TooFewBytes
+    short : numberOf told ≡ 0 → lent < length entries → writingAnswer entries lent ≡ TooFewBytes
     short z h =
         passes z ∙ ap (λ (b : Bool). cond b TooFewBytes (verdictOn entries)) (lt-ltb lent (length W) (omega (arith, written-long entries)))
 
-    enough : numberOf told ≡ 0 → length entries ≤ lent → answerTo entries lent ≡ Accepted
+    enough : numberOf told ≡ 0 → length entries ≤ lent → writingAnswer entries lent ≡ Accepted
     enough z h =
         passes z ∙ ap (λ (b : Bool). cond b TooFewBytes (verdictOn entries)) (le-ltb lent (length W) (omega (arith, written-long entries)))
         ∙ early (omega arith) ∙ accepted-only told z
@@ -105,8 +105,8 @@ module _ (entries : List ℕ) where
 
     -- a number that is no 0 and no 16 is the written file's
     by-file :
-        (n : ℕ) → (n ≡ 0 → ⊥) → (n ≡ 16 → ⊥) → numberOf (answerTo entries lent) ≡ n
-        → (answerTo entries lent ≡ verdictOn entries) × (numberOf told ≡ n)
+        (n : ℕ) → (n ≡ 0 → ⊥) → (n ≡ 16 → ⊥) → numberOf (writingAnswer entries lent) ≡ n
+        → (writingAnswer entries lent ≡ verdictOn entries) × (numberOf told ≡ n)
     by-file n nz ns e =
         which (λ z l. absurd (ns (sym e ∙ ap numberOf (short z l)))) (λ z l. absurd (nz (sym e ∙ ap numberOf (enough z l))))
         (λ z. (refused z, sym same-number ∙ sym (ap numberOf (refused z)) ∙ e))
@@ -120,7 +120,7 @@ module _ (entries : List ℕ) where
     early-answers : (n : ℕ) → (n ≡ 0 → ⊥) → n < 3 → Gives W n 0 → Answers entries lent n 0
     early-answers n nz h g =
         let num = g .number in
-        let same : answerTo entries lent ≡ told = refused (λ z. nz (sym num ∙ z)) ∙ early (omega arith) in
+        let same : writingAnswer entries lent ≡ told = refused (λ z. nz (sym num ∙ z)) ∙ early (omega arith) in
         record { number = ap numberOf same ∙ num; place = ap recordOf same ∙ g .place }
 
     pub refuses : Refuses entries lent
@@ -165,7 +165,7 @@ module _ (entries : List ℕ) where
               };
         }
       where
-        differs : (n m : ℕ) → numberOf (answerTo entries lent) ≡ n → numberOf (answerTo entries lent) ≡ m → (n ≡ m → ⊥) → ⊥
+        differs : (n m : ℕ) → numberOf (writingAnswer entries lent) ≡ n → numberOf (writingAnswer entries lent) ≡ m → (n ≡ m → ⊥) → ⊥
         differs n m a b d = d (sym a ∙ b)
 
         too-high : numberOf told ≡ 16 → ⊥

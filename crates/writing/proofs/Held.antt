@@ -36,8 +36,8 @@ use Rattle.account.proofs.Orders.{fine}
 use Rattle.account.proofs.Passed.{part-other}
 use Rattle.account.proofs.Verdict.{stops, by-records, fault-number}
 use Rattle.account.proofs.Walk.{length-cut}
-use Rattle.writing.specs.code.Held.{namesPrompts, askedOf, heldPrompts, Holds, Holdable, faultHeld}
-use Rattle.writing.specs.Written.{written, filled}
+use Rattle.writing.specs.code.Held.{namesPrompts, askedOf, heldPrompts, HeldNotes, Holdable, faultHeld}
+use Rattle.writing.specs.Written.{written, filledIn}
 use Rattle.writing.proofs.Placed.{count-same, front-filled}
 
 -- ---- whose prompts a record names
@@ -83,7 +83,7 @@ same-by counts p q before r same =
 pub record Reading (file first counts prompts : List ℕ) (held k : ℕ) : Type 0 where
   pub contracts : ℕ
   pub going : Going file first counts contracts k
-  pub holds : Holds file first counts prompts held
+  pub holds : HeldNotes file first counts prompts held
 
 pub reading-start : (file : List ℕ) → Reading file (replicate parts 0) (replicate parts 0) (replicate 3072 0) parts 0
 reading-start file =
@@ -116,7 +116,7 @@ module _ {file first counts prompts : List ℕ} {held k : ℕ} (g : Reading file
           let b = List·getD-eq-default counts 0 {n = 114} (omega (arith, g .going .notes .sizes)) in
           record { number = omega arith; few = omega arith; within = omega arith }
 
-  module _ {prompts′ : List ℕ} (h : Holds file first counts prompts′ (askedOf r)) where
+  module _ {prompts′ : List ℕ} (h : HeldNotes file first counts prompts′ (askedOf r)) where
     fault-held : faultHeld counts prompts′ (askedOf r) (beforeAt file k) r ≡ faultAt file first counts k
     fault-held =
         same-by counts (records (heldPrompts counts prompts′ (askedOf r))) (records (partAt file first counts (part 2 (contract r)))) (beforeAt file k) r
@@ -149,7 +149,7 @@ module _ {file first counts prompts : List ℕ} {held k : ℕ} (g : Reading file
       same-first-note true e = getD-set-other first (partOf r) (part 2 (askedOf r)) k 0 other
       same-first-note false e = refl
 
-      still : Holds file (startNoted first counts (partOf r) k) (oneMore counts (partOf r)) prompts′ (askedOf r)
+      still : HeldNotes file (startNoted first counts (partOf r) k) (oneMore counts (partOf r)) prompts′ (askedOf r)
       still =
           let v = part 2 (askedOf r) in
           let a = same-first-note (eqb (getD counts (partOf r) 0) 0) refl in
@@ -164,15 +164,16 @@ module _ {file first counts prompts : List ℕ} {held k : ℕ} (g : Reading file
             contracts = g .contracts + oneIf (ofKind 1 r);
             going = going-on (g .going) more none hf hc hv refl refl;
             holds =
-                subst (λ (f : List ℕ). Holds file f counts′ prompts′ (askedOf r)) (sym (hf ∙ ap (λ (u : ℕ). startNoted first counts u k) hv))
-                (subst (λ (l : List ℕ). Holds file (startNoted first counts (partOf r) k) l prompts′ (askedOf r)) (sym (hc ∙ ap (oneMore counts) hv)) still);
+                subst (λ (f : List ℕ). HeldNotes file f counts′ prompts′ (askedOf r)) (sym (hf ∙ ap (λ (u : ℕ). startNoted first counts u k) hv))
+                (subst (λ (l : List ℕ). HeldNotes file (startNoted first counts (partOf r) k) l prompts′ (askedOf r))
+                (sym (hc ∙ ap (oneMore counts) hv)) still);
           }
 
 -- what is put together is held
 pub held-now :
     (entries first counts prompts : List ℕ) (c : ℕ) {after : List ℕ} {k n : ℕ} → k ≡ getD first (part 2 c) 0 → n ≡ getD counts (part 2 c) 0
-    → getD first (part 2 c) 0 + getD counts (part 2 c) 0 ≤ recordCount (written entries) → after ≡ filled entries k n prompts → length after ≡ 3072
-    → Holds (written entries) first counts after c
+    → getD first (part 2 c) 0 + getD counts (part 2 c) 0 ≤ recordCount (written entries) → after ≡ filledIn entries k n prompts → length after ≡ 3072
+    → HeldNotes (written entries) first counts after c
 held-now entries first counts prompts c {after} {k} {n} hk hn w h l =
     record {
       long = l;
@@ -199,10 +200,10 @@ module _ {file first counts prompts : List ℕ} {held k c : ℕ} {r : Record} (g
   pub turn-holdable : Holdable file first counts c
   turn-holdable = subst (Holdable file first counts) (sym asked) (holdable g more)
 
-  module _ {prompts′ : List ℕ} {before : Record} {n : ℕ} (h : Holds file first counts prompts′ c) (hb : before ≡ beforeAt file k)
+  module _ {prompts′ : List ℕ} {before : Record} {n : ℕ} (h : HeldNotes file first counts prompts′ c) (hb : before ≡ beforeAt file k)
       (hn : n ≡ faultHeld counts prompts′ c before r) where
-    held-here : Holds file first counts prompts′ (askedOf (recordAt file k))
-    held-here = subst (Holds file first counts prompts′) asked h
+    held-here : HeldNotes file first counts prompts′ (askedOf (recordAt file k))
+    held-here = subst (HeldNotes file first counts prompts′) asked h
 
     fault-here : n ≡ faultAt file first counts k
     fault-here =

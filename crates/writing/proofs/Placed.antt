@@ -23,7 +23,7 @@ use Rattle.account.proofs.Orders.{cut-at}
 use Rattle.account.proofs.Walk.{length-cut}
 use Rattle.writing.specs.Order.{rank, rankAt, places, Ordered}
 use Rattle.writing.specs.Sorting.{putIn, sorted}
-use Rattle.writing.specs.Written.{together, leftOver, written, filled, asEntered, verdictOn}
+use Rattle.writing.specs.Written.{together, leftOver, written, filledIn, asEntered, verdictOn}
 use Rattle.writing.proofs.Halves.{count-more, length-count}
 use Rattle.writing.proofs.Sorting.{sorted-map, length-sorted}
 
@@ -194,7 +194,7 @@ module _ (file : List ℕ) (k i : ℕ) where
 pub record Filling (entries : List ℕ) (k n : ℕ) (out₀ out : List ℕ) (i : ℕ) : Type 0 where
   pub long : length out ≡ length out₀
   pub inside : i ≤ n
-  pub done : out ≡ filled entries k i out₀
+  pub done : out ≡ filledIn entries k i out₀
 
 pub filling-start : (entries : List ℕ) (k n : ℕ) (out : List ℕ) → Filling entries k n out out 0
 filling-start entries k n out = record { long = refl; inside = omega arith; done = refl }
@@ -232,7 +232,7 @@ module _ (entries : List ℕ) (k n : ℕ) (out₀ out : List ℕ) (i : ℕ) (f :
       let after : drop (i * recordBytes + recordBytes - i * recordBytes) (drop (i * recordBytes) out) ≡ drop ((i + 1) * recordBytes) out₀ =
       ap (λ (m : ℕ). drop m (drop (i * recordBytes) out)) e ∙ ap (drop recordBytes) back ∙ drop-drop recordBytes (i * recordBytes) out₀
       ∙ ap (λ (m : ℕ). drop m out₀) m in
-      let is : take (i * recordBytes) out ++ (Y ++ drop (i * recordBytes + recordBytes - i * recordBytes) (drop (i * recordBytes) out)) ≡ filled entries k
+      let is : take (i * recordBytes) out ++ (Y ++ drop (i * recordBytes + recordBytes - i * recordBytes) (drop (i * recordBytes) out)) ≡ filledIn entries k
       (i + 1) out₀ =
       ap (λ (xs : List ℕ). xs ++ (Y ++ drop (i * recordBytes + recordBytes - i * recordBytes) (drop (i * recordBytes) out))) front
       ∙ ap (λ (xs : List ℕ). stretch W k i ++ (xs ++ drop (i * recordBytes + recordBytes - i * recordBytes) (drop (i * recordBytes) out))) whole
@@ -248,15 +248,15 @@ module _ (entries : List ℕ) (k n : ℕ) (out₀ out : List ℕ) (i : ℕ) (f :
       }
 
 pub filling-ends :
-    (entries : List ℕ) (k n : ℕ) (out₀ out : List ℕ) (i : ℕ) → Filling entries k n out₀ out i → n ≤ i → out ≡ filled entries k n out₀
+    (entries : List ℕ) (k n : ℕ) (out₀ out : List ℕ) (i : ℕ) → Filling entries k n out₀ out i → n ≤ i → out ≡ filledIn entries k n out₀
 filling-ends entries k n out₀ out i f past =
     let e : i ≡ n = omega (arith, f .inside) in
-    f .done ∙ ap (λ (m : ℕ). filled entries k m out₀) e
+    f .done ∙ ap (λ (m : ℕ). filledIn entries k m out₀) e
 
 -- what is put at the front is there
 pub front-filled :
     (entries : List ℕ) (k n : ℕ) (out : List ℕ) → k + n ≤ recordCount entries
-    → take (n * recordBytes) (filled entries k n out) ≡ stretch (written entries) k n
+    → take (n * recordBytes) (filledIn entries k n out) ≡ stretch (written entries) k n
 front-filled entries k n out h =
     take-at (stretch (written entries) k n) (drop (n * recordBytes) out) (n * recordBytes) (stretch-long (written entries) k n (omega
     (arith, count-same entries)))

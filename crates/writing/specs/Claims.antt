@@ -11,11 +11,12 @@ use Rattle.record.specs.Ranges.{unknownKind}
 use Rattle.account.specs.Answers.{numberOf, recordOf}
 use Rattle.account.specs.Check.{tooLong, cutRecord}
 use Rattle.account.specs.Checked.{checked}
-use Rattle.account.specs.Claims.{Iff, First, Clean, FirstRate}
+use Rattle.exact.specs.Iff.{Iff}
+use Rattle.account.specs.Claims.{First, Clean, FirstRate}
 use Rattle.account.specs.Records.{records, recordAt, recordCount}
 use Rattle.account.specs.declared.answers.Answer.the-variants.{Accepted}
 use Rattle.writing.specs.Order.{rankAt, places}
-use Rattle.writing.specs.Written.{written, answerTo}
+use Rattle.writing.specs.Written.{written, writingAnswer}
 
 -- a stable sort of the places: each once and no other, ordered by rank, and of one rank as entered
 pub record StableSort (entries ks : List ℕ) : Type 0 where
@@ -41,8 +42,8 @@ Bytes entries = (k : ℕ) → getD entries k 0 < 256
 
 -- refusal n, naming place p
 pub record Answers (entries : List ℕ) (lent n p : ℕ) : Type 0 where
-  pub number : numberOf (answerTo entries lent) ≡ n
-  pub place : recordOf (answerTo entries lent) ≡ p
+  pub number : numberOf (writingAnswer entries lent) ≡ n
+  pub place : recordOf (writingAnswer entries lent) ≡ p
 
 -- refusal n is the first of the written file, at the record that was entered at place p
 pub record FirstEntered (entries : List ℕ) (n p : ℕ) : Type 0 where
@@ -69,9 +70,9 @@ pub record Refuses (entries : List ℕ) (lent : ℕ) : Type 0 where
 pub record Never (entries : List ℕ) (lent : ℕ) : Type 0 where
   pub two : cutRecord entries ≡ false → Answers entries lent 2 0 → ⊥
   pub three :
-      ((k : ℕ) → k < recordCount entries → unknownKind (recordAt entries k) ≡ false) → numberOf (answerTo entries lent) ≡ 3
+      ((k : ℕ) → k < recordCount entries → unknownKind (recordAt entries k) ≡ false) → numberOf (writingAnswer entries lent) ≡ 3
       → ⊥
-  pub four : Bytes entries → numberOf (answerTo entries lent) ≡ 4 → ⊥
+  pub four : Bytes entries → numberOf (writingAnswer entries lent) ≡ 4 → ⊥
 
 pub record Claims : Type 0 where
   pub sorts : (entries : List ℕ) → Sorts entries

@@ -29,8 +29,8 @@ abbrev pub written : List ℕ → List ℕ
 written entries = together (sorted rank (records entries)) ++ leftOver entries
 
 -- n records of it, from record k on, at the front of what was there
-abbrev pub filled : List ℕ → ℕ → ℕ → List ℕ → List ℕ
-filled entries k n out = stretch (written entries) k n ++ drop (n * recordBytes) out
+abbrev pub filledIn : List ℕ → ℕ → ℕ → List ℕ → List ℕ
+filledIn entries k n out = stretch (written entries) k n ++ drop (n * recordBytes) out
 
 -- "naming the entry's place as entered (0 for a 1)": 3 and higher name a record
 abbrev pub asEntered : List ℕ → Answer → Answer
@@ -44,18 +44,18 @@ abbrev pub fine : Answer → Bool
 fine a = eqb (numberOf a) 0
 
 -- ".. 16, too few bytes lent, last"
-abbrev pub answerTo : List ℕ → ℕ → Answer
-answerTo entries lent = cond (fine (verdictOn entries) && ltb lent (length (written entries))) TooFewBytes (verdictOn entries)
+abbrev pub writingAnswer : List ℕ → ℕ → Answer
+writingAnswer entries lent = cond (fine (verdictOn entries) && ltb lent (length (written entries))) TooFewBytes (verdictOn entries)
 
 -- how many bytes are written
 abbrev pub bytesFor : Answer → List ℕ → ℕ
 bytesFor a entries = cond (fine a) (length (written entries)) 0
 
 -- "A refusal writes no number. .. Success writes the answer at the front and nothing after it."
-abbrev pub afterwards : Answer → List ℕ → List ℕ → List ℕ
-afterwards a entries lent = cond (fine a) (written entries ++ drop (length (written entries)) lent) lent
+abbrev pub afterWriting : Answer → List ℕ → List ℕ → List ℕ
+afterWriting a entries lent = cond (fine a) (written entries ++ drop (length (written entries)) lent) lent
 
 pub record WrittenBy (entries lent : List ℕ) (w : Written) (after : List ℕ) : Type 0 where
-  pub answer : w .answer ≡ answerTo entries (length lent)
-  pub bytes : w .bytes ≡ bytesFor (answerTo entries (length lent)) entries
-  pub out : after ≡ afterwards (answerTo entries (length lent)) entries lent
+  pub answer : w .answer ≡ writingAnswer entries (length lent)
+  pub bytes : w .bytes ≡ bytesFor (writingAnswer entries (length lent)) entries
+  pub out : after ≡ afterWriting (writingAnswer entries (length lent)) entries lent

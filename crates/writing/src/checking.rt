@@ -38,7 +38,7 @@ ghost use Rattle.account.specs.PartNumbers.{part, parts};
 ghost use Rattle.account.specs.code.Notes.{beforeAt};
 ghost use Rattle.account.specs.code.Rates.{RatesOf, HoldsRates};
 ghost use Rattle.account.specs.Records.{records, stretch, recordCount};
-ghost use Rattle.writing.specs.code.Held.{namesPrompts, askedOf, Holds, CanChange, faultHeld, Rated};
+ghost use Rattle.writing.specs.code.Held.{namesPrompts, askedOf, HeldNotes, CanChange, faultHeld, RatesHeld};
 ghost use Rattle.writing.specs.Order.{Ordered};
 ghost use Rattle.writing.specs.Written.{written};
 
@@ -88,7 +88,7 @@ fn hold(
     prompts: &mut [u8],
 )
     requires { ⌜ Ordered (now entries) (now order) × CanChange (written (now entries)) (now first) (now counts) (now prompts) held c ⌝ }
-    ensures { λ _. ⌜ Holds (written (now (entries .entry))) (now (first .entry)) (now (counts .entry)) (now (prompts .exit)) c ⌝ }
+    ensures { λ _. ⌜ HeldNotes (written (now (entries .entry))) (now (first .entry)) (now (counts .entry)) (now (prompts .exit)) c ⌝ }
 {
     if c == held {
         return;
@@ -130,7 +130,7 @@ fn answer_at(t: Rates, r: &[u8], k: usize) -> Answer
 
 // 14 and 15, "for rows in file order", of a file whose records are accepted.
 fn conversions_written(entries: &[u8], order: &[u16], t: Rates) -> Answer
-    requires { ⌜ Ordered (now entries) (now order) × Rated (written (now entries)) t ⌝ }
+    requires { ⌜ Ordered (now entries) (now order) × RatesHeld (written (now entries)) t ⌝ }
     ensures { λ a. ⌜ a ≡ ratesChecked (records (written (now (entries .entry)))) ⌝ }
 {
     let count = record_count(entries);

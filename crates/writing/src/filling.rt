@@ -7,7 +7,7 @@ ghost use Prim.Native.Nat.{_+_, _*_, _≤_, _<_};
 ghost use lib.ListN.{length, take};
 ghost use Rattle.account.specs.Records.{recordAt, recordCount};
 ghost use Rattle.writing.specs.Order.{Ordered};
-ghost use Rattle.writing.specs.Written.{written, filled};
+ghost use Rattle.writing.specs.Written.{written, filledIn};
 
 pub(crate) fn wide(x: u16) -> usize
     ensures { λ n. ⌜ n ≡ x ⌝ }
@@ -37,7 +37,7 @@ pub(crate) fn entry_at<'a>(entries: &'a [u8], order: &[u16], k: usize) -> &'a [u
 // `n` records of the file, from record `k` on, at the front of `out`.
 pub(crate) fn fill(entries: &[u8], order: &[u16], k: usize, n: usize, out: &mut [u8])
     requires { ⌜ Ordered (now entries) (now order) × ((k + n ≤ recordCount (now entries)) × (n * 96 ≤ length (now out))) ⌝ }
-    ensures { λ _. ⌜ now (out .exit) ≡ filled (now (entries .entry)) k n (now (out .entry)) ⌝ }
+    ensures { λ _. ⌜ now (out .exit) ≡ filledIn (now (entries .entry)) k n (now (out .entry)) ⌝ }
 {
     let mut i = 0;
     while i < n {

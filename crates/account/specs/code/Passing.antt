@@ -10,7 +10,7 @@ use lib.Dec.{eqb}
 use Rattle.exact.specs.Lists.{any, oneIf}
 use Rattle.record.specs.Bytes.{countFrom}
 use Rattle.record.specs.Layout.{Record, kind, contract, day, twoLegs, legsOf, legTier, legSide, secondContract}
-use Rattle.record.specs.Ranges.{sound}
+use Rattle.record.specs.Ranges.{soundRecord}
 use Rattle.account.specs.Check.{mostRecords, mostPrompts, kindFalls, contractFalls, dayNotAbove, tierFalls, sameLeg, withItself}
 use Rattle.account.specs.PartNumbers.{parts}
 use Rattle.account.specs.code.Notes.{partOf, oneMore, startNoted, noContract, beforeAt, faultAt}
@@ -18,7 +18,7 @@ use Rattle.account.specs.Parts.{ofKind, onTier}
 use Rattle.account.specs.Records.{recordAt, recordCount}
 
 -- the days of prompts, and 0 beyond them
-pub record DaysOf (prompts : List Record) (days : List ℕ) : Type 0 where
+pub record DaysListed (prompts : List Record) (days : List ℕ) : Type 0 where
   pub long : length days ≡ mostPrompts
   pub each : (j : ℕ) → j < mostPrompts → getD days j 0 ≡ getD (map day prompts) j 0
 
@@ -29,7 +29,7 @@ hasDay days d = any (λ j. eqb (getD days j 0) d) (countFrom 0 mostPrompts)
 abbrev pub tierBytes : ℕ
 tierBytes = 256
 
-pub record TiersOf (prompts : List Record) (listed : List Bool) : Type 0 where
+pub record TiersListed (prompts : List Record) (listed : List Bool) : Type 0 where
   pub long : length listed ≡ tierBytes
   pub each : (t : ℕ) → t < tierBytes → getD listed t false ≡ any (onTier t) prompts
 
@@ -47,18 +47,18 @@ legsMeet r =
 
 -- a record that passes after one of its kind and contract
 abbrev pub promptPasses : ℕ → Record → Record → Bool
-promptPasses c before r = sound 2 c r && not (dayNotAbove before r || tierFalls before r)
+promptPasses c before r = soundRecord 2 c r && not (dayNotAbove before r || tierFalls before r)
 
 abbrev pub rowPasses : ℕ → List ℕ → Record → Bool
-rowPasses c days r = sound 3 c r && hasDay days (day r)
+rowPasses c days r = soundRecord 3 c r && hasDay days (day r)
 
 abbrev pub spreadPasses : ℕ → List Bool → Record → Bool
-spreadPasses c listed r = sound 4 c r && not (legsMeet r || any (legUnlistedIn listed r) (legsOf r))
+spreadPasses c listed r = soundRecord 4 c r && not (legsMeet r || any (legUnlistedIn listed r) (legsOf r))
 
 -- an intercontract spread of two contracts that are listed
 abbrev pub entryPasses : List ℕ → Record → Bool
 entryPasses counts r =
-    sound 5 (contract r) r && not (noContract counts (contract r) || (noContract counts (secondContract r) || withItself r))
+    soundRecord 5 (contract r) r && not (noContract counts (contract r) || (noContract counts (secondContract r) || withItself r))
 
 -- numbers from k on that pass a test, up to one at most at the end
 pub record RunTo (passes : ℕ → Bool) (k end i : ℕ) : Type 0 where

@@ -9,7 +9,7 @@ use borrow.Author.Tests.{not-true, not-false, eqb-true}
 use lib.IntN.{pos}
 use lib.ListN.{length, getD, take, drop}
 use Rattle.exact.specs.Lists.{sum}
-use Rattle.committee.specs.Answered.{answered}
+use Rattle.committee.specs.Answered.{answeredAccount}
 use Rattle.committee.specs.Committee.{mostAccounts, committeeNumbers}
 use Rattle.committee.specs.code.Sums.{AccountOf}
 use Rattle.committee.proofs.Going.{Going, begin, ends, go-on, end, wider, many, differ, lacking, all}
@@ -42,10 +42,10 @@ returns-2 c =
 
 returns-3 : tie.Need-returns-3 Inv-loop μ-loop
 returns-3 c =
-    let c-3 = c .before .before .before in
-    let start = c-3 .before .before .before in
+    let after-if1 = c .before .before .before in
+    let start = after-if1 .before .before .before in
     let s = start .args in
-    let few = c-3 .if1 .left in
+    let few = after-if1 .if1 .left in
     let h =
     lacking (s .accounts .now) (s .lengths .now) (s .out .now) (omega (arith, few))
     (sym (c .before .before .add-up .ensures) ∙ not-false _ (c .before .if2 .left)) (c .if3 .taken)
@@ -101,10 +101,10 @@ with-account-requires : tie.Need-with-account-requires Inv-loop μ-loop
 with-account-requires c κs =
     let after-loop-test = c .before .before .before in
     let after-loop = after-loop-test .before in
-    let c-9 = after-loop .before .before .before .before .before in
+    let after-if1 = after-loop .before .before .before .before .before in
     let l = after-loop .loop in
     let t = after-loop-test .loop-test .taken in
-    let few = c-9 .if1 .left in
+    let few = after-if1 .if1 .left in
     let is = c .answer-account .ensures in
     let margin = is .margin-most in
     (wider (l .i) mostAccounts (l .sums) (omega (arith, t, few)) (l .inv .small), omega (arith, margin), is .credit-most, is .above-most)
@@ -131,15 +131,15 @@ loop-again c =
     let more : l .i + 1 ≡ suc (l .i) = omega arith in
     subst⁻¹ (Going (s .accounts .now) (s .lengths .now) (w .result) (l .at + n)) more
     (go-on (s .accounts .now) (s .lengths .now) (l .sums) (l .at) (l .i) (l .inv) (after-loop-test .loop-test .taken) (a .result) (w .result)
-    (subst (λ (k : ℕ). AccountOf (answered (take k (drop (l .at) (s .accounts .now)))) (a .result)) part (a .ensures))
+    (subst (λ (k : ℕ). AccountOf (answeredAccount (take k (drop (l .at) (s .accounts .now)))) (a .result)) part (a .ensures))
     (w .ensures))
 
 put-sums-requires : tie.Need-put-sums-requires Inv-loop μ-loop
 put-sums-requires c κs =
     let after-if3 = c .before .before .before .before in
-    let c-7 = after-if3 .before .before .before in
+    let after-if1 = after-if3 .before .before .before in
     let l = c .before .before .loop in
-    let few = c-7 .if1 .left in
+    let few = after-if1 .if1 .left in
     let room = after-if3 .if3 .left in
     let passed = l .inv .within in
     (wider (l .i) mostAccounts (l .sums) (omega (arith, few, passed)) (l .inv .small), omega (arith, room))
@@ -152,20 +152,20 @@ returns-4 c =
     let after-loop-test = c .before .before .before in
     let after-loop = after-loop-test .before in
     let after-if3 = after-loop .before .before in
-    let c-7 = after-if3 .before in
-    let after-add-up = c-7 .before in
-    let c-9 = after-add-up .before in
-    let start = c-9 .before .before .before in
+    let after-if2 = after-if3 .before in
+    let after-add-up = after-if2 .before in
+    let after-if1 = after-add-up .before in
+    let start = after-if1 .before .before .before in
     let s = start .args in
     let l = after-loop .loop in
     let t = after-loop-test .loop-test .left in
-    let few = c-9 .if1 .left in
+    let few = after-if1 .if1 .left in
     let room = after-if3 .if3 .left in
     let e = end (s .accounts .now) (s .lengths .now) (l .sums) (l .at) (l .i) (l .inv) (omega (arith, t)) in
     let h =
     all (s .accounts .now) (s .lengths .now) (s .out .now) (omega (arith, few))
     (sym (after-add-up .add-up .ensures)
-    ∙ not-false _ (c-7 .if2 .left)) (omega (arith, room))
+    ∙ not-false _ (after-if2 .if2 .left)) (omega (arith, room))
     (c .before .put-sums .last .1 .0) (c .before .put-sums .ensures
     ∙ ap (λ (xs : List ℕ). map pos xs ++ drop committeeNumbers (s .out .now)) e)
     in

@@ -11,8 +11,8 @@ use Rattle.account.specs.Check.{mostContracts}
 use Rattle.exact.specs.Lists.{oneIf}
 use Rattle.formulas.specs.Bounds.{longestFigures}
 use Rattle.committee.specs.Answered.{Answered}
-use Rattle.committee.specs.Committee.{scanningAt, interpromptAt, promptAt, marginAt, totalOf, overContracts, hasCredit, hadCredit, isAbove, aboveRisk}
-use Rattle.committee.specs.Committee.{ofAccepted, acceptedCount, refusedCount, refusalCount, marginSummed, largestMargin, largestPlace, creditCount}
+use Rattle.committee.specs.Committee.{scanningAt, interpromptAt, promptAt, marginAt, totalNumber, overContracts, hasCredit, hadCredit, isAbove, aboveRisk}
+use Rattle.committee.specs.Committee.{overAccepted, acceptedCount, refusedCount, refusalCount, marginSummed, largestMargin, largestPlace, creditCount}
 use Rattle.committee.specs.Committee.{aboveCount}
 use Rattle.committee.specs.declared.contracts.Found.{Found}
 use Rattle.committee.specs.declared.figures.Account.{Account}
@@ -43,9 +43,9 @@ pub record FoundIn (numbers : List ℤ) (n : ℕ) (r : Found) : Type 0 where
 
 pub record AccountOf (a : Answered) (r : Account) : Type 0 where
   pub refusal-is : r .refusal ≡ a .refusal
-  pub margin-is : r .margin .0 ≡ ofAccepted totalOf a
-  pub credit-is : r .credit ≡ ofAccepted (λ numbers. oneIf (hadCredit numbers)) a
-  pub above-is : r .above ≡ ofAccepted aboveRisk a
+  pub margin-is : r .margin .0 ≡ overAccepted totalNumber a
+  pub credit-is : r .credit ≡ overAccepted (λ numbers. oneIf (hadCredit numbers)) a
+  pub above-is : r .above ≡ overAccepted aboveRisk a
   pub margin-most : r .margin .0 ≤ mostTotal
   pub credit-most : r .credit ≤ 1
   pub above-most : r .above ≤ mostContracts
@@ -75,7 +75,7 @@ pub record Within (n : ℕ) (s : Sums) : Type 0 where
   pub above-most : s .above ≤ n * mostContracts
 
 -- the counts of refusals, with one of a number more
-pub record Counted (counts : List ℕ) (refusal : ℕ) (r : List ℕ) : Type 0 where
+pub record RefusalCounted (counts : List ℕ) (refusal : ℕ) (r : List ℕ) : Type 0 where
   pub as-many : length r ≡ 15
   pub each : (k : ℕ) → k < 15 → getD r k 0 ≡ getD counts k 0 + oneIf (eqb refusal (suc k))
 
@@ -84,10 +84,10 @@ abbrev pub leads : Sums → Account → Bool
 leads s a = eqb (a .refusal) 0 && (eqb (s .accepted) 0 || ltb (s .largest .0) (a .margin .0))
 
 -- the sums with an account more
-pub record Added (s : Sums) (a : Account) (place : ℕ) (r : Sums) : Type 0 where
+pub record AccountAdded (s : Sums) (a : Account) (place : ℕ) (r : Sums) : Type 0 where
   pub accepted-is : r .accepted ≡ s .accepted + oneIf (eqb (a .refusal) 0)
   pub refused-is : r .refused ≡ s .refused + oneIf (not (eqb (a .refusal) 0))
-  pub refusals-are : Counted (s .refusals) (a .refusal) (r .refusals)
+  pub refusals-are : RefusalCounted (s .refusals) (a .refusal) (r .refusals)
   pub margin-is : r .margin .0 ≡ s .margin .0 + a .margin .0
   pub largest-is : r .largest .0 ≡ cond (leads s a) (a .margin .0) (s .largest .0)
   pub place-is : r .place ≡ cond (leads s a) place (s .place)

@@ -21,8 +21,7 @@ tell-of-requires c κs = search needs
 returns : tie.Need-returns
 returns c =
     let after-cover-call = c .before .before .before in
-    let c-6 = after-cover-call .before .before .before in
-    let s = c-6 in
+    let s = after-cover-call .before .before .before in
     let m = after-cover-call .cover-call in
     let a = joinedCall (s .args .morning .now) (s .args .noon .now) in
     let l = back (s .args .last) (s .fits .last) in

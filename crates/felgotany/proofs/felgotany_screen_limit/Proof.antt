@@ -17,8 +17,7 @@ tell-limit-requires c κs = search needs
 
 returns : tie.Need-returns
 returns c =
-    let c-4 = c .before .before .before .before in
-    let s = c-4 in
+    let s = c .before .before .before .before in
     let a = s .args in
     subst (λ (l : Limited). TellsLimit l (c .tell-limit .result))
     (c .before .limit .ensures ∙ ap (limited (a .lent .now) (a .named) (a .ticket .now)) (back (a .limit) (s .fits .limit)))

@@ -18,7 +18,7 @@ use Rattle.screen.specs.declared.Limited.{Limited}
 use Rattle.screen.specs.declared.Told.{Told}
 use Rattle.felgotany.specs.declared.AddOutcome.{AddOutcome}
 use Rattle.tickets.specs.declared.ask.Asked.{Asked}
-use Rattle.writing.specs.Written.{answerTo, bytesFor, afterwards}
+use Rattle.writing.specs.Written.{writingAnswer, bytesFor, afterWriting}
 use Rattle.felgotany.specs.declared.CallOutcome.{CallOutcome}
 use Rattle.felgotany.specs.declared.LimitOutcome.{LimitOutcome}
 use Rattle.felgotany.specs.declared.ListOutcome.{ListOutcome}
@@ -87,7 +87,7 @@ pub record TellsAsked (a : Asked) (r : TicketOutcome) : Type 0 where
 
 -- what a list of entries gets, and the lent bytes afterwards
 pub record TellsWritten (entries lent : List ℕ) (r : WriteOutcome) (after : List ℕ) : Type 0 where
-  pub refusal : r .refusal ≡ numberOf (answerTo entries (length lent))
-  pub entry-named : r .entry ≡ recordOf (answerTo entries (length lent))
-  pub written-is : r .written ≡ bytesFor (answerTo entries (length lent)) entries
-  pub out : after ≡ afterwards (answerTo entries (length lent)) entries lent
+  pub refusal : r .refusal ≡ numberOf (writingAnswer entries (length lent))
+  pub entry-named : r .entry ≡ recordOf (writingAnswer entries (length lent))
+  pub written-is : r .written ≡ bytesFor (writingAnswer entries (length lent)) entries
+  pub out : after ≡ afterWriting (writingAnswer entries (length lent)) entries lent

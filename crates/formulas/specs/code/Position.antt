@@ -22,7 +22,7 @@ use Rattle.spread.specs.code.Lent.{deltasFrom}
 use Rattle.formulas.specs.declared.rows.Days.{Days}
 use Rattle.formulas.specs.declared.rows.Position.{Position}
 pub use Rattle.formulas.specs.code.Sums.{deltasIn}
-use Rattle.formulas.specs.Bounds.{mostProduct}
+use Rattle.formulas.specs.Bounds.{mostProduct, mostRowDelta}
 use Rattle.formulas.specs.Scanning.{product, total, totals}
 use Rattle.formulas.specs.Deltas.{rowDelta, ofDay, netDeltas}
 use Rattle.formulas.specs.Margin.{shortLots}
@@ -98,8 +98,8 @@ pub record DaysOf (prompts : List Record) (d : Days) : Type 0 where
   pub day-is : (j : ℕ) → j < length prompts → getD (d .day) j 0 ≡ day (getD prompts j [])
 
 -- each day is later than those before it
-abbrev pub Rising : ℕ → List ℕ → Type 0
-Rising n days = (j k : ℕ) → j < k → k < n → getD days j 0 < getD days k 0
+abbrev pub DaysRise : ℕ → List ℕ → Type 0
+DaysRise n days = (j k : ℕ) → j < k → k < n → getD days j 0 < getD days k 0
 
 -- the first place of a day from a place on, among the first n days, and n where there is none
 pub record FirstPlace (days : List ℕ) (start n d r : ℕ) : Type 0 where
@@ -127,8 +127,8 @@ positionIn totals nets shorts = record { totals = record { 0 = totals }; nets = 
 -- no more than what n rows within their ranges can come to
 pub record Bounded (n : ℕ) (p : Position) : Type 0 where
   pub totals-most : AtMost scenarioCount (n * mostProduct) (p .totals .0)
-  pub nets-most : AtMost promptPlaces (n * 1000000000) (deltasIn (p .nets))
-  pub shorts-most : p .shorts ≤ n * 100000
+  pub nets-most : AtMost promptPlaces (n * mostRowDelta) (deltasIn (p .nets))
+  pub shorts-most : p .shorts ≤ n * hundredThousand
 
 -- q is the position p with more rows
 pub record WithRows (rates : List Record) (unit : ℕ) (days : Days) (p : Position) (rows : List Record) (q : Position) : Type 0 where

@@ -21,7 +21,7 @@ use Rattle.formulas.specs.Bounds.{mostDelta, mostCharge, mostRisk}
 use Rattle.formulas.specs.Charges.{interpromptCharge, promptCharges}
 use Rattle.formulas.specs.code.Sums.{interleaved, deltasIn}
 use Rattle.formulas.specs.Contract.{Contract, activeOf, scanningOf, interpromptOf, promptOf, minimumOf, contractNet}
-use Rattle.formulas.specs.Deltas.{opens, interprompt}
+use Rattle.formulas.specs.Deltas.{opensWith, interprompt}
 use Rattle.formulas.specs.Credit.{twicePriceRisk}
 use Rattle.formulas.specs.code.Lines.{LineWithin}
 use Rattle.formulas.specs.code.Position.{PositionOf, Bounded}
@@ -69,7 +69,7 @@ pub record BookRoom (prompts : List Record) (nets : List ℤ) (spreads : List Re
   pub few-prompts : length prompts ≤ mostPrompts
   pub few-spreads : length spreads ≤ mostSpreads
   pub nets-beyond : (j : ℕ) → length prompts ≤ j → getD nets j (pos 0) ≡ pos 0
-  pub prompts-sound : every soundPrompt (opens prompts nets) ≡ true
+  pub prompts-sound : every soundPrompt (opensWith prompts nets) ≡ true
   pub spreads-sound : every soundSpread (map interprompt spreads) ≡ true
 
 -- what a contract is charged, over the lent arrays of its book

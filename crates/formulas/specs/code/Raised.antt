@@ -7,6 +7,7 @@ use lib.ListN.{getD}
 use Rattle.record.specs.Layout.{Record, loss, hundredThousand, scenarioCount}
 use Rattle.formulas.specs.Bounds.{mostProduct}
 use Rattle.formulas.specs.code.Position.{AtMost}
+use Rattle.account.specs.Products.{mostPerTick}
 
 -- a loss raised by the most that a gain can be
 abbrev pub raisedLoss : Record → ℕ → ℕ
@@ -17,7 +18,7 @@ abbrev pub raisedProducts : ℤ → Record → ℕ → ℤ
 raisedProducts each row k = each *ℤ pos (raisedLoss row k)
 
 abbrev pub mostRaised : ℕ
-mostRaised = 1000000000 * (2 * hundredThousand)
+mostRaised = mostPerTick * (2 * hundredThousand)
 
 -- what the sum of a scenario comes to, lots × value of its rows together being `each`
 abbrev pub unraisedAt : List ℤ → ℤ → ℕ → ℤ
@@ -35,4 +36,4 @@ settled totals sums each = settledFrom 0 totals sums each
 pub record SumsRoom (n : ℕ) (totals sums : List ℤ) (each : ℤ) : Type 0 where
   pub totals-most : AtMost scenarioCount (n * mostProduct) totals
   pub sums-most : AtMost scenarioCount (n * mostRaised) sums
-  pub each-most : natAbs each ≤ n * 1000000000
+  pub each-most : natAbs each ≤ n * mostPerTick

@@ -22,8 +22,8 @@ interleaved (a ∷ firsts) (b ∷ seconds) = a .0 ∷ b .0 ∷ interleaved first
 abbrev pub spreadsAt : List Spreads → ℕ → ℕ
 spreadsAt xs k = getD xs k (record { 0 = 0 }) .0
 
-abbrev pub deltaAt : List Delta → ℕ → ℤ
-deltaAt ds k = getD ds k (record { 0 = pos 0 }) .0
+abbrev pub deltaIn : List Delta → ℕ → ℤ
+deltaIn ds k = getD ds k (record { 0 = pos 0 }) .0
 
 pub record SpreadRoom (unit : ℕ) (s : Record) (first second : ℕ) : Type 0 where
   pub unit-within : unit ≤ mostUnit

@@ -21,8 +21,7 @@ step-over-requires c κs = search needs
 
 same-uses-requires : tie.Need-same-uses-requires
 same-uses-requires c κs =
-    let c-4 = c .before .before .before .before in
-    let s = c-4 in
+    let s = c .before .before .before .before in
     let p = s .args .prompts in
     let n : p .count ≤ promptPlaces = few p (and-left (soundPrompts p) (soundSpread (s .args .spread)) (s .pre .0)) in
     omega (arith, s .pre .1)
@@ -33,8 +32,7 @@ verdict-of-requires c κs = search needs
 returns : tie.Need-returns
 returns c =
     let after-step-over = c .before .before .before .before .before in
-    let c-6 = after-step-over .before in
-    let s = c-6 in
+    let s = after-step-over .before in
     let a = s .args in
     let p = a .prompts in
     let st = after-step-over .step-over in

@@ -8,7 +8,7 @@ use lib.ListN.{length, length-map, getD, take, drop}
 use mir.Syntax.{w64}
 use mir.Val.{SFits}
 use Rattle.exact.proofs.Integers.{back}
-use Rattle.judging.specs.Compared.{ComparedTo}
+use Rattle.judging.specs.code.Compared.{ComparedTo}
 use mathlib.Core.Bool.{true, false}
 use mathlib.Core.List.{[]}
 use borrow.Author.Tests.{not-true, not-false}
@@ -62,8 +62,7 @@ shared-slice-copy-out-compare c = omega arith
 add-compare : tie.Need-add-compare Inv-loop μ-loop
 add-compare c =
     let after-loop = c .before .before .before in
-    let c-4 = after-loop .before in
-    let s = c-4 in
+    let s = after-loop .before in
     let l = after-loop .loop in
     let r = room-here (s .args .t2) (spread-places s) (sound-table s) (s .args .prompts .count) (s .args .numbers .now) (s .args .uses .now)
     (s .pre .1 .0) _ (l .step) (l .at) (l .left) (l .inv) (c .before .before .loop-test .taken) in
@@ -81,8 +80,7 @@ part-compare-start c = omega arith
 part-compare-end : tie.Need-part-compare-end Inv-loop μ-loop
 part-compare-end c =
     let after-loop = c .before .before .before in
-    let c-4 = after-loop .before in
-    let s = c-4 in
+    let s = after-loop .before in
     let l = after-loop .loop in
     let r = room-here (s .args .t2) (spread-places s) (sound-table s) (s .args .prompts .count) (s .args .numbers .now) (s .args .uses .now)
     (s .pre .1 .0) _ (l .step) (l .at) (l .left) (l .inv) (c .before .before .loop-test .taken) in
@@ -92,8 +90,7 @@ compare-requires : tie.Need-compare-requires Inv-loop μ-loop
 compare-requires c κs =
     let after-loop-test = c .before .before .before in
     let after-loop = after-loop-test .before in
-    let c-5 = after-loop .before in
-    let s = c-5 in
+    let s = after-loop .before in
     let l = after-loop .loop in
     let h = after-loop-test .loop-test .taken in (
       sound-here (s .args .t2) (spread-places s) (sound-table s) (s .args .prompts .count) (s .args .numbers .now) (s .args .uses .now) (s .pre .1 .0) _
@@ -105,43 +102,47 @@ compare-requires c κs =
 is-right-requires : tie.Need-is-right-requires Inv-loop μ-loop
 is-right-requires c κs = tt
 
--- what is said of the step, of the number itself
-said : (b : tie.After-compare Inv-loop μ-loop) →
-    let l = b .before .before .before .before .before .loop in
-    let s = b .before .before .before .before .before .before .args in
-    ComparedTo (l .left) (getD (s .t2 .spread) (l .step / 2) noSpread) (eqb (l .step % 2) 1) (l .step) (getD (s .numbers .now) (l .step) (pos 0))
-    (take (l .at + s .prompts .count - l .at) (drop (l .at) (s .uses .now))) (b .compare .result)
-said b =
-    let after-loop = b .before .before .before .before .before in
-    let start = after-loop .before in
-    let l = after-loop .loop in
-    let s = start .args in
-    let z = getD (s .numbers .now) (l .step) (pos 0) in
-    let fits : SFits w64 z = record { sfits = b .before .before .compare-arg .given } in
-    subst
-    (λ (x : ℤ). ComparedTo (l .left) (getD (s .t2 .spread) (l .step / 2) noSpread) (eqb (l .step % 2) 1) (l .step) x
-    (take (l .at + s .prompts .count - l .at) (drop (l .at) (s .uses .now))) (b .compare .result))
-    (back z fits) (b .compare .ensures)
+-- the head of the turn, and what is said of the step, of the number itself
+module _ (c : tie.After-compare Inv-loop μ-loop) where
+  abbrev head : tie.In-loop Inv-loop μ-loop
+  head =
+      let after-loop-test = c .before .before .before .before in
+      after-loop-test
+
+  said :
+      let l = head .before .loop in
+      let s = head .before .before .args in
+      ComparedTo (l .left) (getD (s .t2 .spread) (l .step / 2) noSpread) (eqb (l .step % 2) 1) (l .step) (getD (s .numbers .now) (l .step) (pos 0))
+      (take (l .at + s .prompts .count - l .at) (drop (l .at) (s .uses .now))) (c .compare .result)
+  said =
+      let l = head .before .loop in
+      let s = head .before .before .args in
+      let z = getD (s .numbers .now) (l .step) (pos 0) in
+      let fits : SFits w64 z = record { sfits = c .before .before .compare-arg .given } in
+      subst
+      (λ (x : ℤ). ComparedTo (l .left) (getD (s .t2 .spread) (l .step / 2) noSpread) (eqb (l .step % 2) 1) (l .step) x
+      (take (l .at + s .prompts .count - l .at) (drop (l .at) (s .uses .now))) (c .compare .result))
+      (back z fits) (c .compare .ensures)
 
 returns : tie.Need-returns Inv-loop μ-loop
 returns c =
-    let b = c .before .before in
-    let s = b .before .before .before .before .before .before in
-    let l = b .before .before .before .before .before .loop in
-    let h = b .before .before .before .before .loop-test .taken in
+    let after-compare = c .before .before in
+    let turn = head after-compare in
+    let s = turn .before .before in
+    let l = turn .before .loop in
     stops (s .args .t2) (spread-places s) (sound-table s) (s .args .prompts .count) (s .args .numbers .now) (s .args .uses .now) (s .pre .1 .0) _
-    (l .step) (l .at) (l .left) (l .inv) h noSpread
-    (b .compare .result) (said b)
+    (l .step) (l .at) (l .left) (l .inv) (turn .loop-test .taken) noSpread
+    (after-compare .compare .result) (said after-compare)
     (sym (c .before .is-right .ensures) ∙ not-true (c .before .is-right .result) (c .if1 .taken))
 
 add-at : tie.Need-add-at Inv-loop μ-loop
 add-at c =
-    let c-3 = c .before .before .before in
-    let b = c-3 in
-    let s = b .before .before .before .before .before .before in
-    let l = b .before .before .before .before .before .loop in
+    let after-compare = c .before .before .before in
+    let turn = head after-compare in
+    let s = turn .before .before in
+    let l = turn .before .loop in
     let r = room-here (s .args .t2) (spread-places s) (sound-table s) (s .args .prompts .count) (s .args .numbers .now) (s .args .uses .now)
-    (s .pre .1 .0) _ (l .step) (l .at) (l .left) (l .inv) (b .before .before .before .before .loop-test .taken) in
+    (s .pre .1 .0) _ (l .step) (l .at) (l .left) (l .inv) (turn .loop-test .taken) in
     omega (arith, r, s .good .1 .1 .1 .0)
 
 add-step : tie.Need-add-step Inv-loop μ-loop
@@ -152,14 +153,13 @@ loop-less c = omega arith
 
 loop-again : tie.Need-loop-again Inv-loop μ-loop
 loop-again c =
-    let c-3 = c .before .before .before in
-    let b = c-3 in
-    let s = b .before .before .before .before .before .before in
-    let l = b .before .before .before .before .before .loop in
-    let h = b .before .before .before .before .loop-test .taken in
+    let after-compare = c .before .before .before in
+    let turn = head after-compare in
+    let s = turn .before .before in
+    let l = turn .before .loop in
     goes (s .args .t2) (spread-places s) (sound-table s) (s .args .prompts .count) (s .args .numbers .now) (s .args .uses .now) (s .pre .1 .0) _
-    (l .step) (l .at) (l .left) (l .inv) h noSpread
-    (b .compare .result) (said b)
+    (l .step) (l .at) (l .left) (l .inv) (turn .loop-test .taken) noSpread
+    (after-compare .compare .result) (said after-compare)
     (sym (c .before .before .is-right .ensures) ∙ not-false (c .before .before .is-right .result) (c .before .if1 .left))
 
 returns-2 : tie.Need-returns-2 Inv-loop μ-loop

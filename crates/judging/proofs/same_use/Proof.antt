@@ -19,8 +19,7 @@ below-requires-2 c κs = search needs
 returns : tie.Need-returns
 returns c =
     let after-struct-told = c .before .before .before in
-    let c-4 = after-struct-told .before in
-    let s = c-4 in
+    let s = after-struct-told .before in
     let x = s .args .sent in
     let y = s .args .taken .0 in
     let fy : SFits w64 y = record { sfits = after-struct-told .struct-told .given .0 .1 } in

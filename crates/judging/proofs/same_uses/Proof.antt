@@ -12,8 +12,8 @@ use mir.Syntax.{w64}
 use mir.Val.{SFits}
 use Rattle.exact.proofs.Integers.{seen}
 use Rattle.spread.proofs.Gathering.{noDelta}
-use Rattle.judging.specs.Judged.{same, alike}
-use Rattle.judging.specs.Compared.{deltasIn}
+use Rattle.judging.specs.Judged.{level, alike}
+use Rattle.spread.specs.code.Lent.{deltasIn}
 use Rattle.judging.proofs.Comparing.{uses-at, uses-end}
 use Rattle.judging.proofs.same_uses.Statement.{statement}
 use Rattle.judging.proofs.same_uses.Tie as tie
@@ -48,14 +48,13 @@ returns c =
     let after-same-use-arg = c .before .before .before in
     let after-loop-test = after-same-use-arg .before in
     let after-loop = after-loop-test .before in
-    let c-6 = after-loop .before in
-    let s = c-6 in
+    let s = after-loop .before in
     let l = after-loop .loop in
     let us = s .args .uses .now in
     let ds = s .args .t2 in
     let fits : SFits w64 (getD us (l .i) (pos 0)) = record { sfits = after-same-use-arg .same-use-arg .given } in
-    let e : same (getD us (l .i) (pos 0)) (getD ds (l .i) noDelta .0) ≡ false =
-    sym (seen (λ (x : ℤ). same x (getD ds (l .i) noDelta .0)) (getD us (l .i) (pos 0)) fits (c .before .same-use .ensures))
+    let e : level (getD us (l .i) (pos 0)) (getD ds (l .i) noDelta .0) ≡ false =
+    sym (seen (λ (x : ℤ). level x (getD ds (l .i) noDelta .0)) (getD us (l .i) (pos 0)) fits (c .before .same-use .ensures))
     ∙ not-true (c .before .same-use .result) (c .if1 .taken) in
     let few : length us ≤ length ds = omega arith in
     sym
@@ -73,14 +72,13 @@ loop-again c =
     let after-same-use-arg = c .before .before .before in
     let after-loop-test = after-same-use-arg .before in
     let after-loop = after-loop-test .before in
-    let c-6 = after-loop .before in
-    let s = c-6 in
+    let s = after-loop .before in
     let l = after-loop .loop in
     let us = s .args .uses .now in
     let ds = s .args .t2 in
     let fits : SFits w64 (getD us (l .i) (pos 0)) = record { sfits = after-same-use-arg .same-use-arg .given } in
-    let e : same (getD us (l .i) (pos 0)) (getD ds (l .i) noDelta .0) ≡ true =
-    sym (seen (λ (x : ℤ). same x (getD ds (l .i) noDelta .0)) (getD us (l .i) (pos 0)) fits (c .before .same-use .ensures))
+    let e : level (getD us (l .i) (pos 0)) (getD ds (l .i) noDelta .0) ≡ true =
+    sym (seen (λ (x : ℤ). level x (getD ds (l .i) noDelta .0)) (getD us (l .i) (pos 0)) fits (c .before .same-use .ensures))
     ∙ not-false (c .before .same-use .result) (c .if1 .left) in
     let few : length us ≤ length ds = omega arith in (
       ap (λ (k : ℕ). alike (drop k us) (drop k (take (length us) (deltasIn ds)))) (add-one (l .i))

@@ -26,8 +26,7 @@ is-less-requires c κs = search needs
 returns-2 : tie.Need-returns-2
 returns-2 c =
     let after-is-more = c .before .before .before in
-    let c-4 = after-is-more .before in
-    let s = c-4 in
+    let s = after-is-more .before in
     let a = s .args in
     let m = sym (seen (ltZ (pos (a .formed))) (a .number) (s .fits .number) (after-is-more .is-more .ensures)) ∙ c .before .before .if1 .left in
     let l = sym (seen (λ (z : ℤ). ltZ z (pos (a .formed))) (a .number) (s .fits .number) (c .before .is-less .ensures)) ∙ c .if2 .taken in
@@ -35,21 +34,21 @@ returns-2 c =
 
 returns-3 : tie.Need-returns-3
 returns-3 c =
-    let c-3 = c .before .before .before in
-    let s = c-3 .before .before in
+    let after-if1 = c .before .before .before in
+    let s = after-if1 .before .before in
     let a = s .args in
-    let m = sym (seen (ltZ (pos (a .formed))) (a .number) (s .fits .number) (c-3 .before .is-more .ensures))
-    ∙ c-3 .if1 .left in
+    let m = sym (seen (ltZ (pos (a .formed))) (a .number) (s .fits .number) (after-if1 .before .is-more .ensures))
+    ∙ after-if1 .if1 .left in
     let l = sym (seen (λ (z : ℤ). ltZ z (pos (a .formed))) (a .number) (s .fits .number) (c .before .before .is-less .ensures)) ∙ c .before .if2 .left in
     sym (says-none (a .step) (a .formed) (a .number) Right (a .alike) m l (c .if3 .taken))
 
 returns-4 : tie.Need-returns-4
 returns-4 c =
-    let c-3 = c .before .before .before in
-    let s = c-3 .before .before in
+    let after-if1 = c .before .before .before in
+    let s = after-if1 .before .before in
     let a = s .args in
-    let m = sym (seen (ltZ (pos (a .formed))) (a .number) (s .fits .number) (c-3 .before .is-more .ensures))
-    ∙ c-3 .if1 .left in
+    let m = sym (seen (ltZ (pos (a .formed))) (a .number) (s .fits .number) (after-if1 .before .is-more .ensures))
+    ∙ after-if1 .if1 .left in
     let l = sym (seen (λ (z : ℤ). ltZ z (pos (a .formed))) (a .number) (s .fits .number) (c .before .before .is-less .ensures)) ∙ c .before .if2 .left in
     sym (says-use (a .step) (a .formed) (a .number) Right (a .alike) m l (c .if3 .left))
 

@@ -14,8 +14,13 @@ check-pair-requires c κs = search needs
 number-of-requires : tie.Need-number-of-requires
 number-of-requires c κs = search needs
 
+abbrev checked-in : tie.Else1 → tie.After-check-pair
+checked-in c =
+    let after-check-pair = c .before .before .before in
+    after-check-pair
+
 -- nothing is refused so far
-clear : (c : tie.Else1) → numberOf (c .before .before .before .check-pair .result .verdict .answer) ≡ 0
+clear : (c : tie.Else1) → numberOf (checked-in c .check-pair .result .verdict .answer) ≡ 0
 clear c = sym (c .before .number-of .ensures) ∙ omega (arith, c .if1 .left)
 
 returns : tie.Need-returns
@@ -29,7 +34,7 @@ returns c =
 
 judge-over-requires : tie.Need-judge-over-requires
 judge-over-requires c κs =
-    let after-check-pair = c .before .before .before .before in
+    let after-check-pair = checked-in (c .before) in
     let start = after-check-pair .before .before .before in
     let a = start .args in
     let o = after-check-pair .check-pair in
@@ -37,7 +42,7 @@ judge-over-requires c κs =
 
 returns-2 : tie.Need-returns-2
 returns-2 c =
-    let after-check-pair = c .before .before .before .before .before in
+    let after-check-pair = checked-in (c .before .before) in
     let start = after-check-pair .before .before .before in
     let a = start .args in
     let o = after-check-pair .check-pair in

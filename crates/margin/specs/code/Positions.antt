@@ -26,14 +26,14 @@ pub record PositionsOf (whole : List Record) (ps : Positions) : Type 0 where
   pub each : (c : ℕ) → c ≤ mostContract → PositionAt (ratesOf whole) (unitOf c whole) whole c (getD (ps .at) c noPosition)
 
 -- an account that positions tell of, beside the records that stand in the files
-pub record Told (standing : List Record) (ps : Positions) (whole : List Record) : Type 0 where
+pub record PositionsTell (standing : List Record) (ps : Positions) (whole : List Record) : Type 0 where
   pub beside : Besides standing whole
   pub positions : PositionsOf whole ps
 
 -- there is one
 pub record Known (standing : List Record) (ps : Positions) : Type 0 where
   pub whole : List Record
-  pub told : Told standing ps whole
+  pub told : PositionsTell standing ps whole
 
 -- the same of one contract alone: what its rows come to
 pub record ToldOf (standing : List Record) (records c : ℕ) (p : Position) (whole : List Record) : Type 0 where

@@ -61,7 +61,7 @@ pub record Placed (i : ℕ) (l : Line) (out : List ℤ) (tiers : List ℕ) (nets
   pub price-put : prices′ ≡ set prices (l .contract) (l .«twice_price»)
   pub size-put : sizes′ ≡ set sizes (l .contract) (natAbs (l .net .0))
 
--- the line whose eight numbers stand from a place on, but for what its credit is reckoned from
+-- the line whose eight numbers stand from a place on, but for what its credit is worked out from
 abbrev pub lineAt : List ℤ → ℕ → Line
 lineAt out at =
     record {

@@ -72,11 +72,11 @@ within : (c : tie.After-shared-slice-known3 Inv-loop μ-loop) →
     c .before .before .loop .at + getD (s .lengths .now) (c .before .before .loop .i) 0 ≤ length (s .accounts .now)
 within c =
     let after-if3 = c .before .before .before in
-    let c-4 = after-if3 .before in
-    let start = c-4 .before .before .before .before .before .before in
+    let after-if2 = after-if3 .before in
+    let start = after-if2 .before .before .before .before .before .before in
     let s = start .args in
     let l = c .before .before .loop in
-    let a = c-4 .if2 .left in
+    let a = after-if2 .if2 .left in
     let b = after-if3 .if3 .left in
     ends (s .accounts .now) (s .lengths .now) (s .out .now) (s .outcomes .now)
     (omega (arith, a)) (omega (arith, b)) (l .out) (l .outcomes) (l .at) (l .i) (l .inv) (c .before .loop-test .taken)
@@ -100,11 +100,11 @@ place-figures-requires c κs =
     let after-loop-test = c .before .before .before in
     let after-loop = after-loop-test .before in
     let after-if3 = after-loop .before in
-    let c-6 = after-if3 .before in
-    let start = c-6 .before .before .before .before .before .before in
+    let after-if2 = after-if3 .before in
+    let start = after-if2 .before .before .before .before .before .before in
     let s = start .args in
     let l = after-loop .loop in
-    let a = c-6 .if2 .left in
+    let a = after-if2 .if2 .left in
     let b = after-if3 .if3 .left in
     room-here (s .accounts .now) (s .lengths .now) (s .out .now) (s .outcomes .now)
     (omega (arith, a)) (omega (arith, b)) (l .out) (l .outcomes) (l .at) (l .i) (l .inv) (after-loop-test .loop-test .taken)
@@ -114,11 +114,11 @@ place-outcome-requires c κs =
     let after-loop-test = c .before .before .before .before .before .before in
     let after-loop = after-loop-test .before in
     let after-if3 = after-loop .before in
-    let c-9 = after-if3 .before in
-    let start = c-9 .before .before .before .before .before .before in
+    let after-if2 = after-if3 .before in
+    let start = after-if2 .before .before .before .before .before .before in
     let s = start .args in
     let l = after-loop .loop in
-    let a = c-9 .if2 .left in
+    let a = after-if2 .if2 .left in
     let b = after-if3 .if3 .left in
     outcome-here (s .accounts .now) (s .lengths .now) (s .out .now) (s .outcomes .now)
     (omega (arith, a)) (omega (arith, b))
@@ -139,12 +139,12 @@ loop-again c =
     let after-loop-test = after-place-figures .before .before .before .before in
     let after-loop = after-loop-test .before in
     let after-if3 = after-loop .before in
-    let c-12 = after-if3 .before in
-    let c-17 = c-12 .before .before .before .before .before in
-    let s = c-17
+    let after-if2 = after-if3 .before in
+    let after-shared-slice-known = after-if2 .before .before .before .before .before in
+    let s = after-shared-slice-known
     .before .args in
     let l = after-loop .loop in
-    let a = c-12 .if2 .left in
+    let a = after-if2 .if2 .left in
     let b = after-if3 .if3 .left in
     let f = after-place-figures .place-figures in
     let o = c .before .before .place-outcome in
@@ -169,16 +169,16 @@ same-length-2 c = c .before .loop .inv .as-many
 
 returns-4 : tie.Need-returns-4 Inv-loop μ-loop
 returns-4 c =
-    let c-3 = c .before .before .before in
-    let start = c-3 .before .before .before .before .before .before in
+    let after-if2 = c .before .before .before in
+    let start = after-if2 .before .before .before .before .before .before in
     let s = start .args in
     let l = c .before .loop in
-    let a = c-3 .if2 .left in
+    let a = after-if2 .if2 .left in
     let b = c .before .before .if3 .left in
     let t = c .loop-test .left in
     let e = end (s .accounts .now) (s .lengths .now) (s .out .now) (s .outcomes .now) (l .out) (l .outcomes) (l .at) (l .i) (l .inv) (omega (arith, t)) in
     let h = all (s .accounts .now) (s .lengths .now) (s .out .now) (s .outcomes .now)
-    (sym (c-3 .before .before .add-up .ensures) ∙ not-false _ (c-3 .before .if1 .left)) (omega (arith, a))
+    (sym (after-if2 .before .before .add-up .ensures) ∙ not-false _ (after-if2 .before .if1 .left)) (omega (arith, a))
     (omega (arith, b))
     (l .out) (l .outcomes) (e .0) (e .1) in
     (h .is, (h .out-is, h .outcome-is))

@@ -38,8 +38,7 @@ same-length c = search needs
 
 returns : tie.Need-returns
 returns c =
-    let c-4 = c .before .before .before .before in
-    let s = c-4 in
+    let s = c .before .before .before .before in
     let out = s .args .out .now in
     let at = longestFigures * s .args .place in
     let f = c .before .answer .ensures in

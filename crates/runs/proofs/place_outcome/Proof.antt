@@ -34,8 +34,7 @@ mul-out-2 c = search needs
 
 slice-write-out-2 : tie.Need-slice-write-out-2
 slice-write-out-2 c =
-    let c-3 = c .before .before .before in
-    let s = c-3 in
+    let s = c .before .before .before in
     let l = length-set (s .args .out .now) (outcomeNumbers * s .args .place) (c .before .number-of .result) in
     let p = s .pre in
     omega (arith, l, p)
@@ -45,8 +44,7 @@ same-length c = search needs
 
 returns : tie.Need-returns
 returns c =
-    let c-3 = c .before .before .before in
-    let s = c-3 in
+    let s = c .before .before .before in
     let out = s .args .out .now in
     let at = outcomeNumbers * s .args .place in
     two-at out at (c .before .number-of .result) (c .record-of .result) (s .pre)

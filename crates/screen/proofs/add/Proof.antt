@@ -40,10 +40,10 @@ same-length c = search needs
 
 returns-2 : tie.Need-returns-2
 returns-2 c =
-    let c-4 = c .before .before .before .before in
-    let start = c-4 .before .before .before in
+    let after-if1 = c .before .before .before .before in
+    let start = after-if1 .before .before .before in
     let a = start .args in
-    let l = c-4 .if1 .left in
+    let l = after-if1 .if1 .left in
     let o = c .before .before .place-order in
     let h = refused (a .lent .now) (a .named) (a .ticket .now) (omega (arith, l)) (o .result) (o .ensures)
     (λ z. c .if2 .taken (c .before .number-of .ensures ∙ z)) in
@@ -62,10 +62,10 @@ same-length-2 c = search needs
 returns-3 : tie.Need-returns-3
 returns-3 c =
     let after-place-order = c .before .before .before in
-    let c-5 = after-place-order .before .before in
-    let start = c-5 .before .before .before in
+    let after-if1 = after-place-order .before .before in
+    let start = after-if1 .before .before .before in
     let a = start .args in
-    let l = c-5 .if1 .left in
+    let l = after-if1 .if1 .left in
     let o = after-place-order .place-order in
     let few = c .if3 .taken in
     let h = no-room (a .lent .now) (a .named) (a .ticket .now) (omega (arith, l)) (o .result) (o .ensures) (clear (c .before)) (omega (arith, few, l)) in
@@ -74,10 +74,10 @@ returns-3 c =
 insert-requires : tie.Need-insert-requires
 insert-requires c κs =
     let after-place-order = c .before .before .before .before in
-    let c-6 = after-place-order .before .before in
-    let start = c-6 .before .before .before in
+    let after-if1 = after-place-order .before .before in
+    let start = after-if1 .before .before .before in
     let a = start .args in
-    let l = c-6 .if1 .left in
+    let l = after-if1 .if1 .left in
     let o = after-place-order .place-order in
     let e = c .before .if3 .left in
     let named : a .named ≤ length (a .lent .now) = omega (arith, l) in (
@@ -94,16 +94,16 @@ same-length-3 c = search needs
 returns-4 : tie.Need-returns-4
 returns-4 c =
     let after-if3 = c .before .before .before .before in
-    let c-5 = after-if3 .before in
-    let after-place-order = c-5 .before .before in
-    let c-9 = after-place-order .before .before in
-    let start = c-9 .before .before .before in
+    let after-if2 = after-if3 .before in
+    let after-place-order = after-if2 .before .before in
+    let after-if1 = after-place-order .before .before in
+    let start = after-if1 .before .before .before in
     let a = start .args in
-    let l = c-9 .if1 .left in
+    let l = after-if1 .if1 .left in
     let o = after-place-order .place-order in
     let e = after-if3 .if3 .left in
     let named : a .named ≤ length (a .lent .now) = omega (arith, l) in
-    let h = room (a .lent .now) (a .named) (a .ticket .now) named (o .result) (o .ensures) (clear (c-5))
+    let h = room (a .lent .now) (a .named) (a .ticket .now) named (o .result) (o .ensures) (clear after-if2)
     (omega (arith, e, named)) (c .before .before .insert .last .0) (c .before .before .insert .ensures) in
     (h .is, h .after)
 

@@ -45,15 +45,15 @@ number-of-requires-2 c κs = search needs
 returns-2 : tie.Need-returns-2
 returns-2 c =
     let after-keep = c .before .before .before in
-    let c-5 = after-keep .before .before in
-    let after-check-file = c-5 .before .before in
+    let after-if1 = after-keep .before .before in
+    let after-check-file = after-if1 .before .before in
     let start = after-check-file .before .before .before in
     let a = start .args in
     let o = after-check-file .check-file in
     let t = c .before .before .add in
     let some : numberOf (t .result .answer) ≡ 0 → ⊥ = λ z. c .if2 .taken (c .before .number-of2 .ensures ∙ z) in
     let is = t .ensures .told [] (after-keep .keep .ensures)
-    ∙ sym (order-accepted (a .file .now) (o .result) (o .ensures) (clear (c-5)) (a .ticket .now)) in
+    ∙ sym (order-accepted (a .file .now) (o .result) (o .ensures) (clear after-if1) (a .ticket .now)) in
     record { answer-is = is; total-is = λ e. absurd (some (ap numberOf (is ∙ e))) }
 
 -- nor is the ticket
@@ -76,8 +76,8 @@ returns-3 : tie.Need-returns-3
 returns-3 c =
     let after-add = c .before .before .before .before in
     let after-keep = after-add .before in
-    let c-7 = after-keep .before .before in
-    let after-check-file = c-7 .before .before in
+    let after-if1 = after-keep .before .before in
+    let after-check-file = after-if1 .before .before in
     let start = after-check-file .before .before .before in
     let a = start .args in
     let o = after-check-file .check-file in
@@ -86,7 +86,7 @@ returns-3 c =
     record {
       answer-is =
           t .ensures .told [] k
-          ∙ sym (order-accepted (a .file .now) (o .result) (o .ensures) (clear (c-7)) (a .ticket .now));
+          ∙ sym (order-accepted (a .file .now) (o .result) (o .ensures) (clear after-if1) (a .ticket .now));
       total-is = λ e. c .kept-total .ensures (a .ticket .now ∷ []) (t .ensures .accepted (taken (c .before .before)) [] k);
     }
 

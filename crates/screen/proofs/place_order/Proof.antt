@@ -63,15 +63,15 @@ mul-t11 c =
 
 returns-2 : tie.Need-returns-2
 returns-2 c =
-    let c-5 = c .before .before .before .before .before in
-    let start = c-5 .before .before .before .before .before in
+    let after-if1 = c .before .before .before .before .before in
+    let start = after-if1 .before .before .before .before .before in
     let a = start .args in
-    let o = c-5 .before .before .check-file in
+    let o = after-if1 .before .before .check-file in
     let k = c .before .before .counts-of .ensures in
     record {
       answer-is =
           c .before .check-ticket .ensures [] k
-          ∙ sym (order-accepted (a .file .now) (o .result) (o .ensures) (clear (c-5)) (a .ticket .now));
+          ∙ sym (order-accepted (a .file .now) (o .result) (o .ensures) (clear after-if1) (a .ticket .now));
       stands-at = λ e. ap (λ (n : ℕ). n * recordBytes) (c .ticket-place .ensures [] k);
     }
 

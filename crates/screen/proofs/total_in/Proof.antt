@@ -39,12 +39,12 @@ total-over-requires c κs =
 
 returns-2 : tie.Need-returns-2
 returns-2 c =
-    let c-3 = c .before .before .before in
-    let start = c-3 .before .before .before .before in
+    let after-if1 = c .before .before .before in
+    let start = after-if1 .before .before .before .before in
     let a = start .args in
-    let o = c-3 .before .before .check-file in
+    let o = after-if1 .before .before .check-file in
     let n = c .before .nothing-of in
-    total-accepted (a .file .now) (o .result) (o .ensures) (clear (c-3)) (n .result .now) (n .ensures)
+    total-accepted (a .file .now) (o .result) (o .ensures) (clear after-if1) (n .result .now) (n .ensures)
     (c .total-over .result) (c .total-over .ensures)
 
 pub total-in-spec : {M : Type 1} → statement M

@@ -19,25 +19,25 @@ use Rattle.tickets.specs.declared.counts.Counts.{Counts}
 use Rattle.tickets.specs.Ticket.{withTickets, ticketChecked}
 
 -- each ticket in turn was accepted
-abbrev pub Taken : List ℕ → List Record → Type 0
-Taken file tickets =
+abbrev pub TakenRows : List ℕ → List Record → Type 0
+TakenRows file tickets =
     (n : ℕ) → n < length tickets → ticketChecked (withTickets file (take n tickets)) (getD tickets n []) ≡ Accepted
 
 pub record CountsOf (file : List ℕ) (tickets : List Record) (k : Counts) : Type 0 where
   pub from-check : CheckedBy file (record { answer = Accepted; account = k .account })
-  pub taken : Taken file tickets
+  pub taken : TakenRows file tickets
   pub many : k .tickets ≡ length tickets
   pub above-is : k .above ≡ count (ofKind 1) (records file) + count (ofKind 2) (records file)
   pub places : length (k .rows) ≡ mostContracts
   pub rows-are : (c : ℕ) → getD (k .rows) c 0 ≡ count (ofContract 3 c) (records (withTickets file tickets))
 
 -- there are such tickets
-pub record Counted (file : List ℕ) (k : Counts) : Type 0 where
+pub record CountedIn (file : List ℕ) (k : Counts) : Type 0 where
   pub tickets : List Record
   pub counts : CountsOf file tickets k
 
 -- numbers small enough to be added up
-pub record Small (k : Counts) : Type 0 where
+pub record SmallCounts (k : Counts) : Type 0 where
   pub above-few : k .above ≤ mostRecords
   pub places : length (k .rows) ≡ mostContracts
   pub rows-few : (c : ℕ) → getD (k .rows) c 0 ≤ mostRecords

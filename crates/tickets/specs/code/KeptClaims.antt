@@ -6,7 +6,7 @@ use mathlib.Core.Path.{_≡_}
 use mathlib.Core.List.{List}
 use Rattle.record.specs.Layout.{Record}
 use Rattle.account.specs.Answers.{numberOf, recordOf}
-use Rattle.account.specs.Claims.{Iff}
+use Rattle.exact.specs.Iff.{Iff}
 use Rattle.tickets.specs.code.Kept.{KeptBy, withdrawal}
 use Rattle.tickets.specs.declared.kept.Kept.{Kept}
 

@@ -41,11 +41,11 @@ slice-aggregate-verdict-on c = sym (c .before .order-of .ensures .long)
 
 verdict-on-requires : tie.Need-verdict-on-requires
 verdict-on-requires c κs =
-    let c-3 = c .before .before .before in
-    let start = c-3 .before .before .before in
+    let after-if1 = c .before .before .before in
+    let start = after-if1 .before .before .before in
     let a = start .args in
     let n = length (a .entries .now) in
-    (c .before .order-of .ensures, (le-ltb 61440 n (c-3 .if1 .left), ap not (eq-eqb (n % recordBytes) 0 (c .before .before .if2 .left))))
+    (c .before .order-of .ensures, (le-ltb 61440 n (after-if1 .if1 .left), ap not (eq-eqb (n % recordBytes) 0 (c .before .before .if2 .left))))
 
 number-of-requires : tie.Need-number-of-requires
 number-of-requires c κs = tt
@@ -94,10 +94,9 @@ returns-5 c =
     let after-if4 = c .before .before .before .before .before in
     let after-if3 = after-if4 .before in
     let after-number-of = after-if3 .before in
-    let c-8 = after-number-of .before in
-    let start = c-8 .before .before .before .before .before .before .before in
+    let v = after-number-of .before in
+    let start = v .before .before .before .before .before .before .before in
     let a = start .args in
-    let v = c-8 in
     let whole = ap not (eq-eqb (length (a .entries .now) % recordBytes) 0 (v .before .before .before .if2 .left)) in
     let accepted = ap numberOf (sym (v .verdict-on .ensures)) ∙ sym (after-number-of .number-of .ensures)
     ∙ after-if3 .if3 .left in

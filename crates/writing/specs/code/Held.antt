@@ -29,7 +29,7 @@ abbrev pub heldPrompts : List ℕ → List ℕ → ℕ → List ℕ
 heldPrompts counts prompts c = take (getD counts (part 2 c) 0 * recordBytes) prompts
 
 -- they are the prompts of contract c, as the notes have them
-pub record Holds (file first counts prompts : List ℕ) (c : ℕ) : Type 0 where
+pub record HeldNotes (file first counts prompts : List ℕ) (c : ℕ) : Type 0 where
   pub long : length prompts ≡ mostPrompts * recordBytes
   pub front : heldPrompts counts prompts c ≡ partAt file first counts (part 2 c)
 
@@ -41,7 +41,7 @@ pub record Holdable (file first counts : List ℕ) (c : ℕ) : Type 0 where
 
 -- those of contract held are there, and those of contract c can take their place
 pub record CanChange (file first counts prompts : List ℕ) (held c : ℕ) : Type 0 where
-  pub holds : Holds file first counts prompts held
+  pub holds : HeldNotes file first counts prompts held
   pub holdable : Holdable file first counts c
 
 -- the fault of a record by what is held
@@ -49,6 +49,6 @@ abbrev pub faultHeld : List ℕ → List ℕ → ℕ → Record → Record → �
 faultHeld counts prompts c before r = faultBy counts (records (heldPrompts counts prompts c)) before r
 
 -- a file whose records are accepted, and a table of its rates
-pub record Rated (file : List ℕ) (t : Rates) : Type 0 where
+pub record RatesHeld (file : List ℕ) (t : Rates) : Type 0 where
   pub accepted : recordsChecked file ≡ Accepted
   pub rates : RatesOf (ratesOf (records file)) t

@@ -1,34 +1,69 @@
--- The records are refused, or the rates answer.
+-- The length is refused, or the records are, or the rates answer.
 -- Assumes nothing.
 use borrow.Author.Needs.{needs}
-use mathlib.Core.Path.{sym, _∙_}
+use Prim.Native.Nat.{ℕ}
+use mathlib.Core.Path.{_≡_, refl, sym, ap, _∙_}
+use Rattle.account.specs.Answers.{numberOf, refusal}
+use Rattle.account.proofs.AcceptedOnly.{accepted-only}
 use Rattle.account.proofs.Alone.{refused-there, tallied-accepted}
+use Rattle.account.proofs.Verdict.{length-refused}
 use Rattle.account.proofs.accounts.check.Statement.{statement}
 use Rattle.account.proofs.accounts.check.Tie as tie
 
-note-file-requires : tie.Need-note-file-requires
-note-file-requires c κs = search needs
+length-answer-requires : tie.Need-length-answer-requires
+length-answer-requires c κs = search needs
 
 number-of-requires : tie.Need-number-of-requires
 number-of-requires c κs = search needs
 
 returns : tie.Need-returns
 returns c =
-    let start = c .before .before .before .before .before .before in
-    let t = c .before .before .note-file in
-    refused-there (start .args .file .now) (t .result .answer) (t .ensures .answer-is)
-    (λ z. c .if1 .taken (c .before .number-of .ensures ∙ z))
+    let after-length = c .before .before in
+    let start = after-length .before .before in
+    let e = after-length .length-answer .ensures in
+    let some : (numberOf (after-length .length-answer .result) ≡ 0 → ⊥) = λ z. c .if1 .taken (c .before .number-of .ensures ∙ z) in
+    refused-there (start .args .file .now) (after-length .length-answer .result)
+    (e ∙ length-refused (start .args .file .now) (λ z. some (ap numberOf e ∙ z))) some
+
+note-records-requires : tie.Need-note-records-requires
+note-records-requires c κs =
+    let after-if1 = c .before .before in
+    let after-length = after-if1 .before .before in
+    let answer = after-length .length-answer in (
+      sym (answer .ensures) ∙ accepted-only (answer .result) (sym (after-if1 .before .number-of .ensures) ∙ after-if1 .if1 .left),
+      (refl, refl),
+    )
+
+refusal-requires : tie.Need-refusal-requires
+refusal-requires c κs = search needs
+
+returns-2 : tie.Need-returns-2
+returns-2 c =
+    let after-noted = c .before .before .before in
+    let start = after-noted .before .before .before .before .before .before .before in
+    let n = after-noted .note-records in
+    c .refusal .ensures
+    ∙ refused-there (start .args .file .now) (refusal (n .result .number) (n .result .next)) (n .ensures .0 .answer-is)
+    (λ z. c .before .if2 .taken (sym (n .ensures .1 (c .before .if2 .taken)) ∙ z))
 
 rates-answer-requires : tie.Need-rates-answer-requires
 rates-answer-requires c κs =
-    let after-if1 = c .before .before in
-    let after-number-of = after-if1 .before in
-    tallied-accepted (after-number-of .before .note-file .ensures) (sym (after-number-of .number-of .ensures) ∙ after-if1 .if1 .left)
+    let after-if2 = c .before .before in
+    let n = after-if2 .before .before .note-records in
+    tallied-accepted (n .ensures .0) (ap (λ (x : ℕ). numberOf (refusal x (n .result .next))) (after-if2 .if2 .left))
 
-returns-2 : tie.Need-returns-2
-returns-2 c = search needs
+returns-3 : tie.Need-returns-3
+returns-3 c = search needs
 
 pub check-spec : {M : Type 1} → statement M
 check-spec =
     tie.close
-    (tie.spec note-file-requires number-of-requires returns rates-answer-requires returns-2)
+    (tie.spec
+    length-answer-requires
+    number-of-requires
+    returns
+    note-records-requires
+    refusal-requires
+    returns-2
+    rates-answer-requires
+    returns-3)

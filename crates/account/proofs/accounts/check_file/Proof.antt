@@ -1,6 +1,8 @@
 -- The check's answer, on the records and then on the rates, and the account by what is noted.
 -- Assumes nothing.
 use borrow.Author.Needs.{needs}
+use Prim.Native.Nat.{ℕ}
+use mathlib.Core.List.{List}
 use mathlib.Core.Path.{sym, _∙_}
 use Rattle.account.specs.code.Surveyed.{Tallied}
 use Rattle.account.specs.declared.answers.Answer.the-variants.{Accepted}
@@ -30,12 +32,20 @@ returns c =
     (t .ensures .answer-is) (λ z. after-if1 .if1 .taken (after-if1 .before .number-of .ensures ∙ z)) (after-record-count .record-count .ensures)
     (c .in-one-file .ensures)
 
--- nothing is refused
-tallied : (c : tie.Else1)
-    → let t = c .before .before .before .note-file in
-    Tallied (c .before .before .before .before .before .before .before .args .file .now) Accepted (t .result .contracts) (t .last .1 .0) (t .last .1 .1 .0)
-tallied c =
-    tallied-accepted (c .before .before .before .note-file .ensures) (sym (c .before .number-of .ensures) ∙ c .if1 .left)
+-- nothing is refused: what is noted, the file, and what they are to each other
+module _ (c : tie.Else1) where
+  abbrev noted : tie.After-note-file
+  noted =
+      let after-note-file = c .before .before .before in
+      after-note-file
+
+  abbrev file : List ℕ
+  file =
+      let start = noted .before .before .before .before in
+      start .args .file .now
+
+  tallied : Tallied file Accepted (noted .note-file .result .contracts) (noted .note-file .last .1 .0) (noted .note-file .last .1 .1 .0)
+  tallied = tallied-accepted (noted .note-file .ensures) (sym (c .before .number-of .ensures) ∙ c .if1 .left)
 
 rates-answer-requires : tie.Need-rates-answer-requires
 rates-answer-requires c κs = tallied (c .before .before)
@@ -43,20 +53,16 @@ rates-answer-requires c κs = tallied (c .before .before)
 in-one-file-requires-2 : tie.Need-in-one-file-requires-2
 in-one-file-requires-2 c κs =
     let after-if1 = c .before .before .before .before .before in
-    let after-note-file = after-if1 .before .before .before in
-    let start = after-note-file .before .before .before .before in
-    let t = after-note-file .note-file in
-    few-listed (start .args .file .now) (t .result .contracts) (t .last .1 .0) (t .last .1 .1 .0) (tallied after-if1)
+    let t = noted after-if1 .note-file in
+    few-listed (file after-if1) (t .result .contracts) (t .last .1 .0) (t .last .1 .1 .0) (tallied after-if1)
 
 returns-2 : tie.Need-returns-2
 returns-2 c =
     let after-rates-answer = c .before .before .before in
     let after-if1 = after-rates-answer .before .before .before in
     let after-record-count = after-if1 .before .before in
-    let after-note-file = after-record-count .before in
-    let start = after-note-file .before .before .before .before in
-    let t = after-note-file .note-file in
-    checked-noted (start .args .file .now) (t .result .contracts) (t .last .1 .0) (t .last .1 .1 .0) (tallied after-if1)
+    let t = noted after-if1 .note-file in
+    checked-noted (file after-if1) (t .result .contracts) (t .last .1 .0) (t .last .1 .1 .0) (tallied after-if1)
     (after-record-count .record-count .result) (c .in-one-file2 .result) (after-record-count .record-count .ensures) (c .in-one-file2 .ensures)
     (after-rates-answer .rates-answer .result) (after-rates-answer .rates-answer .ensures)
 

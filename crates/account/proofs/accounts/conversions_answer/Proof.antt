@@ -44,24 +44,30 @@ before-rows-requires c κs =
     let start = c .before .before .before .before in
     start .pre .0 .sizes
 
+-- with the rates read: the start, the account, and the table holds its rates
+module _ (c : tie.After-rates-of Inv-loop μ-loop) where
+  abbrev s : tie.Start Inv-loop μ-loop
+  s =
+      let start = c .before .before .before .before in
+      start
+
+  abbrev account : List Record
+  account = accountOf (s .args .morning .now) (s .args .noon .now)
+
+  held : RatesOf (ratesOf account) (c .rates-of .result)
+  held = subst (λ (rs : List Record). RatesOf rs (c .rates-of .result)) (c .before .placed-part .ensures .are ∙ rate-part account) (c .rates-of .ensures)
+
+-- the rates, seen from the loop
+abbrev rated : tie.At-loop Inv-loop μ-loop → tie.After-rates-of Inv-loop μ-loop
+rated c = c .before .before
+
 loop-holds : tie.Need-loop-holds Inv-loop μ-loop
 loop-holds c =
-    let c-5 = c .before .before .before .before .before in
-    let s = c-5 in
-    let m = records (s .args .morning .now) in
-    let n = records (s .args .noon .now) in
-    let k = c .before-rows .ensures ∙ before-counted m n (s .args .account .counts) (s .pre .0 .sizes) (s .pre .0 .counts) in
+    let start = s (c .before) in
+    let m = records (start .args .morning .now) in
+    let n = records (start .args .noon .now) in
+    let k = c .before-rows .ensures ∙ before-counted m n (start .args .account .counts) (start .pre .0 .sizes) (start .pre .0 .counts) in
     (turn-start m n ∙ ap (λ (x : ℕ). rowsOnFrom m n x 0) (sym k), (k, omega arith))
-
--- the table holds the account's rates
-held : (c : tie.After-rates-of Inv-loop μ-loop)
-    → RatesOf (ratesOf (accountOf (c .before .before .before .before .args .morning .now) (c .before .before .before .before .args .noon .now)))
-    (c .rates-of .result)
-held c =
-    let c-4 = c .before .before .before .before in
-    let s = c-4 in
-    let a = accountOf (s .args .morning .now) (s .args .noon .now) in
-    subst (λ (rs : List Record). RatesOf rs (c .rates-of .result)) (c .before .placed-part .ensures .are ∙ rate-part a) (c .rates-of .ensures)
 
 add-placed-part : tie.Need-add-placed-part Inv-loop μ-loop
 add-placed-part c = search needs
@@ -73,121 +79,102 @@ placed-part-requires-2 c κs =
 
 rows-answer-requires : tie.Need-rows-answer-requires Inv-loop μ-loop
 rows-answer-requires c κs =
-    let c-4 = c .before .before .before .before in
-    let c-8 = c-4 .before .before .before .before in
-    let s = c-8 in
-    let a = accountOf (s .args .morning .now) (s .args .noon .now) in
+    let after-rates-of = rated (c .before .before) in
+    let start = s after-rates-of in
+    let a = account after-rates-of in
     let l = c .before .before .loop in
+    let few = before-few (records (start .args .morning .now)) (records (start .args .noon .now)) (l .c) (l .inv .1 .1) in
     let h = c .before .loop-test .taken in (
-      subst⁻¹ (Each Row) (c .placed-part2 .ensures .are ∙ row-part (l .c) (omega arith) a) (rows-known a (s .pre .1) (l .c) (omega arith)),
+      subst⁻¹ (Each Row) (c .placed-part2 .ensures .are ∙ row-part (l .c) (omega arith) a) (rows-known a (start .pre .1) (l .c) (omega arith)),
       (
-        record { rates = ratesOf a; held = held (c-4); within = s .pre .1 .ranges .rates },
-        omega (arith, l .inv .1 .0, before-few (records (s .args .morning .now)) (records (s .args .noon .now)) (l .c) (l .inv .1 .1), s .pre .1 .limits .all),
+        record { rates = ratesOf a; held = held after-rates-of; within = start .pre .1 .ranges .rates },
+        omega (arith, l .inv .1 .0, few, start .pre .1 .limits .all),
       ),
     )
 
 number-of-requires : tie.Need-number-of-requires Inv-loop μ-loop
 number-of-requires c κs = search needs
 
--- what the rows of a contract answer
-answered : (c : tie.After-rows-answer Inv-loop μ-loop)
-    → c .rows-answer .result
-    ≡ firstRateFault (c .before .before .before .loop .k)
-    (ratesOf (accountOf (c .before .before .before .before .before .before .before .before .before .args .morning .now)
-    (c .before .before .before .before .before .before .before .before .before .args .noon .now)))
-    (partsOf (accountOf (c .before .before .before .before .before .before .before .before .before .args .morning .now)
-    (c .before .before .before .before .before .before .before .before .before .args .noon .now)) (rowPart + c .before .before .before .loop .c))
-answered c =
-    let after-loop = c .before .before .before in
-    let c-5 = after-loop .before .before in
-    let c-9 = c-5 .before .before .before .before in
-    let s = c-9 in
-    let a = accountOf (s .args .morning .now) (s .args .noon .now) in
-    let l = after-loop .loop in
-    c .rows-answer .ensures (ratesOf a) (held (c-5)) (s .pre .1 .ranges .rates)
-    ∙ ap (firstRateFault (l .k) (ratesOf a)) (c .before .placed-part2 .ensures .are
-    ∙ row-part (l .c) (omega (arith, c .before .before .loop-test .taken)) a)
+-- the head of the turn, the account, and what the rows of the contract answer
+module _ (c : tie.After-rows-answer Inv-loop μ-loop) where
+  abbrev head : tie.In-loop Inv-loop μ-loop
+  head = c .before .before
+
+  abbrev all : List Record
+  all = account (rated (head .before))
+
+  answered : c .rows-answer .result ≡ firstRateFault (head .before .loop .k) (ratesOf all) (partsOf all (rowPart + head .before .loop .c))
+  answered =
+      let after-rates-of = rated (head .before) in
+      let l = head .before .loop in
+      c .rows-answer .ensures (ratesOf all) (held after-rates-of) (s after-rates-of .pre .1 .ranges .rates)
+      ∙ ap (firstRateFault (l .k) (ratesOf all)) (c .before .placed-part2 .ensures .are ∙ row-part (l .c) (omega (arith, head .loop-test .taken)) all)
 
 returns : tie.Need-returns Inv-loop μ-loop
 returns c =
-    let after-loop-test = c .before .before .before .before in
-    let after-loop = after-loop-test .before in
-    let c-11 = after-loop .before .before .before .before .before .before in
-    let s = c-11 in
-    let l = after-loop .loop in
-    let a = answered (c .before .before) in
+    let after-rows-answer = c .before .before in
+    let turn = head after-rows-answer in
+    let start = s (rated (turn .before)) in
+    let l = turn .before .loop in
+    let a = answered after-rows-answer in
     a
     ∙ sym (l .inv .0
-    ∙ turn-stop (records (s .args .morning .now)) (records (s .args .noon .now)) (l .k) (l .c) (after-loop-test .loop-test .taken)
+    ∙ turn-stop (records (start .args .morning .now)) (records (start .args .noon .now)) (l .k) (l .c) (turn .loop-test .taken)
     (λ z. c .if1 .taken (c .before .number-of .ensures ∙ ap numberOf a ∙ z)))
 
 record-count-requires : tie.Need-record-count-requires Inv-loop μ-loop
 record-count-requires c κs = tt
 
--- how many rows a contract has, and that they stay within the account
-counted : (c : tie.After-record-count Inv-loop μ-loop)
-    → c .record-count .result
-    ≡ length (partsOf (accountOf (c .before .before .before .before .before .before .before .before .before .before .before .before .args .morning .now)
-    (c .before .before .before .before .before .before .before .before .before .before .before .before .args .noon .now))
-    (rowPart + c .before .before .before .before .before .before .loop .c))
-counted c =
-    let after-placed-part2 = c .before .before .before .before in
-    let after-loop-test = after-placed-part2 .before in
-    let after-loop = after-loop-test .before in
-    let c-12 = after-loop .before .before .before .before .before .before in
-    let s = c-12 in
-    let a = accountOf (s .args .morning .now) (s .args .noon .now) in
-    let l = after-loop .loop in
-    let rows = after-placed-part2 .placed-part2 in
-    c .record-count .ensures ∙ sym (length-cut (recordCount (rows .result .now)) (rows .result .now))
-    ∙ ap length (rows .ensures .are ∙ row-part (l .c) (omega (arith, after-loop-test .loop-test .taken)) a)
+-- how many rows the contract has, and that they stay within the account
+module _ (c : tie.After-record-count Inv-loop μ-loop) where
+  abbrev rows-answered : tie.After-rows-answer Inv-loop μ-loop
+  rows-answered =
+      let after-rows-answer = c .before .before .before in
+      after-rows-answer
 
-next : (c : tie.After-record-count Inv-loop μ-loop)
-    → c .before .before .before .before .before .before .loop .k + c .record-count .result
-    ≡ rowsBefore (records (c .before .before .before .before .before .before .before .before .before .before .before .before .args .morning .now))
-    (records (c .before .before .before .before .before .before .before .before .before .before .before .before .args .noon .now))
-    (c .before .before .before .before .before .before .loop .c + 1)
-next c =
-    let after-loop = c .before .before .before .before .before .before in
-    let c-12 = after-loop .before .before .before .before .before .before in
-    let s = c-12 in
-    let l = after-loop .loop in
-    ap₂ _+_ (l .inv .1 .0) (counted c) ∙ sym (before-next (records (s .args .morning .now)) (records (s .args .noon .now)) (l .c))
+  abbrev turn : tie.In-loop Inv-loop μ-loop
+  turn = head rows-answered
+
+  abbrev morning : List Record
+  morning = records (s (rated (turn .before)) .args .morning .now)
+
+  abbrev noon : List Record
+  noon = records (s (rated (turn .before)) .args .noon .now)
+
+  counted : c .record-count .result ≡ length (partsOf (all rows-answered) (rowPart + turn .before .loop .c))
+  counted =
+      let rows = rows-answered .before .placed-part2 in
+      c .record-count .ensures ∙ sym (length-cut (recordCount (rows .result .now)) (rows .result .now))
+      ∙ ap length (rows .ensures .are ∙ row-part (turn .before .loop .c) (omega (arith, turn .loop-test .taken)) (all rows-answered))
+
+  next : turn .before .loop .k + c .record-count .result ≡ rowsBefore morning noon (turn .before .loop .c + 1)
+  next =
+      let l = turn .before .loop in
+      ap₂ _+_ (l .inv .1 .0) counted ∙ sym (before-next morning noon (l .c))
 
 add-k : tie.Need-add-k Inv-loop μ-loop
 add-k c =
-    let after-loop-test = c .before .before .before .before .before in
-    let after-loop = after-loop-test .before in
-    let c-12 = after-loop .before .before .before .before .before .before in
-    let s = c-12 in
-    let l = after-loop .loop in
+    let start = s (rated (turn c .before)) in
     omega (
       arith,
       next c,
-      before-few (records (s .args .morning .now)) (records (s .args .noon .now)) (l .c + 1)
-          (omega (arith, after-loop-test .loop-test .taken)),
-      s .pre .1 .limits .all,
+      before-few (morning c) (noon c) (turn c .before .loop .c + 1) (omega (arith, turn c .loop-test .taken)),
+      start .pre .1 .limits .all,
     )
 
 add-c : tie.Need-add-c Inv-loop μ-loop
 add-c c = search needs
 
 loop-less : tie.Need-loop-less Inv-loop μ-loop
-loop-less c =
-    let after-loop-test = c .before .before .before .before .before in
-    omega (arith, after-loop-test .loop-test .taken)
+loop-less c = omega (arith, turn c .loop-test .taken)
 
 loop-again : tie.Need-loop-again Inv-loop μ-loop
 loop-again c =
-    let c-3 = c .before .before .before in
-    let after-loop = c-3 .before .before .before in
-    let c-12 = after-loop .before .before .before .before .before .before in
-    let s = c-12 in
-    let l = after-loop .loop in
-    let m = records (s .args .morning .now) in
-    let n = records (s .args .noon .now) in
-    let h = c-3 .before .before .loop-test .taken in
-    let a = answered (c-3) in (
+    let l = turn c .before .loop in
+    let m = morning c in
+    let n = noon c in
+    let h = turn c .loop-test .taken in
+    let a = answered (rows-answered c) in (
       l .inv .0
           ∙ turn-next m n (l .k) (l .c) h (sym (c .before .before .number-of .ensures ∙ ap numberOf a) ∙ omega (arith, c .before .if1 .left))
           ∙ ap (λ (x : ℕ). rowsOnFrom m n (l .k + x) (l .c + 1)) (sym (counted c)),
@@ -196,11 +183,10 @@ loop-again c =
 
 returns-2 : tie.Need-returns-2 Inv-loop μ-loop
 returns-2 c =
-    let c-7 = c .before .before .before .before .before .before .before in
-    let s = c-7 in
+    let start = s (rated (c .before)) in
     let l = c .before .loop in
-    let m = records (s .args .morning .now) in
-    let n = records (s .args .noon .now) in
+    let m = records (start .args .morning .now) in
+    let n = records (start .args .noon .now) in
     let e : l .c ≡ mostContracts = omega (arith, c .loop-test .left, l .inv .1 .1) in
     sym (l .inv .0 ∙ ap (rowsOnFrom m n (l .k)) e ∙ turn-end m n (l .k))
 

@@ -14,8 +14,7 @@ use Rattle.account.proofs.accounts.converts.Tie as tie
 
 returns : tie.Need-returns
 returns c =
-    let c-3 = c .before .before .before in
-    let s = c-3 in
+    let s = c .before .before .before in
     sym
     (ap (any inAnother)
     (none-kept (inPart (s .args .v)) (accountOf (s .args .morning .now) (s .args .noon .now))
@@ -31,8 +30,7 @@ any-in-another-requires c κs = search needs
 
 returns-2 : tie.Need-returns-2
 returns-2 c =
-    let c-5 = c .before .before .before .before .before in
-    let s = c-5 in
+    let s = c .before .before .before .before .before in
     c .any-in-another .ensures
     ∙ ap (any inAnother)
     (c .before .placed-part .ensures .are ∙ within (s .args .v) (omega (arith, s .pre .1 .1)) (accountOf (s .args .morning .now) (s .args .noon .now)))

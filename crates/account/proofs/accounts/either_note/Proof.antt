@@ -15,8 +15,7 @@ note-at-requires c κs = search needs
 
 returns : tie.Need-returns
 returns c =
-    let c-6 = c .before .before .before .before .before .before in
-    let s = c-6 in
+    let s = c .before .before .before .before .before .before in
     let e = sym (c .before .before .from-noon .ensures) ∙ c .before .if1 .taken in
     c .note-at .ensures ∙ sym (ap (λ (b : Bool). cond b (getD (s .args .noon .now) (s .args .v) 0) (getD (s .args .morning .now) (s .args .v) 0)) e)
 
@@ -25,8 +24,7 @@ note-at-requires-2 c κs = search needs
 
 returns-2 : tie.Need-returns-2
 returns-2 c =
-    let c-6 = c .before .before .before .before .before .before in
-    let s = c-6 in
+    let s = c .before .before .before .before .before .before in
     let e = sym (c .before .before .from-noon .ensures) ∙ c .before .if1 .left in
     c .note-at2 .ensures ∙ sym (ap (λ (b : Bool). cond b (getD (s .args .noon .now) (s .args .v) 0) (getD (s .args .morning .now) (s .args .v) 0)) e)
 

@@ -38,8 +38,7 @@ loop-less c = omega (arith, c .before .loop-test .taken, c .before .before .loop
 
 loop-again : tie.Need-loop-again Inv-loop μ-loop
 loop-again c =
-    let c-7 = c .before .before .before .before .before .before .before in
-    let s = c-7 in
+    let s = c .before .before .before .before .before .before .before in
     let l = c .before .before .loop in
     let h = c .before .loop-test .taken in (
       length-set (l .notes) (l .v) (c .either-note .result) ∙ l .inv .0,

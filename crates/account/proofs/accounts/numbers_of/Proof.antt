@@ -31,8 +31,9 @@ loop-holds c = (refl, (omega arith, (omega arith, (refl, refl))))
 -- a contract is still to be looked at
 below : (c : tie.In-loop Inv-loop μ-loop) → c .before .loop .c < mostContracts
 below c =
-    ltb-true (c .before .loop .c) mostContracts
-    (both-true (ltb (c .before .loop .count) (c .before .before .before .args .most)) (ltb (c .before .loop .c) mostContracts) (c .loop-test .taken) .1)
+    let start = c .before .before .before in
+    let l = c .before .loop in
+    ltb-true (l .c) mostContracts (both-true (ltb (l .count) (start .args .most)) (ltb (l .c) mostContracts) (c .loop-test .taken) .1)
 
 lists-requires : tie.Need-lists-requires Inv-loop μ-loop
 lists-requires c κs = below c

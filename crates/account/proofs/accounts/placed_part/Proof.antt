@@ -49,11 +49,10 @@ stretch-requires c κs = search needs
 returns-2 : tie.Need-returns-2
 returns-2 c =
     let after-supplier = c .before .before .before in
-    let c-5 = after-supplier .before .before in
-    let c-8 = c-5 .before .before .before in
-    let s = c-8 in
+    let after-if1 = after-supplier .before .before in
+    let s = after-if1 .before .before .before in
     part-stands (s .args .morning .now) (s .args .noon .now) (s .args .t3) (s .pre) (s .args .v)
-    (omega (arith, c-5 .if1 .left))
+    (omega (arith, after-if1 .if1 .left))
     _ refl (c .stretch .result .now)
     (c .stretch .ensures ∙ ap (λ f. stretch f (getD (s .args .t3 .first) (s .args .v) 0) (getD (s .args .t3 .counts) (s .args .v) 0))
     (after-supplier .supplier .ensures))

@@ -47,8 +47,7 @@ loop-less c = omega (arith, c .before .before .loop-test .taken)
 loop-again : tie.Need-loop-again Inv-loop μ-loop
 loop-again c =
     let after-loop = c .before .before .before in
-    let c-5 = after-loop .before .before in
-    let s = c-5 in
+    let s = after-loop .before .before in
     let l = after-loop .loop in
     let h = c .before .before .loop-test .taken in
     let e : l .v + 1 ≡ suc (l .v) = omega arith in

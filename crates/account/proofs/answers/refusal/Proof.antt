@@ -36,13 +36,13 @@ returns-10 c =
     let after-if5 = after-if6 .before in
     let after-if4 = after-if5 .before in
     let after-if3 = after-if4 .before in
-    let c-7 = after-if3 .before in
-    let c-8 = c-7 .before in
-    let start = c-8 .before in
+    let after-if2 = after-if3 .before in
+    let after-if1 = after-if2 .before in
+    let start = after-if1 .before in
     let n = start .args .number in
     rw (
-      ne-eqb n 3 (c-8 .if1 .left),
-      ne-eqb n 4 (c-7 .if2 .left),
+      ne-eqb n 3 (after-if1 .if1 .left),
+      ne-eqb n 4 (after-if2 .if2 .left),
       ne-eqb n 5 (after-if3 .if3 .left),
       ne-eqb n 6 (after-if4 .if4 .left),
       ne-eqb n 7 (after-if5 .if5 .left),

@@ -29,9 +29,8 @@ same-length-2 c = search needs
 returns : tie.Need-returns
 returns c =
     let after-note-to = c .before .before .before .before in
-    let c-7 = after-note-to .before .before .before in
-    step-runs (c-7 .before .passes-from .ensures)
-    (c-7 .if1 .taken) (after-note-to .note-to .ensures)
+    let after-if1 = after-note-to .before .before .before in
+    step-runs (after-if1 .before .passes-from .ensures) (after-if1 .if1 .taken) (after-note-to .note-to .ensures)
 
 fault-at-requires : tie.Need-fault-at-requires
 fault-at-requires c κs = search needs
@@ -73,12 +72,9 @@ same-length-6 c = search needs
 returns-3 : tie.Need-returns-3
 returns-3 c =
     let after-note-to2 = c .before .before .before .before .before .before in
-    let c-9 = after-note-to2 .before .before .before in
-    let c-17 = c-9 .before .before .before .before .before .before .before .before in
-    step-alone (c-9 .before .fault-at .ensures)
-    (c-9 .if2 .left)
-    (c-17
-    .before .before .before .pre .inside) (after-note-to2 .note-to2 .ensures)
+    let after-if2 = after-note-to2 .before .before .before in
+    let start = after-if2 .before .before .before .before .before .before .before .before .before .before .before in
+    step-alone (after-if2 .before .fault-at .ensures) (after-if2 .if2 .left) (start .pre .inside) (after-note-to2 .note-to2 .ensures)
     (c .one-if-contract .ensures) (c .before .whole-at .ensures)
 
 pub go-on-spec : {M : Type 1} → statement M

@@ -31,16 +31,15 @@ whole c = accepted-only (c .before .before .length-answer .result) (sym (c .befo
 
 note-records-requires : tie.Need-note-records-requires
 note-records-requires c κs =
-    let c-4 = c .before .before .before .before in
-    let l = c-4 in
+    let l = c .before .before .before .before in
     let s = l .before .before in
     (sym (l .length-answer .ensures) ∙ whole (c .before .before), s .pre)
 
 returns-2 : tie.Need-returns-2
 returns-2 c =
-    let c-5 = c .before .before .before .before .before in
+    let after-if1 = c .before .before .before .before .before in
     let n = c .before .before .note-records in
-    tallied-as (whole (c-5) ∙ ap (λ (x : ℕ). refusal x (n .result .next)) (sym (c .if2 .taken))) (n .ensures)
+    tallied-as (whole after-if1 ∙ ap (λ (x : ℕ). refusal x (n .result .next)) (sym (c .if2 .taken))) (n .ensures .0)
 
 refusal-requires : tie.Need-refusal-requires
 refusal-requires c κs = search needs
@@ -48,7 +47,7 @@ refusal-requires c κs = search needs
 returns-3 : tie.Need-returns-3
 returns-3 c =
     let after-note-records = c .before .before .before in
-    tallied-as (c .refusal .ensures) (after-note-records .note-records .ensures)
+    tallied-as (c .refusal .ensures) (after-note-records .note-records .ensures .0)
 
 pub note-file-spec : {M : Type 1} → statement M
 note-file-spec =

@@ -1,7 +1,7 @@
 -- Step after step: no fault so far, and the notes are those of the records passed.
 -- Assumes nothing.
 use Prim.Native.Nat.{ℕ, _-_, _≤_, _<_}
-use mathlib.Core.Path.{subst⁻¹}
+use mathlib.Core.Path.{refl, subst⁻¹}
 use mathlib.Core.List.{List}
 use native.Mathlib.Omega.{arith}
 use lib.ListN.{length, replicate}
@@ -12,7 +12,7 @@ use Rattle.account.specs.Check.{mostRecords}
 use Rattle.account.specs.Parts.{ofKind}
 use Rattle.account.specs.Records.{recordAt, recordCount}
 use Rattle.account.proofs.Going.{Going, going-start, going-stops, owned-small, notable, going-over, going-tallied}
-use Rattle.account.proofs.Verdict.{length-fine}
+use Rattle.account.proofs.Verdict.{length-fine, fault-named}
 use Rattle.account.proofs.check.note_records.Statement.{statement}
 use Rattle.account.proofs.check.note_records.Tie as tie
 
@@ -35,8 +35,7 @@ loop-holds c =
 go-on-requires : tie.Need-go-on-requires Inv-loop μ-loop
 go-on-requires c κs =
     let after-loop = c .before .before .before in
-    let c-6 = after-loop .before .before .before in
-    let s = c-6 in
+    let s = after-loop .before .before .before in
     let file = s .args .file .now in
     let loop = after-loop .loop in
     let more : loop .k < recordCount file = omega arith in
@@ -47,14 +46,16 @@ go-on-requires c κs =
 returns : tie.Need-returns Inv-loop μ-loop
 returns c =
     let after-loop = c .before .before .before .before .before .before in
-    let c-9 = after-loop .before .before .before in
-    let s = c-9 in
+    let s = after-loop .before .before .before in
     let file = s .args .file .now in
     let loop = after-loop .loop in
     let step = c .before .before .go-on in
     let more : loop .k < recordCount file = omega arith in
     let fine = length-fine file (s .pre .0) in
-    going-stops (loop .inv) more (step .result .number) (step .ensures .stops (c .if1 .taken)) (c .if1 .taken) (fine .0) (fine .1)
+    let fault = step .ensures .stops (c .if1 .taken) in (
+      going-stops (loop .inv) more (step .result .number) fault (c .if1 .taken) (fine .0) (fine .1),
+      fault-named file (loop .first) (loop .counts) (loop .k) (step .result .number) (loop .k) fault,
+    )
 
 add-contracts : tie.Need-add-contracts Inv-loop μ-loop
 add-contracts c =
@@ -86,13 +87,12 @@ loop-again c =
 
 returns-2 : tie.Need-returns-2 Inv-loop μ-loop
 returns-2 c =
-    let c-4 = c .before .before .before .before in
-    let s = c-4 in
+    let s = c .before .before .before .before in
     let file = s .args .file .now in
     let loop = c .before .loop in
     let done : recordCount file ≤ loop .k = omega arith in
     let fine = length-fine file (s .pre .0) in
-    going-tallied (loop .inv) done (fine .0) (fine .1)
+    (going-tallied (loop .inv) done (fine .0) (fine .1), λ nz. absurd (nz refl))
 
 pub note-records-spec : {M : Type 1} → statement M
 note-records-spec =

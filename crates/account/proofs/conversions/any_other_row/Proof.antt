@@ -1,7 +1,8 @@
 -- Record after record, until one is such a row.
 -- Assumes nothing.
 use borrow.Author.Needs.{needs}
-use Prim.Native.Nat.{_+_, _-_, _≤_}
+use Prim.Native.Nat.{ℕ, _+_, _-_, _≤_}
+use mathlib.Core.List.{List}
 use native.Mathlib.Omega.{arith}
 use mathlib.Core.Path.{_≡_, sym, ap, _∙_}
 use mathlib.Core.Bool.{Bool, false, _||_}
@@ -30,28 +31,32 @@ whole-at-requires c κs = omega (arith, c .loop-test .taken, c .before .before .
 is-other-row-requires : tie.Need-is-other-row-requires Inv-loop μ-loop
 is-other-row-requires c κs = tt
 
+-- the file, seen from the loop
+abbrev file-of : tie.At-loop Inv-loop μ-loop → List ℕ
+file-of c =
+    let start = c .before .before .before in
+    start .args .file .now
+
 -- what is known with record i looked at
-looked : (c : tie.After-is-other-row Inv-loop μ-loop)
-    → any otherRow (records (c .before .before .before .before .before .before .args .file .now))
-    ≡ c .is-other-row .result || anyFrom otherRow (c .before .before .before .before .before .before .args .file .now) (c .before .before .before .loop .i + 1)
-looked c =
-    let after-loop = c .before .before .before in
-    let after-record-count = after-loop .before in
-    let start = after-record-count .before .before in
-    let file = start .args .file .now in
-    let l = after-loop .loop in
-    l .inv .0
-    ∙ any-next otherRow file false (l .i) (omega (arith, c .before .before .loop-test .taken, after-record-count .record-count .ensures))
-    ∙ ap (λ (b : Bool). b || anyFrom otherRow file (l .i + 1)) (sym (c .is-other-row .ensures ∙ ap otherRow (c .before .whole-at .ensures)))
+module _ (c : tie.After-is-other-row Inv-loop μ-loop) where
+  abbrev head : tie.In-loop Inv-loop μ-loop
+  head = c .before .before
+
+  abbrev file : List ℕ
+  file = file-of (head .before)
+
+  abbrev i : ℕ
+  i = head .before .loop .i
+
+  looked : any otherRow (records file) ≡ c .is-other-row .result || anyFrom otherRow file (i + 1)
+  looked =
+      let after-record-count = head .before .before in
+      head .before .loop .inv .0
+      ∙ any-next otherRow file false i (omega (arith, head .loop-test .taken, after-record-count .record-count .ensures))
+      ∙ ap (λ (b : Bool). b || anyFrom otherRow file (i + 1)) (sym (c .is-other-row .ensures ∙ ap otherRow (c .before .whole-at .ensures)))
 
 returns : tie.Need-returns Inv-loop μ-loop
-returns c =
-    let after-loop = c .before .before .before .before in
-    let start = after-loop .before .before .before in
-    let l = after-loop .loop in
-    sym
-    (looked (c .before)
-    ∙ ap (λ (b : Bool). b || anyFrom otherRow (start .args .file .now) (l .i + 1)) (c .if1 .taken))
+returns c = sym (looked (c .before) ∙ ap (λ (b : Bool). b || anyFrom otherRow (file (c .before)) (i (c .before) + 1)) (c .if1 .taken))
 
 add-i : tie.Need-add-i Inv-loop μ-loop
 add-i c = search needs
@@ -63,23 +68,17 @@ loop-less c =
 
 loop-again : tie.Need-loop-again Inv-loop μ-loop
 loop-again c =
-    let after-loop-test = c .before .before .before in
-    let after-loop = after-loop-test .before in
-    let after-record-count = after-loop .before in
-    let start = after-record-count .before .before in
-    let l = after-loop .loop in (
-      looked (c .before)
-          ∙ ap (λ (b : Bool). b || anyFrom otherRow (start .args .file .now) (l .i + 1)) (c .if1 .left),
-      omega (arith, after-loop-test .loop-test .taken, after-record-count .record-count .ensures),
+    let turn = head (c .before) in (
+      looked (c .before) ∙ ap (λ (b : Bool). b || anyFrom otherRow (file (c .before)) (i (c .before) + 1)) (c .if1 .left),
+      omega (arith, turn .loop-test .taken, turn .before .before .record-count .ensures),
     )
 
 returns-2 : tie.Need-returns-2 Inv-loop μ-loop
 returns-2 c =
-    let start = c .before .before .before .before in
     let l = c .before .loop in
     sym
     (l .inv .0
-    ∙ any-end otherRow (start .args .file .now) false (l .i)
+    ∙ any-end otherRow (file-of (c .before)) false (l .i)
     (omega (arith, c .loop-test .left, c .before .before .record-count .ensures)))
 
 pub any-other-row-spec : {M : Type 1} → statement M

@@ -17,8 +17,7 @@ currency-requires c κs = search needs
 
 returns : tie.Need-returns
 returns c rates of each =
-    let c-3 = c .before .before .before in
-    let s = c-3 in
+    let s = c .before .before .before in
     let r = s .args .row .now in
     let none : currency r ≡ 0 = sym (c .before .currency .ensures .0) ∙ c .if1 .taken in
     let margin = eq-eqb (currency r) 0 none in
@@ -33,14 +32,13 @@ has-rate-requires c κs =
 
 conversion-beyond-requires : tie.Need-conversion-beyond-requires
 conversion-beyond-requires c κs =
-    let c-5 = c .before .before .before .before .before in
-    let s = c-5 in (s .pre .0 .within, s .pre .1)
+    let s = c .before .before .before .before .before in
+    (s .pre .0 .within, s .pre .1)
 
 returns-2 : tie.Need-returns-2
 returns-2 c rates of each =
     let after-has-rate = c .before .before .before in
-    let c-7 = after-has-rate .before .before .before .before in
-    let s = c-7 in
+    let s = after-has-rate .before .before .before .before in
     row-beyond rates (s .args .k) (s .args .row .now) (s .pre .0 .isRow)
     (sym (after-has-rate .has-rate .ensures rates of each) ∙ c .before .before .if2 .taken)
     (sym (c .before .conversion-beyond .ensures rates of) ∙ c .if3 .taken)
@@ -48,16 +46,14 @@ returns-2 c rates of each =
 returns-3 : tie.Need-returns-3
 returns-3 c rates of each =
     let after-has-rate = c .before .before .before in
-    let c-7 = after-has-rate .before .before .before .before in
-    let s = c-7 in
+    let s = after-has-rate .before .before .before .before in
     row-none rates (s .args .k) (s .args .row .now) (s .pre .0 .isRow)
     (sym (after-has-rate .has-rate .ensures rates of each) ∙ c .before .before .if2 .taken)
     (sym (c .before .conversion-beyond .ensures rates of) ∙ c .if3 .left)
 
 returns-4 : tie.Need-returns-4
 returns-4 c rates of each =
-    let c-5 = c .before .before .before .before .before in
-    let s = c-5 in
+    let s = c .before .before .before .before .before in
     row-unrated rates (s .args .k) (s .args .row .now) (s .pre .0 .isRow)
     (sym (c .before .has-rate .ensures rates of each) ∙ c .if2 .left)
 

@@ -41,15 +41,13 @@ whole-at-requires c κs = omega (arith, c .loop-test .taken, c .before .before .
 add-row-answer : tie.Need-add-row-answer Inv-loop μ-loop
 add-row-answer c =
     let after-record-count = c .before .before .before in
-    let c-5 = after-record-count .before .before in
-    let s = c-5 in
+    let s = after-record-count .before .before in
     omega (arith, c .before .loop-test .taken, after-record-count .record-count .ensures, s .pre .1 .1, s .good)
 
 row-answer-requires : tie.Need-row-answer-requires Inv-loop μ-loop
 row-answer-requires c κs =
     let after-record-count = c .before .before .before in
-    let c-5 = after-record-count .before .before in
-    let s = c-5 in
+    let s = after-record-count .before .before in
     let rows = s .args .rows .now in
     let i = c .before .before .loop .i in
     let n = after-record-count .record-count .ensures in
@@ -68,8 +66,7 @@ returns c rates of each =
     let after-loop-test = after-whole-at .before in
     let after-loop = after-loop-test .before in
     let after-record-count = after-loop .before in
-    let c-8 = after-record-count .before .before in
-    let s = c-8 in
+    let s = after-record-count .before .before in
     let l = after-loop .loop in
     let rows = s .args .rows .now in
     let k = s .args .k + l .i in
@@ -98,8 +95,7 @@ loop-again c =
     let after-loop-test = after-whole-at .before in
     let after-loop = after-loop-test .before in
     let after-record-count = after-loop .before in
-    let c-8 = after-record-count .before .before in
-    let s = c-8 in
+    let s = after-record-count .before .before in
     let l = after-loop .loop in
     let rows = s .args .rows .now in
     let k = s .args .k + l .i in
@@ -116,8 +112,7 @@ loop-again c =
 
 returns-2 : tie.Need-returns-2 Inv-loop μ-loop
 returns-2 c rates of each =
-    let c-4 = c .before .before .before .before in
-    let s = c-4 in
+    let s = c .before .before .before .before in
     let l = c .before .loop in
     sym (l .inv .0 rates of each ∙ rows-end rates (s .args .k) (s .args .rows .now) (l .i)
     (omega (arith, c .loop-test .left, c .before .before .record-count .ensures)))

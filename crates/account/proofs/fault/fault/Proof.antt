@@ -44,8 +44,8 @@ unused-byte-requires c κs = tt
 returns-3 : tie.Need-returns-3
 returns-3 c =
     let after-kind-falls = c .before .before .before in
-    let c-4 = after-kind-falls .before in
-    let after-unknown-kind = c-4 .before in
+    let after-if1 = after-kind-falls .before in
+    let after-unknown-kind = after-if1 .before in
     let start = after-unknown-kind .before .before .before .before .before in
     let args = start .args in
     let n = args .counts .now in
@@ -54,7 +54,7 @@ returns-3 c =
     let r = args .r .now in
     is-5 (unknownKind r) (kindFalls e r) (unusedByte r) (fieldOutside r) (unlistedBy n ps r) (outOfOrder e r)
     (overLimitBy n r) (sym (after-unknown-kind .unknown-kind .ensures)
-    ∙ c-4 .if1 .left) (sym (after-kind-falls .kind-falls .ensures)
+    ∙ after-if1 .if1 .left) (sym (after-kind-falls .kind-falls .ensures)
     ∙ c .before .before .if2 .left) (sym (c .before .unused-byte .ensures) ∙ c .if3 .taken)
 
 field-outside-requires : tie.Need-field-outside-requires
@@ -63,10 +63,10 @@ field-outside-requires c κs = tt
 returns-4 : tie.Need-returns-4
 returns-4 c =
     let after-unused-byte = c .before .before .before in
-    let c-4 = after-unused-byte .before in
-    let after-kind-falls = c-4 .before in
-    let c-6 = after-kind-falls .before in
-    let after-unknown-kind = c-6 .before in
+    let after-if2 = after-unused-byte .before in
+    let after-kind-falls = after-if2 .before in
+    let after-if1 = after-kind-falls .before in
+    let after-unknown-kind = after-if1 .before in
     let start = after-unknown-kind .before .before .before .before .before in
     let args =
     start .args in
@@ -76,9 +76,9 @@ returns-4 c =
     let r = args .r .now in
     is-6 (unknownKind r) (kindFalls e r) (unusedByte r) (fieldOutside r) (unlistedBy n ps r) (outOfOrder e r)
     (overLimitBy n r) (sym (after-unknown-kind .unknown-kind .ensures)
-    ∙ c-6 .if1 .left)
+    ∙ after-if1 .if1 .left)
     (sym (after-kind-falls .kind-falls .ensures)
-    ∙ c-4 .if2 .left) (sym (after-unused-byte .unused-byte .ensures)
+    ∙ after-if2 .if2 .left) (sym (after-unused-byte .unused-byte .ensures)
     ∙ c .before .before .if3 .left) (sym (c .before .field-outside .ensures) ∙ c .if4 .taken)
 
 unlisted-requires : tie.Need-unlisted-requires
@@ -89,10 +89,10 @@ returns-5 c =
     let after-field-outside = c .before .before .before in
     let after-if3 = after-field-outside .before in
     let after-unused-byte = after-if3 .before in
-    let c-6 = after-unused-byte .before in
-    let after-kind-falls = c-6 .before in
-    let c-8 = after-kind-falls .before in
-    let after-unknown-kind = c-8 .before in
+    let after-if2 = after-unused-byte .before in
+    let after-kind-falls = after-if2 .before in
+    let after-if1 = after-kind-falls .before in
+    let after-unknown-kind = after-if1 .before in
     let start = after-unknown-kind .before .before .before .before .before in
     let args =
     start .args in
@@ -103,9 +103,9 @@ returns-5 c =
     is-7 (unknownKind r) (kindFalls e r) (unusedByte r) (fieldOutside r) (unlistedBy n ps r) (outOfOrder e r)
     (overLimitBy n r) (sym
     (after-unknown-kind .unknown-kind .ensures)
-    ∙ c-8 .if1 .left)
+    ∙ after-if1 .if1 .left)
     (sym (after-kind-falls .kind-falls .ensures)
-    ∙ c-6 .if2 .left)
+    ∙ after-if2 .if2 .left)
     (sym (after-unused-byte .unused-byte .ensures)
     ∙ after-if3 .if3 .left) (sym (after-field-outside .field-outside .ensures)
     ∙ c .before .before .if4 .left) (sym (c .before .unlisted .ensures) ∙ c .if5 .taken)
@@ -120,10 +120,10 @@ returns-6 c =
     let after-field-outside = after-if4 .before in
     let after-if3 = after-field-outside .before in
     let after-unused-byte = after-if3 .before in
-    let c-8 = after-unused-byte .before in
-    let after-kind-falls = c-8 .before in
-    let c-10 = after-kind-falls .before in
-    let after-unknown-kind = c-10 .before in
+    let after-if2 = after-unused-byte .before in
+    let after-kind-falls = after-if2 .before in
+    let after-if1 = after-kind-falls .before in
+    let after-unknown-kind = after-if1 .before in
     let start = after-unknown-kind .before .before .before .before .before in
     let args =
     start .args in
@@ -134,9 +134,9 @@ returns-6 c =
     is-8 (unknownKind r) (kindFalls e r) (unusedByte r) (fieldOutside r) (unlistedBy n ps r) (outOfOrder e r)
     (overLimitBy n r) (sym
     (after-unknown-kind .unknown-kind .ensures)
-    ∙ c-10 .if1 .left)
+    ∙ after-if1 .if1 .left)
     (sym (after-kind-falls .kind-falls .ensures)
-    ∙ c-8 .if2 .left)
+    ∙ after-if2 .if2 .left)
     (sym (after-unused-byte .unused-byte .ensures)
     ∙ after-if3 .if3 .left)
     (sym (after-field-outside .field-outside .ensures)
@@ -155,10 +155,10 @@ returns-7 c =
     let after-field-outside = after-if4 .before in
     let after-if3 = after-field-outside .before in
     let after-unused-byte = after-if3 .before in
-    let c-10 = after-unused-byte .before in
-    let after-kind-falls = c-10 .before in
-    let c-12 = after-kind-falls .before in
-    let after-unknown-kind = c-12 .before in
+    let after-if2 = after-unused-byte .before in
+    let after-kind-falls = after-if2 .before in
+    let after-if1 = after-kind-falls .before in
+    let after-unknown-kind = after-if1 .before in
     let start = after-unknown-kind .before .before .before .before .before in
     let args =
     start .args in
@@ -169,9 +169,9 @@ returns-7 c =
     is-9 (unknownKind r) (kindFalls e r) (unusedByte r) (fieldOutside r) (unlistedBy n ps r) (outOfOrder e r)
     (overLimitBy n r) (sym
     (after-unknown-kind .unknown-kind .ensures)
-    ∙ c-12 .if1 .left)
+    ∙ after-if1 .if1 .left)
     (sym (after-kind-falls .kind-falls .ensures)
-    ∙ c-10 .if2 .left)
+    ∙ after-if2 .if2 .left)
     (sym (after-unused-byte .unused-byte .ensures)
     ∙ after-if3 .if3 .left)
     (sym (after-field-outside .field-outside .ensures)
@@ -188,10 +188,10 @@ returns-8 c =
     let after-field-outside = after-if4 .before in
     let after-if3 = after-field-outside .before in
     let after-unused-byte = after-if3 .before in
-    let c-10 = after-unused-byte .before in
-    let after-kind-falls = c-10 .before in
-    let c-12 = after-kind-falls .before in
-    let after-unknown-kind = c-12 .before in
+    let after-if2 = after-unused-byte .before in
+    let after-kind-falls = after-if2 .before in
+    let after-if1 = after-kind-falls .before in
+    let after-unknown-kind = after-if1 .before in
     let start = after-unknown-kind .before .before .before .before .before in
     let args =
     start .args in
@@ -202,9 +202,9 @@ returns-8 c =
     is-0 (unknownKind r) (kindFalls e r) (unusedByte r) (fieldOutside r) (unlistedBy n ps r) (outOfOrder e r)
     (overLimitBy n r) (sym
     (after-unknown-kind .unknown-kind .ensures)
-    ∙ c-12 .if1 .left)
+    ∙ after-if1 .if1 .left)
     (sym (after-kind-falls .kind-falls .ensures)
-    ∙ c-10 .if2 .left)
+    ∙ after-if2 .if2 .left)
     (sym (after-unused-byte .unused-byte .ensures)
     ∙ after-if3 .if3 .left)
     (sym (after-field-outside .field-outside .ensures)

@@ -41,18 +41,23 @@ whole-before-requires c κs = search needs
 faultless-requires : tie.Need-faultless-requires
 faultless-requires c κs = tt
 
-here : (c : tie.After-whole-before)
-    → faultBy (c .before .before .before .before .before .before .before .args .counts .now) (records (c .before .part-at .result .now))
-    (c .whole-before .result .now) (c .before .before .before .whole-at .result .now)
-    ≡ faultAt (c .before .before .before .before .before .before .before .args .file .now)
-    (c .before .before .before .before .before .before .before .args .first .now)
-    (c .before .before .before .before .before .before .before .args .counts .now) (c .before .before .before .before .before .before .before .args .k)
-here c =
-    let after-whole-at = c .before .before .before in
-    let start = after-whole-at .before .before .before .before in
-    let args = start .args in
-    joined (args .file .now) (args .first .now) (args .counts .now) (args .k) (after-whole-at .whole-at .ensures)
-    (c .before .before .contract .ensures .0) (c .before .part-at .ensures) (c .whole-before .ensures)
+-- the record read, the start, and the fault by what was read
+module _ (c : tie.After-whole-before) where
+  abbrev read : tie.After-whole-at
+  read =
+      let after-whole-at = c .before .before .before in
+      after-whole-at
+
+  abbrev s : tie.Start
+  s =
+      let start = read .before .before .before .before in
+      start
+
+  here : faultBy (s .args .counts .now) (records (c .before .part-at .result .now)) (c .whole-before .result .now) (read .whole-at .result .now)
+      ≡ faultAt (s .args .file .now) (s .args .first .now) (s .args .counts .now) (s .args .k)
+  here =
+      joined (s .args .file .now) (s .args .first .now) (s .args .counts .now) (s .args .k) (read .whole-at .ensures)
+      (c .before .before .contract .ensures .0) (c .before .part-at .ensures) (c .whole-before .ensures)
 
 returns : tie.Need-returns
 returns c = sym (eqb-true _ 0 (sym (c .before .faultless .ensures) ∙ c .if1 .taken)) ∙ here (c .before .before)
@@ -62,8 +67,8 @@ fault-requires c κs = tt
 
 returns-2 : tie.Need-returns-2
 returns-2 c =
-    let c-3 = c .before .before .before in
-    c .fault .ensures ∙ here (c-3)
+    let after-whole-before = c .before .before .before in
+    c .fault .ensures ∙ here after-whole-before
 
 pub fault-at-spec : {M : Type 1} → statement M
 fault-at-spec =

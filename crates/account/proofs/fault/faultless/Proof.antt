@@ -33,8 +33,7 @@ kind-falls-requires c κs = search needs
 returns : tie.Need-returns
 returns c =
     let after-unlisted = c .before .before .before in
-    let c-4 = after-unlisted .before in
-    let own = c-4 in
+    let own = after-unlisted .before in
     let args = own .before .before .before .before .before .before .before .args in
     let n = args .counts .now in
     let ps = records (args .prompts .now) in

@@ -66,12 +66,12 @@ returns-4 c =
 
 returns-5 : tie.Need-returns-5
 returns-5 c =
-    let after-kind = c .before .before .before .before .before .before in
+    let after-if1 = c .before .before .before in
+    let after-kind = after-if1 .before .before .before in
     let start = after-kind .before .before .before in
     let args = start .args in
     sym (limit-none (args .counts .now) (args .r .now)
-    (λ e. c .before .before .before .if1 .left
-    (after-kind .kind .ensures .0 ∙ e))
+    (λ e. after-if1 .if1 .left (after-kind .kind .ensures .0 ∙ e))
     (λ e. c .before .before .if2 .left (after-kind .kind .ensures .0 ∙ e))
     (λ e. c .before .if3 .left (after-kind .kind .ensures .0 ∙ e))
     (λ e. c .if4 .left (after-kind .kind .ensures .0 ∙ e)))

@@ -41,16 +41,15 @@ no-day-requires c κs = tt
 returns-2 : tie.Need-returns-2
 returns-2 c =
     let after-contract2 = c .before .before .before in
-    let c-4 = after-contract2 .before in
-    let after-kind = c-4 .before .before in
+    let after-if2 = after-contract2 .before in
+    let after-kind = after-if2 .before .before in
     let start = after-kind .before .before .before .before in
     let args = start .args in
     both (c .before .before .no-contract2 .ensures ∙ ap (noContract (args .counts .now))
     (after-contract2 .contract2 .ensures .0))
     (c .no-day .ensures ∙ ap (noDay (records (args .prompts .now))) (c .before .day .ensures .0)) ∙ sym
     (listed-3 (args .counts .now) (records (args .prompts .now)) (args .r .now)
-    (sym (after-kind .kind .ensures .0)
-    ∙ c-4 .if2 .taken))
+    (sym (after-kind .kind .ensures .0) ∙ after-if2 .if2 .taken))
 
 contract-requires-3 : tie.Need-contract-requires-3
 contract-requires-3 c κs = tt
@@ -102,11 +101,12 @@ returns-4 c =
 
 returns-5 : tie.Need-returns-5
 returns-5 c =
-    let after-kind = c .before .before .before .before in
+    let after-if1 = c .before .before .before in
+    let after-kind = after-if1 .before in
     let start = after-kind .before .before .before .before in
     let args = start .args in
     sym (listed-none (args .counts .now) (records (args .prompts .now)) (args .r .now)
-    (λ e. c .before .before .before .if1 .left (after-kind .kind .ensures .0 ∙ e))
+    (λ e. after-if1 .if1 .left (after-kind .kind .ensures .0 ∙ e))
     (λ e. c .before .before .if2 .left (after-kind .kind .ensures .0 ∙ e))
     (λ e. c .before .if3 .left (after-kind .kind .ensures .0 ∙ e))
     (λ e. c .if4 .left (after-kind .kind .ensures .0 ∙ e)))

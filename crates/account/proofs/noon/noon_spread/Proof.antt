@@ -33,9 +33,9 @@ cast-t16 c = search needs
 
 returns-2 : tie.Need-returns-2
 returns-2 c =
-    let c-3 = c .before .before .before in
-    let s = c-3 .before .before .args .t1 in
-    rw (eq-eqb (getD (s .counts) entryPart 0) 0 (omega (arith, c-3 .if1 .left)), ne-eqb (getD (s .counts) ratePart 0) 0 (c .before .if2 .taken))
+    let after-if1 = c .before .before .before in
+    let s = after-if1 .before .before .args .t1 in
+    rw (eq-eqb (getD (s .counts) entryPart 0) 0 (omega (arith, after-if1 .if1 .left)), ne-eqb (getD (s .counts) ratePart 0) 0 (c .before .if2 .taken))
 
 returns-3 : tie.Need-returns-3
 returns-3 c =

@@ -18,20 +18,22 @@ verdict-of-requires c κs = search needs
 number-of-requires : tie.Need-number-of-requires
 number-of-requires c κs = search needs
 
+abbrev start-of : tie.After-verdict-of → tie.Start
+start-of c =
+    let start = c .before .before .before .before in
+    start
+
 -- the verdict on the records
 by : (c : tie.After-verdict-of)
-    → c .verdict-of .result
-    ≡ verdictBy (c .before .before .before .before .args .first) (c .before .before .before .before .args .second)
-    (c .before .before .before .before .args .account .records)
+    → c .verdict-of .result ≡ verdictBy (start-of c .args .first) (start-of c .args .second) (start-of c .args .account .records)
 by c =
-    let start = c .before .before .before .before in
-    let s = start .args in
+    let s = start-of c .args in
     c .verdict-of .ensures ∙ ap (verdictBy (s .first) (s .second)) (c .before .record-total .ensures)
 
 returns : tie.Need-returns
 returns c =
     let v = c .before .before in
-    let s = v .before .before .before .before in
+    let s = start-of v in
     verdict-stops (s .args .morning .now) (s .args .noon .now) (s .args .first) (s .args .second) (s .args .account) (s .pre .0) (s .pre .1 .0) (s .pre .1 .1)
     (v .verdict-of .result) (by v) (λ z. c .if1 .taken (c .before .number-of .ensures ∙ z))
 
@@ -41,15 +43,14 @@ none c = sym (c .before .number-of .ensures) ∙ omega (arith, c .if1 .left)
 conversions-checked-requires : tie.Need-conversions-checked-requires
 conversions-checked-requires c κs =
     let v = c .before .before in
-    let s = v .before .before .before .before in
+    let s = start-of v in
     verdict-clear (s .args .morning .now) (s .args .noon .now) (s .args .first) (s .args .second) (s .args .account) (s .pre .0) (s .pre .1 .0) (s .pre .1 .1)
     (v .verdict-of .result) (by v) (none c)
 
 returns-2 : tie.Need-returns-2
 returns-2 c =
-    let c-3 = c .before .before .before in
-    let v = c-3 in
-    let s = v .before .before .before .before in
+    let v = c .before .before .before in
+    let s = start-of v in
     verdict-goes (s .args .morning .now) (s .args .noon .now) (s .args .first) (s .args .second) (s .args .account) (s .pre .0) (s .pre .1 .0) (s .pre .1 .1)
     (v .verdict-of .result) (by v) (none (c .before)) (c .conversions-checked .result) (c .conversions-checked .ensures)
 

@@ -20,9 +20,13 @@ join-requires c κs = search needs
 pair-verdict-requires : tie.Need-pair-verdict-requires
 pair-verdict-requires c κs = (c .before .before .take-survey .ensures, (c .before .take-survey2 .ensures, c .join .ensures))
 
+abbrev start-of : tie.After-pair-verdict → tie.Start
+start-of c =
+    let start = c .before .before .before .before .before .before in
+    start
+
 -- both files checked and joined, with the verdict
-abbrev known : (c : tie.After-pair-verdict) → Joining (c .before .before .before .before .before .before .args .morning .now)
-    (c .before .before .before .before .before .before .args .noon .now)
+abbrev known : (c : tie.After-pair-verdict) → Joining (start-of c .args .morning .now) (start-of c .args .noon .now)
 known c =
     let after-take-survey = c .before .before .before in
     let m = after-take-survey .take-survey in
@@ -47,9 +51,8 @@ nowhere-requires c κs = search needs
 
 returns : tie.Need-returns
 returns c =
-    let c-3 = c .before .before .before in
-    let k = c-3 in
-    let s = k .before .before .before .before .before .before .args in
+    let k = c .before .before .before in
+    let s = start-of k .args in
     c .nowhere .ensures
     ∙ sym (place-refused (s .morning .now) (s .noon .now) (known k) (s .contract) (λ z. c .before .if1 .taken (c .before .before .number-of .ensures ∙ z)))
 
@@ -58,13 +61,17 @@ nowhere-requires-2 c κs = search needs
 
 returns-2 : tie.Need-returns-2
 returns-2 c =
-    let c-4 = c .before .before .before .before in
-    let k = c-4 in
-    let s = k .before .before .before .before .before .before .args in
+    let k = c .before .before .before .before in
+    let s = start-of k .args in
     c .nowhere2 .ensures ∙ sym (place-beyond (s .morning .now) (s .noon .now) (known k) (s .contract) (c .before .if2 .taken))
 
+abbrev judged : tie.Else2 → tie.After-pair-verdict
+judged c =
+    let after-pair-verdict = c .before .before .before in
+    after-pair-verdict
+
 -- nothing is refused, and the number is a contract's
-clear : (c : tie.Else2) → numberOf (c .before .before .before .pair-verdict .result .answer) ≡ 0
+clear : (c : tie.Else2) → numberOf (judged c .pair-verdict .result .answer) ≡ 0
 clear c = sym (c .before .before .number-of .ensures) ∙ omega (arith, c .before .if1 .left)
 
 add-if3 : tie.Need-add-if3
@@ -81,10 +88,9 @@ place-in-requires c κs = search needs
 
 returns-3 : tie.Need-returns-3
 returns-3 c =
-    let c-3 = c .before .before .before in
-    let e = c-3 in
-    let k = e .before .before .before in
-    let s = k .before .before .before .before .before .before .args in
+    let e = c .before .before .before in
+    let k = judged e in
+    let s = start-of k .args in
     c .place-in .ensures
     ∙ place-noon (s .morning .now) (s .noon .now) (known k) (s .contract) (clear e) (omega (arith, e .if2 .left)) (c .before .if3 .taken)
 
@@ -103,10 +109,9 @@ place-in-requires-2 c κs = search needs
 returns-4 : tie.Need-returns-4
 returns-4 c =
     let after-if3 = c .before .before .before in
-    let c-5 = after-if3 .before .before in
-    let e = c-5 in
-    let k = e .before .before .before in
-    let s = k .before .before .before .before .before .before .args in
+    let e = after-if3 .before .before in
+    let k = judged e in
+    let s = start-of k .args in
     c .place-in2 .ensures
     ∙ place-morning (s .morning .now) (s .noon .now) (known k) (s .contract) (clear e) (omega (arith, e .if2 .left))
     (omega (arith, after-if3 .if3 .left)) (c .before .if4 .taken)
@@ -117,10 +122,9 @@ nowhere-requires-3 c κs = search needs
 returns-5 : tie.Need-returns-5
 returns-5 c =
     let after-if3 = c .before .before .before in
-    let c-5 = after-if3 .before .before in
-    let e = c-5 in
-    let k = e .before .before .before in
-    let s = k .before .before .before .before .before .before .args in
+    let e = after-if3 .before .before in
+    let k = judged e in
+    let s = start-of k .args in
     c .nowhere3 .ensures
     ∙ sym (place-nowhere (s .morning .now) (s .noon .now) (known k) (s .contract) (clear e) (omega (arith, e .if2 .left))
     (omega (arith, after-if3 .if3 .left)) (omega (arith, c .before .if4 .left)))

@@ -23,8 +23,7 @@ stretch-requires c κs = search needs
 returns : tie.Need-returns
 returns c =
     let after-prompt-place = c .before .before .before in
-    let c-6 = after-prompt-place .before .before .before in
-    let s = c-6 in
+    let s = after-prompt-place .before .before .before in
     let p = after-prompt-place .prompt-place in
     c .stretch .ensures
     ∙ ap (λ (f : List ℕ). stretch f (p .result .first) (p .result .records)) (c .before .supplier .ensures)

@@ -80,13 +80,14 @@ returns-6 c =
 
 returns-7 : tie.Need-returns-7
 returns-7 c =
-    let after-kind = c .before .before .before .before .before .before in
+    let after-if3 = c .before .before .before in
+    let after-if1 = after-if3 .before .before in
+    let after-kind = after-if1 .before in
     let start = after-kind .before .before .before in
     let args = start .args in
     let kind = after-kind .kind .ensures .0 in
-    sym (order-none (args .before .now) (args .r .now) (λ e. c .before .before .before .before .before .if1 .left (kind ∙ e))
-    (λ e. c .before .before .before .before .if2 .left (kind ∙ e))
-    (λ e. c .before .before .before .if3 .left (kind ∙ e)) (λ e. c .before .before .if4 .left (kind ∙ e)) (λ e. c .before .if5 .left (kind ∙ e))
+    sym (order-none (args .before .now) (args .r .now) (λ e. after-if1 .if1 .left (kind ∙ e)) (λ e. after-if3 .before .if2 .left (kind ∙ e))
+    (λ e. after-if3 .if3 .left (kind ∙ e)) (λ e. c .before .before .if4 .left (kind ∙ e)) (λ e. c .before .if5 .left (kind ∙ e))
     (λ e. c .if6 .left (kind ∙ e)))
 
 pub out-of-order-spec : {M : Type 1} → statement M

@@ -38,11 +38,12 @@ returns c =
 
 returns-2 : tie.Need-returns-2
 returns-2 c =
-    let after-leg-count = c .before .before .before .before in
+    let after-if1 = c .before .before .before in
+    let after-leg-count = after-if1 .before in
     let start = after-leg-count .before .before in
     let args = start .args in
     let legs : twoLegs (args .r .now) ≡ false = ne-eqb _ _
-    (λ e. c .before .before .before .if1 .left (after-leg-count .leg-count .ensures .0 ∙ e)) in
+    (λ e. after-if1 .if1 .left (after-leg-count .leg-count .ensures .0 ∙ e)) in
     rw legs (both (c .before .before .same-leg2 .ensures)
     (both (c .before .same-leg3 .ensures) (c .same-leg4 .ensures)) ∙ grouped (sameLeg (args .r .now) 0 1)
     (sameLeg (args .r .now) 0 2) (sameLeg (args .r .now) 1 2))

@@ -44,20 +44,30 @@ returns-3 c =
     let start = after-kind .before .before .before .before .before .before in
     none-run (start .args .file .now) (start .args .first .now) (start .args .counts .now) (start .args .k) (omega (arith, start .pre .0))
 
--- a run of record k's kind may begin
-begins : (c : tie.Else3) (n : ℕ) → c .before .before .before .before .before .kind .result ≡ n
-    → let start = c .before .before .before .before .before .before .before .before .before .before .before in
-    Begins n (start .args .file .now) (start .args .counts .now) (start .args .k) (c .before .before .before .contract .result)
-begins c n e =
-    let after-whole-at2 = c .before .before in
-    let after-contract = after-whole-at2 .before in
-    let after-kind = after-contract .before .before in
-    let after-if1 = after-kind .before .before in
-    let start = after-if1 .before .before .before .before in
-    let contract = after-contract .contract in
-    begins-read n (after-kind .kind .result) (contract .result) (start .pre .0) (start .pre .1) (after-if1 .if1 .left)
-    (after-kind .before .whole-at .ensures) (after-whole-at2 .whole-at2 .ensures) (after-kind .kind .ensures .0) (contract .ensures .0) (contract .ensures .1)
-    (sym (c .before .may-run .ensures) ∙ not-false _ (c .if3 .left)) e
+-- record k's contract and kind read: a run of its kind may begin
+module _ (c : tie.Else3) where
+  abbrev contract-read : tie.After-contract
+  contract-read =
+      let after-contract = c .before .before .before in
+      after-contract
+
+  abbrev kind-read : tie.After-kind
+  kind-read = contract-read .before .before
+
+  abbrev s : tie.Start
+  s =
+      let start = kind-read .before .before .before .before .before .before in
+      start
+
+  begins : (n : ℕ) → kind-read .kind .result ≡ n
+      → Begins n (s .args .file .now) (s .args .counts .now) (s .args .k) (contract-read .contract .result)
+  begins n e =
+      let after-whole-at2 = c .before .before in
+      let after-if1 = kind-read .before .before in
+      let contract = contract-read .contract in
+      begins-read n (kind-read .kind .result) (contract .result) (s .pre .0) (s .pre .1) (after-if1 .if1 .left)
+      (kind-read .before .whole-at .ensures) (after-whole-at2 .whole-at2 .ensures) (kind-read .kind .ensures .0) (contract .ensures .0) (contract .ensures .1)
+      (sym (c .before .may-run .ensures) ∙ not-false _ (c .if3 .left)) e
 
 prompts-from-requires : tie.Need-prompts-from-requires
 prompts-from-requires c κs = begins (c .before) 2 (c .if4 .taken)
@@ -72,16 +82,17 @@ returns-5 : tie.Need-returns-5
 returns-5 c = search needs
 
 spreads-from-requires : tie.Need-spreads-from-requires
-spreads-from-requires c κs = begins (c .before .before .before) 4 (c .if6 .taken)
+spreads-from-requires c κs =
+    let after-if3 = c .before .before .before in
+    begins after-if3 4 (c .if6 .taken)
 
 returns-6 : tie.Need-returns-6
 returns-6 c = search needs
 
 returns-7 : tie.Need-returns-7
 returns-7 c =
-    let after-may-run = c .before .before .before .before in
-    let after-kind = after-may-run .before .before .before .before in
-    let start = after-kind .before .before .before .before .before .before in
+    let after-if3 = c .before .before .before in
+    let start = s after-if3 in
     none-run (start .args .file .now) (start .args .first .now) (start .args .counts .now) (start .args .k) (omega (arith, start .pre .0))
 
 pub passes-from-spec : {M : Type 1} → statement M

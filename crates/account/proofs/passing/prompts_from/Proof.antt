@@ -27,8 +27,7 @@ prompts-to-requires c κs = search needs
 returns : tie.Need-returns
 returns c =
     let after-record-count = c .before .before .before in
-    let c-7 = after-record-count .before .before .before .before in
-    let start = c-7 in
+    let start = after-record-count .before .before .before .before in
     let args = start .args in
     let file = args .file .now in
     let end = c .before .room-to .ensures

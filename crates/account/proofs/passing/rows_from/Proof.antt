@@ -3,7 +3,7 @@ use Prim.Native.Nat.{ℕ, _+_, _-_, min}
 use mathlib.Core.Path.{subst, _∙_}
 use mathlib.Core.List.{List}
 use borrow.Author.Needs.{needs}
-use Rattle.account.specs.code.Passing.{DaysOf, rowPasses, RunTo}
+use Rattle.account.specs.code.Passing.{DaysListed, rowPasses, RunTo}
 use Rattle.account.specs.Records.{recordAt, records}
 use Rattle.account.specs.Check.{mostRows}
 use Rattle.account.proofs.Runs.{rows-run}
@@ -38,17 +38,16 @@ returns : tie.Need-returns
 returns c =
     let after-part-at = c .before .before .before in
     let after-room-to = after-part-at .before in
-    let after-record-count = after-room-to .before .before in
-    let c-10 = after-record-count .before .before .before .before in
-    let start = c-10 in
+    let after-noted = after-room-to .before in
+    let after-record-count = after-noted .before in
+    let start = after-record-count .before .before .before .before in
     let args = start .args in
     let file = args .file .now in
     let days = c .before .before .days-of in
     let end = after-room-to .room-to .ensures
-    ∙ (λ i. min (args .k + (mostRows - c .before .before .before .before .before .noted .ensures i))
-    (after-record-count .record-count .ensures i)) in
+    ∙ (λ i. min (args .k + (mostRows - after-noted .noted .ensures i)) (after-record-count .record-count .ensures i)) in
     rows-run file (args .first .now) (args .counts .now) (args .k) (args .c) (start .pre) (days .result)
-    (subst (λ (part : List ℕ). DaysOf (records part) (days .result)) (after-part-at .part-at .ensures) (days .ensures))
+    (subst (λ (part : List ℕ). DaysListed (records part) (days .result)) (after-part-at .part-at .ensures) (days .ensures))
     (subst (λ (end : ℕ). RunTo (λ j. rowPasses (args .c) (days .result) (recordAt file j)) (args .k) end (c .rows-to .result))
     end (c .rows-to .ensures))
 

@@ -3,7 +3,7 @@ use Prim.Native.Nat.{ℕ, _+_, _-_, min}
 use mathlib.Core.Path.{subst, _∙_}
 use mathlib.Core.List.{List}
 use borrow.Author.Needs.{needs}
-use Rattle.account.specs.code.Passing.{TiersOf, spreadPasses, RunTo}
+use Rattle.account.specs.code.Passing.{TiersListed, spreadPasses, RunTo}
 use Rattle.account.specs.Records.{recordAt, records}
 use Rattle.account.specs.Check.{mostSpreads}
 use Rattle.account.proofs.Runs.{spreads-run}
@@ -38,17 +38,16 @@ returns : tie.Need-returns
 returns c =
     let after-part-at = c .before .before .before in
     let after-room-to = after-part-at .before in
-    let after-record-count = after-room-to .before .before in
-    let c-10 = after-record-count .before .before .before .before in
-    let start = c-10 in
+    let after-noted = after-room-to .before in
+    let after-record-count = after-noted .before in
+    let start = after-record-count .before .before .before .before in
     let args = start .args in
     let file = args .file .now in
     let tiers = c .before .before .tiers-of in
     let end = after-room-to .room-to .ensures
-    ∙ (λ i. min (args .k + (mostSpreads - c .before .before .before .before .before .noted .ensures i))
-    (after-record-count .record-count .ensures i)) in
+    ∙ (λ i. min (args .k + (mostSpreads - after-noted .noted .ensures i)) (after-record-count .record-count .ensures i)) in
     spreads-run file (args .first .now) (args .counts .now) (args .k) (args .c) (start .pre) (tiers .result)
-    (subst (λ (part : List ℕ). TiersOf (records part) (tiers .result)) (after-part-at .part-at .ensures) (tiers .ensures))
+    (subst (λ (part : List ℕ). TiersListed (records part) (tiers .result)) (after-part-at .part-at .ensures) (tiers .ensures))
     (subst (λ (end : ℕ). RunTo (λ j. spreadPasses (args .c) (tiers .result) (recordAt file j)) (args .k) end (c .spreads-to .result))
     end (c .spreads-to .ensures))
 

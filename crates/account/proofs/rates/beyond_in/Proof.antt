@@ -9,20 +9,21 @@ use borrow.Author.Needs.{needs}
 use Rattle.exact.specs.Signed.{Sized}
 use Rattle.exact.proofs.Integers.{back, seen}
 use Rattle.exact.proofs.SignedCalls.{times-fits, times-is}
-use Rattle.account.specs.Products.{convertedAt, mostConversion}
+use Rattle.account.specs.Products.{convertedAt, mostConversion, mostPerTick}
+use Rattle.record.specs.Layout.{hundredThousand}
 use Rattle.account.proofs.rates.beyond_in.Statement.{statement}
 use Rattle.account.proofs.rates.beyond_in.Tie as tie
 
 times-requires : tie.Need-times-requires
 times-requires c κs =
-    times-fits (c .args .each) (c .args .loss) (c .args .each) (c .args .loss) 1000000000 100000 (c .fits .each) (c .fits .loss) refl refl
+    times-fits (c .args .each) (c .args .loss) (c .args .each) (c .args .loss) mostPerTick hundredThousand (c .fits .each) (c .fits .loss) refl refl
     (c .pre .0) (c .pre .1 .0) (omega arith)
 
 -- what the call of `times` left
 multiplied : (c : tie.After-times) → Sized 100000000000000 (c .before .args .each *ℤ c .before .args .loss) (c .times .result)
 multiplied c =
     let s = c .before in
-    times-is (s .args .each) (s .args .loss) (s .args .each) (s .args .loss) 1000000000 100000 (s .fits .each) (s .fits .loss) refl refl
+    times-is (s .args .each) (s .args .loss) (s .args .each) (s .args .loss) mostPerTick hundredThousand (s .fits .each) (s .fits .loss) refl refl
     (s .pre .0) (s .pre .1 .0) (c .times .result) (c .times .ensures)
 
 converted-requires : tie.Need-converted-requires

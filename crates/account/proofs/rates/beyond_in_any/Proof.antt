@@ -12,9 +12,9 @@ use denote.Ref.{now}
 use Rattle.exact.specs.Lists.{any}
 use Rattle.exact.proofs.Integers.{back}
 use Rattle.record.specs.Bytes.{countFrom}
-use Rattle.record.specs.Layout.{Record, loss, scenarioCount}
+use Rattle.record.specs.Layout.{Record, loss, scenarioCount, hundredThousand}
 use Rattle.record.specs.Within.{Between}
-use Rattle.account.specs.Products.{convertedAt, mostConversion}
+use Rattle.account.specs.Products.{convertedAt, mostConversion, mostPerTick}
 use Rattle.account.proofs.rates.beyond_in_any.Statement.{statement}
 use Rattle.account.proofs.rates.beyond_in_any.Tie as tie
 
@@ -54,13 +54,12 @@ loss-requires c κs = tt
 
 beyond-in-requires : tie.Need-beyond-in-requires Inv-loop μ-loop
 beyond-in-requires c κs =
-    let c-4 = c .before .before .before .before in
-    let s = c-4 in
+    let s = c .before .before .before .before in
     let i = c .before .before .loop in
     let in-range : Between 1 (i .s + 1) scenarioCount = record { least = omega arith; most = omega arith } in (
-      subst (λ (z : ℤ). natAbs z ≤ 1000000000) (sym (back (s .args .each) (s .fits .each))) (s .pre .0),
+      subst (λ (z : ℤ). natAbs z ≤ mostPerTick) (sym (back (s .args .each) (s .fits .each))) (s .pre .0),
       (
-        subst (λ (z : ℤ). natAbs z ≤ 100000) (sym (back (c .loss .result) (record { sfits = c .loss .ok }) ∙ c .loss .ensures))
+        subst (λ (z : ℤ). natAbs z ≤ hundredThousand) (sym (back (c .loss .result) (record { sfits = c .loss .ok }) ∙ c .loss .ensures))
             (s .pre .1 .0 .losses (i .s + 1) in-range),
         s .pre .1 .1,
       ),
@@ -75,8 +74,7 @@ loop-less c = omega arith
 loop-again : tie.Need-loop-again Inv-loop μ-loop
 loop-again c =
     let after-loop = c .before .before .before in
-    let c-5 = after-loop .before .before in
-    let s = c-5 in
+    let s = after-loop .before .before in
     let i = after-loop .loop in
     let row = s .args .row .now in
     let p = beyond (s .args .f .raised) (s .args .f .lowered) (toZ w64 (ofZ w64 (s .args .each))) row in
@@ -91,8 +89,7 @@ loop-again c =
 
 returns : tie.Need-returns Inv-loop μ-loop
 returns c =
-    let c-3 = c .before .before .before in
-    let s = c-3 in
+    let s = c .before .before .before in
     let i = c .before .loop in
     let row = s .args .row .now in
     let p : ℤ → ℕ → Bool = λ z. beyond (s .args .f .raised) (s .args .f .lowered) z row in

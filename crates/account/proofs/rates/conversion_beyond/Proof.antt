@@ -15,7 +15,7 @@ use Rattle.exact.specs.Lists.{any}
 use Rattle.exact.proofs.Integers.{back}
 use Rattle.record.specs.Bytes.{countFrom}
 use Rattle.record.specs.Layout.{Record, currency, lots, value, loss, scenarioCount}
-use Rattle.account.specs.Products.{inOwn, rateFor, raised, lowered, convertedAt, converted, mostConversion, mostFactor}
+use Rattle.account.specs.Products.{inOwn, rateFor, raised, lowered, convertedAt, converted, mostConversion, mostFactor, mostPerTick}
 use Rattle.account.specs.code.Rates.{RatesOf}
 use Rattle.account.proofs.ProductLaws.{factors-within}
 use Rattle.account.proofs.rates.conversion_beyond.Statement.{statement}
@@ -50,31 +50,33 @@ per-tick-requires c κs =
     let w = start .pre .0 in (w .lotss, w .values .most)
 
 -- the factors are those of the row's currency
-raised-is : (c : tie.After-factors-of) → (rates : List Record) → RatesOf rates (c .before .before .before .before .args .t)
-    → c .factors-of .result .raised ≡ raised (rateFor rates (currency (now (c .before .before .before .before .args .row))))
-raised-is c rates held =
-    let c-4 = c .before .before .before .before in
-    let s = c-4 in
-    c .factors-of .ensures .0
-    ∙ ap (λ (k : ℕ). getD (s .args .t .raised) k 0) (c .before .before .currency .ensures .0)
-    ∙ held .raised-are (currency (now (s .args .row))) (s .pre .0 .currencies)
+module _ (c : tie.After-factors-of) where
+  abbrev s : tie.Start
+  s =
+      let start = c .before .before .before .before in
+      start
 
-lowered-is : (c : tie.After-factors-of) → (rates : List Record) → RatesOf rates (c .before .before .before .before .args .t)
-    → c .factors-of .result .lowered ≡ lowered (rateFor rates (currency (now (c .before .before .before .before .args .row))))
-lowered-is c rates held =
-    let c-4 = c .before .before .before .before in
-    let s = c-4 in
-    c .factors-of .ensures .1
-    ∙ ap (λ (k : ℕ). getD (s .args .t .lowered) k 0) (c .before .before .currency .ensures .0)
-    ∙ held .lowered-are (currency (now (s .args .row))) (s .pre .0 .currencies)
+  abbrev row : Record
+  row = now (s .args .row)
+
+  raised-is : (rates : List Record) → RatesOf rates (s .args .t) → c .factors-of .result .raised ≡ raised (rateFor rates (currency row))
+  raised-is rates held =
+      c .factors-of .ensures .0
+      ∙ ap (λ (k : ℕ). getD (s .args .t .raised) k 0) (c .before .before .currency .ensures .0)
+      ∙ held .raised-are (currency row) (s .pre .0 .currencies)
+
+  lowered-is : (rates : List Record) → RatesOf rates (s .args .t) → c .factors-of .result .lowered ≡ lowered (rateFor rates (currency row))
+  lowered-is rates held =
+      c .factors-of .ensures .1
+      ∙ ap (λ (k : ℕ). getD (s .args .t .lowered) k 0) (c .before .before .currency .ensures .0)
+      ∙ held .lowered-are (currency row) (s .pre .0 .currencies)
 
 beyond-in-any-requires : tie.Need-beyond-in-any-requires
 beyond-in-any-requires c κs =
-    let c-5 = c .before .before .before .before .before in
-    let s = c-5 in
+    let s = c .before .before .before .before .before in
     let h = s .pre .1 in
     let w = factors-within (h .rates) (currency (now (s .args .row))) (h .within) in (
-      subst (λ (z : ℤ). natAbs z ≤ 1000000000) (sym (back (c .per-tick .result) (record { sfits = c .per-tick .ok }))) (c .per-tick .ensures .size),
+      subst (λ (z : ℤ). natAbs z ≤ mostPerTick) (sym (back (c .per-tick .result) (record { sfits = c .per-tick .ok }))) (c .per-tick .ensures .size),
       (
         s .pre .0,
         (
@@ -86,14 +88,12 @@ beyond-in-any-requires c κs =
 
 returns-2 : tie.Need-returns-2
 returns-2 c =
-    let after-currency = c .before .before .before .before in
-    let c-6 = after-currency .before .before in
-    let s = c-6 in
-    let row = now (s .args .row) in
+    let after-if1 = c .before .before .before in
     let f = c .before .before in
+    let row = now (s f .args .row) in
     let t = c .before .per-tick in
-    let is = after-currency .currency .ensures .0 in
-    let other : eqb (currency row) 0 ≡ false = ne-eqb (currency row) 0 (λ e. c .before .before .before .if1 .left (is ∙ e)) in
+    let is = after-if1 .before .currency .ensures .0 in
+    let other : eqb (currency row) 0 ≡ false = ne-eqb (currency row) 0 (λ e. after-if1 .if1 .left (is ∙ e)) in
     λ rates held.
     c .beyond-in-any .ensures
     ∙ ap (by-factors row (f .factors-of .result .raised) (f .factors-of .result .lowered)) (back (t .result) (record { sfits = t .ok }) ∙ t .ensures .is)

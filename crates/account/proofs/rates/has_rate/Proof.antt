@@ -38,8 +38,7 @@ element-copy-out-result c =
 
 returns-2 : tie.Need-returns-2
 returns-2 c =
-    let c-4 = c .before .before .before .before in
-    let s = c-4 in
+    let s = c .before .before .before .before in
     let row = now (s .args .row) in
     let is : c .before .before .currency .result ≡ currency row = c .before .before .currency .ensures .0 in
     let some : eqb (currency row) 0 ≡ false = ne-eqb (currency row) 0 (λ e. c .before .if1 .left (is ∙ e)) in

@@ -6,7 +6,7 @@ use lib.IntN.{pos}
 use denote.Ref.{now}
 use borrow.Author.Needs.{needs}
 use Rattle.exact.proofs.SignedCalls.{times-fits, times-is, sized-back}
-use Rattle.record.specs.Layout.{lots, value}
+use Rattle.record.specs.Layout.{lots, value, hundredThousand}
 use Rattle.account.proofs.rates.per_tick.Statement.{statement}
 use Rattle.account.proofs.rates.per_tick.Tie as tie
 
@@ -21,9 +21,8 @@ as-signed-requires c κs = search needs
 
 times-requires : tie.Need-times-requires
 times-requires c κs =
-    let c-4 = c .before .before .before .before in
-    let s = c-4 in
-    times-fits (c .before .before .lots .result) (c .as-signed .result) (lots (now (s .args .row))) (pos (value (now (s .args .row)))) 100000 10000
+    let s = c .before .before .before .before in
+    times-fits (c .before .before .lots .result) (c .as-signed .result) (lots (now (s .args .row))) (pos (value (now (s .args .row)))) hundredThousand 10000
     (record { sfits = c .before .before .lots .ok }) (record { sfits = c .as-signed .ok })
     (c .before .before .lots .ensures) (c .as-signed .ensures ∙ ap pos (c .before .value .ensures .0))
     (s .pre .0) (s .pre .1) (omega arith)
@@ -31,11 +30,10 @@ times-requires c κs =
 returns : tie.Need-returns
 returns c =
     let after-lots = c .before .before .before in
-    let c-5 = after-lots .before .before in
-    let s = c-5 in
+    let s = after-lots .before .before in
     sized-back (c .times .result) (record { sfits = c .times .ok })
     (times-is (after-lots .lots .result) (c .before .as-signed .result) (lots (now (s .args .row)))
-    (pos (value (now (s .args .row)))) 100000 10000
+    (pos (value (now (s .args .row)))) hundredThousand 10000
     (record { sfits = after-lots .lots .ok }) (record { sfits = c .before .as-signed .ok })
     (after-lots .lots .ensures) (c .before .as-signed .ensures ∙ ap pos (c .before .before .value .ensures .0))
     (s .pre .0) (s .pre .1) (c .times .result) (c .times .ensures))

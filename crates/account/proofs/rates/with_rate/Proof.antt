@@ -18,8 +18,7 @@ rate-currency-requires c κs = search needs
 
 returns : tie.Need-returns
 returns c =
-    let c-3 = c .before .before .before in
-    let s = c-3 in
+    let s = c .before .before .before in
     let rate = now (s .args .rate) in
     let large : mostCurrency < rateCurrency rate = omega (arith, c .before .rate-currency .ensures .0, c .if1 .taken) in
     λ rates held.
@@ -50,13 +49,12 @@ array-write-down c = search needs
 
 returns-2 : tie.Need-returns-2
 returns-2 c =
-    let c-4 = c .before .before .before .before in
-    let c-7 = c-4 .before .before .before in
-    let s = c-7 in
+    let after-if1 = c .before .before .before .before in
+    let s = after-if1 .before .before .before in
     let rate = now (s .args .rate) in
-    let k = c-4 .before .rate-currency .result in
-    let is : rateCurrency rate ≡ k = sym (c-4 .before .rate-currency .ensures .0) in
-    let small : rateCurrency rate ≤ mostCurrency = omega (arith, is, c-4 .if1 .left) in
+    let k = after-if1 .before .rate-currency .result in
+    let is : rateCurrency rate ≡ k = sym (after-if1 .before .rate-currency .ensures .0) in
+    let small : rateCurrency rate ≤ mostCurrency = omega (arith, is, after-if1 .if1 .left) in
     let up = s .args .t .raised in
     let down = s .args .t .lowered in
     λ rates held.

@@ -54,8 +54,7 @@ above-risk-requires c κs =
     let after-amount-at3 = c .before .before .before in
     let after-amount-at2 = after-amount-at3 .before in
     let after-amount-at = after-amount-at2 .before in
-    let c-6 = after-amount-at .before in
-    let s = c-6 in
+    let s = after-amount-at .before in
     let h = s .pre .0 .risk-within (s .args .i) (s .pre .1) in
     omega (
       arith,

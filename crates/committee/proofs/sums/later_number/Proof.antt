@@ -49,12 +49,12 @@ returns-8 : tie.Need-returns-8
 returns-8 c =
     let after-if4 = c .before .before .before in
     let after-if3 = after-if4 .before in
-    let c-5 = after-if3 .before in
-    let c-6 = c-5 .before in
-    let start = c-6 .before in
+    let after-if2 = after-if3 .before in
+    let after-if1 = after-if2 .before in
+    let start = after-if1 .before in
     let s = start .args in
-    let one = above 0 (s .k) zero-le (c-6 .if1 .left) in
-    let two = above 1 (s .k) one (c-5 .if2 .left) in
+    let one = above 0 (s .k) zero-le (after-if1 .if1 .left) in
+    let two = above 1 (s .k) one (after-if2 .if2 .left) in
     let three = above 2 (s .k) two (after-if3 .if3 .left) in
     let four = above 3 (s .k) three (after-if4 .if4 .left) in
     let five = above 4 (s .k) four (c .before .before .if5 .left) in

@@ -30,8 +30,7 @@ number-at-requires c κs = tt
 
 as-signed-requires : tie.Need-as-signed-requires Inv-loop μ-loop
 as-signed-requires c κs =
-    let c-3 = c .before .before .before in
-    let s = c-3 in
+    let s = c .before .before .before in
     let h = number-fits (s .args .sums) (s .pre .0) (c .before .before .loop .k) in
     omega (arith, c .number-at .ensures, h)
 

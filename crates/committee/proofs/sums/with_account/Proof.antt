@@ -24,8 +24,7 @@ one-if-requires c κs = search needs
 
 add-t17 : tie.Need-add-t17
 add-t17 c =
-    let c-9 = c .before .before .before .before .before .before .before .before .before in
-    let s = c-9 in
+    let s = c .before .before .before .before .before .before .before .before .before in
     omega (arith, s .pre .0 .accepted-most, c .before .one-if .ensures, one-at-most (eqb (s .args .account .refusal) 0))
 
 one-if-requires-2 : tie.Need-one-if-requires-2
@@ -33,27 +32,26 @@ one-if-requires-2 c κs = search needs
 
 add-t19 : tie.Need-add-t19
 add-t19 c =
-    let c-11 = c .before .before .before .before .before .before .before .before .before .before .before in
-    let s = c-11 in
+    let s = c .before .before .before .before .before .before .before .before .before .before .before in
     omega (arith, s .pre .0 .refused-most, c .before .one-if2 .ensures, one-at-most (not (eqb (s .args .account .refusal) 0)))
 
 add-t15 : tie.Need-add-t15
 add-t15 c =
-    let c-13 = c .before .before .before .before .before .before .before .before .before .before .before .before .before in
-    let s = c-13 in omega
+    let s = c .before .before .before .before .before .before .before .before .before .before .before .before .before in
+    omega
     (arith, s .pre .0 .margin-most, s .pre .1)
 
 add-t23 : tie.Need-add-t23
 add-t23 c =
-    let c-15 = c .before .before .before .before .before .before .before .before .before .before .before .before .before .before .before in
-    let s = c-15 in omega
+    let s = c .before .before .before .before .before .before .before .before .before .before .before .before .before .before .before in
+    omega
     (arith, s .pre .0 .credits-most, s .pre .2)
 
 add-t24 : tie.Need-add-t24
 add-t24 c =
-    let c-17 = c .before .before .before .before .before .before .before .before .before .before .before .before .before .before .before .before .before in
+    let start = c .before .before .before .before .before .before .before .before .before .before .before .before .before .before .before .before .before in
     let s =
-    c-17 in omega
+    start in omega
     (arith, s .pre .0 .above-most, s .pre .3)
 
 returns : tie.Need-returns

@@ -13,16 +13,14 @@ below-requires c κs = search needs
 
 returns : tie.Need-returns
 returns c =
-    let c-3 = c .before .before .before in
-    let s = c-3 in
+    let s = c .before .before .before in
     let best : SFits w64 (s .args .best .value) = record { sfits = c .before .before .struct-told .given .0 .1 } in
     let e = sym (seen₂ ltZ (s .args .value) (s .args .best .value) (s .fits .value) best (c .before .below .ensures)) ∙ c .if1 .taken in
     (rw e, rw e)
 
 returns-2 : tie.Need-returns-2
 returns-2 c =
-    let c-3 = c .before .before .before in
-    let s = c-3 in
+    let s = c .before .before .before in
     let best : SFits w64 (s .args .best .value) = record { sfits = c .before .before .struct-told .given .0 .1 } in
     let e = sym (seen₂ ltZ (s .args .value) (s .args .best .value) (s .fits .value) best (c .before .below .ensures)) ∙ c .if1 .left in
     (rw e (back (s .args .value) (s .fits .value)), rw e)

@@ -57,8 +57,7 @@ with-sign-of-requires c κs = omega (arith, sized c, c .before .before .pre .1 .
 
 returns : tie.Need-returns
 returns c =
-    let c-3 = c .before .before .before in
-    let s = c-3 in
+    let s = c .before .before .before in
     let a = s .args in
     let n = c .before .before .magnitude .result in
     back (c .with-sign-of .result) (record { sfits = c .with-sign-of .ok })

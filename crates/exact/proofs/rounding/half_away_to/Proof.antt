@@ -32,13 +32,12 @@ half-up-to-requires c κs = let s = c .before .before in (omega (arith, s .fits 
 
 with-sign-of-requires : tie.Need-with-sign-of-requires
 with-sign-of-requires c κs =
-    let c-3 = c .before .before .before in
-    let s = c-3 in omega (arith, c .half-up-to .ensures, sized (c .before), s .pre)
+    let s = c .before .before .before in
+    omega (arith, c .half-up-to .ensures, sized (c .before), s .pre)
 
 returns-2 : tie.Need-returns-2
 returns-2 c =
-    let c-4 = c .before .before .before .before in
-    let s = c-4 in
+    let s = c .before .before .before .before in
     back (c .with-sign-of .result) (record { sfits = c .with-sign-of .ok })
     ∙ seen (λ (z : ℤ). withSignOf z (c .before .half-up-to .result)) (s .args .z) (s .fits .z) (c .with-sign-of .ensures)
     ∙ ap (withSignOf (s .args .z)) (c .before .half-up-to .ensures ∙ sized (c .before .before))

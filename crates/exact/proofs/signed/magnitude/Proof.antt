@@ -44,16 +44,19 @@ minus-requires c κs =
 or-zero-requires : tie.Need-or-zero-requires
 or-zero-requires c κs = search needs
 
--- what the call of `or_zero` left
-sized : (c : tie.After-or-zero) → (c .or-zero .result + 1 ≡ natAbs (c .before .before .before .before .args .z))
-    × (natAbs (c .before .before .before .before .args .z) ≤ 2 ^ 63)
-sized c =
-    let after-is-negative = c .before .before .before in
-    let c-4 = after-is-negative .before in
-    let s = c-4 in
-    size (s .args .z) (c .before .minus .result) (c .or-zero .result) (s .fits .z) (record { sfits = c .before .minus .ok })
-    (sym (seen negative (s .args .z) (s .fits .z) (after-is-negative .is-negative .ensures)) ∙ c .before .before .if1 .taken)
-    (c .before .minus .ensures) (c .or-zero .ensures)
+-- the start, and what the call of `or_zero` left
+module _ (c : tie.After-or-zero) where
+  abbrev s : tie.Start
+  s =
+      let start = c .before .before .before .before in
+      start
+
+  sized : (c .or-zero .result + 1 ≡ natAbs (s .args .z)) × (natAbs (s .args .z) ≤ 2 ^ 63)
+  sized =
+      let after-is-negative = c .before .before .before in
+      size (s .args .z) (c .before .minus .result) (c .or-zero .result) (s .fits .z) (record { sfits = c .before .minus .ok })
+      (sym (seen negative (s .args .z) (s .fits .z) (after-is-negative .is-negative .ensures)) ∙ c .before .before .if1 .taken)
+      (c .before .minus .ensures) (c .or-zero .ensures)
 
 add-result : tie.Need-add-result
 add-result c = let h = sized c in omega arith
@@ -66,8 +69,7 @@ returns c = sized c .0
 
 returns-2 : tie.Need-returns-2
 returns-2 c =
-    let c-3 = c .before .before .before in
-    let s = c-3 in
+    let s = c .before .before .before in
     seen orZero (s .args .z) (s .fits .z) (c .or-zero2 .ensures)
     ∙ or-zero-natural (s .args .z) (sym (seen negative (s .args .z) (s .fits .z) (c .before .before .is-negative .ensures)) ∙ c .before .if1 .left)
 

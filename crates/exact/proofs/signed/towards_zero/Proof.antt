@@ -20,8 +20,7 @@ returns c =
 
 returns-2 : tie.Need-returns-2
 returns-2 c =
-    let c-3 = c .before .before .before in
-    let s = c-3 in
+    let s = c .before .before .before in
     back (s .args .z) (s .fits .z) ∙ sym (ap (towardsZero (s .args .z)) (c .if2 .taken) ∙ towards-zero-none (s .args .z))
 
 sub-with-sign-of : tie.Need-sub-with-sign-of
@@ -29,16 +28,14 @@ sub-with-sign-of c = search needs
 
 with-sign-of-requires : tie.Need-with-sign-of-requires
 with-sign-of-requires c κs =
-    let c-3 = c .before .before .before in
-    let s = c-3 in
+    let s = c .before .before .before in
     let size = seen natAbs (s .args .z) (s .fits .z) (c .before .before .magnitude .ensures) in
     omega (arith, abs-sfits (s .args .z) (s .fits .z))
 
 returns-3 : tie.Need-returns-3
 returns-3 c =
     let after-magnitude = c .before .before .before in
-    let c-4 = after-magnitude .before in
-    let s = c-4 in
+    let s = after-magnitude .before in
     let size = seen natAbs (s .args .z) (s .fits .z) (after-magnitude .magnitude .ensures) in
     back (c .with-sign-of .result) (record { sfits = c .with-sign-of .ok })
     ∙ seen (λ (x : ℤ). withSignOf x (after-magnitude .magnitude .result - s .args .amount)) (s .args .z) (s .fits .z) (c .with-sign-of .ensures)

@@ -25,8 +25,7 @@ as-signed-requires c κs = search needs
 
 minus-requires : tie.Need-minus-requires
 minus-requires c κs =
-    let c-3 = c .before .before .before in
-    let s = c-3 in
+    let s = c .before .before .before in
     rw (turned (c .as-signed .result) (s .args .m) (record { sfits = c .as-signed .ok }) (c .as-signed .ensures))
     (turned-fits (s .args .m) (s .pre))
 
@@ -36,8 +35,7 @@ as-signed-requires-2 c κs = search needs
 returns : tie.Need-returns
 returns c =
     let after-is-negative = c .before .before .before in
-    let c-4 = after-is-negative .before in
-    let s = c-4 in
+    let s = after-is-negative .before in
     back (c .minus .result) (record { sfits = c .minus .ok })
     ∙ c .minus .ensures
     ∙ turned (c .before .as-signed .result) (s .args .m) (record { sfits = c .before .as-signed .ok }) (c .before .as-signed .ensures)
@@ -46,8 +44,7 @@ returns c =
 
 returns-2 : tie.Need-returns-2
 returns-2 c =
-    let c-3 = c .before .before .before in
-    let s = c-3 in
+    let s = c .before .before .before in
     back (c .as-signed2 .result) (record { sfits = c .as-signed2 .ok })
     ∙ c .as-signed2 .ensures
     ∙ sym (sign-natural (s .args .z) (s .args .m) (sym (seen negative (s .args .z) (s .fits .z) (c .before .before .is-negative .ensures))

@@ -75,29 +75,27 @@ credited :
     (u .unit-price-risk .result .whole * s .used / (200 * s .unit) * s .percent + c .half-up .result) * s .unit ≡ credit (s .unit) (s .twice-risk)
     (s .used) (s .percent) (s .net)
 credited c =
-    let c-3 = c .before .before .before in
-    let u = c-3 in
+    let u = c .before .before .before in
     let s = u .before .args in
     ap (λ (x : ℕ). (u .unit-price-risk .result .whole * s .used / (200 * s .unit) * s .percent + x) * s .unit) (c .half-up .ensures) ∙ parts u .is
 
 add-units : tie.Need-add-units
 add-units c =
-    let c-3 = c .before .before .before in
-    let u = c-3 in
+    let u = c .before .before .before in
     let s = u .before .args in
     let units = u .unit-price-risk .result .whole * s .used / (200 * s .unit) * s .percent + c .half-up .result in
     omega (arith, credited c, parts u .within, le-mul-of-pos-right units (u .before .pre .4 .least))
 
 mul-t12 : tie.Need-mul-t12
 mul-t12 c =
-    let c-3 = c .before .before .before in
-    omega (arith, credited c, parts (c-3) .within)
+    let after-unit-price-risk = c .before .before .before in
+    omega (arith, credited c, parts after-unit-price-risk .within)
 
 returns : tie.Need-returns
 returns c =
-    let c-3 = c .before .before .before in
+    let after-unit-price-risk = c .before .before .before in
     let e = credited c in
-    let h = parts (c-3) .within in
+    let h = parts after-unit-price-risk .within in
     (e, omega (arith, e, h))
 
 pub credit-spec : {M : Type 1} → statement M

@@ -19,10 +19,14 @@ magnitude-requires c κs = search needs
 used-size : (c : tie.After-magnitude) → c .magnitude .result ≡ natAbs (c .before .before .args .used .0)
 used-size c = let s = c .before .before in seen natAbs (s .args .used .0) (sfits-abs (s .args .used .0) (omega (arith, s .pre .0))) (c .magnitude .ensures)
 
-unused-size : (c : tie.After-magnitude2) → c .magnitude2 .result ≡ natAbs (c .before .before .before .before .args .unused .0)
+abbrev start-of : tie.After-magnitude2 → tie.Start
+start-of c =
+    let start = c .before .before .before .before in
+    start
+
+unused-size : (c : tie.After-magnitude2) → c .magnitude2 .result ≡ natAbs (start-of c .args .unused .0)
 unused-size c =
-    let c-4 = c .before .before .before .before in
-    let s = c-4 in
+    let s = start-of c in
     seen natAbs (s .args .unused .0) (sfits-abs (s .args .unused .0) (omega (arith, s .pre .1))) (c .magnitude2 .ensures)
 
 first-product : (c : tie.After-magnitude) → c .magnitude .result * c .before .before .args .spread-rate ≤ 1280000000000000000
@@ -31,10 +35,9 @@ first-product c =
     let e = used-size c in
     delta-rate (c .magnitude .result) (s .args .spread-rate) (omega (arith, s .pre .0)) (s .pre .2)
 
-second-product : (c : tie.After-magnitude2) → c .magnitude2 .result * c .before .before .before .before .args .outright-rate ≤ 1280000000000000000
+second-product : (c : tie.After-magnitude2) → c .magnitude2 .result * start-of c .args .outright-rate ≤ 1280000000000000000
 second-product c =
-    let c-4 = c .before .before .before .before in
-    let s = c-4 in
+    let s = start-of c in
     let e = unused-size c in
     delta-rate (c .magnitude2 .result) (s .args .outright-rate) (omega (arith, s .pre .1)) (s .pre .3)
 
@@ -52,8 +55,7 @@ add-half-up-to c = let p = first-product (c .before .before) in let q = second-p
 
 half-up-to-requires : tie.Need-half-up-to-requires
 half-up-to-requires c κs =
-    let c-4 = c .before .before .before .before in
-    let s = c-4 in
+    let s = start-of c in
     let p = first-product (c .before .before) in
     let q = second-product c in (
       omega (arith, s .pre .4),
@@ -66,13 +68,13 @@ half-up-to-requires c κs =
 
 returns : tie.Need-returns
 returns c =
-    let c-3 = c .before .before .before in
-    let s = c-3 .before .before in
-    let p = first-product (c-3) in
+    let after-magnitude = c .before .before .before in
+    let s = after-magnitude .before .before in
+    let p = first-product after-magnitude in
     let q = second-product (c .before) in
-    let u = used-size (c-3) in
+    let u = used-size after-magnitude in
     let n = unused-size (c .before) in
-    let first : c .before .before .before .magnitude .result * s .args .spread-rate ≡ natAbs (s .args .used .0) * s .args .spread-rate =
+    let first : after-magnitude .magnitude .result * s .args .spread-rate ≡ natAbs (s .args .used .0) * s .args .spread-rate =
     ap (λ (x : ℕ). x * s .args .spread-rate) u
     in
     let second : c .before .magnitude2 .result * s .args .outright-rate ≡ natAbs (s .args .unused .0) * s .args .outright-rate =

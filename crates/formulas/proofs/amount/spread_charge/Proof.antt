@@ -26,8 +26,7 @@ half-up-to-requires c κs =
 
 returns : tie.Need-returns
 returns c =
-    let c-3 = c .before .before .before in
-    let s = c-3 in
+    let s = c .before .before .before in
     let p = spreads-rate (s .args .first .0) (s .args .second .0) (s .args .rate) (s .pre .0) (s .pre .1) (s .pre .2) in
     (c .half-up-to .ensures, subst⁻¹ (λ (x : ℕ). x ≤ mostCharge) (c .half-up-to .ensures) (charged-within (s .args .unit) _ (s .pre .3) p))
 

@@ -18,8 +18,7 @@ prompt-charge-requires c κs = search needs
 
 returns : tie.Need-returns
 returns c =
-    let c-4 = c .before .before .before .before in
-    let s = c-4 in (
+    let s = c .before .before .before .before in (
       c .prompt-charge .ensures .0
           ∙ ap₂ (λ (r q : ℕ). promptCharge (s .args .unit) r q (s .args .used .0) (s .args .unused .0)) (c .before .before .spread-rate .ensures .0)
           (c .before .outright-rate .ensures .0),

@@ -15,8 +15,7 @@ spread-charge-requires c κs = search needs
 
 returns : tie.Need-returns
 returns c =
-    let c-3 = c .before .before .before in
-    let s = c-3 in (
+    let s = c .before .before .before in (
       c .spread-charge .ensures .0 ∙ ap (λ (r : ℕ). spreadCharge (s .args .unit) r (s .args .first .0) (s .args .second .0))
           (c .before .rate-per-spread .ensures .0),
       c .spread-charge .ensures .1,

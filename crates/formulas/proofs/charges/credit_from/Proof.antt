@@ -14,8 +14,7 @@ entry-use-requires c κs = search needs
 
 returns : tie.Need-returns
 returns c =
-    let c-3 = c .before .before .before in
-    let s = c-3 in (
+    let s = c .before .before .before in (
       nothing-used (s .args .earner .unit) (s .args .earner .«twice_price») _ _ (s .args .earner .net)
           (sym (c .before .entry-use .ensures) ∙ c .if1 .taken),
       omega arith,
@@ -30,8 +29,7 @@ credit-requires c κs = search needs
 returns-2 : tie.Need-returns-2
 returns-2 c =
     let after-entry-use = c .before .before .before in
-    let c-5 = after-entry-use .before .before in
-    let s = c-5 in (
+    let s = after-entry-use .before .before in (
       c .credit .ensures .0
           ∙ ap₂ (λ (u p : ℕ). credit (s .args .earner .unit) (s .args .earner .«twice_price») u p (s .args .earner .net))
           (after-entry-use .entry-use .ensures) (c .before .percent .ensures .0),

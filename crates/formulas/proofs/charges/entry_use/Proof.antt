@@ -20,13 +20,12 @@ both-take-requires c κs = search needs
 
 returns : tie.Need-returns
 returns c =
-    let c-3 = c .before .before .before in
-    let c-6 = c-3 .before .before .before in
-    let s = c-6 in
-    let number = c-3 .before .contract in
+    let after-if1 = c .before .before .before in
+    let s = after-if1 .before .before .before in
+    let number = after-if1 .before .contract in
     c .both-take .ensures
     ∙ use-first (s .args .c) (s .args .e .now) (s .args .first .0) (s .args .second .0) (number .result) (number .ensures .0)
-    _ _ (c-3 .if1 .taken) (c .before .before .tenths .ensures) (c .before .first-ratio .ensures .0)
+    _ _ (after-if1 .if1 .taken) (c .before .before .tenths .ensures) (c .before .first-ratio .ensures .0)
 
 second-contract-requires : tie.Need-second-contract-requires
 second-contract-requires c κs = search needs
@@ -42,22 +41,20 @@ both-take-requires-2 c κs = search needs
 
 returns-2 : tie.Need-returns-2
 returns-2 c =
-    let c-3 = c .before .before .before in
-    let after-contract = c-3 .before .before .before in
-    let c-8 = after-contract .before .before in
-    let s = c-8 in
+    let after-if2 = c .before .before .before in
+    let after-contract = after-if2 .before .before .before in
+    let s = after-contract .before .before in
     let number = after-contract .contract in
-    let second = c-3 .before .second-contract in
+    let second = after-if2 .before .second-contract in
     c .both-take2 .ensures
     ∙ use-second (s .args .c) (s .args .e .now) (s .args .first .0) (s .args .second .0) (number .result) (number .ensures .0)
-    (second .result) _ _ (second .ensures .0) (c-3 .before .before .if1 .left) (c-3 .if2 .taken)
+    (second .result) _ _ (second .ensures .0) (after-if2 .before .before .if1 .left) (after-if2 .if2 .taken)
     (c .before .before .tenths2 .ensures) (c .before .second-ratio .ensures .0)
 
 returns-3 : tie.Need-returns-3
 returns-3 c =
     let after-contract = c .before .before .before in
-    let c-5 = after-contract .before .before in
-    let s = c-5 in
+    let s = after-contract .before .before in
     let number = after-contract .contract in
     let second = c .before .second-contract in
     use-none (s .args .c) (s .args .e .now) (s .args .first .0) (s .args .second .0) (number .result) (number .ensures .0)

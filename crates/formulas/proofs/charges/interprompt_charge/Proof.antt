@@ -54,8 +54,8 @@ mul-t17 c = omega arith
 
 element-copy-out-t20 : tie.Need-element-copy-out-t20 Inv-loop μ-loop
 element-copy-out-t20 c =
-    let c-4 = c .before .before .before .before in
-    let s = c-4 in omega
+    let s = c .before .before .before .before in
+    omega
     (arith, s .pre .most, length-cut (recordCount (s .args .spreads .now)) (s .args .spreads .now))
 
 mul-t22 : tie.Need-mul-t22 Inv-loop μ-loop
@@ -63,15 +63,14 @@ mul-t22 c = omega arith
 
 element-copy-out-t25 : tie.Need-element-copy-out-t25 Inv-loop μ-loop
 element-copy-out-t25 c =
-    let c-5 = c .before .before .before .before .before in
-    let s = c-5 in omega
+    let s = c .before .before .before .before .before in
+    omega
     (arith, s .pre .most, length-cut (recordCount (s .args .spreads .now)) (s .args .spreads .now))
 
 charge-of-spread-requires : tie.Need-charge-of-spread-requires Inv-loop μ-loop
 charge-of-spread-requires c κs =
     let after-loop = c .before .before .before .before in
-    let c-6 = after-loop .before .before in
-    let s = c-6 in
+    let s = after-loop .before .before in
     let l = after-loop .loop in
     subst⁻¹ (λ (r : Record). SpreadRoom (s .args .unit) r (getD (s .args .first .now) (l .i) 0) (getD (s .args .second .now) (l .i) 0))
     (lent-at (s .args .spreads .now) (l .i) (omega arith))
@@ -81,8 +80,7 @@ charge-of-spread-requires c κs =
 add-sum : tie.Need-add-sum Inv-loop μ-loop
 add-sum c =
     let after-loop = c .before .before .before .before .before .before in
-    let c-8 = after-loop .before .before in
-    let s = c-8 in
+    let s = after-loop .before .before in
     let t = after-loop .loop .inv .small in
     let h = s .pre .most in
     let k = length-cut (recordCount (s .args .spreads .now)) (s .args .spreads .now) in
@@ -116,8 +114,7 @@ loop-again c =
 
 returns : tie.Need-returns Inv-loop μ-loop
 returns c =
-    let c-3 = c .before .before .before in
-    let s = c-3 in
+    let s = c .before .before .before in
     let l = c .before .loop in
     let f = s .args .spreads .now in
     let n = length-cut (recordCount f) f in

@@ -58,8 +58,8 @@ mul-t17 c = omega arith
 
 element-copy-out-t20 : tie.Need-element-copy-out-t20 Inv-loop μ-loop
 element-copy-out-t20 c =
-    let c-4 = c .before .before .before .before in
-    let s = c-4 in omega
+    let s = c .before .before .before .before in
+    omega
     (arith, s .pre .most, length-cut (recordCount (s .args .prompts .now)) (s .args .prompts .now))
 
 mul-t22 : tie.Need-mul-t22 Inv-loop μ-loop
@@ -67,15 +67,14 @@ mul-t22 c = omega arith
 
 element-copy-out-t25 : tie.Need-element-copy-out-t25 Inv-loop μ-loop
 element-copy-out-t25 c =
-    let c-5 = c .before .before .before .before .before in
-    let s = c-5 in omega
+    let s = c .before .before .before .before .before in
+    omega
     (arith, s .pre .most, length-cut (recordCount (s .args .prompts .now)) (s .args .prompts .now))
 
 charge-of-prompt-requires : tie.Need-charge-of-prompt-requires Inv-loop μ-loop
 charge-of-prompt-requires c κs =
     let after-loop = c .before .before .before .before in
-    let c-6 = after-loop .before .before in
-    let s = c-6 in
+    let s = after-loop .before .before in
     let l = after-loop .loop in
     subst⁻¹ (λ (r : Record). PromptRoom (s .args .unit) r (handed (getD (s .args .used .now) (l .i) (pos 0)))
     (handed (getD (s .args .unused .now) (l .i) (pos 0)))) (lent-at (s .args .prompts .now) (l .i) (omega arith))
@@ -84,8 +83,7 @@ charge-of-prompt-requires c κs =
 add-sum : tie.Need-add-sum Inv-loop μ-loop
 add-sum c =
     let after-loop = c .before .before .before .before .before .before in
-    let c-8 = after-loop .before .before in
-    let s = c-8 in
+    let s = after-loop .before .before in
     let t = after-loop .loop .inv .small in
     let h = s .pre .most in
     let k = length-cut (recordCount (s .args .prompts .now)) (s .args .prompts .now) in
@@ -120,8 +118,7 @@ loop-again c =
 
 returns : tie.Need-returns Inv-loop μ-loop
 returns c =
-    let c-3 = c .before .before .before in
-    let s = c-3 in
+    let s = c .before .before .before in
     let l = c .before .loop in
     let f = s .args .prompts .now in
     let n = length-cut (recordCount f) f in

@@ -17,8 +17,7 @@ half-up-requires c κs = search needs
 
 returns : tie.Need-returns
 returns c =
-    let c-3 = c .before .before .before in
-    let s = c-3 in (
+    let s = c .before .before .before in (
       rw (c .before .if1 .taken) (c .half-up .ensures),
       rounded-small _ _ _ (step-product (s .args .number .0) (s .args .ratio) (s .pre .1) (s .pre .0)) (c .half-up .ensures),
     )

@@ -27,7 +27,9 @@ array-copy-out-line : tie.Need-array-copy-out-line Inv-loop μ-loop
 array-copy-out-line c = omega (arith, c .before .before .pre .few)
 
 -- a line's number is one of the places
-number-below : (c : tie.After-line Inv-loop μ-loop) → getD (c .before .before .before .args .t2) (c .before .before .loop .i) noLine .contract < mostContracts
+number-below : (c : tie.After-line Inv-loop μ-loop) →
+    let after-loop = c .before .before in
+    getD (after-loop .before .args .t2) (after-loop .loop .i) noLine .contract < mostContracts
 number-below c =
     let after-loop = c .before .before in
     omega (arith, after-loop .before .pre .numbers (after-loop .loop .i) (c .before .loop-test .taken))
@@ -39,13 +41,19 @@ element-copy-out-t17 : tie.Need-element-copy-out-t17 Inv-loop μ-loop
 element-copy-out-t17 c = number-below c
 
 mul-credits : tie.Need-mul-credits Inv-loop μ-loop
-mul-credits c = omega (arith, c .before .before .before .before .pre .few)
+mul-credits c =
+    let start = c .before .before .before .before in
+    omega (arith, start .pre .few)
 
 array-set-from-credits : tie.Need-array-set-from-credits Inv-loop μ-loop
-array-set-from-credits c = omega (arith, c .before .before .before .before .pre .few)
+array-set-from-credits c =
+    let start = c .before .before .before .before in
+    omega (arith, start .pre .few)
 
 add-i : tie.Need-add-i Inv-loop μ-loop
-add-i c = omega (arith, c .before .before .before .before .pre .few)
+add-i c =
+    let start = c .before .before .before .before in
+    omega (arith, start .pre .few)
 
 loop-less : tie.Need-loop-less Inv-loop μ-loop
 loop-less c = omega arith

@@ -39,7 +39,9 @@ cast-tiers c =
     omega (arith, s .pre .0 .1 (after-loop .loop .i) (c .before .before .loop-test .taken) .contract-within)
 
 element-write-tiers : tie.Need-element-write-tiers Inv-loop μ-loop
-element-write-tiers c = omega (arith, c .before .before .before .before .pre .0 .0, c .before .before .loop-test .taken)
+element-write-tiers c =
+    let after-test = c .before .before in
+    omega (arith, after-test .before .before .pre .0 .0, after-test .loop-test .taken)
 
 mul-number : tie.Need-mul-number Inv-loop μ-loop
 mul-number c =

@@ -56,7 +56,9 @@ element-write-nets : tie.Need-element-write-nets Inv-loop μ-loop
 element-write-nets c = number-below c
 
 add-i : tie.Need-add-i Inv-loop μ-loop
-add-i c = omega (arith, c .before .before .before .before .pre .0 .few)
+add-i c =
+    let start = c .before .before .before .before in
+    omega (arith, start .pre .0 .few)
 
 loop-less : tie.Need-loop-less Inv-loop μ-loop
 loop-less c = omega arith

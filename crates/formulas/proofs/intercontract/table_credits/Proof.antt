@@ -48,15 +48,23 @@ put-book-requires c κs =
       ((refl, refl), (refl, refl)),
     )
 
+abbrev start-of : tie.After-put-book → tie.Start
+start-of c =
+    let after-table = c .before .before .before .before .before in
+    let after-put = after-table .before .before .before in
+    let start = after-put .before .before .before .before .before in
+    start
+
 -- the book that is put is the table's
-book : (c : tie.After-put-book) → let s = c .before .before .before .before .before .before .before .before .before .before .before .before .before in
+book : (c : tie.After-put-book) →
+    let s = start-of c in
     let ends = c .put-book .last .1 .1 .1 .1 in
     BookOf (steps (map intercontract (records (s .args .entries .now)))) (map tierOf (take (s .args .count) (s .args .lines)))
     (bookIn (ends .0) (ends .1 .0) (ends .1 .1 .0) (ends .1 .1 .1 .0))
 book c =
     let after-table = c .before .before .before .before .before in
     let after-put = after-table .before .before .before in
-    let s = after-put .before .before .before .before .before in
+    let s = start-of c in
     let tiers = after-put .put-contract-tiers in
     let table = after-table .intercontract-table in
     let ends = c .put-book .last .1 .1 .1 .1 in
@@ -67,7 +75,7 @@ book c =
 credits-of-requires : tie.Need-credits-of-requires
 credits-of-requires c κs =
     let after-book = c .before .before in
-    let s = after-book .before .before .before .before .before .before .before .before .before .before .before .before .before in
+    let s = start-of after-book in
     let is = book after-book in
     let ends = after-book .put-book .last .1 .1 .1 .1 in (
       (
@@ -84,7 +92,7 @@ credits-of-requires c κs =
 returns-2 : tie.Need-returns-2
 returns-2 c =
     let after-book = c .before .before .before in
-    let s = after-book .before .before .before .before .before .before .before .before .before .before .before .before .before in
+    let s = start-of after-book in
     let is = book after-book in
     subst₂ (λ (f g : List Spreads). CreditsOf (s .args .count) (s .args .lines) (records (s .args .entries .now)) f g (c .credits-of .result))
     (is .first-is) (is .second-is) (c .credits-of .ensures)

@@ -13,7 +13,7 @@ use Rattle.spread.specs.Accepted.{promptPlaces}
 use Rattle.spread.specs.Steps.{steps}
 use Rattle.spread.specs.code.Lent.{bookIn, deltasFrom, spreadsFrom}
 use Rattle.formulas.specs.Bounds.{mostDelta}
-use Rattle.formulas.specs.Deltas.{opens, interprompt}
+use Rattle.formulas.specs.Deltas.{opensWith, interprompt}
 use Rattle.formulas.specs.code.Position.{positionIn}
 use Rattle.formulas.specs.code.Promised.{BookOf, Charged}
 use Rattle.formulas.specs.code.Sums.{deltasIn, SpreadsWithin, PromptsWithin}
@@ -24,8 +24,7 @@ use Rattle.formulas.proofs.line.line_in.Tie as tie
 
 scanned-requires : tie.Need-scanned-requires
 scanned-requires c κs =
-    let c-4 = c .before .before .before .before in
-    let s = c-4 in
+    let s = c .before .before .before .before in
     let w = s .pre .0 in
     totals-room (w .rates) (s .args .own .now) (records (s .args .prompts .now)) (w .rows) (records (s .args .spreads .now)) (w .fit) _ (w .is) (w .most)
 
@@ -35,17 +34,16 @@ unit-requires c κs = search needs
 -- the book, over the net deltas of the position
 book-is : (c : tie.Start) →
     let a = c .args in
-    BookOf (steps (map interprompt (records (a .spreads .now)))) (opens (records (a .prompts .now)) (deltasIn (deltasFrom (a .nets .now))))
+    BookOf (steps (map interprompt (records (a .spreads .now)))) (opensWith (records (a .prompts .now)) (deltasIn (deltasFrom (a .nets .now))))
     (bookIn (a .first .now) (a .second .now) (a .used .now) (a .unused .now))
 book-is c =
     let a = c .args in
-    subst⁻¹ (λ (zs : List ℤ). BookOf (steps (map interprompt (records (a .spreads .now)))) (opens (records (a .prompts .now)) zs)
+    subst⁻¹ (λ (zs : List ℤ). BookOf (steps (map interprompt (records (a .spreads .now)))) (opensWith (records (a .prompts .now)) zs)
     (bookIn (a .first .now) (a .second .now) (a .used .now) (a .unused .now))) (deltas-again (a .nets .now)) (c .pre .1)
 
 charges-of-requires : tie.Need-charges-of-requires
 charges-of-requires c κs =
-    let c-6 = c .before .before .before .before .before .before in
-    let s = c-6 in
+    let s = c .before .before .before .before .before .before in
     let w = s .pre .0 in
     let u = c .unit in
     let is = book-is s in
@@ -71,8 +69,7 @@ short-option-minimum-requires c κs =
 
 net-in-requires : tie.Need-net-in-requires
 net-in-requires c κs =
-    let c-9 = c .before .before .before .before .before .before .before .before .before in
-    let s = c-9 in
+    let s = c .before .before .before .before .before .before .before .before .before in
     let w = s .pre .0 in
     subst (λ (zs : List ℤ). (length zs ≡ promptPlaces) × (sum (map natAbs zs) ≤ mostDelta)) (deltas-again (s .args .nets .now)) (
       w .most .nets-most .as-many,
@@ -90,8 +87,7 @@ returns c =
     let after-charges-of = after-short-option-rate .before in
     let after-unit = after-charges-of .before in
     let after-scanned = after-unit .before in
-    let c-14 = after-scanned .before .before .before .before .before in
-    let s = c-14 in
+    let s = after-scanned .before .before .before .before .before in
     let w = s .pre .0 in
     let own = s .args .own .now in
     let prompts = records (s .args .prompts .now) in

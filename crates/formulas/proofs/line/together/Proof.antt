@@ -15,8 +15,7 @@ plus-requires c κs =
 
 returns : tie.Need-returns
 returns c =
-    let c-3 = c .before .before .before in
-    let s = c-3 in
+    let s = c .before .before .before in
     op-is _+ℤ_ (s .args .a .0) (s .args .b .0) (s .args .a .0) (s .args .b .0) (c .before .before .struct-told .given .0 .1)
     (c .before .struct-told2 .given .0 .1) refl refl
     (c .plus .result) (c .plus .ok) (c .plus .ensures)

@@ -35,8 +35,7 @@ plus-requires c κs =
 
 returns : tie.Need-returns
 returns c =
-    let c-3 = c .before .before .before in
-    let s = c-3 in
+    let s = c .before .before .before in
     let e = op-is _+ℤ_ (c .before .before .total-of .result) (c .before .total-of2 .result) (totalOf (s .args .totals) (s .args .one))
     (totalOf (s .args .totals) (s .args .other))
     (c .before .before .total-of .ok) (c .before .total-of2 .ok) (c .before .before .total-of .ensures) (c .before .total-of2 .ensures)

@@ -26,8 +26,7 @@ twice-price-risk-requires c κs = search needs
 returns : tie.Need-returns
 returns c =
     let after-largest = c .before .before .before in
-    let c-4 = after-largest .before in
-    let s = c-4 in
+    let s = after-largest .before in
     let l = after-largest .largest in
     let r : c .before .or-zero .result ≡ scanningRisk (s .args .totals) =
     seen orZero (l .result .value) (record { sfits = c .before .before .struct-told .given .0 .1 }) (c .before .or-zero .ensures)

@@ -36,11 +36,15 @@ unfolding paired
 paired-is c = let s = c .before .before in c .both .ensures .0
     ∙ ap (λ (p : ℕ). totalOf (s .args .totals) (s .args .active) +ℤ totalOf (s .args .totals) p) (c .before .pair-of .ensures)
 
-within : (c : tie.After-both2) → natAbs (paired (c .before .before .before) -ℤ still (c .before .before .before)) ≤ 4 * mostRisk
+abbrev start-of : tie.After-both2 → tie.Start
+start-of c =
+    let start = c .before .before .before in
+    start
+
+within : (c : tie.After-both2) → natAbs (paired (start-of c) -ℤ still (start-of c)) ≤ 4 * mostRisk
 unfolding still
 within c =
-    let c-3 = c .before .before .before in
-    let s = c-3 in
+    let s = start-of c in
     let a : natAbs (paired s) ≤ 2 * mostRisk = subst (λ (z : ℤ). natAbs z ≤ 2 * mostRisk) (paired-is (c .before)) (c .before .both .ensures .1) in
     let b : natAbs (still s) ≤ 2 * mostRisk = subst (λ (z : ℤ). natAbs z ≤ 2 * mostRisk) (c .both2 .ensures .0) (c .both2 .ensures .1) in
     let h = abs-sub (paired s) (still s) in
@@ -49,8 +53,7 @@ within c =
 minus-requires : tie.Need-minus-requires
 unfolding still
 minus-requires c κs =
-    let c-3 = c .before .before .before in
-    let s = c-3 in
+    let s = start-of c in
     let h = within c in
     op-fits _-ℤ_ (c .before .both .result) (c .both2 .result) (paired s) (still s) (c .before .both .ok) (c .both2 .ok) (paired-is (c .before))
     (c .both2 .ensures .0) (omega arith)
@@ -61,9 +64,8 @@ or-zero-requires c κs = search needs
 returns : tie.Need-returns
 unfolding still paired
 returns c =
-    let c-5 = c .before .before .before .before .before in
-    let s = c-5 in
     let b = c .before .before in
+    let s = start-of b in
     let e = op-is _-ℤ_ (b .before .both .result) (b .both2 .result) (paired s) (still s) (b .before .both .ok) (b .both2 .ok) (paired-is (b .before))
     (b .both2 .ensures .0)
     (c .before .minus .result) (c .before .minus .ok) (c .before .minus .ensures)

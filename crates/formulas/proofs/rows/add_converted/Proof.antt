@@ -42,22 +42,24 @@ loss-requires c κs = search needs
 
 -- what the row loses for each tick, and in the scenario
 tick-is : (c : tie.After-loss Inv-loop μ-loop) →
-    let row = now (c .before .before .before .before .before .args .row) in
-    toZ w64 (ofZ w64 (c .before .before .before .per-tick .result)) ≡ lots row *ℤ pos (value row)
+    let after-per-tick = c .before .before .before in
+    let row = now (after-per-tick .before .before .args .row) in
+    toZ w64 (ofZ w64 (after-per-tick .per-tick .result)) ≡ lots row *ℤ pos (value row)
 tick-is c =
     let after-per-tick = c .before .before .before in
-    let tick = after-per-tick .per-tick in back (tick .result) (record { sfits = tick .ok }) ∙ tick .ensures .is
+    let tick = after-per-tick .per-tick in
+    back (tick .result) (record { sfits = tick .ok }) ∙ tick .ensures .is
 
 loss-is : (c : tie.After-loss Inv-loop μ-loop) →
-    let row = now (c .before .before .before .before .before .args .row) in
+    let after-per-tick = c .before .before .before in
+    let row = now (after-per-tick .before .before .args .row) in
     toZ w64 (ofZ w64 (c .loss .result)) ≡ loss row (c .before .before .loop .s + 1)
 loss-is c = back (c .loss .result) (record { sfits = c .loss .ok }) ∙ c .loss .ensures
 
 converted-product-requires : tie.Need-converted-product-requires Inv-loop μ-loop
 converted-product-requires c κs =
     let after-per-tick = c .before .before .before in
-    let c-5 = after-per-tick .before .before in
-    let s = c-5 in
+    let s = after-per-tick .before .before in
     let tick = after-per-tick .per-tick in (
       omega (arith, ap natAbs (back (tick .result) (record { sfits = tick .ok })), tick .ensures .size),
       (
@@ -78,13 +80,14 @@ converted-product-requires c κs =
 
 -- what the call of `converted_product` left
 multiplied : (c : tie.After-converted-product Inv-loop μ-loop) →
-    let s = c .before .before .before .before .before .before in
+    let after-loop = c .before .before .before in
+    let s = after-loop .before .before .before in
     Sized mostProduct
-    (convertedProducts (s .args .f .raised) (s .args .f .lowered) (s .args .unit) (now (s .args .row)) (c .before .before .before .loop .s))
+    (convertedProducts (s .args .f .raised) (s .args .f .lowered) (s .args .unit) (now (s .args .row)) (after-loop .loop .s))
     (c .converted-product .result)
 multiplied c =
-    let c-6 = c .before .before .before .before .before .before in
-    let s = c-6 in
+    let after-loop = c .before .before .before in
+    let s = after-loop .before .before .before in
     let e = c .converted-product .ensures in
     record {
       is = e .is ∙ ap₂ (λ (x y : ℤ). halfAwayTo (convertedAt (s .args .f .raised) (s .args .f .lowered) (x *ℤ y)) (s .args .unit))
@@ -129,9 +132,8 @@ loop-less c = omega arith
 loop-again : tie.Need-loop-again Inv-loop μ-loop
 loop-again c =
     let after-loop = c .before .before .before .before .before in
-    let c-8 = after-loop .before .before .before in
     let i = after-loop .loop in
-    let s = c-8 in
+    let s = after-loop .before .before .before in
     let ts = now (s .args .totals) in
     let here : natAbs (getD ts (i .s) (pos 0)) ≤ (mostRows - 1) * mostProduct = s .pre .1 .1 .1 .size (i .s) (omega arith) in
     let by = multiplied (c .before .before) in
@@ -148,9 +150,8 @@ loop-again c =
 
 returns : tie.Need-returns Inv-loop μ-loop
 returns c =
-    let c-4 = c .before .before .before .before in
     let i = c .before .loop in
-    let s = c-4 in
+    let s = c .before .before .before .before in
     subst (λ (n : ℕ). Added n (convertedProducts (s .args .f .raised) (s .args .f .lowered) (s .args .unit) (now (s .args .row)))
     (now (s .args .totals)) (i .totals)) (omega arith) (i .inv .1)
 

@@ -45,20 +45,25 @@ loop-holds c =
     let s = c .before .before .before .before .before .before in
     (omega arith, nothing-added (s .args .days .count) (λ j. netOn [] (getD (s .args .days .day) j 0)) (now (s .args .nets)) (λ j. refl))
 
+abbrev start-of : tie.In-loop Inv-loop μ-loop → tie.Start Inv-loop μ-loop
+start-of c =
+    let after-rise = c .before .before .before .before in
+    let start = after-rise .before .before .before .before in
+    start
+
 -- at the head of a turn: the row is within its ranges, and there is room for it
-row-within : (c : tie.In-loop Inv-loop μ-loop)
-    → RowFit
-    (take (c .before .loop .i * recordBytes + recordBytes - c .before .loop .i * recordBytes)
-    (drop (c .before .loop .i * recordBytes) (now (c .before .before .before .before .before .before .before .before .args .rows))))
+row-within : (c : tie.In-loop Inv-loop μ-loop) →
+    let i = c .before .loop .i in
+    RowFit (take (i * recordBytes + recordBytes - i * recordBytes) (drop (i * recordBytes) (now (start-of c .args .rows))))
 row-within c =
-    let s = c .before .before .before .before .before .before .before .before in
+    let s = start-of c in
     let file = now (s .args .rows) in
     let more : c .before .loop .i < length file / recordBytes = c .loop-test .taken in
     subst (λ (row : Record). RowFit row) (record-at file (c .before .loop .i) more) (s .pre .1 .0 .each (c .before .loop .i) (omega (arith, count-is file)))
 
 has-room : (c : tie.In-loop Inv-loop μ-loop) → AtMost promptPlaces mostDelta (c .before .loop .nets)
 has-room c =
-    let s = c .before .before .before .before .before .before .before .before in
+    let s = start-of c in
     let i = c .before .loop in
     let file = now (s .args .rows) in
     nets-room (records file) (s .args .days .count) (s .args .days .day) (now (s .args .nets)) (s .pre .1 .0) (s .pre .1 .1) (i .i) mostRows
@@ -91,9 +96,8 @@ row-delta-requires c κs =
 add-delta-requires : tie.Need-add-delta-requires Inv-loop μ-loop
 add-delta-requires c κs =
     let after-loop-test = c .before .before .before .before .before .before in
-    let after-rise = after-loop-test .before .before .before .before in
-    let start = after-rise .before .before .before .before in (
-      start .pre .0,
+    let after-rise = after-loop-test .before .before .before .before in (
+      start-of after-loop-test .pre .0,
       (after-rise .rise .ensures, (omega (arith, c .row-delta .ensures .size), has-room after-loop-test)),
     )
 
@@ -112,7 +116,7 @@ loop-again c =
     let after-day-of = c .before .before in
     let after-loop-test = after-day-of .before .before .before .before .before in
     let after-loop = after-loop-test .before in
-    let s = after-loop .before .before .before .before .before .before .before in
+    let s = start-of after-loop-test in
     let i = after-loop .loop in
     let file = now (s .args .rows) in
     let days = s .args .days .day in

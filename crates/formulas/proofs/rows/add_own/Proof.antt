@@ -40,22 +40,24 @@ loss-requires c κs = search needs
 
 -- what the row loses for each tick, and in the scenario
 tick-is : (c : tie.After-loss Inv-loop μ-loop) →
-    let row = now (c .before .before .before .before .before .args .row) in
-    toZ w64 (ofZ w64 (c .before .before .before .per-tick .result)) ≡ lots row *ℤ pos (value row)
+    let after-per-tick = c .before .before .before in
+    let row = now (after-per-tick .before .before .args .row) in
+    toZ w64 (ofZ w64 (after-per-tick .per-tick .result)) ≡ lots row *ℤ pos (value row)
 tick-is c =
     let after-per-tick = c .before .before .before in
-    let tick = after-per-tick .per-tick in back (tick .result) (record { sfits = tick .ok }) ∙ tick .ensures .is
+    let tick = after-per-tick .per-tick in
+    back (tick .result) (record { sfits = tick .ok }) ∙ tick .ensures .is
 
 loss-is : (c : tie.After-loss Inv-loop μ-loop) →
-    let row = now (c .before .before .before .before .before .args .row) in
+    let after-per-tick = c .before .before .before in
+    let row = now (after-per-tick .before .before .args .row) in
     toZ w64 (ofZ w64 (c .loss .result)) ≡ loss row (c .before .before .loop .s + 1)
 loss-is c = back (c .loss .result) (record { sfits = c .loss .ok }) ∙ c .loss .ensures
 
 product-requires : tie.Need-product-requires Inv-loop μ-loop
 product-requires c κs =
     let after-per-tick = c .before .before .before in
-    let c-5 = after-per-tick .before .before in
-    let s = c-5 in
+    let s = after-per-tick .before .before in
     let tick = after-per-tick .per-tick in (
       omega (arith, ap natAbs (back (tick .result) (record { sfits = tick .ok })), tick .ensures .size),
       omega (arith, ap natAbs (loss-is c), s .pre .1 .0 .loss-within (c .before .before .loop .s + 1) (omega arith) (omega arith)),
@@ -64,11 +66,12 @@ product-requires c κs =
 
 -- what the call of `product` left
 multiplied : (c : tie.After-product Inv-loop μ-loop) →
-    let s = c .before .before .before .before .before .before in
-    Sized mostProduct (ownProducts (s .args .unit) (now (s .args .row)) (c .before .before .before .loop .s)) (c .product .result)
+    let after-loop = c .before .before .before in
+    let s = after-loop .before .before .before in
+    Sized mostProduct (ownProducts (s .args .unit) (now (s .args .row)) (after-loop .loop .s)) (c .product .result)
 multiplied c =
-    let c-6 = c .before .before .before .before .before .before in
-    let s = c-6 in
+    let after-loop = c .before .before .before in
+    let s = after-loop .before .before .before in
     let e = c .product .ensures in
     record {
       is = e .is ∙ ap₂ (λ (x y : ℤ). halfAwayTo (x *ℤ y) (s .args .unit)) (tick-is (c .before)) (loss-is (c .before));
@@ -111,9 +114,8 @@ loop-less c = omega arith
 loop-again : tie.Need-loop-again Inv-loop μ-loop
 loop-again c =
     let after-loop = c .before .before .before .before .before in
-    let c-8 = after-loop .before .before .before in
     let i = after-loop .loop in
-    let s = c-8 in
+    let s = after-loop .before .before .before in
     let ts = now (s .args .totals) in
     let here : natAbs (getD ts (i .s) (pos 0)) ≤ (mostRows - 1) * mostProduct = s .pre .1 .1 .size (i .s) (omega arith) in
     let by = multiplied (c .before .before) in
@@ -129,9 +131,8 @@ loop-again c =
 
 returns : tie.Need-returns Inv-loop μ-loop
 returns c =
-    let c-4 = c .before .before .before .before in
     let i = c .before .loop in
-    let s = c-4 in
+    let s = c .before .before .before .before in
     subst (λ (n : ℕ). Added n (ownProducts (s .args .unit) (now (s .args .row))) (now (s .args .totals)) (i .totals)) (omega arith) (i .inv .1)
 
 pub add-own-spec : {M : Type 1} → statement M

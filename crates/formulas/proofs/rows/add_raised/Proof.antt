@@ -5,28 +5,29 @@ use Prim.Native.Nat.{ℕ, _+_, _-_, _*_, _%_, _≤_, _<_}
 use native.Mathlib.Nat.{mul-le-mul}
 use native.Mathlib.Omega.{arith}
 use lib.IntN.{ℤ, pos, natAbs, _+ℤ_}
-use lib.ListN.{getD}
+use lib.ListN.{getD, replicate, getD-replicate}
 use denote.Ref.{now}
 use borrow.Author.Needs.{needs}
 use mir.Syntax.{w64}
 use mir.Val.{toZ, ofZ}
 use Rattle.exact.specs.Signed.{Sized, withSignOf}
 use Rattle.exact.proofs.Integers.{back, sfits-abs}
-use Rattle.record.specs.Layout.{loss, hundredThousand, scenarioCount}
+use Rattle.record.specs.Layout.{Record, loss, hundredThousand, scenarioCount}
 use Rattle.account.specs.Check.{mostRows}
 use Rattle.formulas.specs.code.Position.{Added}
 use Rattle.formulas.specs.code.Raised.{raisedLoss, raisedProducts, mostRaised}
 use Rattle.formulas.proofs.AddedLaws.{start, next}
 use Rattle.formulas.proofs.RaisedLaws.{raised-most, sign-and-size}
 use Rattle.formulas.proofs.SignedCalls.{abs-times, plus-fits, plus-is}
+use Rattle.account.specs.Products.{mostPerTick}
 use Rattle.formulas.proofs.rows.add_raised.Statement.{statement}
 use Rattle.formulas.proofs.rows.add_raised.Tie as tie
 
 abbrev Inv-loop : tie.InvT-loop
-Inv-loop sums₀ each row size s₀ sums s = (s ≤ scenarioCount) × Added s (raisedProducts (toZ w64 each) row) sums₀ sums
+Inv-loop sums₀ each row size signed s₀ sums s = (s ≤ scenarioCount) × Added s (raisedProducts (toZ w64 each) row) sums₀ sums
 
 abbrev μ-loop : tie.MeasureT-loop
-μ-loop sums₀ each row size s₀ sums s = scenarioCount - s
+μ-loop sums₀ each row size signed s₀ sums s = scenarioCount - s
 
 magnitude-requires : tie.Need-magnitude-requires Inv-loop μ-loop
 magnitude-requires c κs = search needs
@@ -36,137 +37,156 @@ loop-holds c =
     let s = c .before .before in
     (omega arith, start (raisedProducts (toZ w64 (ofZ w64 (s .args .each))) (now (s .args .row))) (now (s .args .sums)))
 
+mul-with-sign-of : tie.Need-mul-with-sign-of Inv-loop μ-loop
+mul-with-sign-of c = omega (arith, c .loop-test .taken)
+
+array-copy-out-with-sign-of : tie.Need-array-copy-out-with-sign-of Inv-loop μ-loop
+array-copy-out-with-sign-of c = omega (arith, c .loop-test .taken)
+
 add-loss : tie.Need-add-loss Inv-loop μ-loop
 add-loss c = omega arith
 
 loss-requires : tie.Need-loss-requires Inv-loop μ-loop
 loss-requires c κs = search needs
 
--- the size of lots × value
-module _ (c : tie.After-magnitude Inv-loop μ-loop) where
-  abbrev given : ℤ
-  given = toZ w64 (ofZ w64 (c .before .before .args .each))
-
-  given-most : natAbs given ≤ 1000000000
-  given-most = let s = c .before .before in omega (arith, ap natAbs (back (s .args .each) (s .fits .each)), s .pre .0)
-
-  size-is : c .magnitude .result % 4294967296 ≡ natAbs given
-  size-is = omega (arith, c .magnitude .ensures, given-most)
-
--- the loss in the scenario
-loss-is : (c : tie.After-loss Inv-loop μ-loop) →
-    toZ w64 (ofZ w64 (c .loss .result)) ≡ loss (now (c .before .before .before .before .before .args .row)) (c .before .before .loop .s + 1)
-loss-is c = back (c .loss .result) (record { sfits = c .loss .ok }) ∙ c .loss .ensures
-
-loss-most : (c : tie.After-loss Inv-loop μ-loop) →
-    natAbs (loss (now (c .before .before .before .before .before .args .row)) (c .before .before .loop .s + 1)) ≤ hundredThousand
-loss-most c =
-    let s = c .before .before .before .before .before in
-    s .pre .1 .0 .loss-within (c .before .before .loop .s + 1) (omega arith) (omega (arith, c .before .loop-test .taken))
-
-raised-requires : tie.Need-raised-requires Inv-loop μ-loop
-raised-requires c κs = omega (arith, ap natAbs (loss-is c), loss-most c)
-
--- what is added
-module _ (c : tie.After-raised Inv-loop μ-loop) where
-  abbrev each : ℤ
-  each = given (c .before .before .before .before)
-
-  abbrev here : ℕ
-  here = raisedLoss (now (c .before .before .before .before .before .before .args .row)) (c .before .before .before .loop .s)
-
-  product-is : c .before .before .before .before .magnitude .result % 4294967296 * c .raised .result ≡ natAbs each * here
-  product-is =
-      ap₂ _*_ (size-is (c .before .before .before .before))
-      (c .raised .ensures .0 ∙ ap (λ (z : ℤ). natAbs (z +ℤ pos hundredThousand)) (loss-is (c .before)))
-
-  here-most : here ≤ 2 * hundredThousand
-  here-most =
-      let row = now (c .before .before .before .before .before .before .args .row) in
-      raised-most (loss row (c .before .before .before .loop .s + 1)) hundredThousand (loss-most (c .before))
-
-  product-most : natAbs each * here ≤ mostRaised
-  product-most = mul-le-mul (given-most (c .before .before .before .before)) here-most
-
-mul-with-sign-of : tie.Need-mul-with-sign-of Inv-loop μ-loop
-mul-with-sign-of c = omega (arith, product-is c, product-most c)
-
-with-sign-of-requires : tie.Need-with-sign-of-requires Inv-loop μ-loop
-with-sign-of-requires c κs = omega (arith, product-is c, product-most c)
-
-more-is : (c : tie.After-with-sign-of Inv-loop μ-loop) →
-    Sized mostRaised (raisedProducts (each (c .before)) (now (c .before .before .before .before .before .before .before .args .row))
-    (c .before .before .before .before .loop .s)) (c .with-sign-of .result)
-more-is c =
-    let b = c .before in
-    let is = c .with-sign-of .ensures ∙ ap (withSignOf (each b)) (product-is b) ∙ sign-and-size (each b) (here b) in
-    record {
-      is = is;
-      size = subst (λ (z : ℤ). natAbs z ≤ mostRaised) (sym is)
-          (abs-times (each b) (pos (here b)) (given-most (b .before .before .before .before)) (here-most b));
-    }
-
-mul-plus : tie.Need-mul-plus Inv-loop μ-loop
-mul-plus c = omega (arith, c .before .before .before .loop-test .taken)
-
-element-copy-out-plus : tie.Need-element-copy-out-plus Inv-loop μ-loop
-element-copy-out-plus c = omega (arith, c .before .before .before .loop-test .taken)
-
--- a sum as it was
-module _ (c : tie.After-plus-arg Inv-loop μ-loop) where
+-- at the head of a turn: lots × value, its size, and the loss in the scenario
+module _ (c : tie.In-loop Inv-loop μ-loop) where
   abbrev s : tie.Start Inv-loop μ-loop
-  s = c .before .before .before .before .before .before .before .before
+  s =
+      let start = c .before .before .before .before in
+      start
 
   abbrev turn : ℕ
-  turn = c .before .before .before .before .before .loop .s
+  turn = c .before .loop .s
+
+  abbrev row : Record
+  row = now (s .args .row)
+
+  abbrev each : ℤ
+  each = toZ w64 (ofZ w64 (s .args .each))
+
+  abbrev here : ℕ
+  here = raisedLoss row turn
 
   abbrev it : ℤ
-  it = getD (c .before .before .before .before .before .loop .sums) turn (pos 0)
+  it = getD (c .before .loop .sums) turn (pos 0)
 
   below : turn < scenarioCount
-  below = c .before .before .before .before .loop-test .taken
+  below = c .loop-test .taken
+
+  each-most : natAbs each ≤ mostPerTick
+  each-most = omega (arith, ap natAbs (back (s .args .each) (s .fits .each)), s .pre .0)
+
+  size-is : c .before .before .magnitude .result % 4294967296 ≡ natAbs each
+  size-is = omega (arith, c .before .before .magnitude .ensures, each-most)
+
+  sign-is : toZ w64 (ofZ w64 (getD (replicate scenarioCount each) turn (pos 0))) ≡ each
+  sign-is =
+      ap (λ (z : ℤ). toZ w64 (ofZ w64 z)) (getD-replicate scenarioCount turn each (pos 0) below) ∙ back each (sfits-abs each (omega (arith, each-most)))
+
+  loss-most : natAbs (loss row (turn + 1)) ≤ hundredThousand
+  loss-most = s .pre .1 .0 .loss-within (turn + 1) (omega arith) (omega (arith, below))
+
+  here-most : here ≤ 2 * hundredThousand
+  here-most = raised-most (loss row (turn + 1)) hundredThousand loss-most
+
+  product-most : natAbs each * here ≤ mostRaised
+  product-most = mul-le-mul each-most here-most
 
   same : it ≡ getD (now (s .args .sums)) turn (pos 0)
-  same = c .before .before .before .before .before .loop .inv .1 .others turn (omega arith)
+  same = c .before .loop .inv .1 .others turn (omega arith)
 
   it-most : natAbs it ≤ (mostRows - 1) * mostRaised
   it-most = omega (arith, ap natAbs same, s .pre .1 .1 .size turn below)
 
+loss-is : (c : tie.After-loss Inv-loop μ-loop) → toZ w64 (ofZ w64 (c .loss .result)) ≡ loss (row (c .before .before)) (turn (c .before .before) + 1)
+loss-is c = back (c .loss .result) (record { sfits = c .loss .ok }) ∙ c .loss .ensures
+
+raised-requires : tie.Need-raised-requires Inv-loop μ-loop
+raised-requires c κs = omega (arith, ap natAbs (loss-is c), loss-most (c .before .before))
+
+abbrev raised-in : tie.After-raised Inv-loop μ-loop → tie.In-loop Inv-loop μ-loop
+raised-in c =
+    let head = c .before .before .before in
+    head
+
+product-is : (c : tie.After-raised Inv-loop μ-loop) →
+    raised-in c .before .before .magnitude .result % 4294967296 * c .raised .result ≡ natAbs (each (raised-in c)) * here (raised-in c)
+product-is c =
+    ap₂ _*_ (size-is (raised-in c))
+    (c .raised .ensures .0 ∙ ap (λ (z : ℤ). natAbs (z +ℤ pos hundredThousand)) (loss-is (c .before)))
+
+mul-with-sign-of-2 : tie.Need-mul-with-sign-of-2 Inv-loop μ-loop
+mul-with-sign-of-2 c = omega (arith, product-is c, product-most (raised-in c))
+
+with-sign-of-requires : tie.Need-with-sign-of-requires Inv-loop μ-loop
+with-sign-of-requires c κs = omega (arith, product-is c, product-most (raised-in c))
+
+more-is : (c : tie.After-with-sign-of Inv-loop μ-loop) →
+    Sized mostRaised (raisedProducts (each (raised-in (c .before))) (row (raised-in (c .before))) (turn (raised-in (c .before)))) (c .with-sign-of .result)
+more-is c =
+    let head = raised-in (c .before) in
+    let is = c .with-sign-of .ensures ∙ ap₂ withSignOf (sign-is head) (product-is (c .before)) ∙ sign-and-size (each head) (here head) in
+    record {
+      is = is;
+      size = subst (λ (z : ℤ). natAbs z ≤ mostRaised) (sym is) (abs-times (each head) (pos (here head)) (each-most head) (here-most head));
+    }
+
+mul-plus : tie.Need-mul-plus Inv-loop μ-loop
+mul-plus c =
+    let head = c .before .before .before .before in
+    omega (arith, below head)
+
+element-copy-out-plus : tie.Need-element-copy-out-plus Inv-loop μ-loop
+element-copy-out-plus c =
+    let head = c .before .before .before .before in
+    omega (arith, below head)
+
 plus-requires : tie.Need-plus-requires Inv-loop μ-loop
 plus-requires c κs =
-    let more = c .before .with-sign-of in
-    plus-fits (it c) (more .result) (it c) (more .result) ((mostRows - 1) * mostRaised) mostRaised
-    (sfits-abs (it c) (omega (arith, it-most c))) (record { sfits = more .ok }) refl refl (it-most c) (more-is (c .before) .size) (omega arith)
+    let after-sign = c .before in
+    let head = after-sign .before .before .before .before in
+    let more = after-sign .with-sign-of in
+    plus-fits (it head) (more .result) (it head) (more .result) ((mostRows - 1) * mostRaised) mostRaised
+    (sfits-abs (it head) (omega (arith, it-most head))) (record { sfits = more .ok }) refl refl (it-most head) (more-is after-sign .size) (omega arith)
 
 mul-t16 : tie.Need-mul-t16 Inv-loop μ-loop
-mul-t16 c = omega (arith, below (c .before))
+mul-t16 c =
+    let head = c .before .before .before .before .before .before in
+    omega (arith, below head)
 
 element-set-from-sums : tie.Need-element-set-from-sums Inv-loop μ-loop
-element-set-from-sums c = omega (arith, below (c .before))
+element-set-from-sums c =
+    let head = c .before .before .before .before .before .before in
+    omega (arith, below head)
 
 add-s : tie.Need-add-s Inv-loop μ-loop
-add-s c = omega (arith, below (c .before))
+add-s c =
+    let head = c .before .before .before .before .before .before in
+    omega (arith, below head)
 
 loop-less : tie.Need-loop-less Inv-loop μ-loop
-loop-less c = omega (arith, below (c .before))
+loop-less c =
+    let head = c .before .before .before .before .before .before in
+    omega (arith, below head)
 
 loop-again : tie.Need-loop-again Inv-loop μ-loop
 loop-again c =
-    let b = c .before in
-    let i = b .before .before .before .before .before .loop in
-    let start = s b in
-    let xs = now (start .args .sums) in
-    let more = b .before .with-sign-of in
-    let by = more-is (b .before) in
-    let z = toZ w64 (ofZ w64 (start .args .each)) in
-    let row = now (start .args .row) in
-    let sum = plus-is (it b) (more .result) (getD xs (i .s) (pos 0)) (raisedProducts z row (i .s)) ((mostRows - 1) * mostRaised) mostRaised
-    (sfits-abs (it b) (omega (arith, it-most b))) (record { sfits = more .ok }) (same b) (by .is)
-    (subst (λ (y : ℤ). natAbs y ≤ (mostRows - 1) * mostRaised) (same b) (it-most b)) (subst (λ (y : ℤ). natAbs y ≤ mostRaised) (by .is) (by .size))
+    let after-sign = c .before .before in
+    let head = after-sign .before .before .before .before in
+    let at = head .before .loop in
+    let xs = now (s head .args .sums) in
+    let more = after-sign .with-sign-of in
+    let by = more-is after-sign in
+    let products = raisedProducts (each head) (row head) in
+    let sum = plus-is (it head) (more .result) (getD xs (at .s) (pos 0)) (products (at .s)) ((mostRows - 1) * mostRaised) mostRaised
+    (sfits-abs (it head) (omega (arith, it-most head))) (record { sfits = more .ok }) (same head) (by .is)
+    (subst (λ (y : ℤ). natAbs y ≤ (mostRows - 1) * mostRaised) (same head) (it-most head))
+    (subst (λ (y : ℤ). natAbs y ≤ mostRaised) (by .is) (by .size))
     (c .plus .result) (c .plus .ensures) in (
-      omega (arith, below b),
-      next (i .s) (raisedProducts z row) xs (i .sums) (toZ w64 (ofZ w64 (c .plus .result))) (i .inv .1)
-          (omega (arith, below b, start .pre .1 .1 .as-many)) (back (c .plus .result) (record { sfits = c .plus .ok }) ∙ sum .is),
+      omega (arith, below head),
+      next (at .s) products xs (at .sums) (toZ w64 (ofZ w64 (c .plus .result))) (at .inv .1)
+          (omega (arith, below head, s head .pre .1 .1 .as-many)) (back (c .plus .result) (record { sfits = c .plus .ok }) ∙ sum .is),
     )
 
 returns : tie.Need-returns Inv-loop μ-loop
@@ -185,10 +205,12 @@ add-raised-spec =
     μ-loop
     magnitude-requires
     loop-holds
+    mul-with-sign-of
+    array-copy-out-with-sign-of
     add-loss
     loss-requires
     raised-requires
-    mul-with-sign-of
+    mul-with-sign-of-2
     with-sign-of-requires
     mul-plus
     element-copy-out-plus

@@ -18,7 +18,7 @@ use Rattle.exact.proofs.Integers.{back}
 use Rattle.exact.proofs.UnitLaws.{one-away}
 use Rattle.record.specs.Layout.{Record, lots, value, loss, currency, mostCurrency, scenarioCount}
 use Rattle.account.specs.Check.{mostRows}
-use Rattle.account.specs.Products.{inOwn, rateFor, raised, lowered, converted, convertedAt, mostConversion, mostFactor}
+use Rattle.account.specs.Products.{inOwn, rateFor, raised, lowered, converted, convertedAt, mostConversion, mostFactor, mostPerTick}
 use Rattle.account.specs.code.Rates.{RatesOf}
 use Rattle.formulas.specs.code.Position.{Added, FactorsFit, products, ownProducts, convertedProducts}
 use Rattle.formulas.specs.code.Raised.{SumsRoom, settled}
@@ -43,32 +43,40 @@ factors-of-requires c κs =
 
 -- the factors are those of the row's currency
 module _ (c : tie.After-factors-of) where
-  abbrev row : Record
-  row = now (c .before .before .before .before .before .args .row)
+  abbrev after-currency : tie.After-currency
+  after-currency =
+      let after-if1 = c .before .before in
+      after-if1 .before
 
-  number : c .before .before .before .currency .result ≡ currency row
-  number = c .before .before .before .currency .ensures .0
+  abbrev start : tie.Start
+  start = after-currency .before .before
+
+  abbrev row : Record
+  row = now (start .args .row)
+
+  number : after-currency .currency .result ≡ currency row
+  number = after-currency .currency .ensures .0
 
   other : eqb (currency row) 0 ≡ false
   other = ne-eqb (currency row) 0 (λ e. c .before .before .if1 .taken (number ∙ e))
 
-  raised-is : (rates : List Record) → RatesOf rates (c .before .before .before .before .before .args .rates) → currency row ≤ mostCurrency
+  raised-is : (rates : List Record) → RatesOf rates (start .args .rates) → currency row ≤ mostCurrency
       → c .factors-of .result .raised ≡ raised (rateFor rates (currency row))
   raised-is rates held small =
       c .factors-of .ensures .0
-      ∙ ap (λ (k : ℕ). getD (c .before .before .before .before .before .args .rates .raised) k 0) number
+      ∙ ap (λ (k : ℕ). getD (start .args .rates .raised) k 0) number
       ∙ held .raised-are (currency row) small
 
-  lowered-is : (rates : List Record) → RatesOf rates (c .before .before .before .before .before .args .rates) → currency row ≤ mostCurrency
+  lowered-is : (rates : List Record) → RatesOf rates (start .args .rates) → currency row ≤ mostCurrency
       → c .factors-of .result .lowered ≡ lowered (rateFor rates (currency row))
   lowered-is rates held small =
       c .factors-of .ensures .1
-      ∙ ap (λ (k : ℕ). getD (c .before .before .before .before .before .args .rates .lowered) k 0) number
+      ∙ ap (λ (k : ℕ). getD (start .args .rates .lowered) k 0) number
       ∙ held .lowered-are (currency row) small
 
   factors-fit : FactorsFit (c .factors-of .result .raised) (c .factors-of .result .lowered) row
   factors-fit =
-      let rated = c .before .before .before .before .before .pre .1 .1 .0 in
+      let rated = start .pre .1 .1 .0 in
       let here = rated .each 0 (omega arith) in
       let up = raised-is (rated .rates) (rated .held) (here .currency-within) in
       let down = lowered-is (rated .rates) (rated .held) (here .currency-within) in
@@ -84,12 +92,13 @@ module _ (c : tie.After-factors-of) where
 
 add-converted-requires : tie.Need-add-converted-requires
 add-converted-requires c κs =
-    let s = c .before .before .before .before .before in
+    let s = start c in
     (s .pre .0, (s .pre .1 .0, (factors-fit c, s .pre .1 .1 .1 .totals-most)))
 
 -- a row that the totals have, the sums being as they were
 module _ (s : tie.Start) (us : List ℤ)
-    (a : (held : List Record) → RatesOf held (s .args .rates) → Added scenarioCount (products held (s .args .unit) (now (s .args .row))) (now (s .args .totals)) us) where
+    (a : (held : List Record) → RatesOf held (s .args .rates)
+    → Added scenarioCount (products held (s .args .unit) (now (s .args .row))) (now (s .args .totals)) us) where
   abbrev read : ℤ
   read = toZ w64 (ofZ w64 (s .args .each))
 
@@ -114,7 +123,7 @@ module _ (s : tie.Start) (us : List ℤ)
 
 returns : tie.Need-returns
 returns c =
-    let s = c .before .before .before .before .before .before in
+    let s = start (c .before) in
     let row = now (s .args .row) in
     let f = c .before .factors-of .result in
     let unit = s .args .unit in
@@ -132,8 +141,13 @@ add-own-requires : tie.Need-add-own-requires
 add-own-requires c κs = search needs
 
 -- a row in the margin currency
-own-is : (c : tie.Else1) → eqb (currency (now (c .before .before .before .args .row))) 0 ≡ true
-own-is c = eq-eqb (currency (now (c .before .before .before .args .row))) 0 (sym (c .before .currency .ensures .0) ∙ c .if1 .left)
+abbrev own-row : tie.Else1 → Record
+own-row c =
+    let start = c .before .before .before in
+    now (start .args .row)
+
+own-is : (c : tie.Else1) → eqb (currency (own-row c)) 0 ≡ true
+own-is c = eq-eqb (currency (own-row c)) 0 (sym (c .before .currency .ensures .0) ∙ c .if1 .left)
 
 returns-2 : tie.Need-returns-2
 returns-2 c =
@@ -162,7 +176,7 @@ plus-requires c κs =
     let after-per-tick = c .before .before in
     let s = after-per-tick .before .before .before .before .before in
     let tick = after-per-tick .per-tick in
-    plus-fits (s .args .each) (tick .result) (s .args .each) (tick .result) ((mostRows - 1) * 1000000000) 1000000000 (s .fits .each)
+    plus-fits (s .args .each) (tick .result) (s .args .each) (tick .result) ((mostRows - 1) * mostPerTick) mostPerTick (s .fits .each)
     (record { sfits = tick .ok }) refl refl (s .pre .1 .1 .1 .each-most) (tick .ensures .size) (omega arith)
 
 returns-3 : tie.Need-returns-3

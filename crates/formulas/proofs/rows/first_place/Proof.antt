@@ -39,8 +39,7 @@ loop-less c = omega arith
 loop-again : tie.Need-loop-again Inv-loop μ-loop
 loop-again c =
     let after-loop = c .before .before .before in
-    let c-4 = after-loop .before in
-    let s = c-4 in
+    let s = after-loop .before in
     let i = after-loop .loop in
     (omega arith, (omega arith, passed-one (now (s .args .days)) (s .args .start) (i .j) (s .args .d) (i .inv .1 .1) (c .if1 .left)))
 

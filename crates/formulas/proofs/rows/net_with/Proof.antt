@@ -5,7 +5,7 @@ use native.Mathlib.Omega.{arith}
 use denote.Ref.{now}
 use borrow.Author.Needs.{needs}
 use Rattle.exact.proofs.Integers.{back, sfits-abs}
-use Rattle.formulas.specs.Bounds.{mostDelta}
+use Rattle.formulas.specs.Bounds.{mostDelta, mostRowDelta}
 use Rattle.formulas.specs.Deltas.{rowDelta}
 use Rattle.formulas.proofs.PositionBounds.{delta-most}
 use Rattle.formulas.proofs.SignedCalls.{plus-fits, plus-is}
@@ -22,7 +22,7 @@ plus-requires c κs =
     let net = s .args .net .0 in
     let row = now (s .args .row) in
     let more = after-row-delta .row-delta in
-    plus-fits net (more .result .0) net (rowDelta row) mostDelta 1000000000 (sfits-abs net (omega (arith, s .pre .1)))
+    plus-fits net (more .result .0) net (rowDelta row) mostDelta mostRowDelta (sfits-abs net (omega (arith, s .pre .1)))
     (sfits-abs (more .result .0) (omega (arith, more .ensures .size))) refl (more .ensures .is) (s .pre .1) (delta-most row (s .pre .0)) (omega arith)
 
 returns : tie.Need-returns
@@ -33,7 +33,7 @@ returns c =
     let row = now (s .args .row) in
     let more = after-row-delta .row-delta in
     let sum = c .plus in
-    let is = plus-is net (more .result .0) net (rowDelta row) mostDelta 1000000000 (sfits-abs net (omega (arith, s .pre .1)))
+    let is = plus-is net (more .result .0) net (rowDelta row) mostDelta mostRowDelta (sfits-abs net (omega (arith, s .pre .1)))
     (sfits-abs (more .result .0) (omega (arith, more .ensures .size))) refl (more .ensures .is) (s .pre .1) (delta-most row (s .pre .0))
     (sum .result) (sum .ensures) in
     back (sum .result) (record { sfits = sum .ok }) ∙ is .is

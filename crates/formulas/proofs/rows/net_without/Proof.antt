@@ -17,8 +17,7 @@ minus-requires c κs =
 
 returns : tie.Need-returns
 returns c =
-    let c-3 = c .before .before .before in
-    let s = c-3 in
+    let s = c .before .before .before in
     let x = s .args .net .0 in
     let y = s .args .gone .0 in
     op-is _-ℤ_ x y x y (c .before .before .struct-told .given .0 .1) (c .before .struct-told2 .given .0 .1) refl refl (c .minus .result)

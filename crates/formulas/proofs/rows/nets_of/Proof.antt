@@ -11,7 +11,9 @@ use Rattle.formulas.proofs.rows.nets_of.Statement.{statement}
 use Rattle.formulas.proofs.rows.nets_of.Tie as tie
 
 put-net-deltas-requires : tie.Need-put-net-deltas-requires
-put-net-deltas-requires c κs = let start = c .before .before .before in (start .pre .0, (start .pre .1, refl))
+put-net-deltas-requires c κs =
+    let start = c .before .before .before in
+    (start .pre .0, (start .pre .1, refl))
 
 deltas-from-requires : tie.Need-deltas-from-requires
 deltas-from-requires c κs = search needs

@@ -9,7 +9,9 @@ use lib.ListN.{getD}
 use Rattle.spread.specs.Accepted.{promptPlaces}
 use Rattle.formulas.specs.Bounds.{mostDelta}
 use Rattle.formulas.specs.code.Position.{Added, deltasIn}
-use Rattle.formulas.proofs.AddedLaws.{start, next, delta-at, deltas-set}
+use Rattle.spread.specs.declared.Delta.{Delta}
+use Rattle.spread.proofs.Lent.{map-set, delta-at}
+use Rattle.formulas.proofs.AddedLaws.{start, next}
 use Rattle.formulas.proofs.rows.nets_without.Statement.{statement}
 use Rattle.formulas.proofs.rows.nets_without.Tie as tie
 
@@ -37,8 +39,7 @@ array-copy-out-net-without-2 c = omega (arith, c .before .loop-test .taken)
 net-without-requires : tie.Need-net-without-requires Inv-loop μ-loop
 net-without-requires c κs =
     let after-loop = c .before .before .before in
-    let c-4 = after-loop .before in
-    let s = c-4 in
+    let s = after-loop .before in
     let l = after-loop .loop in
     let h : l .j < promptPlaces = c .before .before .loop-test .taken in (
       subst (λ (z : ℤ). natAbs z ≤ mostDelta) (sym (l .inv .1 .others (l .j) (omega arith)) ∙ delta-at (l .left) (l .j)) (s .pre .0 .size (l .j) h),
@@ -69,15 +70,14 @@ loop-again : tie.Need-loop-again Inv-loop μ-loop
 loop-again c =
     let after-loop-test = c .before .before .before in
     let after-loop = after-loop-test .before in
-    let c-5 = after-loop .before in
-    let s = c-5 in
+    let s = after-loop .before in
     let l = after-loop .loop in
     let r = c .net-without in
     let more : ℕ → ℤ = λ k. negℤ (getD (deltasIn (s .args .t2)) k (pos 0)) in
     let same : getD (l .left) (l .j) (record { 0 = pos 0 }) .0 ≡ getD (deltasIn (s .args .nets)) (l .j) (pos 0) = sym (delta-at (l .left) (l .j))
     ∙ l .inv .1 .others (l .j) (omega arith) in (
       omega (arith, after-loop-test .loop-test .taken),
-      subst (λ (zs : List ℤ). Added (l .j + 1) more (deltasIn (s .args .nets)) zs) (sym (deltas-set (l .left) (l .j) (r .result)))
+      subst (λ (zs : List ℤ). Added (l .j + 1) more (deltasIn (s .args .nets)) zs) (sym (map-set (λ (d : Delta). d .0) (l .left) (l .j) (r .result)))
           (next (l .j) more (deltasIn (s .args .nets)) (deltasIn (l .left)) (r .result .0) (l .inv .1)
           (omega (arith, after-loop-test .loop-test .taken, s .pre .0 .as-many))
           (r .ensures ∙ ap₂ _-ℤ_ same (sym (delta-at (s .args .t2) (l .j))))),

@@ -20,8 +20,7 @@ deltas-from-requires c κs = search needs
 
 returns : tie.Need-returns
 returns c =
-    let c-6 = c .before .before .before .before .before .before in
-    let s = c-6 in
+    let s = c .before .before .before .before .before .before in
     let by = c .before .put-position in
     let with-nets : List Delta → Position = λ nets. record { totals = record { 0 = by .last .0 }; nets = nets; shorts = by .result } in
     let same = sym (c .deltas-from .ensures) in (

@@ -20,6 +20,7 @@ use Rattle.formulas.specs.code.Position.{Added, AtMost, PositionOf, netO
 use Rattle.spread.proofs.Lent.{deltas-again}
 use Rattle.formulas.proofs.PositionLaws.{nothing-lent, nets-alone}
 use Rattle.formulas.proofs.PositionBounds.{no-rows, bounded, wider}
+use Rattle.formulas.specs.Bounds.{mostRowDelta}
 use Rattle.formulas.proofs.rows.put_net_deltas.Statement.{statement}
 use Rattle.formulas.proofs.rows.put_net_deltas.Tie as tie
 
@@ -45,7 +46,7 @@ add-nets-requires c κs =
       c .days-of .ensures .few,
       (
         s .pre .1 .0,
-        subst (AtMost promptPlaces (room * 1000000000)) (deltas-again nets)
+        subst (AtMost promptPlaces (room * mostRowDelta)) (deltas-again nets)
             (wider 0 room (none nets) (omega arith)
             (bounded [] 1 (lit≤ tt) prompts [] (none nets) no-rows (λ k h. absurd (not-suc-le-zero h)) (is-none s [] 1 few)) .nets-most),
       ),

@@ -21,8 +21,7 @@ days-of-requires c κs = search needs
 
 add-rows-requires : tie.Need-add-rows-requires
 add-rows-requires c κs =
-    let c-5 = c .before .before .before .before .before in
-    let s = c-5 in
+    let s = c .before .before .before .before .before in
     let prompts = records (now (s .args .prompts)) in
     let ts = now (s .args .totals) in
     let ns = now (s .args .nets) in
@@ -44,8 +43,7 @@ add-rows-requires c κs =
 
 returns : tie.Need-returns
 returns c =
-    let c-6 = c .before .before .before .before .before .before in
-    let s = c-6 in
+    let s = c .before .before .before .before .before .before in
     let prompts = records (now (s .args .prompts)) in
     let ts = now (s .args .totals) in
     let ns = now (s .args .nets) in

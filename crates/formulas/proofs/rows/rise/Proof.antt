@@ -4,13 +4,13 @@ use mathlib.Core.Bool.{false≢true}
 use Prim.Native.Nat.{_-_, _≤_}
 use native.Mathlib.Omega.{arith}
 use denote.Ref.{now}
-use Rattle.formulas.specs.code.Position.{Rising}
+use Rattle.formulas.specs.code.Position.{DaysRise}
 use Rattle.formulas.proofs.PlacedLaws.{rising-one, rising-more}
 use Rattle.formulas.proofs.rows.rise.Statement.{statement}
 use Rattle.formulas.proofs.rows.rise.Tie as tie
 
 abbrev Inv-loop : tie.InvT-loop
-Inv-loop days count j₀ j = (1 ≤ j) × Rising j days
+Inv-loop days count j₀ j = (1 ≤ j) × DaysRise j days
 
 abbrev μ-loop : tie.MeasureT-loop
 μ-loop days count j₀ j = count - j

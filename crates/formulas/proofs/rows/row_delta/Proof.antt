@@ -3,7 +3,7 @@
 use native.Mathlib.Omega.{arith}
 use denote.Ref.{now}
 use borrow.Author.Needs.{needs}
-use Rattle.record.specs.Layout.{lots, delta}
+use Rattle.record.specs.Layout.{lots, delta, hundredThousand}
 use Rattle.formulas.proofs.SignedCalls.{times-fits, times-is, sized-back}
 use Rattle.formulas.proofs.rows.row_delta.Statement.{statement}
 use Rattle.formulas.proofs.rows.row_delta.Tie as tie
@@ -16,18 +16,16 @@ delta-requires c κs = search needs
 
 times-requires : tie.Need-times-requires
 times-requires c κs =
-    let c-3 = c .before .before .before in
-    let s = c-3 in
-    times-fits (c .before .lots .result) (c .delta .result) (lots (now (s .args .row))) (delta (now (s .args .row))) 100000 10000
+    let s = c .before .before .before in
+    times-fits (c .before .lots .result) (c .delta .result) (lots (now (s .args .row))) (delta (now (s .args .row))) hundredThousand 10000
     (record { sfits = c .before .lots .ok }) (record { sfits = c .delta .ok })
     (c .before .lots .ensures) (c .delta .ensures) (s .pre .lots-within) (s .pre .delta-within) (omega arith)
 
 returns : tie.Need-returns
 returns c =
-    let c-4 = c .before .before .before .before in
-    let s = c-4 in
+    let s = c .before .before .before .before in
     sized-back (c .times .result) (record { sfits = c .times .ok })
-    (times-is (c .before .before .lots .result) (c .before .delta .result) (lots (now (s .args .row))) (delta (now (s .args .row))) 100000 10000
+    (times-is (c .before .before .lots .result) (c .before .delta .result) (lots (now (s .args .row))) (delta (now (s .args .row))) hundredThousand 10000
     (record { sfits = c .before .before .lots .ok }) (record { sfits = c .before .delta .ok })
     (c .before .before .lots .ensures) (c .before .delta .ensures) (s .pre .lots-within) (s .pre .delta-within)
     (c .times .result) (c .times .ensures))

@@ -53,20 +53,25 @@ element-copy-out-plus c = omega (arith, c .before .before .loop-test .taken)
 
 -- a total as it was, and what is added to it
 module _ (c : tie.After-plus-arg Inv-loop μ-loop) where
+  abbrev head : tie.In-loop Inv-loop μ-loop
+  head =
+      let after-test = c .before .before .before in
+      after-test
+
   abbrev s : tie.Start Inv-loop μ-loop
-  s = c .before .before .before .before .before
+  s = head .before .before
 
   abbrev turn : ℕ
-  turn = c .before .before .before .before .loop .s
+  turn = head .before .loop .s
 
   abbrev it : ℤ
-  it = getD (c .before .before .before .before .loop .totals) turn (pos 0)
+  it = getD (head .before .loop .totals) turn (pos 0)
 
   below : turn < scenarioCount
-  below = c .before .before .before .loop-test .taken
+  below = head .loop-test .taken
 
   same : it ≡ getD (now (s .args .totals)) turn (pos 0)
-  same = c .before .before .before .before .loop .inv .1 .others turn (omega arith)
+  same = head .before .loop .inv .1 .others turn (omega arith)
 
   it-most : natAbs it ≤ mostRows * mostProduct
   it-most = omega (arith, ap natAbs same, s .pre .totals-most .size turn below)
@@ -98,9 +103,10 @@ loop-less c = omega (arith, below (c .before))
 loop-again : tie.Need-loop-again Inv-loop μ-loop
 loop-again c =
     let b = c .before in
-    let i = b .before .before .before .before .loop in
+    let i = head b .before .loop in
     let ts = now (s b .args .totals) in
-    let sum = plus-is (it b) (b .before .unraised .result) (getD ts (i .s) (pos 0)) (unraisedAt (now (s b .args .sums)) (toZ w64 (ofZ w64 (s b .args .each))) (i .s))
+    let sum = plus-is (it b) (b .before .unraised .result) (getD ts (i .s) (pos 0))
+    (unraisedAt (now (s b .args .sums)) (toZ w64 (ofZ w64 (s b .args .each))) (i .s))
     (mostRows * mostProduct) (2 * (mostRows * mostRaised)) (sfits-abs (it b) (omega (arith, it-most b))) (record { sfits = b .before .unraised .ok })
     (same b) (more-is b .is) (subst (λ (z : ℤ). natAbs z ≤ mostRows * mostProduct) (same b) (it-most b))
     (subst (λ (z : ℤ). natAbs z ≤ (2 * (mostRows * mostRaised))) (more-is b .is) (more-is b .size)) (c .plus .result) (c .plus .ensures) in (

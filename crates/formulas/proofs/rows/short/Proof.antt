@@ -26,8 +26,7 @@ magnitude-requires c κs = search needs
 
 returns : tie.Need-returns
 returns c =
-    let c-3 = c .before .before .before in
-    let s = c-3 in
+    let s = c .before .before .before in
     seen natAbs (s .args .lots) (s .fits .lots) (c .magnitude .ensures)
     ∙ of-negative (s .args .lots) (sym (seen negative (s .args .lots) (s .fits .lots) (c .before .before .is-negative .ensures)) ∙ c .before .if1 .taken)
 

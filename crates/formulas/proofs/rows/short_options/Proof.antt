@@ -28,15 +28,13 @@ row-type-requires c κs = search needs
 
 returns : tie.Need-returns
 returns c =
-    let c-5 = c .before .before .before .before .before in
-    let s = c-5 in
+    let s = c .before .before .before .before .before in
     of-forward (now (s .args .row)) (sym (c .before .row-type .ensures .0) ∙ c .if1 .taken)
 
 returns-2 : tie.Need-returns-2
 returns-2 c =
     let after-lots = c .before .before .before in
-    let c-5 = after-lots .before .before in
-    let s = c-5 in
+    let s = after-lots .before .before in
     let lots-read = after-lots .lots in
     seen short (lots-read .result) (record { sfits = lots-read .ok }) (c .before .before .short .ensures)
     ∙ ap short (lots-read .ensures)

@@ -45,8 +45,7 @@ fits z h = sfits-abs z (omega arith)
 minus-requires : tie.Need-minus-requires Inv-loop μ-loop
 minus-requires c κs =
     let after-loop = c .before .before .before in
-    let c-6 = after-loop .before .before .before in
-    let s = c-6 in
+    let s = after-loop .before .before .before in
     let l = after-loop .loop in
     let h : l .s < scenarioCount = c .before .before .loop-test .taken in
     let x = getD (l .totals) (l .s) (pos 0) in
@@ -81,8 +80,7 @@ loop-again : tie.Need-loop-again Inv-loop μ-loop
 loop-again c =
     let after-loop-test = c .before .before .before in
     let after-loop = after-loop-test .before in
-    let c-7 = after-loop .before .before .before in
-    let s = c-7 in
+    let s = after-loop .before .before .before in
     let l = after-loop .loop in
     let h : l .s < scenarioCount = after-loop-test .loop-test .taken in
     let x = getD (l .totals) (l .s) (pos 0) in
@@ -100,8 +98,7 @@ loop-again c =
 
 returns : tie.Need-returns Inv-loop μ-loop
 returns c =
-    let c-4 = c .before .before .before .before in
-    let s = c-4 in
+    let s = c .before .before .before .before in
     let l = c .before .loop in
     subst (λ (n : ℕ). Added n (λ k. negℤ (getD (s .args .gone .0) k (pos 0))) (s .args .t .0) (l .totals))
     (omega (arith, c .loop-test .left, l .inv .0)) (l .inv .1)

@@ -38,7 +38,7 @@ add-rows-requires c κs =
           (
             s .pre .1 .1 .1 .0,
             subst (λ (zs : List ℤ). Bounded n (positionIn ts zs 0)) (sym (after-plain .plain .ensures))
-                (bounded-lent ts ns 0 (record { totals-most = b .totals-most; nets-most = b .nets-most; shorts-most = zero-le })),
+                (bounded-lent ts ns 0 (b .totals-most) (b .nets-most) zero-le),
           ),
         ),
       ),

@@ -57,8 +57,7 @@ sub-t14 : tie.Need-sub-t14
 sub-t14 c =
     let after-with-rows = c .before .before .before .before .before .before .before .before in
     let after-flat = after-with-rows .before in
-    let c-11 = after-flat .before .before in
-    let s = c-11 in
+    let s = after-flat .before .before in
     let h = s .pre .1 .1 .1 .1 .1 in
     let g = after-with-rows .with-rows .ensures .0 (h .rates) (h .held) in
     omega (
@@ -74,8 +73,7 @@ returns c =
     let after-totals-without = c .before .before .before in
     let after-with-rows = after-totals-without .before .before .before .before .before in
     let after-flat = after-with-rows .before in
-    let c-11 = after-flat .before .before in
-    let s = c-11 in
+    let s = after-flat .before .before in
     let g = after-with-rows .with-rows in
     let f = after-flat .flat in
     λ held before rated is.

@@ -55,8 +55,7 @@ loop-less c = omega arith
 loop-again : tie.Need-loop-again Inv-loop μ-loop
 loop-again c =
     let after-loop = c .before .before .before in
-    let c-5 = after-loop .before .before in
-    let s = c-5 in
+    let s = after-loop .before .before in
     let l = after-loop .loop in (
       next tier (s .args .prompts .now) (l .i) (l .tiers) (c .tier .result) (l .inv .0) (omega arith)
           (c .tier .ensures .0 ∙ ap tier (lent-record (s .args .prompts .now) (l .i))),
@@ -65,8 +64,7 @@ loop-again c =
 
 returns : tie.Need-returns Inv-loop μ-loop
 returns c =
-    let c-3 = c .before .before .before in
-    let s = c-3 in
+    let s = c .before .before .before in
     let l = c .before .loop in
     finish tier (s .args .prompts .now) (l .i) (l .tiers) (l .inv .0) (omega arith)
 

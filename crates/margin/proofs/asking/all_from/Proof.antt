@@ -10,7 +10,7 @@ use Rattle.record.specs.Layout.{Record, mostContract}
 use Rattle.account.specs.Joined.{accountOf}
 use Rattle.account.specs.Check.{mostContracts}
 use Rattle.margin.specs.Places.{questions, afterEach, questionOf, widthOf}
-use Rattle.margin.specs.code.Positions.{noPosition, Told}
+use Rattle.margin.specs.code.Positions.{noPosition, PositionsTell}
 use Rattle.margin.specs.Questions.{afterOver}
 use Rattle.margin.proofs.BesideLaws.{fits-book}
 use Rattle.margin.proofs.PlaceLaws.{next-each, each-too-few, each-accepted, ends-within}
@@ -20,7 +20,8 @@ use Rattle.margin.proofs.asking.all_from.Tie as tie
 -- the answers of the contracts so far stand in their places
 abbrev Inv-loop : tie.InvT-loop
 Inv-loop morning noon account paid out₀ positions records c₀ out c =
-    ((whole : List Record) → Told (accountOf morning noon) positions whole → out ≡ afterEach (widthOf paid) (λ k. afterOver whole (questionOf paid k)) c out₀)
+    ((whole : List Record) → PositionsTell (accountOf morning noon) positions whole
+    → out ≡ afterEach (widthOf paid) (λ k. afterOver whole (questionOf paid k)) c out₀)
     × ((c ≤ mostContracts) × (length out ≡ length out₀))
 
 abbrev μ-loop : tie.MeasureT-loop
@@ -34,8 +35,7 @@ mul-if1 c = omega (arith, c .width-of .ensures .1)
 
 returns : tie.Need-returns Inv-loop μ-loop
 returns c =
-    let c-4 = c .before .before .before .before in
-    let s = c-4 in
+    let s = c .before .before .before .before in
     let p = s .args .paid in
     λ whole t.
     each-too-few (widthOf p) (λ k. afterOver whole (questionOf p k)) whole (s .args .out .now) (s .args .t4 .records)
@@ -53,10 +53,9 @@ element-copy-out-place-contract c = omega (arith, c .loop-test .taken)
 place-contract-requires : tie.Need-place-contract-requires Inv-loop μ-loop
 place-contract-requires c κs =
     let after-loop = c .before .before .before in
-    let c-4 = after-loop .before in
-    let after-width-of = c-4 .before in
-    let c-8 = after-width-of .before .before .before in
-    let s = c-8 in
+    let after-if1 = after-loop .before in
+    let after-width-of = after-if1 .before in
+    let s = after-width-of .before .before .before in
     let x = s .pre .1 in
     let l = after-loop .loop in
     let k = l .c in
@@ -72,7 +71,7 @@ place-contract-requires c κs =
             ends-within (widthOf (s .args .paid)) k questions
                 (omega arith),
             after-width-of .width-of .ensures .0,
-            c-4 .if1 .left,
+            after-if1 .if1 .left,
             l .inv .1 .1,
           ),
         ),
@@ -93,8 +92,7 @@ loop-again : tie.Need-loop-again Inv-loop μ-loop
 loop-again c =
     let after-loop-test = c .before .before .before .before in
     let after-loop = after-loop-test .before in
-    let c-10 = after-loop .before .before .before .before .before in
-    let s = c-10 in
+    let s = after-loop .before .before .before .before .before in
     let p = s .args .paid in
     let l = after-loop .loop in
     let r = c .before .place-contract in
@@ -113,16 +111,15 @@ tiers-from-requires c κs =
 place-table-requires : tie.Need-place-table-requires Inv-loop μ-loop
 place-table-requires c κs =
     let after-loop = c .before .before .before in
-    let c-4 = after-loop .before in
-    let after-width-of = c-4 .before in
-    let c-8 = after-width-of .before .before .before in
-    let s = c-8 in
+    let after-if1 = after-loop .before in
+    let after-width-of = after-if1 .before in
+    let s = after-width-of .before .before .before in
     let x = s .pre .1 in
     let l = after-loop .loop in (
       s .pre .0,
       (
         record { whole = x .whole; beside = x .told .beside; is = c .before .tiers-from .ensures (x .whole) (x .told) },
-        omega (arith, after-width-of .width-of .ensures .0, c-4 .if1 .left, l .inv .1 .1),
+        omega (arith, after-width-of .width-of .ensures .0, after-if1 .if1 .left, l .inv .1 .1),
       ),
     )
 
@@ -136,10 +133,9 @@ returns-2 c =
     let after-tiers-from = c .before .before .before in
     let after-loop-test = after-tiers-from .before in
     let after-loop = after-loop-test .before in
-    let c-6 = after-loop .before in
-    let after-width-of = c-6 .before in
-    let c-10 = after-width-of .before .before .before in
-    let s = c-10 in
+    let after-if1 = after-loop .before in
+    let after-width-of = after-if1 .before in
+    let s = after-width-of .before .before .before in
     let p = s .args .paid in
     let l = after-loop .loop in
     let q : l .c ≡ mostContracts = omega (arith, after-loop-test .loop-test .left, l .inv .1 .0) in
@@ -150,7 +146,7 @@ returns-2 c =
     in
     each-accepted (widthOf p) (λ k. afterOver whole (questionOf p k)) whole (s .args .out .now) _
     (omega
-    (arith, after-width-of .width-of .ensures .0, c-6 .if1 .left))
+    (arith, after-width-of .width-of .ensures .0, after-if1 .if1 .left))
     (next-each (widthOf p) (λ k. afterOver whole (questionOf p k)) mostContracts (s .args .out .now) (l .out) _ so-far
     (r .ensures whole (t .beside) (after-tiers-from .tiers-from .ensures whole t) (t .positions .records-are)))
 

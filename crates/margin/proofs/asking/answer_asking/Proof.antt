@@ -17,14 +17,14 @@ same-length c = search needs
 
 returns : tie.Need-returns
 returns c =
-    let c-3 = c .before .before .before in
-    let s = c-3 .before in
+    let after-if1 = c .before .before .before in
+    let s = after-if1 .before in
     let out = s .args .out .now in
     let r = c .before .answer-uses in
     λ whole question h.
     subst⁻¹ (λ (t : Bool). (r .result ≡ answerOver whole (questionOf t question) (length out))
     × (r .last .1 .1 .0 ≡ afterOver whole (questionOf t question) out))
-    (c-3 .if1 .taken) (r .ensures whole question h)
+    (after-if1 .if1 .taken) (r .ensures whole question h)
 
 answer-book-requires : tie.Need-answer-book-requires
 answer-book-requires c κs = search needs
@@ -34,14 +34,14 @@ same-length-2 c = search needs
 
 returns-2 : tie.Need-returns-2
 returns-2 c =
-    let c-3 = c .before .before .before in
-    let s = c-3 .before in
+    let after-if1 = c .before .before .before in
+    let s = after-if1 .before in
     let out = s .args .out .now in
     let r = c .before .answer-book in
     λ whole question h.
     subst⁻¹ (λ (t : Bool). (r .result ≡ answerOver whole (questionOf t question) (length out))
     × (r .last .1 .1 .0 ≡ afterOver whole (questionOf t question) out))
-    (c-3 .if1 .left) (r .ensures whole question h)
+    (after-if1 .if1 .left) (r .ensures whole question h)
 
 pub answer-asking-spec : {M : Type 1} → statement M
 answer-asking-spec =

@@ -34,8 +34,7 @@ many s whole question h =
 
 returns : tie.Need-returns
 returns c =
-    let c-4 = c .before .before .before .before in
-    let s = c-4 in
+    let s = c .before .before .before .before in
     let out = s .args .out .now in
     λ whole question h.
     refused-with (TooFewNumbers (s .args .records)) _ (book whole question) out
@@ -51,17 +50,16 @@ same-length c = search needs
 
 returns-2 : tie.Need-returns-2
 returns-2 c =
-    let c-3 = c .before .before .before in
-    let c-7 = c-3 .before .before .before .before in
-    let s = c-7 in
+    let after-if1 = c .before .before .before in
+    let s = after-if1 .before .before .before .before in
     let out = s .args .out .now in
     λ whole question h.
     let enough : length (book whole question) ≤ length out =
     omega (
       arith,
       many s whole question h,
-      c-3 .before .book-count .ensures,
-      c-3 .if1 .left,
+      after-if1 .before .book-count .ensures,
+      after-if1 .if1 .left,
     )
     in
     accepted-with _ (book whole question) out (c .before .put-asked .last .0) (length (book whole question))

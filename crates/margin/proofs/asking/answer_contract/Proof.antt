@@ -25,20 +25,23 @@ use Rattle.margin.proofs.asking.answer_contract.Tie as tie
 is-asked-requires : tie.Need-is-asked-requires
 is-asked-requires c κs = search needs
 
+abbrev start-of : tie.After-is-asked → tie.Start
+start-of c =
+    let start = c .before .before .before in
+    start
+
 -- whether the account answers the question
-asked : (c : tie.After-is-asked)
-    → let s = c .before .before .before in
+asked : (c : tie.After-is-asked) →
+    let s = start-of c in
     answered (accountOf (s .args .morning .now) (s .args .noon .now)) (s .args .c) ≡ c .is-asked .result
 asked c =
-    let c-3 = c .before .before .before in
-    let s = c-3 in
+    let s = start-of c in
     sym (c .is-asked .ensures ∙ asked-is (accountOf (s .args .morning .now) (s .args .noon .now)) (s .pre .0 .lawful) (s .args .account .counts)
     (s .pre .0 .places .counts) (s .args .c))
 
 returns : tie.Need-returns
 returns c =
-    let c-4 = c .before .before .before .before in
-    let s = c-4 in
+    let s = start-of (c .before) in
     let a = accountOf (s .args .morning .now) (s .args .noon .now) in
     let k = s .args .c in
     let q = questionOf (s .args .paid) k in
@@ -60,10 +63,9 @@ same-length c = search needs
 returns-2 : tie.Need-returns-2
 returns-2 c =
     let after-asking-with = c .before .before .before in
-    let c-4 = after-asking-with .before in
-    let after-is-asked = c-4 .before in
-    let c-8 = after-is-asked .before .before .before in
-    let s = c-8 in
+    let after-if1 = after-asking-with .before in
+    let after-is-asked = after-if1 .before in
+    let s = start-of after-is-asked in
     let a = accountOf (s .args .morning .now) (s .args .noon .now) in
     let k = s .args .c in
     let r = after-asking-with .asking-with in
@@ -71,8 +73,8 @@ returns-2 c =
     c .before .answer-asking .ensures whole k
     (record {
       lawful = t .beside .lawful;
-      asked-is = answered-beside a whole (t .beside) k ∙ asked (after-is-asked)
-          ∙ not-false (after-is-asked .is-asked .result) (c-4 .if1 .left);
+      asked-is = answered-beside a whole (t .beside) k ∙ asked after-is-asked
+          ∙ not-false (after-is-asked .is-asked .result) (after-if1 .if1 .left);
       records-are = t .records-are;
       asks =
           subst

@@ -12,7 +12,7 @@ use Rattle.account.specs.declared.answers.Answer.the-variants.{TooFewNumbers}
 use Rattle.spread.specs.Accepted.{promptPlaces}
 use Rattle.spread.specs.Steps.{steps}
 use Rattle.spread.proofs.Lent.{deltas-again}
-use Rattle.formulas.specs.Deltas.{opens, interprompt}
+use Rattle.formulas.specs.Deltas.{opensWith, interprompt}
 use Rattle.formulas.specs.code.Promised.{BookRoom}
 use Rattle.margin.specs.Books.{book}
 use Rattle.margin.specs.code.Asked.{BookIs}
@@ -134,7 +134,7 @@ is-book : (c : tie.After-put-net-deltas) →
     let s = after-spreads .before .before .before .before .before in
     BookIs (accountOf (s .args .morning .now) (s .args .noon .now)) (s .args .c)
     (steps (map interprompt (records (after-spreads .spreads-part .result .now))))
-    (opens (records (after-spreads .before .prompts-part .result .now)) (c .put-net-deltas .last .0))
+    (opensWith (records (after-spreads .before .prompts-part .result .now)) (c .put-net-deltas .last .0))
 is-book c =
     let after-rows = c .before .before in
     let after-spreads = after-rows .before .before .before in

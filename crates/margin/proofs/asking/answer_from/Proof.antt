@@ -42,8 +42,7 @@ same-length c = search needs
 returns : tie.Need-returns
 returns c =
     let after-enum-told = c .before .before .before in
-    let c-7 = after-enum-told .before .before .before .before in
-    let s = c-7 in
+    let s = after-enum-told .before .before .before .before in
     let r = c .before .figures-answer in
     λ whole t. answered whole (r .result) (r .last .1 .1 .1 .1 .0) (s .args .out .now) _ _ (after-enum-told .enum-told .given .1) (r .ensures whole t)
 
@@ -53,8 +52,7 @@ same-length-2 c = search needs
 returns-2 : tie.Need-returns-2
 returns-2 c =
     let after-question = c .before .before .before .before in
-    let c-8 = after-question .before .before .before .before in
-    let s = c-8 in
+    let s = after-question .before .before .before .before in
     let r = c .before .question-answer in
     λ whole t. answered whole (r .result) (r .last .1 .1 .1 .1 .1 .1 .0) (s .args .out .now) _ _
     (after-question .question .given .1) (r .ensures whole t)
@@ -65,8 +63,7 @@ same-length-3 c = search needs
 returns-3 : tie.Need-returns-3
 returns-3 c =
     let after-question2 = c .before .before .before .before in
-    let c-8 = after-question2 .before .before .before .before in
-    let s = c-8 in
+    let s = after-question2 .before .before .before .before in
     let r = c .before .question-answer2 in
     λ whole t. answered whole (r .result) (r .last .1 .1 .1 .1 .1 .1 .0) (s .args .out .now) _ _
     (after-question2 .question2 .given .1) (r .ensures whole t)

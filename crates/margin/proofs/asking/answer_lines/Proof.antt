@@ -33,8 +33,7 @@ many s whole h = omega (arith, figures-length whole, ap length (h .beside .contr
 
 returns : tie.Need-returns
 returns c =
-    let c-4 = c .before .before .before .before in
-    let s = c-4 in
+    let s = c .before .before .before .before in
     let out = s .args .out .now in
     λ whole h.
     refused-with (TooFewNumbers (s .args .records)) _ (figures whole) out
@@ -43,8 +42,7 @@ returns c =
 
 put-figures-requires : tie.Need-put-figures-requires
 put-figures-requires c κs =
-    let c-5 = c .before .before .before .before .before in
-    let s = c-5 in
+    let s = c .before .before .before .before .before in
     (s .pre .0, (s .pre .1, omega (arith, c .before .before .figures-count .ensures, c .before .if1 .left)))
 
 same-length : tie.Need-same-length
@@ -52,13 +50,12 @@ same-length c = search needs
 
 returns-2 : tie.Need-returns-2
 returns-2 c =
-    let c-3 = c .before .before .before in
-    let c-7 = c-3 .before .before .before .before in
-    let s = c-7 in
+    let after-if1 = c .before .before .before in
+    let s = after-if1 .before .before .before .before in
     let out = s .args .out .now in
     λ whole h.
     let enough : length (figures whole) ≤ length out =
-    omega (arith, many s whole h, c-3 .before .figures-count .ensures, c-3 .if1 .left) in
+    omega (arith, many s whole h, after-if1 .before .figures-count .ensures, after-if1 .if1 .left) in
     accepted-with _ (figures whole) out (c .before .put-figures .last .1 .1 .1 .1 .0) (length (figures whole))
     (asked-many whole Figures (length out) (λ i. true) enough) refl
     (c .before .put-figures .ensures whole (h .beside) (h .lines) ∙ sets-front (figures whole) out enough)

@@ -22,13 +22,17 @@ use Rattle.margin.proofs.asking.answer_question.Tie as tie
 is-asked-requires : tie.Need-is-asked-requires
 is-asked-requires c κs = search needs
 
+abbrev start-of : tie.After-is-asked → tie.Start
+start-of c =
+    let start = c .before .before .before in
+    start
+
 -- whether the account answers the question
-asked : (c : tie.After-is-asked)
-    → let s = c .before .before .before in
+asked : (c : tie.After-is-asked) →
+    let s = start-of c in
     answered (accountOf (s .args .morning .now) (s .args .noon .now)) (s .args .question) ≡ c .is-asked .result
 asked c =
-    let c-3 = c .before .before .before in
-    let s = c-3 in
+    let s = start-of c in
     sym (c .is-asked .ensures ∙ asked-is (accountOf (s .args .morning .now) (s .args .noon .now)) (s .pre .lawful) (s .args .account .counts)
     (s .pre .places .counts) (s .args .question))
 
@@ -37,8 +41,7 @@ record-total-requires c κs = search needs
 
 returns : tie.Need-returns
 returns c =
-    let c-5 = c .before .before .before .before .before in
-    let s = c-5 in
+    let s = start-of (c .before .before) in
     let a = accountOf (s .args .morning .now) (s .args .noon .now) in
     let q = questionOf (s .args .paid) (s .args .question) in
     refused-with (NoSuchQuestion (c .record-total .result)) _ (numbersFor a q) (s .args .out .now)
@@ -47,16 +50,16 @@ returns c =
     ∙ ap NoSuchQuestion (sym (c .record-total .ensures ∙ s .pre .places .all))) (λ e. omega arith)
 
 -- a book of a contract
-not-paid : (c : tie.Then2) → c .before .before .before .before .before .args .paid ≡ false
+not-paid : (c : tie.Then2) → start-of (c .before .before) .args .paid ≡ false
 not-paid c =
-    let s = c .before .before .before .before .before in
+    let s = start-of (c .before .before) in
     not-true (s .args .paid) (and-left (not (s .args .paid)) (not (eqb (s .args .question) tableQuestion)) (c .if2 .taken))
 
 answer-contract-book-requires : tie.Need-answer-contract-book-requires
 answer-contract-book-requires c κs =
     let after-if2 = c .before in
     let after-asked = after-if2 .before .before in
-    let s = after-asked .before .before .before in
+    let s = start-of after-asked in
     let q = s .args .question in
     let is = asked after-asked ∙ not-false (after-asked .is-asked .result) (after-if2 .before .if1 .left) in
     let contract = and-right (not (s .args .paid)) (not (eqb q tableQuestion)) (after-if2 .if2 .taken) in (
@@ -74,7 +77,7 @@ same-length c = search needs
 returns-2 : tie.Need-returns-2
 returns-2 c =
     let after-if2 = c .before .before .before in
-    let s = after-if2 .before .before .before .before .before in
+    let s = start-of (after-if2 .before .before) in
     let a = accountOf (s .args .morning .now) (s .args .noon .now) in
     let out = s .args .out .now in
     let r = c .before .answer-contract-book in
@@ -84,8 +87,7 @@ returns-2 c =
 asking-over-requires : tie.Need-asking-over-requires
 asking-over-requires c κs =
     let after-asked = c .before .before in
-    let start = after-asked .before .before .before in
-    (start .pre, asked after-asked ∙ not-false (after-asked .is-asked .result) (c .before .if1 .left))
+    (start-of after-asked .pre, asked after-asked ∙ not-false (after-asked .is-asked .result) (c .before .if1 .left))
 
 record-total-requires-2 : tie.Need-record-total-requires-2
 record-total-requires-2 c κs = search needs
@@ -102,7 +104,7 @@ returns-3 c =
     let after-asking = after-total .before in
     let after-if1 = after-asking .before .before in
     let after-asked = after-if1 .before in
-    let s = after-asked .before .before .before in
+    let s = start-of after-asked in
     c .before .answer-asking .ensures (accountOf (s .args .morning .now) (s .args .noon .now)) (s .args .question)
     (record {
       lawful = s .pre .lawful;

@@ -20,8 +20,7 @@ uses-count-requires c κs = search needs
 
 returns : tie.Need-returns
 returns c =
-    let c-4 = c .before .before .before .before in
-    let s = c-4 in
+    let s = c .before .before .before .before in
     let out = s .args .out .now in
     λ whole question h.
     refused-with (TooFewNumbers (s .args .records)) _ (uses whole question) out
@@ -39,9 +38,8 @@ same-length c = search needs
 
 returns-2 : tie.Need-returns-2
 returns-2 c =
-    let c-3 = c .before .before .before in
-    let c-7 = c-3 .before .before .before .before in
-    let s = c-7 in
+    let after-if1 = c .before .before .before in
+    let s = after-if1 .before .before .before .before in
     let out = s .args .out .now in
     λ whole question h.
     let enough : length (uses whole question) ≤ length out =
@@ -49,8 +47,8 @@ returns-2 c =
       arith,
       uses-many whole question (s .args .records)
           (s .args .asking) h,
-      c-3 .before .uses-count .ensures,
-      c-3 .if1 .left,
+      after-if1 .before .uses-count .ensures,
+      after-if1 .if1 .left,
     )
     in
     accepted-with _ (uses whole question) out (c .before .put-uses .last .0) (length (uses whole question))

@@ -26,14 +26,16 @@ room s =
 nets-long : (s : tie.Start) → length (s .args .nets .now) ≡ promptPlaces
 nets-long s = ap length (sym (deltas-again (s .args .nets .now))) ∙ s .pre .1 .is .places
 
-put-contract-book-requires : tie.Need-put-contract-book-requires
-put-contract-book-requires c κs = (room (c .before .before .before .before .before .before .before), ((refl, refl), (refl, refl)))
+put-counted-book-requires : tie.Need-put-counted-book-requires
+put-counted-book-requires c κs =
+    let start = c .before .before .before .before .before .before .before in
+    (room start, ((refl, refl), (refl, refl)))
 
 lend-book-requires : tie.Need-lend-book-requires
 lend-book-requires c κs =
     let after-book = c .before .before .before .before .before in
     let s = after-book .before .before .before .before .before .before .before .before in
-    (s .pre .0, (nets-long s, (room s, after-book .put-contract-book .ensures)))
+    (s .pre .0, (nets-long s, (room s, after-book .put-counted-book .ensures)))
 
 lend-uses-requires : tie.Need-lend-uses-requires
 lend-uses-requires c κs = search needs
@@ -43,7 +45,7 @@ line-in-requires c κs =
     let after-lend-book = c .before .before .before .before .before .before .before .before in
     let after-book = after-lend-book .before .before .before .before .before .before in
     let s = after-book .before .before .before .before .before .before .before .before in
-    (s .pre .1, after-book .put-contract-book .ensures)
+    (s .pre .1, after-book .put-counted-book .ensures .0)
 
 same-length : tie.Need-same-length
 same-length c = search needs
@@ -70,7 +72,7 @@ pub contract-in-spec : {M : Type 1} → statement M
 contract-in-spec =
     tie.close
     (tie.spec
-    put-contract-book-requires
+    put-counted-book-requires
     lend-book-requires
     lend-uses-requires
     line-in-requires

@@ -28,7 +28,9 @@ same-length-3 : tie.Need-same-length-3
 same-length-3 c = search needs
 
 returns : tie.Need-returns
-returns c = c .before .before .before .unspread-over .ensures
+returns c =
+    let after-unspread = c .before .before .before in
+    after-unspread .unspread-over .ensures
 
 spread-over-requires : tie.Need-spread-over-requires
 spread-over-requires c κs = search needs
@@ -43,7 +45,9 @@ same-length-6 : tie.Need-same-length-6
 same-length-6 c = search needs
 
 returns-2 : tie.Need-returns-2
-returns-2 c = c .before .before .before .spread-over .ensures
+returns-2 c =
+    let after-spread = c .before .before .before in
+    after-spread .spread-over .ensures
 
 pub everything-over-spec : {M : Type 1} → statement M
 everything-over-spec =

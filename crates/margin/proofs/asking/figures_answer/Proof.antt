@@ -9,8 +9,7 @@ lines-from-requires c κs = search needs
 
 answer-lines-requires : tie.Need-answer-lines-requires
 answer-lines-requires c κs =
-    let c-4 = c .before .before .before .before in
-    let s = c-4 in
+    let s = c .before .before .before .before in
     let x = s .pre .1 in
     (s .pre .0, record { whole = x .whole; beside = x .told .beside; lines = c .before .lines-from .ensures (x .whole) (x .told) })
 

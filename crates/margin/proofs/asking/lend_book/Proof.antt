@@ -7,7 +7,7 @@ use native.Mathlib.Omega.{arith}
 use Rattle.account.specs.Records.{records, recordCount}
 use Rattle.spread.specs.Steps.{steps}
 use Rattle.formulas.specs.Bounds.{longestBook}
-use Rattle.formulas.specs.Deltas.{opens, interprompt}
+use Rattle.formulas.specs.Deltas.{opensWith, interprompt}
 use Rattle.formulas.proofs.RecordLaws.{count-is}
 use Rattle.margin.specs.Questions.{afterOver}
 use Rattle.margin.specs.declared.asking.Question.the-variants.{Book}
@@ -68,7 +68,7 @@ returns-2 c =
     let after = afterOver whole (Book k) in
     lent-enough longestBook k after o _ (omega (arith, after-if .if1 .left))
     (put-place longestBook (longestBook * k) o (r .last .0) after
-    (book-after whole k (steps (map interprompt (records spreads))) (opens (records prompts) nets) _ (r .last .0) h
+    (book-after whole k (steps (map interprompt (records spreads))) (opensWith (records prompts) nets) _ (r .last .0) h
     (le-trans (contract-long prompts spreads nets (s .pre .1 .0) (s .pre .1 .1 .0)) (search needs)) (r .ensures)))
 
 pub lend-book-spec : {M : Type 1} → statement M

@@ -20,7 +20,8 @@ use Rattle.margin.proofs.asking.lend_table_uses.Statement.{statement}
 use Rattle.margin.proofs.asking.lend_table_uses.Tie as tie
 
 -- the contracts as they are handed on
-handed : (c : tie.After-deltas-from) → let s = c .before .before .before .before .before .before in
+handed : (c : tie.After-deltas-from) →
+    let s = c .before .before .before .before .before .before in
     TiersIn (accountOf (s .args .morning .now) (s .args .noon .now))
     (record { count = s .args .count; tier = s .args .tiers .now; net = c .deltas-from .result })
 handed c =

@@ -23,8 +23,7 @@ enum-told c = search needs
 
 figures-count-requires : tie.Need-figures-count-requires
 figures-count-requires c κs =
-    let c-4 = c .before .before .before .before in
-    let s = c-4 in
+    let s = c .before .before .before .before in
     few-contracts (s .args .morning .now) (s .args .noon .now) (s .args .account) (s .pre)
 
 enum-known-question : tie.Need-enum-known-question
@@ -41,8 +40,7 @@ uses-need-requires c κs = search needs
 
 returns : tie.Need-returns
 returns c =
-    let c-5 = c .before .before .before .before .before in
-    let s = c-5 in
+    let s = c .before .before .before .before .before in
     let a = accountOf (s .args .morning .now) (s .args .noon .now) in
     let n = c .figures-count in
     let few = few-contracts (s .args .morning .now) (s .args .noon .now) (s .args .account) (s .pre) in
@@ -51,14 +49,12 @@ returns c =
 
 returns-2 : tie.Need-returns-2
 returns-2 c =
-    let c-6 = c .before .before .before .before .before .before in
-    let s = c-6 in
+    let s = c .before .before .before .before .before .before in
     needed (accountOf (s .args .morning .now) (s .args .noon .now)) (c .book-need .result) _ _ (c .before .before .question .given .1) (c .book-need .ensures)
 
 returns-3 : tie.Need-returns-3
 returns-3 c =
-    let c-6 = c .before .before .before .before .before .before in
-    let s = c-6 in
+    let s = c .before .before .before .before .before .before in
     needed (accountOf (s .args .morning .now) (s .args .noon .now)) (c .uses-need .result) _ _ (c .before .before .question2 .given .1) (c .uses-need .ensures)
 
 pub needed-over-spec : {M : Type 1} → statement M

@@ -16,11 +16,10 @@ width-of-requires c κs = search needs
 
 -- the place ends within the lent numbers
 room : (c : tie.After-width-of) → let s =
-    let c-3 = c .before .before .before in
-    c-3 in c .width-of .result * s .args .c + c .width-of .result ≤ length (s .args .out .now)
+    let s = c .before .before .before in
+    s in c .width-of .result * s .args .c + c .width-of .result ≤ length (s .args .out .now)
 room c =
-    let c-3 = c .before .before .before in
-    let s = c-3 in
+    let s = c .before .before .before in
     omega (arith, ap (λ (w : ℕ). w * s .args .c) (c .width-of .ensures .0), c .width-of .ensures .0, s .pre .1 .1 .1)
 
 mul-start : tie.Need-mul-start
@@ -43,8 +42,8 @@ part-answer-contract-end c = omega (arith, room c)
 
 answer-contract-requires : tie.Need-answer-contract-requires
 answer-contract-requires c κs =
-    let c-4 = c .before .before .before .before in
-    let s = c-4 in (s .pre .0, (s .pre .1 .0, s .pre .1 .1 .0))
+    let s = c .before .before .before .before in
+    (s .pre .0, (s .pre .1 .0, s .pre .1 .1 .0))
 
 same-length : tie.Need-same-length
 same-length c = search needs
@@ -52,8 +51,7 @@ same-length c = search needs
 returns : tie.Need-returns
 returns c =
     let after-width-of = c .before .before .before in
-    let c-6 = after-width-of .before .before .before in
-    let s = c-6 in
+    let s = after-width-of .before .before .before in
     let o = s .args .out .now in
     let w = after-width-of .width-of in
     let k = s .args .c in

@@ -83,7 +83,9 @@ place-line-requires c κs =
 
 -- what was known when the turn began
 abbrev at-contract : tie.After-place-line Inv-loop μ-loop → tie.After-contract-over Inv-loop μ-loop
-at-contract c = c .before .before .before .before .before .before .before .before .before
+at-contract c =
+    let after-contract = c .before .before .before .before .before .before .before .before .before in
+    after-contract
 
 add-i : tie.Need-add-i Inv-loop μ-loop
 add-i c =

@@ -15,11 +15,16 @@ use Rattle.margin.proofs.asking.place_table.Tie as tie
 width-of-requires : tie.Need-width-of-requires
 width-of-requires c κs = search needs
 
+abbrev start-of : tie.After-width-of → tie.Start
+start-of c =
+    let start = c .before .before .before in
+    start
+
 -- the place ends within the lent numbers
-room : (c : tie.After-width-of) → c .width-of .result * tableQuestion + c .width-of .result ≤ length (c .before .before .before .args .out .now)
+room : (c : tie.After-width-of) → c .width-of .result * tableQuestion + c .width-of .result ≤ length (start-of c .args .out .now)
 room c =
-    let c-3 = c .before .before .before in
-    let s = c-3 in omega (arith, c .width-of .ensures .0, s .pre .1 .1)
+    let s = start-of c in
+    omega (arith, c .width-of .ensures .0, s .pre .1 .1)
 
 mul-start : tie.Need-mul-start
 mul-start c = omega (arith, c .width-of .ensures .1)
@@ -29,8 +34,8 @@ add-end c = omega (arith, c .width-of .ensures .1)
 
 table-asking-requires : tie.Need-table-asking-requires
 table-asking-requires c κs =
-    let c-3 = c .before .before .before in
-    let s = c-3 in (s .pre .0, s .pre .1 .0)
+    let s = start-of c in
+    (s .pre .0, s .pre .1 .0)
 
 mul-answer-asking : tie.Need-mul-answer-asking
 mul-answer-asking c = omega (arith, c .before .width-of .ensures .1)
@@ -46,9 +51,9 @@ part-answer-asking-end c = omega (arith, room (c .before))
 
 answer-asking-requires : tie.Need-answer-asking-requires
 answer-asking-requires c κs =
-    let start = c .before .before .before .before .before in
-    let x = start .pre .1 .0 in c .before .table-asking .ensures (x .whole) (x .beside)
-    (x .is) .accepted
+    let after-table-asking = c .before in
+    let x = start-of (after-table-asking .before) .pre .1 .0 in
+    after-table-asking .table-asking .ensures (x .whole) (x .beside) (x .is) .accepted
 
 same-length : tie.Need-same-length
 same-length c = search needs
@@ -57,8 +62,7 @@ returns : tie.Need-returns
 returns c =
     let after-table-asking = c .before .before .before in
     let after-width-of = after-table-asking .before in
-    let c-7 = after-width-of .before .before .before in
-    let s = c-7 in
+    let s = start-of after-width-of in
     let o = s .args .out .now in
     let w = after-width-of .width-of in
     let r = c .before .answer-asking in

@@ -195,10 +195,14 @@ same-length c =
     c .figures2 .given ∙ after-loop .loop .inv .1 .1 .0
 
 same-length-2 : tie.Need-same-length-2 Inv-loop μ-loop
-same-length-2 c = c .before .before .before .before .loop .inv .1 .1 .1 .0 .same
+same-length-2 c =
+    let after-loop = c .before .before .before .before in
+    after-loop .loop .inv .1 .1 .1 .0 .same
 
 same-length-3 : tie.Need-same-length-3 Inv-loop μ-loop
-same-length-3 c = c .before .before .before .before .loop .inv .1 .1 .1 .1 .0 .same
+same-length-3 c =
+    let after-loop = c .before .before .before .before in
+    after-loop .loop .inv .1 .1 .1 .1 .0 .same
 
 returns : tie.Need-returns Inv-loop μ-loop
 returns c =

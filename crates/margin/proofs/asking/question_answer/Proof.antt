@@ -20,20 +20,23 @@ use Rattle.margin.proofs.asking.question_answer.Tie as tie
 is-asked-requires : tie.Need-is-asked-requires
 is-asked-requires c κs = search needs
 
+abbrev start-of : tie.After-is-asked → tie.Start
+start-of c =
+    let start = c .before .before .before in
+    start
+
 -- whether the account answers the question
-asked : (c : tie.After-is-asked)
-    → let s = c .before .before .before in
+asked : (c : tie.After-is-asked) →
+    let s = start-of c in
     answered (accountOf (s .args .morning .now) (s .args .noon .now)) (s .args .question) ≡ c .is-asked .result
 asked c =
-    let c-3 = c .before .before .before in
-    let s = c-3 in
+    let s = start-of c in
     sym (c .is-asked .ensures ∙ asked-is (accountOf (s .args .morning .now) (s .args .noon .now)) (s .pre .0 .lawful) (s .args .account .counts)
     (s .pre .0 .places .counts) (s .args .question))
 
 returns : tie.Need-returns
 returns c =
-    let c-4 = c .before .before .before .before in
-    let s = c-4 in
+    let s = start-of (c .before) in
     let a = accountOf (s .args .morning .now) (s .args .noon .now) in
     let k = s .args .question in
     let q = questionOf (s .args .paid) k in
@@ -45,15 +48,14 @@ returns c =
 
 asking-from-requires : tie.Need-asking-from-requires
 asking-from-requires c κs =
-    let c-4 = c .before .before .before .before in
-    let s = c-4 in
+    let s = start-of (c .before) in
     (s .pre .0, (s .pre .1, asked (c .before) ∙ not-false (c .before .is-asked .result) (c .if1 .left)))
 
 answer-asking-requires : tie.Need-answer-asking-requires
 answer-asking-requires c κs =
-    let start = c .before .before .before .before .before .before in
-    let x = start .pre .1 in c .before .asking-from .ensures (x .whole)
-    (x .told) .accepted
+    let after-asking-from = c .before in
+    let x = start-of (after-asking-from .before .before) .pre .1 in
+    after-asking-from .asking-from .ensures (x .whole) (x .told) .accepted
 
 same-length : tie.Need-same-length
 same-length c = search needs
@@ -61,18 +63,16 @@ same-length c = search needs
 returns-2 : tie.Need-returns-2
 returns-2 c =
     let after-asking-from = c .before .before .before in
-    let c-4 = after-asking-from .before in
-    let after-is-asked = c-4 .before in
-    let c-8 = after-is-asked .before .before .before in
-    let s = c-8 in
+    let after-if1 = after-asking-from .before in
+    let after-is-asked = after-if1 .before in
+    let s = start-of after-is-asked in
     let k = s .args .question in
     λ whole t.
     c .before .answer-asking .ensures whole k
     (record {
       lawful = t .beside .lawful;
       asked-is = answered-beside (accountOf (s .args .morning .now) (s .args .noon .now)) whole (t .beside) k
-          ∙ asked (after-is-asked) ∙ not-false (after-is-asked .is-asked .result)
-          (c-4 .if1 .left);
+          ∙ asked after-is-asked ∙ not-false (after-is-asked .is-asked .result) (after-if1 .if1 .left);
       records-are = t .positions .records-are;
       asks = after-asking-from .asking-from .ensures whole t;
     })

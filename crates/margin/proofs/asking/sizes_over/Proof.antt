@@ -20,17 +20,20 @@ part-total-requires c κs = search needs
 
 returns : tie.Need-returns
 returns c =
-    let c-5 = c .before .before .before .before .before in
-    let s = c-5 in
+    let s = c .before .before .before .before .before in
     subst₂ (SizesOf (accountOf (s .args .morning .now) (s .args .noon .now)) (s .args .question)) (sym (c .before .contract-total .ensures))
     (sym (c .part-total .ensures))
     (table-sizes (s .args .morning .now) (s .args .noon .now) (s .args .account) (s .pre .0) (s .args .question) (s .pre .1) (c .before .before .if1 .taken))
 
+abbrev start-of : tie.Else1 → tie.Start
+start-of c =
+    let start = c .before .before .before in
+    start
+
 -- the question is a contract's number
-small : (c : tie.Else1) → c .before .before .before .args .question ≤ mostContract
+small : (c : tie.Else1) → start-of c .args .question ≤ mostContract
 small c =
-    let c-3 = c .before .before .before in
-    let s = c-3 in
+    let s = start-of c in
     asked-small (accountOf (s .args .morning .now) (s .args .noon .now)) (s .pre .0 .lawful) (s .args .question) (s .pre .1) (c .if1 .left)
 
 add-part-total : tie.Need-add-part-total
@@ -47,8 +50,7 @@ part-total-requires-3 c κs = search needs
 
 returns-2 : tie.Need-returns-2
 returns-2 c =
-    let c-5 = c .before .before .before .before .before in
-    let s = c-5 in
+    let s = start-of (c .before .before) in
     subst₂ (SizesOf (accountOf (s .args .morning .now) (s .args .noon .now)) (s .args .question)) (sym (c .before .part-total2 .ensures))
     (sym (c .part-total3 .ensures))
     (contract-sizes (s .args .morning .now) (s .args .noon .now) (s .args .account) (s .pre .0) (s .args .question) (s .pre .1) (c .before .before .if1 .left))

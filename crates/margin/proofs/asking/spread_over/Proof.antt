@@ -35,7 +35,9 @@ same-length-3 : tie.Need-same-length-3
 same-length-3 c = search needs
 
 returns : tie.Need-returns
-returns c = c .before .before .before .spread-in .ensures
+returns c =
+    let after-in = c .before .before .before in
+    after-in .spread-in .ensures
 
 slice-aggregate-spread-in : tie.Need-slice-aggregate-spread-in
 slice-aggregate-spread-in c = search needs

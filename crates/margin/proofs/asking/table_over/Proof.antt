@@ -26,13 +26,19 @@ whole s = accountOf (s .args .morning .now) (s .args .noon .now)
 
 -- what was known where the table is made, where it is when the book is put, and when the figures are
 abbrev at-start : tie.After-intercontract-table → tie.Start
-at-start c = c .before .before .before .before .before .before
+at-start c =
+    let start = c .before .before .before .before .before .before in
+    start
 
 abbrev at-table : tie.After-put-book → tie.After-intercontract-table
-at-table c = c .before .before .before .before .before
+at-table c =
+    let after-table = c .before .before .before .before .before in
+    after-table
 
 abbrev at-book : tie.After-put-formed → tie.After-put-book
-at-book c = c .before .before .before .before
+at-book c =
+    let after-book = c .before .before .before .before in
+    after-book
 
 record-total-requires : tie.Need-record-total-requires
 record-total-requires c κs = search needs
@@ -52,8 +58,12 @@ intercontract-table-requires c κs =
 counted : (c : tie.After-intercontract-table) → c .before .before .contract-total .result ≡ length (contractsOf (whole (at-start c)))
 counted c = c .before .before .contract-total .ensures ∙ at-start c .pre .0 .places .contracts
 
-recorded : (c : tie.After-intercontract-table) → c .before .before .before .record-total .result ≡ length (whole (at-start c))
-recorded c = c .before .before .before .record-total .ensures ∙ at-start c .pre .0 .places .all
+recorded : (c : tie.After-intercontract-table) →
+    let after-records = c .before .before .before in
+    after-records .record-total .result ≡ length (whole (at-start c))
+recorded c =
+    let after-records = c .before .before .before in
+    after-records .record-total .ensures ∙ at-start c .pre .0 .places .all
 
 abbrev tiers : tie.After-intercontract-table → Prompts
 tiers c = promptsIn (c .before .before .contract-total .result) (at-start c .args .tiers .now) (at-start c .args .nets .now)
@@ -78,7 +88,9 @@ accepted t =
     (t .intercontract-table .ensures)
 
 put-book-requires : tie.Need-put-book-requires
-put-book-requires c κs = (accepted (c .before .before .before .before), ((refl, refl), (refl, refl)))
+put-book-requires c κs =
+    let after-table = c .before .before .before .before in
+    (accepted after-table, ((refl, refl), (refl, refl)))
 
 -- the numbers that they formed
 formed : (c : tie.After-put-book) →
@@ -119,10 +131,15 @@ lend-table-uses-requires c κs =
     (s .pre .0, (recorded t, lined-tiers (whole s) (allFor (whole s)) (s .pre .1 .1 .lines) (tiers t) (tiered t)))
 
 same-length : tie.Need-same-length
-same-length c = c .before .before .before .before .before .before .before .before .before .before .figures .given
+same-length c =
+    let after-lend = c .before .before .before .before in
+    let after-figures = after-lend .before .before .before .before .before .before in
+    after-figures .figures .given
 
 same-length-2 : tie.Need-same-length-2
-same-length-2 c = c .before .before .before .books .given
+same-length-2 c =
+    let after-books = c .before .before .before in
+    after-books .books .given
 
 same-length-3 : tie.Need-same-length-3
 same-length-3 c = c .uses .given

@@ -40,7 +40,9 @@ same-length : tie.Need-same-length
 same-length c = search needs
 
 same-length-2 : tie.Need-same-length-2
-same-length-2 c = c .before .books2 .given ∙ c .before .before .before .before .before .before .before .books .given
+same-length-2 c =
+    let after-books = c .before .before .before .before .before .before .before in
+    c .before .books2 .given ∙ after-books .books .given
 
 same-length-3 : tie.Need-same-length-3
 same-length-3 c = search needs

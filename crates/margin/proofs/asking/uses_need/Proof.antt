@@ -20,20 +20,23 @@ use Rattle.margin.proofs.asking.uses_need.Tie as tie
 is-asked-requires : tie.Need-is-asked-requires
 is-asked-requires c κs = search needs
 
+abbrev start-of : tie.After-is-asked → tie.Start
+start-of c =
+    let start = c .before .before .before in
+    start
+
 -- whether the account answers the question
-asked : (c : tie.After-is-asked)
-    → let s = c .before .before .before in
+asked : (c : tie.After-is-asked) →
+    let s = start-of c in
     answered (accountOf (s .args .morning .now) (s .args .noon .now)) (s .args .question) ≡ c .is-asked .result
 asked c =
-    let c-3 = c .before .before .before in
-    let s = c-3 in
+    let s = start-of c in
     sym (c .is-asked .ensures ∙ asked-is (accountOf (s .args .morning .now) (s .args .noon .now)) (s .pre .lawful) (s .args .account .counts)
     (s .pre .places .counts) (s .args .question))
 
 returns : tie.Need-returns
 returns c =
-    let c-4 = c .before .before .before .before in
-    let s = c-4 in
+    let s = start-of (c .before) in
     let a = accountOf (s .args .morning .now) (s .args .noon .now) in (
       sym (ap (λ (t : Bool). cond t (length (numbersFor a (Uses (s .args .question)))) 0)
           (asked (c .before) ∙ not-true (c .before .is-asked .result) (c .if1 .taken))),
@@ -42,8 +45,7 @@ returns c =
 
 sizes-over-requires : tie.Need-sizes-over-requires
 sizes-over-requires c κs =
-    let start = c .before .before .before .before in
-    (start .pre, asked (c .before) ∙ not-false (c .before .is-asked .result) (c .if1 .left))
+    (start-of (c .before) .pre, asked (c .before) ∙ not-false (c .before .is-asked .result) (c .if1 .left))
 
 mul-result : tie.Need-mul-result
 mul-result c = omega (arith, c .before .sizes-over .ensures .prompts-few)
@@ -60,14 +62,12 @@ mul-result-2 c = omega (arith, few (c .before .before))
 
 returns-2 : tie.Need-returns-2
 returns-2 c =
-    let c-3 = c .before .before .before in
-    let c-7 = c-3 .before .before .before .before in
-    let s = c-7 in
+    let after-if1 = c .before .before .before in
+    let s = start-of (after-if1 .before) in
     let a = accountOf (s .args .morning .now) (s .args .noon .now) in
     let r = c .before .before .sizes-over in (
       sym (ap (λ (t : Bool). cond t (length (numbersFor a (Uses (s .args .question)))) 0)
-          (asked (c-3 .before) ∙ not-false (c-3 .before .is-asked .result)
-          (c-3 .if1 .left)) ∙ r .ensures .uses-have),
+          (asked (after-if1 .before) ∙ not-false (after-if1 .before .is-asked .result) (after-if1 .if1 .left)) ∙ r .ensures .uses-have),
       few (c .before .before),
     )
 

@@ -32,11 +32,16 @@ spread-places s = sym (length-map (s .args .table .spread) _) ∙ s .good .1 .1 
 -- the net deltas as plain numbers
 nets-long : (c : tie.After-plain) → length (c .plain .result) ≡ promptPlaces
 nets-long c =
-    let s = c .before .before .before in ap length (c .plain .ensures) ∙ length-map (s .args .prompts .net) _ ∙ net-places s
+    let s = c .before .before .before in
+    ap length (c .plain .ensures) ∙ length-map (s .args .prompts .net) _ ∙ net-places s
 
-same : (c : tie.After-plain) → let p = c .before .before .before .args .prompts in promptsIn (p .count) (p .tier) (c .plain .result) ≡ p
+same : (c : tie.After-plain) →
+    let s = c .before .before .before in
+    let p = s .args .prompts in
+    promptsIn (p .count) (p .tier) (c .plain .result) ≡ p
 same c =
-    let p = c .before .before .before .args .prompts in
+    let s = c .before .before .before in
+    let p = s .args .prompts in
     prompts-back p (c .plain .result) (c .plain .ensures)
 
 plain-requires : tie.Need-plain-requires

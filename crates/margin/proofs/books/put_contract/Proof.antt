@@ -8,22 +8,19 @@ use borrow.Author.Needs.{needs}
 use Rattle.margin.proofs.books.put_contract.Statement.{statement}
 use Rattle.margin.proofs.books.put_contract.Tie as tie
 
-contract-touches-requires : tie.Need-contract-touches-requires
-contract-touches-requires c κs = search needs
-
 put-numbers-requires : tie.Need-put-numbers-requires
 put-numbers-requires c κs =
-    let s = c .before .before .before .before in
+    let s = c .before .before .before in
     let prompts = s .args .prompts .now in
     let spreads = s .args .spreads .now in
     let nets = s .args .nets .now in
     let room = s .pre .1 .1 .0 in
-    let is = s .pre .1 .1 .1 in (
+    let is = s .pre .1 .1 .1 .0 in (
       contract-lent prompts spreads nets (s .pre .1 .0) room (s .args .first .now) (s .args .second .now) (s .args .used .now) (s .args .unused .now) is,
       (
         contract-signed prompts spreads nets (s .pre .1 .0) room (s .args .first .now) (s .args .second .now) (s .args .used .now) (s .args .unused .now) is,
         (
-          c .before .contract-touches .ensures .1,
+          s .pre .1 .1 .1 .1 .1,
           omega (arith, s .pre .0),
         ),
       ),
@@ -34,14 +31,12 @@ same-length c = search needs
 
 returns : tie.Need-returns
 returns c =
-    let after-touches = c .before .before .before in
-    let s = after-touches .before .before .before in
+    let s = c .before .before .before .before .before in
     c .before .put-numbers .ensures
     ∙ ap (sets (s .args .out .now) 0)
     (contract-numbers (s .args .prompts .now) (s .args .spreads .now) (s .args .nets .now) (s .pre .1 .0) (s .pre .1 .1 .0)
-    (s .args .first .now) (s .args .second .now) (s .args .used .now) (s .args .unused .now) (s .pre .1 .1 .1)
-    (after-touches .contract-touches .result) (after-touches .contract-touches .ensures .0))
+    (s .args .first .now) (s .args .second .now) (s .args .used .now) (s .args .unused .now) (s .pre .1 .1 .1 .0)
+    (s .args .touched) (s .pre .1 .1 .1 .1 .0))
 
 pub put-contract-spec : {M : Type 1} → statement M
-put-contract-spec =
-    tie.close (tie.spec contract-touches-requires put-numbers-requires same-length returns)
+put-contract-spec = tie.close (tie.spec put-numbers-requires same-length returns)

@@ -10,7 +10,7 @@ use lib.Seq.{sets}
 use Rattle.record.specs.Bytes.{recordBytes}
 use Rattle.account.specs.Records.{cut, records}
 use Rattle.spread.specs.Steps.{Taker, steps}
-use Rattle.formulas.specs.Deltas.{opens, interprompt}
+use Rattle.formulas.specs.Deltas.{opensWith, interprompt}
 use Rattle.formulas.proofs.RecordLaws.{count-is}
 use Rattle.margin.specs.Books.{bookBy}
 use Rattle.margin.proofs.AnswerLaws.{contract-nets}
@@ -34,14 +34,14 @@ returns c =
     let prompts = s .args .prompts .now in
     let spreads = s .args .spreads .now in
     let nets = s .args .nets .now in
-    let os = opens (records prompts) nets in
+    let os = opensWith (records prompts) nets in
     let no-records : length spreads / recordBytes ≡ 0 = omega (arith, after-if .if1 .taken) in
     let none : steps (map interprompt (records spreads)) ≡ [] = ap (λ (n : ℕ). steps (map interprompt (cut n spreads))) no-records in
     c .before .put-unspread .ensures os (contract-nets prompts spreads nets (s .pre .1 .0) (s .pre .1 .1))
     ∙ ap (λ (ss : List (List Taker)). sets (s .args .out .now) 0 (bookBy ss os)) (sym none)
 
-put-contract-book-requires : tie.Need-put-contract-book-requires
-put-contract-book-requires c κs = search needs
+put-counted-book-requires : tie.Need-put-counted-book-requires
+put-counted-book-requires c κs = search needs
 
 put-contract-requires : tie.Need-put-contract-requires
 put-contract-requires c κs = search needs
@@ -59,7 +59,7 @@ run-contract-spec =
     put-unspread-requires
     same-length
     returns
-    put-contract-book-requires
+    put-counted-book-requires
     put-contract-requires
     same-length-2
     returns-2)

@@ -17,13 +17,17 @@ use Rattle.margin.proofs.lists.judge_over.Tie as tie
 is-asked-requires : tie.Need-is-asked-requires
 is-asked-requires c κs = search needs
 
+abbrev start-of : tie.After-is-asked → tie.Start
+start-of c =
+    let start = c .before .before .before in
+    start
+
 -- whether the account answers the question
-asked : (c : tie.After-is-asked)
-    → let s = c .before .before .before in
+asked : (c : tie.After-is-asked) →
+    let s = start-of c in
     answered (accountOf (s .args .morning .now) (s .args .noon .now)) (s .args .question) ≡ c .is-asked .result
 asked c =
-    let c-3 = c .before .before .before in
-    let s = c-3 in
+    let s = start-of c in
     sym
     (c .is-asked .ensures
     ∙ asked-is (accountOf (s .args .morning .now) (s .args .noon .now)) (s .pre .lawful) (s .args .account .counts) (s .pre .places .counts)
@@ -34,8 +38,7 @@ record-total-requires c κs = search needs
 
 returns : tie.Need-returns
 returns c =
-    let c-5 = c .before .before .before .before .before in
-    let s = c-5 in
+    let s = start-of (c .before .before) in
     let a = s .args in
     ap (λ (n : ℕ). Refused (NoSuchQuestion n)) (c .record-total .ensures ∙ s .pre .places .all)
     ∙ list-not-asked (accountOf (a .morning .now) (a .noon .now)) (a .question) (a .sent) (a .numbers .now) (a .uses .now)
@@ -43,8 +46,7 @@ returns c =
 
 asking-over-requires : tie.Need-asking-over-requires
 asking-over-requires c κs =
-    let start = c .before .before .before .before in
-    (start .pre, asked (c .before) ∙ not-false (c .before .is-asked .result) (c .if1 .left))
+    (start-of (c .before) .pre, asked (c .before) ∙ not-false (c .before .is-asked .result) (c .if1 .left))
 
 judge-requires : tie.Need-judge-requires
 judge-requires c κs = search needs
@@ -54,13 +56,14 @@ said-of-requires c κs = search needs
 
 returns-2 : tie.Need-returns-2
 returns-2 c =
-    let c-4 = c .before .before .before .before in
-    let o = c-4 in
-    let s = o .before .before .before .before .before in
+    let after-asking = c .before .before .before .before in
+    let after-if1 = after-asking .before in
+    let s = start-of (after-if1 .before) in
     let a = s .args in
     c .said-of .ensures ∙ ap saidOf (c .before .judge .ensures)
     ∙ list-asked (accountOf (a .morning .now) (a .noon .now)) (a .question) (a .sent) (a .numbers .now) (a .uses .now)
-    (asked (o .before .before) ∙ not-false (o .before .before .is-asked .result) (o .before .if1 .left)) (o .asking-over .result) (o .asking-over .ensures)
+    (asked (after-if1 .before) ∙ not-false (after-if1 .before .is-asked .result) (after-if1 .if1 .left))
+    (after-asking .asking-over .result) (after-asking .asking-over .ensures)
 
 pub judge-over-spec : {M : Type 1} → statement M
 judge-over-spec =

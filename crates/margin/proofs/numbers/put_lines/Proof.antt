@@ -107,8 +107,7 @@ mul-put c =
 
 put-requires : tie.Need-put-requires Inv-loop μ-loop
 put-requires c κs =
-    let c-3 = c .before .before .before in
-    let s = c-3 in
+    let s = c .before .before .before in
     let l = c .before .before .loop in
     let small = l .inv .1 .small in
     let within = l .inv .1 .within in

@@ -44,7 +44,9 @@ mul-put-three : tie.Need-mul-put-three Inv-loop μ-loop
 mul-put-three c = omega arith
 
 put-three-requires : tie.Need-put-three-requires Inv-loop μ-loop
-put-three-requires c κs = let l = c .before .before .before .before .before .loop in omega (arith, l .inv .1)
+put-three-requires c κs =
+    let after-loop = c .before .before .before .before .before in
+    omega (arith, after-loop .loop .inv .1)
 
 add-i : tie.Need-add-i Inv-loop μ-loop
 add-i c = omega arith

@@ -42,8 +42,7 @@ element-copy-out-put-two-2 c = omega arith
 put-two-requires : tie.Need-put-two-requires Inv-loop μ-loop
 put-two-requires c κs =
     let after-loop = c .before .before .before .before in
-    let c-5 = after-loop .before in
-    let s = c-5 in
+    let s = after-loop .before in
     let l = after-loop .loop in
     let i = l .i in
     (omega (arith, l .inv .1), (s .pre .1 .first-within i (omega arith), s .pre .1 .second-within i (omega arith)))

@@ -26,8 +26,7 @@ same-length c = search needs
 
 returns : tie.Need-returns
 returns c =
-    let c-3 = c .before .before .before in
-    let c2 = c-3 in
+    let c2 = c .before .before .before in
     let c1 = c2 .before .before .before in
     let s = c1 .before .before .before in
     rw (c .before .put-delta3 .ensures, c2 .before .put-delta2 .ensures, c1 .before .put-delta .ensures)

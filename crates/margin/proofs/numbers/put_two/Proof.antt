@@ -22,8 +22,7 @@ same-length c = search needs
 returns : tie.Need-returns
 returns c =
     let after-put = c .before .before .before .before in
-    let c-6 = after-put .before .before in
-    let s = c-6 in
+    let s = after-put .before .before in
     rw (c .before .put2 .ensures, after-put .put .ensures)
     (stores-sets (s .args .out .now) (s .args .at) (pos (s .args .first) ∷ pos (s .args .second) ∷ []))
 

@@ -32,7 +32,9 @@ mul-put-three : tie.Need-mul-put-three Inv-loop μ-loop
 mul-put-three c = omega arith
 
 put-three-requires : tie.Need-put-three-requires Inv-loop μ-loop
-put-three-requires c κs = let l = c .before .before .before .loop in omega (arith, l .inv .1)
+put-three-requires c κs =
+    let after-loop = c .before .before .before in
+    omega (arith, after-loop .loop .inv .1)
 
 add-i : tie.Need-add-i Inv-loop μ-loop
 add-i c = omega arith
@@ -61,12 +63,14 @@ put-requires c κs = let l = c .before .before .loop in (omega (arith, l .inv .1
 
 same-length : tie.Need-same-length Inv-loop μ-loop
 same-length c =
-    let l = c .before .before .before .before .loop in c .out2 .given ∙ l .inv .1
+    let after-loop = c .before .before .before .before in
+    c .out2 .given ∙ after-loop .loop .inv .1
 
 returns : tie.Need-returns Inv-loop μ-loop
 returns c =
-    let l = c .before .before .before .before .loop in
-    let s = c .before .before .before .before .before in
+    let after-loop = c .before .before .before .before in
+    let l = after-loop .loop in
+    let s = after-loop .before in
     let n = s .args .prompts in
     let nets = s .args .nets .now in
     λ ps e.

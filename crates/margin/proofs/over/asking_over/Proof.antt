@@ -20,16 +20,14 @@ tiers-over-requires c κs = search needs
 
 table-asking-requires : tie.Need-table-asking-requires
 table-asking-requires c κs =
-    let c-4 = c .before .before .before .before in
-    let s = c-4 in
+    let s = c .before .before .before .before in
     let m = s .args .morning .now in
     let n = s .args .noon .now in
     (s .pre .0, record { whole = accountOf m n; beside = alone m n (s .args .account) (s .pre .0); is = c .tiers-over .ensures })
 
 returns : tie.Need-returns
 returns c =
-    let c-5 = c .before .before .before .before .before in
-    let s = c-5 in
+    let s = c .before .before .before .before .before in
     let m = s .args .morning .now in
     let n = s .args .noon .now in
     let a = accountOf m n in
@@ -42,14 +40,12 @@ returns c =
 
 asking-of-requires : tie.Need-asking-of-requires
 asking-of-requires c κs =
-    let c-3 = c .before .before .before in
-    let s = c-3 in
+    let s = c .before .before .before in
     (s .pre .0, asked-small (accountOf (s .args .morning .now) (s .args .noon .now)) (s .pre .0 .lawful) (s .args .question) (s .pre .1) (c .if1 .left))
 
 returns-2 : tie.Need-returns-2
 returns-2 c =
-    let c-4 = c .before .before .before .before in
-    let s = c-4 in
+    let s = c .before .before .before .before in
     let a = accountOf (s .args .morning .now) (s .args .noon .now) in
     let q = s .args .question in
     subst

@@ -19,7 +19,9 @@ prompts-with-requires : tie.Need-prompts-with-requires
 prompts-with-requires c κs = let s = c .before .before in omega (arith, s .pre .fits .fits .fit .few-prompts, count-is (s .args .prompts .now))
 
 interprompt-table-requires : tie.Need-interprompt-table-requires
-interprompt-table-requires c κs = let s = c .before .before .before in omega (arith, s .pre .fits .fits .fit .few-spreads, count-is (s .args .spreads .now))
+interprompt-table-requires c κs =
+    let s = c .before .before .before in
+    omega (arith, s .pre .fits .fits .fit .few-spreads, count-is (s .args .spreads .now))
 
 returns : tie.Need-returns
 returns c =

@@ -23,15 +23,13 @@ number : (c : tie.After-contract-number) →
     let s = c .before .before .before in
     c .contract-number .result ≡ contract (getD (contractsOf (accountOf (s .args .morning .now) (s .args .noon .now))) (s .args .i) [])
 number c =
-    let c-3 = c .before .before .before in
-    let s = c-3 in
+    let s = c .before .before .before in
     number-at (s .args .morning .now) (s .args .noon .now) (s .args .account) (s .pre .0)
     (s .args .i) (s .pre .1 .0) (c .contract-number .result) (c .contract-number .ensures)
 
 small : (c : tie.After-contract-number) → c .contract-number .result ≤ mostContract
 small c =
-    let c-3 = c .before .before .before in
-    let s = c-3 in
+    let s = c .before .before .before in
     let m = s .args .morning .now in
     let n = s .args .noon .now in
     let h = listed-at m n (s .args .account) (s .pre .0) (s .args .i) (s .pre .1 .0) in

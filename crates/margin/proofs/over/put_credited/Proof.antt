@@ -20,10 +20,14 @@ whole s = accountOf (s .args .morning .now) (s .args .noon .now)
 
 -- what was known where the table is made
 abbrev at-start : tie.After-intercontract-table → tie.Start
-at-start c = c .before .before .before .before .before
+at-start c =
+    let start = c .before .before .before .before .before in
+    start
 
 abbrev at-table : tie.After-put-book → tie.After-intercontract-table
-at-table c = c .before .before .before .before .before
+at-table c =
+    let after-table = c .before .before .before .before .before in
+    after-table
 
 contract-total-requires : tie.Need-contract-total-requires
 contract-total-requires c κs = search needs

@@ -40,8 +40,7 @@ part-requires c κs = search needs
 
 table-credits-requires : tie.Need-table-credits-requires
 table-credits-requires c κs =
-    let c-6 = c .before .before .before .before .before .before in
-    let s = c-6 in
+    let s = c .before .before .before .before .before .before in
     let x = s .pre .1 .0 in
     let l = s .args .all in
     let p = c .part in
@@ -52,8 +51,7 @@ table-credits-requires c κs =
 
 put-lines-requires-2 : tie.Need-put-lines-requires-2
 put-lines-requires-2 c κs =
-    let c-8 = c .before .before .before .before .before .before .before .before in
-    let s = c-8 in
+    let s = c .before .before .before .before .before .before .before .before in
     let x = s .pre .1 .0 in
     let l = s .args .all in
     let p = c .before .before .part in
@@ -72,8 +70,7 @@ returns-2 : tie.Need-returns-2
 returns-2 c =
     let after-table-credits = c .before .before .before in
     let after-part = after-table-credits .before in
-    let c-10 = after-part .before .before .before .before .before .before in
-    let s = c-10 in
+    let s = after-part .before .before .before .before .before .before in
     let a = accountOf (s .args .morning .now) (s .args .noon .now) in
     let l = s .args .all in
     let p = after-part .part in

@@ -13,8 +13,7 @@ part-requires c κs = search needs
 
 intercontract-table-requires : tie.Need-intercontract-table-requires
 intercontract-table-requires c κs =
-    let c-3 = c .before .before .before in
-    let s = c-3 in
+    let s = c .before .before .before in
     let x = s .pre .1 in
     let e = c .part in
     entries-few (x .whole) (x .beside .lawful) (s .args .tiers) (x .is) (e .result .now)
@@ -22,8 +21,7 @@ intercontract-table-requires c κs =
 
 returns : tie.Need-returns
 returns c =
-    let c-4 = c .before .before .before .before in
-    let s = c-4 in
+    let s = c .before .before .before .before in
     let e = c .before .part in
     let t = c .intercontract-table in
     λ whole beside is.

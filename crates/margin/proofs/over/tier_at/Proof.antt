@@ -25,8 +25,7 @@ contract-number-requires c κs = search needs
 -- the contract's number
 small : (c : tie.After-contract-number) → c .contract-number .result ≤ mostContract
 small c =
-    let c-3 = c .before .before .before in
-    let s = c-3 in
+    let s = c .before .before .before in
     let m = s .args .morning .now in
     let n = s .args .noon .now in
     omega (
@@ -44,7 +43,10 @@ rows-part-requires c κs = search needs
 -- its rows
 module _ (c : tie.After-rows-part) where
   abbrev s : tie.Start
-  s = c .before .before .before .before .before
+  s =
+      let after-number = c .before .before in
+      let start = after-number .before .before .before in
+      start
 
   abbrev whole : List Record
   whole = accountOf (s .args .morning .now) (s .args .noon .now)
@@ -62,16 +64,19 @@ rows-net-requires c κs =
     subst⁻¹ RowsFit (rows-are c) (contract-within (whole c) (s c .pre .0 .lawful) [] (c .before .before .contract-number .result) none-within .rows-within)
 
 cast-t9 : tie.Need-cast-t9
-cast-t9 c = omega (arith, small (c .before .before .before))
+cast-t9 c =
+    let after-number = c .before .before .before in
+    omega (arith, small after-number)
 
 returns : tie.Need-returns
 returns c =
     let st = s (c .before) in
     let m = st .args .morning .now in
     let n = st .args .noon .now in
-    let k = c .before .before .before .contract-number in
+    let after-number = c .before .before .before in
+    let k = after-number .contract-number in
     rows-tier (accountOf m n) (st .pre .0 .lawful) (k .result) (getD (contractsOf (accountOf m n)) (st .args .i) []) (c .rows-net .result .0)
-    (number-at m n (st .args .account) (st .pre .0) (st .args .i) (st .pre .1) (k .result) (k .ensures)) (small (c .before .before .before))
+    (number-at m n (st .args .account) (st .pre .0) (st .args .i) (st .pre .1) (k .result) (k .ensures)) (small after-number)
     (subst (λ (rows : List Record). Sized mostDelta (rowsNet rows) (c .rows-net .result .0)) (rows-are (c .before)) (c .rows-net .ensures))
 
 pub tier-at-spec : {M : Type 1} → statement M

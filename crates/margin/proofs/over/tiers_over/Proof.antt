@@ -20,8 +20,7 @@ abbrev μ-loop : tie.MeasureT-loop
 -- an account has at most sixteen contracts
 few : (c : tie.After-contract-total Inv-loop μ-loop) → c .contract-total .result ≤ mostContracts
 few c =
-    let c-3 = c .before .before .before in
-    let s = c-3 in
+    let s = c .before .before .before in
     omega (arith, c .contract-total .ensures, few-contracts (s .args .morning .now) (s .args .noon .now) (s .args .account) (s .pre))
 
 contract-total-requires : tie.Need-contract-total-requires Inv-loop μ-loop
@@ -39,23 +38,23 @@ tier-at-requires c κs =
 
 array-write-tiers : tie.Need-array-write-tiers Inv-loop μ-loop
 array-write-tiers c =
-    let c-3 = c .before .before .before in
-    let h = few (c-3) in omega arith
+    let after-contract-total = c .before .before .before in
+    let h = few after-contract-total in omega arith
 
 mul-nets : tie.Need-mul-nets Inv-loop μ-loop
 mul-nets c =
-    let c-4 = c .before .before .before .before in
-    let h = few (c-4) in omega arith
+    let after-contract-total = c .before .before .before .before in
+    let h = few after-contract-total in omega arith
 
 array-set-from-nets : tie.Need-array-set-from-nets Inv-loop μ-loop
 array-set-from-nets c =
-    let c-4 = c .before .before .before .before in
-    let h = few (c-4) in omega arith
+    let after-contract-total = c .before .before .before .before in
+    let h = few after-contract-total in omega arith
 
 add-i : tie.Need-add-i Inv-loop μ-loop
 add-i c =
-    let c-4 = c .before .before .before .before in
-    let h = few (c-4) in omega arith
+    let after-contract-total = c .before .before .before .before in
+    let h = few after-contract-total in omega arith
 
 loop-less : tie.Need-loop-less Inv-loop μ-loop
 loop-less c = omega arith
@@ -64,11 +63,10 @@ loop-again : tie.Need-loop-again Inv-loop μ-loop
 loop-again c =
     let after-loop = c .before .before .before in
     let after-contract-total = after-loop .before in
-    let c-7 = after-contract-total .before .before .before in
-    let s = c-7 in
+    let s = after-contract-total .before .before .before in
     let l = after-loop .loop in
     let t = c .before .tier-at in
-    let h = few (after-contract-total) in
+    let h = few after-contract-total in
     let e = s .pre .places .contracts in
     let n = after-contract-total .contract-total .ensures in (
       tiers-next (accountOf (s .args .morning .now) (s .args .noon .now)) (l .i) (l .tiers) (l .nets) (t .result .contract) (t .result .net)
@@ -78,8 +76,7 @@ loop-again c =
 
 returns : tie.Need-returns Inv-loop μ-loop
 returns c =
-    let c-5 = c .before .before .before .before .before in
-    let s = c-5 in
+    let s = c .before .before .before .before .before in
     let l = c .before .loop in
     let h = few (c .before .before) in
     let e = s .pre .places .contracts in

@@ -21,20 +21,18 @@ use Rattle.margin.proofs.positions.asking_from.Tie as tie
 
 tiers-from-requires : tie.Need-tiers-from-requires
 tiers-from-requires c κs =
-    let c-3 = c .before .before .before in
-    let s = c-3 in (s .pre .0, s .pre .1 .0)
+    let s = c .before .before .before in
+    (s .pre .0, s .pre .1 .0)
 
 table-asking-requires : tie.Need-table-asking-requires
 table-asking-requires c κs =
-    let c-4 = c .before .before .before .before in
-    let s = c-4 in
+    let s = c .before .before .before .before in
     let x = s .pre .1 .0 in
     (s .pre .0, record { whole = x .whole; beside = x .told .beside; is = c .tiers-from .ensures (x .whole) (x .told) })
 
 returns : tie.Need-returns
 returns c =
-    let c-5 = c .before .before .before .before .before in
-    let s = c-5 in
+    let s = c .before .before .before .before .before in
     let q = s .args .question in
     λ whole t.
     subst
@@ -42,11 +40,15 @@ returns c =
     (cond b (map asTier (contracts whole)) (opensOf (partsOf whole q))) (c .table-asking .result))
     (sym (eq-eqb q tableQuestion (c .before .before .if1 .taken))) (c .table-asking .ensures whole (t .beside) (c .before .tiers-from .ensures whole t))
 
+abbrev start-of : tie.Else1 → tie.Start
+start-of c =
+    let start = c .before .before .before in
+    start
+
 -- the question is a contract's number
-small : (c : tie.Else1) → c .before .before .before .args .question ≤ mostContract
+small : (c : tie.Else1) → start-of c .args .question ≤ mostContract
 small c =
-    let c-3 = c .before .before .before in
-    let s = c-3 in
+    let s = start-of c in
     asked-small (accountOf (s .args .morning .now) (s .args .noon .now)) (s .pre .0 .lawful) (s .args .question) (s .pre .1 .1) (c .if1 .left)
 
 mul-asking-with : tie.Need-mul-asking-with
@@ -57,8 +59,7 @@ element-copy-out-asking-with c = omega (arith, small c)
 
 asking-with-requires : tie.Need-asking-with-requires
 asking-with-requires c κs =
-    let c-4 = c .before .before .before .before in
-    let s = c-4 in
+    let s = start-of (c .before) in
     let x = s .pre .1 .0 in
     let q = s .args .question in
     let h = small (c .before) in (
@@ -72,8 +73,7 @@ asking-with-requires c κs =
 
 returns-2 : tie.Need-returns-2
 returns-2 c =
-    let c-5 = c .before .before .before .before .before in
-    let s = c-5 in
+    let s = c .before .before .before .before .before in
     let q = s .args .question in
     λ whole t.
     subst

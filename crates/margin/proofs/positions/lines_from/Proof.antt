@@ -12,7 +12,7 @@ use Rattle.account.specs.Parts.{contractsOf}
 use Rattle.account.specs.Joined.{accountOf}
 use Rattle.account.specs.Check.{mostContracts}
 use Rattle.margin.specs.code.Beside.{Besides}
-use Rattle.margin.specs.code.Positions.{noPosition, Told}
+use Rattle.margin.specs.code.Positions.{noPosition, PositionsTell}
 use Rattle.margin.proofs.AccountLaws.{LinedTo, lined-next}
 use Rattle.margin.proofs.BesideLaws.{fits, line-is}
 use Rattle.margin.proofs.StandLaws.{few-contracts, number-at, listed-at, own-number}
@@ -21,38 +21,40 @@ use Rattle.margin.proofs.positions.lines_from.Tie as tie
 
 abbrev Inv-loop : tie.InvT-loop
 Inv-loop morning noon account positions count lines₀ i₀ lines i =
-    ((whole : List Record) → Told (accountOf morning noon) positions whole → LinedTo whole i lines) × (i ≤ count)
+    ((whole : List Record) → PositionsTell (accountOf morning noon) positions whole → LinedTo whole i lines) × (i ≤ count)
 
 abbrev μ-loop : tie.MeasureT-loop
 μ-loop morning noon account positions count lines₀ i₀ lines i = count - i
 
+abbrev start-of : tie.After-contract-number Inv-loop μ-loop → tie.Start Inv-loop μ-loop
+start-of c =
+    let after-contract-total = c .before .before .before .before in
+    let start = after-contract-total .before .before .before in
+    start
+
 -- an account has at most sixteen contracts
 few : (c : tie.After-contract-total Inv-loop μ-loop) → c .contract-total .result ≤ mostContracts
 few c =
-    let c-3 = c .before .before .before in
-    let s = c-3 in
+    let s = c .before .before .before in
     omega (arith, c .contract-total .ensures, few-contracts (s .args .morning .now) (s .args .noon .now) (s .args .account) (s .pre .0))
 
 -- the turn's contract is listed, and has this number
-within : (c : tie.After-contract-number Inv-loop μ-loop)
-    → c .before .before .loop .i < c .before .before .before .before .before .before .before .args .account .contracts
+within : (c : tie.After-contract-number Inv-loop μ-loop) → c .before .before .loop .i < start-of c .args .account .contracts
 within c =
     let after-contract-total = c .before .before .before .before in
     omega (arith, c .before .loop-test .taken, after-contract-total .contract-total .ensures)
 
-number : (c : tie.After-contract-number Inv-loop μ-loop)
-    → let s = c .before .before .before .before .before .before .before in
+number : (c : tie.After-contract-number Inv-loop μ-loop) →
+    let s = start-of c in
     c .contract-number .result ≡ contract (getD (contractsOf (accountOf (s .args .morning .now) (s .args .noon .now))) (c .before .before .loop .i) [])
 number c =
-    let c-7 = c .before .before .before .before .before .before .before in
-    let s = c-7 in
+    let s = start-of c in
     number-at (s .args .morning .now) (s .args .noon .now) (s .args .account) (s .pre .0) (c .before .before .loop .i) (within c)
     (c .contract-number .result) (c .contract-number .ensures)
 
 small : (c : tie.After-contract-number Inv-loop μ-loop) → c .contract-number .result ≤ mostContract
 small c =
-    let c-7 = c .before .before .before .before .before .before .before in
-    let s = c-7 in
+    let s = start-of c in
     let m = s .args .morning .now in
     let n = s .args .noon .now in
     omega (
@@ -63,16 +65,15 @@ small c =
     )
 
 -- and is so in every account beside
-listed : (c : tie.After-contract-number Inv-loop μ-loop)
-    → let s = c .before .before .before .before .before .before .before in
+listed : (c : tie.After-contract-number Inv-loop μ-loop) →
+    let s = start-of c in
     (whole : List Record) → Besides (accountOf (s .args .morning .now) (s .args .noon .now)) whole → c .before .before .loop .i < length (contractsOf whole)
 listed c whole b =
-    let c-7 = c .before .before .before .before .before .before .before in
-    let s = c-7 in omega
-    (arith, within c, ap length (b .contracts), s .pre .0 .places .contracts)
+    let s = start-of c in
+    omega (arith, within c, ap length (b .contracts), s .pre .0 .places .contracts)
 
-number-in : (c : tie.After-contract-number Inv-loop μ-loop)
-    → let s = c .before .before .before .before .before .before .before in
+number-in : (c : tie.After-contract-number Inv-loop μ-loop) →
+    let s = start-of c in
     (whole : List Record) → Besides (accountOf (s .args .morning .now) (s .args .noon .now)) whole
     → c .contract-number .result ≡ contract (getD (contractsOf whole) (c .before .before .loop .i) [])
 number-in c whole b = number c ∙ ap (λ (rs : List Record). contract (getD rs (c .before .before .loop .i) [])) (sym (b .contracts))
@@ -97,8 +98,7 @@ element-copy-out-line-with c = let h = small c in omega arith
 
 line-with-requires : tie.Need-line-with-requires Inv-loop μ-loop
 line-with-requires c κs =
-    let c-8 = c .before .before .before .before .before .before .before .before in
-    let s = c-8 in
+    let s = start-of (c .before) in
     let x = s .pre .1 in
     let k = c .before .contract-number .result in
     let h = small (c .before) in (
@@ -113,20 +113,23 @@ line-with-requires c κs =
 mul-lines : tie.Need-mul-lines Inv-loop μ-loop
 mul-lines c =
     let after-loop-test = c .before .before .before in
-    let c-6 = after-loop-test .before .before .before in
-    let h = few (c-6) in omega (arith, after-loop-test .loop-test .taken)
+    let after-contract-total = after-loop-test .before .before .before in
+    let h = few after-contract-total in
+    omega (arith, after-loop-test .loop-test .taken)
 
 array-set-from-lines : tie.Need-array-set-from-lines Inv-loop μ-loop
 array-set-from-lines c =
     let after-loop-test = c .before .before .before in
-    let c-6 = after-loop-test .before .before .before in
-    let h = few (c-6) in omega (arith, after-loop-test .loop-test .taken)
+    let after-contract-total = after-loop-test .before .before .before in
+    let h = few after-contract-total in
+    omega (arith, after-loop-test .loop-test .taken)
 
 add-i : tie.Need-add-i Inv-loop μ-loop
 add-i c =
     let after-loop-test = c .before .before .before in
-    let c-6 = after-loop-test .before .before .before in
-    let h = few (c-6) in omega (arith, after-loop-test .loop-test .taken)
+    let after-contract-total = after-loop-test .before .before .before in
+    let h = few after-contract-total in
+    omega (arith, after-loop-test .loop-test .taken)
 
 loop-less : tie.Need-loop-less Inv-loop μ-loop
 loop-less c =
@@ -137,13 +140,12 @@ loop-again : tie.Need-loop-again Inv-loop μ-loop
 loop-again c =
     let after-loop-test = c .before .before .before in
     let after-loop = after-loop-test .before in
-    let c-6 = after-loop .before .before in
-    let c-9 = c-6 .before .before .before in
-    let s = c-9 in
+    let after-contract-total = after-loop .before .before in
+    let s = after-contract-total .before .before .before in
     let l = after-loop .loop in
     let n = c .before .before in
     let k = n .contract-number .result in
-    let h = few (c-6) in (
+    let h = few after-contract-total in (
       λ whole t.
           lined-next whole (l .i) (l .lines) (c .line-with .result) (l .inv .0 whole t) (omega (arith, after-loop-test .loop-test .taken))
           (line-is (accountOf (s .args .morning .now) (s .args .noon .now)) whole (t .beside) k (getD (s .args .t4 .at) k noPosition)
@@ -155,10 +157,9 @@ loop-again c =
 returns : tie.Need-returns Inv-loop μ-loop
 returns c =
     let after-contract-total = c .before .before .before in
-    let c-6 = after-contract-total .before .before .before in
-    let s = c-6 in
+    let s = after-contract-total .before .before .before in
     let l = c .before .loop in
-    let h = few (after-contract-total) in
+    let h = few after-contract-total in
     λ whole t.
     record {
       count-is = after-contract-total .contract-total .ensures ∙ s .pre .0 .places .contracts ∙ sym (ap length (t .beside .contracts));

@@ -21,33 +21,35 @@ Inv-loop morning noon account count rates at₀ i₀ at i = Placed (accountOf mo
 abbrev μ-loop : tie.MeasureT-loop
 μ-loop morning noon account count rates at₀ i₀ at i = count - i
 
+abbrev start-of : tie.After-contract-number Inv-loop μ-loop → tie.Start Inv-loop μ-loop
+start-of c =
+    let after-contract-total = c .before .before .before .before .before in
+    let start = after-contract-total .before .before .before in
+    start
+
 -- an account has at most sixteen contracts
 few : (c : tie.After-contract-total Inv-loop μ-loop) → c .contract-total .result ≤ mostContracts
 few c =
-    let c-3 = c .before .before .before in
-    let s = c-3 in
+    let s = c .before .before .before in
     omega (arith, c .contract-total .ensures, few-contracts (s .args .morning .now) (s .args .noon .now) (s .args .account) (s .pre))
 
 -- the turn's contract is listed, and has this number
-within : (c : tie.After-contract-number Inv-loop μ-loop)
-    → c .before .before .loop .i < c .before .before .before .before .before .before .before .before .args .account .contracts
+within : (c : tie.After-contract-number Inv-loop μ-loop) → c .before .before .loop .i < start-of c .args .account .contracts
 within c =
     let after-contract-total = c .before .before .before .before .before in
     omega (arith, c .before .loop-test .taken, after-contract-total .contract-total .ensures)
 
-number : (c : tie.After-contract-number Inv-loop μ-loop)
-    → let s = c .before .before .before .before .before .before .before .before in
+number : (c : tie.After-contract-number Inv-loop μ-loop) →
+    let s = start-of c in
     c .contract-number .result ≡ contract (getD (contractsOf (accountOf (s .args .morning .now) (s .args .noon .now))) (c .before .before .loop .i) [])
 number c =
-    let c-8 = c .before .before .before .before .before .before .before .before in
-    let s = c-8 in
+    let s = start-of c in
     number-at (s .args .morning .now) (s .args .noon .now) (s .args .account) (s .pre) (c .before .before .loop .i) (within c)
     (c .contract-number .result) (c .contract-number .ensures)
 
 small : (c : tie.After-contract-number Inv-loop μ-loop) → c .contract-number .result ≤ mostContract
 small c =
-    let c-8 = c .before .before .before .before .before .before .before .before in
-    let s = c-8 in
+    let s = start-of c in
     let m = s .args .morning .now in
     let n = s .args .noon .now in
     omega (
@@ -68,8 +70,7 @@ flat-requires c κs = search needs
 
 loop-holds : tie.Need-loop-holds Inv-loop μ-loop
 loop-holds c =
-    let c-5 = c .before .before .before .before .before in
-    let s = c-5 in
+    let s = c .before .before .before .before .before in
     (placed-none (accountOf (s .args .morning .now) (s .args .noon .now)) (c .flat .result) (c .flat .ensures), omega arith)
 
 contract-number-requires : tie.Need-contract-number-requires Inv-loop μ-loop
@@ -77,9 +78,8 @@ contract-number-requires c κs = search needs
 
 position-in-requires : tie.Need-position-in-requires Inv-loop μ-loop
 position-in-requires c κs =
-    let c-4 = c .before .before .before .before in
-    let start = c-4 .before .before .before .before in
-    (start .pre, (small c, c-4 .rates-over .ensures))
+    let after-rates-over = c .before .before .before .before in
+    (start-of c .pre, (small c, after-rates-over .rates-over .ensures))
 
 mul-at : tie.Need-mul-at Inv-loop μ-loop
 mul-at c = let h = small (c .before) in omega arith
@@ -89,8 +89,9 @@ array-set-from-at c = let h = small (c .before) in omega arith
 
 add-i : tie.Need-add-i Inv-loop μ-loop
 add-i c =
-    let c-6 = c .before .before .before .before .before .before in
-    let h = few (c-6) in omega (arith, c .before .before .loop-test .taken)
+    let after-contract-total = c .before .before .before .before .before .before in
+    let h = few after-contract-total in
+    omega (arith, c .before .before .loop-test .taken)
 
 loop-less : tie.Need-loop-less Inv-loop μ-loop
 loop-less c = omega (arith, c .before .before .loop-test .taken)
@@ -98,8 +99,7 @@ loop-less c = omega (arith, c .before .before .loop-test .taken)
 loop-again : tie.Need-loop-again Inv-loop μ-loop
 loop-again c =
     let after-loop = c .before .before .before in
-    let c-9 = after-loop .before .before .before .before .before .before in
-    let s = c-9 in
+    let s = start-of (c .before) in
     let l = after-loop .loop in
     let k = c .before .contract-number in (
       placed-next (accountOf (s .args .morning .now) (s .args .noon .now)) (l .i) (l .at) (k .result) (c .position-in .result) (l .inv .0)
@@ -113,8 +113,7 @@ record-total-requires c κs = search needs
 returns : tie.Need-returns Inv-loop μ-loop
 returns c =
     let after-contract-total = c .before .before .before .before .before in
-    let c-8 = after-contract-total .before .before .before in
-    let s = c-8 in
+    let s = after-contract-total .before .before .before in
     let l = c .before .before .loop in
     placed-all (accountOf (s .args .morning .now) (s .args .noon .now)) (s .pre .lawful) (l .i) _
     (omega (

@@ -13,7 +13,7 @@ use Rattle.account.specs.Check.{mostContracts}
 use Rattle.margin.specs.code.Beside.{Besides}
 use Rattle.formulas.specs.Contract.{partsIn}
 use Rattle.margin.specs.code.Lined.{TierIs}
-use Rattle.margin.specs.code.Positions.{noPosition, Told}
+use Rattle.margin.specs.code.Positions.{noPosition, PositionsTell}
 use Rattle.margin.proofs.BesideLaws.{tier-sizes, tier-is}
 use Rattle.margin.proofs.StandLaws.{few-contracts, number-at, listed-at, own-number}
 use Rattle.margin.proofs.TierLaws.{TieredTo, tiers-none, tiers-next, tiers-all}
@@ -22,38 +22,40 @@ use Rattle.margin.proofs.positions.tiers_from.Tie as tie
 
 abbrev Inv-loop : tie.InvT-loop
 Inv-loop morning noon account positions count tiers₀ nets₀ i₀ tiers nets i =
-    ((whole : List Record) → Told (accountOf morning noon) positions whole → TieredTo whole i tiers nets) × (i ≤ count)
+    ((whole : List Record) → PositionsTell (accountOf morning noon) positions whole → TieredTo whole i tiers nets) × (i ≤ count)
 
 abbrev μ-loop : tie.MeasureT-loop
 μ-loop morning noon account positions count tiers₀ nets₀ i₀ tiers nets i = count - i
 
+abbrev start-of : tie.After-contract-number Inv-loop μ-loop → tie.Start Inv-loop μ-loop
+start-of c =
+    let after-contract-total = c .before .before .before in
+    let start = after-contract-total .before .before .before in
+    start
+
 -- an account has at most sixteen contracts
 few : (c : tie.After-contract-total Inv-loop μ-loop) → c .contract-total .result ≤ mostContracts
 few c =
-    let c-3 = c .before .before .before in
-    let s = c-3 in
+    let s = c .before .before .before in
     omega (arith, c .contract-total .ensures, few-contracts (s .args .morning .now) (s .args .noon .now) (s .args .account) (s .pre .0))
 
 -- the turn's contract is listed, and has this number
-within : (c : tie.After-contract-number Inv-loop μ-loop)
-    → c .before .before .loop .i < c .before .before .before .before .before .before .args .account .contracts
+within : (c : tie.After-contract-number Inv-loop μ-loop) → c .before .before .loop .i < start-of c .args .account .contracts
 within c =
     let after-contract-total = c .before .before .before in
     omega (arith, c .before .loop-test .taken, after-contract-total .contract-total .ensures)
 
-number : (c : tie.After-contract-number Inv-loop μ-loop)
-    → let s = c .before .before .before .before .before .before in
+number : (c : tie.After-contract-number Inv-loop μ-loop) →
+    let s = start-of c in
     c .contract-number .result ≡ contract (getD (contractsOf (accountOf (s .args .morning .now) (s .args .noon .now))) (c .before .before .loop .i) [])
 number c =
-    let c-6 = c .before .before .before .before .before .before in
-    let s = c-6 in
+    let s = start-of c in
     number-at (s .args .morning .now) (s .args .noon .now) (s .args .account) (s .pre .0) (c .before .before .loop .i) (within c)
     (c .contract-number .result) (c .contract-number .ensures)
 
 small : (c : tie.After-contract-number Inv-loop μ-loop) → c .contract-number .result ≤ mostContract
 small c =
-    let c-6 = c .before .before .before .before .before .before in
-    let s = c-6 in
+    let s = start-of c in
     let m = s .args .morning .now in
     let n = s .args .noon .now in
     omega (
@@ -64,15 +66,15 @@ small c =
     )
 
 -- and is so in every account beside
-listed : (c : tie.After-contract-number Inv-loop μ-loop)
-    → let s = c .before .before .before .before .before .before in
+listed : (c : tie.After-contract-number Inv-loop μ-loop) →
+    let s = start-of c in
     (whole : List Record) → Besides (accountOf (s .args .morning .now) (s .args .noon .now)) whole → c .before .before .loop .i < length (contractsOf whole)
 listed c whole b =
-    let c-6 = c .before .before .before .before .before .before in
-    let s = c-6 in omega (arith, within c, ap length (b .contracts), s .pre .0 .places .contracts)
+    let s = start-of c in
+    omega (arith, within c, ap length (b .contracts), s .pre .0 .places .contracts)
 
-number-in : (c : tie.After-contract-number Inv-loop μ-loop)
-    → let s = c .before .before .before .before .before .before in
+number-in : (c : tie.After-contract-number Inv-loop μ-loop) →
+    let s = start-of c in
     (whole : List Record) → Besides (accountOf (s .args .morning .now) (s .args .noon .now)) whole
     → c .contract-number .result ≡ contract (getD (contractsOf whole) (c .before .before .loop .i) [])
 number-in c whole b = number c ∙ ap (λ (rs : List Record). contract (getD rs (c .before .before .loop .i) [])) (sym (b .contracts))
@@ -94,8 +96,7 @@ element-copy-out-tier-with c = let h = small c in omega arith
 
 tier-with-requires : tie.Need-tier-with-requires Inv-loop μ-loop
 tier-with-requires c κs =
-    let c-7 = c .before .before .before .before .before .before .before in
-    let s = c-7 in
+    let s = start-of (c .before) in
     let x = s .pre .1 in
     let k = c .before .contract-number .result in
     let h = small (c .before) in (
@@ -107,26 +108,30 @@ tier-with-requires c κs =
 array-write-tiers : tie.Need-array-write-tiers Inv-loop μ-loop
 array-write-tiers c =
     let after-loop-test = c .before .before .before in
-    let c-5 = after-loop-test .before .before in
-    let h = few (c-5) in omega (arith, after-loop-test .loop-test .taken)
+    let after-contract-total = after-loop-test .before .before in
+    let h = few after-contract-total in
+    omega (arith, after-loop-test .loop-test .taken)
 
 mul-nets : tie.Need-mul-nets Inv-loop μ-loop
 mul-nets c =
     let after-loop-test = c .before .before .before .before in
-    let c-6 = after-loop-test .before .before in
-    let h = few (c-6) in omega (arith, after-loop-test .loop-test .taken)
+    let after-contract-total = after-loop-test .before .before in
+    let h = few after-contract-total in
+    omega (arith, after-loop-test .loop-test .taken)
 
 array-set-from-nets : tie.Need-array-set-from-nets Inv-loop μ-loop
 array-set-from-nets c =
     let after-loop-test = c .before .before .before .before in
-    let c-6 = after-loop-test .before .before in
-    let h = few (c-6) in omega (arith, after-loop-test .loop-test .taken)
+    let after-contract-total = after-loop-test .before .before in
+    let h = few after-contract-total in
+    omega (arith, after-loop-test .loop-test .taken)
 
 add-i : tie.Need-add-i Inv-loop μ-loop
 add-i c =
     let after-loop-test = c .before .before .before .before in
-    let c-6 = after-loop-test .before .before in
-    let h = few (c-6) in omega (arith, after-loop-test .loop-test .taken)
+    let after-contract-total = after-loop-test .before .before in
+    let h = few after-contract-total in
+    omega (arith, after-loop-test .loop-test .taken)
 
 loop-less : tie.Need-loop-less Inv-loop μ-loop
 loop-less c =
@@ -135,29 +140,26 @@ loop-less c =
 
 loop-again : tie.Need-loop-again Inv-loop μ-loop
 loop-again c =
-    let c-3 = c .before .before .before in
-    let c-6 = c-3 .before .before .before in
-    let c-9 = c-6 .before .before .before in
-    let s = c-9 in
-    let l = c-3 .before .before .loop in
-    let n = c-3 in
+    let n = c .before .before .before in
+    let after-contract-total = n .before .before .before in
+    let s = start-of n in
+    let l = n .before .before .loop in
     let k = n .contract-number .result in
     let r = c .before .tier-with in
-    let h = few (c-6) in (
+    let h = few after-contract-total in (
       λ whole t.
           tiers-next whole (l .i) (l .tiers) (l .nets) (r .result .contract) (r .result .net) (l .inv .0 whole t)
-          (omega (arith, c-3 .before .loop-test .taken)) (listed n whole (t .beside))
+          (omega (arith, n .before .loop-test .taken)) (listed n whole (t .beside))
           (subst⁻¹ (λ (m : ℕ). TierIs (partsIn whole (getD (contractsOf whole) (l .i) [])) m (r .result .net .0)) (r .ensures .0)
           (tier-is (accountOf (s .args .morning .now) (s .args .noon .now)) whole (t .beside) k (getD (s .args .t4 .at) k noPosition)
           (t .positions .each k (small n)) (l .i) (listed n whole (t .beside)) (number-in n whole (t .beside)) (r .result .net .0) (small n)
           (r .ensures .1))),
-      omega (arith, c-3 .before .loop-test .taken),
+      omega (arith, n .before .loop-test .taken),
     )
 
 returns : tie.Need-returns Inv-loop μ-loop
 returns c =
-    let c-5 = c .before .before .before .before .before in
-    let s = c-5 in
+    let s = c .before .before .before .before .before in
     let l = c .before .loop in
     let h = few (c .before .before) in
     let e = s .pre .0 .places .contracts in

@@ -19,19 +19,22 @@ lines-from-requires c κs = search needs
 slice-aggregate-put-figures : tie.Need-slice-aggregate-put-figures
 slice-aggregate-put-figures c = search needs
 
+abbrev start-of : tie.After-lines-from → tie.Start
+start-of c =
+    let start = c .before .before .before in
+    start
+
 -- at most 16 contracts
-few : (c : tie.After-lines-from) → c .before .before .before .args .account .contracts ≤ mostContracts
+few : (c : tie.After-lines-from) → start-of c .args .account .contracts ≤ mostContracts
 few c =
-    let c-3 = c .before .before .before in
-    let s = c-3 in
+    let s = start-of c in
     let x = s .pre .1 in
     let l = c .lines-from .ensures (x .whole) (x .told) in
     omega (arith, l .few, l .count-is, ap length (x .told .beside .contracts), s .pre .0 .places .contracts)
 
 put-figures-requires : tie.Need-put-figures-requires
 put-figures-requires c κs =
-    let c-4 = c .before .before .before .before in
-    let s = c-4 in
+    let s = start-of (c .before) in
     let x = s .pre .1 in (
       s .pre .0,
       (
@@ -45,18 +48,18 @@ contract-total-requires c κs = search needs
 
 mul-last : tie.Need-mul-last
 mul-last c =
-    let c-4 = c .before .before .before .before in
-    omega (arith, c .contract-total .ensures, few (c-4))
+    let after-lines-from = c .before .before .before .before in
+    omega (arith, c .contract-total .ensures, few after-lines-from)
 
 mul-magnitude : tie.Need-mul-magnitude
 mul-magnitude c =
-    let c-4 = c .before .before .before .before in
-    omega (arith, c .contract-total .ensures, few (c-4))
+    let after-lines-from = c .before .before .before .before in
+    omega (arith, c .contract-total .ensures, few after-lines-from)
 
 array-copy-out-magnitude : tie.Need-array-copy-out-magnitude
 array-copy-out-magnitude c =
-    let c-4 = c .before .before .before .before in
-    omega (arith, c .contract-total .ensures, few (c-4))
+    let after-lines-from = c .before .before .before .before in
+    omega (arith, c .contract-total .ensures, few after-lines-from)
 
 magnitude-requires : tie.Need-magnitude-requires
 magnitude-requires c κs = search needs
@@ -65,8 +68,7 @@ returns : tie.Need-returns
 returns c =
     let after-put-figures = c .before .before .before .before in
     let after-lines-from = after-put-figures .before .before in
-    let c-9 = after-lines-from .before .before .before in
-    let s = c-9 in
+    let s = start-of after-lines-from in
     let f = after-put-figures .put-figures in
     let n = c .before .before .contract-total in
     λ whole t.
@@ -76,7 +78,7 @@ returns c =
     (f .ensures whole (t .beside) (after-lines-from .lines-from .ensures whole t))
     (omega (
       arith,
-      few (after-lines-from),
+      few after-lines-from,
       figures-length whole,
       ap length (t .beside .contracts),
       s .pre .0 .places .contracts,

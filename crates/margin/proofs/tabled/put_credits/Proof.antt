@@ -148,7 +148,9 @@ loop-again c =
     )
 
 mul-put : tie.Need-mul-put Inv-loop μ-loop
-mul-put c = let s = c .before .before .before in omega (arith, s .pre .0 .most)
+mul-put c =
+    let s = c .before .before .before in
+    omega (arith, s .pre .0 .most)
 
 put-requires : tie.Need-put-requires Inv-loop μ-loop
 put-requires c κs =
@@ -160,7 +162,9 @@ put-requires c κs =
     (omega (arith, s .pre .1 .0, l .inv .1 .1 .0), omega arith)
 
 same-length : tie.Need-same-length Inv-loop μ-loop
-same-length c = c .out2 .given ∙ c .before .before .before .before .loop .inv .1 .1 .0
+same-length c =
+    let after-loop = c .before .before .before .before in
+    c .out2 .given ∙ after-loop .loop .inv .1 .1 .0
 
 returns : tie.Need-returns Inv-loop μ-loop
 returns c =

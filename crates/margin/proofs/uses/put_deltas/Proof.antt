@@ -12,8 +12,8 @@ use lib.ListN.{length, length-map, take, set, length-set}
 use lib.Seq.{sets, slice, slice-cons, slice-empty}
 use Rattle.spread.specs.Accepted.{promptPlaces}
 use Rattle.exact.proofs.Integers.{back}
-use Rattle.formulas.specs.code.Sums.{deltaAt, deltasIn}
-use Rattle.formulas.proofs.AddedLaws.{delta-at}
+use Rattle.formulas.specs.code.Sums.{deltaIn, deltasIn}
+use Rattle.spread.proofs.Lent.{delta-at}
 use Rattle.margin.proofs.NumberLaws.{ToWrite, start, next, finish}
 use Rattle.margin.proofs.uses.put_deltas.Statement.{statement}
 use Rattle.margin.proofs.uses.put_deltas.Tie as tie
@@ -56,7 +56,7 @@ loop-again c =
     let deltas = s .args .t4 in
     let long : length deltas ≡ promptPlaces = search needs in
     let there : length (deltasIn deltas) ≡ length deltas = length-map deltas _ in
-    let here : ℤ = deltaAt deltas (l .i) in (
+    let here : ℤ = deltaIn deltas (l .i) in (
       next (l .i) (s .args .at + l .i) (s .args .at + (l .i + 1)) (l .out) _ (here ∷ [])
           (l .inv .0) (omega arith)
           (slice-cons (l .i) (s .args .count) (deltasIn deltas) (pos 0) (omega arith) (omega arith)

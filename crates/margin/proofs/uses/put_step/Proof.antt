@@ -16,8 +16,7 @@ step-over-requires c κs = search needs
 
 put-deltas-requires : tie.Need-put-deltas-requires
 put-deltas-requires c κs =
-    let c-3 = c .before .before .before in
-    let s = c-3 in
+    let s = c .before .before .before in
     let p = s .args .prompts in
     (few p (and-left (soundPrompts p) (soundSpread (s .args .spread)) (s .pre .0)), s .pre .1)
 
@@ -27,8 +26,7 @@ same-length c = search needs
 returns : tie.Need-returns
 returns c =
     let after-step-over = c .before .before .before .before .before in
-    let c-6 = after-step-over .before in
-    let s = c-6 in
+    let s = after-step-over .before in
     let p = s .args .prompts in
     let d = s .args .spread in
     let step = after-step-over .step-over in

@@ -69,8 +69,7 @@ put-step-requires c κs =
 
 add-put-step : tie.Need-add-put-step Inv-loop μ-loop
 add-put-step c =
-    let c-3 = c .before .before .before in
-    let b = c-3 in
+    let b = c .before .before .before in
     let s = b .before .before .before .before in
     let l = b .before .before .before .loop in
     omega (
@@ -83,8 +82,7 @@ add-put-step c =
 
 put-step-requires-2 : tie.Need-put-step-requires-2 Inv-loop μ-loop
 put-step-requires-2 c κs =
-    let c-3 = c .before .before .before in
-    let b = c-3 in
+    let b = c .before .before .before in
     let s = b .before .before .before .before in
     let l = b .before .before .before .loop in (
       second-sound (s .args .t3) (spread-places s) (sound-table s) (s .args .prompts .count) _ (l .i) (l .at) (l .left)
@@ -98,8 +96,7 @@ put-step-requires-2 c κs =
 
 mul-at : tie.Need-mul-at Inv-loop μ-loop
 mul-at c =
-    let c-5 = c .before .before .before .before .before in
-    let b = c-5 in
+    let b = c .before .before .before .before .before in
     let s = b .before .before .before .before in
     let l = b .before .before .before .loop in
     let r = room-here (s .args .t3) (spread-places s) (sound-table s) (s .args .prompts .count) _ (l .i) (l .at) (l .left) (l .left) (l .left) (l .out)
@@ -108,8 +105,7 @@ mul-at c =
 
 add-at : tie.Need-add-at Inv-loop μ-loop
 add-at c =
-    let c-5 = c .before .before .before .before .before in
-    let b = c-5 in
+    let b = c .before .before .before .before .before in
     let s = b .before .before .before .before in
     let l = b .before .before .before .loop in
     let r = room-here (s .args .t3) (spread-places s) (sound-table s) (s .args .prompts .count) _ (l .i) (l .at) (l .left) (l .left) (l .left) (l .out)
@@ -125,8 +121,7 @@ loop-less c = omega arith
 loop-again : tie.Need-loop-again Inv-loop μ-loop
 loop-again c =
     let after-put-step = c .before .before .before .before in
-    let c-5 = after-put-step .before in
-    let b = c-5 in
+    let b = after-put-step .before in
     let s = b .before .before .before .before in
     let l = b .before .before .before .loop in (
       put-next (s .args .t3) (spread-places s) (sound-table s) (s .args .prompts .count) _ (l .i) (l .at) (l .left)

@@ -8,8 +8,13 @@ use borrow.Author.Needs.{needs}
 use Rattle.questions.proofs.checked.answer_checked.Statement.{statement}
 use Rattle.questions.proofs.checked.answer_checked.Tie as tie
 
+abbrev start-of : tie.Else1 → tie.Start
+start-of c =
+    let start = c .before .before .before in
+    start
+
 -- nothing is refused
-clear : (c : tie.Else1) → numberOf (c .before .before .before .args .checked .answer) ≡ 0
+clear : (c : tie.Else1) → numberOf (start-of c .args .checked .answer) ≡ 0
 clear c = sym (c .before .number-of .ensures) ∙ omega (arith, c .if1 .left)
 
 number-of-requires : tie.Need-number-of-requires
@@ -17,8 +22,7 @@ number-of-requires c κs = search needs
 
 returns : tie.Need-returns
 returns c =
-    let c-3 = c .before .before .before in
-    let s = c-3 in
+    let s = c .before .before .before in
     answer-refused (s .args .file .now) (s .args .checked) (s .pre) (λ e. c .if1 .taken (c .before .number-of .ensures ∙ e))
     (s .args .question) (s .args .out .now)
 
@@ -27,11 +31,10 @@ nothing-of-requires c κs = search needs
 
 answer-over-requires : tie.Need-answer-over-requires
 answer-over-requires c κs =
-    let c-3 = c .before .before .before in
-    let c-6 = c-3 .before .before .before in
-    let s = c-6 in
+    let after-if1 = c .before .before .before in
+    let s = start-of after-if1 in
     let n = c .before .nothing-of in
-    file-stands (s .args .file .now) (s .args .checked) (s .pre) (clear (c-3)) (n .result .now) (n .ensures)
+    file-stands (s .args .file .now) (s .args .checked) (s .pre) (clear after-if1) (n .result .now) (n .ensures)
 
 same-length : tie.Need-same-length
 same-length c = search needs
@@ -39,12 +42,11 @@ same-length c = search needs
 returns-2 : tie.Need-returns-2
 returns-2 c =
     let after-nothing-of = c .before .before .before in
-    let c-5 = after-nothing-of .before .before in
-    let c-8 = c-5 .before .before .before in
-    let s = c-8 in
+    let after-if1 = after-nothing-of .before .before in
+    let s = start-of after-if1 in
     let n = after-nothing-of .nothing-of in
     let r = c .before .answer-over in
-    answer-accepted (s .args .file .now) (s .args .checked) (s .pre) (clear (c-5)) (n .result .now) (n .ensures)
+    answer-accepted (s .args .file .now) (s .args .checked) (s .pre) (clear after-if1) (n .result .now) (n .ensures)
     (s .args .question) (s .args .out .now) (r .result) (r .last .1 .1 .1 .1 .0) (r .ensures)
 
 pub answer-checked-spec : {M : Type 1} → statement M

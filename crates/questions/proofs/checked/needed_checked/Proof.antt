@@ -8,8 +8,13 @@ use borrow.Author.Needs.{needs}
 use Rattle.questions.proofs.checked.needed_checked.Statement.{statement}
 use Rattle.questions.proofs.checked.needed_checked.Tie as tie
 
+abbrev start-of : tie.Else1 → tie.Start
+start-of c =
+    let start = c .before .before .before in
+    start
+
 -- nothing is refused
-clear : (c : tie.Else1) → numberOf (c .before .before .before .args .checked .answer) ≡ 0
+clear : (c : tie.Else1) → numberOf (start-of c .args .checked .answer) ≡ 0
 clear c = sym (c .before .number-of .ensures) ∙ omega (arith, c .if1 .left)
 
 number-of-requires : tie.Need-number-of-requires
@@ -17,8 +22,7 @@ number-of-requires c κs = search needs
 
 returns : tie.Need-returns
 returns c =
-    let c-3 = c .before .before .before in
-    let s = c-3 in
+    let s = c .before .before .before in
     none-needed (s .args .file .now) (s .args .checked) (s .pre) (λ e. c .if1 .taken (c .before .number-of .ensures ∙ e)) (s .args .question)
 
 nothing-of-requires : tie.Need-nothing-of-requires
@@ -26,19 +30,18 @@ nothing-of-requires c κs = search needs
 
 needed-over-requires : tie.Need-needed-over-requires
 needed-over-requires c κs =
-    let c-5 = c .before .before .before .before .before in
-    let s = c-5 in
+    let after-if1 = c .before .before in
+    let s = start-of after-if1 in
     let n = c .nothing-of in
-    file-stands (s .args .file .now) (s .args .checked) (s .pre) (clear (c .before .before)) (n .result .now) (n .ensures)
+    file-stands (s .args .file .now) (s .args .checked) (s .pre) (clear after-if1) (n .result .now) (n .ensures)
 
 returns-2 : tie.Need-returns-2
 returns-2 c =
-    let c-3 = c .before .before .before in
-    let c-6 = c-3 .before .before .before in
-    let s = c-6 in
+    let after-if1 = c .before .before .before in
+    let s = start-of after-if1 in
     let n = c .before .nothing-of in
     let r = c .needed-over in
-    needed-accepted (s .args .file .now) (s .args .checked) (s .pre) (clear (c-3)) (n .result .now) (n .ensures)
+    needed-accepted (s .args .file .now) (s .args .checked) (s .pre) (clear after-if1) (n .result .now) (n .ensures)
     (s .args .question) (r .result) (r .ensures)
 
 pub needed-checked-spec : {M : Type 1} → statement M

@@ -10,8 +10,13 @@ use Rattle.questions.proofs.CheckedLaws.{file-stands, answer-refused, a
 use Rattle.questions.proofs.held.everything.Statement.{statement}
 use Rattle.questions.proofs.held.everything.Tie as tie
 
+abbrev start-of : tie.Else1 → tie.Start
+start-of c =
+    let start = c .before .before .before in
+    start
+
 -- nothing is refused
-clear : (c : tie.Else1) → numberOf (c .before .before .before .args .checked .answer) ≡ 0
+clear : (c : tie.Else1) → numberOf (start-of c .args .checked .answer) ≡ 0
 clear c = sym (c .before .number-of .ensures) ∙ omega (arith, c .if1 .left)
 
 number-of-requires : tie.Need-number-of-requires
@@ -19,8 +24,7 @@ number-of-requires c κs = search needs
 
 returns : tie.Need-returns
 returns c =
-    let c-3 = c .before .before .before in
-    let s = c-3 in
+    let s = c .before .before .before in
     let f = answer-refused (s .args .file .now) (s .args .checked) (s .pre) (λ e. c .if1 .taken (c .before .number-of .ensures ∙ e)) Figures
     (s .args .figures .now) in
     let b = all-refused (s .args .file .now) (s .args .checked) (s .pre) (λ e. c .if1 .taken (c .before .number-of .ensures
@@ -35,11 +39,10 @@ nothing-of-requires c κs = search needs
 everything-over-requires : tie.Need-everything-over-requires
 everything-over-requires c κs =
     let after-nothing-of = c .before .before .before in
-    let c-5 = after-nothing-of .before .before in
-    let c-8 = c-5 .before .before .before in
-    let s = c-8 in
+    let after-if1 = after-nothing-of .before .before in
+    let s = start-of after-if1 in
     let n = after-nothing-of .nothing-of in
-    file-stands (s .args .file .now) (s .args .checked) (s .pre) (clear (c-5)) (n .result .now) (n .ensures)
+    file-stands (s .args .file .now) (s .args .checked) (s .pre) (clear after-if1) (n .result .now) (n .ensures)
 
 same-length : tie.Need-same-length
 same-length c = search needs
@@ -54,12 +57,11 @@ returns-2 : tie.Need-returns-2
 returns-2 c =
     let after-everything-over = c .before .before .before in
     let after-nothing-of = after-everything-over .before .before .before .before in
-    let c-9 = after-nothing-of .before .before in
-    let c-12 = c-9 .before .before .before in
-    let s = c-12 in
+    let after-if1 = after-nothing-of .before .before in
+    let s = start-of after-if1 in
     let file = s .args .file .now in
     let n = after-nothing-of .nothing-of in
-    let z = clear (c-9) in
+    let z = clear after-if1 in
     let r = after-everything-over .everything-over in
     let x = r .ensures in
     let f = answer-accepted file (s .args .checked) (s .pre) z (n .result .now) (n .ensures) Figures (s .args .figures .now) (r .result .figures) _

@@ -16,15 +16,19 @@ check-pair-requires c κs = search needs
 number-of-requires : tie.Need-number-of-requires
 number-of-requires c κs = search needs
 
+abbrev checked-in : tie.Else1 → tie.After-check-pair
+checked-in c =
+    let after-check-pair = c .before .before .before in
+    after-check-pair
+
 -- nothing is refused
-clear : (c : tie.Else1) → numberOf (c .before .before .before .check-pair .result .verdict .answer) ≡ 0
+clear : (c : tie.Else1) → numberOf (checked-in c .check-pair .result .verdict .answer) ≡ 0
 clear c = sym (c .before .number-of .ensures) ∙ omega (arith, c .if1 .left)
 
 returns : tie.Need-returns
 returns c =
     let after-check-pair = c .before .before .before in
-    let c-6 = after-check-pair .before .before .before in
-    let s = c-6 in
+    let s = after-check-pair .before .before .before in
     let m = s .args .morning .now in
     let n = s .args .noon .now in
     let k = after-check-pair .check-pair in
@@ -35,12 +39,11 @@ returns c =
 
 everything-over-requires : tie.Need-everything-over-requires
 everything-over-requires c κs =
-    let c-4 = c .before .before .before .before in
-    let after-check-pair = c-4 .before .before .before in
-    let c-10 = after-check-pair .before .before .before in
-    let s = c-10 in
+    let after-if1 = c .before .before .before .before in
+    let after-check-pair = checked-in after-if1 in
+    let s = after-check-pair .before .before .before in
     let k = after-check-pair .check-pair in
-    pair-stands (s .args .morning .now) (s .args .noon .now) (k .result) (k .ensures) (clear (c-4))
+    pair-stands (s .args .morning .now) (s .args .noon .now) (k .result) (k .ensures) (clear after-if1)
 
 of-joined-requires : tie.Need-of-joined-requires
 of-joined-requires c κs = search needs
@@ -63,14 +66,13 @@ same-length-3 c = search needs
 returns-2 : tie.Need-returns-2
 returns-2 c =
     let after-everything-over = c .before .before .before .before .before .before in
-    let c-11 = after-everything-over .before .before .before .before .before in
-    let after-check-pair = c-11 .before .before .before in
-    let c-17 = after-check-pair .before .before .before in
-    let s = c-17 in
+    let after-if1 = after-everything-over .before .before .before .before .before in
+    let after-check-pair = checked-in after-if1 in
+    let s = after-check-pair .before .before .before in
     let m = s .args .morning .now in
     let n = s .args .noon .now in
     let k = after-check-pair .check-pair in
-    let z = clear (c-11) in
+    let z = clear after-if1 in
     let r = after-everything-over .everything-over in
     let x = r .ensures in
     let f = answer-accepted m n (k .result) (k .ensures) z Figures (s .args .figures .now) _ (r .result .figures)

@@ -18,18 +18,17 @@ returns c =
 
 returns-2 : tie.Need-returns-2
 returns-2 c =
-    let c-3 = c .before .before .before in
-    let start = c-3 .before .before .before .before in
+    let after-if1 = c .before .before .before in
+    let start = after-if1 .before .before .before .before in
     let a = start .args in
-    sym (covered (a .required .0) (a .last .0) (a .threshold .0) (a .collateral .0) (omega (arith, c-3 .if1 .left)) (c .if2 .taken))
+    sym (covered (a .required .0) (a .last .0) (a .threshold .0) (a .collateral .0) (omega (arith, after-if1 .if1 .left)) (c .if2 .taken))
 
 sub-t5 : tie.Need-sub-t5
 sub-t5 c = search needs
 
 returns-3 : tie.Need-returns-3
 returns-3 c =
-    let c-5 = c .before .before .before .before .before in
-    let e = c-5 in
+    let e = c .before .before .before .before .before in
     let a = e .before .before .before .before .args in
     sym
     (called (a .required .0) (a .last .0) (a .threshold .0) (a .collateral .0) (omega (arith, e .if1 .left))

@@ -15,26 +15,40 @@ use borrow.Author.Needs.{needs}
 use Rattle.questions.proofs.noon.cover_call.Statement.{statement}
 use Rattle.questions.proofs.noon.cover_call.Tie as tie
 
+abbrev checked-in : tie.Else1 → tie.After-check-pair
+checked-in c =
+    let after-check-pair = c .before .before .before in
+    after-check-pair
+
 -- nothing is refused so far
-clear : (c : tie.Else1) → numberOf (c .before .before .before .check-pair .result .verdict .answer) ≡ 0
+clear : (c : tie.Else1) → numberOf (checked-in c .check-pair .result .verdict .answer) ≡ 0
 clear c = sym (c .before .number-of .ensures) ∙ omega (arith, c .if1 .left)
 
+abbrev standing-in : tie.After-beyond-amount3 → tie.Else1
+standing-in c =
+    let after-if1 = c .before .before .before .before in
+    after-if1
+
+abbrev start-of : tie.After-beyond-amount3 → tie.Start
+start-of c =
+    let start = checked-in (standing-in c) .before .before .before in
+    start
+
 -- the amounts are tested one after the other
-tested : (c : tie.After-beyond-amount3)
-    → let a = c .before .before .before .before .before .before .before .before .before .before .args in
+tested : (c : tie.After-beyond-amount3) →
+    let a = start-of c .args in
     (c .before .before .beyond-amount .result || c .before .beyond-amount2 .result) || c .beyond-amount3 .result
     ≡ (beyondAmount (a .last) || beyondAmount (a .threshold)) || beyondAmount (a .collateral)
 tested c =
-    let c-10 = c .before .before .before .before .before .before .before .before .before .before in
-    let s = c-10 in
+    let s = start-of c in
     ap₂ _||_
     (ap₂ _||_
     (seen beyondAmount (s .args .last) (s .fits .last) (c .before .before .beyond-amount .ensures))
     (seen beyondAmount (s .args .threshold) (s .fits .threshold) (c .before .beyond-amount2 .ensures)))
     (seen beyondAmount (s .args .collateral) (s .fits .collateral) (c .beyond-amount3 .ensures))
 
-within : (c : tie.Else2)
-    → let a = c .before .before .before .before .before .before .before .before .before .before .before .args in
+within : (c : tie.Else2) →
+    let a = start-of (c .before) .args in
     (beyondAmount (a .last) || beyondAmount (a .threshold)) || beyondAmount (a .collateral) ≡ false
 within c = sym (tested (c .before)) ∙ c .if2 .left
 
@@ -70,22 +84,22 @@ of-joined-requires c κs = search needs
 
 returns-2 : tie.Need-returns-2
 returns-2 c =
-    let c-3 = c .before .before .before in
-    let t = c-3 in
-    let a = t .before .before .before .before .before .before .before .before .before .before .args in
-    let o = t .before .before .before .before .before .before .before .check-pair in
+    let after-beyond = c .before .before .before in
+    let after-if1 = standing-in after-beyond in
+    let a = start-of after-beyond .args in
+    let o = checked-in after-if1 .check-pair in
     let n = c .before .record-total in
-    call-outside (a .morning .now) (a .noon .now) (o .result) (o .ensures) (a .last) (a .threshold) (a .collateral) (clear (t .before .before .before .before))
-    (sym (tested t) ∙ c .before .before .if2 .taken) (n .result) (n .ensures) (c .of-joined .result) (c .of-joined .ensures)
+    call-outside (a .morning .now) (a .noon .now) (o .result) (o .ensures) (a .last) (a .threshold) (a .collateral) (clear after-if1)
+    (sym (tested after-beyond) ∙ c .before .before .if2 .taken) (n .result) (n .ensures) (c .of-joined .result) (c .of-joined .ensures)
 
 total-over-requires : tie.Need-total-over-requires
 total-over-requires c κs =
-    let c-5 = c .before .before .before .before .before in
-    let after-check-pair = c-5 .before .before .before in
+    let after-if1 = c .before .before .before .before .before in
+    let after-check-pair = checked-in after-if1 in
     let start = after-check-pair .before .before .before in
     let a = start .args in
     let o = after-check-pair .check-pair in
-    pair-stands (a .morning .now) (a .noon .now) (o .result) (o .ensures) (clear (c-5))
+    pair-stands (a .morning .now) (a .noon .now) (o .result) (o .ensures) (clear after-if1)
 
 magnitude-requires : tie.Need-magnitude-requires
 magnitude-requires c κs = search needs
@@ -98,10 +112,9 @@ magnitude-requires-3 c κs = search needs
 
 call-of-requires : tie.Need-call-of-requires
 call-of-requires c κs =
-    let c-4 = c .before .before .before .before in
-    let e = c-4 in
-    let s = e .before .before .before .before .before .before .before .before .before .before .before in
-    let w = neither _ _ (neither _ _ (within e) .0) in (
+    let after-if2 = c .before .before .before .before in
+    let s = start-of (after-if2 .before) in
+    let w = neither _ _ (neither _ _ (within after-if2) .0) in (
       omega (arith, amount-within (s .args .last) (w .0), seen natAbs (s .args .last) (s .fits .last) (c .before .before .magnitude .ensures)),
       omega (arith, amount-within (s .args .threshold) (w .1), seen natAbs (s .args .threshold) (s .fits .threshold) (c .before .magnitude2 .ensures)),
     )
@@ -110,13 +123,14 @@ returns-3 : tie.Need-returns-3
 returns-3 c =
     let after-magnitude = c .before .before .before in
     let after-total-over = after-magnitude .before in
-    let c-5 = after-total-over .before in
-    let e = c-5 in
-    let s = e .before .before .before .before .before .before .before .before .before .before .before in
+    let after-if2 = after-total-over .before in
+    let after-beyond = after-if2 .before in
+    let after-if1 = standing-in after-beyond in
+    let s = start-of after-beyond in
     let a = s .args in
-    let o = e .before .before .before .before .before .before .before .before .check-pair in
+    let o = checked-in after-if1 .check-pair in
     call-made (a .morning .now) (a .noon .now) (o .result) (o .ensures) (a .last) (a .threshold) (a .collateral)
-    (clear (e .before .before .before .before .before)) (within e) (c .call-of .result)
+    (clear after-if1) (within after-if2) (c .call-of .result)
     (c .call-of .ensures
     ∙ ap₂ (λ (x y : ℕ). coverCall x y (c .before .before .magnitude2 .result) (c .before .magnitude3 .result))
     (after-total-over .total-over .ensures)

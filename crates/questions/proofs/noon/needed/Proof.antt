@@ -8,8 +8,13 @@ use borrow.Author.Needs.{needs}
 use Rattle.questions.proofs.noon.needed.Statement.{statement}
 use Rattle.questions.proofs.noon.needed.Tie as tie
 
+abbrev checked-in : tie.Else1 → tie.After-check-pair
+checked-in c =
+    let after-check-pair = c .before .before .before in
+    after-check-pair
+
 -- nothing is refused so far
-clear : (c : tie.Else1) → numberOf (c .before .before .before .check-pair .result .verdict .answer) ≡ 0
+clear : (c : tie.Else1) → numberOf (checked-in c .check-pair .result .verdict .answer) ≡ 0
 clear c = sym (c .before .number-of .ensures) ∙ omega (arith, c .if1 .left)
 
 check-pair-requires : tie.Need-check-pair-requires
@@ -28,7 +33,7 @@ returns c =
 
 needed-over-requires : tie.Need-needed-over-requires
 needed-over-requires c κs =
-    let after-check-pair = c .before .before .before .before in
+    let after-check-pair = checked-in (c .before) in
     let start = after-check-pair .before .before .before in
     let a = start .args in
     let o = after-check-pair .check-pair in
@@ -36,7 +41,7 @@ needed-over-requires c κs =
 
 returns-2 : tie.Need-returns-2
 returns-2 c =
-    let after-check-pair = c .before .before .before .before .before in
+    let after-check-pair = checked-in (c .before .before) in
     let start = after-check-pair .before .before .before in
     let a = start .args in
     let o = after-check-pair .check-pair in

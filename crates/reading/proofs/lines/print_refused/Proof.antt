@@ -30,12 +30,8 @@ end-line-requires c κs = search needs
 
 returns-2 : tie.Need-returns-2
 returns-2 c =
-    let c-6 = c .before .before .before .before .before .before in
-    rw (
-      ← c .before .before .before .before .before .before .before .number-of .ensures,
-      ne-eqb _ _
-          (c-6 .if1 .left),
-    )
+    let after-if1 = c .before .before .before .before .before .before in
+    rw (← after-if1 .before .number-of .ensures, ne-eqb _ _ (after-if1 .if1 .left))
 
 pub print-refused-spec : {M : Type 1} → statement M
 print-refused-spec =

@@ -52,8 +52,7 @@ beyond-requires-3 c κs = search needs
 
 returns : tie.Need-returns
 returns c =
-    let c-3 = c .before .before .before in
-    let lots = c-3 in
+    let lots = c .before .before .before in
     let day = lots .before .before .before in
     let currency = day .before .before in
     let type = currency .before .before in

@@ -25,9 +25,9 @@ prompt-outside-requires c κs = search needs
 
 returns-2 : tie.Need-returns-2
 returns-2 c =
-    let c-3 = c .before .before .before in
-    let r = c-3 .before .before .args .r .now in
-    sound-whole 2 (c-3 .before .before .args .c) r promptFields (of-prompt r) (le-leb recordBytes (length r) (c-3 .if1 .left))
+    let after-if1 = c .before .before .before in
+    let r = after-if1 .before .before .args .r .now in
+    sound-whole 2 (after-if1 .before .before .args .c) r promptFields (of-prompt r) (le-leb recordBytes (length r) (after-if1 .if1 .left))
     (c .before .before .is-of .ensures) (c .before .beside-prompt .ensures) (c .prompt-outside .ensures)
 
 pub sound-prompt-spec : {M : Type 1} → statement M

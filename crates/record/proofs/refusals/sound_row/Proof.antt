@@ -29,11 +29,10 @@ losses-beyond-requires c κs = search needs
 returns-2 : tie.Need-returns-2
 returns-2 c =
     let after-is-of = c .before .before .before in
-    let c-4 = after-is-of .before in
-    let c-6 = c-4 .before .before in
-    let start = c-6 in
+    let after-if1 = after-is-of .before in
+    let start = after-if1 .before .before in
     let r = start .args .r .now in
-    sound-whole 3 (start .args .c) r (rowFields r) (of-row r) (le-leb recordBytes (length r) (c-4 .if1 .left))
+    sound-whole 3 (start .args .c) r (rowFields r) (of-row r) (le-leb recordBytes (length r) (after-if1 .if1 .left))
     (after-is-of .is-of .ensures) (c .before .before .beside-row .ensures)
     (row-fields-outside r (c .before .row-head-outside .ensures) (c .losses-beyond .ensures))
 

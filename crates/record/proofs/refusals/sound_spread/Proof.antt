@@ -25,9 +25,9 @@ spread-outside-requires c κs = search needs
 
 returns-2 : tie.Need-returns-2
 returns-2 c =
-    let c-3 = c .before .before .before in
-    let r = c-3 .before .before .args .r .now in
-    sound-whole 4 (c-3 .before .before .args .c) r (spreadFields r) (of-spread r) (le-leb recordBytes (length r) (c-3 .if1 .left))
+    let after-if1 = c .before .before .before in
+    let r = after-if1 .before .before .args .r .now in
+    sound-whole 4 (after-if1 .before .before .args .c) r (spreadFields r) (of-spread r) (le-leb recordBytes (length r) (after-if1 .if1 .left))
     (c .before .before .is-of .ensures) (c .before .beside-spread .ensures) (c .spread-outside .ensures)
 
 pub sound-spread-spec : {M : Type 1} → statement M

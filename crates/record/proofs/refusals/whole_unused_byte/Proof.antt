@@ -88,14 +88,16 @@ beside-none-requires c κs = search needs
 
 returns-7 : tie.Need-returns-7
 returns-7 c =
-    let after-byte-in = c .before .before .before .before .before .before .before in
+    let after-if4 = c .before .before .before in
+    let after-if3 = after-if4 .before in
+    let after-if1 = after-if3 .before .before in
+    let after-byte-in = after-if1 .before in
     let start = after-byte-in .before .before in
     let r = start .args .r .now in
     let kind = after-byte-in .byte-in .ensures .0 in
     c .beside-none .ensures ∙ ap (λ (fs : List Field). unusedBeside fs r)
-    (sym (of-none r (λ e. c .before .before .before .before .before .before .if1 .left (kind ∙ e))
-    (λ e. c .before .before .before .before .before .if2 .left (kind ∙ e))
-    (λ e. c .before .before .before .before .if3 .left (kind ∙ e)) (λ e. c .before .before .before .if4 .left (kind ∙ e))
+    (sym (of-none r (λ e. after-if1 .if1 .left (kind ∙ e)) (λ e. after-if3 .before .if2 .left (kind ∙ e))
+    (λ e. after-if3 .if3 .left (kind ∙ e)) (λ e. after-if4 .if4 .left (kind ∙ e))
     (λ e. c .before .before .if5 .left (kind ∙ e)) (λ e. c .before .if6 .left (kind ∙ e))))
 
 pub whole-unused-byte-spec : {M : Type 1} → statement M

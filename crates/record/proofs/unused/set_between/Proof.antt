@@ -31,9 +31,8 @@ loop-less c = omega arith
 
 loop-again : tie.Need-loop-again Inv-loop μ-loop
 loop-again c =
-    let c-3 = c .before .before .before in
+    let s = c .before .before .before in
     let l = c .before .before .loop in
-    let s = c-3 in
     l .inv ∙ any-next (notZero (s .args .r .now)) (s .args .end) (l .i) (l .set) (c .before .loop-test .taken)
 
 returns : tie.Need-returns Inv-loop μ-loop

@@ -22,8 +22,7 @@ same-length c = search needs
 returns : tie.Need-returns
 returns c =
     let after-move-up = c .before .before .before .before .before .before in
-    let c-10 = after-move-up .before .before .before .before in
-    let s = c-10 in
+    let s = after-move-up .before .before .before .before in
     let at = s .args .at in
     let row = s .args .row .now in
     let lent = s .args .lent .now in

@@ -27,8 +27,7 @@ sub-i c =
 -- the byte that is moved, and its new place, are lent
 room : (c : tie.After-slice-known Inv-loop μ-loop) → c .before .before .loop .i + recordBytes ≤ length (c .before .before .loop .lent)
 room c =
-    let c-3 = c .before .before .before in
-    let s = c-3 in
+    let s = c .before .before .before in
     let l = c .before .before .loop in
     let p = s .pre .1 in
     let w = l .inv .1 .within in
@@ -60,8 +59,7 @@ loop-less c =
 
 loop-again : tie.Need-loop-again Inv-loop μ-loop
 loop-again c =
-    let c-3 = c .before .before .before in
-    let s = c-3 in
+    let s = c .before .before .before in
     let l = c .before .before .loop in
     let t = c .before .loop-test .taken in
     (omega (arith, t), one-more (s .args .end) (s .args .lent .now) (s .pre .1) (l .lent) (l .i) (omega (arith, t)) (l .inv .1))

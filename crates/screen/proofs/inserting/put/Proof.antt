@@ -22,11 +22,15 @@ loop-holds c = (omega arith, paste-zero (c .args .lent .now) (c .args .at) (c .a
 shared-slice-read-lent : tie.Need-shared-slice-read-lent Inv-loop μ-loop
 shared-slice-read-lent c = search needs
 
+abbrev start-of : tie.After-shared-slice-known Inv-loop μ-loop → tie.Start Inv-loop μ-loop
+start-of c =
+    let start = c .before .before .before in
+    start
+
 -- what is lent stays as long, and the byte's place is lent
-long : (c : tie.After-shared-slice-known Inv-loop μ-loop) → length (c .before .before .loop .lent) ≡ length (c .before .before .before .args .lent .now)
+long : (c : tie.After-shared-slice-known Inv-loop μ-loop) → length (c .before .before .loop .lent) ≡ length (start-of c .args .lent .now)
 long c =
-    let c-3 = c .before .before .before in
-    let s = c-3 in
+    let s = start-of c in
     let l = c .before .before .loop in
     let p = s .pre in
     let w = l .inv .0 in
@@ -34,14 +38,14 @@ long c =
 
 add-lent : tie.Need-add-lent Inv-loop μ-loop
 add-lent c =
-    let p = c .before .before .before .pre in
+    let start = c .before .before .before in
+    let p = start .pre in
     let t = c .before .loop-test .taken in
     search (needs, p, t)
 
 slice-write-lent : tie.Need-slice-write-lent Inv-loop μ-loop
 slice-write-lent c =
-    let start = c .before .before .before in
-    let p = start .pre in
+    let p = start-of c .pre in
     let t = c .before .loop-test .taken in
     let n = long c in
     omega (arith, p, t, n)
@@ -56,8 +60,7 @@ loop-less c =
 
 loop-again : tie.Need-loop-again Inv-loop μ-loop
 loop-again c =
-    let c-3 = c .before .before .before in
-    let s = c-3 in
+    let s = start-of c in
     let l = c .before .before .loop in
     let p = s .pre in
     let t = c .before .loop-test .taken in

@@ -47,8 +47,7 @@ loop-again : tie.Need-loop-again Inv-loop μ-loop
 loop-again c =
     let after-loop-test = c .before .before .before in
     let after-loop = after-loop-test .before in
-    let c-6 = after-loop .before .before in
-    let s = c-6 in
+    let s = after-loop .before .before in
     let p = s .args .t1 in
     let i = after-loop .loop .i in
     let lt : length (p .tier) ≡ promptPlaces = sym (length-map (p .tier) _) ∙ s .good .0 .1 .1 .1 .0 .1 .0 .1 in
@@ -62,8 +61,7 @@ loop-again c =
 
 returns-2 : tie.Need-returns-2 Inv-loop μ-loop
 returns-2 c =
-    let c-3 = c .before .before .before in
-    let s = c-3 in
+    let s = c .before .before .before in
     let p = s .args .t1 in
     let lt : length (p .tier) ≡ promptPlaces = sym (length-map (p .tier) _) ∙ s .good .0 .1 .1 .1 .0 .1 .0 .1 in
     let ln : length (p .net) ≡ promptPlaces = sym (length-map (p .net) _) ∙ s .good .0 .1 .1 .1 .1 .0 .1 .0 .1 in

@@ -19,10 +19,10 @@ sound-two-requires c κs = search needs
 
 returns : tie.Need-returns
 returns c =
-    let c-3 = c .before .before .before in
-    let s = c-3 .before in
+    let after-if1 = c .before .before .before in
+    let s = after-if1 .before in
     let l : length (s .args .t1 .leg) ≡ 3 = sym (length-map (s .args .t1 .leg) _) ∙ s .good .0 .1 .1 .1 .1 .0 .1 .0 .1 in
-    c .sound-two .ensures ∙ sym (with-two (s .args .t1) _ l (c-3 .if1 .taken))
+    c .sound-two .ensures ∙ sym (with-two (s .args .t1) _ l (after-if1 .if1 .taken))
 
 element-copy-out-sound-three : tie.Need-element-copy-out-sound-three
 element-copy-out-sound-three c = search needs
@@ -38,10 +38,10 @@ sound-three-requires c κs = search needs
 
 returns-2 : tie.Need-returns-2
 returns-2 c =
-    let c-4 = c .before .before .before .before in
-    let s = c-4 .before .before in
+    let after-if2 = c .before .before .before .before in
+    let s = after-if2 .before .before in
     let l : length (s .args .t1 .leg) ≡ 3 = sym (length-map (s .args .t1 .leg) _) ∙ s .good .0 .1 .1 .1 .1 .0 .1 .0 .1 in
-    c .sound-three .ensures ∙ sym (with-three (s .args .t1) _ l (c-4 .if2 .taken))
+    c .sound-three .ensures ∙ sym (with-three (s .args .t1) _ l (after-if2 .if2 .taken))
 
 returns-3 : tie.Need-returns-3
 returns-3 c = let s = c .before .before in

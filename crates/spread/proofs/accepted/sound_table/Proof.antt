@@ -43,8 +43,7 @@ loop-less c = omega arith
 loop-again : tie.Need-loop-again Inv-loop μ-loop
 loop-again c =
     let after-loop = c .before .before .before in
-    let c-5 = after-loop .before .before in
-    let s = c-5 in
+    let s = after-loop .before .before in
     let t = s .args .t1 in
     let i = after-loop .loop .i in
     let l : length (t .spread) ≡ spreadPlaces = sym (length-map (t .spread) _) ∙ s .good .0 .1 .1 .1 .0 .1 .0 .1 in
@@ -57,8 +56,7 @@ loop-again c =
 
 returns-2 : tie.Need-returns-2 Inv-loop μ-loop
 returns-2 c =
-    let c-3 = c .before .before .before in
-    let s = c-3 in
+    let s = c .before .before .before in
     let t = s .args .t1 in
     let l : length (t .spread) ≡ spreadPlaces = sym (length-map (t .spread) _) ∙ s .good .0 .1 .1 .1 .0 .1 .0 .1 in
     let n = length-take-le (t .count) (t .spread) (omega arith) in

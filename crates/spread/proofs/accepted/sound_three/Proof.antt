@@ -4,7 +4,7 @@ use mathlib.Core.Bool.{Bool, true, false, not, _&&_, _||_}
 use mathlib.Core.List.{[], _∷_}
 use mathlib.Core.Path.{_≡_, refl}
 use borrow.Author.Needs.{needs}
-use Rattle.spread.specs.Accepted.{soundLeg, sameLeg, soundLegsOf}
+use Rattle.spread.specs.Accepted.{soundLeg, legsAlike, soundLegsOf}
 use Rattle.spread.proofs.accepted.sound_three.Statement.{statement}
 use Rattle.spread.proofs.accepted.sound_three.Tie as tie
 
@@ -28,10 +28,9 @@ sound-two-requires c κs = search needs
 returns : tie.Need-returns
 returns c =
     let after-sound-leg = c .before .before .before in
-    let c-4 = after-sound-leg .before in
-    let s = c-4 in
+    let s = after-sound-leg .before in
     rw (after-sound-leg .sound-leg .ensures, c .before .before .same-leg .ensures, c .before .same-leg2 .ensures, c .sound-two .ensures)
-    (three (soundLeg (s .args .a)) (sameLeg (s .args .a) (s .args .b)) (sameLeg (s .args .a) (s .args .c)) (soundLegsOf (s .args .b ∷ s .args .c ∷ [])))
+    (three (soundLeg (s .args .a)) (legsAlike (s .args .a) (s .args .b)) (legsAlike (s .args .a) (s .args .c)) (soundLegsOf (s .args .b ∷ s .args .c ∷ [])))
 
 pub sound-three-spec : {M : Type 1} → statement M
 sound-three-spec =

@@ -3,7 +3,7 @@
 use mathlib.Core.Bool.{Bool, true, false, not, _&&_, _||_}
 use mathlib.Core.Path.{_≡_, refl}
 use borrow.Author.Needs.{needs}
-use Rattle.spread.specs.Accepted.{soundLeg, sameLeg}
+use Rattle.spread.specs.Accepted.{soundLeg, legsAlike}
 use Rattle.spread.proofs.accepted.sound_two.Statement.{statement}
 use Rattle.spread.proofs.accepted.sound_two.Tie as tie
 
@@ -22,10 +22,9 @@ sound-leg-requires-2 c κs = search needs
 
 returns : tie.Need-returns
 returns c =
-    let c-3 = c .before .before .before in
-    let s = c-3 in
+    let s = c .before .before .before in
     rw (c .before .before .sound-leg .ensures, c .before .same-leg .ensures, c .sound-leg2 .ensures)
-    (two (soundLeg (s .args .a)) (sameLeg (s .args .a) (s .args .b)) (soundLeg (s .args .b)))
+    (two (soundLeg (s .args .a)) (legsAlike (s .args .a) (s .args .b)) (soundLeg (s .args .b)))
 
 pub sound-two-spec : {M : Type 1} → statement M
 sound-two-spec =

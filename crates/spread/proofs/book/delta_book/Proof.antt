@@ -15,8 +15,7 @@ refused-requires c κs = search needs
 
 returns : tie.Need-returns
 returns c =
-    let c-3 = c .before .before .before in
-    let s = c-3 in
+    let s = c .before .before .before in
     booked-refused (s .args .prompts) (s .args .table) (c .refused .result)
     (sym (c .before .before .accepted .ensures) ∙ not-true _ (c .before .if1 .taken)) (c .refused .ensures)
 

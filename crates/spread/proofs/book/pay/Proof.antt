@@ -49,9 +49,10 @@ abbrev read : tie.Start Inv-loop μ-loop → ℕ → ℤ
 read s k = toZ w64 (ofZ w64 (getD (s .args .nets .now) k (pos 0)))
 
 -- the prompt of a turn
-here : (c : tie.After-pool-of Inv-loop μ-loop)
-    → let l = c .before .before .before .before in let s = l .before .before .before .before in
-    Placed (openOf (lent s)) (l .loop .k) (read s (l .loop .k)) (c .pool-of .result)
+here : (c : tie.After-pool-of Inv-loop μ-loop) →
+    let after-loop = c .before .before .before .before in
+    let s = after-loop .before .before .before .before in
+    Placed (openOf (lent s)) (after-loop .loop .k) (read s (after-loop .loop .k)) (c .pool-of .result)
 here c =
     let after-used = c .before .before in
     let after-loop = after-used .before .before in
@@ -66,26 +67,32 @@ within : (c : tie.After-pool-of Inv-loop μ-loop) → c .pool-of .result < poolC
 within c = placed-within _ _ _ _ (here c)
 
 -- the part that is kept
-kept-is : (c : tie.After-towards-zero Inv-loop μ-loop)
-    → let after-beyond = c .before .before in let after-loop = after-beyond .before .before .before .before .before .before in
-    c .towards-zero .result ≡ towardsZero (read (after-loop .before .before .before .before) (after-loop .loop .k)) (after-beyond .beyond .result)
+kept-is : (c : tie.After-towards-zero Inv-loop μ-loop) →
+    let after-beyond = c .before .before in
+    let after-loop = after-beyond .before .before .before .before .before .before in
+    let s = after-loop .before .before .before .before in
+    c .towards-zero .result ≡ towardsZero (read s (after-loop .loop .k)) (after-beyond .beyond .result)
 kept-is c =
     let after-beyond = c .before .before in
     let after-loop = after-beyond .before .before .before .before .before .before in
-    let z = read (after-loop .before .before .before .before) (after-loop .loop .k) in
+    let s = after-loop .before .before .before .before in
+    let z = read s (after-loop .loop .k) in
     let f : SFits w64 z = record { sfits = c .before .struct-told .given .0 .1 } in
     seen (λ (x : ℤ). towardsZero x (after-beyond .beyond .result)) z f (c .towards-zero .ensures)
 
 -- the part that is used
-used-is : (c : tie.After-minus Inv-loop μ-loop)
-    → let after-beyond = c .before .before .before .before in let after-loop = after-beyond .before .before .before .before .before .before in
-    let z = read (after-loop .before .before .before .before) (after-loop .loop .k) in
+used-is : (c : tie.After-minus Inv-loop μ-loop) →
+    let after-beyond = c .before .before .before .before in
+    let after-loop = after-beyond .before .before .before .before .before .before in
+    let s = after-loop .before .before .before .before in
+    let z = read s (after-loop .loop .k) in
     c .minus .result ≡ z -ℤ towardsZero z (after-beyond .beyond .result)
 used-is c =
     let after-towards-zero = c .before .before in
     let after-beyond = after-towards-zero .before .before in
     let after-loop = after-beyond .before .before .before .before .before .before in
-    let z = read (after-loop .before .before .before .before) (after-loop .loop .k) in
+    let s = after-loop .before .before .before .before in
+    let z = read s (after-loop .loop .k) in
     let y = after-towards-zero .towards-zero .result in
     let f : SFits w64 z = record { sfits = c .before .struct-told2 .given .0 .1 } in
     let g : SFits w64 y = record { sfits = after-towards-zero .towards-zero .ok } in
@@ -144,7 +151,8 @@ minus-requires c κs =
     let after-beyond = after-towards-zero .before .before in
     let y = after-towards-zero .towards-zero .result in
     let after-loop = after-beyond .before .before .before .before .before .before in
-    let z = read (after-loop .before .before .before .before) (after-loop .loop .k) in
+    let s = after-loop .before .before .before .before in
+    let z = read s (after-loop .loop .k) in
     let f : SFits w64 z = record { sfits = c .struct-told2 .given .0 .1 } in
     rw (back y (record { sfits = after-towards-zero .towards-zero .ok }), kept-is after-towards-zero, back z f)
     (taken-fits z (after-beyond .beyond .result) f)
@@ -162,10 +170,15 @@ element-set-from-kept : tie.Need-element-set-from-kept Inv-loop μ-loop
 element-set-from-kept c = omega arith
 
 mul-beyond-3 : tie.Need-mul-beyond-3 Inv-loop μ-loop
-mul-beyond-3 c = let h = within (c .before .before .before .before .before .before) in omega arith
+mul-beyond-3 c =
+    let after-pool-of = c .before .before .before .before .before .before in
+    let h = within after-pool-of in
+    omega arith
 
 array-read-beyond-2 : tie.Need-array-read-beyond-2 Inv-loop μ-loop
-array-read-beyond-2 c = within (c .before .before .before .before .before .before)
+array-read-beyond-2 c =
+    let after-pool-of = c .before .before .before .before .before .before in
+    within after-pool-of
 
 size-requires : tie.Need-size-requires Inv-loop μ-loop
 size-requires c κs = search needs
@@ -174,10 +187,15 @@ beyond-requires-2 : tie.Need-beyond-requires-2 Inv-loop μ-loop
 beyond-requires-2 c κs = search needs
 
 mul-had : tie.Need-mul-had Inv-loop μ-loop
-mul-had c = let h = within (c .before .before .before .before .before .before .before .before) in omega arith
+mul-had c =
+    let after-pool-of = c .before .before .before .before .before .before .before .before in
+    let h = within after-pool-of in
+    omega arith
 
 array-write-had : tie.Need-array-write-had Inv-loop μ-loop
-array-write-had c = within (c .before .before .before .before .before .before .before .before)
+array-write-had c =
+    let after-pool-of = c .before .before .before .before .before .before .before .before in
+    within after-pool-of
 
 add-k : tie.Need-add-k Inv-loop μ-loop
 add-k c = omega arith

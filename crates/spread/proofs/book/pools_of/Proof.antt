@@ -37,9 +37,10 @@ abbrev read : tie.Start Inv-loop μ-loop → ℕ → ℤ
 read s i = toZ w64 (ofZ w64 (getD (s .args .nets .now) i (pos 0)))
 
 -- the prompt of a turn
-here : (c : tie.After-pool-of Inv-loop μ-loop)
-    → let l = c .before .before .before .before in let s = l .before .before in
-    Placed (openOf (lent s)) (l .loop .i) (read s (l .loop .i)) (c .pool-of .result)
+here : (c : tie.After-pool-of Inv-loop μ-loop) →
+    let after-loop = c .before .before .before .before in
+    let s = after-loop .before .before in
+    Placed (openOf (lent s)) (after-loop .loop .i) (read s (after-loop .loop .i)) (c .pool-of .result)
 here c =
     let after-loop-test = c .before .before .before in
     let l = after-loop-test .before .loop in

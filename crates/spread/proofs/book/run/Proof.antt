@@ -8,7 +8,7 @@ use mathlib.Core.Logic.{⊎-elim}
 use mathlib.Core.Path.{_≡_, sym, _∙_, subst⁻¹}
 use lib.ListN.{length, length-map, getD, replicate}
 use borrow.Author.Needs.{needs}
-use Rattle.spread.specs.Accepted.{spreadsOf, soundSpread, spreadPlaces}
+use Rattle.spread.specs.Accepted.{tableSpreads, soundSpread, spreadPlaces}
 use Rattle.spread.specs.code.Cells.{Small}
 use Rattle.spread.specs.code.Lent.{spreadsFrom}
 use Rattle.spread.specs.Steps.{stepOf}
@@ -16,14 +16,15 @@ use Rattle.spread.specs.declared.Spread.{Spread}
 use Rattle.spread.specs.declared.Table.{Table}
 use Rattle.spread.proofs.Bounds.{small-taken}
 use Rattle.spread.proofs.Nothing.{Written, written-now, written-none}
-use Rattle.spread.proofs.Running.{table-length, table-few, table-at, table-next, none-yet, Running, running-none, running-all}
+use Rattle.spread.proofs.Gathering.{few-in-table, sound-in-table}
+use Rattle.spread.proofs.Running.{table-length, table-next, none-yet, Running, running-none, running-all}
 use Rattle.spread.proofs.book.run.Statement.{statement}
 use Rattle.spread.proofs.book.run.Tie as tie
 
 abbrev Inv-loop : tie.InvT-loop
 Inv-loop first₀ second₀ table n left₀ i₀ first second left i =
     (i ≤ n) × (n ≤ spreadPlaces) × Small (left .cell)
-    × Running (left₀ .cell) (spreadsOf table) i (left .cell) (spreadsFrom first) (spreadsFrom second)
+    × Running (left₀ .cell) (tableSpreads table) i (left .cell) (spreadsFrom first) (spreadsFrom second)
 
 abbrev μ-loop : tie.MeasureT-loop
 μ-loop first₀ second₀ table n left₀ i₀ first second left i = n - i
@@ -36,11 +37,11 @@ spreads s = sym (length-map (s .args .t2 .spread) _) ∙ s .good .1 .0 .1 .1 .1 
 
 -- the spread of a turn is accepted
 here : (c : tie.In-loop Inv-loop μ-loop) → soundSpread (spread-at (c .before .before .args .t2) (c .before .loop .i)) ≡ true
-here c = let s = c .before .before in table-at (s .args .t2) (c .before .loop .i) _ (spreads s) (s .pre .0) (c .loop-test .taken)
+here c = let s = c .before .before in sound-in-table (s .args .t2) (spreads s) (s .pre .0) (c .before .loop .i) _ (c .loop-test .taken)
 
 -- the steps of a turn, each taken or left out
-first-step : (c : tie.Joined1 Inv-loop μ-loop)
-    → let after-loop = c .before .before .before .before .before .before .before in
+first-step : (c : tie.Joined1 Inv-loop μ-loop) →
+    let after-loop = c .before .before .before .before .before .before .before in
     let l = after-loop .loop in
     Written (stepOf false (spread-at (after-loop .before .args .t2) (l .i))) (l .left .cell) (c .if1 .left .cell) (l .i) (l .first) (c .if1 .first)
 first-step c =
@@ -51,8 +52,8 @@ first-step c =
     (λ w. written-none _ _ _ _ _ _ (sym (c .before .has-room .ensures) ∙ w .0 .left) (w .2) (w .1) (none-yet _ (l .i) (l .first) (l .inv .3 .firsts)))
     (c .if1 .came)
 
-second-step : (c : tie.Joined2 Inv-loop μ-loop)
-    → let after-first = c .before .before .before .before .before in
+second-step : (c : tie.Joined2 Inv-loop μ-loop) →
+    let after-first = c .before .before .before .before .before in
     let after-loop = after-first .before .before .before .before .before .before .before in
     let l = after-loop .loop in
     Written (stepOf true (spread-at (after-loop .before .args .t2) (l .i))) (after-first .if1 .left .cell) (c .if2 .left .cell)
@@ -70,14 +71,15 @@ second-step c =
 between : (c : tie.Joined1 Inv-loop μ-loop) → Small (c .if1 .left .cell)
 between c =
     let after-loop = c .before .before .before .before .before .before .before in
-    let l = after-loop .loop in small-taken _ (l .left .cell) _ _ (first-step c .taken) (l .inv .2)
+    let l = after-loop .loop in
+    small-taken _ (l .left .cell) _ _ (first-step c .taken) (l .inv .2)
 
 loop-holds : tie.Need-loop-holds Inv-loop μ-loop
 loop-holds c =
     let cells = c .args .pools .cell in
-    let ss = spreadsOf (c .args .t2) in (
+    let ss = tableSpreads (c .args .t2) in (
       omega arith,
-      table-few (c .args .t2) (c .pre .0),
+      few-in-table (c .args .t2) (c .pre .0),
       c .pre .1 .0,
       subst⁻¹ (λ (ns : List ℕ). Running cells ss 0 cells (spreadsFrom ns) (spreadsFrom (c .args .second .now))) (c .pre .1 .1 .0)
           (subst⁻¹ (λ (ns : List ℕ). Running cells ss 0 cells (spreadsFrom (replicate spreadPlaces 0)) (spreadsFrom ns)) (c .pre .1 .1 .1)
@@ -91,11 +93,14 @@ element-copy-out-spread : tie.Need-element-copy-out-spread Inv-loop μ-loop
 element-copy-out-spread c = omega arith
 
 has-room-requires : tie.Need-has-room-requires Inv-loop μ-loop
-has-room-requires c κs = (search needs, here (c .before .before .before .before))
+has-room-requires c κs =
+    let after-test = c .before .before .before .before in
+    (search needs, here after-test)
 
 take-requires : tie.Need-take-requires Inv-loop μ-loop
 take-requires c κs =
-    let t = c .before .before .before .before .before .before in (here t, t .before .loop .inv .2)
+    let after-test = c .before .before .before .before .before .before in
+    (here after-test, after-test .before .loop .inv .2)
 
 mul-first : tie.Need-mul-first Inv-loop μ-loop
 mul-first c = omega arith
@@ -104,11 +109,16 @@ element-write-first : tie.Need-element-write-first Inv-loop μ-loop
 element-write-first c = omega arith
 
 has-room-requires-2 : tie.Need-has-room-requires-2 Inv-loop μ-loop
-has-room-requires-2 c κs = (search needs, here (c .before .before .before .before .before .before .before .before .before))
+has-room-requires-2 c κs =
+    let after-first = c .before .before .before in
+    let after-test = after-first .before .before .before .before .before .before in
+    (search needs, here after-test)
 
 take-requires-2 : tie.Need-take-requires-2 Inv-loop μ-loop
 take-requires-2 c κs =
-    let j = c .before .before .before .before .before in (here (j .before .before .before .before .before .before), between j)
+    let after-first = c .before .before .before .before .before in
+    let after-test = after-first .before .before .before .before .before .before in
+    (here after-test, between after-first)
 
 mul-second : tie.Need-mul-second Inv-loop μ-loop
 mul-second c = omega arith
@@ -124,15 +134,15 @@ loop-less c = omega arith
 
 loop-again : tie.Need-loop-again Inv-loop μ-loop
 loop-again c =
-    let j = c .before .before .before .before .before in
-    let after-test = j .before .before .before .before .before .before in
+    let after-first = c .before .before .before .before .before in
+    let after-test = after-first .before .before .before .before .before .before in
     let l = after-test .before .loop in
     let s = after-test .before .before in (
       omega arith,
       l .inv .1,
-      small-taken _ _ _ _ (second-step c .taken) (between j),
+      small-taken _ _ _ _ (second-step c .taken) (between after-first),
       table-next (s .args .t2) (s .args .pools .cell) (l .i) (l .left .cell) _ _ (l .first) (l .second) _ _ _ (spreads s) (l .inv .1)
-          (after-test .loop-test .taken) (first-step j) (second-step c) (l .inv .3),
+          (after-test .loop-test .taken) (first-step after-first) (second-step c) (l .inv .3),
     )
 
 returns : tie.Need-returns Inv-loop μ-loop
@@ -141,7 +151,7 @@ returns c =
     let s = c .before .before in
     let t = s .args .t2 in
     let n = table-length t (spreads s) (l .inv .1) in
-    running-all (s .args .pools .cell) (spreadsOf t) (l .i) (l .left .cell) (spreadsFrom (l .first)) (spreadsFrom (l .second)) (omega arith) (l .inv .3)
+    running-all (s .args .pools .cell) (tableSpreads t) (l .i) (l .left .cell) (spreadsFrom (l .first)) (spreadsFrom (l .second)) (omega arith) (l .inv .3)
 
 pub run-spec : {M : Type 1} → statement M
 run-spec =

@@ -23,8 +23,8 @@ element-copy-out-room-for-2 c = search needs
 
 room-for-requires-2 : tie.Need-room-for-requires-2
 room-for-requires-2 c κs =
-    let c-4 = c .before .before .before .before in
-    let s = c-4 in (s .pre .0, second-leg (s .args .t2) _ (legs s) (s .pre .1), s .pre .2)
+    let s = c .before .before .before .before in
+    (s .pre .0, second-leg (s .args .t2) _ (legs s) (s .pre .1), s .pre .2)
 
 lesser-requires : tie.Need-lesser-requires
 lesser-requires c κs = search needs
@@ -32,8 +32,7 @@ lesser-requires c κs = search needs
 returns : tie.Need-returns
 returns c =
     let after-room-for = c .before .before .before .before in
-    let c-7 = after-room-for .before .before .before in
-    let s = c-7 in
+    let s = after-room-for .before .before .before in
     least-two (s .args .second) (s .args .t2) _ _ _ (three _ (s .args .t2 .leg) (legs s)) (roomIn (s .args .cells .now)) _ _ _ (c .before .if1 .taken)
     (after-room-for .room-for .ensures) (c .before .before .room-for2 .ensures) (c .lesser .ensures)
 
@@ -42,8 +41,7 @@ element-copy-out-room-for-3 c = search needs
 
 room-for-requires-3 : tie.Need-room-for-requires-3
 room-for-requires-3 c κs =
-    let c-7 = c .before .before .before .before .before .before .before in
-    let s = c-7 in (
+    let s = c .before .before .before .before .before .before .before in (
       s .pre .0,
       third-leg (s .args .t2) _ (legs s) (s .pre .1) (has-three (s .args .t2) (s .pre .1) (c .before .if1 .left)),
       s .pre .2,
@@ -57,8 +55,7 @@ lesser-requires-3 c κs = search needs
 
 returns-2 : tie.Need-returns-2
 returns-2 c =
-    let c-10 = c .before .before .before .before .before .before .before .before .before .before in
-    let s = c-10 in
+    let s = c .before .before .before .before .before .before .before .before .before .before in
     let m = c .before .before in
     let b = m .before .before .before in
     least-three (s .args .second) (s .args .t2) _ _ _ (three _ (s .args .t2 .leg) (legs s)) (roomIn (s .args .cells .now)) _ _ _ _ _

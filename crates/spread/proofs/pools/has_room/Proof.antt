@@ -24,8 +24,8 @@ element-copy-out-pool-for-2 c = search needs
 
 pool-for-requires-2 : tie.Need-pool-for-requires-2
 pool-for-requires-2 c κs =
-    let c-4 = c .before .before .before .before in
-    let s = c-4 in (s .pre .0, second-leg (s .args .t2) _ (legs s) (s .pre .1))
+    let s = c .before .before .before .before in
+    (s .pre .0, second-leg (s .args .t2) _ (legs s) (s .pre .1))
 
 lesser-requires : tie.Need-lesser-requires
 lesser-requires c κs = search needs
@@ -33,8 +33,7 @@ lesser-requires c κs = search needs
 returns : tie.Need-returns
 returns c =
     let after-pool-for = c .before .before .before .before in
-    let c-7 = after-pool-for .before .before .before in
-    let s = c-7 in
+    let s = after-pool-for .before .before .before in
     ap (ltb 0)
     (least-two (s .args .second) (s .args .t2) _ _ _ (three _ (s .args .t2 .leg) (legs s)) (poolIn (s .args .cells .now)) _ _ _ (c .before .if1 .taken)
     (after-pool-for .pool-for .ensures) (c .before .before .pool-for2 .ensures) (c .lesser .ensures))
@@ -44,8 +43,7 @@ element-copy-out-pool-for-3 c = search needs
 
 pool-for-requires-3 : tie.Need-pool-for-requires-3
 pool-for-requires-3 c κs =
-    let c-7 = c .before .before .before .before .before .before .before in
-    let s = c-7 in (
+    let s = c .before .before .before .before .before .before .before in (
       s .pre .0,
       third-leg (s .args .t2) _ (legs s) (s .pre .1) (has-three (s .args .t2) (s .pre .1) (c .before .if1 .left)),
     )
@@ -58,8 +56,7 @@ lesser-requires-3 c κs = search needs
 
 returns-2 : tie.Need-returns-2
 returns-2 c =
-    let c-10 = c .before .before .before .before .before .before .before .before .before .before in
-    let s = c-10 in
+    let s = c .before .before .before .before .before .before .before .before .before .before in
     let m = c .before .before in
     let b = m .before .before .before in
     ap (ltb 0)

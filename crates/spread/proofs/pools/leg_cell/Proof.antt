@@ -22,16 +22,14 @@ mul-result-2 c = search needs
 
 returns : tie.Need-returns
 returns c =
-    let c-3 = c .before .before .before in
-    let s = c-3 in
+    let s = c .before .before .before in
     let h = tier-of (s .args .leg) (s .pre) in
     let e = cell-in-step (s .args .leg) (s .args .second) true h (c .if1 .taken) in
     (omega arith, omega arith)
 
 returns-2 : tie.Need-returns-2
 returns-2 c =
-    let c-3 = c .before .before .before in
-    let s = c-3 in
+    let s = c .before .before .before in
     let h = tier-of (s .args .leg) (s .pre) in
     let e = cell-in-step (s .args .leg) (s .args .second) false h (c .if1 .left) in
     (omega arith, omega arith)

@@ -45,8 +45,10 @@ same-length c = search needs
 
 returns : tie.Need-returns
 returns c =
-    let u = c .before .before in
-    put (u .before .before .before .args .cells .now) _ _ _ _ _ (c .beyond .ensures) (u .use-of .ensures) (u .before .leg-cell .ensures .0)
+    let after-use = c .before .before in
+    let after-leg-cell = after-use .before in
+    let start = after-leg-cell .before .before in
+    put (start .args .cells .now) _ _ _ _ _ (c .beyond .ensures) (after-use .use-of .ensures) (after-leg-cell .leg-cell .ensures .0)
 
 pub less-spec : {M : Type 1} → statement M
 less-spec =

@@ -18,16 +18,14 @@ cast-room c = search needs
 
 room-requires : tie.Need-room-requires
 room-requires c κs =
-    let c-3 = c .before .before .before in
-    let s = c-3 in (
+    let s = c .before .before .before in (
       subst⁻¹ (λ (p : ℕ). p ≤ mostPool) (c .before .pool-for .ensures) (s .pre .2 (marketIn (s .args .second) (s .args .leg .side)) (s .args .leg .tier)),
       ltb-true 0 (s .args .leg .ratio) (ratio-of (s .args .leg) (s .pre .1)),
     )
 
 returns : tie.Need-returns
 returns c =
-    let c-4 = c .before .before .before .before in
-    let s = c-4 in
+    let s = c .before .before .before .before in
     c .room .ensures ∙ ap (λ (p : ℕ). room (s .args .tenths) p (s .args .leg .ratio)) (c .before .before .pool-for .ensures)
 
 pub room-for-spec : {M : Type 1} → statement M

@@ -20,8 +20,16 @@ use Rattle.spread.proofs.stepwise.step_over.Tie as tie
 
 -- prompts that are accepted, and their plain numbers
 module _ (c : tie.After-plain) where
+  abbrev stepping : tie.Else1
+  stepping =
+      let after-if1 = c .before .before .before in
+      after-if1
+
+  abbrev start : tie.Start
+  start = stepping .before .before
+
   abbrev given : Prompts
-  given = c .before .before .before .before .before .args .prompts
+  given = start .args .prompts
 
   abbrev lent : Prompts
   lent = promptsIn (given .count) (given .tier) (c .plain .result)
@@ -29,19 +37,19 @@ module _ (c : tie.After-plain) where
   same : lent ≡ given
   same = prompts-back given (c .plain .result) (c .plain .ensures)
 
-  both : soundFor given (c .before .before .before .before .before .args .spread) ≡ true
-  both = sym (c .before .before .before .before .can-step .ensures) ∙ not-false _ (c .before .before .before .if1 .left)
+  both : soundFor given (start .args .spread) ≡ true
+  both = sym (stepping .before .can-step .ensures) ∙ not-false _ (stepping .if1 .left)
 
   sound-lent : soundPrompts lent ≡ true
   sound-lent =
       subst⁻¹ (λ (p : Prompts). soundPrompts p ≡ true) same
-      (and-left (soundPrompts given) (soundSpread (c .before .before .before .before .before .args .spread)) both)
+      (and-left (soundPrompts given) (soundSpread (start .args .spread)) both)
 
   tiers : length (given .tier) ≡ promptPlaces
-  tiers = let s = c .before .before .before .before .before in sym (length-map (given .tier) _) ∙ s .good .0 .1 .1 .1 .0 .1 .0 .1
+  tiers = sym (length-map (given .tier) _) ∙ start .good .0 .1 .1 .1 .0 .1 .0 .1
 
   nets : length (given .net) ≡ promptPlaces
-  nets = let s = c .before .before .before .before .before in sym (length-map (given .net) _) ∙ s .good .0 .1 .1 .1 .1 .0 .1 .0 .1
+  nets = sym (length-map (given .net) _) ∙ start .good .0 .1 .1 .1 .1 .0 .1 .0 .1
 
   numbers : length (c .plain .result) ≡ promptPlaces
   numbers = ap length (c .plain .ensures) ∙ length-map (given .net) _ ∙ nets
@@ -73,7 +81,7 @@ pools-of-requires c κs = let p = c .before .before in (sound-lent p, (tiers p, 
 take-requires : tie.Need-take-requires
 take-requires c κs =
     let p = c .before .before .before in
-    let s = p .before .before .before .before .before in (
+    let s = start p in (
       and-right (soundPrompts (given p)) (soundSpread (s .args .spread)) (both p),
       pooled-small (lent p) _ (tiers p) (length-map (p .plain .result) _ ∙ numbers p) (sound-lent p) (c .pools-of .ensures),
     )
@@ -106,7 +114,7 @@ returns-2 c =
     let after-take = after-pay .before .before .before .before .before .before .before .before .before .before in
     let after-pools-of = after-take .before in
     let p = after-pools-of .before .before .before in
-    let s = p .before .before .before .before .before in
+    let s = start p in
     let cells = after-pools-of .pools-of .result .cell in
     let spent = after-pay .pay .ensures in
     stepped-accepted (given p) (s .args .spread) (s .args .second) (both p) (tiers p) (nets p) _ _ _ _ _

@@ -17,8 +17,7 @@ delta-book-requires c κs = search needs
 
 returns : tie.Need-returns
 returns c =
-    let c-3 = c .before .before .before in
-    let s = c-3 in
+    let s = c .before .before .before in
     let b = c .before .before .delta-book .ensures in
     record {
       book = b;
@@ -31,8 +30,8 @@ returns c =
 
 -- the book is accepted
 taken : (c : tie.After-second) → let s =
-    let c-5 = c .before .before .before .before .before in
-    c-5 in sound (s .args .prompts) (s .args .table) ≡ true
+    let start = c .before .before .before .before .before in
+    start in sound (s .args .prompts) (s .args .table) ≡ true
 taken c =
     let after-delta-book = c .before .before .before .before in
     sym (after-delta-book .delta-book .ensures .accepted) ∙ not-false _ (c .before .before .if1 .left)
@@ -46,8 +45,7 @@ touches-of-requires c κs =
 returns-2 : tie.Need-returns-2
 returns-2 c =
     let after-delta-book = c .before .before .before .before .before in
-    let c-6 = after-delta-book .before in
-    let s = c-6 in
+    let s = after-delta-book .before in
     let p = s .args .prompts in
     let lt : length (p .tier) ≡ promptPlaces = sym (length-map (p .tier) _) ∙ s .good .0 .1 .1 .1 .0 .1 .0 .1 in
     let ln : length (p .net) ≡ promptPlaces = sym (length-map (p .net) _) ∙ s .good .0 .1 .1 .1 .1 .0 .1 .0 .1 in

@@ -36,9 +36,10 @@ abbrev read : tie.Start Inv-loop μ-loop → ℕ → ℤ
 read s k = toZ w64 (ofZ w64 (getD (s .args .nets .now) k (pos 0)))
 
 -- the prompt of a turn
-here : (c : tie.After-pool-of Inv-loop μ-loop)
-    → let l = c .before .before .before .before in let s = l .before .before .before .before .before in
-    Placed (openOf (lent s)) (l .loop .k) (read s (l .loop .k)) (c .pool-of .result)
+here : (c : tie.After-pool-of Inv-loop μ-loop) →
+    let after-loop = c .before .before .before .before in
+    let s = after-loop .before .before .before .before .before in
+    Placed (openOf (lent s)) (after-loop .loop .k) (read s (after-loop .loop .k)) (c .pool-of .result)
 here c =
     let after-net = c .before .before in
     let after-loop = after-net .before .before in
@@ -104,7 +105,10 @@ earlier-requires : tie.Need-earlier-requires Inv-loop μ-loop
 earlier-requires c κs = search needs
 
 mul-at : tie.Need-mul-at Inv-loop μ-loop
-mul-at c = let h = within (c .before .before .before) in omega arith
+mul-at c =
+    let after-pool-of = c .before .before .before in
+    let h = within after-pool-of in
+    omega arith
 
 slice-write-at : tie.Need-slice-write-at Inv-loop μ-loop
 slice-write-at c =

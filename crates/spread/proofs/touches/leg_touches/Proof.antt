@@ -15,8 +15,7 @@ cell-for-requires c κs = search needs
 
 most : (c : tie.After-cell-for) → c .cell-for .result ≤ poolCount
 most c =
-    let c-4 = c .before .before .before .before in
-    let s = c-4 in
+    let s = c .before .before .before .before in
     omega (arith, c .cell-for .ensures, cell-most (marketIn (s .args .second) (s .args .leg .side)) (s .args .leg .tier))
 
 mul-start : tie.Need-mul-start
@@ -24,26 +23,24 @@ mul-start c = let h = most c in omega arith
 
 slice-read-start : tie.Need-slice-read-start
 slice-read-start c =
-    let c-5 = c .before .before .before .before .before in
-    let s = c-5 in omega (arith, most (c .before), s .pre .places)
+    let s = c .before .before .before .before .before in
+    omega (arith, most (c .before), s .pre .places)
 
 pass-requires : tie.Need-pass-requires
 pass-requires c κs =
-    let c-6 = c .before .before .before .before .before .before in
-    let s = c-6 in
+    let s = c .before .before .before .before .before .before in
     (s .pre .pools, s .pre .sizes, s .pre .begun (c .before .before .cell-for .result))
 
 mul-at : tie.Need-mul-at
 mul-at c =
-    let c-5 = c .before .before .before .before .before in
-    let h = most (c-5) in omega arith
+    let after-cell-for = c .before .before .before .before .before in
+    let h = most after-cell-for in omega arith
 
 slice-write-at : tie.Need-slice-write-at
 slice-write-at c =
-    let c-5 = c .before .before .before .before .before in
-    let c-9 = c-5 .before .before .before .before in
-    let s = c-9 in
-    omega (arith, most (c-5), s .pre .places)
+    let after-cell-for = c .before .before .before .before .before in
+    let s = after-cell-for .before .before .before .before in
+    omega (arith, most after-cell-for, s .pre .places)
 
 same-length : tie.Need-same-length
 same-length c = search needs
@@ -54,8 +51,7 @@ same-length-2 c = search needs
 returns : tie.Need-returns
 returns c =
     let after-cell-for = c .before .before .before .before .before in
-    let c-9 = after-cell-for .before .before .before .before in
-    let s = c-9 in
+    let s = after-cell-for .before .before .before .before in
     leg-taken (s .args .at .now) (s .args .pool .now) (s .args .size .now) _ _ _ (s .args .wanted) _ _
     (after-cell-for .cell-for .ensures) (s .pre) (c .before .before .pass .ensures)
 

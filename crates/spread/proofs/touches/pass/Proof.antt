@@ -35,8 +35,8 @@ mul-gives c = let h = place c in omega arith
 
 shared-slice-read-gives : tie.Need-shared-slice-read-gives Inv-loop μ-loop
 shared-slice-read-gives c =
-    let c-5 = c .before .before .before .before .before in
-    let s = c-5 in omega (arith, place (c .before), s .pre .0)
+    let s = c .before .before .before .before .before in
+    omega (arith, place (c .before), s .pre .0)
 
 mul-gives-2 : tie.Need-mul-gives-2 Inv-loop μ-loop
 mul-gives-2 c = let h = place (c .before) in omega arith
@@ -44,9 +44,8 @@ mul-gives-2 c = let h = place (c .before) in omega arith
 slice-read-gives : tie.Need-slice-read-gives Inv-loop μ-loop
 slice-read-gives c =
     let after-loop = c .before .before .before in
-    let c-6 = after-loop .before .before .before in
     let l = after-loop .loop in
-    let s = c-6 in
+    let s = after-loop .before .before .before in
     omega (arith, place (c .before .before), s .pre .1, l .inv .size)
 
 gives-requires : tie.Need-gives-requires Inv-loop μ-loop
@@ -54,26 +53,33 @@ gives-requires c κs = search needs
 
 mul-size : tie.Need-mul-size Inv-loop μ-loop
 mul-size c =
-    let c-3 = c .before .before .before in
-    let h = place (c-3) in omega arith
+    let head = c .before .before .before in
+    let h = place head in
+    omega arith
 
-in-size : (c : tie.After-slice-known3 Inv-loop μ-loop)
-    → c .before .before .before .before .before .loop .k < length (c .before .before .before .before .before .loop .size)
+-- the turn in which it is given
+abbrev in-turn : tie.After-slice-known3 Inv-loop μ-loop → tie.In-loop Inv-loop μ-loop
+in-turn c =
+    let head = c .before .before .before .before in
+    head
+
+in-size : (c : tie.After-slice-known3 Inv-loop μ-loop) →
+    let l = in-turn c .before .loop in
+    l .k < length (l .size)
 in-size c =
-    let c-4 = c .before .before .before .before in
-    let c-8 = c-4 .before .before .before .before in
-    let l = c-4 .before .loop in
-    let s = c-8 in
-    omega (arith, place (c-4), s .pre .1, l .inv .size)
+    let head = in-turn c in
+    let l = head .before .loop in
+    let s = head .before .before .before .before in
+    omega (arith, place head, s .pre .1, l .inv .size)
 
 -- what is given is due, and there
-given-most : (c : tie.After-slice-known3 Inv-loop μ-loop)
-    → let l = c .before .before .before .before .before .loop in (c .before .gives .result ≤ l .due) × (c .before .gives .result ≤ getD (l .size) (l .k) 0)
+given-most : (c : tie.After-slice-known3 Inv-loop μ-loop) →
+    let l = in-turn c .before .loop in
+    (c .before .gives .result ≤ l .due) × (c .before .gives .result ≤ getD (l .size) (l .k) 0)
 given-most c =
-    let after-loop = c .before .before .before .before .before in
-    let c-8 = after-loop .before .before .before in
+    let after-loop = in-turn c .before in
     let l = after-loop .loop in
-    let s = c-8 in
+    let s = after-loop .before .before .before in
     gives-most (s .args .cell) (l .due) (getD (s .args .pool .now) (l .k) 0) (getD (l .size) (l .k) 0) (c .before .gives .ensures)
 
 slice-read-size : tie.Need-slice-read-size Inv-loop μ-loop
@@ -84,8 +90,8 @@ sub-size c = given-most c .1
 
 mul-size-2 : tie.Need-mul-size-2 Inv-loop μ-loop
 mul-size-2 c =
-    let c-4 = c .before .before .before .before in
-    let h = place (c-4) in omega arith
+    let h = place (in-turn c) in
+    omega arith
 
 slice-write-size : tie.Need-slice-write-size Inv-loop μ-loop
 slice-write-size c = in-size c
@@ -99,47 +105,43 @@ one-if-requires c κs = search needs
 add-touches : tie.Need-add-touches Inv-loop μ-loop
 add-touches c =
     let after-loop = c .before .before .before .before .before .before in
-    let c-9 = after-loop .before .before .before in
     let l = after-loop .loop in
-    let s = c-9 in
+    let s = after-loop .before .before .before in
     let f = touches-few (s .args .cell) (s .args .wanted) (s .args .pool .now) (s .args .size .now) (l .due) (l .k) (l .size) (l .touches) (l .inv) in
     let o = one-most (ltb 0 (c .before .before .gives .result)) (c .one-if .result) (c .one-if .ensures) in
     omega (arith, f, o, s .pre .0)
 
 further-requires : tie.Need-further-requires Inv-loop μ-loop
 further-requires c κs =
-    let c-5 = c .before .before .before .before .before in
-    let h = place (c-5) in omega arith
+    let head = c .before .before .before .before .before in
+    let h = place head in
+    omega arith
 
 loop-less : tie.Need-loop-less Inv-loop μ-loop
 loop-less c =
     let after-gives = c .before .before .before in
-    let c-6 = after-gives .before .before .before in
-    let l = c-6 .before .loop in
-    let i = c-6 in
-    turn-less (l .due) (l .k) (after-gives .gives .result) (c .further .result) (more i) (place i) (c .further .ensures)
+    let head = after-gives .before .before .before in
+    let l = head .before .loop in
+    turn-less (l .due) (l .k) (after-gives .gives .result) (c .further .result) (more head) (place head) (c .further .ensures)
 
 loop-again : tie.Need-loop-again Inv-loop μ-loop
 loop-again c =
     let after-gives = c .before .before .before in
-    let c-6 = after-gives .before .before .before in
-    let c-10 = c-6 .before .before .before .before in
-    let l = c-6 .before .loop in
-    let i = c-6 in
-    let s = c-10 in
+    let head = after-gives .before .before .before in
+    let l = head .before .loop in
+    let s = head .before .before .before .before in
     pass-turn (s .args .cell) (s .args .wanted) (s .args .pool .now) (s .args .size .now) (l .due) (l .k) (l .size) (l .touches)
     (after-gives .gives .result) (c .further .result) (c .before .one-if .result)
-    (omega (arith, place i, s .pre .0)) (s .pre .0
-    ∙ sym (s .pre .1)) (after-gives .gives .ensures) (c .further .ensures) (c .before .one-if .ensures) (l .inv)
+    (omega (arith, place head, s .pre .0)) (s .pre .0 ∙ sym (s .pre .1))
+    (after-gives .gives .ensures) (c .further .ensures) (c .before .one-if .ensures) (l .inv)
 
 same-length : tie.Need-same-length Inv-loop μ-loop
 same-length c = c .before .loop .inv .size
 
 returns : tie.Need-returns Inv-loop μ-loop
 returns c =
-    let c-4 = c .before .before .before .before in
     let l = c .before .loop in
-    let s = c-4 in
+    let s = c .before .before .before .before in
     pass-end (s .args .cell) (s .args .wanted) (s .args .pool .now) (s .args .size .now) (l .due) (l .k) (l .size) (l .touches)
     (ap (λ (n : ℕ). ltb 0 (l .due) && ltb (l .k) n) (s .pre .0) ∙ c .loop-test .left) (l .inv)
 

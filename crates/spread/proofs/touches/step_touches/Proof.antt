@@ -54,8 +54,7 @@ same-length-2 c = search needs
 
 returns-2 : tie.Need-returns-2
 returns-2 c =
-    let c-4 = c .before .before .before .before in
-    let third = c-4 in
+    let third = c .before .before .before .before in
     let second = third .before .before .before .before .before .before .before .before in
     let first = second .before .before .before .before .before .before .before .before in
     let s = first .before .before .before .before .before .before .before .before .before .before .before in

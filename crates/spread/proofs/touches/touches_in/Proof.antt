@@ -6,7 +6,7 @@ use mathlib.Core.List.{List}
 use mathlib.Core.Path.{_≡_, refl, sym, _∙_}
 use lib.ListN.{length, length-map, getD}
 use borrow.Author.Needs.{needs}
-use Rattle.spread.specs.Accepted.{openOf, spreadsOf, stepsOf, soundPrompts, soundTable, promptPlaces, spreadPlaces}
+use Rattle.spread.specs.Accepted.{openOf, tableSpreads, stepsOf, soundPrompts, soundTable, promptPlaces, spreadPlaces}
 use Rattle.spread.specs.code.Cells.{mostNumber}
 use Rattle.spread.specs.code.Lent.{promptsIn}
 use Rattle.spread.specs.code.Passing.{Ready, Laid}
@@ -14,14 +14,15 @@ use Rattle.spread.specs.Steps.{Open, numbers}
 use Rattle.spread.specs.declared.Prompts.{Prompts}
 use Rattle.spread.proofs.Both.{and-left, and-right}
 use Rattle.spread.proofs.Counting.{Formed, formed-by, numbers-small, Counting, counting-none, counting-all, table-counting}
-use Rattle.spread.proofs.Running.{table-few, table-length}
+use Rattle.spread.proofs.Gathering.{few-in-table}
+use Rattle.spread.proofs.Running.{table-length}
 use Rattle.spread.proofs.touches.touches_in.Statement.{statement}
 use Rattle.spread.proofs.touches.touches_in.Tie as tie
 
 abbrev Inv-loop : tie.InvT-loop
 Inv-loop count tiers nets first second table pool size₀ at₀ n touches₀ i₀ size at touches i =
     (i ≤ n) × (n ≤ spreadPlaces) × (touches ≤ 2 * (3 * promptPlaces) * i) × Ready at pool size
-    × ((ps : List Open) → Laid ps pool size₀ → Formed (spreadsOf table) ps first second → Counting (spreadsOf table) ps i pool size touches)
+    × ((ps : List Open) → Laid ps pool size₀ → Formed (tableSpreads table) ps first second → Counting (tableSpreads table) ps i pool size touches)
 
 abbrev μ-loop : tie.MeasureT-loop
 μ-loop count tiers nets first second table pool size₀ at₀ n touches₀ i₀ size at touches i = n - i
@@ -34,15 +35,17 @@ abbrev lent : tie.Start Inv-loop μ-loop → Prompts
 lent s = promptsIn (s .args .count) (s .args .tiers .now) (s .args .nets .now)
 
 few : (s : tie.Start Inv-loop μ-loop) → s .args .t4 .count ≤ spreadPlaces
-few s = table-few (s .args .t4) (and-right (soundPrompts (lent s)) (soundTable (s .args .t4)) (s .pre .0))
+few s = few-in-table (s .args .t4) (and-right (soundPrompts (lent s)) (soundTable (s .args .t4)) (s .pre .0))
 
-formed : (s : tie.Start Inv-loop μ-loop) → Formed (spreadsOf (s .args .t4)) (openOf (lent s)) (s .args .first .now) (s .args .second .now)
+formed : (s : tie.Start Inv-loop μ-loop) → Formed (tableSpreads (s .args .t4)) (openOf (lent s)) (s .args .first .now) (s .args .second .now)
 formed s = formed-by (lent s) (s .args .t4) (s .args .first .now) (s .args .second .now) (s .pre .0) (s .pre .1)
 
 -- no number is more than the most, from where the prompts are lent on
 module _ (a : tie.After-lay-arg2 Inv-loop μ-loop) where
   abbrev begin : tie.Start Inv-loop μ-loop
-  begin = a .before .before .before .before .before
+  begin =
+      let start = a .before .before .before .before .before in
+      start
 
   number-small : (k n : ℕ) → n ≡ getD (numbers (stepsOf (begin .args .t4)) (openOf (lent begin))) k 0 → n ≤ mostNumber
   number-small k n e =
@@ -58,10 +61,13 @@ within c = omega (arith, c .before .loop .inv .0, c .before .loop .inv .1, c .lo
 abbrev started : tie.In-loop Inv-loop μ-loop → tie.Start Inv-loop μ-loop
 started c =
     let after-lay = c .before .before .before .before .before in
-    after-lay .before .before .before .before .before .before
+    let start = after-lay .before .before .before .before .before .before in
+    start
 
 abbrev lent-at : tie.In-loop Inv-loop μ-loop → tie.After-lay-arg2 Inv-loop μ-loop
-lent-at c = c .before .before .before .before .before .before
+lent-at c =
+    let after-lay = c .before .before .before .before .before in
+    after-lay .before
 
 slice-aggregate-lay : tie.Need-slice-aggregate-lay Inv-loop μ-loop
 slice-aggregate-lay c = search needs
@@ -87,7 +93,7 @@ loop-holds c =
       few s,
       omega arith,
       record { places = search needs; pools = search needs; sizes = search needs; begun = l .lay .ensures .1 },
-      λ ps h f. counting-none (spreadsOf (s .args .t4)) ps _ _ h,
+      λ ps h f. counting-none (tableSpreads (s .args .t4)) ps _ _ h,
     )
 
 mul-spread : tie.Need-mul-spread Inv-loop μ-loop
@@ -141,7 +147,10 @@ step-touches-requires-2 c κs =
 
 -- the turn that ends
 abbrev in-turn : tie.After-at6 Inv-loop μ-loop → tie.In-loop Inv-loop μ-loop
-in-turn c = c .before .before .before .before .before .before .before .before .before .before .before .before .before .before .before
+in-turn c =
+    let after-step-touches = c .before .before .before .before .before .before .before .before in
+    let head = after-step-touches .before .before .before .before .before .before .before in
+    head
 
 add-touches : tie.Need-add-touches Inv-loop μ-loop
 add-touches c =
@@ -190,7 +199,7 @@ returns c =
     let l = c .before .loop in
     let s = after-lay .before .before .before .before .before .before in
     let n = table-length (s .args .t4) (tables s) (few s) in
-    counting-all (spreadsOf (s .args .t4)) (openOf (lent s)) (l .i) _ _ _ (omega (arith, n, c .loop-test .left))
+    counting-all (tableSpreads (s .args .t4)) (openOf (lent s)) (l .i) _ _ _ (omega (arith, n, c .loop-test .left))
     (l .inv .4 (openOf (lent s)) (after-lay .lay .ensures .0) (formed s))
 
 pub touches-in-spec : {M : Type 1} → statement M

@@ -13,8 +13,13 @@ use Rattle.spread.proofs.touches.touches_of.Statement.{statement}
 use Rattle.spread.proofs.touches.touches_of.Tie as tie
 
 -- the prompts, copied to plain numbers and back
-same : (c : tie.After-plain) → let p = c .before .before .before .args .prompts in promptsIn (p .count) (p .tier) (c .plain .result) ≡ p
-same c = prompts-back (c .before .before .before .args .prompts) (c .plain .result) (c .plain .ensures)
+same : (c : tie.After-plain) →
+    let s = c .before .before .before in
+    let p = s .args .prompts in
+    promptsIn (p .count) (p .tier) (c .plain .result) ≡ p
+same c =
+    let s = c .before .before .before in
+    prompts-back (s .args .prompts) (c .plain .result) (c .plain .ensures)
 
 plain-requires : tie.Need-plain-requires
 plain-requires c κs = search needs

@@ -20,8 +20,7 @@ refused-requires c κs = search needs
 returns : tie.Need-returns
 returns c =
     let after-check-file = c .before .before .before in
-    let c-7 = after-check-file .before .before .before .before in
-    let s = c-7 in
+    let s = after-check-file .before .before .before .before in
     let r = after-check-file .check-file in
     c .refused .ensures
     ∙ ask-no-file (s .args .file .now) (ticketsIn (s .args .tickets .now)) (r .result .answer) (r .ensures .answer-is)

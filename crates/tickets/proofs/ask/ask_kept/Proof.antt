@@ -6,7 +6,7 @@ use mathlib.Core.List.{[], _∷_, _++_}
 use Prim.Native.Nat.{_+_}
 use native.Mathlib.Omega.{arith}
 use Rattle.account.specs.Answers.{numberOf}
-use Rattle.tickets.specs.Asked.{ticketsIn, total}
+use Rattle.tickets.specs.Asked.{ticketsIn, marginTotal}
 use Rattle.tickets.proofs.AskLaws.{few-tickets, ask-no-ticket, ask-refused, ask-answered}
 use Rattle.tickets.proofs.CountLaws.{file-ok}
 use Rattle.tickets.proofs.Taken.{tickets-last}
@@ -25,8 +25,7 @@ refused-requires c κs = search needs
 returns : tie.Need-returns
 returns c =
     let after-put-in = c .before .before .before in
-    let c-7 = after-put-in .before .before .before .before in
-    let s = c-7 in
+    let s = after-put-in .before .before .before .before in
     let file = s .args .file .now in
     let bytes = s .args .tickets .now in
     let ts = ticketsIn bytes in
@@ -39,8 +38,7 @@ returns c =
 add-requires : tie.Need-add-requires
 add-requires c κs =
     let after-put-in = c .before .before .before in
-    let c-7 = after-put-in .before .before .before .before in
-    let s = c-7 in
+    let s = after-put-in .before .before .before .before in
     let z : numberOf (after-put-in .put-in .result .answer) ≡ 0 = sym (c .before .before .number-of .ensures) ∙ c .before .if1 .left in
     record { tickets = ticketsIn (s .args .tickets .now); kept = after-put-in .put-in .ensures .kept z }
 
@@ -49,17 +47,16 @@ number-of-requires-2 c κs = search needs
 
 add-refused : tie.Need-add-refused
 add-refused c =
-    let c-4 = c .before .before .before .before in
-    let c-10 = c-4 .before .before .before .before .before .before in
-    let s = c-10 in
+    let after-if1 = c .before .before .before .before in
+    let s = after-if1 .before .before .before .before .before .before in
     let file = s .args .file .now in
     let bytes = s .args .tickets .now in
     let ts = ticketsIn bytes in
     let ok = file-ok file (s .args .kept .counts .account) (s .pre .counts .from-check) in
-    let h = c-4 .before .before .put-in in
-    let z : numberOf (c-4 .before .before .put-in .result .answer) ≡ 0 = sym
-    (c-4 .before .number-of .ensures) ∙ c-4 .if1 .left in
-    let kb = c-4 .before .before .put-in .ensures .kept z in
+    let h = after-if1 .before .before .put-in in
+    let z : numberOf (after-if1 .before .before .put-in .result .answer) ≡ 0 = sym
+    (after-if1 .before .number-of .ensures) ∙ after-if1 .if1 .left in
+    let kb = after-if1 .before .before .put-in .ensures .kept z in
     omega (arith, h .ensures .many z, few-tickets file bytes (h .result .kept) kb)
 
 refused-requires-2 : tie.Need-refused-requires-2
@@ -68,18 +65,17 @@ refused-requires-2 c κs = search needs
 returns-2 : tie.Need-returns-2
 returns-2 c =
     let after-add = c .before .before .before in
-    let c-5 = after-add .before .before in
-    let after-number-of = c-5 .before in
+    let after-if1 = after-add .before .before in
+    let after-number-of = after-if1 .before in
     let after-put-in = after-number-of .before in
-    let c-11 = after-put-in .before .before .before .before in
-    let s = c-11 in
+    let s = after-put-in .before .before .before .before in
     let file = s .args .file .now in
     let bytes = s .args .tickets .now in
     let ts = ticketsIn bytes in
     let ok = file-ok file (s .args .kept .counts .account) (s .pre .counts .from-check) in
     let h = after-put-in .put-in in
     let z : numberOf (after-put-in .put-in .result .answer) ≡ 0 = sym
-    (after-number-of .number-of .ensures) ∙ c-5 .if1 .left in
+    (after-number-of .number-of .ensures) ∙ after-if1 .if1 .left in
     let kb = after-put-in .put-in .ensures .kept z in
     c .refused2 .ensures
     ∙ ask-refused file ts ok (h .result .ticket) (h .result .answer) (h .ensures .told) z (s .args .ticket .now)
@@ -88,44 +84,41 @@ returns-2 c =
 
 add-t12 : tie.Need-add-t12
 add-t12 c =
-    let c-5 = c .before .before .before .before .before in
-    let c-11 = c-5 .before .before .before .before .before .before in
-    let s = c-11 in
+    let after-if1 = c .before .before .before .before .before in
+    let s = after-if1 .before .before .before .before .before .before in
     let file = s .args .file .now in
     let bytes = s .args .tickets .now in
     let ts = ticketsIn bytes in
     let ok = file-ok file (s .args .kept .counts .account) (s .pre .counts .from-check) in
-    let h = c-5 .before .before .put-in in
-    let z : numberOf (c-5 .before .before .put-in .result .answer) ≡ 0 = sym
-    (c-5 .before .number-of .ensures) ∙ c-5 .if1 .left in
-    let kb = c-5 .before .before .put-in .ensures .kept z in
+    let h = after-if1 .before .before .put-in in
+    let z : numberOf (after-if1 .before .before .put-in .result .answer) ≡ 0 = sym
+    (after-if1 .before .number-of .ensures) ∙ after-if1 .if1 .left in
+    let kb = after-if1 .before .before .put-in .ensures .kept z in
     omega (arith, h .ensures .many z, few-tickets file bytes (h .result .kept) kb)
 
 kept-total-requires : tie.Need-kept-total-requires
 kept-total-requires c κs =
-    let c-5 = c .before .before .before .before .before in
-    let c-11 = c-5 .before .before .before .before .before .before in
-    let s = c-11 in
-    let z : numberOf (c-5 .before .before .put-in .result .answer) ≡ 0 = sym
-    (c-5 .before .number-of .ensures) ∙ c-5 .if1 .left in
-    record { tickets = ticketsIn (s .args .tickets .now); kept = c-5 .before .before .put-in .ensures .kept z }
+    let after-if1 = c .before .before .before .before .before in
+    let s = after-if1 .before .before .before .before .before .before in
+    let z : numberOf (after-if1 .before .before .put-in .result .answer) ≡ 0 = sym
+    (after-if1 .before .number-of .ensures) ∙ after-if1 .if1 .left in
+    record { tickets = ticketsIn (s .args .tickets .now); kept = after-if1 .before .before .put-in .ensures .kept z }
 
 kept-total-requires-2 : tie.Need-kept-total-requires-2
 kept-total-requires-2 c κs =
     let after-number-of2 = c .before .before .before in
     let after-add = after-number-of2 .before in
-    let c-6 = after-add .before .before in
-    let after-number-of = c-6 .before in
+    let after-if1 = after-add .before .before in
+    let after-number-of = after-if1 .before in
     let after-put-in = after-number-of .before in
-    let c-12 = after-put-in .before .before .before .before in
-    let s = c-12 in
+    let s = after-put-in .before .before .before .before in
     let file = s .args .file .now in
     let bytes = s .args .tickets .now in
     let ts = ticketsIn bytes in
     let ok = file-ok file (s .args .kept .counts .account) (s .pre .counts .from-check) in
     let h = after-put-in .put-in in
     let z : numberOf (after-put-in .put-in .result .answer) ≡ 0 = sym
-    (after-number-of .number-of .ensures) ∙ c-6 .if1 .left in
+    (after-number-of .number-of .ensures) ∙ after-if1 .if1 .left in
     let kb = after-put-in .put-in .ensures .kept z in
     let y : numberOf (after-add .add .result .answer) ≡ 0 = sym (after-number-of2 .number-of2 .ensures)
     ∙ c .before .before .if2 .left in
@@ -133,33 +126,32 @@ kept-total-requires-2 c κs =
 
 returns-3 : tie.Need-returns-3
 returns-3 c =
-    let c-3 = c .before .before .before in
-    let c-7 = c-3 .before .before .before .before in
-    let c-13 = c-7 .before .before .before .before .before .before in
-    let s = c-13 in
+    let after-if2 = c .before .before .before in
+    let after-if1 = after-if2 .before .before .before .before in
+    let s = after-if1 .before .before .before .before .before .before in
     let file = s .args .file .now in
     let bytes = s .args .tickets .now in
     let ts = ticketsIn bytes in
     let ok = file-ok file (s .args .kept .counts .account) (s .pre .counts .from-check) in
-    let h = c-7 .before .before .put-in in
-    let z : numberOf (c-7 .before .before .put-in .result .answer) ≡ 0 = sym
-    (c-7 .before .number-of .ensures)
-    ∙ c-7 .if1 .left in
-    let kb = c-7 .before .before .put-in .ensures .kept z in
+    let h = after-if1 .before .before .put-in in
+    let z : numberOf (after-if1 .before .before .put-in .result .answer) ≡ 0 = sym
+    (after-if1 .before .number-of .ensures)
+    ∙ after-if1 .if1 .left in
+    let kb = after-if1 .before .before .put-in .ensures .kept z in
     let t = s .args .ticket .now in
-    let y : numberOf (c-3 .before .before .add .result .answer) ≡ 0 = sym
-    (c-3 .before .number-of2 .ensures) ∙ c-3 .if2 .left in
-    ask-answered file ts ok (h .result .ticket) (h .result .answer) (h .ensures .told) z t (c-3 .before .before .add .result .answer)
-    (c-3 .before .before .add .ensures .told ts kb) y
+    let y : numberOf (after-if2 .before .before .add .result .answer) ≡ 0 = sym
+    (after-if2 .before .number-of2 .ensures) ∙ after-if2 .if2 .left in
+    ask-answered file ts ok (h .result .ticket) (h .result .answer) (h .ensures .told) z t (after-if2 .before .before .add .result .answer)
+    (after-if2 .before .before .add .ensures .told ts kb) y
     (record {
       ticket = h .result .ticket + 1;
-      answer = c-3 .before .before .add .result .answer;
+      answer = after-if2 .before .before .add .result .answer;
       before =
           c .before .kept-total .result;
       after = c .kept-total2 .result;
     })
     refl refl (c .before .kept-total .ensures ts kb)
-    (c .kept-total2 .ensures (ts ++ t ∷ []) (c-3 .before .before .add .ensures .accepted y ts kb) ∙ ap total (tickets-last file ts t))
+    (c .kept-total2 .ensures (ts ++ t ∷ []) (after-if2 .before .before .add .ensures .accepted y ts kb) ∙ ap marginTotal (tickets-last file ts t))
 
 pub ask-kept-spec : {M : Type 1} → statement M
 ask-kept-spec =

@@ -13,7 +13,7 @@ use Rattle.account.specs.Answers.{numberOf}
 use Rattle.account.specs.Records.{recordAt, cut}
 use Rattle.account.proofs.Earlier.{cut-more}
 use Rattle.account.proofs.Walk.{length-cut}
-use Rattle.tickets.specs.Asked.{ticketsIn, inTurn}
+use Rattle.tickets.specs.Asked.{ticketsIn, oneByOne}
 use Rattle.tickets.specs.code.Kept.{KeptBy}
 use Rattle.tickets.specs.Ticket.{withTickets, ticketChecked}
 use Rattle.tickets.specs.declared.kept.Kept.{Kept}
@@ -23,7 +23,7 @@ use Rattle.tickets.proofs.ask.put_in.Tie as tie
 
 abbrev Inv-loop : tie.InvT-loop
 Inv-loop file tickets count held₀ i₀ held i =
-    (i ≤ count) × (KeptBy file (cut i tickets) held × (inTurn 0 file (cut count tickets) ≡ FromOn file tickets count i))
+    (i ≤ count) × (KeptBy file (cut i tickets) held × (oneByOne 0 file (cut count tickets) ≡ FromOn file tickets count i))
 
 abbrev μ-loop : tie.MeasureT-loop
 μ-loop file tickets count held₀ i₀ held i = count - i
@@ -43,8 +43,7 @@ ticket-count-requires c κs = search needs
 
 loop-holds : tie.Need-loop-holds Inv-loop μ-loop
 loop-holds c =
-    let c-3 = c .before .before .before in
-    let s = c-3 in
+    let s = c .before .before .before in
     (omega arith, (s .pre, from-start (s .args .file .now) (s .args .tickets .now) (c .ticket-count .result)))
 
 record-at-requires : tie.Need-record-at-requires Inv-loop μ-loop
@@ -70,8 +69,7 @@ returns c =
     let after-loop-test = after-record-at .before in
     let after-loop = after-loop-test .before in
     let after-ticket-count = after-loop .before in
-    let c-9 = after-ticket-count .before .before .before in
-    let s = c-9 in
+    let s = after-ticket-count .before .before .before in
     let file = s .args .file .now in
     let bytes = s .args .tickets .now in
     let l = after-loop .loop in
@@ -83,7 +81,7 @@ returns c =
           from-stops file bytes n (l .i) (after-loop-test .loop-test .taken) (a .result .answer)
           (a .ensures .told (cut (l .i) bytes) (l .inv .1 .0) ∙ ap (ticketChecked (withTickets file (cut (l .i) bytes)))
           (after-record-at .record-at .ensures)) nz
-          ∙ sym (l .inv .1 .1) ∙ ap (inTurn 0 file) (all bytes n (after-ticket-count .ticket-count .ensures));
+          ∙ sym (l .inv .1 .1) ∙ ap (oneByOne 0 file) (all bytes n (after-ticket-count .ticket-count .ensures));
       many = λ z. absurd (nz z);
       kept = λ z. absurd (nz z);
     }
@@ -105,8 +103,7 @@ loop-again c =
     let after-loop-test = after-record-at .before in
     let after-loop = after-loop-test .before in
     let after-ticket-count = after-loop .before in
-    let c-10 = after-ticket-count .before .before .before in
-    let s = c-10 in
+    let s = after-ticket-count .before .before .before in
     let file = s .args .file .now in
     let bytes = s .args .tickets .now in
     let l = after-loop .loop in
@@ -125,8 +122,7 @@ loop-again c =
 
 returns-2 : tie.Need-returns-2 Inv-loop μ-loop
 returns-2 c =
-    let c-5 = c .before .before .before .before .before in
-    let s = c-5 in
+    let s = c .before .before .before .before .before in
     let file = s .args .file .now in
     let bytes = s .args .tickets .now in
     let l = c .before .loop in
@@ -134,7 +130,7 @@ returns-2 c =
     let e : l .i ≡ n = omega (arith, l .inv .0, c .loop-test .left) in
     let there = all bytes n (c .before .before .ticket-count .ensures) in
     record {
-      told = from-end file bytes n n (omega arith) ∙ ap (FromOn file bytes n) (sym e) ∙ sym (l .inv .1 .1) ∙ ap (inTurn 0 file) there;
+      told = from-end file bytes n n (omega arith) ∙ ap (FromOn file bytes n) (sym e) ∙ sym (l .inv .1 .1) ∙ ap (oneByOne 0 file) there;
       many = λ z. c .before .before .ticket-count .ensures;
       kept = λ z. subst (λ (ts : List Record). KeptBy file ts (l .held)) (ap (λ (m : ℕ). cut m bytes) e ∙ there) (l .inv .1 .0);
     }

@@ -8,7 +8,7 @@ use Rattle.record.specs.Layout.{Record}
 use Rattle.account.specs.Answers.{numberOf}
 use Rattle.account.specs.Records.{cut}
 use Rattle.account.proofs.AcceptedOnly.{accepted-only}
-use Rattle.tickets.specs.Asked.{ticketsIn, total}
+use Rattle.tickets.specs.Asked.{ticketsIn, marginTotal}
 use Rattle.tickets.specs.Ticket.{withTickets}
 use Rattle.tickets.proofs.AskLaws.{kept-cut, but-last, nothing-left, some-left, withdraw-no-ticket, withdraw-none, withdraw-answered}
 use Rattle.tickets.proofs.CountLaws.{file-ok}
@@ -27,8 +27,7 @@ refused-requires c κs = search needs
 returns : tie.Need-returns
 returns c =
     let after-put-in = c .before .before .before in
-    let c-6 = after-put-in .before .before .before in
-    let s = c-6 in
+    let s = after-put-in .before .before .before in
     let file = s .args .file .now in
     let bytes = s .args .tickets .now in
     let ts = ticketsIn bytes in
@@ -41,8 +40,7 @@ returns c =
 withdraw-requires : tie.Need-withdraw-requires
 withdraw-requires c κs =
     let after-put-in = c .before .before .before in
-    let c-6 = after-put-in .before .before .before in
-    let s = c-6 in
+    let s = after-put-in .before .before .before in
     let file = s .args .file .now in
     let bytes = s .args .tickets .now in
     let ts = ticketsIn bytes in
@@ -61,18 +59,17 @@ refused-requires-2 c κs = search needs
 returns-2 : tie.Need-returns-2
 returns-2 c =
     let after-withdraw = c .before .before .before in
-    let c-5 = after-withdraw .before .before in
-    let after-number-of = c-5 .before in
+    let after-if1 = after-withdraw .before .before in
+    let after-number-of = after-if1 .before in
     let after-put-in = after-number-of .before in
-    let c-10 = after-put-in .before .before .before in
-    let s = c-10 in
+    let s = after-put-in .before .before .before in
     let file = s .args .file .now in
     let bytes = s .args .tickets .now in
     let ts = ticketsIn bytes in
     let ok = file-ok file (s .args .kept .counts .account) (s .pre .counts .from-check) in
     let h = after-put-in .put-in in
     let z : numberOf (after-put-in .put-in .result .answer) ≡ 0 = sym
-    (after-number-of .number-of .ensures) ∙ c-5 .if1 .left in
+    (after-number-of .number-of .ensures) ∙ after-if1 .if1 .left in
     let kb = after-put-in .put-in .ensures .kept z in
     let w = after-withdraw .withdraw in
     let none = nothing-left file bytes (h .result .kept) kb (w .result .answer) (w .ensures .told)
@@ -82,29 +79,27 @@ returns-2 c =
 
 kept-total-requires : tie.Need-kept-total-requires
 kept-total-requires c κs =
-    let c-5 = c .before .before .before .before .before in
-    let c-10 = c-5 .before .before .before .before .before in
-    let s = c-10 in
-    let z : numberOf (c-5 .before .before .put-in .result .answer) ≡ 0 = sym
-    (c-5 .before .number-of .ensures) ∙ c-5 .if1 .left in
-    record { tickets = ticketsIn (s .args .tickets .now); kept = c-5 .before .before .put-in .ensures .kept z }
+    let after-if1 = c .before .before .before .before .before in
+    let s = after-if1 .before .before .before .before .before in
+    let z : numberOf (after-if1 .before .before .put-in .result .answer) ≡ 0 = sym
+    (after-if1 .before .number-of .ensures) ∙ after-if1 .if1 .left in
+    record { tickets = ticketsIn (s .args .tickets .now); kept = after-if1 .before .before .put-in .ensures .kept z }
 
 kept-total-requires-2 : tie.Need-kept-total-requires-2
 kept-total-requires-2 c κs =
     let after-number-of2 = c .before .before .before in
     let after-withdraw = after-number-of2 .before in
-    let c-6 = after-withdraw .before .before in
-    let after-number-of = c-6 .before in
+    let after-if1 = after-withdraw .before .before in
+    let after-number-of = after-if1 .before in
     let after-put-in = after-number-of .before in
-    let c-11 = after-put-in .before .before .before in
-    let s = c-11 in
+    let s = after-put-in .before .before .before in
     let file = s .args .file .now in
     let bytes = s .args .tickets .now in
     let ts = ticketsIn bytes in
     let ok = file-ok file (s .args .kept .counts .account) (s .pre .counts .from-check) in
     let h = after-put-in .put-in in
     let z : numberOf (after-put-in .put-in .result .answer) ≡ 0 = sym
-    (after-number-of .number-of .ensures) ∙ c-6 .if1 .left in
+    (after-number-of .number-of .ensures) ∙ after-if1 .if1 .left in
     let kb = after-put-in .put-in .ensures .kept z in
     let y : numberOf (after-withdraw .withdraw .result .answer) ≡ 0 = sym (after-number-of2 .number-of2 .ensures)
     ∙ c .before .before .if2 .left in
@@ -112,28 +107,27 @@ kept-total-requires-2 c κs =
 
 returns-3 : tie.Need-returns-3
 returns-3 c =
-    let c-3 = c .before .before .before in
-    let c-7 = c-3 .before .before .before .before in
-    let c-12 = c-7 .before .before .before .before .before in
-    let s = c-12 in
+    let after-if2 = c .before .before .before in
+    let after-if1 = after-if2 .before .before .before .before in
+    let s = after-if1 .before .before .before .before .before in
     let file = s .args .file .now in
     let bytes = s .args .tickets .now in
     let ts = ticketsIn bytes in
     let ok = file-ok file (s .args .kept .counts .account) (s .pre .counts .from-check) in
-    let h = c-7 .before .before .put-in in
-    let z : numberOf (c-7 .before .before .put-in .result .answer) ≡ 0 = sym
-    (c-7 .before .number-of .ensures)
-    ∙ c-7 .if1 .left in
-    let kb = c-7 .before .before .put-in .ensures .kept z in
-    let w = c-3 .before .before .withdraw in
-    let y : numberOf (w .result .answer) ≡ 0 = sym (c-3 .before .number-of2 .ensures) ∙ c-3 .if2 .left in
+    let h = after-if1 .before .before .put-in in
+    let z : numberOf (after-if1 .before .before .put-in .result .answer) ≡ 0 = sym
+    (after-if1 .before .number-of .ensures)
+    ∙ after-if1 .if1 .left in
+    let kb = after-if1 .before .before .put-in .ensures .kept z in
+    let w = after-if2 .before .before .withdraw in
+    let y : numberOf (w .result .answer) ≡ 0 = sym (after-if2 .before .number-of2 .ensures) ∙ after-if2 .if2 .left in
     let m = h .result .kept .counts .tickets in
     withdraw-answered file ts ok (h .result .ticket) (h .result .answer) (h .ensures .told) z
     (λ e. some-left m (sym (ap numberOf (w .ensures .told)) ∙ y) (kb .counts .many ∙ sym (h .ensures .many z) ∙ e))
     (record { ticket = h .result .ticket; answer = w .result .answer; before = c .before .kept-total .result; after = c .kept-total2 .result })
     refl (accepted-only (w .result .answer) y) (c .before .kept-total .ensures ts kb)
     (c .kept-total2 .ensures (cut (m - 1) bytes) (w .ensures .accepted y)
-    ∙ ap (λ (rs : List Record). total (withTickets file rs)) (but-last file bytes (h .result .kept) kb))
+    ∙ ap (λ (rs : List Record). marginTotal (withTickets file rs)) (but-last file bytes (h .result .kept) kb))
 
 pub withdraw-kept-spec : {M : Type 1} → statement M
 withdraw-kept-spec =

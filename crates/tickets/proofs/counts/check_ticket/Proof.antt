@@ -29,8 +29,7 @@ contract-requires c κs = search needs
 
 place-of-requires : tie.Need-place-of-requires
 place-of-requires c κs =
-    let c-5 = c .before .before .before .before .before in
-    let s = c-5 in
+    let s = c .before .before .before .before .before in
     let p = s .pre .1 in
     (small (s .args .file .now) (p .tickets) (s .args .counts) (p .counts), c .contract .ensures .1)
 
@@ -44,14 +43,14 @@ at k t p n e f = f ∙ ap (λ (i : ℕ). k .above + sum (take (i + 1) (k .rows))
 returns-2 : tie.Need-returns-2
 returns-2 c =
     let after-contract = c .before .before .before in
-    let c-4 = after-contract .before in
-    let start = c-4 .before .before .before .before in
+    let after-if1 = after-contract .before in
+    let start = after-if1 .before .before .before .before in
     let a = start .args in
     λ ts co.
     tell-3 (a .file .now) ts (a .counts) co (a .ticket .now) (c .before .before .place-of .result)
     (at (a .counts) (a .ticket .now) (c .before .before .place-of .result) (after-contract .contract .result)
     (after-contract .contract .ensures .0) (c .before .before .place-of .ensures))
-    (c-4 .if1 .left) (λ e. c .if2 .taken (c .before .kind .ensures .0 ∙ e))
+    (after-if1 .if1 .left) (λ e. c .if2 .taken (c .before .kind .ensures .0 ∙ e))
 
 slice-aggregate-number-at : tie.Need-slice-aggregate-number-at
 slice-aggregate-number-at c = search needs
@@ -61,13 +60,11 @@ number-at-requires c κs = search needs
 
 row-fault-requires : tie.Need-row-fault-requires
 row-fault-requires c κs =
-    let c-4 = c .before .before .before .before in
-    let c-12 = c-4 .before .before .before .before .before .before .before .before in
-    let s = c-12 in
+    let after-if2 = c .before .before .before .before in
+    let s = after-if2 .before .before .before .before .before .before .before .before in
     let p = s .pre .1 in (
       stands-in (s .args .file .now) (s .args .counts .account) (p .counts .from-check) (s .args .none .now) (s .pre .0),
-      sym
-          (c-4 .before .kind .ensures .0) ∙ c-4 .if2 .left,
+      sym (after-if2 .before .kind .ensures .0) ∙ after-if2 .if2 .left,
     )
 
 refusal-requires : tie.Need-refusal-requires
@@ -76,24 +73,22 @@ refusal-requires c κs = search needs
 returns-3 : tie.Need-returns-3
 returns-3 c =
     let after-number-at = c .before .before .before in
-    let c-7 = after-number-at .before .before .before .before in
-    let after-contract = c-7 .before .before .before in
-    let c-11 = after-contract .before in
-    let c-15 = c-11 .before .before .before .before in
-    let s = c-15 in
+    let after-if2 = after-number-at .before .before .before .before in
+    let after-contract = after-if2 .before .before .before in
+    let after-if1 = after-contract .before in
+    let s = after-if1 .before .before .before .before in
     let a = s .args in
     let t = a .ticket .now in
     λ ts co.
     c .refusal .ensures
     ∙ tell-row (a .file .now) ts (a .counts) co t (a .none .now) (s .pre .0)
-    (c-11 .if1 .left)
-    (sym (c-7 .before .kind .ensures .0)
-    ∙ c-7 .if2 .left)
-    (c-7 .before .before .place-of .result) (c .before .before .row-fault .result)
-    (at (a .counts) t (c-7 .before .before .place-of .result)
+    (after-if1 .if1 .left)
+    (sym (after-if2 .before .kind .ensures .0) ∙ after-if2 .if2 .left)
+    (after-if2 .before .before .place-of .result) (c .before .before .row-fault .result)
+    (at (a .counts) t (after-if2 .before .before .place-of .result)
     (after-contract .contract .result)
     (after-contract .contract .ensures .0)
-    (c-7 .before .before .place-of .ensures))
+    (after-if2 .before .before .place-of .ensures))
     (by-counts (a .file .now) ts (a .counts) co t (a .none .now) (c .before .before .row-fault .result) (after-number-at .number-at .result)
     (after-contract .contract .result)
     (c .before .before .row-fault .ensures) (after-number-at .number-at .ensures)
@@ -102,8 +97,8 @@ returns-3 c =
 
 part-requires : tie.Need-part-requires
 part-requires c κs =
-    let c-14 = c .before .before .before .before .before .before .before .before .before .before .before .before .before .before in
-    let s = c-14 in
+    let after-if2 = c .before .before .before .before .before .before in
+    let s = after-if2 .before .before .before .before .before .before .before .before in
     let p = s .pre .1 in
     stands-in (s .args .file .now) (s .args .counts .account) (p .counts .from-check) (s .args .none .now) (s .pre .0)
 
@@ -114,23 +109,21 @@ row-answer-requires : tie.Need-row-answer-requires
 row-answer-requires c κs =
     let after-row-fault = c .before .before .before in
     let after-number-at = after-row-fault .before in
-    let c-8 = after-number-at .before .before .before .before in
-    let after-contract = c-8 .before .before .before in
-    let c-12 = after-contract .before in
-    let c-16 = c-12 .before .before .before .before in
-    let s = c-16 in
+    let after-if2 = after-number-at .before .before .before .before in
+    let after-contract = after-if2 .before .before .before in
+    let after-if1 = after-contract .before in
+    let s = after-if1 .before .before .before .before in
     let a = s .args in
     let t = a .ticket .now in
     let x = s .pre .1 in
     let co = x .counts in
-    let row = sym (c-8 .before .kind .ensures .0)
-    ∙ c-8 .if2 .left in
+    let row = sym (after-if2 .before .kind .ensures .0) ∙ after-if2 .if2 .left in
     let e = rates-read (a .file .now) (x .tickets) (a .counts) co (a .none .now) (s .pre .0) (c .before .part .result .now) (c .before .part .ensures) in (
       record {
         isRow = row;
         within =
             row-within-here (a .file .now) (x .tickets) (a .counts) co t (a .none .now) (s .pre .0)
-            (c-12 .if1 .left) row
+            (after-if1 .if1 .left) row
             (after-row-fault .row-fault .result)
             (by-counts (a .file .now) (x .tickets) (a .counts) co t (a .none .now) (after-row-fault .row-fault .result)
             (after-number-at .number-at .result)
@@ -156,19 +149,16 @@ returns-4 c =
     let after-if3 = after-part .before in
     let after-row-fault = after-if3 .before in
     let after-number-at = after-row-fault .before in
-    let c-11 = after-number-at .before .before .before .before in
-    let after-contract = c-11 .before .before .before in
-    let c-15 = after-contract .before in
-    let c-17 = c-15 .before .before in
-    let s = c-17
-    .before .before in
+    let after-if2 = after-number-at .before .before .before .before in
+    let after-contract = after-if2 .before .before .before in
+    let after-if1 = after-contract .before in
+    let s = after-if1 .before .before .before .before in
     let a = s .args in
     let t = a .ticket .now in
     λ ts co.
     tell-rate (a .file .now) ts (a .counts) co t (a .none .now) (s .pre .0)
-    (c-15 .if1 .left)
-    (sym (c-11 .before .kind .ensures .0)
-    ∙ c-11 .if2 .left)
+    (after-if1 .if1 .left)
+    (sym (after-if2 .before .kind .ensures .0) ∙ after-if2 .if2 .left)
     (after-row-fault .row-fault .result)
     (by-counts (a .file .now) ts (a .counts) co t (a .none .now) (after-row-fault .row-fault .result)
     (after-number-at .number-at .result)
@@ -177,16 +167,16 @@ returns-4 c =
     (after-number-at .number-at .ensures)
     (after-contract .contract .ensures .0))
     (after-if3 .if3 .left)
-    (c-11 .before .before .place-of .result)
-    (at (a .counts) t (c-11 .before .before .place-of .result)
+    (after-if2 .before .before .place-of .result)
+    (at (a .counts) t (after-if2 .before .before .place-of .result)
     (after-contract .contract .result)
     (after-contract .contract .ensures .0)
-    (c-11 .before .before .place-of .ensures))
+    (after-if2 .before .before .place-of .ensures))
     (c .before .before .row-answer .result)
     (told-by (a .file .now) ts (a .counts) co t (a .none .now) (s .pre .0) (after-part .part .result .now)
     (after-part .part .ensures) (after-rates-of .rates-of .result)
     (after-rates-of .rates-of .ensures)
-    (c-11 .before .before .place-of .result)
+    (after-if2 .before .before .place-of .result)
     (c .before .before .row-answer .result) (c .before .before .row-answer .ensures))
     (λ z. c .if4 .taken (c .before .number-of .ensures ∙ z))
 
@@ -195,10 +185,9 @@ record-total-requires c κs = search needs
 
 add-if5 : tie.Need-add-if5
 add-if5 c =
-    let c-17 = c .before .before .before .before .before .before .before .before .before .before .before .before .before .before .before .before
-    .before in
-    let s = c-17
-    .before .before .before .before in
+    let after-if3 = c .before .before .before .before .before .before .before in
+    let after-if2 = after-if3 .before .before .before .before .before .before in
+    let s = after-if2 .before .before .before .before .before .before .before .before in
     let p = s .pre .1 in
     omega (arith, c .before .record-total .ensures, many-few (s .args .file .now) (p .tickets) (s .args .counts) (p .counts))
 
@@ -212,37 +201,30 @@ returns-5 c =
     let after-if3 = after-part .before in
     let after-row-fault = after-if3 .before in
     let after-number-at = after-row-fault .before in
-    let c-14 = after-number-at .before .before .before .before in
-    let c-17 = c-14 .before .before .before in
-    let s = c-17
-    .before .before .before .before .before in
+    let after-if2 = after-number-at .before .before .before .before in
+    let after-contract = after-if2 .before .before .before in
+    let s = after-contract .before .before .before .before .before in
     let a = s .args in
     let t = a .ticket .now in
     λ ts co.
     tell-1 (a .file .now) ts (a .counts) co t (a .none .now) (s .pre .0)
-    (c-17
-    .before .if1 .left)
-    (sym (c-14 .before .kind .ensures
-    .0) ∙ c-14 .if2 .left)
+    (after-contract .before .if1 .left)
+    (sym (after-if2 .before .kind .ensures .0) ∙ after-if2 .if2 .left)
     (after-row-fault .row-fault .result)
     (by-counts (a .file .now) ts (a .counts) co t (a .none .now)
     (after-row-fault .row-fault .result)
     (after-number-at .number-at .result)
-    (c-17
-    .contract .result)
+    (after-contract .contract .result)
     (after-row-fault .row-fault .ensures)
     (after-number-at .number-at .ensures)
-    (c-17
-    .contract .ensures .0))
+    (after-contract .contract .ensures .0))
     (after-if3 .if3 .left)
-    (c-14 .before .before .place-of
-    .result) (after-row-answer .row-answer .result)
+    (after-if2 .before .before .place-of .result) (after-row-answer .row-answer .result)
     (told-by (a .file .now) ts (a .counts) co t (a .none .now) (s .pre .0)
     (after-part .part .result .now)
     (after-part .part .ensures)
     (after-rates-of .rates-of .result) (after-rates-of .rates-of .ensures)
-    (c-14 .before .before .place-of
-    .result) (after-row-answer .row-answer .result) (after-row-answer .row-answer .ensures))
+    (after-if2 .before .before .place-of .result) (after-row-answer .row-answer .result) (after-row-answer .row-answer .ensures))
     (sym (after-number-of .number-of .ensures) ∙ after-if4 .if4 .left)
     (omega (arith, c .if5 .taken, c .before .before .record-total .ensures))
 
@@ -256,37 +238,30 @@ returns-6 c =
     let after-if3 = after-part .before in
     let after-row-fault = after-if3 .before in
     let after-number-at = after-row-fault .before in
-    let c-14 = after-number-at .before .before .before .before in
-    let c-17 = c-14 .before .before .before in
-    let s = c-17
-    .before .before .before .before .before in
+    let after-if2 = after-number-at .before .before .before .before in
+    let after-contract = after-if2 .before .before .before in
+    let s = after-contract .before .before .before .before .before in
     let a = s .args in
     let t = a .ticket .now in
     λ ts co.
     tell-0 (a .file .now) ts (a .counts) co t (a .none .now) (s .pre .0)
-    (c-17
-    .before .if1 .left)
-    (sym (c-14 .before .kind .ensures
-    .0) ∙ c-14 .if2 .left)
+    (after-contract .before .if1 .left)
+    (sym (after-if2 .before .kind .ensures .0) ∙ after-if2 .if2 .left)
     (after-row-fault .row-fault .result)
     (by-counts (a .file .now) ts (a .counts) co t (a .none .now)
     (after-row-fault .row-fault .result)
     (after-number-at .number-at .result)
-    (c-17
-    .contract .result)
+    (after-contract .contract .result)
     (after-row-fault .row-fault .ensures)
     (after-number-at .number-at .ensures)
-    (c-17
-    .contract .ensures .0))
+    (after-contract .contract .ensures .0))
     (after-if3 .if3 .left)
-    (c-14 .before .before .place-of
-    .result) (after-row-answer .row-answer .result)
+    (after-if2 .before .before .place-of .result) (after-row-answer .row-answer .result)
     (told-by (a .file .now) ts (a .counts) co t (a .none .now) (s .pre .0)
     (after-part .part .result .now)
     (after-part .part .ensures)
     (after-rates-of .rates-of .result) (after-rates-of .rates-of .ensures)
-    (c-14 .before .before .place-of
-    .result) (after-row-answer .row-answer .result) (after-row-answer .row-answer .ensures))
+    (after-if2 .before .before .place-of .result) (after-row-answer .row-answer .result) (after-row-answer .row-answer .ensures))
     (sym (after-number-of .number-of .ensures) ∙ after-if4 .if4 .left)
     (omega (arith, c .if5 .left, c .before .before .record-total .ensures))
 

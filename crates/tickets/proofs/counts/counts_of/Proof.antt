@@ -19,8 +19,7 @@ slice-aggregate-sum-of c = search needs
 
 sum-of-requires : tie.Need-sum-of-requires
 sum-of-requires c κs =
-    let c-5 = c .before .before .before .before .before in
-    let s = c-5 in (
+    let s = c .before .before .before .before .before in (
       omega arith,
       totals-few (s .args .file .now) (s .args .account) (s .pre .1) 2 (omega arith) (c .before .before .totals-of .result)
           (c .before .before .totals-of .ensures),
@@ -29,8 +28,7 @@ sum-of-requires c κs =
 add-above : tie.Need-add-above
 add-above c =
     let after-totals-of = c .before .before .before in
-    let c-6 = after-totals-of .before .before .before in
-    let s = c-6 in
+    let s = after-totals-of .before .before .before in
     omega (
       arith,
       c .sum-of .ensures,
@@ -47,8 +45,7 @@ returns : tie.Need-returns
 returns c =
     let after-contract-total = c .before .before .before in
     let after-totals-of = after-contract-total .before in
-    let c-7 = after-totals-of .before .before .before in
-    let s = c-7 in
+    let s = after-totals-of .before .before .before in
     counts-start (s .args .file .now) (s .args .account) (s .pre .1) _ (after-totals-of .totals-of .result) refl refl
     (after-totals-of .totals-of .ensures)
     (ap₂ (λ (x y : ℕ). x + y) (after-contract-total .contract-total .ensures) (c .before .sum-of .ensures)) (c .totals-of2 .ensures)

@@ -41,8 +41,7 @@ returns : tie.Need-returns
 returns c =
     let after-part = c .before .before .before in
     let after-contract = after-part .before in
-    let c-8 = after-contract .before .before .before .before in
-    let s = c-8 in
+    let s = after-contract .before .before .before .before in
     let account = accountOf (s .args .file .now) (s .args .none .now) in
     let number = contract (s .args .row .now) in
     let e = after-contract .contract .ensures .0 in

@@ -19,8 +19,7 @@ sum-of-requires c κs = search needs
 
 add-result : tie.Need-add-result
 add-result c =
-    let c-4 = c .before .before .before .before in
-    let s = c-4 in
+    let s = c .before .before .before .before in
     let xs = s .args .counts .rows in
     omega (
       arith,

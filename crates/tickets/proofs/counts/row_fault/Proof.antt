@@ -43,8 +43,7 @@ returns-2 c =
 
 missing-requires : tie.Need-missing-requires
 missing-requires c κs =
-    let c-7 = c .before .before .before .before .before .before .before in
-    let s = c-7 in
+    let s = c .before .before .before .before .before .before .before in
     let r = s .args .row .now in (
       s .pre .0,
       contract-known r (row-known r (s .pre .1)) (sym (c .before .field-outside .ensures) ∙ c .if2 .left),
@@ -53,41 +52,41 @@ missing-requires c κs =
 returns-3 : tie.Need-returns-3
 returns-3 c =
     let after-field-outside = c .before .before .before in
-    let c-4 = after-field-outside .before in
-    let after-unused-byte = c-4 .before in
+    let after-if1 = after-field-outside .before in
+    let after-unused-byte = after-if1 .before in
     let start = after-unused-byte .before .before .before .before in
     let args = start .args in
     let r = args .row .now in
     let m = noContract (args .account .counts) (contract r) || noDay (promptsOf (contract r) (accountOf (args .file .now) (args .none .now))) (day r) in
     four-7 (unusedByte r) (fieldOutside r) m (leb mostRows (args .rows))
-    (sym (after-unused-byte .unused-byte .ensures) ∙ c-4 .if1 .left)
+    (sym (after-unused-byte .unused-byte .ensures) ∙ after-if1 .if1 .left)
     (sym (after-field-outside .field-outside .ensures) ∙ c .before .before .if2 .left) (sym (c .before .missing .ensures) ∙ c .if3 .taken)
 
 returns-4 : tie.Need-returns-4
 returns-4 c =
-    let c-3 = c .before .before .before in
-    let after-unused-byte = c-3 .before .before .before in
+    let after-if2 = c .before .before .before in
+    let after-unused-byte = after-if2 .before .before .before in
     let start = after-unused-byte .before .before .before .before in
     let args = start .args in
     let r = args .row .now in
     let m = noContract (args .account .counts) (contract r) || noDay (promptsOf (contract r) (accountOf (args .file .now) (args .none .now))) (day r) in
     four-9 (unusedByte r) (fieldOutside r) m (leb mostRows (args .rows))
-    (sym (after-unused-byte .unused-byte .ensures) ∙ c-3 .before .before .if1 .left)
-    (sym (c-3 .before .field-outside .ensures) ∙ c-3 .if2 .left)
+    (sym (after-unused-byte .unused-byte .ensures) ∙ after-if2 .before .before .if1 .left)
+    (sym (after-if2 .before .field-outside .ensures) ∙ after-if2 .if2 .left)
     (sym (c .before .before .missing .ensures) ∙ c .before .if3 .left)
     (le-leb mostRows (args .rows) (c .if4 .taken))
 
 returns-5 : tie.Need-returns-5
 returns-5 c =
-    let c-3 = c .before .before .before in
-    let after-unused-byte = c-3 .before .before .before in
+    let after-if2 = c .before .before .before in
+    let after-unused-byte = after-if2 .before .before .before in
     let start = after-unused-byte .before .before .before .before in
     let args = start .args in
     let r = args .row .now in
     let m = noContract (args .account .counts) (contract r) || noDay (promptsOf (contract r) (accountOf (args .file .now) (args .none .now))) (day r) in
     four-0 (unusedByte r) (fieldOutside r) m (leb mostRows (args .rows))
-    (sym (after-unused-byte .unused-byte .ensures) ∙ c-3 .before .before .if1 .left)
-    (sym (c-3 .before .field-outside .ensures) ∙ c-3 .if2 .left)
+    (sym (after-unused-byte .unused-byte .ensures) ∙ after-if2 .before .before .if1 .left)
+    (sym (after-if2 .before .field-outside .ensures) ∙ after-if2 .if2 .left)
     (sym (c .before .before .missing .ensures) ∙ c .before .if3 .left)
     (lt-leb mostRows (args .rows) (c .if4 .left))
 

@@ -58,9 +58,8 @@ loop-again c =
 
 returns : tie.Need-returns Inv-loop μ-loop
 returns c =
-    let c-3 = c .before .before .before in
+    let s = c .before .before .before in
     let l = c .before .loop in
-    let s = c-3 in
     let e : l .i ≡ s .args .n = omega (arith, l .inv .1 .0, c .loop-test .left) in
     l .inv .0 ∙ ap (λ (m : ℕ). sum (take m (s .args .numbers .now))) e
 

@@ -14,8 +14,7 @@ contract-requires c κs = search needs
 
 place-of-requires : tie.Need-place-of-requires
 place-of-requires c κs =
-    let c-3 = c .before .before .before in
-    let s = c-3 in
+    let s = c .before .before .before in
     let p = s .pre in
     (small (s .args .file .now) (p .tickets) (s .args .counts) (p .counts), c .contract .ensures .1)
 

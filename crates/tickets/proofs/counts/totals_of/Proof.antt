@@ -41,10 +41,9 @@ loop-less c = omega (arith, c .before .loop-test .taken)
 
 loop-again : tie.Need-loop-again Inv-loop μ-loop
 loop-again c =
-    let c-3 = c .before .before .before in
+    let s = c .before .before .before in
     let l = c .before .before .loop in
-    let h = c .before .loop-test .taken in
-    let s = c-3 in (
+    let h = c .before .loop-test .taken in (
       length-set (l .totals) (l .c) (c .part-total .result) ∙ l .inv .0,
       (
         omega (arith, h),

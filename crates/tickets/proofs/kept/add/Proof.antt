@@ -54,8 +54,7 @@ one-more-requires : tie.Need-one-more-requires
 one-more-requires c κs =
     let after-number-of = c .before .before .before in
     let after-check-ticket = after-number-of .before in
-    let c-9 = after-check-ticket .before .before .before .before .before in
-    let s = c-9 in
+    let s = after-check-ticket .before .before .before .before .before in
     let x = s .pre in
     let file = s .args .file .now in
     let t = s .args .ticket .now in
@@ -68,22 +67,20 @@ one-more-requires c κs =
 
 returns-2 : tie.Need-returns-2
 returns-2 c =
-    let c-3 = c .before .before .before in
-    let c-10 = c-3 .before .before .before .before .before .before .before in
-    let s = c-10 in
+    let after-if1 = c .before .before .before in
+    let after-check-ticket = after-if1 .before .before in
+    let s = after-check-ticket .before .before .before .before .before in
     let file = s .args .file .now in
     let t = s .args .ticket .now in
-    let z : numberOf (c-3 .before .before .check-ticket .result) ≡ 0 = sym
-    (c-3 .before .number-of .ensures) ∙ c-3 .if1 .left in
+    let z : numberOf (after-check-ticket .check-ticket .result) ≡ 0 = sym (after-if1 .before .number-of .ensures) ∙ after-if1 .if1 .left in
     record {
-      told = λ ts kb. c .before .before .before .before .before .check-ticket .ensures ts (kb .counts);
+      told = λ ts kb. after-check-ticket .check-ticket .ensures ts (kb .counts);
       refused = λ n. absurd (n z);
       accepted = λ _ ts kb.
           record {
             counts =
                 counts-more file ts t (s .args .kept .counts) (c .one-more .result) (kb .counts)
-                (sym (c-3 .before .before .check-ticket .ensures ts (kb .counts))
-                ∙ accepted-only (c-3 .before .before .check-ticket .result) z)
+                (sym (after-check-ticket .check-ticket .ensures ts (kb .counts)) ∙ accepted-only (after-check-ticket .check-ticket .result) z)
                 (subst (λ (n : ℕ). OneMore n (s .args .kept .counts) (c .one-more .result)) (c .before .contract .ensures .0) (c .one-more .ensures));
             positions = c .before .before .with-row .ensures ts kb;
           };

@@ -19,14 +19,12 @@ counts-of-requires c κs = search needs
 
 positions-over-requires : tie.Need-positions-over-requires
 positions-over-requires c κs =
-    let c-3 = c .before .before .before in
-    let s = c-3 in
+    let s = c .before .before .before in
     stands-in (s .args .file .now) (s .args .account) (s .pre) (c .before .nothing-of .result .now) (c .before .nothing-of .ensures)
 
 returns : tie.Need-returns
 returns c =
-    let c-4 = c .before .before .before .before in
-    let s = c-4 in
+    let s = c .before .before .before .before in
     record {
       counts = c .before .counts-of .ensures;
       positions =

@@ -20,8 +20,7 @@ everything-from-requires : tie.Need-everything-from-requires
 everything-from-requires c κs =
     let after-account-of = c .before .before .before in
     let after-nothing-of = after-account-of .before in
-    let c-8 = after-nothing-of .before .before .before .before in
-    let s = c-8 in
+    let s = after-nothing-of .before .before .before .before in
     let x = s .pre in (
       subst⁻¹ (λ (a : Account). Stands (s .args .file .now) (after-nothing-of .nothing-of .result .now) a)
           (after-account-of .account-of .ensures)
@@ -42,11 +41,11 @@ same-length-3 c = search needs
 
 returns : tie.Need-returns
 returns c =
-    let after-nothing-of = c .before .before .before .before .before .before .before .before in
-    let c-12 = after-nothing-of .before .before .before .before in
-    let s = c-12 in
+    let after-everything = c .before .before .before in
+    let after-nothing-of = after-everything .before .before .before .before .before in
+    let s = after-nothing-of .before .before .before .before in
     λ ts kb.
-    c .before .before .before .everything-from .ensures (records (withTickets (s .args .file .now) ts))
+    after-everything .everything-from .ensures (records (withTickets (s .args .file .now) ts))
     (told-kept (s .args .file .now) ts (s .args .kept) kb (after-nothing-of .nothing-of .result .now)
     (after-nothing-of .nothing-of .ensures))
 

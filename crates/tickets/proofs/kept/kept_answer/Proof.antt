@@ -18,8 +18,7 @@ account-of-requires c κs = search needs
 
 answer-from-requires : tie.Need-answer-from-requires
 answer-from-requires c κs =
-    let c-6 = c .before .before .before .before .before .before in
-    let s = c-6 in
+    let s = c .before .before .before .before .before .before in
     let x = s .pre in (
       subst⁻¹ (λ (a : Account). Stands (s .args .file .now) (c .before .before .nothing-of .result .now) a) (c .before .account-of .ensures)
           (stands-kept (s .args .file .now) (x .tickets) (s .args .kept) (x .kept) (c .before .before .nothing-of .result .now)
@@ -34,8 +33,7 @@ same-length c = search needs
 returns : tie.Need-returns
 returns c =
     let after-nothing-of = c .before .before .before .before in
-    let c-8 = after-nothing-of .before .before .before .before in
-    let s = c-8 in
+    let s = after-nothing-of .before .before .before .before in
     λ ts kb.
     c .before .answer-from .ensures (records (withTickets (s .args .file .now) ts))
     (told-kept (s .args .file .now) ts (s .args .kept) kb (after-nothing-of .nothing-of .result .now)

@@ -20,8 +20,7 @@ account-of-requires c κs = search needs
 
 needed-over-requires : tie.Need-needed-over-requires
 needed-over-requires c κs =
-    let c-4 = c .before .before .before .before in
-    let s = c-4 in
+    let s = c .before .before .before .before in
     let x = s .pre in
     subst⁻¹ (λ (a : Account). Stands (s .args .file .now) (c .before .nothing-of .result .now) a) (c .account-of .ensures)
     (stands-kept (s .args .file .now) (x .tickets) (s .args .kept) (x .kept) (c .before .nothing-of .result .now)
@@ -29,8 +28,7 @@ needed-over-requires c κs =
 
 returns : tie.Need-returns
 returns c =
-    let c-5 = c .before .before .before .before .before in
-    let s = c-5 in
+    let s = c .before .before .before .before .before in
     let none = c .before .before .nothing-of in (
       λ ts kb.
           let t = told-kept (s .args .file .now) ts (s .args .kept) kb (none .result .now) (none .ensures) in

@@ -18,8 +18,7 @@ account-of-requires c κs = search needs
 
 total-from-requires : tie.Need-total-from-requires
 total-from-requires c κs =
-    let c-5 = c .before .before .before .before .before in
-    let s = c-5 in
+    let s = c .before .before .before .before .before in
     let x = s .pre in (
       subst⁻¹ (λ (a : Account). Stands (s .args .file .now) (c .before .nothing-of .result .now) a) (c .account-of .ensures)
           (stands-kept (s .args .file .now) (x .tickets) (s .args .kept) (x .kept) (c .before .nothing-of .result .now)
@@ -30,8 +29,7 @@ total-from-requires c κs =
 
 returns : tie.Need-returns
 returns c =
-    let c-6 = c .before .before .before .before .before .before in
-    let s = c-6 in
+    let s = c .before .before .before .before .before .before in
     λ ts kb.
     c .total-from .ensures (records (withTickets (s .args .file .now) ts))
     (told-kept (s .args .file .now) ts (s .args .kept) kb (c .before .before .nothing-of .result .now) (c .before .before .nothing-of .ensures))

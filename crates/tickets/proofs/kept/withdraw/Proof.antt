@@ -9,7 +9,7 @@ use lib.ListN.{getD}
 use Rattle.record.specs.Layout.{Record, contract, mostContract}
 use Rattle.account.specs.Records.{recordAt, cut}
 use Rattle.tickets.specs.code.Kept.{KeptBy, withdrawal}
-use Rattle.tickets.specs.code.Counts.{Small, OneLess}
+use Rattle.tickets.specs.code.Counts.{SmallCounts, OneLess}
 use Rattle.tickets.specs.declared.kept.Kept.{Kept}
 use Rattle.tickets.proofs.CountLaws.{small, known-low, some-rows, some-tickets, counts-less}
 use Rattle.tickets.proofs.KeptLaws.{cut-last}
@@ -49,8 +49,7 @@ record-at-requires c κs = search needs
 without-row-requires : tie.Need-without-row-requires
 without-row-requires c κs =
     let after-tickets-of = c .before .before .before in
-    let c-7 = after-tickets-of .before .before .before .before in
-    let s = c-7 in (
+    let s = after-tickets-of .before .before .before .before in (
       c .before .nothing-of .ensures,
       record {
         tickets = cut (after-tickets-of .tickets-of .result - 1) (s .args .tickets .now);
@@ -64,16 +63,15 @@ contract-requires c κs = search needs
 
 one-less-requires : tie.Need-one-less-requires
 one-less-requires c κs =
-    let c-4 = c .before .before .before .before in
-    let c-9 = c-4 .before .before .before .before .before in
-    let s = c-9 in
+    let after-if1 = c .before .before .before .before in
+    let s = after-if1 .before .before .before .before .before in
     let file = s .args .file .now in
-    let n = c-4 .before .tickets-of .result in
+    let n = after-if1 .before .tickets-of .result in
     let ts = cut (n - 1) (s .args .tickets .now) in
     let t = c .before .before .record-at .result .now in
-    let kb = latest file (s .args .tickets .now) (s .args .kept) n t (c-4 .before .tickets-of .ensures)
-    (c-4 .if1 .left) (c .before .before .record-at .ensures) (s .pre) in
-    subst⁻¹ (λ (i : ℕ). Small (s .args .kept .counts)
+    let kb = latest file (s .args .tickets .now) (s .args .kept) n t (after-if1 .before .tickets-of .ensures)
+    (after-if1 .if1 .left) (c .before .before .record-at .ensures) (s .pre) in
+    subst⁻¹ (λ (i : ℕ). SmallCounts (s .args .kept .counts)
     × ((i ≤ mostContract) × ((1 ≤ getD (s .args .kept .counts .rows) i 0) × (1 ≤ s .args .kept .counts .tickets)))) (c .contract .ensures .0) (
       small file (ts ++ t ∷ []) (s .args .kept .counts) (kb .counts),
       (
@@ -85,16 +83,15 @@ one-less-requires c κs =
 returns-2 : tie.Need-returns-2
 returns-2 c =
     let after-record-at = c .before .before .before in
-    let c-5 = after-record-at .before .before in
-    let after-tickets-of = c-5 .before in
-    let c-10 = after-tickets-of .before .before .before .before in
-    let s = c-10 in
+    let after-if1 = after-record-at .before .before in
+    let after-tickets-of = after-if1 .before in
+    let s = after-tickets-of .before .before .before .before in
     let file = s .args .file .now in
     let n = after-tickets-of .tickets-of .result in
     let ts = cut (n - 1) (s .args .tickets .now) in
     let t = after-record-at .record-at .result .now in
     let kb = latest file (s .args .tickets .now) (s .args .kept) n t (after-tickets-of .tickets-of .ensures)
-    (c-5 .if1 .left) (after-record-at .record-at .ensures) (s .pre) in
+    (after-if1 .if1 .left) (after-record-at .record-at .ensures) (s .pre) in
     let nz : s .args .kept .counts .tickets ≡ 0 → ⊥ = λ z. c .before .before .before .before .before .if1 .left
     (after-tickets-of .tickets-of .ensures ∙ z) in
     record {

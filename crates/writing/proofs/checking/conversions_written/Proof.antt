@@ -3,6 +3,7 @@
 use Prim.Native.Nat.{ℕ, _-_, _+_, _<_}
 use native.Mathlib.Nat.{zero-add}
 use mathlib.Core.Path.{_≡_, sym, ap, subst, _∙_}
+use mathlib.Core.List.{List}
 use native.Mathlib.Omega.{arith}
 use Rattle.record.specs.Layout.{Record, kind}
 use Rattle.account.specs.Answers.{numberOf}
@@ -32,59 +33,64 @@ loop-holds c =
     let start = c .before .before .before in
     let w = written (start .args .entries .now) in rows-start (ratesOf (records w)) 0 w
 
+-- the start and its entries, seen from the loop
+abbrev start-of : tie.At-loop Inv-loop μ-loop → tie.Start Inv-loop μ-loop
+start-of c =
+    let start = c .before .before .before .before in
+    start
+
+abbrev entries-of : tie.At-loop Inv-loop μ-loop → List ℕ
+entries-of c = start-of c .args .entries .now
+
 -- the record is one of the file
-within : (c : tie.In-loop Inv-loop μ-loop) → c .before .loop .k < recordCount (written (c .before .before .before .before .before .args .entries .now))
-within c =
-    let start = c .before .before .before .before .before in
-    let e = start .args .entries .now in
-    omega (arith, c .loop-test .taken, c .before .before .record-count .ensures, count-same e)
+within : (c : tie.In-loop Inv-loop μ-loop) → c .before .loop .k < recordCount (written (entries-of (c .before)))
+within c = omega (arith, c .loop-test .taken, c .before .before .record-count .ensures, count-same (entries-of (c .before)))
 
 entry-at-requires : tie.Need-entry-at-requires Inv-loop μ-loop
 entry-at-requires c κs =
-    let c-5 = c .before .before .before .before .before in
-    let s = c-5 in
+    let s = start-of (c .before) in
     (s .pre .0, omega (arith, within c, count-same (s .args .entries .now)))
 
 answer-at-requires : tie.Need-answer-at-requires Inv-loop μ-loop
 answer-at-requires c κs =
-    let c-6 = c .before .before .before .before .before .before in
-    let s = c-6 in
+    let s = start-of (c .before .before) in
     let w = written (s .args .entries .now) in
     let row = row-at w (s .pre .1 .accepted) (c .before .before .loop .k) (within (c .before)) in (
       subst (λ (r : Record). kind r ≡ 3 → Row r) (sym (c .entry-at .ensures)) row,
       record { rates = ratesOf (records w); held = s .pre .1 .rates; within = recorded w (s .pre .1 .accepted) .ranges .rates },
     )
 
--- what it answers
-answered : (c : tie.After-answer-at Inv-loop μ-loop)
-    → c .answer-at .result
-    ≡ rowAnswer (ratesOf (records (written (c .before .before .before .before .before .before .before .args .entries .now))))
-    (0 + c .before .before .before .loop .k)
-    (recordAt (written (c .before .before .before .before .before .before .before .args .entries .now)) (c .before .before .before .loop .k))
-answered c =
-    let after-loop = c .before .before .before in
-    let c-7 = after-loop .before .before .before .before in
-    let s = c-7 in
-    let k = after-loop .loop .k in
-    let w = written (s .args .entries .now) in
-    let rates = ratesOf (records w) in
-    c .answer-at .ensures rates (s .pre .1 .rates) (recorded w (s .pre .1 .accepted) .ranges .rates)
-    ∙ ap (rowAnswer rates k) (c .before .entry-at .ensures)
-    ∙ ap (λ (n : ℕ). rowAnswer rates n (recordAt w k)) (sym (zero-add k))
+-- the head of the turn, its record's place, the file, its rates, and what the record answers
+module _ (c : tie.After-answer-at Inv-loop μ-loop) where
+  abbrev head : tie.In-loop Inv-loop μ-loop
+  head = c .before .before
+
+  abbrev k : ℕ
+  k = head .before .loop .k
+
+  abbrev file : List ℕ
+  file = written (entries-of (head .before))
+
+  abbrev rates : List Record
+  rates = ratesOf (records file)
+
+  answered : c .answer-at .result ≡ rowAnswer rates (0 + k) (recordAt file k)
+  answered =
+      let s = start-of (head .before) in
+      c .answer-at .ensures rates (s .pre .1 .rates) (recorded file (s .pre .1 .accepted) .ranges .rates)
+      ∙ ap (rowAnswer rates k) (c .before .entry-at .ensures)
+      ∙ ap (λ (n : ℕ). rowAnswer rates n (recordAt file k)) (sym (zero-add k))
 
 number-of-requires : tie.Need-number-of-requires Inv-loop μ-loop
 number-of-requires c κs = tt
 
 returns : tie.Need-returns Inv-loop μ-loop
 returns c =
-    let c-4 = c .before .before .before .before in
-    let c-9 = c-4 .before .before .before .before .before in
-    let s = c-9 in
-    let l = c-4 .before .loop in
-    let w = written (s .args .entries .now) in
-    let a = answered (c .before .before) in
+    let after-answer-at = c .before .before in
+    let turn = head after-answer-at in
+    let a = answered after-answer-at in
     a
-    ∙ sym (l .inv ∙ rows-stop (ratesOf (records w)) 0 w (l .k) (within (c-4))
+    ∙ sym (turn .before .loop .inv ∙ rows-stop (rates after-answer-at) 0 (file after-answer-at) (k after-answer-at) (within turn)
     (λ z. c .if1 .taken (c .before .number-of .ensures ∙ ap numberOf a ∙ z)))
 
 add-k : tie.Need-add-k Inv-loop μ-loop
@@ -99,19 +105,16 @@ loop-less c =
 
 loop-again : tie.Need-loop-again Inv-loop μ-loop
 loop-again c =
-    let c-4 = c .before .before .before .before in
-    let start = c-4 .before .before .before .before .before in
-    let l = c-4 .before .loop in
-    let w = written (start .args .entries .now) in
-    l .inv
-    ∙ rows-next (ratesOf (records w)) 0 w (l .k) (within (c-4))
-    (sym (c .before .number-of .ensures ∙ ap numberOf (answered (c .before .before))) ∙ omega (arith, c .if1 .left))
+    let after-answer-at = c .before .before in
+    let turn = head after-answer-at in
+    turn .before .loop .inv
+    ∙ rows-next (rates after-answer-at) 0 (file after-answer-at) (k after-answer-at) (within turn)
+    (sym (c .before .number-of .ensures ∙ ap numberOf (answered after-answer-at)) ∙ omega (arith, c .if1 .left))
 
 returns-2 : tie.Need-returns-2 Inv-loop μ-loop
 returns-2 c =
-    let start = c .before .before .before .before .before in
     let l = c .before .loop in
-    let e = start .args .entries .now in
+    let e = entries-of (c .before) in
     let w = written e in
     sym (l .inv ∙ rows-end (ratesOf (records w)) 0 w (l .k) (omega (arith, c .loop-test .left, c .before .before .record-count .ensures, count-same e)))
 

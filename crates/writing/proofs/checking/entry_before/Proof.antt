@@ -22,8 +22,8 @@ sub-entry-at c = search needs
 
 entry-at-requires : tie.Need-entry-at-requires
 entry-at-requires c κs =
-    let c-3 = c .before .before .before in
-    let s = c-3 in (s .pre .0, omega (arith, s .pre .1))
+    let s = c .before .before .before in
+    (s .pre .0, omega (arith, s .pre .1))
 
 returns-2 : tie.Need-returns-2
 returns-2 c =

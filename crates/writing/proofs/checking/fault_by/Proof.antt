@@ -23,8 +23,7 @@ mul-size c = search needs
 
 slice-aggregate-fault : tie.Need-slice-aggregate-fault
 slice-aggregate-fault c =
-    let c-6 = c .before .before .before .before .before .before in
-    let s = c-6 in
+    let s = c .before .before .before .before .before .before in
     sym (length-take-le (c .before .noted .result * recordBytes) (s .args .prompts .now) (omega
     (arith, c .before .noted .ensures, s .pre .1 .0, s .pre .1 .1)))
 
@@ -33,8 +32,7 @@ fault-requires c κs = search needs
 
 returns : tie.Need-returns
 returns c =
-    let c-7 = c .before .before .before .before .before .before .before in
-    let s = c-7 in
+    let s = c .before .before .before .before .before .before .before in
     let a = s .args in
     let same = c .before .before .noted .ensures in
     c .fault .ensures ∙ ap (λ (n : ℕ). faultBy (a .counts .now) (records (take (n * recordBytes) (a .prompts .now))) (a .before .now) (a .r .now)) same

@@ -28,8 +28,7 @@ array-share-prefix-rates c = search needs
 
 slice-aggregate-rates-of : tie.Need-slice-aggregate-rates-of
 slice-aggregate-rates-of c =
-    let c-6 = c .before .before .before .before .before .before in
-    let s = c-6 in
+    let s = c .before .before .before .before .before .before in
     let f = c .before .before .fill in
     sym (length-take-le (s .args .n * recordBytes) (f .last .1 .1 .1 .1 .0) (omega (arith, s .pre .1 .0, f .kept .1 .1 .1 .1 .0)))
 
@@ -39,8 +38,7 @@ rates-of-requires c κs = search needs
 returns : tie.Need-returns
 returns c =
     let after-fill = c .before .before .before in
-    let c-7 = after-fill .before .before .before .before in
-    let s = c-7 in
+    let s = after-fill .before .before .before .before in
     let a = s .args in
     subst (λ (bytes : List ℕ). RatesOf (records bytes) (c .rates-of .result))
     (ap (take (a .n * recordBytes)) (after-fill .fill .ensures) ∙ front-filled (a .entries .now) (a .k) (a .n) _ (s .pre .1 .1)) (c .rates-of .ensures)

@@ -15,15 +15,13 @@ wide-requires c κs = tt
 
 whole-at-requires : tie.Need-whole-at-requires
 whole-at-requires c κs =
-    let c-4 = c .before .before .before .before in
-    let s = c-4 in
+    let s = c .before .before .before .before in
     let p = place-within (s .args .entries .now) (s .args .order .now) (s .pre .0) (s .args .k) (s .pre .1) in
     omega (arith, c .wide .ensures, c .before .place-at .ensures, p)
 
 returns : tie.Need-returns
 returns c =
-    let c-5 = c .before .before .before .before .before in
-    let s = c-5 in
+    let s = c .before .before .before .before .before in
     let e = s .args .entries .now in
     c .whole-at .ensures ∙ ap (recordAt e) (c .before .wide .ensures ∙ c .before .before .place-at .ensures)
     ∙ entered-at e (s .args .order .now) (s .pre .0) (s .args .k) (s .pre .1)

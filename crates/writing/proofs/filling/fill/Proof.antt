@@ -28,8 +28,7 @@ add-entry-at c =
 
 entry-at-requires : tie.Need-entry-at-requires Inv-loop μ-loop
 entry-at-requires c κs =
-    let c-5 = c .before .before .before .before .before in
-    let s = c-5 in
+    let s = c .before .before .before .before .before in
     (s .pre .0, omega (arith, s .pre .1 .0, c .loop-test .taken))
 
 mul-start : tie.Need-mul-start Inv-loop μ-loop
@@ -56,8 +55,7 @@ part-copy-bytes-end c =
 copy-bytes-requires : tie.Need-copy-bytes-requires Inv-loop μ-loop
 copy-bytes-requires c κs =
     let after-loop = c .before .before .before in
-    let c-7 = after-loop .before .before .before .before in
-    let s = c-7 in
+    let s = after-loop .before .before .before .before in
     let l = after-loop .loop in
     let e = s .args .entries .now in
     let more = c .before .before .loop-test .taken in
@@ -80,8 +78,7 @@ loop-again c =
     let after-entry-at = c .before .before .before .before in
     let after-loop-test = after-entry-at .before in
     let after-loop = after-loop-test .before in
-    let c-10 = after-loop .before .before .before .before in
-    let s = c-10 in
+    let s = after-loop .before .before .before .before in
     let l = after-loop .loop in
     let e = s .args .entries .now in
     let more = after-loop-test .loop-test .taken in

@@ -27,12 +27,12 @@ refusal-requires c κs = tt
 returns-2 : tie.Need-returns-2
 returns-2 c =
     let after-record-of = c .before .before .before in
-    let c-4 = after-record-of .before in
-    let after-number-of = c-4 .before in
+    let after-if1 = after-record-of .before in
+    let after-number-of = after-if1 .before in
     let start = after-number-of .before .before in
     let a = start .args in
     entered-late (a .order .now) (a .answer) (after-number-of .number-of .ensures)
-    (c-4 .if1 .left) (after-record-of .record-of .ensures) (c .before .before .place-at .ensures)
+    (after-if1 .if1 .left) (after-record-of .record-of .ensures) (c .before .before .place-at .ensures)
     (c .before .wide .ensures) (c .refusal .ensures)
 
 pub as-entered-spec : {M : Type 1} → statement M

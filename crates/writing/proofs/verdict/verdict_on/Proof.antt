@@ -15,8 +15,7 @@ as-entered-requires c κs = tt
 
 returns : tie.Need-returns
 returns c =
-    let c-4 = c .before .before .before .before in
-    let s = c-4 in
+    let s = c .before .before .before .before in
     c .as-entered .ensures ∙ ap (λ (a : Answer). asEntered (s .args .order .now) a) (c .before .check-written .ensures)
     ∙ same-places (s .args .entries .now) (s .args .order .now) (s .pre .0)
 

@@ -25,8 +25,7 @@ slice-aggregate-lessen c = search needs
 
 lessen-requires : tie.Need-lessen-requires
 lessen-requires c κs =
-    let c-4 = c .before .before .before .before in
-    let s = c-4 in (
+    let s = c .before .before .before .before in (
       size s,
       s .pre .0,
       omega (arith, c .before .formed .ensures, formed-most (stepOf (s .args .second) (s .args .spread)) (s .args .self .cell) (s .pre .1)),
@@ -35,8 +34,7 @@ lessen-requires c κs =
 returns : tie.Need-returns
 returns c =
     let after-formed = c .before .before .before in
-    let c-6 = after-formed .before .before .before in
-    let s = c-6 in
+    let s = after-formed .before .before .before in
     let number = after-formed .formed .ensures in
     record {
       formed = number;

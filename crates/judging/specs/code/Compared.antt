@@ -2,22 +2,18 @@
 -- Assumes nothing.
 use Prim.Native.Nat.{ℕ}
 use mathlib.Core.Bool.{Bool, true, false}
-use mathlib.Core.List.{List, map}
+use mathlib.Core.List.{List}
 use mathlib.Core.Path.{_≡_}
 use lib.IntN.{ℤ}
 use Rattle.spread.specs.Accepted.{openOf, soundPrompts}
 use Rattle.spread.specs.Steps.{stepOf, formed, after}
 use Rattle.spread.specs.Uses.{takenOf}
-use Rattle.spread.specs.declared.Delta.{Delta}
 use Rattle.spread.specs.declared.Prompts.{Prompts}
 use Rattle.spread.specs.declared.Spread.{Spread}
 use Rattle.judging.specs.Judged.{alike, verdictOf}
 use Rattle.judging.specs.declared.Compared.{Compared}
 use Rattle.judging.specs.declared.Verdict.{Verdict}
 use Rattle.judging.specs.declared.Verdict.the-variants.{Right, MoreThanFormed, LessThanFormed, WrongUse, OtherCounts}
-
-abbrev pub deltasIn : List Delta → List ℤ
-deltasIn ds = map (λ d. d .0) ds
 
 -- whether nothing is wrong
 abbrev pub isRight : Verdict → Bool

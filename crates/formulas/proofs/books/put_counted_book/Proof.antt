@@ -1,0 +1,95 @@
+-- The spread steps accept a contract's prompts and spreads, their book is the contract's, and so is what they touch.
+-- Assumes nothing.
+use mathlib.Core.Path.{ap}
+use Prim.Native.Nat.{zero-le}
+use native.Mathlib.Omega.{arith}
+use borrow.Author.Needs.{needs}
+use lib.ListN.{length}
+use Rattle.account.specs.Records.{records}
+use Rattle.formulas.specs.Deltas.{opensWith}
+use Rattle.formulas.proofs.BookLaws.{lent-sound, lent-book, lent-touches}
+use Rattle.formulas.proofs.RecordLaws.{count-is}
+use Rattle.formulas.proofs.UnspreadLaws.{unspread, untouched}
+use Rattle.formulas.proofs.books.put_counted_book.Statement.{statement}
+use Rattle.formulas.proofs.books.put_counted_book.Tie as tie
+
+put-unused-requires : tie.Need-put-unused-requires
+put-unused-requires c κs =
+    let after-put-unused-arg = c .before in
+    let start = after-put-unused-arg .before .before .before .before in
+    (after-put-unused-arg .put-unused-arg .given .0, ap length (start .pre .1 .1 .1))
+
+returns : tie.Need-returns
+returns c =
+    let after-put-unused-arg = c .before .before in
+    let after-if1 = after-put-unused-arg .before in
+    let start = after-if1 .before .before .before in
+    let prompts = records (start .args .prompts .now) in
+    let spreads = start .args .spreads .now in
+    let nets = start .args .nets .now in (
+      unspread prompts spreads nets (start .args .first .now) (start .args .second .now) (start .args .used .now) _ (after-if1 .if1 .taken)
+          (after-put-unused-arg .put-unused-arg .given .0) (start .pre .0 .nets-beyond) (start .pre .1 .0 .0) (start .pre .1 .0 .1)
+          (start .pre .1 .1 .0) (c .put-unused .ensures),
+      (untouched spreads (opensWith prompts nets) (after-if1 .if1 .taken), zero-le),
+    )
+
+put-tiers-requires : tie.Need-put-tiers-requires
+put-tiers-requires c κs =
+    let start = c .before .before .before .before in
+    (search needs, omega (arith, start .pre .0 .few-prompts, count-is (start .args .prompts .now)))
+
+interprompt-table-requires : tie.Need-interprompt-table-requires
+interprompt-table-requires c κs =
+    let start = c .before .before .before .before .before in
+    omega (arith, start .pre .0 .few-spreads, count-is (start .args .spreads .now))
+
+put-book-requires : tie.Need-put-book-requires
+put-book-requires c κs =
+    let after-table = c .before .before .before .before .before in
+    let after-put-tiers = after-table .before in
+    let start = after-put-tiers .before .before .before .before .before in
+    let table = after-table .interprompt-table in (
+      lent-sound (start .args .prompts .now) (start .args .spreads .now) _ (start .args .nets .now) (table .result) (after-put-tiers .put-tiers .ensures)
+          (table .ensures) (start .pre .0),
+      start .pre .1,
+    )
+
+touches-in-requires : tie.Need-touches-in-requires
+touches-in-requires c κs =
+    let after-book = c .before .before .before in
+    let after-table = after-book .before .before .before .before .before .before in
+    let after-put-tiers = after-table .before in
+    let start = after-put-tiers .before .before .before .before .before in
+    let table = after-table .interprompt-table in
+    let run = after-book .put-book .ensures in (
+      lent-sound (start .args .prompts .now) (start .args .spreads .now) _ (start .args .nets .now) (table .result) (after-put-tiers .put-tiers .ensures)
+          (table .ensures) (start .pre .0),
+      record { firsts = run .first; seconds = run .second },
+    )
+
+returns-2 : tie.Need-returns-2
+returns-2 c =
+    let after-book = c .before .before .before .before in
+    let after-table = after-book .before .before .before .before .before .before in
+    let after-put-tiers = after-table .before in
+    let start = after-put-tiers .before .before .before .before .before in
+    let prompts = start .args .prompts .now in
+    let spreads = start .args .spreads .now in
+    let nets = start .args .nets .now in
+    let table = after-table .interprompt-table in
+    let tiers = after-put-tiers .put-tiers .ensures in (
+      lent-book prompts spreads _ nets (table .result) tiers (table .ensures) (start .pre .0) _ (after-book .put-book .ensures),
+      lent-touches prompts spreads _ nets (table .result) tiers (table .ensures) (start .pre .0) (c .touches-in .result) (c .touches-in .ensures),
+    )
+
+pub put-counted-book-spec : {M : Type 1} → statement M
+put-counted-book-spec =
+    tie.close
+    (tie.spec
+    put-unused-requires
+    returns
+    put-tiers-requires
+    interprompt-table-requires
+    put-book-requires
+    touches-in-requires
+    returns-2)

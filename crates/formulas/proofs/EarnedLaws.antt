@@ -260,20 +260,6 @@ walk-room count lines entries f g at fits room is =
           };
     }
 
--- line by line
-pub by-line-start : (lines : List Line) (earned : List ℕ) → ByLine 0 lines earned (replicate mostContracts (record { 0 = 0 }))
-by-line-start lines earned = record { places = refl; each = λ j h. absurd (not-suc-le-zero h) }
-
-pub by-line-next : (i : ℕ) (lines : List Line) (earned : List ℕ) (xs : List Amount) (a : Amount) → ByLine i lines earned xs → i < mostContracts
-    → a .0 ≡ getD earned (getD lines i noLine .contract) 0 → ByLine (i + 1) lines earned (set xs i a)
-by-line-next i lines earned xs a is h e = record { places = rw length-set (is .places); each = λ j l. go j l (ℕ-discrete j i) }
-  where
-    go : (j : ℕ) → j < i + 1 → Dec (j ≡ i) → getD (set xs i a) j (record { 0 = 0 }) .0 ≡ getD earned (getD lines j noLine .contract) 0
-    go j l (yes q) =
-        subst⁻¹ (λ (k : ℕ). getD (set xs i a) k (record { 0 = 0 }) .0 ≡ getD earned (getD lines k noLine .contract) 0) q
-        (ap (λ (x : Amount). x .0) (getD-set-same xs i a (record { 0 = 0 }) (omega (arith, is .places))) ∙ e)
-    go j l (no q) = ap (λ (x : Amount). x .0) (getD-set-other xs i j a (record { 0 = 0 }) q) ∙ is .each j (omega (arith, q))
-
 -- what the numbers earned is what the lines earn
 pub credits-are : (count : ℕ) (lines : List Line) (entries : List Record) (f g : List Spreads) (at : ℕ → Earner) (earned : List ℕ) (xs : List Amount)
     → LinesRise count lines → EarnersOf count lines at → EarnedBy at entries f g earned → ByLine count lines earned xs → CreditsOf count lines entries f g xs

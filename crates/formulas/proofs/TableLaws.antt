@@ -1,15 +1,14 @@
 -- The intercontract table: contracts as tiers, filled place by place; what entries use is within what contracts have.
 -- Assumes nothing.
-use Prim.Native.Nat.{ℕ, zero, suc, _+_, _/_, _≤_, _<_, zero-le, suc-le-suc}
+use Prim.Native.Nat.{ℕ, zero, suc, _+_, _≤_, _<_, suc-le-suc}
 use native.Mathlib.Numerals.{add-one}
 use native.Mathlib.Omega.{arith}
-use mathlib.Core.Path.{_≡_, refl, sym, ap, ap₂, _∙_, subst, subst⁻¹}
+use mathlib.Core.Path.{_≡_, refl, sym, ap, ap₂, _∙_, subst⁻¹}
 use mathlib.Core.Bool.{Bool, true, false, not, _&&_, _||_}
 use mathlib.Core.List.{List, [], _∷_, _++_, map, map-map}
 use lib.IntN.{ℤ}
-use lib.ListN.{length, getD, take, set, replicate, length-set, length-map}
+use lib.ListN.{length, getD, take, set, length-set, length-map}
 use lib.Seq.{take-suc, take-suc-set}
-use Rattle.record.specs.Bytes.{recordBytes}
 use Rattle.exact.proofs.Lists.{map-take, getD-map}
 use borrow.Author.Tests.{lt-ltb}
 use lib.Dec.{eqb}
@@ -18,25 +17,20 @@ use Rattle.spread.specs.Accepted as given
 use Rattle.spread.specs.Steps.{Open, steps}
 use Rattle.spread.specs.declared.Delta.{Delta}
 use Rattle.spread.specs.declared.Prompts.{Prompts}
-use Rattle.account.specs.Records.{cut, records}
-use Rattle.account.specs.Check.{mostContracts}
+use Rattle.account.specs.Records.{records}
 use Rattle.spread.specs.code.Book.{Booked}
 use Rattle.spread.proofs.Every.{opens-length}
-use Rattle.spread.proofs.Filling.{getD-same}
 use Rattle.spread.proofs.Lent.{map-set}
 use Rattle.spread.specs.code.Lent.{deltasFrom}
-use Rattle.spread.specs.declared.Spreads.{Spreads}
 use Rattle.spread.specs.declared.Table.{Table}
 use Rattle.spread.specs.declared.book.Book.{Book}
 use Rattle.spread.specs.Accepted.{tierCount, promptPlaces}
-use Rattle.formulas.specs.declared.amount.Amount.{Amount}
 use Rattle.formulas.specs.declared.line.Line.{Line}
-use Rattle.formulas.specs.Bounds.{mostCredits}
 use Rattle.formulas.specs.Deltas.{intercontract}
 use Rattle.formulas.specs.code.Lines.{noLine}
 use Rattle.formulas.specs.code.Within.{EntryFit}
 use Rattle.formulas.specs.code.Sums.{deltasIn}
-use Rattle.formulas.specs.code.Table.{tierOf, TiersFrom, TableRoom, CreditsOf}
+use Rattle.formulas.specs.code.Table.{tierOf, TiersFrom, TableRoom}
 use Rattle.formulas.specs.code.Tables.{TableOf}
 use Rattle.formulas.specs.code.Promised.{BookOf}
 use Rattle.formulas.proofs.BookLaws.{book-accepted, handed-sound}
@@ -103,18 +97,6 @@ tiered-all lines i count p is e c =
           ∙ map-map (λ q. q .unused) tierOf (take i lines)
           ∙ ap (λ (n : ℕ). map (λ l. l .net .0) (take n lines)) e;
     }
-
--- without entries there is nothing to earn
-pub none-earned : (count : ℕ) (lines : List Line) (part : List ℕ) (f g : List Spreads) → length part < recordBytes → CreditsOf count lines (records part) f g
-    (replicate mostContracts (record { 0 = 0 }))
-none-earned count lines part f g h =
-    let e : length part / recordBytes ≡ 0 = omega arith in
-    subst⁻¹ (λ (es : List Record). CreditsOf count lines es f g (replicate mostContracts (record { 0 = 0 }))) (ap (λ (n : ℕ). cut n part) e)
-    (record {
-      places = refl;
-      each = λ i l. ap (λ (a : Amount). a .0) (getD-same mostContracts (record { 0 = 0 }) i);
-      most = λ i l. subst⁻¹ (λ (a : Amount). a .0 ≤ mostCredits) (getD-same mostContracts (record { 0 = 0 }) i) zero-le;
-    })
 
 -- the entries of a table are spreads that the steps accept
 pub entry-accepted : (e : Record) → EntryFit e → given.soundSpread (intercontract e) ≡ true

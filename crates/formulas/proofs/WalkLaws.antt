@@ -18,7 +18,7 @@ use Rattle.formulas.specs.Deltas.{rowDelta}
 use Rattle.formulas.specs.Margin.{shortOptions, shortLots}
 use Rattle.formulas.specs.declared.rows.Days.{Days}
 use Rattle.formulas.specs.declared.rows.Position.{Position}
-use Rattle.formulas.specs.code.Position.{RowFit, RowRated, RowsFit, AtMost, Added, Bounded, WithRows, products, addsOn, netOn, positionIn, deltasIn}
+use Rattle.formulas.specs.code.Position.{RowFit, RowsFit, AtMost, Added, Bounded, WithRows, products, addsOn, netOn, positionIn, deltasIn}
 use Rattle.formulas.specs.code.Position.{rowsNet}
 use Rattle.formulas.proofs.AddedLaws.{nothing-added, twice, at-most-added, at-most-wider}
 use Rattle.spread.proofs.Lent.{deltas-again}

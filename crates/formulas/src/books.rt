@@ -8,6 +8,7 @@ use spread::book::put_book;
 use spread::touches::touches_in;
 ghost use mathlib.Core.List.{map};
 ghost use mathlib.Core.Path.{_≡_};
+ghost use mathlib.Core.Bool.{true};
 ghost use Prim.Native.Nat.{_≤_};
 ghost use lib.IntN.{pos};
 ghost use lib.ListN.{length, replicate};
@@ -15,7 +16,7 @@ ghost use Rattle.account.specs.Records.{records};
 ghost use Rattle.spread.specs.Accepted.{promptPlaces, spreadPlaces};
 ghost use Rattle.spread.specs.Steps.{steps};
 ghost use Rattle.spread.specs.Touches.{touches, mostTouches};
-ghost use Rattle.spread.specs.code.Lent.{bookIn, spreadsFrom};
+ghost use Rattle.spread.specs.code.Lent.{bookIn};
 ghost use Rattle.formulas.specs.Deltas.{opensWith, interprompt};
 ghost use Rattle.formulas.specs.code.Promised.{BookOf, BookRoom};
 
@@ -32,7 +33,8 @@ fn put_unused(nets: &[i64], unused: &mut [i64; MOST_PROMPTS])
     }
 }
 
-// The book of a contract's interprompt spreads, over its prompts and their net deltas, in lent arrays of zeros. Without spreads nothing is used.
+// The book of a contract's interprompt spreads, over its prompts and their net deltas, in lent arrays of zeros. Without spreads nothing is used. Where
+// it is asked for, how often the steps take of a prompt: the contract's tiers and its table are made once for both.
 pub fn put_contract_book(
     prompts: &[u8],
     nets: &[i64; MOST_PROMPTS],
@@ -41,48 +43,15 @@ pub fn put_contract_book(
     second: &mut [u64; MOST_SPREADS],
     used: &mut [i64; MOST_PROMPTS],
     unused: &mut [i64; MOST_PROMPTS],
-)
-    requires { ⌜ BookRoom (records (now prompts)) (now nets) (records (now spreads))
-        × (((now first ≡ replicate spreadPlaces 0) × (now second ≡ replicate spreadPlaces 0))
-        × ((now used ≡ replicate promptPlaces (pos 0)) × (now unused ≡ replicate promptPlaces (pos 0)))) ⌝ }
-    ensures { λ _. ⌜ BookOf (steps (map interprompt (records (now (spreads .entry))))) (opensWith (records (now (prompts .entry))) (now (nets .entry)))
-        (bookIn (now (first .exit)) (now (second .exit)) (now (used .exit)) (now (unused .exit))) ⌝ }
-{
-    if spreads.len() < RECORD_BYTES {
-        put_unused(nets, unused);
-        return;
-    }
-    let mut tiers = [0u8; MOST_PROMPTS];
-    put_tiers(&mut tiers, prompts);
-    put_book(
-        prompts.len() / RECORD_BYTES,
-        &tiers,
-        nets,
-        interprompt_table(spreads),
-        first,
-        second,
-        used,
-        unused,
-    );
-}
-
-// The same, and how often the steps take of a prompt, which they never do without spreads: its tiers and its table are made once for both.
-pub fn put_counted_book(
-    prompts: &[u8],
-    nets: &[i64; MOST_PROMPTS],
-    spreads: &[u8],
-    first: &mut [u64; MOST_SPREADS],
-    second: &mut [u64; MOST_SPREADS],
-    used: &mut [i64; MOST_PROMPTS],
-    unused: &mut [i64; MOST_PROMPTS],
+    counted: bool,
 ) -> u64
     requires { ⌜ BookRoom (records (now prompts)) (now nets) (records (now spreads))
         × (((now first ≡ replicate spreadPlaces 0) × (now second ≡ replicate spreadPlaces 0))
         × ((now used ≡ replicate promptPlaces (pos 0)) × (now unused ≡ replicate promptPlaces (pos 0)))) ⌝ }
     ensures book { λ _. ⌜ BookOf (steps (map interprompt (records (now (spreads .entry))))) (opensWith (records (now (prompts .entry))) (now (nets .entry)))
         (bookIn (now (first .exit)) (now (second .exit)) (now (used .exit)) (now (unused .exit))) ⌝ }
-    ensures counted { λ r. ⌜ (r ≡ touches (steps (map interprompt (records (now (spreads .entry)))))
-        (opensWith (records (now (prompts .entry))) (now (nets .entry)))) × (r ≤ mostTouches) ⌝ }
+    ensures touched { λ r. ⌜ (counted ≡ true → (r ≡ touches (steps (map interprompt (records (now (spreads .entry)))))
+        (opensWith (records (now (prompts .entry))) (now (nets .entry)))) × (r ≤ mostTouches)) ⌝ }
 {
     if spreads.len() < RECORD_BYTES {
         put_unused(nets, unused);
@@ -93,5 +62,8 @@ pub fn put_counted_book(
     let count = prompts.len() / RECORD_BYTES;
     let table = interprompt_table(spreads);
     put_book(count, &tiers, nets, table, first, second, used, unused);
+    if !counted {
+        return 0;
+    }
     touches_in(count, &tiers, nets, table, first, second)
 }

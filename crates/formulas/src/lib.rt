@@ -3,7 +3,6 @@
 pub mod amount;
 pub mod books;
 pub mod charges;
-pub mod intercontract;
 pub mod line;
 pub mod pairs;
 mod risk;

@@ -1,11 +1,9 @@
 // A contract's line of figures, before the intercontract table.
 use crate::amount::Amount;
 use crate::amount::short_option_minimum;
-use crate::books::put_contract_book;
 use crate::charges::interprompt_charge;
 use crate::charges::prompt_charges;
 use crate::risk::scanned;
-use crate::rows::Position;
 use exact::signed::plus;
 use record::fields::SCENARIOS;
 use record::fields::contract;
@@ -142,56 +140,4 @@ pub fn line_in(
         twice_price: risks.twice_price,
         net: net,
     }
-}
-
-// The line of a contract without its book, which is run.
-pub fn line_over(
-    own: &[u8],
-    prompts: &[u8],
-    spreads: &[u8],
-    totals: &[i64; SCENARIOS],
-    nets: &[i64; MOST_PROMPTS],
-    shorts: u64,
-) -> Line
-    requires { ⌜ PositionFit (now own) (records (now prompts)) (records (now spreads)) (positionIn (now totals) (now nets) shorts) ⌝ }
-    ensures { λ r. ⌜ LineOf (contractWith (now (own .entry)) (records (now (prompts .entry))) (records (now (spreads .entry)))
-        (positionIn (now (totals .entry)) (now (nets .entry)) shorts)) r ⌝ }
-{
-    let mut first = [0; MOST_SPREADS];
-    let mut second = [0; MOST_SPREADS];
-    let mut used = [0; MOST_PROMPTS];
-    let mut unused = [0; MOST_PROMPTS];
-    put_contract_book(
-        prompts,
-        nets,
-        spreads,
-        &mut first,
-        &mut second,
-        &mut used,
-        &mut unused,
-    );
-    line_in(
-        own,
-        prompts,
-        spreads,
-        totals,
-        nets,
-        shorts,
-        &first,
-        &second,
-        &used,
-        &unused,
-    )
-}
-
-// The same of a position by value.
-pub fn line_of(own: &[u8], prompts: &[u8], spreads: &[u8], p: Position) -> Line
-    requires { ⌜ PositionFit (now own) (records (now prompts)) (records (now spreads)) p ⌝ }
-    ensures { λ r. ⌜ LineOf (contractWith (now (own .entry)) (records (now (prompts .entry))) (records (now (spreads .entry))) p) r ⌝ }
-{
-    let sixteen = p.totals;
-    let totals = sixteen.0;
-    let its_nets = p.nets;
-    let nets = plain(its_nets);
-    line_over(own, prompts, spreads, &totals, &nets, p.shorts)
 }

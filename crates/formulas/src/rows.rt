@@ -20,7 +20,7 @@ ghost use Rattle.formulas.specs.Margin.{shortOptions, shortLots};
 ghost use Rattle.formulas.specs.Scanning.{total};
 ghost use Rattle.formulas.specs.code.Position.{RowFit, RowsFit, RatedBy, FactorsFit, Sized, AtMost, Added, DaysOf, products, ownProducts};
 ghost use Rattle.formulas.specs.code.Position.{convertedProducts, netOn, addsOn, withNets, FirstPlace, DaysRise, PositionOf};
-ghost use Rattle.formulas.specs.code.Position.{positionIn, Bounded, WithRows, HasRows, deltasIn, rowsNet};
+ghost use Rattle.formulas.specs.code.Position.{positionIn, daysIn, Bounded, WithRows, HasRows, deltasIn, rowsNet};
 ghost use Rattle.formulas.specs.code.Raised.{SumsRoom, raisedProducts, settled, mostRaised};
 ghost use Rattle.formulas.specs.declared.rows.Position.{Position};
 use account::rates::Factors;
@@ -379,23 +379,21 @@ fn add_delta(
 }
 
 // Net deltas with more rows, in one walk over these.
-fn add_nets(nets: &mut [i64; MOST_PROMPTS], days: Days, rows: &[u8])
-    requires { ⌜ (days .count ≤ mostPrompts)
+fn add_nets(nets: &mut [i64; MOST_PROMPTS], days: &[u32; MOST_PROMPTS], prompts: usize, rows: &[u8])
+    requires { ⌜ (prompts ≤ mostPrompts)
         × (RowsFit (records (now rows)) × AtMost promptPlaces ((mostRows - length (records (now rows))) * mostRowDelta) (now nets)) ⌝ }
-    ensures { λ r. ⌜ Added (days .count) (λ j. netOn (records (now (rows .entry))) (getD (days .day) j 0)) (now (nets .entry)) (now (nets .exit)) ⌝ }
+    ensures { λ r. ⌜ Added prompts (λ j. netOn (records (now (rows .entry))) (getD (now (days .entry)) j 0)) (now (nets .entry)) (now (nets .exit)) ⌝ }
 {
     let count = rows.len() / RECORD_BYTES;
-    let prompts = days.count;
-    let its_days = days.day;
-    let rising = rise(&its_days, prompts);
-    let guess = guesses(&its_days, prompts);
+    let rising = rise(days, prompts);
+    let guess = guesses(days, prompts);
     let mut i = 0;
     while i < count {
         let at = i * RECORD_BYTES;
         let row = &rows[at..at + RECORD_BYTES];
         add_delta(
             nets,
-            &its_days,
+            days,
             &guess,
             prompts,
             rising,
@@ -432,24 +430,25 @@ fn add_totals(totals: &mut [i64; SCENARIOS], rates: Rates, unit: u64, rows: &[u8
 }
 
 // Totals and net deltas with more rows, in a walk each, so that the sums stay in registers; what the rows add to the short lots.
-pub fn add_rows(
+fn add_rows(
     totals: &mut [i64; SCENARIOS],
     nets: &mut [i64; MOST_PROMPTS],
-    days: Days,
+    days: &[u32; MOST_PROMPTS],
+    prompts: usize,
     rates: Rates,
     unit: u64,
     rows: &[u8],
 ) -> u64
     requires { ⌜ (unit ≤ mostUnit)
-        × ((days .count ≤ mostPrompts)
+        × ((prompts ≤ mostPrompts)
         × (RowsFit (records (now rows)) × (RatedBy rates (records (now rows))
         × Bounded (mostRows - length (records (now rows))) (positionIn (now totals) (now nets) 0)))) ⌝ }
     ensures added { λ n. ⌜ ((held : List Record) → RatesOf held rates
-        → WithRows held unit days (positionIn (now (totals .entry)) (now (nets .entry)) 0) (records (now (rows .entry)))
+        → WithRows held unit (daysIn prompts (now (days .entry))) (positionIn (now (totals .entry)) (now (nets .entry)) 0) (records (now (rows .entry)))
         (positionIn (now (totals .exit)) (now (nets .exit)) n)) ⌝ }
     ensures most { λ n. ⌜ Bounded mostRows (positionIn (now (totals .exit)) (now (nets .exit)) n) ⌝ }
 {
-    add_nets(nets, days, rows);
+    add_nets(nets, days, prompts, rows);
     add_totals(totals, rates, unit, rows)
 }
 
@@ -467,7 +466,16 @@ pub fn with_rows(p: Position, days: Days, rates: Rates, unit: u64, rows: &[u8]) 
     let mut totals = its_totals.0;
     let its_nets = p.nets;
     let mut nets = plain(its_nets);
-    let more = add_rows(&mut totals, &mut nets, days, rates, unit, rows);
+    let its_days = days.day;
+    let more = add_rows(
+        &mut totals,
+        &mut nets,
+        &its_days,
+        days.count,
+        rates,
+        unit,
+        rows,
+    );
     Position {
         totals: Totals(totals),
         nets: deltas_from(nets),
@@ -481,7 +489,9 @@ pub fn put_net_deltas(nets: &mut [i64; MOST_PROMPTS], prompts: &[u8], rows: &[u8
     ensures { λ _. ⌜ ((rates : List Record) (unit : ℕ) → PositionOf rates unit (records (now (prompts .entry))) (records (now (rows .entry)))
         (withNets rates unit (records (now (rows .entry))) (deltasFrom (now (nets .exit))))) ⌝ }
 {
-    add_nets(nets, days_of(prompts), rows);
+    let days = days_of(prompts);
+    let its_days = days.day;
+    add_nets(nets, &its_days, days.count, rows);
 }
 
 // The same in an array of their own.
@@ -595,7 +605,9 @@ pub fn put_position(
         (positionIn (now (totals .exit)) (now (nets .exit)) n)) ⌝ }
     ensures most { λ n. ⌜ Bounded mostRows (positionIn (now (totals .exit)) (now (nets .exit)) n) ⌝ }
 {
-    add_rows(totals, nets, days_of(prompts), rates, unit, rows)
+    let days = days_of(prompts);
+    let its_days = days.day;
+    add_rows(totals, nets, &its_days, days.count, rates, unit, rows)
 }
 
 // The same as a position.

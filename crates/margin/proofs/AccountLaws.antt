@@ -1,15 +1,14 @@
 -- The lines of an account's contracts, the intercontract table over them, credits and figures.
 -- Assumes nothing.
-use Prim.Native.Nat.{ℕ, zero, suc, _+_, _*_, _≤_, _<_, zero-le, suc-le-suc}
+use Prim.Native.Nat.{ℕ, suc, _+_, _*_, _≤_, _<_, zero-le, suc-le-suc}
 use native.Mathlib.Nat.{le-trans, le-of-suc-le-suc, not-suc-le-zero, mul-le-mul-right}
-use native.Mathlib.Decide.{ℕ-discrete}
 use native.Mathlib.Omega.{arith}
 use mathlib.Core.Path.{_≡_, refl, sym, ap, ap₂, _∙_, subst, subst⁻¹}
 use mathlib.Core.Bool.{true}
 use mathlib.Core.List.{List, [], _∷_, map, map-map}
 use lib.IntN.{ℤ, pos, natAbs}
-use lib.ListN.{length, getD, take, set, replicate, length-set, length-map, getD-replicate}
-use lib.Seq.{getD-set-same, getD-set-other, getD-take, length-take-le}
+use lib.ListN.{length, getD, take, length-map}
+use lib.Seq.{getD-take, length-take-le}
 use Rattle.exact.proofs.Lists.{getD-map}
 use Rattle.record.specs.Layout.{Record, contract, unit, percent}
 use Rattle.account.specs.Parts.{contractsOf, entriesOf}
@@ -17,7 +16,6 @@ use Rattle.account.specs.Records.{records}
 use Rattle.account.specs.Lawful.{Lawful}
 use Rattle.account.specs.PartNumbers.{entryPart}
 use Rattle.account.specs.code.Standing.{PartOf}
-use Rattle.account.specs.Check.{mostContracts}
 use Rattle.spread.specs.code.Book.{byPlace, deltaEntry}
 use Rattle.spread.specs.Steps.{Open, steps, numbers, usedOf, unusedOf}
 use Rattle.spread.specs.declared.Prompts.{Prompts}
@@ -26,7 +24,6 @@ use Rattle.spread.specs.declared.Table.{Table}
 use Rattle.spread.specs.declared.book.Book.{Book}
 use Rattle.spread.specs.Accepted as given
 use Rattle.spread.specs.Accepted.{promptPlaces, spreadPlaces}
-use Rattle.margin.specs.declared.over.Lines.{Lines}
 use Rattle.formulas.specs.declared.amount.Amount.{Amount}
 use Rattle.formulas.specs.declared.line.Line.{Line}
 use Rattle.formulas.specs.Bounds.{mostDelta, mostFormed}
@@ -35,15 +32,14 @@ use Rattle.formulas.specs.Credit.{credit, creditsBy, entryUse, unusedBy, twiceP
 use Rattle.formulas.specs.Deltas.{intercontract}
 use Rattle.margin.specs.Figures.{figures, figuresOver}
 use Rattle.formulas.specs.code.Lines.{noLine, figuresFrom}
-use Rattle.margin.specs.code.Numbers.{LinesWithin}
 use Rattle.formulas.specs.code.Promised.{BookOf, FormedOf, LineOf}
 use Rattle.margin.specs.Books.{bookBy, tableQuestion}
 use Rattle.margin.specs.code.Asked.{BookIs}
-use Rattle.margin.specs.code.Lined.{LinesOf, TiersIn}
+use Rattle.margin.specs.code.Lined.{Lines, LinesOf, TiersIn}
 use Rattle.margin.proofs.AnswerLaws.{book-by-steps}
 use Rattle.formulas.specs.code.Sums.{interleaved, deltasIn, spreadsAt}
 use Rattle.formulas.specs.code.Tables.{TableOf}
-use Rattle.formulas.specs.code.Table.{tierOf, TiersFrom, TableRoom, LinesRise, CreditsRoom, CreditsOf, earns, tableFirsts, tableSeconds}
+use Rattle.formulas.specs.code.Table.{tierOf, TiersFrom, TableRoom, LinesRise, CreditsRoom, CreditsOf, earns}
 use Rattle.margin.proofs.AcceptLaws.{entries-within, numbers-rise}
 use Rattle.formulas.proofs.BookLaws.{first-at, second-at, over-arrays}
 use Rattle.formulas.proofs.CreditLaws.{credits-by}
@@ -51,54 +47,6 @@ use Rattle.margin.proofs.FigureLaws.{Lined, Apart, Credited, tiers-are,
 use Rattle.formulas.proofs.LineLaws.{numbers-length}
 use Rattle.margin.proofs.StandLaws.{entries-part, entries-fit}
 use Rattle.formulas.proofs.StepBounds.{number-within}
-
--- ---- lines, filled place by place
-
-pub record LinedTo (account : List Record) (i : ℕ) (ls : List Line) : Type 0 where
-  pub places : length ls ≡ mostContracts
-  pub each : (j : ℕ) → j < i → LineOf (partsIn account (getD (contractsOf account) j [])) (getD ls j noLine)
-
-pub lined-next : (account : List Record) (i : ℕ) (ls : List Line) (l : Line) → LinedTo account i ls → i < mostContracts
-    → LineOf (partsIn account (getD (contractsOf account) i [])) l → LinedTo account (i + 1) (set ls i l)
-lined-next account i ls l is h e =
-    record { places = rw length-set (is .places); each = λ j k. go j k (ℕ-discrete j i) }
-  where
-    go : (j : ℕ) → j < i + 1 → Dec (j ≡ i) → LineOf (partsIn account (getD (contractsOf account) j [])) (getD (set ls i l) j noLine)
-    go j k (yes q) =
-        subst⁻¹ (λ (n : ℕ). LineOf (partsIn account (getD (contractsOf account) n [])) (getD (set ls i l) n noLine)) q
-        (subst⁻¹ (LineOf (partsIn account (getD (contractsOf account) i []))) (getD-set-same ls i l noLine (omega (arith, is .places))) e)
-    go j k (no q) =
-        subst⁻¹ (LineOf (partsIn account (getD (contractsOf account) j []))) (getD-set-other ls i j l noLine q) (is .each j (omega (arith, q)))
-
--- ---- net deltas, filled place by place
-
-pub record NetsTo (account : List Record) (i : ℕ) (nets : List ℤ) : Type 0 where
-  pub places : length nets ≡ promptPlaces
-  pub each : (j : ℕ) → j < i → getD nets j (pos 0) ≡ contractNet (partsIn account (getD (contractsOf account) j []))
-
-pub nets-next : (account : List Record) (i : ℕ) (nets : List ℤ) (z : ℤ) → NetsTo account i nets → i < promptPlaces
-    → z ≡ contractNet (partsIn account (getD (contractsOf account) i [])) → NetsTo account (i + 1) (set nets i z)
-nets-next account i nets z is h e =
-    record { places = rw length-set (is .places); each = λ j k. go j k (ℕ-discrete j i) }
-  where
-    go : (j : ℕ) → j < i + 1 → Dec (j ≡ i) → getD (set nets i z) j (pos 0) ≡ contractNet (partsIn account (getD (contractsOf account) j []))
-    go j k (yes q) =
-        subst⁻¹ (λ (n : ℕ). getD (set nets i z) n (pos 0) ≡ contractNet (partsIn account (getD (contractsOf account) n []))) q
-        (getD-set-same nets i z (pos 0) (omega (arith, is .places)) ∙ e)
-    go j k (no q) = getD-set-other nets i j z (pos 0) q ∙ is .each j (omega (arith, q))
-
-nets-from : (account : List Record) (rs : List Record) (nets : List ℤ) → length rs ≤ length nets
-    → ((i : ℕ) → i < length rs → getD nets i (pos 0) ≡ contractNet (partsIn account (getD rs i [])))
-    → take (length rs) nets ≡ map (λ p. p .unused) (map asTier (map (partsIn account) rs))
-nets-from account [] nets h e = refl
-nets-from account (r ∷ rs) [] h e = absurd (not-suc-le-zero h)
-nets-from account (r ∷ rs) (z ∷ nets) h e =
-    ap₂ _∷_ (e 0 (suc-le-suc zero-le)) (nets-from account rs nets (le-of-suc-le-suc h) (λ i m. e (suc i) (suc-le-suc m)))
-
-pub nets-all : (account : List Record) (i : ℕ) (nets : List ℤ) → NetsTo account i nets → i ≡ length (contractsOf account) → i ≤ mostContracts
-    → take (length (contractsOf account)) nets ≡ map (λ p. p .unused) (map asTier (contracts account))
-nets-all account i nets is all few =
-    nets-from account (contractsOf account) nets (omega (arith, is .places)) (λ j h. is .each j (omega arith))
 
 -- ---- from places to lists
 
@@ -213,7 +161,6 @@ module _ (account : List Record) (law : Lawful account) (all : Lines) (is : Line
   table-room =
       record {
         few = is .few;
-        lines-within = λ k h. is .each k h .within;
         tiers-sound = tiers-sound ks ls lined;
         entries-within = entries-fit account law part ep;
       }
@@ -233,13 +180,6 @@ module _ (account : List Record) (law : Lawful account) (all : Lines) (is : Line
       → BookOf (steps (map intercontract (records part))) (map tierOf ls) (bookOf firsts seconds)
   book-formed firsts seconds is =
       record { first-is = is .first-is; second-is = is .second-is; used-is = refl; unused-is = refl }
-
-  -- the table's own, run or not
-  abbrev pub its : Book
-  its = bookOf (tableFirsts n (all .line) (records part)) (tableSeconds n (all .line) (records part))
-
-  pub its-book : BookOf (steps (map intercontract (records part))) (map tierOf ls) its
-  its-book = record { first-is = refl; second-is = refl; used-is = refl; unused-is = refl }
 
   -- where its steps are run, it is the question's book
   pub run-book : (p : Prompts) (t : Table) → TiersFrom n (all .line) p → TableOf intercontract part t
@@ -304,9 +244,6 @@ module _ (account : List Record) (law : Lawful account) (all : Lines) (is : Line
         }
 
     module _ (cs : List Amount) (earned : CreditsOf n (all .line) (records part) (b .first) (b .second) cs) where
-      pub lines-within : LinesWithin n (all .line) cs
-      lines-within = record { most = is .few; line-within = λ k h. line-at k h .within; credit-within = earned .most }
-
       -- what a line earns is its contract's credit
       earns-credit : (i : ℕ) → i < n → earns (getD (all .line) i noLine) (records part) (b .first) (b .second) ≡ creditOf (records part)
           (map asTier ks) (getD ks i kd)
@@ -348,30 +285,3 @@ unspread-book account law none =
           book-by-steps account law tableQuestion refl
           ∙ ap (λ (es : List Record). bookBy (steps (map intercontract es)) (map asTier (contracts account))) none;
     }
-
--- without intercontract spreads no contract has a credit
-none-credited : (table : List Open) (ks : List Contract) (n m : ℕ) → length ks ≤ n → n ≤ m → Credited [] table ks (take n (replicate m (record { 0 = 0 })))
-none-credited table [] n m h g = tt
-none-credited table (k ∷ ks) zero m h g = absurd (not-suc-le-zero h)
-none-credited table (k ∷ ks) (suc n) zero h g = absurd (not-suc-le-zero g)
-none-credited table (k ∷ ks) (suc n) (suc m) h g = (refl, none-credited table ks n m (le-of-suc-le-suc h) (le-of-suc-le-suc g))
-
-module _ (account : List Record) (all : Lines) (is : LinesOf account all) where
-  pub uncredited-within : LinesWithin (all .count) (all .line) (replicate mostContracts (record { 0 = 0 }))
-  uncredited-within =
-      record {
-        most = is .few;
-        line-within = λ k h. is .each k h .within;
-        credit-within = λ k h.
-            omega (arith, is .few, ap (λ (a : Amount). a .0) (getD-replicate mostContracts k (record { 0 = 0 }) (record { 0 = 0 }) (omega (arith, is .few))));
-      }
-
-  pub uncredited : entriesOf account ≡ []
-      → map pos (figuresFrom (take (all .count) (all .line)) (take (all .count) (replicate mostContracts (record { 0 = 0 })))) ≡ figures account
-  uncredited none =
-      let ks = contracts account in
-      ap (map pos) (figures-are [] ks (take (all .count) (all .line)) (take (all .count) (replicate mostContracts (record { 0 = 0 })))
-      (all-lined account all is)
-      (none-credited (map asTier ks) ks (all .count) mostContracts
-      (omega (arith, length-map (contractsOf account) (partsIn account), is .count-is)) (is .few)))
-      ∙ ap (λ (es : List Record). map pos (figuresOver es ks)) (sym none)

@@ -147,6 +147,20 @@ module _ (standing whole : List Record) (b : Besides standing whole) where
       pub tier-is : (z : ℤ) → c ≤ mostContract → z ≡ sumℤ (deltasIn (p .nets)) → TierIs (partsIn whole its) c z
       tier-is z few e = tiers.tier-is whole (b .lawful) (ratesOf whole) (ownOf c whole) (own-fit whole (b .lawful) c) c p at its z number few e
 
+      -- it is answered
+      pub contract-beside : (count : ℕ) → count ≡ length whole → c ≤ mostContract → ContractIn whole count c (promptsOf c standing) (spreadsOf c standing) p
+      contract-beside count n few =
+          record {
+            lawful = b .lawful;
+            asked-is =
+                ap (λ (t : Bool). t || any (asks c) (contractsOf whole)) (ne-eqb c tableQuestion (λ e. omega (arith, few, e)))
+                ∙ any-at (asks c) (contractsOf whole) i [] listed (eq-eqb (contract its) c (sym number));
+            records-are = n;
+            prompts-are = sym (b .prompts c);
+            spreads-are = sym (b .spreads c);
+            at = at;
+          }
+
     pub tier-sizes : sum (map natAbs (deltasIn (p .nets))) ≤ mostDelta
     tier-sizes = tiers.tier-sizes whole (b .lawful) (ratesOf whole) (ownOf c whole) (own-fit whole (b .lawful) c) c p at
 
@@ -293,13 +307,5 @@ module _ (account : List Record) (law : Lawful account) (c : ℕ) (few : c ≤ m
       pub contract-in : (i : ℕ) → i < length (contractsOf account) → c ≡ contract (getD (contractsOf account) i [])
           → ContractIn account (length account) c (records prompts) (records spreads) p
       contract-in i listed number =
-          record {
-            lawful = law;
-            asked-is =
-                ap (λ (t : Bool). t || any (asks c) (contractsOf account)) (ne-eqb c tableQuestion (λ e. omega (arith, few, e)))
-                ∙ any-at (asks c) (contractsOf account) i [] listed (eq-eqb (contract (getD (contractsOf account) i [])) c (sym number));
-            records-are = refl;
-            prompts-are = of-contract account law c few 2 (omega arith) prompts ep;
-            spreads-are = of-contract account law c few 4 (omega arith) spreads es;
-            at = position-here;
-          }
+          parts-read account law c few prompts spreads ep es (λ (xs ys : List Record). ContractIn account (length account) c xs ys p)
+          (contract-beside account account itself c p position-here i listed number (length account) refl few)

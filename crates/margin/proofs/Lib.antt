@@ -19,3 +19,4 @@ pub mod BesideLaws
 pub mod PositionsLaws
 pub mod LentLaws
 pub mod TabledLaws
+pub mod WalkLaws

@@ -182,14 +182,6 @@ put-place width at out part change e =
     ap₂ (λ ys zs. take at out ++ (ys ++ zs)) (e ∙ ap (λ (n : ℕ). change (take n (drop at out))) k) (post-is at (at + width) out (omega arith))
 
 module _ (width : ℕ) (after : ℕ → List ℤ → List ℤ) where
-  pub next-each : (q : ℕ) (lent out left : List ℤ) → out ≡ afterEach width after q lent → left ≡ atPlace width (width * q) (after q) out
-      → left ≡ afterEach width after (q + 1) lent
-  next-each q lent out left h e =
-      e ∙ ap (atPlace width (width * q) (after q)) h ∙ sym (ap (λ (n : ℕ). afterEach width after n lent) (more q))
-    where
-      more : (q : ℕ) → q + 1 ≡ suc q
-      more q = omega arith
-
   abbrev pub EachAnswered : Answer → List ℤ → List Record → List ℤ → Type 0
   EachAnswered a left account lent = (a ≡ eachOver width account (length lent)) × (left ≡ afterEachOver width after account lent)
 

@@ -19,8 +19,9 @@ pub use Rattle.account.proofs.NoonLaws.{accepted-only}
 use Rattle.formulas.specs.Contract.{contracts, partsIn, asTier}
 use Rattle.formulas.specs.Bounds.{figuresEach}
 use Rattle.margin.specs.Figures.{eights, figures, figuresOver, totalMargin, accountTotal}
-use Rattle.margin.specs.Questions.{notRefused, ifAccepted, numbersFor, answers, enough, answerOver, afterwards}
+use Rattle.margin.specs.Questions.{notRefused, ifAccepted, numbersFor, answers, enough, answerOver, afterwards, afterOver}
 use Rattle.margin.specs.declared.asking.Question.{Question}
+use Rattle.margin.specs.declared.asking.Question.the-variants.{Figures}
 use Rattle.margin.proofs.FigureLaws.{eights-length}
 use Rattle.margin.proofs.NumberLaws.{sets-front}
 
@@ -79,6 +80,13 @@ figures-length account =
     length-map (figuresOver es ks) pos
     ∙ length-append (eights es (map asTier ks) ks) (totalMargin es (map asTier ks) ks ∷ [])
     ∙ ap (λ (n : ℕ). n + 1) (eights-length es (map asTier ks) ks ∙ ap (λ (n : ℕ). figuresEach * n) (length-map (contractsOf account) (partsIn account)))
+
+-- where enough numbers are lent they stand at the front
+pub figures-front : (account : List Record) (out : List ℤ) → length (figures account) ≤ length out → afterOver account Figures out ≡ sets out 0
+    (figures account)
+figures-front account out room =
+    sym (accepted-with (answerOver account Figures (length out)) (figures account) out _ (length (figures account))
+    (asked-many account Figures (length out) refl room) refl (sets-front (figures account) out room) .1)
 
 -- ---- the total stands last in the figures
 

@@ -11,7 +11,6 @@ use lib.ListN.{length, getD}
 use Rattle.record.specs.Bytes.{recordBytes}
 use Rattle.exact.specs.Lists.{consIf, keep, count, oneIf}
 use Rattle.record.specs.Layout.{Record, contract, mostContract}
-use Rattle.record.specs.Within as ranges
 use Rattle.account.specs.Lawful.{Lawful}
 use Rattle.account.specs.PartNumbers.{part, entryPart}
 use Rattle.account.specs.Parts.{ofKind, ofContract, contractsOf, promptsOf, rowsOf, spreadsOf, entriesOf}

@@ -3,14 +3,14 @@
 -- Assumes nothing.
 use mathlib.Core.Path.{_≡_, refl, sym, _∙_, ap, ap₂, subst, subst⁻¹}
 use mathlib.Core.Bool.{true}
-use mathlib.Core.List.{List, [], _∷_, _++_, map}
+use mathlib.Core.List.{List, [], _∷_, _++_, map, map-map}
 use Prim.Native.Nat.{ℕ, zero, suc, _+_, _*_, _≤_, _<_}
 use native.Mathlib.Nat.{add-suc, suc-add, add-zero, not-suc-le-zero, le-of-suc-le-suc}
 use native.Mathlib.Decide.{ℕ-discrete}
 use native.Mathlib.Omega.{arith}
 use lib.IntN.{ℤ, pos, natAbs}
 use lib.ListN.{length, getD, take, drop, set, length-set, length-map}
-use lib.Seq.{sets, getD-set-same, getD-set-other, drop-set-lt, drop-nil, length-take-le, getD-take}
+use lib.Seq.{sets, getD-set-same, getD-set-other, drop-set-lt, drop-drop, drop-nil, length-take-le, getD-take}
 use Rattle.record.specs.Layout.{Record, contract}
 use Rattle.account.specs.Check.{mostContracts}
 use Rattle.account.specs.Lawful.{Lawful}
@@ -25,11 +25,12 @@ use Rattle.spread.specs.code.Lent.{deltasFrom, promptsIn, spreadsFrom, bookIn}
 use Rattle.spread.specs.declared.Spreads.{Spreads}
 use Rattle.spread.specs.declared.Table.{Table}
 use Rattle.spread.specs.declared.book.Book.{Book}
+use Rattle.spread.proofs.Lent.{deltas-again}
 use Rattle.spread.proofs.Filling.{entries-at, entries-length}
 use Rattle.formulas.specs.declared.amount.Amount.{Amount}
 use Rattle.formulas.specs.declared.line.Line.{Line}
 use Rattle.formulas.specs.Bounds.{figuresEach}
-use Rattle.formulas.specs.Contract.{Contract, partsIn}
+use Rattle.formulas.specs.Contract.{Contract, contracts, partsIn, asTier}
 use Rattle.formulas.specs.code.Lines.{LineWithin, eightOf, eightsFrom, totalFrom, figuresFrom, marginWith, noLine}
 use Rattle.formulas.specs.Deltas.{intercontract}
 use Rattle.formulas.specs.code.Promised.{BookOf, LineOf}
@@ -43,7 +44,7 @@ use Rattle.margin.specs.code.Numbers.{amountAt, LinesWithin}
 use Rattle.margin.specs.code.Tabled.{lineFor, linesFor, allFor, Placed, lineAt, linesAt, creditsAt, SameLine}
 use Rattle.margin.specs.code.Tabled.{TableCleared, TabledIn, TabledOver, CreditedIn}
 use Rattle.margin.proofs.AcceptLaws.{numbers-rise}
-use Rattle.margin.proofs.AccountLaws.{table-room, bookOf, book-formed, credits-room, answer-is}
+use Rattle.margin.proofs.AccountLaws.{lined-tiers, table-room, bookOf, book-formed, credits-room, answer-is}
 use Rattle.margin.proofs.NumberLaws.{sets-front}
 use Rattle.margin.proofs.StandLaws.{entries-fit}
 
@@ -309,11 +310,11 @@ module _ (account : List Record) (law : Lawful account) (n i : ℕ) (before out 
       (subst (LineOf (partsIn account (getD (contractsOf account) i []))) e line)
       (subst (λ (y : Line). Placed i y out tiers nets units prices sizes out′ tiers′ nets′ units′ prices′ sizes′) e p)
 
--- and all of them
-pub tabled-all : (account : List Record) (n i : ℕ) (before out : List ℤ) (tiers : List ℕ) (nets : List ℤ) (units prices sizes : List ℕ)
+-- and all of them, with the total behind them
+pub tabled-all : (account : List Record) (n i total : ℕ) (before out out′ : List ℤ) (tiers : List ℕ) (nets : List ℤ) (units prices sizes : List ℕ)
     → n ≡ length (contractsOf account) → n ≤ mostContracts → n ≤ i → TabledTo account n i before out tiers nets units prices sizes
-    → TabledOver account before out tiers nets units prices sizes
-tabled-all account n i before out tiers nets units prices sizes all few last is =
+    → out′ ≡ set out (n * figuresEach) (pos total) → TabledOver account before out′ tiers nets units prices sizes
+tabled-all account n i total before out out′ tiers nets units prices sizes all few last is put =
     let m = length (contractsOf account) in
     let end : i ≡ m = omega (arith, is .within) in
     record {
@@ -326,13 +327,23 @@ tabled-all account n i before out tiers nets units prices sizes all few last is 
                   places = entries-length mostContracts (λ j. lineFor (partsIn account (getD (contractsOf account) j [])));
                   each = λ j h. is .each j (omega arith);
                 };
-            stand = λ j h. is .stand j (omega arith);
+            stand =
+                λ j h.
+                subst⁻¹ (λ (o : List ℤ). SameLine (lineAt o (j * figuresEach)) (getD (linesFor account) j noLine)) put
+                (stands-before out (pos total ∷ []) (n * figuresEach) (j * figuresEach) (getD (linesFor account) j noLine) (omega arith)
+                (is .stand j (omega arith)));
             tiers-are = tiered-all (linesFor account) i m (promptsIn m tiers nets) (is .tiered) end refl;
             tiers-places = is .tiered .tiers;
             nets-places = sym (length-map nets _) ∙ is .tiered .nets;
             earners = subst (λ (k : ℕ). EarnersOf k (linesFor account) (earnerAt units prices sizes)) end (is .put .so-far);
           };
-      beyond = subst (λ (k : ℕ). drop (k * figuresEach) out ≡ drop (k * figuresEach) before) all (is .beyond);
+      beyond =
+          subst (λ (k : ℕ). drop (k * figuresEach + 1) out′ ≡ drop (k * figuresEach + 1) before) all
+          (ap (drop (n * figuresEach + 1)) put
+          ∙ drop-sets (pos total ∷ []) out (n * figuresEach) (n * figuresEach + 1) (omega arith)
+          ∙ sym (drop-drop 1 (n * figuresEach) out)
+          ∙ ap (drop 1) (is .beyond)
+          ∙ drop-drop 1 (n * figuresEach) before);
     }
 
 -- ---- the lines with their credits are the figures
@@ -439,6 +450,11 @@ sets-same vs before out m same fits most e =
     further (suc n) (suc m) (x ∷ xs) [] h e = further n m xs [] (le-of-suc-le-suc h) (e ∙ sym (drop-nil m)) ∙ drop-nil n
     further (suc n) (suc m) (x ∷ xs) (y ∷ ys) h e = further n m xs ys (le-of-suc-le-suc h) e
 
+-- figures that are written stand from the front
+pub sets-stand : (vs before out : List ℤ) → length vs ≤ length before → length out ≡ length before → out ≡ sets before 0 vs → out ≡ sets out 0 vs
+sets-stand vs before out fits same e =
+    e ∙ sym (sets-same vs before out (length vs) same fits (omega arith) (ap (drop (length vs)) e ∙ drop-sets vs before 0 (length vs) (omega arith)))
+
 -- ---- the table's steps are run over the contracts that stand in its arrays
 
 module _ (whole : List Record) (law : Lawful whole) (out : List ℤ) (tiers : List ℕ) (nets : List ℤ) (units prices sizes : List ℕ)
@@ -470,3 +486,15 @@ module _ (whole : List Record) (law : Lawful whole) (out : List ℤ) (tiers : Li
         earners = is .earners;
         formed = record { first-is = book .first-is; second-is = book .second-is };
       }
+
+-- ---- the net deltas that stand there are the contracts'
+
+pub tabled-nets : (whole : List Record) (out : List ℤ) (tiers : List ℕ) (nets : List ℤ) (units prices sizes : List ℕ)
+    → TabledIn whole out tiers nets units prices sizes → (count : ℕ) → count ≡ length (contractsOf whole)
+    → take count nets ≡ map (λ p. p .unused) (map asTier (contracts whole))
+tabled-nets whole out tiers nets units prices sizes is count all =
+    let n = length (contractsOf whole) in
+    ap (λ (m : ℕ). take m nets) all
+    ∙ ap (take n) (sym (deltas-again nets))
+    ∙ lined-tiers whole (allFor whole) (is .lines) (promptsIn n tiers nets) (is .tiers-are) .nets-are
+    ∙ sym (map-map (λ p. p .unused) asTier (contracts whole))

@@ -7,7 +7,6 @@ use lib.Dec.{eqb}
 use lib.IntN.{ℤ}
 use Rattle.record.specs.Layout.{Record}
 use Rattle.account.specs.Parts.{entriesOf}
-use Rattle.spread.specs.Accepted as given
 use Rattle.spread.specs.Steps.{Open, Taker}
 use Rattle.spread.specs.Uses.{usesOf}
 use Rattle.margin.specs.Books.{tableQuestion, ofQuestion}

@@ -1,7 +1,7 @@
 // The numbers of a question's book, by the spread steps.
 use crate::numbers::put_numbers;
 use crate::numbers::put_unspread;
-use formulas::books::put_counted_book;
+use formulas::books::put_contract_book;
 use record::bytes::RECORD_BYTES;
 use spread::MOST_PROMPTS;
 use spread::MOST_SPREADS;
@@ -183,7 +183,7 @@ pub(crate) fn run_contract(
     let mut second = [0; MOST_SPREADS];
     let mut used = [0; MOST_PROMPTS];
     let mut unused = [0; MOST_PROMPTS];
-    let touched = put_counted_book(
+    let touched = put_contract_book(
         prompts,
         nets,
         spreads,
@@ -191,6 +191,7 @@ pub(crate) fn run_contract(
         &mut second,
         &mut used,
         &mut unused,
+        true,
     );
     put_contract(
         out,

@@ -18,8 +18,8 @@ ghost use Rattle.spread.specs.Steps.{Open};
 ghost use Rattle.spread.specs.Touches.{mostTouches};
 ghost use Rattle.spread.specs.code.Lent.{spreadsFrom};
 ghost use Rattle.formulas.specs.Bounds.{mostRisk, mostCredits, figuresEach};
-ghost use Rattle.formulas.specs.code.Lines.{LineWithin, marginWith, eightOf, figuresFrom};
-ghost use Rattle.margin.specs.code.Numbers.{LinesWithin, PromptsLent, SpreadsSigned, numbersIn};
+ghost use Rattle.formulas.specs.code.Lines.{LineWithin, marginWith, eightOf};
+ghost use Rattle.margin.specs.code.Numbers.{PromptsLent, SpreadsSigned, numbersIn};
 ghost use Rattle.margin.specs.Books.{threes, bookBy};
 ghost use Rattle.account.specs.Check.{mostPrompts};
 ghost use Rattle.formulas.specs.code.Sums.{interleaved};
@@ -105,26 +105,6 @@ fn put_two(out: &mut [i64], at: usize, first: u64, second: u64)
 {
     put(out, at, first);
     put(out, at + 1, second);
-}
-
-// The figures from the front: eight numbers for each of the first `count` lines, then the total of the margins.
-pub(crate) fn put_lines(
-    out: &mut [i64],
-    count: usize,
-    lines: [Line; CONTRACTS],
-    credits: [Amount; CONTRACTS],
-)
-    requires { ⌜ LinesWithin count lines credits × (figuresEach * count + 1 ≤ length (now out)) ⌝ }
-    ensures { λ r. ⌜ now (out .exit) ≡ sets (now (out .entry)) 0 (map pos (figuresFrom (take count lines) (take count credits))) ⌝ }
-{
-    let mut total: u64 = 0;
-    let mut i = 0;
-    while i < count {
-        let margin = put_line(out, i * FIGURES_EACH, lines[i], credits[i]);
-        total += margin.0;
-        i += 1;
-    }
-    put(out, count * FIGURES_EACH, total);
 }
 
 // The numbers of a book without spreads from the front: of each prompt the net delta, nothing used and the same unused.

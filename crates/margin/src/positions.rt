@@ -1,24 +1,18 @@
-// What the rows of each contract come to, worked out once for an account; and its lines, tiers and total from there.
-use crate::numbers::FIGURES_EACH;
-use crate::numbers::LONGEST_FIGURES;
-use crate::over::Lines;
+// What the rows of each contract come to, worked out once for an account; and its contracts as tiers and what is asked about from there.
 use crate::over::TABLE;
 use crate::over::Tier;
 use crate::over::asking_with;
-use crate::over::line_with;
-use crate::over::no_line;
 use crate::over::position_in;
-use crate::over::put_figures;
 use crate::over::rates_over;
 use crate::over::table_asking;
 use crate::uses::Asking;
 use account::accounts::Account;
 use account::accounts::contract_number;
 use account::accounts::contract_total;
+use account::accounts::part;
 use account::accounts::record_total;
 use account::parts::CONTRACTS;
-use exact::signed::magnitude;
-use formulas::amount::Amount;
+use account::parts::ENTRIES;
 use formulas::line::contract_net;
 use formulas::rows::Position;
 use formulas::rows::flat;
@@ -36,8 +30,7 @@ ghost use Rattle.account.specs.Joined.{accountOf};
 ghost use Rattle.record.specs.Layout.{Record, mostContract};
 ghost use Rattle.margin.specs.Books.{answered};
 ghost use Rattle.formulas.specs.Bounds.{mostDelta};
-ghost use Rattle.margin.specs.Figures.{accountTotal};
-ghost use Rattle.margin.specs.code.Lined.{LinesOf, TiersIn};
+ghost use Rattle.margin.specs.code.Lined.{TiersIn};
 ghost use Rattle.margin.specs.code.Positions.{PositionsOf, PositionsTell, Known};
 ghost use Rattle.formulas.specs.code.Sums.{deltasIn};
 ghost use Rattle.margin.specs.Uses.{stepsFor, opensFor};
@@ -67,48 +60,6 @@ pub fn positions_over<'a>(morning: &'a [u8], noon: &'a [u8], account: Account) -
         records: record_total(account),
         at,
     }
-}
-
-// The lines of all contracts, in file order.
-pub(crate) fn lines_from<'a>(
-    morning: &'a [u8],
-    noon: &'a [u8],
-    account: Account,
-    positions: Positions,
-) -> Lines
-    requires { ⌜ Stands (now morning) (now noon) account × Known (accountOf (now morning) (now noon)) positions ⌝ }
-    ensures { λ r. ⌜ ((whole : List Record) → PositionsTell (accountOf (now (morning .entry)) (now (noon .entry))) positions whole → LinesOf whole r) ⌝ }
-{
-    let count = contract_total(account);
-    let mut lines = [no_line(); CONTRACTS];
-    let mut i = 0;
-    while i < count {
-        let c = contract_number(account, i);
-        lines[i] = line_with(morning, noon, account, c, positions.at[c]);
-        i += 1;
-    }
-    Lines {
-        count: count,
-        line: lines,
-    }
-}
-
-// The total of the margins, which stands last in the figures.
-pub fn total_from<'a>(
-    morning: &'a [u8],
-    noon: &'a [u8],
-    account: Account,
-    positions: Positions,
-) -> Amount
-    requires { ⌜ Stands (now morning) (now noon) account × Known (accountOf (now morning) (now noon)) positions ⌝ }
-    ensures { λ r. ⌜ ((whole : List Record) → PositionsTell (accountOf (now (morning .entry)) (now (noon .entry))) positions whole
-        → r .0 ≡ accountTotal whole) ⌝ }
-{
-    let lines = lines_from(morning, noon, account, positions);
-    let mut numbers = [0i64; LONGEST_FIGURES];
-    put_figures(morning, noon, account, lines, &mut numbers);
-    let last = FIGURES_EACH * contract_total(account);
-    Amount(magnitude(numbers[last]))
 }
 
 // A contract as a tier, by what its rows come to.
@@ -168,7 +119,7 @@ pub(crate) fn asking_from<'a>(
 {
     if question == TABLE {
         let tiers = tiers_from(morning, noon, account, positions);
-        return table_asking(morning, noon, account, tiers);
+        return table_asking(part(morning, noon, account, ENTRIES), tiers);
     }
     asking_with(morning, noon, account, question, positions.at[question])
 }

@@ -20,14 +20,14 @@ ghost use lib.Seq.{sets};
 ghost use Rattle.record.specs.Layout.{Record};
 ghost use Rattle.account.specs.Check.{mostContracts};
 ghost use Rattle.spread.specs.Accepted.{promptPlaces};
-ghost use Rattle.formulas.specs.Bounds.{figuresEach};
-ghost use Rattle.formulas.specs.code.Lines.{LineWithin, figuresFrom};
+ghost use Rattle.formulas.specs.Bounds.{figuresEach, mostRisk};
+ghost use Rattle.formulas.specs.code.Lines.{LineWithin, marginWith, figuresFrom};
 ghost use Rattle.margin.specs.Figures.{figures};
 ghost use Rattle.margin.specs.code.Numbers.{LinesWithin};
 ghost use Rattle.margin.specs.code.Tabled.{lineAt, linesAt, creditsAt, Placed, CreditedIn, CreditedKnown};
 
 // The i-th contract's line in its places: its eight numbers without a credit; its number and its net delta as a tier; and by its number its
-// unit, twice its price risk and the size of its net delta.
+// unit, twice its price risk and the size of its net delta. It gives the margin.
 pub(crate) fn place_line(
     i: usize,
     line: Line,
@@ -37,22 +37,24 @@ pub(crate) fn place_line(
     units: &mut [u64; CONTRACTS],
     prices: &mut [u64; CONTRACTS],
     sizes: &mut [u64; CONTRACTS],
-)
+) -> Amount
     requires { ⌜ (i < mostContracts) × ((i * figuresEach + figuresEach ≤ length (now out)) × (LineWithin line
         × (((length (now tiers) ≡ promptPlaces) × (length (now nets) ≡ promptPlaces))
         × ((length (now units) ≡ mostContracts) × ((length (now prices) ≡ mostContracts) × (length (now sizes) ≡ mostContracts)))))) ⌝ }
-    ensures { λ _. ⌜ Placed i line (now (out .entry)) (now (tiers .entry)) (now (nets .entry)) (now (units .entry)) (now (prices .entry))
+    ensures placed { λ _. ⌜ Placed i line (now (out .entry)) (now (tiers .entry)) (now (nets .entry)) (now (units .entry)) (now (prices .entry))
         (now (sizes .entry)) (now (out .exit)) (now (tiers .exit)) (now (nets .exit)) (now (units .exit)) (now (prices .exit)) (now (sizes .exit)) ⌝ }
+    ensures margin { λ r. ⌜ (r .0 ≡ marginWith line 0) × (r .0 ≤ 3 * mostRisk) ⌝ }
 {
     let c = line.contract;
     let net = line.net;
     let number = net.0;
-    put_line(out, i * FIGURES_EACH, line, Amount(0));
+    let margin = put_line(out, i * FIGURES_EACH, line, Amount(0));
     tiers[i] = c as u8;
     nets[i] = number;
     units[c] = line.unit;
     prices[c] = line.twice_price;
     sizes[c] = magnitude(number);
+    margin
 }
 
 // The line whose eight numbers stand from a place on, but for what its credit is worked out from.

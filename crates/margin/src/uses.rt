@@ -1,4 +1,5 @@
 // Who paid for what: for each step of a table of spreads, what it takes of each prompt.
+use account::answers::Answer;
 use spread::Delta;
 use spread::MOST_PROMPTS;
 use spread::Prompts;
@@ -7,15 +8,20 @@ use spread::Table;
 use spread::stepwise::step_over;
 ghost use mathlib.Core.Path.{_≡_};
 ghost use mathlib.Core.Bool.{true};
-ghost use Prim.Native.Nat.{_+_, _*_, _≤_};
+ghost use mathlib.Core.List.{List};
+ghost use Prim.Native.Nat.{ℕ, _+_, _*_, _≤_};
 ghost use lib.ListN.{length, take};
 ghost use lib.Seq.{sets};
+ghost use Rattle.record.specs.Layout.{Record};
 ghost use Rattle.account.specs.Check.{mostPrompts};
 ghost use Rattle.spread.specs.Accepted.{openOf, stepsOf, sound};
 ghost use Rattle.spread.specs.Steps.{stepOf};
 ghost use Rattle.spread.specs.Uses.{takenOf, usesOf, soundFor};
 ghost use Rattle.formulas.specs.code.Sums.{deltasIn};
+ghost use Rattle.margin.specs.Questions.{answerOver, afterOver};
+ghost use Rattle.margin.specs.code.Asked.{AskedBy};
 ghost use Rattle.margin.specs.code.Asking.{LeftBy};
+ghost use Rattle.margin.specs.declared.asking.Question.the-variants.{Uses};
 
 // What a question asks about: prompts with their net deltas, or contracts as tiers, and the table of spreads over them.
 pub struct Asking {
@@ -49,7 +55,7 @@ fn put_step(out: &mut [i64], at: usize, prompts: Prompts, spread: Spread, second
 }
 
 // How many numbers the uses of a table have: one for each prompt in each of a spread's two steps.
-pub(crate) fn uses_count(prompts: Prompts, table: Table) -> usize
+fn uses_count(prompts: Prompts, table: Table) -> usize
     requires { ⌜ sound prompts table ≡ true ⌝ }
     ensures { λ r. ⌜ r ≡ table .count * (2 * prompts .count) ⌝ }
 {
@@ -57,7 +63,7 @@ pub(crate) fn uses_count(prompts: Prompts, table: Table) -> usize
 }
 
 // What each step of a table takes of each prompt, one step after the other.
-pub(crate) fn put_uses(out: &mut [i64], prompts: Prompts, table: Table)
+fn put_uses(out: &mut [i64], prompts: Prompts, table: Table)
     requires { ⌜ (sound prompts table ≡ true) × (table .count * (2 * prompts .count) ≤ length (now out)) ⌝ }
     ensures { λ r. ⌜ now (out .exit) ≡ sets (now (out .entry)) 0 (usesOf (stepsOf table) (openOf prompts)) ⌝ }
 {
@@ -74,4 +80,20 @@ pub(crate) fn put_uses(out: &mut [i64], prompts: Prompts, table: Table)
         at += 2 * n;
         i += 1;
     }
+}
+
+// What each step takes of each prompt, at the front of `out`, of an account of so many records. A refusal writes nothing.
+pub(crate) fn answer_uses(records: usize, asking: Asking, out: &mut [i64]) -> Answer
+    requires { ⌜ sound (asking .prompts) (asking .table) ≡ true ⌝ }
+    ensures { λ r. ⌜
+        ((whole : List Record) (question : ℕ) → AskedBy whole question records asking
+        → (r ≡ answerOver whole (Uses question) (length (now (out .entry)))) × (now (out .exit) ≡ afterOver whole (Uses question) (now (out .entry)))) ⌝ }
+{
+    let prompts = asking.prompts;
+    let table = asking.table;
+    if out.len() < uses_count(prompts, table) {
+        return Answer::TooFewNumbers(records);
+    }
+    put_uses(out, prompts, table);
+    Answer::Accepted
 }

@@ -7,7 +7,7 @@ use account::accounts::nothing_of;
 use account::answers::Answer;
 use account::answers::number_of;
 use margin::asking::Question;
-use margin::asking::everything_over;
+use margin::everything::everything_over;
 ghost use mathlib.Core.Path.{_≡_};
 ghost use Prim.Native.Nat.{_≤_};
 ghost use lib.ListN.{length};

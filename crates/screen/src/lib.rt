@@ -9,7 +9,7 @@ use account::answers::number_of;
 use exact::signed::below;
 use exact::signed::magnitude;
 use formulas::amount::Amount;
-use margin::over::total_over;
+use margin::everything::total_over;
 use record::bytes::RECORD_BYTES;
 use tickets::counts::check_ticket;
 use tickets::counts::counts_of;

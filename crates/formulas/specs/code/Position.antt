@@ -97,6 +97,10 @@ pub record DaysOf (prompts : List Record) (d : Days) : Type 0 where
   pub few : d .count ≤ promptPlaces
   pub day-is : (j : ℕ) → j < length prompts → getD (d .day) j 0 ≡ day (getD prompts j [])
 
+-- the days of a lent array, the first so many
+abbrev pub daysIn : ℕ → List ℕ → Days
+daysIn count days = record { count = count; day = days }
+
 -- each day is later than those before it
 abbrev pub DaysRise : ℕ → List ℕ → Type 0
 DaysRise n days = (j k : ℕ) → j < k → k < n → getD days j 0 < getD days k 0

@@ -1,6 +1,6 @@
 -- The intercontract table over the lines of the figures.
 -- Assumes nothing.
-use Prim.Native.Nat.{ℕ, _+_, _*_, _≤_, _<_}
+use Prim.Native.Nat.{ℕ, _+_, _≤_, _<_}
 use mathlib.Core.Path.{_≡_}
 use mathlib.Core.Bool.{true}
 use mathlib.Core.List.{List, [], map}
@@ -8,9 +8,9 @@ use lib.IntN.{natAbs}
 use lib.ListN.{length, getD, take}
 use Rattle.record.specs.Layout.{Record, percent, mostContract}
 use Rattle.account.specs.Check.{mostContracts, mostEntries}
-use Rattle.spread.specs.Accepted.{every, soundPrompt, openOf, spreadPlaces}
-use Rattle.spread.specs.code.Book.{spreadsEntry, byPlace as places}
-use Rattle.spread.specs.Steps.{Open, steps, numbers}
+use Rattle.spread.specs.Accepted.{every, soundPrompt, openOf}
+use Rattle.spread.specs.code.Book.{byPlace as places}
+use Rattle.spread.specs.Steps.{Open, numbers}
 use Rattle.spread.specs.declared.Prompts.{Prompts}
 use Rattle.spread.specs.declared.Spreads.{Spreads}
 use Rattle.formulas.specs.declared.amount.Amount.{Amount}
@@ -18,8 +18,7 @@ use Rattle.formulas.specs.declared.charges.Earner.{Earner}
 use Rattle.formulas.specs.declared.line.Line.{Line}
 use Rattle.formulas.specs.Bounds.{mostCredit, mostCredits}
 use Rattle.formulas.specs.Credit.{credit, entryUse, creditsBy}
-use Rattle.formulas.specs.Deltas.{intercontract}
-use Rattle.formulas.specs.code.Lines.{LineWithin, noLine}
+use Rattle.formulas.specs.code.Lines.{noLine}
 use Rattle.formulas.specs.code.Sums.{interleaved, deltasIn, spreadsAt, CreditRoom, EntriesRoom}
 use Rattle.formulas.specs.code.Within.{EntryFit, EntriesFit}
 
@@ -34,16 +33,8 @@ pub record TiersFrom (count : ℕ) (lines : List Line) (p : Prompts) : Type 0 wh
 
 pub record TableRoom (count : ℕ) (lines : List Line) (entries : List Record) : Type 0 where
   pub few : count ≤ mostContracts
-  pub lines-within : (k : ℕ) → k < count → LineWithin (getD lines k noLine)
   pub tiers-sound : every soundPrompt (map tierOf (take count lines)) ≡ true
   pub entries-within : EntriesFit entries
-
--- the numbers that the entries form over the contracts, entry by entry
-abbrev pub tableFirsts : ℕ → List Line → List Record → List Spreads
-tableFirsts count lines es = places spreadPlaces (λ k. spreadsEntry (numbers (steps (map intercontract es)) (map tierOf (take count lines))) (2 * k))
-
-abbrev pub tableSeconds : ℕ → List Line → List Record → List Spreads
-tableSeconds count lines es = places spreadPlaces (λ k. spreadsEntry (numbers (steps (map intercontract es)) (map tierOf (take count lines))) (2 * k + 1))
 
 pub record EarnerOf (l : Line) (e : Earner) : Type 0 where
   pub unit-is : e .unit ≡ l .unit

@@ -8,12 +8,13 @@ use lib.ListN.{length, getD, take}
 use Rattle.exact.specs.Lists.{keep}
 use Rattle.record.specs.Layout.{Record, unit}
 use Rattle.account.specs.Lawful.{Lawful}
+use Rattle.account.specs.PartNumbers.{entryPart}
+use Rattle.account.specs.code.Standing.{PartOf}
 use Rattle.account.specs.Parts.{contractsOf, promptsOf, spreadsOf, entriesOf, ratesOf}
 use Rattle.spread.specs.declared.Prompts.{Prompts}
 use Rattle.formulas.specs.Contract.{contracts, asTier}
-use Rattle.margin.specs.declared.over.Lines.{Lines}
 use Rattle.margin.specs.Books.{asks}
-use Rattle.margin.specs.code.Lined.{LinesOf, TiersIn}
+use Rattle.margin.specs.code.Lined.{TiersIn}
 
 -- the own record of a contract, by its number
 abbrev pub ownOf : ℕ → List Record → Record
@@ -32,22 +33,16 @@ pub record Besides (standing whole : List Record) : Type 0 where
   pub entries : entriesOf whole ≡ entriesOf standing
   pub rates : ratesOf whole ≡ ratesOf standing
 
--- one with these lines, and one with these tiers
-pub record LinesKnown (standing : List Record) (ls : Lines) : Type 0 where
-  pub whole : List Record
-  pub beside : Besides standing whole
-  pub lines : LinesOf whole ls
-
--- such a one, of so many records
-pub record LinedBy (standing : List Record) (ls : Lines) (records : ℕ) (whole : List Record) : Type 0 where
-  pub beside : Besides standing whole
-  pub lines : LinesOf whole ls
-  pub records-are : records ≡ length whole
-
-pub record TiersKnown (standing : List Record) (tiers : Prompts) : Type 0 where
-  pub whole : List Record
-  pub beside : Besides standing whole
+-- one with these intercontract spreads and these tiers
+pub record TiersOver (entries : List ℕ) (tiers : Prompts) (whole : List Record) : Type 0 where
+  pub lawful : Lawful whole
+  pub part : PartOf whole entryPart entries
   pub is : TiersIn whole tiers
+
+-- there is one
+pub record TiersKnown (entries : List ℕ) (tiers : Prompts) : Type 0 where
+  pub whole : List Record
+  pub over : TiersOver entries tiers whole
 
 -- one of so many records without intercontract spreads, whose contracts have these net deltas
 pub record Unspread (whole : List Record) (records count : ℕ) (nets : List ℤ) : Type 0 where

@@ -3,23 +3,26 @@
 use Prim.Native.Nat.{ℕ}
 use mathlib.Core.Path.{_≡_}
 use mathlib.Core.Bool.{true, false}
-use mathlib.Core.List.{List, [], map}
+use mathlib.Core.List.{List, []}
 use lib.IntN.{ℤ}
-use lib.ListN.{length, getD, take}
+use lib.ListN.{length, getD}
 use lib.Seq.{sets}
 use Rattle.record.specs.Layout.{Record, contract}
-use Rattle.account.specs.Parts.{contractsOf}
-use Rattle.spread.specs.Accepted.{promptPlaces}
-use Rattle.margin.specs.declared.asking.Everything.{Everything}
+use Rattle.account.specs.Lawful.{Lawful}
+use Rattle.account.specs.PartNumbers.{entryPart}
+use Rattle.account.specs.Parts.{contractsOf, entriesOf}
+use Rattle.account.specs.code.Standing.{PartOf}
+use Rattle.margin.specs.declared.everything.Everything.{Everything}
 use Rattle.margin.specs.declared.asking.Question.the-variants.{Figures, Book, Uses}
 use Rattle.formulas.specs.declared.line.Line.{Line}
 use Rattle.account.specs.declared.answers.Answer.the-variants.{Accepted}
 use Rattle.margin.specs.Books.{tableQuestion}
 use Rattle.margin.specs.Figures as shown
 use Rattle.formulas.specs.Bounds.{longestBook, longestUses}
-use Rattle.formulas.specs.Contract.{contracts, partsIn, asTier}
+use Rattle.formulas.specs.Contract.{partsIn}
 use Rattle.formulas.specs.code.Promised.{LineOf}
 use Rattle.margin.specs.Questions.{answerOver, afterOver}
+use Rattle.margin.specs.code.Tabled.{TabledIn, TabledOver}
 use Rattle.margin.specs.Places.{lentPlace, lentEach, allOver, afterAllOver}
 
 -- the line of the i-th contract, and its book and its uses in their places
@@ -32,17 +35,29 @@ pub record ContractLent (account : List Record) (i : ℕ) (l : Line) (books uses
       let c = contract (getD (contractsOf account) i []) in
       uses′ ≡ lentPlace longestUses c (afterOver account (Uses c)) uses
 
--- the books and uses of all contracts
-pub record ContractsLent (account : List Record) (books uses books′ uses′ : List ℤ) : Type 0 where
+-- what a walk over the contracts leaves: their lines from the front and the total behind them, which without intercontract spreads are the figures; what
+-- the intercontract table needs of them; and their books and uses in their places
+pub record Walked (account : List Record) (figures books uses figures′ books′ uses′ : List ℤ) (tiers′ : List ℕ) (nets′ : List ℤ)
+    (units′ prices′ sizes′ : List ℕ) : Type 0 where
+  pub table : TabledOver account figures figures′ tiers′ nets′ units′ prices′ sizes′
+  pub uncredited : entriesOf account ≡ [] → figures′ ≡ sets figures 0 (shown.figures account)
   pub book : books′ ≡ lentEach longestBook (λ q. afterOver account (Book q)) tableQuestion books
   pub paid : uses′ ≡ lentEach longestUses (λ q. afterOver account (Uses q)) tableQuestion uses
 
--- and their net deltas
-pub record NetsLent (account : List Record) (books uses books′ uses′ nets′ : List ℤ) : Type 0 where
-  pub book : books′ ≡ lentEach longestBook (λ q. afterOver account (Book q)) tableQuestion books
-  pub paid : uses′ ≡ lentEach longestUses (λ q. afterOver account (Uses q)) tableQuestion uses
-  pub places : length nets′ ≡ promptPlaces
-  pub nets-are : take (length (contractsOf account)) nets′ ≡ map (λ p. p .unused) (map asTier (contracts account))
+-- an account of so many contracts and records with these intercontract spreads, over whose contracts such a walk has gone
+pub record TabledBy (entries : List ℕ) (count records : ℕ) (figures : List ℤ) (tiers : List ℕ) (nets : List ℤ) (units prices sizes : List ℕ)
+    (whole : List Record) : Type 0 where
+  pub lawful : Lawful whole
+  pub count-is : count ≡ length (contractsOf whole)
+  pub records-are : records ≡ length whole
+  pub part : PartOf whole entryPart entries
+  pub tabled : TabledIn whole figures tiers nets units prices sizes
+  pub uncredited : entriesOf whole ≡ [] → figures ≡ sets figures 0 (shown.figures whole)
+
+-- there is one
+pub record TabledKnown (entries : List ℕ) (count records : ℕ) (figures : List ℤ) (tiers : List ℕ) (nets : List ℤ) (units prices sizes : List ℕ) : Type 0 where
+  pub whole : List Record
+  pub is : TabledBy entries count records figures tiers nets units prices sizes whole
 
 -- the figures, and the book and uses of the intercontract table in their places
 pub record TableLent (account : List Record) (figures books uses : List ℤ) (r : Everything) (figures′ books′ uses′ : List ℤ) : Type 0 where

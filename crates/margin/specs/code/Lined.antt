@@ -8,7 +8,7 @@ use lib.IntN.{ℤ, natAbs}
 use lib.ListN.{length, getD, take}
 use Rattle.account.specs.Check.{mostContracts, mostRows}
 use Rattle.account.specs.Parts.{contractsOf, promptsOf, rowsOf}
-use Rattle.margin.specs.declared.over.Lines.{Lines}
+use Rattle.formulas.specs.declared.line.Line.{Line}
 use Rattle.formulas.specs.declared.rows.Position.{Position}
 use Rattle.record.specs.Layout.{Record, contract, mostContract}
 use Rattle.spread.specs.Accepted.{every, soundPrompt, openOf}
@@ -19,6 +19,11 @@ use Rattle.formulas.specs.code.Lines.{noLine}
 use Rattle.formulas.specs.code.Position.{PositionOf, Bounded}
 use Rattle.formulas.specs.code.Promised.{LineOf}
 use Rattle.formulas.specs.code.Sums.{deltasIn}
+
+-- so many lines, the first of as many as there can be contracts
+pub record Lines : Type 0 where
+  pub count : ℕ
+  pub line : List Line
 
 -- the lines of the account's contracts, in file order
 pub record LinesOf (account : List Record) (ls : Lines) : Type 0 where

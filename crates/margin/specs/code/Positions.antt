@@ -35,12 +35,6 @@ pub record Known (standing : List Record) (ps : Positions) : Type 0 where
   pub whole : List Record
   pub told : PositionsTell standing ps whole
 
--- the same of one contract alone: what its rows come to
-pub record ToldOf (standing : List Record) (records c : ℕ) (p : Position) (whole : List Record) : Type 0 where
-  pub beside : Besides standing whole
-  pub records-are : records ≡ length whole
-  pub at : PositionAt (ratesOf whole) (unitOf c whole) whole c p
-
 -- an account that answers contract c, whose prompts and interprompt spreads are these
 pub record ContractIn (whole : List Record) (records c : ℕ) (prompts spreads : List Record) (p : Position) : Type 0 where
   pub lawful : Lawful whole

@@ -26,8 +26,7 @@ use Rattle.formulas.specs.Deltas.{intercontract}
 use Rattle.formulas.specs.code.Lines.{eightOf, noLine}
 use Rattle.formulas.specs.code.Promised.{FormedOf}
 use Rattle.formulas.specs.code.Table.{TiersFrom, EarnersOf, earnerAt, tierOf}
-use Rattle.margin.specs.declared.over.Lines.{Lines}
-use Rattle.margin.specs.code.Lined.{LinesOf}
+use Rattle.margin.specs.code.Lined.{Lines, LinesOf}
 
 -- the line of a contract, as the definitions have it
 abbrev pub lineFor : Contract → Line
@@ -110,10 +109,10 @@ pub record TabledIn (account : List Record) (out : List ℤ) (tiers : List ℕ) 
   pub nets-places : length nets ≡ promptPlaces
   pub earners : EarnersOf (length (contractsOf account)) (linesFor account) (earnerAt units prices sizes)
 
--- and nothing else of the memory has changed
+-- and nothing else of the memory has changed but for the total behind them
 pub record TabledOver (account : List Record) (out out′ : List ℤ) (tiers′ : List ℕ) (nets′ : List ℤ) (units′ prices′ sizes′ : List ℕ) : Type 0 where
   pub tabled : TabledIn account out′ tiers′ nets′ units′ prices′ sizes′
-  pub beyond : drop (length (contractsOf account) * figuresEach) out′ ≡ drop (length (contractsOf account) * figuresEach) out
+  pub beyond : drop (length (contractsOf account) * figuresEach + 1) out′ ≡ drop (length (contractsOf account) * figuresEach + 1) out
 
 -- an account with these lines, these intercontract spreads, and the numbers that they formed
 pub record CreditedIn (whole : List Record) (count : ℕ) (entries units prices sizes first second : List ℕ) (out : List ℤ) : Type 0 where

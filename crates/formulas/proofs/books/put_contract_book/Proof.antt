@@ -1,13 +1,17 @@
--- The spread steps accept a contract's prompts and spreads, and their book is the contract's.
+-- The spread steps accept a contract's prompts and spreads, their book is the contract's, and so is what they touch.
 -- Assumes nothing.
-use mathlib.Core.Path.{ap}
+use mathlib.Core.Path.{sym, ap, _∙_}
+use mathlib.Core.Bool.{true≢false}
+use Prim.Native.Nat.{zero-le}
 use native.Mathlib.Omega.{arith}
 use borrow.Author.Needs.{needs}
+use borrow.Author.Tests.{not-true}
 use lib.ListN.{length}
 use Rattle.account.specs.Records.{records}
-use Rattle.formulas.proofs.BookLaws.{lent-sound, lent-book}
+use Rattle.formulas.specs.Deltas.{opensWith}
+use Rattle.formulas.proofs.BookLaws.{lent-sound, lent-book, lent-touches}
 use Rattle.formulas.proofs.RecordLaws.{count-is}
-use Rattle.formulas.proofs.UnspreadLaws.{unspread}
+use Rattle.formulas.proofs.UnspreadLaws.{unspread, untouched}
 use Rattle.formulas.proofs.books.put_contract_book.Statement.{statement}
 use Rattle.formulas.proofs.books.put_contract_book.Tie as tie
 
@@ -22,9 +26,14 @@ returns c =
     let after-put-unused-arg = c .before .before in
     let after-if1 = after-put-unused-arg .before in
     let start = after-if1 .before .before .before in
-    unspread (records (start .args .prompts .now)) (start .args .spreads .now) (start .args .nets .now) (start .args .first .now) (start .args .second .now)
-    (start .args .used .now) _ (after-if1 .if1 .taken) (after-put-unused-arg .put-unused-arg .given .0) (start .pre .0 .nets-beyond) (start .pre .1 .0 .0)
-    (start .pre .1 .0 .1) (start .pre .1 .1 .0) (c .put-unused .ensures)
+    let prompts = records (start .args .prompts .now) in
+    let spreads = start .args .spreads .now in
+    let nets = start .args .nets .now in (
+      unspread prompts spreads nets (start .args .first .now) (start .args .second .now) (start .args .used .now) _ (after-if1 .if1 .taken)
+          (after-put-unused-arg .put-unused-arg .given .0) (start .pre .0 .nets-beyond) (start .pre .1 .0 .0) (start .pre .1 .0 .1)
+          (start .pre .1 .1 .0) (c .put-unused .ensures),
+      λ asked. (untouched spreads (opensWith prompts nets) (after-if1 .if1 .taken), zero-le),
+    )
 
 put-tiers-requires : tie.Need-put-tiers-requires
 put-tiers-requires c κs =
@@ -33,30 +42,75 @@ put-tiers-requires c κs =
 
 interprompt-table-requires : tie.Need-interprompt-table-requires
 interprompt-table-requires c κs =
-    let start = c .before .before .before .before .before .before in
+    let start = c .before .before .before .before .before in
     omega (arith, start .pre .0 .few-spreads, count-is (start .args .spreads .now))
 
 put-book-requires : tie.Need-put-book-requires
 put-book-requires c κs =
-    let after-interprompt-table = c .before .before .before .before in
-    let after-put-tiers = after-interprompt-table .before .before in
+    let after-table = c .before .before .before .before .before in
+    let after-put-tiers = after-table .before in
     let start = after-put-tiers .before .before .before .before .before in
-    let table = after-interprompt-table .interprompt-table in (
+    let table = after-table .interprompt-table in (
       lent-sound (start .args .prompts .now) (start .args .spreads .now) _ (start .args .nets .now) (table .result) (after-put-tiers .put-tiers .ensures)
           (table .ensures) (start .pre .0),
       start .pre .1,
     )
 
+-- where the table was made
+abbrev at-table : tie.After-put-book → tie.After-interprompt-table
+at-table c =
+    let after-table = c .before .before .before .before .before .before in
+    after-table
+
 returns-2 : tie.Need-returns-2
 returns-2 c =
-    let after-interprompt-table = c .before .before .before .before .before in
-    let after-put-tiers = after-interprompt-table .before .before in
+    let after-book = c .before in
+    let after-table = at-table after-book in
+    let after-put-tiers = after-table .before in
     let start = after-put-tiers .before .before .before .before .before in
-    let table = after-interprompt-table .interprompt-table in
-    lent-book (start .args .prompts .now) (start .args .spreads .now) _ (start .args .nets .now) (table .result) (after-put-tiers .put-tiers .ensures)
-    (table .ensures) (start .pre .0) _ (c .put-book .ensures)
+    let table = after-table .interprompt-table in (
+      lent-book (start .args .prompts .now) (start .args .spreads .now) _ (start .args .nets .now) (table .result) (after-put-tiers .put-tiers .ensures)
+          (table .ensures) (start .pre .0) _ (after-book .put-book .ensures),
+      λ asked. absurd (true≢false (sym asked ∙ not-true (start .args .counted) (c .if2 .taken))),
+    )
+
+touches-in-requires : tie.Need-touches-in-requires
+touches-in-requires c κs =
+    let after-book = c .before .before .before .before in
+    let after-table = at-table after-book in
+    let after-put-tiers = after-table .before in
+    let start = after-put-tiers .before .before .before .before .before in
+    let table = after-table .interprompt-table in
+    let run = after-book .put-book .ensures in (
+      lent-sound (start .args .prompts .now) (start .args .spreads .now) _ (start .args .nets .now) (table .result) (after-put-tiers .put-tiers .ensures)
+          (table .ensures) (start .pre .0),
+      record { firsts = run .first; seconds = run .second },
+    )
+
+returns-3 : tie.Need-returns-3
+returns-3 c =
+    let after-book = c .before .before .before .before .before in
+    let after-table = at-table after-book in
+    let after-put-tiers = after-table .before in
+    let start = after-put-tiers .before .before .before .before .before in
+    let prompts = start .args .prompts .now in
+    let spreads = start .args .spreads .now in
+    let nets = start .args .nets .now in
+    let table = after-table .interprompt-table in
+    let tiers = after-put-tiers .put-tiers .ensures in (
+      lent-book prompts spreads _ nets (table .result) tiers (table .ensures) (start .pre .0) _ (after-book .put-book .ensures),
+      λ asked. lent-touches prompts spreads _ nets (table .result) tiers (table .ensures) (start .pre .0) (c .touches-in .result) (c .touches-in .ensures),
+    )
 
 pub put-contract-book-spec : {M : Type 1} → statement M
 put-contract-book-spec =
     tie.close
-    (tie.spec put-unused-requires returns put-tiers-requires interprompt-table-requires put-book-requires returns-2)
+    (tie.spec
+    put-unused-requires
+    returns
+    put-tiers-requires
+    interprompt-table-requires
+    put-book-requires
+    returns-2
+    touches-in-requires
+    returns-3)

@@ -24,32 +24,27 @@ use Rattle.formulas.proofs.rows.add_nets.Statement.{statement}
 use Rattle.formulas.proofs.rows.add_nets.Tie as tie
 
 abbrev Inv-loop : tie.InvT-loop
-Inv-loop nets₀ rows count prompts its-days rising guess i₀ nets i = (i ≤ length rows / recordBytes)
-    × Added prompts (λ j. netOn (take i (records rows)) (getD its-days j 0)) nets₀ nets
+Inv-loop nets₀ days prompts rows count rising guess i₀ nets i = (i ≤ length rows / recordBytes)
+    × Added prompts (λ j. netOn (take i (records rows)) (getD days j 0)) nets₀ nets
 
 abbrev μ-loop : tie.MeasureT-loop
-μ-loop nets₀ rows count prompts its-days rising guess i₀ nets i = length rows / recordBytes - i
+μ-loop nets₀ days prompts rows count rising guess i₀ nets i = length rows / recordBytes - i
 
 rise-requires : tie.Need-rise-requires Inv-loop μ-loop
-rise-requires c κs =
-    let start = c .before .before .before in
-    start .pre .0
+rise-requires c κs = c .before .pre .0
 
 guesses-requires : tie.Need-guesses-requires Inv-loop μ-loop
-guesses-requires c κs =
-    let start = c .before .before .before .before .before in
-    start .pre .0
+guesses-requires c κs = c .before .before .pre .0
 
 loop-holds : tie.Need-loop-holds Inv-loop μ-loop
 loop-holds c =
-    let s = c .before .before .before .before .before .before in
-    (omega arith, nothing-added (s .args .days .count) (λ j. netOn [] (getD (s .args .days .day) j 0)) (now (s .args .nets)) (λ j. refl))
+    let s = c .before .before .before in
+    (omega arith, nothing-added (s .args .prompts) (λ j. netOn [] (getD (now (s .args .days)) j 0)) (now (s .args .nets)) (λ j. refl))
 
 abbrev start-of : tie.In-loop Inv-loop μ-loop → tie.Start Inv-loop μ-loop
 start-of c =
-    let after-rise = c .before .before .before .before in
-    let start = after-rise .before .before .before .before in
-    start
+    let after-rise = c .before .before .before in
+    after-rise .before .before
 
 -- at the head of a turn: the row is within its ranges, and there is room for it
 row-within : (c : tie.In-loop Inv-loop μ-loop) →
@@ -66,7 +61,7 @@ has-room c =
     let s = start-of c in
     let i = c .before .loop in
     let file = now (s .args .rows) in
-    nets-room (records file) (s .args .days .count) (s .args .days .day) (now (s .args .nets)) (s .pre .1 .0) (s .pre .1 .1) (i .i) mostRows
+    nets-room (records file) (s .args .prompts) (now (s .args .days)) (now (s .args .nets)) (s .pre .1 .0) (s .pre .1 .1) (i .i) mostRows
     (i .nets) (i .inv .1)
     (omega (arith, count-is file, s .pre .1 .0 .few))
 
@@ -90,37 +85,37 @@ day-of-requires c κs = search needs
 
 row-delta-requires : tie.Need-row-delta-requires Inv-loop μ-loop
 row-delta-requires c κs =
-    let after-loop-test = c .before .before .before .before .before in
+    let after-loop-test = c .before .before .before .before in
     row-within after-loop-test
 
 add-delta-requires : tie.Need-add-delta-requires Inv-loop μ-loop
 add-delta-requires c κs =
-    let after-loop-test = c .before .before .before .before .before .before in
-    let after-rise = after-loop-test .before .before .before .before in (
+    let after-loop-test = c .before .before .before .before .before in
+    let after-rise = after-loop-test .before .before .before in (
       start-of after-loop-test .pre .0,
       (after-rise .rise .ensures, (omega (arith, c .row-delta .ensures .size), has-room after-loop-test)),
     )
 
 add-i : tie.Need-add-i Inv-loop μ-loop
 add-i c =
-    let after-loop-test = c .before .before .before .before .before .before .before in
+    let after-loop-test = c .before .before .before .before .before .before in
     omega (arith, after-loop-test .loop-test .taken)
 
 loop-less : tie.Need-loop-less Inv-loop μ-loop
 loop-less c =
-    let after-loop-test = c .before .before .before .before .before .before .before in
+    let after-loop-test = c .before .before .before .before .before .before in
     omega (arith, after-loop-test .loop-test .taken)
 
 loop-again : tie.Need-loop-again Inv-loop μ-loop
 loop-again c =
     let after-day-of = c .before .before in
-    let after-loop-test = after-day-of .before .before .before .before .before in
+    let after-loop-test = after-day-of .before .before .before .before in
     let after-loop = after-loop-test .before in
     let s = start-of after-loop-test in
     let i = after-loop .loop in
     let file = now (s .args .rows) in
-    let days = s .args .days .day in
-    let n = s .args .days .count in
+    let days = now (s .args .days) in
+    let n = s .args .prompts in
     let turn : i .i < length file / recordBytes = after-loop-test .loop-test .taken in
     let row = take (i .i * recordBytes + recordBytes - i .i * recordBytes) (drop (i .i * recordBytes) file) in
     let of-day = after-day-of .day-of in
@@ -134,10 +129,10 @@ loop-again c =
 
 returns : tie.Need-returns Inv-loop μ-loop
 returns c =
-    let s = c .before .before .before .before .before .before .before .before in
+    let s = c .before .before .before .before .before in
     let i = c .before .loop in
     let rows = records (now (s .args .rows)) in
-    subst (λ (rs : List Record). Added (s .args .days .count) (λ j. netOn rs (getD (s .args .days .day) j 0)) (now (s .args .nets)) (i .nets))
+    subst (λ (rs : List Record). Added (s .args .prompts) (λ j. netOn rs (getD (now (s .args .days)) j 0)) (now (s .args .nets)) (i .nets))
     (take-all (i .i) rows (omega (arith, count-is (now (s .args .rows))))) (i .inv .1)
 
 pub add-nets-spec : {M : Type 1} → statement M

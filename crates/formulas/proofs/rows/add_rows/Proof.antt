@@ -1,10 +1,8 @@
 -- `add_rows`: what the two walks add, together.
 -- Assumes nothing.
-use Prim.Native.Nat.{ℕ}
-use native.Mathlib.Omega.{arith}
 use denote.Ref.{now}
-use borrow.Author.Needs.{needs}
 use Rattle.account.specs.Records.{records}
+use Rattle.formulas.specs.code.Position.{daysIn}
 use Rattle.formulas.proofs.WalkLaws.{nets-lent, all-added, all-most}
 use Rattle.formulas.proofs.rows.add_rows.Statement.{statement}
 use Rattle.formulas.proofs.rows.add_rows.Tie as tie
@@ -27,10 +25,11 @@ returns c =
     let ns = now (s .args .nets) in
     let us = c .add-totals .last .0 in
     let ms = c .before .before .add-nets .last .0 in
+    let days = daysIn (s .args .prompts) (now (s .args .days)) in
     let by = s .pre .1 .1 .1 .0 in (
-      λ held is. all-added held (s .args .unit) rows (s .args .days) ts ns us ms (c .add-totals .result) (c .add-totals .ensures .0 held is)
+      λ held is. all-added held (s .args .unit) rows days ts ns us ms (c .add-totals .result) (c .add-totals .ensures .0 held is)
           (c .before .before .add-nets .ensures) (c .add-totals .ensures .1),
-      all-most (by .rates) (s .args .unit) rows (s .args .days) ts ns us ms (c .add-totals .result) (c .add-totals .ensures .0 (by .rates) (by .held))
+      all-most (by .rates) (s .args .unit) rows days ts ns us ms (c .add-totals .result) (c .add-totals .ensures .0 (by .rates) (by .held))
           (c .before .before .add-nets .ensures) (c .add-totals .ensures .1) (s .pre .0) (s .pre .1 .1 .0) (by .each) (s .pre .1 .1 .1 .1),
     )
 

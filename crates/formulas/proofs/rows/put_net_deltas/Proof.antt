@@ -38,12 +38,14 @@ days-of-requires c κs = search needs
 
 add-nets-requires : tie.Need-add-nets-requires
 add-nets-requires c κs =
-    let s = c .before .before .before .before in
+    let after-days-of = c .before .before .before in
+    let s = after-days-of .before .before .before in
     let prompts = records (now (s .args .prompts)) in
     let nets = now (s .args .nets) in
     let room = mostRows - length (records (now (s .args .rows))) in
-    let few : length prompts ≤ promptPlaces = omega (arith, c .days-of .ensures .few, c .days-of .ensures .count-is) in (
-      c .days-of .ensures .few,
+    let known = after-days-of .days-of .ensures in
+    let few : length prompts ≤ promptPlaces = omega (arith, known .few, known .count-is) in (
+      known .few,
       (
         s .pre .1 .0,
         subst (AtMost promptPlaces (room * mostRowDelta)) (deltas-again nets)
@@ -54,13 +56,14 @@ add-nets-requires c κs =
 
 returns : tie.Need-returns
 returns c =
-    let s = c .before .before .before .before .before in
+    let after-days-of = c .before .before .before .before in
+    let s = after-days-of .before .before .before in
     let prompts = records (now (s .args .prompts)) in
     let rows = records (now (s .args .rows)) in
     let nets = now (s .args .nets) in
     let left = c .add-nets .last .0 in
-    let days = c .before .days-of .result in
-    let known = c .before .days-of .ensures in
+    let days = after-days-of .days-of .result in
+    let known = after-days-of .days-of .ensures in
     let few : length prompts ≤ promptPlaces = omega (arith, known .few, known .count-is) in
     let more : ℕ → ℤ = λ j. netOn rows (getD (days .day) j 0) in
     λ rates unit.

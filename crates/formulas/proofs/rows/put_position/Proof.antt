@@ -21,14 +21,16 @@ days-of-requires c κs = search needs
 
 add-rows-requires : tie.Need-add-rows-requires
 add-rows-requires c κs =
-    let s = c .before .before .before .before .before in
+    let after-days-of = c .before .before .before .before in
+    let s = after-days-of .before .before .before in
     let prompts = records (now (s .args .prompts)) in
     let ts = now (s .args .totals) in
     let ns = now (s .args .nets) in
-    let few : length prompts ≤ promptPlaces = omega (arith, c .days-of .ensures .few, c .days-of .ensures .count-is) in (
+    let known = after-days-of .days-of .ensures in
+    let few : length prompts ≤ promptPlaces = omega (arith, known .few, known .count-is) in (
       s .pre .0,
       (
-        c .days-of .ensures .few,
+        known .few,
         (
           s .pre .1 .1 .0,
           (
@@ -43,13 +45,14 @@ add-rows-requires c κs =
 
 returns : tie.Need-returns
 returns c =
-    let s = c .before .before .before .before .before .before in
+    let after-days-of = c .before .before .before .before .before in
+    let s = after-days-of .before .before .before in
     let prompts = records (now (s .args .prompts)) in
     let ts = now (s .args .totals) in
     let ns = now (s .args .nets) in
-    let known = c .before .days-of .ensures in
+    let known = after-days-of .days-of .ensures in
     let few : length prompts ≤ promptPlaces = omega (arith, known .few, known .count-is) in (
-      λ held is. joined held (s .args .unit) prompts [] (records (now (s .args .rows))) (c .before .days-of .result) (positionIn ts ns 0)
+      λ held is. joined held (s .args .unit) prompts [] (records (now (s .args .rows))) (after-days-of .days-of .result) (positionIn ts ns 0)
           (positionIn (c .add-rows .last .0) (c .add-rows .last .1 .0) (c .add-rows .result)) known
           (nothing-lent held (s .args .unit) prompts ts ns few (s .pre .1 .1 .1 .1 .0) (s .pre .1 .1 .1 .1 .1))
           (c .add-rows .ensures .0 held is),

@@ -24,7 +24,7 @@ plain-requires c κs = search needs
 
 add-rows-requires : tie.Need-add-rows-requires
 add-rows-requires c κs =
-    let after-plain = c .before .before in
+    let after-plain = c .before .before .before .before in
     let s = after-plain .before .before .before .before .before in
     let n = mostRows - length (records (now (s .args .rows))) in
     let b = s .pre .1 .1 .1 .1 in
@@ -47,13 +47,13 @@ add-rows-requires c κs =
 deltas-from-requires : tie.Need-deltas-from-requires
 deltas-from-requires c κs = search needs
 
-add-t17 : tie.Need-add-t17
-add-t17 c = search needs
+add-t19 : tie.Need-add-t19
+add-t19 c = search needs
 
 returns : tie.Need-returns
 returns c =
     let after-add-rows = c .before .before in
-    let after-plain = after-add-rows .before .before .before in
+    let after-plain = after-add-rows .before .before .before .before .before in
     let s = after-plain .before .before .before .before .before in
     let rows = records (now (s .args .rows)) in
     let unit = s .args .unit in
@@ -81,4 +81,4 @@ returns c =
     )
 
 pub with-rows-spec : {M : Type 1} → statement M
-with-rows-spec = tie.close (tie.spec plain-requires add-rows-requires deltas-from-requires add-t17 returns)
+with-rows-spec = tie.close (tie.spec plain-requires add-rows-requires deltas-from-requires add-t19 returns)

@@ -4,30 +4,29 @@ use borrow.Author.Needs.{needs}
 use Rattle.margin.proofs.asking.figures_answer.Statement.{statement}
 use Rattle.margin.proofs.asking.figures_answer.Tie as tie
 
-lines-from-requires : tie.Need-lines-from-requires
-lines-from-requires c κs = search needs
+slice-aggregate-everything-from : tie.Need-slice-aggregate-everything-from
+slice-aggregate-everything-from c = search needs
 
-answer-lines-requires : tie.Need-answer-lines-requires
-answer-lines-requires c κs =
-    let s = c .before .before .before .before in
-    let x = s .pre .1 in
-    (s .pre .0, record { whole = x .whole; beside = x .told .beside; lines = c .before .lines-from .ensures (x .whole) (x .told) })
+slice-aggregate-everything-from-2 : tie.Need-slice-aggregate-everything-from-2
+slice-aggregate-everything-from-2 c = search needs
+
+everything-from-requires : tie.Need-everything-from-requires
+everything-from-requires c κs = search needs
 
 same-length : tie.Need-same-length
 same-length c = search needs
 
 returns : tie.Need-returns
 returns c =
-    let after-lines-from = c .before .before .before in
-    λ whole t.
-    c .before .answer-lines .ensures whole
-    (record { beside = t .beside; lines = after-lines-from .lines-from .ensures whole t; records-are = t .positions .records-are })
+    let after-all = c .before .before .before in
+    λ whole t. let all = after-all .everything-from .ensures whole t in (all .figures-answer, all .figures-after)
 
 pub figures-answer-spec : {M : Type 1} → statement M
 figures-answer-spec =
     tie.close
     (tie.spec
-    lines-from-requires
-    answer-lines-requires
+    slice-aggregate-everything-from
+    slice-aggregate-everything-from-2
+    everything-from-requires
     same-length
     returns)

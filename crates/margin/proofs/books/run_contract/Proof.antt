@@ -1,7 +1,7 @@
 -- Without spreads nothing is used and no prompt touched; else the numbers of the book that was run.
 -- Assumes nothing.
 use mathlib.Core.List.{List, [], map}
-use mathlib.Core.Path.{_≡_, sym, ap, _∙_}
+use mathlib.Core.Path.{_≡_, refl, sym, ap, _∙_}
 use Prim.Native.Nat.{ℕ, _/_}
 use native.Mathlib.Omega.{arith}
 use borrow.Author.Needs.{needs}
@@ -40,11 +40,15 @@ returns c =
     c .before .put-unspread .ensures os (contract-nets prompts spreads nets (s .pre .1 .0) (s .pre .1 .1))
     ∙ ap (λ (ss : List (List Taker)). sets (s .args .out .now) 0 (bookBy ss os)) (sym none)
 
-put-counted-book-requires : tie.Need-put-counted-book-requires
-put-counted-book-requires c κs = search needs
+put-contract-book-requires : tie.Need-put-contract-book-requires
+put-contract-book-requires c κs = search needs
 
 put-contract-requires : tie.Need-put-contract-requires
-put-contract-requires c κs = search needs
+put-contract-requires c κs =
+    let after-book = c .before .before .before .before .before in
+    let s = after-book .before .before .before .before .before .before .before .before in
+    let book = after-book .put-contract-book .ensures in
+    (s .pre .0, (s .pre .1 .0, (s .pre .1 .1, (book .0, book .1 refl))))
 
 same-length-2 : tie.Need-same-length-2
 same-length-2 c = search needs
@@ -59,7 +63,7 @@ run-contract-spec =
     put-unspread-requires
     same-length
     returns
-    put-counted-book-requires
+    put-contract-book-requires
     put-contract-requires
     same-length-2
     returns-2)

@@ -2,20 +2,22 @@
 -- Assumes nothing.
 use mathlib.Core.Path.{sym, subst}
 use mathlib.Core.Bool.{Bool, cond}
-use mathlib.Core.List.{map}
+use mathlib.Core.List.{List, map}
 use Prim.Native.Nat.{_≤_}
 use native.Mathlib.Omega.{arith}
+use borrow.Author.Needs.{needs}
 use borrow.Author.Tests.{eq-eqb, ne-eqb}
 use lib.ListN.{getD}
-use Rattle.record.specs.Layout.{mostContract}
+use Rattle.record.specs.Layout.{Record, mostContract}
 use Rattle.account.specs.Joined.{accountOf}
 use Rattle.account.specs.Parts.{entriesOf}
 use Rattle.formulas.specs.Contract.{contracts, partsOf, asTier, contractSteps, opensOf, tableSteps}
-use Rattle.margin.specs.code.Positions.{noPosition}
+use Rattle.margin.specs.code.Positions.{noPosition, PositionsTell}
+use Rattle.margin.specs.code.Beside.{TiersOver}
 use Rattle.margin.specs.code.Asking.{Asks}
 use Rattle.margin.specs.Books.{tableQuestion}
 use Rattle.margin.proofs.AskedLaws.{asked-small}
-use Rattle.margin.proofs.BesideLaws.{fits-book, asks-beside}
+use Rattle.margin.proofs.BesideLaws.{entries-beside, fits-book, asks-beside}
 use Rattle.margin.proofs.positions.asking_from.Statement.{statement}
 use Rattle.margin.proofs.positions.asking_from.Tie as tie
 
@@ -24,21 +26,39 @@ tiers-from-requires c κs =
     let s = c .before .before .before in
     (s .pre .0, s .pre .1 .0)
 
+part-requires : tie.Need-part-requires
+part-requires c κs = search needs
+
+-- the contracts are those of every account that the positions tell of, and so are the entries
+over : (c : tie.After-part) →
+    let s = c .before .before .before .before .before in
+    (whole : List Record) → PositionsTell (accountOf (s .args .morning .now) (s .args .noon .now)) (s .args .t4) whole
+    → TiersOver (c .part .result .now) (c .before .tiers-from .result) whole
+over c whole t =
+    let s = c .before .before .before .before .before in
+    record {
+      lawful = t .beside .lawful;
+      part = entries-beside (accountOf (s .args .morning .now) (s .args .noon .now)) whole (t .beside) (c .part .result .now) (c .part .ensures);
+      is = c .before .tiers-from .ensures whole t;
+    }
+
 table-asking-requires : tie.Need-table-asking-requires
 table-asking-requires c κs =
-    let s = c .before .before .before .before in
+    let s = c .before .before .before .before .before in
     let x = s .pre .1 .0 in
-    (s .pre .0, record { whole = x .whole; beside = x .told .beside; is = c .tiers-from .ensures (x .whole) (x .told) })
+    record { whole = x .whole; over = over c (x .whole) (x .told) }
 
 returns : tie.Need-returns
 returns c =
-    let s = c .before .before .before .before .before in
+    let after-part = c .before in
+    let after-if = after-part .before .before in
+    let s = after-if .before .before .before in
     let q = s .args .question in
     λ whole t.
     subst
     (λ (b : Bool). Asks (cond b (tableSteps (entriesOf whole)) (contractSteps (partsOf whole q)))
     (cond b (map asTier (contracts whole)) (opensOf (partsOf whole q))) (c .table-asking .result))
-    (sym (eq-eqb q tableQuestion (c .before .before .if1 .taken))) (c .table-asking .ensures whole (t .beside) (c .before .tiers-from .ensures whole t))
+    (sym (eq-eqb q tableQuestion (after-if .if1 .taken))) (c .table-asking .ensures whole (over after-part whole t))
 
 abbrev start-of : tie.Else1 → tie.Start
 start-of c =
@@ -88,6 +108,7 @@ asking-from-spec =
     tie.close
     (tie.spec
     tiers-from-requires
+    part-requires
     table-asking-requires
     returns
     mul-asking-with

@@ -58,15 +58,17 @@ returns c =
     let after-told = after-put .before .before in
     let s = after-told .before .before in
     let l = s .args .line in
-    let own : SFits w64 (l .net .0) = record { sfits = after-told .struct-told .given .0 .1 } in
-    record {
-      written = after-put .put-line .ensures .0;
-      tier-put = refl;
-      net-put = ap (set (s .args .nets .now) (s .args .i)) (back (l .net .0) own);
-      unit-put = refl;
-      price-put = refl;
-      size-put = ap (set (s .args .sizes .now) (l .contract)) (seen natAbs (l .net .0) own (c .magnitude .ensures));
-    }
+    let own : SFits w64 (l .net .0) = record { sfits = after-told .struct-told .given .0 .1 } in (
+      record {
+        written = after-put .put-line .ensures .0;
+        tier-put = refl;
+        net-put = ap (set (s .args .nets .now) (s .args .i)) (back (l .net .0) own);
+        unit-put = refl;
+        price-put = refl;
+        size-put = ap (set (s .args .sizes .now) (l .contract)) (seen natAbs (l .net .0) own (c .magnitude .ensures));
+      },
+      after-put .put-line .ensures .1,
+    )
 
 pub place-line-spec : {M : Type 1} → statement M
 place-line-spec =

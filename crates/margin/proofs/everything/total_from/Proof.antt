@@ -1,0 +1,60 @@
+-- The total stands last in the figures.
+-- Assumes nothing.
+use mathlib.Core.Path.{_∙_, ap}
+use Prim.Native.Nat.{_*_, _≤_}
+use native.Mathlib.Omega.{arith}
+use borrow.Author.Needs.{needs}
+use lib.IntN.{pos}
+use lib.ListN.{length, replicate}
+use Rattle.formulas.specs.Bounds.{figuresEach, longestFigures}
+use Rattle.account.specs.Check.{mostContracts}
+use Rattle.margin.specs.Figures.{figures}
+use Rattle.margin.proofs.QuestionLaws.{figures-length, figures-front, total-last}
+use Rattle.margin.proofs.StandLaws.{few-contracts}
+use Rattle.margin.proofs.everything.total_from.Statement.{statement}
+use Rattle.margin.proofs.everything.total_from.Tie as tie
+
+-- at most 16 contracts
+few : (s : tie.Start) → s .args .account .contracts ≤ mostContracts
+few s = few-contracts (s .args .morning .now) (s .args .noon .now) (s .args .account) (s .pre .0)
+
+slice-aggregate-everything-from : tie.Need-slice-aggregate-everything-from
+slice-aggregate-everything-from c = search needs
+
+slice-aggregate-everything-from-2 : tie.Need-slice-aggregate-everything-from-2
+slice-aggregate-everything-from-2 c = search needs
+
+slice-aggregate-everything-from-3 : tie.Need-slice-aggregate-everything-from-3
+slice-aggregate-everything-from-3 c = search needs
+
+everything-from-requires : tie.Need-everything-from-requires
+everything-from-requires c κs = search needs
+
+total-in-requires : tie.Need-total-in-requires
+total-in-requires c κs =
+    let after-all = c .before .before .before .before in
+    few (after-all .before .before .before .before .before .before)
+
+returns : tie.Need-returns
+returns c =
+    let after-all = c .before .before .before .before .before in
+    let s = after-all .before .before .before .before .before .before in
+    let f = after-all .everything-from in
+    λ whole t.
+    let some : length (figures whole) ≤ longestFigures =
+    omega (arith, few s, figures-length whole, ap length (t .beside .contracts), s .pre .0 .places .contracts) in
+    c .total-in .ensures
+    ∙ total-last whole (replicate longestFigures (pos 0)) (f .last .1 .1 .1 .1 .0) (figuresEach * s .args .account .contracts)
+    (f .ensures whole t .figures-after ∙ figures-front whole (replicate longestFigures (pos 0)) some) some
+    (omega (arith, ap length (t .beside .contracts), s .pre .0 .places .contracts))
+
+pub total-from-spec : {M : Type 1} → statement M
+total-from-spec =
+    tie.close
+    (tie.spec
+    slice-aggregate-everything-from
+    slice-aggregate-everything-from-2
+    slice-aggregate-everything-from-3
+    everything-from-requires
+    total-in-requires
+    returns)

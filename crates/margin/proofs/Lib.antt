@@ -19,4 +19,4 @@ pub mod BesideLaws
 pub mod PositionsLaws
 pub mod LentLaws
 pub mod TabledLaws
-pub mod WalkLaws
+pub mod WalkedLaws

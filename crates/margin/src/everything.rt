@@ -76,7 +76,7 @@ ghost use Rattle.margin.specs.Places.{questions, lentPlace, allOver};
 ghost use Rattle.margin.specs.Questions.{afterOver};
 ghost use Rattle.margin.specs.code.Asked.{BookIs};
 ghost use Rattle.margin.specs.code.Beside.{ownOf, TiersOver, TiersKnown, Unspread};
-ghost use Rattle.margin.specs.code.Lent.{ContractLent, Walked, TabledBy, TabledKnown, TableLent, EverythingOf};
+ghost use Rattle.margin.specs.code.Lent.{ContractLent, ContractsWalked, TabledBy, TabledKnown, TableLent, EverythingOf};
 ghost use Rattle.margin.specs.code.Positions.{PositionsTell, Known, ContractIn};
 ghost use Rattle.margin.specs.code.Tabled.{TableCleared};
 ghost use Rattle.margin.specs.declared.asking.Question.the-variants.{Book, Uses};
@@ -330,7 +330,7 @@ fn place_over<'a>(
 )
     requires { ⌜ Stands (now morning) (now noon) account × ((figuresEach * account .contracts + 1 ≤ length (now figures))
         × TableCleared (now tiers) (now nets) (now units) (now prices) (now sizes)) ⌝ }
-    ensures { λ _. ⌜ Walked (accountOf (now (morning .entry)) (now (noon .entry))) (now (figures .entry)) (now (books .entry))
+    ensures { λ _. ⌜ ContractsWalked (accountOf (now (morning .entry)) (now (noon .entry))) (now (figures .entry)) (now (books .entry))
         (now (uses .entry)) (now (figures .exit)) (now (books .exit)) (now (uses .exit)) (now (tiers .exit)) (now (nets .exit))
         (now (units .exit)) (now (prices .exit)) (now (sizes .exit)) ⌝ }
 {
@@ -365,7 +365,7 @@ fn place_from<'a>(
     requires { ⌜ Stands (now morning) (now noon) account × (Known (accountOf (now morning) (now noon)) positions
         × ((figuresEach * account .contracts + 1 ≤ length (now figures)) × TableCleared (now tiers) (now nets) (now units) (now prices) (now sizes))) ⌝ }
     ensures { λ _. ⌜ ((whole : List Record) → PositionsTell (accountOf (now (morning .entry)) (now (noon .entry))) positions whole
-        → Walked whole (now (figures .entry)) (now (books .entry)) (now (uses .entry)) (now (figures .exit)) (now (books .exit))
+        → ContractsWalked whole (now (figures .entry)) (now (books .entry)) (now (uses .entry)) (now (figures .exit)) (now (books .exit))
         (now (uses .exit)) (now (tiers .exit)) (now (nets .exit)) (now (units .exit)) (now (prices .exit)) (now (sizes .exit))) ⌝ }
 {
     let count = contract_total(account);

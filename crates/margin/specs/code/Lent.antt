@@ -37,7 +37,7 @@ pub record ContractLent (account : List Record) (i : ℕ) (l : Line) (books uses
 
 -- what a walk over the contracts leaves: their lines from the front and the total behind them, which without intercontract spreads are the figures; what
 -- the intercontract table needs of them; and their books and uses in their places
-pub record Walked (account : List Record) (figures books uses figures′ books′ uses′ : List ℤ) (tiers′ : List ℕ) (nets′ : List ℤ)
+pub record ContractsWalked (account : List Record) (figures books uses figures′ books′ uses′ : List ℤ) (tiers′ : List ℕ) (nets′ : List ℤ)
     (units′ prices′ sizes′ : List ℕ) : Type 0 where
   pub table : TabledOver account figures figures′ tiers′ nets′ units′ prices′ sizes′
   pub uncredited : entriesOf account ≡ [] → figures′ ≡ sets figures 0 (shown.figures account)

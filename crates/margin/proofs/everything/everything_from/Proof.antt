@@ -5,7 +5,7 @@ use native.Mathlib.Omega.{arith}
 use lib.ListN.{length}
 use Rattle.margin.proofs.QuestionLaws.{figures-length}
 use Rattle.margin.proofs.StandLaws.{few-contracts}
-use Rattle.margin.proofs.WalkLaws.{unlent-everything}
+use Rattle.margin.proofs.WalkedLaws.{unlent-everything}
 use borrow.Author.Needs.{needs}
 use Rattle.margin.proofs.everything.everything_from.Statement.{statement}
 use Rattle.margin.proofs.everything.everything_from.Tie as tie
@@ -56,7 +56,7 @@ returns-2 c =
     let after-if = after-in .before .before .before .before in
     let s = after-if .before .before .before .before in
     λ whole t.
-    unlent-everything whole _ (s .args .figures .now) _ _ _ _ _ _ _ (t .positions .records-are)
+    unlent-everything (t .positions .records-are)
     (omega (
       arith,
       figures-length whole,

@@ -5,7 +5,7 @@ use native.Mathlib.Omega.{arith}
 use Rattle.account.specs.Joined.{accountOf}
 use Rattle.margin.proofs.QuestionLaws.{figures-length}
 use Rattle.margin.proofs.StandLaws.{few-contracts}
-use Rattle.margin.proofs.WalkLaws.{unlent-everything}
+use Rattle.margin.proofs.WalkedLaws.{unlent-everything}
 use borrow.Author.Needs.{needs}
 use Rattle.margin.proofs.everything.everything_over.Statement.{statement}
 use Rattle.margin.proofs.everything.everything_over.Tie as tie
@@ -59,7 +59,7 @@ returns-2 c =
     let after-if = after-in .before .before .before .before in
     let s = after-if .before .before .before .before in
     let a = accountOf (s .args .morning .now) (s .args .noon .now) in
-    unlent-everything a _ (s .args .figures .now) _ _ _ _ _ _ _ (c .record-total .ensures ∙ s .pre .places .all)
+    unlent-everything (c .record-total .ensures ∙ s .pre .places .all)
     (omega (arith, figures-length a, s .pre .places .contracts, after-if .before .figures-count .ensures, after-if .if1 .left))
     (after-in .put-over2 .ensures)
 

@@ -18,7 +18,7 @@ use Rattle.margin.specs.code.Beside.{Besides}
 use Rattle.margin.specs.code.Positions.{noPosition, PositionsTell}
 use Rattle.margin.proofs.BesideLaws.{fits, line-is, contract-beside}
 use Rattle.margin.proofs.StandLaws.{few-contracts, number-at, listed-at, own-number}
-use Rattle.margin.proofs.WalkLaws.{WalkedTo, walked-start, walked-next, walked-all}
+use Rattle.margin.proofs.WalkedLaws.{WalkedTo, walked-start, walked-next, walked-all}
 use Rattle.margin.proofs.everything.place_from.Statement.{statement}
 use Rattle.margin.proofs.everything.place_from.Tie as tie
 
@@ -65,7 +65,7 @@ known c =
 loop-holds : tie.Need-loop-holds Inv-loop μ-loop
 loop-holds c =
     let s = at-start c in
-    λ whole t. walked-start _ _ _ _ _ _ _ _ _ _ (s .pre .1 .1 .1)
+    λ whole t. walked-start (s .pre .1 .1 .1)
 
 contract-number-requires : tie.Need-contract-number-requires Inv-loop μ-loop
 contract-number-requires c κs = search needs
@@ -202,8 +202,8 @@ loop-again c =
     let at = t .positions .each k (small after-number) in
     let lent = its .ensures .1 whole (contract-beside a whole b k p at (l .i) listed here _ (t .positions .records-are) (small after-number)) in
     let placed : Bool → List ℤ → ℕ → List ℤ = λ paid out q. lentPlace (widthOf paid) q (afterOver whole (questionOf paid q)) out in
-    walked-next _ _ _ _ _ (b .lawful) all (few after-total) _ _ _ _ _ _ _ _ _ _ (l .inv whole t) taken
-    (omega (arith, s .pre .1 .1 .0, after-total .contract-total .ensures)) _ _ _ _ _ _ _ _ _ _
+    walked-next (b .lawful) all (few after-total) (l .inv whole t) taken
+    (omega (arith, s .pre .1 .1 .0, after-total .contract-total .ensures))
     (record {
       line = line-is a whole b k p at (l .i) listed here (its .result) (its .ensures .0);
       book = lent .0 ∙ ap (placed false (l .books)) here;
@@ -250,8 +250,8 @@ returns c =
     let after-loop = after-test .before in
     let after-total = after-loop .before in
     λ whole t.
-    walked-all _ _ _ _ _ (t .beside .lawful) (counted after-total whole (t .beside)) (few after-total) _ _ _ _ _ _ _ _ _ _ (after-loop .loop .inv whole t)
-    (omega (arith, after-test .loop-test .left)) _ (after-put .put .ensures)
+    walked-all (t .beside .lawful) (counted after-total whole (t .beside)) (few after-total) (after-loop .loop .inv whole t)
+    (omega (arith, after-test .loop-test .left)) (after-put .put .ensures)
 
 pub place-from-spec : {M : Type 1} → statement M
 place-from-spec =

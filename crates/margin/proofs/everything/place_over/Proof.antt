@@ -9,7 +9,7 @@ use Rattle.account.specs.Check.{mostContracts}
 use Rattle.account.specs.Joined.{accountOf}
 use Rattle.account.specs.Parts.{contractsOf}
 use Rattle.margin.proofs.StandLaws.{few-contracts}
-use Rattle.margin.proofs.WalkLaws.{WalkedTo, walked-start, walked-next, walked-all}
+use Rattle.margin.proofs.WalkedLaws.{WalkedTo, walked-start, walked-next, walked-all}
 use Rattle.margin.proofs.everything.place_over.Statement.{statement}
 use Rattle.margin.proofs.everything.place_over.Tie as tie
 
@@ -43,7 +43,7 @@ rates-over-requires c κs = search needs
 loop-holds : tie.Need-loop-holds Inv-loop μ-loop
 loop-holds c =
     let s = c .before .before .before .before in
-    walked-start _ _ _ _ _ _ _ _ _ _ (s .pre .1 .1)
+    walked-start (s .pre .1 .1)
 
 contract-over-requires : tie.Need-contract-over-requires Inv-loop μ-loop
 contract-over-requires c κs =
@@ -115,8 +115,8 @@ loop-again c =
     let after-total = after-loop .before .before in
     let s = after-total .before .before .before in
     let r = after-place .place-line in
-    walked-next _ _ _ _ _ (s .pre .0 .lawful) (counted after-total) (few after-total) _ _ _ _ _ _ _ _ _ _ (after-loop .loop .inv)
-    (after-test .loop-test .taken) (omega (arith, s .pre .1 .0, after-total .contract-total .ensures)) _ _ _ _ _ _ _ _ _ _
+    walked-next (s .pre .0 .lawful) (counted after-total) (few after-total) (after-loop .loop .inv)
+    (after-test .loop-test .taken) (omega (arith, s .pre .1 .0, after-total .contract-total .ensures))
     (after-contract .contract-over .ensures) (after-uses .before .books .given) (after-uses .uses .given) (r .ensures .0) (after-figures .figures .given)
     (r .ensures .1)
 
@@ -159,8 +159,8 @@ returns c =
     let after-loop = after-test .before in
     let after-total = after-loop .before .before in
     let s = after-total .before .before .before in
-    walked-all _ _ _ _ _ (s .pre .0 .lawful) (counted after-total) (few after-total) _ _ _ _ _ _ _ _ _ _ (after-loop .loop .inv)
-    (omega (arith, after-test .loop-test .left)) _ (after-put .put .ensures)
+    walked-all (s .pre .0 .lawful) (counted after-total) (few after-total) (after-loop .loop .inv)
+    (omega (arith, after-test .loop-test .left)) (after-put .put .ensures)
 
 pub place-over-spec : {M : Type 1} → statement M
 place-over-spec =

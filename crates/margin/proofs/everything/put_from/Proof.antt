@@ -12,7 +12,7 @@ use Rattle.margin.specs.code.Lent.{TabledBy}
 use Rattle.margin.specs.code.Positions.{PositionsTell}
 use Rattle.margin.proofs.BesideLaws.{entries-beside}
 use Rattle.margin.proofs.QuestionLaws.{figures-length}
-use Rattle.margin.proofs.WalkLaws.{walked-tabled, walked-everything}
+use Rattle.margin.proofs.WalkedLaws.{walked-tabled, walked-everything}
 use borrow.Author.Needs.{needs}
 use Rattle.margin.proofs.everything.put_from.Statement.{statement}
 use Rattle.margin.proofs.everything.put_from.Tie as tie
@@ -59,7 +59,7 @@ tabled c whole t =
     let after-place = at-figures c .before in
     let s = at-start after-place in
     let bytes = c .before .part .result .now in
-    walked-tabled _ _ _ _ _ _ _ _ _ _ _ _ (room s whole t) (at-figures c .figures .given) (after-place .place-from .ensures whole t) (t .beside .lawful) _ _ _
+    walked-tabled (room s whole t) (at-figures c .figures .given) (after-place .place-from .ensures whole t) (t .beside .lawful)
     (c .contract-total .ensures ∙ s .pre .0 .places .contracts ∙ sym (ap length (t .beside .contracts))) (t .positions .records-are)
     (entries-beside (accountOf (s .args .morning .now) (s .args .noon .now)) whole (t .beside) bytes (c .before .part .ensures))
 
@@ -92,7 +92,7 @@ returns c =
     let after-place = after-figures .before in
     let s = at-start after-place in
     λ whole t.
-    walked-everything _ _ _ _ _ _ _ _ _ _ _ _ (room s whole t) (after-figures .figures .given) (after-place .place-from .ensures whole t) _ _ _ _
+    walked-everything (room s whole t) (after-figures .figures .given) (after-place .place-from .ensures whole t)
     (after-books .books .given) (after-uses .uses .given) (after-table .table-over .ensures whole (tabled after-total whole t))
 
 pub put-from-spec : {M : Type 1} → statement M

@@ -8,7 +8,7 @@ use Rattle.account.specs.Joined.{accountOf}
 use Rattle.margin.specs.Figures.{figures}
 use Rattle.margin.specs.code.Lent.{TabledBy}
 use Rattle.margin.proofs.QuestionLaws.{figures-length}
-use Rattle.margin.proofs.WalkLaws.{walked-tabled, walked-everything}
+use Rattle.margin.proofs.WalkedLaws.{walked-tabled, walked-everything}
 use borrow.Author.Needs.{needs}
 use Rattle.margin.proofs.everything.put_over.Statement.{statement}
 use Rattle.margin.proofs.everything.put_over.Tie as tie
@@ -51,7 +51,7 @@ tabled : (c : tie.After-record-total) →
 tabled c =
     let after-place = at-figures c .before in
     let s = at-start after-place in
-    walked-tabled _ _ _ _ _ _ _ _ _ _ _ _ (room s) (at-figures c .figures .given) (after-place .place-over .ensures) (s .pre .0 .lawful) _ _ _
+    walked-tabled (room s) (at-figures c .figures .given) (after-place .place-over .ensures) (s .pre .0 .lawful)
     (c .before .contract-total .ensures ∙ s .pre .0 .places .contracts) (c .record-total .ensures ∙ s .pre .0 .places .all) (c .before .before .part .ensures)
 
 table-over-requires : tie.Need-table-over-requires
@@ -81,7 +81,7 @@ returns c =
     let after-figures = at-figures after-records in
     let after-place = after-figures .before in
     let s = at-start after-place in
-    walked-everything _ _ _ _ _ _ _ _ _ _ _ _ (room s) (after-figures .figures .given) (after-place .place-over .ensures) _ _ _ _
+    walked-everything (room s) (after-figures .figures .given) (after-place .place-over .ensures)
     (after-books .books .given) (after-uses .uses .given) (after-table .table-over .ensures _ (tabled after-records))
 
 pub put-over-spec : {M : Type 1} → statement M

@@ -23,7 +23,7 @@ use Rattle.account.specs.declared.answers.Answer.the-variants.{TooFewNumbers}
 use Rattle.margin.specs.declared.asking.Question.the-variants.{Figures}
 use Rattle.margin.specs.declared.everything.Everything.{Everything}
 use Rattle.margin.specs.Figures as shown
-use Rattle.margin.specs.code.Lent.{ContractLent, Walked, TabledBy, TableLent, EverythingOf}
+use Rattle.margin.specs.code.Lent.{ContractLent, ContractsWalked, TabledBy, TableLent, EverythingOf}
 use Rattle.margin.specs.code.Tabled.{Placed, TableCleared}
 use Rattle.margin.proofs.FigureLaws.{eightsLeft, totalLeft, eights-next, total-next, eights-done, total-done, figures-written}
 use Rattle.margin.proofs.LentLaws.{LentTo, lent-none, lent-next, lent-all, then-table}
@@ -41,10 +41,10 @@ pub record WalkedTo (account : List Record) (n : ℕ) (figures₀ books₀ uses�
   pub written : entriesOf account ≡ [] → ToWrite n (eightsLeft account) (sets figures₀ 0 (eightsLeft account 0)) i (i * figuresEach) figures
   pub summed : entriesOf account ≡ [] → sums.ToGo n (3 * mostRisk) (totalLeft account) i total
 
-module _ (account : List Record) (n : ℕ) (figures₀ books₀ uses₀ : List ℤ) where
-  pub walked-start : (tiers : List ℕ) (nets : List ℤ) (units prices sizes : List ℕ) → TableCleared tiers nets units prices sizes
+module _ {account : List Record} {n : ℕ} {figures₀ books₀ uses₀ : List ℤ} where
+  pub walked-start : {tiers : List ℕ} {nets : List ℤ} {units prices sizes : List ℕ} → TableCleared tiers nets units prices sizes
       → WalkedTo account n figures₀ books₀ uses₀ 0 figures₀ books₀ uses₀ tiers nets units prices sizes 0
-  walked-start tiers nets units prices sizes clear =
+  walked-start {tiers} {nets} {units} {prices} {sizes} clear =
       record {
         table = tabled-start account n figures₀ tiers nets units prices sizes clear;
         book = lent-none account false books₀;
@@ -54,16 +54,16 @@ module _ (account : List Record) (n : ℕ) (figures₀ books₀ uses₀ : List �
         summed = λ none. sums.start n (3 * mostRisk) (totalLeft account);
       }
 
-  module _ (law : Lawful account) (all : n ≡ length (contractsOf account)) (few : n ≤ mostContracts) (i : ℕ) (figures books uses : List ℤ)
-      (tiers : List ℕ) (nets : List ℤ) (units prices sizes : List ℕ) (total : ℕ)
+  module _ (law : Lawful account) (all : n ≡ length (contractsOf account)) (few : n ≤ mostContracts) {i : ℕ} {figures books uses : List ℤ}
+      {tiers : List ℕ} {nets : List ℤ} {units prices sizes : List ℕ} {total : ℕ}
       (is : WalkedTo account n figures₀ books₀ uses₀ i figures books uses tiers nets units prices sizes total) where
     -- one contract more
-    pub walked-next : i < n → n * figuresEach ≤ length figures₀ → (l : Line) (m : ℕ) (figures′ books′ uses′ : List ℤ) (tiers′ : List ℕ) (nets′ : List ℤ)
-        (units′ prices′ sizes′ : List ℕ) → ContractLent account i l books uses books′ uses′ → length books′ ≡ length books → length uses′ ≡ length uses
+    pub walked-next : {l : Line} {m : ℕ} {figures′ books′ uses′ : List ℤ} {tiers′ : List ℕ} {nets′ : List ℤ} {units′ prices′ sizes′ : List ℕ}
+        → i < n → n * figuresEach ≤ length figures₀ → ContractLent account i l books uses books′ uses′ → length books′ ≡ length books → length uses′ ≡ length uses
         → Placed i l figures tiers nets units prices sizes figures′ tiers′ nets′ units′ prices′ sizes′ → length figures′ ≡ length figures
         → (m ≡ marginWith l 0) × (m ≤ 3 * mostRisk)
         → WalkedTo account n figures₀ books₀ uses₀ (i + 1) figures′ books′ uses′ tiers′ nets′ units′ prices′ sizes′ (total + m)
-    walked-next turn room l m figures′ books′ uses′ tiers′ nets′ units′ prices′ sizes′ lent books-same uses-same placed figures-same margin =
+    walked-next {l} {m} {figures′} {books′} {uses′} {tiers′} {nets′} {units′} {prices′} {sizes′} turn room lent books-same uses-same placed figures-same margin =
         let listed : i < length (contractsOf account) = omega arith in
         record {
           table =
@@ -83,9 +83,9 @@ module _ (account : List Record) (n : ℕ) (figures₀ books₀ uses₀ : List �
         }
 
     -- and all of them, the total being put behind them
-    pub walked-all : n ≤ i → (figures′ : List ℤ) → figures′ ≡ set figures (n * figuresEach) (pos total)
-        → Walked account figures₀ books₀ uses₀ figures′ books uses tiers nets units prices sizes
-    walked-all last figures′ put =
+    pub walked-all : {figures′ : List ℤ} → n ≤ i → figures′ ≡ set figures (n * figuresEach) (pos total)
+        → ContractsWalked account figures₀ books₀ uses₀ figures′ books uses tiers nets units prices sizes
+    walked-all {figures′} last put =
         let end : i ≡ length (contractsOf account) = omega (arith, is .table .within) in
         let same : n ≡ i = omega (arith, is .table .within) in
         record {
@@ -102,12 +102,12 @@ module _ (account : List Record) (n : ℕ) (figures₀ books₀ uses₀ : List �
 
 -- ---- then the table
 
-module _ (whole : List Record) (figures₀ books₀ uses₀ figures books uses : List ℤ) (tiers : List ℕ) (nets : List ℤ) (units prices sizes : List ℕ)
+module _ {whole : List Record} {figures₀ books₀ uses₀ figures books uses : List ℤ} {tiers : List ℕ} {nets : List ℤ} {units prices sizes : List ℕ}
     (room : length (shown.figures whole) ≤ length figures₀) (same : length figures ≡ length figures₀)
-    (walked : Walked whole figures₀ books₀ uses₀ figures books uses tiers nets units prices sizes) where
-  pub walked-tabled : Lawful whole → (entries : List ℕ) (count n : ℕ) → count ≡ length (contractsOf whole) → n ≡ length whole → PartOf whole entryPart entries
+    (walked : ContractsWalked whole figures₀ books₀ uses₀ figures books uses tiers nets units prices sizes) where
+  pub walked-tabled : {entries : List ℕ} {count n : ℕ} → Lawful whole → count ≡ length (contractsOf whole) → n ≡ length whole → PartOf whole entryPart entries
       → TabledBy entries count n figures tiers nets units prices sizes whole
-  walked-tabled law entries count n counted records-are part =
+  walked-tabled law counted records-are part =
       record {
         lawful = law;
         count-is = counted;
@@ -118,9 +118,9 @@ module _ (whole : List Record) (figures₀ books₀ uses₀ figures books uses :
       }
 
   -- everything is answered
-  pub walked-everything : (r : Everything) (figures′ books′ uses′ : List ℤ) → length books ≡ length books₀ → length uses ≡ length uses₀
+  pub walked-everything : {r : Everything} {figures′ books′ uses′ : List ℤ} → length books ≡ length books₀ → length uses ≡ length uses₀
       → TableLent whole figures books uses r figures′ books′ uses′ → EverythingOf whole figures₀ books₀ uses₀ r figures′ books′ uses′
-  walked-everything r figures′ books′ uses′ books-same uses-same t =
+  walked-everything {r} {figures′} {books′} {uses′} books-same uses-same t =
       let many = figures-length whole in
       let f = accepted-with _ (shown.figures whole) figures₀ figures′ (length (shown.figures whole))
       (asked-many whole Figures (length figures₀) refl room) refl
@@ -139,10 +139,10 @@ module _ (whole : List Record) (figures₀ books₀ uses₀ figures books uses :
       }
 
 -- where too few numbers are lent for the figures they go elsewhere, and those lent stay as they are
-pub unlent-everything : (whole : List Record) (count : ℕ) (figures unlent books uses unlent′ books′ uses′ : List ℤ) (r : Everything) → count ≡ length whole
+pub unlent-everything : {whole : List Record} {count : ℕ} {figures unlent books uses unlent′ books′ uses′ : List ℤ} {r : Everything} → count ≡ length whole
     → length figures < length (shown.figures whole) → EverythingOf whole unlent books uses r unlent′ books′ uses′
     → EverythingOf whole figures books uses (record { figures = TooFewNumbers count; books = r .books; uses = r .uses }) figures books′ uses′
-unlent-everything whole count figures unlent books uses unlent′ books′ uses′ r n few i =
+unlent-everything {whole} {count} {figures} n few i =
     let f = refused-with (TooFewNumbers count) _ (shown.figures whole) figures
     (asked-few whole Figures (length figures) refl few ∙ ap TooFewNumbers (sym n)) (λ e. omega arith) in
     record {

@@ -25,7 +25,7 @@ use Rattle.account.specs.declared.answers.Answer.the-variants.{Accepted}
 use Rattle.account.specs.declared.check.Survey.{Survey}
 use Rattle.account.specs.declared.accounts.Account.{Account}
 use Rattle.account.proofs.Going as Going
-use Rattle.account.proofs.Going.{same-survey, tallied-as}
+use Rattle.account.proofs.Going.{same-survey, tallied-as, unconverted}
 use Rattle.account.proofs.AcceptedOnly.{accepted-only}
 use Rattle.account.proofs.RateLaws.{lawful-of, no-other-row}
 use Rattle.account.proofs.Lawful.{recorded}
@@ -36,7 +36,7 @@ abbrev zeros : List ℕ
 zeros = replicate parts 0
 
 nothing : Survey
-nothing = record { answer = Accepted; contracts = 0; first = zeros; counts = zeros }
+nothing = record { answer = Accepted; contracts = 0; first = zeros; counts = zeros; converts = false }
 
 nothing-surveyed : Surveyed [] nothing
 unfolding nothing
@@ -48,6 +48,7 @@ nothing-surveyed =
       first = λ v h. getD-replicate {A = ℕ} parts v 0 0 h;
       sizes = length-replicate {A = ℕ} parts 0;
       counts = λ v h. getD-replicate {A = ℕ} parts v 0 0 h;
+      converts = refl;
     }
 
 -- an empty file lists nothing and supplies nothing
@@ -161,19 +162,19 @@ pub checked-refused :
     (file : List ℕ) (a : Answer) (n : ℕ) (j : Account) → a ≡ recordsChecked file → (numberOf a ≡ 0 → ⊥) → n ≡ recordCount file
     → AloneBy zeros zeros n j → CheckedBy file (record { answer = a; account = j })
 checked-refused file a n j e d m by =
-    let s : Survey = record { answer = a; contracts = 0; first = zeros; counts = zeros } in
-    let none : Empty a s = record { answer = refl; contracts = refl; first = refl; counts = refl } in
+    let s : Survey = record { answer = a; contracts = 0; first = zeros; counts = zeros; converts = false } in
+    let none : Empty a s = record { answer = refl; contracts = refl; first = refl; counts = refl; converts = refl } in
     checked-alone file s j (Going.nothing file a s (sym e) d none) (subst (λ (k : ℕ). AloneBy zeros zeros k j) m by) a (refused-there file a e d)
 
 -- the records are accepted: the rates are looked at, by what is noted
 pub tallied-accepted :
-    {file first counts : List ℕ} {a : Answer} {contracts : ℕ} → Tallied file a contracts first counts → numberOf a ≡ 0
-    → Tallied file Accepted contracts first counts
-tallied-accepted {file} {first} {counts} {a} {contracts} t z = tallied-as (sym (accepted-only a z)) t
+    {file first counts : List ℕ} {a : Answer} {contracts : ℕ} {converts : Bool} → Tallied file a contracts converts first counts
+    → numberOf a ≡ 0 → Tallied file Accepted contracts converts first counts
+tallied-accepted {file} {first} {counts} {a} t z = tallied-as (sym (accepted-only a z)) t
 
-module _ (file : List ℕ) (contracts : ℕ) (first counts : List ℕ) (t : Tallied file Accepted contracts first counts) where
+module _ (file : List ℕ) (contracts : ℕ) {converts : Bool} (first counts : List ℕ) (t : Tallied file Accepted contracts converts first counts) where
   abbrev its : Survey
-  its = record { answer = Accepted; contracts = contracts; first = first; counts = counts }
+  its = record { answer = Accepted; contracts = contracts; first = first; counts = counts; converts = converts }
 
   sv : Surveyed file its
   sv = t .accepted refl
@@ -184,8 +185,8 @@ module _ (file : List ℕ) (contracts : ℕ) (first counts : List ℕ) (t : Tall
   pub few-listed : length (listedIn counts) ≤ contracts
   few-listed = listed-few file its sv ok
 
-  pub no-rates-asked : any otherRow (records file) ≡ false → Accepted ≡ checked file
-  no-rates-asked none = none-other file Accepted (t .answer-is) refl none
+  pub no-rates-asked : converts ≡ false → Accepted ≡ checked file
+  no-rates-asked e = none-other file Accepted (t .answer-is) refl (unconverted file its sv ok e)
 
   module _ (n : ℕ) (j : Account) (e : n ≡ recordCount file) (by : AloneBy first counts n j) where
     pub rated-alone : (none : List ℕ) → none ≡ [] → Places file none j × Recorded (accountOf file none)

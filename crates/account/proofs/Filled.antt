@@ -1,6 +1,6 @@
 -- Arrays filled place by place: the notes of a joined account.
 -- Assumes nothing.
-use Prim.Native.Nat.{ℕ, zero, suc, _+_, _-_, _≤_, _<_}
+use Prim.Native.Nat.{ℕ, zero, suc, _+_, _-_, _%_, _≤_, _<_}
 use native.Mathlib.Nat.{le-of-suc-le-suc, not-suc-le-zero}
 use native.Mathlib.Decide.{ℕ-discrete}
 use native.Mathlib.Omega.{arith}
@@ -8,11 +8,14 @@ use mathlib.Core.Path.{_≡_, refl, sym, ap, ap₂, _∙_}
 use mathlib.Core.Bool.{Bool, true, false, _&&_, cond}
 use mathlib.Core.List.{List, [], _∷_, _++_, append-nil}
 use lib.Dec.{ltb}
-use lib.ListN.{length, getD, take, drop, set, replicate, length-append}
+use lib.ListN.{length, getD, take, drop, set, replicate, length-append, length-set}
 use lib.Seq.{getD-set-same, getD-set-other}
-use borrow.Author.Tests.{ltb-false}
+use borrow.Author.Tests.{ltb-true, ltb-false}
 use Rattle.exact.specs.Lists.{consIf, keep, oneIf, sum}
 use Rattle.record.specs.Bytes.{countFrom}
+use Rattle.account.specs.Check.{mostContracts}
+use Rattle.account.specs.PartNumbers.{parts, entryPart}
+use Rattle.account.specs.code.Standing.{lists, eitherNote, Filled, Flagged, EitherTo}
 
 module _ {A : Type 0} (d : A) (f : ℕ → A) (xs : List A) (v : ℕ) (x : A) (h : v < length xs) (e : x ≡ f v) (old : (i : ℕ) → i < v → getD xs i d ≡ f i) where
   pub filled-next : (i : ℕ) → i < v + 1 → getD (set xs v x) i d ≡ f i
@@ -21,6 +24,38 @@ module _ {A : Type 0} (d : A) (f : ℕ → A) (xs : List A) (v : ℕ) (x : A) (h
       go : Dec (i ≡ v) → getD (set xs v x) i d ≡ f i
       go (yes q) = ap (λ (k : ℕ). getD (set xs v x) k d) q ∙ getD-set-same xs v x d h ∙ e ∙ ap f (sym q)
       go (no q) = getD-set-other xs v i x d q ∙ old i (omega (arith, q))
+
+-- one note more of whichever file supplies it
+module _ {morning noon notes : List ℕ} {late : List Bool} (start c x : ℕ) (aligned : start % mostContracts ≡ 0) (h : c < mostContracts)
+    (fits : start + c < parts) (e : x ≡ cond (getD late c false) (getD noon (start + c) 0) (getD notes (start + c) 0)) where
+  pub either-next : EitherTo morning noon late (start + c) notes → EitherTo morning noon late (start + (c + 1)) (set notes (start + c) x)
+  either-next old =
+      record {
+        long = length-set notes (start + c) x ∙ old .long;
+        done = λ v l. filled-next 0 (λ (i : ℕ). cond (getD late (i % mostContracts) false) (getD noon i 0) (getD morning i 0)) notes (start + c) x
+            (omega (arith, fits, old .long)) chosen (old .done) v (omega (arith, l));
+        rest = λ v l. getD-set-other notes (start + c) v x 0 (λ q. absurd (omega (arith, q, l))) ∙ old .rest v (omega (arith, l));
+      }
+    where
+      place : c ≡ (start + c) % mostContracts
+      place = omega (arith, aligned, h)
+
+      chosen : x ≡ cond (getD late ((start + c) % mostContracts) false) (getD noon (start + c) 0) (getD morning (start + c) 0)
+      chosen =
+          e
+          ∙ ap₂ (λ (k n : ℕ). cond (getD late k false) (getD noon (start + c) 0) n) place (old .rest (start + c) (omega arith))
+
+-- all of them, where the flags are those of the noon file
+pub either-all :
+    {morning noon counts notes : List ℕ} {late : List Bool} → Flagged counts late → EitherTo morning noon late entryPart notes
+    → Filled parts (eitherNote morning noon counts) notes
+either-all {morning} {noon} {counts} {notes} {late} flagged e = record { long = e .long; each = λ v h. go v (ltb v entryPart) refl }
+  where
+    go : (v : ℕ) (t : Bool) → ltb v entryPart ≡ t → getD notes v 0 ≡ cond (t && lists counts (v % mostContracts)) (getD noon v 0) (getD morning v 0)
+    go v true l =
+        e .done v (ltb-true v entryPart l)
+        ∙ ap (λ (b : Bool). cond b (getD noon v 0) (getD morning v 0)) (flagged .each (v % mostContracts) (omega arith))
+    go v false l = e .rest v (ltb-false v entryPart l)
 
 take-next : (xs : List ℕ) (n x : ℕ) → n < length xs → take (suc n) (set xs n x) ≡ take n xs ++ x ∷ []
 take-next [] n x h = absurd (not-suc-le-zero h)

@@ -2,33 +2,39 @@
 -- Assumes nothing.
 use Prim.Native.Nat.{ℕ, zero, suc, _+_, _-_, _≤_, _<_}
 use mathlib.Core.Path.{_≡_, refl, sym, ap, subst, subst⁻¹, _∙_}
-use mathlib.Core.Bool.{Bool, true, false, cond}
+use mathlib.Core.Bool.{Bool, true, false, cond, _&&_, _||_}
 use mathlib.Core.List.{List, [], _∷_, _++_}
 use lib.ListN.{length, getD, set, length-set, replicate, length-replicate, getD-replicate}
 use lib.Seq.{ext-getD, getD-set-same, set-getD, set-set}
+use lib.Dec.{eqb, ltb}
 use native.Mathlib.Omega.{arith}
 use native.Mathlib.Numerals.{add-one}
 use borrow.Author.Count.{below-more}
-use borrow.Author.Tests.{ne-eqb}
-use Rattle.exact.specs.Lists.{oneIf, count}
-use Rattle.exact.proofs.Lists.{count-append}
+use borrow.Author.Tests.{ltb-true, ltb-false, ne-eqb}
+use Rattle.exact.specs.Lists.{any, oneIf, count}
+use Rattle.exact.proofs.Lists.{any-at, count-append}
 use Rattle.record.specs.Layout.{Record}
+use Rattle.record.proofs.Within.{never, neither}
 use Rattle.account.specs.Answers.{numberOf, refusal}
 use Rattle.account.specs.Check.{faultOf, tooLong, cutRecord, recordsChecked, mostRecords}
+use Rattle.account.specs.Conversions.{otherRow}
 use Rattle.account.specs.code.Notes.{partOf, oneMore, startNoted, faultAt}
 use Rattle.account.specs.PartNumbers.{inPart, ofAccepted, parts}
 use Rattle.account.specs.Parts.{ofKind, startOf}
 use Rattle.account.specs.code.Passing.{partAtRecord, countedTo, Passes, Notable, Advances}
-use Rattle.account.specs.Records.{cut, recordAt, recordCount, earlier}
-use Rattle.account.specs.code.Surveyed.{Surveyed, Empty, Tallied}
+use Rattle.account.specs.Records.{cut, recordAt, records, recordCount, earlier}
+use Rattle.account.specs.code.Surveyed.{convertsIn, Surveyed, Empty, Tallied}
 use Rattle.account.specs.declared.answers.Answer.{Answer}
 use Rattle.account.specs.declared.answers.Answer.the-variants.{Accepted}
 use Rattle.account.specs.declared.check.Survey.{Survey}
 use Rattle.account.proofs.Earlier.{cut-more}
+use Rattle.account.proofs.Every.{none-passes}
 use Rattle.account.proofs.Faults.{same-fault}
 use Rattle.account.proofs.Firsts.{number-refusal}
 use Rattle.account.proofs.Laid.{Faultless}
+use Rattle.account.proofs.Named.{stays}
 use Rattle.account.proofs.Noted.{Noted, noted-none, noted-more}
+use Rattle.account.proofs.Orders.{cut-at}
 use Rattle.account.proofs.Passed.{passed, Known, known-of, part-bound}
 use Rattle.account.proofs.Verdict.{stops, ends, by-records, fault-number}
 use Rattle.account.proofs.Walk.{length-cut}
@@ -63,6 +69,13 @@ if-accepted a n e = ap (λ (b : Answer). ofAccepted b n) e
 if-refused : (a : Answer) (n : ℕ) → (numberOf a ≡ 0 → ⊥) → ofAccepted a n ≡ 0
 if-refused a n nz = ap (λ (b : Bool). cond b n 0) (ne-eqb (numberOf a) 0 nz)
 
+converts-accepted : (file : List ℕ) → recordsChecked file ≡ Accepted → convertsIn file ≡ any otherRow (records file)
+converts-accepted file e = ap (λ (a : Answer). eqb (numberOf a) 0 && any otherRow (records file)) e
+
+pub unconverted :
+    (file : List ℕ) (s : Survey) → Surveyed file s → recordsChecked file ≡ Accepted → s .converts ≡ false → any otherRow (records file) ≡ false
+unconverted file s sv ok e = sym (sv .converts ∙ converts-accepted file ok) ∙ e
+
 -- a refused file
 pub nothing :
     (file : List ℕ) (a : Answer) (s : Survey) → recordsChecked file ≡ a → (numberOf a ≡ 0 → ⊥) → Empty a s
@@ -78,6 +91,9 @@ nothing file a s e nz h =
       first = λ v l. ap (λ (xs : List ℕ). getD xs v 0) (h .first) ∙ getD-replicate {A = ℕ} parts v 0 0 l ∙ sym (none _);
       counts = λ v l. ap (λ (xs : List ℕ). getD xs v 0) (h .counts) ∙ getD-replicate {A = ℕ} parts v 0 0 l ∙ sym
           (none _);
+      converts =
+          h .converts
+          ∙ sym (ap (λ (b : Bool). b && any otherRow (records file)) (ne-eqb (numberOf (recordsChecked file)) 0 (λ z. nz (ap numberOf (sym e) ∙ z))));
     }
 
 module _ {file first counts : List ℕ} {contracts k : ℕ} (g : Going file first counts contracts k)
@@ -91,7 +107,7 @@ module _ {file first counts : List ℕ} {contracts k : ℕ} (g : Going file firs
   -- a fault: the verdict
   pub going-stops :
       {first′ counts′ : List ℕ} (n : ℕ) → n ≡ faultAt file first counts k → (n ≡ 0 → ⊥) → tooLong file ≡ false → cutRecord file ≡ false
-      → Tallied file (refusal n k) contracts first′ counts′
+      → {converts : Bool} → Tallied file (refusal n k) contracts converts first′ counts′
   going-stops n e nz a b =
       let f = sym (e ∙ fault-is) in
       let i = fault-number (earlier file k) (recordAt file k) n f nz in
@@ -208,6 +224,50 @@ going-over {file} {first} {counts} {first′} {counts′} {contracts} {k} {next}
     let here = getD-set-same counts v (getD counts v 0 + 1) 0 (omega (arith, part-in g more (a .fine), g .notes .sizes)) in
     subst⁻¹ (λ (l : List ℕ). Going file first′ l (contracts + one) next) (n .counted) (going-run g′ (omega arith) (a .later))
 
+-- whether a record before record k is a row in another currency
+pub record Met (file : List ℕ) (converts : Bool) (k : ℕ) : Type 0 where
+  pub some : converts ≡ true → any otherRow (cut k file) ≡ true
+  pub none : converts ≡ false → (j : ℕ) → j < k → otherRow (recordAt file j) ≡ false
+
+pub met-start : (file : List ℕ) → Met file false 0
+met-start file = record { some = λ e. absurd (never e); none = λ e j h. absurd (omega arith) }
+
+pub met-over :
+    {file first counts first′ counts′ : List ℕ} {converts : Bool} {k next one : ℕ} → Met file converts k
+    → Advances file first counts k next one first′ counts′ → (other : Bool) → other ≡ otherRow (recordAt file k)
+    → Met file (converts || other) next
+met-over {file} {converts = converts} {k} {next} m a other o = record { some = some converts refl; none = none }
+  where
+    low : k < next
+    low = a .later .low
+
+    some : (b : Bool) → converts ≡ b → b || other ≡ true → any otherRow (cut next file) ≡ true
+    some true e h = stays otherRow file k next (omega (arith, low)) (m .some e)
+    some false e h =
+        any-at otherRow (cut next file) k [] (omega (arith, low, length-cut next file)) (ap otherRow (cut-at next k file low) ∙ sym o ∙ h)
+
+    none : converts || other ≡ false → (j : ℕ) → j < next → otherRow (recordAt file j) ≡ false
+    none e j h = go (ltb j k) refl (ltb k j) refl
+      where
+        off : (converts ≡ false) × (other ≡ false)
+        off = neither converts other e
+
+        go : (s : Bool) → ltb j k ≡ s → (t : Bool) → ltb k j ≡ t → otherRow (recordAt file j) ≡ false
+        go true s t l = m .none (off .0) j (ltb-true j k s)
+        go false s true l = a .later .each j (ltb-true k j l) h .unconverted (sym o ∙ off .1)
+        go false s false l =
+            let p = ltb-false j k s in
+            let q = ltb-false k j l in
+            let i : j ≡ k = omega arith in
+            ap (λ (n : ℕ). otherRow (recordAt file n)) i ∙ sym o ∙ off .1
+
+met-is : {file : List ℕ} {converts : Bool} {k : ℕ} → Met file converts k → converts ≡ any otherRow (cut k file)
+met-is {file} {converts} {k} m = go converts refl
+  where
+    go : (b : Bool) → converts ≡ b → converts ≡ any otherRow (cut k file)
+    go true e = e ∙ sym (m .some e)
+    go false e = e ∙ sym (none-passes otherRow file k (m .none e))
+
 pub notable :
     {file first counts : List ℕ} {contracts k : ℕ} (g : Going file first counts contracts k) → k < recordCount file
     → recordCount file ≤ mostRecords → Notable file first counts k
@@ -234,9 +294,9 @@ module _ {file first counts : List ℕ} {contracts k : ℕ} (g : Going file firs
 
   pub surveyed :
       (s : Survey) → recordsChecked file ≡ Accepted → s .answer ≡ Accepted → s .contracts ≡ contracts → s .first ≡ first →
-      s .counts ≡ counts
+      s .counts ≡ counts → s .converts ≡ any otherRow (cut k file)
       → Surveyed file s
-  surveyed s e a o f n =
+  surveyed s e a o f n m =
       record {
         answer = a ∙ sym e;
         contracts =
@@ -252,14 +312,18 @@ module _ {file first counts : List ℕ} {contracts k : ℕ} (g : Going file firs
             λ v h.
             ap (λ (l : List ℕ). getD l v 0) n ∙ g .notes .counted v h
             ∙ ap (λ (m : ℕ). count (inPart v) (cut m file)) at-end ∙ sym (if-accepted (recordsChecked file) _ e);
+        converts = m ∙ ap (λ (k : ℕ). any otherRow (cut k file)) at-end ∙ sym (converts-accepted file e);
       }
 
-  pub going-tallied : tooLong file ≡ false → cutRecord file ≡ false → Tallied file Accepted contracts first counts
-  going-tallied a b = let e = going-ends a b in record { answer-is = sym e; accepted = λ z. surveyed _ e refl refl refl refl }
+  pub going-tallied :
+      {converts : Bool} → Met file converts k → tooLong file ≡ false → cutRecord file ≡ false
+      → Tallied file Accepted contracts converts first counts
+  going-tallied m a b = let e = going-ends a b in record { answer-is = sym e; accepted = λ z. surveyed _ e refl refl refl refl (met-is m) }
 
-pub tallied-as : {file first counts : List ℕ} {a b : Answer} {contracts : ℕ} → a ≡ b → Tallied file b contracts first counts
-    → Tallied file a contracts first counts
-tallied-as {file} {first} {counts} {a} {b} {contracts} e t = subst⁻¹ (λ (x : Answer). Tallied file x contracts first counts) e t
+pub tallied-as : {file first counts : List ℕ} {a b : Answer} {contracts : ℕ} {converts : Bool} → a ≡ b
+    → Tallied file b contracts converts first counts → Tallied file a contracts converts first counts
+tallied-as {file} {first} {counts} {a} {b} {contracts} {converts} e t =
+    subst⁻¹ (λ (x : Answer). Tallied file x contracts converts first counts) e t
 
 -- the promise leaves one survey
 pub same-survey : (file : List ℕ) (s t : Survey) → Surveyed file s → Surveyed file t → s ≡ t
@@ -278,4 +342,5 @@ same-survey file s t a b =
       contracts = (a .contracts ∙ sym (b .contracts)) i;
       first = first i;
       counts = counts i;
+      converts = (a .converts ∙ sym (b .converts)) i;
     }

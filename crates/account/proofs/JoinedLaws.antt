@@ -27,7 +27,7 @@ use Rattle.account.specs.Records.{cut, recordAt, records, recordCount}
 use Rattle.account.specs.declared.answers.Answer.the-variants.{Accepted}
 use Rattle.account.proofs.Days.{none-kept}
 use Rattle.account.proofs.Earlier.{cut-more}
-use Rattle.account.proofs.Every.{every-append, every-weaker, length-kept}
+use Rattle.account.proofs.Every.{every-append, every-weaker, every-of-kept, length-kept}
 use Rattle.account.proofs.Laid.{Faultless, laid, passed-at}
 use Rattle.account.proofs.Lists.{any-kept, keeps-not, keeps-one, every-both, kept-pass, keep-all, keep-none, every-stricter}
 use Rattle.account.proofs.Named.{kind-of}
@@ -127,6 +127,21 @@ module _ (m n : List Record) where
 
   pub rates-kind : Each (λ r. kind r ≡ 6) (ratesOf m)
   rates-kind = every-weaker (ratesOf m) (λ r e. eqb-true (kind r) 6 e) (kept-pass (ofKind 6) m)
+
+  -- what holds of the records of both files
+  pub every-joined : (P : Record → Type 0) → Each P m → Each P n → Each P (joined m n)
+  every-joined P a b =
+      every-five P (joinedOf m n 1) (joinedOf m n 2) (joinedOf m n 3) (joinedOf m n 4) (fromMorning m) (of 1) (of 2) (of 3) (of 4)
+      (every-append P (entriesOf m) (ratesOf m) (every-of-kept P (ofKind 5) m a) (every-of-kept P (ofKind 6) m a))
+    where
+      either : (t : Bool) → Each P (cond t n m)
+      either true = b
+      either false = a
+
+      of : (k : ℕ) → Each P (joinedOf m n k)
+      of k =
+          every-turn (λ c. keep (ofContract k c) (supplier m n c)) P 0 mostContracts
+          (λ c l h. every-of-kept P (ofContract k c) (supplier m n c) (either (listed c n)))
 
   -- a test that records of one kind alone pass
   module _ (p : Record → Bool) where

@@ -10,10 +10,12 @@ use lib.Dec.{eqb, ltb}
 use lib.ListN.{length, getD}
 use Rattle.exact.specs.Lists.{any, count}
 use Rattle.record.specs.Layout.{Record, kind}
+use Rattle.record.proofs.Within.{neither}
 use Rattle.account.specs.Accepted.{Each, listed}
 use Rattle.account.specs.Answers.{numberOf}
 use Rattle.account.specs.Check.{recordsChecked, mostRecords, mostContracts}
 use Rattle.account.specs.Checked.{ratesChecked}
+use Rattle.account.specs.Conversions.{otherRow}
 use Rattle.account.specs.Joined.{joinedOf, fromMorning, accountOf}
 use Rattle.account.specs.Lawful.{Recorded, Lawful}
 use Rattle.account.specs.Noon.{ofJoined, ofMorning, ofNoon, clear, _then_, morningsOwn, noSpread, fewJoined, recordsVerdict, joinedVerdict, nowhere}
@@ -32,11 +34,11 @@ use Rattle.account.specs.declared.noon.Place.{Place}
 use Rattle.account.specs.declared.noon.Verdict.{Verdict}
 pub use Rattle.account.proofs.AcceptedOnly.{accepted-only}
 use Rattle.account.proofs.AcceptedOnly.{some}
-use Rattle.account.proofs.Every.{every-append, every-weaker}
-use Rattle.account.proofs.Going.{same-survey}
-use Rattle.account.proofs.JoinedLaws.{joined-recorded, joined-kind, entries-kind, rates-kind, joined-alone}
+use Rattle.account.proofs.Every.{every-append, every-weaker, every-none}
+use Rattle.account.proofs.Going.{same-survey, unconverted}
+use Rattle.account.proofs.JoinedLaws.{every-joined, joined-recorded, joined-kind, entries-kind, rates-kind, joined-alone}
 use Rattle.account.proofs.Lawful.{recorded}
-use Rattle.account.proofs.RateLaws.{lawful-of}
+use Rattle.account.proofs.RateLaws.{lawful-of, no-other-row}
 use Rattle.account.proofs.Lists.{none-counted}
 use Rattle.account.proofs.Noted.{part-is}
 use Rattle.account.proofs.Places.{records-are, places}
@@ -292,6 +294,18 @@ module _ (morning noon : List ℕ) (m n : Survey) (j : Account) (sm : Surveyed m
 
     pub verdict-goes : (a : Answer) → a ≡ ratesChecked (accountOf morning noon) → ofJoined a ≡ joinedVerdict morning noon
     verdict-goes a is = ap ofJoined is ∙ sym (goes (recordsVerdict morning noon) _ none-yet)
+
+    -- neither file has a row in another currency
+    pub verdict-ends : m .converts || n .converts ≡ false → ofJoined Accepted ≡ joinedVerdict morning noon
+    verdict-ends e =
+        let c = eq-eqb _ _ none-yet in
+        let off = neither (m .converts) (n .converts) e in
+        let account = accountOf morning noon in
+        verdict-goes Accepted (sym (no-other-row (ratesOf account) 0 account
+        (none-any otherRow account
+        (every-joined (records morning) (records noon) (λ r. otherRow r ≡ false)
+        (every-none otherRow (records morning) (unconverted morning m sm (morning-recorded morning noon c) (off .0)))
+        (every-none otherRow (records noon) (unconverted noon n sn (noon-recorded morning noon c) (off .1)))))))
 
   pub checked-by : (v : Verdict) → v ≡ joinedVerdict morning noon → PairBy morning noon (record { verdict = v; account = j })
   checked-by v e =

@@ -16,7 +16,7 @@ use Rattle.account.specs.code.Pair.{PairBy}
 use Rattle.account.specs.PartNumbers.{parts, contractCount, partStart, partCount}
 use Rattle.account.specs.Records.{recordCount}
 use Rattle.account.specs.code.Standing.{listedIn, Filled, Flagged, Numbered, JoinedBy, AloneBy, CheckedBy}
-use Rattle.account.specs.code.Surveyed.{Surveyed}
+use Rattle.account.specs.code.Surveyed.{convertsIn, Surveyed}
 use Rattle.account.specs.declared.check.Survey.{Survey}
 use Rattle.account.specs.declared.accounts.Account.{Account}
 use Rattle.account.specs.declared.accounts.Checked.{Checked}
@@ -113,7 +113,14 @@ noted-at f v h =
     ∙ ap f (count-at 0 parts v h ∙ omega arith)
 
 taken : List ℕ → Survey
-taken file = record { answer = recordsChecked file; contracts = contractCount file; first = noted (partStart file); counts = noted (partCount file) }
+taken file =
+    record {
+      answer = recordsChecked file;
+      contracts = contractCount file;
+      first = noted (partStart file);
+      counts = noted (partCount file);
+      converts = convertsIn file;
+    }
 
 surveyed : (file : List ℕ) → Surveyed file (taken file)
 unfolding taken
@@ -125,6 +132,7 @@ surveyed file =
       first = noted-at (partStart file);
       sizes = noted-length (partCount file);
       counts = noted-at (partCount file);
+      converts = refl;
     }
 
 pub one-file : (file : List ℕ) (r s : Checked) → CheckedBy file r → CheckedBy file s → r ≡ s

@@ -10,17 +10,16 @@ use borrow.Author.Tests.{eq-eqb, ne-eqb, eqb-true}
 use lib.Dec.{eqb}
 use lib.ListN.{length, getD, take, drop, length-append}
 use lib.Seq.{getD-take, length-take-le}
-use Rattle.exact.specs.Lists.{any, consIf, keep, count, sum}
+use Rattle.exact.specs.Lists.{any, keep, count, sum}
 use Rattle.record.specs.Bytes.{countFrom, recordBytes}
 use Rattle.record.specs.Layout.{Record, kind, currency, scenarioCount}
 use Rattle.record.specs.Within.{RowWithin}
-use Rattle.record.proofs.Tests.{or-false}
 use Rattle.record.proofs.Within.{never, neither}
 use Rattle.account.specs.Accepted.{Each}
 use Rattle.account.specs.Answers.{numberOf}
 use Rattle.account.specs.Check.{orElse, mostContracts}
 use Rattle.account.specs.Checked.{rateFaultOf, firstRateFault, ratesChecked}
-use Rattle.account.specs.Conversions.{inAnother, otherRow, rowAnswer, Row}
+use Rattle.account.specs.Conversions.{otherRow, rowAnswer, Row}
 use Rattle.account.specs.Joined.{inTurn, joined}
 use Rattle.account.specs.Lawful.{Recorded, Lawful}
 use Rattle.account.specs.PartNumbers.{inPart, entryPart, ratePart, parts, rowPart, part}
@@ -29,7 +28,7 @@ use Rattle.account.specs.Products.{ofCurrency, hasRate, beyondIn, conver
 use Rattle.account.specs.Records.{cut, recordAt, records, recordCount}
 use Rattle.account.specs.declared.answers.Answer.{Answer}
 use Rattle.account.specs.declared.answers.Answer.the-variants.{Accepted, NoRate, ConversionBeyond}
-use Rattle.account.proofs.Every.{every-weaker, length-kept}
+use Rattle.account.proofs.Every.{every-weaker, every-of-kept, length-kept}
 use Rattle.account.proofs.JoinedLaws.{every-turn, none-turn, turn-join, partsOf, joined-turn}
 use Rattle.account.proofs.Lists.{every-both, kept-pass}
 use Rattle.account.proofs.Named.{kind-of}
@@ -106,12 +105,6 @@ module _ (rates : List Record) where
       none false false h = refl
       none true false h = absurd (never (sym h))
 
-  pub no-other : (k : ℕ) (xs : List Record) → any inAnother xs ≡ false → firstRateFault k rates xs ≡ Accepted
-  no-other k [] h = refl
-  no-other k (r ∷ xs) h =
-      let t = neither (inAnother r) (any inAnother xs) h in
-      fault-on k r xs (not-other r (ap (λ (b : Bool). b && ofKind 3 r) (t .0))) ∙ no-other (k + 1) xs (t .1)
-
   pub no-other-row : (k : ℕ) (xs : List Record) → any otherRow xs ≡ false → firstRateFault k rates xs ≡ Accepted
   no-other-row k [] h = refl
   no-other-row k (r ∷ xs) h =
@@ -181,37 +174,7 @@ module _ (rates : List Record) where
         let e : recordCount rows - i ≡ 0 = omega arith in
         ap (λ (n : ℕ). firstRateFault (k + i) rates (cut n (drop (i * recordBytes) rows))) e
 
--- ---- a test of each row, from row i on
-module _ (p : Record → Bool) (rows : List ℕ) where
-  abbrev pub anyFrom : ℕ → Bool
-  anyFrom i = any p (cut (recordCount rows - i) (drop (i * recordBytes) rows))
-
-  pub any-start : any p (records rows) ≡ false || anyFrom 0
-  any-start =
-      let e : recordCount rows ≡ recordCount rows - 0 = omega arith in
-      ap (λ (n : ℕ). any p (cut n rows)) e
-
-  pub any-next : (b : Bool) (i : ℕ) → i < recordCount rows → b || anyFrom i ≡ (b || p (recordAt rows i)) || anyFrom (i + 1)
-  any-next b i h = ap (λ (rs : List Record). b || any p rs) (cut-on rows (recordCount rows) i h) ∙ assoc b (p (recordAt rows i)) (anyFrom (i + 1))
-    where
-      assoc : (a b c : Bool) → a || (b || c) ≡ (a || b) || c
-      assoc true b c = refl
-      assoc false b c = refl
-
-  pub any-end : (b : Bool) (i : ℕ) → recordCount rows ≤ i → b || anyFrom i ≡ b
-  any-end b i h =
-      let e : recordCount rows - i ≡ 0 = omega arith in
-      ap (λ (n : ℕ). b || any p (cut n (drop (i * recordBytes) rows))) e ∙ or-false b
-
 -- ---- an account part by part
-every-of-kept : (P : Record → Type 0) (p : Record → Bool) (xs : List Record) → Each P xs → Each P (keep p xs)
-every-of-kept P p [] h = tt
-every-of-kept P p (x ∷ xs) h = go (p x) (every-of-kept P p xs (h .1))
-  where
-    go : (t : Bool) → Each P (keep p xs) → Each P (consIf t x (keep p xs))
-    go true rest = (h .0, rest)
-    go false rest = rest
-
 pub conversions-hold : (rs : List Record) → Recorded rs → ratesChecked rs ≡ Accepted → (c : ℕ) → Each (Convertible (ratesOf rs)) (rowsOf c rs)
 conversions-hold rs known e c =
     every-weaker (rowsOf c rs)

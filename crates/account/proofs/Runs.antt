@@ -13,15 +13,16 @@ use borrow.Author.Tests.{ltb-true, ltb-false, eqb-true, eqb-false, eq-eqb, ne-eq
 use Rattle.exact.specs.Lists.{any, oneIf}
 use Rattle.exact.proofs.Lists.{any-at, any-true, getD-map}
 use Rattle.record.specs.Bytes.{countFrom}
-use Rattle.record.specs.Layout.{Record, kind, contract, tier, day, legCount, twoLegs, legsOf, legTier, secondContract, mostTier}
+use Rattle.record.specs.Layout.{Record, kind, contract, currency, tier, day, legCount, twoLegs, legsOf, legTier, secondContract, mostTier}
 use Rattle.record.specs.Ranges.{unknownKind, unusedByte, fieldOutside, soundRecord}
 use Rattle.record.specs.Within.{SpreadWithin}
 use Rattle.record.proofs.Reading.{byte-past}
 use Rattle.record.proofs.Sound.{Sound, sound-known}
 use Rattle.record.proofs.Tests.{any-append, or-false, both}
-use Rattle.record.proofs.Within.{both-true, neither, row-within, spread-within, entry-within, contract-known}
+use Rattle.record.proofs.Within.{never, both-true, neither, row-within, spread-within, entry-within, contract-known}
 use Rattle.account.specs.Check.{kindFalls, dayNotAbove, tierFalls, contractFalls, outOfOrder, mostContracts, mostPrompts, mostRows}
 use Rattle.account.specs.Check.{withItself, mostSpreads, mostEntries}
+use Rattle.account.specs.Conversions.{inAnother, otherRow}
 use Rattle.account.specs.PartNumbers.{part, parts, entryPart}
 use Rattle.account.specs.code.Notes.{partOf, oneMore, startNoted, noContract, noDay, noTier, unlistedBy, overLimitBy, faultBy, promptsNoted, beforeAt}
 use Rattle.account.specs.code.Notes.{faultAt}
@@ -184,6 +185,14 @@ part-of-sound n c r low high k e =
 known-kind : (n : ℕ) (r : Record) → 2 ≤ n → n ≤ 5 → kind r ≡ n → unknownKind r ≡ false
 known-kind n r low high k = rw (le-leb 1 (kind r) (omega arith), le-leb (kind r) 6 (omega arith))
 
+-- no row in another currency: a record of another kind, and a row that has to be in the margin currency
+no-row : (n : ℕ) (r : Record) → kind r ≡ n → (n ≡ 3 → ⊥) → otherRow r ≡ false
+no-row n r k d = and-off (inAnother r) (ne-eqb (kind r) 3 (λ z. d (sym k ∙ z)))
+
+in-margin : (other : Bool) (r : Record) → other ≡ false → other || eqb (currency r) 0 ≡ true → otherRow r ≡ false
+in-margin true r e h = absurd (never (sym e))
+in-margin false r e h = ap (λ (b : Bool). not b && ofKind 3 r) h
+
 -- a sound record of a kind, in a part
 pub record SoundIn (n p : ℕ) (r : Record) : Type 0 where
   pub kinds : kind r ≡ n
@@ -278,8 +287,9 @@ module _ {n most p : ℕ} {file counts : List ℕ} {k : ℕ} {passes : ℕ → B
 
     pub passes-at :
         unlistedBy (countsAt j) (promptsAt j) (recordAt file j) ≡ false → outOfOrder (beforeAt file j) (recordAt file j) ≡ false
-        → overLimitBy (countsAt j) (recordAt file j) ≡ false → PassesAt file first counts k j
-    passes-at l o m =
+        → overLimitBy (countsAt j) (recordAt file j) ≡ false → (otherRow (recordAt file k) ≡ false → otherRow (recordAt file j) ≡ false)
+        → PassesAt file first counts k j
+    passes-at l o m u =
         record {
           fine = no-fault n p (countsAt j) (promptsAt j) (beforeAt file j) (recordAt file j) (f .low) (f .high) its rises l o m;
           alike = its .part-is ∙ sym (f .here);
@@ -287,6 +297,7 @@ module _ {n most p : ℕ} {file counts : List ℕ} {k : ℕ} {passes : ℕ → B
               let e = its .kinds in
               let lo = f .low in
               ne-eqb (kind (recordAt file j)) 1 (λ z. omega arith);
+          unconverted = u;
         }
 
   pub run-passes : ((j : ℕ) → k < j → j < i → PassesAt file first counts k j) → Passes file first counts k i
@@ -403,18 +414,22 @@ module _ (file first counts : List ℕ) (k c : ℕ) {i : ℕ} where
           (sym (before-is-at (alike following) first j l h))
           ∙ o)
           (limit-2 (countedTo file counts k j) r e ∙ unfilled (alike following) first j l h)
+          (λ z. no-row 2 r e (λ y. omega arith))
 
   pub rows-pass :
       After 3 file counts k c → (days : List ℕ) → DaysListed (promptsNoted file first counts c) days
-      → RunTo (λ j. rowPasses c days (recordAt file j)) (k + 1) (min (k + 1 + (mostRows - getD counts (part 3 c) 0)) (recordCount file)) i
+      → (other : Bool) → other ≡ otherRow (recordAt file k)
+      → RunTo (λ j. rowPasses c days other (recordAt file j)) (k + 1) (min (k + 1 + (mostRows - getD counts (part 3 c) 0)) (recordCount file)) i
       → Passes file first counts k i
-  rows-pass a days t run = run-passes (alike following) first each
+  rows-pass a days t other o run = run-passes (alike following) first each
     where
       passes : ℕ → Bool
-      passes j = rowPasses c days (recordAt file j)
+      passes j = rowPasses c days other (recordAt file j)
 
       soundAt : (j : ℕ) → passes j ≡ true → Sound 3 c (recordAt file j)
-      soundAt j e = sound-known 3 c (recordAt file j) (both-true (soundRecord 3 c (recordAt file j)) _ e .0)
+      soundAt j e =
+          let r = recordAt file j in
+          sound-known 3 c r (both-true (soundRecord 3 c r) _ (both-true (soundRecord 3 c r && (other || eqb (currency r) 0)) _ e .0) .0)
 
       following : Following 3 mostRows file counts k c passes i
       following = record { low = omega arith; high = omega arith; after = a; soundAt = soundAt; run = run }
@@ -424,15 +439,16 @@ module _ (file first counts : List ℕ) (k c : ℕ) {i : ℕ} where
           let r = recordAt file j in
           let s = soundAt j (run .each j (omega arith) h) in
           let e = s .kinds in
-          let d = both-true (soundRecord 3 c r) _ (run .each j (omega arith) h) .1 in
+          let d = both-true (soundRecord 3 c r && (other || eqb (currency r) 0)) _ (run .each j (omega arith) h) in
           passes-at (alike following) first j l h
           (listed-3 (countedTo file counts k j) (promptsNoted file first (countedTo file counts k j) (contract r)) r e
           ∙ or-off (contract-listed following first j l h)
           (ap (λ (ps : List Record). noDay ps (day r))
           (prompts-kept following first j l h (omega arith))
-          ∙ day-listed (promptsNoted file first counts c) days (day r) t (row-within r e (s .within) .days .least) d))
+          ∙ day-listed (promptsNoted file first counts c) days (day r) t (row-within r e (s .within) .days .least) (d .1)))
           (order-3 (beforeAt file j) r e ∙ contract-stays following first j l h)
           (limit-3 (countedTo file counts k j) r e ∙ unfilled (alike following) first j l h)
+          (λ z. in-margin other r (o ∙ z) (both-true (soundRecord 3 c r) _ (d .0) .1))
 
   pub spreads-pass :
       After 4 file counts k c → (listed : List Bool) → TiersListed (promptsNoted file first counts c) listed
@@ -464,6 +480,7 @@ module _ (file first counts : List ℕ) (k c : ℕ) {i : ℕ} where
           (order-4 (beforeAt file j) r e
           ∙ or-off (contract-stays following first j l h) (legs-apart r (spread-within r e (s .within)) (o .0)))
           (limit-4 (countedTo file counts k j) r e ∙ unfilled (alike following) first j l h)
+          (λ z. no-row 4 r e (λ y. omega arith))
 
 -- ---- a run from record k on: the first by itself, then those after it
 pub record Starting (n most p : ℕ) (file counts : List ℕ) (k : ℕ) (passes : ℕ → Bool) (i : ℕ) : Type 0 where
@@ -648,15 +665,18 @@ module _ (file first counts : List ℕ) (k c : ℕ) {i : ℕ} where
 
   pub rows-run :
       Begins 3 file counts k c → (days : List ℕ) → DaysListed (promptsNoted file first counts c) days
-      → RunTo (λ j. rowPasses c days (recordAt file j)) k (min (k + (mostRows - getD counts (part 3 c) 0)) (recordCount file)) i
+      → (other : Bool) → other ≡ otherRow (recordAt file k)
+      → RunTo (λ j. rowPasses c days other (recordAt file j)) k (min (k + (mostRows - getD counts (part 3 c) 0)) (recordCount file)) i
       → Runs file first counts k i
-  rows-run b days t run = or-none (omega (arith, b .after .inside)) (run .low) go
+  rows-run b days t other o run = or-none (omega (arith, b .after .inside)) (run .low) go
     where
       passes : ℕ → Bool
-      passes j = rowPasses c days (recordAt file j)
+      passes j = rowPasses c days other (recordAt file j)
 
       soundAt : (j : ℕ) → passes j ≡ true → Sound 3 c (recordAt file j)
-      soundAt j e = sound-known 3 c (recordAt file j) (both-true (soundRecord 3 c (recordAt file j)) _ e .0)
+      soundAt j e =
+          let r = recordAt file j in
+          sound-known 3 c r (both-true (soundRecord 3 c r) _ (both-true (soundRecord 3 c r && (other || eqb (currency r) 0)) _ e .0) .0)
 
       go : k < i → Runs file first counts k i
       go h =
@@ -665,17 +685,17 @@ module _ (file first counts : List ℕ) (k c : ℕ) {i : ℕ} where
           let r = recordAt file k in
           let e = b .after .kinds in
           let s = soundAt k (run .each k (omega arith) h) in
-          let d = both-true (soundRecord 3 c r) _ (run .each k (omega arith) h) .1 in
+          let d = both-true (soundRecord 3 c r && (other || eqb (currency r) 0)) _ (run .each k (omega arith) h) in
           runs-from (starting f) first
           (listed-3 counts (promptsNoted file first counts (contract r)) r e
           ∙ or-off (contract-here f first)
           (ap (λ (ps : List Record). noDay ps (day r)) (prompts-here f first)
-          ∙ day-listed (promptsNoted file first counts c) days (day r) t (row-within r e (s .within) .days .least) d))
+          ∙ day-listed (promptsNoted file first counts c) days (day r) t (row-within r e (s .within) .days .least) (d .1)))
           (order-3 (beforeAt file k) r e ∙ b .stays)
           (limit-3 counts r e ∙ unfilled-here (starting f) first)
           (rows-pass file (startNoted first counts (partAtRecord file k) k) (oneMore counts (partAtRecord file k)) k c
           (after-it f first) days
-          (subst (λ (ps : List Record). DaysListed ps days) (sym (prompts-same f first (omega arith))) t) (run-after (starting f) first))
+          (subst (λ (ps : List Record). DaysListed ps days) (sym (prompts-same f first (omega arith))) t) other o (run-after (starting f) first))
 
   pub spreads-run :
       Begins 4 file counts k c → (listed : List Bool) → TiersListed (promptsNoted file first counts c) listed
@@ -764,6 +784,7 @@ module _ (file first counts own : List ℕ) (k : ℕ) (same : (u : ℕ) → u < 
           ∙ p .names (countedTo file counts k j) (λ u b. kept all first j u (λ z. omega arith) ∙ same u b))
           (order-5 (beforeAt file j) r n ∙ p .two)
           (limit-5 (countedTo file counts k j) r n ∙ unfilled all first j l h)
+          (λ z. no-row 5 r n (λ y. omega arith))
 
 pub entries-run :
     (file first counts : List ℕ) (k : ℕ) {i : ℕ} → k < recordCount file → length counts ≡ parts

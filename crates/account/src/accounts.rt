@@ -7,8 +7,6 @@ use crate::check::Survey;
 use crate::check::length_answer;
 use crate::check::note_file;
 use crate::check::note_records;
-use crate::conversions::any_in_another;
-use crate::conversions::any_other_row;
 use crate::conversions::rows_answer;
 use crate::notes::note_at;
 use crate::notes::noted;
@@ -22,24 +20,24 @@ use crate::parts::RATES;
 use crate::parts::ROWS;
 use crate::parts::SPREADS;
 use crate::rates::rates_of;
+use crate::stretches::anew;
 use crate::stretches::record_count;
 use crate::stretches::stretch;
-ghost use mathlib.Core.List.{[]};
+ghost use mathlib.Core.List.{List, []};
 ghost use mathlib.Core.Path.{_≡_};
 ghost use mathlib.Core.Bool.{cond};
-ghost use Prim.Native.Nat.{_≤_, _<_};
+ghost use Prim.Native.Nat.{ℕ, _+_, _%_, _≤_, _<_};
 ghost use lib.ListN.{length, getD, set, take};
-ghost use Rattle.exact.specs.Lists.{any, keep, oneIf, sum};
+ghost use Rattle.exact.specs.Lists.{oneIf, sum};
 ghost use Rattle.account.specs.Check.{mostContracts};
 ghost use Rattle.account.specs.Checked.{ratesChecked, checked};
-ghost use Rattle.account.specs.Conversions.{inAnother};
 ghost use Rattle.account.specs.Lawful.{Recorded};
-ghost use Rattle.account.specs.PartNumbers.{inPart, parts, rowPart};
+ghost use Rattle.account.specs.PartNumbers.{parts, entryPart, rowPart};
 ghost use Rattle.account.specs.Joined.{accountOf};
 ghost use Rattle.record.specs.Layout.{mostContract};
 ghost use Rattle.account.specs.code.Standing as Standing;
 ghost use Rattle.account.specs.code.Standing.{Places, Stands, PartOf, WhereOf, ContractPart, CheckedBy};
-ghost use Rattle.account.specs.code.Standing.{fromNoon, eitherNote, Filled, Flagged, listedIn, Numbered, JoinedBy, AloneBy};
+ghost use Rattle.account.specs.code.Standing.{EitherTo, Flagged, listedIn, Numbered, JoinedBy, AloneBy};
 ghost use Rattle.account.specs.code.Surveyed.{Tallied};
 ghost use Rattle.account.specs.declared.answers.Answer.the-variants.{Accepted};
 
@@ -224,35 +222,47 @@ fn lists(counts: &[u16], c: usize) -> bool
     noted(counts, OWN + c) != 0
 }
 
-// Whether the noon file supplies part `v`, by its counts.
-fn from_noon(counts: &[u16], v: usize) -> bool
-    ensures { λ b. ⌜ b ≡ fromNoon (now (counts .entry)) v ⌝ }
+// What is noted of a part in whichever file supplies it.
+fn either(late: bool, morning: u16, noon: u16) -> u16
+    ensures { λ n. ⌜ n ≡ cond late noon morning ⌝ }
 {
-    if ENTRIES <= v {
-        return false;
-    }
-    lists(counts, v % CONTRACTS)
+    if late { noon } else { morning }
 }
 
-// What is noted of part `v` in whichever file supplies it.
-fn either_note(morning: &[u16], noon: &[u16], counts: &[u16], v: usize) -> u16
-    ensures { λ n. ⌜ n ≡ eitherNote (now (morning .entry)) (now (noon .entry)) (now (counts .entry)) v ⌝ }
+// The same of the parts of one kind, in the place of the morning's notes.
+fn either_kind(
+    notes: &mut [u16; PARTS],
+    noon: &[u16; PARTS],
+    late: &[bool; CONTRACTS],
+    start: usize,
+)
+    requires { ⌜ (start % mostContracts ≡ 0) × (start < entryPart) ⌝ }
+    ensures { λ _. ⌜ ((morning : List ℕ) → EitherTo morning (now (noon .entry)) (now (late .entry)) start (now (notes .entry))
+        → EitherTo morning (now (noon .entry)) (now (late .entry)) (start + mostContracts) (now (notes .exit))) ⌝ }
 {
-    if from_noon(counts, v) {
-        return note_at(noon, v);
+    let mut c = 0;
+    while c < CONTRACTS {
+        notes[start + c] = either(late[c], notes[start + c], noon[start + c]);
+        c += 1;
     }
-    note_at(morning, v)
 }
 
-// The same of every part.
-fn either_notes(notes: &mut [u16], morning: &[u16], noon: &[u16], counts: &[u16])
-    ensures { λ _. ⌜ Filled (length (now (notes .entry))) (eitherNote (now (morning .entry)) (now (noon .entry)) (now (counts .entry))) (now (notes .exit)) ⌝ }
+// The same of every kind that the noon file may supply. The notes are an array of this function's own, so that several are chosen at once.
+fn either_notes(
+    morning: &[u16; PARTS],
+    noon: &[u16; PARTS],
+    late: &[bool; CONTRACTS],
+) -> [u16; PARTS]
+    requires { ⌜ length (now morning) ≡ parts ⌝ }
+    ensures { λ r. ⌜ EitherTo (now (morning .entry)) (now (noon .entry)) (now (late .entry)) entryPart r ⌝ }
 {
-    let mut v = 0;
-    while v < notes.len() {
-        notes[v] = either_note(morning, noon, counts, v);
-        v += 1;
+    let mut notes = *morning;
+    let mut start = 0;
+    while start < ENTRIES {
+        either_kind(&mut notes, noon, late, start);
+        start += CONTRACTS;
     }
+    notes
 }
 
 // Which contracts a file lists, by its counts.
@@ -329,10 +339,8 @@ pub(crate) fn join(morning: Survey, noon: Survey) -> Account
     let noon_first = noon.first;
     let noon_counts = noon.counts;
     let supplied = flags(&noon_counts);
-    let mut first = [0u16; PARTS];
-    let mut counts = [0u16; PARTS];
-    either_notes(&mut first, &morning_first, &noon_first, &noon_counts);
-    either_notes(&mut counts, &morning_counts, &noon_counts, &noon_counts);
+    let first = either_notes(&morning_first, &noon_first, &supplied);
+    let counts = either_notes(&morning_counts, &noon_counts, &supplied);
     let records = records_in(&counts);
     let listed = numbers_of(&counts, CONTRACTS);
     let contracts = listed.count;
@@ -380,7 +388,7 @@ fn before_rows(account: Account) -> usize
 }
 
 // 14 and 15, "for rows in file order", of an account whose records are accepted.
-fn conversions_answer<'a>(morning: &'a [u8], noon: &'a [u8], account: Account) -> Answer
+pub(crate) fn conversions_answer<'a>(morning: &'a [u8], noon: &'a [u8], account: Account) -> Answer
     requires { ⌜ Places (now morning) (now noon) account × Recorded (accountOf (now morning) (now noon)) ⌝ }
     ensures { λ a. ⌜ a ≡ ratesChecked (accountOf (now (morning .entry)) (now (noon .entry))) ⌝ }
 {
@@ -399,44 +407,18 @@ fn conversions_answer<'a>(morning: &'a [u8], noon: &'a [u8], account: Account) -
     Answer::Accepted
 }
 
-// Whether part `v`, of `count` records, has a row in another currency than the margin's.
-fn converts<'a>(morning: &'a [u8], noon: &'a [u8], account: Account, v: usize, count: usize) -> bool
-    requires { ⌜ Places (now morning) (now noon) account × ((count ≡ getD (account .counts) v 0) × (v < parts)) ⌝ }
-    ensures { λ b. ⌜ b ≡ any inAnother (keep (inPart v) (accountOf (now (morning .entry)) (now (noon .entry)))) ⌝ }
-{
-    if count == 0 {
-        return false;
-    }
-    any_in_another(placed_part(morning, noon, account, v))
-}
-
-// The same as above. An account whose rows are all in the margin currency needs no table of rates and no count of places.
-pub(crate) fn conversions_checked<'a>(morning: &'a [u8], noon: &'a [u8], account: Account) -> Answer
-    requires { ⌜ Places (now morning) (now noon) account × Recorded (accountOf (now morning) (now noon)) ⌝ }
-    ensures { λ a. ⌜ a ≡ ratesChecked (accountOf (now (morning .entry)) (now (noon .entry))) ⌝ }
-{
-    let counts = account.counts;
-    let mut c = 0;
-    while c < CONTRACTS {
-        if converts(morning, noon, account, ROWS + c, noted(&counts, ROWS + c)) {
-            return conversions_answer(morning, noon, account);
-        }
-        c += 1;
-    }
-    Answer::Accepted
-}
-
 // The same of one file, by what is noted of it.
 fn rates_answer(
     file: &[u8],
     first: &[u16; PARTS],
     counts: &[u16; PARTS],
     contracts: usize,
+    converts: bool,
 ) -> Answer
-    requires { ⌜ Tallied (now file) Accepted contracts (now first) (now counts) ⌝ }
+    requires { ⌜ Tallied (now file) Accepted contracts converts (now first) (now counts) ⌝ }
     ensures { λ a. ⌜ a ≡ checked (now (file .entry)) ⌝ }
 {
-    if any_other_row(file) {
+    if converts {
         let account = in_one_file(first, counts, contracts, record_count(file));
         return conversions_answer(file, &file[..0], account);
     }
@@ -452,18 +434,19 @@ pub struct Checked {
 pub fn check_file(file: &[u8]) -> Checked
     ensures { λ r. ⌜ CheckedBy (now (file .entry)) r ⌝ }
 {
+    let whole = anew(file);
     let mut first = [0u16; PARTS];
     let mut counts = [0u16; PARTS];
-    let tally = note_file(file, &mut first, &mut counts);
+    let tally = note_file(whole, &mut first, &mut counts);
     let answer = tally.answer;
-    let records = record_count(file);
+    let records = record_count(whole);
     if number_of(answer) != 0 {
         let none = [0u16; PARTS];
         let account = in_one_file(&none, &none, 0, records);
         return Checked { answer, account };
     }
     Checked {
-        answer: rates_answer(file, &first, &counts, tally.contracts),
+        answer: rates_answer(whole, &first, &counts, tally.contracts, tally.converts),
         account: in_one_file(&first, &counts, tally.contracts, records),
     }
 }
@@ -472,15 +455,16 @@ pub fn check_file(file: &[u8]) -> Checked
 pub fn check(file: &[u8]) -> Answer
     ensures { λ a. ⌜ a ≡ checked (now (file .entry)) ⌝ }
 {
-    let answer = length_answer(file);
+    let whole = anew(file);
+    let answer = length_answer(whole);
     if number_of(answer) != 0 {
         return answer;
     }
     let mut first = [0u16; PARTS];
     let mut counts = [0u16; PARTS];
-    let noted = note_records(file, &mut first, &mut counts);
+    let noted = note_records(whole, &mut first, &mut counts);
     if noted.number != 0 {
         return refusal(noted.number, noted.next);
     }
-    rates_answer(file, &first, &counts, noted.contracts)
+    rates_answer(whole, &first, &counts, noted.contracts, noted.converts)
 }

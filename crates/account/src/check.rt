@@ -16,6 +16,7 @@ ghost use Rattle.account.specs.declared.answers.Answer.the-variants.{Acc
 use crate::answers::Answer;
 use crate::answers::number_of;
 use crate::answers::refusal;
+use crate::conversions::is_other_row;
 use crate::fault::fault_at;
 use crate::notes::noted;
 use crate::notes::part_of;
@@ -31,13 +32,14 @@ pub const MOST_RECORDS: usize = 640;
 
 const MOST_BYTES: usize = MOST_RECORDS * RECORD_BYTES;
 
-// A verdict and, of an accepted file, how many contracts it lists and of each part where it begins and how many records
-// it has.
+// A verdict and, of an accepted file, how many contracts it lists, of each part where it begins and how many records it has,
+// and whether any row is in another currency than the margin's.
 pub struct Survey {
     pub answer: Answer,
     pub contracts: usize,
     pub first: [u16; PARTS],
     pub counts: [u16; PARTS],
+    pub converts: bool,
 }
 
 fn refused(answer: Answer) -> Survey
@@ -48,6 +50,7 @@ fn refused(answer: Answer) -> Survey
         contracts: 0,
         first: [0; PARTS],
         counts: [0; PARTS],
+        converts: false,
     }
 }
 
@@ -130,31 +133,49 @@ fn go_on(file: &[u8], first: &mut [u16], counts: &mut [u16], k: usize) -> Step
     }
 }
 
+// All steps: the fault of the last and its record, how many contracts were passed, and whether a row in another currency was. A step that
+// passes one begins with one.
+pub(crate) struct Steps {
+    pub(crate) number: usize,
+    pub(crate) next: usize,
+    pub(crate) contracts: usize,
+    pub(crate) converts: bool,
+}
+
 // The records noted up to the first with a fault, or all of them.
-pub(crate) fn note_records(file: &[u8], first: &mut [u16; PARTS], counts: &mut [u16; PARTS]) -> Step
+pub(crate) fn note_records(
+    file: &[u8],
+    first: &mut [u16; PARTS],
+    counts: &mut [u16; PARTS],
+) -> Steps
     requires { ⌜ (lengthChecked (now file) ≡ Accepted) × ((now first ≡ replicate parts 0) × (now counts ≡ replicate parts 0)) ⌝ }
-    ensures tallied { λ s. ⌜ Tallied (now (file .entry)) (refusal (s .number) (s .next)) (s .contracts) (now (first .exit)) (now (counts .exit)) ⌝ }
+    ensures tallied { λ s. ⌜ Tallied (now (file .entry)) (refusal (s .number) (s .next)) (s .contracts) (s .converts) (now (first .exit))
+        (now (counts .exit)) ⌝ }
     ensures named { λ s. ⌜ ((s .number ≡ 0 → ⊥) → numberOf (refusal (s .number) (s .next)) ≡ s .number) ⌝ }
 {
     let count = record_count(file);
     let mut contracts = 0;
+    let mut converts = false;
     let mut k = 0;
     while k < count {
         let passed = go_on(file, first, counts, k);
         if passed.number != 0 {
-            return Step {
+            return Steps {
                 number: passed.number,
                 next: k,
                 contracts,
+                converts,
             };
         }
         contracts += passed.contracts;
+        converts = converts | is_other_row(whole_at(file, k));
         k = passed.next;
     }
-    Step {
+    Steps {
         number: 0,
         next: k,
         contracts,
+        converts,
     }
 }
 
@@ -171,22 +192,24 @@ pub(crate) fn length_answer(file: &[u8]) -> Answer
     Answer::Accepted
 }
 
-// A verdict and how many contracts were noted.
+// A verdict, how many contracts were noted, and whether a row in another currency was.
 pub(crate) struct Tally {
     pub answer: Answer,
     pub contracts: usize,
+    pub converts: bool,
 }
 
 // The verdict on any bytes, with the parts of an accepted file noted in lent memory.
 pub(crate) fn note_file(file: &[u8], first: &mut [u16; PARTS], counts: &mut [u16; PARTS]) -> Tally
     requires { ⌜ (now first ≡ replicate parts 0) × (now counts ≡ replicate parts 0) ⌝ }
-    ensures { λ t. ⌜ Tallied (now (file .entry)) (t .answer) (t .contracts) (now (first .exit)) (now (counts .exit)) ⌝ }
+    ensures { λ t. ⌜ Tallied (now (file .entry)) (t .answer) (t .contracts) (t .converts) (now (first .exit)) (now (counts .exit)) ⌝ }
 {
     let answer = length_answer(file);
     if number_of(answer) != 0 {
         return Tally {
             answer,
             contracts: 0,
+            converts: false,
         };
     }
     let noted = note_records(file, first, counts);
@@ -194,11 +217,13 @@ pub(crate) fn note_file(file: &[u8], first: &mut [u16; PARTS], counts: &mut [u16
         return Tally {
             answer,
             contracts: noted.contracts,
+            converts: noted.converts,
         };
     }
     Tally {
         answer: refusal(noted.number, noted.next),
         contracts: noted.contracts,
+        converts: noted.converts,
     }
 }
 
@@ -218,5 +243,6 @@ pub fn take_survey(file: &[u8]) -> Survey
         contracts: tally.contracts,
         first,
         counts,
+        converts: tally.converts,
     }
 }

@@ -15,7 +15,6 @@ ghost use Rattle.record.specs.Layout.{Record};
 ghost use Rattle.record.specs.Within.{RateWithin};
 ghost use Rattle.account.specs.Accepted.{Each};
 ghost use Rattle.account.specs.Checked.{firstRateFault};
-ghost use Rattle.exact.specs.Lists.{any};
 ghost use Rattle.account.specs.Conversions.{inAnother, otherRow, rowAnswer, Row};
 ghost use Rattle.account.specs.code.Rates.{RatesOf, HoldsRates};
 ghost use Rattle.account.specs.Records.{records};
@@ -26,40 +25,11 @@ fn in_another(row: &[u8]) -> bool
     currency(row) != 0
 }
 
-// Whether any of the rows is in another currency than the margin's.
-pub(crate) fn any_in_another(rows: &[u8]) -> bool
-    ensures { λ b. ⌜ b ≡ any inAnother (records (now (rows .entry))) ⌝ }
-{
-    let count = record_count(rows);
-    let mut found = false;
-    let mut i = 0;
-    while i < count {
-        found = found | in_another(whole_at(rows, i));
-        i += 1;
-    }
-    found
-}
-
 // Whether a record of any kind is such a row.
-fn is_other_row(r: &[u8]) -> bool
+pub(crate) fn is_other_row(r: &[u8]) -> bool
     ensures { λ b. ⌜ b ≡ otherRow (now (r .entry)) ⌝ }
 {
     in_another(r) & (kind(r) == 3)
-}
-
-// Whether any of a file's records is.
-pub(crate) fn any_other_row(file: &[u8]) -> bool
-    ensures { λ b. ⌜ b ≡ any otherRow (records (now (file .entry))) ⌝ }
-{
-    let count = record_count(file);
-    let mut i = 0;
-    while i < count {
-        if is_other_row(whole_at(file, i)) {
-            return true;
-        }
-        i += 1;
-    }
-    false
 }
 
 // Of the row that is record `k`. A row in the margin currency gets neither.

@@ -1,6 +1,6 @@
 // "Noon against the morning": the verdict on a pair of files, the joined account, and a contract's prompts.
 use crate::accounts::Account;
-use crate::accounts::conversions_checked;
+use crate::accounts::conversions_answer;
 use crate::accounts::join;
 use crate::accounts::record_total;
 use crate::accounts::supplier;
@@ -107,9 +107,15 @@ fn pair_verdict<'a>(
     if number_of(answer) != 0 {
         return verdict;
     }
+    if first.converts | second.converts {
+        return Verdict {
+            file: JOINED,
+            answer: conversions_answer(morning, noon, account),
+        };
+    }
     Verdict {
         file: JOINED,
-        answer: conversions_checked(morning, noon, account),
+        answer: Answer::Accepted,
     }
 }
 

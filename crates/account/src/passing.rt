@@ -12,6 +12,7 @@ ghost use Rattle.account.specs.code.Notes.{noContract};
 ghost use Rattle.account.specs.code.Passing.{DaysListed, hasDay, TiersListed, legUnlistedIn, onOneSide, legsMeet};
 ghost use Rattle.account.specs.code.Passing.{promptPasses, rowPasses, spreadPasses, entryPasses, RunTo, Begins, Runs};
 ghost use Rattle.account.specs.Records.{recordAt, recordCount, records};
+use crate::conversions::is_other_row;
 use crate::limits::MOST_ENTRIES;
 use crate::limits::MOST_PROMPTS;
 use crate::limits::MOST_ROWS;
@@ -155,10 +156,11 @@ fn prompt_passes(before: &[u8], r: &[u8], c: usize) -> bool
     sound_prompt(r, c) & !(day_not_above(before, r) | tier_falls(before, r))
 }
 
-fn row_passes(days: &[u32; MOST_PROMPTS], r: &[u8], c: usize) -> bool
-    ensures { λ b. ⌜ b ≡ rowPasses c (now (days .entry)) (now (r .entry)) ⌝ }
+// In another currency than the margin's only where `other` lets it be.
+fn row_passes(days: &[u32; MOST_PROMPTS], r: &[u8], c: usize, other: bool) -> bool
+    ensures { λ b. ⌜ b ≡ rowPasses c (now (days .entry)) other (now (r .entry)) ⌝ }
 {
-    sound_row(r, c) & has_day(days, short_day(r))
+    sound_row(r, c, other) & has_day(days, short_day(r))
 }
 
 fn spread_passes(listed: &[bool; TIER_BYTES], r: &[u8], c: usize) -> bool
@@ -194,13 +196,20 @@ fn prompts_to(file: &[u8], c: usize, k: usize, end: usize) -> usize
 }
 
 // The same of a row.
-fn rows_to(file: &[u8], days: &[u32; MOST_PROMPTS], c: usize, k: usize, end: usize) -> usize
+fn rows_to(
+    file: &[u8],
+    days: &[u32; MOST_PROMPTS],
+    c: usize,
+    other: bool,
+    k: usize,
+    end: usize,
+) -> usize
     requires { ⌜ (k ≤ end) × (end ≤ recordCount (now file)) ⌝ }
-    ensures { λ i. ⌜ RunTo (λ j. rowPasses c (now (days .entry)) (recordAt (now (file .entry)) j)) k end i ⌝ }
+    ensures { λ i. ⌜ RunTo (λ j. rowPasses c (now (days .entry)) other (recordAt (now (file .entry)) j)) k end i ⌝ }
 {
     let mut i = k;
     while i < end {
-        if !row_passes(days, whole_at(file, i), c) {
+        if !row_passes(days, whole_at(file, i), c, other) {
             return i;
         }
         i += 1;
@@ -265,13 +274,15 @@ fn prompts_from(file: &[u8], first: &[u16], counts: &[u16], k: usize, c: usize) 
     prompts_to(file, c, k, end)
 }
 
+// A run that begins with a row in the margin currency goes on over such rows alone.
 fn rows_from(file: &[u8], first: &[u16], counts: &[u16], k: usize, c: usize) -> usize
     requires { ⌜ Begins 3 (now file) (now counts) k c ⌝ }
     ensures { λ next. ⌜ Runs (now (file .entry)) (now (first .entry)) (now (counts .entry)) k next ⌝ }
 {
     let end = room_to(k, record_count(file), noted(counts, ROWS + c), MOST_ROWS);
     let days = days_of(part_at(file, first, counts, PROMPTS + c));
-    rows_to(file, &days, c, k, end)
+    let other = is_other_row(whole_at(file, k));
+    rows_to(file, &days, c, other, k, end)
 }
 
 fn spreads_from(file: &[u8], first: &[u16], counts: &[u16], k: usize, c: usize) -> usize

@@ -13,6 +13,13 @@ pub fn record_count(file: &[u8]) -> usize
     file.len() / RECORD_BYTES
 }
 
+// The same bytes. A slice that was made just before and is handed on as it came is copied as a whole, and the copy waits for its two halves.
+pub(crate) fn anew(file: &[u8]) -> &[u8]
+    ensures { λ r. ⌜ now r ≡ now (file .entry) ⌝ }
+{
+    &file[0..file.len()]
+}
+
 // `n` records from record `k` on, or what the file has of them.
 pub fn stretch(file: &[u8], k: usize, n: usize) -> &[u8]
     ensures { λ r. ⌜ now r ≡ Records.stretch (now (file .entry)) k n ⌝ }

@@ -181,13 +181,10 @@ module _ (account : List Record) (paid : Bool) (lent left left′ : List ℤ) (s
   abbrev table : List ℤ → List ℤ
   table = atPlace wide (wide * tableQuestion) (each tableQuestion)
 
-  pub then-table : (answer : Answer) → left ≡ lentEach wide each mostContracts lent → answer ≡ allOver paid account (length left)
-      → left′ ≡ lentPlace wide tableQuestion (each tableQuestion) left
-      → (answer ≡ allOver paid account (length lent)) × (left′ ≡ afterAllOver paid account lent)
-  then-table answer so-far a e = (
-    a ∙ ap (allOver paid account) same,
-    go (ltb (length lent) (wide * questions)) so-far (e ∙ ap (λ (k : ℕ). cond (ltb k (wide * questions)) left (table left)) same),
-  )
+  pub then-table : left ≡ lentEach wide each mostContracts lent → left′ ≡ lentPlace wide tableQuestion (each tableQuestion) left
+      → left′ ≡ afterAllOver paid account lent
+  then-table so-far e =
+      go (ltb (length lent) (wide * questions)) so-far (e ∙ ap (λ (k : ℕ). cond (ltb k (wide * questions)) left (table left)) same)
     where
       go : (t : Bool) → left ≡ cond t lent (afterEach wide each mostContracts lent) → left′ ≡ cond t left (table left)
           → left′ ≡ cond (notRefused (cond t (TooFewNumbers (length account)) Accepted)) (afterEach wide each questions lent) lent

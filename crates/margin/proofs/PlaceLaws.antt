@@ -180,21 +180,3 @@ pub put-place : {A : Type 0} (width at : ℕ) (out part : List A) (change : List
 put-place width at out part change e =
     let k : at + width - at ≡ width = omega arith in
     ap₂ (λ ys zs. take at out ++ (ys ++ zs)) (e ∙ ap (λ (n : ℕ). change (take n (drop at out))) k) (post-is at (at + width) out (omega arith))
-
-module _ (width : ℕ) (after : ℕ → List ℤ → List ℤ) where
-  abbrev pub EachAnswered : Answer → List ℤ → List Record → List ℤ → Type 0
-  EachAnswered a left account lent = (a ≡ eachOver width account (length lent)) × (left ≡ afterEachOver width after account lent)
-
-  pub each-too-few : (account : List Record) (lent : List ℤ) (k : ℕ) → length lent < width * questions → k ≡ length account
-      → EachAnswered (TooFewNumbers k) lent account lent
-  each-too-few account lent k h e =
-      let a : eachOver width account (length lent) ≡ TooFewNumbers k = ap (λ (t : Bool). cond t (TooFewNumbers (length account)) Accepted)
-      (lt-ltb (length lent) (width * questions) h) ∙ ap TooFewNumbers (sym e) in
-      (sym a, sym (ap (λ (x : Answer). cond (notRefused x) (afterEach width after questions lent) lent) a))
-
-  pub each-accepted : (account : List Record) (lent left : List ℤ) → width * questions ≤ length lent → left ≡ afterEach width after questions lent
-      → EachAnswered Accepted left account lent
-  each-accepted account lent left h e =
-      let a : eachOver width account (length lent) ≡ Accepted = ap (λ (t : Bool). cond t (TooFewNumbers (length account)) Accepted)
-      (le-ltb (length lent) (width * questions) h) in
-      (sym a, e ∙ sym (ap (λ (x : Answer). cond (notRefused x) (afterEach width after questions lent) lent) a))

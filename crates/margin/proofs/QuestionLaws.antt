@@ -88,6 +88,13 @@ figures-front account out room =
     sym (accepted-with (answerOver account Figures (length out)) (figures account) out _ (length (figures account))
     (asked-many account Figures (length out) refl room) refl (sets-front (figures account) out room) .1)
 
+-- and where too few are lent they stay as they are
+pub figures-refused : (account : List Record) (out : List ℤ) (records : ℕ) → records ≡ length account → length out < length (figures account)
+    → Answers (TooFewNumbers records) out (answerOver account Figures (length out)) (figures account) out
+figures-refused account out records n few =
+    refused-with (TooFewNumbers records) _ (figures account) out (asked-few account Figures (length out) refl few ∙ ap TooFewNumbers (sym n))
+    (λ e. omega arith)
+
 -- ---- the total stands last in the figures
 
 last-is : (xs : List ℕ) (x : ℕ) → getD (xs ++ x ∷ []) (length xs) 0 ≡ x

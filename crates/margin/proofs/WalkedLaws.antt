@@ -1,6 +1,6 @@
 -- A walk over an account's contracts: what it has done and what is still to do are the whole.
 -- Assumes nothing.
-use mathlib.Core.Path.{_≡_, refl, sym, _∙_, ap, subst}
+use mathlib.Core.Path.{_≡_, refl, sym, _∙_, ap, ap₂, subst}
 use mathlib.Core.Bool.{true, false}
 use mathlib.Core.List.{List, [], map}
 use Prim.Native.Nat.{ℕ, _+_, _*_, _≤_, _<_, zero-le}
@@ -16,19 +16,18 @@ use Rattle.account.specs.PartNumbers.{entryPart}
 use Rattle.account.specs.Parts.{contractsOf, entriesOf}
 use Rattle.account.specs.code.Standing.{PartOf}
 use Rattle.formulas.specs.declared.line.Line.{Line}
-use Rattle.formulas.specs.Bounds.{mostRisk, figuresEach}
+use Rattle.formulas.specs.Bounds.{mostRisk, figuresEach, longestBook, longestUses}
 use Rattle.formulas.specs.code.Lines.{eightOf, marginWith}
 use Rattle.formulas.proofs.SumLaws as sums
-use Rattle.account.specs.declared.answers.Answer.the-variants.{TooFewNumbers}
-use Rattle.margin.specs.declared.asking.Question.the-variants.{Figures}
 use Rattle.margin.specs.declared.everything.Everything.{Everything}
 use Rattle.margin.specs.Figures as shown
-use Rattle.margin.specs.code.Lent.{ContractLent, ContractsWalked, TabledBy, TableLent, EverythingOf}
+use Rattle.margin.specs.Places.{questions}
+use Rattle.margin.specs.code.Lent.{ContractLent, ContractsWalked, TabledBy, TableLent, lentAnswer, LentAnswers, EverythingLent, EverythingOf}
 use Rattle.margin.specs.code.Tabled.{Placed, TableCleared}
 use Rattle.margin.proofs.FigureLaws.{eightsLeft, totalLeft, eights-next, total-next, eights-done, total-done, figures-written}
 use Rattle.margin.proofs.LentLaws.{LentTo, lent-none, lent-next, lent-all, then-table}
-use Rattle.margin.proofs.NumberLaws.{ToWrite, start, next, finish, sets-front}
-use Rattle.margin.proofs.QuestionLaws.{asked-few, asked-many, refused-with, accepted-with, figures-length}
+use Rattle.margin.proofs.NumberLaws.{ToWrite, start, next, finish}
+use Rattle.margin.proofs.QuestionLaws.{figures-length, figures-front, figures-refused}
 use Rattle.margin.proofs.TabledLaws.{TabledTo, tabled-start, tabled-next, tabled-all, sets-same, sets-stand}
 
 -- the first i of n contracts are in their places; without intercontract spreads their eight numbers and the sum of their margins are the figures'
@@ -117,39 +116,38 @@ module _ {whole : List Record} {figures₀ books₀ uses₀ figures books uses :
         uncredited = λ none. sets-stand (shown.figures whole) figures₀ figures room same (walked .uncredited none);
       }
 
-  -- everything is answered
-  pub walked-everything : {r : Everything} {figures′ books′ uses′ : List ℤ} → length books ≡ length books₀ → length uses ≡ length uses₀
-      → TableLent whole figures books uses r figures′ books′ uses′ → EverythingOf whole figures₀ books₀ uses₀ r figures′ books′ uses′
-  walked-everything {r} {figures′} {books′} {uses′} books-same uses-same t =
+  -- everything is lent
+  pub walked-everything : {figures′ books′ uses′ : List ℤ} → length books ≡ length books₀ → length uses ≡ length uses₀
+      → TableLent whole figures books uses figures′ books′ uses′ → EverythingLent whole figures₀ books₀ uses₀ figures′ books′ uses′
+  walked-everything {figures′} {books′} {uses′} books-same uses-same t =
       let many = figures-length whole in
-      let f = accepted-with _ (shown.figures whole) figures₀ figures′ (length (shown.figures whole))
-      (asked-many whole Figures (length figures₀) refl room) refl
-      (t .figures-after
-      ∙ sets-same (shown.figures whole) figures₀ figures (length (contractsOf whole) * figuresEach + 1) same room (omega arith) (walked .table .beyond)
-      ∙ sets-front (shown.figures whole) figures₀ room) in
-      let b = then-table whole false books₀ books books′ books-same (r .books) (walked .book) (t .books-answer) (t .book) in
-      let u = then-table whole true uses₀ uses uses′ uses-same (r .uses) (walked .paid) (t .uses-answer) (t .paid) in
       record {
-        figures-answer = t .figures-answer ∙ f .0;
-        figures-after = f .1;
-        books-answer = b .0;
-        books-after = b .1;
-        uses-answer = u .0;
-        uses-after = u .1;
+        figures-after =
+            t .figures-after
+            ∙ sets-same (shown.figures whole) figures₀ figures (length (contractsOf whole) * figuresEach + 1) same room (omega arith) (walked .table .beyond)
+            ∙ sym (figures-front whole figures₀ room);
+        books-after = then-table whole false books₀ books books′ books-same (walked .book) (t .book);
+        uses-after = then-table whole true uses₀ uses uses′ uses-same (walked .paid) (t .paid);
       }
 
 -- where too few numbers are lent for the figures they go elsewhere, and those lent stay as they are
-pub unlent-everything : {whole : List Record} {count : ℕ} {figures unlent books uses unlent′ books′ uses′ : List ℤ} {r : Everything} → count ≡ length whole
-    → length figures < length (shown.figures whole) → EverythingOf whole unlent books uses r unlent′ books′ uses′
-    → EverythingOf whole figures books uses (record { figures = TooFewNumbers count; books = r .books; uses = r .uses }) figures books′ uses′
-unlent-everything {whole} {count} {figures} n few i =
-    let f = refused-with (TooFewNumbers count) _ (shown.figures whole) figures
-    (asked-few whole Figures (length figures) refl few ∙ ap TooFewNumbers (sym n)) (λ e. omega arith) in
+pub unlent-everything : {whole : List Record} {figures unlent books uses unlent′ books′ uses′ : List ℤ} → length figures < length (shown.figures whole)
+    → EverythingLent whole unlent books uses unlent′ books′ uses′ → EverythingLent whole figures books uses figures books′ uses′
+unlent-everything {whole} {figures} few i =
     record {
-      figures-answer = f .0;
-      figures-after = f .1;
-      books-answer = i .books-answer;
+      figures-after = figures-refused whole figures _ refl few .1;
       books-after = i .books-after;
-      uses-answer = i .uses-answer;
       uses-after = i .uses-after;
+    }
+
+-- what is answered, by how many numbers are needed and lent
+pub answered-everything : {whole : List Record} {records needed : ℕ} {figures books uses figures′ books′ uses′ : List ℤ} {r : Everything}
+    → records ≡ length whole → needed ≡ length (shown.figures whole) → LentAnswers records needed (length figures) (length books) (length uses) r
+    → EverythingLent whole figures books uses figures′ books′ uses′ → EverythingOf whole figures books uses r figures′ books′ uses′
+answered-everything {whole} {records} {needed} {figures} {books} {uses} n k a l =
+    record {
+      lent = l;
+      figures-answer = a .of-figures ∙ ap₂ (λ (m i : ℕ). lentAnswer m i (length figures)) n k;
+      books-answer = a .of-books ∙ ap (λ (m : ℕ). lentAnswer m (longestBook * questions) (length books)) n;
+      uses-answer = a .of-uses ∙ ap (λ (m : ℕ). lentAnswer m (longestUses * questions) (length uses)) n;
     }

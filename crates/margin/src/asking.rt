@@ -4,8 +4,8 @@ use crate::books::book_count;
 use crate::books::contract_count;
 use crate::books::put_asked;
 use crate::books::run_contract;
-use crate::everything::everything_from;
-use crate::everything::everything_over;
+use crate::everything::put_from;
+use crate::everything::put_over;
 use crate::over::TABLE;
 use crate::over::asking_over;
 use crate::over::figures_count;
@@ -96,10 +96,13 @@ fn answer_figures<'a>(
     ensures { λ r. ⌜ (r ≡ answerOver (accountOf (now (morning .entry)) (now (noon .entry))) Figures (length (now (out .entry))))
         × (now (out .exit) ≡ afterOver (accountOf (now (morning .entry)) (now (noon .entry))) Figures (now (out .entry))) ⌝ }
 {
+    if out.len() < figures_count(account) {
+        return Answer::TooFewNumbers(record_total(account));
+    }
     let mut books = [0i64; 0];
     let mut uses = [0i64; 0];
-    let all = everything_over(morning, noon, account, out, &mut books, &mut uses);
-    all.figures
+    put_over(morning, noon, account, out, &mut books, &mut uses);
+    Answer::Accepted
 }
 
 // The book of a contract that is listed, by its records in the files.
@@ -179,9 +182,12 @@ fn figures_answer<'a>(
     ensures { λ r. ⌜ ((whole : List Record) → PositionsTell (accountOf (now (morning .entry)) (now (noon .entry))) positions whole
         → (r ≡ answerOver whole Figures (length (now (out .entry)))) × (now (out .exit) ≡ afterOver whole Figures (now (out .entry)))) ⌝ }
 {
+    if out.len() < figures_count(account) {
+        return Answer::TooFewNumbers(positions.records);
+    }
     let mut books = [0i64; 0];
     let mut uses = [0i64; 0];
-    let all = everything_from(
+    put_from(
         morning,
         noon,
         account,
@@ -190,7 +196,7 @@ fn figures_answer<'a>(
         &mut books,
         &mut uses,
     );
-    all.figures
+    Answer::Accepted
 }
 
 fn question_answer<'a>(

@@ -49,7 +49,7 @@ use spread::Table;
 use spread::plain::deltas_from;
 use spread::plain::plain;
 ghost use mathlib.Core.Path.{_≡_};
-ghost use mathlib.Core.Bool.{true, false};
+ghost use mathlib.Core.Bool.{true};
 ghost use mathlib.Core.List.{List, map};
 ghost use Prim.Native.Nat.{_+_, _*_, _≤_, _<_};
 ghost use lib.IntN.{pos, natAbs};
@@ -72,11 +72,11 @@ ghost use Rattle.formulas.specs.code.Position.{positionIn};
 ghost use Rattle.formulas.specs.code.Promised.{BookFit, BookOf, BookRoom, LineOf, PositionFit, contractWith};
 ghost use Rattle.margin.specs.Books.{tableQuestion};
 ghost use Rattle.margin.specs.Figures.{accountTotal};
-ghost use Rattle.margin.specs.Places.{questions, lentPlace, allOver};
+ghost use Rattle.margin.specs.Places.{questions, lentPlace};
 ghost use Rattle.margin.specs.Questions.{afterOver};
 ghost use Rattle.margin.specs.code.Asked.{BookIs};
 ghost use Rattle.margin.specs.code.Beside.{ownOf, TiersOver, TiersKnown, Unspread};
-ghost use Rattle.margin.specs.code.Lent.{ContractLent, ContractsWalked, TabledBy, TabledKnown, TableLent, EverythingOf};
+ghost use Rattle.margin.specs.code.Lent.{ContractLent, ContractsWalked, TabledBy, TabledKnown, TableLent, lentAnswer, LentAnswers, EverythingLent, EverythingOf};
 ghost use Rattle.margin.specs.code.Positions.{PositionsTell, Known, ContractIn};
 ghost use Rattle.margin.specs.code.Tabled.{TableCleared};
 ghost use Rattle.margin.specs.declared.asking.Question.the-variants.{Book, Uses};
@@ -399,14 +399,14 @@ fn lend_table_uses(
     tiers: &[u8; MOST_PROMPTS],
     nets: &[i64; MOST_PROMPTS],
     out: &mut [i64],
-) -> Answer
+)
     requires { ⌜ TiersKnown (now entries) (promptsIn count (now tiers) (now nets)) ⌝ }
-    ensures { λ r. ⌜ ((whole : List Record) → TiersOver (now (entries .entry)) (promptsIn count (now (tiers .entry)) (now (nets .entry))) whole
-        → records ≡ length whole → (r ≡ allOver true whole (length (now (out .entry))))
-        × (now (out .exit) ≡ lentPlace longestUses tableQuestion (afterOver whole (Uses tableQuestion)) (now (out .entry)))) ⌝ }
+    ensures { λ _. ⌜ ((whole : List Record) → TiersOver (now (entries .entry)) (promptsIn count (now (tiers .entry)) (now (nets .entry))) whole
+        → records ≡ length whole
+        → now (out .exit) ≡ lentPlace longestUses tableQuestion (afterOver whole (Uses tableQuestion)) (now (out .entry))) ⌝ }
 {
     if out.len() < ALL_USES {
-        return Answer::TooFewNumbers(records);
+        return;
     }
     let prompts = Prompts {
         count: count,
@@ -417,12 +417,10 @@ fn lend_table_uses(
     let start = LONGEST_USES * TABLE;
     let end = start + LONGEST_USES;
     answer_uses(records, asking, &mut out[start..end]);
-    Answer::Accepted
 }
 
 // The book of the table that was run, likewise.
 fn lend_table_book(
-    records: usize,
     count: usize,
     tiers: &[u8; MOST_PROMPTS],
     nets: &[i64; MOST_PROMPTS],
@@ -432,17 +430,16 @@ fn lend_table_book(
     used: &[i64; MOST_PROMPTS],
     unused: &[i64; MOST_PROMPTS],
     out: &mut [i64],
-) -> Answer
+)
     requires { ⌜ (sound (promptsIn count (now tiers) (now nets)) table ≡ true)
         × (((length (now tiers) ≡ promptPlaces) × (length (now nets) ≡ promptPlaces))
         × Booked (promptsIn count (now tiers) (now nets)) table (bookIn (now first) (now second) (now used) (now unused))) ⌝ }
-    ensures { λ r. ⌜ ((whole : List Record) → records ≡ length whole
+    ensures { λ _. ⌜ ((whole : List Record)
         → BookIs whole tableQuestion (stepsOf table) (openOf (promptsIn count (now (tiers .entry)) (now (nets .entry))))
-        → (r ≡ allOver false whole (length (now (out .entry))))
-        × (now (out .exit) ≡ lentPlace longestBook tableQuestion (afterOver whole (Book tableQuestion)) (now (out .entry)))) ⌝ }
+        → now (out .exit) ≡ lentPlace longestBook tableQuestion (afterOver whole (Book tableQuestion)) (now (out .entry))) ⌝ }
 {
     if out.len() < ALL_BOOKS {
-        return Answer::TooFewNumbers(records);
+        return;
     }
     let start = LONGEST_BOOK * TABLE;
     let end = start + LONGEST_BOOK;
@@ -457,38 +454,20 @@ fn lend_table_book(
         used,
         unused,
     );
-    Answer::Accepted
 }
 
 // The book of a table without spreads in its place, by the net deltas of so many contracts.
-fn lend_unspread(
-    records: usize,
-    count: usize,
-    nets: &[i64; MOST_PROMPTS],
-    out: &mut [i64],
-) -> Answer
+fn lend_unspread(count: usize, nets: &[i64; MOST_PROMPTS], out: &mut [i64])
     requires { ⌜ (count ≤ mostContracts) × (length (now nets) ≡ promptPlaces) ⌝ }
-    ensures { λ r. ⌜ ((whole : List Record) → Unspread whole records count (now (nets .entry))
-        → (r ≡ allOver false whole (length (now (out .entry))))
-        × (now (out .exit) ≡ lentPlace longestBook tableQuestion (afterOver whole (Book tableQuestion)) (now (out .entry)))) ⌝ }
+    ensures { λ _. ⌜ ((whole : List Record) → Unspread whole count (now (nets .entry))
+        → now (out .exit) ≡ lentPlace longestBook tableQuestion (afterOver whole (Book tableQuestion)) (now (out .entry))) ⌝ }
 {
     if out.len() < ALL_BOOKS {
-        return Answer::TooFewNumbers(records);
+        return;
     }
     let start = LONGEST_BOOK * TABLE;
     let end = start + LONGEST_BOOK;
     put_unspread(&mut out[start..end], count, nets);
-    Answer::Accepted
-}
-
-// What all uses are answered where so many numbers are lent.
-fn uses_answer(records: usize, lent: usize) -> Answer
-    ensures { λ r. ⌜ ((whole : List Record) → records ≡ length whole → r ≡ allOver true whole lent) ⌝ }
-{
-    if lent < ALL_USES {
-        return Answer::TooFewNumbers(records);
-    }
-    Answer::Accepted
 }
 
 // The figures of an account whose contracts are in their places, and the book and the uses of its intercontract table in theirs. Without
@@ -505,20 +484,17 @@ fn table_over(
     figures: &mut [i64],
     books: &mut [i64],
     uses: &mut [i64],
-) -> Everything
+)
     requires { ⌜ (figuresEach * count + 1 ≤ length (now figures))
         × TabledKnown (now entries) count records (now figures) (now tiers) (now nets) (now units) (now prices) (now sizes) ⌝ }
-    ensures { λ r. ⌜ ((whole : List Record) → TabledBy (now (entries .entry)) count records (now (figures .entry)) (now (tiers .entry))
+    ensures { λ _. ⌜ ((whole : List Record) → TabledBy (now (entries .entry)) count records (now (figures .entry)) (now (tiers .entry))
         (now (nets .entry)) (now (units .entry)) (now (prices .entry)) (now (sizes .entry)) whole
-        → TableLent whole (now (figures .entry)) (now (books .entry)) (now (uses .entry)) r (now (figures .exit)) (now (books .exit))
+        → TableLent whole (now (figures .entry)) (now (books .entry)) (now (uses .entry)) (now (figures .exit)) (now (books .exit))
         (now (uses .exit))) ⌝ }
 {
     if entries.len() < RECORD_BYTES {
-        return Everything {
-            figures: Answer::Accepted,
-            books: lend_unspread(records, count, nets, books),
-            uses: uses_answer(records, uses.len()),
-        };
+        lend_unspread(count, nets, books);
+        return;
     }
     let table = intercontract_table(entries);
     let mut first = [0; MOST_SPREADS];
@@ -545,36 +521,32 @@ fn table_over(
         &second,
         figures,
     );
-    Everything {
-        figures: Answer::Accepted,
-        books: lend_table_book(
-            records,
-            count,
-            tiers,
-            nets,
-            table,
-            &first,
-            &second,
-            &used,
-            &unused,
-            books,
-        ),
-        uses: lend_table_uses(entries, records, count, tiers, nets, uses),
-    }
+    lend_table_book(
+        count,
+        tiers,
+        nets,
+        table,
+        &first,
+        &second,
+        &used,
+        &unused,
+        books,
+    );
+    lend_table_uses(entries, records, count, tiers, nets, uses);
 }
 
 // Everything of an account, where enough numbers are lent for the figures.
-fn put_over<'a>(
+pub(crate) fn put_over<'a>(
     morning: &'a [u8],
     noon: &'a [u8],
     account: Account,
     figures: &mut [i64],
     books: &mut [i64],
     uses: &mut [i64],
-) -> Everything
+)
     requires { ⌜ Stands (now morning) (now noon) account × (figuresEach * account .contracts + 1 ≤ length (now figures)) ⌝ }
-    ensures { λ r. ⌜ EverythingOf (accountOf (now (morning .entry)) (now (noon .entry))) (now (figures .entry)) (now (books .entry))
-        (now (uses .entry)) r (now (figures .exit)) (now (books .exit)) (now (uses .exit)) ⌝ }
+    ensures { λ _. ⌜ EverythingLent (accountOf (now (morning .entry)) (now (noon .entry))) (now (figures .entry)) (now (books .entry))
+        (now (uses .entry)) (now (figures .exit)) (now (books .exit)) (now (uses .exit)) ⌝ }
 {
     let mut tiers = [0u8; MOST_PROMPTS];
     let mut nets = [0i64; MOST_PROMPTS];
@@ -606,11 +578,11 @@ fn put_over<'a>(
         figures,
         books,
         uses,
-    )
+    );
 }
 
 // The same by positions, of an account that but for its rows stands in the files.
-fn put_from<'a>(
+pub(crate) fn put_from<'a>(
     morning: &'a [u8],
     noon: &'a [u8],
     account: Account,
@@ -618,11 +590,11 @@ fn put_from<'a>(
     figures: &mut [i64],
     books: &mut [i64],
     uses: &mut [i64],
-) -> Everything
+)
     requires { ⌜ Stands (now morning) (now noon) account × (Known (accountOf (now morning) (now noon)) positions
         × (figuresEach * account .contracts + 1 ≤ length (now figures))) ⌝ }
-    ensures { λ r. ⌜ ((whole : List Record) → PositionsTell (accountOf (now (morning .entry)) (now (noon .entry))) positions whole
-        → EverythingOf whole (now (figures .entry)) (now (books .entry)) (now (uses .entry)) r (now (figures .exit)) (now (books .exit)) (now (uses .exit))) ⌝ }
+    ensures { λ _. ⌜ ((whole : List Record) → PositionsTell (accountOf (now (morning .entry)) (now (noon .entry))) positions whole
+        → EverythingLent whole (now (figures .entry)) (now (books .entry)) (now (uses .entry)) (now (figures .exit)) (now (books .exit)) (now (uses .exit))) ⌝ }
 {
     let mut tiers = [0u8; MOST_PROMPTS];
     let mut nets = [0i64; MOST_PROMPTS];
@@ -655,10 +627,80 @@ fn put_from<'a>(
         figures,
         books,
         uses,
-    )
+    );
 }
 
-// The same however many numbers are lent for the figures: a refusal of the figures writes none of them.
+// The same however many numbers are lent for the figures: where they are too few, none of them is written.
+fn lend_over<'a>(
+    morning: &'a [u8],
+    noon: &'a [u8],
+    account: Account,
+    figures: &mut [i64],
+    books: &mut [i64],
+    uses: &mut [i64],
+)
+    requires { ⌜ Stands (now morning) (now noon) account ⌝ }
+    ensures { λ _. ⌜ EverythingLent (accountOf (now (morning .entry)) (now (noon .entry))) (now (figures .entry)) (now (books .entry))
+        (now (uses .entry)) (now (figures .exit)) (now (books .exit)) (now (uses .exit)) ⌝ }
+{
+    if figures_count(account) <= figures.len() {
+        put_over(morning, noon, account, figures, books, uses);
+        return;
+    }
+    let mut unlent = [0i64; LONGEST_FIGURES];
+    put_over(morning, noon, account, &mut unlent, books, uses);
+}
+
+// The same by positions.
+fn lend_from<'a>(
+    morning: &'a [u8],
+    noon: &'a [u8],
+    account: Account,
+    positions: Positions,
+    figures: &mut [i64],
+    books: &mut [i64],
+    uses: &mut [i64],
+)
+    requires { ⌜ Stands (now morning) (now noon) account × Known (accountOf (now morning) (now noon)) positions ⌝ }
+    ensures { λ _. ⌜ ((whole : List Record) → PositionsTell (accountOf (now (morning .entry)) (now (noon .entry))) positions whole
+        → EverythingLent whole (now (figures .entry)) (now (books .entry)) (now (uses .entry)) (now (figures .exit)) (now (books .exit)) (now (uses .exit))) ⌝ }
+{
+    if figures_count(account) <= figures.len() {
+        put_from(morning, noon, account, positions, figures, books, uses);
+        return;
+    }
+    let mut unlent = [0i64; LONGEST_FIGURES];
+    put_from(morning, noon, account, positions, &mut unlent, books, uses);
+}
+
+// What is answered where so many numbers are needed and so many lent.
+fn lent_answer(records: usize, needed: usize, lent: usize) -> Answer
+    ensures { λ r. ⌜ r ≡ lentAnswer records needed lent ⌝ }
+{
+    if lent < needed {
+        return Answer::TooFewNumbers(records);
+    }
+    Answer::Accepted
+}
+
+// What everything is answered where so many numbers are needed for the figures, and so many lent for each.
+fn lent_answers(
+    records: usize,
+    needed: usize,
+    figures: usize,
+    books: usize,
+    uses: usize,
+) -> Everything
+    ensures { λ r. ⌜ LentAnswers records needed figures books uses r ⌝ }
+{
+    Everything {
+        figures: lent_answer(records, needed, figures),
+        books: lent_answer(records, ALL_BOOKS, books),
+        uses: lent_answer(records, ALL_USES, uses),
+    }
+}
+
+// Everything of an account, and what it is answered.
 pub fn everything_over<'a>(
     morning: &'a [u8],
     noon: &'a [u8],
@@ -671,18 +713,15 @@ pub fn everything_over<'a>(
     ensures { λ r. ⌜ EverythingOf (accountOf (now (morning .entry)) (now (noon .entry))) (now (figures .entry)) (now (books .entry))
         (now (uses .entry)) r (now (figures .exit)) (now (books .exit)) (now (uses .exit)) ⌝ }
 {
-    if figures_count(account) <= figures.len() {
-        return put_over(morning, noon, account, figures, books, uses);
-    }
-    let mut unlent = [0i64; LONGEST_FIGURES];
-    let all = put_over(morning, noon, account, &mut unlent, books, uses);
-    let of_books = all.books;
-    let of_uses = all.uses;
-    Everything {
-        figures: Answer::TooFewNumbers(record_total(account)),
-        books: of_books,
-        uses: of_uses,
-    }
+    let answers = lent_answers(
+        record_total(account),
+        figures_count(account),
+        figures.len(),
+        books.len(),
+        uses.len(),
+    );
+    lend_over(morning, noon, account, figures, books, uses);
+    answers
 }
 
 // The same by positions.
@@ -699,18 +738,15 @@ pub fn everything_from<'a>(
     ensures { λ r. ⌜ ((whole : List Record) → PositionsTell (accountOf (now (morning .entry)) (now (noon .entry))) positions whole
         → EverythingOf whole (now (figures .entry)) (now (books .entry)) (now (uses .entry)) r (now (figures .exit)) (now (books .exit)) (now (uses .exit))) ⌝ }
 {
-    if figures_count(account) <= figures.len() {
-        return put_from(morning, noon, account, positions, figures, books, uses);
-    }
-    let mut unlent = [0i64; LONGEST_FIGURES];
-    let all = put_from(morning, noon, account, positions, &mut unlent, books, uses);
-    let of_books = all.books;
-    let of_uses = all.uses;
-    Everything {
-        figures: Answer::TooFewNumbers(positions.records),
-        books: of_books,
-        uses: of_uses,
-    }
+    let answers = lent_answers(
+        positions.records,
+        figures_count(account),
+        figures.len(),
+        books.len(),
+        uses.len(),
+    );
+    lend_from(morning, noon, account, positions, figures, books, uses);
+    answers
 }
 
 // The total of the margins, which stands last in the figures.
@@ -730,7 +766,7 @@ pub fn total_over<'a>(morning: &'a [u8], noon: &'a [u8], account: Account) -> Am
     let mut figures = [0i64; LONGEST_FIGURES];
     let mut books = [0i64; 0];
     let mut uses = [0i64; 0];
-    everything_over(morning, noon, account, &mut figures, &mut books, &mut uses);
+    put_over(morning, noon, account, &mut figures, &mut books, &mut uses);
     total_in(account, &figures)
 }
 
@@ -748,7 +784,7 @@ pub fn total_from<'a>(
     let mut figures = [0i64; LONGEST_FIGURES];
     let mut books = [0i64; 0];
     let mut uses = [0i64; 0];
-    everything_from(
+    put_from(
         morning,
         noon,
         account,

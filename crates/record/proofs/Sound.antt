@@ -12,6 +12,22 @@ use Rattle.record.specs.Layout.{kind, contract, fieldsOf}
 use Rattle.record.specs.Ranges.{unusedBeside, outsideAmong, unusedByte, fieldOutside, ofKindAndContract, soundRecord}
 use Rattle.record.proofs.Within.{both-true, neither}
 
+and-true : (a : Bool) → a && true ≡ a
+and-true true = refl
+and-true false = refl
+
+and-false : (a : Bool) → a && false ≡ false
+and-false true = refl
+and-false false = refl
+
+-- one test more among those that a record must not meet
+pub but-for : (b u h l m : Bool) → b && not (u || ((h || not m) || l)) ≡ (b && not (u || (h || l))) && m
+but-for false u h l m = refl
+but-for true true h l m = refl
+but-for true false true l m = refl
+but-for true false false l true = sym (and-true (not l))
+but-for true false false l false = sym (and-false (not l))
+
 module _ (n c : ℕ) (r : Record) where
   pub sound-short : leb recordBytes (length r) ≡ false → false ≡ soundRecord n c r
   sound-short h = rw h

@@ -15,6 +15,18 @@ pub or-false : (a : Bool) → a || false ≡ a
 or-false true = refl
 or-false false = refl
 
+pub or-true : (a : Bool) → a || true ≡ true
+or-true true = refl
+or-true false = refl
+
+-- a test beside the third of several, taken out behind them all
+pub or-inside : (a b c d e : Bool) → a || (b || ((c || d) || e)) ≡ (a || (b || (c || e))) || d
+or-inside true b c d e = refl
+or-inside false true c d e = refl
+or-inside false false true d e = refl
+or-inside false false false true e = sym (or-true e)
+or-inside false false false false e = sym (or-false e)
+
 pub last : {a b : Bool} → a ≡ b → a ≡ b || false
 last {a} {b} p = p ∙ sym (or-false b)
 

@@ -1,5 +1,7 @@
 // What each field of a whole record may hold.
 ghost use mathlib.Core.Path.{_≡_};
+ghost use mathlib.Core.Bool.{cond, not, _||_};
+ghost use lib.Dec.{eqb};
 ghost use mathlib.Core.List.{map};
 ghost use Prim.Native.Nat.{_<_, _≤_};
 ghost use lib.IntN.{pos, negℤ};
@@ -7,7 +9,7 @@ ghost use Rattle.record.specs.Bytes.{plain, signed, countFrom};
 ghost use lib.ListN.{length};
 ghost use Rattle.record.specs.Layout.{recordBytes, contractRange, dayRange, tierRange, rateRange, ratioRange, entryRatioRange, hundredThousands};
 ghost use Rattle.record.specs.Layout.{contractFields, promptFields, rowHead, spreadFields, entryFields, rateFields, strikeField, deltaField, forward};
-ghost use Rattle.record.specs.Layout.{put, lossField, legFields, thirdLeg, scenarioCount};
+ghost use Rattle.record.specs.Layout.{put, lossField, legFields, thirdLeg, scenarioCount, currency, currencyField, mostCurrency};
 ghost use Rattle.record.specs.Ranges as Ranges;
 ghost use Rattle.record.specs.Ranges.{outside, outsideAmong};
 use crate::bytes::byte_in;
@@ -126,14 +128,28 @@ pub(crate) fn losses_beyond(r: &[u8]) -> bool
     outside
 }
 
-// The fields of a row before its losses.
-pub(crate) fn row_head_outside(r: &[u8]) -> bool
+// The highest currency that a row may be in, where it may be in another than the margin's or not.
+fn most_currency(other: bool) -> usize
+    ensures { λ n. ⌜ n ≡ cond other mostCurrency 0 ⌝ }
+{
+    if other { 7 } else { 0 }
+}
+
+fn currency_beyond(r: &[u8], other: bool) -> bool
     requires { ⌜ recordBytes ≤ length (now r) ⌝ }
-    ensures { λ b. ⌜ b ≡ outsideAmong (rowHead (now (r .entry))) (now (r .entry)) ⌝ }
+    ensures { λ b. ⌜ b ≡ outside (now (r .entry)) currencyField || not (other || eqb (currency (now (r .entry))) 0) ⌝ }
+{
+    beyond(byte_in(r, layout::CURRENCY), 0, most_currency(other))
+}
+
+// The fields of a row before its losses, its currency being another than the margin's only where `other` lets it be.
+pub(crate) fn row_head_outside(r: &[u8], other: bool) -> bool
+    requires { ⌜ recordBytes ≤ length (now r) ⌝ }
+    ensures { λ b. ⌜ b ≡ outsideAmong (rowHead (now (r .entry))) (now (r .entry)) || not (other || eqb (currency (now (r .entry))) 0) ⌝ }
 {
     contract_beyond(byte_in(r, layout::CONTRACT))
         | (beyond(byte_in(r, layout::ROW_TYPE), 0, 2)
-            | (beyond(byte_in(r, layout::CURRENCY), 0, 7)
+            | (currency_beyond(r, other)
                 | (day_beyond(u32_in(r, layout::DAY))
                     | (strike_beyond(r)
                         | (too_many(u32_in(r, layout::LOTS))

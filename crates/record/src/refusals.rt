@@ -1,9 +1,11 @@
 // The refusals that a record gets by itself: 3, 5 and 6; and whole records that get none of them.
 ghost use mathlib.Core.Path.{_≡_};
+ghost use mathlib.Core.Bool.{_&&_, _||_};
+ghost use lib.Dec.{eqb};
 ghost use Prim.Native.Nat.{ℕ, _≤_, _<_};
 ghost use lib.ListN.{length};
 ghost use Rattle.record.specs.Bytes.{recordBytes, byteAt};
-ghost use Rattle.record.specs.Layout.{contract};
+ghost use Rattle.record.specs.Layout.{contract, currency};
 ghost use Rattle.record.specs.Ranges.{unknownKind, unusedByte, fieldOutside, ofKindAndContract, soundRecord};
 use crate::bytes::RECORD_BYTES;
 use crate::bytes::byte_in;
@@ -82,7 +84,7 @@ fn whole_field_outside(r: &[u8]) -> bool
         return ranges::prompt_outside(r);
     }
     if k == 3 {
-        return ranges::row_head_outside(r) | ranges::losses_beyond(r);
+        return ranges::row_head_outside(r, true) | ranges::losses_beyond(r);
     }
     if k == 4 {
         return ranges::spread_outside(r);
@@ -124,14 +126,15 @@ pub fn sound_prompt(r: &[u8], c: usize) -> bool
     is_of(r, 2, c) & !(unused::beside_prompt(r) | ranges::prompt_outside(r))
 }
 
-pub fn sound_row(r: &[u8], c: usize) -> bool
-    ensures { λ b. ⌜ b ≡ soundRecord 3 c (now (r .entry)) ⌝ }
+// A row, in another currency than the margin's only where `other` lets it be.
+pub fn sound_row(r: &[u8], c: usize, other: bool) -> bool
+    ensures { λ b. ⌜ b ≡ soundRecord 3 c (now (r .entry)) && (other || eqb (currency (now (r .entry))) 0) ⌝ }
 {
     if r.len() < RECORD_BYTES {
         return false;
     }
     is_of(r, 3, c)
-        & !(unused::beside_row(r) | (ranges::row_head_outside(r) | ranges::losses_beyond(r)))
+        & !(unused::beside_row(r) | (ranges::row_head_outside(r, other) | ranges::losses_beyond(r)))
 }
 
 pub fn sound_spread(r: &[u8], c: usize) -> bool

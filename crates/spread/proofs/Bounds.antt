@@ -3,16 +3,20 @@
 use Prim.Native.Nat.{ℕ, zero, suc, _-_, _*_, _≤_, _<_, _^_}
 use native.Mathlib.Nat.{div-le-self, mul-le-mul}
 use native.Mathlib.Omega.{arith}
-use mathlib.Core.Bool.{Bool, true, false}
-use mathlib.Core.List.{List, [], _∷_, map}
+use mathlib.Core.Bool.{Bool, true, false, cond}
+use mathlib.Core.List.{List, [], _∷_}
 use mathlib.Core.Path.{_≡_, ap, subst⁻¹}
-use lib.ListN.{length, getD, set}
+use lib.Dec.{eqb}
+use lib.ListN.{length, getD, set, take}
 use lib.Seq.{take-all}
 use Rattle.exact.specs.Lists.{least}
 use Rattle.spread.specs.Accepted.{openOf, soundPrompts, promptPlaces}
-use Rattle.spread.specs.code.Cells.{cellOf, mostPool, mostNumber, Small, Pooled, poolIn, roomIn, formedIn, lessIn, afterIn, Taken}
+use Rattle.spread.specs.code.Cells.{cellOf, mostPool, mostNumber, Small, Pooled, poolIn, formedIn, lessIn, afterIn, Taken}
+use Rattle.spread.specs.code.Pools.{PoolsOf, SmallPools, legAt, takerAt, roomAt, formedOf}
 use Rattle.spread.specs.Steps.{Taker, pool, room, legTakes}
 use Rattle.spread.specs.declared.Prompts.{Prompts}
+use Rattle.spread.specs.declared.Spread.{Spread}
+use Rattle.spread.specs.declared.pools.Pools.{Pools}
 use Rattle.spread.proofs.Every.{open-length}
 use Rattle.spread.proofs.Gathering.{few, all-sound, pool-most}
 
@@ -51,12 +55,23 @@ pub least-first : (x : ℕ) (xs : List ℕ) → least (x ∷ xs) ≤ x
 least-first x [] = omega arith
 least-first x (y ∷ ys) = omega arith
 
-pub formed-most : (ks : List Taker) (cells : List ℕ) → Small cells → formedIn ks cells ≤ mostNumber
-formed-most [] cells h = omega arith
-formed-most (k ∷ ks) cells h =
-    let a = least-first (roomIn cells k) (map (roomIn cells) ks) in
-    let b = room-most (k .tenths) (poolIn cells k) (k .ratio) (h (k .market) (k .tier)) in
-    omega arith
+-- the same of the pools of a step by value
+
+pub pools-small : (cells : List ℕ) (second : Bool) (s : Spread) (p : Pools) → PoolsOf cells second s p → Small cells → SmallPools p
+pools-small cells second s p h small = (at 0 (h .one), at 1 (h .two), at (cond (eqb (s .legs) 2) 0 2) (h .three))
+  where
+    at : {n : ℕ} (k : ℕ) → n ≡ poolIn cells (takerAt second s k) → n ≤ mostPool
+    at k e = subst⁻¹ (λ (x : ℕ). x ≤ mostPool) e (small (takerAt second s k .market) (takerAt second s k .tier))
+
+pub formed-most : (s : Spread) (p : Pools) → SmallPools p → formedOf s p ≤ mostNumber
+formed-most s p h = go (s .legs)
+  where
+    go : (n : ℕ) → least (take n (roomAt s 0 (p .one) ∷ roomAt s 1 (p .two) ∷ roomAt s 2 (p .three) ∷ [])) ≤ mostNumber
+    go zero = omega arith
+    go (suc n) =
+        let a = least-first (roomAt s 0 (p .one)) (take n (roomAt s 1 (p .two) ∷ roomAt s 2 (p .three) ∷ [])) in
+        let b = room-most (s .tenths) (p .one) (legAt s 0 .ratio) (h .0) in
+        omega arith
 
 pub product-fits : (number ratio : ℕ) → number ≤ mostNumber → ratio < 65536 → number * ratio < 2 ^ 64
 product-fits number ratio h g = let p : number * ratio ≤ mostNumber * 65535 = mul-le-mul h (below ratio g) in omega arith

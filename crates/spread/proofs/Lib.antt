@@ -22,3 +22,4 @@ pub mod Touching
 pub mod Passing
 pub mod Laying
 pub mod Counting
+pub mod Taking

@@ -13,7 +13,6 @@ use borrow.Author.Tests.{ltb-false}
 use Rattle.exact.specs.Rounding.{halfUp}
 use Rattle.spread.specs.code.Cells.{cellOf, poolIn, lowestIn, formedIn, lessIn, afterIn, Taken}
 use Rattle.spread.specs.Steps.{Taker, room, useOf}
-use Rattle.spread.specs.declared.pools.Pools.{Pools}
 
 pub use-none : (tenths : Bool) (ratio : ℕ) → useOf tenths 0 ratio ≡ 0
 use-none false ratio = zero-mul ratio
@@ -49,26 +48,17 @@ pub record Written (ks : List Taker) (cells left : List ℕ) (i : ℕ) (was now 
   pub taken : Taken ks cells left number
   pub written : now ≡ set was i number
 
-pub written-now : (ks : List Taker) (cells : List ℕ) (took left : Pools) (n i : ℕ) (was now : List ℕ) → Taken ks cells (took .cell) n → left ≡ took
-    → now ≡ set was i n
-    → Written ks cells (left .cell) i was now
-written-now ks cells took left n i was now t e f =
-    record { number = n; taken = record { formed = t .formed; leaves = ap (λ (p : Pools). p .cell) e ∙ t .leaves }; written = f }
-
-pub written-none : (ks : List Taker) (had left : Pools) (i : ℕ) (was now : List ℕ) → ltb 0 (lowestIn (had .cell) ks) ≡ false → left ≡ had → now ≡ was
+pub written-none : (ks : List Taker) (cells left : List ℕ) (i : ℕ) (was now : List ℕ) → ltb 0 (lowestIn cells ks) ≡ false → left ≡ cells → now ≡ was
     → getD was i 0 ≡ 0
-    → Written ks (had .cell) (left .cell) i was now
-written-none ks had left i was now h e f zero-there =
-    let none = formed-none ks (had .cell) (let l = ltb-false 0 (lowestIn (had .cell) ks) h in omega arith) in
+    → Written ks cells left i was now
+written-none ks cells left i was now h e f zero-there =
+    let none = formed-none ks cells (let l = ltb-false 0 (lowestIn cells ks) h in omega arith) in
     record {
       number = 0;
       taken =
           record {
             formed = sym none;
-            leaves =
-                ap (λ (p : Pools). p .cell) e
-                ∙ sym (after-none ks (had .cell))
-                ∙ ap (λ (n : ℕ). afterIn ks n (had .cell)) (sym none);
+            leaves = e ∙ sym (after-none ks cells) ∙ ap (λ (n : ℕ). afterIn ks n cells) (sym none);
           };
       written = f ∙ sym (ap (set was i) (sym zero-there) ∙ set-getD was i 0);
     }

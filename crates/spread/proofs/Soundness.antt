@@ -81,7 +81,7 @@ neither true b e f = absurd (true≢false e)
 neither false b e f = f
 
 module _ (tenths second : Bool) where
-  leg-apart : (l k : Leg) → soundLeg l ≡ true → soundLeg k ≡ true → legsAlike l k ≡ false → draws (marketIn second (l .side)) (l .tier)
+  pub leg-apart : (l k : Leg) → soundLeg l ≡ true → soundLeg k ≡ true → legsAlike l k ≡ false → draws (marketIn second (l .side)) (l .tier)
       (taker tenths (marketIn second) k) ≡ false
   leg-apart l k sl sk h = go (eqb (l .tier) (k .tier)) h
     where
@@ -114,6 +114,9 @@ module _ (tenths second : Bool) where
   step-sound : (ls : List Leg) → soundLegsOf ls ≡ true → soundStep (map (taker tenths (marketIn second)) ls) ≡ true
   step-sound [] e = e
   step-sound (l ∷ ls) e = legs-sound l ls e
+
+apart : (l k : Leg) (ls : List Leg) → soundLegsOf (l ∷ k ∷ ls) ≡ true → legsAlike l k ≡ false
+apart l k ls e = or-left (legsAlike l k) (any (legsAlike l) ls) (others-apart l k ls e)
 
 -- a spread of two legs or of three, leg by leg
 pub with-two : (s : Spread) (d : Leg) → length (s .leg) ≡ 3 → s .legs ≡ 2 → soundSpread s ≡ soundLegsOf (getD (s .leg) 0 d ∷ getD (s .leg) 1 d ∷ [])
@@ -152,6 +155,24 @@ module _ (s : Spread) (d : Leg) (l : length (s .leg) ≡ 3) (e : soundSpread s �
   third-leg three =
       others-sound (getD (s .leg) 1 d) (getD (s .leg) 2 d) []
       (others-sound (getD (s .leg) 0 d) (getD (s .leg) 1 d) (getD (s .leg) 2 d ∷ []) (sym (with-three s d l three) ∙ e))
+
+  pub legs-differ : legsAlike (getD (s .leg) 0 d) (getD (s .leg) 1 d) ≡ false
+  legs-differ =
+      ⊎-elim
+      (λ two. apart (getD (s .leg) 0 d) (getD (s .leg) 1 d) [] (sym (with-two s d l two) ∙ e))
+      (λ three. apart (getD (s .leg) 0 d) (getD (s .leg) 1 d) (getD (s .leg) 2 d ∷ []) (sym (with-three s d l three) ∙ e))
+      (leg-count s e)
+
+  pub third-differs : s .legs ≡ 3
+      → (legsAlike (getD (s .leg) 0 d) (getD (s .leg) 2 d) ≡ false) × (legsAlike (getD (s .leg) 1 d) (getD (s .leg) 2 d) ≡ false)
+  third-differs three =
+      let x = getD (s .leg) 0 d in
+      let y = getD (s .leg) 1 d in
+      let z = getD (s .leg) 2 d in
+      let sound = sym (with-three s d l three) ∙ e in (
+        or-left (legsAlike x z) false (or-right (legsAlike x y) (legsAlike x z || false) (others-apart x y (z ∷ []) sound)),
+        apart y z [] (others-sound x y (z ∷ []) sound),
+      )
 
 pub spread-sound : (second : Bool) (s : Spread) → soundSpread s ≡ true → soundStep (stepOf second s) ≡ true
 spread-sound second s e = step-sound (s .tenths) second (legsIn s) (and-right (eqb (s .legs) 2 || eqb (s .legs) 3) (soundLegsOf (legsIn s)) e)

@@ -10,10 +10,10 @@ use crate::plain::deltas_from;
 use crate::plain::plain;
 use crate::plain::spreads_from;
 use crate::pools::CELLS;
-use crate::pools::Pools;
 use crate::pools::beyond;
 use crate::pools::cell_of;
-use crate::pools::has_room;
+use crate::pools::pools_for;
+use crate::pools::put_back;
 use exact::signed::minus;
 use exact::signed::towards_zero;
 ghost use mathlib.Core.Path.{_≡_};
@@ -44,10 +44,10 @@ pub(crate) fn pool_of(tier: u8, net: Delta) -> usize
 }
 
 // "A tier's long pool is the sum of its positive unused deltas, its short pool that of its negative ones".
-pub(crate) fn pools_of(count: usize, tiers: &[u8], nets: &[i64]) -> Pools
+pub(crate) fn pools_of(count: usize, tiers: &[u8], nets: &[i64]) -> [u64; CELLS]
     requires { ⌜ (soundPrompts (promptsIn count (now tiers) (now nets)) ≡ true)
         × ((length (now tiers) ≡ promptPlaces) × (length (now nets) ≡ promptPlaces)) ⌝ }
-    ensures { λ r. ⌜ Pooled (r .cell) (openOf (promptsIn count (now (tiers .entry)) (now (nets .entry)))) ⌝ }
+    ensures { λ r. ⌜ Pooled r (openOf (promptsIn count (now (tiers .entry)) (now (nets .entry)))) ⌝ }
 {
     let mut cells = [0; CELLS];
     let mut i = 0;
@@ -57,38 +57,39 @@ pub(crate) fn pools_of(count: usize, tiers: &[u8], nets: &[i64]) -> Pools
         cells[cell] = cells[cell] + net.size();
         i += 1;
     }
-    Pools { cell: cells }
+    cells
 }
 
-// "Each spread, in file order, is two steps": the numbers that they form, and the pools that they leave.
+// "Each spread, in file order, is two steps": the numbers that they form, and in the cells the pools that they leave.
 fn run(
-    pools: Pools,
+    cells: &mut [u64; CELLS],
     table: Table,
     first: &mut [u64; MOST_SPREADS],
     second: &mut [u64; MOST_SPREADS],
-) -> Pools
-    requires { ⌜ (soundTable table ≡ true) × (Small (pools .cell)
+)
+    requires { ⌜ (soundTable table ≡ true) × (Small (now cells)
         × ((now first ≡ replicate spreadPlaces 0) × (now second ≡ replicate spreadPlaces 0))) ⌝ }
-    ensures { λ r. ⌜ Run (pools .cell) (tableSpreads table) (r .cell) (spreadsFrom (now (first .exit))) (spreadsFrom (now (second .exit))) ⌝ }
+    ensures { λ _. ⌜ Run (now (cells .entry)) (tableSpreads table) (now (cells .exit)) (spreadsFrom (now (first .exit)))
+        (spreadsFrom (now (second .exit))) ⌝ }
 {
     let n = table.count;
-    let mut left = pools;
     let mut i = 0;
     while i < n {
         let spread = table.spread[i];
-        if has_room(&left.cell, spread, false) {
-            let one = left.take(spread, false);
-            first[i] = one.number.0;
-            left = one.left;
+        let pools = pools_for(cells, spread, false);
+        if pools.has_room() {
+            let took = pools.take(spread);
+            put_back(cells, spread, false, took.left);
+            first[i] = took.number.0;
         }
-        if has_room(&left.cell, spread, true) {
-            let two = left.take(spread, true);
-            second[i] = two.number.0;
-            left = two.left;
+        let others = pools_for(cells, spread, true);
+        if others.has_room() {
+            let took = others.take(spread);
+            put_back(cells, spread, true, took.left);
+            second[i] = took.number.0;
         }
         i += 1;
     }
-    left
 }
 
 // What the steps used of each pool, had less left, "from the prompts of its tier on that side, earliest day first": no prompt
@@ -97,7 +98,7 @@ pub(crate) fn pay(
     count: usize,
     tiers: &[u8],
     nets: &[i64],
-    pools: Pools,
+    pools: [u64; CELLS],
     left: &[u64],
     used: &mut [i64; MOST_PROMPTS],
     unused: &mut [i64; MOST_PROMPTS],
@@ -105,10 +106,10 @@ pub(crate) fn pay(
     requires { ⌜ (soundPrompts (promptsIn count (now tiers) (now nets)) ≡ true)
         × (((length (now tiers) ≡ promptPlaces) × (length (now nets) ≡ promptPlaces)) × ((length (now left) ≡ poolCount)
         × ((now used ≡ replicate promptPlaces (pos 0)) × (now unused ≡ replicate promptPlaces (pos 0))))) ⌝ }
-    ensures { λ _. ⌜ Spent (pools .cell) (now (left .entry)) (openOf (promptsIn count (now (tiers .entry)) (now (nets .entry))))
+    ensures { λ _. ⌜ Spent pools (now (left .entry)) (openOf (promptsIn count (now (tiers .entry)) (now (nets .entry))))
         (deltasFrom (now (used .exit))) (deltasFrom (now (unused .exit))) ⌝ }
 {
-    let mut had = pools.cell;
+    let mut had = pools;
     let mut k = 0;
     while k < count {
         let net = Delta(nets[k]);
@@ -140,8 +141,9 @@ pub fn put_book(
         (bookIn (now (first .exit)) (now (second .exit)) (now (used .exit)) (now (unused .exit))) ⌝ }
 {
     let pools = pools_of(count, tiers, nets);
-    let left = run(pools, table, first, second);
-    pay(count, tiers, nets, pools, &left.cell, used, unused);
+    let mut left = pools;
+    run(&mut left, table, first, second);
+    pay(count, tiers, nets, pools, &left, used, unused);
 }
 
 // Nothing is accepted, and nothing formed or used.

@@ -1,4 +1,4 @@
-// "What one step leaves is handed to the next": the long and the short pool of each tier, by value.
+// "What one step leaves is handed to the next": a step has the pools of its own legs by value, and what it leaves is put back.
 use crate::Leg;
 use crate::Spread;
 use crate::Spreads;
@@ -10,20 +10,23 @@ ghost use lib.Dec.{ltb};
 ghost use lib.ListN.{length};
 ghost use Rattle.spread.specs.Accepted.{soundLeg, soundSpread};
 ghost use Rattle.spread.specs.Steps as Steps;
-ghost use Rattle.spread.specs.Steps.{useOf, taker, marketIn, stepOf};
-ghost use Rattle.spread.specs.code.Cells.{cellOf, shortIf, roomIn, lessIn, formedIn, afterIn, Taken, cellAt, lowestIn, mostPool, mostNumber, Small};
-ghost use Rattle.spread.specs.code.Cells.{poolCount};
+ghost use Rattle.spread.specs.Steps.{useOf, marketIn};
+ghost use Rattle.spread.specs.code.Cells.{cellOf, shortIf, cellAt, mostPool, mostNumber, poolCount};
+ghost use Rattle.spread.specs.code.Pools.{PoolsOf, SmallPools, TakenOf, lowest, formedOf, putBackIn};
 
 pub const TIERS: usize = 16;
 
+// Cell 2t is the long pool of tier t, cell 2t + 1 the short one, both without their sign.
 pub(crate) const CELLS: usize = 2 * TIERS;
 
 // A ratio of 1, in tenths.
 const TENTHS: u64 = 10;
 
-// Cell 2t is the long pool of tier t, cell 2t + 1 the short one, both without their sign.
+// The pools that the legs of a step take from; of two legs the first is read again as the third, which is not put back.
 pub(crate) struct Pools {
-    pub(crate) cell: [u64; CELLS],
+    one: u64,
+    two: u64,
+    three: u64,
 }
 
 // A step taken: the pools that it leaves, and the number of spreads that it formed.
@@ -62,17 +65,17 @@ fn leg_cell(leg: Leg, second: bool) -> usize
 }
 
 // "pool divided by ratio, whole ten-thousandths, rounded down"; of tenths "10 × pool / ratio, rounded down".
-fn room(pool: u64, ratio: u64, tenths: bool) -> u64
+fn room(pool: u64, ratio: u16, tenths: bool) -> u64
     requires { ⌜ (pool ≤ mostPool) × (0 < ratio) ⌝ }
     ensures { λ r. ⌜ r ≡ Steps.room tenths pool ratio ⌝ }
 {
     if tenths {
-        return TENTHS * pool / ratio;
+        return TENTHS * pool / (ratio as u64);
     }
     if ratio == 1 {
         return pool;
     }
-    pool / ratio
+    pool / (ratio as u64)
 }
 
 // "number × ratio"; of tenths "number × ratio / 10, rounded to a ten-thousandth, halves up".
@@ -101,7 +104,6 @@ pub(crate) fn lesser(a: u64, b: u64) -> u64
     if a < b { a } else { b }
 }
 
-// Here and below the cells are lent, so that a step copies them once.
 fn pool_for(cells: &[u64], leg: Leg, second: bool) -> u64
     requires { ⌜ (length (now cells) ≡ poolCount) × (soundLeg leg ≡ true) ⌝ }
     ensures { λ r. ⌜ r ≡ cellAt (now (cells .entry)) (marketIn second (leg .side)) (leg .tier) ⌝ }
@@ -110,76 +112,84 @@ fn pool_for(cells: &[u64], leg: Leg, second: bool) -> u64
     cells[cell]
 }
 
-// Whether no pool is empty that its legs take from: where one is, nothing is formed.
-pub(crate) fn has_room(cells: &[u64], spread: Spread, second: bool) -> bool
+// The pools of a spread's legs in a step: "first A legs take long and B legs short, then the reverse".
+pub(crate) fn pools_for(cells: &[u64], spread: Spread, second: bool) -> Pools
     requires { ⌜ (length (now cells) ≡ poolCount) × (soundSpread spread ≡ true) ⌝ }
-    ensures { λ r. ⌜ r ≡ ltb 0 (lowestIn (now (cells .entry)) (stepOf second spread)) ⌝ }
+    ensures { λ r. ⌜ PoolsOf (now (cells .entry)) second spread r ⌝ }
 {
-    let a = pool_for(cells, spread.leg[0], second);
-    let b = pool_for(cells, spread.leg[1], second);
+    let one = pool_for(cells, spread.leg[0], second);
+    let two = pool_for(cells, spread.leg[1], second);
     if spread.legs == 2 {
-        return 0 < lesser(a, b);
+        return Pools {
+            one: one,
+            two: two,
+            three: one,
+        };
     }
-    let c = pool_for(cells, spread.leg[2], second);
-    0 < lesser(a, lesser(b, c))
-}
-
-fn room_for(cells: &[u64], leg: Leg, tenths: bool, second: bool) -> u64
-    requires { ⌜ (length (now cells) ≡ poolCount) × (soundLeg leg ≡ true) × Small (now cells) ⌝ }
-    ensures { λ r. ⌜ r ≡ roomIn (now (cells .entry)) (taker tenths (marketIn second) leg) ⌝ }
-{
-    room(pool_for(cells, leg, second), leg.ratio as u64, tenths)
-}
-
-// "The number formed is the smallest over its legs".
-fn formed(cells: &[u64], spread: Spread, second: bool) -> u64
-    requires { ⌜ (length (now cells) ≡ poolCount) × (soundSpread spread ≡ true) × Small (now cells) ⌝ }
-    ensures { λ r. ⌜ r ≡ formedIn (stepOf second spread) (now (cells .entry)) ⌝ }
-{
-    let tenths = spread.tenths;
-    let a = room_for(cells, spread.leg[0], tenths, second);
-    let b = room_for(cells, spread.leg[1], tenths, second);
-    if spread.legs == 2 {
-        return lesser(a, b);
+    let three = pool_for(cells, spread.leg[2], second);
+    Pools {
+        one: one,
+        two: two,
+        three: three,
     }
-    let c = room_for(cells, spread.leg[2], tenths, second);
-    lesser(a, lesser(b, c))
 }
 
-fn less(cells: &mut [u64], leg: Leg, tenths: bool, second: bool, number: u64)
-    requires { ⌜ (length (now cells) ≡ poolCount) × (soundLeg leg ≡ true) × (number ≤ mostNumber) ⌝ }
-    ensures { λ _. ⌜ now (cells .exit) ≡ lessIn number (taker tenths (marketIn second) leg) (now (cells .entry)) ⌝ }
+// Puts what a step leaves of its pools where the next finds it.
+pub(crate) fn put_back(cells: &mut [u64], spread: Spread, second: bool, left: Pools)
+    requires { ⌜ (length (now cells) ≡ poolCount) × (soundSpread spread ≡ true) ⌝ }
+    ensures { λ _. ⌜ now (cells .exit) ≡ putBackIn second spread left (now (cells .entry)) ⌝ }
 {
-    let cell = leg_cell(leg, second);
-    let taken = use_of(number, leg.ratio, tenths);
-    cells[cell] = beyond(cells[cell], taken);
-}
-
-// "Each leg takes" its use of the number.
-fn lessen(cells: &mut [u64], spread: Spread, second: bool, number: u64)
-    requires { ⌜ (length (now cells) ≡ poolCount) × (soundSpread spread ≡ true) × (number ≤ mostNumber) ⌝ }
-    ensures { λ _. ⌜ now (cells .exit) ≡ afterIn (stepOf second spread) number (now (cells .entry)) ⌝ }
-{
-    let tenths = spread.tenths;
-    less(cells, spread.leg[0], tenths, second, number);
-    less(cells, spread.leg[1], tenths, second, number);
+    cells[leg_cell(spread.leg[0], second)] = left.one;
+    cells[leg_cell(spread.leg[1], second)] = left.two;
     if spread.legs == 3 {
-        less(cells, spread.leg[2], tenths, second, number);
+        cells[leg_cell(spread.leg[2], second)] = left.three;
     }
+}
+
+// "Each leg takes number × ratio", or the rounded use of tenths: what it leaves of its pool.
+fn left_by(pool: u64, number: u64, ratio: u16, tenths: bool) -> u64
+    requires { ⌜ number ≤ mostNumber ⌝ }
+    ensures { λ r. ⌜ r ≡ pool - useOf tenths number ratio ⌝ }
+{
+    beyond(pool, use_of(number, ratio, tenths))
 }
 
 impl Pools {
-    // A step of a spread, "first A legs take long and B legs short, then the reverse": the number that it forms, and the
-    // pools that it leaves.
-    pub(crate) fn take(self, spread: Spread, second: bool) -> Took
-        requires { ⌜ (soundSpread spread ≡ true) × Small (self .cell) ⌝ }
-        ensures { λ r. ⌜ Taken (stepOf second spread) (self .cell) (r .left .cell) (r .number .0) ⌝ }
+    // Whether none is empty: where one is, nothing is formed.
+    pub(crate) fn has_room(self) -> bool
+        ensures { λ r. ⌜ r ≡ ltb 0 (lowest self) ⌝ }
     {
-        let mut cells = self.cell;
-        let number = formed(&cells, spread, second);
-        lessen(&mut cells, spread, second, number);
+        0 < lesser(self.one, lesser(self.two, self.three))
+    }
+
+    // "The number formed is the smallest over its legs".
+    fn formed(self, spread: Spread) -> u64
+        requires { ⌜ (soundSpread spread ≡ true) × SmallPools self ⌝ }
+        ensures { λ r. ⌜ r ≡ formedOf spread self ⌝ }
+    {
+        let tenths = spread.tenths;
+        let one = room(self.one, spread.leg[0].ratio, tenths);
+        let two = room(self.two, spread.leg[1].ratio, tenths);
+        if spread.legs == 2 {
+            return lesser(one, two);
+        }
+        let three = room(self.three, spread.leg[2].ratio, tenths);
+        lesser(one, lesser(two, three))
+    }
+
+    // A step of a spread: the number that it forms, and what it leaves of its pools.
+    pub(crate) fn take(self, spread: Spread) -> Took
+        requires { ⌜ (soundSpread spread ≡ true) × SmallPools self ⌝ }
+        ensures { λ r. ⌜ TakenOf spread self (r .left) (r .number .0) ⌝ }
+    {
+        let tenths = spread.tenths;
+        let number = self.formed(spread);
         Took {
-            left: Pools { cell: cells },
+            left: Pools {
+                one: left_by(self.one, number, spread.leg[0].ratio, tenths),
+                two: left_by(self.two, number, spread.leg[1].ratio, tenths),
+                three: left_by(self.three, number, spread.leg[2].ratio, tenths),
+            },
             number: Spreads(number),
         }
     }

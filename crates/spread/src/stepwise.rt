@@ -10,6 +10,8 @@ use crate::book::pay;
 use crate::book::pools_of;
 use crate::plain::deltas_from;
 use crate::plain::plain;
+use crate::pools::pools_for;
+use crate::pools::put_back;
 ghost use mathlib.Core.Path.{_≡_};
 ghost use Rattle.spread.specs.Uses.{soundFor};
 ghost use Rattle.spread.specs.code.Step.{Stepped, NotTaken};
@@ -54,20 +56,13 @@ pub fn step_over(prompts: Prompts, spread: Spread, second: bool) -> Step
     let net = prompts.net;
     let nets = plain(net);
     let pools = pools_of(count, &tiers, &nets);
-    let took = pools.take(spread, second);
-    let after = took.left;
+    let took = pools_for(&pools, spread, second).take(spread);
     let number = took.number;
+    let mut after = pools;
+    put_back(&mut after, spread, second, took.left);
     let mut used = [0; MOST_PROMPTS];
     let mut unused = [0; MOST_PROMPTS];
-    pay(
-        count,
-        &tiers,
-        &nets,
-        pools,
-        &after.cell,
-        &mut used,
-        &mut unused,
-    );
+    pay(count, &tiers, &nets, pools, &after, &mut used, &mut unused);
     let taken = deltas_from(used);
     let kept = deltas_from(unused);
     let left = Prompts {

@@ -10,14 +10,14 @@ use lib.Seq.{getD-set-other}
 use native.Mathlib.Omega.{arith}
 use borrow.Author.Tests.{eq-eqb, eqb-true, lt-ltb, ltb-true}
 use Rattle.record.specs.Bytes.{recordBytes}
-use Rattle.exact.specs.Lists.{oneIf, count}
+use Rattle.exact.specs.Lists.{any, oneIf, count}
 use Rattle.record.specs.Layout.{Record, kind, contract, mostContract}
 use Rattle.record.specs.Ranges.{unknownKind, unusedByte, fieldOutside}
 use Rattle.record.proofs.Within.{by-kind, both-true, kind-known, contract-known, row-within}
 use Rattle.account.specs.Answers.{numberOf, refusal}
 use Rattle.account.specs.Check.{kindFalls, outOfOrder, faultOf, tooLong, cutRecord, recordsChecked, mostContracts, mostPrompts}
 use Rattle.account.specs.Checked.{ratesChecked, checked}
-use Rattle.account.specs.Conversions.{Row}
+use Rattle.account.specs.Conversions.{otherRow, Row}
 use Rattle.account.specs.PartNumbers.{part, inPart, ratePart, parts}
 use Rattle.account.specs.code.Notes.{partOf, oneMore, startNoted, unlistedBy, overLimitBy, faultBy, beforeAt, partAt, faultAt}
 use Rattle.account.specs.Parts.{ofKind, ratesOf}
@@ -240,7 +240,9 @@ pub reading-ends :
 reading-ends {file} {first} {counts} {prompts} {held} {k} g done a b =
     let i = g .going in
     let ok = going-ends i done a b in
-    let s = surveyed i done (record { answer = Accepted; contracts = g .contracts; first = first; counts = counts }) ok refl refl refl refl in
+    let s = surveyed i done
+    (record { answer = Accepted; contracts = g .contracts; first = first; counts = counts; converts = any otherRow (cut k file) })
+    ok refl refl refl refl refl in
     let n : getD counts ratePart 0 ≡ count (ofKind 6) (cut k file) = i .notes .counted ratePart (omega arith) in
     let e : k ≡ recordCount file = omega (arith, i .inside) in
     let w = laid file k (i .fine) .parts ratePart (omega arith) .within in

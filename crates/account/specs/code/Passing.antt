@@ -9,9 +9,10 @@ use lib.ListN.{length, getD, set}
 use lib.Dec.{eqb}
 use Rattle.exact.specs.Lists.{any, oneIf}
 use Rattle.record.specs.Bytes.{countFrom}
-use Rattle.record.specs.Layout.{Record, kind, contract, day, twoLegs, legsOf, legTier, legSide, secondContract}
+use Rattle.record.specs.Layout.{Record, kind, contract, currency, day, twoLegs, legsOf, legTier, legSide, secondContract}
 use Rattle.record.specs.Ranges.{soundRecord}
 use Rattle.account.specs.Check.{mostRecords, mostPrompts, kindFalls, contractFalls, dayNotAbove, tierFalls, sameLeg, withItself}
+use Rattle.account.specs.Conversions.{otherRow}
 use Rattle.account.specs.PartNumbers.{parts}
 use Rattle.account.specs.code.Notes.{partOf, oneMore, startNoted, noContract, beforeAt, faultAt}
 use Rattle.account.specs.Parts.{ofKind, onTier}
@@ -49,8 +50,9 @@ legsMeet r =
 abbrev pub promptPasses : ℕ → Record → Record → Bool
 promptPasses c before r = soundRecord 2 c r && not (dayNotAbove before r || tierFalls before r)
 
-abbrev pub rowPasses : ℕ → List ℕ → Record → Bool
-rowPasses c days r = soundRecord 3 c r && hasDay days (day r)
+-- in another currency than the margin's only where that is let
+abbrev pub rowPasses : ℕ → List ℕ → Bool → Record → Bool
+rowPasses c days other r = (soundRecord 3 c r && (other || eqb (currency r) 0)) && hasDay days (day r)
 
 abbrev pub spreadPasses : ℕ → List Bool → Record → Bool
 spreadPasses c listed r = soundRecord 4 c r && not (legsMeet r || any (legUnlistedIn listed r) (legsOf r))
@@ -74,11 +76,12 @@ abbrev pub countedTo : List ℕ → List ℕ → ℕ → ℕ → List ℕ
 countedTo file counts k j =
     set counts (partAtRecord file k) (getD counts (partAtRecord file k) 0 + (j - (k + 1)))
 
--- record j gets no fault, by the notes of the records before it
+-- record j gets no fault, by the notes of the records before it, and is a row in another currency only where record k is one
 pub record PassesAt (file first counts : List ℕ) (k j : ℕ) : Type 0 where
   pub fine : faultAt file first (countedTo file counts k j) j ≡ 0
   pub alike : partAtRecord file j ≡ partAtRecord file k
   pub other : ofKind 1 (recordAt file j) ≡ false
+  pub unconverted : otherRow (recordAt file k) ≡ false → otherRow (recordAt file j) ≡ false
 
 pub record Passes (file first counts : List ℕ) (k next : ℕ) : Type 0 where
   pub low : k < next

@@ -39,6 +39,12 @@ pub record Filled (n : ℕ) (f : ℕ → ℕ) (xs : List ℕ) : Type 0 where
   pub long : length xs ≡ n
   pub each : (v : ℕ) → v < n → getD xs v 0 ≡ f v
 
+-- notes of a morning file of which those below n are of whichever file supplies them, by a flag for each contract
+pub record EitherTo (morning noon : List ℕ) (late : List Bool) (n : ℕ) (notes : List ℕ) : Type 0 where
+  pub long : length notes ≡ parts
+  pub done : (v : ℕ) → v < n → getD notes v 0 ≡ cond (getD late (v % mostContracts) false) (getD noon v 0) (getD morning v 0)
+  pub rest : (v : ℕ) → n ≤ v → getD notes v 0 ≡ getD morning v 0
+
 pub record Flagged (counts : List ℕ) (xs : List Bool) : Type 0 where
   pub long : length xs ≡ mostContracts
   pub each : (c : ℕ) → c < mostContracts → getD xs c false ≡ lists counts c

@@ -44,9 +44,8 @@ pub record TiersKnown (entries : List ℕ) (tiers : Prompts) : Type 0 where
   pub whole : List Record
   pub over : TiersOver entries tiers whole
 
--- one of so many records without intercontract spreads, whose contracts have these net deltas
-pub record Unspread (whole : List Record) (records count : ℕ) (nets : List ℤ) : Type 0 where
+-- one without intercontract spreads, whose contracts have these net deltas
+pub record Unspread (whole : List Record) (count : ℕ) (nets : List ℤ) : Type 0 where
   pub lawful : Lawful whole
-  pub records-are : records ≡ length whole
   pub none : entriesOf whole ≡ []
   pub nets-are : take count nets ≡ map (λ p. p .unused) (map asTier (contracts whole))

@@ -1,9 +1,10 @@
 -- What everything asked at once leaves in lent memory, contract by contract.
 -- Assumes nothing.
-use Prim.Native.Nat.{ℕ}
+use Prim.Native.Nat.{ℕ, _*_}
 use mathlib.Core.Path.{_≡_}
-use mathlib.Core.Bool.{true, false}
+use mathlib.Core.Bool.{true, false, cond}
 use mathlib.Core.List.{List, []}
+use lib.Dec.{ltb}
 use lib.IntN.{ℤ}
 use lib.ListN.{length, getD}
 use lib.Seq.{sets}
@@ -12,10 +13,11 @@ use Rattle.account.specs.Lawful.{Lawful}
 use Rattle.account.specs.PartNumbers.{entryPart}
 use Rattle.account.specs.Parts.{contractsOf, entriesOf}
 use Rattle.account.specs.code.Standing.{PartOf}
+use Rattle.account.specs.declared.answers.Answer.{Answer}
+use Rattle.account.specs.declared.answers.Answer.the-variants.{Accepted, TooFewNumbers}
 use Rattle.margin.specs.declared.everything.Everything.{Everything}
 use Rattle.margin.specs.declared.asking.Question.the-variants.{Figures, Book, Uses}
 use Rattle.formulas.specs.declared.line.Line.{Line}
-use Rattle.account.specs.declared.answers.Answer.the-variants.{Accepted}
 use Rattle.margin.specs.Books.{tableQuestion}
 use Rattle.margin.specs.Figures as shown
 use Rattle.formulas.specs.Bounds.{longestBook, longestUses}
@@ -23,7 +25,7 @@ use Rattle.formulas.specs.Contract.{partsIn}
 use Rattle.formulas.specs.code.Promised.{LineOf}
 use Rattle.margin.specs.Questions.{answerOver, afterOver}
 use Rattle.margin.specs.code.Tabled.{TabledIn, TabledOver}
-use Rattle.margin.specs.Places.{lentPlace, lentEach, allOver, afterAllOver}
+use Rattle.margin.specs.Places.{questions, lentPlace, lentEach, allOver, afterAllOver}
 
 -- the line of the i-th contract, and its book and its uses in their places
 pub record ContractLent (account : List Record) (i : ℕ) (l : Line) (books uses books′ uses′ : List ℤ) : Type 0 where
@@ -60,19 +62,30 @@ pub record TabledKnown (entries : List ℕ) (count records : ℕ) (figures : Lis
   pub is : TabledBy entries count records figures tiers nets units prices sizes whole
 
 -- the figures, and the book and uses of the intercontract table in their places
-pub record TableLent (account : List Record) (figures books uses : List ℤ) (r : Everything) (figures′ books′ uses′ : List ℤ) : Type 0 where
-  pub figures-answer : r .figures ≡ Accepted
+pub record TableLent (account : List Record) (figures books uses figures′ books′ uses′ : List ℤ) : Type 0 where
   pub figures-after : figures′ ≡ sets figures 0 (shown.figures account)
-  pub books-answer : r .books ≡ allOver false account (length books)
   pub book : books′ ≡ lentPlace longestBook tableQuestion (afterOver account (Book tableQuestion)) books
-  pub uses-answer : r .uses ≡ allOver true account (length uses)
   pub paid : uses′ ≡ lentPlace longestUses tableQuestion (afterOver account (Uses tableQuestion)) uses
 
--- the figures, and the books and uses of all questions
-pub record EverythingOf (account : List Record) (figures books uses : List ℤ) (r : Everything) (figures′ books′ uses′ : List ℤ) : Type 0 where
-  pub figures-answer : r .figures ≡ answerOver account Figures (length figures)
+-- what is answered where so many numbers are needed and so many lent
+abbrev pub lentAnswer : ℕ → ℕ → ℕ → Answer
+lentAnswer records needed lent = cond (ltb lent needed) (TooFewNumbers records) Accepted
+
+-- and everything, where so many are needed for the figures
+pub record LentAnswers (records needed figures books uses : ℕ) (r : Everything) : Type 0 where
+  pub of-figures : r .figures ≡ lentAnswer records needed figures
+  pub of-books : r .books ≡ lentAnswer records (longestBook * questions) books
+  pub of-uses : r .uses ≡ lentAnswer records (longestUses * questions) uses
+
+-- the figures, and the books and uses of all questions, in lent memory
+pub record EverythingLent (account : List Record) (figures books uses figures′ books′ uses′ : List ℤ) : Type 0 where
   pub figures-after : figures′ ≡ afterOver account Figures figures
-  pub books-answer : r .books ≡ allOver false account (length books)
   pub books-after : books′ ≡ afterAllOver false account books
-  pub uses-answer : r .uses ≡ allOver true account (length uses)
   pub uses-after : uses′ ≡ afterAllOver true account uses
+
+-- and what is answered
+pub record EverythingOf (account : List Record) (figures books uses : List ℤ) (r : Everything) (figures′ books′ uses′ : List ℤ) : Type 0 where
+  pub lent : EverythingLent account figures books uses figures′ books′ uses′
+  pub figures-answer : r .figures ≡ answerOver account Figures (length figures)
+  pub books-answer : r .books ≡ allOver false account (length books)
+  pub uses-answer : r .uses ≡ allOver true account (length uses)

@@ -1,61 +1,52 @@
--- The notes are put in place one after the other.
+-- The notes are put in place kind by kind.
 -- Assumes nothing.
-use borrow.Author.Needs.{needs}
-use mathlib.Core.Path.{_≡_, refl, _∙_}
-use Prim.Native.Nat.{ℕ, _-_, _≤_, _<_}
+use mathlib.Core.Path.{_≡_, refl, subst}
+use Prim.Native.Nat.{ℕ, _-_, _%_, _≤_}
 use native.Mathlib.Nat.{not-suc-le-zero}
 use native.Mathlib.Omega.{arith}
-use lib.ListN.{length, getD, length-set}
-use Rattle.account.specs.code.Standing.{eitherNote}
-use Rattle.account.proofs.Filled.{filled-next}
+use denote.Ref.{now}
+use Rattle.account.specs.Check.{mostContracts}
+use Rattle.account.specs.PartNumbers.{entryPart}
+use Rattle.account.specs.code.Standing.{EitherTo}
 use Rattle.account.proofs.accounts.either_notes.Statement.{statement}
 use Rattle.account.proofs.accounts.either_notes.Tie as tie
 
 abbrev Inv-loop : tie.InvT-loop
-Inv-loop notes₀ morning noon counts v₀ notes v = (length notes ≡ length notes₀)
-    × ((v ≤ length notes₀) × ((i : ℕ) → i < v → getD notes i 0 ≡ eitherNote morning noon counts i))
+Inv-loop morning noon late notes₀ start₀ notes start = (start ≤ entryPart) × ((start % mostContracts ≡ 0) × EitherTo morning noon late start notes)
 
 abbrev μ-loop : tie.MeasureT-loop
-μ-loop notes₀ morning noon counts v₀ notes v = length notes₀ - v
+μ-loop morning noon late notes₀ start₀ notes start = entryPart - start
 
 loop-holds : tie.Need-loop-holds Inv-loop μ-loop
-loop-holds c = (refl, (omega arith, λ i h. absurd (not-suc-le-zero h)))
+loop-holds c = (omega arith, (refl, record { long = c .before .pre; done = λ v h. absurd (not-suc-le-zero h); rest = λ v h. refl }))
 
-either-note-requires : tie.Need-either-note-requires Inv-loop μ-loop
-either-note-requires c κs = search needs
+either-kind-requires : tie.Need-either-kind-requires Inv-loop μ-loop
+either-kind-requires c κs = (c .before .before .loop .inv .1 .0, c .before .loop-test .taken)
 
-mul-notes : tie.Need-mul-notes Inv-loop μ-loop
-mul-notes c = search needs
-
-slice-write-notes : tie.Need-slice-write-notes Inv-loop μ-loop
-slice-write-notes c = search needs
-
-add-v : tie.Need-add-v Inv-loop μ-loop
-add-v c = search needs
+add-start : tie.Need-add-start Inv-loop μ-loop
+add-start c = omega (arith, c .before .before .loop-test .taken)
 
 loop-less : tie.Need-loop-less Inv-loop μ-loop
-loop-less c = omega (arith, c .before .loop-test .taken, c .before .before .loop .inv .0)
+loop-less c = omega (arith, c .before .before .loop-test .taken)
 
 loop-again : tie.Need-loop-again Inv-loop μ-loop
 loop-again c =
-    let s = c .before .before .before .before .before .before .before in
-    let l = c .before .before .loop in
-    let h = c .before .loop-test .taken in (
-      length-set (l .notes) (l .v) (c .either-note .result) ∙ l .inv .0,
+    let after-loop = c .before .before .before in
+    let start = after-loop .before .before in
+    let l = after-loop .loop in (
+      omega (arith, c .before .before .loop-test .taken, l .inv .1 .0),
       (
-        omega (arith, h, l .inv .0),
-        filled-next 0 (eitherNote (s .args .morning .now) (s .args .noon .now) (s .args .counts .now)) (l .notes) (l .v)
-            (c .either-note .result) h (c .either-note .ensures) (l .inv .1 .1),
+        omega (arith, l .inv .1 .0),
+        c .either-kind .ensures (now (start .args .morning)) (l .inv .1 .1),
       ),
     )
-
-same-length : tie.Need-same-length Inv-loop μ-loop
-same-length c = c .before .loop .inv .0
 
 returns : tie.Need-returns Inv-loop μ-loop
 returns c =
     let l = c .before .loop in
-    record { long = l .inv .0; each = λ v h. l .inv .1 .1 v (omega (arith, h, c .loop-test .left, l .inv .0)) }
+    let start = c .before .before .before in
+    let all : l .start ≡ entryPart = omega (arith, c .loop-test .left, l .inv .0) in
+    subst (λ (n : ℕ). EitherTo (now (start .args .morning)) (now (start .args .noon)) (now (start .args .late)) n (l .notes)) all (l .inv .1 .1)
 
 pub either-notes-spec : {M : Type 1} → statement M
 either-notes-spec =
@@ -64,11 +55,8 @@ either-notes-spec =
     Inv-loop
     μ-loop
     loop-holds
-    either-note-requires
-    mul-notes
-    slice-write-notes
-    add-v
+    either-kind-requires
+    add-start
     loop-less
     loop-again
-    same-length
     returns)

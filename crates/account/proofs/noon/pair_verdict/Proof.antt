@@ -5,7 +5,7 @@ use native.Mathlib.Omega.{arith}
 use mathlib.Core.Path.{_≡_, sym, ap, _∙_}
 use Rattle.account.specs.Answers.{numberOf}
 use Rattle.account.specs.code.Pair.{verdictBy}
-use Rattle.account.proofs.NoonLaws.{verdict-stops, verdict-clear, verdict-goes}
+use Rattle.account.proofs.NoonLaws.{verdict-stops, verdict-clear, verdict-goes, verdict-ends}
 use Rattle.account.proofs.noon.pair_verdict.Statement.{statement}
 use Rattle.account.proofs.noon.pair_verdict.Tie as tie
 
@@ -40,21 +40,38 @@ returns c =
 none : (c : tie.Else1) → numberOf (c .before .before .verdict-of .result .answer) ≡ 0
 none c = sym (c .before .number-of .ensures) ∙ omega (arith, c .if1 .left)
 
-conversions-checked-requires : tie.Need-conversions-checked-requires
-conversions-checked-requires c κs =
-    let v = c .before .before in
+conversions-answer-requires : tie.Need-conversions-answer-requires
+conversions-answer-requires c κs =
+    let after-if1 = c .before .before .before in
+    let v = after-if1 .before .before in
     let s = start-of v in
     verdict-clear (s .args .morning .now) (s .args .noon .now) (s .args .first) (s .args .second) (s .args .account) (s .pre .0) (s .pre .1 .0) (s .pre .1 .1)
-    (v .verdict-of .result) (by v) (none c)
+    (v .verdict-of .result) (by v) (none after-if1)
 
 returns-2 : tie.Need-returns-2
 returns-2 c =
-    let v = c .before .before .before in
+    let after-if1 = c .before .before .before .before in
+    let v = after-if1 .before .before in
     let s = start-of v in
     verdict-goes (s .args .morning .now) (s .args .noon .now) (s .args .first) (s .args .second) (s .args .account) (s .pre .0) (s .pre .1 .0) (s .pre .1 .1)
-    (v .verdict-of .result) (by v) (none (c .before)) (c .conversions-checked .result) (c .conversions-checked .ensures)
+    (v .verdict-of .result) (by v) (none after-if1) (c .conversions-answer .result) (c .conversions-answer .ensures)
+
+returns-3 : tie.Need-returns-3
+returns-3 c =
+    let after-if1 = c .before .before .before in
+    let v = after-if1 .before .before in
+    let s = start-of v in
+    verdict-ends (s .args .morning .now) (s .args .noon .now) (s .args .first) (s .args .second) (s .args .account) (s .pre .0) (s .pre .1 .0) (s .pre .1 .1)
+    (v .verdict-of .result) (by v) (none after-if1) (c .if2 .left)
 
 pub pair-verdict-spec : {M : Type 1} → statement M
 pair-verdict-spec =
     tie.close
-    (tie.spec record-total-requires verdict-of-requires number-of-requires returns conversions-checked-requires returns-2)
+    (tie.spec
+    record-total-requires
+    verdict-of-requires
+    number-of-requires
+    returns
+    conversions-answer-requires
+    returns-2
+    returns-3)

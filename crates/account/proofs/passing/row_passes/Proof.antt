@@ -13,7 +13,8 @@ has-day-requires : tie.Need-has-day-requires
 has-day-requires c κs = search needs
 
 returns : tie.Need-returns
-returns c = rw (c .before .before .sound-row .ensures, c .has-day .ensures, c .before .short-day .ensures)
+returns c =
+    rw (c .before .before .sound-row .ensures, c .has-day .ensures, c .before .short-day .ensures)
 
 pub row-passes-spec : {M : Type 1} → statement M
 row-passes-spec =

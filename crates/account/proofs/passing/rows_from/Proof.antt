@@ -1,8 +1,9 @@
 -- `account::passing::rows_from` meets its contract. Assumes nothing.
 use Prim.Native.Nat.{ℕ, _+_, _-_, min}
-use mathlib.Core.Path.{subst, _∙_}
+use mathlib.Core.Path.{subst, ap, _∙_}
 use mathlib.Core.List.{List}
 use borrow.Author.Needs.{needs}
+use Rattle.account.specs.Conversions.{otherRow}
 use Rattle.account.specs.code.Passing.{DaysListed, rowPasses, RunTo}
 use Rattle.account.specs.Records.{recordAt, records}
 use Rattle.account.specs.Check.{mostRows}
@@ -31,24 +32,33 @@ part-at-requires c κs = search needs
 days-of-requires : tie.Need-days-of-requires
 days-of-requires c κs = search needs
 
+whole-at-requires : tie.Need-whole-at-requires
+whole-at-requires c κs = search needs
+
+is-other-row-requires : tie.Need-is-other-row-requires
+is-other-row-requires c κs = search needs
+
 rows-to-requires : tie.Need-rows-to-requires
 rows-to-requires c κs = search needs
 
 returns : tie.Need-returns
 returns c =
-    let after-part-at = c .before .before .before in
+    let after-whole-at = c .before .before .before in
+    let after-part-at = after-whole-at .before .before in
     let after-room-to = after-part-at .before in
     let after-noted = after-room-to .before in
     let after-record-count = after-noted .before in
     let start = after-record-count .before .before .before .before in
     let args = start .args in
     let file = args .file .now in
-    let days = c .before .before .days-of in
+    let days = after-whole-at .before .days-of in
+    let other = c .before .before .is-other-row in
     let end = after-room-to .room-to .ensures
     ∙ (λ i. min (args .k + (mostRows - after-noted .noted .ensures i)) (after-record-count .record-count .ensures i)) in
     rows-run file (args .first .now) (args .counts .now) (args .k) (args .c) (start .pre) (days .result)
     (subst (λ (part : List ℕ). DaysListed (records part) (days .result)) (after-part-at .part-at .ensures) (days .ensures))
-    (subst (λ (end : ℕ). RunTo (λ j. rowPasses (args .c) (days .result) (recordAt file j)) (args .k) end (c .rows-to .result))
+    (other .result) (other .ensures ∙ ap otherRow (after-whole-at .whole-at .ensures))
+    (subst (λ (end : ℕ). RunTo (λ j. rowPasses (args .c) (days .result) (other .result) (recordAt file j)) (args .k) end (c .rows-to .result))
     end (c .rows-to .ensures))
 
 pub rows-from-spec : {M : Type 1} → statement M
@@ -62,5 +72,7 @@ rows-from-spec =
     add-part-at
     part-at-requires
     days-of-requires
+    whole-at-requires
+    is-other-row-requires
     rows-to-requires
     returns)

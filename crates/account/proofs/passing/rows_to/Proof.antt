@@ -11,14 +11,14 @@ use Rattle.account.proofs.Runs.{run-start, run-next}
 use Rattle.account.proofs.passing.rows_to.Statement.{statement}
 use Rattle.account.proofs.passing.rows_to.Tie as tie
 
-abbrev passes : List ℕ → List ℕ → ℕ → ℕ → Bool
-passes file days c j = rowPasses c days (recordAt file j)
+abbrev passes : List ℕ → List ℕ → ℕ → Bool → ℕ → Bool
+passes file days c other j = rowPasses c days other (recordAt file j)
 
 abbrev Inv-loop : tie.InvT-loop
-Inv-loop file days c k end i₀ i = RunTo (passes file days c) k end i
+Inv-loop file days c other k end i₀ i = RunTo (passes file days c other) k end i
 
 abbrev μ-loop : tie.MeasureT-loop
-μ-loop file days c k end i₀ i = end - i
+μ-loop file days c other k end i₀ i = end - i
 
 loop-holds : tie.Need-loop-holds Inv-loop μ-loop
 loop-holds c = run-start _ (omega arith)
@@ -46,8 +46,8 @@ loop-again c =
     let start = after-loop .before .before in
     let args = start .args in
     let l = after-loop .loop in
-    run-next (passes (args .file .now) (args .days .now) (args .c)) (l .inv) (omega arith)
-    (ap (rowPasses (args .c) (args .days .now)) (sym (c .before .before .whole-at .ensures))
+    run-next (passes (args .file .now) (args .days .now) (args .c) (args .other)) (l .inv) (omega arith)
+    (ap (rowPasses (args .c) (args .days .now) (args .other)) (sym (c .before .before .whole-at .ensures))
     ∙ sym (c .before .row-passes .ensures) ∙ not-false _ (c .if1 .left))
 
 returns-2 : tie.Need-returns-2 Inv-loop μ-loop

@@ -1,25 +1,25 @@
--- Where too few numbers are lent the figures go to places of the function's own, and those lent stay as they are.
+-- What is answered goes by how many numbers are lent.
 -- Assumes nothing.
 use mathlib.Core.Path.{_∙_}
 use native.Mathlib.Omega.{arith}
 use Rattle.account.specs.Joined.{accountOf}
 use Rattle.margin.proofs.QuestionLaws.{figures-length}
-use Rattle.margin.proofs.StandLaws.{few-contracts}
-use Rattle.margin.proofs.WalkedLaws.{unlent-everything}
+use Rattle.margin.proofs.WalkedLaws.{answered-everything}
 use borrow.Author.Needs.{needs}
 use Rattle.margin.proofs.everything.everything_over.Statement.{statement}
 use Rattle.margin.proofs.everything.everything_over.Tie as tie
 
-figures-count-requires : tie.Need-figures-count-requires
-figures-count-requires c κs =
-    let s = c .before .before in
-    few-contracts (s .args .morning .now) (s .args .noon .now) (s .args .account) (s .pre)
+record-total-requires : tie.Need-record-total-requires
+record-total-requires c κs = search needs
 
-put-over-requires : tie.Need-put-over-requires
-put-over-requires c κs =
-    let after-if = c .before .before .before in
-    let s = after-if .before .before .before .before in
-    (s .pre, omega (arith, after-if .before .figures-count .ensures, after-if .if1 .taken))
+figures-count-requires : tie.Need-figures-count-requires
+figures-count-requires c κs = search needs
+
+lent-answers-requires : tie.Need-lent-answers-requires
+lent-answers-requires c κs = search needs
+
+lend-over-requires : tie.Need-lend-over-requires
+lend-over-requires c κs = search needs
 
 same-length : tie.Need-same-length
 same-length c = search needs
@@ -32,50 +32,25 @@ same-length-3 c = search needs
 
 returns : tie.Need-returns
 returns c =
-    let after-in = c .before .before .before in
-    after-in .put-over .ensures
-
-slice-aggregate-put-over : tie.Need-slice-aggregate-put-over
-slice-aggregate-put-over c = search needs
-
-put-over-requires-2 : tie.Need-put-over-requires-2
-put-over-requires-2 c κs =
-    let s = c .before .before .before .before .before .before .before in
-    let few = few-contracts (s .args .morning .now) (s .args .noon .now) (s .args .account) (s .pre) in
-    (s .pre, omega (arith, few))
-
-record-total-requires : tie.Need-record-total-requires
-record-total-requires c κs = search needs
-
-same-length-4 : tie.Need-same-length-4
-same-length-4 c = search needs
-
-same-length-5 : tie.Need-same-length-5
-same-length-5 c = search needs
-
-returns-2 : tie.Need-returns-2
-returns-2 c =
-    let after-in = c .before .before .before .before in
-    let after-if = after-in .before .before .before .before in
-    let s = after-if .before .before .before .before in
+    let after-lend = c .before .before .before in
+    let after-answers = after-lend .before .before .before .before in
+    let after-count = after-answers .before in
+    let after-records = after-count .before in
+    let s = after-records .before .before .before in
     let a = accountOf (s .args .morning .now) (s .args .noon .now) in
-    unlent-everything (c .record-total .ensures ∙ s .pre .places .all)
-    (omega (arith, figures-length a, s .pre .places .contracts, after-if .before .figures-count .ensures, after-if .if1 .left))
-    (after-in .put-over2 .ensures)
+    answered-everything (after-records .record-total .ensures ∙ s .pre .places .all)
+    (omega (arith, figures-length a, s .pre .places .contracts, after-count .figures-count .ensures)) (after-answers .lent-answers .ensures)
+    (after-lend .lend-over .ensures)
 
 pub everything-over-spec : {M : Type 1} → statement M
 everything-over-spec =
     tie.close
     (tie.spec
+    record-total-requires
     figures-count-requires
-    put-over-requires
+    lent-answers-requires
+    lend-over-requires
     same-length
     same-length-2
     same-length-3
-    returns
-    slice-aggregate-put-over
-    put-over-requires-2
-    record-total-requires
-    same-length-4
-    same-length-5
-    returns-2)
+    returns)

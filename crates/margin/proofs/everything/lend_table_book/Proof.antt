@@ -1,7 +1,6 @@
 -- The table's place is written where all places are lent, and else none is.
 -- Assumes nothing.
-use mathlib.Core.Path.{refl, sym, _∙_}
-use mathlib.Core.Bool.{false}
+use mathlib.Core.Path.{sym, _∙_}
 use Prim.Native.Nat.{_*_, _+_, _≤_}
 use native.Mathlib.Nat.{le-trans}
 use native.Mathlib.Omega.{arith}
@@ -11,12 +10,11 @@ use Rattle.spread.specs.code.Lent.{promptsIn}
 use Rattle.spread.specs.declared.Prompts.{Prompts}
 use Rattle.formulas.specs.Bounds.{longestBook}
 use Rattle.margin.specs.Books.{bookBy, tableQuestion}
-use Rattle.margin.specs.Places.{questionOf}
 use Rattle.margin.specs.Questions.{afterOver}
 use Rattle.margin.specs.declared.asking.Question.the-variants.{Book}
 use Rattle.margin.proofs.AnswerLaws.{book-long, run-long, book-after}
 use Rattle.margin.proofs.LentLaws.{lent-few, lent-enough}
-use Rattle.margin.proofs.PlaceLaws.{put-place, each-too-few, each-accepted}
+use Rattle.margin.proofs.PlaceLaws.{put-place}
 use borrow.Author.Needs.{needs}
 use Rattle.margin.proofs.everything.lend_table_book.Statement.{statement}
 use Rattle.margin.proofs.everything.lend_table_book.Tie as tie
@@ -28,22 +26,19 @@ prompts s = promptsIn (s .args .count) (s .args .tiers .now) (s .args .nets .now
 room : (s : tie.Start) → 3 * s .args .count + 2 * s .args .table .count + 1 ≤ longestBook
 room s =
     run-long (prompts s) (s .args .table) (s .pre .1 .0 .0) (length-map (s .args .nets .now) _ ∙ s .pre .1 .0 .1)
-    (sym (length-map (s .args .table .spread) _) ∙ s .good .1 .1 .1 .1 .0 .1 .1 .1 .0 .1 .0 .1) (s .pre .0)
+    (sym (length-map (s .args .table .spread) _) ∙ s .good .1 .1 .1 .0 .1 .1 .1 .0 .1 .0 .1) (s .pre .0)
 
 few : (s : tie.Start) → length (bookBy (stepsOf (s .args .table)) (openOf (prompts s))) ≤ longestBook
 few s =
     let long = book-long (prompts s) (s .args .table) (s .pre .1 .0 .0) (length-map (s .args .nets .now) _ ∙ s .pre .1 .0 .1)
-    (sym (length-map (s .args .table .spread) _) ∙ s .good .1 .1 .1 .1 .0 .1 .1 .1 .0 .1 .0 .1) (s .pre .0) in
+    (sym (length-map (s .args .table .spread) _) ∙ s .good .1 .1 .1 .0 .1 .1 .1 .0 .1 .0 .1) (s .pre .0) in
     omega (arith, long, room s)
 
 returns : tie.Need-returns
 returns c =
     let s = c .before in
     let o = s .args .out .now in
-    λ whole n is. (
-      each-too-few longestBook (λ k. afterOver whole (questionOf false k)) whole o (s .args .records) (omega (arith, c .if1 .taken)) n .0,
-      lent-few longestBook tableQuestion (afterOver whole (Book tableQuestion)) o (omega (arith, c .if1 .taken)),
-    )
+    λ whole is. lent-few longestBook tableQuestion (afterOver whole (Book tableQuestion)) o (omega (arith, c .if1 .taken))
 
 mul-start : tie.Need-mul-start
 mul-start c = search needs
@@ -77,13 +72,11 @@ returns-2 c =
     let s = after-if .before in
     let o = s .args .out .now in
     let r = c .before .put-table in
-    λ whole n is.
-    let after = afterOver whole (Book tableQuestion) in (
-      each-accepted longestBook (λ k. afterOver whole (questionOf false k)) whole o _ (omega (arith, after-if .if1 .left)) refl .0,
-      lent-enough longestBook tableQuestion after o _ (omega (arith, after-if .if1 .left))
-          (put-place longestBook (longestBook * tableQuestion) o (r .last .0) after
-          (book-after whole tableQuestion (stepsOf (s .args .table)) (openOf (prompts s)) _ (r .last .0) is (le-trans (few s) (search needs)) (r .ensures))),
-    )
+    λ whole is.
+    let after = afterOver whole (Book tableQuestion) in
+    lent-enough longestBook tableQuestion after o _ (omega (arith, after-if .if1 .left))
+    (put-place longestBook (longestBook * tableQuestion) o (r .last .0) after
+    (book-after whole tableQuestion (stepsOf (s .args .table)) (openOf (prompts s)) _ (r .last .0) is (le-trans (few s) (search needs)) (r .ensures)))
 
 pub lend-table-book-spec : {M : Type 1} → statement M
 lend-table-book-spec =

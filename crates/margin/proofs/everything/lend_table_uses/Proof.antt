@@ -1,7 +1,6 @@
 -- The table's place is written where all places are lent, and else none is.
 -- Assumes nothing.
 use mathlib.Core.Path.{refl, subst⁻¹}
-use mathlib.Core.Bool.{true}
 use mathlib.Core.List.{List}
 use Prim.Native.Nat.{_*_}
 use native.Mathlib.Omega.{arith}
@@ -11,12 +10,11 @@ use Rattle.spread.specs.code.Lent.{promptsIn}
 use Rattle.spread.specs.declared.Delta.{Delta}
 use Rattle.formulas.specs.Bounds.{longestUses}
 use Rattle.margin.specs.Books.{tableQuestion}
-use Rattle.margin.specs.Places.{questionOf}
 use Rattle.margin.specs.Questions.{afterOver}
 use Rattle.margin.specs.code.Beside.{TiersOver}
 use Rattle.margin.specs.declared.asking.Question.the-variants.{Uses}
 use Rattle.margin.proofs.LentLaws.{lent-few, lent-enough}
-use Rattle.margin.proofs.PlaceLaws.{put-place, each-too-few, each-accepted}
+use Rattle.margin.proofs.PlaceLaws.{put-place}
 use Rattle.margin.proofs.everything.lend_table_uses.Statement.{statement}
 use Rattle.margin.proofs.everything.lend_table_uses.Tie as tie
 
@@ -24,10 +22,7 @@ returns : tie.Need-returns
 returns c =
     let s = c .before .before in
     let o = s .args .out .now in
-    λ whole over n. (
-      each-too-few longestUses (λ k. afterOver whole (questionOf true k)) whole o (s .args .records) (omega (arith, c .if1 .taken)) n .0,
-      lent-few longestUses tableQuestion (afterOver whole (Uses tableQuestion)) o (omega (arith, c .if1 .taken)),
-    )
+    λ whole over n. lent-few longestUses tableQuestion (afterOver whole (Uses tableQuestion)) o (omega (arith, c .if1 .taken))
 
 deltas-from-requires : tie.Need-deltas-from-requires
 deltas-from-requires c κs = search needs
@@ -86,18 +81,16 @@ returns-2 c =
     let s = after-if .before .before in
     let o = s .args .out .now in
     let r = after-uses .answer-uses in
-    λ whole over n. (
-      each-accepted longestUses (λ k. afterOver whole (questionOf true k)) whole o _ (omega (arith, after-if .if1 .left)) refl .0,
-      lent-enough longestUses tableQuestion (afterOver whole (Uses tableQuestion)) o _ (omega (arith, after-if .if1 .left))
-          (put-place longestUses (longestUses * tableQuestion) o (r .last .1 .1 .0) (afterOver whole (Uses tableQuestion))
-          (r .ensures whole tableQuestion
-          (record {
-            lawful = over .lawful;
-            asked-is = refl;
-            records-are = n;
-            asks = after-asking .table-asking .ensures whole (handed after-deltas whole over);
-          }) .1)),
-    )
+    λ whole over n.
+    lent-enough longestUses tableQuestion (afterOver whole (Uses tableQuestion)) o _ (omega (arith, after-if .if1 .left))
+    (put-place longestUses (longestUses * tableQuestion) o (r .last .1 .1 .0) (afterOver whole (Uses tableQuestion))
+    (r .ensures whole tableQuestion
+    (record {
+      lawful = over .lawful;
+      asked-is = refl;
+      records-are = n;
+      asks = after-asking .table-asking .ensures whole (handed after-deltas whole over);
+    }) .1))
 
 pub lend-table-uses-spec : {M : Type 1} → statement M
 lend-table-uses-spec =

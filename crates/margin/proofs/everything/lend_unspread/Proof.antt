@@ -1,7 +1,6 @@
 -- The table's place is written where all places are lent, and else none is.
 -- Assumes nothing.
-use mathlib.Core.Path.{refl, sym, ap, _∙_}
-use mathlib.Core.Bool.{false}
+use mathlib.Core.Path.{sym, ap, _∙_}
 use mathlib.Core.List.{[], map}
 use Prim.Native.Nat.{_*_, _≤_}
 use native.Mathlib.Nat.{le-trans}
@@ -11,13 +10,12 @@ use lib.Seq.{length-take-le}
 use Rattle.formulas.specs.Bounds.{longestBook}
 use Rattle.formulas.specs.Contract.{contracts, asTier}
 use Rattle.margin.specs.Books.{bookBy, tableQuestion}
-use Rattle.margin.specs.Places.{questionOf}
 use Rattle.margin.specs.Questions.{afterOver}
 use Rattle.margin.specs.declared.asking.Question.the-variants.{Book}
 use Rattle.margin.proofs.AccountLaws.{unspread-book}
 use Rattle.margin.proofs.AnswerLaws.{by-length, book-after}
 use Rattle.margin.proofs.LentLaws.{lent-few, lent-enough}
-use Rattle.margin.proofs.PlaceLaws.{put-place, each-too-few, each-accepted}
+use Rattle.margin.proofs.PlaceLaws.{put-place}
 use borrow.Author.Needs.{needs}
 use Rattle.margin.proofs.everything.lend_unspread.Statement.{statement}
 use Rattle.margin.proofs.everything.lend_unspread.Tie as tie
@@ -26,10 +24,7 @@ returns : tie.Need-returns
 returns c =
     let s = c .before in
     let o = s .args .out .now in
-    λ whole h. (
-      each-too-few longestBook (λ k. afterOver whole (questionOf false k)) whole o (s .args .records) (omega (arith, c .if1 .taken)) (h .records-are) .0,
-      lent-few longestBook tableQuestion (afterOver whole (Book tableQuestion)) o (omega (arith, c .if1 .taken)),
-    )
+    λ whole h. lent-few longestBook tableQuestion (afterOver whole (Book tableQuestion)) o (omega (arith, c .if1 .taken))
 
 mul-start : tie.Need-mul-start
 mul-start c = search needs
@@ -67,13 +62,11 @@ returns-2 c =
     let after = afterOver whole (Book tableQuestion) in
     let many = sym (ap length (h .nets-are) ∙ length-map ps (λ p. p .unused)) in
     let few : length (bookBy [] ps) ≤ longestBook =
-    omega (arith, s .pre .0, by-length [] ps, many, length-take-le n (s .args .nets .now) (omega (arith, s .pre .0, s .pre .1))) in (
-      each-accepted longestBook (λ k. afterOver whole (questionOf false k)) whole o _ (omega (arith, after-if .if1 .left)) refl .0,
-      lent-enough longestBook tableQuestion after o _ (omega (arith, after-if .if1 .left))
-          (put-place longestBook (longestBook * tableQuestion) o (r .last .0) after
-          (book-after whole tableQuestion [] ps _ (r .last .0) (unspread-book whole (h .lawful) (h .none)) (le-trans few (search needs))
-          (r .ensures ps (h .nets-are)))),
-    )
+    omega (arith, s .pre .0, by-length [] ps, many, length-take-le n (s .args .nets .now) (omega (arith, s .pre .0, s .pre .1))) in
+    lent-enough longestBook tableQuestion after o _ (omega (arith, after-if .if1 .left))
+    (put-place longestBook (longestBook * tableQuestion) o (r .last .0) after
+    (book-after whole tableQuestion [] ps _ (r .last .0) (unspread-book whole (h .lawful) (h .none)) (le-trans few (search needs))
+    (r .ensures ps (h .nets-are))))
 
 pub lend-unspread-spec : {M : Type 1} → statement M
 lend-unspread-spec =

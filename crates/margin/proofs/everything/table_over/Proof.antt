@@ -37,34 +37,23 @@ lend-unspread-requires c κs =
     let x = s .pre .1 .is in
     (omega (arith, x .count-is, x .tabled .lines .few), x .tabled .nets-places)
 
-uses-answer-requires : tie.Need-uses-answer-requires
-uses-answer-requires c κs = search needs
-
 same-length : tie.Need-same-length
 same-length c = search needs
 
 returns : tie.Need-returns
 returns c =
-    let after-lend = c .before .before in
+    let after-lend = c .before in
     let after-if = after-lend .before .before in
     let s = after-if .before .before in
     let bytes = s .args .entries .now in
     let no-records : length bytes / recordBytes ≡ 0 = omega (arith, after-if .if1 .taken) in
     λ whole is.
     let none = sym (is .part .are) ∙ ap (λ (n : ℕ). cut n bytes) no-records in
-    let t = after-lend .lend-unspread .ensures whole
-    (record {
-      lawful = is .lawful;
-      records-are = is .records-are;
-      none = none;
-      nets-are = tabled-nets whole _ _ _ _ _ _ (is .tabled) _ (is .count-is);
-    }) in
     record {
-      figures-answer = refl;
       figures-after = is .uncredited none;
-      books-answer = t .0;
-      book = t .1;
-      uses-answer = c .uses-answer .ensures whole (is .records-are);
+      book =
+          after-lend .lend-unspread .ensures whole
+          (record { lawful = is .lawful; none = none; nets-are = tabled-nets whole _ _ _ _ _ _ (is .tabled) _ (is .count-is) });
       paid = lent-same longestUses tableQuestion (afterOver whole (Uses tableQuestion)) _ (no-uses whole none);
     }
 
@@ -164,37 +153,29 @@ lend-table-uses-requires c κs =
     record { whole = x .whole; over = over t (x .whole) (x .is) }
 
 same-length-2 : tie.Need-same-length-2
-same-length-2 c =
-    let after-lend = c .before .before .before .before in
-    let after-figures = after-lend .before .before .before .before .before .before in
-    after-figures .figures .given
+same-length-2 c = search needs
 
 same-length-3 : tie.Need-same-length-3
-same-length-3 c =
-    let after-books = c .before .before .before in
-    after-books .books2 .given
+same-length-3 c = search needs
 
 same-length-4 : tie.Need-same-length-4
-same-length-4 c = c .uses .given
+same-length-4 c = search needs
 
 returns-2 : tie.Need-returns-2
 returns-2 c =
-    let after-lend = c .before .before .before .before in
+    let after-uses = c .before in
+    let after-lend = after-uses .before .before .before in
     let after-formed = after-lend .before .before .before .before .before .before .before in
     let after-book = at-book after-formed in
     let t = at-table after-book in
     λ whole is.
-    let book = after-lend .lend-table-book .ensures whole (is .records-are)
-    (run-book whole (is .lawful) (allFor whole) (is .tabled .lines) _ (is .part) (tiers t) (t .intercontract-table .result) (tiered t whole is)
-    (t .intercontract-table .ensures)) in
-    let uses = c .before .lend-table-uses .ensures whole (over t whole is) (is .records-are) in
     record {
-      figures-answer = refl;
       figures-after = after-formed .put-formed .ensures whole (formed after-book whole is);
-      books-answer = book .0;
-      book = book .1;
-      uses-answer = uses .0;
-      paid = uses .1;
+      book =
+          after-lend .lend-table-book .ensures whole
+          (run-book whole (is .lawful) (allFor whole) (is .tabled .lines) _ (is .part) (tiers t) (t .intercontract-table .result) (tiered t whole is)
+          (t .intercontract-table .ensures));
+      paid = after-uses .lend-table-uses .ensures whole (over t whole is) (is .records-are);
     }
 
 pub table-over-spec : {M : Type 1} → statement M
@@ -202,7 +183,6 @@ table-over-spec =
     tie.close
     (tie.spec
     lend-unspread-requires
-    uses-answer-requires
     same-length
     returns
     intercontract-table-requires

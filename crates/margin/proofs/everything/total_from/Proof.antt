@@ -18,17 +18,19 @@ use Rattle.margin.proofs.everything.total_from.Tie as tie
 few : (s : tie.Start) → s .args .account .contracts ≤ mostContracts
 few s = few-contracts (s .args .morning .now) (s .args .noon .now) (s .args .account) (s .pre .0)
 
-slice-aggregate-everything-from : tie.Need-slice-aggregate-everything-from
-slice-aggregate-everything-from c = search needs
+slice-aggregate-put-from : tie.Need-slice-aggregate-put-from
+slice-aggregate-put-from c = search needs
 
-slice-aggregate-everything-from-2 : tie.Need-slice-aggregate-everything-from-2
-slice-aggregate-everything-from-2 c = search needs
+slice-aggregate-put-from-2 : tie.Need-slice-aggregate-put-from-2
+slice-aggregate-put-from-2 c = search needs
 
-slice-aggregate-everything-from-3 : tie.Need-slice-aggregate-everything-from-3
-slice-aggregate-everything-from-3 c = search needs
+slice-aggregate-put-from-3 : tie.Need-slice-aggregate-put-from-3
+slice-aggregate-put-from-3 c = search needs
 
-everything-from-requires : tie.Need-everything-from-requires
-everything-from-requires c κs = search needs
+put-from-requires : tie.Need-put-from-requires
+put-from-requires c κs =
+    let s = c .before .before .before .before .before in
+    (s .pre .0, (s .pre .1, omega (arith, few s)))
 
 total-in-requires : tie.Need-total-in-requires
 total-in-requires c κs =
@@ -39,7 +41,7 @@ returns : tie.Need-returns
 returns c =
     let after-all = c .before .before .before .before .before in
     let s = after-all .before .before .before .before .before .before in
-    let f = after-all .everything-from in
+    let f = after-all .put-from in
     λ whole t.
     let some : length (figures whole) ≤ longestFigures =
     omega (arith, few s, figures-length whole, ap length (t .beside .contracts), s .pre .0 .places .contracts) in
@@ -52,9 +54,9 @@ pub total-from-spec : {M : Type 1} → statement M
 total-from-spec =
     tie.close
     (tie.spec
-    slice-aggregate-everything-from
-    slice-aggregate-everything-from-2
-    slice-aggregate-everything-from-3
-    everything-from-requires
+    slice-aggregate-put-from
+    slice-aggregate-put-from-2
+    slice-aggregate-put-from-3
+    put-from-requires
     total-in-requires
     returns)

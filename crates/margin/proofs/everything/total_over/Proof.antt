@@ -19,17 +19,17 @@ use Rattle.margin.proofs.everything.total_over.Tie as tie
 few : (s : tie.Start) → s .args .account .contracts ≤ mostContracts
 few s = few-contracts (s .args .morning .now) (s .args .noon .now) (s .args .account) (s .pre)
 
-slice-aggregate-everything-over : tie.Need-slice-aggregate-everything-over
-slice-aggregate-everything-over c = search needs
+slice-aggregate-put-over : tie.Need-slice-aggregate-put-over
+slice-aggregate-put-over c = search needs
 
-slice-aggregate-everything-over-2 : tie.Need-slice-aggregate-everything-over-2
-slice-aggregate-everything-over-2 c = search needs
+slice-aggregate-put-over-2 : tie.Need-slice-aggregate-put-over-2
+slice-aggregate-put-over-2 c = search needs
 
-slice-aggregate-everything-over-3 : tie.Need-slice-aggregate-everything-over-3
-slice-aggregate-everything-over-3 c = search needs
+slice-aggregate-put-over-3 : tie.Need-slice-aggregate-put-over-3
+slice-aggregate-put-over-3 c = search needs
 
-everything-over-requires : tie.Need-everything-over-requires
-everything-over-requires c κs = search needs
+put-over-requires : tie.Need-put-over-requires
+put-over-requires c κs = search needs
 
 total-in-requires : tie.Need-total-in-requires
 total-in-requires c κs =
@@ -40,7 +40,7 @@ returns : tie.Need-returns
 returns c =
     let after-all = c .before .before .before .before .before in
     let s = after-all .before .before .before .before .before .before in
-    let f = after-all .everything-over in
+    let f = after-all .put-over in
     let a = accountOf (s .args .morning .now) (s .args .noon .now) in
     let some : length (figures a) ≤ longestFigures = omega (arith, few s, figures-length a, s .pre .places .contracts) in
     c .total-in .ensures
@@ -51,9 +51,9 @@ pub total-over-spec : {M : Type 1} → statement M
 total-over-spec =
     tie.close
     (tie.spec
-    slice-aggregate-everything-over
-    slice-aggregate-everything-over-2
-    slice-aggregate-everything-over-3
-    everything-over-requires
+    slice-aggregate-put-over
+    slice-aggregate-put-over-2
+    slice-aggregate-put-over-3
+    put-over-requires
     total-in-requires
     returns)

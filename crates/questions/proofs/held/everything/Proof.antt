@@ -65,11 +65,11 @@ returns-2 c =
     let r = after-everything-over .everything-over in
     let x = r .ensures in
     let f = answer-accepted file (s .args .checked) (s .pre) z (n .result .now) (n .ensures) Figures (s .args .figures .now) (r .result .figures) _
-    (x .figures-answer, x .figures-after) in
+    (x .figures-answer, x .lent .figures-after) in
     let b = all-accepted file (s .args .checked) (s .pre) z (n .result .now) (n .ensures) false (s .args .books .now) (r .result .books) _
-    (x .books-answer, x .books-after) in
+    (x .books-answer, x .lent .books-after) in
     let u = all-accepted file (s .args .checked) (s .pre) z (n .result .now) (n .ensures) true (s .args .uses .now) (r .result .uses) _
-    (x .uses-answer, x .uses-after) in
+    (x .uses-answer, x .lent .uses-after) in
     record { figures-answer = f .0; figures-after = f .1; books-answer = b .0; books-after = b .1; uses-answer = u .0; uses-after = u .1 }
 
 pub everything-spec : {M : Type 1} → statement M

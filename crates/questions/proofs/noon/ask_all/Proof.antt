@@ -76,11 +76,11 @@ returns-2 c =
     let r = after-everything-over .everything-over in
     let x = r .ensures in
     let f = answer-accepted m n (k .result) (k .ensures) z Figures (s .args .figures .now) _ (r .result .figures)
-    (c .before .before .of-joined .result) (c .before .before .of-joined .ensures) (x .figures-answer, x .figures-after) in
+    (c .before .before .of-joined .result) (c .before .before .of-joined .ensures) (x .figures-answer, x .lent .figures-after) in
     let b = all-accepted m n (k .result) (k .ensures) z false (s .args .books .now) _ (r .result .books) (c .before .of-joined2 .result)
-    (c .before .of-joined2 .ensures) (x .books-answer, x .books-after) in
+    (c .before .of-joined2 .ensures) (x .books-answer, x .lent .books-after) in
     let u = all-accepted m n (k .result) (k .ensures) z true (s .args .uses .now) _ (r .result .uses) (c .of-joined3 .result) (c .of-joined3 .ensures)
-    (x .uses-answer, x .uses-after) in
+    (x .uses-answer, x .lent .uses-after) in
     record { figures-answer = f .0; figures-after = f .1; books-answer = b .0; books-after = b .1; uses-answer = u .0; uses-after = u .1 }
 
 pub ask-all-spec : {M : Type 1} → statement M

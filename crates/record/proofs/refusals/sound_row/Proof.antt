@@ -1,18 +1,23 @@
 -- `record::refusals::sound_row` meets its contract. Assumes nothing.
 use borrow.Author.Needs.{needs}
+use mathlib.Core.Bool.{Bool, not, _&&_, _||_}
+use mathlib.Core.Path.{refl, ap, _∙_}
+use lib.Dec.{eqb}
 use lib.ListN.{length}
 use borrow.Author.Tests.{lt-leb, le-leb}
 use Rattle.record.specs.Bytes.{recordBytes}
-use Rattle.record.specs.Layout.{rowFields}
+use Rattle.record.specs.Layout.{rowHead, rowFields, currency}
+use Rattle.record.specs.Ranges.{outsideAmong}
 use Rattle.record.proofs.Dispatch.{of-row, row-fields-outside}
-use Rattle.record.proofs.Sound.{sound-short, sound-whole}
+use Rattle.record.proofs.Sound.{but-for, sound-short, sound-whole}
 use Rattle.record.proofs.refusals.sound_row.Statement.{statement}
 use Rattle.record.proofs.refusals.sound_row.Tie as tie
 
 returns : tie.Need-returns
 returns c =
-    let r = c .before .before .args .r .now in
-    sound-short 3 (c .before .before .args .c) r (lt-leb recordBytes (length r) (c .if1 .taken))
+    let s = c .before .before in
+    let r = s .args .r .now in
+    ap (λ (b : Bool). b && (s .args .other || eqb (currency r) 0)) (sound-short 3 (s .args .c) r (lt-leb recordBytes (length r) (c .if1 .taken)))
 
 is-of-requires : tie.Need-is-of-requires
 is-of-requires c κs = search needs
@@ -32,9 +37,13 @@ returns-2 c =
     let after-if1 = after-is-of .before in
     let start = after-if1 .before .before in
     let r = start .args .r .now in
-    sound-whole 3 (start .args .c) r (rowFields r) (of-row r) (le-leb recordBytes (length r) (after-if1 .if1 .left))
-    (after-is-of .is-of .ensures) (c .before .before .beside-row .ensures)
-    (row-fields-outside r (c .before .row-head-outside .ensures) (c .losses-beyond .ensures))
+    let let-in = start .args .other || eqb (currency r) 0 in
+    ap (λ (h : Bool). after-is-of .is-of .result && not (c .before .before .beside-row .result || (h || c .losses-beyond .result)))
+    (c .before .row-head-outside .ensures)
+    ∙ but-for (after-is-of .is-of .result) (c .before .before .beside-row .result) (outsideAmong (rowHead r) r) (c .losses-beyond .result) let-in
+    ∙ ap (λ (b : Bool). b && let-in)
+    (sound-whole 3 (start .args .c) r (rowFields r) (of-row r) (le-leb recordBytes (length r) (after-if1 .if1 .left))
+    (after-is-of .is-of .ensures) (c .before .before .beside-row .ensures) (row-fields-outside r refl (c .losses-beyond .ensures)))
 
 pub sound-row-spec : {M : Type 1} → statement M
 sound-row-spec =

@@ -3,8 +3,10 @@ use borrow.Author.Needs.{needs}
 use mathlib.Core.Path.{sym, ap, _∙_}
 use mathlib.Core.List.{List}
 use Rattle.record.specs.Bytes.{Field}
+use Rattle.record.specs.Layout.{rowHead}
 use Rattle.record.specs.Ranges.{outsideAmong}
 use Rattle.record.proofs.Dispatch.{row-fields-outside, of-contract, of-prompt, of-row, of-spread, of-entry, of-rate, of-none}
+use Rattle.record.proofs.Tests.{or-false}
 use Rattle.record.proofs.refusals.whole_field_outside.Statement.{statement}
 use Rattle.record.proofs.refusals.whole_field_outside.Tie as tie
 
@@ -45,7 +47,7 @@ returns-3 c =
     let after-byte-in = c .before .before .before .before .before in
     let start = after-byte-in .before .before in
     let r = start .args .r .now in
-    row-fields-outside r (c .before .row-head-outside .ensures) (c .losses-beyond .ensures)
+    row-fields-outside r (c .before .row-head-outside .ensures ∙ or-false (outsideAmong (rowHead r) r)) (c .losses-beyond .ensures)
     ∙ ap (λ (fs : List Field). outsideAmong fs r) (sym
     (of-row r (sym (after-byte-in .byte-in .ensures .0) ∙ c .before .before .if3 .taken)))
 

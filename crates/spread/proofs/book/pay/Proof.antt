@@ -4,7 +4,7 @@
 use Prim.Native.Nat.{ℕ, zero, suc, _-_, _≤_, _<_, _^_, min}
 use native.Mathlib.Omega.{arith}
 use mathlib.Core.List.{List}
-use mathlib.Core.Path.{_≡_, sym, _∙_, ap, subst⁻¹}
+use mathlib.Core.Path.{_≡_, _∙_, ap, subst⁻¹}
 use lib.IntN.{ℤ, pos, negsuc, negℤ, _-ℤ_}
 use lib.ListN.{length, length-map, getD, set, replicate}
 use mir.Syntax.{w64}
@@ -51,13 +51,13 @@ read s k = toZ w64 (ofZ w64 (getD (s .args .nets .now) k (pos 0)))
 -- the prompt of a turn
 here : (c : tie.After-pool-of Inv-loop μ-loop) →
     let after-loop = c .before .before .before .before in
-    let s = after-loop .before .before .before .before in
+    let s = after-loop .before .before .before in
     Placed (openOf (lent s)) (after-loop .loop .k) (read s (after-loop .loop .k)) (c .pool-of .result)
 here c =
     let after-used = c .before .before in
     let after-loop = after-used .before .before in
     let l = after-loop .loop in
-    let s = after-loop .before .before .before .before in
+    let s = after-loop .before .before .before in
     let z = getD (s .args .nets .now) (l .k) (pos 0) in
     let f : SFits w64 z = record { sfits = after-used .used .given } in
     placed-in (s .args .count) (s .args .tiers .now) (s .args .nets .now) (l .k) _ (c .pool-of .result) (s .pre .1 .0 .0) (s .pre .1 .0 .1) (s .pre .0)
@@ -70,12 +70,12 @@ within c = placed-within _ _ _ _ (here c)
 kept-is : (c : tie.After-towards-zero Inv-loop μ-loop) →
     let after-beyond = c .before .before in
     let after-loop = after-beyond .before .before .before .before .before .before in
-    let s = after-loop .before .before .before .before in
+    let s = after-loop .before .before .before in
     c .towards-zero .result ≡ towardsZero (read s (after-loop .loop .k)) (after-beyond .beyond .result)
 kept-is c =
     let after-beyond = c .before .before in
     let after-loop = after-beyond .before .before .before .before .before .before in
-    let s = after-loop .before .before .before .before in
+    let s = after-loop .before .before .before in
     let z = read s (after-loop .loop .k) in
     let f : SFits w64 z = record { sfits = c .before .struct-told .given .0 .1 } in
     seen (λ (x : ℤ). towardsZero x (after-beyond .beyond .result)) z f (c .towards-zero .ensures)
@@ -84,14 +84,14 @@ kept-is c =
 used-is : (c : tie.After-minus Inv-loop μ-loop) →
     let after-beyond = c .before .before .before .before in
     let after-loop = after-beyond .before .before .before .before .before .before in
-    let s = after-loop .before .before .before .before in
+    let s = after-loop .before .before .before in
     let z = read s (after-loop .loop .k) in
     c .minus .result ≡ z -ℤ towardsZero z (after-beyond .beyond .result)
 used-is c =
     let after-towards-zero = c .before .before in
     let after-beyond = after-towards-zero .before .before in
     let after-loop = after-beyond .before .before .before .before .before .before in
-    let s = after-loop .before .before .before .before in
+    let s = after-loop .before .before .before in
     let z = read s (after-loop .loop .k) in
     let y = after-towards-zero .towards-zero .result in
     let f : SFits w64 z = record { sfits = c .before .struct-told2 .given .0 .1 } in
@@ -100,9 +100,9 @@ used-is c =
 
 loop-holds : tie.Need-loop-holds Inv-loop μ-loop
 loop-holds c =
-    let s = c .before .before .before in
-    let cells = s .args .pools .cell in
-    let len : length cells ≡ poolCount = sym (length-map cells _) ∙ s .good .1 .1 .1 .0 .1 .1 .0 .1 .0 .1 in
+    let s = c .before .before in
+    let cells = s .args .pools in
+    let len : length cells ≡ poolCount = s .good .1 .1 .1 .0 .1 .0 .1 in
     let none = paying-none cells (s .args .left .now) (openOf (lent s)) len in (
       omega arith,
       few (lent s) (s .pre .0),
@@ -136,7 +136,7 @@ mul-beyond-2 c = let h = within c in omega arith
 shared-slice-read-beyond : tie.Need-shared-slice-read-beyond Inv-loop μ-loop
 shared-slice-read-beyond c =
     let after-loop = c .before .before .before .before .before in
-    let s = after-loop .before .before .before .before in
+    let s = after-loop .before .before .before in
     omega (arith, within (c .before), s .pre .1 .1 .0)
 
 beyond-requires : tie.Need-beyond-requires Inv-loop μ-loop
@@ -151,7 +151,7 @@ minus-requires c κs =
     let after-beyond = after-towards-zero .before .before in
     let y = after-towards-zero .towards-zero .result in
     let after-loop = after-beyond .before .before .before .before .before .before in
-    let s = after-loop .before .before .before .before in
+    let s = after-loop .before .before .before in
     let z = read s (after-loop .loop .k) in
     let f : SFits w64 z = record { sfits = c .struct-told2 .given .0 .1 } in
     rw (back y (record { sfits = after-towards-zero .towards-zero .ok }), kept-is after-towards-zero, back z f)
@@ -211,7 +211,7 @@ loop-again c =
     let after-pool-of = after-beyond .before .before in
     let after-loop = after-pool-of .before .before .before .before in
     let l = after-loop .loop in
-    let s = after-loop .before .before .before .before in
+    let s = after-loop .before .before .before in
     let cell = after-pool-of .pool-of .result in
     let x = after-minus .minus .result in
     let y = after-towards-zero .towards-zero .result in
@@ -219,7 +219,7 @@ loop-again c =
     let kept-back = back y (record { sfits = after-towards-zero .towards-zero .ok }) in (
       omega arith,
       l .inv .1,
-      pay-next (s .args .pools .cell) (s .args .left .now) (openOf (lent s)) (l .k) (l .had) _ (l .used) (l .unused) _ cell
+      pay-next (s .args .pools) (s .args .left .now) (openOf (lent s)) (l .k) (l .had) _ (l .used) (l .unused) _ cell
           (after-beyond .beyond .result) _ _ (omega arith) (here after-pool-of) (after-beyond .beyond .ensures)
           (used-back ∙ used-is after-minus) (kept-back ∙ kept-is after-towards-zero)
           (ap (set (l .had) cell) (c .beyond2 .ensures ∙ ap (λ (a : ℕ). getD (l .had) cell 0 - a) (c .before .size .ensures)))
@@ -230,10 +230,10 @@ returns : tie.Need-returns Inv-loop μ-loop
 returns c =
     let after-loop = c .before in
     let l = after-loop .loop in
-    let s = after-loop .before .before .before .before in
+    let s = after-loop .before .before .before in
     let p = lent s in
     let n = open-length p (s .pre .1 .0 .0) (length-map (s .args .nets .now) _ ∙ s .pre .1 .0 .1) (l .inv .1) in
-    paying-all (s .args .pools .cell) (s .args .left .now) (openOf p) (l .k) (l .had) (deltasFrom (l .used)) (deltasFrom (l .unused)) (omega arith) (l .inv .2)
+    paying-all (s .args .pools) (s .args .left .now) (openOf p) (l .k) (l .had) (deltasFrom (l .used)) (deltasFrom (l .unused)) (omega arith) (l .inv .2)
 
 pub pay-spec : {M : Type 1} → statement M
 pay-spec =

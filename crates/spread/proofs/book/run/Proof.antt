@@ -1,11 +1,12 @@
 -- `run`: the spreads passed have their numbers, and the steps to come run on the cells left.
 -- Assumes nothing.
-use Prim.Native.Nat.{ℕ, _-_, _≤_}
+use Prim.Native.Nat.{ℕ, _-_, _≤_, _<_}
 use native.Mathlib.Omega.{arith}
 use mathlib.Core.Bool.{true, false}
 use mathlib.Core.List.{List, []}
 use mathlib.Core.Logic.{⊎-elim}
-use mathlib.Core.Path.{_≡_, sym, _∙_, subst⁻¹}
+use mathlib.Core.Path.{_≡_, sym, _∙_, ap, subst⁻¹}
+use lib.Dec.{ltb}
 use lib.ListN.{length, length-map, getD, replicate}
 use borrow.Author.Needs.{needs}
 use Rattle.spread.specs.Accepted.{tableSpreads, soundSpread, spreadPlaces}
@@ -14,20 +15,20 @@ use Rattle.spread.specs.code.Lent.{spreadsFrom}
 use Rattle.spread.specs.Steps.{stepOf}
 use Rattle.spread.specs.declared.Spread.{Spread}
 use Rattle.spread.specs.declared.Table.{Table}
-use Rattle.spread.proofs.Bounds.{small-taken}
-use Rattle.spread.proofs.Nothing.{Written, written-now, written-none}
+use Rattle.spread.proofs.Bounds.{small-taken, pools-small}
+use Rattle.spread.proofs.Nothing.{Written, written-none}
 use Rattle.spread.proofs.Gathering.{few-in-table, sound-in-table}
 use Rattle.spread.proofs.Running.{table-length, table-next, none-yet, Running, running-none, running-all}
+use Rattle.spread.proofs.Taking.{lowest-of, taken-of}
 use Rattle.spread.proofs.book.run.Statement.{statement}
 use Rattle.spread.proofs.book.run.Tie as tie
 
 abbrev Inv-loop : tie.InvT-loop
-Inv-loop first₀ second₀ table n left₀ i₀ first second left i =
-    (i ≤ n) × (n ≤ spreadPlaces) × Small (left .cell)
-    × Running (left₀ .cell) (tableSpreads table) i (left .cell) (spreadsFrom first) (spreadsFrom second)
+Inv-loop cells₀ first₀ second₀ table n i₀ cells first second i =
+    (i ≤ n) × (n ≤ spreadPlaces) × Small cells × Running cells₀ (tableSpreads table) i cells (spreadsFrom first) (spreadsFrom second)
 
 abbrev μ-loop : tie.MeasureT-loop
-μ-loop first₀ second₀ table n left₀ i₀ first second left i = n - i
+μ-loop cells₀ first₀ second₀ table n i₀ cells first second i = n - i
 
 abbrev spread-at : Table → ℕ → Spread
 spread-at t i = getD (t .spread) i (record { legs = 0; leg = []; tenths = false })
@@ -43,40 +44,46 @@ here c = let s = c .before .before in sound-in-table (s .args .t2) (spreads s) (
 first-step : (c : tie.Joined1 Inv-loop μ-loop) →
     let after-loop = c .before .before .before .before .before .before .before in
     let l = after-loop .loop in
-    Written (stepOf false (spread-at (after-loop .before .args .t2) (l .i))) (l .left .cell) (c .if1 .left .cell) (l .i) (l .first) (c .if1 .first)
+    Written (stepOf false (spread-at (after-loop .before .args .t2) (l .i))) (l .cells) (c .if1 .cells) (l .i) (l .first) (c .if1 .first)
 first-step c =
-    let after-loop = c .before .before .before .before .before .before .before in
-    let l = after-loop .loop in
+    let pools = c .before .before .pools-for .ensures in
+    let after-test = c .before .before .before .before .before .before in
+    let l = after-test .before .loop in
     ⊎-elim
-    (λ w. written-now _ _ _ _ _ _ _ _ (w .1 .ensures) (w .4) (w .3))
-    (λ w. written-none _ _ _ _ _ _ (sym (c .before .has-room .ensures) ∙ w .0 .left) (w .2) (w .1) (none-yet _ (l .i) (l .first) (l .inv .3 .firsts)))
+    (λ w. record { number = _; taken = taken-of false _ (here after-test) _ _ pools _ _ _ (w .1 .ensures) (w .4 ∙ w .3 .ensures); written = w .5 })
+    (λ w. written-none _ _ _ _ _ _
+    (ap (ltb 0) (sym (lowest-of false _ (here after-test) _ _ pools)) ∙ sym (c .before .has-room .ensures) ∙ w .0 .left)
+    (w .1) (w .2) (none-yet _ (l .i) (l .first) (l .inv .3 .firsts)))
     (c .if1 .came)
 
 second-step : (c : tie.Joined2 Inv-loop μ-loop) →
     let after-first = c .before .before .before .before .before in
     let after-loop = after-first .before .before .before .before .before .before .before in
     let l = after-loop .loop in
-    Written (stepOf true (spread-at (after-loop .before .args .t2) (l .i))) (after-first .if1 .left .cell) (c .if2 .left .cell)
+    Written (stepOf true (spread-at (after-loop .before .args .t2) (l .i))) (after-first .if1 .cells) (c .if2 .cells)
     (l .i) (l .second) (c .if2 .second)
 second-step c =
+    let pools = c .before .before .pools-for2 .ensures in
     let after-first = c .before .before .before .before .before in
-    let after-loop = after-first .before .before .before .before .before .before .before in
-    let l = after-loop .loop in
+    let after-test = after-first .before .before .before .before .before .before in
+    let l = after-test .before .loop in
     ⊎-elim
-    (λ w. written-now _ _ _ _ _ _ _ _ (w .1 .ensures) (w .4) (w .3))
-    (λ w. written-none _ _ _ _ _ _ (sym (c .before .has-room2 .ensures) ∙ w .0 .left) (w .2) (w .1) (none-yet _ (l .i) (l .second) (l .inv .3 .seconds)))
+    (λ w. record { number = _; taken = taken-of true _ (here after-test) _ _ pools _ _ _ (w .1 .ensures) (w .4 ∙ w .3 .ensures); written = w .5 })
+    (λ w. written-none _ _ _ _ _ _
+    (ap (ltb 0) (sym (lowest-of true _ (here after-test) _ _ pools)) ∙ sym (c .before .has-room2 .ensures) ∙ w .0 .left)
+    (w .1) (w .2) (none-yet _ (l .i) (l .second) (l .inv .3 .seconds)))
     (c .if2 .came)
 
 -- what the first step leaves is small
-between : (c : tie.Joined1 Inv-loop μ-loop) → Small (c .if1 .left .cell)
+between : (c : tie.Joined1 Inv-loop μ-loop) → Small (c .if1 .cells)
 between c =
     let after-loop = c .before .before .before .before .before .before .before in
     let l = after-loop .loop in
-    small-taken _ (l .left .cell) _ _ (first-step c .taken) (l .inv .2)
+    small-taken _ (l .cells) _ _ (first-step c .taken) (l .inv .2)
 
 loop-holds : tie.Need-loop-holds Inv-loop μ-loop
 loop-holds c =
-    let cells = c .args .pools .cell in
+    let cells = c .args .cells .now in
     let ss = tableSpreads (c .args .t2) in (
       omega arith,
       few-in-table (c .args .t2) (c .pre .0),
@@ -92,15 +99,22 @@ mul-spread c = omega arith
 element-copy-out-spread : tie.Need-element-copy-out-spread Inv-loop μ-loop
 element-copy-out-spread c = omega arith
 
+pools-for-requires : tie.Need-pools-for-requires Inv-loop μ-loop
+pools-for-requires c κs = (c .pools-for-arg2 .given .0, here (c .before .before .before))
+
 has-room-requires : tie.Need-has-room-requires Inv-loop μ-loop
-has-room-requires c κs =
-    let after-test = c .before .before .before .before in
-    (search needs, here after-test)
+has-room-requires c κs = search needs
 
 take-requires : tie.Need-take-requires Inv-loop μ-loop
 take-requires c κs =
-    let after-test = c .before .before .before .before .before .before in
-    (here after-test, after-test .before .loop .inv .2)
+    let after-pools-for = c .before .before in
+    let after-test = after-pools-for .before .before .before .before in
+    (here after-test, pools-small _ _ _ _ (after-pools-for .pools-for .ensures) (after-test .before .loop .inv .2))
+
+put-back-requires : tie.Need-put-back-requires Inv-loop μ-loop
+put-back-requires c κs =
+    let lent = c .before .before .before .before .before in
+    (lent .pools-for-arg2 .given .0, here (lent .before .before .before))
 
 mul-first : tie.Need-mul-first Inv-loop μ-loop
 mul-first c = omega arith
@@ -108,23 +122,42 @@ mul-first c = omega arith
 element-write-first : tie.Need-element-write-first Inv-loop μ-loop
 element-write-first c = omega arith
 
+pools-for-requires-2 : tie.Need-pools-for-requires-2 Inv-loop μ-loop
+pools-for-requires-2 c κs =
+    let after-test = c .before .before .before .before .before .before .before .before in
+    (c .pools-for-arg4 .given .0, here after-test)
+
 has-room-requires-2 : tie.Need-has-room-requires-2 Inv-loop μ-loop
-has-room-requires-2 c κs =
-    let after-first = c .before .before .before in
-    let after-test = after-first .before .before .before .before .before .before in
-    (search needs, here after-test)
+has-room-requires-2 c κs = search needs
 
 take-requires-2 : tie.Need-take-requires-2 Inv-loop μ-loop
 take-requires-2 c κs =
-    let after-first = c .before .before .before .before .before in
+    let after-pools-for = c .before .before in
+    let after-first = after-pools-for .before .before .before in
     let after-test = after-first .before .before .before .before .before .before in
-    (here after-test, between after-first)
+    (here after-test, pools-small _ _ _ _ (after-pools-for .pools-for2 .ensures) (between after-first))
+
+put-back-requires-2 : tie.Need-put-back-requires-2 Inv-loop μ-loop
+put-back-requires-2 c κs =
+    let lent = c .before .before .before .before .before in
+    let after-first = lent .before .before in
+    let after-test = after-first .before .before .before .before .before .before in
+    (lent .pools-for-arg4 .given .0, here after-test)
+
+below : (c : tie.After-put-back2 Inv-loop μ-loop) →
+    let after-first = c .before .before .before .before .before .before .before .before in
+    let after-test = after-first .before .before .before .before .before .before in
+    after-test .before .loop .i < spreadPlaces
+below c =
+    let after-first = c .before .before .before .before .before .before .before .before in
+    let after-test = after-first .before .before .before .before .before .before in
+    omega (arith, after-test .loop-test .taken, after-test .before .loop .inv .1)
 
 mul-second : tie.Need-mul-second Inv-loop μ-loop
-mul-second c = omega arith
+mul-second c = let h = below c in omega arith
 
 element-write-second : tie.Need-element-write-second Inv-loop μ-loop
-element-write-second c = omega arith
+element-write-second c = below c
 
 add-i : tie.Need-add-i Inv-loop μ-loop
 add-i c = omega arith
@@ -141,7 +174,7 @@ loop-again c =
       omega arith,
       l .inv .1,
       small-taken _ _ _ _ (second-step c .taken) (between after-first),
-      table-next (s .args .t2) (s .args .pools .cell) (l .i) (l .left .cell) _ _ (l .first) (l .second) _ _ _ (spreads s) (l .inv .1)
+      table-next (s .args .t2) (s .args .cells .now) (l .i) (l .cells) _ _ (l .first) (l .second) _ _ _ (spreads s) (l .inv .1)
           (after-test .loop-test .taken) (first-step after-first) (second-step c) (l .inv .3),
     )
 
@@ -151,7 +184,7 @@ returns c =
     let s = c .before .before in
     let t = s .args .t2 in
     let n = table-length t (spreads s) (l .inv .1) in
-    running-all (s .args .pools .cell) (tableSpreads t) (l .i) (l .left .cell) (spreadsFrom (l .first)) (spreadsFrom (l .second)) (omega arith) (l .inv .3)
+    running-all (s .args .cells .now) (tableSpreads t) (l .i) (l .cells) (spreadsFrom (l .first)) (spreadsFrom (l .second)) (omega arith) (l .inv .3)
 
 pub run-spec : {M : Type 1} → statement M
 run-spec =
@@ -162,12 +195,16 @@ run-spec =
     loop-holds
     mul-spread
     element-copy-out-spread
+    pools-for-requires
     has-room-requires
     take-requires
+    put-back-requires
     mul-first
     element-write-first
+    pools-for-requires-2
     has-room-requires-2
     take-requires-2
+    put-back-requires-2
     mul-second
     element-write-second
     add-i

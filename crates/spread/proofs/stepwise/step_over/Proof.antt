@@ -12,9 +12,10 @@ use Rattle.spread.specs.code.Cells.{Pooled}
 use Rattle.spread.specs.code.Lent.{promptsIn}
 use Rattle.spread.specs.declared.Prompts.{Prompts}
 use Rattle.spread.proofs.Both.{and-left, and-right}
-use Rattle.spread.proofs.Bounds.{pooled-small}
+use Rattle.spread.proofs.Bounds.{pooled-small, pools-small}
 use Rattle.spread.proofs.Lent.{prompts-back}
 use Rattle.spread.proofs.Stepping.{stepped-refused, stepped-accepted}
+use Rattle.spread.proofs.Taking.{taken-of}
 use Rattle.spread.proofs.stepwise.step_over.Statement.{statement}
 use Rattle.spread.proofs.stepwise.step_over.Tie as tie
 
@@ -44,6 +45,9 @@ module _ (c : tie.After-plain) where
   sound-lent =
       subst⁻¹ (λ (p : Prompts). soundPrompts p ≡ true) same
       (and-left (soundPrompts given) (soundSpread (start .args .spread)) both)
+
+  sound-given : soundSpread (start .args .spread) ≡ true
+  sound-given = and-right (soundPrompts given) (soundSpread (start .args .spread)) both
 
   tiers : length (given .tier) ≡ promptPlaces
   tiers = sym (length-map (given .tier) _) ∙ start .good .0 .1 .1 .1 .0 .1 .0 .1
@@ -78,28 +82,47 @@ slice-aggregate-pools-of-2 c = search needs
 pools-of-requires : tie.Need-pools-of-requires
 pools-of-requires c κs = let p = c .before .before in (sound-lent p, (tiers p, numbers p))
 
+slice-aggregate-pools-for : tie.Need-slice-aggregate-pools-for
+slice-aggregate-pools-for c = search needs
+
+pools-for-requires : tie.Need-pools-for-requires
+pools-for-requires c κs = (c .before .pools-of .ensures .size, sound-given (c .before .before .before .before))
+
 take-requires : tie.Need-take-requires
 take-requires c κs =
-    let p = c .before .before .before in
-    let s = start p in (
-      and-right (soundPrompts (given p)) (soundSpread (s .args .spread)) (both p),
-      pooled-small (lent p) _ (tiers p) (length-map (p .plain .result) _ ∙ numbers p) (sound-lent p) (c .pools-of .ensures),
+    let after-pools-of = c .before .before in
+    let p = after-pools-of .before .before .before in (
+      sound-given p,
+      pools-small _ _ _ _ (c .pools-for .ensures)
+          (pooled-small (lent p) _ (tiers p) (length-map (p .plain .result) _ ∙ numbers p) (sound-lent p) (after-pools-of .pools-of .ensures)),
     )
 
+slice-aggregate-put-back : tie.Need-slice-aggregate-put-back
+slice-aggregate-put-back c = search needs
+
+put-back-requires : tie.Need-put-back-requires
+put-back-requires c κs =
+    let after-pools-of = c .before .before .before .before .before in
+    (after-pools-of .pools-of .ensures .size, sound-given (after-pools-of .before .before .before))
+
 slice-aggregate-pay : tie.Need-slice-aggregate-pay
-slice-aggregate-pay c = search needs
+slice-aggregate-pay c =
+    let after-put-back = c .before .before in
+    let after-pools-of = after-put-back .before .before .before .before .before .before in
+    sym (tiers (after-pools-of .before .before .before))
 
 slice-aggregate-pay-2 : tie.Need-slice-aggregate-pay-2
 slice-aggregate-pay-2 c = search needs
 
+slice-aggregate-pay-3 : tie.Need-slice-aggregate-pay-3
+slice-aggregate-pay-3 c = search needs
+
 pay-requires : tie.Need-pay-requires
 pay-requires c κs =
-    let after-take = c .before .before .before .before .before .before .before .before .before in
-    let p = after-take .before .before .before .before in
-    let t = after-take .take in (
-      sound-lent p,
-      ((tiers p, numbers p), (sym (length-map (t .result .left .cell) _) ∙ t .ok .1 .1 .0 .1 .1 .0 .1 .0 .1, (refl, refl))),
-    )
+    let after-put-back = c .before .before .before .before .before .before in
+    let after-pools-of = after-put-back .before .before .before .before .before .before in
+    let p = after-pools-of .before .before .before in
+    (sound-lent p, ((tiers p, numbers p), (search needs, (refl, refl))))
 
 deltas-from-requires : tie.Need-deltas-from-requires
 deltas-from-requires c κs = search needs
@@ -111,15 +134,19 @@ returns-2 : tie.Need-returns-2
 returns-2 c =
     let after-used = c .before in
     let after-pay = after-used .before in
-    let after-take = after-pay .before .before .before .before .before .before .before .before .before .before in
-    let after-pools-of = after-take .before in
+    let after-put-back = after-pay .before .before .before .before .before .before .before in
+    let after-take = after-put-back .before .before .before in
+    let after-pools-of = after-take .before .before .before in
     let p = after-pools-of .before .before .before in
     let s = start p in
-    let cells = after-pools-of .pools-of .result .cell in
+    let cells = after-pools-of .pools-of .result in
+    let left = after-put-back .put-back .last .0 in
     let spent = after-pay .pay .ensures in
-    stepped-accepted (given p) (s .args .spread) (s .args .second) (both p) (tiers p) (nets p) _ _ _ _ _
-    (subst (λ (q : Prompts). Pooled cells (openOf q)) (same p) (after-pools-of .pools-of .ensures)) (after-take .take .ensures)
-    (subst (λ (q : Prompts). Spent cells (after-take .take .result .left .cell) (openOf q) (after-used .deltas-from .result) (c .deltas-from2 .result)) (same p)
+    stepped-accepted (given p) (s .args .spread) (s .args .second) (both p) (tiers p) (nets p) cells _ _ _ _
+    (subst (λ (q : Prompts). Pooled cells (openOf q)) (same p) (after-pools-of .pools-of .ensures))
+    (taken-of (s .args .second) (s .args .spread) (sound-given p) cells _ (after-take .before .pools-for .ensures) _ _ _ (after-take .take .ensures)
+    (after-put-back .put-back .ensures))
+    (subst (λ (q : Prompts). Spent cells left (openOf q) (after-used .deltas-from .result) (c .deltas-from2 .result)) (same p)
     (record { useds = after-used .deltas-from .ensures ∙ spent .useds; unuseds = c .deltas-from2 .ensures ∙ spent .unuseds }))
 
 pub step-over-spec : {M : Type 1} → statement M
@@ -133,9 +160,14 @@ step-over-spec =
     slice-aggregate-pools-of
     slice-aggregate-pools-of-2
     pools-of-requires
+    slice-aggregate-pools-for
+    pools-for-requires
     take-requires
+    slice-aggregate-put-back
+    put-back-requires
     slice-aggregate-pay
     slice-aggregate-pay-2
+    slice-aggregate-pay-3
     pay-requires
     deltas-from-requires
     deltas-from-requires-2

@@ -2,16 +2,15 @@
 -- Assumes nothing.
 use Prim.Native.Nat.{ℕ, zero, suc, _+_, _-_, _*_, _≤_}
 use mathlib.Core.Path.{_≡_, refl, sym, ap, _∙_}
-use mathlib.Core.Bool.{Bool, true, false, _||_}
+use mathlib.Core.Bool.{Bool, true, false, _||_, or-false}
 use mathlib.Core.List.{List, [], _∷_, _++_}
 use lib.ListN.{length, take, drop, length-drop}
 use lib.Seq.{drop-drop, take-take, take-add, drop-at, length-take-le}
 use native.Mathlib.Omega.{arith}
 use Rattle.record.specs.Bytes.{recordBytes}
 use Rattle.exact.specs.Lists.{any, count}
-use Rattle.exact.proofs.Lists.{count-append}
+use Rattle.exact.proofs.Lists.{count-append, any-append}
 use Rattle.record.specs.Layout.{Record}
-use Rattle.record.proofs.Tests.{any-append, or-false}
 use Rattle.account.specs.Records.{cut, stretch, recordAt, records, recordCount, earlier}
 
 pub cut-more : (k : ℕ) (file : List ℕ) → cut (suc k) file ≡ cut k file ++ recordAt file k ∷ []

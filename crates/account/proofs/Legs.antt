@@ -2,7 +2,7 @@
 -- Assumes nothing.
 use Prim.Native.Nat.{ℕ}
 use mathlib.Core.Path.{_≡_, refl, sym, ap, _∙_}
-use mathlib.Core.Bool.{Bool, true, false, not, cond, _&&_, _||_}
+use mathlib.Core.Bool.{Bool, true, false, not, cond, _&&_, _||_, or-false, or-true, and-true}
 use mathlib.Core.List.{List, [], _∷_}
 use lib.Dec.{eqb}
 use native.Mathlib.Omega.{arith}
@@ -10,21 +10,12 @@ use borrow.Author.Tests.{eqb-false, eq-eqb}
 use Rattle.exact.specs.Lists.{any}
 use Rattle.record.specs.Layout.{Record, legCount, twoLegs, legSide}
 use Rattle.record.specs.Within.{Between, SpreadWithin, LegWithin}
-use Rattle.record.proofs.Tests.{or-false}
 use Rattle.record.proofs.Within.{neither}
 use Rattle.account.specs.Check.{sameLeg, alikeAmong, legsClash}
 use Rattle.account.specs.code.Passing.{onOneSide, legsMeet}
 
-pub or-true : (a : Bool) → a || true ≡ true
-or-true true = refl
-or-true false = refl
-
 pub or-off : {a b : Bool} → a ≡ false → b ≡ false → a || b ≡ false
 or-off p q = rw (p, q)
-
-and-true : (a : Bool) → a && true ≡ a
-and-true true = refl
-and-true false = refl
 
 or-more : (a b c : Bool) → a || b ≡ true → a || (b || c) ≡ true
 or-more true b c h = refl

@@ -7,9 +7,9 @@ use mathlib.Core.List.{List, [], _∷_}
 use lib.Dec.{eqb}
 use native.Mathlib.Omega.{arith}
 use borrow.Author.Tests.{eq-eqb, eqb-true, eqb-false, leb-false, ltb-false, not-false}
+use Rattle.exact.proofs.Lists.{any-append}
 use Rattle.exact.specs.Lists.{any, count}
 use Rattle.record.specs.Layout.{Record, kind, contract, secondContract}
-use Rattle.record.proofs.Tests.{any-append}
 use Rattle.record.proofs.Within.{both-true, neither}
 use Rattle.account.specs.Accepted.{Each, listed, EntryNamed, Named}
 use Rattle.account.specs.Check.{none, listsContract, unlisted}

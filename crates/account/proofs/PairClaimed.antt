@@ -34,7 +34,7 @@ use Rattle.account.proofs.Exactly.{exactly}
 use Rattle.account.proofs.JoinedLaws.{part-joined}
 use Rattle.account.proofs.Lawful.{recorded}
 use Rattle.account.proofs.NoonLaws.{stops, goes, accepted-only, records-accepted, morning-accepted, noon-accepted}
-use Rattle.account.proofs.RatesExactly.{rates-exactly}
+use Rattle.account.proofs.RatesExactly.{rates-exactly, through}
 use Rattle.account.proofs.Orders.{cut-at}
 use Rattle.account.proofs.Walk.{length-cut, none-place}
 
@@ -424,9 +424,6 @@ module _ (morning noon : List ℕ) where
           (record { of = refl; number = last })))
 
 -- ---- the pair: its records, then its rates
-
-through : {A B C : Type 0} → Iff A B → Iff B C → Iff A C
-through p q = record { forth = λ a. q .forth (p .forth a); back = λ c. p .back (q .back c) }
 
 module _ (morning noon : List ℕ) where
   abbrev first : Verdict

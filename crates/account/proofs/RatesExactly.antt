@@ -196,6 +196,9 @@ module _ (account : List Record) where
       }
 
 -- ---- a file
+pub through : {A B C : Type 0} → Iff A B → Iff B C → Iff A C
+through p q = record { forth = λ a. q .forth (p .forth a); back = λ c. p .back (q .back c) }
+
 module _ (file : List ℕ) where
   abbrev recorded : Answer
   recorded = recordsChecked file
@@ -229,9 +232,6 @@ module _ (file : List ℕ) where
             same recorded (checked file)
             (sym (records-refused file (λ z. let e : n ≡ 0 = sym (g .number) ∙ z in omega arith))) n k g;
       }
-
-  through : {A B C : Type 0} → Iff A B → Iff B C → Iff A C
-  through p q = record { forth = λ a. q .forth (p .forth a); back = λ c. p .back (q .back c) }
 
   clean : recorded ≡ Accepted → Clean file
   clean ok = exactly file .accepted .forth (record { number = ap numberOf ok; place = ap recordOf ok })

@@ -2,7 +2,7 @@
 -- Assumes nothing.
 use Prim.Native.Nat.{ℕ, _+_, _-_, _*_, _≤_, _<_, min}
 use mathlib.Core.Path.{_≡_, refl, sym, ap, subst, _∙_}
-use mathlib.Core.Bool.{Bool, true, false, not, cond, _&&_, _||_}
+use mathlib.Core.Bool.{Bool, true, false, not, cond, _&&_, _||_, or-false, or-true}
 use mathlib.Core.List.{List, [], _∷_, map}
 use lib.ListN.{length, getD, set, length-set, replicate, length-replicate, getD-replicate, length-map}
 use lib.Seq.{getD-set-same, getD-set-other}
@@ -11,14 +11,14 @@ use native.Mathlib.Omega.{arith}
 use native.Mathlib.Numerals.{add-one}
 use borrow.Author.Tests.{ltb-true, ltb-false, eqb-true, eqb-false, eq-eqb, ne-eqb, le-ltb, le-leb, lt-leb, not-true}
 use Rattle.exact.specs.Lists.{any, oneIf}
-use Rattle.exact.proofs.Lists.{any-at, any-true, getD-map}
+use Rattle.exact.proofs.Lists.{any-at, any-true, getD-map, any-append}
 use Rattle.record.specs.Bytes.{countFrom}
 use Rattle.record.specs.Layout.{Record, kind, contract, currency, tier, day, legCount, twoLegs, legsOf, legTier, secondContract, mostTier}
 use Rattle.record.specs.Ranges.{unknownKind, unusedByte, fieldOutside, soundRecord}
 use Rattle.record.specs.Within.{SpreadWithin}
 use Rattle.record.proofs.Reading.{byte-past}
 use Rattle.record.proofs.Sound.{Sound, sound-known}
-use Rattle.record.proofs.Tests.{any-append, or-false, both}
+use Rattle.record.proofs.Tests.{both}
 use Rattle.record.proofs.Within.{never, both-true, neither, row-within, spread-within, entry-within, contract-known}
 use Rattle.account.specs.Check.{kindFalls, dayNotAbove, tierFalls, contractFalls, outOfOrder, mostContracts, mostPrompts, mostRows}
 use Rattle.account.specs.Check.{withItself, mostSpreads, mostEntries}
@@ -33,7 +33,7 @@ use Rattle.account.specs.Records.{cut, recordAt, recordCount, records, s
 use Rattle.account.proofs.Dispatch.{order-2, order-3, order-4, order-5, listed-2, listed-3, listed-4, listed-5, limit-2, limit-3, limit-4, limit-5}
 use Rattle.account.proofs.Earlier.{cut-more}
 use Rattle.account.proofs.Firsts.{is-0}
-use Rattle.account.proofs.Legs.{or-true, or-off, legs-apart}
+use Rattle.account.proofs.Legs.{or-off, legs-apart}
 use Rattle.account.proofs.Orders.{cut-at}
 use Rattle.account.proofs.Passed.{part-entry, part-other}
 use Rattle.account.proofs.Walk.{before-is, length-cut}

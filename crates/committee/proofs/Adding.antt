@@ -57,7 +57,7 @@ both-false x y e f = ap (λ (t : Bool). t || y) e ∙ f
 none-more : (x n : ℕ) → x + n ≡ 0 → (x ≡ 0) × (n ≡ 0)
 none-more x n e = (omega arith, omega arith)
 
-not-accepted : (t : Bool) → oneIf t ≡ 0 → t ≡ false
+pub not-accepted : (t : Bool) → oneIf t ≡ 0 → t ≡ false
 not-accepted true e = absurd (omega arith)
 not-accepted false e = refl
 

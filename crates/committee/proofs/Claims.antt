@@ -26,7 +26,7 @@ use Rattle.committee.specs.Committee.{overAccepted, summed, marginSummed
 use Rattle.committee.specs.Committee.{largestMargin, holds, lowestPlace, largestPlace, committee, mostAccounts, committeeNumbers, committeeAnswer}
 use Rattle.committee.specs.Committee.{answeredRun, afterCommittee}
 use Rattle.committee.specs.code.Sums.{mostTotal}
-use Rattle.committee.proofs.Adding.{none-of, all-of, none-largest, some-holds, unless-none, unless-some}
+use Rattle.committee.proofs.Adding.{none-of, all-of, none-largest, some-holds, unless-none, unless-some, not-accepted}
 use Rattle.committee.proofs.Padded.{total-most, refusal-most}
 
 -- ---- the answer by its three tests
@@ -231,12 +231,8 @@ none-summed : (run : List Answered) → acceptedCount run ≡ 0 → marginSummed
 none-summed [] e = refl
 none-summed (a ∷ run) e =
     let rest = none-summed run (omega arith) in
-    let none : overAccepted totalNumber a ≡ 0 = none-of totalNumber a (off (isAccepted a) (omega arith)) in
+    let none : overAccepted totalNumber a ≡ 0 = none-of totalNumber a (not-accepted (isAccepted a) (omega arith)) in
     omega arith
-  where
-    off : (t : Bool) → oneIf t ≡ 0 → t ≡ false
-    off true z = absurd (omega arith)
-    off false z = refl
 
 pub numbers-claimed : (run : List Answered) → Numbers run
 numbers-claimed run = record {

@@ -8,7 +8,7 @@ use Prim.Native.Nat.{ℕ, zero, suc, _+_, _*_, _-_, _^_, _≤_, _<_, min}
 use native.Mathlib.Nat.{le-refl}
 use native.Mathlib.Omega.{arith}
 use lib.Dec.{T, leb, ltb}
-use lib.IntN.{ℤ, pos, negsuc, negℤ, natAbs, subℕ, sucℤ, predℤ, _+ℤ_, _-ℤ_, _*ℤ_, +ℤ-idl, +ℤ-assoc, +ℤ-comm, +ℤ-negℤ-cancel, negℤ-negℤ, negℤ-+ℤ, zero-*ℤ}
+use lib.IntN.{ℤ, pos, negsuc, negℤ, natAbs, subℕ, sucℤ, predℤ, _+ℤ_, _-ℤ_, _*ℤ_, +ℤ-idl, +ℤ-assoc, +ℤ-comm, +ℤ-negℤ-cancel, negℤ-+ℤ, zero-*ℤ}
 use lib.IntN.{*ℤ-comm, sucℤ-+ℤ, predℤ-+ℤ, sucℤ-*ℤ, predℤ-*ℤ}
 use lib.Signed.{nonNeg, ltZ, leZ}
 use mir.Syntax.{w64}

@@ -1,7 +1,7 @@
 -- The largest of several totals: at least each of them and one of them, first held at its number.
 -- Assumes nothing.
 use mathlib.Core.Path.{_≡_, refl, _∙_, ap}
-use mathlib.Core.Bool.{Bool, true, false, cond, false≢true}
+use mathlib.Core.Bool.{Bool, true, false, cond}
 use mathlib.Core.List.{List, [], _∷_}
 use Prim.Native.Nat.{ℕ, zero, suc, _≤_, _<_}
 use native.Mathlib.Nat.{le-of-suc-le-suc, not-suc-le-zero}
@@ -9,7 +9,7 @@ use native.Mathlib.Omega.{arith}
 use lib.IntN.{ℤ, pos, negsuc}
 use lib.ListN.{length, getD}
 use lib.Signed.{ltZ, leZ}
-use borrow.Author.Tests.{eq-eqb, ne-eqb, eqb-true, ltb-true}
+use borrow.Author.Tests.{eq-eqb, ne-eqb, ltb-true}
 use Rattle.exact.specs.Signed.{larger}
 use Rattle.exact.specs.Largest.{largest, same, firstAt}
 use Rattle.exact.proofs.Lists.{Held}

@@ -4,7 +4,7 @@ use mathlib.Core.Path.{_≡_, refl, sym, ap, ap₂, _∙_, subst⁻¹}
 use mathlib.Core.Bool.{Bool, true, false, cond}
 use mathlib.Core.List.{List, [], _∷_, map, map-map}
 use Prim.Native.Nat.{ℕ, suc, _+_, _*_, _≤_, _<_}
-use native.Mathlib.Nat.{le-trans, zero-mul, add-mul, mul-le-mul-right}
+use native.Mathlib.Nat.{le-trans, zero-mul, add-mul}
 use native.Mathlib.Omega.{arith}
 use lib.Dec.{eqb}
 use lib.IntN.{ℤ, pos, natAbs, _+ℤ_, +ℤ-idl, +ℤ-idr, +ℤ-assoc, +ℤ-comm}
@@ -48,8 +48,8 @@ once row (p ∷ ps) =
     go true e = omega (arith, add-mul 1 (count (onDay (day row)) ps) (natAbs (rowDelta row)))
     go false e = omega (arith, add-mul 0 (count (onDay (day row)) ps) (natAbs (rowDelta row)))
 
-one-day : (row : Record) (ps : List Record) → count (onDay (day row)) ps ≤ 1 → sum (map (addedSize row) ps) ≤ natAbs (rowDelta row)
-one-day row ps h = let m = mul-le-mul-right (natAbs (rowDelta row)) h in omega (arith, once row ps)
+one-day : (row : Record) (ps : List Record) → count (onDay (day row)) ps ≡ 1 → sum (map (addedSize row) ps) ≤ natAbs (rowDelta row)
+one-day row ps h = omega (arith, once row ps, ap (λ (n : ℕ). n * natAbs (rowDelta row)) h)
 
 -- all net deltas together, without their signs
 abbrev pub netSize : List Record → Record → ℕ

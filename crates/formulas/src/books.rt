@@ -5,7 +5,7 @@ use record::bytes::RECORD_BYTES;
 use spread::MOST_PROMPTS;
 use spread::MOST_SPREADS;
 use spread::book::put_book;
-use spread::touches::touches_in;
+use spread::touches::put_counted;
 ghost use mathlib.Core.List.{map};
 ghost use mathlib.Core.Path.{_≡_};
 ghost use mathlib.Core.Bool.{true};
@@ -61,9 +61,9 @@ pub fn put_contract_book(
     put_tiers(&mut tiers, prompts);
     let count = prompts.len() / RECORD_BYTES;
     let table = interprompt_table(spreads);
-    put_book(count, &tiers, nets, table, first, second, used, unused);
-    if !counted {
-        return 0;
+    if counted {
+        return put_counted(count, &tiers, nets, table, first, second, used, unused);
     }
-    touches_in(count, &tiers, nets, table, first, second)
+    put_book(count, &tiers, nets, table, first, second, used, unused);
+    0
 }

@@ -1,6 +1,5 @@
 // What a contract's rows come to: its sixteen totals, its prompts' net deltas and its short lots.
 ghost use mathlib.Core.Path.{_≡_};
-ghost use mathlib.Core.Bool.{true};
 ghost use mathlib.Core.List.{List, [], _∷_, _++_};
 ghost use Prim.Native.Nat.{ℕ, _<_, _≤_, _+_, _-_, _*_};
 ghost use lib.IntN.{pos, natAbs, negℤ, _+ℤ_, _-ℤ_, _*ℤ_};
@@ -19,9 +18,9 @@ ghost use Rattle.formulas.specs.Margin as Margin;
 ghost use Rattle.formulas.specs.Margin.{shortOptions, shortLots};
 ghost use Rattle.formulas.specs.Scanning.{total};
 ghost use Rattle.formulas.specs.code.Position.{RowFit, RowsFit, RatedBy, FactorsFit, Sized, AtMost, Added, DaysOf, products, ownProducts};
-ghost use Rattle.formulas.specs.code.Position.{convertedProducts, netOn, addsOn, withNets, FirstPlace, DaysRise, PositionOf};
+ghost use Rattle.formulas.specs.code.Position.{convertedProducts, netOn, addsOn, withNets, FirstPlace, OnePlace, Guessed, RowsPlaced, OneDay, PositionOf};
 ghost use Rattle.formulas.specs.code.Position.{positionIn, daysIn, Bounded, WithRows, HasRows, deltasIn, rowsNet};
-ghost use Rattle.formulas.specs.code.Raised.{SumsRoom, raisedProducts, settled, mostRaised};
+ghost use Rattle.formulas.specs.code.Raised.{SumsRoom, lossBits, turnOf, raiseOf, turnedBits, raisedBits, raisedProducts, settled, mostRaised};
 ghost use Rattle.formulas.specs.declared.rows.Position.{Position};
 use account::rates::Factors;
 use account::rates::Rates;
@@ -30,12 +29,12 @@ use account::rates::factors_of;
 use account::rates::per_tick;
 use exact::rounding::half_away_to;
 use exact::signed::as_natural;
+use exact::signed::as_signed;
 use exact::signed::is_negative;
 use exact::signed::magnitude;
 use exact::signed::minus;
 use exact::signed::plus;
 use exact::signed::times;
-use exact::signed::with_sign_of;
 use record::bytes::RECORD_BYTES;
 use record::fields::SCENARIOS;
 use record::fields::currency;
@@ -65,8 +64,14 @@ pub struct Days {
     pub day: [u32; MOST_PROMPTS],
 }
 
-// What a loss is raised by: the most that a gain can be.
-const RAISE: i64 = 100_000;
+// What a loss is raised by: the most that a loss or a gain can be.
+const RAISE: u64 = 100_000;
+
+// How many numbers four bytes hold.
+const FOUR_BYTES: u64 = 4_294_967_296;
+
+// Four bytes in which every bit is 1.
+const ONES: u32 = 4_294_967_295;
 
 // Every day is as early, or earlier.
 const LATEST: u32 = 4_294_967_295;
@@ -149,77 +154,107 @@ fn add_converted(totals: &mut [i64; SCENARIOS], f: Factors, unit: u64, row: &[u8
     }
 }
 
-// A loss, raised so that it is no longer negative.
-fn raised(loss: i64) -> u64
+// A loss in four bytes: a gain counts down from how many numbers they hold.
+fn bits(loss: i64) -> u32
     requires { ⌜ natAbs loss ≤ hundredThousand ⌝ }
-    ensures { λ r. ⌜ (r ≡ natAbs (loss +ℤ pos hundredThousand)) × (r ≤ 2 * hundredThousand) ⌝ }
+    ensures { λ r. ⌜ r ≡ lossBits loss ⌝ }
 {
-    as_natural(plus(loss, RAISE)) % 4294967296
+    (as_natural(plus(loss, FOUR_BYTES as i64)) % FOUR_BYTES) as u32
 }
 
-// One row more in the margin currency at a unit of one hundredth, added to the sums. Both factors have 32 bits and no sign, so that several are
-// multiplied at once; lots × value stand once for each scenario, so that their sign is given to several at once too, without a branch.
+// The bits of a loss that are turned: all where lots × value are negative, else none.
+fn turn_of(each: i64) -> u32
+    ensures { λ r. ⌜ r ≡ turnOf each ⌝ }
+{
+    if is_negative(each) { ONES } else { 0 }
+}
+
+// What a loss is raised by: one more where its bits are turned, since they are then one less than the loss with the other sign.
+fn raise_of(each: i64) -> u64
+    ensures { λ r. ⌜ r ≡ raiseOf each ⌝ }
+{
+    if is_negative(each) { RAISE + 1 } else { RAISE }
+}
+
+// Bits as they are or, where the turn has its first bit, all turned.
+fn turned(bits: u32, turn: u32) -> u32
+    ensures { λ r. ⌜ r ≡ turnedBits bits turn ⌝ }
+{
+    if ONES / 2 < turn { ONES - bits } else { bits }
+}
+
+// A loss with the sign of lots × value, raised so that it is no longer negative.
+fn raised(loss: i64, turn: u32, raise: u64) -> u64
+    requires { ⌜ (natAbs loss ≤ hundredThousand) × (raise ≤ hundredThousand + 1) ⌝ }
+    ensures { λ r. ⌜ r ≡ raisedBits loss turn raise ⌝ }
+{
+    (turned(bits(loss), turn) as u64 + raise) % FOUR_BYTES
+}
+
+// One row more in the margin currency at a unit of one hundredth, added to the sums. The loss takes the sign of lots × value before it is raised: both
+// factors have 32 bits and no sign, so that several are multiplied at once. The turn stands once for each scenario, so that it is no branch.
 fn add_raised(sums: &mut [i64; SCENARIOS], each: i64, row: &[u8])
     requires { ⌜ (natAbs each ≤ mostPerTick) × (RowFit (now row) × AtMost scenarioCount ((mostRows - 1) * mostRaised) (now sums)) ⌝ }
     ensures { λ _. ⌜ Added scenarioCount (raisedProducts each (now (row .entry))) (now (sums .entry)) (now (sums .exit)) ⌝ }
 {
-    let size = magnitude(each) % 4294967296;
-    let signed = [each; SCENARIOS];
+    let size = magnitude(each) % FOUR_BYTES;
+    let raise = raise_of(each);
+    let turn = [turn_of(each); SCENARIOS];
     let mut s = 0;
     while s < SCENARIOS {
-        let more = with_sign_of(signed[s], size * raised(loss(row, s + 1)));
+        let more = as_signed(size * raised(loss(row, s + 1), turn[s], raise));
         sums[s] = plus(sums[s], more);
         s += 1;
     }
 }
 
-// What a sum comes to: its rows' lots × value together are `each`, and each loss was raised.
-fn unraised(sum: i64, each: i64) -> i64
-    requires { ⌜ (natAbs sum ≤ mostRows * mostRaised) × (natAbs each ≤ mostRows * mostPerTick) ⌝ }
-    ensures { λ r. ⌜ Sized (2 * (mostRows * mostRaised)) (sum -ℤ each *ℤ pos hundredThousand) r ⌝ }
+// What a sum comes to: the sizes of its rows' lots × value are `sizes` together, and each loss was raised.
+fn unraised(sum: i64, sizes: u64) -> i64
+    requires { ⌜ (natAbs sum ≤ mostRows * mostRaised) × (sizes ≤ mostRows * mostPerTick) ⌝ }
+    ensures { λ r. ⌜ Sized (2 * (mostRows * mostRaised)) (sum -ℤ pos (sizes * hundredThousand)) r ⌝ }
 {
-    minus(sum, times(each, RAISE))
+    minus(sum, as_signed(sizes * RAISE))
 }
 
 // The totals with what stands in the sums.
-fn settle(totals: &mut [i64; SCENARIOS], sums: &[i64; SCENARIOS], each: i64)
-    requires { ⌜ SumsRoom mostRows (now totals) (now sums) each ⌝ }
-    ensures { λ _. ⌜ now (totals .exit) ≡ settled (now (totals .entry)) (now (sums .entry)) each ⌝ }
+fn settle(totals: &mut [i64; SCENARIOS], sums: &[i64; SCENARIOS], sizes: u64)
+    requires { ⌜ SumsRoom mostRows (now totals) (now sums) sizes ⌝ }
+    ensures { λ _. ⌜ now (totals .exit) ≡ settled (now (totals .entry)) (now (sums .entry)) sizes ⌝ }
 {
     let mut s = 0;
     while s < SCENARIOS {
-        let more = unraised(sums[s], each);
+        let more = unraised(sums[s], sizes);
         totals[s] = plus(totals[s], more);
         s += 1;
     }
 }
 
-// One row more, in the totals or, where it is neither converted nor rounded, in the sums. It gives lots × value of the rows in these.
+// One row more, in the totals or, where it is neither converted nor rounded, in the sums. It gives the sizes of lots × value of the rows in these together.
 fn add_row(
     totals: &mut [i64; SCENARIOS],
     sums: &mut [i64; SCENARIOS],
-    each: i64,
+    sizes: u64,
     rates: Rates,
     unit: u64,
     row: &[u8],
-) -> i64
-    requires { ⌜ (unit ≤ mostUnit) × (RowFit (now row) × (RatedBy rates (now row ∷ []) × SumsRoom (mostRows - 1) (now totals) (now sums) each)) ⌝ }
+) -> u64
+    requires { ⌜ (unit ≤ mostUnit) × (RowFit (now row) × (RatedBy rates (now row ∷ []) × SumsRoom (mostRows - 1) (now totals) (now sums) sizes)) ⌝ }
     ensures added { λ r. ⌜ ((held : List Record) → RatesOf held rates → Added scenarioCount (products held unit (now (row .entry)))
-        (settled (now (totals .entry)) (now (sums .entry)) each) (settled (now (totals .exit)) (now (sums .exit)) r)) ⌝ }
-    ensures room { λ r. ⌜ ((n : ℕ) → SumsRoom n (now (totals .entry)) (now (sums .entry)) each → SumsRoom (n + 1) (now (totals .exit)) (now (sums .exit)) r) ⌝ }
+        (settled (now (totals .entry)) (now (sums .entry)) sizes) (settled (now (totals .exit)) (now (sums .exit)) r)) ⌝ }
+    ensures room { λ r. ⌜ ((n : ℕ) → SumsRoom n (now (totals .entry)) (now (sums .entry)) sizes → SumsRoom (n + 1) (now (totals .exit)) (now (sums .exit)) r) ⌝ }
 {
     let c = currency(row);
     if c != 0 {
         add_converted(totals, factors_of(rates, c), unit, row);
-        return each;
+        return sizes;
     }
     if unit != 1 {
         add_own(totals, unit, row);
-        return each;
+        return sizes;
     }
-    let more = per_tick(row);
-    add_raised(sums, more, row);
-    plus(each, more)
+    let each = per_tick(row);
+    add_raised(sums, each, row);
+    sizes + magnitude(each)
 }
 
 // The day of a row or of a prompt.
@@ -275,27 +310,12 @@ fn earlier(days: &[u32; MOST_PROMPTS], d: u32) -> u32
     n
 }
 
-// Whether days rise.
-fn rise(days: &[u32; MOST_PROMPTS], count: usize) -> bool
+// The first place of a day, and the number of days where there is none.
+fn first_place(days: &[u32; MOST_PROMPTS], count: usize, d: u32) -> usize
     requires { ⌜ count ≤ mostPrompts ⌝ }
-    ensures { λ r. ⌜ (r ≡ true → DaysRise count (now (days .entry))) ⌝ }
+    ensures { λ r. ⌜ FirstPlace (now (days .entry)) count d r ⌝ }
 {
-    let mut j = 1;
-    while j < count {
-        if days[j] <= days[j - 1] {
-            return false;
-        }
-        j += 1;
-    }
-    true
-}
-
-// The first place of a day from a place on, and the number of days where there is none.
-fn first_place(days: &[u32; MOST_PROMPTS], start: usize, count: usize, d: u32) -> usize
-    requires { ⌜ (start ≤ count) × (count ≤ mostPrompts) ⌝ }
-    ensures { λ r. ⌜ FirstPlace (now (days .entry)) start count d r ⌝ }
-{
-    let mut j = start;
+    let mut j = 0;
     while j < count {
         if days[j] == d {
             return j;
@@ -305,9 +325,10 @@ fn first_place(days: &[u32; MOST_PROMPTS], start: usize, count: usize, d: u32) -
     j
 }
 
-// For each last byte of a day a place where such a day may stand. Nothing is promised of it: a guess is compared before it is used.
+// For each last byte of a day a place where such a day may stand. A guess is compared before it is used: it need only be a place.
 fn guesses(days: &[u32; MOST_PROMPTS], count: usize) -> [u8; GUESSES]
     requires { ⌜ count ≤ mostPrompts ⌝ }
+    ensures { λ guess. ⌜ Guessed count guess ⌝ }
 {
     let mut guess = [0u8; GUESSES];
     let mut j = 0;
@@ -318,88 +339,54 @@ fn guesses(days: &[u32; MOST_PROMPTS], count: usize) -> [u8; GUESSES]
     guess
 }
 
-// The first place of a day. Where the days rise it is looked for by a guess, then at once where it must stand.
-fn place_of(
-    days: &[u32; MOST_PROMPTS],
-    guess: &[u8; GUESSES],
-    count: usize,
-    rising: bool,
-    d: u32,
-) -> usize
-    requires { ⌜ (count ≤ mostPrompts) × (rising ≡ true → DaysRise count (now days)) ⌝ }
-    ensures { λ r. ⌜ FirstPlace (now (days .entry)) 0 count d r ⌝ }
+// The place of a day that stands in one. It is looked for by a guess, then where it must stand if the days rise.
+fn place_of(days: &[u32; MOST_PROMPTS], guess: &[u8; GUESSES], count: usize, d: u32) -> usize
+    requires { ⌜ (count ≤ mostPrompts) × (Guessed count (now guess) × OnePlace count (now days) d) ⌝ }
+    ensures { λ r. ⌜ (r < count) × (getD (now (days .entry)) r 0 ≡ d) ⌝ }
 {
-    if rising {
-        let guessed = (guess[(d % 256) as usize] % MOST_PROMPTS as u8) as usize;
-        if guessed < count {
-            if days[guessed] == d {
-                return guessed;
-            }
-        }
-        let place = earlier(days, d) as usize;
-        if place < count {
-            if days[place] == d {
-                return place;
-            }
+    let guessed = guess[(d % 256) as usize] as usize;
+    if days[guessed] == d {
+        return guessed;
+    }
+    let place = earlier(days, d) as usize;
+    if place < count {
+        if days[place] == d {
+            return place;
         }
     }
-    first_place(days, 0, count, d)
+    first_place(days, count, d)
 }
 
-// The next place of the same day: there is none where the days rise.
-fn next_place(days: &[u32; MOST_PROMPTS], count: usize, rising: bool, j: usize) -> usize
-    requires { ⌜ (j < count) × ((count ≤ mostPrompts) × (rising ≡ true → DaysRise count (now days))) ⌝ }
-    ensures { λ r. ⌜ FirstPlace (now (days .entry)) (j + 1) count (getD (now (days .entry)) j 0) r ⌝ }
-{
-    if rising {
-        return count;
-    }
-    first_place(days, j + 1, count, days[j])
-}
-
-// A row's delta added to the net delta of each prompt of its day.
+// A row's delta added to the net delta of the prompt of its day.
 fn add_delta(
     nets: &mut [i64; MOST_PROMPTS],
     days: &[u32; MOST_PROMPTS],
     guess: &[u8; GUESSES],
     count: usize,
-    rising: bool,
     d: u32,
     more: Delta,
 )
-    requires { ⌜ (count ≤ mostPrompts)
-        × ((rising ≡ true → DaysRise count (now days)) × ((natAbs (more .0) ≤ mostDelta) × AtMost promptPlaces mostDelta (now nets))) ⌝ }
+    requires { ⌜ (count ≤ mostPrompts) × ((Guessed count (now guess) × OnePlace count (now days) d)
+        × ((natAbs (more .0) ≤ mostDelta) × AtMost promptPlaces mostDelta (now nets))) ⌝ }
     ensures { λ r. ⌜ Added count (addsOn (now (days .entry)) d (more .0)) (now (nets .entry)) (now (nets .exit)) ⌝ }
 {
-    let mut j = place_of(days, guess, count, rising, d);
-    while j < count {
-        nets[j] = plus(nets[j], more.0);
-        j = next_place(days, count, rising, j);
-    }
+    let j = place_of(days, guess, count, d);
+    nets[j] = plus(nets[j], more.0);
 }
 
 // Net deltas with more rows, in one walk over these.
 fn add_nets(nets: &mut [i64; MOST_PROMPTS], days: &[u32; MOST_PROMPTS], prompts: usize, rows: &[u8])
-    requires { ⌜ (prompts ≤ mostPrompts)
-        × (RowsFit (records (now rows)) × AtMost promptPlaces ((mostRows - length (records (now rows))) * mostRowDelta) (now nets)) ⌝ }
+    requires { ⌜ (prompts ≤ mostPrompts) × (RowsPlaced prompts (now days) (records (now rows))
+        × (RowsFit (records (now rows)) × AtMost promptPlaces ((mostRows - length (records (now rows))) * mostRowDelta) (now nets))) ⌝ }
     ensures { λ r. ⌜ Added prompts (λ j. netOn (records (now (rows .entry))) (getD (now (days .entry)) j 0)) (now (nets .entry)) (now (nets .exit)) ⌝ }
 {
     let count = rows.len() / RECORD_BYTES;
-    let rising = rise(days, prompts);
     let guess = guesses(days, prompts);
     let mut i = 0;
     while i < count {
         let at = i * RECORD_BYTES;
         let row = &rows[at..at + RECORD_BYTES];
-        add_delta(
-            nets,
-            days,
-            &guess,
-            prompts,
-            rising,
-            day_of(row),
-            row_delta(row),
-        );
+        add_delta(nets, days, &guess, prompts, day_of(row), row_delta(row));
         i += 1;
     }
 }
@@ -415,17 +402,17 @@ fn add_totals(totals: &mut [i64; SCENARIOS], rates: Rates, unit: u64, rows: &[u8
 {
     let count = rows.len() / RECORD_BYTES;
     let mut sums = [0i64; SCENARIOS];
-    let mut each: i64 = 0;
+    let mut sizes = 0;
     let mut shorts = 0;
     let mut i = 0;
     while i < count {
         let at = i * RECORD_BYTES;
         let row = &rows[at..at + RECORD_BYTES];
-        each = add_row(totals, &mut sums, each, rates, unit, row);
+        sizes = add_row(totals, &mut sums, sizes, rates, unit, row);
         shorts = shorts + short_options(row);
         i += 1;
     }
-    settle(totals, &sums, each);
+    settle(totals, &sums, sizes);
     shorts
 }
 
@@ -440,7 +427,7 @@ fn add_rows(
     rows: &[u8],
 ) -> u64
     requires { ⌜ (unit ≤ mostUnit)
-        × ((prompts ≤ mostPrompts)
+        × (((prompts ≤ mostPrompts) × RowsPlaced prompts (now days) (records (now rows)))
         × (RowsFit (records (now rows)) × (RatedBy rates (records (now rows))
         × Bounded (mostRows - length (records (now rows))) (positionIn (now totals) (now nets) 0)))) ⌝ }
     ensures added { λ n. ⌜ ((held : List Record) → RatesOf held rates
@@ -455,7 +442,7 @@ fn add_rows(
 // What rows come to with more rows. A ticket is one row more.
 pub fn with_rows(p: Position, days: Days, rates: Rates, unit: u64, rows: &[u8]) -> Position
     requires { ⌜ (unit ≤ mostUnit)
-        × ((days .count ≤ mostPrompts)
+        × (((days .count ≤ mostPrompts) × RowsPlaced (days .count) (days .day) (records (now rows)))
         × (RowsFit (records (now rows)) × (RatedBy rates (records (now rows)) × Bounded (mostRows - length (records (now rows))) p))) ⌝ }
     ensures added { λ q. ⌜ ((held : List Record) → RatesOf held rates → WithRows held unit days p (records (now (rows .entry))) q) ⌝ }
     ensures more { λ q. ⌜ ((held prompts earlier : List Record) → RatesOf held rates → DaysOf prompts days → PositionOf held unit prompts earlier p
@@ -485,7 +472,8 @@ pub fn with_rows(p: Position, days: Days, rates: Rates, unit: u64, rows: &[u8]) 
 
 // The net deltas alone of what a contract's rows come to, put in a lent array of zeros.
 pub fn put_net_deltas(nets: &mut [i64; MOST_PROMPTS], prompts: &[u8], rows: &[u8])
-    requires { ⌜ (recordCount (now prompts) ≤ mostPrompts) × (RowsFit (records (now rows)) × (now nets ≡ replicate promptPlaces (pos 0))) ⌝ }
+    requires { ⌜ ((recordCount (now prompts) ≤ mostPrompts) × OneDay (records (now prompts)) (records (now rows)))
+        × (RowsFit (records (now rows)) × (now nets ≡ replicate promptPlaces (pos 0))) ⌝ }
     ensures { λ _. ⌜ ((rates : List Record) (unit : ℕ) → PositionOf rates unit (records (now (prompts .entry))) (records (now (rows .entry)))
         (withNets rates unit (records (now (rows .entry))) (deltasFrom (now (nets .exit))))) ⌝ }
 {
@@ -496,7 +484,7 @@ pub fn put_net_deltas(nets: &mut [i64; MOST_PROMPTS], prompts: &[u8], rows: &[u8
 
 // The same in an array of their own.
 pub fn nets_of(prompts: &[u8], rows: &[u8]) -> [Delta; MOST_PROMPTS]
-    requires { ⌜ (recordCount (now prompts) ≤ mostPrompts) × RowsFit (records (now rows)) ⌝ }
+    requires { ⌜ ((recordCount (now prompts) ≤ mostPrompts) × OneDay (records (now prompts)) (records (now rows))) × RowsFit (records (now rows)) ⌝ }
     ensures { λ r. ⌜ ((rates : List Record) (unit : ℕ) → PositionOf rates unit (records (now (prompts .entry))) (records (now (rows .entry)))
         (withNets rates unit (records (now (rows .entry))) r)) ⌝ }
 {
@@ -571,7 +559,7 @@ fn nets_without(nets: [Delta; MOST_PROMPTS], gone: [Delta; MOST_PROMPTS]) -> [De
 // What rows come to without the last of them, which it has: the position before these rows, in every number.
 pub fn without_rows(p: Position, days: Days, rates: Rates, unit: u64, rows: &[u8]) -> Position
     requires { ⌜ (unit ≤ mostUnit)
-        × ((days .count ≤ mostPrompts)
+        × (((days .count ≤ mostPrompts) × RowsPlaced (days .count) (days .day) (records (now rows)))
         × (RowsFit (records (now rows)) × (RatedBy rates (records (now rows)) × (Bounded mostRows p × HasRows rates unit days (records (now rows)) p)))) ⌝ }
     ensures { λ q. ⌜ ((held : List Record) (before : Position) → RatesOf held rates → WithRows held unit days before (records (now (rows .entry))) p
         → q ≡ before) ⌝ }
@@ -598,7 +586,7 @@ pub fn put_position(
     rows: &[u8],
 ) -> u64
     requires { ⌜ (unit ≤ mostUnit)
-        × ((recordCount (now prompts) ≤ mostPrompts)
+        × (((recordCount (now prompts) ≤ mostPrompts) × OneDay (records (now prompts)) (records (now rows)))
         × (RowsFit (records (now rows)) × (RatedBy rates (records (now rows))
         × ((now totals ≡ replicate scenarioCount (pos 0)) × (now nets ≡ replicate promptPlaces (pos 0)))))) ⌝ }
     ensures is { λ n. ⌜ ((held : List Record) → RatesOf held rates → PositionOf held unit (records (now (prompts .entry))) (records (now (rows .entry)))
@@ -612,7 +600,8 @@ pub fn put_position(
 
 // The same as a position.
 pub fn position_of(rates: Rates, unit: u64, prompts: &[u8], rows: &[u8]) -> Position
-    requires { ⌜ (unit ≤ mostUnit) × ((recordCount (now prompts) ≤ mostPrompts) × (RowsFit (records (now rows)) × RatedBy rates (records (now rows)))) ⌝ }
+    requires { ⌜ (unit ≤ mostUnit) × (((recordCount (now prompts) ≤ mostPrompts) × OneDay (records (now prompts)) (records (now rows)))
+        × (RowsFit (records (now rows)) × RatedBy rates (records (now rows)))) ⌝ }
     ensures is { λ p. ⌜ ((held : List Record) → RatesOf held rates → PositionOf held unit (records (now (prompts .entry))) (records (now (rows .entry))) p) ⌝ }
     ensures most { λ p. ⌜ Bounded mostRows p ⌝ }
 {

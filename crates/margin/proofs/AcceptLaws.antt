@@ -130,7 +130,7 @@ module _ (account : List Record) (ok : Lawful account) where
             λ k h.
             let p = every-at ranges.PromptWithin (promptsOf c account) (ok .ranges .prompts c) k h in
             record { tier-within = omega (arith, p .tiers .most); spread-rate = p .spreadRates; outright-rate = p .outrightRates };
-        one-day = λ k h. let e = every-at (λ r. count (onDay (day r)) (promptsOf c account) ≡ 1) (rowsOf c account) (ok .onePrompt c) k h in omega arith;
+        one-day = every-at (λ r. count (onDay (day r)) (promptsOf c account) ≡ 1) (rowsOf c account) (ok .onePrompt c);
         rows-within =
             record {
               few = ok .limits .rows c;

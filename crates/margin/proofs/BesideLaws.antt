@@ -37,7 +37,7 @@ use Rattle.formulas.specs.Bounds.{mostDelta}
 use Rattle.formulas.specs.Deltas.{opensWith, interprompt, netDeltas}
 use Rattle.formulas.specs.Contract.{Contract, contracts, contractFrom, partsIn, partsOf, asTier, contractSteps, opensOf, tableSteps}
 use Rattle.margin.specs.code.Lined.{PositionAt, TierIs}
-use Rattle.formulas.specs.code.Position.{PositionOf, positionIn, withNets, Bounded, RowsFit, RatedBy}
+use Rattle.formulas.specs.code.Position.{PositionOf, positionIn, withNets, Bounded, RowsFit, RatedBy, OneDay}
 use Rattle.margin.specs.code.Positions.{ContractIn}
 use Rattle.formulas.specs.code.Promised.{LineOf, PositionFit, BookFit, BookRoom, contractWith}
 use Rattle.margin.specs.code.Asked.{AskedBy, BookIs}
@@ -46,8 +46,8 @@ use Rattle.margin.specs.code.Asking.{Asks}
 use Rattle.margin.proofs.AcceptLaws.{none-within, contract-within, rows-rated}
 use Rattle.margin.proofs.AnswerLaws.{book-by-steps}
 use Rattle.margin.proofs.AskedLaws.{count-keep, contract-length, one-book}
-use Rattle.margin.proofs.StandLaws.{kept-at, of-contract, own-by, rows-room, prompts-few, rows-rated-by, position-is, nets-here, parts-read, parts-told}
-use Rattle.margin.proofs.StandLaws.{book-fits}
+use Rattle.margin.proofs.StandLaws.{kept-at, of-contract, own-by, rows-room, prompts-few, rows-placed, rows-rated-by, position-is}
+use Rattle.margin.proofs.StandLaws.{nets-here, parts-read, parts-told, book-fits}
 use Rattle.formulas.proofs.ContractLaws.{contract-with, book-room}
 use Rattle.formulas.proofs.RecordLaws.{count-is}
 use Rattle.spread.proofs.Lent.{deltas-again}
@@ -271,11 +271,12 @@ module _ (account : List Record) (law : Lawful account) (c : ℕ) (few : c ≤ m
   its-unit = eu ∙ ap unit (own-by account law c few own eo)
 
   -- what its rows come to can be worked out
-  pub position-room : (u ≤ mostUnit) × ((recordCount prompts ≤ mostPrompts) × (RowsFit (records rows) × RatedBy rates (records rows)))
+  pub position-room : (u ≤ mostUnit) × (((recordCount prompts ≤ mostPrompts) × OneDay (records prompts) (records rows))
+      × (RowsFit (records rows) × RatedBy rates (records rows)))
   position-room = (
     omega (arith, its-unit, own-fit account law c .units .most),
     (
-      prompts-few account law c few prompts rows ep er,
+      (prompts-few account law c few prompts rows ep er, rows-placed account law c few prompts rows ep er),
       (
         rows-room account law c few prompts rows ep er .rows-within,
         rows-rated-by account law c few prompts rows ep er rates (rows-rated account law c rates held),

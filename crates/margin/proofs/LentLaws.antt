@@ -19,7 +19,7 @@ use Rattle.account.specs.declared.answers.Answer.{Answer}
 use Rattle.account.specs.declared.answers.Answer.the-variants.{Accepted, TooFewNumbers}
 use Rattle.account.specs.Check.{mostContracts}
 use Rattle.margin.specs.Books.{asks, answered, tableQuestion}
-use Rattle.margin.specs.Places.{questions, atPlace, afterEach, lentPlace, lentEach, questionOf, widthOf, allOver, afterAllOver}
+use Rattle.margin.specs.Places.{questions, atPlace, afterEach, lentPlace, lentEach, questionOf, widthOf, afterAllOver}
 use Rattle.margin.specs.Questions.{notRefused, afterwards, numbersFor, answerOver, afterOver}
 use Rattle.margin.specs.Uses.{tableUses}
 use Rattle.margin.specs.declared.asking.Question.the-variants.{Uses}

@@ -29,7 +29,7 @@ use Rattle.margin.specs.code.Beside.{ownOf}
 use Rattle.margin.specs.Books.{asks}
 use Rattle.formulas.specs.Contract.{partsOf}
 use Rattle.margin.specs.code.Lined.{PositionAt}
-use Rattle.formulas.specs.code.Position.{RatedBy, PositionOf, Bounded, withNets}
+use Rattle.formulas.specs.code.Position.{RatedBy, PositionOf, Bounded, OneDay, withNets}
 use Rattle.formulas.specs.code.Promised.{BookFit, contractWith}
 use Rattle.formulas.specs.code.Within.{ContractFit, EntriesFit}
 use Rattle.margin.proofs.AcceptLaws.{none-within, contract-within, own-within, entries-within, each-unrated}
@@ -116,6 +116,9 @@ module _ (account : List Record) (law : Lawful account) where
 
       pub prompts-few : recordCount prompts ≤ mostPrompts
       prompts-few = omega (arith, count-is prompts, ap length (of-contract 2 (omega arith) prompts ep), law .limits .prompts c)
+
+      pub rows-placed : OneDay (records prompts) (records rows)
+      rows-placed = subst⁻¹ (λ (ps : List Record). OneDay ps (records rows)) (of-contract 2 (omega arith) prompts ep) (rows-room .one-day)
 
       pub rows-rated-by : (t : Rates) → RatedBy t (rowsOf c account) → RatedBy t (records rows)
       rows-rated-by t = subst⁻¹ (RatedBy t) (of-contract 3 (omega arith) rows er)

@@ -4,11 +4,12 @@ use mathlib.Core.Path.{_≡_, sym, _∙_}
 use mathlib.Core.Bool.{Bool, _||_}
 use mathlib.Core.List.{[], map}
 use borrow.Author.Tests.{ne-eqb}
+use Rattle.exact.proofs.Lists.{any-append}
 use Rattle.record.specs.Bytes.{Record, countFrom}
 use Rattle.record.specs.Layout.{kind, fieldsOf, contractFields, promptFields, rowHead, lossField, rowFields, spreadFields, entryFields, rateFields}
 use Rattle.record.specs.Layout.{scenarioCount}
 use Rattle.record.specs.Ranges.{outside, outsideAmong}
-use Rattle.record.proofs.Tests.{both, any-append}
+use Rattle.record.proofs.Tests.{both}
 
 module _ (r : Record) where
   pub of-contract : kind r ≡ 1 → fieldsOf r ≡ contractFields

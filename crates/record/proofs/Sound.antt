@@ -2,7 +2,7 @@
 -- Assumes nothing.
 use Prim.Native.Nat.{ℕ}
 use mathlib.Core.Path.{_≡_, refl, sym, ap, _∙_}
-use mathlib.Core.Bool.{Bool, true, false, not, _&&_, _||_}
+use mathlib.Core.Bool.{Bool, true, false, not, _&&_, _||_, and-true, and-false}
 use mathlib.Core.List.{List}
 use lib.ListN.{length}
 use lib.Dec.{eqb, leb}
@@ -11,14 +11,6 @@ use Rattle.record.specs.Bytes.{Record, Field, recordBytes}
 use Rattle.record.specs.Layout.{kind, contract, fieldsOf}
 use Rattle.record.specs.Ranges.{unusedBeside, outsideAmong, unusedByte, fieldOutside, ofKindAndContract, soundRecord}
 use Rattle.record.proofs.Within.{both-true, neither}
-
-and-true : (a : Bool) → a && true ≡ a
-and-true true = refl
-and-true false = refl
-
-and-false : (a : Bool) → a && false ≡ false
-and-false true = refl
-and-false false = refl
 
 -- one test more among those that a record must not meet
 pub but-for : (b u h l m : Bool) → b && not (u || ((h || not m) || l)) ≡ (b && not (u || (h || l))) && m

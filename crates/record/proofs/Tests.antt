@@ -2,22 +2,14 @@
 -- Assumes nothing.
 use Prim.Native.Nat.{ℕ, zero, suc, _+_, _-_, _≤_, _<_}
 use mathlib.Core.Path.{_≡_, refl, sym, _∙_}
-use mathlib.Core.Bool.{Bool, true, false, _||_}
-use mathlib.Core.List.{List, [], _∷_, _++_}
+use mathlib.Core.Bool.{Bool, true, false, _||_, or-true, or-false, or-assoc}
+use mathlib.Core.List.{_∷_}
 use native.Mathlib.Omega.{arith}
 use Rattle.exact.specs.Lists.{any}
 use Rattle.record.specs.Bytes.{countFrom}
 
 pub both : {a b c d : Bool} → a ≡ b → c ≡ d → a || c ≡ b || d
 both p q = rw (p, q)
-
-pub or-false : (a : Bool) → a || false ≡ a
-or-false true = refl
-or-false false = refl
-
-pub or-true : (a : Bool) → a || true ≡ true
-or-true true = refl
-or-true false = refl
 
 -- a test beside the third of several, taken out behind them all
 pub or-inside : (a b c d e : Bool) → a || (b || ((c || d) || e)) ≡ (a || (b || (c || e))) || d
@@ -29,14 +21,6 @@ or-inside false false false false e = sym (or-false e)
 
 pub last : {a b : Bool} → a ≡ b → a ≡ b || false
 last {a} {b} p = p ∙ sym (or-false b)
-
-or-assoc : (a b c : Bool) → (a || b) || c ≡ a || (b || c)
-or-assoc true b c = refl
-or-assoc false b c = refl
-
-pub any-append {ℓ} : {A : Type ℓ} (p : A → Bool) (xs ys : List A) → any p (xs ++ ys) ≡ any p xs || any p ys
-any-append p [] ys = refl
-any-append p (x ∷ xs) ys = rw (any-append p xs ys) (sym (or-assoc (p x) (any p xs) (any p ys)))
 
 counts-on : (e i : ℕ) → i < e → countFrom i (e - i) ≡ i ∷ countFrom (i + 1) (e - (i + 1))
 counts-on e i h =

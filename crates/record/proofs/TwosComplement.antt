@@ -2,7 +2,7 @@
 -- Assumes nothing.
 use Prim.Native.Nat.{ℕ, zero, suc, _-_, _≤_, _<_}
 use mathlib.Core.Path.{_≡_, refl, sym, _∙_}
-use mathlib.Core.Bool.{Bool, true, false, _&&_, _||_, and-true}
+use mathlib.Core.Bool.{Bool, true, false, _&&_, _||_, and-true, or-false}
 use lib.Dec.{leb, ltb, leb·zero}
 use lib.IntN.{pos, negℤ}
 use lib.Signed.{leZ}
@@ -10,7 +10,6 @@ use native.Mathlib.Omega.{arith}
 use borrow.Author.Tests.{lt-ltb, le-ltb, le-leb, lt-leb, ltb-true, ltb-false, leb-true, leb-false}
 use native.Mathlib.Nat.{lt-irrefl, lt-of-lt-of-le}
 use Rattle.record.specs.Bytes.{twosComplement}
-use Rattle.record.proofs.Tests.{or-false}
 
 -- two orders that hold together
 leb-same : (a b c d : ℕ) → (a ≤ b → c ≤ d) → (c ≤ d → a ≤ b) → leb a b ≡ leb c d

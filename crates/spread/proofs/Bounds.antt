@@ -4,14 +4,14 @@ use Prim.Native.Nat.{ℕ, zero, suc, _-_, _*_, _≤_, _<_, _^_}
 use native.Mathlib.Nat.{div-le-self, mul-le-mul}
 use native.Mathlib.Omega.{arith}
 use mathlib.Core.Bool.{Bool, true, false, cond}
-use mathlib.Core.List.{List, [], _∷_}
+use mathlib.Core.List.{List, [], _∷_, map}
 use mathlib.Core.Path.{_≡_, ap, subst⁻¹}
 use lib.Dec.{eqb}
 use lib.ListN.{length, getD, set, take}
 use lib.Seq.{take-all}
 use Rattle.exact.specs.Lists.{least}
 use Rattle.spread.specs.Accepted.{openOf, soundPrompts, promptPlaces}
-use Rattle.spread.specs.code.Cells.{cellOf, mostPool, mostNumber, Small, Pooled, poolIn, formedIn, lessIn, afterIn, Taken}
+use Rattle.spread.specs.code.Cells.{cellOf, mostPool, mostNumber, Small, Pooled, poolIn, roomIn, formedIn, lessIn, afterIn, numbersOver, Taken}
 use Rattle.spread.specs.code.Pools.{PoolsOf, SmallPools, legAt, takerAt, roomAt, formedOf}
 use Rattle.spread.specs.Steps.{Taker, pool, room, legTakes}
 use Rattle.spread.specs.declared.Prompts.{Prompts}
@@ -54,6 +54,19 @@ room-most true p ratio h = let d = div-le-self (10 * p) ratio in omega arith
 pub least-first : (x : ℕ) (xs : List ℕ) → least (x ∷ xs) ≤ x
 least-first x [] = omega arith
 least-first x (y ∷ ys) = omega arith
+
+formed-small : (ks : List Taker) (cells : List ℕ) → Small cells → formedIn ks cells ≤ mostNumber
+formed-small [] cells h = omega arith
+formed-small (k ∷ ks) cells h =
+    let a = least-first (roomIn cells k) (map (roomIn cells) ks) in
+    let b = room-most (k .tenths) (poolIn cells k) (k .ratio) (h (k .market) (k .tier)) in
+    omega arith
+
+pub numbers-over-small : (ss : List (List Taker)) (cells : List ℕ) → Small cells → (k : ℕ) → getD (numbersOver ss cells) k 0 ≤ mostNumber
+numbers-over-small [] cells h k = omega arith
+numbers-over-small (s ∷ ss) cells h zero = formed-small s cells h
+numbers-over-small (s ∷ ss) cells h (suc k) =
+    numbers-over-small ss (afterIn s (formedIn s cells) cells) (small-after s (formedIn s cells) cells h) k
 
 -- the same of the pools of a step by value
 

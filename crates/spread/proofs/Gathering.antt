@@ -22,7 +22,7 @@ use Rattle.spread.specs.Steps.{Market, long, short, Open, Taker, onSide,
 use Rattle.spread.specs.declared.Delta.{Delta}
 use Rattle.spread.specs.declared.Prompts.{Prompts}
 use Rattle.spread.proofs.Both.{and-left, and-right}
-use Rattle.spread.proofs.Every.{open-length, open-at}
+use Rattle.spread.proofs.Every.{every-at, open-length, open-at}
 use Rattle.spread.proofs.Filling.{getD-same}
 use Rattle.spread.proofs.Pooling.{cell-small, cell-set}
 use Rattle.spread.proofs.Spending.{draws-market, draws-tier}
@@ -52,11 +52,6 @@ in-own-pool m t p =
     ap (λ (b : Bool). cond b (onSide m (p .unused)) 0) (eqb-turned (p .tier) t) ∙ on-own-side m (p .unused) (eqb t (p .tier))
 
 -- every prompt that is accepted has a tier in range and a size within the most
-
-pub every-at {ℓ} : {A : Type ℓ} (p : A → Bool) (l : List A) (i : ℕ) (d : A) → every p l ≡ true → i < length l → p (getD l i d) ≡ true
-every-at p [] i d e h = absurd (omega arith)
-every-at p (x ∷ l) zero d e h = and-left (p x) (every p l) e
-every-at p (x ∷ l) (suc i) d e h = every-at p l i d (and-right (p x) (every p l) e) (omega arith)
 
 pub tier-sound : (p : Open) → soundPrompt p ≡ true → p .tier < tierCount
 tier-sound p e = ltb-true (p .tier) tierCount (and-left (ltb (p .tier) tierCount) (leb (natAbs (p .unused)) mostDelta) e)

@@ -3,7 +3,7 @@
 use Prim.Native.Nat.{ℕ, _+_, _-_, _*_, _≤_, _<_}
 use native.Mathlib.Nat.{sub-zero}
 use native.Mathlib.Omega.{arith}
-use mathlib.Core.Bool.{Bool, true, false, cond, _&&_, Bool·beq}
+use mathlib.Core.Bool.{Bool, true, false, cond, _&&_, Bool·beq, and-false}
 use mathlib.Core.List.{List, [], _∷_, map}
 use mathlib.Core.Path.{_≡_, refl, sym, _∙_, ap, ap₂, subst, fun-ext}
 use lib.Dec.{eqb, ltb}
@@ -25,10 +25,6 @@ same-test a b c d f g = go (eqb c d) refl
     go : (t : Bool) → eqb c d ≡ t → eqb a b ≡ t
     go true e = eq-eqb a b (g (eqb-true c d e))
     go false e = ne-eqb a b (λ h. eqb-false c d e (f h))
-
-and-none : (b : Bool) → b && false ≡ false
-and-none true = refl
-and-none false = refl
 
 same-cell : (m n : Market) (t u : ℕ) → eqb (2 * t + parity m) (2 * u + parity n) ≡ sameMarket n m && eqb t u
 same-cell long long t u = same-test (2 * t + 0) (2 * u + 0) t u (λ e. omega arith) (λ e. omega arith)
@@ -68,7 +64,7 @@ same-cells m n t u h = go (ltb t tierCount) refl
     go false e =
         ne-eqb (cellOf m t) (cellOf n u)
         (λ d. let s = cell-small n u h in let o = out-of-range m t (ltb-false t tierCount e) in omega arith)
-        ∙ sym (ap (λ b. sameMarket n m && b) (ne-eqb t u (λ d. let g = ltb-false t tierCount e in omega arith)) ∙ and-none (sameMarket n m))
+        ∙ sym (ap (λ b. sameMarket n m && b) (ne-eqb t u (λ d. let g = ltb-false t tierCount e in omega arith)) ∙ and-false (sameMarket n m))
 
 -- A legs are short in the second step, B legs in the first
 side-short : (b second : Bool) → shortIf (Bool·beq b second) ≡ cond second (cond b short long) (cond b long short)

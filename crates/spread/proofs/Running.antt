@@ -6,11 +6,10 @@ use native.Mathlib.Omega.{arith}
 use mathlib.Core.Bool.{Bool, true, false, cond}
 use mathlib.Core.List.{List, _∷_}
 use mathlib.Core.Path.{_≡_, refl, sym, _∙_, ap, ap₂, subst, subst⁻¹}
-use lib.Dec.{leb}
 use lib.ListN.{length, getD, set, drop, replicate, drop-of-length-le, List·getD-map}
 use lib.Seq.{drop-cons, getD-take, length-take-le}
-use borrow.Author.Tests.{leb-true, le-ltb}
-use Rattle.spread.specs.Accepted.{every, tableSpreads, soundSpread, soundTable, spreadPlaces}
+use borrow.Author.Tests.{le-ltb, lt-ltb}
+use Rattle.spread.specs.Accepted.{tableSpreads, spreadPlaces}
 use Rattle.spread.specs.code.Book.{spreadsEntry, Run}
 use Rattle.spread.specs.Steps.{stepOf, steps}
 use Rattle.spread.specs.code.Cells.{numbersOver, leftIn, Taken}
@@ -18,8 +17,6 @@ use Rattle.spread.specs.code.Lent.{spreadsFrom}
 use Rattle.spread.specs.declared.Spread.{Spread}
 use Rattle.spread.specs.declared.Spreads.{Spreads}
 use Rattle.spread.specs.declared.Table.{Table}
-use Rattle.spread.proofs.Both.{and-left, and-right}
-use Rattle.spread.proofs.Every.{every-at}
 use Rattle.spread.proofs.Filling.{Filled, filled-none, filled-next, filled-all}
 use Rattle.spread.proofs.Lent.{map-set}
 use Rattle.spread.proofs.Nothing.{Written}
@@ -129,6 +126,12 @@ pub none-yet : (f : ℕ → Spreads) (i : ℕ) (ns : List ℕ) → Filled spread
 none-yet f i ns r =
     ap (λ (s : Spreads). s .0)
     (sym (List·getD-map (λ n. record { 0 = n }) ns i 0) ∙ r .each i ∙ ap (λ (b : Bool). cond b (f i) noSpreads) (le-ltb i i (omega arith)))
+
+-- the number of a spread that is done
+pub just-formed : (f : ℕ → Spreads) (i : ℕ) (ns : List ℕ) → Filled spreadPlaces noSpreads f (i + 1) (spreadsFrom ns) → getD ns i 0 ≡ f i .0
+just-formed f i ns r =
+    ap (λ (s : Spreads). s .0)
+    (sym (List·getD-map (λ n. record { 0 = n }) ns i 0) ∙ r .each i ∙ ap (λ (b : Bool). cond b (f i) noSpreads) (lt-ltb i (i + 1) (omega arith)))
 
 pub table-next : (t : Table) (cells : List ℕ) (i : ℕ) (now l₁ l₂ first second more-first more-second : List ℕ) (d : Spread)
     → length (t .spread) ≡ spreadPlaces → t .count ≤ spreadPlaces → i < t .count

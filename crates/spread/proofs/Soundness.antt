@@ -1,7 +1,7 @@
 -- The steps of an accepted table can be run: what is asked of its legs is what demand 3 rests on.
 -- Assumes nothing.
 use Prim.Native.Nat.{ℕ, _<_}
-use mathlib.Core.Bool.{Bool, true, false, not, _&&_, _||_, true≢false}
+use mathlib.Core.Bool.{Bool, true, false, not, _&&_, _||_, true≢false, and-false}
 use mathlib.Core.List.{List, [], _∷_, map}
 use mathlib.Core.Logic.{_⊎_, inl, inr, ⊎-elim}
 use mathlib.Core.Path.{_≡_, refl, sym, _∙_, ap}
@@ -85,13 +85,9 @@ module _ (tenths second : Bool) where
       (taker tenths (marketIn second) k) ≡ false
   leg-apart l k sl sk h = go (eqb (l .tier) (k .tier)) h
     where
-      none : (b : Bool) → b && false ≡ false
-      none true = refl
-      none false = refl
-
       go : (b : Bool) → b && eqb (l .side) (k .side) ≡ false → sameMarket (marketIn second (k .side)) (marketIn second (l .side)) && b ≡ false
       go true f = rw (market-apart second (l .side) (k .side) (side-of l sl) (side-of k sk) f)
-      go false f = none (sameMarket (marketIn second (k .side)) (marketIn second (l .side)))
+      go false f = and-false (sameMarket (marketIn second (k .side)) (marketIn second (l .side)))
 
   none-drawn : (l : Leg) (ls : List Leg) → soundLeg l ≡ true → soundLegsOf ls ≡ true → any (legsAlike l) ls ≡ false
       → any (draws (marketIn second (l .side)) (l .tier)) (map (taker tenths (marketIn second)) ls) ≡ false

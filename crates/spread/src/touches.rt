@@ -9,26 +9,32 @@ use crate::Spreads;
 use crate::Table;
 use crate::book::Book;
 use crate::book::delta_book;
+use crate::book::pay;
 use crate::book::pool_of;
+use crate::book::pools_of;
 use crate::plain::numbers_of;
 use crate::plain::plain;
 use crate::pools::CELLS;
 use crate::pools::cell_for;
 use crate::pools::lesser;
+use crate::pools::pools_for;
+use crate::pools::put_back;
 use crate::pools::use_of;
 ghost use mathlib.Core.Path.{_≡_};
 ghost use mathlib.Core.Bool.{true, cond};
+ghost use mathlib.Core.List.{List};
 ghost use Prim.Native.Nat.{_+_, _≤_, min};
 ghost use lib.Dec.{ltb};
+ghost use lib.IntN.{pos};
 ghost use lib.ListN.{length, replicate};
 ghost use Rattle.exact.specs.Lists.{oneIf};
-ghost use Rattle.spread.specs.Accepted.{openOf, stepsOf, soundPrompts, sound, promptPlaces};
-ghost use Rattle.spread.specs.code.Cells.{cellOf, mostNumber, poolCount};
-ghost use Rattle.spread.specs.Steps.{marketIn, stepOf, useOf};
+ghost use Rattle.spread.specs.Accepted.{openOf, tableSpreads, stepsOf, soundPrompts, soundTable, sound, promptPlaces, spreadPlaces};
+ghost use Rattle.spread.specs.code.Cells.{cellOf, mostNumber, poolCount, Small, numbersOver};
+ghost use Rattle.spread.specs.Steps.{Open, marketIn, stepOf, numbers, useOf};
 ghost use Rattle.spread.specs.code.Passing.{givesIn, UsedUp, Begun, Ready, Passed, LegTaken, StepTaken, FormedBy, Laid};
-ghost use Rattle.spread.specs.code.Lent.{spreadsFrom, promptsIn};
+ghost use Rattle.spread.specs.code.Lent.{spreadsFrom, promptsIn, bookIn};
 ghost use Rattle.spread.specs.Touches.{touches};
-ghost use Rattle.spread.specs.code.Book.{CountedBook};
+ghost use Rattle.spread.specs.code.Book.{Booked, Run, CountedBook};
 
 // A cell for each pool, and one for a tier out of range.
 const PLACES: usize = CELLS + 1;
@@ -199,6 +205,78 @@ fn step_touches(
         wanted_by(2 < legs, three, tenths, number),
     );
     a + b + c
+}
+
+// "Each spread, in file order, is two steps": the numbers that they form, and in the cells the pools that they leave; and how often they take of
+// a prompt.
+fn run_counted(
+    cells: &mut [u64; CELLS],
+    table: Table,
+    first: &mut [u64; MOST_SPREADS],
+    second: &mut [u64; MOST_SPREADS],
+    size: &mut [u64; MOST_PROMPTS],
+    at: &mut [usize; PLACES],
+    pool: &[usize; MOST_PROMPTS],
+) -> u64
+    requires { ⌜ (soundTable table ≡ true) × (Small (now cells)
+        × (((now first ≡ replicate spreadPlaces 0) × (now second ≡ replicate spreadPlaces 0)) × Ready (now at) (now pool) (now size))) ⌝ }
+    ensures run { λ _. ⌜ Run (now (cells .entry)) (tableSpreads table) (now (cells .exit)) (spreadsFrom (now (first .exit)))
+        (spreadsFrom (now (second .exit))) ⌝ }
+    ensures counted { λ r. ⌜ ((ps : List Open) → Laid ps (now (pool .entry)) (now (size .entry))
+        → numbersOver (stepsOf table) (now (cells .entry)) ≡ numbers (stepsOf table) ps → r ≡ touches (stepsOf table) ps) ⌝ }
+{
+    let n = table.count;
+    let mut touches = 0;
+    let mut i = 0;
+    while i < n {
+        let spread = table.spread[i];
+        let pools = pools_for(cells, spread, false);
+        if pools.has_room() {
+            let took = pools.take(spread);
+            put_back(cells, spread, false, took.left);
+            first[i] = took.number.0;
+        }
+        let others = pools_for(cells, spread, true);
+        if others.has_room() {
+            let took = others.take(spread);
+            put_back(cells, spread, true, took.left);
+            second[i] = took.number.0;
+        }
+        let one = step_touches(size, at, pool, spread, false, first[i]);
+        let two = step_touches(size, at, pool, spread, true, second[i]);
+        touches += one + two;
+        i += 1;
+    }
+    touches
+}
+
+// The delta book of prompts and spreads that are accepted, in lent arrays of zeros, and how often its steps take of a prompt.
+pub fn put_counted(
+    count: usize,
+    tiers: &[u8; MOST_PROMPTS],
+    nets: &[i64; MOST_PROMPTS],
+    table: Table,
+    first: &mut [u64; MOST_SPREADS],
+    second: &mut [u64; MOST_SPREADS],
+    used: &mut [i64; MOST_PROMPTS],
+    unused: &mut [i64; MOST_PROMPTS],
+) -> u64
+    requires { ⌜ (sound (promptsIn count (now tiers) (now nets)) table ≡ true)
+        × (((now first ≡ replicate spreadPlaces 0) × (now second ≡ replicate spreadPlaces 0))
+        × ((now used ≡ replicate promptPlaces (pos 0)) × (now unused ≡ replicate promptPlaces (pos 0)))) ⌝ }
+    ensures book { λ _. ⌜ Booked (promptsIn count (now (tiers .entry)) (now (nets .entry))) table
+        (bookIn (now (first .exit)) (now (second .exit)) (now (used .exit)) (now (unused .exit))) ⌝ }
+    ensures touched { λ r. ⌜ r ≡ touches (stepsOf table) (openOf (promptsIn count (now (tiers .entry)) (now (nets .entry)))) ⌝ }
+{
+    let mut pool = [0; MOST_PROMPTS];
+    let mut size = [0; MOST_PROMPTS];
+    let mut at = [MOST_PROMPTS; PLACES];
+    lay(&mut pool, &mut size, &mut at, count, tiers, nets);
+    let pools = pools_of(count, tiers, nets);
+    let mut left = pools;
+    let touches = run_counted(&mut left, table, first, second, &mut size, &mut at, &pool);
+    pay(count, tiers, nets, pools, &left, used, unused);
+    touches
 }
 
 // The steps of what is accepted, with the numbers that they formed, in lent arrays: how often they take of a prompt.

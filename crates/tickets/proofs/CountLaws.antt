@@ -2,7 +2,7 @@
 -- Assumes nothing.
 use Prim.Native.Nat.{ℕ, zero, suc, _+_, _-_, _≤_, _<_}
 use mathlib.Core.Path.{_≡_, refl, sym, ap, ap₂, _∙_, subst, subst⁻¹}
-use mathlib.Core.Bool.{Bool, true, false, not, _&&_, _||_, cond}
+use mathlib.Core.Bool.{Bool, true, false, not, _&&_, _||_, cond, and-false}
 use mathlib.Core.List.{List, [], _∷_, _++_}
 use lib.Dec.{eqb, leb}
 use lib.ListN.{length, getD, set, take, length-append, length-set}
@@ -309,12 +309,8 @@ none-beyond : (n c : ℕ) (rs : List Record) → mostContract < c → Each Known
 none-beyond n c [] h e = refl
 none-beyond n c (r ∷ rs) h e =
     let m = e .0 .contracts in
-    let z : ofContract n c r ≡ false = ap (λ (b : Bool). ofKind n r && b) (ne-eqb (contract r) c (λ i. omega arith)) ∙ and-off (ofKind n r) in
+    let z : ofContract n c r ≡ false = ap (λ (b : Bool). ofKind n r && b) (ne-eqb (contract r) c (λ i. omega arith)) ∙ and-false (ofKind n r) in
     ap₂ (λ (b : Bool) (i : ℕ). oneIf b + i) z (none-beyond n c rs h (e .1))
-  where
-    and-off : (b : Bool) → b && false ≡ false
-    and-off true = refl
-    and-off false = refl
 
 module _ (file : List ℕ) (account : Account) (by : CheckedBy file (record { answer = Accepted; account = account })) where
   -- how many records of a kind each contract has

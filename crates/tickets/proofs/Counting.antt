@@ -2,7 +2,7 @@
 -- Assumes nothing.
 use Prim.Native.Nat.{ℕ, zero, suc, _+_, _<_}
 use mathlib.Core.Path.{_≡_, refl, sym, ap, ap₂, _∙_}
-use mathlib.Core.Bool.{Bool, true, false, not, _&&_, _||_, cond}
+use mathlib.Core.Bool.{Bool, true, false, not, _&&_, _||_, cond, or-false}
 use mathlib.Core.List.{List, [], _∷_}
 use lib.Dec.{eqb, leb}
 use lib.ListN.{getD, take, drop, take-append-drop}
@@ -171,16 +171,12 @@ module _ (file : List ℕ) (ok : checked file ≡ Accepted) (t : Record) (r : Ti
       let rest = none-of q xs e (l .1) in
       (both z (rest .0), ap₂ (λ (b : Bool) (n : ℕ). oneIf b + n) z (rest .1))
 
-  or-none : (a : Bool) → a || false ≡ a
-  or-none true = refl
-  or-none false = refl
-
   module _ (q : Record → Bool) (e : (x : Record) → Later t x → q x ≡ false) where
     first-any : any q (ahead file t) ≡ any q rs
     first-any =
         let z = none-of q (drop p rs) e (apart-at file ok t (r .whole) (r .row) .rest) in
         any-earlier q file p ∙ ap (any q) front
-        ∙ sym (or-none (any q (take p rs))) ∙ ap (λ (b : Bool). any q (take p rs) || b) (sym (z .0))
+        ∙ sym (or-false (any q (take p rs))) ∙ ap (λ (b : Bool). any q (take p rs) || b) (sym (z .0))
         ∙ sym (any-append q (take p rs) (drop p rs)) ∙ ap (any q) (take-append-drop p rs)
 
     first-count : count q (ahead file t) ≡ count q rs

@@ -3,7 +3,7 @@
 -- Assumes nothing.
 use Prim.Native.Nat.{ℕ, suc, _+_, _≤_, _<_}
 use mathlib.Core.Path.{_≡_, refl, sym, ap, ap₂, _∙_, subst, subst⁻¹}
-use mathlib.Core.Bool.{Bool, true, false, not, _&&_, _||_, cond}
+use mathlib.Core.Bool.{Bool, true, false, not, _&&_, _||_, cond, and-false}
 use mathlib.Core.List.{List, [], _∷_, _++_, append-nil}
 use lib.Dec.{eqb, leb, ltb}
 use lib.ListN.{take, drop, take-append-drop}
@@ -308,10 +308,6 @@ module _ (t : Record) where
           ∙ both (left-off (ltb (contract r) (contract t)) (ap₂ (λ (n m : ℕ). eqb n m) row e)) clash)
           (λ e. order-5 t r e ∙ sym (order-5 (theOneBefore es) r e) ∙ p .ordered)
           (λ e. order-6 t r e ∙ left-off _ (ap (λ (n : ℕ). eqb n 6) row))
-        where
-          and-false : (x : Bool) → x && false ≡ false
-          and-false true = refl
-          and-false false = refl
 
     -- ---- the later records are as they were
     still-accepted :

@@ -11,11 +11,11 @@ use lib.ListN.{length, getD, set, length-append, length-set}
 use lib.Seq.{take-all, getD-set-same, getD-set-other, getD-append-seam}
 use Rattle.account.specs.Check.{mostRecords, mostContracts, mostPrompts, mostRows}
 use Rattle.record.specs.Bytes.{recordBytes}
-use Rattle.record.specs.Layout.{Record, contract, unit, mostContract, mostUnit}
+use Rattle.record.specs.Layout.{Record, contract, day, unit, mostContract, mostUnit}
 use Rattle.account.specs.Checked.{checked}
 use Rattle.account.specs.Lawful.{Lawful}
 use Rattle.account.specs.PartNumbers.{part, ratePart}
-use Rattle.account.specs.Parts.{contractsOf, promptsOf, rowsOf, spreadsOf, entriesOf, ratesOf}
+use Rattle.account.specs.Parts.{contractsOf, onDay, promptsOf, rowsOf, spreadsOf, entriesOf, ratesOf}
 use Rattle.account.specs.code.Rates.{RatesOf}
 use Rattle.account.specs.Records.{records, recordCount, recordAt, cut}
 use Rattle.account.specs.code.Standing.{Stands, PartOf}
@@ -28,15 +28,16 @@ use Rattle.account.proofs.Alone.{lawful}
 use Rattle.account.proofs.Places.{alone}
 use Rattle.margin.specs.code.Beside.{unitOf, Besides}
 use Rattle.margin.specs.code.Lined.{PositionAt}
-use Rattle.exact.specs.Lists.{keep}
+use Rattle.exact.specs.Lists.{count, keep}
 use Rattle.margin.specs.Books.{asks}
-use Rattle.formulas.specs.code.Position.{RowFit, RowRated, RowsFit, RatedBy, DaysOf, PositionOf, Bounded, WithRows, HasRows}
+use Rattle.formulas.specs.code.Position.{RowFit, RowRated, RowsFit, RowsPlaced, OneDay, RatedBy, DaysOf, PositionOf, Bounded, WithRows, HasRows}
 use Rattle.margin.specs.code.Positions.{noPosition, PositionsOf, PositionsTell, Known}
 use Rattle.margin.specs.declared.positions.Positions.{Positions}
 use Rattle.formulas.specs.declared.rows.Days.{Days}
 use Rattle.formulas.specs.declared.rows.Position.{Position}
 use Rattle.margin.proofs.AcceptLaws.{none-within, contract-within, its-rated}
 use Rattle.margin.proofs.BesideLaws.{own-fit}
+use Rattle.formulas.proofs.PlacedLaws.{rows-placed}
 use Rattle.formulas.proofs.PositionBounds.{Rated, bounded, wider}
 use Rattle.formulas.proofs.RecordLaws.{count-is}
 use Rattle.margin.proofs.StandLaws.{of-contract, own-by}
@@ -139,23 +140,27 @@ module _ (t : Record) (whole more : List Record) (one : OneRowMore t whole more)
   long : length (rowsOf c whole ++ t ∷ []) ≡ length (rowsOf c whole) + 1
   long = length-append (rowsOf c whole) (t ∷ [])
 
+  -- what holds of every row holds of the last
+  of-last :
+      (P : Record → Type 0) → ((k : ℕ) → k < length (rowsOf c whole ++ t ∷ []) → P (getD (rowsOf c whole ++ t ∷ []) k [])) → (k : ℕ)
+      → k < length (t ∷ []) → P (getD (t ∷ []) k [])
+  of-last P every k h =
+      let z : 0 ≡ k = omega arith in
+      subst (λ (n : ℕ). P (getD (t ∷ []) n [])) z
+      (subst P (getD-append-seam (rowsOf c whole) t [] []) (every (length (rowsOf c whole)) (omega (arith, long))))
+
   pub row-fits : RowsFit (t ∷ [])
-  row-fits = record { few = omega arith; each = λ k h. go k h }
-    where
-      go : (k : ℕ) → k < length (t ∷ []) → RowFit (getD (t ∷ []) k [])
-      go k h =
-          let z : 0 ≡ k = omega arith in
-          subst (λ (n : ℕ). RowFit (getD (t ∷ []) n [])) z
-          (subst RowFit (getD-append-seam (rowsOf c whole) t [] []) (rows-fit′ .each (length (rowsOf c whole)) (omega (arith, long))))
+  row-fits = record { few = omega arith; each = of-last RowFit (rows-fit′ .each) }
 
   pub row-rated-by : (table : Rates) → RatesOf held table → RatedBy table (t ∷ [])
-  row-rated-by table is = record { rates = held; held = is; each = λ k h. go k h }
-    where
-      go : (k : ℕ) → k < length (t ∷ []) → RowRated held (getD (t ∷ []) k [])
-      go k h =
-          let z : 0 ≡ k = omega arith in
-          subst (λ (n : ℕ). RowRated held (getD (t ∷ []) n [])) z
-          (subst (RowRated held) (getD-append-seam (rowsOf c whole) t [] []) (rated′ (length (rowsOf c whole)) (omega (arith, long))))
+  row-rated-by table is = record { rates = held; held = is; each = of-last (RowRated held) rated′ }
+
+  -- it is of the day of one prompt
+  pub row-placed : OneDay (promptsOf c whole) (t ∷ [])
+  row-placed =
+      of-last (λ r. count (onDay (day r)) (promptsOf c whole) ≡ 1)
+      (subst (OneDay (promptsOf c whole)) (one .rows)
+      (subst (λ (ps : List Record). OneDay ps (rowsOf c more)) (one .prompts c) (contract-within more law′ [] c none-within .one-day)))
 
   pub unit-within : unitOf c whole ≤ mostUnit
   unit-within = own-fit whole law c .units .most
@@ -345,6 +350,10 @@ module _ (file : List ℕ) (account : Account) (none : List ℕ) (st : Stands fi
     rated : RatedBy table (records t)
     rated = subst⁻¹ (RatedBy table) only (row-rated-by t whole more one law law′ table rates-are)
 
+    at-places : RowsPlaced (days .count) (days .day) (records t)
+    at-places = subst⁻¹ (RowsPlaced (days .count) (days .day)) only
+        (rows-placed (promptsOf n whole) (t ∷ []) days days-are (row-placed t whole more one law law′))
+
     -- one row more
     module _ (ps : Positions) (of : PositionsOf whole ps) where
       abbrev p : Position
@@ -353,12 +362,12 @@ module _ (file : List ℕ) (account : Account) (none : List ℕ) (st : Stands fi
       at-unit : PositionOf (ratesOf whole) u (promptsOf n whole) (rowsOf n whole) p
       at-unit = same-position p refl unit-is refl refl (of .each n small .is)
 
-      pub more-asks : (u ≤ mostUnit) × ((days .count ≤ mostPrompts)
+      pub more-asks : (u ≤ mostUnit) × (((days .count ≤ mostPrompts) × RowsPlaced (days .count) (days .day) (records t))
           × (RowsFit (records t) × (RatedBy table (records t) × Bounded (mostRows - length (records t)) p)))
       more-asks = (
         unit-few,
         (
-          known .few,
+          (known .few, at-places),
           (fits, (rated, subst⁻¹ (λ (rs : List Record). Bounded (mostRows - length rs) p) only (room t whole more one law law′ p (of .each n small .is)))),
         ),
       )
@@ -380,11 +389,12 @@ module _ (file : List ℕ) (account : Account) (none : List ℕ) (st : Stands fi
       p′ = getD (ps .at) n noPosition
 
       pub less-asks : (u ≤ mostUnit)
-          × ((days .count ≤ mostPrompts) × (RowsFit (records t) × (RatedBy table (records t) × (Bounded mostRows p′ × HasRows table u days (records t) p′))))
+          × (((days .count ≤ mostPrompts) × RowsPlaced (days .count) (days .day) (records t))
+          × (RowsFit (records t) × (RatedBy table (records t) × (Bounded mostRows p′ × HasRows table u days (records t) p′))))
       less-asks = (
         unit-few,
         (
-          known .few,
+          (known .few, at-places),
           (
             fits,
             (

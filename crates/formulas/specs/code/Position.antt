@@ -101,16 +101,26 @@ pub record DaysOf (prompts : List Record) (d : Days) : Type 0 where
 abbrev pub daysIn : ℕ → List ℕ → Days
 daysIn count days = record { count = count; day = days }
 
--- each day is later than those before it
-abbrev pub DaysRise : ℕ → List ℕ → Type 0
-DaysRise n days = (j k : ℕ) → j < k → k < n → getD days j 0 < getD days k 0
-
--- the first place of a day from a place on, among the first n days, and n where there is none
-pub record FirstPlace (days : List ℕ) (start n d r : ℕ) : Type 0 where
-  pub low : start ≤ r
+-- the first place of a day among the first n days, and n where there is none
+pub record FirstPlace (days : List ℕ) (n d r : ℕ) : Type 0 where
   pub high : r ≤ n
   pub here : r < n → getD days r 0 ≡ d
-  pub others : (j : ℕ) → start ≤ j → j < r → getD days j 0 ≡ d → ⊥
+  pub others : (j : ℕ) → j < r → getD days j 0 ≡ d → ⊥
+
+-- the one place of a day among the first n days
+pub record OnePlace (n : ℕ) (days : List ℕ) (d : ℕ) : Type 0 where
+  pub place : ℕ
+  pub within : place < n
+  pub here : getD days place 0 ≡ d
+  pub only : (j : ℕ) → j < n → getD days j 0 ≡ d → j ≡ place
+
+-- each row has one, by its day
+abbrev pub RowsPlaced : ℕ → List ℕ → List Record → Type 0
+RowsPlaced n days rows = (k : ℕ) → k < length rows → OnePlace n days (day (getD rows k []))
+
+-- each guess is one of the first n places, where there are any
+abbrev pub Guessed : ℕ → List ℕ → Type 0
+Guessed n guess = 0 < n → (k : ℕ) → getD guess k 0 < n
 
 -- what rows come to at these rates, for a contract with this unit and these prompts; the nets past its prompts are 0
 pub record PositionOf (rates : List Record) (unit : ℕ) (prompts rows : List Record) (p : Position) : Type 0 where
@@ -147,6 +157,6 @@ pub record HasRows (t : Rates) (unit : ℕ) (days : Days) (rows : List Record) (
   pub before : Position
   pub added : WithRows rates unit days before rows p
 
--- each row is of the day of one prompt at most
+-- each row is of the day of one prompt
 abbrev pub OneDay : List Record → List Record → Type 0
-OneDay prompts rows = (k : ℕ) → k < length rows → count (onDay (day (getD rows k []))) prompts ≤ 1
+OneDay prompts rows = (k : ℕ) → k < length rows → count (onDay (day (getD rows k []))) prompts ≡ 1

@@ -4,7 +4,7 @@ use Prim.Native.Nat.{ℕ}
 use mathlib.Core.Path.{_≡_}
 use mathlib.Core.List.{List, [], map}
 use lib.IntN.{ℤ}
-use lib.ListN.{length, getD, take}
+use lib.ListN.{getD, take}
 use Rattle.exact.specs.Lists.{keep}
 use Rattle.record.specs.Layout.{Record, unit}
 use Rattle.account.specs.Lawful.{Lawful}

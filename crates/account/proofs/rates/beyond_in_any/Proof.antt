@@ -1,7 +1,7 @@
 -- `beyond_in_any`: the scenarios from s on are still to be looked at.
 -- Assumes nothing.
 use mathlib.Core.Path.{_≡_, refl, sym, _∙_, ap, subst}
-use mathlib.Core.Bool.{Bool, true, false, _||_}
+use mathlib.Core.Bool.{Bool, _||_, or-assoc, or-false}
 use Prim.Native.Nat.{ℕ, suc, _+_, _-_, _≤_, _<_}
 use native.Mathlib.Omega.{arith}
 use lib.Dec.{ltb}
@@ -21,19 +21,11 @@ use Rattle.account.proofs.rates.beyond_in_any.Tie as tie
 abbrev beyond : ℕ → ℕ → ℤ → Record → ℕ → Bool
 beyond up down each row s = ltb mostConversion (natAbs (convertedAt up down (each *ℤ loss row s)))
 
-or-assoc : (a b c : Bool) → a || (b || c) ≡ (a || b) || c
-or-assoc true b c = refl
-or-assoc false b c = refl
-
-or-none : (a : Bool) → a || false ≡ a
-or-none true = refl
-or-none false = refl
-
 one-more : (p : ℕ → Bool) (t : Bool) (s : ℕ) → s < scenarioCount → t || any p (countFrom (s + 1) (scenarioCount - s)) ≡ (t || p (s + 1))
     || any p (countFrom (s + 1 + 1) (scenarioCount - (s + 1)))
 one-more p t s h =
     let e : scenarioCount - s ≡ suc (scenarioCount - (s + 1)) = omega arith in
-    ap (λ (n : ℕ). t || any p (countFrom (s + 1) n)) e ∙ or-assoc t (p (s + 1)) _
+    ap (λ (n : ℕ). t || any p (countFrom (s + 1) n)) e ∙ sym (or-assoc t (p (s + 1)) _)
 
 abbrev Inv-loop : tie.InvT-loop
 Inv-loop f each row found₀ s₀ found s =
@@ -97,7 +89,7 @@ returns c =
     sym (ap (λ (z : ℤ). any (p z) (countFrom 1 scenarioCount)) (sym (back (s .args .each) (s .fits .each)))
     ∙ i .inv .1
     ∙ ap (λ (n : ℕ). i .found || any (p (toZ w64 (ofZ w64 (s .args .each)))) (countFrom (i .s + 1) n)) done
-    ∙ or-none (i .found))
+    ∙ or-false (i .found))
 
 pub beyond-in-any-spec : {M : Type 1} → statement M
 beyond-in-any-spec =

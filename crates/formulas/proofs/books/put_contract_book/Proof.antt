@@ -5,7 +5,6 @@ use mathlib.Core.Bool.{true≢false}
 use Prim.Native.Nat.{zero-le}
 use native.Mathlib.Omega.{arith}
 use borrow.Author.Needs.{needs}
-use borrow.Author.Tests.{not-true}
 use lib.ListN.{length}
 use Rattle.account.specs.Records.{records}
 use Rattle.formulas.specs.Deltas.{opensWith}
@@ -45,61 +44,54 @@ interprompt-table-requires c κs =
     let start = c .before .before .before .before .before in
     omega (arith, start .pre .0 .few-spreads, count-is (start .args .spreads .now))
 
-put-book-requires : tie.Need-put-book-requires
-put-book-requires c κs =
-    let after-table = c .before .before .before .before .before in
-    let after-put-tiers = after-table .before in
-    let start = after-put-tiers .before .before .before .before .before in
-    let table = after-table .interprompt-table in (
-      lent-sound (start .args .prompts .now) (start .args .spreads .now) _ (start .args .nets .now) (table .result) (after-put-tiers .put-tiers .ensures)
-          (table .ensures) (start .pre .0),
-      start .pre .1,
-    )
+-- what the spread steps are asked to accept, by where the table was made
+abbrev started : tie.After-interprompt-table → tie.Start
+started c =
+    let after-put-tiers = c .before in
+    after-put-tiers .before .before .before .before .before
 
--- where the table was made
-abbrev at-table : tie.After-put-book → tie.After-interprompt-table
-at-table c =
+put-counted-requires : tie.Need-put-counted-requires
+put-counted-requires c κs =
     let after-table = c .before .before .before .before .before .before in
-    after-table
+    let s = started after-table in
+    let table = after-table .interprompt-table in (
+      lent-sound (s .args .prompts .now) (s .args .spreads .now) _ (s .args .nets .now) (table .result) (after-table .before .put-tiers .ensures)
+          (table .ensures) (s .pre .0),
+      s .pre .1,
+    )
 
 returns-2 : tie.Need-returns-2
 returns-2 c =
-    let after-book = c .before in
-    let after-table = at-table after-book in
-    let after-put-tiers = after-table .before in
-    let start = after-put-tiers .before .before .before .before .before in
-    let table = after-table .interprompt-table in (
-      lent-book (start .args .prompts .now) (start .args .spreads .now) _ (start .args .nets .now) (table .result) (after-put-tiers .put-tiers .ensures)
-          (table .ensures) (start .pre .0) _ (after-book .put-book .ensures),
-      λ asked. absurd (true≢false (sym asked ∙ not-true (start .args .counted) (c .if2 .taken))),
+    let after-table = c .before .before .before .before .before .before .before in
+    let s = started after-table in
+    let prompts = s .args .prompts .now in
+    let spreads = s .args .spreads .now in
+    let nets = s .args .nets .now in
+    let table = after-table .interprompt-table in
+    let tiers = after-table .before .put-tiers .ensures in (
+      lent-book prompts spreads _ nets (table .result) tiers (table .ensures) (s .pre .0) _ (c .put-counted .ensures .0),
+      λ asked. lent-touches prompts spreads _ nets (table .result) tiers (table .ensures) (s .pre .0) (c .put-counted .result) (c .put-counted .ensures .1),
     )
 
-touches-in-requires : tie.Need-touches-in-requires
-touches-in-requires c κs =
-    let after-book = c .before .before .before .before in
-    let after-table = at-table after-book in
-    let after-put-tiers = after-table .before in
-    let start = after-put-tiers .before .before .before .before .before in
-    let table = after-table .interprompt-table in
-    let run = after-book .put-book .ensures in (
-      lent-sound (start .args .prompts .now) (start .args .spreads .now) _ (start .args .nets .now) (table .result) (after-put-tiers .put-tiers .ensures)
-          (table .ensures) (start .pre .0),
-      record { firsts = run .first; seconds = run .second },
+put-book-requires : tie.Need-put-book-requires
+put-book-requires c κs =
+    let after-table = c .before .before .before .before .before .before in
+    let s = started after-table in
+    let table = after-table .interprompt-table in (
+      lent-sound (s .args .prompts .now) (s .args .spreads .now) _ (s .args .nets .now) (table .result) (after-table .before .put-tiers .ensures)
+          (table .ensures) (s .pre .0),
+      s .pre .1,
     )
 
 returns-3 : tie.Need-returns-3
 returns-3 c =
-    let after-book = c .before .before .before .before .before in
-    let after-table = at-table after-book in
-    let after-put-tiers = after-table .before in
-    let start = after-put-tiers .before .before .before .before .before in
-    let prompts = start .args .prompts .now in
-    let spreads = start .args .spreads .now in
-    let nets = start .args .nets .now in
-    let table = after-table .interprompt-table in
-    let tiers = after-put-tiers .put-tiers .ensures in (
-      lent-book prompts spreads _ nets (table .result) tiers (table .ensures) (start .pre .0) _ (after-book .put-book .ensures),
-      λ asked. lent-touches prompts spreads _ nets (table .result) tiers (table .ensures) (start .pre .0) (c .touches-in .result) (c .touches-in .ensures),
+    let after-if2 = c .before .before .before .before .before .before in
+    let after-table = after-if2 .before in
+    let s = started after-table in
+    let table = after-table .interprompt-table in (
+      lent-book (s .args .prompts .now) (s .args .spreads .now) _ (s .args .nets .now) (table .result) (after-table .before .put-tiers .ensures)
+          (table .ensures) (s .pre .0) _ (c .put-book .ensures),
+      λ asked. absurd (true≢false (sym asked ∙ after-if2 .if2 .left)),
     )
 
 pub put-contract-book-spec : {M : Type 1} → statement M
@@ -110,7 +102,7 @@ put-contract-book-spec =
     returns
     put-tiers-requires
     interprompt-table-requires
-    put-book-requires
+    put-counted-requires
     returns-2
-    touches-in-requires
+    put-book-requires
     returns-3)

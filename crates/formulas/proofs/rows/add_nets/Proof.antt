@@ -1,6 +1,6 @@
 -- `add_nets`: before row i, what is added by the rows before it.
 -- Assumes nothing.
-use mathlib.Core.Path.{refl, subst}
+use mathlib.Core.Path.{refl, subst, subst⁻¹}
 use mathlib.Core.List.{List, []}
 use Prim.Native.Nat.{ℕ, _+_, _-_, _*_, _/_, _≤_, _<_}
 use native.Mathlib.Omega.{arith}
@@ -16,7 +16,7 @@ use Rattle.account.specs.Records.{records}
 use Rattle.account.specs.Check.{mostRows}
 use Rattle.formulas.specs.Bounds.{mostDelta}
 use Rattle.formulas.specs.Deltas.{rowDelta}
-use Rattle.formulas.specs.code.Position.{RowFit, AtMost, Added, addsOn, netOn}
+use Rattle.formulas.specs.code.Position.{RowFit, OnePlace, AtMost, Added, addsOn, netOn}
 use Rattle.formulas.proofs.AddedLaws.{nothing-added}
 use Rattle.formulas.proofs.RecordLaws.{count-is, record-at}
 use Rattle.formulas.proofs.WalkLaws.{nets-next, nets-room}
@@ -24,27 +24,24 @@ use Rattle.formulas.proofs.rows.add_nets.Statement.{statement}
 use Rattle.formulas.proofs.rows.add_nets.Tie as tie
 
 abbrev Inv-loop : tie.InvT-loop
-Inv-loop nets₀ days prompts rows count rising guess i₀ nets i = (i ≤ length rows / recordBytes)
+Inv-loop nets₀ days prompts rows count guess i₀ nets i = (i ≤ length rows / recordBytes)
     × Added prompts (λ j. netOn (take i (records rows)) (getD days j 0)) nets₀ nets
 
 abbrev μ-loop : tie.MeasureT-loop
-μ-loop nets₀ days prompts rows count rising guess i₀ nets i = length rows / recordBytes - i
-
-rise-requires : tie.Need-rise-requires Inv-loop μ-loop
-rise-requires c κs = c .before .pre .0
+μ-loop nets₀ days prompts rows count guess i₀ nets i = length rows / recordBytes - i
 
 guesses-requires : tie.Need-guesses-requires Inv-loop μ-loop
-guesses-requires c κs = c .before .before .pre .0
+guesses-requires c κs = c .before .pre .0
 
 loop-holds : tie.Need-loop-holds Inv-loop μ-loop
 loop-holds c =
-    let s = c .before .before .before in
+    let s = c .before .before in
     (omega arith, nothing-added (s .args .prompts) (λ j. netOn [] (getD (now (s .args .days)) j 0)) (now (s .args .nets)) (λ j. refl))
 
 abbrev start-of : tie.In-loop Inv-loop μ-loop → tie.Start Inv-loop μ-loop
 start-of c =
-    let after-rise = c .before .before .before in
-    after-rise .before .before
+    let after-guesses = c .before .before in
+    after-guesses .before .before
 
 -- at the head of a turn: the row is within its ranges, and there is room for it
 row-within : (c : tie.In-loop Inv-loop μ-loop) →
@@ -54,16 +51,28 @@ row-within c =
     let s = start-of c in
     let file = now (s .args .rows) in
     let more : c .before .loop .i < length file / recordBytes = c .loop-test .taken in
-    subst (λ (row : Record). RowFit row) (record-at file (c .before .loop .i) more) (s .pre .1 .0 .each (c .before .loop .i) (omega (arith, count-is file)))
+    subst (λ (row : Record). RowFit row) (record-at file (c .before .loop .i) more) (s .pre .1 .1 .0 .each (c .before .loop .i) (omega (arith, count-is file)))
+
+-- its day has one place
+placed : (c : tie.In-loop Inv-loop μ-loop) →
+    let i = c .before .loop .i in
+    OnePlace (start-of c .args .prompts) (now (start-of c .args .days))
+    (day (take (i * recordBytes + recordBytes - i * recordBytes) (drop (i * recordBytes) (now (start-of c .args .rows)))))
+placed c =
+    let s = start-of c in
+    let file = now (s .args .rows) in
+    let more : c .before .loop .i < length file / recordBytes = c .loop-test .taken in
+    subst (λ (row : Record). OnePlace (s .args .prompts) (now (s .args .days)) (day row)) (record-at file (c .before .loop .i) more)
+    (s .pre .1 .0 (c .before .loop .i) (omega (arith, count-is file)))
 
 has-room : (c : tie.In-loop Inv-loop μ-loop) → AtMost promptPlaces mostDelta (c .before .loop .nets)
 has-room c =
     let s = start-of c in
     let i = c .before .loop in
     let file = now (s .args .rows) in
-    nets-room (records file) (s .args .prompts) (now (s .args .days)) (now (s .args .nets)) (s .pre .1 .0) (s .pre .1 .1) (i .i) mostRows
+    nets-room (records file) (s .args .prompts) (now (s .args .days)) (now (s .args .nets)) (s .pre .1 .1 .0) (s .pre .1 .1 .1) (i .i) mostRows
     (i .nets) (i .inv .1)
-    (omega (arith, count-is file, s .pre .1 .0 .few))
+    (omega (arith, count-is file, s .pre .1 .1 .0 .few))
 
 mul-at : tie.Need-mul-at Inv-loop μ-loop
 mul-at c = omega arith
@@ -90,10 +99,15 @@ row-delta-requires c κs =
 
 add-delta-requires : tie.Need-add-delta-requires Inv-loop μ-loop
 add-delta-requires c κs =
-    let after-loop-test = c .before .before .before .before .before in
-    let after-rise = after-loop-test .before .before .before in (
-      start-of after-loop-test .pre .0,
-      (after-rise .rise .ensures, (omega (arith, c .row-delta .ensures .size), has-room after-loop-test)),
+    let after-day-of = c .before in
+    let after-loop-test = after-day-of .before .before .before .before in
+    let after-guesses = after-loop-test .before .before in
+    let s = start-of after-loop-test in (
+      s .pre .0,
+      (
+        (after-guesses .guesses .ensures, subst⁻¹ (OnePlace (s .args .prompts) (now (s .args .days))) (after-day-of .day-of .ensures) (placed after-loop-test)),
+        (omega (arith, c .row-delta .ensures .size), has-room after-loop-test),
+      ),
     )
 
 add-i : tie.Need-add-i Inv-loop μ-loop
@@ -129,7 +143,7 @@ loop-again c =
 
 returns : tie.Need-returns Inv-loop μ-loop
 returns c =
-    let s = c .before .before .before .before .before in
+    let s = c .before .before .before .before in
     let i = c .before .loop in
     let rows = records (now (s .args .rows)) in
     subst (λ (rs : List Record). Added (s .args .prompts) (λ j. netOn rs (getD (now (s .args .days)) j 0)) (now (s .args .nets)) (i .nets))
@@ -141,7 +155,6 @@ add-nets-spec =
     (tie.spec
     Inv-loop
     μ-loop
-    rise-requires
     guesses-requires
     loop-holds
     mul-at

@@ -1,12 +1,12 @@
 -- `add_row`: by the row's currency and the contract's unit.
 -- Assumes nothing.
-use mathlib.Core.Path.{_≡_, refl, sym, _∙_, ap, ap₂, subst}
+use mathlib.Core.Path.{_≡_, sym, _∙_, ap, ap₂, subst}
 use mathlib.Core.Bool.{Bool, true, false, cond}
 use mathlib.Core.List.{List}
-use Prim.Native.Nat.{ℕ, _+_, _-_, _*_, _≤_}
+use Prim.Native.Nat.{ℕ, _+_, _≤_}
 use native.Mathlib.Omega.{arith}
 use lib.Dec.{eqb}
-use lib.IntN.{ℤ, pos, natAbs, _+ℤ_, _*ℤ_}
+use lib.IntN.{ℤ, pos, natAbs, _*ℤ_}
 use lib.ListN.{getD}
 use denote.Ref.{now}
 use borrow.Author.Needs.{needs}
@@ -17,7 +17,6 @@ use Rattle.exact.specs.Rounding.{halfAwayTo}
 use Rattle.exact.proofs.Integers.{back}
 use Rattle.exact.proofs.UnitLaws.{one-away}
 use Rattle.record.specs.Layout.{Record, lots, value, loss, currency, mostCurrency, scenarioCount}
-use Rattle.account.specs.Check.{mostRows}
 use Rattle.account.specs.Products.{inOwn, rateFor, raised, lowered, converted, convertedAt, mostConversion, mostFactor, mostPerTick}
 use Rattle.account.specs.code.Rates.{RatesOf}
 use Rattle.formulas.specs.code.Position.{Added, FactorsFit, products, ownProducts, convertedProducts}
@@ -25,7 +24,6 @@ use Rattle.formulas.specs.code.Raised.{SumsRoom, settled}
 use Rattle.formulas.proofs.AddedLaws.{same-added}
 use Rattle.formulas.proofs.PositionBounds.{product-most}
 use Rattle.formulas.proofs.RaisedLaws.{totals-added, totals-room, sums-added, sums-room}
-use Rattle.formulas.proofs.SignedCalls.{plus-fits}
 use Rattle.formulas.proofs.rows.add_row.Statement.{statement}
 use Rattle.formulas.proofs.rows.add_row.Tie as tie
 
@@ -99,26 +97,19 @@ add-converted-requires c κs =
 module _ (s : tie.Start) (us : List ℤ)
     (a : (held : List Record) → RatesOf held (s .args .rates)
     → Added scenarioCount (products held (s .args .unit) (now (s .args .row))) (now (s .args .totals)) us) where
-  abbrev read : ℤ
-  read = toZ w64 (ofZ w64 (s .args .each))
-
   in-totals : ((held : List Record) → RatesOf held (s .args .rates) → Added scenarioCount (products held (s .args .unit) (now (s .args .row)))
-      (settled (now (s .args .totals)) (now (s .args .sums)) (s .args .each)) (settled us (now (s .args .sums)) read))
-      × ((n : ℕ) → SumsRoom n (now (s .args .totals)) (now (s .args .sums)) (s .args .each) → SumsRoom (n + 1) us (now (s .args .sums)) read)
+      (settled (now (s .args .totals)) (now (s .args .sums)) (s .args .sizes)) (settled us (now (s .args .sums)) (s .args .sizes)))
+      × ((n : ℕ) → SumsRoom n (now (s .args .totals)) (now (s .args .sums)) (s .args .sizes) → SumsRoom (n + 1) us (now (s .args .sums)) (s .args .sizes))
   in-totals =
       let row = now (s .args .row) in
       let ts = now (s .args .totals) in
       let sums = now (s .args .sums) in
-      let each = s .args .each in
-      let again = sym (back each (s .fits .each)) in
+      let sizes = s .args .sizes in
       let by = s .pre .1 .1 .0 in (
-        λ held is.
-            subst (λ (z : ℤ). Added scenarioCount (products held (s .args .unit) row) (settled ts sums each) (settled us sums z)) again
-            (totals-added ts us sums each (products held (s .args .unit) row) (s .pre .1 .1 .1 .totals-most .as-many) (a held is)),
+        λ held is. totals-added ts us sums sizes (products held (s .args .unit) row) (s .pre .1 .1 .1 .totals-most .as-many) (a held is),
         λ n r.
-            subst (λ (z : ℤ). SumsRoom (n + 1) us sums z) again
-            (totals-room n ts us sums each (products (by .rates) (s .args .unit) row) r (a (by .rates) (by .held))
-            (λ k h. product-most (by .rates) (s .args .unit) (s .pre .0) row (by .each 0 (omega arith)) (k + 1) (omega arith) (omega arith))),
+            totals-room n ts us sums sizes (products (by .rates) (s .args .unit) row) r (a (by .rates) (by .held))
+            (λ k h. product-most (by .rates) (s .args .unit) (s .pre .0) row (by .each 0 (omega arith)) (k + 1) (omega arith) (omega arith)),
       )
 
 returns : tie.Need-returns
@@ -163,21 +154,30 @@ returns-2 c =
 per-tick-requires : tie.Need-per-tick-requires
 per-tick-requires c κs = search needs
 
+-- lots × value, as its calls have it
+module _ (c : tie.After-per-tick) where
+  abbrev each : ℤ
+  each = toZ w64 (ofZ w64 (c .per-tick .result))
+
+  each-is : each ≡ c .per-tick .result
+  each-is = back (c .per-tick .result) (record { sfits = c .per-tick .ok })
+
+  each-most : natAbs each ≤ mostPerTick
+  each-most = omega (arith, ap natAbs each-is, c .per-tick .ensures .size)
+
 add-raised-requires : tie.Need-add-raised-requires
 add-raised-requires c κs =
     let s = c .before .before .before .before .before .before in
-    let tick = c .before .per-tick in (
-      omega (arith, ap natAbs (back (tick .result) (record { sfits = tick .ok })), tick .ensures .size),
-      (s .pre .1 .0, s .pre .1 .1 .1 .sums-most),
-    )
+    (each-most (c .before), (s .pre .1 .0, s .pre .1 .1 .1 .sums-most))
 
-plus-requires : tie.Need-plus-requires
-plus-requires c κs =
-    let after-per-tick = c .before .before in
+magnitude-requires : tie.Need-magnitude-requires
+magnitude-requires c κs = search needs
+
+add-result : tie.Need-add-result
+add-result c =
+    let after-per-tick = c .before .before .before in
     let s = after-per-tick .before .before .before .before .before in
-    let tick = after-per-tick .per-tick in
-    plus-fits (s .args .each) (tick .result) (s .args .each) (tick .result) ((mostRows - 1) * mostPerTick) mostPerTick (s .fits .each)
-    (record { sfits = tick .ok }) refl refl (s .pre .1 .1 .1 .each-most) (tick .ensures .size) (omega arith)
+    omega (arith, c .magnitude .ensures, each-most after-per-tick, s .pre .1 .1 .1 .sizes-most)
 
 returns-3 : tie.Need-returns-3
 returns-3 c =
@@ -190,14 +190,13 @@ returns-3 c =
     let ts = now (s .args .totals) in
     let xs = now (s .args .sums) in
     let ys = c .before .add-raised .last .0 in
-    let e = s .args .each in
-    let tick = after-per-tick .per-tick in
-    let z = toZ w64 (ofZ w64 (tick .result)) in
-    let z-is : z ≡ lots row *ℤ pos (value row) = back (tick .result) (record { sfits = tick .ok }) ∙ tick .ensures .is in
-    let again = sym (back (c .plus .result) (record { sfits = c .plus .ok }) ∙ c .plus .ensures ∙ ap (λ (y : ℤ). y +ℤ z) (back e (s .fits .each))) in (
+    let e = s .args .sizes in
+    let z = each after-per-tick in
+    let z-is : z ≡ lots row *ℤ pos (value row) = each-is after-per-tick ∙ after-per-tick .per-tick .ensures .is in
+    let again = sym (ap (λ (m : ℕ). e + m) (c .magnitude .ensures)) in (
       λ held is.
-          subst (λ (y : ℤ). Added scenarioCount (products held unit row) (settled ts xs e) (settled ts ys y)) again
-          (same-added scenarioCount (λ k. z *ℤ loss row (k + 1)) (products held unit row) (settled ts xs e) (settled ts ys (e +ℤ z))
+          subst (λ (m : ℕ). Added scenarioCount (products held unit row) (settled ts xs e) (settled ts ys m)) again
+          (same-added scenarioCount (λ k. z *ℤ loss row (k + 1)) (products held unit row) (settled ts xs e) (settled ts ys (e + natAbs z))
           (λ k.
           ap (λ (y : ℤ). y *ℤ loss row (k + 1)) z-is
           ∙ sym (one-away (inOwn (k + 1) row))
@@ -205,9 +204,8 @@ returns-3 c =
           ∙ ap (λ (t : Bool). halfAwayTo (by-currency held row (k + 1) t) unit) (sym (own-is after-if1)))
           (sums-added ts xs ys e z row (s .pre .1 .1 .1 .totals-most .as-many) (s .pre .1 .0) (c .before .add-raised .ensures))),
       λ n r.
-          subst (λ (y : ℤ). SumsRoom (n + 1) ts ys y) again
-          (sums-room n ts xs ys e z row r (s .pre .1 .0)
-          (omega (arith, ap natAbs (back (tick .result) (record { sfits = tick .ok })), tick .ensures .size)) (c .before .add-raised .ensures)),
+          subst (λ (m : ℕ). SumsRoom (n + 1) ts ys m) again
+          (sums-room n ts xs ys e z row r (s .pre .1 .0) (each-most after-per-tick) (c .before .add-raised .ensures)),
     )
 
 pub add-row-spec : {M : Type 1} → statement M
@@ -222,5 +220,6 @@ add-row-spec =
     returns-2
     per-tick-requires
     add-raised-requires
-    plus-requires
+    magnitude-requires
+    add-result
     returns-3)

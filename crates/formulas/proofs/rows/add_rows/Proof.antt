@@ -10,7 +10,7 @@ use Rattle.formulas.proofs.rows.add_rows.Tie as tie
 add-nets-requires : tie.Need-add-nets-requires
 add-nets-requires c κs =
     let s = c .before .before in
-    (s .pre .1 .0, (s .pre .1 .1 .0, nets-lent (now (s .args .totals)) (now (s .args .nets)) 0 (s .pre .1 .1 .1 .1)))
+    (s .pre .1 .0 .0, (s .pre .1 .0 .1, (s .pre .1 .1 .0, nets-lent (now (s .args .totals)) (now (s .args .nets)) 0 (s .pre .1 .1 .1 .1))))
 
 add-totals-requires : tie.Need-add-totals-requires
 add-totals-requires c κs =

@@ -4,13 +4,10 @@ use mathlib.Core.Path.{_≡_, sym, ap, subst}
 use mathlib.Core.List.{List, [], _∷_}
 use Prim.Native.Nat.{ℕ, zero, suc, _+_, _-_, _*_, _/_, _<_, _≤_}
 use native.Mathlib.Omega.{arith}
-use lib.IntN.{ℤ, pos}
+use lib.IntN.{ℤ}
 use lib.ListN.{length, getD, take, drop}
 use denote.Ref.{now}
 use borrow.Author.Needs.{needs}
-use mir.Syntax.{w64}
-use mir.Val.{toZ, ofZ}
-use Rattle.exact.proofs.Integers.{back}
 use Rattle.record.specs.Bytes.{recordBytes}
 use Rattle.record.specs.Layout.{Record, scenarioCount, hundredThousand}
 use Rattle.account.specs.code.Rates.{RatesOf}
@@ -18,7 +15,7 @@ use Rattle.account.specs.Records.{records}
 use Rattle.account.specs.declared.rates.Rates.{Rates}
 use Rattle.account.specs.Check.{mostRows}
 use Rattle.formulas.specs.Scanning.{total}
-use Rattle.formulas.specs.code.Position.{RowFit, RowRated, RatedBy, Added, products}
+use Rattle.formulas.specs.code.Position.{RowFit, RowRated, RatedBy, Added}
 use Rattle.formulas.specs.code.Raised.{SumsRoom, settled}
 use Rattle.formulas.proofs.RaisedLaws.{none-settled, none-room, wider-room}
 use Rattle.formulas.proofs.RecordLaws.{count-is, record-at}
@@ -36,12 +33,12 @@ one-rated t rates row held is = record { rates = rates; held = held; each = λ k
     only (suc k) h = absurd (omega arith)
 
 abbrev Inv-loop : tie.InvT-loop
-Inv-loop totals₀ rates unit rows count sums₀ each₀ shorts₀ i₀ totals sums each shorts i =
-    ((held : List Record) → RatesOf held rates → SoFar held unit (records rows) totals₀ i (settled totals sums (toZ w64 each)) shorts)
-    × SumsRoom (mostRows - length (records rows) + i) totals sums (toZ w64 each)
+Inv-loop totals₀ rates unit rows count sums₀ sizes₀ shorts₀ i₀ totals sums sizes shorts i =
+    ((held : List Record) → RatesOf held rates → SoFar held unit (records rows) totals₀ i (settled totals sums sizes) shorts)
+    × SumsRoom (mostRows - length (records rows) + i) totals sums sizes
 
 abbrev μ-loop : tie.MeasureT-loop
-μ-loop totals₀ rates unit rows count sums₀ each₀ shorts₀ i₀ totals sums each shorts i = length rows / recordBytes - i
+μ-loop totals₀ rates unit rows count sums₀ sizes₀ shorts₀ i₀ totals sums sizes shorts i = length rows / recordBytes - i
 
 loop-holds : tie.Need-loop-holds Inv-loop μ-loop
 loop-holds c =
@@ -51,7 +48,7 @@ loop-holds c =
     let most = s .pre .1 .1 .1 in (
       λ held is.
           subst (λ (us : List ℤ). SoFar held (s .args .unit) rows ts 0 us 0) (none-settled ts (most .as-many)) (start held (s .args .unit) rows ts),
-      wider-room (mostRows - length rows) (mostRows - length rows + 0) ts _ (pos 0) (omega arith) (none-room (mostRows - length rows) ts most),
+      wider-room (mostRows - length rows) (mostRows - length rows + 0) ts _ 0 (omega arith) (none-room (mostRows - length rows) ts most),
     )
 
 -- at the head of a turn: the row is within its ranges, and there is room for it
@@ -86,9 +83,9 @@ module _ (c : tie.In-loop Inv-loop μ-loop) where
       (subst (λ (r : Record). RowRated (by .rates) r) row-is (by .each i (omega (arith, count-is file, turn))))
 
   abbrev so-far : List ℤ
-  so-far = settled (c .before .loop .totals) (c .before .loop .sums) (toZ w64 (c .before .loop .each))
+  so-far = settled (c .before .loop .totals) (c .before .loop .sums) (c .before .loop .sizes)
 
-  sums-fit : SumsRoom (mostRows - 1) (c .before .loop .totals) (c .before .loop .sums) (toZ w64 (c .before .loop .each))
+  sums-fit : SumsRoom (mostRows - 1) (c .before .loop .totals) (c .before .loop .sums) (c .before .loop .sizes)
   sums-fit =
       wider-room (mostRows - length (records file) + i) (mostRows - 1) _ _ _ (omega (arith, count-is file, turn, s .pre .1 .0 .few)) (c .before .loop .inv .1)
 
@@ -144,17 +141,13 @@ loop-again c =
     let start = s head in
     let at = head .before .loop in
     let by = after-add-row .add-row in
-    let n = mostRows - length (records (file head)) in
-    let again = sym (back (by .result) (record { sfits = by .ok })) in (
+    let n = mostRows - length (records (file head)) in (
       λ held is.
           next held (start .args .unit) (records (file head)) (now (start .args .totals)) (at .i) (so-far head)
-          (settled (by .last .0) (by .last .1 .0) (toZ w64 (ofZ w64 (by .result)))) (at .shorts) _ (row head)
-          (at .inv .0 held is) (omega (arith, count-is (file head), turn head)) (row-is head)
-          (subst (λ (z : ℤ). Added scenarioCount (products held (start .args .unit) (row head)) (so-far head) (settled (by .last .0) (by .last .1 .0) z)) again
-          (by .ensures .0 held is))
+          (settled (by .last .0) (by .last .1 .0) (by .result)) (at .shorts) _ (row head)
+          (at .inv .0 held is) (omega (arith, count-is (file head), turn head)) (row-is head) (by .ensures .0 held is)
           (ap (λ (m : ℕ). at .shorts + m) (c .short-options .ensures)),
-      subst (λ (z : ℤ). SumsRoom (n + (at .i + 1)) (by .last .0) (by .last .1 .0) z) again
-          (wider-room (n + at .i + 1) (n + (at .i + 1)) _ _ _ (omega arith) (by .ensures .1 (n + at .i) (at .inv .1))),
+      wider-room (n + at .i + 1) (n + (at .i + 1)) _ _ _ (omega arith) (by .ensures .1 (n + at .i) (at .inv .1)),
     )
 
 settle-requires : tie.Need-settle-requires Inv-loop μ-loop
@@ -174,7 +167,7 @@ returns c =
     let i = after-loop .loop in
     let rows = records (now (s .args .rows)) in
     let ts = now (s .args .totals) in
-    let us = settled (i .totals) (i .sums) (toZ w64 (i .each)) in
+    let us = settled (i .totals) (i .sums) (i .sizes) in
     let by = s .pre .1 .1 .0 in
     let all : length rows ≤ i .i = omega (arith, count-is (now (s .args .rows)), after-loop-test .loop-test .left) in (
       λ held is.

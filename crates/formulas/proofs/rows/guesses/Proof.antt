@@ -1,18 +1,22 @@
--- `guesses`: j stays within the days.
+-- `guesses`: the places before j.
 -- Assumes nothing.
-use Prim.Native.Nat.{_-_, _≤_}
+use mathlib.Core.Path.{subst⁻¹}
+use Prim.Native.Nat.{ℕ, _-_, _≤_, _<_}
 use native.Mathlib.Omega.{arith}
+use Rattle.spread.proofs.Filling.{getD-same}
+use Rattle.formulas.specs.code.Position.{Guessed}
+use Rattle.formulas.proofs.PlacedLaws.{guessed-more}
 use Rattle.formulas.proofs.rows.guesses.Statement.{statement}
 use Rattle.formulas.proofs.rows.guesses.Tie as tie
 
 abbrev Inv-loop : tie.InvT-loop
-Inv-loop days count guess₀ j₀ guess j = j ≤ count
+Inv-loop days count guess₀ j₀ guess j = (j ≤ count) × Guessed count guess
 
 abbrev μ-loop : tie.MeasureT-loop
 μ-loop days count guess₀ j₀ guess j = count - j
 
 loop-holds : tie.Need-loop-holds Inv-loop μ-loop
-loop-holds c = omega arith
+loop-holds c = (omega arith, λ some k. subst⁻¹ (λ (n : ℕ). n < c .args .count) (getD-same 256 0 k) some)
 
 cast-guess : tie.Need-cast-guess Inv-loop μ-loop
 cast-guess c = omega arith
@@ -36,10 +40,13 @@ loop-less : tie.Need-loop-less Inv-loop μ-loop
 loop-less c = omega arith
 
 loop-again : tie.Need-loop-again Inv-loop μ-loop
-loop-again c = omega arith
+loop-again c =
+    let after-loop = c .before .before in
+    let i = after-loop .loop in
+    (omega arith, guessed-more (after-loop .before .args .count) (i .j) (c .before .loop-test .taken) (i .guess) _ (i .inv .1))
 
 returns : tie.Need-returns Inv-loop μ-loop
-returns c = omega arith
+returns c = c .before .loop .inv .1
 
 pub guesses-spec : {M : Type 1} → statement M
 guesses-spec =

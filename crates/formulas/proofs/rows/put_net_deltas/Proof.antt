@@ -19,6 +19,7 @@ use Rattle.formulas.specs.declared.rows.Position.{Position}
 use Rattle.formulas.specs.code.Position.{Added, AtMost, PositionOf, netOn, positionIn, deltasIn}
 use Rattle.spread.proofs.Lent.{deltas-again}
 use Rattle.formulas.proofs.PositionLaws.{nothing-lent, nets-alone}
+use Rattle.formulas.proofs.PlacedLaws.{rows-placed}
 use Rattle.formulas.proofs.PositionBounds.{no-rows, bounded, wider}
 use Rattle.formulas.specs.Bounds.{mostRowDelta}
 use Rattle.formulas.proofs.rows.put_net_deltas.Statement.{statement}
@@ -47,10 +48,13 @@ add-nets-requires c κs =
     let few : length prompts ≤ promptPlaces = omega (arith, known .few, known .count-is) in (
       known .few,
       (
-        s .pre .1 .0,
-        subst (AtMost promptPlaces (room * mostRowDelta)) (deltas-again nets)
-            (wider 0 room (none nets) (omega arith)
-            (bounded [] 1 (lit≤ tt) prompts [] (none nets) no-rows (λ k h. absurd (not-suc-le-zero h)) (is-none s [] 1 few)) .nets-most),
+        rows-placed prompts (records (now (s .args .rows))) (after-days-of .days-of .result) known (s .pre .0 .1),
+        (
+          s .pre .1 .0,
+          subst (AtMost promptPlaces (room * mostRowDelta)) (deltas-again nets)
+              (wider 0 room (none nets) (omega arith)
+              (bounded [] 1 (lit≤ tt) prompts [] (none nets) no-rows (λ k h. absurd (not-suc-le-zero h)) (is-none s [] 1 few)) .nets-most),
+        ),
       ),
     )
 

@@ -12,6 +12,7 @@ use Rattle.account.specs.Records.{records}
 use Rattle.account.specs.Check.{mostRows}
 use Rattle.formulas.specs.code.Position.{positionIn}
 use Rattle.formulas.proofs.PositionLaws.{nothing-lent, joined}
+use Rattle.formulas.proofs.PlacedLaws.{rows-placed}
 use Rattle.formulas.proofs.PositionBounds.{no-rows, bounded, wider}
 use Rattle.formulas.proofs.rows.put_position.Statement.{statement}
 use Rattle.formulas.proofs.rows.put_position.Tie as tie
@@ -30,7 +31,7 @@ add-rows-requires c κs =
     let few : length prompts ≤ promptPlaces = omega (arith, known .few, known .count-is) in (
       s .pre .0,
       (
-        known .few,
+        (known .few, rows-placed prompts (records (now (s .args .rows))) (after-days-of .days-of .result) known (s .pre .1 .0 .1)),
         (
           s .pre .1 .1 .0,
           (

@@ -1,39 +1,30 @@
--- `raised`: the sum is not negative, and has fewer than 32 bits.
+-- `raised`: of the bits, as they are or turned.
 -- Assumes nothing.
-use mathlib.Core.Path.{_≡_, _∙_, ap}
-use native.Mathlib.Omega.{arith}
-use lib.IntN.{ℤ, pos, natAbs, _+ℤ_}
-use mir.Syntax.{w64}
-use mir.Val.{toZ, ofZ}
-use Rattle.exact.specs.Signed.{negative}
-use Rattle.exact.proofs.Integers.{back, sfits-abs}
-use Rattle.record.specs.Layout.{hundredThousand}
-use Rattle.formulas.proofs.RaisedLaws.{raised-natural, raised-most}
+use mathlib.Core.Path.{_∙_, ap}
+use Prim.Native.Nat.{ℕ, _+_, _^_, _%_}
+use borrow.Author.Needs.{needs}
+use Rattle.exact.proofs.Integers.{back}
+use Rattle.formulas.specs.code.Raised.{lossBits, turnedBits}
 use Rattle.formulas.proofs.rows.raised.Statement.{statement}
 use Rattle.formulas.proofs.rows.raised.Tie as tie
 
-plus-requires : tie.Need-plus-requires
-plus-requires c κs =
-    let l = c .args .loss in
-    rw (back l (c .fits .loss)) (sfits-abs (l +ℤ pos 100000) (omega (arith, raised-most l hundredThousand (c .pre))))
+bits-requires : tie.Need-bits-requires
+bits-requires c κs = search needs
 
--- what the call of `plus` gave
-sum-is : (c : tie.After-plus) → toZ w64 (ofZ w64 (c .plus .result)) ≡ c .before .args .loss +ℤ pos hundredThousand
-sum-is c =
-    let s = c .before in
-    back (c .plus .result) (record { sfits = c .plus .ok }) ∙ c .plus .ensures ∙ ap (λ (z : ℤ). z +ℤ pos hundredThousand) (back (s .args .loss) (s .fits .loss))
+turned-requires : tie.Need-turned-requires
+turned-requires c κs = search needs
 
-as-natural-requires : tie.Need-as-natural-requires
-as-natural-requires c κs =
-    let s = c .before in
-    ap negative (sum-is c) ∙ raised-natural (s .args .loss) hundredThousand (s .pre)
+cast-result : tie.Need-cast-result
+cast-result c = search needs
+
+add-result : tie.Need-add-result
+add-result c = search needs
 
 returns : tie.Need-returns
 returns c =
     let s = c .before .before in
-    let is : c .as-natural .result ≡ natAbs (s .args .loss +ℤ pos hundredThousand) = ap natAbs (c .as-natural .ensures ∙ sum-is (c .before)) in
-    let most = raised-most (s .args .loss) hundredThousand (s .pre) in
-    (omega arith, omega arith)
+    ap (λ (n : ℕ). (n + s .args .raise) % 2 ^ 32)
+    (c .turned .ensures ∙ ap (λ (n : ℕ). turnedBits n (s .args .turn)) (c .before .bits .ensures ∙ ap lossBits (back (s .args .loss) (s .fits .loss))))
 
 pub raised-spec : {M : Type 1} → statement M
-raised-spec = tie.close (tie.spec plus-requires as-natural-requires returns)
+raised-spec = tie.close (tie.spec bits-requires turned-requires cast-result add-result returns)

@@ -3,7 +3,7 @@
 use mathlib.Core.Path.{_≡_, refl, _∙_, ap, subst}
 use Prim.Native.Nat.{ℕ, _-_, _*_, _≤_, _<_}
 use native.Mathlib.Omega.{arith}
-use lib.IntN.{ℤ, pos, natAbs, _-ℤ_, _*ℤ_}
+use lib.IntN.{ℤ, pos, natAbs, _-ℤ_}
 use lib.ListN.{getD}
 use denote.Ref.{now}
 use mir.Syntax.{w64}
@@ -22,13 +22,13 @@ use Rattle.formulas.proofs.rows.settle.Statement.{statement}
 use Rattle.formulas.proofs.rows.settle.Tie as tie
 
 abbrev Inv-loop : tie.InvT-loop
-Inv-loop totals₀ sums each s₀ totals s = (s ≤ scenarioCount) × Added s (unraisedAt sums (toZ w64 each)) totals₀ totals
+Inv-loop totals₀ sums sizes s₀ totals s = (s ≤ scenarioCount) × Added s (unraisedAt sums sizes) totals₀ totals
 
 abbrev μ-loop : tie.MeasureT-loop
-μ-loop totals₀ sums each s₀ totals s = scenarioCount - s
+μ-loop totals₀ sums sizes s₀ totals s = scenarioCount - s
 
 loop-holds : tie.Need-loop-holds Inv-loop μ-loop
-loop-holds c = (omega arith, start (unraisedAt (now (c .args .sums)) (toZ w64 (ofZ w64 (c .args .each)))) (now (c .args .totals)))
+loop-holds c = (omega arith, start (unraisedAt (now (c .args .sums)) (c .args .sizes)) (now (c .args .totals)))
 
 mul-unraised : tie.Need-mul-unraised Inv-loop μ-loop
 mul-unraised c = omega (arith, c .loop-test .taken)
@@ -43,7 +43,7 @@ unraised-requires c κs =
     let i = after-loop .loop .s in
     let sum = getD (now (s .args .sums)) i (pos 0) in
     let most : natAbs sum ≤ mostRows * mostRaised = s .pre .sums-most .size i (c .before .loop-test .taken) in
-    (omega (arith, ap natAbs (back sum (sfits-abs sum (omega arith)))), omega (arith, ap natAbs (back (s .args .each) (s .fits .each)), s .pre .each-most))
+    (omega (arith, ap natAbs (back sum (sfits-abs sum (omega arith)))), s .pre .sizes-most)
 
 mul-plus : tie.Need-mul-plus Inv-loop μ-loop
 mul-plus c = omega (arith, c .before .before .loop-test .taken)
@@ -76,11 +76,11 @@ module _ (c : tie.After-plus-arg Inv-loop μ-loop) where
   it-most : natAbs it ≤ mostRows * mostProduct
   it-most = omega (arith, ap natAbs same, s .pre .totals-most .size turn below)
 
-  more-is : Sized (2 * (mostRows * mostRaised)) (unraisedAt (now (s .args .sums)) (toZ w64 (ofZ w64 (s .args .each))) turn) (c .before .unraised .result)
+  more-is : Sized (2 * (mostRows * mostRaised)) (unraisedAt (now (s .args .sums)) (s .args .sizes) turn) (c .before .unraised .result)
   more-is =
       let sum = getD (now (s .args .sums)) turn (pos 0) in
       let most : natAbs sum ≤ mostRows * mostRaised = s .pre .sums-most .size turn below in
-      subst (λ (z : ℤ). Sized (2 * (mostRows * mostRaised)) (z -ℤ toZ w64 (ofZ w64 (s .args .each)) *ℤ pos hundredThousand) (c .before .unraised .result))
+      subst (λ (z : ℤ). Sized (2 * (mostRows * mostRaised)) (z -ℤ pos (s .args .sizes * hundredThousand)) (c .before .unraised .result))
       (back sum (sfits-abs sum (omega arith))) (c .before .unraised .ensures)
 
 plus-requires : tie.Need-plus-requires Inv-loop μ-loop
@@ -106,12 +106,12 @@ loop-again c =
     let i = head b .before .loop in
     let ts = now (s b .args .totals) in
     let sum = plus-is (it b) (b .before .unraised .result) (getD ts (i .s) (pos 0))
-    (unraisedAt (now (s b .args .sums)) (toZ w64 (ofZ w64 (s b .args .each))) (i .s))
+    (unraisedAt (now (s b .args .sums)) (s b .args .sizes) (i .s))
     (mostRows * mostProduct) (2 * (mostRows * mostRaised)) (sfits-abs (it b) (omega (arith, it-most b))) (record { sfits = b .before .unraised .ok })
     (same b) (more-is b .is) (subst (λ (z : ℤ). natAbs z ≤ mostRows * mostProduct) (same b) (it-most b))
     (subst (λ (z : ℤ). natAbs z ≤ (2 * (mostRows * mostRaised))) (more-is b .is) (more-is b .size)) (c .plus .result) (c .plus .ensures) in (
       omega (arith, below b),
-      next (i .s) (unraisedAt (now (s b .args .sums)) (toZ w64 (ofZ w64 (s b .args .each)))) ts (i .totals) (toZ w64 (ofZ w64 (c .plus .result))) (i .inv .1)
+      next (i .s) (unraisedAt (now (s b .args .sums)) (s b .args .sizes)) ts (i .totals) (toZ w64 (ofZ w64 (c .plus .result))) (i .inv .1)
           (omega (arith, below b, s b .pre .totals-most .as-many)) (back (c .plus .result) (record { sfits = c .plus .ok }) ∙ sum .is),
     )
 
@@ -120,10 +120,8 @@ returns c =
     let s = c .before .before in
     let i = c .before .loop in
     let all : i .s ≡ scenarioCount = omega (arith, c .loop-test .left, i .inv .0) in
-    let added : Added scenarioCount (unraisedAt (now (s .args .sums)) (s .args .each)) (now (s .args .totals)) (i .totals) =
-    subst (λ (z : ℤ). Added scenarioCount (unraisedAt (now (s .args .sums)) z) (now (s .args .totals)) (i .totals)) (back (s .args .each) (s .fits .each))
-    (subst (λ (n : ℕ). Added n (unraisedAt (now (s .args .sums)) (toZ w64 (ofZ w64 (s .args .each)))) (now (s .args .totals)) (i .totals)) all (i .inv .1)) in
-    settled-is (now (s .args .totals)) (now (s .args .sums)) (s .args .each) (s .pre .totals-most .as-many) (i .totals) added
+    settled-is (now (s .args .totals)) (now (s .args .sums)) (s .args .sizes) (s .pre .totals-most .as-many) (i .totals)
+    (subst (λ (n : ℕ). Added n (unraisedAt (now (s .args .sums)) (s .args .sizes)) (now (s .args .totals)) (i .totals)) all (i .inv .1))
 
 pub settle-spec : {M : Type 1} → statement M
 settle-spec =

@@ -78,7 +78,7 @@ returns c =
     let f = after-flat .flat in
     λ held before rated is.
     taken-away held (s .args .unit) (s .args .days) (records (now (s .args .rows))) before (s .args .p) (f .result) (g .result) _ is (g .ensures .0 held rated)
-    (f .ensures held (s .args .unit) [] zero-le) (s .pre .1 .1 .1 .1 .0) (s .pre .1 .0) (after-totals-without .totals-without .ensures)
+    (f .ensures held (s .args .unit) [] zero-le) (s .pre .1 .1 .1 .1 .0) (s .pre .1 .0 .0) (after-totals-without .totals-without .ensures)
     (c .before .before .nets-without .ensures) refl
 
 pub without-rows-spec : {M : Type 1} → statement M

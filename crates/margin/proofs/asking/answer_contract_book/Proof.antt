@@ -20,7 +20,7 @@ use Rattle.margin.specs.declared.asking.Question.the-variants.{Book}
 use Rattle.margin.proofs.AnswerLaws.{book-written}
 use Rattle.margin.proofs.BesideLaws.{book-few, book-length, nets-room, nets-book}
 use Rattle.margin.proofs.QuestionLaws.{asked-few, refused-with}
-use Rattle.margin.proofs.StandLaws.{rows-room, prompts-few}
+use Rattle.margin.proofs.StandLaws.{rows-room, prompts-few, rows-placed}
 use Rattle.margin.proofs.asking.answer_contract_book.Statement.{statement}
 use Rattle.margin.proofs.asking.answer_contract_book.Tie as tie
 
@@ -99,7 +99,10 @@ put-net-deltas-requires c κs =
     let rs = c .before .rows-part in
     let ep = ps .ensures j n st h w in
     let er = rs .ensures j n st h w in (
-      prompts-few a (st .lawful) n h (ps .result .now) (rs .result .now) ep er,
+      (
+        prompts-few a (st .lawful) n h (ps .result .now) (rs .result .now) ep er,
+        rows-placed a (st .lawful) n h (ps .result .now) (rs .result .now) ep er,
+      ),
       (rows-room a (st .lawful) n h (ps .result .now) (rs .result .now) ep er .rows-within, refl),
     )
 

@@ -3,7 +3,7 @@
 use mathlib.Core.List.{[]}
 use borrow.Author.Needs.{needs}
 use Rattle.account.specs.Joined.{accountOf}
-use Rattle.margin.proofs.StandLaws.{rows-room, prompts-few, nets-here}
+use Rattle.margin.proofs.StandLaws.{rows-room, prompts-few, rows-placed, nets-here}
 use Rattle.margin.proofs.over.nets_at.Statement.{statement}
 use Rattle.margin.proofs.over.nets_at.Tie as tie
 
@@ -28,7 +28,10 @@ nets-of-requires c κs =
     let rs = c .rows-part in
     let ep = ps .ensures (s .args .account) n st h (at .whereabouts-of .ensures) in
     let er = rs .ensures (s .args .account) n st h (at .whereabouts-of .ensures) in (
-      prompts-few a (st .lawful) n h (ps .result .now) (rs .result .now) ep er,
+      (
+        prompts-few a (st .lawful) n h (ps .result .now) (rs .result .now) ep er,
+        rows-placed a (st .lawful) n h (ps .result .now) (rs .result .now) ep er,
+      ),
       rows-room a (st .lawful) n h (ps .result .now) (rs .result .now) ep er .rows-within,
     )
 

@@ -1,7 +1,7 @@
 -- Where only the margin currency is let, every other is beyond; else the range is that of the table.
 -- Assumes nothing.
 use Prim.Native.Nat.{ℕ}
-use mathlib.Core.Bool.{Bool, true, false, cond, not, _&&_, _||_}
+use mathlib.Core.Bool.{Bool, true, false, cond, not, _&&_, _||_, or-true, or-false}
 use mathlib.Core.Path.{_≡_, refl, sym, ap, ap₂, _∙_}
 use native.Mathlib.Omega.{arith}
 use lib.Dec.{eqb, leb}
@@ -10,7 +10,6 @@ use borrow.Author.Tests.{eqb-true, eqb-false, lt-leb}
 use Rattle.record.specs.Bytes.{plain}
 use Rattle.record.specs.Layout.{currency, mostCurrency}
 use Rattle.record.specs.Ranges.{beyond}
-use Rattle.record.proofs.Tests.{or-true, or-false}
 use Rattle.record.proofs.ranges.currency_beyond.Statement.{statement}
 use Rattle.record.proofs.ranges.currency_beyond.Tie as tie
 

@@ -3,11 +3,12 @@ use borrow.Author.Needs.{needs}
 use mathlib.Core.Path.{_≡_, sym, ap, _∙_}
 use mathlib.Core.Bool.{Bool, _||_}
 use mathlib.Core.List.{List, _++_}
+use Rattle.exact.proofs.Lists.{any-append}
 use Rattle.exact.specs.Lists.{any}
 use Rattle.record.specs.Bytes.{Field, plain}
 use Rattle.record.specs.Layout.{contractRange, rateRange, legFields, thirdLeg}
 use Rattle.record.specs.Ranges.{beyond, outside}
-use Rattle.record.proofs.Tests.{both, any-append}
+use Rattle.record.proofs.Tests.{both}
 use Rattle.record.proofs.ranges.spread_outside.Statement.{statement}
 use Rattle.record.proofs.ranges.spread_outside.Tie as tie
 

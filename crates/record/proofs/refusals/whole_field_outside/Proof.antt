@@ -2,11 +2,11 @@
 use borrow.Author.Needs.{needs}
 use mathlib.Core.Path.{sym, ap, _∙_}
 use mathlib.Core.List.{List}
+use mathlib.Core.Bool.{or-false}
 use Rattle.record.specs.Bytes.{Field}
 use Rattle.record.specs.Layout.{rowHead}
 use Rattle.record.specs.Ranges.{outsideAmong}
 use Rattle.record.proofs.Dispatch.{row-fields-outside, of-contract, of-prompt, of-row, of-spread, of-entry, of-rate, of-none}
-use Rattle.record.proofs.Tests.{or-false}
 use Rattle.record.proofs.refusals.whole_field_outside.Statement.{statement}
 use Rattle.record.proofs.refusals.whole_field_outside.Tie as tie
 

@@ -2,9 +2,10 @@
 use mathlib.Core.Path.{sym, _∙_}
 use borrow.Author.Needs.{needs}
 use denote.Ref.{now}
+use Rattle.exact.proofs.Lists.{any-append}
 use Rattle.record.specs.Bytes.{countFrom}
 use Rattle.record.specs.Ranges.{notZero}
-use Rattle.record.proofs.Tests.{both, any-append}
+use Rattle.record.proofs.Tests.{both}
 use Rattle.record.proofs.unused.beside_row.Statement.{statement}
 use Rattle.record.proofs.unused.beside_row.Tie as tie
 

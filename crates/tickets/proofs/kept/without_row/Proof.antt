@@ -14,7 +14,7 @@ use Rattle.account.specs.Joined.{accountOf}
 use Rattle.account.specs.declared.accounts.Account.{Account}
 use Rattle.account.specs.PartNumbers.{part}
 use Rattle.account.specs.Check.{mostPrompts, mostRows}
-use Rattle.formulas.specs.code.Position.{RowsFit, RatedBy, Bounded, WithRows, HasRows}
+use Rattle.formulas.specs.code.Position.{RowsFit, RowsPlaced, RatedBy, Bounded, WithRows, HasRows}
 use Rattle.margin.specs.code.Positions.{noPosition, PositionsOf}
 use Rattle.formulas.specs.declared.rows.Position.{Position}
 use Rattle.tickets.specs.Ticket.{withTickets}
@@ -107,7 +107,8 @@ without-rows-requires c κs =
     let rates = after-part3 .part3 .result .now in
     let e = after-contract .contract .ensures .0 in
     subst⁻¹ (λ (n : ℕ). (c .unit .result ≤ mostUnit)
-    × ((c .before .days-of .result .count ≤ mostPrompts)
+    × (((c .before .days-of .result .count ≤ mostPrompts)
+    × RowsPlaced (c .before .days-of .result .count) (c .before .days-of .result .day) (records (s .args .row .now)))
     × (RowsFit (records (s .args .row .now))
     × (RatedBy (after-rates-of .rates-of .result) (records (s .args .row .now))
     × (Bounded mostRows (getD (s .args .kept .positions .at) n noPosition) × HasRows (after-rates-of .rates-of .result)

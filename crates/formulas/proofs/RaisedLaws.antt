@@ -15,7 +15,7 @@ use Rattle.record.specs.Layout.{Record, loss, hundredThousand, scenarioCount}
 use Rattle.formulas.specs.Bounds.{mostProduct}
 use Rattle.formulas.specs.code.Position.{RowFit, AtMost, Added}
 use Rattle.formulas.specs.code.Raised.{SumsRoom, signedLoss, raisedLoss, raisedProducts, mostRaised, unraisedAt, settledFrom, settled}
-use Rattle.formulas.specs.code.Raised.{lossBits, turnOf, raiseOf, raisedBits}
+use Rattle.formulas.specs.code.Raised.{lossBits, turnOf, raiseOf, turnedBits, raisedBy}
 use Rattle.formulas.proofs.AddedLaws.{at-most-wider, at-most-added}
 use Rattle.account.specs.Products.{mostPerTick}
 
@@ -61,14 +61,13 @@ module _ (each : ℤ) (row : Record) (k : ℕ) (h : k < scenarioCount) (w : RowF
       ∙ times-add size signed (pos hundredThousand)
       ∙ ap (λ (z : ℤ). z +ℤ pos (natAbs each * hundredThousand)) (signed-product each (loss row (k + 1)))
 
--- ---- a raised loss by its 32 bits
+-- ---- by the 32 bits of a loss
 
 pub bits-are : (l : ℤ) → natAbs l ≤ hundredThousand → natAbs (l +ℤ pos (2 ^ 32)) % 2 ^ 32 ≡ lossBits l
 bits-are (pos n) h = omega arith
 bits-are (negsuc n) h = omega (arith, ap natAbs (less-is (suc n) (2 ^ 32) (omega arith)))
 
-pub raised-bits : (each l : ℤ) → natAbs l ≤ hundredThousand
-    → raisedBits l (turnOf each) (raiseOf each) ≡ natAbs (signedLoss each l +ℤ pos hundredThousand)
+pub raised-bits : (each l : ℤ) → natAbs l ≤ hundredThousand → (turnedBits (lossBits l) (turnOf each) + raiseOf each) % 2 ^ 32 ≡ raisedBy each l
 raised-bits (pos e) (pos n) h = omega arith
 raised-bits (pos e) (negsuc n) h = omega (arith, ap natAbs (less-is (suc n) hundredThousand h))
 raised-bits (negsuc e) (pos n) h = omega (arith, ap natAbs (less-is n hundredThousand h))

@@ -2,7 +2,7 @@
 ghost use mathlib.Core.Path.{_≡_};
 ghost use mathlib.Core.List.{List, [], _∷_, _++_};
 ghost use Prim.Native.Nat.{ℕ, _<_, _≤_, _+_, _-_, _*_};
-ghost use lib.IntN.{pos, natAbs, negℤ, _+ℤ_, _-ℤ_, _*ℤ_};
+ghost use lib.IntN.{ℤ, pos, natAbs, negℤ, _+ℤ_, _-ℤ_, _*ℤ_};
 ghost use Rattle.spread.specs.Accepted.{promptPlaces};
 ghost use Rattle.spread.specs.code.Lent.{deltasFrom};
 ghost use Rattle.exact.specs.Rounding.{halfAwayTo};
@@ -20,7 +20,7 @@ ghost use Rattle.formulas.specs.Scanning.{total};
 ghost use Rattle.formulas.specs.code.Position.{RowFit, RowsFit, RatedBy, FactorsFit, Sized, AtMost, Added, DaysOf, products, ownProducts};
 ghost use Rattle.formulas.specs.code.Position.{convertedProducts, netOn, addsOn, withNets, FirstPlace, OnePlace, Guessed, RowsPlaced, OneDay, PositionOf};
 ghost use Rattle.formulas.specs.code.Position.{positionIn, daysIn, Bounded, WithRows, HasRows, deltasIn, rowsNet};
-ghost use Rattle.formulas.specs.code.Raised.{SumsRoom, lossBits, turnOf, raiseOf, turnedBits, raisedBits, raisedProducts, settled, mostRaised};
+ghost use Rattle.formulas.specs.code.Raised.{SumsRoom, lossBits, turnOf, raiseOf, turnedBits, raisedBy, raisedProducts, settled, mostRaised};
 ghost use Rattle.formulas.specs.declared.rows.Position.{Position};
 use account::rates::Factors;
 use account::rates::Rates;
@@ -183,10 +183,10 @@ fn turned(bits: u32, turn: u32) -> u32
     if ONES / 2 < turn { ONES - bits } else { bits }
 }
 
-// A loss with the sign of lots × value, raised so that it is no longer negative.
+// A loss with the sign of lots × value, whose turn and raise these are, raised so that it is no longer negative.
 fn raised(loss: i64, turn: u32, raise: u64) -> u64
     requires { ⌜ (natAbs loss ≤ hundredThousand) × (raise ≤ hundredThousand + 1) ⌝ }
-    ensures { λ r. ⌜ r ≡ raisedBits loss turn raise ⌝ }
+    ensures { λ r. ⌜ ((each : ℤ) → turn ≡ turnOf each → raise ≡ raiseOf each → r ≡ raisedBy each loss) ⌝ }
 {
     (turned(bits(loss), turn) as u64 + raise) % FOUR_BYTES
 }

@@ -3,7 +3,7 @@
 -- Assumes nothing.
 use mathlib.Core.Bool.{cond}
 use mathlib.Core.List.{List, [], _∷_}
-use Prim.Native.Nat.{ℕ, suc, _+_, _-_, _*_, _^_, _%_, _≤_}
+use Prim.Native.Nat.{ℕ, suc, _+_, _-_, _*_, _^_, _≤_}
 use lib.Dec.{ltb}
 use lib.IntN.{ℤ, pos, negsuc, negℤ, natAbs, _+ℤ_, _-ℤ_}
 use lib.ListN.{getD}
@@ -18,8 +18,11 @@ abbrev pub signedLoss : ℤ → ℤ → ℤ
 signedLoss each l = cond (negative each) (negℤ l) l
 
 -- it is raised by the most that a loss or a gain can be
+abbrev pub raisedBy : ℤ → ℤ → ℕ
+raisedBy each l = natAbs (signedLoss each l +ℤ pos hundredThousand)
+
 abbrev pub raisedLoss : ℤ → Record → ℕ → ℕ
-raisedLoss each row k = natAbs (signedLoss each (loss row (k + 1)) +ℤ pos hundredThousand)
+raisedLoss each row k = raisedBy each (loss row (k + 1))
 
 -- what a row adds to each sum
 abbrev pub raisedProducts : ℤ → Record → ℕ → ℤ
@@ -28,7 +31,7 @@ raisedProducts each row k = pos (natAbs each * raisedLoss each row k)
 abbrev pub mostRaised : ℕ
 mostRaised = mostPerTick * (2 * hundredThousand)
 
--- ---- a raised loss by its 32 bits
+-- ---- the 32 bits of a loss
 
 -- a gain counts down from 2 ^ 32
 abbrev pub lossBits : ℤ → ℕ
@@ -44,9 +47,6 @@ raiseOf each = cond (negative each) (hundredThousand + 1) hundredThousand
 
 abbrev pub turnedBits : ℕ → ℕ → ℕ
 turnedBits bits turn = cond (ltb (2 ^ 31 - 1) turn) (2 ^ 32 - 1 - bits) bits
-
-abbrev pub raisedBits : ℤ → ℕ → ℕ → ℕ
-raisedBits l turn raise = (turnedBits (lossBits l) turn + raise) % 2 ^ 32
 
 -- ---- what the sums come to
 

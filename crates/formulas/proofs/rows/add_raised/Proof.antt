@@ -15,9 +15,9 @@ use Rattle.exact.proofs.Integers.{back, sfits-abs}
 use Rattle.record.specs.Layout.{Record, loss, hundredThousand, scenarioCount}
 use Rattle.account.specs.Check.{mostRows}
 use Rattle.formulas.specs.code.Position.{Added}
-use Rattle.formulas.specs.code.Raised.{raisedLoss, raisedProducts, mostRaised, turnOf, raiseOf, raisedBits}
+use Rattle.formulas.specs.code.Raised.{raisedLoss, raisedProducts, mostRaised, turnOf, raiseOf, raisedBy}
 use Rattle.formulas.proofs.AddedLaws.{start, next}
-use Rattle.formulas.proofs.RaisedLaws.{loss-most, raised-bits, raise-most}
+use Rattle.formulas.proofs.RaisedLaws.{loss-most, raise-most}
 use Rattle.formulas.proofs.SignedCalls.{plus-fits, plus-is}
 use Rattle.account.specs.Products.{mostPerTick}
 use Rattle.formulas.proofs.rows.add_raised.Statement.{statement}
@@ -125,13 +125,7 @@ product-is : (c : tie.After-raised Inv-loop μ-loop) →
     ≡ natAbs (each (c .before .before)) * here (c .before .before)
 product-is c =
     let head = c .before .before in
-    let l = loss (row head) (k head + 1) in
-    let raise = after-raise-of head .raise-of .result in
-    ap₂ _*_ (size-is head)
-    (c .raised .ensures
-    ∙ ap (λ (z : ℤ). raisedBits z (getD (replicate scenarioCount (turn head)) (k head) 0) raise) (loss-is (c .before))
-    ∙ ap₂ (raisedBits l) (turn-is head) (raise-is head)
-    ∙ raised-bits (each head) l (loss-within head))
+    ap₂ _*_ (size-is head) (c .raised .ensures (each head) (turn-is head) (raise-is head) ∙ ap (raisedBy (each head)) (loss-is (c .before)))
 
 mul-as-signed : tie.Need-mul-as-signed Inv-loop μ-loop
 mul-as-signed c = omega (arith, product-is c, product-most (c .before .before))

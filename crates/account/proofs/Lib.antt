@@ -30,6 +30,7 @@ pub mod Alone
 pub mod RatesExactly
 pub mod Claimed
 pub mod Standing
+pub mod LentLaws
 pub mod NoonLaws
 pub mod PairClaimed
 pub mod Whole

@@ -20,7 +20,7 @@ use Rattle.record.proofs.Reading.{byte-past}
 use Rattle.record.proofs.Sound.{Sound, sound-known}
 use Rattle.record.proofs.Tests.{both}
 use Rattle.record.proofs.Within.{never, both-true, neither, row-within, spread-within, entry-within, contract-known}
-use Rattle.account.specs.Check.{kindFalls, dayNotAbove, tierFalls, contractFalls, outOfOrder, mostContracts, mostPrompts, mostRows}
+use Rattle.account.specs.Check.{kindFalls, numberNotAbove, dayNotAbove, tierFalls, contractFalls, outOfOrder, mostContracts, mostPrompts, mostRows}
 use Rattle.account.specs.Check.{withItself, mostSpreads, mostEntries}
 use Rattle.account.specs.Conversions.{inAnother, otherRow}
 use Rattle.account.specs.PartNumbers.{part, parts, entryPart}
@@ -28,9 +28,10 @@ use Rattle.account.specs.code.Notes.{partOf, oneMore, startNoted, noCont
 use Rattle.account.specs.code.Notes.{faultAt}
 use Rattle.account.specs.Parts.{ofKind, onDay, onTier}
 use Rattle.account.specs.code.Passing.{DaysListed, hasDay, TiersListed, legUnlistedIn, legsMeet, promptPasses, rowPasses, spreadPasses, entryPasses}
-use Rattle.account.specs.code.Passing.{RunTo, partAtRecord, countedTo, PassesAt, Passes, After, Begins, Runs, NotedTo, StepBy}
+use Rattle.account.specs.code.Passing.{contractPasses, RunTo, partAtRecord, countedTo, PassesAt, Passes, After, Begins, Runs, NotedTo, StepBy}
 use Rattle.account.specs.Records.{cut, recordAt, recordCount, records, stretch}
-use Rattle.account.proofs.Dispatch.{order-2, order-3, order-4, order-5, listed-2, listed-3, listed-4, listed-5, limit-2, limit-3, limit-4, limit-5}
+use Rattle.account.proofs.Dispatch.{order-1, order-2, order-3, order-4, order-5, listed-2, listed-3, listed-4, listed-5, listed-none}
+use Rattle.account.proofs.Dispatch.{limit-2, limit-3, limit-4, limit-5, limit-none}
 use Rattle.account.proofs.Earlier.{cut-more}
 use Rattle.account.proofs.Firsts.{is-0}
 use Rattle.account.proofs.Legs.{or-off, legs-apart}
@@ -182,7 +183,7 @@ part-of-sound : (n c : ℕ) (r : Record) → 2 ≤ n → n ≤ 4 → kind r ≡ 
 part-of-sound n c r low high k e =
     part-other r (λ z. omega arith) (λ z. omega arith) ∙ (λ i. mostContracts * k i + e i)
 
-known-kind : (n : ℕ) (r : Record) → 2 ≤ n → n ≤ 5 → kind r ≡ n → unknownKind r ≡ false
+known-kind : (n : ℕ) (r : Record) → 1 ≤ n → n ≤ 5 → kind r ≡ n → unknownKind r ≡ false
 known-kind n r low high k = rw (le-leb 1 (kind r) (omega arith), le-leb (kind r) 6 (omega arith))
 
 -- no row in another currency: a record of another kind, and a row that has to be in the margin currency
@@ -203,7 +204,7 @@ pub record SoundIn (n p : ℕ) (r : Record) : Type 0 where
 
 sound-in : (n c : ℕ) (r : Record) → 2 ≤ n → n ≤ 4 → Sound n c r → SoundIn n (part n c) r
 sound-in n c r low high s =
-    let h = contract-known r (known-kind n r low (omega arith) (s .kinds)) (s .within) in
+    let h = contract-known r (known-kind n r (omega arith) (omega arith) (s .kinds)) (s .within) in
     let x = s .contracts in
     record {
       kinds = s .kinds;
@@ -218,7 +219,7 @@ no-fault :
     → kindFalls before r ≡ false → unlistedBy counts prompts r ≡ false → outOfOrder before r ≡ false → overLimitBy counts r ≡ false
     → faultBy counts prompts before r ≡ 0
 no-fault n p counts prompts before r low high s b l o m =
-    let u = known-kind n r low high (s .kinds) in
+    let u = known-kind n r (omega arith) high (s .kinds) in
     sym
     (is-0 (unknownKind r) (kindFalls before r) (unusedByte r) (fieldOutside r) (unlistedBy counts prompts r) (outOfOrder before r)
     (overLimitBy counts r) u b (s .unused) (s .within) l o m)
@@ -558,10 +559,6 @@ module _ {n most p : ℕ} {file counts : List ℕ} {k : ℕ} {passes : ℕ → B
         fine = λ z.
             no-fault n p counts (promptsNoted file first counts (contract (recordAt file k))) (beforeAt file k) (recordAt file k) (f .low)
             (f .high) it (f .rises) l o m;
-        other = λ z.
-            let e = it .kinds in
-            let lo = f .low in
-            ne-eqb (kind (recordAt file k)) 1 (λ y. omega arith);
         later = λ z. p′;
       }
 
@@ -620,7 +617,6 @@ none-run file first counts k h =
       low = omega arith;
       high = h;
       fine = λ z. absurd (omega arith);
-      other = λ z. absurd (omega arith);
       later = λ z. absurd (omega arith);
     }
 
@@ -727,6 +723,32 @@ module _ (file first counts : List ℕ) (k c : ℕ) {i : ℕ} where
           (spreads-pass file (startNoted first counts (partAtRecord file k) k) (oneMore counts (partAtRecord file k)) k c
           (after-it f first) listed
           (subst (λ (ps : List Record). TiersListed ps listed) (sym (prompts-same f first (omega arith))) t) (run-after (starting f) first))
+
+-- ---- a contract's own record, a run of one
+pub contract-run :
+    (file first counts : List ℕ) (k : ℕ) {before r : Record} → k < recordCount file → before ≡ beforeAt file k → r ≡ recordAt file k
+    → contractPasses before r ≡ true → Runs file first counts k (k + 1)
+contract-run file first counts k inside eb er h =
+    let own = recordAt file k in
+    let before = beforeAt file k in
+    let p : contractPasses before own ≡ true = sym (λ i. contractPasses (eb i) (er i)) ∙ h in
+    let t = both-true (not (kindFalls before own || numberNotAbove before own)) _ p in
+    let o = neither (kindFalls before own) _ (not-true _ (t .0)) in
+    let s = sound-known 1 (contract own) own (t .1) in
+    let e = s .kinds in
+    let prompts = promptsNoted file first counts (contract own) in
+    record {
+      low = omega arith;
+      high = omega arith;
+      fine = λ z.
+          sym
+          (is-0 (unknownKind own) (kindFalls before own) (unusedByte own) (fieldOutside own) (unlistedBy counts prompts own)
+          (outOfOrder before own) (overLimitBy counts own) (known-kind 1 own (omega arith) (omega arith) e) (o .0) (s .unused) (s .within)
+          (listed-none counts prompts own (λ y. omega arith) (λ y. omega arith) (λ y. omega arith) (λ y. omega arith))
+          (order-1 before own e ∙ o .1)
+          (limit-none counts own (λ y. omega arith) (λ y. omega arith) (λ y. omega arith) (λ y. omega arith)));
+      later = λ z. record { low = omega arith; high = omega arith; each = λ j l m. absurd (omega arith) };
+    }
 
 -- ---- intercontract spreads: one part, of whichever contracts
 pub record EntryPassed (own : List ℕ) (r : Record) : Type 0 where
@@ -859,9 +881,9 @@ noted-to {file} {first} {counts} {first′} {counts₁} {counts′} {k} {next} {
 -- ---- one step
 module _ {file first counts first′ counts′ : List ℕ} {k : ℕ} where
   pub step-runs :
-      {next : ℕ} → Runs file first counts k next → k < next → NotedTo file first counts k next first′ counts′
-      → StepBy file first counts k 0 next 0 first′ counts′
-  step-runs {next} r h n =
+      {next contracts : ℕ} {own : Record} → Runs file first counts k next → k < next → NotedTo file first counts k next first′ counts′
+      → contracts ≡ oneIf (ofKind 1 own) → own ≡ recordAt file k → StepBy file first counts k 0 next contracts first′ counts′
+  step-runs {next} r h n o eo =
       record {
         stops = λ nz. absurd (nz refl);
         goes = λ z.
@@ -869,7 +891,7 @@ module _ {file first counts first′ counts′ : List ℕ} {k : ℕ} where
               fine = r .fine h;
               noted = n;
               later = subst (λ (l : List ℕ). Passes file l (oneMore counts (partAtRecord file k)) k next) (sym (n .started)) (r .later h);
-              own = ap oneIf (sym (r .other h));
+              own = o ∙ ap (λ (x : Record). oneIf (ofKind 1 x)) eo;
             };
       }
 

@@ -1,4 +1,5 @@
 pub mod Determined
+pub mod Lent
 pub mod Notes
 pub mod Pair
 pub mod Passing

@@ -15,10 +15,8 @@ use crate::parts::CONTRACTS;
 use crate::parts::ENTRIES;
 use crate::parts::OWN;
 use crate::parts::PARTS;
-use crate::parts::PROMPTS;
 use crate::parts::RATES;
 use crate::parts::ROWS;
-use crate::parts::SPREADS;
 use crate::rates::rates_of;
 use crate::stretches::anew;
 use crate::stretches::record_count;
@@ -36,21 +34,21 @@ ghost use Rattle.account.specs.PartNumbers.{parts, entryPart, rowPart};
 ghost use Rattle.account.specs.Joined.{accountOf};
 ghost use Rattle.record.specs.Layout.{mostContract};
 ghost use Rattle.account.specs.code.Standing as Standing;
-ghost use Rattle.account.specs.code.Standing.{Places, Stands, PartOf, WhereOf, ContractPart, CheckedBy};
+ghost use Rattle.account.specs.code.Standing.{Places, Stands, PartOf, ContractPart, CheckedBy};
 ghost use Rattle.account.specs.code.Standing.{EitherTo, Flagged, listedIn, Numbered, JoinedBy, AloneBy};
 ghost use Rattle.account.specs.code.Surveyed.{Tallied};
 ghost use Rattle.account.specs.declared.answers.Answer.the-variants.{Accepted};
 
 // An account: how many records it has, its contracts' numbers in order, which of them the noon file supplies, and of each
 // part where it begins in its file and how many records it has. Only the check and a join of two checked files make one:
-// its fields are of this module alone.
+// its fields are of this crate alone.
 pub struct Account {
-    records: usize,
-    contracts: usize,
-    numbers: [u8; CONTRACTS],
-    noon: [bool; CONTRACTS],
-    first: [u16; PARTS],
-    counts: [u16; PARTS],
+    pub(crate) records: usize,
+    pub(crate) contracts: usize,
+    pub(crate) numbers: [u8; CONTRACTS],
+    pub(crate) noon: [bool; CONTRACTS],
+    pub(crate) first: [u16; PARTS],
+    pub(crate) counts: [u16; PARTS],
 }
 
 // How many records the account has.
@@ -65,26 +63,6 @@ pub fn contract_total(account: Account) -> usize
     ensures { λ n. ⌜ n ≡ account .contracts ⌝ }
 {
     account.contracts
-}
-
-fn widened(x: u8) -> usize
-    ensures { λ n. ⌜ n ≡ x ⌝ }
-{
-    x as usize
-}
-
-fn number_in(numbers: &[u8], i: usize) -> u8
-    ensures { λ n. ⌜ n ≡ getD (now (numbers .entry)) i 0 ⌝ }
-{
-    if i < numbers.len() { numbers[i] } else { 0 }
-}
-
-// The number of the i-th contract.
-pub fn contract_number(account: Account, i: usize) -> usize
-    ensures { λ n. ⌜ n ≡ getD (account .numbers) i 0 ⌝ }
-{
-    let numbers = account.numbers;
-    widened(number_in(&numbers, i))
 }
 
 // How many records part `v` has.
@@ -124,33 +102,15 @@ pub(crate) fn placed_part<'a>(
 // Where the parts of a contract stand: whether the noon file supplies it, and of each part where it begins and how many
 // records it has.
 pub struct Whereabouts {
-    late: bool,
-    own: u16,
-    own_count: u16,
-    prompts: u16,
-    prompt_count: u16,
-    rows: u16,
-    row_count: u16,
-    spreads: u16,
-    spread_count: u16,
-}
-
-// The same of contract `c` of an account.
-pub fn whereabouts_of(account: Account, c: usize) -> Whereabouts
-    requires { ⌜ c ≤ mostContract ⌝ }
-    ensures { λ w. ⌜ WhereOf account c w ⌝ }
-{
-    Whereabouts {
-        late: account.noon[c],
-        own: account.first[OWN + c],
-        own_count: account.counts[OWN + c],
-        prompts: account.first[PROMPTS + c],
-        prompt_count: account.counts[PROMPTS + c],
-        rows: account.first[ROWS + c],
-        row_count: account.counts[ROWS + c],
-        spreads: account.first[SPREADS + c],
-        spread_count: account.counts[SPREADS + c],
-    }
+    pub(crate) late: bool,
+    pub(crate) own: u16,
+    pub(crate) own_count: u16,
+    pub(crate) prompts: u16,
+    pub(crate) prompt_count: u16,
+    pub(crate) rows: u16,
+    pub(crate) row_count: u16,
+    pub(crate) spreads: u16,
+    pub(crate) spread_count: u16,
 }
 
 // Its own record, where it is listed.

@@ -114,7 +114,7 @@ fn go_on(file: &[u8], first: &mut [u16], counts: &mut [u16], k: usize) -> Step
         return Step {
             number: 0,
             next,
-            contracts: 0,
+            contracts: one_if_contract(whole_at(file, k)),
         };
     }
     let number = fault_at(file, first, counts, k);

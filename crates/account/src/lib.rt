@@ -14,4 +14,5 @@ pub mod fault; // fault.rt: the first refusal of a record
 pub mod conversions; // conversions.rt: refusals 14 and 15
 pub mod check; // check.rt: the check of a file
 pub mod accounts; // accounts.rt: an account, in one file or in two
+pub mod lent; // lent.rt: an account as it is lent
 pub mod noon; // noon.rt: the verdict on a noon file and the morning's, and a contract's prompts

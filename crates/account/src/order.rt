@@ -21,7 +21,7 @@ pub(crate) fn kind_falls(before: &[u8], r: &[u8]) -> bool
     kind(r) < kind(before)
 }
 
-fn number_not_above(before: &[u8], r: &[u8]) -> bool
+pub(crate) fn number_not_above(before: &[u8], r: &[u8]) -> bool
     ensures { λ b. ⌜ b ≡ numberNotAbove (now (before .entry)) (now (r .entry)) ⌝ }
 {
     (kind(before) == 1) & (contract(r) <= contract(before))

@@ -1,5 +1,5 @@
-// Runs of sound records: the prompts, rows or interprompt spreads of a contract, or intercontract spreads, that get no refusal. A record that
-// stops a run is asked about by itself.
+// Runs of sound records: a contract's own record, the prompts, rows or interprompt spreads of a contract, or intercontract spreads, that get no
+// refusal. A record that stops a run is asked about by itself.
 ghost use mathlib.Core.Path.{_≡_};
 ghost use mathlib.Core.Bool.{not, _||_};
 ghost use Prim.Native.Nat.{_+_, _≤_, _<_, _-_, min};
@@ -10,7 +10,7 @@ ghost use Rattle.account.specs.Check.{kindFalls, contractFalls, sameLeg,
 ghost use Rattle.account.specs.PartNumbers.{parts};
 ghost use Rattle.account.specs.code.Notes.{noContract};
 ghost use Rattle.account.specs.code.Passing.{DaysListed, hasDay, TiersListed, legUnlistedIn, onOneSide, legsMeet};
-ghost use Rattle.account.specs.code.Passing.{promptPasses, rowPasses, spreadPasses, entryPasses, RunTo, Begins, Runs};
+ghost use Rattle.account.specs.code.Passing.{contractPasses, promptPasses, rowPasses, spreadPasses, entryPasses, RunTo, Begins, Runs};
 ghost use Rattle.account.specs.Records.{recordAt, recordCount, records};
 use crate::conversions::is_other_row;
 use crate::limits::MOST_ENTRIES;
@@ -22,6 +22,7 @@ use crate::notes::noted;
 use crate::order::contract_falls;
 use crate::order::day_not_above;
 use crate::order::kind_falls;
+use crate::order::number_not_above;
 use crate::order::tier_falls;
 use crate::parts::ENTRIES;
 use crate::parts::PROMPTS;
@@ -36,10 +37,12 @@ use record::fields::contract;
 use record::fields::day;
 use record::fields::kind;
 use record::fields::leg_count_in;
+use record::fields::leg_place_in;
 use record::fields::leg_side_in;
 use record::fields::leg_tier_in;
 use record::fields::second_contract;
 use record::fields::tier;
+use record::refusals::sound_contract;
 use record::refusals::sound_entry;
 use record::refusals::sound_prompt;
 use record::refusals::sound_row;
@@ -137,7 +140,7 @@ fn are_alike(r: &[u8], i: usize, j: usize) -> bool
     requires { ⌜ (i ≤ 2) × ((j ≤ 2) × (recordBytes ≤ length (now r))) ⌝ }
     ensures { λ b. ⌜ b ≡ sameLeg (now (r .entry)) i j ⌝ }
 {
-    (leg_tier_in(r, i) == leg_tier_in(r, j)) & on_one_side(r, i, j)
+    leg_place_in(r, i) == leg_place_in(r, j)
 }
 
 // Two legs are alike, or all are on one side. The bytes of a third leg that is none are like no leg's.
@@ -148,6 +151,19 @@ fn legs_meet(r: &[u8]) -> bool
     are_alike(r, 0, 1)
         | (are_alike(r, 0, 2)
             | (are_alike(r, 1, 2) | (on_one_side(r, 0, 1) & (two_legs(r) | on_one_side(r, 1, 2)))))
+}
+
+// After the record before it, which may be none. The tests end as soon as one fails.
+fn contract_passes(before: &[u8], r: &[u8]) -> bool
+    ensures { λ b. ⌜ b ≡ contractPasses (now (before .entry)) (now (r .entry)) ⌝ }
+{
+    if kind_falls(before, r) {
+        return false;
+    }
+    if number_not_above(before, r) {
+        return false;
+    }
+    sound_contract(r)
 }
 
 fn prompt_passes(before: &[u8], r: &[u8], c: usize) -> bool
@@ -163,13 +179,20 @@ fn row_passes(days: &[u32; MOST_PROMPTS], r: &[u8], c: usize, other: bool) -> bo
     sound_row(r, c, other) & has_day(days, short_day(r))
 }
 
+// The tests end as soon as one fails.
 fn spread_passes(listed: &[bool; TIER_BYTES], r: &[u8], c: usize) -> bool
     ensures { λ b. ⌜ b ≡ spreadPasses c (now (listed .entry)) (now (r .entry)) ⌝ }
 {
     if r.len() < RECORD_BYTES {
         return false;
     }
-    sound_spread(r, c) & !(legs_meet(r) | some_leg_unlisted(listed, r))
+    if !sound_spread(r, c) {
+        return false;
+    }
+    if legs_meet(r) {
+        return false;
+    }
+    !some_leg_unlisted(listed, r)
 }
 
 fn entry_passes(counts: &[u16], r: &[u8]) -> bool
@@ -321,16 +344,22 @@ fn may_run(counts: &[u16], before: &[u8], r: &[u8], c: usize) -> bool
 }
 
 // The first record from record `k` on that does not pass as a prompt, a row or an interprompt spread of record `k`'s contract, or as an
-// intercontract spread: `k` itself where it is none of these.
+// intercontract spread, or the record after a contract's own that passes: `k` itself where it is none of these.
 pub(crate) fn passes_from(file: &[u8], first: &[u16], counts: &[u16], k: usize) -> usize
     requires { ⌜ (k < recordCount (now file)) × (length (now counts) ≡ parts) ⌝ }
     ensures { λ next. ⌜ Runs (now (file .entry)) (now (first .entry)) (now (counts .entry)) k next ⌝ }
 {
+    let r = whole_at(file, k);
+    let n = kind(r);
+    if n == 1 {
+        if contract_passes(whole_before(file, k), r) {
+            return k + 1;
+        }
+        return k;
+    }
     if k == 0 {
         return k;
     }
-    let r = whole_at(file, k);
-    let n = kind(r);
     if n == 5 {
         return entries_from(file, first, counts, k);
     }

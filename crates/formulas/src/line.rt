@@ -121,7 +121,7 @@ pub fn line_in(
     ensures { λ r. ⌜ LineOf (contractWith (now (own .entry)) (records (now (prompts .entry))) (records (now (spreads .entry)))
         (positionIn (now (totals .entry)) (now (nets .entry)) shorts)) r ⌝ }
 {
-    let risks = scanned(*totals);
+    let risks = scanned(totals);
     let its_unit = unit(own) as u64;
     let charges = charges_of(its_unit, prompts, spreads, first, second, used, unused);
     let minimum = short_option_minimum(shorts, short_option_rate(own) as u64);

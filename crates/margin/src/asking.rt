@@ -15,14 +15,16 @@ use crate::positions::asking_from;
 use crate::uses::Asking;
 use crate::uses::answer_uses;
 use account::accounts::Account;
-use account::accounts::contract_total;
-use account::accounts::part_total;
 use account::accounts::prompts_part;
-use account::accounts::record_total;
 use account::accounts::rows_part;
 use account::accounts::spreads_part;
-use account::accounts::whereabouts_of;
 use account::answers::Answer;
+use account::lent::NOTES;
+use account::lent::contract_total;
+use account::lent::lend;
+use account::lent::part_total;
+use account::lent::record_total;
+use account::lent::whereabouts_of;
 use account::parts::ENTRIES;
 use account::parts::PROMPTS;
 use account::parts::SPREADS;
@@ -34,6 +36,7 @@ ghost use mathlib.Core.List.{List};
 ghost use Prim.Native.Nat.{ℕ, _+_, _*_, _≤_, _<_};
 ghost use lib.ListN.{length};
 ghost use Rattle.record.specs.Layout.{Record, mostContract};
+ghost use Rattle.account.specs.code.Lent.{accountIn};
 ghost use Rattle.account.specs.code.Standing.{Stands};
 ghost use Rattle.account.specs.Joined.{accountOf};
 ghost use Rattle.account.specs.Records.{records};
@@ -89,10 +92,10 @@ fn answer_asking(records: usize, asking: Asking, paid: bool, out: &mut [i64]) ->
 fn answer_figures<'a>(
     morning: &'a [u8],
     noon: &'a [u8],
-    account: Account,
+    account: &[u16; NOTES],
     out: &mut [i64],
 ) -> Answer
-    requires { ⌜ Stands (now morning) (now noon) account ⌝ }
+    requires { ⌜ Stands (now morning) (now noon) (accountIn (now account)) ⌝ }
     ensures { λ r. ⌜ (r ≡ answerOver (accountOf (now (morning .entry)) (now (noon .entry))) Figures (length (now (out .entry))))
         × (now (out .exit) ≡ afterOver (accountOf (now (morning .entry)) (now (noon .entry))) Figures (now (out .entry))) ⌝ }
 {
@@ -109,11 +112,12 @@ fn answer_figures<'a>(
 fn answer_contract_book<'a>(
     morning: &'a [u8],
     noon: &'a [u8],
-    account: Account,
+    account: &[u16; NOTES],
     c: usize,
     out: &mut [i64],
 ) -> Answer
-    requires { ⌜ Stands (now morning) (now noon) account × ((c ≤ mostContract) × (answered (accountOf (now morning) (now noon)) c ≡ true)) ⌝ }
+    requires { ⌜ Stands (now morning) (now noon) (accountIn (now account))
+        × ((c ≤ mostContract) × (answered (accountOf (now morning) (now noon)) c ≡ true)) ⌝ }
     ensures { λ r. ⌜ (r ≡ answerOver (accountOf (now (morning .entry)) (now (noon .entry))) (Book c) (length (now (out .entry))))
         × (now (out .exit) ≡ afterOver (accountOf (now (morning .entry)) (now (noon .entry))) (Book c) (now (out .entry))) ⌝ }
 {
@@ -133,12 +137,12 @@ fn answer_contract_book<'a>(
 fn answer_question<'a>(
     morning: &'a [u8],
     noon: &'a [u8],
-    account: Account,
+    account: &[u16; NOTES],
     paid: bool,
     question: usize,
     out: &mut [i64],
 ) -> Answer
-    requires { ⌜ Stands (now morning) (now noon) account ⌝ }
+    requires { ⌜ Stands (now morning) (now noon) (accountIn (now account)) ⌝ }
     ensures { λ r. ⌜ (r ≡ answerOver (accountOf (now (morning .entry)) (now (noon .entry))) (questionOf paid question) (length (now (out .entry))))
         × (now (out .exit) ≡ afterOver (accountOf (now (morning .entry)) (now (noon .entry))) (questionOf paid question) (now (out .entry))) ⌝ }
 {
@@ -153,6 +157,25 @@ fn answer_question<'a>(
 }
 
 // A question's answer, at the front of `out`. A refusal writes nothing.
+fn answer_lent<'a>(
+    morning: &'a [u8],
+    noon: &'a [u8],
+    account: &[u16; NOTES],
+    question: Question,
+    out: &mut [i64],
+) -> Answer
+    requires { ⌜ Stands (now morning) (now noon) (accountIn (now account)) ⌝ }
+    ensures { λ r. ⌜ (r ≡ answerOver (accountOf (now (morning .entry)) (now (noon .entry))) question (length (now (out .entry))))
+        × (now (out .exit) ≡ afterOver (accountOf (now (morning .entry)) (now (noon .entry))) question (now (out .entry))) ⌝ }
+{
+    match question {
+        Question::Figures => answer_figures(morning, noon, account, out),
+        Question::Book(q) => answer_question(morning, noon, account, false, q, out),
+        Question::Uses(q) => answer_question(morning, noon, account, true, q, out),
+    }
+}
+
+// The same of an account by value, which is lent.
 pub fn answer_over<'a>(
     morning: &'a [u8],
     noon: &'a [u8],
@@ -164,21 +187,19 @@ pub fn answer_over<'a>(
     ensures { λ r. ⌜ (r ≡ answerOver (accountOf (now (morning .entry)) (now (noon .entry))) question (length (now (out .entry))))
         × (now (out .exit) ≡ afterOver (accountOf (now (morning .entry)) (now (noon .entry))) question (now (out .entry))) ⌝ }
 {
-    match question {
-        Question::Figures => answer_figures(morning, noon, account, out),
-        Question::Book(q) => answer_question(morning, noon, account, false, q, out),
-        Question::Uses(q) => answer_question(morning, noon, account, true, q, out),
-    }
+    let mut notes = [0u16; NOTES];
+    lend(account, &mut notes);
+    answer_lent(morning, noon, &notes, question, out)
 }
 
 fn figures_answer<'a>(
     morning: &'a [u8],
     noon: &'a [u8],
-    account: Account,
+    account: &[u16; NOTES],
     positions: Positions,
     out: &mut [i64],
 ) -> Answer
-    requires { ⌜ Stands (now morning) (now noon) account × Known (accountOf (now morning) (now noon)) positions ⌝ }
+    requires { ⌜ Stands (now morning) (now noon) (accountIn (now account)) × Known (accountOf (now morning) (now noon)) positions ⌝ }
     ensures { λ r. ⌜ ((whole : List Record) → PositionsTell (accountOf (now (morning .entry)) (now (noon .entry))) positions whole
         → (r ≡ answerOver whole Figures (length (now (out .entry)))) × (now (out .exit) ≡ afterOver whole Figures (now (out .entry)))) ⌝ }
 {
@@ -202,13 +223,13 @@ fn figures_answer<'a>(
 fn question_answer<'a>(
     morning: &'a [u8],
     noon: &'a [u8],
-    account: Account,
+    account: &[u16; NOTES],
     positions: Positions,
     paid: bool,
     question: usize,
     out: &mut [i64],
 ) -> Answer
-    requires { ⌜ Stands (now morning) (now noon) account × Known (accountOf (now morning) (now noon)) positions ⌝ }
+    requires { ⌜ Stands (now morning) (now noon) (accountIn (now account)) × Known (accountOf (now morning) (now noon)) positions ⌝ }
     ensures { λ r. ⌜ ((whole : List Record) → PositionsTell (accountOf (now (morning .entry)) (now (noon .entry))) positions whole
         → (r ≡ answerOver whole (questionOf paid question) (length (now (out .entry))))
         × (now (out .exit) ≡ afterOver whole (questionOf paid question) (now (out .entry)))) ⌝ }
@@ -221,6 +242,26 @@ fn question_answer<'a>(
 }
 
 // The same by positions, of an account that but for its rows stands in the files.
+fn answer_lent_from<'a>(
+    morning: &'a [u8],
+    noon: &'a [u8],
+    account: &[u16; NOTES],
+    positions: Positions,
+    question: Question,
+    out: &mut [i64],
+) -> Answer
+    requires { ⌜ Stands (now morning) (now noon) (accountIn (now account)) × Known (accountOf (now morning) (now noon)) positions ⌝ }
+    ensures { λ r. ⌜ ((whole : List Record) → PositionsTell (accountOf (now (morning .entry)) (now (noon .entry))) positions whole
+        → (r ≡ answerOver whole question (length (now (out .entry)))) × (now (out .exit) ≡ afterOver whole question (now (out .entry)))) ⌝ }
+{
+    match question {
+        Question::Figures => figures_answer(morning, noon, account, positions, out),
+        Question::Book(q) => question_answer(morning, noon, account, positions, false, q, out),
+        Question::Uses(q) => question_answer(morning, noon, account, positions, true, q, out),
+    }
+}
+
+// The same of an account by value, which is lent.
 pub fn answer_from<'a>(
     morning: &'a [u8],
     noon: &'a [u8],
@@ -233,11 +274,9 @@ pub fn answer_from<'a>(
     ensures { λ r. ⌜ ((whole : List Record) → PositionsTell (accountOf (now (morning .entry)) (now (noon .entry))) positions whole
         → (r ≡ answerOver whole question (length (now (out .entry)))) × (now (out .exit) ≡ afterOver whole question (now (out .entry)))) ⌝ }
 {
-    match question {
-        Question::Figures => figures_answer(morning, noon, account, positions, out),
-        Question::Book(q) => question_answer(morning, noon, account, positions, false, q, out),
-        Question::Uses(q) => question_answer(morning, noon, account, positions, true, q, out),
-    }
+    let mut notes = [0u16; NOTES];
+    lend(account, &mut notes);
+    answer_lent_from(morning, noon, &notes, positions, question, out)
 }
 
 // How many prompts and spreads a book is about; of the intercontract table, contracts and its spreads.
@@ -246,8 +285,13 @@ struct Sizes {
     spreads: usize,
 }
 
-fn sizes_over<'a>(morning: &'a [u8], noon: &'a [u8], account: Account, question: usize) -> Sizes
-    requires { ⌜ Stands (now morning) (now noon) account × (answered (accountOf (now morning) (now noon)) question ≡ true) ⌝ }
+fn sizes_over<'a>(
+    morning: &'a [u8],
+    noon: &'a [u8],
+    account: &[u16; NOTES],
+    question: usize,
+) -> Sizes
+    requires { ⌜ Stands (now morning) (now noon) (accountIn (now account)) × (answered (accountOf (now morning) (now noon)) question ≡ true) ⌝ }
     ensures { λ r. ⌜ SizesOf (accountOf (now (morning .entry)) (now (noon .entry))) question (r .prompts) (r .spreads) ⌝ }
 {
     if question == TABLE {
@@ -262,8 +306,13 @@ fn sizes_over<'a>(morning: &'a [u8], noon: &'a [u8], account: Account, question:
     }
 }
 
-fn book_need<'a>(morning: &'a [u8], noon: &'a [u8], account: Account, question: usize) -> usize
-    requires { ⌜ Stands (now morning) (now noon) account ⌝ }
+fn book_need<'a>(
+    morning: &'a [u8],
+    noon: &'a [u8],
+    account: &[u16; NOTES],
+    question: usize,
+) -> usize
+    requires { ⌜ Stands (now morning) (now noon) (accountIn (now account)) ⌝ }
     ensures { λ n. ⌜ (n ≡ needOver (accountOf (now (morning .entry)) (now (noon .entry))) (Book question)) × (n ≤ longestBook) ⌝ }
 {
     if !is_asked(account, question) {
@@ -273,8 +322,13 @@ fn book_need<'a>(morning: &'a [u8], noon: &'a [u8], account: Account, question: 
     3 * sizes.prompts + 2 * sizes.spreads + 1
 }
 
-fn uses_need<'a>(morning: &'a [u8], noon: &'a [u8], account: Account, question: usize) -> usize
-    requires { ⌜ Stands (now morning) (now noon) account ⌝ }
+fn uses_need<'a>(
+    morning: &'a [u8],
+    noon: &'a [u8],
+    account: &[u16; NOTES],
+    question: usize,
+) -> usize
+    requires { ⌜ Stands (now morning) (now noon) (accountIn (now account)) ⌝ }
     ensures { λ n. ⌜ (n ≡ needOver (accountOf (now (morning .entry)) (now (noon .entry))) (Uses question)) × (n ≤ longestUses) ⌝ }
 {
     if !is_asked(account, question) {
@@ -285,6 +339,23 @@ fn uses_need<'a>(morning: &'a [u8], noon: &'a [u8], account: Account, question: 
 }
 
 // How many numbers the answer of a question has, 0 where it is not answered.
+fn needed_lent<'a>(
+    morning: &'a [u8],
+    noon: &'a [u8],
+    account: &[u16; NOTES],
+    question: Question,
+) -> usize
+    requires { ⌜ Stands (now morning) (now noon) (accountIn (now account)) ⌝ }
+    ensures { λ n. ⌜ (n ≡ needOver (accountOf (now (morning .entry)) (now (noon .entry))) question) × (n ≤ mostFor question) ⌝ }
+{
+    match question {
+        Question::Figures => figures_count(account),
+        Question::Book(q) => book_need(morning, noon, account, q),
+        Question::Uses(q) => uses_need(morning, noon, account, q),
+    }
+}
+
+// The same of an account by value, which is lent.
 pub fn needed_over<'a>(
     morning: &'a [u8],
     noon: &'a [u8],
@@ -294,9 +365,7 @@ pub fn needed_over<'a>(
     requires { ⌜ Stands (now morning) (now noon) account ⌝ }
     ensures { λ n. ⌜ (n ≡ needOver (accountOf (now (morning .entry)) (now (noon .entry))) question) × (n ≤ mostFor question) ⌝ }
 {
-    match question {
-        Question::Figures => figures_count(account),
-        Question::Book(q) => book_need(morning, noon, account, q),
-        Question::Uses(q) => uses_need(morning, noon, account, q),
-    }
+    let mut notes = [0u16; NOTES];
+    lend(account, &mut notes);
+    needed_lent(morning, noon, &notes, question)
 }

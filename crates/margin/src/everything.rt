@@ -18,16 +18,18 @@ use crate::tabled::place_line;
 use crate::tabled::put_formed;
 use crate::uses::answer_uses;
 use account::accounts::Account;
-use account::accounts::contract_number;
-use account::accounts::contract_total;
 use account::accounts::own_part;
-use account::accounts::part;
 use account::accounts::prompts_part;
-use account::accounts::record_total;
 use account::accounts::rows_part;
 use account::accounts::spreads_part;
-use account::accounts::whereabouts_of;
 use account::answers::Answer;
+use account::lent::NOTES;
+use account::lent::contract_number;
+use account::lent::contract_total;
+use account::lent::lend;
+use account::lent::part;
+use account::lent::record_total;
+use account::lent::whereabouts_of;
 use account::parts::CONTRACTS;
 use account::parts::ENTRIES;
 use account::rates::Rates;
@@ -58,6 +60,7 @@ ghost use Rattle.record.specs.Layout.{Record, mostContract};
 ghost use Rattle.account.specs.Check.{mostContracts};
 ghost use Rattle.account.specs.Parts.{promptsOf, spreadsOf, ratesOf};
 ghost use Rattle.account.specs.code.Rates.{RatesOf};
+ghost use Rattle.account.specs.code.Lent.{accountIn};
 ghost use Rattle.account.specs.code.Standing.{Stands};
 ghost use Rattle.account.specs.Joined.{accountOf};
 ghost use Rattle.account.specs.Records.{records};
@@ -229,13 +232,14 @@ fn contract_in(
 fn contract_over<'a>(
     morning: &'a [u8],
     noon: &'a [u8],
-    account: Account,
+    account: &[u16; NOTES],
     i: usize,
     rates: Rates,
     books: &mut [i64],
     uses: &mut [i64],
 ) -> Line
-    requires { ⌜ Stands (now morning) (now noon) account × ((i < account .contracts) × RatesOf (ratesOf (accountOf (now morning) (now noon))) rates) ⌝ }
+    requires { ⌜ Stands (now morning) (now noon) (accountIn (now account))
+        × ((i < accountIn (now account) .contracts) × RatesOf (ratesOf (accountOf (now morning) (now noon))) rates) ⌝ }
     ensures { λ r. ⌜ ContractLent (accountOf (now (morning .entry)) (now (noon .entry))) i r (now (books .entry)) (now (uses .entry))
         (now (books .exit)) (now (uses .exit)) ⌝ }
 {
@@ -273,14 +277,14 @@ fn contract_over<'a>(
 fn contract_from<'a>(
     morning: &'a [u8],
     noon: &'a [u8],
-    account: Account,
+    account: &[u16; NOTES],
     count: usize,
     c: usize,
     p: Position,
     books: &mut [i64],
     uses: &mut [i64],
 ) -> Line
-    requires { ⌜ Stands (now morning) (now noon) account × ((c ≤ mostContract)
+    requires { ⌜ Stands (now morning) (now noon) (accountIn (now account)) × ((c ≤ mostContract)
         × PositionFit (ownOf c (accountOf (now morning) (now noon))) (promptsOf c (accountOf (now morning) (now noon)))
         (spreadsOf c (accountOf (now morning) (now noon))) p) ⌝ }
     ensures line { λ r. ⌜ LineOf (contractWith (ownOf c (accountOf (now (morning .entry)) (now (noon .entry))))
@@ -318,7 +322,7 @@ fn contract_from<'a>(
 fn place_over<'a>(
     morning: &'a [u8],
     noon: &'a [u8],
-    account: Account,
+    account: &[u16; NOTES],
     figures: &mut [i64],
     books: &mut [i64],
     uses: &mut [i64],
@@ -328,7 +332,7 @@ fn place_over<'a>(
     prices: &mut [u64; CONTRACTS],
     sizes: &mut [u64; CONTRACTS],
 )
-    requires { ⌜ Stands (now morning) (now noon) account × ((figuresEach * account .contracts + 1 ≤ length (now figures))
+    requires { ⌜ Stands (now morning) (now noon) (accountIn (now account)) × ((figuresEach * accountIn (now account) .contracts + 1 ≤ length (now figures))
         × TableCleared (now tiers) (now nets) (now units) (now prices) (now sizes)) ⌝ }
     ensures { λ _. ⌜ ContractsWalked (accountOf (now (morning .entry)) (now (noon .entry))) (now (figures .entry)) (now (books .entry))
         (now (uses .entry)) (now (figures .exit)) (now (books .exit)) (now (uses .exit)) (now (tiers .exit)) (now (nets .exit))
@@ -351,7 +355,7 @@ fn place_over<'a>(
 fn place_from<'a>(
     morning: &'a [u8],
     noon: &'a [u8],
-    account: Account,
+    account: &[u16; NOTES],
     positions: Positions,
     figures: &mut [i64],
     books: &mut [i64],
@@ -362,8 +366,9 @@ fn place_from<'a>(
     prices: &mut [u64; CONTRACTS],
     sizes: &mut [u64; CONTRACTS],
 )
-    requires { ⌜ Stands (now morning) (now noon) account × (Known (accountOf (now morning) (now noon)) positions
-        × ((figuresEach * account .contracts + 1 ≤ length (now figures)) × TableCleared (now tiers) (now nets) (now units) (now prices) (now sizes))) ⌝ }
+    requires { ⌜ Stands (now morning) (now noon) (accountIn (now account)) × (Known (accountOf (now morning) (now noon)) positions
+        × ((figuresEach * accountIn (now account) .contracts + 1 ≤ length (now figures))
+        × TableCleared (now tiers) (now nets) (now units) (now prices) (now sizes))) ⌝ }
     ensures { λ _. ⌜ ((whole : List Record) → PositionsTell (accountOf (now (morning .entry)) (now (noon .entry))) positions whole
         → ContractsWalked whole (now (figures .entry)) (now (books .entry)) (now (uses .entry)) (now (figures .exit)) (now (books .exit))
         (now (uses .exit)) (now (tiers .exit)) (now (nets .exit)) (now (units .exit)) (now (prices .exit)) (now (sizes .exit))) ⌝ }
@@ -539,12 +544,12 @@ fn table_over(
 pub(crate) fn put_over<'a>(
     morning: &'a [u8],
     noon: &'a [u8],
-    account: Account,
+    account: &[u16; NOTES],
     figures: &mut [i64],
     books: &mut [i64],
     uses: &mut [i64],
 )
-    requires { ⌜ Stands (now morning) (now noon) account × (figuresEach * account .contracts + 1 ≤ length (now figures)) ⌝ }
+    requires { ⌜ Stands (now morning) (now noon) (accountIn (now account)) × (figuresEach * accountIn (now account) .contracts + 1 ≤ length (now figures)) ⌝ }
     ensures { λ _. ⌜ EverythingLent (accountOf (now (morning .entry)) (now (noon .entry))) (now (figures .entry)) (now (books .entry))
         (now (uses .entry)) (now (figures .exit)) (now (books .exit)) (now (uses .exit)) ⌝ }
 {
@@ -585,14 +590,14 @@ pub(crate) fn put_over<'a>(
 pub(crate) fn put_from<'a>(
     morning: &'a [u8],
     noon: &'a [u8],
-    account: Account,
+    account: &[u16; NOTES],
     positions: Positions,
     figures: &mut [i64],
     books: &mut [i64],
     uses: &mut [i64],
 )
-    requires { ⌜ Stands (now morning) (now noon) account × (Known (accountOf (now morning) (now noon)) positions
-        × (figuresEach * account .contracts + 1 ≤ length (now figures))) ⌝ }
+    requires { ⌜ Stands (now morning) (now noon) (accountIn (now account)) × (Known (accountOf (now morning) (now noon)) positions
+        × (figuresEach * accountIn (now account) .contracts + 1 ≤ length (now figures))) ⌝ }
     ensures { λ _. ⌜ ((whole : List Record) → PositionsTell (accountOf (now (morning .entry)) (now (noon .entry))) positions whole
         → EverythingLent whole (now (figures .entry)) (now (books .entry)) (now (uses .entry)) (now (figures .exit)) (now (books .exit)) (now (uses .exit))) ⌝ }
 {
@@ -634,12 +639,12 @@ pub(crate) fn put_from<'a>(
 fn lend_over<'a>(
     morning: &'a [u8],
     noon: &'a [u8],
-    account: Account,
+    account: &[u16; NOTES],
     figures: &mut [i64],
     books: &mut [i64],
     uses: &mut [i64],
 )
-    requires { ⌜ Stands (now morning) (now noon) account ⌝ }
+    requires { ⌜ Stands (now morning) (now noon) (accountIn (now account)) ⌝ }
     ensures { λ _. ⌜ EverythingLent (accountOf (now (morning .entry)) (now (noon .entry))) (now (figures .entry)) (now (books .entry))
         (now (uses .entry)) (now (figures .exit)) (now (books .exit)) (now (uses .exit)) ⌝ }
 {
@@ -655,13 +660,13 @@ fn lend_over<'a>(
 fn lend_from<'a>(
     morning: &'a [u8],
     noon: &'a [u8],
-    account: Account,
+    account: &[u16; NOTES],
     positions: Positions,
     figures: &mut [i64],
     books: &mut [i64],
     uses: &mut [i64],
 )
-    requires { ⌜ Stands (now morning) (now noon) account × Known (accountOf (now morning) (now noon)) positions ⌝ }
+    requires { ⌜ Stands (now morning) (now noon) (accountIn (now account)) × Known (accountOf (now morning) (now noon)) positions ⌝ }
     ensures { λ _. ⌜ ((whole : List Record) → PositionsTell (accountOf (now (morning .entry)) (now (noon .entry))) positions whole
         → EverythingLent whole (now (figures .entry)) (now (books .entry)) (now (uses .entry)) (now (figures .exit)) (now (books .exit)) (now (uses .exit))) ⌝ }
 {
@@ -701,15 +706,15 @@ fn lent_answers(
 }
 
 // Everything of an account, and what it is answered.
-pub fn everything_over<'a>(
+fn everything_lent<'a>(
     morning: &'a [u8],
     noon: &'a [u8],
-    account: Account,
+    account: &[u16; NOTES],
     figures: &mut [i64],
     books: &mut [i64],
     uses: &mut [i64],
 ) -> Everything
-    requires { ⌜ Stands (now morning) (now noon) account ⌝ }
+    requires { ⌜ Stands (now morning) (now noon) (accountIn (now account)) ⌝ }
     ensures { λ r. ⌜ EverythingOf (accountOf (now (morning .entry)) (now (noon .entry))) (now (figures .entry)) (now (books .entry))
         (now (uses .entry)) r (now (figures .exit)) (now (books .exit)) (now (uses .exit)) ⌝ }
 {
@@ -724,17 +729,35 @@ pub fn everything_over<'a>(
     answers
 }
 
-// The same by positions.
-pub fn everything_from<'a>(
+// The same of an account by value, which is lent.
+pub fn everything_over<'a>(
     morning: &'a [u8],
     noon: &'a [u8],
     account: Account,
+    figures: &mut [i64],
+    books: &mut [i64],
+    uses: &mut [i64],
+) -> Everything
+    requires { ⌜ Stands (now morning) (now noon) account ⌝ }
+    ensures { λ r. ⌜ EverythingOf (accountOf (now (morning .entry)) (now (noon .entry))) (now (figures .entry)) (now (books .entry))
+        (now (uses .entry)) r (now (figures .exit)) (now (books .exit)) (now (uses .exit)) ⌝ }
+{
+    let mut notes = [0u16; NOTES];
+    lend(account, &mut notes);
+    everything_lent(morning, noon, &notes, figures, books, uses)
+}
+
+// The same by positions.
+fn everything_lent_from<'a>(
+    morning: &'a [u8],
+    noon: &'a [u8],
+    account: &[u16; NOTES],
     positions: Positions,
     figures: &mut [i64],
     books: &mut [i64],
     uses: &mut [i64],
 ) -> Everything
-    requires { ⌜ Stands (now morning) (now noon) account × Known (accountOf (now morning) (now noon)) positions ⌝ }
+    requires { ⌜ Stands (now morning) (now noon) (accountIn (now account)) × Known (accountOf (now morning) (now noon)) positions ⌝ }
     ensures { λ r. ⌜ ((whole : List Record) → PositionsTell (accountOf (now (morning .entry)) (now (noon .entry))) positions whole
         → EverythingOf whole (now (figures .entry)) (now (books .entry)) (now (uses .entry)) r (now (figures .exit)) (now (books .exit)) (now (uses .exit))) ⌝ }
 {
@@ -749,18 +772,37 @@ pub fn everything_from<'a>(
     answers
 }
 
+// The same of an account by value, which is lent.
+pub fn everything_from<'a>(
+    morning: &'a [u8],
+    noon: &'a [u8],
+    account: Account,
+    positions: Positions,
+    figures: &mut [i64],
+    books: &mut [i64],
+    uses: &mut [i64],
+) -> Everything
+    requires { ⌜ Stands (now morning) (now noon) account × Known (accountOf (now morning) (now noon)) positions ⌝ }
+    ensures { λ r. ⌜ ((whole : List Record) → PositionsTell (accountOf (now (morning .entry)) (now (noon .entry))) positions whole
+        → EverythingOf whole (now (figures .entry)) (now (books .entry)) (now (uses .entry)) r (now (figures .exit)) (now (books .exit)) (now (uses .exit))) ⌝ }
+{
+    let mut notes = [0u16; NOTES];
+    lend(account, &mut notes);
+    everything_lent_from(morning, noon, &notes, positions, figures, books, uses)
+}
+
 // The total of the margins, which stands last in the figures.
-fn total_in(account: Account, figures: &[i64; LONGEST_FIGURES]) -> Amount
-    requires { ⌜ account .contracts ≤ mostContracts ⌝ }
-    ensures { λ r. ⌜ r .0 ≡ natAbs (getD (now (figures .entry)) (figuresEach * account .contracts) (pos 0)) ⌝ }
+fn total_in(account: &[u16; NOTES], figures: &[i64; LONGEST_FIGURES]) -> Amount
+    requires { ⌜ accountIn (now account) .contracts ≤ mostContracts ⌝ }
+    ensures { λ r. ⌜ r .0 ≡ natAbs (getD (now (figures .entry)) (figuresEach * accountIn (now (account .entry)) .contracts) (pos 0)) ⌝ }
 {
     let last = FIGURES_EACH * contract_total(account);
     Amount(magnitude(figures[last]))
 }
 
 // That of an account in its files.
-pub fn total_over<'a>(morning: &'a [u8], noon: &'a [u8], account: Account) -> Amount
-    requires { ⌜ Stands (now morning) (now noon) account ⌝ }
+fn total_lent<'a>(morning: &'a [u8], noon: &'a [u8], account: &[u16; NOTES]) -> Amount
+    requires { ⌜ Stands (now morning) (now noon) (accountIn (now account)) ⌝ }
     ensures { λ r. ⌜ r .0 ≡ accountTotal (accountOf (now (morning .entry)) (now (noon .entry))) ⌝ }
 {
     let mut figures = [0i64; LONGEST_FIGURES];
@@ -770,14 +812,24 @@ pub fn total_over<'a>(morning: &'a [u8], noon: &'a [u8], account: Account) -> Am
     total_in(account, &figures)
 }
 
+// The same of an account by value, which is lent.
+pub fn total_over<'a>(morning: &'a [u8], noon: &'a [u8], account: Account) -> Amount
+    requires { ⌜ Stands (now morning) (now noon) account ⌝ }
+    ensures { λ r. ⌜ r .0 ≡ accountTotal (accountOf (now (morning .entry)) (now (noon .entry))) ⌝ }
+{
+    let mut notes = [0u16; NOTES];
+    lend(account, &mut notes);
+    total_lent(morning, noon, &notes)
+}
+
 // The same by positions.
-pub fn total_from<'a>(
+fn total_lent_from<'a>(
     morning: &'a [u8],
     noon: &'a [u8],
-    account: Account,
+    account: &[u16; NOTES],
     positions: Positions,
 ) -> Amount
-    requires { ⌜ Stands (now morning) (now noon) account × Known (accountOf (now morning) (now noon)) positions ⌝ }
+    requires { ⌜ Stands (now morning) (now noon) (accountIn (now account)) × Known (accountOf (now morning) (now noon)) positions ⌝ }
     ensures { λ r. ⌜ ((whole : List Record) → PositionsTell (accountOf (now (morning .entry)) (now (noon .entry))) positions whole
         → r .0 ≡ accountTotal whole) ⌝ }
 {
@@ -794,4 +846,20 @@ pub fn total_from<'a>(
         &mut uses,
     );
     total_in(account, &figures)
+}
+
+// The same of an account by value, which is lent.
+pub fn total_from<'a>(
+    morning: &'a [u8],
+    noon: &'a [u8],
+    account: Account,
+    positions: Positions,
+) -> Amount
+    requires { ⌜ Stands (now morning) (now noon) account × Known (accountOf (now morning) (now noon)) positions ⌝ }
+    ensures { λ r. ⌜ ((whole : List Record) → PositionsTell (accountOf (now (morning .entry)) (now (noon .entry))) positions whole
+        → r .0 ≡ accountTotal whole) ⌝ }
+{
+    let mut notes = [0u16; NOTES];
+    lend(account, &mut notes);
+    total_lent_from(morning, noon, &notes, positions)
 }

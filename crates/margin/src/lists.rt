@@ -2,11 +2,14 @@
 use crate::over::asking_over;
 use crate::over::is_asked;
 use account::accounts::Account;
-use account::accounts::record_total;
 use account::answers::Answer;
+use account::lent::NOTES;
+use account::lent::lend;
+use account::lent::record_total;
 use judging::Verdict;
 use judging::judge;
 ghost use mathlib.Core.Path.{_≡_};
+ghost use Rattle.account.specs.code.Lent.{accountIn};
 ghost use Rattle.account.specs.code.Standing.{Stands};
 ghost use Rattle.account.specs.Joined.{accountOf};
 ghost use Rattle.margin.specs.Lists.{saidOf, judgedOver};
@@ -35,6 +38,28 @@ fn said_of(verdict: Verdict) -> Judged
 
 // What is said of a list of spreads for a question: `numbers` has one for each step, of each spread its first step and then its
 // second; `uses` what each step used of each prompt, one step after the other; `sent` is how many prompts the list speaks of.
+fn judge_lent<'a>(
+    morning: &'a [u8],
+    noon: &'a [u8],
+    account: &[u16; NOTES],
+    question: usize,
+    sent: usize,
+    numbers: &[i64],
+    uses: &[i64],
+) -> Judged
+    requires { ⌜ Stands (now morning) (now noon) (accountIn (now account)) ⌝ }
+    ensures { λ r. ⌜ r ≡ judgedOver (accountOf (now (morning .entry)) (now (noon .entry))) question sent (now (numbers .entry)) (now (uses .entry)) ⌝ }
+{
+    if !is_asked(account, question) {
+        return Judged::Refused(Answer::NoSuchQuestion(record_total(account)));
+    }
+    let asking = asking_over(morning, noon, account, question);
+    let prompts = asking.prompts;
+    let table = asking.table;
+    said_of(judge(prompts, table, sent, numbers, uses))
+}
+
+// The same of an account by value, which is lent.
 pub fn judge_over<'a>(
     morning: &'a [u8],
     noon: &'a [u8],
@@ -47,11 +72,7 @@ pub fn judge_over<'a>(
     requires { ⌜ Stands (now morning) (now noon) account ⌝ }
     ensures { λ r. ⌜ r ≡ judgedOver (accountOf (now (morning .entry)) (now (noon .entry))) question sent (now (numbers .entry)) (now (uses .entry)) ⌝ }
 {
-    if !is_asked(account, question) {
-        return Judged::Refused(Answer::NoSuchQuestion(record_total(account)));
-    }
-    let asking = asking_over(morning, noon, account, question);
-    let prompts = asking.prompts;
-    let table = asking.table;
-    said_of(judge(prompts, table, sent, numbers, uses))
+    let mut notes = [0u16; NOTES];
+    lend(account, &mut notes);
+    judge_lent(morning, noon, &notes, question, sent, numbers, uses)
 }

@@ -1,16 +1,16 @@
 // What an account's answers are made of: its rates, what the rows of its contracts come to, and what is asked about by a question.
 use crate::numbers::FIGURES_EACH;
 use crate::uses::Asking;
-use account::accounts::Account;
-use account::accounts::contract_number;
-use account::accounts::contract_total;
 use account::accounts::own_part;
-use account::accounts::part;
-use account::accounts::part_total;
 use account::accounts::prompts_part;
 use account::accounts::rows_part;
 use account::accounts::spreads_part;
-use account::accounts::whereabouts_of;
+use account::lent::NOTES;
+use account::lent::contract_number;
+use account::lent::contract_total;
+use account::lent::part;
+use account::lent::part_total;
+use account::lent::whereabouts_of;
 use account::parts::CONTRACTS;
 use account::parts::ENTRIES;
 use account::parts::OWN;
@@ -37,6 +37,7 @@ ghost use Rattle.account.specs.Parts.{contractsOf, promptsOf, rowsOf, spreadsOf
 ghost use Rattle.account.specs.Check.{mostContracts};
 ghost use Rattle.account.specs.code.Rates.{RatesOf};
 ghost use Rattle.account.specs.Records.{records};
+ghost use Rattle.account.specs.code.Lent.{accountIn};
 ghost use Rattle.account.specs.code.Standing.{Stands};
 ghost use Rattle.account.specs.Joined.{accountOf};
 ghost use Rattle.record.specs.Layout.{Record, mostContract};
@@ -55,16 +56,16 @@ ghost use Rattle.margin.specs.code.Asking.{Asks, NetsFit};
 pub const TABLE: usize = CONTRACTS;
 
 // How many numbers the figures have.
-pub(crate) fn figures_count(account: Account) -> usize
-    requires { ⌜ account .contracts ≤ mostContracts ⌝ }
-    ensures { λ n. ⌜ n ≡ figuresEach * account .contracts + 1 ⌝ }
+pub(crate) fn figures_count(account: &[u16; NOTES]) -> usize
+    requires { ⌜ accountIn (now account) .contracts ≤ mostContracts ⌝ }
+    ensures { λ n. ⌜ n ≡ figuresEach * accountIn (now (account .entry)) .contracts + 1 ⌝ }
 {
     FIGURES_EACH * contract_total(account) + 1
 }
 
 // The account's rates.
-pub(crate) fn rates_over<'a>(morning: &'a [u8], noon: &'a [u8], account: Account) -> Rates
-    requires { ⌜ Stands (now morning) (now noon) account ⌝ }
+pub(crate) fn rates_over<'a>(morning: &'a [u8], noon: &'a [u8], account: &[u16; NOTES]) -> Rates
+    requires { ⌜ Stands (now morning) (now noon) (accountIn (now account)) ⌝ }
     ensures { λ r. ⌜ RatesOf (ratesOf (accountOf (now (morning .entry)) (now (noon .entry)))) r ⌝ }
 {
     rates_of(part(morning, noon, account, RATES))
@@ -74,11 +75,12 @@ pub(crate) fn rates_over<'a>(morning: &'a [u8], noon: &'a [u8], account: Account
 pub(crate) fn position_in<'a>(
     morning: &'a [u8],
     noon: &'a [u8],
-    account: Account,
+    account: &[u16; NOTES],
     c: usize,
     rates: Rates,
 ) -> Position
-    requires { ⌜ Stands (now morning) (now noon) account × ((c ≤ mostContract) × RatesOf (ratesOf (accountOf (now morning) (now noon))) rates) ⌝ }
+    requires { ⌜ Stands (now morning) (now noon) (accountIn (now account))
+        × ((c ≤ mostContract) × RatesOf (ratesOf (accountOf (now morning) (now noon))) rates) ⌝ }
     ensures { λ p. ⌜ PositionAt (ratesOf (accountOf (now (morning .entry)) (now (noon .entry))))
         (unitOf c (accountOf (now (morning .entry)) (now (noon .entry)))) (accountOf (now (morning .entry)) (now (noon .entry))) c p ⌝ }
 {
@@ -93,10 +95,10 @@ pub(crate) fn position_in<'a>(
 fn nets_at<'a>(
     morning: &'a [u8],
     noon: &'a [u8],
-    account: Account,
+    account: &[u16; NOTES],
     c: usize,
 ) -> [Delta; MOST_PROMPTS]
-    requires { ⌜ Stands (now morning) (now noon) account × (c ≤ mostContract) ⌝ }
+    requires { ⌜ Stands (now morning) (now noon) (accountIn (now account)) × (c ≤ mostContract) ⌝ }
     ensures { λ r. ⌜ PositionAt [] 1 (accountOf (now (morning .entry)) (now (noon .entry))) c
         (withNets [] 1 (rowsOf c (accountOf (now (morning .entry)) (now (noon .entry)))) r) ⌝ }
 {
@@ -113,8 +115,8 @@ pub struct Tier {
 }
 
 // The i-th contract as a tier: its net delta, which is that of its rows, each being of one prompt's day.
-fn tier_at<'a>(morning: &'a [u8], noon: &'a [u8], account: Account, i: usize) -> Tier
-    requires { ⌜ Stands (now morning) (now noon) account × (i < account .contracts) ⌝ }
+fn tier_at<'a>(morning: &'a [u8], noon: &'a [u8], account: &[u16; NOTES], i: usize) -> Tier
+    requires { ⌜ Stands (now morning) (now noon) (accountIn (now account)) × (i < accountIn (now account) .contracts) ⌝ }
     ensures { λ r. ⌜ TierIs
         (partsIn (accountOf (now (morning .entry)) (now (noon .entry)))
         (getD (contractsOf (accountOf (now (morning .entry)) (now (noon .entry)))) i [])) (r .contract) (r .net .0) ⌝ }
@@ -130,8 +132,8 @@ fn tier_at<'a>(morning: &'a [u8], noon: &'a [u8], account: Account, i: usize) ->
 }
 
 // The contracts as tiers, in file order.
-fn tiers_over<'a>(morning: &'a [u8], noon: &'a [u8], account: Account) -> Prompts
-    requires { ⌜ Stands (now morning) (now noon) account ⌝ }
+fn tiers_over<'a>(morning: &'a [u8], noon: &'a [u8], account: &[u16; NOTES]) -> Prompts
+    requires { ⌜ Stands (now morning) (now noon) (accountIn (now account)) ⌝ }
     ensures { λ r. ⌜ TiersIn (accountOf (now (morning .entry)) (now (noon .entry))) r ⌝ }
 {
     let count = contract_total(account);
@@ -169,11 +171,11 @@ pub(crate) fn contract_asking(prompts: &[u8], spreads: &[u8], nets: [Delta; MOST
 pub(crate) fn asking_with<'a>(
     morning: &'a [u8],
     noon: &'a [u8],
-    account: Account,
+    account: &[u16; NOTES],
     c: usize,
     p: Position,
 ) -> Asking
-    requires { ⌜ Stands (now morning) (now noon) account
+    requires { ⌜ Stands (now morning) (now noon) (accountIn (now account))
         × ((c ≤ mostContract) × BookFit (promptsOf c (accountOf (now morning) (now noon))) (spreadsOf c (accountOf (now morning) (now noon))) p) ⌝ }
     ensures { λ r. ⌜ Asks
         (contractSteps
@@ -191,8 +193,8 @@ pub(crate) fn asking_with<'a>(
 }
 
 // The same of a contract that stands in the files.
-fn asking_of<'a>(morning: &'a [u8], noon: &'a [u8], account: Account, c: usize) -> Asking
-    requires { ⌜ Stands (now morning) (now noon) account × (c ≤ mostContract) ⌝ }
+fn asking_of<'a>(morning: &'a [u8], noon: &'a [u8], account: &[u16; NOTES], c: usize) -> Asking
+    requires { ⌜ Stands (now morning) (now noon) (accountIn (now account)) × (c ≤ mostContract) ⌝ }
     ensures { λ r. ⌜ Asks (contractSteps (partsOf (accountOf (now (morning .entry)) (now (noon .entry))) c))
         (opensOf (partsOf (accountOf (now (morning .entry)) (now (noon .entry))) c)) r ⌝ }
 {
@@ -219,10 +221,10 @@ pub(crate) fn table_asking(entries: &[u8], tiers: Prompts) -> Asking
 pub(crate) fn asking_over<'a>(
     morning: &'a [u8],
     noon: &'a [u8],
-    account: Account,
+    account: &[u16; NOTES],
     question: usize,
 ) -> Asking
-    requires { ⌜ Stands (now morning) (now noon) account × (answered (accountOf (now morning) (now noon)) question ≡ true) ⌝ }
+    requires { ⌜ Stands (now morning) (now noon) (accountIn (now account)) × (answered (accountOf (now morning) (now noon)) question ≡ true) ⌝ }
     ensures { λ r. ⌜ Asks (stepsFor (accountOf (now (morning .entry)) (now (noon .entry))) question)
         (opensFor (accountOf (now (morning .entry)) (now (noon .entry))) question) r ⌝ }
 {
@@ -234,8 +236,8 @@ pub(crate) fn asking_over<'a>(
 }
 
 // Whether a question is a listed contract or 16.
-pub(crate) fn is_asked(account: Account, question: usize) -> bool
-    ensures { λ r. ⌜ r ≡ askedBy (account .counts) question ⌝ }
+pub(crate) fn is_asked(account: &[u16; NOTES], question: usize) -> bool
+    ensures { λ r. ⌜ r ≡ askedBy (accountIn (now (account .entry)) .counts) question ⌝ }
 {
     if TABLE < question {
         return false;

@@ -7,10 +7,12 @@ use crate::over::rates_over;
 use crate::over::table_asking;
 use crate::uses::Asking;
 use account::accounts::Account;
-use account::accounts::contract_number;
-use account::accounts::contract_total;
-use account::accounts::part;
-use account::accounts::record_total;
+use account::lent::NOTES;
+use account::lent::contract_number;
+use account::lent::contract_total;
+use account::lent::lend;
+use account::lent::part;
+use account::lent::record_total;
 use account::parts::CONTRACTS;
 use account::parts::ENTRIES;
 use formulas::line::contract_net;
@@ -25,6 +27,7 @@ ghost use mathlib.Core.List.{List, map};
 ghost use Prim.Native.Nat.{_≤_, _<_};
 ghost use lib.IntN.{natAbs};
 ghost use Rattle.exact.specs.Lists.{sum, sumℤ};
+ghost use Rattle.account.specs.code.Lent.{accountIn};
 ghost use Rattle.account.specs.code.Standing.{Stands};
 ghost use Rattle.account.specs.Joined.{accountOf};
 ghost use Rattle.record.specs.Layout.{Record, mostContract};
@@ -43,8 +46,8 @@ pub struct Positions {
 }
 
 // The positions of an account, each row walked once.
-pub fn positions_over<'a>(morning: &'a [u8], noon: &'a [u8], account: Account) -> Positions
-    requires { ⌜ Stands (now morning) (now noon) account ⌝ }
+fn positions_lent<'a>(morning: &'a [u8], noon: &'a [u8], account: &[u16; NOTES]) -> Positions
+    requires { ⌜ Stands (now morning) (now noon) (accountIn (now account)) ⌝ }
     ensures { λ r. ⌜ PositionsOf (accountOf (now (morning .entry)) (now (noon .entry))) r ⌝ }
 {
     let count = contract_total(account);
@@ -60,6 +63,16 @@ pub fn positions_over<'a>(morning: &'a [u8], noon: &'a [u8], account: Account) -
         records: record_total(account),
         at,
     }
+}
+
+// The same of an account by value, which is lent.
+pub fn positions_over<'a>(morning: &'a [u8], noon: &'a [u8], account: Account) -> Positions
+    requires { ⌜ Stands (now morning) (now noon) account ⌝ }
+    ensures { λ r. ⌜ PositionsOf (accountOf (now (morning .entry)) (now (noon .entry))) r ⌝ }
+{
+    let mut notes = [0u16; NOTES];
+    lend(account, &mut notes);
+    positions_lent(morning, noon, &notes)
 }
 
 // A contract as a tier, by what its rows come to.
@@ -79,10 +92,10 @@ fn tier_with(c: usize, p: Position) -> Tier
 pub(crate) fn tiers_from<'a>(
     morning: &'a [u8],
     noon: &'a [u8],
-    account: Account,
+    account: &[u16; NOTES],
     positions: Positions,
 ) -> Prompts
-    requires { ⌜ Stands (now morning) (now noon) account × Known (accountOf (now morning) (now noon)) positions ⌝ }
+    requires { ⌜ Stands (now morning) (now noon) (accountIn (now account)) × Known (accountOf (now morning) (now noon)) positions ⌝ }
     ensures { λ r. ⌜ ((whole : List Record) → PositionsTell (accountOf (now (morning .entry)) (now (noon .entry))) positions whole → TiersIn whole r) ⌝ }
 {
     let count = contract_total(account);
@@ -108,11 +121,11 @@ pub(crate) fn tiers_from<'a>(
 pub(crate) fn asking_from<'a>(
     morning: &'a [u8],
     noon: &'a [u8],
-    account: Account,
+    account: &[u16; NOTES],
     positions: Positions,
     question: usize,
 ) -> Asking
-    requires { ⌜ Stands (now morning) (now noon) account
+    requires { ⌜ Stands (now morning) (now noon) (accountIn (now account))
         × (Known (accountOf (now morning) (now noon)) positions × (answered (accountOf (now morning) (now noon)) question ≡ true)) ⌝ }
     ensures { λ r. ⌜ ((whole : List Record) → PositionsTell (accountOf (now (morning .entry)) (now (noon .entry))) positions whole
         → Asks (stepsFor whole question) (opensFor whole question) r) ⌝ }

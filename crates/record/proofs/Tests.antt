@@ -1,11 +1,12 @@
 -- Tests in a row, and a test over a count of numbers, taken one number at a time.
 -- Assumes nothing.
 use Prim.Native.Nat.{ℕ, zero, suc, _+_, _-_, _≤_, _<_}
-use mathlib.Core.Path.{_≡_, refl, sym, _∙_}
+use mathlib.Core.Path.{_≡_, refl, sym, ap, _∙_}
 use mathlib.Core.Bool.{Bool, true, false, _||_, or-true, or-false, or-assoc}
-use mathlib.Core.List.{_∷_}
+use mathlib.Core.List.{List, _∷_, _++_}
 use native.Mathlib.Omega.{arith}
 use Rattle.exact.specs.Lists.{any}
+use Rattle.exact.proofs.Lists.{any-append}
 use Rattle.record.specs.Bytes.{countFrom}
 
 pub both : {a b c d : Bool} → a ≡ b → c ≡ d → a || c ≡ b || d
@@ -43,3 +44,22 @@ pub any-same : (p q : ℕ → Bool) (n i : ℕ) → ((k : ℕ) → i ≤ k → k
 any-same p q zero i same = refl
 any-same p q (suc n) i same =
     both (same i (omega arith) (omega arith)) (any-same p q n (i + 1) (λ k g h. same k (omega arith) (omega arith)))
+
+-- a count of numbers in two parts
+counts-parted : (m n o : ℕ) → countFrom o (m + n) ≡ countFrom o m ++ countFrom (o + m) n
+counts-parted zero n o =
+    let t : 0 + n ≡ n = omega arith in
+    let s : o ≡ o + 0 = omega arith in
+    ap (countFrom o) t ∙ ap (λ (k : ℕ). countFrom k n) s
+counts-parted (suc m) n o =
+    let t : suc m + n ≡ suc (m + n) = omega arith in
+    let s : o + 1 + m ≡ o + suc m = omega arith in
+    ap (countFrom o) t
+    ∙ ap (λ (ks : List ℕ). o ∷ ks) (counts-parted m n (o + 1) ∙ ap (λ (k : ℕ). countFrom (o + 1) m ++ countFrom k n) s)
+
+pub any-parted :
+    (p : ℕ → Bool) (m n o k : ℕ) → k ≡ o + m → {a b : Bool} → a ≡ any p (countFrom o m) → b ≡ any p (countFrom k n)
+    → a || b ≡ any p (countFrom o (m + n))
+any-parted p m n o k s e f =
+    both e (f ∙ ap (λ (j : ℕ). any p (countFrom j n)) s)
+    ∙ sym (ap (any p) (counts-parted m n o) ∙ any-append p (countFrom o m) (countFrom (o + m) n))

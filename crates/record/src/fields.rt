@@ -1,6 +1,6 @@
 // The fields of a record, by document 01's table. Unsigned fields come as they stand, signed ones as signed numbers.
 ghost use mathlib.Core.Path.{_≡_};
-ghost use Prim.Native.Nat.{_≤_, _<_};
+ghost use Prim.Native.Nat.{_+_, _*_, _≤_, _<_};
 ghost use lib.ListN.{length};
 ghost use Rattle.record.specs.Layout as Layout;
 ghost use Rattle.record.specs.Layout.{shortOptionRate, unitField, spreadRate, outrightRate, rowType, legCount, ratePerSpread, legTier, legSide, legRatio};
@@ -10,6 +10,7 @@ use crate::bytes::byte_at;
 use crate::bytes::byte_in;
 use crate::bytes::i32_at;
 use crate::bytes::u16_at;
+use crate::bytes::u16_in;
 use crate::bytes::u32_at;
 use crate::layout;
 
@@ -191,6 +192,14 @@ pub fn leg_side_in(r: &[u8], leg: usize) -> usize
     ensures { λ n. ⌜ (n ≡ legSide (now (r .entry)) leg) × (n < 256) ⌝ }
 {
     byte_in(r, layout::LEG_SIDE + 4 * leg)
+}
+
+// A leg's tier and side, which stand side by side, read as one number.
+pub fn leg_place_in(r: &[u8], leg: usize) -> usize
+    requires { ⌜ (leg ≤ 2) × (recordBytes ≤ length (now r)) ⌝ }
+    ensures { λ n. ⌜ (n ≡ legTier (now (r .entry)) leg + 256 * legSide (now (r .entry)) leg) × (n < 65536) ⌝ }
+{
+    u16_in(r, layout::LEG_TIER + 4 * leg)
 }
 
 // Of an intercontract spread.

@@ -116,7 +116,19 @@ fn is_of(r: &[u8], kind: usize, c: usize) -> bool
     (byte_in(r, layout::KIND) == kind) & (byte_in(r, layout::CONTRACT) == c)
 }
 
-// A prompt of contract `c`, whole and with neither 5 nor 6. Here and below there is no way out before the end, so that much is tested at once.
+// A contract's own record, whole and with neither 5 nor 6. Here and below, but for an interprompt spread, there is no way out before the end, so that
+// much is tested at once.
+pub fn sound_contract(r: &[u8]) -> bool
+    ensures { λ b. ⌜ b ≡ soundRecord 1 (contract (now (r .entry))) (now (r .entry)) ⌝ }
+{
+    if r.len() < RECORD_BYTES {
+        return false;
+    }
+    is_of(r, 1, byte_in(r, layout::CONTRACT))
+        & !(unused::beside_contract(r) | ranges::contract_outside(r))
+}
+
+// A prompt of contract `c`.
 pub fn sound_prompt(r: &[u8], c: usize) -> bool
     ensures { λ b. ⌜ b ≡ soundRecord 2 c (now (r .entry)) ⌝ }
 {
@@ -137,13 +149,20 @@ pub fn sound_row(r: &[u8], c: usize, other: bool) -> bool
         & !(unused::beside_row(r) | (ranges::row_head_outside(r, other) | ranges::losses_beyond(r)))
 }
 
+// The tests end as soon as one fails: the record after a run of spreads is of another contract or kind.
 pub fn sound_spread(r: &[u8], c: usize) -> bool
     ensures { λ b. ⌜ b ≡ soundRecord 4 c (now (r .entry)) ⌝ }
 {
     if r.len() < RECORD_BYTES {
         return false;
     }
-    is_of(r, 4, c) & !(unused::beside_spread(r) | ranges::spread_outside(r))
+    if !is_of(r, 4, c) {
+        return false;
+    }
+    if unused::beside_spread(r) {
+        return false;
+    }
+    !ranges::spread_outside(r)
 }
 
 // An intercontract spread, of any contract.

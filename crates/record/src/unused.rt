@@ -41,19 +41,44 @@ fn any_of_four(r: &[u8], o: usize) -> bool
     u32_in(r, o) != 0
 }
 
+fn any_of_sixteen(r: &[u8], o: usize) -> bool
+    requires { ⌜ o + 15 < length (now r) ⌝ }
+    ensures { λ b. ⌜ b ≡ any (notZero (now (r .entry))) (countFrom o 16) ⌝ }
+{
+    any_of_four(r, o) | (any_of_four(r, o + 4) | (any_of_four(r, o + 8) | any_of_four(r, o + 12)))
+}
+
+// Bytes 32 to 95. Here and below there is no loop, so that many bytes are tested at once.
+fn any_from_thirty_two(r: &[u8]) -> bool
+    requires { ⌜ recordBytes ≤ length (now r) ⌝ }
+    ensures { λ b. ⌜ b ≡ any (notZero (now (r .entry))) (countFrom 32 64) ⌝ }
+{
+    any_of_sixteen(r, 32)
+        | (any_of_sixteen(r, 48) | (any_of_sixteen(r, 64) | any_of_sixteen(r, 80)))
+}
+
+// Bytes 10 to 95, which are those after the fields of a contract.
+fn any_from_ten(r: &[u8]) -> bool
+    requires { ⌜ recordBytes ≤ length (now r) ⌝ }
+    ensures { λ b. ⌜ b ≡ any (notZero (now (r .entry))) (countFrom 10 86) ⌝ }
+{
+    is_set(r, layout::CONTRACT_END)
+        | (is_set(r, layout::CONTRACT_END + 1)
+            | (any_of_four(r, 12) | (any_of_sixteen(r, 16) | any_from_thirty_two(r))))
+}
+
 pub(crate) fn beside_contract(r: &[u8]) -> bool
     requires { ⌜ recordBytes ≤ length (now r) ⌝ }
     ensures { λ b. ⌜ b ≡ unusedBeside contractFields (now (r .entry)) ⌝ }
 {
-    is_set(r, layout::EARLY_GAP)
-        | (is_set(r, layout::GAP) | set_between(r, layout::CONTRACT_END, RECORD_BYTES))
+    is_set(r, layout::EARLY_GAP) | (is_set(r, layout::GAP) | any_from_ten(r))
 }
 
 pub(crate) fn beside_prompt(r: &[u8]) -> bool
     requires { ⌜ recordBytes ≤ length (now r) ⌝ }
     ensures { λ b. ⌜ b ≡ unusedBeside promptFields (now (r .entry)) ⌝ }
 {
-    is_set(r, layout::GAP) | set_between(r, layout::PROMPT_END, RECORD_BYTES)
+    is_set(r, layout::GAP) | (any_of_sixteen(r, layout::PROMPT_END) | any_from_thirty_two(r))
 }
 
 pub(crate) fn beside_row(r: &[u8]) -> bool
@@ -63,14 +88,25 @@ pub(crate) fn beside_row(r: &[u8]) -> bool
     any_of_four(r, layout::ROW_END) | any_of_four(r, layout::ROW_END + 4)
 }
 
+// The bytes after a third leg.
+fn any_after_legs(r: &[u8]) -> bool
+    requires { ⌜ recordBytes ≤ length (now r) ⌝ }
+    ensures { λ b. ⌜ b ≡ any (notZero (now (r .entry))) (countFrom 20 76) ⌝ }
+{
+    any_of_four(r, layout::THREE_LEGS_END)
+        | (any_of_four(r, layout::THREE_LEGS_END + 4)
+            | (any_of_four(r, layout::THREE_LEGS_END + 8) | any_from_thirty_two(r)))
+}
+
 pub(crate) fn beside_spread(r: &[u8]) -> bool
     requires { ⌜ recordBytes ≤ length (now r) ⌝ }
     ensures { λ b. ⌜ b ≡ unusedBeside (spreadFields (now (r .entry))) (now (r .entry)) ⌝ }
 {
+    let late = any_after_legs(r);
     if byte_in(r, layout::LEG_COUNT) == 2 {
-        is_set(r, layout::GAP) | set_between(r, layout::TWO_LEGS_END, RECORD_BYTES)
+        is_set(r, layout::GAP) | (any_of_four(r, layout::TWO_LEGS_END) | late)
     } else {
-        is_set(r, layout::GAP) | set_between(r, layout::THREE_LEGS_END, RECORD_BYTES)
+        is_set(r, layout::GAP) | late
     }
 }
 
@@ -78,7 +114,7 @@ pub(crate) fn beside_entry(r: &[u8]) -> bool
     requires { ⌜ recordBytes ≤ length (now r) ⌝ }
     ensures { λ b. ⌜ b ≡ unusedBeside (entryFields (now (r .entry))) (now (r .entry)) ⌝ }
 {
-    set_between(r, layout::ENTRY_END, RECORD_BYTES)
+    is_set(r, layout::ENTRY_END) | any_from_ten(r)
 }
 
 pub(crate) fn beside_rate(r: &[u8]) -> bool
@@ -86,7 +122,7 @@ pub(crate) fn beside_rate(r: &[u8]) -> bool
     ensures { λ b. ⌜ b ≡ unusedBeside rateFields (now (r .entry)) ⌝ }
 {
     is_set(r, layout::EARLY_GAP)
-        | (is_set(r, layout::GAP) | set_between(r, layout::RATE_END, RECORD_BYTES))
+        | (is_set(r, layout::GAP) | (is_set(r, layout::RATE_END) | any_from_ten(r)))
 }
 
 pub(crate) fn beside_none(r: &[u8]) -> bool

@@ -1,5 +1,5 @@
--- Runs of sound records: the prompts, rows or interprompt spreads of a contract, or intercontract spreads, after one that has passed, as far
--- as they pass like it.
+-- Runs of sound records: a contract's own record, or the prompts, rows or interprompt spreads of a contract, or intercontract spreads, after one
+-- that has passed, as far as they pass like it.
 -- Assumes nothing.
 use Prim.Native.Nat.{ℕ, _+_, _-_, _≤_, _<_}
 use mathlib.Core.Path.{_≡_}
@@ -11,7 +11,7 @@ use Rattle.exact.specs.Lists.{any, oneIf}
 use Rattle.record.specs.Bytes.{countFrom}
 use Rattle.record.specs.Layout.{Record, kind, contract, currency, day, twoLegs, legsOf, legTier, legSide, secondContract}
 use Rattle.record.specs.Ranges.{soundRecord}
-use Rattle.account.specs.Check.{mostRecords, mostPrompts, kindFalls, contractFalls, dayNotAbove, tierFalls, sameLeg, withItself}
+use Rattle.account.specs.Check.{mostRecords, mostPrompts, kindFalls, numberNotAbove, contractFalls, dayNotAbove, tierFalls, sameLeg, withItself}
 use Rattle.account.specs.Conversions.{otherRow}
 use Rattle.account.specs.PartNumbers.{parts}
 use Rattle.account.specs.code.Notes.{partOf, oneMore, startNoted, noContract, beforeAt, faultAt}
@@ -45,6 +45,10 @@ onOneSide r i j = eqb (legSide r i) (legSide r j)
 abbrev pub legsMeet : Record → Bool
 legsMeet r =
     sameLeg r 0 1 || (sameLeg r 0 2 || (sameLeg r 1 2 || (onOneSide r 0 1 && (twoLegs r || onOneSide r 1 2))))
+
+-- a contract's own record that passes, after whichever record
+abbrev pub contractPasses : Record → Record → Bool
+contractPasses before r = not (kindFalls before r || numberNotAbove before r) && soundRecord 1 (contract r) r
 
 -- a record that passes after one of its kind and contract
 abbrev pub promptPasses : ℕ → Record → Record → Bool
@@ -109,7 +113,6 @@ pub record Runs (file first counts : List ℕ) (k next : ℕ) : Type 0 where
   pub low : k ≤ next
   pub high : next ≤ recordCount file
   pub fine : k < next → faultAt file first counts k ≡ 0
-  pub other : k < next → ofKind 1 (recordAt file k) ≡ false
   pub later : k < next
       → Passes file (startNoted first counts (partAtRecord file k) k) (oneMore counts (partAtRecord file k)) k next
 

@@ -72,7 +72,8 @@ returns-2 c =
     let after-if1 = after-rates-answer .before .before .before in
     let after-record-count = after-if1 .before .before in
     let t = noted after-if1 .note-file in
-    subst (λ (bytes : List ℕ). CheckedBy bytes (record { answer = after-rates-answer .rates-answer .result; account = c .in-one-file2 .result })) (taken after-if1 .anew .ensures)
+    subst (λ (bytes : List ℕ). CheckedBy bytes (record { answer = after-rates-answer .rates-answer .result; account = c .in-one-file2 .result }))
+    (taken after-if1 .anew .ensures)
     (checked-noted (file after-if1) (t .result .contracts) (t .last .1 .0) (t .last .1 .1 .0) (tallied after-if1)
     (after-record-count .record-count .result) (c .in-one-file2 .result) (after-record-count .record-count .ensures) (c .in-one-file2 .ensures)
     (after-rates-answer .rates-answer .result) (after-rates-answer .rates-answer .ensures))

@@ -20,6 +20,12 @@ note-to-requires c κs =
     let some = c .before .before .if1 .taken in
     (start .pre, (runs .fine some, (some, runs .high)))
 
+whole-at-requires : tie.Need-whole-at-requires
+whole-at-requires c κs = search needs
+
+one-if-contract-requires : tie.Need-one-if-contract-requires
+one-if-contract-requires c κs = search needs
+
 same-length : tie.Need-same-length
 same-length c = search needs
 
@@ -28,9 +34,10 @@ same-length-2 c = search needs
 
 returns : tie.Need-returns
 returns c =
-    let after-note-to = c .before .before .before .before in
+    let after-note-to = c .before .before .before .before .before .before in
     let after-if1 = after-note-to .before .before .before in
     step-runs (after-if1 .before .passes-from .ensures) (after-if1 .if1 .taken) (after-note-to .note-to .ensures)
+    (c .one-if-contract .ensures) (c .before .whole-at .ensures)
 
 fault-at-requires : tie.Need-fault-at-requires
 fault-at-requires c κs = search needs
@@ -54,14 +61,14 @@ note-to-requires-2 c κs =
     let pre = start .pre in
     (pre, (sym (after-fault-at .fault-at .ensures) ∙ c .before .before .if2 .left, (omega arith, omega (arith, pre .inside))))
 
-add-t26 : tie.Need-add-t26
-add-t26 c = search needs
+add-t28 : tie.Need-add-t28
+add-t28 c = search needs
 
-whole-at-requires : tie.Need-whole-at-requires
-whole-at-requires c κs = search needs
+whole-at-requires-2 : tie.Need-whole-at-requires-2
+whole-at-requires-2 c κs = search needs
 
-one-if-contract-requires : tie.Need-one-if-contract-requires
-one-if-contract-requires c κs = search needs
+one-if-contract-requires-2 : tie.Need-one-if-contract-requires-2
+one-if-contract-requires-2 c κs = search needs
 
 same-length-5 : tie.Need-same-length-5
 same-length-5 c = search needs
@@ -75,7 +82,7 @@ returns-3 c =
     let after-if2 = after-note-to2 .before .before .before in
     let start = after-if2 .before .before .before .before .before .before .before .before .before .before .before in
     step-alone (after-if2 .before .fault-at .ensures) (after-if2 .if2 .left) (start .pre .inside) (after-note-to2 .note-to2 .ensures)
-    (c .one-if-contract .ensures) (c .before .whole-at .ensures)
+    (c .one-if-contract2 .ensures) (c .before .whole-at2 .ensures)
 
 pub go-on-spec : {M : Type 1} → statement M
 go-on-spec =
@@ -83,6 +90,8 @@ go-on-spec =
     (tie.spec
     passes-from-requires
     note-to-requires
+    whole-at-requires
+    one-if-contract-requires
     same-length
     same-length-2
     returns
@@ -92,9 +101,9 @@ go-on-spec =
     returns-2
     add-note-to
     note-to-requires-2
-    add-t26
-    whole-at-requires
-    one-if-contract-requires
+    add-t28
+    whole-at-requires-2
+    one-if-contract-requires-2
     same-length-5
     same-length-6
     returns-3)

@@ -24,7 +24,7 @@ use Rattle.formulas.proofs.line.line_in.Tie as tie
 
 scanned-requires : tie.Need-scanned-requires
 scanned-requires c κs =
-    let s = c .before .before .before .before in
+    let s = c .before .before .before in
     let w = s .pre .0 in
     totals-room (w .rates) (s .args .own .now) (records (s .args .prompts .now)) (w .rows) (records (s .args .spreads .now)) (w .fit) _ (w .is) (w .most)
 
@@ -43,7 +43,7 @@ book-is c =
 
 charges-of-requires : tie.Need-charges-of-requires
 charges-of-requires c κs =
-    let s = c .before .before .before .before .before .before in
+    let s = c .before .before .before .before .before in
     let w = s .pre .0 in
     let u = c .unit in
     let is = book-is s in
@@ -63,13 +63,13 @@ short-option-rate-requires c κs = search needs
 
 short-option-minimum-requires : tie.Need-short-option-minimum-requires
 short-option-minimum-requires c κs =
-    let start = c .before .before .before .before .before .before .before .before in
+    let start = c .before .before .before .before .before .before .before in
     let w = start .pre .0 in
     (omega (arith, w .most .shorts-most), omega (arith, w .fit .rate, c .short-option-rate .ensures .0))
 
 net-in-requires : tie.Need-net-in-requires
 net-in-requires c κs =
-    let s = c .before .before .before .before .before .before .before .before .before in
+    let s = c .before .before .before .before .before .before .before .before in
     let w = s .pre .0 in
     subst (λ (zs : List ℤ). (length zs ≡ promptPlaces) × (sum (map natAbs zs) ≤ mostDelta)) (deltas-again (s .args .nets .now)) (
       w .most .nets-most .as-many,
@@ -87,7 +87,7 @@ returns c =
     let after-charges-of = after-short-option-rate .before in
     let after-unit = after-charges-of .before in
     let after-scanned = after-unit .before in
-    let s = after-scanned .before .before .before .before .before in
+    let s = after-scanned .before .before .before .before in
     let w = s .pre .0 in
     let own = s .args .own .now in
     let prompts = records (s .args .prompts .now) in

@@ -19,26 +19,28 @@ total-of-requires-2 : tie.Need-total-of-requires-2
 total-of-requires-2 c κs = search needs
 
 -- the two totals at entry, and the size of their sum
-sum-within : (c : tie.Start) → natAbs (totalOf (c .args .totals) (c .args .one) +ℤ totalOf (c .args .totals) (c .args .other)) ≤ 2 * mostRisk
+sum-within : (c : tie.Start) → natAbs (totalOf (c .args .totals .now) (c .args .one) +ℤ totalOf (c .args .totals .now) (c .args .other)) ≤ 2 * mostRisk
 sum-within c =
     let h = c .pre .each (c .args .one) in
     let k = c .pre .each (c .args .other) in
-    let s = abs-add (totalOf (c .args .totals) (c .args .one)) (totalOf (c .args .totals) (c .args .other)) in
+    let s = abs-add (totalOf (c .args .totals .now) (c .args .one)) (totalOf (c .args .totals .now) (c .args .other)) in
     omega arith
 
 plus-requires : tie.Need-plus-requires
 plus-requires c κs =
-    let s = c .before .before in
+    let one = c .before .before .total-of in
+    let s = c .before .before .before .before in
     let h = sum-within s in
-    op-fits _+ℤ_ (c .before .total-of .result) (c .total-of2 .result) (totalOf (s .args .totals) (s .args .one)) (totalOf (s .args .totals) (s .args .other))
-    (c .before .total-of .ok) (c .total-of2 .ok) (c .before .total-of .ensures) (c .total-of2 .ensures) (omega arith)
+    op-fits _+ℤ_ (one .result) (c .total-of2 .result) (totalOf (s .args .totals .now) (s .args .one)) (totalOf (s .args .totals .now) (s .args .other))
+    (one .ok) (c .total-of2 .ok) (one .ensures) (c .total-of2 .ensures) (omega arith)
 
 returns : tie.Need-returns
 returns c =
-    let s = c .before .before .before in
-    let e = op-is _+ℤ_ (c .before .before .total-of .result) (c .before .total-of2 .result) (totalOf (s .args .totals) (s .args .one))
-    (totalOf (s .args .totals) (s .args .other))
-    (c .before .before .total-of .ok) (c .before .total-of2 .ok) (c .before .before .total-of .ensures) (c .before .total-of2 .ensures)
+    let one = c .before .before .before .total-of in
+    let s = c .before .before .before .before .before in
+    let e = op-is _+ℤ_ (one .result) (c .before .total-of2 .result) (totalOf (s .args .totals .now) (s .args .one))
+    (totalOf (s .args .totals .now) (s .args .other))
+    (one .ok) (c .before .total-of2 .ok) (one .ensures) (c .before .total-of2 .ensures)
     (c .plus .result) (c .plus .ok) (c .plus .ensures)
     in
     (e, subst⁻¹ (λ (z : ℤ). natAbs z ≤ 2 * mostRisk) e (sum-within s))

@@ -26,19 +26,19 @@ twice-price-risk-requires c κs = search needs
 returns : tie.Need-returns
 returns c =
     let after-largest = c .before .before .before in
-    let s = after-largest .before in
+    let s = after-largest .before .before in
     let l = after-largest .largest in
-    let r : c .before .or-zero .result ≡ scanningRisk (s .args .totals) =
+    let r : c .before .or-zero .result ≡ scanningRisk (s .args .totals .now) =
     seen orZero (l .result .value) (record { sfits = c .before .before .struct-told .given .0 .1 }) (c .before .or-zero .ensures)
     ∙ ap orZero (l .ensures .value-is)
     in
     record {
       active-is = l .ensures .number-is;
       scanning-is = r;
-      price-is = c .twice-price-risk .ensures .0 ∙ ap (twicePriceRiskAt (s .args .totals)) (l .ensures .number-is);
+      price-is = c .twice-price-risk .ensures .0 ∙ ap (twicePriceRiskAt (s .args .totals .now)) (l .ensures .number-is);
       scanning-within =
           subst⁻¹ (λ (n : ℕ). n ≤ mostRisk) r
-          (le-trans (or-zero-abs (largest (s .args .totals))) (total-within (s .args .totals) (s .pre)));
+          (le-trans (or-zero-abs (largest (s .args .totals .now))) (total-within (s .args .totals .now) (s .pre)));
       price-within = c .twice-price-risk .ensures .1;
     }
 

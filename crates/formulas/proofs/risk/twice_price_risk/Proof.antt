@@ -26,15 +26,15 @@ both-requires-2 c κs = search needs
 
 -- the sums of the active and the paired total, and of the totals 1 and 2
 paired : (c : tie.Start) → ℤ
-paired c = totalOf (c .args .totals) (c .args .active) +ℤ totalOf (c .args .totals) (pairOf (c .args .active))
+paired c = totalOf (c .args .totals .now) (c .args .active) +ℤ totalOf (c .args .totals .now) (pairOf (c .args .active))
 
 still : (c : tie.Start) → ℤ
-still c = totalOf (c .args .totals) 1 +ℤ totalOf (c .args .totals) 2
+still c = totalOf (c .args .totals .now) 1 +ℤ totalOf (c .args .totals .now) 2
 
 paired-is : (c : tie.After-both) → c .both .result ≡ paired (c .before .before)
 unfolding paired
 paired-is c = let s = c .before .before in c .both .ensures .0
-    ∙ ap (λ (p : ℕ). totalOf (s .args .totals) (s .args .active) +ℤ totalOf (s .args .totals) p) (c .before .pair-of .ensures)
+    ∙ ap (λ (p : ℕ). totalOf (s .args .totals .now) (s .args .active) +ℤ totalOf (s .args .totals .now) p) (c .before .pair-of .ensures)
 
 abbrev start-of : tie.After-both2 → tie.Start
 start-of c =

@@ -6,6 +6,7 @@ use Prim.Native.Nat.{_+_, _*_}
 use native.Mathlib.Omega.{arith}
 use borrow.Author.Needs.{needs}
 use lib.ListN.{length}
+use Rattle.account.specs.code.Lent.{accountIn}
 use Rattle.account.specs.Joined.{accountOf}
 use Rattle.account.specs.Records.{records, recordCount}
 use Rattle.account.specs.declared.answers.Answer.the-variants.{TooFewNumbers}
@@ -38,7 +39,7 @@ contract-count-requires c κs =
     let at = c .before .before in
     let s = at .before .before .before in
     let st = s .pre .0 in
-    let j = s .args .account in
+    let j = accountIn (s .args .account .now) in
     let n = s .args .c in
     let h = s .pre .1 .0 in
     let w = at .whereabouts-of .ensures in
@@ -56,7 +57,7 @@ many c =
     let at = c .before .before in
     let s = at .before .before .before in
     let st = s .pre .0 in
-    let j = s .args .account in
+    let j = accountIn (s .args .account .now) in
     let n = s .args .c in
     let h = s .pre .1 .0 in
     let w = at .whereabouts-of .ensures in
@@ -91,7 +92,7 @@ put-net-deltas-requires c κs =
     let s = at .before .before .before in
     let a = accountOf (s .args .morning .now) (s .args .noon .now) in
     let st = s .pre .0 in
-    let j = s .args .account in
+    let j = accountIn (s .args .account .now) in
     let n = s .args .c in
     let h = s .pre .1 .0 in
     let w = at .whereabouts-of .ensures in
@@ -121,7 +122,7 @@ room c =
     let at = after-prompts .before in
     let s = at .before .before .before in
     let st = s .pre .0 in
-    let j = s .args .account in
+    let j = accountIn (s .args .account .now) in
     let n = s .args .c in
     let h = s .pre .1 .0 in
     let w = at .whereabouts-of .ensures in
@@ -145,7 +146,7 @@ is-book c =
     let at = after-prompts .before in
     let s = at .before .before .before in
     let st = s .pre .0 in
-    let j = s .args .account in
+    let j = accountIn (s .args .account .now) in
     let n = s .args .c in
     let h = s .pre .1 .0 in
     let w = at .whereabouts-of .ensures in

@@ -1,86 +1,26 @@
--- Each question is answered by its own function.
+-- The account is lent, and stands as it stood.
 -- Assumes nothing.
-use mathlib.Core.Path.{_≡_, subst⁻¹}
-use mathlib.Core.List.{List}
+use mathlib.Core.Path.{subst⁻¹}
+use Rattle.account.specs.code.Standing.{Stands}
+use Rattle.account.specs.declared.accounts.Account.{Account}
 use borrow.Author.Needs.{needs}
-use lib.IntN.{ℤ}
-use lib.ListN.{length}
-use Rattle.record.specs.Layout.{Record}
-use Rattle.account.specs.declared.answers.Answer.{Answer}
-use Rattle.margin.specs.Questions.{answerOver, afterOver}
-use Rattle.margin.specs.declared.asking.Question.{Question}
 use Rattle.margin.proofs.asking.answer_from.Statement.{statement}
 use Rattle.margin.proofs.asking.answer_from.Tie as tie
 
--- the same question by another name
-answered : (account : List Record) (a : Answer) (left lent : List ℤ) (q q′ : Question) → q ≡ q′ → (a ≡ answerOver account q′ (length lent))
-    × (left ≡ afterOver account q′ lent)
-    → (a ≡ answerOver account q (length lent)) × (left ≡ afterOver account q lent)
-answered account a left lent q q′ e = subst⁻¹ (λ (x : Question). (a ≡ answerOver account x (length lent)) × (left ≡ afterOver account x lent)) e
+lend-requires : tie.Need-lend-requires
+lend-requires c κs = search needs
 
-enum-told : tie.Need-enum-told
-enum-told c = search needs
-
-figures-answer-requires : tie.Need-figures-answer-requires
-figures-answer-requires c κs = search needs
-
-enum-known-question : tie.Need-enum-known-question
-enum-known-question c = search needs
-
-question-answer-requires : tie.Need-question-answer-requires
-question-answer-requires c κs = search needs
-
-enum-known-question-2 : tie.Need-enum-known-question-2
-enum-known-question-2 c = search needs
-
-question-answer-requires-2 : tie.Need-question-answer-requires-2
-question-answer-requires-2 c κs = search needs
+answer-lent-from-requires : tie.Need-answer-lent-from-requires
+answer-lent-from-requires c κs =
+    let after-lend = c .before .before in
+    let s = after-lend .before .before .before .before in
+    (subst⁻¹ (λ (a : Account). Stands (s .args .morning .now) (s .args .noon .now) a) (after-lend .lend .ensures) (s .pre .0), s .pre .1)
 
 same-length : tie.Need-same-length
 same-length c = search needs
 
 returns : tie.Need-returns
-returns c =
-    let after-enum-told = c .before .before .before in
-    let s = after-enum-told .before .before .before .before in
-    let r = c .before .figures-answer in
-    λ whole t. answered whole (r .result) (r .last .1 .1 .1 .1 .0) (s .args .out .now) _ _ (after-enum-told .enum-told .given .1) (r .ensures whole t)
-
-same-length-2 : tie.Need-same-length-2
-same-length-2 c = search needs
-
-returns-2 : tie.Need-returns-2
-returns-2 c =
-    let after-question = c .before .before .before .before in
-    let s = after-question .before .before .before .before in
-    let r = c .before .question-answer in
-    λ whole t. answered whole (r .result) (r .last .1 .1 .1 .1 .1 .1 .0) (s .args .out .now) _ _
-    (after-question .question .given .1) (r .ensures whole t)
-
-same-length-3 : tie.Need-same-length-3
-same-length-3 c = search needs
-
-returns-3 : tie.Need-returns-3
-returns-3 c =
-    let after-question2 = c .before .before .before .before in
-    let s = after-question2 .before .before .before .before in
-    let r = c .before .question-answer2 in
-    λ whole t. answered whole (r .result) (r .last .1 .1 .1 .1 .1 .1 .0) (s .args .out .now) _ _
-    (after-question2 .question2 .given .1) (r .ensures whole t)
+returns c = search needs
 
 pub answer-from-spec : {M : Type 1} → statement M
-answer-from-spec =
-    tie.close
-    (tie.spec
-    enum-told
-    figures-answer-requires
-    enum-known-question
-    question-answer-requires
-    enum-known-question-2
-    question-answer-requires-2
-    same-length
-    returns
-    same-length-2
-    returns-2
-    same-length-3
-    returns-3)
+answer-from-spec = tie.close (tie.spec lend-requires answer-lent-from-requires same-length returns)

@@ -7,6 +7,7 @@ use borrow.Author.Needs.{needs}
 use borrow.Author.Tests.{not-true, not-false, eqb-false}
 use lib.Dec.{eqb}
 use lib.ListN.{length}
+use Rattle.account.specs.code.Lent.{accountIn}
 use Rattle.account.specs.Joined.{accountOf}
 use Rattle.account.specs.declared.answers.Answer.the-variants.{NoSuchQuestion}
 use Rattle.spread.proofs.Both.{and-left, and-right}
@@ -33,7 +34,7 @@ asked : (c : tie.After-is-asked) →
     answered (accountOf (s .args .morning .now) (s .args .noon .now)) (s .args .question) ≡ c .is-asked .result
 asked c =
     let s = start-of c in
-    sym (c .is-asked .ensures ∙ asked-is (accountOf (s .args .morning .now) (s .args .noon .now)) (s .pre .lawful) (s .args .account .counts)
+    sym (c .is-asked .ensures ∙ asked-is (accountOf (s .args .morning .now) (s .args .noon .now)) (s .pre .lawful) (accountIn (s .args .account .now) .counts)
     (s .pre .places .counts) (s .args .question))
 
 record-total-requires : tie.Need-record-total-requires

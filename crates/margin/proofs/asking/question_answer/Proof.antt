@@ -5,6 +5,7 @@ use native.Mathlib.Omega.{arith}
 use borrow.Author.Needs.{needs}
 use borrow.Author.Tests.{not-true, not-false}
 use lib.ListN.{length}
+use Rattle.account.specs.code.Lent.{accountIn}
 use Rattle.account.specs.Joined.{accountOf}
 use Rattle.account.specs.declared.answers.Answer.the-variants.{NoSuchQuestion}
 use Rattle.margin.specs.Books.{answered}
@@ -31,8 +32,8 @@ asked : (c : tie.After-is-asked) →
     answered (accountOf (s .args .morning .now) (s .args .noon .now)) (s .args .question) ≡ c .is-asked .result
 asked c =
     let s = start-of c in
-    sym (c .is-asked .ensures ∙ asked-is (accountOf (s .args .morning .now) (s .args .noon .now)) (s .pre .0 .lawful) (s .args .account .counts)
-    (s .pre .0 .places .counts) (s .args .question))
+    sym (c .is-asked .ensures ∙ asked-is (accountOf (s .args .morning .now) (s .args .noon .now)) (s .pre .0 .lawful)
+    (accountIn (s .args .account .now) .counts) (s .pre .0 .places .counts) (s .args .question))
 
 returns : tie.Need-returns
 returns c =

@@ -5,6 +5,7 @@ use Prim.Native.Nat.{_≤_}
 use native.Mathlib.Omega.{arith}
 use borrow.Author.Needs.{needs}
 use Rattle.record.specs.Layout.{mostContract}
+use Rattle.account.specs.code.Lent.{accountIn}
 use Rattle.account.specs.Joined.{accountOf}
 use Rattle.margin.specs.code.Asked.{SizesOf}
 use Rattle.margin.proofs.AskedLaws.{asked-small}
@@ -23,7 +24,8 @@ returns c =
     let s = c .before .before .before .before .before in
     subst₂ (SizesOf (accountOf (s .args .morning .now) (s .args .noon .now)) (s .args .question)) (sym (c .before .contract-total .ensures))
     (sym (c .part-total .ensures))
-    (table-sizes (s .args .morning .now) (s .args .noon .now) (s .args .account) (s .pre .0) (s .args .question) (s .pre .1) (c .before .before .if1 .taken))
+    (table-sizes (s .args .morning .now) (s .args .noon .now) (accountIn (s .args .account .now)) (s .pre .0) (s .args .question) (s .pre .1)
+    (c .before .before .if1 .taken))
 
 abbrev start-of : tie.Else1 → tie.Start
 start-of c =
@@ -53,7 +55,8 @@ returns-2 c =
     let s = start-of (c .before .before) in
     subst₂ (SizesOf (accountOf (s .args .morning .now) (s .args .noon .now)) (s .args .question)) (sym (c .before .part-total2 .ensures))
     (sym (c .part-total3 .ensures))
-    (contract-sizes (s .args .morning .now) (s .args .noon .now) (s .args .account) (s .pre .0) (s .args .question) (s .pre .1) (c .before .before .if1 .left))
+    (contract-sizes (s .args .morning .now) (s .args .noon .now) (accountIn (s .args .account .now)) (s .pre .0) (s .args .question) (s .pre .1)
+    (c .before .before .if1 .left))
 
 pub sizes-over-spec : {M : Type 1} → statement M
 sizes-over-spec =

@@ -5,6 +5,7 @@ use mathlib.Core.List.{List}
 use borrow.Author.Needs.{needs}
 use Rattle.record.specs.Layout.{Record}
 use Rattle.account.specs.Records.{records}
+use Rattle.account.specs.code.Lent.{accountIn}
 use Rattle.account.specs.Joined.{accountOf}
 use Rattle.formulas.specs.code.Position.{positionIn}
 use Rattle.formulas.specs.code.Promised.{LineOf, PositionFit, contractWith}
@@ -54,7 +55,7 @@ contract-in-requires c κs =
     let s = at .before .before .before in
     let a = accountOf (s .args .morning .now) (s .args .noon .now) in
     let st = s .pre .0 in
-    let j = s .args .account in
+    let j = accountIn (s .args .account .now) in
     let n = s .args .c in
     let h = s .pre .1 .0 in
     let w = at .whereabouts-of .ensures in
@@ -86,7 +87,7 @@ returns c =
     let s = at .before .before .before in
     let a = accountOf (s .args .morning .now) (s .args .noon .now) in
     let st = s .pre .0 in
-    let j = s .args .account in
+    let j = accountIn (s .args .account .now) in
     let n = s .args .c in
     let h = s .pre .1 .0 in
     let w = at .whereabouts-of .ensures in

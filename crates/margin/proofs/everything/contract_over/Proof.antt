@@ -11,6 +11,7 @@ use lib.ListN.{getD}
 use Rattle.record.specs.Layout.{contract, mostContract}
 use Rattle.account.specs.Parts.{contractsOf, ratesOf}
 use Rattle.account.specs.Records.{records}
+use Rattle.account.specs.code.Lent.{accountIn}
 use Rattle.account.specs.Joined.{accountOf}
 use Rattle.formulas.specs.code.Position.{positionIn}
 use Rattle.margin.specs.Places.{lentPlace, questionOf, widthOf}
@@ -30,7 +31,7 @@ number : (c : tie.After-contract-number) →
     c .contract-number .result ≡ contract (getD (contractsOf (accountOf (s .args .morning .now) (s .args .noon .now))) (s .args .i) [])
 number c =
     let s = c .before .before .before in
-    number-at (s .args .morning .now) (s .args .noon .now) (s .args .account) (s .pre .0)
+    number-at (s .args .morning .now) (s .args .noon .now) (accountIn (s .args .account .now)) (s .pre .0)
     (s .args .i) (s .pre .1 .0) (c .contract-number .result) (c .contract-number .ensures)
 
 small : (c : tie.After-contract-number) → c .contract-number .result ≤ mostContract
@@ -38,7 +39,7 @@ small c =
     let s = c .before .before .before in
     let m = s .args .morning .now in
     let n = s .args .noon .now in
-    let h = listed-at m n (s .args .account) (s .pre .0) (s .args .i) (s .pre .1 .0) in
+    let h = listed-at m n (accountIn (s .args .account .now)) (s .pre .0) (s .args .i) (s .pre .1 .0) in
     omega (arith, number c, own-number (accountOf m n) (s .pre .0 .lawful) (s .args .i) h)
 
 whereabouts-of-requires : tie.Need-whereabouts-of-requires
@@ -68,7 +69,7 @@ put-position-requires c κs =
     let k = at .before in
     let s = k .before .before .before in
     let st = s .pre .0 in
-    let j = s .args .account in
+    let j = accountIn (s .args .account .now) in
     let n = k .contract-number .result in
     let w = at .whereabouts-of .ensures in
     let rs = after-rows .rows-part in
@@ -96,7 +97,7 @@ contract-in-requires c κs =
     let s = k .before .before .before in
     let a = accountOf (s .args .morning .now) (s .args .noon .now) in
     let st = s .pre .0 in
-    let j = s .args .account in
+    let j = accountIn (s .args .account .now) in
     let n = k .contract-number .result in
     let w = at .whereabouts-of .ensures in
     let r = after-position .put-position in
@@ -133,7 +134,7 @@ returns c =
     let s = k .before .before .before in
     let a = accountOf (s .args .morning .now) (s .args .noon .now) in
     let st = s .pre .0 in
-    let j = s .args .account in
+    let j = accountIn (s .args .account .now) in
     let n = k .contract-number .result in
     let w = at .whereabouts-of .ensures in
     let r = after-position .put-position in

@@ -1,22 +1,20 @@
--- What is answered goes by how many numbers are lent.
+-- The account is lent, and stands as it stood.
 -- Assumes nothing.
-use mathlib.Core.Path.{ap}
-use native.Mathlib.Omega.{arith}
-use lib.ListN.{length}
-use Rattle.margin.proofs.QuestionLaws.{figures-length}
-use Rattle.margin.proofs.WalkedLaws.{answered-everything}
+use mathlib.Core.Path.{subst⁻¹}
+use Rattle.account.specs.code.Standing.{Stands}
+use Rattle.account.specs.declared.accounts.Account.{Account}
 use borrow.Author.Needs.{needs}
 use Rattle.margin.proofs.everything.everything_from.Statement.{statement}
 use Rattle.margin.proofs.everything.everything_from.Tie as tie
 
-figures-count-requires : tie.Need-figures-count-requires
-figures-count-requires c κs = search needs
+lend-requires : tie.Need-lend-requires
+lend-requires c κs = search needs
 
-lent-answers-requires : tie.Need-lent-answers-requires
-lent-answers-requires c κs = search needs
-
-lend-from-requires : tie.Need-lend-from-requires
-lend-from-requires c κs = search needs
+everything-lent-from-requires : tie.Need-everything-lent-from-requires
+everything-lent-from-requires c κs =
+    let after-lend = c .before .before .before .before in
+    let s = after-lend .before .before .before .before in
+    (subst⁻¹ (λ (a : Account). Stands (s .args .morning .now) (s .args .noon .now) a) (after-lend .lend .ensures) (s .pre .0), s .pre .1)
 
 same-length : tie.Need-same-length
 same-length c = search needs
@@ -28,23 +26,14 @@ same-length-3 : tie.Need-same-length-3
 same-length-3 c = search needs
 
 returns : tie.Need-returns
-returns c =
-    let after-lend = c .before .before .before in
-    let after-answers = after-lend .before .before .before .before in
-    let after-count = after-answers .before in
-    let s = after-count .before .before .before in
-    λ whole t.
-    answered-everything (t .positions .records-are)
-    (omega (arith, figures-length whole, ap length (t .beside .contracts), s .pre .0 .places .contracts, after-count .figures-count .ensures))
-    (after-answers .lent-answers .ensures) (after-lend .lend-from .ensures whole t)
+returns c = search needs
 
 pub everything-from-spec : {M : Type 1} → statement M
 everything-from-spec =
     tie.close
     (tie.spec
-    figures-count-requires
-    lent-answers-requires
-    lend-from-requires
+    lend-requires
+    everything-lent-from-requires
     same-length
     same-length-2
     same-length-3

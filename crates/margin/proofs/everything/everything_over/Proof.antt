@@ -1,25 +1,20 @@
--- What is answered goes by how many numbers are lent.
+-- The account is lent, and stands as it stood.
 -- Assumes nothing.
-use mathlib.Core.Path.{_∙_}
-use native.Mathlib.Omega.{arith}
-use Rattle.account.specs.Joined.{accountOf}
-use Rattle.margin.proofs.QuestionLaws.{figures-length}
-use Rattle.margin.proofs.WalkedLaws.{answered-everything}
+use mathlib.Core.Path.{subst⁻¹}
+use Rattle.account.specs.code.Standing.{Stands}
+use Rattle.account.specs.declared.accounts.Account.{Account}
 use borrow.Author.Needs.{needs}
 use Rattle.margin.proofs.everything.everything_over.Statement.{statement}
 use Rattle.margin.proofs.everything.everything_over.Tie as tie
 
-record-total-requires : tie.Need-record-total-requires
-record-total-requires c κs = search needs
+lend-requires : tie.Need-lend-requires
+lend-requires c κs = search needs
 
-figures-count-requires : tie.Need-figures-count-requires
-figures-count-requires c κs = search needs
-
-lent-answers-requires : tie.Need-lent-answers-requires
-lent-answers-requires c κs = search needs
-
-lend-over-requires : tie.Need-lend-over-requires
-lend-over-requires c κs = search needs
+everything-lent-requires : tie.Need-everything-lent-requires
+everything-lent-requires c κs =
+    let after-lend = c .before .before .before .before in
+    let s = after-lend .before .before .before .before in
+    subst⁻¹ (λ (a : Account). Stands (s .args .morning .now) (s .args .noon .now) a) (after-lend .lend .ensures) (s .pre)
 
 same-length : tie.Need-same-length
 same-length c = search needs
@@ -31,25 +26,14 @@ same-length-3 : tie.Need-same-length-3
 same-length-3 c = search needs
 
 returns : tie.Need-returns
-returns c =
-    let after-lend = c .before .before .before in
-    let after-answers = after-lend .before .before .before .before in
-    let after-count = after-answers .before in
-    let after-records = after-count .before in
-    let s = after-records .before .before .before in
-    let a = accountOf (s .args .morning .now) (s .args .noon .now) in
-    answered-everything (after-records .record-total .ensures ∙ s .pre .places .all)
-    (omega (arith, figures-length a, s .pre .places .contracts, after-count .figures-count .ensures)) (after-answers .lent-answers .ensures)
-    (after-lend .lend-over .ensures)
+returns c = search needs
 
 pub everything-over-spec : {M : Type 1} → statement M
 everything-over-spec =
     tie.close
     (tie.spec
-    record-total-requires
-    figures-count-requires
-    lent-answers-requires
-    lend-over-requires
+    lend-requires
+    everything-lent-requires
     same-length
     same-length-2
     same-length-3

@@ -3,6 +3,7 @@
 use mathlib.Core.Path.{ap}
 use native.Mathlib.Omega.{arith}
 use lib.ListN.{length}
+use Rattle.account.specs.code.Lent.{accountIn}
 use Rattle.margin.proofs.QuestionLaws.{figures-length}
 use Rattle.margin.proofs.StandLaws.{few-contracts}
 use Rattle.margin.proofs.WalkedLaws.{unlent-everything}
@@ -37,7 +38,7 @@ slice-aggregate-put-from c = search needs
 put-from-requires-2 : tie.Need-put-from-requires-2
 put-from-requires-2 c κs =
     let s = c .before .before .before .before .before .before .before in
-    let few = few-contracts (s .args .morning .now) (s .args .noon .now) (s .args .account) (s .pre .0) in
+    let few = few-contracts (s .args .morning .now) (s .args .noon .now) (accountIn (s .args .account .now)) (s .pre .0) in
     (s .pre .0, (s .pre .1, omega (arith, few)))
 
 same-length-4 : tie.Need-same-length-4

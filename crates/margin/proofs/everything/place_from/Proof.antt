@@ -10,6 +10,7 @@ use lib.IntN.{ℤ}
 use lib.ListN.{length, getD, length-map}
 use Rattle.record.specs.Layout.{Record, contract, mostContract}
 use Rattle.account.specs.Check.{mostContracts}
+use Rattle.account.specs.code.Lent.{accountIn}
 use Rattle.account.specs.Joined.{accountOf}
 use Rattle.account.specs.Parts.{contractsOf}
 use Rattle.margin.specs.Places.{lentPlace, questionOf, widthOf}
@@ -51,7 +52,7 @@ counted c whole b =
 few : (c : tie.After-contract-total Inv-loop μ-loop) → c .contract-total .result ≤ mostContracts
 few c =
     let s = at-start c in
-    omega (arith, c .contract-total .ensures, few-contracts (s .args .morning .now) (s .args .noon .now) (s .args .account) (s .pre .0))
+    omega (arith, c .contract-total .ensures, few-contracts (s .args .morning .now) (s .args .noon .now) (accountIn (s .args .account .now)) (s .pre .0))
 
 -- what is known of one of the accounts when a turn begins
 known : (c : tie.At-loop Inv-loop μ-loop) →
@@ -76,7 +77,7 @@ at-total c =
     let after-total = c .before .before .before in
     after-total
 
-within : (c : tie.After-contract-number Inv-loop μ-loop) → c .before .before .loop .i < at-start (at-total c) .args .account .contracts
+within : (c : tie.After-contract-number Inv-loop μ-loop) → c .before .before .loop .i < accountIn (at-start (at-total c) .args .account .now) .contracts
 within c = omega (arith, c .before .loop-test .taken, at-total c .contract-total .ensures)
 
 number : (c : tie.After-contract-number Inv-loop μ-loop) →
@@ -84,7 +85,7 @@ number : (c : tie.After-contract-number Inv-loop μ-loop) →
     c .contract-number .result ≡ contract (getD (contractsOf (accountOf (s .args .morning .now) (s .args .noon .now))) (c .before .before .loop .i) [])
 number c =
     let s = at-start (at-total c) in
-    number-at (s .args .morning .now) (s .args .noon .now) (s .args .account) (s .pre .0) (c .before .before .loop .i) (within c)
+    number-at (s .args .morning .now) (s .args .noon .now) (accountIn (s .args .account .now)) (s .pre .0) (c .before .before .loop .i) (within c)
     (c .contract-number .result) (c .contract-number .ensures)
 
 small : (c : tie.After-contract-number Inv-loop μ-loop) → c .contract-number .result ≤ mostContract
@@ -96,7 +97,7 @@ small c =
       arith,
       number c,
       own-number (accountOf m n) (s .pre .0 .lawful) (c .before .before .loop .i)
-          (listed-at m n (s .args .account) (s .pre .0) (c .before .before .loop .i) (within c)),
+          (listed-at m n (accountIn (s .args .account .now)) (s .pre .0) (c .before .before .loop .i) (within c)),
     )
 
 mul-contract-from : tie.Need-mul-contract-from Inv-loop μ-loop

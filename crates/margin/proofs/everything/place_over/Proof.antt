@@ -6,6 +6,7 @@ use native.Mathlib.Omega.{arith}
 use borrow.Author.Needs.{needs}
 use lib.ListN.{length, length-map}
 use Rattle.account.specs.Check.{mostContracts}
+use Rattle.account.specs.code.Lent.{accountIn}
 use Rattle.account.specs.Joined.{accountOf}
 use Rattle.account.specs.Parts.{contractsOf}
 use Rattle.margin.proofs.StandLaws.{few-contracts}
@@ -35,7 +36,7 @@ counted c =
 few : (c : tie.After-contract-total Inv-loop μ-loop) → c .contract-total .result ≤ mostContracts
 few c =
     let s = c .before .before .before in
-    omega (arith, c .contract-total .ensures, few-contracts (s .args .morning .now) (s .args .noon .now) (s .args .account) (s .pre .0))
+    omega (arith, c .contract-total .ensures, few-contracts (s .args .morning .now) (s .args .noon .now) (accountIn (s .args .account .now)) (s .pre .0))
 
 rates-over-requires : tie.Need-rates-over-requires Inv-loop μ-loop
 rates-over-requires c κs = search needs

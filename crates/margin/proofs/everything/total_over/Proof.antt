@@ -1,59 +1,23 @@
--- The total stands last in the figures.
+-- The account is lent, and stands as it stood.
 -- Assumes nothing.
-use mathlib.Core.Path.{_∙_}
-use Prim.Native.Nat.{_*_, _≤_}
-use native.Mathlib.Omega.{arith}
+use mathlib.Core.Path.{subst⁻¹}
+use Rattle.account.specs.code.Standing.{Stands}
+use Rattle.account.specs.declared.accounts.Account.{Account}
 use borrow.Author.Needs.{needs}
-use lib.IntN.{pos}
-use lib.ListN.{length, replicate}
-use Rattle.formulas.specs.Bounds.{figuresEach, longestFigures}
-use Rattle.account.specs.Joined.{accountOf}
-use Rattle.account.specs.Check.{mostContracts}
-use Rattle.margin.specs.Figures.{figures}
-use Rattle.margin.proofs.QuestionLaws.{figures-length, figures-front, total-last}
-use Rattle.margin.proofs.StandLaws.{few-contracts}
 use Rattle.margin.proofs.everything.total_over.Statement.{statement}
 use Rattle.margin.proofs.everything.total_over.Tie as tie
 
--- at most 16 contracts
-few : (s : tie.Start) → s .args .account .contracts ≤ mostContracts
-few s = few-contracts (s .args .morning .now) (s .args .noon .now) (s .args .account) (s .pre)
+lend-requires : tie.Need-lend-requires
+lend-requires c κs = search needs
 
-slice-aggregate-put-over : tie.Need-slice-aggregate-put-over
-slice-aggregate-put-over c = search needs
-
-slice-aggregate-put-over-2 : tie.Need-slice-aggregate-put-over-2
-slice-aggregate-put-over-2 c = search needs
-
-slice-aggregate-put-over-3 : tie.Need-slice-aggregate-put-over-3
-slice-aggregate-put-over-3 c = search needs
-
-put-over-requires : tie.Need-put-over-requires
-put-over-requires c κs = search needs
-
-total-in-requires : tie.Need-total-in-requires
-total-in-requires c κs =
-    let after-all = c .before .before .before .before in
-    few (after-all .before .before .before .before .before .before)
+total-lent-requires : tie.Need-total-lent-requires
+total-lent-requires c κs =
+    let after-lend = c .before in
+    let s = after-lend .before .before .before .before in
+    subst⁻¹ (λ (a : Account). Stands (s .args .morning .now) (s .args .noon .now) a) (after-lend .lend .ensures) (s .pre)
 
 returns : tie.Need-returns
-returns c =
-    let after-all = c .before .before .before .before .before in
-    let s = after-all .before .before .before .before .before .before in
-    let f = after-all .put-over in
-    let a = accountOf (s .args .morning .now) (s .args .noon .now) in
-    let some : length (figures a) ≤ longestFigures = omega (arith, few s, figures-length a, s .pre .places .contracts) in
-    c .total-in .ensures
-    ∙ total-last a (replicate longestFigures (pos 0)) (f .last .1 .1 .1 .0) (figuresEach * s .args .account .contracts)
-    (f .ensures .figures-after ∙ figures-front a (replicate longestFigures (pos 0)) some) some (omega (arith, s .pre .places .contracts))
+returns c = search needs
 
 pub total-over-spec : {M : Type 1} → statement M
-total-over-spec =
-    tie.close
-    (tie.spec
-    slice-aggregate-put-over
-    slice-aggregate-put-over-2
-    slice-aggregate-put-over-3
-    put-over-requires
-    total-in-requires
-    returns)
+total-over-spec = tie.close (tie.spec lend-requires total-lent-requires returns)

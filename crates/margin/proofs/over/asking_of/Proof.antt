@@ -4,6 +4,7 @@ use mathlib.Core.Path.{refl, subst}
 use mathlib.Core.List.{List, []}
 use borrow.Author.Needs.{needs}
 use Rattle.record.specs.Layout.{Record}
+use Rattle.account.specs.code.Lent.{accountIn}
 use Rattle.account.specs.Joined.{accountOf}
 use Rattle.account.specs.Parts.{rowsOf}
 use Rattle.formulas.specs.code.Position.{withNets}
@@ -33,7 +34,7 @@ contract-asking-requires c κs =
     let s = at .before .before .before in
     let a = accountOf (s .args .morning .now) (s .args .noon .now) in
     let st = s .pre .0 in
-    let j = s .args .account in
+    let j = accountIn (s .args .account .now) in
     let n = s .args .c in
     let h = s .pre .1 in
     let w = at .whereabouts-of .ensures in
@@ -57,7 +58,7 @@ returns c =
     let s = at .before .before .before in
     let a = accountOf (s .args .morning .now) (s .args .noon .now) in
     let st = s .pre .0 in
-    let j = s .args .account in
+    let j = accountIn (s .args .account .now) in
     let n = s .args .c in
     let h = s .pre .1 in
     let w = at .whereabouts-of .ensures in

@@ -4,6 +4,7 @@ use mathlib.Core.List.{List, []}
 use mathlib.Core.Path.{refl}
 use borrow.Author.Needs.{needs}
 use Rattle.record.specs.Layout.{Record}
+use Rattle.account.specs.code.Lent.{accountIn}
 use Rattle.account.specs.Joined.{accountOf}
 use Rattle.formulas.specs.Contract.{contractSteps, opensOf}
 use Rattle.formulas.specs.code.Promised.{BookFit, contractWith}
@@ -26,7 +27,7 @@ contract-asking-requires c κs =
     let at = c .before .before .before in
     let s = at .before .before .before in
     let st = s .pre .0 in
-    let j = s .args .account in
+    let j = accountIn (s .args .account .now) in
     let n = s .args .c in
     let h = s .pre .1 .0 in
     let w = at .whereabouts-of .ensures in
@@ -45,7 +46,7 @@ returns c =
     let at = c .before .before .before .before in
     let s = at .before .before .before in
     let st = s .pre .0 in
-    let j = s .args .account in
+    let j = accountIn (s .args .account .now) in
     let n = s .args .c in
     let h = s .pre .1 .0 in
     let w = at .whereabouts-of .ensures in

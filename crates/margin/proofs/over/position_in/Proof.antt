@@ -2,6 +2,7 @@
 -- Assumes nothing.
 use borrow.Author.Needs.{needs}
 use Rattle.account.specs.Parts.{ratesOf}
+use Rattle.account.specs.code.Lent.{accountIn}
 use Rattle.account.specs.Joined.{accountOf}
 use Rattle.margin.proofs.BesideLaws.{position-room, position-here}
 use Rattle.margin.proofs.over.position_in.Statement.{statement}
@@ -28,7 +29,7 @@ position-of-requires c κs =
     let at = after-own .before in
     let s = at .before .before .before in
     let st = s .pre .0 in
-    let j = s .args .account in
+    let j = accountIn (s .args .account .now) in
     let n = s .args .c in
     let h = s .pre .1 .0 in
     let w = at .whereabouts-of .ensures in
@@ -46,7 +47,7 @@ returns c =
     let s = at .before .before .before in
     let a = accountOf (s .args .morning .now) (s .args .noon .now) in
     let st = s .pre .0 in
-    let j = s .args .account in
+    let j = accountIn (s .args .account .now) in
     let n = s .args .c in
     let h = s .pre .1 .0 in
     let w = at .whereabouts-of .ensures in

@@ -9,6 +9,7 @@ use lib.Dec.{lit≤}
 use lib.ListN.{getD}
 use Rattle.record.specs.Layout.{Record, mostContract}
 use Rattle.account.specs.Parts.{contractsOf, rowsOf}
+use Rattle.account.specs.code.Lent.{accountIn}
 use Rattle.account.specs.Joined.{accountOf}
 use Rattle.account.specs.Records.{records}
 use Rattle.formulas.specs.Bounds.{mostDelta}
@@ -30,8 +31,8 @@ small c =
     let n = s .args .noon .now in
     omega (
       arith,
-      number-at m n (s .args .account) (s .pre .0) (s .args .i) (s .pre .1) (c .contract-number .result) (c .contract-number .ensures),
-      own-number (accountOf m n) (s .pre .0 .lawful) (s .args .i) (listed-at m n (s .args .account) (s .pre .0) (s .args .i) (s .pre .1)),
+      number-at m n (accountIn (s .args .account .now)) (s .pre .0) (s .args .i) (s .pre .1) (c .contract-number .result) (c .contract-number .ensures),
+      own-number (accountOf m n) (s .pre .0 .lawful) (s .args .i) (listed-at m n (accountIn (s .args .account .now)) (s .pre .0) (s .args .i) (s .pre .1)),
     )
 
 whereabouts-of-requires : tie.Need-whereabouts-of-requires
@@ -57,7 +58,7 @@ module _ (c : tie.After-rows-part) where
       let h = small (c .before .before) in
       let st = s .pre .0 in
       of-contract whole (st .lawful) n h 3 (lit≤ tt) (c .rows-part .result .now)
-      (c .rows-part .ensures (s .args .account) n st h (c .before .whereabouts-of .ensures))
+      (c .rows-part .ensures (accountIn (s .args .account .now)) n st h (c .before .whereabouts-of .ensures))
 
 rows-net-requires : tie.Need-rows-net-requires
 rows-net-requires c κs =
@@ -76,7 +77,7 @@ returns c =
     let after-number = c .before .before .before in
     let k = after-number .contract-number in
     rows-tier (accountOf m n) (st .pre .0 .lawful) (k .result) (getD (contractsOf (accountOf m n)) (st .args .i) []) (c .rows-net .result .0)
-    (number-at m n (st .args .account) (st .pre .0) (st .args .i) (st .pre .1) (k .result) (k .ensures)) (small after-number)
+    (number-at m n (accountIn (st .args .account .now)) (st .pre .0) (st .args .i) (st .pre .1) (k .result) (k .ensures)) (small after-number)
     (subst (λ (rows : List Record). Sized mostDelta (rowsNet rows) (c .rows-net .result .0)) (rows-are (c .before)) (c .rows-net .ensures))
 
 pub tier-at-spec : {M : Type 1} → statement M

@@ -8,6 +8,7 @@ use native.Mathlib.Omega.{arith}
 use borrow.Author.Needs.{needs}
 use Rattle.record.specs.Layout.{Record, contract, mostContract}
 use Rattle.account.specs.Parts.{contractsOf}
+use Rattle.account.specs.code.Lent.{accountIn}
 use Rattle.account.specs.Joined.{accountOf}
 use Rattle.account.specs.Check.{mostContracts}
 use Rattle.margin.specs.code.Beside.{Besides}
@@ -37,10 +38,10 @@ start-of c =
 few : (c : tie.After-contract-total Inv-loop μ-loop) → c .contract-total .result ≤ mostContracts
 few c =
     let s = c .before .before .before in
-    omega (arith, c .contract-total .ensures, few-contracts (s .args .morning .now) (s .args .noon .now) (s .args .account) (s .pre .0))
+    omega (arith, c .contract-total .ensures, few-contracts (s .args .morning .now) (s .args .noon .now) (accountIn (s .args .account .now)) (s .pre .0))
 
 -- the turn's contract is listed, and has this number
-within : (c : tie.After-contract-number Inv-loop μ-loop) → c .before .before .loop .i < start-of c .args .account .contracts
+within : (c : tie.After-contract-number Inv-loop μ-loop) → c .before .before .loop .i < accountIn (start-of c .args .account .now) .contracts
 within c =
     let after-contract-total = c .before .before .before in
     omega (arith, c .before .loop-test .taken, after-contract-total .contract-total .ensures)
@@ -50,7 +51,7 @@ number : (c : tie.After-contract-number Inv-loop μ-loop) →
     c .contract-number .result ≡ contract (getD (contractsOf (accountOf (s .args .morning .now) (s .args .noon .now))) (c .before .before .loop .i) [])
 number c =
     let s = start-of c in
-    number-at (s .args .morning .now) (s .args .noon .now) (s .args .account) (s .pre .0) (c .before .before .loop .i) (within c)
+    number-at (s .args .morning .now) (s .args .noon .now) (accountIn (s .args .account .now)) (s .pre .0) (c .before .before .loop .i) (within c)
     (c .contract-number .result) (c .contract-number .ensures)
 
 small : (c : tie.After-contract-number Inv-loop μ-loop) → c .contract-number .result ≤ mostContract
@@ -62,7 +63,7 @@ small c =
       arith,
       number c,
       own-number (accountOf m n) (s .pre .0 .lawful) (c .before .before .loop .i)
-          (listed-at m n (s .args .account) (s .pre .0) (c .before .before .loop .i) (within c)),
+          (listed-at m n (accountIn (s .args .account .now)) (s .pre .0) (c .before .before .loop .i) (within c)),
     )
 
 -- and is so in every account beside

@@ -37,7 +37,9 @@ let-in false x = go (eqb x 0) refl
         ap (beyond (plain 0 0)) z ∙ sym (ap (λ (y : ℕ). beyond (plain 0 mostCurrency) y || not (eqb y 0)) z)
     go false e =
         let past = lt-leb x 0 (omega (arith, eqb-false x 0 e)) in
-        ap (λ (b : Bool). not (leb 0 x && b)) past ∙ both-false (leb 0 x) ∙ sym (ap (λ (b : Bool). beyond (plain 0 mostCurrency) x || not b) e ∙ or-true (beyond (plain 0 mostCurrency) x))
+        ap (λ (b : Bool). not (leb 0 x && b)) past
+        ∙ both-false (leb 0 x)
+        ∙ sym (ap (λ (b : Bool). beyond (plain 0 mostCurrency) x || not b) e ∙ or-true (beyond (plain 0 mostCurrency) x))
 
 returns : tie.Need-returns
 returns c =

@@ -25,7 +25,7 @@ use crate::stretches::{anew, record_count, stretch};
 // An account: how many records it has, its contracts' numbers in order, which of them the noon file supplies, and of each
 // part where it begins in its file and how many records it has. Only the check and a join of two checked files make one:
 // its fields are of this crate alone.
-#[derive(Drop)]
+#[derive(Clone, Copy)]
 pub struct Account {
     pub(crate) records: usize,
     pub(crate) contracts: usize,
@@ -85,7 +85,7 @@ pub(crate) fn placed_part<'a>(
 
 // Where the parts of a contract stand: whether the noon file supplies it, and of each part where it begins and how many
 // records it has.
-#[derive(Drop)]
+#[derive(Clone, Copy)]
 pub struct Whereabouts {
     pub(crate) late: bool,
     pub(crate) own: u16,
@@ -223,7 +223,7 @@ fn flags(counts: &[u16]) -> [bool; CONTRACTS]
     listed
 }
 
-#[derive(Drop)]
+#[derive(Clone, Copy)]
 struct ContractNumbers {
     count: usize,
     number: [u8; CONTRACTS],
@@ -372,7 +372,7 @@ fn rates_answer(
 }
 
 // What the check of a file hands out: its answer, and of an accepted file the account.
-#[derive(Drop)]
+#[derive(Clone, Copy)]
 pub struct Checked {
     pub answer: Answer,
     pub account: Account,

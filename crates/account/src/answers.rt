@@ -4,7 +4,7 @@ ghost use Rattle.account.specs.Answers as Answers;
 ghost use Rattle.account.specs.Answers.{number_of, record_of};
 
 // The record at fault, or how many records there are, is with the case.
-#[derive(Drop)]
+#[derive(Clone, Copy)]
 pub enum Answer {
     Accepted,
     TooLong,

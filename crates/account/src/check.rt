@@ -29,7 +29,7 @@ const MOST_BYTES: usize = MOST_RECORDS * RECORD_BYTES;
 
 // A verdict and, of an accepted file, how many contracts it lists, of each part where it begins and how many records it has,
 // and whether any row is in another currency than the margin's.
-#[derive(Drop)]
+#[derive(Clone, Copy)]
 pub struct Survey {
     pub answer: Answer,
     pub contracts: usize,
@@ -92,7 +92,7 @@ fn one_if_contract(r: &[u8]) -> usize
 }
 
 // A step of the check: the fault of a record, or the record to go on at and how many contracts were passed.
-#[derive(Drop)]
+#[derive(Clone, Copy)]
 pub(crate) struct Step {
     pub(crate) number: usize,
     pub(crate) next: usize,
@@ -132,7 +132,7 @@ fn go_on(file: &[u8], first: &mut [u16], counts: &mut [u16], k: usize) -> Step
 
 // All steps: the fault of the last and its record, how many contracts were passed, and whether a row in another currency was. A step that
 // passes one begins with one.
-#[derive(Drop)]
+#[derive(Clone, Copy)]
 pub(crate) struct Steps {
     pub(crate) number: usize,
     pub(crate) next: usize,
@@ -191,7 +191,7 @@ pub(crate) fn length_answer(file: &[u8]) -> Answer
 }
 
 // A verdict, how many contracts were noted, and whether a row in another currency was.
-#[derive(Drop)]
+#[derive(Clone, Copy)]
 pub(crate) struct Tally {
     pub answer: Answer,
     pub contracts: usize,

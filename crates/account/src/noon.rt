@@ -19,7 +19,7 @@ pub const MORNING: usize = 1;
 
 pub const NOON: usize = 2;
 
-#[derive(Drop)]
+#[derive(Clone, Copy)]
 pub struct Verdict {
     pub file: usize,
     pub answer: Answer,
@@ -76,7 +76,7 @@ fn verdict_of(morning: Survey, noon: Survey, records: usize) -> Verdict
 }
 
 // The verdict on a pair of files, and the joined account.
-#[derive(Drop)]
+#[derive(Clone, Copy)]
 pub struct CheckedPair {
     pub verdict: Verdict,
     pub account: Account,
@@ -123,7 +123,7 @@ pub fn check_pair<'a>(morning: &'a [u8], noon: &'a [u8]) -> CheckedPair
 }
 
 // Where a contract's prompts stand: in which file, from which record on, and how many.
-#[derive(Drop)]
+#[derive(Clone, Copy)]
 pub struct Place {
     pub file: usize,
     pub first: usize,

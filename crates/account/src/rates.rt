@@ -27,14 +27,14 @@ const HUNDRED_MILLION: u64 = 100_000_000;
 const MOST_CONVERSION: u64 = 100_000_000_000_000;
 
 // Of each currency the rate raised by the adjustment and the rate lowered by it, in hundred-millionths; 0 where it has none.
-#[derive(Drop)]
+#[derive(Clone, Copy)]
 pub struct Rates {
     raised: [u64; CURRENCIES],
     lowered: [u64; CURRENCIES],
 }
 
 // What a loss and what a gain in a currency is multiplied by.
-#[derive(Drop)]
+#[derive(Clone, Copy)]
 pub struct Factors {
     pub raised: u64,
     pub lowered: u64,

@@ -12,7 +12,7 @@ use formulas::amount::Amount;
 use margin::numbers::FIGURES_EACH;
 
 // What contracts add: their margins, how many of them have credit, and how many a short option minimum above the risk.
-#[derive(Drop)]
+#[derive(Clone, Copy)]
 pub struct Found {
     pub margin: Amount,
     pub credits: usize,

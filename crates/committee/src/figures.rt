@@ -11,7 +11,7 @@ use questions::plain::answer;
 
 // What an account adds: the number of its refusal, 0 where it is accepted; its margin; whether it has credit; and how many of its
 // contracts have a short option minimum above the risk. A refused account adds its refusal alone.
-#[derive(Drop)]
+#[derive(Clone, Copy)]
 pub struct Account {
     pub refusal: usize,
     pub margin: Amount,

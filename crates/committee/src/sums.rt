@@ -15,7 +15,7 @@ const REFUSALS: usize = 15;
 // The numbers of the answer.
 const NUMBERS: usize = 24;
 
-#[derive(Drop)]
+#[derive(Clone, Copy)]
 pub struct Sums {
     pub accepted: usize,
     pub refused: usize,

@@ -7,7 +7,7 @@ ghost use Rattle.exact.specs.Largest.{IsLargest};
 use crate::signed::below;
 
 // A total and its number, counted from 1.
-#[derive(Drop)]
+#[derive(Clone, Copy)]
 pub struct NumberedTotal {
     pub value: i64,
     pub number: usize,

@@ -36,7 +36,7 @@ use writing::write;
 
 // The number of a refusal, 0 where nothing is refused, and the record that it names.
 #[repr(C)]
-#[derive(Drop)]
+#[derive(Clone, Copy)]
 pub struct Outcome {
     pub refusal: usize,
     pub record: usize,
@@ -114,7 +114,7 @@ pub extern "C" fn felgotany_uses(file: &[u8], question: usize, out: &mut [i64]) 
 
 // The outcomes of all questions at once.
 #[repr(C)]
-#[derive(Drop)]
+#[derive(Clone, Copy)]
 pub struct Outcomes {
     pub figures: Outcome,
     pub books: Outcome,
@@ -153,7 +153,7 @@ pub extern "C" fn felgotany_all(
 
 // An outcome of a pair of files: of the joined account (0), the morning's file (1) or the noon's (2).
 #[repr(C)]
-#[derive(Drop)]
+#[derive(Clone, Copy)]
 pub struct PairOutcome {
     pub file: usize,
     pub refusal: usize,
@@ -247,7 +247,7 @@ pub extern "C" fn felgotany_joined_uses_needed<'a>(
 
 // The outcomes of all questions at once to a pair of files.
 #[repr(C)]
-#[derive(Drop)]
+#[derive(Clone, Copy)]
 pub struct PairOutcomes {
     pub figures: PairOutcome,
     pub books: PairOutcome,
@@ -286,7 +286,7 @@ pub extern "C" fn felgotany_joined_all<'a>(
 
 // Where a contract's prompts stand: in which file, from which record on, and how many.
 #[repr(C)]
-#[derive(Drop)]
+#[derive(Clone, Copy)]
 pub struct PromptPlace {
     pub file: usize,
     pub first: usize,
@@ -311,7 +311,7 @@ pub extern "C" fn felgotany_joined_prompts<'a>(
 
 // The call, in hundredths; 0 where there is none.
 #[repr(C)]
-#[derive(Drop)]
+#[derive(Clone, Copy)]
 pub struct CallOutcome {
     pub outcome: PairOutcome,
     pub call: u64,
@@ -370,7 +370,7 @@ pub extern "C" fn felgotany_committee(
 // judged, 1 for a yes, 2 where a step's number is more than can be formed, 3 where it is less, 4 where a use is wrong; and that
 // step.
 #[repr(C)]
-#[derive(Drop)]
+#[derive(Clone, Copy)]
 pub struct ListOutcome {
     pub refusal: usize,
     pub record: usize,
@@ -444,7 +444,7 @@ pub extern "C" fn felgotany_judge(
 
 // The same for the joined account, saying which file a refusal is about.
 #[repr(C)]
-#[derive(Drop)]
+#[derive(Clone, Copy)]
 pub struct PairListOutcome {
     pub file: usize,
     pub list: ListOutcome,
@@ -480,7 +480,7 @@ pub extern "C" fn felgotany_screen_load(lent: &[u8], named: usize) -> Outcome
 // The refusal of a ticket that is to be added and its record, both 0 where it is added; and how many of the lent bytes hold the
 // account file then, 0 where it is refused.
 #[repr(C)]
-#[derive(Drop)]
+#[derive(Clone, Copy)]
 pub struct AddOutcome {
     pub refusal: usize,
     pub record: usize,
@@ -529,7 +529,7 @@ pub extern "C" fn felgotany_screen_add(lent: &mut [u8], named: usize, ticket: &[
 // The refusal of an account whose total is read and its record, both 0 where there is none; and the total, in hundredths, 0 where it
 // is refused.
 #[repr(C)]
-#[derive(Drop)]
+#[derive(Clone, Copy)]
 pub struct TotalOutcome {
     pub refusal: usize,
     pub record: usize,
@@ -577,7 +577,7 @@ pub extern "C" fn felgotany_screen_total(lent: &[u8], named: usize) -> TotalOutc
 // The refusal of a ticket that is asked about and its record, both 0 where there is none; the answer, 0 where it is refused, 1 for a yes,
 // 2 where the total with the ticket is over the limit; and that total, in hundredths.
 #[repr(C)]
-#[derive(Drop)]
+#[derive(Clone, Copy)]
 pub struct LimitOutcome {
     pub refusal: usize,
     pub record: usize,
@@ -644,7 +644,7 @@ pub extern "C" fn felgotany_screen_limit(
 // What a ticket or a withdrawal is told: of which ticket, from 1, or 0 for the file; the refusal and its record; and the total of the
 // margins before and after, in hundredths, both 0 where something is refused.
 #[repr(C)]
-#[derive(Drop)]
+#[derive(Clone, Copy)]
 pub struct TicketOutcome {
     pub ticket: usize,
     pub refusal: usize,
@@ -687,7 +687,7 @@ pub extern "C" fn felgotany_withdraw(file: &[u8], tickets: &[u8]) -> TicketOutco
 
 // The refusal of a list of entries, the place of the entry at fault, and how many bytes are written.
 #[repr(C)]
-#[derive(Drop)]
+#[derive(Clone, Copy)]
 pub struct WriteOutcome {
     pub refusal: usize,
     pub entry: usize,

@@ -14,7 +14,7 @@ use exact::signed::magnitude;
 use spread::{Delta, Spreads};
 
 // An amount, in hundredths of the currency. None is negative.
-#[derive(Drop)]
+#[derive(Clone, Copy)]
 pub struct Amount(pub u64);
 
 // The charge of a spread for the numbers of its two steps, rounded to the contract's unit.
@@ -51,7 +51,7 @@ const TO_UNIT: u64 = 500_000;
 const FROM_UNIT: u64 = 100_000_000;
 
 // A unit price risk, which outgrows 64 bits: TO_UNIT for each of its wholes, and a part.
-#[derive(Drop)]
+#[derive(Clone, Copy)]
 struct UnitPriceRisk {
     whole: u64,
     part: u64,

@@ -133,7 +133,7 @@ fn entry_use(c: usize, e: &[u8], first: Spreads, second: Spreads) -> u64
 }
 
 // A contract as the intercontract table sees it: its unit, its number, twice its price risk, and the size of its net delta.
-#[derive(Drop)]
+#[derive(Clone, Copy)]
 pub struct Earner {
     pub unit: u64,
     pub contract: usize,

@@ -20,7 +20,7 @@ use spread::plain::plain;
 use spread::{Delta, MOST_PROMPTS, MOST_SPREADS};
 
 // What the figures say of a contract, but for its credit and its margin; and what its credit is worked out from.
-#[derive(Drop)]
+#[derive(Clone, Copy)]
 pub struct Line {
     pub contract: usize,
     pub unit: u64,
@@ -66,7 +66,7 @@ pub fn contract_net(nets: [Delta; MOST_PROMPTS]) -> Delta
 }
 
 // What a contract is charged for its spreads and its prompts.
-#[derive(Drop)]
+#[derive(Clone, Copy)]
 struct Charges {
     interprompt: Amount,
     prompt: Amount,

@@ -49,7 +49,7 @@ fn twice_price_risk(totals: &[i64; SCENARIOS], active: usize) -> u64
 }
 
 // What the totals say: the active scenario, the scanning risk, and twice the price risk.
-#[derive(Drop)]
+#[derive(Clone, Copy)]
 pub struct Risks {
     pub active: usize,
     pub scanning: Amount,

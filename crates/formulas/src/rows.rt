@@ -28,11 +28,11 @@ use spread::plain::{deltas_from, plain};
 use spread::{Delta, MOST_PROMPTS};
 
 // The sixteen totals, in hundredths of the currency, scenario 1 first.
-#[derive(Drop)]
+#[derive(Clone, Copy)]
 pub struct Totals(pub [i64; SCENARIOS]);
 
 // What a contract's rows come to. The net deltas are those of its prompts in file order, and 0 beyond them.
-#[derive(Drop)]
+#[derive(Clone, Copy)]
 pub struct Position {
     pub totals: Totals,
     pub nets: [Delta; MOST_PROMPTS],
@@ -40,7 +40,7 @@ pub struct Position {
 }
 
 // The days of a contract's prompts, the first `count`. Beyond them stands the latest day of all.
-#[derive(Drop)]
+#[derive(Clone, Copy)]
 pub struct Days {
     pub count: usize,
     pub day: [u32; MOST_PROMPTS],

@@ -13,7 +13,7 @@ use spread::stepwise::step_over;
 use spread::{Delta, MOST_PROMPTS, Prompts, Spread, Table};
 
 // What is said of a list. A step is named by its place, from 0.
-#[derive(Drop)]
+#[derive(Clone, Copy)]
 pub enum Verdict {
     Right,
     MoreThanFormed(usize),
@@ -23,7 +23,7 @@ pub enum Verdict {
 }
 
 // What is said of a step, and the prompts as it leaves them.
-#[derive(Drop)]
+#[derive(Clone, Copy)]
 struct Compared {
     verdict: Verdict,
     left: Prompts,

@@ -32,7 +32,7 @@ pub fn judge(file: &[u8], question: usize, sent: usize, numbers: &[i64], uses: &
 }
 
 // What is said of a list, and which file a refusal is about.
-#[derive(Drop)]
+#[derive(Clone, Copy)]
 pub struct JudgedPair {
     pub file: usize,
     pub judged: Judged,

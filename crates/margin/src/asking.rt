@@ -30,7 +30,7 @@ use spread::MOST_PROMPTS;
 
 // The figures; the delta book of a question, 0 to 15 for that contract or 16 for the intercontract table; or who paid for what
 // in it: what each step of its table takes of each prompt.
-#[derive(Drop)]
+#[derive(Clone, Copy)]
 pub enum Question {
     Figures,
     Book(usize),
@@ -251,7 +251,7 @@ pub fn answer_from<'a>(
 }
 
 // How many prompts and spreads a book is about; of the intercontract table, contracts and its spreads.
-#[derive(Drop)]
+#[derive(Clone, Copy)]
 struct Sizes {
     prompts: usize,
     spreads: usize,

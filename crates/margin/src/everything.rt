@@ -64,7 +64,7 @@ pub const ALL_BOOKS: usize = LONGEST_BOOK * QUESTIONS;
 pub const ALL_USES: usize = LONGEST_USES * QUESTIONS;
 
 // What an account is answered that is asked for everything.
-#[derive(Drop)]
+#[derive(Clone, Copy)]
 pub struct Everything {
     pub figures: Answer,
     pub books: Answer,

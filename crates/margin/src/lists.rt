@@ -12,7 +12,7 @@ use account::lent::{NOTES, lend, record_total};
 use judging::{Verdict, judge};
 
 // What comes back for a list: a refusal, or what is said of it. A step is named by its place, from 0.
-#[derive(Drop)]
+#[derive(Clone, Copy)]
 pub enum Judged {
     Refused(Answer),
     Right,

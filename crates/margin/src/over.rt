@@ -87,7 +87,7 @@ fn nets_at<'a>(
 }
 
 // A contract as a tier of the intercontract table.
-#[derive(Drop)]
+#[derive(Clone, Copy)]
 pub struct Tier {
     pub contract: u8,
     pub net: Delta,

@@ -23,7 +23,7 @@ use formulas::rows::{Position, flat};
 use spread::{Delta, MOST_PROMPTS, Prompts};
 
 // How many records an account has, and what the rows of each contract number come to; nothing where it is not listed.
-#[derive(Drop)]
+#[derive(Clone, Copy)]
 pub struct Positions {
     pub records: usize,
     pub at: [Position; CONTRACTS],

@@ -17,7 +17,7 @@ use spread::stepwise::step_over;
 use spread::{Delta, MOST_PROMPTS, Prompts, Spread, Table};
 
 // What a question asks about: prompts with their net deltas, or contracts as tiers, and the table of spreads over them.
-#[derive(Drop)]
+#[derive(Clone, Copy)]
 pub struct Asking {
     pub prompts: Prompts,
     pub table: Table,

@@ -13,7 +13,7 @@ use margin::everything::everything_over;
 
 // A view of a file's bytes with what the check handed out of them. Only `hold` makes one: its fields are of this module
 // alone.
-#[derive(Drop)]
+#[derive(Clone, Copy)]
 pub struct Held<'a> {
     file: &'a [u8],
     checked: Checked,
@@ -28,7 +28,7 @@ pub fn hold<'a>(file: &'a [u8]) -> Held<'a>
 }
 
 // What a file is answered that is asked for everything: its figures, the books of all questions, and their uses.
-#[derive(Drop)]
+#[derive(Clone, Copy)]
 pub struct Asked {
     pub figures: Answer,
     pub books: Answer,

@@ -69,7 +69,7 @@ pub fn needed<'a>(morning: &'a [u8], noon: &'a [u8], question: Question) -> usiz
 }
 
 // What a pair of files is answered that is asked for everything: its figures, the books of all questions, and their uses.
-#[derive(Drop)]
+#[derive(Clone, Copy)]
 pub struct AskedPair {
     pub figures: Verdict,
     pub books: Verdict,
@@ -134,7 +134,7 @@ fn call_of(required: Amount, last: Amount, threshold: Amount, collateral: Amount
 }
 
 // A call and the verdict on the pair of files; 0 where there is none.
-#[derive(Drop)]
+#[derive(Clone, Copy)]
 pub struct Call {
     pub verdict: Verdict,
     pub amount: Amount,

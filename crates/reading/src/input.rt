@@ -4,7 +4,7 @@ ghost use Rattle.io.specs.Counts.{IsPrefixLen};
 use libc::{STDERR_FILENO, STDIN_FILENO};
 
 // Whether standard input was read until its end or until the memory was full, and how many bytes stand in front there.
-#[derive(Drop)]
+#[derive(Clone, Copy)]
 pub struct Input {
     pub whole: bool,
     pub bytes: usize,

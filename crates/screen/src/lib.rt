@@ -17,21 +17,21 @@ use tickets::kept::{keep, kept_total};
 mod inserting; // inserting.rt: a record put among the bytes of a file, in place
 
 // What comes back where a ticket is to be added: a refusal, or how many bytes hold the account file with it.
-#[derive(Drop)]
+#[derive(Clone, Copy)]
 pub enum Added {
     Refused(Answer),
     Holds(usize),
 }
 
 // What comes back where a total is read.
-#[derive(Drop)]
+#[derive(Clone, Copy)]
 pub enum Told {
     Refused(Answer),
     Total(Amount),
 }
 
 // What comes back where a ticket is asked about: a refusal, or the total with it, within the limit or over it.
-#[derive(Drop)]
+#[derive(Clone, Copy)]
 pub enum Limited {
     Refused(Answer),
     Within(Amount),
@@ -49,7 +49,7 @@ pub fn load(lent: &[u8], named: usize) -> Answer
 }
 
 // What a ticket is refused for, and the byte of its file at which it would stand.
-#[derive(Drop)]
+#[derive(Clone, Copy)]
 struct Order {
     answer: Answer,
     at: usize,
@@ -116,7 +116,7 @@ pub fn total(lent: &[u8], named: usize) -> Told
 }
 
 // What a ticket is refused for, and the total of its file with it where it is not.
-#[derive(Drop)]
+#[derive(Clone, Copy)]
 struct Asked {
     answer: Answer,
     total: Amount,

@@ -14,7 +14,7 @@ use exact::signed::{minus, towards_zero};
 
 // Spread k formed first[k] in its first step and second[k] in its second; used[k] and unused[k] are the parts of prompt k's
 // net delta. All are zero beyond the spreads and prompts given, and where these are not accepted.
-#[derive(Drop)]
+#[derive(Clone, Copy)]
 pub struct Book {
     pub accepted: bool,
     pub first: [Spreads; MOST_SPREADS],

@@ -15,15 +15,15 @@ pub const MOST_PROMPTS: usize = 32;
 pub const MOST_SPREADS: usize = 32;
 
 // A delta, in ten-thousandths of a lot, long above zero and short below.
-#[derive(Drop)]
+#[derive(Clone, Copy)]
 pub struct Delta(pub i64);
 
 // A number of spreads, in ten-thousandths.
-#[derive(Drop)]
+#[derive(Clone, Copy)]
 pub struct Spreads(pub u64);
 
 // A leg: the tier that it draws on, its side (1 = A, 2 = B) and its ratio.
-#[derive(Drop)]
+#[derive(Clone, Copy)]
 pub struct Leg {
     pub tier: u8,
     pub side: u8,
@@ -31,7 +31,7 @@ pub struct Leg {
 }
 
 // A spread: its first `legs` legs, 2 or 3, and whether their ratios are tenths. In this order no bytes lie between its fields.
-#[derive(Drop)]
+#[derive(Clone, Copy)]
 pub struct Spread {
     pub legs: u8,
     pub tenths: bool,
@@ -39,14 +39,14 @@ pub struct Spread {
 }
 
 // A table of spreads in order of priority: its first `count` spreads.
-#[derive(Drop)]
+#[derive(Clone, Copy)]
 pub struct Table {
     pub count: usize,
     pub spread: [Spread; MOST_SPREADS],
 }
 
 // Prompts, the earliest day of a tier first: the first `count` tiers and net deltas.
-#[derive(Drop)]
+#[derive(Clone, Copy)]
 pub struct Prompts {
     pub count: usize,
     pub tier: [u8; MOST_PROMPTS],

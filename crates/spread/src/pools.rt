@@ -18,7 +18,7 @@ pub(crate) const CELLS: usize = 2 * TIERS;
 const TENTHS: u64 = 10;
 
 // The pools that the legs of a step take from; of two legs the first is read again as the third, which is not put back.
-#[derive(Drop)]
+#[derive(Clone, Copy)]
 pub(crate) struct Pools {
     one: u64,
     two: u64,
@@ -26,7 +26,7 @@ pub(crate) struct Pools {
 }
 
 // A step taken: the pools that it leaves, and the number of spreads that it formed.
-#[derive(Drop)]
+#[derive(Clone, Copy)]
 pub(crate) struct Took {
     pub(crate) left: Pools,
     pub(crate) number: Spreads,

@@ -11,7 +11,7 @@ use crate::{Delta, MOST_PROMPTS, Prompts, Spread, Spreads};
 
 // A step of a spread: the number that it forms, what it takes of each prompt, and the prompts as it leaves them. Where
 // prompts or spread are not accepted it forms and takes nothing.
-#[derive(Drop)]
+#[derive(Clone, Copy)]
 pub struct Step {
     pub accepted: bool,
     pub number: Spreads,

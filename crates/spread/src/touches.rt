@@ -18,14 +18,14 @@ use crate::{Delta, Leg, MOST_PROMPTS, MOST_SPREADS, Prompts, Spread, Spreads, Ta
 const PLACES: usize = CELLS + 1;
 
 // The delta book, and how many times its steps took of a prompt.
-#[derive(Drop)]
+#[derive(Clone, Copy)]
 pub struct Counted {
     pub book: Book,
     pub touches: u64,
 }
 
 // How many prompts a leg takes of, and the last place that it came to.
-#[derive(Drop)]
+#[derive(Clone, Copy)]
 struct Passing {
     at: usize,
     touches: u64,

@@ -12,14 +12,14 @@ use formulas::amount::Amount;
 use record::bytes::RECORD_BYTES;
 
 // What is told, and of which ticket, from 1; 0 is the file.
-#[derive(Drop)]
+#[derive(Clone, Copy)]
 pub struct Ticketed {
     pub ticket: usize,
     pub answer: Answer,
 }
 
 // The same with the total of the margins before and after; both 0 where something is refused.
-#[derive(Drop)]
+#[derive(Clone, Copy)]
 pub struct Asked {
     pub ticket: usize,
     pub answer: Answer,
@@ -28,7 +28,7 @@ pub struct Asked {
 }
 
 // A file with its tickets: which is refused, or how many there are, and the account kept.
-#[derive(Drop)]
+#[derive(Clone, Copy)]
 pub struct Holding {
     pub ticket: usize,
     pub answer: Answer,

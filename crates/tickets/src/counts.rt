@@ -28,7 +28,7 @@ use record::refusals::{field_outside, unused_byte};
 
 // The account of the file, how many of its records are of kinds 1 and 2, how many rows each contract has, and how many tickets there
 // are. Its fields are of this module alone.
-#[derive(Drop)]
+#[derive(Clone, Copy)]
 pub struct Counts {
     account: Account,
     above: usize,

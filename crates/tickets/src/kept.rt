@@ -26,14 +26,14 @@ use margin::positions::{Positions, positions_over};
 use record::fields::{contract, unit};
 
 // Only the check of a file and the calls of this module make one: its fields are of this module alone.
-#[derive(Drop)]
+#[derive(Clone, Copy)]
 pub struct Kept {
     counts: Counts,
     positions: Positions,
 }
 
 // What a call is told, and the account kept afterwards.
-#[derive(Drop)]
+#[derive(Clone, Copy)]
 pub struct Keeping {
     pub answer: Answer,
     pub kept: Kept,

@@ -15,7 +15,7 @@ mod checking; // checking.rt: the check of the written file, through the order
 mod verdict; // verdict.rt: what the written file would get
 
 // What comes back: the answer, and how many bytes were written.
-#[derive(Drop)]
+#[derive(Clone, Copy)]
 pub struct Written {
     pub answer: Answer,
     pub bytes: usize,

@@ -1,4 +1,5 @@
 // The account file: accepted, or refused at its first fault, and the parts of an accepted one.
+#![tactic(auto)]
 
 pub mod answers; // answers.rt: what comes back
 pub mod stretches; // stretches.rt: records as they stand in a file

@@ -1,4 +1,6 @@
 // Reads an account file on standard input and writes `A` where it is accepted, or `R`, the refusal and the record.
+#![tactic(auto)]
+
 use account::accounts::check;
 use account::answers::Answer;
 use libc::STDOUT_FILENO;

@@ -1,4 +1,6 @@
 // Figures for the risk committee (request 2026-12): one list of numbers over a run of accounts.
+#![tactic(auto)]
+
 mod contracts;
 mod figures;
 mod sums;

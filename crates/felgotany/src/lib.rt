@@ -1,6 +1,8 @@
 // Felgotany as C sees it: the check, the figures and the delta book over any bytes, the same of a morning's file with a noon file,
 // the figures of a run of accounts, the risk committee's of it, tickets, a file of entries, and the order screen's calls.
 // include/felgotany.h says the same in C's words.
+#![tactic(auto)]
+
 ghost use Rattle.std.specs.Prelude.{◌≡◌, true, false, ◌≤◌, length};
 ghost use Rattle.account.specs.Checked.{checked};
 ghost use Rattle.formulas.specs.Bounds.{longest_figures, longest_book, longest_uses};

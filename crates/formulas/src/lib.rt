@@ -1,5 +1,7 @@
 // The formulas of document 01: what the rows of a contract come to, its risks, its delta book, its charges, its line of figures,
 // and the credits of the intercontract table.
+#![tactic(auto)]
+
 pub mod amount;
 pub mod books;
 pub mod charges;

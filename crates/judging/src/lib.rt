@@ -1,4 +1,6 @@
 // A list of spreads that others send, judged by the spread steps (request 2026-10): right, or which step is wrong first, and why.
+#![tactic(auto)]
+
 ghost use Rattle.std.specs.Prelude.{◌≡◌, true, ◌&&◌, ◌*◌, ◌≤◌, eqb, pos, length, take};
 ghost use Rattle.std.specs.Int.Signed.{lt_z};
 ghost use Rattle.spread.specs.Accepted.{open_of, steps_of, sound, prompt_places, spread_places};

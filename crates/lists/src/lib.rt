@@ -1,5 +1,7 @@
 // A list of spreads that others send, judged against an account (request 2026-10): of one file, or of a noon file joined to the
 // morning's.
+#![tactic(auto)]
+
 ghost use Rattle.std.specs.Prelude.{◌≡◌};
 ghost use Rattle.lists.specs.Lists.{judged_to, joined_judged};
 

@@ -1,4 +1,6 @@
 // The questions that an account answers: its figures, the delta books, and who paid for what in them.
+#![tactic(auto)]
+
 pub mod asking;
 mod books;
 pub mod everything;

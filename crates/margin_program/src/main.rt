@@ -1,5 +1,7 @@
 // Reads an account file on standard input and writes for each contract `C` and its eight numbers, then `T` and the total;
 // or only `R`, the refusal and the record.
+#![tactic(auto)]
+
 use margin::asking::Question;
 use questions::plain::needed;
 use reading::input::{called_alone, read_input};

@@ -1,4 +1,5 @@
 // One record of an account file: its fields, and the refusals that it gets by itself.
+#![tactic(auto)]
 
 pub mod bytes; // bytes.rt: little-endian numbers, two's complement where signed
 mod layout; // layout.rt: where each field starts

@@ -1,4 +1,6 @@
 // A run of accounts, answered in one call (request 2026-08): each account's figures in its place, as a call of its own gives them.
+#![tactic(auto)]
+
 ghost use Rattle.std.specs.Prelude.{◌≡◌, ◌+◌, ◌*◌, ◌≤◌, eqb, length};
 ghost use Rattle.exact.specs.Lists.{sum};
 ghost use Rattle.formulas.specs.Bounds.{longest_figures};

@@ -1,5 +1,7 @@
 // The order screen's calls (request 2026-14): bytes that the screen lends hold an account file with its tickets, and each call checks
 // them again. Nothing is kept between calls.
+#![tactic(auto)]
+
 ghost use Rattle.std.specs.Prelude.{◌≡◌};
 ghost use Rattle.screen.specs.Screen.{load_answer, added, after_add, total_read, weighed, limited};
 ghost use Rattle.screen.specs.code.Held.{PlacedIn, AskedIn, total_in};

@@ -1,5 +1,6 @@
 // The spread steps: which prompts pay for which spread.
 // One engine serves both tables of spreads, the interprompt spreads of a contract and the intercontract spreads.
+#![tactic(auto)]
 
 pub mod accepted;
 pub mod book;

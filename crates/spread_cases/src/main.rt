@@ -1,5 +1,7 @@
 // The reckoned examples P1 to P4 of document 01 and that of request 2026-03 of document 02: what each spread forms in its two
 // steps, and net, used and unused of each prompt, all in ten-thousandths.
+#![tactic(auto)]
+
 use libc::STDOUT_FILENO;
 use spread::book::{Book, delta_book};
 use spread::{Delta, Leg, MOST_PROMPTS, MOST_SPREADS, Prompts, Spread, Table};

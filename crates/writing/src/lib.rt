@@ -1,4 +1,6 @@
 // "Write the file too" (request 2026-06): the account file of a list of entries.
+#![tactic(auto)]
+
 ghost use Rattle.std.specs.Prelude.{◌≡◌};
 ghost use Rattle.writing.specs.Written.{WrittenBy};
 

@@ -1,0 +1,19 @@
+-- The contracts are tested one after the other.
+-- Assumes nothing.
+use borrow.Author.Rules.{rules}
+use mathlib.Core.Path.{◌≡◌, refl, ◌∙◌}
+use mathlib.Core.Bool.{false}
+use Prim.Native.Nat.{ℕ, ◌-◌, ◌≤◌, ◌<◌}
+use native.Mathlib.Nat.{not-suc-le-zero}
+use native.Mathlib.Omega.{arith}
+use lib.ListN.{length, get_or, length-set}
+use Rattle.account.specs.code.Standing.{lists}
+use Rattle.account.specs.Check.{most_contracts}
+use Rattle.account.proofs.Filled.{filled_next}
+use Rattle.account.proofs.accounts.flags.Given as goal
+
+abbrev pub invariant-loop-c : goal.invariant-loop-c
+invariant-loop-c l = (length l.listed ≡ most_contracts) × ((l.c ≤ most_contracts) × ((i : ℕ) → i < l.c → get_or l.listed i false ≡ lists l.counts i))
+
+abbrev pub decreases-loop-c : goal.decreases-loop-c
+decreases-loop-c l = most_contracts - l.c

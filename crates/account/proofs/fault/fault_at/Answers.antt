@@ -1,0 +1,45 @@
+-- `account::fault::fault_at` meets its contract. Assumes nothing.
+use borrow.Author.Rules.{rules}
+use Prim.Native.Nat.{ℕ}
+use mathlib.Core.Path.{◌≡◌, sym, ap, ◌∙◌}
+use mathlib.Core.List.{List}
+use borrow.Author.Tests.{eqb-true}
+use Rattle.record.specs.Layout.{Record, contract}
+use Rattle.account.specs.code.Notes.{fault_by, fault_at, part_at, prompts_noted, before_at}
+use Rattle.account.specs.Records.{records, record_at}
+use Rattle.account.specs.PartNumbers.{part}
+use Rattle.account.proofs.fault.fault_at.Goals as goal
+use Rattle.account.proofs.fault.fault_at.Goals.{After-whole_at-r, After-whole_before-before, Start}
+
+-- what was read stands in the definition's place
+joined :
+    (file first counts : List ℕ) (k : ℕ) {r b ps : List ℕ} {d : ℕ}
+    → r ≡ record_at file k → d ≡ contract r → ps ≡ part_at file first counts (part 2 d) → b ≡ before_at file k
+    → fault_by counts (records ps) b r ≡ fault_at file first counts k
+joined file first counts k {r} {b} {ps} {d} hr hd hs hb =
+    let prompts : records ps ≡ prompts_noted file first counts (contract r) =
+    ap records (hs ∙ ap (λ (x : ℕ). part_at file first counts (part 2 x)) hd) in
+    ap (λ (p : List Record). fault_by counts p b r) prompts
+    ∙ ap (λ (x : Record). fault_by counts (prompts_noted file first counts (contract r)) x r) hb
+    ∙ ap (λ (x : Record). fault_by counts (prompts_noted file first counts (contract x)) (before_at file k) x) hr
+
+-- the record read, the start, and the fault by what was read
+module _ (c : After-whole_before-before) where
+  abbrev read : After-whole_at-r
+  read = c.before.before.before
+
+  abbrev s : Start
+  s = c.before.before.before.before.before.before.before
+
+  here : fault_by c.args.counts.now (records c.part_at-prompts.result.now) c.whole_before-before.result.now c.whole_at-r.result.now
+      ≡ fault_at c.args.file.now c.args.first.now c.args.counts.now c.args.k
+  here =
+      joined c.args.file.now c.args.first.now c.args.counts.now c.args.k c.whole_at-r.ensures
+      c.contract.ensures.0 c.part_at-prompts.ensures c.whole_before-before.ensures
+
+pub returns-then-faultless : goal.returns-then-faultless
+returns-then-faultless c = sym (eqb-true _ 0 (sym c.faultless.ensures ∙ c.if-faultless.true)) ∙ here c.before.before
+
+pub returns : goal.returns
+returns c =
+    c.fault.ensures ∙ here c.before.before.before

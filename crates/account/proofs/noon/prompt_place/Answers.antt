@@ -1,0 +1,77 @@
+-- The place by what the check hands out of both files.
+-- Assumes nothing.
+use mathlib.Core.Path.{◌≡◌, sym, ◌∙◌}
+use native.Mathlib.Omega.{arith}
+use borrow.Author.Rules.{rules}
+use Rattle.account.specs.Answers.{number_of}
+use Rattle.account.proofs.NoonLaws.{Joining, place_refused, place-beyond, place_noon, place_morning, place-nowhere}
+use Rattle.account.proofs.noon.prompt_place.Goals as goal
+use Rattle.account.proofs.noon.prompt_place.Goals.{After-pair_verdict-verdict, Else-contract-ge-CONTRACTS, Start}
+
+abbrev start_of : After-pair_verdict-verdict → Start
+start_of c =
+    let start = c.before.before.before.before.before.before in
+    start
+
+-- both files checked and joined, with the verdict
+abbrev known : (c : After-pair_verdict-verdict) → Joining (start_of c).args.morning.now (start_of c).args.noon.now
+known c =
+    let m = c.take_survey-first in
+    let n = c.take_survey-second in
+    let j = c.join-account in
+    record {
+      first = m.result;
+      second = n.result;
+      account = j.result;
+      first_is = m.ensures;
+      second_is = n.ensures;
+      joined_by = j.ensures;
+      verdict = c.pair_verdict-verdict.result;
+      verdict_is = c.pair_verdict-verdict.ensures;
+    }
+
+abbrev judged : Else-contract-ge-CONTRACTS → After-pair_verdict-verdict
+judged c =
+    let after-pair-verdict = c.before.before.before in
+    after-pair-verdict
+
+-- nothing is refused, and the number is a contract's
+clear : (c : Else-contract-ge-CONTRACTS) → number_of (judged c).pair-verdict.result.answer ≡ 0
+clear c = sym c.number_of.ensures ∙ omega (arith, c.if-number_of-ne0.false)
+
+pub pair_verdict-verdict-requires : goal.pair_verdict-verdict-requires
+pair_verdict-verdict-requires c = (c.take_survey-first.ensures, (c.take_survey-second.ensures, c.join-account.ensures))
+
+pub returns-then-number_of-ne0 : goal.returns-then-number_of-ne0
+returns-then-number_of-ne0 c =
+    let s = (start_of c.before.before.before).args in
+    c.nowhere.ensures
+    ∙ sym (place_refused s.morning.now s.noon.now (known c.before.before.before) s.contract (λ z. c.if-number_of-ne0.true (c.number_of.ensures ∙ z)))
+
+pub returns-then-contract-ge-CONTRACTS : goal.returns-then-contract-ge-CONTRACTS
+returns-then-contract-ge-CONTRACTS c =
+    let s = (start_of c.before.before.before.before).args in
+    c.nowhere-then-contract-ge-CONTRACTS.ensures ∙ sym (place-beyond s.morning.now s.noon.now (known c.before.before.before.before) s.contract c.if-contract-ge-CONTRACTS.true)
+
+pub returns-then-second-contract-ne0 : goal.returns-then-second-contract-ne0
+returns-then-second-contract-ne0 c =
+    let k = judged c.before.before.before in
+    let s = (start_of k).args in
+    c.place_in.ensures
+    ∙ place_noon s.morning.now s.noon.now (known k) s.contract (clear c.before.before.before) (omega (arith, c.if-contract-ge-CONTRACTS.false)) c.if-second-contract-ne0.true
+
+pub returns-then-first-contract-ne0 : goal.returns-then-first-contract-ne0
+returns-then-first-contract-ne0 c =
+    let k = judged c.before.before.before.before.before in
+    let s = (start_of k).args in
+    c.place_in-then-first-contract-ne0.ensures
+    ∙ place_morning s.morning.now s.noon.now (known k) s.contract (clear c.before.before.before.before.before) (omega (arith, c.if-contract-ge-CONTRACTS.false))
+    (omega (arith, c.if-second-contract-ne0.false)) c.if-first-contract-ne0.true
+
+pub returns : goal.returns
+returns c =
+    let k = judged c.before.before.before.before.before in
+    let s = (start_of k).args in
+    c.nowhere-2.ensures
+    ∙ sym (place-nowhere s.morning.now s.noon.now (known k) s.contract (clear c.before.before.before.before.before) (omega (arith, c.if-contract-ge-CONTRACTS.false))
+    (omega (arith, c.if-second-contract-ne0.false)) (omega (arith, c.if-first-contract-ne0.false)))

@@ -1,0 +1,7 @@
+-- `account::order::spread_out_of_order` meets its contract. Assumes nothing.
+use borrow.Author.Rules.{rules}
+use Rattle.record.proofs.Tests.{both}
+use Rattle.account.proofs.order.spread_out_of_order.Goals as goal
+
+pub returns : goal.returns
+returns c = both c.contract_falls.ensures c.legs_clash.ensures

@@ -1,0 +1,20 @@
+-- `account::passing::has_day` meets its contract. Assumes nothing.
+use Prim.Native.Nat.{◌-◌}
+use mathlib.Core.Bool.{◌||◌}
+use mathlib.Core.Path.{◌≡◌, refl, sym, ◌∙◌}
+use lib.Dec.{eqb}
+use lib.ListN.{get_or}
+use native.Mathlib.Omega.{arith}
+use Rattle.exact.specs.Lists.{any}
+use Rattle.record.specs.Bytes.{count_from}
+use Rattle.record.proofs.Tests.{any_next, any_past}
+use Rattle.account.specs.code.Passing.{has_day}
+use Rattle.account.specs.Check.{most_prompts}
+use Rattle.account.proofs.passing.has_day.Given as goal
+
+abbrev pub invariant-loop-j : goal.invariant-loop-j
+invariant-loop-j l =
+    has_day l.days l.d ≡ l.found || any (λ i. eqb (get_or l.days i 0) l.d) (count_from l.j (most_prompts - l.j))
+
+abbrev pub decreases-loop-j : goal.decreases-loop-j
+decreases-loop-j l = most_prompts - l.j

@@ -1,0 +1,7 @@
+-- The byte is the tier.
+-- Assumes nothing.
+use borrow.Author.Rules.{rules}
+use Rattle.account.proofs.passing.leg_unlisted.Goals as goal
+
+pub returns : goal.returns
+returns c = rw c.leg_tier_in-t.ensures.0

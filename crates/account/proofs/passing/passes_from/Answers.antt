@@ -1,0 +1,61 @@
+-- `account::passing::passes_from` meets its contract. Assumes nothing.
+use Prim.Native.Nat.{ℕ}
+use mathlib.Core.Path.{◌≡◌, sym, ◌∙◌}
+use borrow.Author.Tests.{not-false}
+use native.Mathlib.Omega.{arith}
+use Rattle.account.specs.code.Passing.{Begins}
+use Rattle.account.proofs.Runs.{none_run, contract_run, begins_read}
+use borrow.Author.Rules.{rules}
+use Rattle.account.proofs.passing.passes_from.Goals as goal
+use Rattle.account.proofs.passing.passes_from.Goals.{After-contract-c, After-kind-n, Else-not-may_run, Start}
+
+-- record k's contract and kind read: a run of its kind may begin
+module _ (c : Else-not-may_run) where
+  abbrev contract-read : After-contract-c
+  contract-read = c.before.before.before
+
+  abbrev kind-read : After-kind-n
+  kind-read = c.before.before.before.before.before.before.before
+
+  abbrev s : Start
+  s = c.before.before.before.before.before.before.before.before.before.before.before.before
+
+  begins : (n : ℕ) → c.kind-n.result ≡ n
+      → Begins n c.args.file.now c.args.counts.now c.args.k c.contract-c.result
+  begins n e =
+      let contract = c.contract-c in
+      begins_read n c.kind-n.result contract.result c.requires.0 c.requires.1 c.if-k-eq0.left
+      c.whole_at-r.ensures c.whole_at.ensures c.kind-n.ensures.0 contract.ensures.0 contract.ensures.1
+      (sym c.may_run.ensures ∙ not-false _ c.if-not-may_run.false) e
+
+pub returns-then-contract_passes : goal.returns-then-contract_passes
+returns-then-contract_passes c =
+    contract_run c.args.file.now c.args.first.now c.args.counts.now c.args.k c.requires.0
+    c.whole_before.ensures c.whole_at-r.ensures (sym c.contract_passes.ensures ∙ c.if-contract_passes.true)
+
+pub returns-then-n-eq1 : goal.returns-then-n-eq1
+returns-then-n-eq1 c =
+    none_run c.args.file.now c.args.first.now c.args.counts.now c.args.k (omega (arith, c.requires.0))
+
+pub returns-then-k-eq0 : goal.returns-then-k-eq0
+returns-then-k-eq0 c =
+    none_run c.args.file.now c.args.first.now c.args.counts.now c.args.k (omega (arith, c.requires.0))
+
+pub returns-then-not-may_run : goal.returns-then-not-may_run
+returns-then-not-may_run c =
+    none_run c.args.file.now c.args.first.now c.args.counts.now c.args.k (omega (arith, c.requires.0))
+
+pub prompts_from-requires : goal.prompts_from-requires
+prompts_from-requires c = begins c.before 2 c.if-n-eq2.true
+
+pub rows_from-requires : goal.rows_from-requires
+rows_from-requires c = begins c.before.before 3 c.if-n-eq3.true
+
+pub spreads_from-requires : goal.spreads_from-requires
+spreads_from-requires c =
+    begins c.before.before.before 4 c.if-n-eq4.true
+
+pub returns : goal.returns
+returns c =
+    let start = s c.before.before.before in
+    none_run start.args.file.now start.args.first.now start.args.counts.now start.args.k (omega (arith, start.pre.0))

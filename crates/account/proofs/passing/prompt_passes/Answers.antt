@@ -1,0 +1,6 @@
+-- `account::passing::prompt_passes` meets its contract. Assumes nothing.
+use borrow.Author.Rules.{rules}
+use Rattle.account.proofs.passing.prompt_passes.Goals as goal
+
+pub returns : goal.returns
+returns c = rw (c.sound_prompt.ensures, c.day_not_above.ensures, c.tier_falls.ensures)

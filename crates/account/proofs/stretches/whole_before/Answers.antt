@@ -1,0 +1,11 @@
+-- `account::stretches::whole_before` meets its contract. Assumes nothing.
+use borrow.Author.Rules.{rules}
+use mathlib.Core.Path.{◌∙◌}
+use native.Mathlib.Omega.{arith}
+use Rattle.account.proofs.Walk.{before_is}
+use Rattle.account.proofs.stretches.whole_before.Goals as goal
+
+pub returns : goal.returns
+returns c =
+    let a = c.args in
+    c.whole_at.ensures ∙ before_is a.file.now a.k c.if-k-eq0.false

@@ -1,0 +1,10 @@
+-- The check's answer, told to C.
+-- Assumes nothing.
+use borrow.Author.Rules.{rules}
+use mathlib.Core.Path.{subst}
+use Rattle.account.specs.declared.answers.Answer.{Answer}
+use Rattle.felgotany.specs.code.Outcomes.{Tells}
+use Rattle.felgotany.proofs.felgotany_check.Goals as goal
+
+pub returns : goal.returns
+returns c = subst (λ (a : Answer). Tells a c.tell.result) c.check.ensures c.tell.ensures

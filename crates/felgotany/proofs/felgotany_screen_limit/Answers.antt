@@ -1,0 +1,16 @@
+-- What is said of a ticket that is asked about, told to C.
+-- Assumes nothing.
+use borrow.Author.Rules.{rules}
+use mathlib.Core.Path.{ap, subst, ◌∙◌}
+use Rattle.exact.proofs.Integers.{back}
+use Rattle.screen.specs.Screen.{limited}
+use Rattle.screen.specs.declared.Limited.{Limited}
+use Rattle.felgotany.specs.code.Outcomes.{TellsLimit}
+use Rattle.felgotany.proofs.felgotany_screen_limit.Goals as goal
+
+pub returns : goal.returns
+returns c =
+    let a = c.args in
+    subst (λ (l : Limited). TellsLimit l c.tell_limit.result)
+    (c.limit.ensures ∙ ap (limited a.lent.now a.named a.ticket.now) (back a.limit c.ranges.limit))
+    c.tell_limit.ensures

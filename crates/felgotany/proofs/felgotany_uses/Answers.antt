@@ -1,0 +1,12 @@
+-- The answer to a delta book, told to C, and the lent numbers as the question leaves them.
+-- Assumes nothing.
+use borrow.Author.Rules.{rules}
+use mathlib.Core.Path.{subst}
+use Rattle.account.specs.declared.answers.Answer.{Answer}
+use Rattle.felgotany.specs.code.Outcomes.{Tells}
+use Rattle.felgotany.proofs.felgotany_uses.Goals as goal
+
+pub returns : goal.returns
+returns c =
+    let f = c.answer.ensures in
+    (subst (λ (a : Answer). Tells a c.tell.result) f.0 c.tell.ensures, f.1)

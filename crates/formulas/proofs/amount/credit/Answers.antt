@@ -1,0 +1,85 @@
+-- The credit, from the wholes and the part of the unit price risk: nothing on the way outgrows 64 bits.
+-- Assumes nothing.
+use mathlib.Core.Path.{◌≡◌, ◌∙◌, ap}
+use Prim.Native.Nat.{ℕ, ◌+◌, ◌*◌, ◌/◌}
+use native.Mathlib.Nat.{le-mul_of_pos_right}
+use native.Mathlib.Omega.{arith}
+use borrow.Author.Rules.{rules}
+use Rattle.formulas.specs.Credit.{credit}
+use Rattle.formulas.proofs.AmountLaws.{CreditParts, credit-parts}
+use Rattle.formulas.proofs.amount.credit.Goals as goal
+use Rattle.formulas.proofs.amount.credit.Goals.{After-half_up, After-unit_price_risk-risk}
+
+-- what holds once the unit price risk is known
+parts :
+    (c : After-unit_price_risk-risk) →
+    let s = c.args in
+    CreditParts s.unit s.twice-risk s.used s.percent s.net c.unit_price_risk-risk.result.whole c.unit_price_risk-risk.result.part
+parts c =
+    let s = c.args in
+    let p = c.requires in
+    let u = c.unit_price_risk-risk.ensures in
+    credit-parts s.unit s.twice-risk s.used s.percent s.net _ _ p.4.least p.4.most p.0 p.1 p.2 p.3 u.0 u.1 u.2
+
+-- the sum of units that is returned, in hundredths
+credited :
+    (c : After-half_up) →
+    let s = c.args in
+    (c.unit_price_risk-risk.result.whole * s.used / (200 * s.unit) * s.percent + c.half_up.result) * s.unit ≡ credit s.unit s.twice-risk
+    s.used s.percent s.net
+credited c =
+    let s = c.args in
+    ap (λ (x : ℕ). (c.unit_price_risk-risk.result.whole * s.used / (200 * s.unit) * s.percent + x) * s.unit) c.half_up.ensures ∙ (parts c.before.before.before).is
+
+pub overflow_mul-halves : goal.overflow_mul-halves
+overflow_mul-halves c = let h = (parts c.before).halves_within in omega (arith, h, c.ranges.twice-risk)
+
+pub overflow_mul-each : goal.overflow_mul-each
+overflow_mul-each c = omega (arith, c.requires.4.most)
+
+pub nonzero_rem-parts : goal.nonzero_rem-parts
+nonzero_rem-parts c = omega (arith, c.requires.4.least)
+
+pub overflow_mul-parts : goal.overflow_mul-parts
+overflow_mul-parts c = let h = (parts c.before).rest_within in omega (arith, h)
+
+pub overflow_mul-parts-2 : goal.overflow_mul-parts-2
+overflow_mul-parts-2 c = let h = (parts c.before).rest_within in omega (arith, h)
+
+pub overflow_mul-parts-3 : goal.overflow_mul-parts-3
+overflow_mul-parts-3 c = let h = (parts c.before).share_within in omega (arith, h)
+
+pub overflow_mul-parts-4 : goal.overflow_mul-parts-4
+overflow_mul-parts-4 c = let h = (parts c.before.before).part_within in omega (arith, h)
+
+pub overflow_add-parts : goal.overflow_add-parts
+overflow_add-parts c = let h = parts c.before.before in omega (arith, h.rest_within, h.part_within)
+
+pub nonzero_div-units : goal.nonzero_div-units
+nonzero_div-units c =
+    omega (arith, c.requires.4.least)
+
+pub overflow_mul-units : goal.overflow_mul-units
+overflow_mul-units c =
+    let h = (parts c.before.before).wholes_within in
+    omega (arith, h, c.ranges.twice-risk)
+
+pub overflow_mul-unit : goal.overflow_mul-unit
+overflow_mul-unit c =
+    omega (arith, c.requires.4.most)
+
+pub overflow_add-units : goal.overflow_add-units
+overflow_add-units c =
+    let s = c.args in
+    let units = c.unit_price_risk-risk.result.whole * s.used / (200 * s.unit) * s.percent + c.half_up.result in
+    omega (arith, credited c, (parts c.before.before.before).within, le-mul_of_pos_right units c.requires.4.least)
+
+pub overflow_mul-result : goal.overflow_mul-result
+overflow_mul-result c =
+    omega (arith, credited c, (parts c.before.before.before).within)
+
+pub returns : goal.returns
+returns c =
+    let e = credited c in
+    let h = (parts c.before.before.before).within in
+    (e, omega (arith, e, h))

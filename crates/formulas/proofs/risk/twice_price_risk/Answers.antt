@@ -1,0 +1,65 @@
+-- The price risk, twice over: the difference of two sums of totals, or 0 if negative.
+-- Assumes nothing.
+use mathlib.Core.Path.{◌≡◌, ◌∙◌, ap, subst, subst⁻¹}
+use Prim.Native.Nat.{ℕ, ◌≤◌, ◌*◌}
+use native.Mathlib.Nat.{le_trans}
+use native.Mathlib.Omega.{arith}
+use borrow.Author.Rules.{rules}
+use lib.IntN.{ℤ, nat_abs, ◌+ℤ◌, ◌-ℤ◌}
+use Rattle.exact.specs.Signed.{or_zero}
+use Rattle.exact.proofs.Integers.{abs_sub, or_zero_abs}
+use Rattle.formulas.specs.Credit.{total_of}
+use Rattle.formulas.specs.Pairs.{pair_of}
+use Rattle.formulas.specs.Bounds.{most_risk}
+use Rattle.formulas.proofs.Calls.{op_fits, op_is}
+use Rattle.formulas.proofs.risk.twice_price_risk.Goals as goal
+use Rattle.formulas.proofs.risk.twice_price_risk.Goals.{After-both, After-both-2, Start}
+
+-- the sums of the active and the paired total, and of the totals 1 and 2
+paired : (c : Start) → ℤ
+paired c = total_of c.args.totals.now c.args.active +ℤ total_of c.args.totals.now (pair_of c.args.active)
+
+still : (c : Start) → ℤ
+still c = total_of c.args.totals.now 1 +ℤ total_of c.args.totals.now 2
+
+paired_is : (c : After-both) → c.both.result ≡ paired c.before.before
+paired_is c = c.both.ensures.0
+    ∙ ap (λ (p : ℕ). total_of c.args.totals.now c.args.active +ℤ total_of c.args.totals.now p) c.pair_of-paired.ensures
+
+unfolding paired
+
+unfolding still
+
+unfolding still
+
+unfolding still paired
+
+abbrev start_of : After-both-2 → Start
+start_of c =
+    let start = c.before.before.before in
+    start
+
+within : (c : After-both-2) → nat_abs (paired (start_of c) -ℤ still (start_of c)) ≤ 4 * most_risk
+within c =
+    let s = start_of c in
+    let a : nat_abs (paired s) ≤ 2 * most_risk = subst (λ (z : ℤ). nat_abs z ≤ 2 * most_risk) (paired_is c.before) c.both.ensures.1 in
+    let b : nat_abs (still s) ≤ 2 * most_risk = subst (λ (z : ℤ). nat_abs z ≤ 2 * most_risk) c.both-2.ensures.0 c.both-2.ensures.1 in
+    let h = abs_sub (paired s) (still s) in
+    omega arith
+
+pub minus-requires : goal.minus-requires
+minus-requires c =
+    let s = start_of c in
+    let h = within c in
+    op_fits ◌-ℤ◌ c.both.result c.both-2.result (paired s) (still s) c.both.type_inv c.both-2.type_inv (paired_is c.before)
+    c.both-2.ensures.0 (omega arith)
+
+pub returns : goal.returns
+returns c =
+    let s = start_of c.before.before in
+    let e = op_is ◌-ℤ◌ c.both.result c.both-2.result (paired s) (still s) c.both.type_inv c.both-2.type_inv (paired_is c.before.before.before)
+    c.both-2.ensures.0
+    c.minus.result c.minus.type_inv c.minus.ensures
+    in
+    let r : c.or_zero.result ≡ or_zero (paired s -ℤ still s) = c.or_zero.ensures ∙ ap or_zero e in
+    (r, subst⁻¹ (λ (n : ℕ). n ≤ 4 * most_risk) r (le_trans (or_zero_abs (paired s -ℤ still s)) (within c.before.before)))

@@ -1,0 +1,15 @@
+-- `guesses`: the places before j.
+-- Assumes nothing.
+use mathlib.Core.Path.{subst⁻¹}
+use Prim.Native.Nat.{ℕ, ◌-◌, ◌≤◌, ◌<◌}
+use native.Mathlib.Omega.{arith}
+use Rattle.spread.proofs.Filling.{get_d_same}
+use Rattle.formulas.specs.code.Position.{Guessed}
+use Rattle.formulas.proofs.PlacedLaws.{guessed_more}
+use Rattle.formulas.proofs.rows.guesses.Given as goal
+
+abbrev pub invariant-loop-j : goal.invariant-loop-j
+invariant-loop-j l = (l.j ≤ l.count) × Guessed l.count l.guess
+
+abbrev pub decreases-loop-j : goal.decreases-loop-j
+decreases-loop-j l = l.count - l.j

@@ -1,0 +1,19 @@
+-- `turn_of`: by the sign.
+-- Assumes nothing.
+use mathlib.Core.Path.{sym, ◌∙◌, ap}
+use mathlib.Core.Bool.{Bool, cond}
+use Prim.Native.Nat.{◌-◌, ◌^◌}
+use borrow.Author.Rules.{rules}
+use Rattle.exact.specs.Signed.{negative}
+use Rattle.exact.proofs.Integers.{seen}
+use Rattle.formulas.proofs.rows.turn_of.Goals as goal
+
+pub returns-then-is_negative : goal.returns-then-is_negative
+returns-then-is_negative c =
+    ap (λ (t : Bool). cond t (2 ^ 32 - 1) 0)
+    (sym c.if-is_negative.true ∙ seen negative c.args.each c.ranges.each c.is_negative.ensures)
+
+pub returns-else-is_negative : goal.returns-else-is_negative
+returns-else-is_negative c =
+    ap (λ (t : Bool). cond t (2 ^ 32 - 1) 0)
+    (sym c.if-is_negative.false ∙ seen negative c.args.each c.ranges.each c.is_negative.ensures)

@@ -1,0 +1,37 @@
+-- Each question is answered by its own function.
+-- Assumes nothing.
+use mathlib.Core.Path.{◌≡◌, subst⁻¹}
+use mathlib.Core.List.{List}
+use borrow.Author.Rules.{rules}
+use lib.IntN.{ℤ}
+use lib.ListN.{length}
+use Rattle.record.specs.Layout.{Record}
+use Rattle.account.specs.Joined.{account_of}
+use Rattle.account.specs.declared.answers.Answer.{Answer}
+use Rattle.margin.specs.Questions.{answer_over, after_over}
+use Rattle.margin.specs.declared.asking.Question.{Question}
+use Rattle.margin.proofs.asking.answer_lent.Goals as goal
+
+-- the same question by another name
+answered : (account : List Record) (a : Answer) (left lent : List ℤ) (q q' : Question) → q ≡ q' → (a ≡ answer_over account q' (length lent))
+    × (left ≡ after_over account q' lent)
+    → (a ≡ answer_over account q (length lent)) × (left ≡ after_over account q lent)
+answered account a left lent q q' e = subst⁻¹ (λ (x : Question). (a ≡ answer_over account x (length lent)) × (left ≡ after_over account x lent)) e
+
+pub returns-in-Figures : goal.returns-in-Figures
+returns-in-Figures c =
+    let r = c.answer_figures in
+    answered (account_of c.args.morning.now c.args.noon.now) r.result r.new.1.1.1.0 c.args.out.now _ _
+    c.enum_told-1.given.1 r.ensures
+
+pub returns-in-Book : goal.returns-in-Book
+returns-in-Book c =
+    let r = c.answer_question in
+    answered (account_of c.args.morning.now c.args.noon.now) r.result r.new.1.1.1.1.1.0 c.args.out.now _ _
+    c.question-1.given.1 r.ensures
+
+pub returns-in-Uses : goal.returns-in-Uses
+returns-in-Uses c =
+    let r = c.answer_question-in-Uses in
+    answered (account_of c.args.morning.now c.args.noon.now) r.result r.new.1.1.1.1.1.0 c.args.out.now _ _
+    c.question-in-Uses-1.given.1 r.ensures

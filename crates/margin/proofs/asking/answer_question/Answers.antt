@@ -1,0 +1,92 @@
+-- A question of an account: not to be asked, a contract's book, or answered by what it asks about.
+-- Assumes nothing.
+use mathlib.Core.Path.{◌≡◌, sym, ap, ◌∙◌, subst⁻¹}
+use mathlib.Core.Bool.{Bool, false, not}
+use native.Mathlib.Omega.{arith}
+use borrow.Author.Rules.{rules}
+use borrow.Author.Tests.{not-true, not-false, eqb-false}
+use lib.Dec.{eqb}
+use lib.ListN.{length}
+use Rattle.account.specs.code.Lent.{account_in}
+use Rattle.account.specs.Joined.{account_of}
+use Rattle.account.specs.declared.answers.Answer.TheVariants.{NoSuchQuestion}
+use Rattle.spread.proofs.Both.{and_left, and_right}
+use Rattle.margin.specs.Books.{answered, table_question}
+use Rattle.margin.specs.Places.{question_of}
+use Rattle.margin.specs.Questions.{numbers_for, answer_over}
+use Rattle.margin.proofs.AskedLaws.{asked_is, asked_small}
+use Rattle.margin.proofs.PlaceLaws.{answers_of}
+use Rattle.margin.proofs.QuestionLaws.{Answers, not-asked, refused_with}
+use Rattle.margin.proofs.asking.answer_question.Goals as goal
+use Rattle.margin.proofs.asking.answer_question.Goals.{After-is_asked, Start, Then-paid-question}
+
+abbrev start_of : After-is_asked → Start
+start_of c =
+    let start = c.before.before.before in
+    start
+
+-- whether the account answers the question
+asked : (c : After-is_asked) →
+    let s = start_of c in
+    answered (account_of s.args.morning.now s.args.noon.now) s.args.question ≡ c.is_asked.result
+asked c =
+    let s = start_of c in
+    sym (c.is_asked.ensures ∙ asked_is (account_of s.args.morning.now s.args.noon.now) s.pre.lawful (account_in s.args.account.now).counts
+    s.pre.places.counts s.args.question)
+
+-- a book of a contract
+not-paid : (c : Then-paid-question) → (start_of c.before.before).args.paid ≡ false
+not-paid c =
+    let s = start_of c.before.before in
+    not-true s.args.paid (and_left (not s.args.paid) (not (eqb s.args.question table_question)) c.if-paid-question.true)
+
+pub returns-then-not-is_asked : goal.returns-then-not-is_asked
+returns-then-not-is_asked c =
+    let s = start_of c.before.before in
+    let a = account_of s.args.morning.now s.args.noon.now in
+    let q = question_of s.args.paid s.args.question in
+    refused_with (NoSuchQuestion c.record_total.result) _ (numbers_for a q) s.args.out.now
+    (not-asked a q (length s.args.out.now)
+    (answers_of a s.args.paid s.args.question ∙ asked c.before.before ∙ not-true c.is_asked.result c.if-not-is_asked.true)
+    ∙ ap NoSuchQuestion (sym (c.record_total.ensures ∙ s.pre.places.all))) (λ e. omega arith)
+
+pub answer_contract_book-requires : goal.answer_contract_book-requires
+answer_contract_book-requires c =
+    let s = start_of c.before.before.before in
+    let q = s.args.question in
+    let is = asked c.before.before.before ∙ not-false c.is_asked.result c.if-not-is_asked.false in
+    let contract = and_right (not s.args.paid) (not (eqb q table_question)) c.if-paid-question.true in (
+      s.pre,
+      (
+        asked_small (account_of s.args.morning.now s.args.noon.now) s.pre.lawful q is
+            (eqb-false q table_question (not-true (eqb q table_question) contract)),
+        is,
+      ),
+    )
+
+pub returns-then-paid-question : goal.returns-then-paid-question
+returns-then-paid-question c =
+    let s = start_of c.before.before.before.before.before in
+    let a = account_of s.args.morning.now s.args.noon.now in
+    let out = s.args.out.now in
+    let r = c.answer_contract_book in
+    subst⁻¹ (λ (p : Bool). Answers r.result r.new.1.1.1.1.0 (answer_over a (question_of p s.args.question) (length out))
+    (numbers_for a (question_of p s.args.question)) out) (not-paid c.before.before.before) r.ensures
+
+pub asking_over-asking-requires : goal.asking_over-asking-requires
+asking_over-asking-requires c =
+    ((start_of c.before.before).requires, asked c.before.before ∙ not-false c.is_asked.result c.if-not-is_asked.false)
+
+pub answer_asking-requires : goal.answer_asking-requires
+answer_asking-requires c = c.asking_over-asking.ensures.accepted
+
+pub returns : goal.returns
+returns c =
+    let s = start_of c.before.before.before.before.before.before.before in
+    c.answer_asking.ensures (account_of s.args.morning.now s.args.noon.now) s.args.question
+    (record {
+      lawful = s.pre.lawful;
+      asked_is = asked c.before.before.before.before.before.before.before ∙ not-false c.is_asked.result c.if-not-is_asked.false;
+      records_are = c.record_total-2.ensures ∙ s.pre.places.all;
+      asks = c.asking_over-asking.ensures;
+    })

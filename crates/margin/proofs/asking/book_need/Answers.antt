@@ -1,0 +1,65 @@
+-- How many numbers the answer has, 0 where the question is not answered.
+-- Assumes nothing.
+use mathlib.Core.Path.{◌≡◌, sym, ap, ◌∙◌}
+use mathlib.Core.Bool.{Bool, cond}
+use native.Mathlib.Omega.{arith}
+use borrow.Author.Rules.{rules}
+use borrow.Author.Tests.{not-true, not-false}
+use lib.ListN.{length}
+use Rattle.account.specs.code.Lent.{account_in}
+use Rattle.account.specs.Joined.{account_of}
+use Rattle.margin.specs.Books.{answered}
+use Rattle.margin.specs.Questions.{numbers_for}
+use Rattle.margin.specs.declared.asking.Question.TheVariants.{Book}
+use Rattle.margin.proofs.AskedLaws.{asked_is}
+use Rattle.margin.proofs.asking.book_need.Goals as goal
+use Rattle.margin.proofs.asking.book_need.Goals.{After-is_asked, Start}
+
+abbrev start_of : After-is_asked → Start
+start_of c =
+    let start = c.before.before.before in
+    start
+
+-- whether the account answers the question
+asked : (c : After-is_asked) →
+    let s = start_of c in
+    answered (account_of s.args.morning.now s.args.noon.now) s.args.question ≡ c.is_asked.result
+asked c =
+    let s = start_of c in
+    sym (c.is_asked.ensures ∙ asked_is (account_of s.args.morning.now s.args.noon.now) s.pre.lawful (account_in s.args.account.now).counts
+    s.pre.places.counts s.args.question)
+
+pub returns-then-not-is_asked : goal.returns-then-not-is_asked
+returns-then-not-is_asked c =
+    let s = start_of c.before in
+    let a = account_of s.args.morning.now s.args.noon.now in (
+      sym (ap (λ (t : Bool). cond t (length (numbers_for a (Book s.args.question))) 0)
+          (asked c.before ∙ not-true c.is_asked.result c.if-not-is_asked.true)),
+      omega arith,
+    )
+
+pub sizes_over-sizes-requires : goal.sizes_over-sizes-requires
+sizes_over-sizes-requires c =
+    ((start_of c.before).requires, asked c.before ∙ not-false c.is_asked.result c.if-not-is_asked.false)
+
+pub overflow_mul-result : goal.overflow_mul-result
+overflow_mul-result c = omega (arith, c.sizes_over-sizes.ensures.prompts_few)
+
+pub overflow_mul-result-2 : goal.overflow_mul-result-2
+overflow_mul-result-2 c = omega (arith, c.sizes_over-sizes.ensures.spreads_few)
+
+pub overflow_add-result : goal.overflow_add-result
+overflow_add-result c = omega (arith, c.sizes_over-sizes.ensures.prompts_few, c.sizes_over-sizes.ensures.spreads_few)
+
+pub overflow_add-result-2 : goal.overflow_add-result-2
+overflow_add-result-2 c = omega (arith, c.sizes_over-sizes.ensures.prompts_few, c.sizes_over-sizes.ensures.spreads_few)
+
+pub returns : goal.returns
+returns c =
+    let s = start_of c.before.before.before.before in
+    let a = account_of s.args.morning.now s.args.noon.now in
+    let r = c.sizes_over-sizes in (
+      sym (ap (λ (t : Bool). cond t (length (numbers_for a (Book s.args.question))) 0)
+          (asked c.before.before.before.before ∙ not-false c.is_asked.result c.if-not-is_asked.false) ∙ r.ensures.book_has),
+      omega (arith, r.ensures.prompts_few, r.ensures.spreads_few),
+    )

@@ -1,0 +1,121 @@
+-- A contract after the other: its book and uses in their places, and its line in its own; and the total behind them.
+-- Assumes nothing.
+use mathlib.Core.Path.{◌≡◌, sym, ◌∙◌}
+use Prim.Native.Nat.{◌-◌, ◌≤◌}
+use native.Mathlib.Omega.{arith}
+use borrow.Author.Rules.{rules}
+use lib.ListN.{length, length-map}
+use Rattle.account.specs.Check.{most_contracts}
+use Rattle.account.specs.code.Lent.{account_in}
+use Rattle.account.specs.Joined.{account_of}
+use Rattle.account.specs.Parts.{contracts_of}
+use Rattle.margin.proofs.StandLaws.{few_contracts}
+use Rattle.margin.proofs.WalkedLaws.{WalkedTo, walked_start, walked_next, walked_all}
+use Rattle.margin.proofs.everything.place_over.Goals as goal
+use Rattle.margin.proofs.everything.place_over.Goals.{After-contract_over-line, After-contract_total-count, After-place_line-margin}
+
+-- as many contracts as are listed, at most sixteen
+counted : (c : After-contract_total-count) →
+    c.contract_total-count.result ≡ length (contracts_of (account_of c.args.morning.now c.args.noon.now))
+counted c =
+    c.contract_total-count.ensures ∙ c.requires.0.places.contracts
+
+few : (c : After-contract_total-count) → c.contract_total-count.result ≤ most_contracts
+few c =
+    omega (arith, c.contract_total-count.ensures, few_contracts c.args.morning.now c.args.noon.now (account_in c.args.account.now) c.requires.0)
+
+-- what was known when the turn began
+abbrev at-contract : After-place_line-margin → After-contract_over-line
+at-contract c =
+    let after-contract = c.before.before.before.before.before.before.before.before.before in
+    after-contract
+
+pub loop-i-init : goal.loop-i-init
+loop-i-init c =
+    walked_start c.requires.1.1
+
+pub contract_over-line-requires : goal.contract_over-line-requires
+contract_over-line-requires c =
+    (c.requires.0, (omega (arith, c.loop-i-test.true, c.contract_total-count.ensures), c.rates_over-rates.ensures))
+
+pub place_line-margin-requires : goal.place_line-margin-requires
+place_line-margin-requires c =
+    let l = c.loop-i in
+    let is = l.invariant.table in
+    let taken = c.loop-i-test.true in
+    let h = few c.before.before.before.before.before.before.before.before.before.before.before.before.before.before in (
+      omega (arith, taken),
+      (
+        omega (arith, taken, c.requires.1.0, c.contract_total-count.ensures, is.same),
+        (
+          c.contract_over-line.ensures.line.within,
+          (
+            (is.tiered.tiers, sym (length-map l.nets _) ∙ is.tiered.nets),
+            (is.put.units_at, (is.put.prices_at, is.put.nets_at)),
+          ),
+        ),
+      ),
+    )
+
+pub overflow_add-total : goal.overflow_add-total
+overflow_add-total c =
+    let after_test_lem = (at-contract c.before.before).before.before.before in
+    let after-loop = after_test_lem.before in
+    let h = few after-loop.before.before in
+    let small = after-loop.loop.inv.small in
+    let margin = c.place_line-margin.ensures.margin.1 in
+    omega (arith, after_test_lem.loop-test.taken)
+
+pub overflow_add-i : goal.overflow_add-i
+overflow_add-i c =
+    let after_test_lem = (at-contract c.before.before).before.before.before in
+    let h = few after_test_lem.before.before.before in
+    omega (arith, after_test_lem.loop-test.taken)
+
+pub loop-i-smaller : goal.loop-i-smaller
+loop-i-smaller c =
+    let after_test_lem = (at-contract c.before.before).before.before.before in
+    omega (arith, after_test_lem.loop-test.taken)
+
+pub loop-i-preserved : goal.loop-i-preserved
+loop-i-preserved c =
+    let after-contract = at-contract c.before.before in
+    let after_test_lem = after-contract.before.before.before in
+    let after-loop = after_test_lem.before in
+    let after-total = after-loop.before.before in
+    let s = after-total.before.before.before in
+    let r = c.place_line-margin in
+    walked_next s.pre.0.lawful (counted after-total) (few after-total) after-loop.loop.inv
+    after_test_lem.loop-test.taken (omega (arith, s.pre.1.0, after-total.contract-total.ensures))
+    after-contract.contract-over.ensures c.books-1.given c.uses-1.given r.ensures.0 c.figures-1.given
+    r.ensures.1
+
+pub overflow_mul-count : goal.overflow_mul-count
+overflow_mul-count c =
+    let h = few c.before.before.before.before in
+    omega arith
+
+pub put-requires : goal.put-requires
+put-requires c =
+    let l = c.loop-i in
+    let h = few c.before.before.before.before in
+    let small = l.invariant.small in
+    let within = l.invariant.table.within in
+    (omega (arith, c.requires.1.0, c.contract_total-count.ensures, l.invariant.table.same), omega arith)
+
+pub shape_of-figures : goal.shape_of-figures
+shape_of-figures c =
+    c.figures-2-1.given ∙ c.loop-i.invariant.table.same
+
+pub shape_of-books : goal.shape_of-books
+shape_of-books c =
+    c.loop-i.invariant.book.same
+
+pub shape_of-uses : goal.shape_of-uses
+shape_of-uses c =
+    c.loop-i.invariant.paid.same
+
+pub returns : goal.returns
+returns c =
+    walked_all c.requires.0.lawful (counted c.before.before.before.before.before.before) (few c.before.before.before.before.before.before) c.loop-i.invariant
+    (omega (arith, c.loop-i-test.false)) c.put.ensures

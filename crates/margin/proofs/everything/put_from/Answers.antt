@@ -1,0 +1,75 @@
+-- The contracts first, then the figures and the table in its two places, for every account that the positions tell of.
+-- Assumes nothing.
+use mathlib.Core.Path.{sym, ap, ◌∙◌}
+use mathlib.Core.List.{List}
+use Prim.Native.Nat.{◌≤◌}
+use native.Mathlib.Omega.{arith}
+use lib.ListN.{length}
+use Rattle.record.specs.Layout.{Record}
+use Rattle.account.specs.Joined.{account_of}
+use Rattle.margin.specs.Figures.{figures}
+use Rattle.margin.specs.code.Lent.{TabledBy}
+use Rattle.margin.specs.code.Positions.{PositionsTell}
+use Rattle.margin.proofs.BesideLaws.{entries_beside}
+use Rattle.margin.proofs.QuestionLaws.{figures-length}
+use Rattle.margin.proofs.WalkedLaws.{walked_tabled, walked_everything}
+use borrow.Author.Rules.{rules}
+use Rattle.margin.proofs.everything.put_from.Goals as goal
+use Rattle.margin.proofs.everything.put_from.Goals.{After-contract_total, After-figures-1, After-place_from, Start}
+
+abbrev at-start : After-place_from → Start
+at-start c =
+    let start = c.before.before.before.before.before.before.before.before.before.before.before in
+    start
+
+-- an account that they tell of
+abbrev Told : Start → List Record → Type 0
+Told s whole = PositionsTell (account_of s.args.morning.now s.args.noon.now) s.args.positions whole
+
+-- the figures have room
+room : (s : Start) (whole : List Record) → Told s whole → length (figures whole) ≤ length s.args.figures.now
+room s whole t = omega (arith, figures-length whole, s.requires.1.1, ap length t.beside.contracts, s.requires.0.places.contracts)
+
+-- what was known where the contracts are in their places
+abbrev at-figures : After-contract_total → After-figures-1
+at-figures c =
+    let after-figures = c.before.before.before.before in
+    after-figures
+
+-- the contracts of such an account are in their places
+tabled : (c : After-contract_total) →
+    let after-place = (at-figures c).before in
+    let s = at-start after-place in
+    let ends = after-place.place-from.last.1.1.1.1 in
+    (whole : List Record) → Told s whole
+    → TabledBy c.part.result.now c.contract_total.result s.args.positions.records ends.0 ends.1.1.1.0
+    ends.1.1.1.1.0 ends.1.1.1.1.1.0 ends.1.1.1.1.1.1.0 ends.1.1.1.1.1.1.1.0 whole
+tabled c whole t =
+    let after-place = (at-figures c).before in
+    let s = at-start after-place in
+    let bytes = c.part.result.now in
+    walked_tabled (room s whole t) (at-figures c).figures.given (after-place.place-from.ensures whole t) t.beside.lawful
+    (c.contract_total.ensures ∙ s.pre.0.places.contracts ∙ sym (ap length t.beside.contracts)) t.positions.records_are
+    (entries_beside (account_of s.args.morning.now s.args.noon.now) whole t.beside bytes c.part.ensures)
+
+pub place_from-requires : goal.place_from-requires
+place_from-requires c =
+    (c.requires.0, (c.requires.1.0, (c.requires.1.1, search rules)))
+
+pub table_over-requires : goal.table_over-requires
+table_over-requires c =
+    let after-figures = at-figures c.before.before.before.before.before.before.before.before in
+    let s = at-start after-figures.before in
+    let x = s.pre.1.0 in (
+      omega (arith, s.pre.1.1, c.contract_total.ensures, after-figures.figures.given),
+      record { whole = x.whole; is = tabled c.before.before.before.before.before.before.before.before x.whole x.told },
+    )
+
+pub returns : goal.returns
+returns c =
+    let after-figures = at-figures c.before.before.before.before.before.before.before.before.before.before.before.before in
+    let after-place = after-figures.before in
+    let s = at-start after-place in
+    λ whole t.
+    walked_everything (room s whole t) after-figures.figures.given (after-place.place-from.ensures whole t)
+    c.books-1.given c.uses-1.given (c.table_over.ensures whole (tabled c.before.before.before.before.before.before.before.before.before.before.before.before whole t))

@@ -1,0 +1,157 @@
+-- Without entries the figures stand already, the table's book is the net deltas, and nobody paid in it. Else the steps of the table are run once: their
+-- numbers give the credits of the figures, and the table's book.
+-- Assumes nothing.
+use mathlib.Core.Path.{◌≡◌, refl, sym, ap, ◌∙◌}
+use mathlib.Core.Bool.{true}
+use mathlib.Core.List.{List}
+use native.Mathlib.Omega.{arith}
+use lib.ListN.{length}
+use Rattle.record.specs.Layout.{Record}
+use Rattle.account.specs.Parts.{contracts_of}
+use Rattle.spread.specs.Accepted.{sound}
+use Rattle.spread.specs.code.Lent.{prompts_in}
+use Rattle.spread.specs.declared.Prompts.{Prompts}
+use Rattle.formulas.specs.code.Table.{TiersFrom}
+use Rattle.formulas.proofs.RecordLaws.{count_is}
+use Rattle.margin.specs.code.Beside.{TiersOver}
+use Rattle.margin.specs.code.Lent.{TabledBy}
+use Rattle.margin.specs.code.Tabled.{lines_for, all_for, CreditedIn}
+use Rattle.margin.proofs.AccountLaws.{lined_tiers, run_book}
+use Rattle.margin.proofs.StandLaws.{entries_fit}
+use Rattle.margin.proofs.TabledLaws.{tabled_tiers, tabled_sound, tabled_formed, tabled_nets}
+use Prim.Native.Nat.{ℕ, ◌/◌}
+use borrow.Author.Rules.{rules}
+use Rattle.record.specs.Bytes.{record_bytes}
+use Rattle.account.specs.Records.{cut}
+use Rattle.formulas.specs.Bounds.{longest_uses}
+use Rattle.margin.specs.Books.{table_question}
+use Rattle.margin.specs.Questions.{after_over}
+use Rattle.margin.specs.declared.asking.Question.TheVariants.{Uses}
+use Rattle.margin.proofs.LentLaws.{lent_same, no_uses}
+use Rattle.margin.proofs.everything.table_over.Goals as goal
+use Rattle.margin.proofs.everything.table_over.Goals.{After-intercontract_table-table, After-put_book, After-put_formed, Start}
+
+-- what was known where the table is made, where it is when the book is put, and when the figures are
+abbrev at-start : After-intercontract_table-table → Start
+at-start c =
+    let start = c.before.before.before in
+    start
+
+abbrev at_table : After-put_book → After-intercontract_table-table
+at_table c =
+    let after_table = c.before.before.before.before.before in
+    after_table
+
+abbrev at-book : After-put_formed → After-put_book
+at-book c =
+    let after-book = c.before.before.before.before in
+    after-book
+
+-- an account over whose contracts the walk has gone
+abbrev Is : Start → List Record → Type 0
+Is s whole =
+    TabledBy s.args.entries.now s.args.count s.args.records s.args.figures.now s.args.tiers.now s.args.nets.now
+    s.args.units.now s.args.prices.now s.args.sizes.now whole
+
+abbrev tiers : After-intercontract_table-table → Prompts
+tiers c = prompts_in (at-start c).args.count (at-start c).args.tiers.now (at-start c).args.nets.now
+
+module _ (t : After-intercontract_table-table) (whole : List Record) (is : Is (at-start t) whole) where
+  abbrev s : Start
+  s = t.before.before.before
+
+  tiered : TiersFrom (length (contracts_of whole)) (lines_for whole) (tiers t)
+  tiered =
+      tabled_tiers whole is.lawful t.args.figures.now t.args.tiers.now t.args.nets.now t.args.units.now
+      t.args.prices.now t.args.sizes.now is.tabled _ is.count_is _ is.part t.intercontract_table-table.result
+      t.intercontract_table-table.ensures
+
+  -- the steps accept them
+  accepted : sound (tiers t) t.intercontract_table-table.result ≡ true
+  accepted =
+      tabled_sound whole is.lawful t.args.figures.now t.args.tiers.now t.args.nets.now t.args.units.now
+      t.args.prices.now t.args.sizes.now is.tabled _ is.count_is _ is.part t.intercontract_table-table.result
+      t.intercontract_table-table.ensures
+
+  over : TiersOver t.args.entries.now (tiers t) whole
+  over = record { lawful = is.lawful; part = is.part; is = lined_tiers whole (all_for whole) is.tabled.lines (tiers t) tiered }
+
+-- there is one
+accepted-one : (t : After-intercontract_table-table) → sound (tiers t) t.intercontract_table-table.result ≡ true
+accepted-one t = let x = (at-start t).requires.1 in accepted t x.whole x.is
+
+-- the numbers that they formed
+formed : (c : After-put_book) →
+    let s = at-start (at_table c) in
+    let ends = c.put_book.new.1.1.1.1 in
+    (whole : List Record) → Is s whole → CreditedIn whole s.args.count s.args.entries.now s.args.units.now s.args.prices.now
+    s.args.sizes.now ends.0 ends.1.0 s.args.figures.now
+formed c whole is =
+    let t = at_table c in
+    let s = at-start t in
+    let ends = c.put_book.new.1.1.1.1 in
+    tabled_formed whole is.lawful s.args.figures.now s.args.tiers.now s.args.nets.now s.args.units.now
+    s.args.prices.now s.args.sizes.now is.tabled _ is.count_is _ is.part t.intercontract-table.result
+    t.intercontract-table.ensures ends.0 ends.1.0 ends.1.1.0 ends.1.1.1.0 c.put_book.ensures
+
+pub lend_unspread-requires : goal.lend_unspread-requires
+lend_unspread-requires c =
+    let x = c.requires.1.is in
+    (omega (arith, x.count_is, x.tabled.lines.few), x.tabled.nets_places)
+
+pub returns-then-entries-lt-RECORD_BYTES : goal.returns-then-entries-lt-RECORD_BYTES
+returns-then-entries-lt-RECORD_BYTES c =
+    let bytes = c.args.entries.now in
+    let no-records : length bytes / record_bytes ≡ 0 = omega (arith, c.if-entries-lt-RECORD_BYTES.true) in
+    λ whole is.
+    let none = sym is.part.are ∙ ap (λ (n : ℕ). cut n bytes) no-records in
+    record {
+      figures-after = is.uncredited none;
+      book =
+          c.lend_unspread.ensures whole
+          (record { lawful = is.lawful; none = none; nets_are = tabled_nets whole _ _ _ _ _ _ is.tabled _ is.count_is });
+      paid = lent_same longest_uses table_question (after_over whole (Uses table_question)) _ (no_uses whole none);
+    }
+
+pub intercontract_table-table-requires : goal.intercontract_table-table-requires
+intercontract_table-table-requires c =
+    let x = c.requires.1 in
+    let e = c.args.entries.now in
+    omega (arith, (entries_fit x.whole x.is.lawful e x.is.part).few, count_is e)
+
+pub put_book-requires : goal.put_book-requires
+put_book-requires c =
+    (accepted-one c.before.before.before.before, ((refl, refl), (refl, refl)))
+
+pub put_formed-requires : goal.put_formed-requires
+put_formed-requires c =
+    let s = at-start (at_table c.before.before.before) in
+    let x = s.pre.1 in
+    (record { whole = x.whole; is = formed c.before.before.before x.whole x.is }, s.pre.0)
+
+pub lend_table_book-requires : goal.lend_table_book-requires
+lend_table_book-requires c =
+    let after-book = at-book c.before.before.before.before.before.before in
+    let t = at_table after-book in
+    let i = (at-start t).pre.1.is.tabled in
+    (accepted-one t, ((i.tiers_places, i.nets_places), after-book.put-book.ensures))
+
+pub lend_table_uses-requires : goal.lend_table_uses-requires
+lend_table_uses-requires c =
+    let t = at_table (at-book c.before.before.before.before.before.before.before.before.before) in
+    let x = (at-start t).pre.1 in
+    record { whole = x.whole; over = over t x.whole x.is }
+
+pub returns : goal.returns
+returns c =
+    let after-book = at-book c.before.before.before.before.before.before.before.before.before.before.before in
+    let t = at_table after-book in
+    λ whole is.
+    record {
+      figures-after = c.put_formed.ensures whole (formed after-book whole is);
+      book =
+          c.lend_table_book.ensures whole
+          (run_book whole is.lawful (all_for whole) is.tabled.lines _ is.part (tiers t) t.intercontract-table.result (tiered t whole is)
+          t.intercontract-table.ensures);
+      paid = c.lend_table_uses.ensures whole (over t whole is) is.records_are;
+    }

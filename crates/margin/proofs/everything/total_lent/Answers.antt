@@ -1,0 +1,34 @@
+-- The total stands last in the figures.
+-- Assumes nothing.
+use mathlib.Core.Path.{◌∙◌}
+use Prim.Native.Nat.{◌*◌, ◌≤◌}
+use native.Mathlib.Omega.{arith}
+use borrow.Author.Rules.{rules}
+use lib.IntN.{pos}
+use lib.ListN.{length, replicate}
+use Rattle.formulas.specs.Bounds.{figures_each, longest_figures}
+use Rattle.account.specs.code.Lent.{account_in}
+use Rattle.account.specs.Joined.{account_of}
+use Rattle.account.specs.Check.{most_contracts}
+use Rattle.margin.specs.Figures.{figures}
+use Rattle.margin.proofs.QuestionLaws.{figures-length, figures_front, total_last}
+use Rattle.margin.proofs.StandLaws.{few_contracts}
+use Rattle.margin.proofs.everything.total_lent.Goals as goal
+use Rattle.margin.proofs.everything.total_lent.Goals.{Start}
+
+-- at most 16 contracts
+few : (s : Start) → (account_in s.args.account.now).contracts ≤ most_contracts
+few s = few_contracts s.args.morning.now s.args.noon.now (account_in s.args.account.now) s.requires
+
+pub total_in-requires : goal.total_in-requires
+total_in-requires c =
+    few c.before.before.before.before.before.before.before.before.before.before
+
+pub returns : goal.returns
+returns c =
+    let f = c.put_over in
+    let a = account_of c.args.morning.now c.args.noon.now in
+    let some : length (figures a) ≤ longest_figures = omega (arith, few c.before.before.before.before.before.before.before.before.before.before.before, figures-length a, c.requires.places.contracts) in
+    c.total_in.ensures
+    ∙ total_last a (replicate longest_figures (pos 0)) f.new.1.1.1.0 (figures_each * (account_in c.args.account.now).contracts)
+    (f.ensures.figures-after ∙ figures_front a (replicate longest_figures (pos 0)) some) some (omega (arith, c.requires.places.contracts))

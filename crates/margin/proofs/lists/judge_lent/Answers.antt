@@ -1,0 +1,53 @@
+-- A list for a question: not to be asked, or judged by the question's own steps.
+-- Assumes nothing.
+use mathlib.Core.Path.{◌≡◌, sym, ap, ◌∙◌}
+use Prim.Native.Nat.{ℕ}
+use borrow.Author.Rules.{rules}
+use borrow.Author.Tests.{not-true, not-false}
+use Rattle.account.specs.code.Lent.{account_in}
+use Rattle.account.specs.Joined.{account_of}
+use Rattle.account.specs.declared.answers.Answer.TheVariants.{NoSuchQuestion}
+use Rattle.margin.specs.Books.{answered}
+use Rattle.margin.specs.Lists.{said_of}
+use Rattle.margin.specs.declared.lists.Judged.TheVariants.{Refused}
+use Rattle.margin.proofs.AskedLaws.{asked_is}
+use Rattle.margin.proofs.ListLaws.{list_not-asked, list_asked}
+use Rattle.margin.proofs.lists.judge_lent.Goals as goal
+use Rattle.margin.proofs.lists.judge_lent.Goals.{After-is_asked, Start}
+
+abbrev start_of : After-is_asked → Start
+start_of c =
+    let start = c.before.before.before in
+    start
+
+-- whether the account answers the question
+asked : (c : After-is_asked) →
+    let s = start_of c in
+    answered (account_of s.args.morning.now s.args.noon.now) s.args.question ≡ c.is_asked.result
+asked c =
+    let s = start_of c in
+    sym
+    (c.is_asked.ensures
+    ∙ asked_is (account_of s.args.morning.now s.args.noon.now) s.pre.lawful (account_in s.args.account.now).counts s.pre.places.counts
+    s.args.question)
+
+pub returns-then-not-is_asked : goal.returns-then-not-is_asked
+returns-then-not-is_asked c =
+    let s = start_of c.before.before in
+    let a = s.args in
+    ap (λ (n : ℕ). Refused (NoSuchQuestion n)) (c.record_total.ensures ∙ s.pre.places.all)
+    ∙ list_not-asked (account_of a.morning.now a.noon.now) a.question a.sent a.numbers.now a.uses.now
+    (asked c.before.before ∙ not-true c.is_asked.result c.if-not-is_asked.true)
+
+pub asking_over-asking-requires : goal.asking_over-asking-requires
+asking_over-asking-requires c =
+    ((start_of c.before).requires, asked c.before ∙ not-false c.is_asked.result c.if-not-is_asked.false)
+
+pub returns : goal.returns
+returns c =
+    let s = start_of c.before.before.before.before.before.before in
+    let a = s.args in
+    c.said_of.ensures ∙ ap said_of c.judge.ensures
+    ∙ list_asked (account_of a.morning.now a.noon.now) a.question a.sent a.numbers.now a.uses.now
+    (asked c.before.before.before.before.before.before ∙ not-false c.is_asked.result c.if-not-is_asked.false)
+    c.asking_over-asking.result c.asking_over-asking.ensures

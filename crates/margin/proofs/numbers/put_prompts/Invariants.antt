@@ -1,0 +1,19 @@
+-- Three numbers a prompt, one prompt after the other.
+-- Assumes nothing.
+use mathlib.Core.Path.{◌≡◌, refl, ◌∙◌}
+use mathlib.Core.List.{[], ◌∷◌}
+use Prim.Native.Nat.{◌+◌, ◌*◌, ◌-◌}
+use native.Mathlib.Omega.{arith}
+use lib.IntN.{pos}
+use lib.ListN.{length, get_or}
+use lib.Seq.{sets}
+use Rattle.exact.proofs.Integers.{back}
+use Rattle.margin.proofs.NumberLaws.{ToWrite, start, next, finish, threes_on, threes_step, threes-none}
+use Rattle.margin.proofs.numbers.put_prompts.Given as goal
+
+abbrev pub invariant-loop-i : goal.invariant-loop-i
+invariant-loop-i l = ToWrite l.prompts (threes_on l.prompts l.nets l.used l.unused)
+    (sets l.initial.out 0 (threes_on l.prompts l.nets l.used l.unused 0)) l.i (l.i * 3) l.out × (length l.out ≡ length l.initial.out)
+
+abbrev pub decreases-loop-i : goal.decreases-loop-i
+decreases-loop-i l = l.prompts - l.i

@@ -1,0 +1,19 @@
+-- Of each prompt three numbers, and 0 after them.
+-- Assumes nothing.
+use mathlib.Core.Path.{◌≡◌, refl, ◌∙◌}
+use mathlib.Core.List.{[], ◌∷◌}
+use Prim.Native.Nat.{◌+◌, ◌*◌, ◌-◌}
+use native.Mathlib.Omega.{arith}
+use lib.IntN.{pos}
+use lib.ListN.{length, get_or}
+use lib.Seq.{sets}
+use Rattle.exact.proofs.Integers.{back}
+use Rattle.margin.proofs.NumberLaws.{ToWrite, start, next, finish, rest_on, rest_step, rest_none, rest_listed}
+use Rattle.margin.proofs.numbers.put_unspread.Given as goal
+
+abbrev pub invariant-loop-i : goal.invariant-loop-i
+invariant-loop-i l = ToWrite l.prompts (rest_on l.prompts l.nets) (sets l.initial.out 0 (rest_on l.prompts l.nets 0)) l.i (l.i * 3) l.out
+    × (length l.out ≡ length l.initial.out)
+
+abbrev pub decreases-loop-i : goal.decreases-loop-i
+decreases-loop-i l = l.prompts - l.i

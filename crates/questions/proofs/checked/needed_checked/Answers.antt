@@ -1,0 +1,36 @@
+-- How many numbers the answer of a question has, of a checked file: none of a refused one.
+-- Assumes nothing.
+use mathlib.Core.Path.{◌≡◌, sym, ◌∙◌}
+use native.Mathlib.Omega.{arith}
+use Rattle.account.specs.Answers.{number_of}
+use Rattle.questions.proofs.CheckedLaws.{file_stands, none_needed, needed_accepted}
+use borrow.Author.Rules.{rules}
+use Rattle.questions.proofs.checked.needed_checked.Goals as goal
+use Rattle.questions.proofs.checked.needed_checked.Goals.{Else-number_of-ne0, Start}
+
+abbrev start_of : Else-number_of-ne0 → Start
+start_of c =
+    let start = c.before.before.before in
+    start
+
+-- nothing is refused
+clear : (c : Else-number_of-ne0) → number_of (start_of c).args.checked.answer ≡ 0
+clear c = sym c.number_of.ensures ∙ omega (arith, c.if-number_of-ne0.false)
+
+pub returns-then-number_of-ne0 : goal.returns-then-number_of-ne0
+returns-then-number_of-ne0 c =
+    none_needed c.args.file.now c.args.checked c.requires (λ e. c.if-number_of-ne0.true (c.number_of.ensures ∙ e)) c.args.question
+
+pub needed_over-requires : goal.needed_over-requires
+needed_over-requires c =
+    let s = start_of c.before.before in
+    let n = c.nothing_of in
+    file_stands s.args.file.now s.args.checked s.pre (clear c.before.before) n.result.now n.ensures
+
+pub returns : goal.returns
+returns c =
+    let s = start_of c.before.before.before in
+    let n = c.nothing_of in
+    let r = c.needed_over in
+    needed_accepted s.args.file.now s.args.checked s.pre (clear c.before.before.before) n.result.now n.ensures
+    s.args.question r.result r.ensures

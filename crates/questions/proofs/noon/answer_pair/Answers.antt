@@ -1,0 +1,39 @@
+-- A question over a pair that is checked: its refusal, or what the joined account answers.
+-- Assumes nothing.
+use mathlib.Core.Path.{◌≡◌, sym, ◌∙◌}
+use native.Mathlib.Omega.{arith}
+use Rattle.account.specs.Answers.{number_of}
+use Rattle.questions.proofs.NoonLaws.{pair_stands, answer_refused, answer_accepted}
+use borrow.Author.Rules.{rules}
+use Rattle.questions.proofs.noon.answer_pair.Goals as goal
+use Rattle.questions.proofs.noon.answer_pair.Goals.{Else-number_of-ne0, Start}
+
+abbrev start_of : Else-number_of-ne0 → Start
+start_of c =
+    let start = c.before.before.before.before.before in
+    start
+
+-- nothing is refused so far
+clear : (c : Else-number_of-ne0) → number_of (start_of c).args.checked.verdict.answer ≡ 0
+clear c = sym c.number_of.ensures ∙ omega (arith, c.if-number_of-ne0.false)
+
+pub returns-then-number_of-ne0 : goal.returns-then-number_of-ne0
+returns-then-number_of-ne0 c =
+    let a = c.args in
+    answer_refused a.morning.now a.noon.now a.checked c.requires (λ e. c.if-number_of-ne0.true (c.number_of.ensures ∙ e))
+    a.question a.out.now
+
+pub answer_over-requires : goal.answer_over-requires
+answer_over-requires c =
+    let s = start_of c.before.before in
+    let a = s.args in
+    pair_stands a.morning.now a.noon.now a.checked s.pre (clear c.before.before)
+
+pub returns : goal.returns
+returns c =
+    let s = start_of c.before.before.before.before.before in
+    let a = s.args in
+    let r = c.answer_over in
+    let v = c.of_joined in
+    answer_accepted a.morning.now a.noon.now a.checked s.pre (clear c.before.before.before.before.before) a.question a.out.now
+    r.new.1.1.1.1.0 r.result v.result v.ensures r.ensures

@@ -1,0 +1,22 @@
+-- `record::ranges::losses_beyond`: a loss passed is outside its range, or one to come is. Assumes nothing.
+use Prim.Native.Nat.{ℕ, ◌+◌, ◌-◌, ◌*◌}
+use mathlib.Core.Bool.{Bool, ◌||◌}
+use mathlib.Core.Path.{◌≡◌, refl, sym, ap, ◌∙◌}
+use native.Mathlib.Omega.{arith}
+use borrow.Author.Rules.{rules}
+use Rattle.exact.specs.Lists.{any}
+use Rattle.record.specs.Bytes.{Record, u32_at, count_from}
+use Rattle.record.specs.Layout.{hundred_thousands, loss_field, scenario_count}
+use Rattle.record.specs.Ranges.{beyond, outside}
+use Rattle.record.proofs.Tests.{any_next, any_past}
+use Rattle.record.proofs.ranges.losses_beyond.Given as goal
+
+abbrev pub wrong : Record → ℕ → Bool
+wrong r scenario = outside r (loss_field scenario)
+
+abbrev pub invariant-loop-k : goal.invariant-loop-k
+invariant-loop-k l =
+    any (wrong l.r) (count_from 1 scenario_count) ≡ l.outside || any (wrong l.r) (count_from (l.k + 1) (scenario_count + 1 - (l.k + 1)))
+
+abbrev pub decreases-loop-k : goal.decreases-loop-k
+decreases-loop-k l = scenario_count - l.k

@@ -1,0 +1,77 @@
+-- A ticket asked about: refused, or its total weighed against the limit.
+-- Assumes nothing.
+use mathlib.Core.Path.{◌≡◌, sym, ap₂, ◌∙◌}
+use mathlib.Core.Bool.{false}
+use Prim.Native.Nat.{◌≤◌}
+use native.Mathlib.Omega.{arith}
+use borrow.Author.Rules.{rules}
+use lib.IntN.{pos, nat_abs}
+use lib.ListN.{length}
+use lib.Seq.{length-take-le}
+use lib.Signed.{lt_z}
+use Rattle.exact.proofs.Integers.{seen}
+use Rattle.account.specs.Answers.{number_of}
+use Rattle.account.specs.declared.answers.Answer.TheVariants.{Accepted}
+use Rattle.margin.proofs.QuestionLaws.{accepted_only}
+use Rattle.screen.specs.code.Held.{order_in}
+use Rattle.screen.specs.Screen.{held, weighed}
+use Rattle.screen.proofs.ScreenLaws.{below_zero, limit_lacking, limit_refused, limit_asked}
+use Rattle.screen.proofs.limit.Goals as goal
+use Rattle.screen.proofs.limit.Goals.{After-below, Else-below, Else-lent-named, Start}
+
+abbrev start_of : After-below → Start
+start_of c =
+    let start = c.before.before.before in
+    start
+
+-- the limit is tested as it is
+tested : (c : After-below) → c.below.result ≡ lt_z (start_of c).args.limit (pos 0)
+tested c =
+    let s = start_of c in
+    seen (λ x. lt_z x (pos 0)) s.args.limit s.fits.limit c.below.ensures
+
+-- it is not below zero
+stands : (c : Else-below) → lt_z (start_of c.before).args.limit (pos 0) ≡ false
+stands c = sym (tested c.before) ∙ c.if-below.false
+
+named-lent : (c : Else-lent-named) →
+    let a = (start_of c.before.before).args in
+    a.named ≤ length a.lent.now
+named-lent c =
+    let l = c.if-lent-named.false in
+    omega (arith, l)
+
+pub returns-then-below : goal.returns-then-below
+returns-then-below c =
+    let a = (start_of c.before).args in
+    sym (below_zero a.lent.now a.named a.ticket.now a.limit (sym (tested c.before) ∙ c.if-below.true))
+
+pub returns-then-lent-named : goal.returns-then-lent-named
+returns-then-lent-named c =
+    let a = (start_of c.before.before).args in
+    sym (limit_lacking a.lent.now a.named a.ticket.now a.limit (stands c.before) c.if-lent-named.true)
+
+pub slice_bounds-ask_order-end : goal.slice_bounds-ask_order-end
+slice_bounds-ask_order-end c =
+    let a = (start_of c.before.before.before).args in
+    sym (length-take-le a.named a.lent.now (named-lent c))
+
+pub returns-then-number_of-ne0 : goal.returns-then-number_of-ne0
+returns-then-number_of-ne0 c =
+    let a = (start_of c.before.before.before.before.before.before).args in
+    let o = c.ask_order-asked in
+    limit_refused a.lent.now a.named a.ticket.now a.limit (stands c.before.before.before.before) (named-lent c.before.before.before)
+    o.result.answer o.ensures.answer_is
+    (λ z. c.if-number_of-ne0.true (c.number_of.ensures ∙ z))
+
+pub returns : goal.returns
+returns c =
+    let s = start_of c.before.before.before.before.before.before.before.before.before in
+    let a = s.args in
+    let o = c.ask_order-asked in
+    let z : number_of o.result.answer ≡ 0 = sym c.number_of.ensures
+    ∙ omega (arith, c.if-number_of-ne0.false) in
+    let fine : order_in (held a.lent.now a.named) a.ticket.now ≡ Accepted = sym o.ensures.answer_is ∙ accepted_only o.result.answer z in
+    c.weigh.ensures
+    ∙ ap₂ weighed (seen nat_abs a.limit s.fits.limit c.magnitude.ensures) (o.ensures.total_is fine)
+    ∙ limit_asked a.lent.now a.named a.ticket.now a.limit (stands c.before.before.before.before.before.before.before) (named-lent c.before.before.before.before.before.before) fine

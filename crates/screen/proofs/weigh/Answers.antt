@@ -1,0 +1,17 @@
+-- At or below the limit, or over it.
+-- Assumes nothing.
+use native.Mathlib.Omega.{arith}
+use Rattle.screen.proofs.ScreenLaws.{weigh_yes, weigh_no}
+use Rattle.screen.proofs.weigh.Goals as goal
+
+pub returns-then-total-limit : goal.returns-then-total-limit
+returns-then-total-limit c =
+    let a = c.args in
+    let t = c.if-total-limit.true in
+    weigh_yes a.limit a.total (omega (arith, t))
+
+pub returns : goal.returns
+returns c =
+    let a = c.args in
+    let t = c.if-total-limit.false in
+    weigh_no a.limit a.total (omega (arith, t))

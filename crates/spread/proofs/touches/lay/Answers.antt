@@ -1,0 +1,93 @@
+use Prim.Native.Nat.{ℕ, ◌+◌, ◌-◌, ◌≤◌, ◌<◌}
+use native.Mathlib.Omega.{arith}
+use mathlib.Core.Path.{sym, ◌∙◌, subst}
+use lib.IntN.{ℤ, pos, nat_abs}
+use lib.ListN.{length-map, get_or, set}
+use mir.Syntax.{w64}
+use mir.Val.{SFits, to_z, of_z}
+use borrow.Author.Rules.{rules}
+use Rattle.exact.proofs.Integers.{back}
+use Rattle.spread.specs.Accepted.{open_of, prompt_places}
+use Rattle.spread.specs.code.Cells.{pool_count}
+use Rattle.spread.specs.code.Lent.{prompts_in}
+use Rattle.spread.specs.declared.Prompts.{Prompts}
+use Rattle.spread.proofs.Every.{open_length}
+use Rattle.spread.proofs.Gathering.{few, Placed, placed_within}
+use Rattle.spread.proofs.Laying.{Laying, laying_none, laying_next, laying_all}
+use Rattle.spread.proofs.Lent.{placed_in}
+use Rattle.spread.proofs.touches.lay.Goals as goal
+use Rattle.spread.proofs.touches.lay.Goals.{After-pool_of-cell, Start}
+
+-- the prompts that are lent
+abbrev lent : Start → Prompts
+lent s = prompts_in s.args.count s.args.tiers.now s.args.nets.now
+
+-- a net delta as it is read
+abbrev read : Start → ℕ → ℤ
+read s k = to_z w64 (of_z w64 (get_or s.args.nets.now k (pos 0)))
+
+-- the prompt of a turn
+here : (c : After-pool_of-cell) →
+    Placed (open_of (lent c.before.before.before.before.before.before.before.before.before)) c.loop-k.k (read c.before.before.before.before.before.before.before.before.before c.loop-k.k) c.pool_of-cell.result
+here c =
+    let l = c.loop-k in
+    let z = get_or c.args.nets.now l.k (pos 0) in
+    let f : SFits w64 z = record { sfits = c.net-1.given } in
+    placed_in c.args.count c.args.tiers.now c.args.nets.now l.k _ c.pool_of-cell.result c.requires.1.0.0 c.requires.1.0.1 c.requires.0
+    c.loop-k-test.true (back z f) c.pool_of-cell.ensures
+
+within : (c : After-pool_of-cell) → c.pool_of-cell.result < pool_count
+within c = placed_within _ _ _ _ (here c)
+
+pub loop-k-init : goal.loop-k-init
+loop-k-init c =
+    let r = c.requires.1.1 in (
+      omega arith,
+      few (lent c.before.before.before.before) c.requires.0,
+      laying_none (open_of (lent c.before.before.before.before)) c.args.pool.now c.args.size.now c.args.at.now r.0 r.1.0 r.1.1,
+    )
+
+pub bounds-pool-k : goal.bounds-pool-k
+bounds-pool-k c =
+    let l = c.loop-k in omega (arith, l.invariant.0, l.invariant.1, l.invariant.2.pools, c.loop-k-test.true)
+
+pub bounds-size-k : goal.bounds-size-k
+bounds-size-k c =
+    let l = c.loop-k in omega (arith, l.invariant.0, l.invariant.1, l.invariant.2.sizes, c.loop-k-test.true)
+
+pub offset_bounds-at-cell : goal.offset_bounds-at-cell
+offset_bounds-at-cell c = let h = within c.before in omega arith
+
+pub bounds-at-cell : goal.bounds-at-cell
+bounds-at-cell c =
+    omega (arith, within c.before.before, c.loop-k.invariant.2.places)
+
+pub offset_bounds-at-cell-in-loop-k : goal.offset_bounds-at-cell-in-loop-k
+offset_bounds-at-cell-in-loop-k c =
+    let h = within c.before.before.before in
+    omega arith
+
+pub bounds-at-cell-in-loop-k : goal.bounds-at-cell-in-loop-k
+bounds-at-cell-in-loop-k c =
+    omega (arith, within c.before.before.before, c.loop-k.invariant.2.places)
+
+pub loop-k-preserved : goal.loop-k-preserved
+loop-k-preserved c =
+    let l = c.loop-k in
+    let q = open_of (lent c.before.before.before.before.before.before.before.before.before.before.before.before) in
+    let cell = c.pool_of-cell.result in (
+      omega arith,
+      l.invariant.1,
+      subst (λ (a : ℕ). Laying q (l.k + 1) (set l.pool l.k cell) (set l.size l.k a) (set l.at cell c.earlier.result))
+          (sym c.size.ensures)
+          (subst (λ (a : ℕ). Laying q (l.k + 1) (set l.pool l.k cell) (set l.size l.k (nat_abs (read c.before.before.before.before.before.before.before.before.before.before.before.before l.k))) (set l.at cell a))
+          (sym c.earlier.ensures)
+          (laying_next q l.k _ cell (here c.before.before.before) l.pool l.size l.at (omega arith) l.invariant.2)),
+    )
+
+pub returns : goal.returns
+returns c =
+    let l = c.loop-k in
+    let p = lent c.before.before.before.before.before.before in
+    let n = open_length p c.requires.1.0.0 (length-map c.args.nets.now _ ∙ c.requires.1.0.1) l.invariant.1 in
+    laying_all (open_of p) l.k l.pool l.size l.at (omega (arith, n, c.loop-k-test.false, l.invariant.0)) (omega arith) l.invariant.2

@@ -1,0 +1,20 @@
+-- `step_touches`: leg after leg.
+-- Assumes nothing.
+use mathlib.Core.Path.{◌≡◌, sym, ◌∙◌}
+use lib.ListN.{length, length-map}
+use borrow.Author.Rules.{rules}
+use Rattle.spread.proofs.Legs.{three}
+use Rattle.spread.proofs.Passing.{step_taken, step_idle}
+use Rattle.spread.proofs.touches.step_touches.Goals as goal
+
+pub returns-then-number-eq0 : goal.returns-then-number-eq0
+returns-then-number-eq0 c =
+    step_idle _ _ _ _ _ c.if-number-eq0.true c.requires.0
+
+pub returns : goal.returns
+returns c =
+    let l : length c.args.spread.leg ≡ 3 = sym (length-map c.args.spread.leg _) ∙ c.well_formed.1.1.1.0.1.1.1.1.0.1.0.1 in
+    step_taken c.args.second c.args.spread _ _ _ (three _ c.args.spread.leg l) c.args.number c.args.pool.now
+    c.args.size.now _ _ _ _ _ _ _ _ _ _ _ _
+    c.wanted_by.ensures c.wanted_by-2.ensures c.wanted_by-3.ensures
+    c.leg_touches-a.ensures c.leg_touches-b.ensures c.leg_touches-c.ensures

@@ -1,0 +1,18 @@
+-- The parts are gone through one after the other.
+-- Assumes nothing.
+use borrow.Author.Rules.{rules}
+use mathlib.Core.Path.{◌≡◌, refl, ◌∙◌}
+use Prim.Native.Nat.{ℕ, ◌+◌, ◌-◌, ◌≤◌, ◌<◌}
+use native.Mathlib.Nat.{not-suc-le-zero}
+use native.Mathlib.Omega.{arith}
+use lib.ListN.{length, get_or, length-set}
+use Rattle.account.proofs.Filled.{filled_next}
+use Rattle.account.specs.Check.{most_contracts}
+use Rattle.tickets.proofs.counts.totals_of.Given as goal
+
+abbrev pub invariant-loop-c : goal.invariant-loop-c
+invariant-loop-c l =
+    (length l.totals ≡ most_contracts) × ((l.c ≤ most_contracts) × ((i : ℕ) → i < l.c → get_or l.totals i 0 ≡ get_or l.account.counts (l.first + i) 0))
+
+abbrev pub decreases-loop-c : goal.decreases-loop-c
+decreases-loop-c l = most_contracts - l.c

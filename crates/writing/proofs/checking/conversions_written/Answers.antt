@@ -1,0 +1,100 @@
+use Prim.Native.Nat.{ℕ, ◌-◌, ◌+◌, ◌<◌}
+use native.Mathlib.Nat.{zero-add}
+use mathlib.Core.Path.{◌≡◌, sym, ap, subst, ◌∙◌}
+use mathlib.Core.List.{List}
+use native.Mathlib.Omega.{arith}
+use Rattle.record.specs.Layout.{Record, kind}
+use Rattle.account.specs.Answers.{number_of}
+use Rattle.account.specs.Checked.{rates_checked}
+use Rattle.account.specs.Conversions.{row_answer, Row}
+use Rattle.account.specs.Parts.{rates_of}
+use Rattle.account.specs.Records.{records, record_at, record_count}
+use Rattle.account.proofs.Lawful.{recorded}
+use Rattle.account.proofs.RateLaws.{rows_from, rows_start, rows_next, rows_stop, rows_end}
+use Rattle.writing.specs.Written.{written}
+use Rattle.writing.proofs.Held.{row_at}
+use Rattle.writing.proofs.Placed.{count_same}
+use Rattle.writing.proofs.checking.conversions_written.Goals as goal
+use Rattle.writing.proofs.checking.conversions_written.Goals.{After-answer_at-answer, At-loop-k, In-loop-k, Start}
+
+-- the start and its entries, seen from the loop
+abbrev start_of : At-loop-k → Start
+start_of c =
+    let start = c.before.before.before.before in
+    start
+
+abbrev entries-of : At-loop-k → List ℕ
+entries-of c = (start_of c).args.entries.now
+
+-- the record is one of the file
+within : (c : In-loop-k) → c.loop-k.k < record_count (written (entries-of c.before))
+within c = omega (arith, c.loop-k-test.true, c.record_count-count.ensures, count_same (entries-of c.before))
+
+-- the head of the turn, its record's place, the file, its rates, and what the record answers
+module _ (c : After-answer_at-answer) where
+  abbrev head : In-loop-k
+  head = c.before.before
+
+  abbrev k : ℕ
+  k = c.loop-k.k
+
+  abbrev file : List ℕ
+  file = written (entries-of c.before)
+
+  abbrev rates : List Record
+  rates = rates_of (records file)
+
+  answered : c.answer_at-answer.result ≡ row_answer rates (0 + k) (record_at file k)
+  answered =
+      let s = start_of c.before in
+      c.answer_at-answer.ensures rates s.pre.1.rates (recorded file s.pre.1.accepted).ranges.rates
+      ∙ ap (row_answer rates k) c.entry_at.ensures
+      ∙ ap (λ (n : ℕ). row_answer rates n (record_at file k)) (sym (zero-add k))
+
+pub loop-k-init : goal.loop-k-init
+loop-k-init c =
+    let w = written c.args.entries.now in rows_start (rates_of (records w)) 0 w
+
+pub entry_at-requires : goal.entry_at-requires
+entry_at-requires c =
+    let s = start_of c.before in
+    (s.pre.0, omega (arith, within c, count_same s.args.entries.now))
+
+pub answer_at-answer-requires : goal.answer_at-answer-requires
+answer_at-answer-requires c =
+    let s = start_of c.before.before in
+    let w = written s.args.entries.now in
+    let row = row_at w s.pre.1.accepted c.loop-k.k (within c.before) in (
+      subst (λ (r : Record). kind r ≡ 3 → Row r) (sym c.entry_at.ensures) row,
+      record { rates = rates_of (records w); held = s.pre.1.rates; within = (recorded w s.pre.1.accepted).ranges.rates },
+    )
+
+pub returns-then-number_of-ne0 : goal.returns-then-number_of-ne0
+returns-then-number_of-ne0 c =
+    let turn = head c.before.before in
+    let a = answered c.before.before in
+    a
+    ∙ sym (turn.before.loop.inv ∙ rows_stop (rates c.before.before) 0 (file c.before.before) (k c.before.before) (within turn)
+    (λ z. c.if-number_of-ne0.true (c.number_of.ensures ∙ ap number_of a ∙ z)))
+
+pub overflow_add-k : goal.overflow_add-k
+overflow_add-k c =
+    omega (arith, c.loop-k-test.true)
+
+pub loop-k-smaller : goal.loop-k-smaller
+loop-k-smaller c =
+    omega (arith, c.loop-k-test.true)
+
+pub loop-k-preserved : goal.loop-k-preserved
+loop-k-preserved c =
+    let turn = head c.before.before in
+    turn.before.loop.inv
+    ∙ rows_next (rates c.before.before) 0 (file c.before.before) (k c.before.before) (within turn)
+    (sym (c.number_of.ensures ∙ ap number_of (answered c.before.before)) ∙ omega (arith, c.if-number_of-ne0.false))
+
+pub returns : goal.returns
+returns c =
+    let l = c.loop-k in
+    let e = entries-of c.before in
+    let w = written e in
+    sym (l.invariant ∙ rows_end (rates_of (records w)) 0 w l.k (omega (arith, c.loop-k-test.false, c.record_count-count.ensures, count_same e)))

@@ -26,8 +26,8 @@ returns c =
     let a = c.args in
     let p = a.prompts in
     let st = c.step_over-taking in
-    let lt : length p.tier ≡ prompt_places = sym (length-map p.tier _) ∙ c.well_formed.0.1.1.1.0.1.0.1 in
-    let ln : length p.net ≡ prompt_places = sym (length-map p.net _) ∙ c.well_formed.0.1.1.1.1.0.1.0.1 in
+    let lt : length p.tier ≡ prompt_places = search rules in
+    let ln : length p.net ≡ prompt_places = search rules in
     compared p a.spread a.second st.result st.ensures c.requires.0 lt ln a.step a.number a.uses.now c.requires.1
     c.verdict_of-verdict.result c.same_uses.result c.same_uses.ensures
     (seen (λ (z : ℤ). verdict_of a.step st.result.number.0 z c.same_uses.result Right) a.number c.ranges.number

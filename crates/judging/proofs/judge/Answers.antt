@@ -12,13 +12,13 @@ use Rattle.judging.proofs.judge.Goals.{Else-not-accepted, Start}
 
 -- the arrays have their places
 tier-places : (s : Start) → length s.args.prompts.tier ≡ prompt_places
-tier-places s = sym (length-map s.args.prompts.tier _) ∙ s.well_formed.0.1.1.1.0.1.0.1
+tier-places s = search rules
 
 net-places : (s : Start) → length s.args.prompts.net ≡ prompt_places
-net-places s = sym (length-map s.args.prompts.net _) ∙ s.well_formed.0.1.1.1.1.0.1.0.1
+net-places s = search rules
 
 spread-places : (s : Start) → length s.args.table.spread ≡ spread_places
-spread-places s = sym (length-map s.args.table.spread _) ∙ s.well_formed.1.0.1.1.1.0.1.0.1
+spread-places s = search rules
 
 ok : (s : Else-not-accepted) → sound s.args.prompts s.args.table ≡ true
 ok c = sym c.before.accepted.ensures ∙ not-false c.before.accepted.result c.if1.false
@@ -32,22 +32,22 @@ returns-then-not-accepted c =
 pub same_counts-requires : goal.same_counts-requires
 same_counts-requires c =
     let a = c.args in
-    few_of_each a.prompts a.table a.sent a.numbers.now a.uses.now (ok c) (tier-places c.before.before) (net-places c.before.before) (spread-places c.before.before)
+    few_of_each a.prompts a.table a.sent a.numbers.now a.uses.now (ok c) (tier-places (goal.at.same_counts-requires c).Start) (net-places (goal.at.same_counts-requires c).Start) (spread-places (goal.at.same_counts-requires c).Start)
 
 pub returns-then-not-same_counts : goal.returns-then-not-same_counts
 returns-then-not-same_counts c =
     let a = c.args in
-    counts_differ a.prompts a.table a.sent a.numbers.now a.uses.now (ok c.before.before) (tier-places c.before.before.before.before) (net-places c.before.before.before.before) (spread-places c.before.before.before.before)
+    counts_differ a.prompts a.table a.sent a.numbers.now a.uses.now (ok (goal.at.returns-then-not-same_counts c).Else-not-accepted) (tier-places (goal.at.returns-then-not-same_counts c).Start) (net-places (goal.at.returns-then-not-same_counts c).Start) (spread-places (goal.at.returns-then-not-same_counts c).Start)
     (sym c.same_counts.ensures ∙ not-true c.same_counts.result c.if-not-same_counts.true)
 
 pub judge_steps-requires : goal.judge_steps-requires
 judge_steps-requires c =
     let a = c.args in
     let e = sym c.same_counts.ensures ∙ not-false c.same_counts.result c.if-not-same_counts.false in (
-      ok c.before.before,
+      ok (goal.at.judge_steps-requires c).Else-not-accepted,
       (
-        steps_are a.prompts a.table a.sent a.numbers.now a.uses.now (ok c.before.before) (tier-places c.before.before.before.before) (net-places c.before.before.before.before) (spread-places c.before.before.before.before) e,
-        uses_are a.prompts a.table a.sent a.numbers.now a.uses.now (ok c.before.before) (tier-places c.before.before.before.before) (net-places c.before.before.before.before) (spread-places c.before.before.before.before) e,
+        steps_are a.prompts a.table a.sent a.numbers.now a.uses.now (ok (goal.at.judge_steps-requires c).Else-not-accepted) (tier-places (goal.at.judge_steps-requires c).Start) (net-places (goal.at.judge_steps-requires c).Start) (spread-places (goal.at.judge_steps-requires c).Start) e,
+        uses_are a.prompts a.table a.sent a.numbers.now a.uses.now (ok (goal.at.judge_steps-requires c).Else-not-accepted) (tier-places (goal.at.judge_steps-requires c).Start) (net-places (goal.at.judge_steps-requires c).Start) (spread-places (goal.at.judge_steps-requires c).Start) e,
       ),
     )
 
@@ -56,4 +56,4 @@ returns c =
     let a = c.args in
     let e = sym c.same_counts.ensures ∙ not-false c.same_counts.result c.if-not-same_counts.false in
     c.judge_steps.ensures
-    ∙ counts_same a.prompts a.table a.sent a.numbers.now a.uses.now (ok c.before.before.before) (tier-places c.before.before.before.before.before) (net-places c.before.before.before.before.before) (spread-places c.before.before.before.before.before) e
+    ∙ counts_same a.prompts a.table a.sent a.numbers.now a.uses.now (ok (goal.at.returns c).Else-not-accepted) (tier-places (goal.at.returns c).Start) (net-places (goal.at.returns c).Start) (spread-places (goal.at.returns c).Start) e

@@ -25,7 +25,7 @@ no_spread = record { legs = 0; leg = []; tenths = false }
 
 -- the table has its places, and is sound
 spread-places : (s : Start) → length s.args.table.spread ≡ spread_places
-spread-places s = sym (length-map s.args.table.spread _) ∙ s.well_formed.1.0.1.1.1.0.1.0.1
+spread-places s = search rules
 
 sound-table : (s : Start) → sound_table s.args.table ≡ true
 sound-table s = and_right (sound_prompts s.args.prompts) (sound_table s.args.table) s.requires.0
@@ -33,7 +33,7 @@ sound-table s = and_right (sound_prompts s.args.prompts) (sound_table s.args.tab
 -- the head of the turn, and what is said of the step, of the number itself
 module _ (c : After-compare-compared) where
   abbrev head : In-loop-step
-  head = c.before.before.before.before
+  head = (goal.at.is_right-requires c).In-loop-step
 
   said :
       let l = c.loop-step in
@@ -57,13 +57,13 @@ loop-step-init c =
 
 pub bounds-table-step : goal.bounds-table-step
 bounds-table-step c =
-    let f = few_in_table c.args.table (sound-table c.before.before) in
+    let f = few_in_table c.args.table (sound-table (goal.at.bounds-table-step c).Start) in
     omega arith
 
 pub overflow_add-at : goal.overflow_add-at
 overflow_add-at c =
     let l = c.loop-step in
-    let r = room_here c.args.table (spread-places c.before.before.before.before) (sound-table c.before.before.before.before) c.args.prompts.count c.args.numbers.now c.args.uses.now
+    let r = room_here c.args.table (spread-places (goal.at.overflow_add-at c).Start) (sound-table (goal.at.overflow_add-at c).Start) c.args.prompts.count c.args.numbers.now c.args.uses.now
     c.requires.1.0 _ l.step l.at l.left l.invariant c.loop-step-test.true in
     omega (arith, r, c.well_formed.1.1.1.0)
 
@@ -71,25 +71,25 @@ pub compare-compared-requires : goal.compare-compared-requires
 compare-compared-requires c =
     let l = c.loop-step in
     let h = c.loop-step-test.true in (
-      sound_here c.args.table (spread-places c.before.before.before.before.before) (sound-table c.before.before.before.before.before) c.args.prompts.count c.args.numbers.now c.args.uses.now c.requires.1.0 _
+      sound_here c.args.table (spread-places (goal.at.compare-compared-requires c).Start) (sound-table (goal.at.compare-compared-requires c).Start) c.args.prompts.count c.args.numbers.now c.args.uses.now c.requires.1.0 _
           l.step l.at l.left l.invariant h no_spread,
-      part_long c.args.table (spread-places c.before.before.before.before.before) (sound-table c.before.before.before.before.before) c.args.prompts.count c.args.numbers.now c.args.uses.now c.requires.1.0 _
+      part_long c.args.table (spread-places (goal.at.compare-compared-requires c).Start) (sound-table (goal.at.compare-compared-requires c).Start) c.args.prompts.count c.args.numbers.now c.args.uses.now c.requires.1.0 _
           l.step l.at l.left l.invariant h no_spread,
     )
 
 pub returns-then-not-is_right : goal.returns-then-not-is_right
 returns-then-not-is_right c =
-    let turn = head c.before.before in
+    let turn = head (goal.at.returns-then-not-is_right c).After-compare-compared in
     let s = turn.before.before in
     let l = turn.before.loop in
     stops s.args.t2 (spread-places s) (sound-table s) s.args.prompts.count s.args.numbers.now s.args.uses.now s.pre.1.0 _
     l.step l.at l.left l.inv turn.loop-test.taken no_spread
-    c.compare-compared.result (said c.before.before)
+    c.compare-compared.result (said (goal.at.returns-then-not-is_right c).After-compare-compared)
     (sym c.is_right.ensures ∙ not-true c.is_right.result c.if-not-is_right.true)
 
 pub overflow_add-at-in-loop-step : goal.overflow_add-at-in-loop-step
 overflow_add-at-in-loop-step c =
-    let turn = head c.before.before.before in
+    let turn = head (goal.at.overflow_add-at-in-loop-step c).After-compare-compared in
     let s = turn.before.before in
     let l = turn.before.loop in
     let r = room_here s.args.t2 (spread-places s) (sound-table s) s.args.prompts.count s.args.numbers.now s.args.uses.now
@@ -98,16 +98,16 @@ overflow_add-at-in-loop-step c =
 
 pub loop-step-preserved : goal.loop-step-preserved
 loop-step-preserved c =
-    let turn = head c.before.before.before in
+    let turn = head (goal.at.loop-step-preserved c).After-compare-compared in
     let s = turn.before.before in
     let l = turn.before.loop in
     goes s.args.t2 (spread-places s) (sound-table s) s.args.prompts.count s.args.numbers.now s.args.uses.now s.pre.1.0 _
     l.step l.at l.left l.inv turn.loop-test.taken no_spread
-    c.compare-compared.result (said c.before.before.before)
+    c.compare-compared.result (said (goal.at.loop-step-preserved c).After-compare-compared)
     (sym c.is_right.ensures ∙ not-false c.is_right.result c.if-not-is_right.false)
 
 pub returns : goal.returns
 returns c =
     let l = c.loop-step in
-    ends c.args.table (spread-places c.before.before) (sound-table c.before.before) c.args.prompts.count c.args.numbers.now c.args.uses.now c.requires.1.0 _
+    ends c.args.table (spread-places (goal.at.returns c).Start) (sound-table (goal.at.returns c).Start) c.args.prompts.count c.args.numbers.now c.args.uses.now c.requires.1.0 _
     l.step l.at l.left l.invariant (omega arith)

@@ -24,7 +24,7 @@ judge_over-requires c =
     let a = c.args in
     let o = c.check_file-checked in
     let n = c.nothing_of in
-    file_stands a.question a.sent a.numbers.now a.uses.now a.file.now o.result o.ensures (clear c.before.before)
+    file_stands a.question a.sent a.numbers.now a.uses.now a.file.now o.result o.ensures (clear (goal.at.judge_over-requires c).Else-number_of-ne0)
     n.result.now n.ensures
 
 pub returns : goal.returns
@@ -32,6 +32,6 @@ returns c =
     let a = c.args in
     let o = c.check_file-checked in
     let n = c.nothing_of in
-    list_accepted a.question a.sent a.numbers.now a.uses.now a.file.now o.result o.ensures (clear c.before.before.before)
+    list_accepted a.question a.sent a.numbers.now a.uses.now a.file.now o.result o.ensures (clear (goal.at.returns c).Else-number_of-ne0)
     n.result.now n.ensures
     c.judge_over.result c.judge_over.ensures

@@ -26,17 +26,17 @@ returns-then-number_of-ne0 c =
 
 pub judge_over-judged-requires : goal.judge_over-judged-requires
 judge_over-judged-requires c =
-    let after-check-pair = checked-in c.before in
+    let after-check-pair = checked-in (goal.at.judge_over-judged-requires c).Else-number_of-ne0 in
     let start = after-check-pair.before.before.before in
     let a = start.args in
     let o = after-check-pair.check-pair in
-    pair_stands a.question a.sent a.numbers.now a.uses.now a.morning.now a.noon.now o.result o.ensures (clear c.before)
+    pair_stands a.question a.sent a.numbers.now a.uses.now a.morning.now a.noon.now o.result o.ensures (clear (goal.at.judge_over-judged-requires c).Else-number_of-ne0)
 
 pub returns : goal.returns
 returns c =
-    let after-check-pair = checked-in c.before.before in
+    let after-check-pair = checked-in (goal.at.returns c).Else-number_of-ne0 in
     let start = after-check-pair.before.before.before in
     let a = start.args in
     let o = after-check-pair.check-pair in
-    pair_accepted a.question a.sent a.numbers.now a.uses.now a.morning.now a.noon.now o.result o.ensures (clear c.before.before)
+    pair_accepted a.question a.sent a.numbers.now a.uses.now a.morning.now a.noon.now o.result o.ensures (clear (goal.at.returns c).Else-number_of-ne0)
     c.judge_over-judged.result c.judge_over-judged.ensures

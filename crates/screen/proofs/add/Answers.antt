@@ -43,7 +43,7 @@ returns-then-lent-named-lt-RECORD_BYTES c =
     let l = c.if-lent-named.false in
     let o = c.place_order-order in
     let few = c.if-lent-named-lt-RECORD_BYTES.true in
-    let h = no_room_lem a.lent.now a.named a.ticket.now (omega (arith, l)) o.result o.ensures (clear c.before) (omega (arith, few, l)) in
+    let h = no_room_lem a.lent.now a.named a.ticket.now (omega (arith, l)) o.result o.ensures (clear (goal.at.returns-then-lent-named-lt-RECORD_BYTES c).Else-number_of-ne0) (omega (arith, few, l)) in
     (h.is, h.after)
 
 pub insert-requires : goal.insert-requires
@@ -53,8 +53,8 @@ insert-requires c =
     let o = c.place_order-order in
     let e = c.if-lent-named-lt-RECORD_BYTES.false in
     let named : a.named ≤ length a.lent.now = omega (arith, l) in (
-      whole (held a.lent.now a.named) a.ticket.now o.result o.ensures (clear c.before.before),
-      (at_named a.lent.now a.named a.ticket.now named o.result o.ensures (clear c.before.before), omega (arith, e, named)),
+      whole (held a.lent.now a.named) a.ticket.now o.result o.ensures (clear (goal.at.insert-requires c).Else-number_of-ne0),
+      (at_named a.lent.now a.named a.ticket.now named o.result o.ensures (clear (goal.at.insert-requires c).Else-number_of-ne0), omega (arith, e, named)),
     )
 
 pub returns : goal.returns
@@ -64,6 +64,6 @@ returns c =
     let o = c.place_order-order in
     let e = c.if-lent-named-lt-RECORD_BYTES.false in
     let named : a.named ≤ length a.lent.now = omega (arith, l) in
-    let h = room a.lent.now a.named a.ticket.now named o.result o.ensures (clear c.before.before.before.before.before)
+    let h = room a.lent.now a.named a.ticket.now named o.result o.ensures (clear (goal.at.returns c).Else-number_of-ne0)
     (omega (arith, e, named)) c.insert.new.0 c.insert.ensures in
     (h.is, h.after)

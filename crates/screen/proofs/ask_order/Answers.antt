@@ -29,7 +29,7 @@ pub keep-kept-requires : goal.keep-kept-requires
 keep-kept-requires c =
     let a = c.args in
     let o = c.check_file-checked in
-    from_check a.file.now o.result o.ensures (clear c.before)
+    from_check a.file.now o.result o.ensures (clear (goal.at.keep-kept-requires c).Else-number_of-ne0)
 
 pub add-keeping-requires : goal.add-keeping-requires
 add-keeping-requires c = record { tickets = []; kept = c.keep-kept.ensures }
@@ -41,7 +41,7 @@ returns-then-number_of-ne0-2 c =
     let t = c.add-keeping in
     let some : number_of t.result.answer ≡ 0 → ⊥ = λ z. c.if-number_of-ne0-2.true (c.number_of-2.ensures ∙ z) in
     let is = t.ensures.told [] c.keep-kept.ensures
-    ∙ sym (order_accepted a.file.now o.result o.ensures (clear c.before.before.before.before.before) a.ticket.now) in
+    ∙ sym (order_accepted a.file.now o.result o.ensures (clear (goal.at.returns-then-number_of-ne0-2 c).Else-number_of-ne0) a.ticket.now) in
     record { answer_is = is; total_is = λ e. absurd (some (ap number_of (is ∙ e))) }
 
 pub kept_total-requires : goal.kept_total-requires
@@ -50,7 +50,7 @@ kept_total-requires c =
     let t = c.add-keeping in
     record {
       tickets = a.ticket.now ∷ [];
-      kept = t.ensures.accepted (taken c.before) [] c.keep-kept.ensures;
+      kept = t.ensures.accepted (taken (goal.at.kept_total-requires c).Else-number_of-ne0-2) [] c.keep-kept.ensures;
     }
 
 pub returns : goal.returns
@@ -62,6 +62,6 @@ returns c =
     record {
       answer_is =
           t.ensures.told [] k
-          ∙ sym (order_accepted a.file.now o.result o.ensures (clear c.before.before.before.before.before.before.before) a.ticket.now);
-      total_is = λ e. c.kept_total.ensures (a.ticket.now ∷ []) (t.ensures.accepted (taken c.before.before) [] k);
+          ∙ sym (order_accepted a.file.now o.result o.ensures (clear (goal.at.returns c).Else-number_of-ne0) a.ticket.now);
+      total_is = λ e. c.kept_total.ensures (a.ticket.now ∷ []) (t.ensures.accepted (taken (goal.at.returns c).Else-number_of-ne0-2) [] k);
     }

@@ -31,11 +31,11 @@ tested c =
     seen (λ x. lt_z x (pos 0)) s.args.limit s.fits.limit c.below.ensures
 
 -- it is not below zero
-stands : (c : Else-below) → lt_z (start_of c.before).args.limit (pos 0) ≡ false
-stands c = sym (tested c.before) ∙ c.if-below.false
+stands : (c : Else-below) → lt_z (start_of c.before.before).args.limit (pos 0) ≡ false
+stands c = sym (tested c.before.before) ∙ c.if-below.false
 
 named-lent : (c : Else-lent-named) →
-    let a = (start_of c.before.before).args in
+    let a = (start_of (goal.at.slice_bounds-ask_order-end c).After-below).args in
     a.named ≤ length a.lent.now
 named-lent c =
     let l = c.if-lent-named.false in
@@ -43,30 +43,30 @@ named-lent c =
 
 pub returns-then-below : goal.returns-then-below
 returns-then-below c =
-    let a = (start_of c.before).args in
-    sym (below_zero a.lent.now a.named a.ticket.now a.limit (sym (tested c.before) ∙ c.if-below.true))
+    let a = (start_of (goal.at.returns-then-below c).After-below).args in
+    sym (below_zero a.lent.now a.named a.ticket.now a.limit (sym (tested (goal.at.returns-then-below c).After-below) ∙ c.if-below.true))
 
 pub returns-then-lent-named : goal.returns-then-lent-named
 returns-then-lent-named c =
-    let a = (start_of c.before.before).args in
-    sym (limit_lacking a.lent.now a.named a.ticket.now a.limit (stands c.before) c.if-lent-named.true)
+    let a = (start_of (goal.at.returns-then-lent-named c).After-below).args in
+    sym (limit_lacking a.lent.now a.named a.ticket.now a.limit (stands (goal.at.returns-then-lent-named c).Else-below) c.if-lent-named.true)
 
 pub slice_bounds-ask_order-end : goal.slice_bounds-ask_order-end
 slice_bounds-ask_order-end c =
-    let a = (start_of c.before.before.before).args in
+    let a = (start_of (goal.at.slice_bounds-ask_order-end c).After-shared_slice_known-2-1).args in
     sym (length-take-le a.named a.lent.now (named-lent c))
 
 pub returns-then-number_of-ne0 : goal.returns-then-number_of-ne0
 returns-then-number_of-ne0 c =
-    let a = (start_of c.before.before.before.before.before.before).args in
+    let a = (start_of (goal.at.returns-then-number_of-ne0 c).After-shared_slice_known-2-1).args in
     let o = c.ask_order-asked in
-    limit_refused a.lent.now a.named a.ticket.now a.limit (stands c.before.before.before.before) (named-lent c.before.before.before)
+    limit_refused a.lent.now a.named a.ticket.now a.limit (stands (goal.at.returns-then-number_of-ne0 c).Else-below) (named-lent (goal.at.returns-then-number_of-ne0 c).Else-lent-named)
     o.result.answer o.ensures.answer_is
     (λ z. c.if-number_of-ne0.true (c.number_of.ensures ∙ z))
 
 pub returns : goal.returns
 returns c =
-    let s = start_of c.before.before.before.before.before.before.before.before.before in
+    let s = start_of (goal.at.returns c).After-shared_slice_known-2-1 in
     let a = s.args in
     let o = c.ask_order-asked in
     let z : number_of o.result.answer ≡ 0 = sym c.number_of.ensures
@@ -74,4 +74,4 @@ returns c =
     let fine : order_in (held a.lent.now a.named) a.ticket.now ≡ Accepted = sym o.ensures.answer_is ∙ accepted_only o.result.answer z in
     c.weigh.ensures
     ∙ ap₂ weighed (seen nat_abs a.limit s.fits.limit c.magnitude.ensures) (o.ensures.total_is fine)
-    ∙ limit_asked a.lent.now a.named a.ticket.now a.limit (stands c.before.before.before.before.before.before.before) (named-lent c.before.before.before.before.before.before) fine
+    ∙ limit_asked a.lent.now a.named a.ticket.now a.limit (stands (goal.at.returns c).Else-below) (named-lent (goal.at.returns c).Else-lent-named) fine

@@ -31,7 +31,7 @@ pub counts_of-counts-requires : goal.counts_of-counts-requires
 counts_of-counts-requires c =
     let a = c.args in
     let o = c.check_file-checked in
-    (c.nothing_of-none.ensures, from_check a.file.now o.result o.ensures (clear c.before.before))
+    (c.nothing_of-none.ensures, from_check a.file.now o.result o.ensures (clear (goal.at.counts_of-counts-requires c).Else-number_of-ne0))
 
 pub check_ticket-requires : goal.check_ticket-requires
 check_ticket-requires c = (c.nothing_of-none.ensures, record { tickets = []; counts = c.counts_of-counts.ensures })
@@ -44,7 +44,7 @@ overflow_mul-result c =
     let o = c.check_file-checked in
     let file = c.args.file.now in
     let e = c.ticket_place.ensures [] c.counts_of-counts.ensures in
-    let w = stands_within file c.args.ticket.now (ok file o.result o.ensures (clear c.before.before.before.before.before)) in
+    let w = stands_within file c.args.ticket.now (ok file o.result o.ensures (clear (goal.at.overflow_mul-result c).Else-number_of-ne0)) in
     let small : c.ticket_place.result * record_bytes ≤ length file = omega (arith, e, w) in
     search (rules, small)
 
@@ -56,6 +56,6 @@ returns c =
     record {
       answer_is =
           c.check_ticket.ensures [] k
-          ∙ sym (order_accepted a.file.now o.result o.ensures (clear c.before.before.before.before.before) a.ticket.now);
+          ∙ sym (order_accepted a.file.now o.result o.ensures (clear (goal.at.returns c).Else-number_of-ne0) a.ticket.now);
       stands_at = λ e. ap (λ (n : ℕ). n * record_bytes) (c.ticket_place.ensures [] k);
     }

@@ -23,12 +23,12 @@ total_over-requires c =
     let a = c.args in
     let o = c.check_file-checked in
     let n = c.nothing_of in
-    file_stands a.file.now o.result o.ensures (clear c.before.before) n.result.now n.ensures
+    file_stands a.file.now o.result o.ensures (clear (goal.at.total_over-requires c).Else-number_of-ne0) n.result.now n.ensures
 
 pub returns : goal.returns
 returns c =
     let a = c.args in
     let o = c.check_file-checked in
     let n = c.nothing_of in
-    total_accepted a.file.now o.result o.ensures (clear c.before.before.before) n.result.now n.ensures
+    total_accepted a.file.now o.result o.ensures (clear (goal.at.returns c).Else-number_of-ne0) n.result.now n.ensures
     c.total_over.result c.total_over.ensures

@@ -14,10 +14,10 @@ use Rattle.account.proofs.accounts.check_file.Goals.{After-anew-whole, After-not
 -- nothing is refused: what is noted, the file taken anew, and what they are to each other
 module _ (c : Else-number_of-ne0) where
   abbrev noted : After-note_file-tally
-  noted = c.before.before.before
+  noted = c.before.before.before.before.before
 
   abbrev taken : After-anew-whole
-  taken = c.before.before.before.before.before.before
+  taken = c.before.before.before.before.before.before.before.before
 
   abbrev file : List ℕ
   file = c.anew-whole.result.now
@@ -37,18 +37,18 @@ returns-then-number_of-ne0 c =
     c.in_one_file-account.ensures)
 
 pub rates_answer-requires : goal.rates_answer-requires
-rates_answer-requires c = tallied c.before.before
+rates_answer-requires c = tallied (goal.at.rates_answer-requires c).Else-number_of-ne0
 
 pub in_one_file-requires : goal.in_one_file-requires
 in_one_file-requires c =
-    let t = (noted c.before.before.before.before.before).note-file in
-    few_listed (file c.before.before.before.before.before) t.result.contracts t.last.1.0 t.last.1.1.0 (tallied c.before.before.before.before.before)
+    let t = (noted (goal.at.in_one_file-requires c).Else-number_of-ne0).note-file in
+    few_listed (file (goal.at.in_one_file-requires c).Else-number_of-ne0) t.result.contracts t.last.1.0 t.last.1.1.0 (tallied (goal.at.in_one_file-requires c).Else-number_of-ne0)
 
 pub returns : goal.returns
 returns c =
-    let t = (noted c.before.before.before.before.before.before).note-file in
+    let t = (noted (goal.at.returns c).Else-number_of-ne0).note-file in
     subst (λ (bytes : List ℕ). CheckedBy bytes (record { answer = c.rates_answer.result; account = c.in_one_file.result }))
-    (taken c.before.before.before.before.before.before).anew.ensures
-    (checked_noted (file c.before.before.before.before.before.before) t.result.contracts t.last.1.0 t.last.1.1.0 (tallied c.before.before.before.before.before.before)
+    (taken (goal.at.returns c).Else-number_of-ne0).anew.ensures
+    (checked_noted (file (goal.at.returns c).Else-number_of-ne0) t.result.contracts t.last.1.0 t.last.1.1.0 (tallied (goal.at.returns c).Else-number_of-ne0)
     c.record_count-records.result c.in_one_file.result c.record_count-records.ensures c.in_one_file.ensures
     c.rates_answer.result c.rates_answer.ensures)

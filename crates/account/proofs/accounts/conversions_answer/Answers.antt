@@ -26,7 +26,7 @@ use Rattle.account.proofs.accounts.conversions_answer.Goals.{After-rates_of-t, A
 -- with the rates read: the start, the account, and the table holds its rates
 module _ (c : After-rates_of-t) where
   abbrev s : Start
-  s = c.before.before.before.before
+  s = (goal.at.before_rows-k-requires c).Start
 
   abbrev account : List Record
   account = account_of c.args.morning.now c.args.noon.now
@@ -41,37 +41,37 @@ rated c = c.before.before
 -- the head of the turn, the account, and what the rows of the contract answer
 module _ (c : After-rows_answer-answer) where
   abbrev head : In-loop-c
-  head = c.before.before
+  head = (goal.at.number_of-requires c).In-loop-c
 
   abbrev all : List Record
-  all = account (rated c.before)
+  all = account (rated (goal.at.number_of-requires c).After-placed_part-rows)
 
   answered : c.rows_answer-answer.result ≡ first_rate_fault c.loop-c.k (rates_of all) (parts_of all (row_part + c.loop-c.c))
   answered =
-      let after-rates-of = rated c.before in
+      let after-rates-of = rated (goal.at.number_of-requires c).After-placed_part-rows in
       let l = c.loop-c in
       c.rows_answer-answer.ensures (rates_of all) (held after-rates-of) (s after-rates-of).pre.1.ranges.rates
-      ∙ ap (first_rate_fault l.k (rates_of all)) (c.placed_part-rows.ensures.are ∙ row_part_lem l.c (omega (arith, c.loop-c-test.taken)) all)
+      ∙ ap (first_rate_fault l.k (rates_of all)) (c.placed_part-rows.ensures.are ∙ row_part_lem l.c (omega (arith, c.loop-c-test.true)) all)
 
 -- how many rows the contract has, and that they stay within the account
 module _ (c : After-record_count-k) where
   abbrev rows-answered : After-rows_answer-answer
-  rows-answered = c.before.before.before
+  rows-answered = (goal.at.overflow_add-k c).After-rows_answer-answer
 
   abbrev turn : In-loop-c
-  turn = c.before.before.before.before.before
+  turn = (goal.at.overflow_add-k c).In-loop-c
 
   abbrev morning : List Record
-  morning = records (s (rated c.before)).args.morning.now
+  morning = records (s (rated (goal.at.overflow_add-k c).Else-number_of-ne0)).args.morning.now
 
   abbrev noon : List Record
-  noon = records (s (rated c.before)).args.noon.now
+  noon = records (s (rated (goal.at.overflow_add-k c).Else-number_of-ne0)).args.noon.now
 
   counted : c.record_count-k.result ≡ length (parts_of (all rows-answered) (row_part + c.loop-c.c))
   counted =
       let rows = c.placed_part-rows in
       c.record_count-k.ensures ∙ sym (length_cut (record_count rows.result.now) rows.result.now)
-      ∙ ap length (rows.ensures.are ∙ row_part_lem c.loop-c.c (omega (arith, c.loop-c-test.taken)) (all rows-answered))
+      ∙ ap length (rows.ensures.are ∙ row_part_lem c.loop-c.c (omega (arith, c.loop-c-test.true)) (all rows-answered))
 
   next : c.loop-c.k + c.record_count-k.result ≡ rows_before morning noon (c.loop-c.c + 1)
   next =
@@ -87,7 +87,7 @@ before_rows-k-requires c =
 
 pub loop-c-init : goal.loop-c-init
 loop-c-init c =
-    let start = s c.before in
+    let start = s (goal.at.loop-c-init c).After-rates_of-t in
     let m = records start.args.morning.now in
     let n = records start.args.noon.now in
     let k = c.before_rows-k.ensures ∙ before_counted m n start.args.account.counts start.pre.0.sizes start.pre.0.counts in
@@ -99,7 +99,7 @@ placed_part-rows-requires c =
 
 pub rows_answer-answer-requires : goal.rows_answer-answer-requires
 rows_answer-answer-requires c =
-    let after-rates-of = rated c.before.before in
+    let after-rates-of = rated (goal.at.rows_answer-answer-requires c).At-loop-c in
     let start = s after-rates-of in
     let a = account after-rates-of in
     let l = c.loop-c in
@@ -114,10 +114,10 @@ rows_answer-answer-requires c =
 
 pub returns-then-number_of-ne0 : goal.returns-then-number_of-ne0
 returns-then-number_of-ne0 c =
-    let turn = head c.before.before in
+    let turn = head (goal.at.returns-then-number_of-ne0 c).After-rows_answer-answer in
     let start = s (rated turn.before) in
     let l = turn.before.loop in
-    let a = answered c.before.before in
+    let a = answered (goal.at.returns-then-number_of-ne0 c).After-rows_answer-answer in
     a
     ∙ sym (l.inv.0
     ∙ turn_stop (records start.args.morning.now) (records start.args.noon.now) l.k l.c turn.loop-test.taken
@@ -151,7 +151,7 @@ loop-c-preserved c =
 
 pub returns : goal.returns
 returns c =
-    let start = s (rated c.before) in
+    let start = s (rated (goal.at.returns c).At-loop-c) in
     let l = c.loop-c in
     let m = records start.args.morning.now in
     let n = records start.args.noon.now in

@@ -33,8 +33,8 @@ slice_bounds-put_number-end c =
 
 pub put_number-requires : goal.put_number-requires
 put_number-requires c = (
-  omega (arith, c.loop-count.invariant.0, c.loop-count.invariant.1.0, below c.before.before),
-  below c.before.before,
+  omega (arith, c.loop-count.invariant.0, c.loop-count.invariant.1.0, below (goal.at.put_number-requires c).In-loop-count),
+  below (goal.at.put_number-requires c).In-loop-count,
 )
 
 pub overflow_add-count : goal.overflow_add-count
@@ -45,21 +45,21 @@ overflow_add-count c =
       one_at_most
           c.lists-listed.result,
       c.loop-count.invariant.1.0,
-      below c.before.before.before.before.before,
+      below (goal.at.overflow_add-count c).In-loop-count,
     )
 
 pub overflow_add-c : goal.overflow_add-c
 overflow_add-c c =
-    omega (arith, below c.before.before.before.before.before)
+    omega (arith, below (goal.at.overflow_add-c c).In-loop-count)
 
 pub loop-count-smaller : goal.loop-count-smaller
 loop-count-smaller c =
-    omega (arith, below c.before.before.before.before.before)
+    omega (arith, below (goal.at.loop-count-smaller c).In-loop-count)
 
 pub loop-count-preserved : goal.loop-count-preserved
 loop-count-preserved c =
     let l = c.loop-count in
-    let h = below c.before.before.before.before.before in
+    let h = below (goal.at.loop-count-preserved c).In-loop-count in
     let b = c.lists-listed in
     let u = c.put_number in
     let o = c.one_if-count.ensures in

@@ -24,12 +24,12 @@ returns-then-number_of-ne0 c =
 
 pub note_records-noted-requires : goal.note_records-noted-requires
 note_records-noted-requires c =
-    (sym c.length_answer-answer.ensures ∙ whole c.before.before, c.requires)
+    (sym c.length_answer-answer.ensures ∙ whole (goal.at.note_records-noted-requires c).Else-number_of-ne0, c.requires)
 
 pub returns-then-noted-eq0 : goal.returns-then-noted-eq0
 returns-then-noted-eq0 c =
     let n = c.note_records-noted in
-    tallied_as (whole c.before.before.before.before.before ∙ ap (λ (x : ℕ). refusal x n.result.next) (sym c.if-noted-eq0.true)) n.ensures.0
+    tallied_as (whole (goal.at.returns-then-noted-eq0 c).Else-number_of-ne0 ∙ ap (λ (x : ℕ). refusal x n.result.next) (sym c.if-noted-eq0.true)) n.ensures.0
 
 pub returns : goal.returns
 returns c =

@@ -26,10 +26,10 @@ joined file first counts k {r} {b} {ps} {d} hr hd hs hb =
 -- the record read, the start, and the fault by what was read
 module _ (c : After-whole_before-before) where
   abbrev read : After-whole_at-r
-  read = c.before.before.before
+  read = (goal.at.faultless-requires c).After-whole_at-r
 
   abbrev s : Start
-  s = c.before.before.before.before.before.before.before
+  s = (goal.at.faultless-requires c).Start
 
   here : fault_by c.args.counts.now (records c.part_at-prompts.result.now) c.whole_before-before.result.now c.whole_at-r.result.now
       ≡ fault_at c.args.file.now c.args.first.now c.args.counts.now c.args.k
@@ -38,8 +38,8 @@ module _ (c : After-whole_before-before) where
       c.contract.ensures.0 c.part_at-prompts.ensures c.whole_before-before.ensures
 
 pub returns-then-faultless : goal.returns-then-faultless
-returns-then-faultless c = sym (eqb-true _ 0 (sym c.faultless.ensures ∙ c.if-faultless.true)) ∙ here c.before.before
+returns-then-faultless c = sym (eqb-true _ 0 (sym c.faultless.ensures ∙ c.if-faultless.true)) ∙ here (goal.at.returns-then-faultless c).After-whole_before-before
 
 pub returns : goal.returns
 returns c =
-    c.fault.ensures ∙ here c.before.before.before
+    c.fault.ensures ∙ here (goal.at.returns c).After-whole_before-before

@@ -26,24 +26,24 @@ none c = sym c.number_of.ensures ∙ omega (arith, c.if-number_of-ne0.false)
 
 pub returns-then-number_of-ne0 : goal.returns-then-number_of-ne0
 returns-then-number_of-ne0 c =
-    let s = start_of c.before.before in
+    let s = start_of (goal.at.returns-then-number_of-ne0 c).After-verdict_of-verdict in
     verdict_stops s.args.morning.now s.args.noon.now s.args.first s.args.second s.args.account s.pre.0 s.pre.1.0 s.pre.1.1
-    c.verdict_of-verdict.result (by c.before.before) (λ z. c.if-number_of-ne0.true (c.number_of.ensures ∙ z))
+    c.verdict_of-verdict.result (by (goal.at.returns-then-number_of-ne0 c).After-verdict_of-verdict) (λ z. c.if-number_of-ne0.true (c.number_of.ensures ∙ z))
 
 pub conversions_answer-requires : goal.conversions_answer-requires
 conversions_answer-requires c =
-    let s = start_of c.before.before.before.before.before in
+    let s = start_of (goal.at.conversions_answer-requires c).After-verdict_of-verdict in
     verdict_clear s.args.morning.now s.args.noon.now s.args.first s.args.second s.args.account s.pre.0 s.pre.1.0 s.pre.1.1
-    c.verdict_of-verdict.result (by c.before.before.before.before.before) (none c.before.before.before)
+    c.verdict_of-verdict.result (by (goal.at.conversions_answer-requires c).After-verdict_of-verdict) (none (goal.at.conversions_answer-requires c).Else-number_of-ne0)
 
 pub returns-then-first-second : goal.returns-then-first-second
 returns-then-first-second c =
-    let s = start_of c.before.before.before.before.before.before in
+    let s = start_of (goal.at.returns-then-first-second c).After-verdict_of-verdict in
     verdict_goes s.args.morning.now s.args.noon.now s.args.first s.args.second s.args.account s.pre.0 s.pre.1.0 s.pre.1.1
-    c.verdict_of-verdict.result (by c.before.before.before.before.before.before) (none c.before.before.before.before) c.conversions_answer.result c.conversions_answer.ensures
+    c.verdict_of-verdict.result (by (goal.at.returns-then-first-second c).After-verdict_of-verdict) (none (goal.at.returns-then-first-second c).Else-number_of-ne0) c.conversions_answer.result c.conversions_answer.ensures
 
 pub returns : goal.returns
 returns c =
-    let s = start_of c.before.before.before.before.before in
+    let s = start_of (goal.at.returns c).After-verdict_of-verdict in
     verdict_ends s.args.morning.now s.args.noon.now s.args.first s.args.second s.args.account s.pre.0 s.pre.1.0 s.pre.1.1
-    c.verdict_of-verdict.result (by c.before.before.before.before.before) (none c.before.before.before) c.if-first-second.false
+    c.verdict_of-verdict.result (by (goal.at.returns c).After-verdict_of-verdict) (none (goal.at.returns c).Else-number_of-ne0) c.if-first-second.false

@@ -44,34 +44,34 @@ pair_verdict-verdict-requires c = (c.take_survey-first.ensures, (c.take_survey-s
 
 pub returns-then-number_of-ne0 : goal.returns-then-number_of-ne0
 returns-then-number_of-ne0 c =
-    let s = (start_of c.before.before.before).args in
+    let s = (start_of (goal.at.returns-then-number_of-ne0 c).After-pair_verdict-verdict).args in
     c.nowhere.ensures
-    ∙ sym (place_refused s.morning.now s.noon.now (known c.before.before.before) s.contract (λ z. c.if-number_of-ne0.true (c.number_of.ensures ∙ z)))
+    ∙ sym (place_refused s.morning.now s.noon.now (known (goal.at.returns-then-number_of-ne0 c).After-pair_verdict-verdict) s.contract (λ z. c.if-number_of-ne0.true (c.number_of.ensures ∙ z)))
 
 pub returns-then-contract-ge-CONTRACTS : goal.returns-then-contract-ge-CONTRACTS
 returns-then-contract-ge-CONTRACTS c =
-    let s = (start_of c.before.before.before.before).args in
-    c.nowhere-then-contract-ge-CONTRACTS.ensures ∙ sym (place-beyond s.morning.now s.noon.now (known c.before.before.before.before) s.contract c.if-contract-ge-CONTRACTS.true)
+    let s = (start_of (goal.at.returns-then-contract-ge-CONTRACTS c).After-pair_verdict-verdict).args in
+    c.nowhere-then-contract-ge-CONTRACTS.ensures ∙ sym (place-beyond s.morning.now s.noon.now (known (goal.at.returns-then-contract-ge-CONTRACTS c).After-pair_verdict-verdict) s.contract c.if-contract-ge-CONTRACTS.true)
 
 pub returns-then-second-contract-ne0 : goal.returns-then-second-contract-ne0
 returns-then-second-contract-ne0 c =
-    let k = judged c.before.before.before in
+    let k = judged (goal.at.returns-then-second-contract-ne0 c).Else-contract-ge-CONTRACTS in
     let s = (start_of k).args in
     c.place_in.ensures
-    ∙ place_noon s.morning.now s.noon.now (known k) s.contract (clear c.before.before.before) (omega (arith, c.if-contract-ge-CONTRACTS.false)) c.if-second-contract-ne0.true
+    ∙ place_noon s.morning.now s.noon.now (known k) s.contract (clear (goal.at.returns-then-second-contract-ne0 c).Else-contract-ge-CONTRACTS) (omega (arith, c.if-contract-ge-CONTRACTS.false)) c.if-second-contract-ne0.true
 
 pub returns-then-first-contract-ne0 : goal.returns-then-first-contract-ne0
 returns-then-first-contract-ne0 c =
-    let k = judged c.before.before.before.before.before in
+    let k = judged (goal.at.returns-then-first-contract-ne0 c).Else-contract-ge-CONTRACTS in
     let s = (start_of k).args in
     c.place_in-then-first-contract-ne0.ensures
-    ∙ place_morning s.morning.now s.noon.now (known k) s.contract (clear c.before.before.before.before.before) (omega (arith, c.if-contract-ge-CONTRACTS.false))
+    ∙ place_morning s.morning.now s.noon.now (known k) s.contract (clear (goal.at.returns-then-first-contract-ne0 c).Else-contract-ge-CONTRACTS) (omega (arith, c.if-contract-ge-CONTRACTS.false))
     (omega (arith, c.if-second-contract-ne0.false)) c.if-first-contract-ne0.true
 
 pub returns : goal.returns
 returns c =
-    let k = judged c.before.before.before.before.before in
+    let k = judged (goal.at.returns c).Else-contract-ge-CONTRACTS in
     let s = (start_of k).args in
     c.nowhere-2.ensures
-    ∙ sym (place-nowhere s.morning.now s.noon.now (known k) s.contract (clear c.before.before.before.before.before) (omega (arith, c.if-contract-ge-CONTRACTS.false))
+    ∙ sym (place-nowhere s.morning.now s.noon.now (known k) s.contract (clear (goal.at.returns c).Else-contract-ge-CONTRACTS) (omega (arith, c.if-contract-ge-CONTRACTS.false))
     (omega (arith, c.if-second-contract-ne0.false)) (omega (arith, c.if-first-contract-ne0.false)))

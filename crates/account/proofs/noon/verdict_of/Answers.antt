@@ -50,25 +50,25 @@ returns-then-number_of-ne0 c =
 pub returns-then-number_of-ne0-2 : goal.returns-then-number_of-ne0-2
 returns-then-number_of-ne0-2 c =
     sym
-    (goes (of_morning c.args.morning.answer) _ (first c.before.before)
+    (goes (of_morning c.args.morning.answer) _ (first (goal.at.returns-then-number_of-ne0-2 c).Else-number_of-ne0)
     ∙ stops (of_noon c.args.noon.answer) _ (λ z. c.if-number_of-ne0-2.true (c.number_of-2.ensures ∙ z)))
 
 pub returns-then-number_of-ne0-3 : goal.returns-then-number_of-ne0-3
 returns-then-number_of-ne0-3 c =
-    let s = start_of c.before.before.before in
+    let s = start_of (goal.at.returns-then-number_of-ne0-3 c).Else-number_of-ne0-2 in
     let third = c.noon_spread-third.ensures in
     ap of_noon third
     ∙ sym
-    (goes (of_morning s.args.morning.answer) _ (first c.before.before.before.before.before)
-    ∙ goes (of_noon s.args.noon.answer) _ (second c.before.before.before)
+    (goes (of_morning s.args.morning.answer) _ (first (goal.at.returns-then-number_of-ne0-3 c).Else-number_of-ne0)
+    ∙ goes (of_noon s.args.noon.answer) _ (second (goal.at.returns-then-number_of-ne0-3 c).Else-number_of-ne0-2)
     ∙ stops (of_noon (noon_spread s.args.noon)) _ (λ z. c.if-number_of-ne0-3.true (c.number_of-3.ensures ∙ ap number_of third ∙ z)))
 
 pub returns-then-records-gt-MOST_RECORDS : goal.returns-then-records-gt-MOST_RECORDS
 returns-then-records-gt-MOST_RECORDS c =
-    let n = (s c.before).args.records in
-    sym (joined c.before ∙ ap (λ (t : Bool). of_joined (cond t (TooManyJoined n) Accepted)) (lt-ltb most_records n c.if-records-gt-MOST_RECORDS.true))
+    let n = (s (goal.at.returns-then-records-gt-MOST_RECORDS c).Else-number_of-ne0-3).args.records in
+    sym (joined (goal.at.returns-then-records-gt-MOST_RECORDS c).Else-number_of-ne0-3 ∙ ap (λ (t : Bool). of_joined (cond t (TooManyJoined n) Accepted)) (lt-ltb most_records n c.if-records-gt-MOST_RECORDS.true))
 
 pub returns : goal.returns
 returns c =
-    let n = (s c.before).args.records in
-    sym (joined c.before ∙ ap (λ (t : Bool). of_joined (cond t (TooManyJoined n) Accepted)) (le-ltb most_records n (omega (arith, c.if-records-gt-MOST_RECORDS.false))))
+    let n = (s (goal.at.returns c).Else-number_of-ne0-3).args.records in
+    sym (joined (goal.at.returns c).Else-number_of-ne0-3 ∙ ap (λ (t : Bool). of_joined (cond t (TooManyJoined n) Accepted)) (le-ltb most_records n (omega (arith, c.if-records-gt-MOST_RECORDS.false))))

@@ -12,19 +12,19 @@ use Rattle.account.proofs.passing.passes_from.Goals.{After-contract-c, After-kin
 -- record k's contract and kind read: a run of its kind may begin
 module _ (c : Else-not-may_run) where
   abbrev contract-read : After-contract-c
-  contract-read = c.before.before.before
+  contract-read = c.before.before.before.before.before
 
   abbrev kind-read : After-kind-n
-  kind-read = c.before.before.before.before.before.before.before
+  kind-read = c.before.before.before.before.before.before.before.before.before
 
   abbrev s : Start
-  s = c.before.before.before.before.before.before.before.before.before.before.before.before
+  s = c.before.before.before.before.before.before.before.before.before.before.before.before.before
 
   begins : (n : ℕ) → c.kind-n.result ≡ n
       → Begins n c.args.file.now c.args.counts.now c.args.k c.contract-c.result
   begins n e =
       let contract = c.contract-c in
-      begins_read n c.kind-n.result contract.result c.requires.0 c.requires.1 c.if-k-eq0.left
+      begins_read n c.kind-n.result contract.result c.requires.0 c.requires.1 c.if-k-eq0.false
       c.whole_at-r.ensures c.whole_at.ensures c.kind-n.ensures.0 contract.ensures.0 contract.ensures.1
       (sym c.may_run.ensures ∙ not-false _ c.if-not-may_run.false) e
 
@@ -46,16 +46,16 @@ returns-then-not-may_run c =
     none_run c.args.file.now c.args.first.now c.args.counts.now c.args.k (omega (arith, c.requires.0))
 
 pub prompts_from-requires : goal.prompts_from-requires
-prompts_from-requires c = begins c.before 2 c.if-n-eq2.true
+prompts_from-requires c = begins (goal.at.prompts_from-requires c).Else-not-may_run 2 c.if-n-eq2.true
 
 pub rows_from-requires : goal.rows_from-requires
-rows_from-requires c = begins c.before.before 3 c.if-n-eq3.true
+rows_from-requires c = begins (goal.at.rows_from-requires c).Else-not-may_run 3 c.if-n-eq3.true
 
 pub spreads_from-requires : goal.spreads_from-requires
 spreads_from-requires c =
-    begins c.before.before.before 4 c.if-n-eq4.true
+    begins (goal.at.spreads_from-requires c).Else-not-may_run 4 c.if-n-eq4.true
 
 pub returns : goal.returns
 returns c =
-    let start = s c.before.before.before in
+    let start = s (goal.at.returns c).Else-not-may_run in
     none_run start.args.file.now start.args.first.now start.args.counts.now start.args.k (omega (arith, start.pre.0))

@@ -37,4 +37,4 @@ returns c =
     seen (λ (z : ℤ). ltb most_conversion (nat_abs z)) v.result (record { sfits = v.type-inv }) c.is_beyond.ensures
     ∙ ap (λ (z : ℤ). ltb most_conversion (nat_abs z))
     (seen (converted_at s.f.raised s.f.lowered) t.result (record { sfits = t.type-inv }) v.ensures
-    ∙ ap (converted_at s.f.raised s.f.lowered) (multiplied c.before.before).is)
+    ∙ ap (converted_at s.f.raised s.f.lowered) (multiplied (goal.at.returns c).After-times).is)

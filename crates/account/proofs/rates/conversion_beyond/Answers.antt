@@ -32,7 +32,7 @@ by-factors row up down each = any (λ s. ltb most_conversion (nat_abs (converted
 -- the factors are those of the row's currency
 module _ (c : After-factors_of) where
   abbrev s : Start
-  s = c.before.before.before.before
+  s = (goal.at.per_tick-requires c).Start
 
   abbrev row : Record
   row = c.args.row.now
@@ -70,20 +70,20 @@ beyond_in_any-requires c =
       (
         c.requires.0,
         (
-          subst (λ (n : ℕ). n ≤ most_factor) (sym (raised_is c.before h.rates h.held)) w.up,
-          subst (λ (n : ℕ). n ≤ most_factor) (sym (lowered_is c.before h.rates h.held)) w.down,
+          subst (λ (n : ℕ). n ≤ most_factor) (sym (raised_is (goal.at.beyond_in_any-requires c).After-factors_of h.rates h.held)) w.up,
+          subst (λ (n : ℕ). n ≤ most_factor) (sym (lowered_is (goal.at.beyond_in_any-requires c).After-factors_of h.rates h.held)) w.down,
         ),
       ),
     )
 
 pub returns : goal.returns
 returns c =
-    let row = (s c.before.before).args.row.now in
+    let row = (s (goal.at.returns c).After-factors_of).args.row.now in
     let t = c.per_tick in
     let is = c.currency-c.ensures.0 in
     let other : eqb (currency row) 0 ≡ false = ne_eqb (currency row) 0 (λ e. c.if-c-eq0.false (is ∙ e)) in
     λ rates held.
     c.beyond_in_any.ensures
     ∙ ap (by-factors row c.factors_of.result.raised c.factors_of.result.lowered) (back t.result (record { sfits = t.type-inv }) ∙ t.ensures.is)
-    ∙ ap₂ (λ (up down : ℕ). by-factors row up down (lots row *ℤ pos (value row))) (raised_is c.before.before rates held) (lowered_is c.before.before rates held)
+    ∙ ap₂ (λ (up down : ℕ). by-factors row up down (lots row *ℤ pos (value row))) (raised_is (goal.at.returns c).After-factors_of rates held) (lowered_is (goal.at.returns c).After-factors_of rates held)
     ∙ ap (by-currency rates row) (sym other)

@@ -29,10 +29,10 @@ credited :
     s.used s.percent s.net
 credited c =
     let s = c.args in
-    ap (λ (x : ℕ). (c.unit_price_risk-risk.result.whole * s.used / (200 * s.unit) * s.percent + x) * s.unit) c.half_up.ensures ∙ (parts c.before.before.before).is
+    ap (λ (x : ℕ). (c.unit_price_risk-risk.result.whole * s.used / (200 * s.unit) * s.percent + x) * s.unit) c.half_up.ensures ∙ (parts (goal.at.overflow_add-units c).After-unit_price_risk-risk).is
 
 pub overflow_mul-halves : goal.overflow_mul-halves
-overflow_mul-halves c = let h = (parts c.before).halves_within in omega (arith, h, c.ranges.twice-risk)
+overflow_mul-halves c = let h = (parts (goal.at.overflow_mul-halves c).After-unit_price_risk-risk).halves_within in omega (arith, h, c.ranges.twice-risk)
 
 pub overflow_mul-each : goal.overflow_mul-each
 overflow_mul-each c = omega (arith, c.requires.4.most)
@@ -41,19 +41,19 @@ pub nonzero_rem-parts : goal.nonzero_rem-parts
 nonzero_rem-parts c = omega (arith, c.requires.4.least)
 
 pub overflow_mul-parts : goal.overflow_mul-parts
-overflow_mul-parts c = let h = (parts c.before).rest_within in omega (arith, h)
+overflow_mul-parts c = let h = (parts (goal.at.overflow_mul-parts c).After-unit_price_risk-risk).rest_within in omega (arith, h)
 
 pub overflow_mul-parts-2 : goal.overflow_mul-parts-2
-overflow_mul-parts-2 c = let h = (parts c.before).rest_within in omega (arith, h)
+overflow_mul-parts-2 c = let h = (parts (goal.at.overflow_mul-parts-2 c).After-unit_price_risk-risk).rest_within in omega (arith, h)
 
 pub overflow_mul-parts-3 : goal.overflow_mul-parts-3
-overflow_mul-parts-3 c = let h = (parts c.before).share_within in omega (arith, h)
+overflow_mul-parts-3 c = let h = (parts (goal.at.overflow_mul-parts-3 c).After-unit_price_risk-risk).share_within in omega (arith, h)
 
 pub overflow_mul-parts-4 : goal.overflow_mul-parts-4
-overflow_mul-parts-4 c = let h = (parts c.before.before).part_within in omega (arith, h)
+overflow_mul-parts-4 c = let h = (parts (goal.at.overflow_mul-parts-4 c).After-unit_price_risk-risk).part_within in omega (arith, h)
 
 pub overflow_add-parts : goal.overflow_add-parts
-overflow_add-parts c = let h = parts c.before.before in omega (arith, h.rest_within, h.part_within)
+overflow_add-parts c = let h = parts (goal.at.overflow_add-parts c).After-unit_price_risk-risk in omega (arith, h.rest_within, h.part_within)
 
 pub nonzero_div-units : goal.nonzero_div-units
 nonzero_div-units c =
@@ -61,7 +61,7 @@ nonzero_div-units c =
 
 pub overflow_mul-units : goal.overflow_mul-units
 overflow_mul-units c =
-    let h = (parts c.before.before).wholes_within in
+    let h = (parts (goal.at.overflow_mul-units c).After-unit_price_risk-risk).wholes_within in
     omega (arith, h, c.ranges.twice-risk)
 
 pub overflow_mul-unit : goal.overflow_mul-unit
@@ -72,14 +72,14 @@ pub overflow_add-units : goal.overflow_add-units
 overflow_add-units c =
     let s = c.args in
     let units = c.unit_price_risk-risk.result.whole * s.used / (200 * s.unit) * s.percent + c.half_up.result in
-    omega (arith, credited c, (parts c.before.before.before).within, le-mul_of_pos_right units c.requires.4.least)
+    omega (arith, credited c, (parts (goal.at.overflow_add-units c).After-unit_price_risk-risk).within, le-mul_of_pos_right units c.requires.4.least)
 
 pub overflow_mul-result : goal.overflow_mul-result
 overflow_mul-result c =
-    omega (arith, credited c, (parts c.before.before.before).within)
+    omega (arith, credited c, (parts (goal.at.overflow_mul-result c).After-unit_price_risk-risk).within)
 
 pub returns : goal.returns
 returns c =
     let e = credited c in
-    let h = (parts c.before.before.before).within in
+    let h = (parts (goal.at.returns c).After-unit_price_risk-risk).within in
     (e, omega (arith, e, h))

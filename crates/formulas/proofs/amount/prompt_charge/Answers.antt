@@ -44,12 +44,12 @@ pub overflow_mul-magnitude-2 : goal.overflow_mul-magnitude-2
 overflow_mul-magnitude-2 c = let p = second-product c in omega arith
 
 pub overflow_add-magnitude : goal.overflow_add-magnitude
-overflow_add-magnitude c = let p = first-product c.before.before in let q = second-product c in omega arith
+overflow_add-magnitude c = let p = first-product (goal.at.overflow_add-magnitude c).After-magnitude in let q = second-product c in omega arith
 
 pub half_up_to-requires : goal.half_up_to-requires
 half_up_to-requires c =
     let s = start_of c in
-    let p = first-product c.before.before in
+    let p = first-product (goal.at.half_up_to-requires c).After-magnitude in
     let q = second-product c in (
       omega (arith, s.pre.4),
       omega (
@@ -61,10 +61,10 @@ half_up_to-requires c =
 
 pub returns : goal.returns
 returns c =
-    let p = first-product c.before.before.before in
-    let q = second-product c.before in
-    let u = used-size c.before.before.before in
-    let n = unused-size c.before in
+    let p = first-product (goal.at.returns c).After-magnitude in
+    let q = second-product (goal.at.returns c).After-magnitude-2 in
+    let u = used-size (goal.at.returns c).After-magnitude in
+    let n = unused-size (goal.at.returns c).After-magnitude-2 in
     let first : c.magnitude.result * c.args.spread_rate ≡ nat_abs c.args.used.0 * c.args.spread_rate =
     ap (λ (x : ℕ). x * c.args.spread_rate) u
     in

@@ -45,7 +45,7 @@ interprompt_table-table-requires c =
 
 pub put_counted-requires : goal.put_counted-requires
 put_counted-requires c =
-    let s = started c.before.before.before.before.before.before in
+    let s = started (goal.at.put_counted-requires c).After-interprompt_table-table in
     let table = c.interprompt_table-table in (
       lent_sound s.args.prompts.now s.args.spreads.now _ s.args.nets.now table.result c.put_tiers.ensures
           table.ensures s.pre.0,
@@ -54,7 +54,7 @@ put_counted-requires c =
 
 pub returns-then-counted : goal.returns-then-counted
 returns-then-counted c =
-    let s = started c.before.before.before.before.before.before.before in
+    let s = started (goal.at.returns-then-counted c).After-interprompt_table-table in
     let prompts = s.args.prompts.now in
     let spreads = s.args.spreads.now in
     let nets = s.args.nets.now in
@@ -63,7 +63,7 @@ returns-then-counted c =
 
 pub put_book-requires : goal.put_book-requires
 put_book-requires c =
-    let s = started c.before.before.before.before.before.before in
+    let s = started (goal.at.put_book-requires c).After-interprompt_table-table in
     let table = c.interprompt_table-table in (
       lent_sound s.args.prompts.now s.args.spreads.now _ s.args.nets.now table.result c.put_tiers.ensures
           table.ensures s.pre.0,
@@ -72,7 +72,7 @@ put_book-requires c =
 
 pub returns : goal.returns
 returns c =
-    let s = started c.before.before.before.before.before.before.before in
+    let s = started (goal.at.returns c).After-interprompt_table-table in
     let table = c.interprompt_table-table in record {
       book = lent_book s.args.prompts.now s.args.spreads.now _ s.args.nets.now table.result c.put_tiers.ensures
           table.ensures s.pre.0 _ c.put_book.ensures;

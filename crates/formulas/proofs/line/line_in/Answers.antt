@@ -41,7 +41,7 @@ pub charges_of-charges-requires : goal.charges_of-charges-requires
 charges_of-charges-requires c =
     let w = c.requires.0 in
     let u = c.unit-its_unit in
-    let is = book_is c.before.before.before.before.before in
+    let is = book_is (goal.at.charges_of-charges-requires c).Start in
     let own = c.args.own.now in
     let prompts = records c.args.prompts.now in
     let spreads = records c.args.spreads.now in (
@@ -79,7 +79,7 @@ returns c =
     let p = position_in c.args.totals.now c.args.nets.now c.args.shorts in
     line_with w.rates own prompts w.rows spreads p w.is _
     (line_is w.rates own prompts w.rows spreads w.fit p w.is w.most c.args.first.now c.args.second.now
-    c.args.used.now c.args.unused.now (book_is c.before.before.before.before.before.before.before.before.before.before.before.before.before) _ rate.result
+    c.args.used.now c.args.unused.now (book_is (goal.at.returns c).Start) _ rate.result
     c.contract.ensures.0 u.ensures.0 c.scanned-risks.ensures
     (subst (λ (n : ℕ). Charged n prompts spreads c.args.first.now c.args.second.now c.args.used.now c.args.unused.now
     charged.result.interprompt.0 charged.result.prompt.0) u.ensures.0 charged.ensures)

@@ -23,7 +23,7 @@ sum_within c =
 pub plus-requires : goal.plus-requires
 plus-requires c =
     let one = c.total_of in
-    let h = sum_within c.before.before.before.before in
+    let h = sum_within (goal.at.plus-requires c).Start in
     op_fits ◌+ℤ◌ one.result c.total_of-2.result (total_of c.args.totals.now c.args.one) (total_of c.args.totals.now c.args.other)
     one.type-inv c.total_of-2.type_inv one.ensures c.total_of-2.ensures (omega arith)
 
@@ -35,4 +35,4 @@ returns c =
     one.type-inv c.total_of-2.type_inv one.ensures c.total_of-2.ensures
     c.plus.result c.plus.type_inv c.plus.ensures
     in
-    (e, subst⁻¹ (λ (z : ℤ). nat_abs z ≤ 2 * most_risk) e (sum_within c.before.before.before.before.before))
+    (e, subst⁻¹ (λ (z : ℤ). nat_abs z ≤ 2 * most_risk) e (sum_within (goal.at.returns c).Start))

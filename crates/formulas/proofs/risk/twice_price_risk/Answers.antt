@@ -22,7 +22,7 @@ paired c = total_of c.args.totals.now c.args.active +ℤ total_of c.args.totals.
 still : (c : Start) → ℤ
 still c = total_of c.args.totals.now 1 +ℤ total_of c.args.totals.now 2
 
-paired_is : (c : After-both) → c.both.result ≡ paired c.before.before
+paired_is : (c : After-both) → c.both.result ≡ paired (goal.at.both-requires-2 c).Start
 paired_is c = c.both.ensures.0
     ∙ ap (λ (p : ℕ). total_of c.args.totals.now c.args.active +ℤ total_of c.args.totals.now p) c.pair_of-paired.ensures
 
@@ -42,7 +42,7 @@ start_of c =
 within : (c : After-both-2) → nat_abs (paired (start_of c) -ℤ still (start_of c)) ≤ 4 * most_risk
 within c =
     let s = start_of c in
-    let a : nat_abs (paired s) ≤ 2 * most_risk = subst (λ (z : ℤ). nat_abs z ≤ 2 * most_risk) (paired_is c.before) c.both.ensures.1 in
+    let a : nat_abs (paired s) ≤ 2 * most_risk = subst (λ (z : ℤ). nat_abs z ≤ 2 * most_risk) (paired_is (goal.at.minus-requires c).After-both) c.both.ensures.1 in
     let b : nat_abs (still s) ≤ 2 * most_risk = subst (λ (z : ℤ). nat_abs z ≤ 2 * most_risk) c.both-2.ensures.0 c.both-2.ensures.1 in
     let h = abs_sub (paired s) (still s) in
     omega arith
@@ -51,15 +51,15 @@ pub minus-requires : goal.minus-requires
 minus-requires c =
     let s = start_of c in
     let h = within c in
-    op_fits ◌-ℤ◌ c.both.result c.both-2.result (paired s) (still s) c.both.type_inv c.both-2.type_inv (paired_is c.before)
+    op_fits ◌-ℤ◌ c.both.result c.both-2.result (paired s) (still s) c.both.type_inv c.both-2.type_inv (paired_is (goal.at.minus-requires c).After-both)
     c.both-2.ensures.0 (omega arith)
 
 pub returns : goal.returns
 returns c =
-    let s = start_of c.before.before in
-    let e = op_is ◌-ℤ◌ c.both.result c.both-2.result (paired s) (still s) c.both.type_inv c.both-2.type_inv (paired_is c.before.before.before)
+    let s = start_of (goal.at.returns c).After-both-2 in
+    let e = op_is ◌-ℤ◌ c.both.result c.both-2.result (paired s) (still s) c.both.type_inv c.both-2.type_inv (paired_is (goal.at.returns c).After-both)
     c.both-2.ensures.0
     c.minus.result c.minus.type_inv c.minus.ensures
     in
     let r : c.or_zero.result ≡ or_zero (paired s -ℤ still s) = c.or_zero.ensures ∙ ap or_zero e in
-    (r, subst⁻¹ (λ (n : ℕ). n ≤ 4 * most_risk) r (le_trans (or_zero_abs (paired s -ℤ still s)) (within c.before.before)))
+    (r, subst⁻¹ (λ (n : ℕ). n ≤ 4 * most_risk) r (le_trans (or_zero_abs (paired s -ℤ still s)) (within (goal.at.returns c).After-both-2)))

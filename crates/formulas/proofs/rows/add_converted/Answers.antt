@@ -40,7 +40,7 @@ multiplied c =
     let e = c.converted_product-more.ensures in
     record {
       is = e.is ∙ ap₂ (λ (x y : ℤ). half_away_to (converted_at c.args.f.raised c.args.f.lowered (x *ℤ y)) c.args.unit)
-          (tick_is c.before) (loss-is c.before);
+          (tick_is (goal.at.offset_bounds-totals-s c).After-loss) (loss-is (goal.at.offset_bounds-totals-s c).After-loss);
       size = e.size;
     }
 
@@ -76,7 +76,7 @@ plus-requires c =
     let ts = c.args.totals.now in
     let here : nat_abs (get_or ts i.s (pos 0)) ≤ (most_rows - 1) * most_product = c.requires.1.1.1.size
     i.s (omega arith) in
-    let by = multiplied c.before in
+    let by = multiplied (goal.at.plus-requires c).After-converted_product-more in
     let same : get_or i.totals i.s (pos 0) ≡ get_or ts i.s (pos 0) = i.invariant.1.others i.s (omega arith) in
     plus_fits (get_or i.totals i.s (pos 0)) c.converted_product-more.result (get_or ts i.s (pos 0))
     c.converted_product-more.result
@@ -89,7 +89,7 @@ loop-s-preserved c =
     let i = c.loop-s in
     let ts = c.args.totals.now in
     let here : nat_abs (get_or ts i.s (pos 0)) ≤ (most_rows - 1) * most_product = c.requires.1.1.1.size i.s (omega arith) in
-    let by = multiplied c.before.before in
+    let by = multiplied (goal.at.loop-s-preserved c).After-converted_product-more in
     let same : get_or i.totals i.s (pos 0) ≡ get_or ts i.s (pos 0) = i.invariant.1.others i.s (omega arith) in
     let sum = plus_is (get_or i.totals i.s (pos 0)) c.converted_product-more.result (get_or ts i.s (pos 0))
     (converted_products c.args.f.raised c.args.f.lowered c.args.unit c.args.row.now i.s) ((most_rows - 1) * most_product) most_product

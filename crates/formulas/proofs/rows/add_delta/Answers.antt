@@ -24,15 +24,15 @@ pub plus-requires : goal.plus-requires
 plus-requires c =
     let x = get_or c.args.nets.now c.place_of-j.result (pos 0) in
     let more = c.args.more.0 in
-    plus_fits x more x more most_delta most_delta (sfits_abs x (let m = net_most c.before.before in omega arith))
-    (sfits_abs more (omega (arith, c.requires.1.1.0))) refl refl (net_most c.before.before) c.requires.1.1.0 (omega arith)
+    plus_fits x more x more most_delta most_delta (sfits_abs x (let m = net_most (goal.at.plus-requires c).After-place_of-j in omega arith))
+    (sfits_abs more (omega (arith, c.requires.1.1.0))) refl refl (net_most (goal.at.plus-requires c).After-place_of-j) c.requires.1.1.0 (omega arith)
 
 pub returns : goal.returns
 returns c =
     let x = get_or c.args.nets.now c.place_of-j.result (pos 0) in
     let more = c.args.more.0 in
-    let is = plus_is x more x more most_delta most_delta (sfits_abs x (let m = net_most c.before.before.before in omega arith))
-    (sfits_abs more (omega (arith, c.requires.1.1.0))) refl refl (net_most c.before.before.before) c.requires.1.1.0 c.plus.result c.plus.ensures in
+    let is = plus_is x more x more most_delta most_delta (sfits_abs x (let m = net_most (goal.at.returns c).After-place_of-j in omega arith))
+    (sfits_abs more (omega (arith, c.requires.1.1.0))) refl refl (net_most (goal.at.returns c).After-place_of-j) c.requires.1.1.0 c.plus.result c.plus.ensures in
     added_once c.args.count c.args.days.now c.args.d c.requires.1.0.1 more c.args.nets.now c.place_of-j.result
     (to_z w64 (of_z w64 c.plus.result)) (omega (arith, c.requires.0, c.requires.1.1.1.as_many)) c.place_of-j.ensures
     (back c.plus.result (record { sfits = c.plus.type_inv }) ∙ is.is)

@@ -65,15 +65,15 @@ loop-i-init c =
 
 pub row_delta-requires : goal.row_delta-requires
 row_delta-requires c =
-    row_within c.before.before.before.before
+    row_within (goal.at.row_delta-requires c).In-loop-i
 
 pub add_delta-requires : goal.add_delta-requires
 add_delta-requires c =
-    let s = start_of c.before.before.before.before.before in (
+    let s = start_of (goal.at.add_delta-requires c).In-loop-i in (
       s.pre.0,
       (
-        (c.guesses-guess.ensures, subst⁻¹ (OnePlace s.args.prompts s.args.days.now) c.day_of.ensures (placed c.before.before.before.before.before)),
-        (omega (arith, c.row_delta.ensures.size), has_room c.before.before.before.before.before),
+        (c.guesses-guess.ensures, subst⁻¹ (OnePlace s.args.prompts s.args.days.now) c.day_of.ensures (placed (goal.at.add_delta-requires c).In-loop-i)),
+        (omega (arith, c.row_delta.ensures.size), has_room (goal.at.add_delta-requires c).In-loop-i),
       ),
     )
 
@@ -87,7 +87,7 @@ loop-i-smaller c =
 
 pub loop-i-preserved : goal.loop-i-preserved
 loop-i-preserved c =
-    let s = start_of c.before.before.before.before.before.before in
+    let s = start_of (goal.at.loop-i-preserved c).In-loop-i in
     let i = c.loop-i in
     let file = s.args.rows.now in
     let days = s.args.days.now in

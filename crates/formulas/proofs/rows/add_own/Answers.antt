@@ -36,7 +36,7 @@ multiplied : (c : After-product-more) →
 multiplied c =
     let e = c.product-more.ensures in
     record {
-      is = e.is ∙ ap₂ (λ (x y : ℤ). half_away_to (x *ℤ y) c.args.unit) (tick_is c.before) (loss-is c.before);
+      is = e.is ∙ ap₂ (λ (x y : ℤ). half_away_to (x *ℤ y) c.args.unit) (tick_is (goal.at.offset_bounds-totals-s c).After-loss) (loss-is (goal.at.offset_bounds-totals-s c).After-loss);
       size = e.size;
     }
 
@@ -60,7 +60,7 @@ plus-requires c =
     let ts = c.args.totals.now in
     let here : nat_abs (get_or ts i.s (pos 0)) ≤ (most_rows - 1) * most_product = c.requires.1.1.size i.s
     (omega arith) in
-    let by = multiplied c.before in
+    let by = multiplied (goal.at.plus-requires c).After-product-more in
     let same : get_or i.totals i.s (pos 0) ≡ get_or ts i.s (pos 0) = i.invariant.1.others i.s (omega arith) in
     plus_fits (get_or i.totals i.s (pos 0)) c.product-more.result (get_or ts i.s (pos 0)) c.product-more.result
     ((most_rows - 1) * most_product) most_product
@@ -72,7 +72,7 @@ loop-s-preserved c =
     let i = c.loop-s in
     let ts = c.args.totals.now in
     let here : nat_abs (get_or ts i.s (pos 0)) ≤ (most_rows - 1) * most_product = c.requires.1.1.size i.s (omega arith) in
-    let by = multiplied c.before.before in
+    let by = multiplied (goal.at.loop-s-preserved c).After-product-more in
     let same : get_or i.totals i.s (pos 0) ≡ get_or ts i.s (pos 0) = i.invariant.1.others i.s (omega arith) in
     let sum = plus_is (get_or i.totals i.s (pos 0)) c.product-more.result (get_or ts i.s (pos 0))
     (own_products c.args.unit c.args.row.now i.s) ((most_rows - 1) * most_product) most_product

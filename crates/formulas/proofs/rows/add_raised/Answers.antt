@@ -23,10 +23,10 @@ use Rattle.formulas.proofs.rows.add_raised.Goals.{After-as_signed-more, After-lo
 -- at the head of a turn: lots × value, its size, and the loss in the scenario
 module _ (c : In-loop-s) where
   abbrev after-raise-of : After-raise_of-raise
-  after-raise-of = c.before.before.before
+  after-raise-of = (goal.at.overflow_add-s c).After-raise_of-raise
 
   abbrev s : Start
-  s = c.before.before.before.before.before.before
+  s = (goal.at.overflow_add-s c).Start
 
   abbrev k : ℕ
   k = c.loop-s.s
@@ -73,14 +73,14 @@ module _ (c : In-loop-s) where
   it-most : nat_abs it ≤ (most_rows - 1) * most_raised
   it-most = omega (arith, ap nat_abs same, c.requires.1.1.size k below)
 
-loss-is : (c : After-loss) → to_z w64 (of_z w64 c.loss.result) ≡ loss (row c.before) (k c.before + 1)
+loss-is : (c : After-loss) → to_z w64 (of_z w64 c.loss.result) ≡ loss (row (goal.at.offset_bounds-turn-s c).In-loop-s) (k (goal.at.offset_bounds-turn-s c).In-loop-s + 1)
 loss-is c = back c.loss.result (record { sfits = c.loss.type_inv }) ∙ c.loss.ensures
 
 product_is : (c : After-raised) →
-    (after-raise-of c.before.before).before.magnitude.result % 2 ^ 32 * c.raised.result
-    ≡ nat_abs (each c.before.before) * here c.before.before
+    (after-raise-of (goal.at.overflow_mul-size c).In-loop-s).before.magnitude.result % 2 ^ 32 * c.raised.result
+    ≡ nat_abs (each (goal.at.overflow_mul-size c).In-loop-s) * here (goal.at.overflow_mul-size c).In-loop-s
 product_is c =
-    ap₂ ◌*◌ (size_is c.before.before) (c.raised.ensures (each c.before.before) (turn_is c.before.before) (raise-is c.before.before) ∙ ap (raised_by (each c.before.before)) (loss-is c.before))
+    ap₂ ◌*◌ (size_is (goal.at.overflow_mul-size c).In-loop-s) (c.raised.ensures (each (goal.at.overflow_mul-size c).In-loop-s) (turn_is (goal.at.overflow_mul-size c).In-loop-s) (raise-is (goal.at.overflow_mul-size c).In-loop-s) ∙ ap (raised_by (each (goal.at.overflow_mul-size c).In-loop-s)) (loss-is (goal.at.overflow_mul-size c).After-loss))
 
 abbrev head_of : After-as_signed-more → In-loop-s
 head_of c =
@@ -90,7 +90,7 @@ head_of c =
 more_is : (c : After-as_signed-more) →
     Sized most_raised (raised_products (each (head_of c)) (row (head_of c)) (k (head_of c))) c.as_signed-more.result
 more_is c =
-    let is = c.as_signed-more.ensures ∙ ap pos (product_is c.before) in
+    let is = c.as_signed-more.ensures ∙ ap pos (product_is (goal.at.offset_bounds-sums-s c).After-raised) in
     record { is = is; size = subst (λ (z : ℤ). nat_abs z ≤ most_raised) (sym is) (product_most (head_of c)) }
 
 pub loop-s-init : goal.loop-s-init
@@ -105,13 +105,13 @@ bounds-turn-s c = omega (arith, c.loop-s-test.true)
 
 pub raised-requires : goal.raised-requires
 raised-requires c =
-    (omega (arith, ap nat_abs (loss-is c), loss_within c.before), omega (arith, raise-is c.before, raise_most (each c.before)))
+    (omega (arith, ap nat_abs (loss-is c), loss_within (goal.at.raised-requires c).In-loop-s), omega (arith, raise-is (goal.at.raised-requires c).In-loop-s, raise_most (each (goal.at.raised-requires c).In-loop-s)))
 
 pub overflow_mul-size : goal.overflow_mul-size
-overflow_mul-size c = omega (arith, product_is c, product_most c.before.before)
+overflow_mul-size c = omega (arith, product_is c, product_most (goal.at.overflow_mul-size c).In-loop-s)
 
 pub as_signed-more-requires : goal.as_signed-more-requires
-as_signed-more-requires c = omega (arith, product_is c, product_most c.before.before)
+as_signed-more-requires c = omega (arith, product_is c, product_most (goal.at.as_signed-more-requires c).In-loop-s)
 
 pub offset_bounds-sums-s : goal.offset_bounds-sums-s
 offset_bounds-sums-s c = omega (arith, below (head_of c))
@@ -121,30 +121,30 @@ bounds-sums-s c = omega (arith, below (head_of c))
 
 pub plus-requires : goal.plus-requires
 plus-requires c =
-    let head = head_of c.before in
+    let head = head_of (goal.at.plus-requires c).After-as_signed-more in
     let more = c.as_signed-more in
     plus_fits (it head) more.result (it head) more.result ((most_rows - 1) * most_raised) most_raised
-    (sfits_abs (it head) (omega (arith, it-most head))) (record { sfits = more.type-inv }) refl refl (it-most head) (more_is c.before).size (omega arith)
+    (sfits_abs (it head) (omega (arith, it-most head))) (record { sfits = more.type-inv }) refl refl (it-most head) (more_is (goal.at.plus-requires c).After-as_signed-more).size (omega arith)
 
 pub offset_bounds-sums-s-in-loop-s : goal.offset_bounds-sums-s-in-loop-s
-offset_bounds-sums-s-in-loop-s c = omega (arith, below (head_of c.before.before))
+offset_bounds-sums-s-in-loop-s c = omega (arith, below (head_of (goal.at.offset_bounds-sums-s-in-loop-s c).After-as_signed-more))
 
 pub bounds-sums-s-in-loop-s : goal.bounds-sums-s-in-loop-s
-bounds-sums-s-in-loop-s c = omega (arith, below (head_of c.before.before))
+bounds-sums-s-in-loop-s c = omega (arith, below (head_of (goal.at.bounds-sums-s-in-loop-s c).After-as_signed-more))
 
 pub overflow_add-s-in-loop-s : goal.overflow_add-s-in-loop-s
-overflow_add-s-in-loop-s c = omega (arith, below (head_of c.before.before))
+overflow_add-s-in-loop-s c = omega (arith, below (head_of (goal.at.overflow_add-s-in-loop-s c).After-as_signed-more))
 
 pub loop-s-smaller : goal.loop-s-smaller
-loop-s-smaller c = omega (arith, below (head_of c.before.before))
+loop-s-smaller c = omega (arith, below (head_of (goal.at.loop-s-smaller c).After-as_signed-more))
 
 pub loop-s-preserved : goal.loop-s-preserved
 loop-s-preserved c =
-    let head = head_of c.before.before in
+    let head = head_of (goal.at.loop-s-preserved c).After-as_signed-more in
     let at = head.before.loop in
     let xs = (s head).args.sums.now in
     let more = c.as_signed-more in
-    let by = more_is c.before.before in
+    let by = more_is (goal.at.loop-s-preserved c).After-as_signed-more in
     let products = raised_products (each head) (row head) in
     let sum = plus_is (it head) more.result (get_or xs at.s (pos 0)) (products at.s) ((most_rows - 1) * most_raised) most_raised
     (sfits_abs (it head) (omega (arith, it-most head))) (record { sfits = more.type-inv }) (same head) by.is

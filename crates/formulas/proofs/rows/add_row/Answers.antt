@@ -33,10 +33,10 @@ by-currency rates row s own = cond own (in_own s row) (converted (rate_for rates
 -- the factors are those of the row's currency
 module _ (c : After-factors_of) where
   abbrev after-currency : After-currency-c
-  after-currency = c.before.before.before
+  after-currency = (goal.at.add_converted-requires c).After-currency-c
 
   abbrev start : Start
-  start = c.before.before.before.before.before
+  start = (goal.at.add_converted-requires c).Start
 
   abbrev row : Record
   row = c.args.row.now
@@ -127,7 +127,7 @@ add_converted-requires c =
 
 pub returns-then-c-ne0 : goal.returns-then-c-ne0
 returns-then-c-ne0 c =
-    let s = start c.before in
+    let s = start (goal.at.returns-then-c-ne0 c).After-factors_of in
     let row = s.args.row.now in
     let f = c.factors_of.result in
     let unit = s.args.unit in
@@ -136,27 +136,27 @@ returns-then-c-ne0 c =
     (λ held is.
     same_added scenario_count (converted_products f.raised f.lowered unit row) (products held unit row) s.args.totals.now c.add_converted.new.0
     (λ k.
-    ap₂ (λ (up down : ℕ). half_away_to (converted_at up down (in_own (k + 1) row)) unit) (raised_is c.before held is small)
-    (lowered_is c.before held is small)
-    ∙ ap (λ (t : Bool). half_away_to (by-currency held row (k + 1) t) unit) (sym (other c.before)))
+    ap₂ (λ (up down : ℕ). half_away_to (converted_at up down (in_own (k + 1) row)) unit) (raised_is (goal.at.returns-then-c-ne0 c).After-factors_of held is small)
+    (lowered_is (goal.at.returns-then-c-ne0 c).After-factors_of held is small)
+    ∙ ap (λ (t : Bool). half_away_to (by-currency held row (k + 1) t) unit) (sym (other (goal.at.returns-then-c-ne0 c).After-factors_of)))
     c.add_converted.ensures)
 
 pub returns-then-unit-ne1 : goal.returns-then-unit-ne1
 returns-then-unit-ne1 c =
     let row = c.args.row.now in
     let unit = c.args.unit in
-    in-totals c.before.before.before.before.before.before c.add_own.new.0
+    in-totals (goal.at.returns-then-unit-ne1 c).Start c.add_own.new.0
     (λ held is.
     same_added scenario_count (own_products unit row) (products held unit row) c.args.totals.now c.add_own.new.0
-    (λ k. ap (λ (t : Bool). half_away_to (by-currency held row (k + 1) t) unit) (sym (own_is c.before.before.before))) c.add_own.ensures)
+    (λ k. ap (λ (t : Bool). half_away_to (by-currency held row (k + 1) t) unit) (sym (own_is (goal.at.returns-then-unit-ne1 c).Else-c-ne0))) c.add_own.ensures)
 
 pub add_raised-requires : goal.add_raised-requires
 add_raised-requires c =
-    (each-most c.before, (c.requires.1.0, c.requires.1.1.1.sums_most))
+    (each-most (goal.at.add_raised-requires c).After-per_tick-each, (c.requires.1.0, c.requires.1.1.1.sums_most))
 
 pub overflow_add-result : goal.overflow_add-result
 overflow_add-result c =
-    omega (arith, c.magnitude.ensures, each-most c.before.before.before, c.requires.1.1.1.sizes_most)
+    omega (arith, c.magnitude.ensures, each-most (goal.at.overflow_add-result c).After-per_tick-each, c.requires.1.1.1.sizes_most)
 
 pub returns : goal.returns
 returns c =
@@ -166,8 +166,8 @@ returns c =
     let xs = c.args.sums.now in
     let ys = c.add_raised.new.0 in
     let e = c.args.sizes in
-    let z = each c.before.before.before in
-    let z-is : z ≡ lots row *ℤ pos (value row) = each_is c.before.before.before ∙ c.per_tick-each.ensures.is in
+    let z = each (goal.at.returns c).After-per_tick-each in
+    let z-is : z ≡ lots row *ℤ pos (value row) = each_is (goal.at.returns c).After-per_tick-each ∙ c.per_tick-each.ensures.is in
     let again = sym (ap (λ (m : ℕ). e + m) c.magnitude.ensures) in record {
       added = λ held is.
           subst (λ (m : ℕ). Added scenario_count (products held unit row) (settled ts xs e) (settled ts ys m)) again
@@ -176,9 +176,9 @@ returns c =
           ap (λ (y : ℤ). y *ℤ loss row (k + 1)) z-is
           ∙ sym (one_away (in_own (k + 1) row))
           ∙ ap (half_away_to (in_own (k + 1) row)) (sym c.if-unit-ne1.false)
-          ∙ ap (λ (t : Bool). half_away_to (by-currency held row (k + 1) t) unit) (sym (own_is c.before.before.before.before.before)))
+          ∙ ap (λ (t : Bool). half_away_to (by-currency held row (k + 1) t) unit) (sym (own_is (goal.at.returns c).Else-c-ne0)))
           (sums_added ts xs ys e z row c.requires.1.1.1.totals_most.as_many c.requires.1.0 c.add_raised.ensures));
       room = λ n r.
           subst (λ (m : ℕ). SumsRoom (n + 1) ts ys m) again
-          (sums_room n ts xs ys e z row r c.requires.1.0 (each-most c.before.before.before) c.add_raised.ensures);
+          (sums_room n ts xs ys e z row r c.requires.1.0 (each-most (goal.at.returns c).After-per_tick-each) c.add_raised.ensures);
     }

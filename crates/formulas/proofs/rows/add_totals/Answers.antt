@@ -32,7 +32,7 @@ one-rated t rates row held is = record { rates = rates; held = held; each = λ k
 -- at the head of a turn: the row is within its ranges, and there is room for it
 module _ (c : In-loop-i) where
   abbrev s : Start
-  s = c.before.before.before
+  s = (goal.at.overflow_mul-at c).Start
 
   abbrev i : ℕ
   i = c.loop-i.i
@@ -83,31 +83,31 @@ loop-i-init c =
 
 pub add_row-sizes-requires : goal.add_row-sizes-requires
 add_row-sizes-requires c =
-    let start = s c.before.before.before in
-    (start.pre.0, (row_within c.before.before.before, (row_rated c.before.before.before, sums-fit c.before.before.before)))
+    let start = s (goal.at.add_row-sizes-requires c).In-loop-i in
+    (start.pre.0, (row_within (goal.at.add_row-sizes-requires c).In-loop-i, (row_rated (goal.at.add_row-sizes-requires c).In-loop-i, sums-fit (goal.at.add_row-sizes-requires c).In-loop-i)))
 
 pub overflow_add-shorts : goal.overflow_add-shorts
 overflow_add-shorts c =
-    omega (arith, c.short_options-shorts.ensures, shorts_most _ (row_within c.before.before.before.before.before), shorts-fit c.before.before.before.before.before)
+    omega (arith, c.short_options-shorts.ensures, shorts_most _ (row_within (goal.at.overflow_add-shorts c).In-loop-i), shorts-fit (goal.at.overflow_add-shorts c).In-loop-i)
 
 pub overflow_add-i : goal.overflow_add-i
 overflow_add-i c =
-    omega (arith, turn c.before.before.before.before.before, (s c.before.before.before.before.before).well-formed)
+    omega (arith, turn (goal.at.overflow_add-i c).In-loop-i, (s (goal.at.overflow_add-i c).In-loop-i).well-formed)
 
 pub loop-i-smaller : goal.loop-i-smaller
 loop-i-smaller c =
-    omega (arith, turn c.before.before.before.before.before)
+    omega (arith, turn (goal.at.loop-i-smaller c).In-loop-i)
 
 pub loop-i-preserved : goal.loop-i-preserved
 loop-i-preserved c =
-    let start = s c.before.before.before.before.before in
+    let start = s (goal.at.loop-i-preserved c).In-loop-i in
     let at = c.loop-i in
     let by = c.add_row-sizes in
-    let n = most_rows - length (records (file c.before.before.before.before.before)) in (
+    let n = most_rows - length (records (file (goal.at.loop-i-preserved c).In-loop-i)) in (
       λ held is.
-          next held start.args.unit (records (file c.before.before.before.before.before)) start.args.totals.now at.i (so_far c.before.before.before.before.before)
-          (settled by.new.0 by.new.1.0 by.result) at.shorts _ (row c.before.before.before.before.before)
-          (at.invariant.0 held is) (omega (arith, count_is (file c.before.before.before.before.before), turn c.before.before.before.before.before)) (row_is c.before.before.before.before.before) (by.ensures.0 held is)
+          next held start.args.unit (records (file (goal.at.loop-i-preserved c).In-loop-i)) start.args.totals.now at.i (so_far (goal.at.loop-i-preserved c).In-loop-i)
+          (settled by.new.0 by.new.1.0 by.result) at.shorts _ (row (goal.at.loop-i-preserved c).In-loop-i)
+          (at.invariant.0 held is) (omega (arith, count_is (file (goal.at.loop-i-preserved c).In-loop-i), turn (goal.at.loop-i-preserved c).In-loop-i)) (row_is (goal.at.loop-i-preserved c).In-loop-i) (by.ensures.0 held is)
           (ap (λ (m : ℕ). at.shorts + m) c.short_options-shorts.ensures),
       wider_room (n + at.i + 1) (n + (at.i + 1)) _ _ _ (omega arith) (by.ensures.1 (n + at.i) at.invariant.1),
     )

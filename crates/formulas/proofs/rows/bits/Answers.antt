@@ -29,5 +29,5 @@ as_natural-requires c =
 
 pub returns : goal.returns
 returns c =
-    let is : c.as_natural.result ≡ nat_abs (c.args.loss +ℤ pos (2 ^ 32)) = ap nat_abs (c.as_natural.ensures ∙ sum_is c.before) in
+    let is : c.as_natural.result ≡ nat_abs (c.args.loss +ℤ pos (2 ^ 32)) = ap nat_abs (c.as_natural.ensures ∙ sum_is (goal.at.returns c).After-plus) in
     omega (arith, bits_are c.args.loss c.requires)

@@ -28,7 +28,7 @@ changed c =
     let t = c.times in
     let is : c.converted.result ≡ converted_at c.args.f.raised c.args.f.lowered (c.args.each *ℤ c.args.loss) =
     seen (converted_at c.args.f.raised c.args.f.lowered) t.result (record { sfits = t.type-inv }) c.converted.ensures
-    ∙ ap (converted_at c.args.f.raised c.args.f.lowered) (multiplied c.before).is in
+    ∙ ap (converted_at c.args.f.raised c.args.f.lowered) (multiplied (goal.at.half_away_to-requires c).After-times).is in
     record { is = is; size = subst (λ (z : ℤ). nat_abs z ≤ most_conversion) (sym is) c.requires.1.1.1.1.1 }
 
 -- how large it is, rounded
@@ -55,7 +55,7 @@ half_away_to-requires c =
 pub returns : goal.returns
 returns c =
     let t = c.converted in
-    let m = changed c.before in
+    let m = changed (goal.at.returns c).After-converted in
     let is : c.half_away_to.result ≡ half_away_to (converted_at c.args.f.raised c.args.f.lowered (c.args.each *ℤ c.args.loss)) c.args.unit =
     seen (λ (z : ℤ). half_away_to z c.args.unit) t.result (record { sfits = t.type-inv }) c.half_away_to.ensures
     ∙ ap (λ (z : ℤ). half_away_to z c.args.unit) m.is

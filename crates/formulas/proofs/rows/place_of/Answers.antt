@@ -13,16 +13,16 @@ guess-within : (s : Start) → get_or s.args.guess.now (s.args.d % 256) 0 < s.ar
 guess-within s = s.requires.1.0 (let near = s.requires.1.1.within in omega arith) (s.args.d % 256)
 
 pub overflow_cast-guessed-2 : goal.overflow_cast-guessed-2
-overflow_cast-guessed-2 c = omega (arith, guess-within c.before.before, c.requires.0)
+overflow_cast-guessed-2 c = omega (arith, guess-within (goal.at.overflow_cast-guessed-2 c).Start, c.requires.0)
 
 pub offset_bounds-days-guessed : goal.offset_bounds-days-guessed
-offset_bounds-days-guessed c = omega (arith, guess-within c.before.before, c.requires.0)
+offset_bounds-days-guessed c = omega (arith, guess-within (goal.at.offset_bounds-days-guessed c).Start, c.requires.0)
 
 pub bounds-days-guessed : goal.bounds-days-guessed
-bounds-days-guessed c = omega (arith, guess-within c.before.before.before, c.requires.0)
+bounds-days-guessed c = omega (arith, guess-within (goal.at.bounds-days-guessed c).Start, c.requires.0)
 
 pub returns-then-days-guessed : goal.returns-then-days-guessed
-returns-then-days-guessed c = (guess-within c.before.before.before.before.before, c.if-days-guessed.true)
+returns-then-days-guessed c = (guess-within (goal.at.returns-then-days-guessed c).Start, c.if-days-guessed.true)
 
 pub returns : goal.returns
 returns c =

@@ -39,7 +39,7 @@ half_away_to-requires c =
 pub returns : goal.returns
 returns c =
     let t = c.times in
-    let m = multiplied c.before in
+    let m = multiplied (goal.at.returns c).After-times in
     let is : c.half_away_to.result ≡ half_away_to (c.args.each *ℤ c.args.loss) c.args.unit =
     seen (λ (z : ℤ). half_away_to z c.args.unit) t.result (record { sfits = t.type-inv }) c.half_away_to.ensures
     ∙ ap (λ (z : ℤ). half_away_to z c.args.unit) m.is

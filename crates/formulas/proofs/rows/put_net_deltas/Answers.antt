@@ -47,7 +47,7 @@ add_nets-requires c =
           c.requires.1.0,
           subst (AtMost prompt_places (room * most_row_delta)) (deltas_again nets)
               (wider 0 room (none nets) (omega arith)
-              (bounded [] 1 (lit≤ tt) prompts [] (none nets) no_rows (λ k h. absurd (not-suc-le-zero h)) (is_none c.before.before.before.before.before.before [] 1 few))).nets_most,
+              (bounded [] 1 (lit≤ tt) prompts [] (none nets) no_rows (λ k h. absurd (not-suc-le-zero h)) (is_none (goal.at.add_nets-requires c).Start [] 1 few))).nets_most,
         ),
       ),
     )
@@ -63,6 +63,6 @@ returns c =
     let few : length prompts ≤ prompt_places = omega (arith, known.few, known.count_is) in
     let more : ℕ → ℤ = λ j. net_on rows (get_or days.day j 0) in
     λ rates unit.
-    nets_alone rates unit prompts rows days (none nets) (deltas_from left) known (is_none c.before.before.before.before.before.before.before rates unit few)
+    nets_alone rates unit prompts rows days (none nets) (deltas_from left) known (is_none (goal.at.returns c).Start rates unit few)
     (subst⁻¹ (λ (zs : List ℤ). Added days.count more zs (deltas_in (deltas_from left))) (deltas_again nets)
     (subst⁻¹ (Added days.count more nets) (deltas_again left) c.add_nets.ensures))

@@ -21,10 +21,10 @@ use Rattle.formulas.proofs.rows.settle.Goals.{After-plus-arg-1, In-loop-s, Start
 -- a total as it was, and what is added to it
 module _ (c : After-plus-arg-1) where
   abbrev head : In-loop-s
-  head = c.before.before.before
+  head = (goal.at.plus-requires c).In-loop-s
 
   abbrev s : Start
-  s = c.before.before.before.before.before
+  s = (goal.at.plus-requires c).Start
 
   abbrev turn : ℕ
   turn = c.loop-s.s
@@ -33,7 +33,7 @@ module _ (c : After-plus-arg-1) where
   it = get_or c.loop-s.totals turn (pos 0)
 
   below : turn < scenario_count
-  below = c.loop-s-test.taken
+  below = c.loop-s-test.true
 
   same : it ≡ get_or c.args.totals.now turn (pos 0)
   same = c.loop-s.inv.1.others turn (omega arith)
@@ -76,29 +76,29 @@ plus-requires c =
     (sfits_abs (it c) (omega (arith, it-most c))) (record { sfits = c.unraised-more.type_inv }) refl refl (it-most c) (more_is c).size (omega arith)
 
 pub offset_bounds-totals-s-in-loop-s : goal.offset_bounds-totals-s-in-loop-s
-offset_bounds-totals-s-in-loop-s c = omega (arith, below c.before)
+offset_bounds-totals-s-in-loop-s c = omega (arith, below (goal.at.offset_bounds-totals-s-in-loop-s c).After-plus-arg-1)
 
 pub bounds-totals-s-in-loop-s : goal.bounds-totals-s-in-loop-s
-bounds-totals-s-in-loop-s c = omega (arith, below c.before)
+bounds-totals-s-in-loop-s c = omega (arith, below (goal.at.bounds-totals-s-in-loop-s c).After-plus-arg-1)
 
 pub overflow_add-s : goal.overflow_add-s
-overflow_add-s c = omega (arith, below c.before)
+overflow_add-s c = omega (arith, below (goal.at.overflow_add-s c).After-plus-arg-1)
 
 pub loop-s-smaller : goal.loop-s-smaller
-loop-s-smaller c = omega (arith, below c.before)
+loop-s-smaller c = omega (arith, below (goal.at.loop-s-smaller c).After-plus-arg-1)
 
 pub loop-s-preserved : goal.loop-s-preserved
 loop-s-preserved c =
-    let i = (head c.before).before.loop in
-    let ts = (s c.before).args.totals.now in
-    let sum = plus_is (it c.before) c.unraised-more.result (get_or ts i.s (pos 0))
-    (unraised_at (s c.before).args.sums.now (s c.before).args.sizes i.s)
-    (most_rows * most_product) (2 * (most_rows * most_raised)) (sfits_abs (it c.before) (omega (arith, it-most c.before))) (record { sfits = c.unraised-more.type_inv })
-    (same c.before) (more_is c.before).is (subst (λ (z : ℤ). nat_abs z ≤ most_rows * most_product) (same c.before) (it-most c.before))
-    (subst (λ (z : ℤ). nat_abs z ≤ (2 * (most_rows * most_raised))) (more_is c.before).is (more_is c.before).size) c.plus.result c.plus.ensures in (
-      omega (arith, below c.before),
-      next i.s (unraised_at (s c.before).args.sums.now (s c.before).args.sizes) ts i.totals (to_z w64 (of_z w64 c.plus.result)) i.inv.1
-          (omega (arith, below c.before, (s c.before).requires.totals_most.as_many)) (back c.plus.result (record { sfits = c.plus.type_inv }) ∙ sum.is),
+    let i = (head (goal.at.loop-s-preserved c).After-plus-arg-1).before.loop in
+    let ts = (s (goal.at.loop-s-preserved c).After-plus-arg-1).args.totals.now in
+    let sum = plus_is (it (goal.at.loop-s-preserved c).After-plus-arg-1) c.unraised-more.result (get_or ts i.s (pos 0))
+    (unraised_at (s (goal.at.loop-s-preserved c).After-plus-arg-1).args.sums.now (s (goal.at.loop-s-preserved c).After-plus-arg-1).args.sizes i.s)
+    (most_rows * most_product) (2 * (most_rows * most_raised)) (sfits_abs (it (goal.at.loop-s-preserved c).After-plus-arg-1) (omega (arith, it-most (goal.at.loop-s-preserved c).After-plus-arg-1))) (record { sfits = c.unraised-more.type_inv })
+    (same (goal.at.loop-s-preserved c).After-plus-arg-1) (more_is (goal.at.loop-s-preserved c).After-plus-arg-1).is (subst (λ (z : ℤ). nat_abs z ≤ most_rows * most_product) (same (goal.at.loop-s-preserved c).After-plus-arg-1) (it-most (goal.at.loop-s-preserved c).After-plus-arg-1))
+    (subst (λ (z : ℤ). nat_abs z ≤ (2 * (most_rows * most_raised))) (more_is (goal.at.loop-s-preserved c).After-plus-arg-1).is (more_is (goal.at.loop-s-preserved c).After-plus-arg-1).size) c.plus.result c.plus.ensures in (
+      omega (arith, below (goal.at.loop-s-preserved c).After-plus-arg-1),
+      next i.s (unraised_at (s (goal.at.loop-s-preserved c).After-plus-arg-1).args.sums.now (s (goal.at.loop-s-preserved c).After-plus-arg-1).args.sizes) ts i.totals (to_z w64 (of_z w64 c.plus.result)) i.inv.1
+          (omega (arith, below (goal.at.loop-s-preserved c).After-plus-arg-1, (s (goal.at.loop-s-preserved c).After-plus-arg-1).requires.totals_most.as_many)) (back c.plus.result (record { sfits = c.plus.type_inv }) ∙ sum.is),
     )
 
 pub returns : goal.returns

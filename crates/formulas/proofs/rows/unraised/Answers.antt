@@ -28,11 +28,11 @@ as_signed-requires c = omega (arith, c.requires.1)
 
 pub minus-requires : goal.minus-requires
 minus-requires c =
-    op_fits ◌-ℤ◌ c.args.sum c.as_signed.result c.args.sum (raised_by c.before) (sfits_abs c.args.sum (omega (arith, c.requires.0))).sfits
-    c.as_signed.type_inv refl c.as_signed.ensures (omega (arith, most c.before))
+    op_fits ◌-ℤ◌ c.args.sum c.as_signed.result c.args.sum (raised_by (goal.at.minus-requires c).Start) (sfits_abs c.args.sum (omega (arith, c.requires.0))).sfits
+    c.as_signed.type_inv refl c.as_signed.ensures (omega (arith, most (goal.at.minus-requires c).Start))
 
 pub returns : goal.returns
 returns c =
-    let is = op_is ◌-ℤ◌ c.args.sum c.as_signed.result c.args.sum (raised_by c.before.before) (sfits_abs c.args.sum (omega (arith, c.requires.0))).sfits
+    let is = op_is ◌-ℤ◌ c.args.sum c.as_signed.result c.args.sum (raised_by (goal.at.returns c).Start) (sfits_abs c.args.sum (omega (arith, c.requires.0))).sfits
     c.as_signed.type_inv refl c.as_signed.ensures c.minus.result c.minus.type_inv c.minus.ensures in
-    record { is = is; size = subst (λ (z : ℤ). nat_abs z ≤ 2 * (most_rows * most_raised)) (sym is) (most c.before.before) }
+    record { is = is; size = subst (λ (z : ℤ). nat_abs z ≤ 2 * (most_rows * most_raised)) (sym is) (most (goal.at.returns c).Start) }

@@ -25,9 +25,9 @@ many s whole question h =
     let p = s.args.asking.prompts in
     let t = s.args.asking.table in
     book_many whole question s.args.records s.args.asking h
-    (sym (length-map p.tier _) ∙ s.well_formed.1.0.1.1.0.1.1.1.0.1.0.1)
-    (sym (length-map p.net _) ∙ s.well_formed.1.0.1.1.0.1.1.1.1.0.1.0.1)
-    (sym (length-map t.spread _) ∙ s.well_formed.1.0.1.1.1.0.1.1.1.0.1.0.1)
+    (search rules)
+    (search rules)
+    (search rules)
 
 pub returns-then-out-book_count : goal.returns-then-out-book_count
 returns-then-out-book_count c =
@@ -35,7 +35,7 @@ returns-then-out-book_count c =
     λ whole question h.
     refused_with (TooFewNumbers c.args.records) _ (book whole question) out
     (asked_few whole (Book question) (length out) h.asked_is
-    (omega (arith, many c.before.before.before.before whole question h, c.book_count.ensures, c.if-out-book_count.true))
+    (omega (arith, many (goal.at.returns-then-out-book_count c).Start whole question h, c.book_count.ensures, c.if-out-book_count.true))
     ∙ ap TooFewNumbers (sym h.records_are)) (λ e. omega arith)
 
 pub returns : goal.returns
@@ -45,7 +45,7 @@ returns c =
     let enough : length (book whole question) ≤ length out =
     omega (
       arith,
-      many c.before.before.before.before.before.before.before whole question h,
+      many (goal.at.returns c).Start whole question h,
       c.book_count.ensures,
       c.if-out-book_count.false,
     )

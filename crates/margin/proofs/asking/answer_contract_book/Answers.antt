@@ -96,7 +96,7 @@ returns-then-out-contract_count c =
     let out = c.args.out.now in
     refused_with (TooFewNumbers c.record_total.result) _ (book a n) out
     (asked_few a (Book n) (length out) c.requires.1.1
-    (omega (arith, many c.before.before.before, c.contract_count.ensures, c.if-out-contract_count.true))
+    (omega (arith, many (goal.at.returns-then-out-contract_count c).After-spreads_part-spreads, c.contract_count.ensures, c.if-out-contract_count.true))
     ∙ ap TooFewNumbers (sym (c.record_total.ensures ∙ c.requires.0.places.all))) (λ e. omega arith)
 
 pub put_net_deltas-requires : goal.put_net_deltas-requires
@@ -120,11 +120,11 @@ put_net_deltas-requires c =
 
 pub run_contract-requires : goal.run_contract-requires
 run_contract-requires c =
-    (omega (arith, c.contract_count.ensures, c.if-out-contract_count.false), (nets-long c.before.before, room c.before.before))
+    (omega (arith, c.contract_count.ensures, c.if-out-contract_count.false), (nets-long (goal.at.run_contract-requires c).After-put_net_deltas, room (goal.at.run_contract-requires c).After-put_net_deltas))
 
 pub returns : goal.returns
 returns c =
-    let is = is-book c.before.before.before.before in
+    let is = is-book (goal.at.returns c).After-put_net_deltas in
     book-written (account_of c.args.morning.now c.args.noon.now) c.args.c _ _ c.args.out.now c.run_contract.new.0 is
-    (omega (arith, ap length is.is, many c.before.before.before.before.before.before.before.before.before, c.contract_count.ensures, c.if-out-contract_count.false))
+    (omega (arith, ap length is.is, many (goal.at.returns c).After-spreads_part-spreads, c.contract_count.ensures, c.if-out-contract_count.false))
     c.run_contract.ensures

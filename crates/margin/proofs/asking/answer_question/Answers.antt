@@ -35,26 +35,26 @@ asked c =
     s.pre.places.counts s.args.question)
 
 -- a book of a contract
-not-paid : (c : Then-paid-question) → (start_of c.before.before).args.paid ≡ false
+not-paid : (c : Then-paid-question) → (start_of c.before.before.before).args.paid ≡ false
 not-paid c =
-    let s = start_of c.before.before in
+    let s = start_of c.before.before.before in
     not-true s.args.paid (and_left (not s.args.paid) (not (eqb s.args.question table_question)) c.if-paid-question.true)
 
 pub returns-then-not-is_asked : goal.returns-then-not-is_asked
 returns-then-not-is_asked c =
-    let s = start_of c.before.before in
+    let s = start_of (goal.at.returns-then-not-is_asked c).After-is_asked in
     let a = account_of s.args.morning.now s.args.noon.now in
     let q = question_of s.args.paid s.args.question in
     refused_with (NoSuchQuestion c.record_total.result) _ (numbers_for a q) s.args.out.now
     (not-asked a q (length s.args.out.now)
-    (answers_of a s.args.paid s.args.question ∙ asked c.before.before ∙ not-true c.is_asked.result c.if-not-is_asked.true)
+    (answers_of a s.args.paid s.args.question ∙ asked (goal.at.returns-then-not-is_asked c).After-is_asked ∙ not-true c.is_asked.result c.if-not-is_asked.true)
     ∙ ap NoSuchQuestion (sym (c.record_total.ensures ∙ s.pre.places.all))) (λ e. omega arith)
 
 pub answer_contract_book-requires : goal.answer_contract_book-requires
 answer_contract_book-requires c =
-    let s = start_of c.before.before.before in
+    let s = start_of (goal.at.answer_contract_book-requires c).After-is_asked in
     let q = s.args.question in
-    let is = asked c.before.before.before ∙ not-false c.is_asked.result c.if-not-is_asked.false in
+    let is = asked (goal.at.answer_contract_book-requires c).After-is_asked ∙ not-false c.is_asked.result c.if-not-is_asked.false in
     let contract = and_right (not s.args.paid) (not (eqb q table_question)) c.if-paid-question.true in (
       s.pre,
       (
@@ -66,27 +66,27 @@ answer_contract_book-requires c =
 
 pub returns-then-paid-question : goal.returns-then-paid-question
 returns-then-paid-question c =
-    let s = start_of c.before.before.before.before.before in
+    let s = start_of (goal.at.returns-then-paid-question c).After-is_asked in
     let a = account_of s.args.morning.now s.args.noon.now in
     let out = s.args.out.now in
     let r = c.answer_contract_book in
     subst⁻¹ (λ (p : Bool). Answers r.result r.new.1.1.1.1.0 (answer_over a (question_of p s.args.question) (length out))
-    (numbers_for a (question_of p s.args.question)) out) (not-paid c.before.before.before) r.ensures
+    (numbers_for a (question_of p s.args.question)) out) (not-paid (goal.at.returns-then-paid-question c).Then-paid-question) r.ensures
 
 pub asking_over-asking-requires : goal.asking_over-asking-requires
 asking_over-asking-requires c =
-    ((start_of c.before.before).requires, asked c.before.before ∙ not-false c.is_asked.result c.if-not-is_asked.false)
+    ((start_of (goal.at.asking_over-asking-requires c).After-is_asked).requires, asked (goal.at.asking_over-asking-requires c).After-is_asked ∙ not-false c.is_asked.result c.if-not-is_asked.false)
 
 pub answer_asking-requires : goal.answer_asking-requires
 answer_asking-requires c = c.asking_over-asking.ensures.accepted
 
 pub returns : goal.returns
 returns c =
-    let s = start_of c.before.before.before.before.before.before.before in
+    let s = start_of (goal.at.returns c).After-is_asked in
     c.answer_asking.ensures (account_of s.args.morning.now s.args.noon.now) s.args.question
     (record {
       lawful = s.pre.lawful;
-      asked_is = asked c.before.before.before.before.before.before.before ∙ not-false c.is_asked.result c.if-not-is_asked.false;
+      asked_is = asked (goal.at.returns c).After-is_asked ∙ not-false c.is_asked.result c.if-not-is_asked.false;
       records_are = c.record_total-2.ensures ∙ s.pre.places.all;
       asks = c.asking_over-asking.ensures;
     })

@@ -34,36 +34,36 @@ asked c =
 
 pub returns-then-not-is_asked : goal.returns-then-not-is_asked
 returns-then-not-is_asked c =
-    let s = start_of c.before in
+    let s = start_of (goal.at.returns-then-not-is_asked c).After-is_asked in
     let a = account_of s.args.morning.now s.args.noon.now in
     let k = s.args.question in
     let q = question_of s.args.paid k in
     λ whole t.
     refused_with (NoSuchQuestion s.args.positions.records) _ (numbers_for whole q) s.args.out.now
-    (not-asked whole q (length s.args.out.now) (answers_of whole s.args.paid k ∙ answered_beside a whole t.beside k ∙ asked c.before
+    (not-asked whole q (length s.args.out.now) (answers_of whole s.args.paid k ∙ answered_beside a whole t.beside k ∙ asked (goal.at.returns-then-not-is_asked c).After-is_asked
     ∙ not-true c.is_asked.result c.if-not-is_asked.true)
     ∙ ap NoSuchQuestion (sym t.positions.records_are)) (λ e. omega arith)
 
 pub asking_from-asking-requires : goal.asking_from-asking-requires
 asking_from-asking-requires c =
-    let s = start_of c.before in
-    (s.pre.0, (s.pre.1, asked c.before ∙ not-false c.is_asked.result c.if-not-is_asked.false))
+    let s = start_of (goal.at.asking_from-asking-requires c).After-is_asked in
+    (s.pre.0, (s.pre.1, asked (goal.at.asking_from-asking-requires c).After-is_asked ∙ not-false c.is_asked.result c.if-not-is_asked.false))
 
 pub answer_asking-requires : goal.answer_asking-requires
 answer_asking-requires c =
-    let x = (start_of c.before.before.before).requires.1 in
+    let x = (start_of (goal.at.answer_asking-requires c).After-is_asked).requires.1 in
     (c.asking_from-asking.ensures x.whole x.told).accepted
 
 pub returns : goal.returns
 returns c =
-    let s = start_of c.before.before.before.before.before in
+    let s = start_of (goal.at.returns c).After-is_asked in
     let k = s.args.question in
     λ whole t.
     c.answer_asking.ensures whole k
     (record {
       lawful = t.beside.lawful;
       asked_is = answered_beside (account_of s.args.morning.now s.args.noon.now) whole t.beside k
-          ∙ asked c.before.before.before.before.before ∙ not-false c.is_asked.result c.if-not-is_asked.false;
+          ∙ asked (goal.at.returns c).After-is_asked ∙ not-false c.is_asked.result c.if-not-is_asked.false;
       records_are = t.positions.records_are;
       asks = c.asking_from-asking.ensures whole t;
     })

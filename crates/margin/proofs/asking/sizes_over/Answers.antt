@@ -35,11 +35,11 @@ pub overflow_add-question : goal.overflow_add-question
 overflow_add-question c = omega (arith, small c)
 
 pub overflow_add-question-2 : goal.overflow_add-question-2
-overflow_add-question-2 c = omega (arith, small c.before)
+overflow_add-question-2 c = omega (arith, small (goal.at.overflow_add-question-2 c).Else-question-eq-TABLE)
 
 pub returns : goal.returns
 returns c =
-    let s = start_of c.before.before in
+    let s = start_of (goal.at.returns c).Else-question-eq-TABLE in
     subst₂ (SizesOf (account_of s.args.morning.now s.args.noon.now) s.args.question) (sym c.part_total-2.ensures)
     (sym c.part_total-3.ensures)
     (contract_sizes s.args.morning.now s.args.noon.now (account_in s.args.account.now) s.pre.0 s.args.question s.pre.1

@@ -41,29 +41,29 @@ few c =
 
 pub returns-then-not-is_asked : goal.returns-then-not-is_asked
 returns-then-not-is_asked c =
-    let s = start_of c.before in
+    let s = start_of (goal.at.returns-then-not-is_asked c).After-is_asked in
     let a = account_of s.args.morning.now s.args.noon.now in (
       sym (ap (λ (t : Bool). cond t (length (numbers_for a (Uses s.args.question))) 0)
-          (asked c.before ∙ not-true c.is_asked.result c.if-not-is_asked.true)),
+          (asked (goal.at.returns-then-not-is_asked c).After-is_asked ∙ not-true c.is_asked.result c.if-not-is_asked.true)),
       omega arith,
     )
 
 pub sizes_over-sizes-requires : goal.sizes_over-sizes-requires
 sizes_over-sizes-requires c =
-    ((start_of c.before).requires, asked c.before ∙ not-false c.is_asked.result c.if-not-is_asked.false)
+    ((start_of (goal.at.sizes_over-sizes-requires c).After-is_asked).requires, asked (goal.at.sizes_over-sizes-requires c).After-is_asked ∙ not-false c.is_asked.result c.if-not-is_asked.false)
 
 pub overflow_mul-result : goal.overflow_mul-result
 overflow_mul-result c = omega (arith, c.sizes_over-sizes.ensures.prompts_few)
 
 pub overflow_mul-result-2 : goal.overflow_mul-result-2
-overflow_mul-result-2 c = omega (arith, few c.before.before)
+overflow_mul-result-2 c = omega (arith, few (goal.at.overflow_mul-result-2 c).After-sizes_over-sizes)
 
 pub returns : goal.returns
 returns c =
-    let s = start_of c.before.before.before.before in
+    let s = start_of (goal.at.returns c).After-is_asked in
     let a = account_of s.args.morning.now s.args.noon.now in
     let r = c.sizes_over-sizes in (
       sym (ap (λ (t : Bool). cond t (length (numbers_for a (Uses s.args.question))) 0)
-          (asked c.before.before.before.before ∙ not-false c.is_asked.result c.if-not-is_asked.false) ∙ r.ensures.uses_have),
-      few c.before.before,
+          (asked (goal.at.returns c).After-is_asked ∙ not-false c.is_asked.result c.if-not-is_asked.false) ∙ r.ensures.uses_have),
+      few (goal.at.returns c).After-sizes_over-sizes,
     )

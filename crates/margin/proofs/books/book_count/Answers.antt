@@ -16,13 +16,13 @@ spreads_few : (s : Start) → s.args.table.count ≤ spread_places
 spreads_few s = few_in_table s.args.table (and_right (sound_prompts s.args.prompts) (sound_table s.args.table) s.requires)
 
 pub overflow_mul-result : goal.overflow_mul-result
-overflow_mul-result c = omega (arith, prompts_few c.before)
+overflow_mul-result c = omega (arith, prompts_few (goal.at.overflow_mul-result c).Start)
 
 pub overflow_mul-result-2 : goal.overflow_mul-result-2
-overflow_mul-result-2 c = omega (arith, spreads_few c.before.before)
+overflow_mul-result-2 c = omega (arith, spreads_few (goal.at.overflow_mul-result-2 c).Start)
 
 pub overflow_add-result : goal.overflow_add-result
-overflow_add-result c = omega (arith, prompts_few c.before.before, spreads_few c.before.before)
+overflow_add-result c = omega (arith, prompts_few (goal.at.overflow_add-result c).Start, spreads_few (goal.at.overflow_add-result c).Start)
 
 pub overflow_add-result-2 : goal.overflow_add-result-2
-overflow_add-result-2 c = omega (arith, prompts_few c.before.before, spreads_few c.before.before)
+overflow_add-result-2 c = omega (arith, prompts_few (goal.at.overflow_add-result-2 c).Start, spreads_few (goal.at.overflow_add-result-2 c).Start)

@@ -21,13 +21,13 @@ use Rattle.margin.proofs.books.put_asked.Goals.{After-plain-nets, Start}
 
 -- the places of its arrays
 tier-places : (s : Start) → length s.args.prompts.tier ≡ prompt_places
-tier-places s = sym (length-map s.args.prompts.tier _) ∙ s.well_formed.1.0.1.1.1.0.1.0.1
+tier-places s = search rules
 
 net-places : (s : Start) → length s.args.prompts.net ≡ prompt_places
-net-places s = sym (length-map s.args.prompts.net _) ∙ s.well_formed.1.0.1.1.1.1.0.1.0.1
+net-places s = search rules
 
 spread-places : (s : Start) → length s.args.table.spread ≡ spread_places
-spread-places s = sym (length-map s.args.table.spread _) ∙ s.well_formed.1.1.0.1.1.1.0.1.0.1
+spread-places s = search rules
 
 -- the net deltas as plain numbers
 nets-long : (c : After-plain-nets) → length c.plain-nets.result ≡ prompt_places
@@ -43,8 +43,8 @@ same c =
 
 pub put_unspread-requires : goal.put_unspread-requires
 put_unspread-requires c =
-    let few = few_prompts c.args.prompts c.args.table (tier-places c.before.before.before.before.before.before.before) (net-places c.before.before.before.before.before.before.before) (spread-places c.before.before.before.before.before.before.before) c.requires.0 in
-    (omega (arith, few), (omega (arith, few, nets-long c.before.before.before.before), omega (arith, c.requires.1)))
+    let few = few_prompts c.args.prompts c.args.table (tier-places (goal.at.put_unspread-requires c).Start) (net-places (goal.at.put_unspread-requires c).Start) (spread-places (goal.at.put_unspread-requires c).Start) c.requires.0 in
+    (omega (arith, few), (omega (arith, few, nets-long (goal.at.put_unspread-requires c).After-plain-nets), omega (arith, c.requires.1)))
 
 pub returns-then-table-eq0 : goal.returns-then-table-eq0
 returns-then-table-eq0 c =
@@ -52,15 +52,15 @@ returns-then-table-eq0 c =
     let t = c.args.table in
     let none : steps_of t ≡ [] = ap (λ (n : ℕ). steps (take n t.spread)) c.if-table-eq0.true in
     c.put_unspread.ensures (open_of p)
-    (ap (take p.count) c.plain-nets.ensures ∙ sym (unused_given p.count p.tier p.net (omega (arith, tier-places c.before.before.before.before.before.before.before.before.before, net-places c.before.before.before.before.before.before.before.before.before))))
+    (ap (take p.count) c.plain-nets.ensures ∙ sym (unused_given p.count p.tier p.net (omega (arith, tier-places (goal.at.returns-then-table-eq0 c).Start, net-places (goal.at.returns-then-table-eq0 c).Start))))
     ∙ ap (λ (ss : List (List Taker)). sets c.args.out.now 0 (book_by ss (open_of p))) (sym none)
 
 pub run_table-requires : goal.run_table-requires
 run_table-requires c = (
-  subst⁻¹ (λ (q : Prompts). sound q c.args.table ≡ true) (same c.before.before.before.before.before) c.requires.0,
-  ((tier-places c.before.before.before.before.before.before.before.before, nets-long c.before.before.before.before.before), omega (arith, c.requires.1)),
+  subst⁻¹ (λ (q : Prompts). sound q c.args.table ≡ true) (same (goal.at.run_table-requires c).After-plain-nets) c.requires.0,
+  ((tier-places (goal.at.run_table-requires c).Start, nets-long (goal.at.run_table-requires c).After-plain-nets), omega (arith, c.requires.1)),
 )
 
 pub returns : goal.returns
 returns c =
-    c.run_table.ensures ∙ ap (λ (q : Prompts). sets c.args.out.now 0 (book_by (steps_of c.args.table) (open_of q))) (same c.before.before.before.before.before.before.before)
+    c.run_table.ensures ∙ ap (λ (q : Prompts). sets c.args.out.now 0 (book_by (steps_of c.args.table) (open_of q))) (same (goal.at.returns c).After-plain-nets)

@@ -22,7 +22,7 @@ net-places : (s : Start) → length (prompts s).net ≡ prompt_places
 net-places s = length-map s.args.nets.now _ ∙ s.requires.1.0.1
 
 spread-places : (s : Start) → length s.args.table.spread ≡ spread_places
-spread-places s = sym (length-map s.args.table.spread _) ∙ s.well_formed.1.1.1.1.0.1.1.1.0.1.0.1
+spread-places s = search rules
 
 pub touches_in-touches-requires : goal.touches_in-touches-requires
 touches_in-touches-requires c = (c.requires.0, record { firsts = c.requires.1.1.1.first; seconds = c.requires.1.1.1.second })
@@ -34,15 +34,15 @@ put_numbers-requires c =
     let used = c.args.used.now in
     let unused = c.args.unused.now in
     let is = c.requires.1.1.1 in
-    let p = prompts c.before.before in
+    let p = prompts (goal.at.put_numbers-requires c).Start in
     let t = c.args.table in
-    let few = few_prompts p t c.requires.1.0.0 (net-places c.before.before) (spread-places c.before.before) c.requires.0 in (
-      run_lent p t c.requires.1.0.0 (net-places c.before.before) (spread-places c.before.before) c.requires.0 first second used unused is c.args.nets.now
+    let few = few_prompts p t c.requires.1.0.0 (net-places (goal.at.put_numbers-requires c).Start) (spread-places (goal.at.put_numbers-requires c).Start) c.requires.0 in (
+      run_lent p t c.requires.1.0.0 (net-places (goal.at.put_numbers-requires c).Start) (spread-places (goal.at.put_numbers-requires c).Start) c.requires.0 first second used unused is c.args.nets.now
           (omega (arith, few, c.requires.1.0.1)),
       (
-        run_signed p t c.requires.1.0.0 (net-places c.before.before) (spread-places c.before.before) c.requires.0 first second used unused is,
+        run_signed p t c.requires.1.0.0 (net-places (goal.at.put_numbers-requires c).Start) (spread-places (goal.at.put_numbers-requires c).Start) c.requires.0 first second used unused is,
         (
-          omega (arith, c.touches_in-touches.ensures, touched p t c.requires.1.0.0 (net-places c.before.before) (spread-places c.before.before) c.requires.0),
+          omega (arith, c.touches_in-touches.ensures, touched p t c.requires.1.0.0 (net-places (goal.at.put_numbers-requires c).Start) (spread-places (goal.at.put_numbers-requires c).Start) c.requires.0),
           omega (arith, c.requires.1.1.0),
         ),
       ),
@@ -53,9 +53,9 @@ returns c =
     let nets = c.args.nets.now in
     c.put_numbers.ensures
     ∙ ap (sets c.args.out.now 0)
-    (run_numbers (prompts c.before.before.before.before) c.args.table c.requires.1.0.0 (net-places c.before.before.before.before) (spread-places c.before.before.before.before) c.requires.0
+    (run_numbers (prompts (goal.at.returns c).Start) c.args.table c.requires.1.0.0 (net-places (goal.at.returns c).Start) (spread-places (goal.at.returns c).Start) c.requires.0
     c.args.first.now c.args.second.now c.args.used.now c.args.unused.now c.requires.1.1.1 nets
     c.touches_in-touches.result
     (ap (take c.args.count) (sym (deltas_again nets))
-    ∙ sym (unused_given c.args.count c.args.tiers.now (deltas_from nets) (omega (arith, net-places c.before.before.before.before, c.requires.1.0.0))))
+    ∙ sym (unused_given c.args.count c.args.tiers.now (deltas_from nets) (omega (arith, net-places (goal.at.returns c).Start, c.requires.1.0.0))))
     c.touches_in-touches.ensures)

@@ -32,7 +32,7 @@ lent c =
 
 pub contract_in-requires : goal.contract_in-requires
 contract_in-requires c =
-    let after-spreads = at-spreads c.before.before.before.before in
+    let after-spreads = at-spreads (goal.at.contract_in-requires c).After-plain-nets in
     let after-prompts = after-spreads.before in
     let after-own = after-prompts.before in
     let at = after-own.before in
@@ -47,7 +47,7 @@ contract_in-requires c =
     let ps = after-prompts.prompts-part in
     let ss = after-spreads.spreads-part in (
       h,
-      subst⁻¹ (λ (q : Position). PositionFit own.result.now (records ps.result.now) (records ss.result.now) q) (lent c.before.before.before.before)
+      subst⁻¹ (λ (q : Position). PositionFit own.result.now (records ps.result.now) (records ss.result.now) q) (lent (goal.at.contract_in-requires c).After-plain-nets)
           (subst⁻¹ (λ (o : Record). PositionFit o (records ps.result.now) (records ss.result.now) s.args.p)
           (own_by a st.lawful n h own.result.now (own.ensures j n st h w))
           (parts_read a st.lawful n h ps.result.now ss.result.now (ps.ensures j n st h w) (ss.ensures j n st h w)
@@ -56,7 +56,7 @@ contract_in-requires c =
 
 pub returns : goal.returns
 returns c =
-    let after-spreads = at-spreads c.before.before.before.before.before.before.before in
+    let after-spreads = at-spreads (goal.at.returns c).After-plain-nets in
     let after-prompts = after-spreads.before in
     let after-own = after-prompts.before in
     let at = after-own.before in
@@ -76,10 +76,10 @@ returns c =
           (subst (λ (o : Record). LineOf (contract_with o (records ps.result.now) (records ss.result.now) s.args.p) l.result)
           (own_by a st.lawful n h own.result.now (own.ensures j n st h w))
           (subst (λ (q : Position). LineOf (contract_with own.result.now (records ps.result.now) (records ss.result.now) q) l.result)
-          (lent c.before.before.before.before.before.before.before) l.ensures.0));
+          (lent (goal.at.returns c).After-plain-nets) l.ensures.0));
       lent = λ whole is.
           l.ensures.1 whole
-          (subst⁻¹ (λ (q : Position). ContractIn whole s.args.count n (records ps.result.now) (records ss.result.now) q) (lent c.before.before.before.before.before.before.before)
+          (subst⁻¹ (λ (q : Position). ContractIn whole s.args.count n (records ps.result.now) (records ss.result.now) q) (lent (goal.at.returns c).After-plain-nets)
           (parts_read a st.lawful n h ps.result.now ss.result.now (ps.ensures j n st h w) (ss.ensures j n st h w)
           (λ (xs ys : List Record). ContractIn whole s.args.count n xs ys s.args.p) is));
     }

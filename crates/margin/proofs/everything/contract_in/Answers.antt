@@ -29,12 +29,12 @@ nets-long s = ap length (sym (deltas_again s.args.nets.now)) ∙ s.requires.1.is
 
 pub put_contract_book-touched-requires : goal.put_contract_book-touched-requires
 put_contract_book-touched-requires c =
-    (room c.before.before.before.before.before.before.before, ((refl, refl), (refl, refl)))
+    (room (goal.at.put_contract_book-touched-requires c).Start, ((refl, refl), (refl, refl)))
 
 pub lend_book-requires : goal.lend_book-requires
 lend_book-requires c =
     let book = c.put_contract_book-touched.ensures in
-    (c.requires.0, (nets-long c.before.before.before.before.before.before.before.before.before.before.before.before.before, (room c.before.before.before.before.before.before.before.before.before.before.before.before.before, (book.0, λ enough. book.1 (le-leb _ _ enough)))))
+    (c.requires.0, (nets-long (goal.at.lend_book-requires c).Start, (room (goal.at.lend_book-requires c).Start, (book.0, λ enough. book.1 (le-leb _ _ enough)))))
 
 pub line_in-requires : goal.line_in-requires
 line_in-requires c =

@@ -48,9 +48,9 @@ put_position-shorts-requires c =
     let rs = c.rows_part-rows in
     let ps = c.prompts_part-prompts in
     let own = c.own_part-own in
-    let fits = position_room (account_of c.args.morning.now c.args.noon.now) st.lawful n (small c.before.before.before.before.before.before.before.before)
+    let fits = position_room (account_of c.args.morning.now c.args.noon.now) st.lawful n (small (goal.at.put_position-shorts-requires c).After-contract_number-c)
     own.result.now ps.result.now rs.result.now
-    (own.ensures j n st (small c.before.before.before.before.before.before.before.before) w) (ps.ensures j n st (small c.before.before.before.before.before.before.before.before) w) (rs.ensures j n st (small c.before.before.before.before.before.before.before.before) w)
+    (own.ensures j n st (small (goal.at.put_position-shorts-requires c).After-contract_number-c) w) (ps.ensures j n st (small (goal.at.put_position-shorts-requires c).After-contract_number-c) w) (rs.ensures j n st (small (goal.at.put_position-shorts-requires c).After-contract_number-c) w)
     c.args.rates c.requires.1.1 c.unit.result c.unit.ensures.0 in
     (fits.0, (fits.1.0, (fits.1.1.0, (fits.1.1.1, (refl, refl)))))
 
@@ -68,11 +68,11 @@ contract_in-requires c =
     let rs = c.rows_part-rows in
     let ps = c.prompts_part-prompts in
     let own = c.own_part-own in (
-      small c.before.before.before.before.before.before.before.before.before.before.before.before.before.before,
-      fit_here a st.lawful n (small c.before.before.before.before.before.before.before.before.before.before.before.before.before.before) own.result.now ps.result.now rs.result.now
-          (own.ensures j n st (small c.before.before.before.before.before.before.before.before.before.before.before.before.before.before) w) (ps.ensures j n st (small c.before.before.before.before.before.before.before.before.before.before.before.before.before.before) w) (rs.ensures j n st (small c.before.before.before.before.before.before.before.before.before.before.before.before.before.before) w)
+      small (goal.at.contract_in-requires c).After-contract_number-c,
+      fit_here a st.lawful n (small (goal.at.contract_in-requires c).After-contract_number-c) own.result.now ps.result.now rs.result.now
+          (own.ensures j n st (small (goal.at.contract_in-requires c).After-contract_number-c) w) (ps.ensures j n st (small (goal.at.contract_in-requires c).After-contract_number-c) w) (rs.ensures j n st (small (goal.at.contract_in-requires c).After-contract_number-c) w)
           c.args.rates c.requires.1.1 u.result u.ensures.0 p (r.ensures.0 (rates_of a) c.requires.1.1) r.ensures.1
-          ss.result.now (ss.ensures j n st (small c.before.before.before.before.before.before.before.before.before.before.before.before.before.before) w),
+          ss.result.now (ss.ensures j n st (small (goal.at.contract_in-requires c).After-contract_number-c) w),
     )
 
 pub returns : goal.returns
@@ -96,19 +96,19 @@ returns c =
     its.ensures.1 a
     (subst⁻¹ (λ (x : ℕ). ContractIn a x n (records ps.result.now) (records ss.result.now) p)
     (c.record_total.ensures ∙ st.places.all)
-    (contract_in a st.lawful n (small c.before.before.before.before.before.before.before.before.before.before.before.before.before.before.before.before.before) own.result.now ps.result.now rs.result.now
-    (own.ensures j n st (small c.before.before.before.before.before.before.before.before.before.before.before.before.before.before.before.before.before) w) (ps.ensures j n st (small c.before.before.before.before.before.before.before.before.before.before.before.before.before.before.before.before.before) w) (rs.ensures j n st (small c.before.before.before.before.before.before.before.before.before.before.before.before.before.before.before.before.before) w)
+    (contract_in a st.lawful n (small (goal.at.returns c).After-contract_number-c) own.result.now ps.result.now rs.result.now
+    (own.ensures j n st (small (goal.at.returns c).After-contract_number-c) w) (ps.ensures j n st (small (goal.at.returns c).After-contract_number-c) w) (rs.ensures j n st (small (goal.at.returns c).After-contract_number-c) w)
     c.args.rates c.requires.1.1 u.result u.ensures.0 p (r.ensures.0 (rates_of a) c.requires.1.1) r.ensures.1
-    ss.result.now (ss.ensures j n st (small c.before.before.before.before.before.before.before.before.before.before.before.before.before.before.before.before.before) w)
-    c.args.i listed (number c.before.before.before.before.before.before.before.before.before.before.before.before.before.before.before.before.before)))
+    ss.result.now (ss.ensures j n st (small (goal.at.returns c).After-contract_number-c) w)
+    c.args.i listed (number (goal.at.returns c).After-contract_number-c)))
     in
     record {
       line =
-          line_here a st.lawful n (small c.before.before.before.before.before.before.before.before.before.before.before.before.before.before.before.before.before) own.result.now ps.result.now rs.result.now
-          (own.ensures j n st (small c.before.before.before.before.before.before.before.before.before.before.before.before.before.before.before.before.before) w) (ps.ensures j n st (small c.before.before.before.before.before.before.before.before.before.before.before.before.before.before.before.before.before) w) (rs.ensures j n st (small c.before.before.before.before.before.before.before.before.before.before.before.before.before.before.before.before.before) w)
+          line_here a st.lawful n (small (goal.at.returns c).After-contract_number-c) own.result.now ps.result.now rs.result.now
+          (own.ensures j n st (small (goal.at.returns c).After-contract_number-c) w) (ps.ensures j n st (small (goal.at.returns c).After-contract_number-c) w) (rs.ensures j n st (small (goal.at.returns c).After-contract_number-c) w)
           c.args.rates c.requires.1.1 u.result u.ensures.0 p (r.ensures.0 (rates_of a) c.requires.1.1) r.ensures.1
-          ss.result.now (ss.ensures j n st (small c.before.before.before.before.before.before.before.before.before.before.before.before.before.before.before.before.before) w)
-          c.args.i listed (number c.before.before.before.before.before.before.before.before.before.before.before.before.before.before.before.before.before) its.result its.ensures.0;
-      book = lent.0 ∙ ap (placed false c.args.books.now) (number c.before.before.before.before.before.before.before.before.before.before.before.before.before.before.before.before.before);
-      paid = lent.1 ∙ ap (placed true c.args.uses.now) (number c.before.before.before.before.before.before.before.before.before.before.before.before.before.before.before.before.before);
+          ss.result.now (ss.ensures j n st (small (goal.at.returns c).After-contract_number-c) w)
+          c.args.i listed (number (goal.at.returns c).After-contract_number-c) its.result its.ensures.0;
+      book = lent.0 ∙ ap (placed false c.args.books.now) (number (goal.at.returns c).After-contract_number-c);
+      paid = lent.1 ∙ ap (placed true c.args.uses.now) (number (goal.at.returns c).After-contract_number-c);
     }

@@ -26,12 +26,12 @@ prompts s = prompts_in s.args.count s.args.tiers.now s.args.nets.now
 room : (s : Start) → 3 * s.args.count + 2 * s.args.table.count + 1 ≤ longest_book
 room s =
     run_long (prompts s) s.args.table s.requires.1.0.0 (length-map s.args.nets.now _ ∙ s.requires.1.0.1)
-    (sym (length-map s.args.table.spread _) ∙ s.well_formed.1.1.1.0.1.1.1.0.1.0.1) s.requires.0
+    (search rules) s.requires.0
 
 few : (s : Start) → length (book_by (steps_of s.args.table) (open_of (prompts s))) ≤ longest_book
 few s =
     let long = book_long (prompts s) s.args.table s.requires.1.0.0 (length-map s.args.nets.now _ ∙ s.requires.1.0.1)
-    (sym (length-map s.args.table.spread _) ∙ s.well_formed.1.1.1.0.1.1.1.0.1.0.1) s.requires.0 in
+    (search rules) s.requires.0 in
     omega (arith, long, room s)
 
 pub returns-then-out-lt-ALL_BOOKS : goal.returns-then-out-lt-ALL_BOOKS
@@ -41,7 +41,7 @@ returns-then-out-lt-ALL_BOOKS c =
 
 pub put_table-requires : goal.put_table-requires
 put_table-requires c =
-    (c.requires.0, (c.requires.1.0, (le_trans (room c.before.before) (search rules), c.requires.1.1)))
+    (c.requires.0, (c.requires.1.0, (le_trans (room (goal.at.put_table-requires c).Start) (search rules), c.requires.1.1)))
 
 pub returns : goal.returns
 returns c =
@@ -51,4 +51,4 @@ returns c =
     let after = after_over whole (Book table_question) in
     lent_enough longest_book table_question after o _ (omega (arith, c.if-out-lt-ALL_BOOKS.false))
     (put-place longest_book (longest_book * table_question) o r.new.0 after
-    (book-after whole table_question (steps_of c.args.table) (open_of (prompts c.before.before.before.before)) _ r.new.0 is (le_trans (few c.before.before.before.before) (search rules)) r.ensures))
+    (book-after whole table_question (steps_of c.args.table) (open_of (prompts (goal.at.returns c).Start)) _ r.new.0 is (le_trans (few (goal.at.returns c).Start) (search rules)) r.ensures))

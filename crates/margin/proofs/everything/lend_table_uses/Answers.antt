@@ -39,7 +39,7 @@ table_asking-asking-requires c =
 pub answer_uses-requires : goal.answer_uses-requires
 answer_uses-requires c =
     let x = c.requires in
-    (c.table_asking-asking.ensures x.whole (handed c.before.before x.whole x.over)).accepted
+    (c.table_asking-asking.ensures x.whole (handed (goal.at.answer_uses-requires c).After-deltas_from x.whole x.over)).accepted
 
 pub returns : goal.returns
 returns c =
@@ -53,5 +53,5 @@ returns c =
       lawful = over.lawful;
       asked_is = refl;
       records_are = n;
-      asks = c.table_asking-asking.ensures whole (handed c.before.before.before.before whole over);
+      asks = c.table_asking-asking.ensures whole (handed (goal.at.returns c).After-deltas_from whole over);
     })).1)

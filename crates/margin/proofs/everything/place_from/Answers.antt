@@ -43,11 +43,11 @@ few c =
 
 -- what is known of one of the accounts when a turn begins
 known : (c : At-loop-i) →
-    let s = at-start c.before in
+    let s = at-start c.before.before in
     WalkedTo s.pre.1.0.whole c.contract_total-count.result s.args.figures.now s.args.books.now s.args.uses.now c.loop-i.i
     c.loop-i.figures c.loop-i.books c.loop-i.uses c.loop-i.tiers c.loop-i.nets c.loop-i.units c.loop-i.prices c.loop-i.sizes c.loop-i.total
 known c =
-    let x = (at-start c.before).pre.1.0 in
+    let x = (at-start c.before.before).pre.1.0 in
     c.loop-i.invariant x.whole x.told
 
 -- the turn's contract is listed, and has this number
@@ -103,10 +103,10 @@ bounds-positions-c c = let h = small c in omega arith
 
 pub contract_from-line-requires : goal.contract_from-line-requires
 contract_from-line-requires c =
-    let s = at-start (at-total c.before.before.before) in
+    let s = at-start (at-total (goal.at.contract_from-line-requires c).After-contract_number-c) in
     let x = s.pre.1.0 in
     let k = c.contract_number-c.result in
-    let h = small c.before.before.before in (
+    let h = small (goal.at.contract_from-line-requires c).After-contract_number-c in (
       s.pre.0,
       (
         h,
@@ -117,9 +117,9 @@ contract_from-line-requires c =
 
 pub place_line-margin-requires : goal.place_line-margin-requires
 place_line-margin-requires c =
-    let after-total = at-total c.before.before.before.before.before.before.before.before.before.before.before.before in
+    let after-total = at-total (goal.at.place_line-margin-requires c).After-contract_number-c in
     let s = at-start after-total in
-    let is = (known c.before.before.before.before.before.before.before.before.before.before.before.before.before.before).table in
+    let is = (known (goal.at.place_line-margin-requires c).At-loop-i).table in
     let l = c.loop-i in
     let taken = c.loop-i-test.true in
     let h = few after-total in (
@@ -138,7 +138,7 @@ place_line-margin-requires c =
 
 pub overflow_add-total : goal.overflow_add-total
 overflow_add-total c =
-    let after_test_lem = (at-number c.before.before).before in
+    let after_test_lem = (at-number (goal.at.overflow_add-total c).After-place_line-margin).before in
     let h = few after_test_lem.before.before in
     let small = (known after_test_lem.before).small in
     let margin = c.place_line-margin.ensures.margin.1 in
@@ -146,19 +146,19 @@ overflow_add-total c =
 
 pub overflow_add-i : goal.overflow_add-i
 overflow_add-i c =
-    let after_test_lem = (at-number c.before.before).before in
+    let after_test_lem = (at-number (goal.at.overflow_add-i c).After-place_line-margin).before in
     let h = few after_test_lem.before.before in
     omega (arith, after_test_lem.loop-test.taken)
 
 pub loop-i-smaller : goal.loop-i-smaller
 loop-i-smaller c =
-    let after_test_lem = (at-number c.before.before).before in
+    let after_test_lem = (at-number (goal.at.loop-i-smaller c).After-place_line-margin).before in
     omega (arith, after_test_lem.loop-test.taken)
 
 pub loop-i-preserved : goal.loop-i-preserved
 loop-i-preserved c =
-    let after-contract = at-contract c.before.before in
-    let after-number = at-number c.before.before in
+    let after-contract = at-contract (goal.at.loop-i-preserved c).After-place_line-margin in
+    let after-number = at-number (goal.at.loop-i-preserved c).After-place_line-margin in
     let after_test_lem = after-number.before in
     let after-loop = after_test_lem.before in
     let after-total = at-total after-number in
@@ -190,32 +190,32 @@ loop-i-preserved c =
 
 pub overflow_mul-count : goal.overflow_mul-count
 overflow_mul-count c =
-    let h = few c.before.before.before in
+    let h = few (goal.at.overflow_mul-count c).After-contract_total-count in
     omega arith
 
 pub put-requires : goal.put-requires
 put-requires c =
-    let s = at-start c.before.before.before in
-    let is = known c.before.before in
-    let h = few c.before.before.before in
+    let s = at-start (goal.at.put-requires c).After-contract_total-count in
+    let is = known (goal.at.put-requires c).At-loop-i in
+    let h = few (goal.at.put-requires c).After-contract_total-count in
     let small = is.small in
     let within = is.table.within in
     (omega (arith, s.pre.1.1.0, c.contract_total-count.ensures, is.table.same), omega arith)
 
 pub shape_of-figures : goal.shape_of-figures
 shape_of-figures c =
-    c.figures-2-1.given ∙ (known c.before.before.before.before).table.same
+    c.figures-2-1.given ∙ (known (goal.at.shape_of-figures c).At-loop-i).table.same
 
 pub shape_of-books : goal.shape_of-books
 shape_of-books c =
-    (known c.before.before.before.before).book.same
+    (known (goal.at.shape_of-books c).At-loop-i).book.same
 
 pub shape_of-uses : goal.shape_of-uses
 shape_of-uses c =
-    (known c.before.before.before.before).paid.same
+    (known (goal.at.shape_of-uses c).At-loop-i).paid.same
 
 pub returns : goal.returns
 returns c =
     λ whole t.
-    walked_all t.beside.lawful (counted c.before.before.before.before.before whole t.beside) (few c.before.before.before.before.before) (c.loop-i.invariant whole t)
+    walked_all t.beside.lawful (counted (goal.at.returns c).After-contract_total-count whole t.beside) (few (goal.at.returns c).After-contract_total-count) (c.loop-i.invariant whole t)
     (omega (arith, c.loop-i-test.false)) c.put.ensures

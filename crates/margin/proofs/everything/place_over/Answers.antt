@@ -43,7 +43,7 @@ place_line-margin-requires c =
     let l = c.loop-i in
     let is = l.invariant.table in
     let taken = c.loop-i-test.true in
-    let h = few c.before.before.before.before.before.before.before.before.before.before.before.before.before.before in (
+    let h = few (goal.at.place_line-margin-requires c).After-contract_total-count in (
       omega (arith, taken),
       (
         omega (arith, taken, c.requires.1.0, c.contract_total-count.ensures, is.same),
@@ -59,7 +59,7 @@ place_line-margin-requires c =
 
 pub overflow_add-total : goal.overflow_add-total
 overflow_add-total c =
-    let after_test_lem = (at-contract c.before.before).before.before.before in
+    let after_test_lem = (at-contract (goal.at.overflow_add-total c).After-place_line-margin).before.before.before in
     let after-loop = after_test_lem.before in
     let h = few after-loop.before.before in
     let small = after-loop.loop.inv.small in
@@ -68,18 +68,18 @@ overflow_add-total c =
 
 pub overflow_add-i : goal.overflow_add-i
 overflow_add-i c =
-    let after_test_lem = (at-contract c.before.before).before.before.before in
+    let after_test_lem = (at-contract (goal.at.overflow_add-i c).After-place_line-margin).before.before.before in
     let h = few after_test_lem.before.before.before in
     omega (arith, after_test_lem.loop-test.taken)
 
 pub loop-i-smaller : goal.loop-i-smaller
 loop-i-smaller c =
-    let after_test_lem = (at-contract c.before.before).before.before.before in
+    let after_test_lem = (at-contract (goal.at.loop-i-smaller c).After-place_line-margin).before.before.before in
     omega (arith, after_test_lem.loop-test.taken)
 
 pub loop-i-preserved : goal.loop-i-preserved
 loop-i-preserved c =
-    let after-contract = at-contract c.before.before in
+    let after-contract = at-contract (goal.at.loop-i-preserved c).After-place_line-margin in
     let after_test_lem = after-contract.before.before.before in
     let after-loop = after_test_lem.before in
     let after-total = after-loop.before.before in
@@ -92,13 +92,13 @@ loop-i-preserved c =
 
 pub overflow_mul-count : goal.overflow_mul-count
 overflow_mul-count c =
-    let h = few c.before.before.before.before in
+    let h = few (goal.at.overflow_mul-count c).After-contract_total-count in
     omega arith
 
 pub put-requires : goal.put-requires
 put-requires c =
     let l = c.loop-i in
-    let h = few c.before.before.before.before in
+    let h = few (goal.at.put-requires c).After-contract_total-count in
     let small = l.invariant.small in
     let within = l.invariant.table.within in
     (omega (arith, c.requires.1.0, c.contract_total-count.ensures, l.invariant.table.same), omega arith)
@@ -117,5 +117,5 @@ shape_of-uses c =
 
 pub returns : goal.returns
 returns c =
-    walked_all c.requires.0.lawful (counted c.before.before.before.before.before.before) (few c.before.before.before.before.before.before) c.loop-i.invariant
+    walked_all c.requires.0.lawful (counted (goal.at.returns c).After-contract_total-count) (few (goal.at.returns c).After-contract_total-count) c.loop-i.invariant
     (omega (arith, c.loop-i-test.false)) c.put.ensures

@@ -58,18 +58,18 @@ place_from-requires c =
 
 pub table_over-requires : goal.table_over-requires
 table_over-requires c =
-    let after-figures = at-figures c.before.before.before.before.before.before.before.before in
+    let after-figures = at-figures (goal.at.table_over-requires c).After-contract_total in
     let s = at-start after-figures.before in
     let x = s.pre.1.0 in (
       omega (arith, s.pre.1.1, c.contract_total.ensures, after-figures.figures.given),
-      record { whole = x.whole; is = tabled c.before.before.before.before.before.before.before.before x.whole x.told },
+      record { whole = x.whole; is = tabled (goal.at.table_over-requires c).After-contract_total x.whole x.told },
     )
 
 pub returns : goal.returns
 returns c =
-    let after-figures = at-figures c.before.before.before.before.before.before.before.before.before.before.before.before in
+    let after-figures = at-figures (goal.at.returns c).After-contract_total in
     let after-place = after-figures.before in
     let s = at-start after-place in
     λ whole t.
     walked_everything (room s whole t) after-figures.figures.given (after-place.place-from.ensures whole t)
-    c.books-1.given c.uses-1.given (c.table_over.ensures whole (tabled c.before.before.before.before.before.before.before.before.before.before.before.before whole t))
+    c.books-1.given c.uses-1.given (c.table_over.ensures whole (tabled (goal.at.returns c).After-contract_total whole t))

@@ -44,16 +44,16 @@ tabled c =
 
 pub table_over-requires : goal.table_over-requires
 table_over-requires c =
-    let after-figures = at-figures c.before.before.before.before.before.before.before.before in
+    let after-figures = at-figures (goal.at.table_over-requires c).After-record_total in
     let s = at-start after-figures.before in (
       omega (arith, s.pre.1, c.contract_total.ensures, after-figures.figures.given),
-      record { whole = _; is = tabled c.before.before.before.before.before.before.before.before },
+      record { whole = _; is = tabled (goal.at.table_over-requires c).After-record_total },
     )
 
 pub returns : goal.returns
 returns c =
-    let after-figures = at-figures c.before.before.before.before.before.before.before.before.before.before.before.before in
+    let after-figures = at-figures (goal.at.returns c).After-record_total in
     let after-place = after-figures.before in
     let s = at-start after-place in
     walked_everything (room s) after-figures.figures.given after-place.place-over.ensures
-    c.books-1.given c.uses-1.given (c.table_over.ensures _ (tabled c.before.before.before.before.before.before.before.before.before.before.before.before))
+    c.books-1.given c.uses-1.given (c.table_over.ensures _ (tabled (goal.at.returns c).After-record_total))

@@ -58,7 +58,7 @@ tiers c = prompts_in (at-start c).args.count (at-start c).args.tiers.now (at-sta
 
 module _ (t : After-intercontract_table-table) (whole : List Record) (is : Is (at-start t) whole) where
   abbrev s : Start
-  s = t.before.before.before
+  s = t.before.before.before.before
 
   tiered : TiersFrom (length (contracts_of whole)) (lines_for whole) (tiers t)
   tiered =
@@ -121,30 +121,30 @@ intercontract_table-table-requires c =
 
 pub put_book-requires : goal.put_book-requires
 put_book-requires c =
-    (accepted-one c.before.before.before.before, ((refl, refl), (refl, refl)))
+    (accepted-one (goal.at.put_book-requires c).After-intercontract_table-table, ((refl, refl), (refl, refl)))
 
 pub put_formed-requires : goal.put_formed-requires
 put_formed-requires c =
-    let s = at-start (at_table c.before.before.before) in
+    let s = at-start (at_table (goal.at.put_formed-requires c).After-put_book) in
     let x = s.pre.1 in
-    (record { whole = x.whole; is = formed c.before.before.before x.whole x.is }, s.pre.0)
+    (record { whole = x.whole; is = formed (goal.at.put_formed-requires c).After-put_book x.whole x.is }, s.pre.0)
 
 pub lend_table_book-requires : goal.lend_table_book-requires
 lend_table_book-requires c =
-    let after-book = at-book c.before.before.before.before.before.before in
+    let after-book = at-book (goal.at.lend_table_book-requires c).After-put_formed in
     let t = at_table after-book in
     let i = (at-start t).pre.1.is.tabled in
     (accepted-one t, ((i.tiers_places, i.nets_places), after-book.put-book.ensures))
 
 pub lend_table_uses-requires : goal.lend_table_uses-requires
 lend_table_uses-requires c =
-    let t = at_table (at-book c.before.before.before.before.before.before.before.before.before) in
+    let t = at_table (at-book (goal.at.lend_table_uses-requires c).After-put_formed) in
     let x = (at-start t).pre.1 in
     record { whole = x.whole; over = over t x.whole x.is }
 
 pub returns : goal.returns
 returns c =
-    let after-book = at-book c.before.before.before.before.before.before.before.before.before.before.before in
+    let after-book = at-book (goal.at.returns c).After-put_formed in
     let t = at_table after-book in
     λ whole is.
     record {

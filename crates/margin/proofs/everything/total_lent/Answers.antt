@@ -22,13 +22,13 @@ few s = few_contracts s.args.morning.now s.args.noon.now (account_in s.args.acco
 
 pub total_in-requires : goal.total_in-requires
 total_in-requires c =
-    few c.before.before.before.before.before.before.before.before.before.before
+    few (goal.at.total_in-requires c).Start
 
 pub returns : goal.returns
 returns c =
     let f = c.put_over in
     let a = account_of c.args.morning.now c.args.noon.now in
-    let some : length (figures a) ≤ longest_figures = omega (arith, few c.before.before.before.before.before.before.before.before.before.before.before, figures-length a, c.requires.places.contracts) in
+    let some : length (figures a) ≤ longest_figures = omega (arith, few (goal.at.returns c).Start, figures-length a, c.requires.places.contracts) in
     c.total_in.ensures
     ∙ total_last a (replicate longest_figures (pos 0)) f.new.1.1.1.0 (figures_each * (account_in c.args.account.now).contracts)
     (f.ensures.figures-after ∙ figures_front a (replicate longest_figures (pos 0)) some) some (omega (arith, c.requires.places.contracts))

@@ -21,18 +21,18 @@ few s = few_contracts s.args.morning.now s.args.noon.now (account_in s.args.acco
 
 pub put_from-requires : goal.put_from-requires
 put_from-requires c =
-    (c.requires.0, (c.requires.1, omega (arith, few c.before.before.before.before.before)))
+    (c.requires.0, (c.requires.1, omega (arith, few (goal.at.put_from-requires c).Start)))
 
 pub total_in-requires : goal.total_in-requires
 total_in-requires c =
-    few c.before.before.before.before.before.before.before.before.before.before
+    few (goal.at.total_in-requires c).Start
 
 pub returns : goal.returns
 returns c =
     let f = c.put_from in
     λ whole t.
     let some : length (figures whole) ≤ longest_figures =
-    omega (arith, few c.before.before.before.before.before.before.before.before.before.before.before, figures-length whole, ap length t.beside.contracts, c.requires.0.places.contracts) in
+    omega (arith, few (goal.at.returns c).Start, figures-length whole, ap length t.beside.contracts, c.requires.0.places.contracts) in
     c.total_in.ensures
     ∙ total_last whole (replicate longest_figures (pos 0)) f.new.1.1.1.1.0 (figures_each * (account_in c.args.account.now).contracts)
     ((f.ensures whole t).figures-after ∙ figures_front whole (replicate longest_figures (pos 0)) some) some

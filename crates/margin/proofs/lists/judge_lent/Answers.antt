@@ -33,21 +33,21 @@ asked c =
 
 pub returns-then-not-is_asked : goal.returns-then-not-is_asked
 returns-then-not-is_asked c =
-    let s = start_of c.before.before in
+    let s = start_of (goal.at.returns-then-not-is_asked c).After-is_asked in
     let a = s.args in
     ap (λ (n : ℕ). Refused (NoSuchQuestion n)) (c.record_total.ensures ∙ s.pre.places.all)
     ∙ list_not-asked (account_of a.morning.now a.noon.now) a.question a.sent a.numbers.now a.uses.now
-    (asked c.before.before ∙ not-true c.is_asked.result c.if-not-is_asked.true)
+    (asked (goal.at.returns-then-not-is_asked c).After-is_asked ∙ not-true c.is_asked.result c.if-not-is_asked.true)
 
 pub asking_over-asking-requires : goal.asking_over-asking-requires
 asking_over-asking-requires c =
-    ((start_of c.before).requires, asked c.before ∙ not-false c.is_asked.result c.if-not-is_asked.false)
+    ((start_of (goal.at.asking_over-asking-requires c).After-is_asked).requires, asked (goal.at.asking_over-asking-requires c).After-is_asked ∙ not-false c.is_asked.result c.if-not-is_asked.false)
 
 pub returns : goal.returns
 returns c =
-    let s = start_of c.before.before.before.before.before.before in
+    let s = start_of (goal.at.returns c).After-is_asked in
     let a = s.args in
     c.said_of.ensures ∙ ap said_of c.judge.ensures
     ∙ list_asked (account_of a.morning.now a.noon.now) a.question a.sent a.numbers.now a.uses.now
-    (asked c.before.before.before.before.before.before ∙ not-false c.is_asked.result c.if-not-is_asked.false)
+    (asked (goal.at.returns c).After-is_asked ∙ not-false c.is_asked.result c.if-not-is_asked.false)
     c.asking_over-asking.result c.asking_over-asking.ensures

@@ -31,7 +31,7 @@ returns-then-question-eq-TABLE c =
     subst
     (λ (t : Bool). Asks (cond t (table_steps (entries_of a)) (contract_steps (parts_of a q))) (cond t (map as_tier (contracts a)) (opens_of (parts_of a q)))
     c.table_asking.result)
-    (sym (eq-eqb q table_question c.if-question-eq-TABLE.true)) (c.table_asking.ensures a (over c.before))
+    (sym (eq-eqb q table_question c.if-question-eq-TABLE.true)) (c.table_asking.ensures a (over (goal.at.returns-then-question-eq-TABLE c).After-part))
 
 pub asking_of-requires : goal.asking_of-requires
 asking_of-requires c =

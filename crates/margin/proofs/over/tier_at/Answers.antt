@@ -34,7 +34,7 @@ small c =
 -- its rows
 module _ (c : After-rows_part-rows) where
   abbrev s : Start
-  s = c.before.before.before.before.before
+  s = (goal.at.rows_net-net-requires c).Start
 
   abbrev whole : List Record
   whole = account_of c.args.morning.now c.args.noon.now
@@ -42,7 +42,7 @@ module _ (c : After-rows_part-rows) where
   rows_are : records c.rows_part-rows.result.now ≡ rows_of c.contract_number-c.result whole
   rows_are =
       let n = c.contract_number-c.result in
-      let h = small c.before.before in
+      let h = small (goal.at.rows_net-net-requires c).After-contract_number-c in
       let st = c.requires.0 in
       of_contract_lem whole st.lawful n h 3 (lit≤ tt) c.rows_part-rows.result.now
       (c.rows_part-rows.ensures (account_in c.args.account.now) n st h c.whereabouts_of-w.ensures)
@@ -56,14 +56,14 @@ rows_net-net-requires c =
 
 pub overflow_cast-result : goal.overflow_cast-result
 overflow_cast-result c =
-    omega (arith, small c.before.before.before)
+    omega (arith, small (goal.at.overflow_cast-result c).After-contract_number-c)
 
 pub returns : goal.returns
 returns c =
-    let st = s c.before in
+    let st = s (goal.at.returns c).After-rows_part-rows in
     let m = st.args.morning.now in
     let n = st.args.noon.now in
     let k = c.contract_number-c in
     rows_tier (account_of m n) st.pre.0.lawful k.result (get_or (contracts_of (account_of m n)) st.args.i []) c.rows_net-net.result.0
-    (number_at m n (account_in st.args.account.now) st.pre.0 st.args.i st.pre.1 k.result k.ensures) (small c.before.before.before)
-    (subst (λ (rows : List Record). Sized most_delta (rows_net rows) c.rows_net-net.result.0) (rows_are c.before) c.rows_net-net.ensures)
+    (number_at m n (account_in st.args.account.now) st.pre.0 st.args.i st.pre.1 k.result k.ensures) (small (goal.at.returns c).After-contract_number-c)
+    (subst (λ (rows : List Record). Sized most_delta (rows_net rows) c.rows_net-net.result.0) (rows_are (goal.at.returns c).After-rows_part-rows) c.rows_net-net.ensures)

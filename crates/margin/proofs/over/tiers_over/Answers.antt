@@ -25,25 +25,25 @@ tier_at-one-requires c =
 
 pub bounds-tiers-i : goal.bounds-tiers-i
 bounds-tiers-i c =
-    let h = few c.before.before.before in omega arith
+    let h = few (goal.at.bounds-tiers-i c).After-contract_total-count in omega arith
 
 pub offset_bounds-nets-i : goal.offset_bounds-nets-i
 offset_bounds-nets-i c =
-    let h = few c.before.before.before.before in omega arith
+    let h = few (goal.at.offset_bounds-nets-i c).After-contract_total-count in omega arith
 
 pub bounds-nets-i : goal.bounds-nets-i
 bounds-nets-i c =
-    let h = few c.before.before.before.before in omega arith
+    let h = few (goal.at.bounds-nets-i c).After-contract_total-count in omega arith
 
 pub overflow_add-i : goal.overflow_add-i
 overflow_add-i c =
-    let h = few c.before.before.before.before in omega arith
+    let h = few (goal.at.overflow_add-i c).After-contract_total-count in omega arith
 
 pub loop-i-preserved : goal.loop-i-preserved
 loop-i-preserved c =
     let l = c.loop-i in
     let t = c.tier_at-one in
-    let h = few c.before.before.before.before in
+    let h = few (goal.at.loop-i-preserved c).After-contract_total-count in
     let e = c.requires.places.contracts in
     let n = c.contract_total-count.ensures in (
       tiers_next (account_of c.args.morning.now c.args.noon.now) l.i l.tiers l.nets t.result.contract t.result.net
@@ -54,7 +54,7 @@ loop-i-preserved c =
 pub returns : goal.returns
 returns c =
     let l = c.loop-i in
-    let h = few c.before.before in
+    let h = few (goal.at.returns c).After-contract_total-count in
     let e = c.requires.places.contracts in
     let n = c.contract_total-count.ensures in
     tiers_all (account_of c.args.morning.now c.args.noon.now) l.i _ l.invariant.0 (omega arith) (omega arith) (omega arith)

@@ -59,7 +59,7 @@ returns-then-question-eq-TABLE c =
     subst
     (λ (b : Bool). Asks (cond b (table_steps (entries_of whole)) (contract_steps (parts_of whole q)))
     (cond b (map as_tier (contracts whole)) (opens_of (parts_of whole q))) c.table_asking.result)
-    (sym (eq-eqb q table_question c.if-question-eq-TABLE.true)) (c.table_asking.ensures whole (over c.before whole t))
+    (sym (eq-eqb q table_question c.if-question-eq-TABLE.true)) (c.table_asking.ensures whole (over (goal.at.returns-then-question-eq-TABLE c).After-part whole t))
 
 pub offset_bounds-positions-question : goal.offset_bounds-positions-question
 offset_bounds-positions-question c = omega (arith, small c)
@@ -69,10 +69,10 @@ bounds-positions-question c = omega (arith, small c)
 
 pub asking_with-requires : goal.asking_with-requires
 asking_with-requires c =
-    let s = start_of c.before in
+    let s = start_of (goal.at.asking_with-requires c).Else-question-eq-TABLE in
     let x = s.pre.1.0 in
     let q = s.args.question in
-    let h = small c.before in (
+    let h = small (goal.at.asking_with-requires c).Else-question-eq-TABLE in (
       s.pre.0,
       (
         h,
@@ -90,4 +90,4 @@ returns c =
     (cond b (map as_tier (contracts whole)) (opens_of (parts_of whole q))) c.asking_with.result)
     (sym (ne_eqb q table_question c.if-question-eq-TABLE.false))
     (asks_beside (account_of c.args.morning.now c.args.noon.now) whole t.beside q (get_or c.args.positions.at q no_position)
-    (t.positions.each q (small c.before.before)) c.asking_with.result c.asking_with.ensures)
+    (t.positions.each q (small (goal.at.returns c).Else-question-eq-TABLE)) c.asking_with.result c.asking_with.ensures)

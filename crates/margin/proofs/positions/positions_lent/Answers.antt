@@ -59,14 +59,14 @@ position_in-requires c =
     ((start_of c).requires, (small c, c.rates_over-rates.ensures))
 
 pub offset_bounds-at-c : goal.offset_bounds-at-c
-offset_bounds-at-c c = let h = small c.before in omega arith
+offset_bounds-at-c c = let h = small (goal.at.offset_bounds-at-c c).After-contract_number-c in omega arith
 
 pub bounds-at-c : goal.bounds-at-c
-bounds-at-c c = let h = small c.before in omega arith
+bounds-at-c c = let h = small (goal.at.bounds-at-c c).After-contract_number-c in omega arith
 
 pub overflow_add-i : goal.overflow_add-i
 overflow_add-i c =
-    let h = few c.before.before.before.before.before.before in
+    let h = few (goal.at.overflow_add-i c).After-contract_total-count in
     omega (arith, c.loop-i-test.true)
 
 pub loop-i-smaller : goal.loop-i-smaller
@@ -74,11 +74,11 @@ loop-i-smaller c = omega (arith, c.loop-i-test.true)
 
 pub loop-i-preserved : goal.loop-i-preserved
 loop-i-preserved c =
-    let s = start_of c.before in
+    let s = start_of (goal.at.loop-i-preserved c).After-contract_number-c in
     let l = c.loop-i in
     let k = c.contract_number-c in (
       placed_next (account_of s.args.morning.now s.args.noon.now) l.i l.at k.result c.position_in.result l.invariant.0
-          (small c.before) (number c.before) c.position_in.ensures,
+          (small (goal.at.loop-i-preserved c).After-contract_number-c) (number (goal.at.loop-i-preserved c).After-contract_number-c) c.position_in.ensures,
       omega (arith, c.loop-i-test.true),
     )
 

@@ -80,10 +80,10 @@ bounds-positions-c c = let h = small c in omega arith
 
 pub tier_with-one-requires : goal.tier_with-one-requires
 tier_with-one-requires c =
-    let s = start_of c.before in
+    let s = start_of (goal.at.tier_with-one-requires c).After-contract_number-c in
     let x = s.pre.1 in
     let k = c.contract_number-c.result in
-    let h = small c.before in (
+    let h = small (goal.at.tier_with-one-requires c).After-contract_number-c in (
       h,
       tier_sizes (account_of s.args.morning.now s.args.noon.now) x.whole x.told.beside k (get_or s.args.t4.at k no_position)
           (x.told.positions.each k h),
@@ -91,22 +91,22 @@ tier_with-one-requires c =
 
 pub bounds-tiers-i : goal.bounds-tiers-i
 bounds-tiers-i c =
-    let h = few c.before.before.before.before.before in
+    let h = few (goal.at.bounds-tiers-i c).After-contract_total-count in
     omega (arith, c.loop-i-test.true)
 
 pub offset_bounds-nets-i : goal.offset_bounds-nets-i
 offset_bounds-nets-i c =
-    let h = few c.before.before.before.before.before.before in
+    let h = few (goal.at.offset_bounds-nets-i c).After-contract_total-count in
     omega (arith, c.loop-i-test.true)
 
 pub bounds-nets-i : goal.bounds-nets-i
 bounds-nets-i c =
-    let h = few c.before.before.before.before.before.before in
+    let h = few (goal.at.bounds-nets-i c).After-contract_total-count in
     omega (arith, c.loop-i-test.true)
 
 pub overflow_add-i : goal.overflow_add-i
 overflow_add-i c =
-    let h = few c.before.before.before.before.before.before in
+    let h = few (goal.at.overflow_add-i c).After-contract_total-count in
     omega (arith, c.loop-i-test.true)
 
 pub loop-i-smaller : goal.loop-i-smaller
@@ -115,17 +115,17 @@ loop-i-smaller c =
 
 pub loop-i-preserved : goal.loop-i-preserved
 loop-i-preserved c =
-    let s = start_of c.before.before.before in
+    let s = start_of (goal.at.loop-i-preserved c).After-contract_number-c in
     let l = c.loop-i in
     let k = c.contract_number-c.result in
     let r = c.tier_with-one in
-    let h = few c.before.before.before.before.before.before in (
+    let h = few (goal.at.loop-i-preserved c).After-contract_total-count in (
       λ whole t.
           tiers_next whole l.i l.tiers l.nets r.result.contract r.result.net (l.invariant.0 whole t)
-          (omega (arith, c.loop-i-test.true)) (listed c.before.before.before whole t.beside)
+          (omega (arith, c.loop-i-test.true)) (listed (goal.at.loop-i-preserved c).After-contract_number-c whole t.beside)
           (subst⁻¹ (λ (m : ℕ). TierIs (parts_in whole (get_or (contracts_of whole) l.i [])) m r.result.net.0) r.ensures.0
           (tier_is (account_of s.args.morning.now s.args.noon.now) whole t.beside k (get_or s.args.t4.at k no_position)
-          (t.positions.each k (small c.before.before.before)) l.i (listed c.before.before.before whole t.beside) (number_in c.before.before.before whole t.beside) r.result.net.0 (small c.before.before.before)
+          (t.positions.each k (small (goal.at.loop-i-preserved c).After-contract_number-c)) l.i (listed (goal.at.loop-i-preserved c).After-contract_number-c whole t.beside) (number_in (goal.at.loop-i-preserved c).After-contract_number-c whole t.beside) r.result.net.0 (small (goal.at.loop-i-preserved c).After-contract_number-c)
           r.ensures.1)),
       omega (arith, c.loop-i-test.true),
     )
@@ -133,7 +133,7 @@ loop-i-preserved c =
 pub returns : goal.returns
 returns c =
     let l = c.loop-i in
-    let h = few c.before.before in
+    let h = few (goal.at.returns c).After-contract_total-count in
     let e = c.requires.0.places.contracts in
     let n = c.contract_total-count.ensures in
     λ whole t.

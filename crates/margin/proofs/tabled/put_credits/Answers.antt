@@ -47,11 +47,11 @@ line_from-line-requires c =
     omega (arith, c.loop-i-test.true, c.requires.1.0, l.invariant.1.1.0)
 
 pub offset_bounds-earned-c : goal.offset_bounds-earned-c
-offset_bounds-earned-c c = let h = (within c.before).contract_within in omega arith
+offset_bounds-earned-c c = let h = (within (goal.at.offset_bounds-earned-c c).After-line_from-line).contract_within in omega arith
 
 pub bounds-earned-c : goal.bounds-earned-c
 bounds-earned-c c =
-    let h = (within c.before.before).contract_within in
+    let h = (within (goal.at.bounds-earned-c c).After-line_from-line).contract_within in
     omega (arith, c.requires.1.1)
 
 pub put_line-margin-requires : goal.put_line-margin-requires
@@ -59,7 +59,7 @@ put_line-margin-requires c =
     let l = c.loop-i in
     let taken = c.loop-i-test.true in (
       omega (arith, taken, c.requires.1.0, l.invariant.1.1.0),
-      (within c.before.before.before, subst⁻¹ (λ (n : ℕ). n ≤ most_credits) (here c.before.before.before).1 (c.requires.0.credit_within l.i taken)),
+      (within (goal.at.put_line-margin-requires c).After-line_from-line, subst⁻¹ (λ (n : ℕ). n ≤ most_credits) (here (goal.at.put_line-margin-requires c).After-line_from-line).1 (c.requires.0.credit_within l.i taken)),
     )
 
 pub overflow_add-total : goal.overflow_add-total
@@ -85,7 +85,7 @@ loop-i-preserved c =
     let lines = lines_at c.args.out.now in
     let amounts = credits c.args.earned.now c.args.out.now in
     let r = c.put_line-margin in
-    let e = here c.before.before.before.before.before.before in
+    let e = here (goal.at.loop-i-preserved c).After-line_from-line in
     let taken = c.loop-i-test.true in
     let most = c.requires.0.most in
     let hl : n ≤ length lines = omega (arith, entries_length most_contracts (λ j. line_at c.args.out.now (j * figures_each))) in

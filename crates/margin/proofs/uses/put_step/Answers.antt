@@ -20,8 +20,8 @@ returns c =
     let p = c.args.prompts in
     let d = c.args.spread in
     let step = c.step_over-step in
-    let lt : length p.tier ≡ prompt_places = sym (length-map p.tier _) ∙ c.well_formed.1.1.0.1.1.1.0.1.0.1 in
-    let ln : length p.net ≡ prompt_places = sym (length-map p.net _) ∙ c.well_formed.1.1.0.1.1.1.1.0.1.0.1 in (
+    let lt : length p.tier ≡ prompt_places = search rules in
+    let ln : length p.net ≡ prompt_places = search rules in (
       left_by p d c.args.second step.result step.ensures c.requires.0,
       c.put_deltas.ensures ∙ ap (sets c.args.out.now c.args.at)
           (taken_is p d c.args.second step.result step.ensures c.requires.0 lt ln (few p (and_left (sound_prompts p) (sound_spread d) c.requires.0))),

@@ -19,7 +19,7 @@ no_spread = record { legs = 0; leg = []; tenths = false }
 
 -- the table has its places, and is sound
 spread-places : (s : Start) → length s.args.table.spread ≡ spread_places
-spread-places s = sym (length-map s.args.table.spread _) ∙ s.well_formed.1.1.0.1.1.1.0.1.0.1
+spread-places s = search rules
 
 sound-table : (s : Start) → sound_table s.args.table ≡ true
 sound-table s = and_right (sound_prompts s.args.prompts) (sound_table s.args.table) s.requires.0
@@ -27,29 +27,29 @@ sound-table s = and_right (sound_prompts s.args.prompts) (sound_table s.args.tab
 pub loop-i-init : goal.loop-i-init
 loop-i-init c =
     let p = c.args.prompts in
-    let lt : length p.tier ≡ prompt_places = sym (length-map p.tier _) ∙ c.well_formed.1.0.1.1.1.0.1.0.1 in
-    let ln : length p.net ≡ prompt_places = sym (length-map p.net _) ∙ c.well_formed.1.0.1.1.1.1.0.1.0.1 in
+    let lt : length p.tier ≡ prompt_places = search rules in
+    let ln : length p.net ≡ prompt_places = search rules in
     (put-none p c.args.table c.args.out.now lt ln c.requires.0 c.requires.1, refl)
 
 pub offset_bounds-table-i : goal.offset_bounds-table-i
 offset_bounds-table-i c =
-    let f = few_in_table c.args.table (sound-table c.before.before) in
+    let f = few_in_table c.args.table (sound-table (goal.at.offset_bounds-table-i c).Start) in
     omega arith
 
 pub bounds-table-i : goal.bounds-table-i
 bounds-table-i c =
-    let f = few_in_table c.args.table (sound-table c.before.before) in
+    let f = few_in_table c.args.table (sound-table (goal.at.bounds-table-i c).Start) in
     omega arith
 
 pub put_step-between-requires : goal.put_step-between-requires
 put_step-between-requires c =
     let l = c.loop-i in (
-      first_sound c.args.table (spread-places c.before.before.before.before) (sound-table c.before.before.before.before) c.args.prompts.count _ l.i l.at l.left l.left l.left l.out
+      first_sound c.args.table (spread-places (goal.at.put_step-between-requires c).Start) (sound-table (goal.at.put_step-between-requires c).Start) c.args.prompts.count _ l.i l.at l.left l.left l.left l.out
           l.out l.out no_spread l.invariant.0 c.loop-i-test.true,
       omega (
         arith,
         l.invariant.0.count,
-        first_room c.args.table (spread-places c.before.before.before.before) (sound-table c.before.before.before.before) c.args.prompts.count _ l.i l.at l.left
+        first_room c.args.table (spread-places (goal.at.put_step-between-requires c).Start) (sound-table (goal.at.put_step-between-requires c).Start) c.args.prompts.count _ l.i l.at l.left
             l.left l.left l.out l.out l.out no_spread l.invariant.0 c.loop-i-test.true,
       ),
     )
@@ -61,18 +61,18 @@ overflow_add-at c =
       arith,
       l.invariant.1,
       c.well_formed.0,
-      first_room c.args.table (spread-places c.before.before.before.before.before.before.before) (sound-table c.before.before.before.before.before.before.before) c.args.prompts.count _ l.i l.at l.left
+      first_room c.args.table (spread-places (goal.at.overflow_add-at c).Start) (sound-table (goal.at.overflow_add-at c).Start) c.args.prompts.count _ l.i l.at l.left
           l.left l.left l.out l.out l.out no_spread l.invariant.0 c.loop-i-test.true,
     )
 
 pub put_step-rest-requires : goal.put_step-rest-requires
 put_step-rest-requires c =
     let l = c.loop-i in (
-      second_sound c.args.table (spread-places c.before.before.before.before.before.before.before) (sound-table c.before.before.before.before.before.before.before) c.args.prompts.count _ l.i l.at l.left
+      second_sound c.args.table (spread-places (goal.at.put_step-rest-requires c).Start) (sound-table (goal.at.put_step-rest-requires c).Start) c.args.prompts.count _ l.i l.at l.left
           c.put_step-between.result l.left l.out c.put_step-between.new.0 l.out no_spread l.invariant.0
           c.loop-i-test.true c.put_step-between.ensures.0 c.put_step-between.ensures.1,
       second_room
-          c.args.table (spread-places c.before.before.before.before.before.before.before) (sound-table c.before.before.before.before.before.before.before) c.args.prompts.count _ l.i l.at l.left c.put_step-between.result
+          c.args.table (spread-places (goal.at.put_step-rest-requires c).Start) (sound-table (goal.at.put_step-rest-requires c).Start) c.args.prompts.count _ l.i l.at l.left c.put_step-between.result
           l.left l.out c.put_step-between.new.0 l.out no_spread l.invariant.0 c.loop-i-test.true
           c.put_step-between.ensures.0 c.put_step-between.ensures.1,
     )
@@ -80,27 +80,27 @@ put_step-rest-requires c =
 pub overflow_mul-at : goal.overflow_mul-at
 overflow_mul-at c =
     let l = c.loop-i in
-    let r = room_here c.args.table (spread-places c.before.before.before.before.before.before.before.before.before) (sound-table c.before.before.before.before.before.before.before.before.before) c.args.prompts.count _ l.i l.at l.left l.left l.left l.out
+    let r = room_here c.args.table (spread-places (goal.at.overflow_mul-at c).Start) (sound-table (goal.at.overflow_mul-at c).Start) c.args.prompts.count _ l.i l.at l.left l.left l.left l.out
     l.out l.out no_spread l.invariant.0 c.loop-i-test.true in
     omega (arith, l.invariant.1, c.well_formed.0)
 
 pub overflow_add-at-in-loop-i : goal.overflow_add-at-in-loop-i
 overflow_add-at-in-loop-i c =
     let l = c.loop-i in
-    let r = room_here c.args.table (spread-places c.before.before.before.before.before.before.before.before.before) (sound-table c.before.before.before.before.before.before.before.before.before) c.args.prompts.count _ l.i l.at l.left l.left l.left l.out
+    let r = room_here c.args.table (spread-places (goal.at.overflow_add-at-in-loop-i c).Start) (sound-table (goal.at.overflow_add-at-in-loop-i c).Start) c.args.prompts.count _ l.i l.at l.left l.left l.left l.out
     l.out l.out no_spread l.invariant.0 c.loop-i-test.true in
     omega (arith, l.invariant.1, c.well_formed.0)
 
 pub loop-i-preserved : goal.loop-i-preserved
 loop-i-preserved c =
     let l = c.loop-i in (
-      put_next c.args.table (spread-places c.before.before.before.before.before.before.before.before.before) (sound-table c.before.before.before.before.before.before.before.before.before) c.args.prompts.count _ l.i l.at l.left
+      put_next c.args.table (spread-places (goal.at.loop-i-preserved c).Start) (sound-table (goal.at.loop-i-preserved c).Start) c.args.prompts.count _ l.i l.at l.left
           c.put_step-between.result c.put_step-rest.result l.out
           c.put_step-between.new.0 c.put_step-rest.new.0 no_spread l.invariant.0
           c.loop-i-test.true c.put_step-between.ensures.0
           c.put_step-between.ensures.1 c.put_step-rest.ensures.0 c.put_step-rest.ensures.1,
       put-length
-          c.args.table (spread-places c.before.before.before.before.before.before.before.before.before) (sound-table c.before.before.before.before.before.before.before.before.before) c.args.prompts.count _ l.i l.at l.left
+          c.args.table (spread-places (goal.at.loop-i-preserved c).Start) (sound-table (goal.at.loop-i-preserved c).Start) c.args.prompts.count _ l.i l.at l.left
           c.put_step-between.result c.put_step-rest.result l.out
           c.put_step-between.new.0 c.put_step-rest.new.0 no_spread l.invariant.0
           c.loop-i-test.true c.put_step-between.ensures.0
@@ -113,4 +113,4 @@ shape_of-out c = c.loop-i.invariant.1
 pub returns : goal.returns
 returns c =
     let l = c.loop-i in
-    put_all c.args.table (spread-places c.before.before) (sound-table c.before.before) c.args.prompts.count _ l.i l.at l.left l.out l.invariant.0 (omega arith)
+    put_all c.args.table (spread-places (goal.at.returns c).Start) (sound-table (goal.at.returns c).Start) c.args.prompts.count _ l.i l.at l.left l.out l.invariant.0 (omega arith)

@@ -31,16 +31,16 @@ returns-then-number_of-ne0 c =
 
 pub everything_over-all-requires : goal.everything_over-all-requires
 everything_over-all-requires c =
-    let s = start_of c.before.before.before.before.before in
+    let s = start_of (goal.at.everything_over-all-requires c).Else-number_of-ne0 in
     let n = c.nothing_of in
-    file_stands s.args.file.now s.args.checked s.pre (clear c.before.before.before.before.before) n.result.now n.ensures
+    file_stands s.args.file.now s.args.checked s.pre (clear (goal.at.everything_over-all-requires c).Else-number_of-ne0) n.result.now n.ensures
 
 pub returns : goal.returns
 returns c =
-    let s = start_of c.before.before.before.before.before.before.before.before.before in
+    let s = start_of (goal.at.returns c).Else-number_of-ne0 in
     let file = s.args.file.now in
     let n = c.nothing_of in
-    let z = clear c.before.before.before.before.before.before.before.before.before in
+    let z = clear (goal.at.returns c).Else-number_of-ne0 in
     let r = c.everything_over-all in
     let x = r.ensures in
     let f = answer_accepted file s.args.checked s.pre z n.result.now n.ensures Figures s.args.figures.now r.result.figures _

@@ -31,19 +31,19 @@ returns-then-number_of-ne0 c =
 
 pub everything_over-all-requires : goal.everything_over-all-requires
 everything_over-all-requires c =
-    let after-check-pair = checked-in c.before.before.before.before in
+    let after-check-pair = checked-in (goal.at.everything_over-all-requires c).Else-number_of-ne0 in
     let s = after-check-pair.before.before.before in
     let k = after-check-pair.check-pair in
-    pair_stands s.args.morning.now s.args.noon.now k.result k.ensures (clear c.before.before.before.before)
+    pair_stands s.args.morning.now s.args.noon.now k.result k.ensures (clear (goal.at.everything_over-all-requires c).Else-number_of-ne0)
 
 pub returns : goal.returns
 returns c =
-    let after-check-pair = checked-in c.before.before.before.before.before.before.before.before.before.before.before in
+    let after-check-pair = checked-in (goal.at.returns c).Else-number_of-ne0 in
     let s = after-check-pair.before.before.before in
     let m = s.args.morning.now in
     let n = s.args.noon.now in
     let k = after-check-pair.check-pair in
-    let z = clear c.before.before.before.before.before.before.before.before.before.before.before in
+    let z = clear (goal.at.returns c).Else-number_of-ne0 in
     let r = c.everything_over-all in
     let x = r.ensures in
     let f = answer_accepted m n k.result k.ensures z Figures s.args.figures.now _ r.result.figures

@@ -48,9 +48,9 @@ tested c =
     (seen beyond_amount s.args.collateral s.fits.collateral c.beyond_amount-3.ensures)
 
 within : (c : Else-beyond_amount) →
-    let a = (start_of c.before).args in
+    let a = (start_of (goal.at.total_over-required-requires c).After-beyond_amount-3).args in
     (beyond_amount a.last || beyond_amount a.threshold) || beyond_amount a.collateral ≡ false
-within c = sym (tested c.before) ∙ c.if-beyond_amount.false
+within c = sym (tested (goal.at.total_over-required-requires c).After-beyond_amount-3) ∙ c.if-beyond_amount.false
 
 pub returns-then-number_of-ne0 : goal.returns-then-number_of-ne0
 returns-then-number_of-ne0 c =
@@ -61,37 +61,37 @@ returns-then-number_of-ne0 c =
 
 pub returns-then-beyond_amount : goal.returns-then-beyond_amount
 returns-then-beyond_amount c =
-    let after-if1 = standing-in c.before.before.before in
-    let a = (start_of c.before.before.before).args in
+    let after-if1 = standing-in (goal.at.returns-then-beyond_amount c).After-beyond_amount-3 in
+    let a = (start_of (goal.at.returns-then-beyond_amount c).After-beyond_amount-3).args in
     let o = (checked-in after-if1).check-pair in
     let n = c.record_total in
     call_outside a.morning.now a.noon.now o.result o.ensures a.last a.threshold a.collateral (clear after-if1)
-    (sym (tested c.before.before.before) ∙ c.if-beyond_amount.true) n.result n.ensures c.of_joined.result c.of_joined.ensures
+    (sym (tested (goal.at.returns-then-beyond_amount c).After-beyond_amount-3) ∙ c.if-beyond_amount.true) n.result n.ensures c.of_joined.result c.of_joined.ensures
 
 pub total_over-required-requires : goal.total_over-required-requires
 total_over-required-requires c =
-    let after-check-pair = checked-in c.before.before.before.before.before in
+    let after-check-pair = checked-in (goal.at.total_over-required-requires c).Else-number_of-ne0 in
     let start = after-check-pair.before.before.before in
     let a = start.args in
     let o = after-check-pair.check-pair in
-    pair_stands a.morning.now a.noon.now o.result o.ensures (clear c.before.before.before.before.before)
+    pair_stands a.morning.now a.noon.now o.result o.ensures (clear (goal.at.total_over-required-requires c).Else-number_of-ne0)
 
 pub call_of-requires : goal.call_of-requires
 call_of-requires c =
-    let s = start_of c.before.before.before.before.before in
-    let w = neither _ _ (neither _ _ (within c.before.before.before.before)).0 in (
+    let s = start_of (goal.at.call_of-requires c).After-beyond_amount-3 in
+    let w = neither _ _ (neither _ _ (within (goal.at.call_of-requires c).Else-beyond_amount)).0 in (
       omega (arith, amount_within s.args.last w.0, seen nat_abs s.args.last s.fits.last c.magnitude.ensures),
       omega (arith, amount_within s.args.threshold w.1, seen nat_abs s.args.threshold s.fits.threshold c.magnitude-2.ensures),
     )
 
 pub returns : goal.returns
 returns c =
-    let after-if1 = standing-in c.before.before.before.before.before.before in
-    let s = start_of c.before.before.before.before.before.before in
+    let after-if1 = standing-in (goal.at.returns c).After-beyond_amount-3 in
+    let s = start_of (goal.at.returns c).After-beyond_amount-3 in
     let a = s.args in
     let o = (checked-in after-if1).check-pair in
     call_made a.morning.now a.noon.now o.result o.ensures a.last a.threshold a.collateral
-    (clear after-if1) (within c.before.before.before.before.before) c.call_of.result
+    (clear after-if1) (within (goal.at.returns c).Else-beyond_amount) c.call_of.result
     (c.call_of.ensures
     ∙ ap₂ (λ (x y : ℕ). cover_call x y c.magnitude-2.result c.magnitude-3.result)
     c.total_over-required.ensures

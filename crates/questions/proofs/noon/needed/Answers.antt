@@ -25,17 +25,17 @@ returns-then-number_of-ne0 c =
 
 pub needed_over-requires : goal.needed_over-requires
 needed_over-requires c =
-    let after-check-pair = checked-in c.before in
+    let after-check-pair = checked-in (goal.at.needed_over-requires c).Else-number_of-ne0 in
     let start = after-check-pair.before.before.before in
     let a = start.args in
     let o = after-check-pair.check-pair in
-    pair_stands a.morning.now a.noon.now o.result o.ensures (clear c.before)
+    pair_stands a.morning.now a.noon.now o.result o.ensures (clear (goal.at.needed_over-requires c).Else-number_of-ne0)
 
 pub returns : goal.returns
 returns c =
-    let after-check-pair = checked-in c.before.before in
+    let after-check-pair = checked-in (goal.at.returns c).Else-number_of-ne0 in
     let start = after-check-pair.before.before.before in
     let a = start.args in
     let o = after-check-pair.check-pair in
     let r = c.needed_over in
-    needed_accepted a.morning.now a.noon.now o.result o.ensures (clear c.before.before) a.question r.result r.ensures
+    needed_accepted a.morning.now a.noon.now o.result o.ensures (clear (goal.at.returns c).Else-number_of-ne0) a.question r.result r.ensures

@@ -12,12 +12,12 @@ use Rattle.record.proofs.ranges.delta_beyond.Goals as goal
 pub returns-then-byte_in-eq2 : goal.returns-then-byte_in-eq2
 returns-then-byte_in-eq2 c =
     let picked : put c.args.r.now ≡ true = eq-eqb _ _
-    (sym c.byte_in.ensures.0 ∙ c.if-byte_in-eq2.taken) in
+    (sym c.byte_in.ensures.0 ∙ c.if-byte_in-eq2.true) in
     rw picked (c.signed_beyond.ensures ∙ ap (beyond (signed (neg_ℤ (pos 10000)) (pos 0)))
     c.u32_in.ensures.0)
 
 pub returns-else-byte_in-eq2 : goal.returns-else-byte_in-eq2
 returns-else-byte_in-eq2 c =
     let picked : put c.args.r.now ≡ false = ne_eqb _ _
-    (λ e. c.if-byte_in-eq2.left (c.byte_in.ensures.0 ∙ e)) in
+    (λ e. c.if-byte_in-eq2.false (c.byte_in.ensures.0 ∙ e)) in
     rw picked (c.signed_beyond-else-byte_in-eq2.ensures ∙ ap (beyond (signed (pos 0) (pos 10000))) c.u32_in-else-byte_in-eq2.ensures.0)

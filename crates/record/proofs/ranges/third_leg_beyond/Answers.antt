@@ -9,11 +9,11 @@ use Rattle.record.proofs.ranges.third_leg_beyond.Goals as goal
 pub returns-then-byte_in-eq2 : goal.returns-then-byte_in-eq2
 returns-then-byte_in-eq2 c =
     let two : two_legs c.args.r.now ≡ true = eq-eqb _ _
-    (sym c.byte_in.ensures.0 ∙ c.if-byte_in-eq2.taken) in
+    (sym c.byte_in.ensures.0 ∙ c.if-byte_in-eq2.true) in
     rw two
 
 pub returns-else-byte_in-eq2 : goal.returns-else-byte_in-eq2
 returns-else-byte_in-eq2 c =
     let two : two_legs c.args.r.now ≡ false =
-    ne_eqb _ _ (λ e. c.if-byte_in-eq2.left (c.byte_in.ensures.0 ∙ e)) in
+    ne_eqb _ _ (λ e. c.if-byte_in-eq2.false (c.byte_in.ensures.0 ∙ e)) in
     rw two c.leg_beyond.ensures

@@ -20,8 +20,8 @@ pub loop-i-preserved : goal.loop-i-preserved
 loop-i-preserved c =
     let p = c.args.prompts in
     let i = c.loop-i.i in
-    let lt : length p.tier ≡ prompt_places = sym (length-map p.tier _) ∙ c.well_formed.0.1.1.1.0.1.0.1 in
-    let ln : length p.net ≡ prompt_places = sym (length-map p.net _) ∙ c.well_formed.0.1.1.1.1.0.1.0.1 in
+    let lt : length p.tier ≡ prompt_places = search rules in
+    let ln : length p.net ≡ prompt_places = search rules in
     let n = open_length p lt ln (omega arith) in (
       omega arith,
       tested_next sound_prompt (open_of p) i (record { tier = 0; unused = pos 0 }) c.loop-i.sound _ (omega arith)
@@ -32,8 +32,8 @@ loop-i-preserved c =
 pub returns : goal.returns
 returns c =
     let p = c.args.prompts in
-    let lt : length p.tier ≡ prompt_places = sym (length-map p.tier _) ∙ c.well_formed.0.1.1.1.0.1.0.1 in
-    let ln : length p.net ≡ prompt_places = sym (length-map p.net _) ∙ c.well_formed.0.1.1.1.1.0.1.0.1 in
+    let lt : length p.tier ≡ prompt_places = search rules in
+    let ln : length p.net ≡ prompt_places = search rules in
     let n = open_length p lt ln (omega arith) in
     tested_end sound_prompt (open_of p) c.loop-i.i _ (omega arith) c.loop-i.invariant.1
     ∙ sym (ap (λ (b : Bool). b && every sound_prompt (open_of p)) (le-leb p.count prompt_places (omega arith)))

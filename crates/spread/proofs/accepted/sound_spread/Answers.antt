@@ -9,12 +9,12 @@ use Rattle.spread.proofs.accepted.sound_spread.Goals as goal
 
 pub returns-then-spread-eq2 : goal.returns-then-spread-eq2
 returns-then-spread-eq2 c =
-    let l : length c.args.spread.leg ≡ 3 = sym (length-map c.args.spread.leg _) ∙ c.well_formed.0.1.1.1.1.0.1.0.1 in
+    let l : length c.args.spread.leg ≡ 3 = search rules in
     c.sound_two.ensures ∙ sym (with_two c.args.spread _ l c.if-spread-eq2.true)
 
 pub returns-then-spread-eq3 : goal.returns-then-spread-eq3
 returns-then-spread-eq3 c =
-    let l : length c.args.spread.leg ≡ 3 = sym (length-map c.args.spread.leg _) ∙ c.well_formed.0.1.1.1.1.0.1.0.1 in
+    let l : length c.args.spread.leg ≡ 3 = search rules in
     c.sound_three.ensures ∙ sym (with_three c.args.spread _ l c.if-spread-eq3.true)
 
 pub returns : goal.returns

@@ -20,7 +20,7 @@ pub loop-i-preserved : goal.loop-i-preserved
 loop-i-preserved c =
     let t = c.args.table in
     let i = c.loop-i.i in
-    let l : length t.spread ≡ spread_places = sym (length-map t.spread _) ∙ c.well_formed.0.1.1.1.0.1.0.1 in
+    let l : length t.spread ≡ spread_places = search rules in
     let n = length-take-le t.count t.spread (omega arith) in (
       omega arith,
       tested_next sound_spread (take t.count t.spread) i _ c.loop-i.sound _ (omega arith)
@@ -31,7 +31,7 @@ loop-i-preserved c =
 pub returns : goal.returns
 returns c =
     let t = c.args.table in
-    let l : length t.spread ≡ spread_places = sym (length-map t.spread _) ∙ c.well_formed.0.1.1.1.0.1.0.1 in
+    let l : length t.spread ≡ spread_places = search rules in
     let n = length-take-le t.count t.spread (omega arith) in
     tested_end sound_spread (take t.count t.spread) c.loop-i.i _ (omega arith) c.loop-i.invariant.1
     ∙ sym (ap (λ (b : Bool). b && every sound_spread (take t.count t.spread)) (le-leb t.count spread_places (omega arith)))

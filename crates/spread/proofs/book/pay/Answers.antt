@@ -39,7 +39,7 @@ read s k = to_z w64 (of_z w64 (get_or s.args.nets.now k (pos 0)))
 
 -- the prompt of a turn
 here : (c : After-pool_of-cell) →
-    Placed (open_of (lent c.before.before.before.before.before.before.before)) c.loop-k.k (read c.before.before.before.before.before.before.before c.loop-k.k) c.pool_of-cell.result
+    Placed (open_of (lent (goal.at.offset_bounds-had-cell c).Start)) c.loop-k.k (read (goal.at.offset_bounds-had-cell c).Start c.loop-k.k) c.pool_of-cell.result
 here c =
     let l = c.loop-k in
     let z = get_or c.args.nets.now l.k (pos 0) in
@@ -52,33 +52,33 @@ within c = placed_within _ _ _ _ (here c)
 
 -- the part that is kept
 kept-is : (c : After-towards_zero-kept) →
-    c.towards_zero-kept.result ≡ towards_zero (read c.before.before.before.before.before.before.before.before.before.before.before c.loop-k.k) c.beyond-due.result
+    c.towards_zero-kept.result ≡ towards_zero (read c.before.before.before.before.before.before.before.before.before.before.before.before c.loop-k.k) c.beyond-due.result
 kept-is c =
-    let z = read c.before.before.before.before.before.before.before.before.before.before.before c.loop-k.k in
+    let z = read c.before.before.before.before.before.before.before.before.before.before.before.before c.loop-k.k in
     let f : SFits w64 z = record { sfits = c.struct_told-1.given.0.1 } in
     seen (λ (x : ℤ). towards_zero x c.beyond-due.result) z f c.towards_zero-kept.ensures
 
 -- the part that is used
 used_is : (c : After-minus) →
-    let z = read c.before.before.before.before.before.before.before.before.before.before.before.before.before c.loop-k.k in
+    let z = read (goal.at.offset_bounds-used-k c).Start c.loop-k.k in
     c.minus.result ≡ z -ℤ towards_zero z c.beyond-due.result
 used_is c =
-    let z = read c.before.before.before.before.before.before.before.before.before.before.before.before.before c.loop-k.k in
+    let z = read (goal.at.offset_bounds-used-k c).Start c.loop-k.k in
     let y = c.towards_zero-kept.result in
     let f : SFits w64 z = record { sfits = c.struct_told-in-loop-k-1.given.0.1 } in
     let g : SFits w64 y = record { sfits = c.towards_zero-kept.type_inv } in
-    seen₂ (λ (a b : ℤ). a -ℤ b) z y f g c.minus.ensures ∙ ap (λ (x : ℤ). z -ℤ x) (kept-is c.before.before)
+    seen₂ (λ (a b : ℤ). a -ℤ b) z y f g c.minus.ensures ∙ ap (λ (x : ℤ). z -ℤ x) (kept-is (goal.at.offset_bounds-used-k c).After-towards_zero-kept)
 
 pub loop-k-init : goal.loop-k-init
 loop-k-init c =
     let cells = c.args.pools in
     let len : length cells ≡ pool_count = c.well_formed.1.1.1.0.1.0.1 in
-    let none = paying_none cells c.args.left.now (open_of (lent c.before.before)) len in (
+    let none = paying_none cells c.args.left.now (open_of (lent (goal.at.loop-k-init c).Start)) len in (
       omega arith,
-      few (lent c.before.before) c.requires.0,
-      subst⁻¹ (λ (zs : List ℤ). Paying cells c.args.left.now (open_of (lent c.before.before)) 0 cells (deltas_from zs) (deltas_from c.args.unused.now))
+      few (lent (goal.at.loop-k-init c).Start) c.requires.0,
+      subst⁻¹ (λ (zs : List ℤ). Paying cells c.args.left.now (open_of (lent (goal.at.loop-k-init c).Start)) 0 cells (deltas_from zs) (deltas_from c.args.unused.now))
           c.requires.1.1.1.0
-          (subst⁻¹ (λ (zs : List ℤ). Paying cells c.args.left.now (open_of (lent c.before.before)) 0 cells (deltas_from (replicate prompt_places (pos 0))) (deltas_from zs))
+          (subst⁻¹ (λ (zs : List ℤ). Paying cells c.args.left.now (open_of (lent (goal.at.loop-k-init c).Start)) 0 cells (deltas_from (replicate prompt_places (pos 0))) (deltas_from zs))
           c.requires.1.1.1.1 none),
     )
 
@@ -93,33 +93,33 @@ offset_bounds-left-cell c = let h = within c in omega arith
 
 pub bounds-left-cell : goal.bounds-left-cell
 bounds-left-cell c =
-    omega (arith, within c.before, c.requires.1.1.0)
+    omega (arith, within (goal.at.bounds-left-cell c).After-pool_of-cell, c.requires.1.1.0)
 
 pub minus-requires : goal.minus-requires
 minus-requires c =
     let y = c.towards_zero-kept.result in
-    let z = read c.before.before.before.before.before.before.before.before.before.before.before.before c.loop-k.k in
+    let z = read (goal.at.minus-requires c).Start c.loop-k.k in
     let f : SFits w64 z = record { sfits = c.struct_told-in-loop-k-1.given.0.1 } in
-    rw (back y (record { sfits = c.towards_zero-kept.type_inv }), kept-is c.before, back z f)
+    rw (back y (record { sfits = c.towards_zero-kept.type_inv }), kept-is (goal.at.minus-requires c).After-towards_zero-kept, back z f)
     (taken-fits z c.beyond-due.result f)
 
 pub offset_bounds-had-cell-in-loop-k : goal.offset_bounds-had-cell-in-loop-k
 offset_bounds-had-cell-in-loop-k c =
-    let h = within c.before.before.before.before.before.before in
+    let h = within (goal.at.offset_bounds-had-cell-in-loop-k c).After-pool_of-cell in
     omega arith
 
 pub bounds-had-cell-in-loop-k : goal.bounds-had-cell-in-loop-k
 bounds-had-cell-in-loop-k c =
-    within c.before.before.before.before.before.before
+    within (goal.at.bounds-had-cell-in-loop-k c).After-pool_of-cell
 
 pub offset_bounds-had-cell-in-loop-k-2 : goal.offset_bounds-had-cell-in-loop-k-2
 offset_bounds-had-cell-in-loop-k-2 c =
-    let h = within c.before.before.before.before.before.before.before.before in
+    let h = within (goal.at.offset_bounds-had-cell-in-loop-k-2 c).After-pool_of-cell in
     omega arith
 
 pub bounds-had-cell-in-loop-k-2 : goal.bounds-had-cell-in-loop-k-2
 bounds-had-cell-in-loop-k-2 c =
-    within c.before.before.before.before.before.before.before.before
+    within (goal.at.bounds-had-cell-in-loop-k-2 c).After-pool_of-cell
 
 pub loop-k-preserved : goal.loop-k-preserved
 loop-k-preserved c =
@@ -131,9 +131,9 @@ loop-k-preserved c =
     let Kept-back = back y (record { sfits = c.towards_zero-kept.type_inv }) in (
       omega arith,
       l.invariant.1,
-      pay_next c.args.pools c.args.left.now (open_of (lent c.before.before.before.before.before.before.before.before.before.before.before.before.before.before.before)) l.k l.had _ l.used l.unused _ cell
-          c.beyond-due.result _ _ (omega arith) (here c.before.before.before.before.before.before.before.before) c.beyond-due.ensures
-          (used-back ∙ used_is c.before.before) (Kept-back ∙ kept-is c.before.before.before.before)
+      pay_next c.args.pools c.args.left.now (open_of (lent (goal.at.loop-k-preserved c).Start)) l.k l.had _ l.used l.unused _ cell
+          c.beyond-due.result _ _ (omega arith) (here (goal.at.loop-k-preserved c).After-pool_of-cell) c.beyond-due.ensures
+          (used-back ∙ used_is (goal.at.loop-k-preserved c).After-minus) (Kept-back ∙ kept-is (goal.at.loop-k-preserved c).After-towards_zero-kept)
           (ap (set l.had cell) (c.beyond.ensures ∙ ap (λ (a : ℕ). get_or l.had cell 0 - a) c.size.ensures))
           l.invariant.2,
     )
@@ -141,6 +141,6 @@ loop-k-preserved c =
 pub returns : goal.returns
 returns c =
     let l = c.loop-k in
-    let p = lent c.before.before.before.before in
+    let p = lent (goal.at.returns c).Start in
     let n = open_length p c.requires.1.0.0 (length-map c.args.nets.now _ ∙ c.requires.1.0.1) l.invariant.1 in
     paying_all c.args.pools c.args.left.now (open_of p) l.k l.had (deltas_from l.used) (deltas_from l.unused) (omega arith) l.invariant.2

@@ -30,7 +30,7 @@ read s i = to_z w64 (of_z w64 (get_or s.args.nets.now i (pos 0)))
 
 -- the prompt of a turn
 here : (c : After-pool_of-cell) →
-    Placed (open_of (lent c.before.before.before.before.before.before)) c.loop-i.i (read c.before.before.before.before.before.before c.loop-i.i) c.pool_of-cell.result
+    Placed (open_of (lent (goal.at.offset_bounds-cells-cell c).Start)) c.loop-i.i (read (goal.at.offset_bounds-cells-cell c).Start c.loop-i.i) c.pool_of-cell.result
 here c =
     let l = c.loop-i in
     let z = get_or c.args.nets.now l.i (pos 0) in
@@ -42,7 +42,7 @@ within : (c : After-pool_of-cell) → c.pool_of-cell.result < pool_count
 within c = placed_within _ _ _ _ (here c)
 
 pub loop-i-init : goal.loop-i-init
-loop-i-init c = (omega arith, few (lent c.before) c.requires.0, pooled_none (open_of (lent c.before)))
+loop-i-init c = (omega arith, few (lent (goal.at.loop-i-init c).Start) c.requires.0, pooled_none (open_of (lent (goal.at.loop-i-init c).Start)))
 
 pub offset_bounds-cells-cell : goal.offset_bounds-cells-cell
 offset_bounds-cells-cell c = let h = within c in omega arith
@@ -54,14 +54,14 @@ pub overflow_add-cells : goal.overflow_add-cells
 overflow_add-cells c =
     let l = c.loop-i in
     let e = c.size.ensures in
-    let h = pools_fit (lent c.before.before.before.before.before.before.before) l.i _ c.pool_of-cell.result (here c.before) l.cells l.invariant.2 c.requires.0 (omega arith) in
+    let h = pools_fit (lent (goal.at.overflow_add-cells c).Start) l.i _ c.pool_of-cell.result (here (goal.at.overflow_add-cells c).After-pool_of-cell) l.cells l.invariant.2 c.requires.0 (omega arith) in
     omega arith
 
 pub offset_bounds-cells-cell-in-loop-i : goal.offset_bounds-cells-cell-in-loop-i
-offset_bounds-cells-cell-in-loop-i c = let h = within c.before in omega arith
+offset_bounds-cells-cell-in-loop-i c = let h = within (goal.at.offset_bounds-cells-cell-in-loop-i c).After-pool_of-cell in omega arith
 
 pub bounds-cells-cell-in-loop-i : goal.bounds-cells-cell-in-loop-i
-bounds-cells-cell-in-loop-i c = within c.before
+bounds-cells-cell-in-loop-i c = within (goal.at.bounds-cells-cell-in-loop-i c).After-pool_of-cell
 
 pub loop-i-preserved : goal.loop-i-preserved
 loop-i-preserved c =
@@ -69,13 +69,13 @@ loop-i-preserved c =
     let cell = c.pool_of-cell.result in (
       omega arith,
       l.invariant.1,
-      pools_next (lent c.before.before.before.before.before.before.before) l.i _ cell (here c.before) l.cells l.invariant.2 _
+      pools_next (lent (goal.at.loop-i-preserved c).Start) l.i _ cell (here (goal.at.loop-i-preserved c).After-pool_of-cell) l.cells l.invariant.2 _
           (ap (λ (x : ℕ). set l.cells cell (get_or l.cells cell 0 + x)) c.size.ensures),
     )
 
 pub returns : goal.returns
 returns c =
-    let p = lent c.before.before.before in
+    let p = lent (goal.at.returns c).Start in
     let l = c.loop-i in
     let n = open_length p c.requires.1.0 (length-map c.args.nets.now _ ∙ c.requires.1.1) l.invariant.1 in
     subst (λ (ps : List Open). Pooled l.cells ps) (take_all l.i (open_of p) (omega arith)) l.invariant.2

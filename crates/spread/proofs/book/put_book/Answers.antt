@@ -24,31 +24,31 @@ sound-lent s = and_left (sound_prompts (lent s)) (sound_table s.args.table) s.re
 -- the cells that the run leaves are as many
 as_many : (c : After-run) → length c.run.new.0 ≡ pool_count
 as_many c =
-    ap length c.run.ensures.leaves ∙ (pooled_left (steps_of c.args.table) _ (open_of (lent c.before.before.before.before.before.before.before)) c.pools_of-pools.ensures).size
+    ap length c.run.ensures.leaves ∙ (pooled_left (steps_of c.args.table) _ (open_of (lent c.before.before.before.before.before.before.before.before)) c.pools_of-pools.ensures).size
 
 pub pools_of-pools-requires : goal.pools_of-pools-requires
-pools_of-pools-requires c = (sound-lent c.before.before, (c.pools_of-arg-1.given.0, c.pools_of-arg-2-1.given.0))
+pools_of-pools-requires c = (sound-lent (goal.at.pools_of-pools-requires c).Start, (c.pools_of-arg-1.given.0, c.pools_of-arg-2-1.given.0))
 
 pub run-requires : goal.run-requires
 run-requires c =
     let lt = c.pools_of-arg-1.given.0 in
     let ln = length-map c.args.nets.now _ ∙ c.pools_of-arg-2-1.given.0 in (
-      and_right (sound_prompts (lent c.before.before.before.before.before.before)) (sound_table c.args.table) c.requires.0,
-      (pooled_small (lent c.before.before.before.before.before.before) _ lt ln (sound-lent c.before.before.before.before.before.before) c.pools_of-pools.ensures, c.requires.1.0),
+      and_right (sound_prompts (lent (goal.at.run-requires c).Start)) (sound_table c.args.table) c.requires.0,
+      (pooled_small (lent (goal.at.run-requires c).Start) _ lt ln (sound-lent (goal.at.run-requires c).Start) c.pools_of-pools.ensures, c.requires.1.0),
     )
 
 pub slice_bounds-pay-end-3 : goal.slice_bounds-pay-end-3
-slice_bounds-pay-end-3 c = sym (as_many c.before.before.before)
+slice_bounds-pay-end-3 c = sym (as_many (goal.at.slice_bounds-pay-end-3 c).After-run)
 
 pub pay-requires : goal.pay-requires
 pay-requires c = (
-  sound-lent c.before.before.before.before.before.before.before.before.before.before.before.before,
+  sound-lent (goal.at.pay-requires c).Start,
   (
     (c.pay-arg-1.given.0, c.pay-arg-2-1.given.0),
-    (as_many c.before.before.before.before.before, c.requires.1.1),
+    (as_many (goal.at.pay-requires c).After-run, c.requires.1.1),
   ),
 )
 
 pub returns : goal.returns
 returns c =
-    booked_accepted (lent c.before.before.before.before.before.before.before.before.before.before.before.before.before) c.args.table _ _ _ _ _ _ c.requires.0 c.pools_of-pools.ensures c.run.ensures c.pay.ensures
+    booked_accepted (lent (goal.at.returns c).Start) c.args.table _ _ _ _ _ _ c.requires.0 c.pools_of-pools.ensures c.run.ensures c.pay.ensures

@@ -25,11 +25,11 @@ abbrev spread_at : Table → ℕ → Spread
 spread_at t i = get_or t.spread i (record { legs = 0; leg = []; tenths = false })
 
 spreads : (s : Start) → length s.args.table.spread ≡ spread_places
-spreads s = sym (length-map s.args.table.spread _) ∙ s.well_formed.1.0.1.1.1.0.1.0.1
+spreads s = search rules
 
 -- the spread of a turn is accepted
 here : (c : In-loop-i) → sound_spread (spread_at c.args.table c.loop-i.i) ≡ true
-here c = sound_in_table c.args.table (spreads c.before.before) c.requires.0 c.loop-i.i _ c.loop-i-test.true
+here c = sound_in_table c.args.table (spreads (goal.at.offset_bounds-table-i c).Start) c.requires.0 c.loop-i.i _ c.loop-i-test.true
 
 -- the steps of a turn, each taken or left out
 first_step : (c : Joined-has_room) →
@@ -53,9 +53,9 @@ second-step c =
     let pools = c.pools_for-others.ensures in
     let l = c.loop-i in
     ⊎_elim
-    (λ w. record { number = _; taken = taken_of true _ (here c.before.before.before.before.before.before.before.before.before.before.before) _ _ pools _ _ _ w.1.ensures (w.4 ∙ w.3.ensures); written = w.5 })
+    (λ w. record { number = _; taken = taken_of true _ (here (goal.at.overflow_add-i c).In-loop-i) _ _ pools _ _ _ w.1.ensures (w.4 ∙ w.3.ensures); written = w.5 })
     (λ w. written_none _ _ _ _ _ _
-    (ap (ltb 0) (sym (lowest_of true _ (here c.before.before.before.before.before.before.before.before.before.before.before) _ _ pools)) ∙ sym c.has_room-in-loop-i.ensures ∙ w.0.left)
+    (ap (ltb 0) (sym (lowest_of true _ (here (goal.at.overflow_add-i c).In-loop-i) _ _ pools)) ∙ sym c.has_room-in-loop-i.ensures ∙ w.0.left)
     w.1 w.2 (none_yet _ l.i l.second l.invariant.3.seconds))
     c.if-has_room-2.branch
 
@@ -83,47 +83,47 @@ loop-i-init c =
     )
 
 pub pools_for-pools-requires : goal.pools_for-pools-requires
-pools_for-pools-requires c = (c.pools_for-arg-in-loop-i-1.given.0, here c.before.before.before)
+pools_for-pools-requires c = (c.pools_for-arg-in-loop-i-1.given.0, here (goal.at.pools_for-pools-requires c).In-loop-i)
 
 pub take-took-requires : goal.take-took-requires
 take-took-requires c =
-    (here c.before.before.before.before.before.before, pools_small _ _ _ _ c.pools_for-pools.ensures c.loop-i.invariant.2)
+    (here (goal.at.take-took-requires c).In-loop-i, pools_small _ _ _ _ c.pools_for-pools.ensures c.loop-i.invariant.2)
 
 pub put_back-requires : goal.put_back-requires
 put_back-requires c =
-    (c.pools_for-arg-in-loop-i-1.given.0, here c.before.before.before.before.before.before.before.before.before)
+    (c.pools_for-arg-in-loop-i-1.given.0, here (goal.at.put_back-requires c).In-loop-i)
 
 pub pools_for-others-requires : goal.pools_for-others-requires
 pools_for-others-requires c =
-    (c.pools_for-arg-in-loop-i-3-1.given.0, here c.before.before.before.before.before.before.before.before)
+    (c.pools_for-arg-in-loop-i-3-1.given.0, here (goal.at.pools_for-others-requires c).In-loop-i)
 
 pub take-took-requires-then-has_room-2 : goal.take-took-requires-then-has_room-2
 take-took-requires-then-has_room-2 c =
-    (here c.before.before.before.before.before.before.before.before.before.before.before, pools_small _ _ _ _ c.pools_for-others.ensures (between c.before.before.before.before.before))
+    (here (goal.at.take-took-requires-then-has_room-2 c).In-loop-i, pools_small _ _ _ _ c.pools_for-others.ensures (between (goal.at.take-took-requires-then-has_room-2 c).Joined-has_room))
 
 pub put_back-requires-then-has_room-2 : goal.put_back-requires-then-has_room-2
 put_back-requires-then-has_room-2 c =
-    (c.pools_for-arg-in-loop-i-3-1.given.0, here c.before.before.before.before.before.before.before.before.before.before.before.before.before.before)
+    (c.pools_for-arg-in-loop-i-3-1.given.0, here (goal.at.put_back-requires-then-has_room-2 c).In-loop-i)
 
 pub offset_bounds-second-i : goal.offset_bounds-second-i
 offset_bounds-second-i c = let h = below c in omega arith
 
 pub bounds-second-i : goal.bounds-second-i
-bounds-second-i c = below c.before
+bounds-second-i c = below (goal.at.bounds-second-i c).After-put_back-then-has_room-2
 
 pub loop-i-preserved : goal.loop-i-preserved
 loop-i-preserved c =
     let l = c.loop-i in (
       omega arith,
       l.invariant.1,
-      small_taken _ _ _ _ (second-step c).taken (between c.before.before.before.before.before),
-      table_next c.args.table c.args.cells.now l.i l.cells _ _ l.first l.second _ _ _ (spreads c.before.before.before.before.before.before.before.before.before.before.before.before.before) l.invariant.1
-          c.loop-i-test.true (first_step c.before.before.before.before.before) (second-step c) l.invariant.3,
+      small_taken _ _ _ _ (second-step c).taken (between (goal.at.loop-i-preserved c).Joined-has_room),
+      table_next c.args.table c.args.cells.now l.i l.cells _ _ l.first l.second _ _ _ (spreads (goal.at.loop-i-preserved c).Start) l.invariant.1
+          c.loop-i-test.true (first_step (goal.at.loop-i-preserved c).Joined-has_room) (second-step c) l.invariant.3,
     )
 
 pub returns : goal.returns
 returns c =
     let l = c.loop-i in
     let t = c.args.table in
-    let n = table_length t (spreads c.before.before) l.invariant.1 in
+    let n = table_length t (spreads (goal.at.returns c).Start) l.invariant.1 in
     running_all c.args.cells.now (table_spreads t) l.i l.cells (spreads_from l.first) (spreads_from l.second) (omega arith) l.invariant.3

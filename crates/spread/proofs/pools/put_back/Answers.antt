@@ -8,18 +8,18 @@ use Rattle.spread.proofs.pools.put_back.Goals as goal
 use Rattle.spread.proofs.pools.put_back.Goals.{Start}
 
 legs : (s : Start) → length s.args.spread.leg ≡ 3
-legs s = sym (length-map s.args.spread.leg _) ∙ s.well_formed.1.0.1.1.1.1.0.1.0.1
+legs s = search rules
 
 pub leg_cell-requires : goal.leg_cell-requires
-leg_cell-requires c = first_leg_lem c.args.spread _ (legs c.before.before) c.requires.1
+leg_cell-requires c = first_leg_lem c.args.spread _ (legs (goal.at.leg_cell-requires c).Start) c.requires.1
 
 pub leg_cell-requires-2 : goal.leg_cell-requires-2
 leg_cell-requires-2 c =
-    second_leg_lem c.args.spread _ (legs c.before.before.before.before) c.requires.1
+    second_leg_lem c.args.spread _ (legs (goal.at.leg_cell-requires-2 c).Start) c.requires.1
 
 pub leg_cell-requires-then-spread-eq3 : goal.leg_cell-requires-then-spread-eq3
 leg_cell-requires-then-spread-eq3 c =
-    third_leg_lem c.args.spread _ (legs c.before.before.before.before.before.before.before) c.requires.1 c.if-spread-eq3.true
+    third_leg_lem c.args.spread _ (legs (goal.at.leg_cell-requires-then-spread-eq3 c).Start) c.requires.1 c.if-spread-eq3.true
 
 pub bounds-cells-leg_cell-then-spread-eq3 : goal.bounds-cells-leg_cell-then-spread-eq3
 bounds-cells-leg_cell-then-spread-eq3 c =

@@ -37,7 +37,7 @@ module _ (c : After-plain-nets) where
   same = prompts_back given c.plain-nets.result c.plain-nets.ensures
 
   both : sound_for given c.args.spread ≡ true
-  both = sym c.can_step.ensures ∙ not-false _ c.if-not-can_step.left
+  both = sym c.can_step.ensures ∙ not-false _ c.if-not-can_step.false
 
   sound-lent : sound_prompts lent ≡ true
   sound-lent =
@@ -48,10 +48,10 @@ module _ (c : After-plain-nets) where
   sound-given = and_right (sound_prompts given) (sound_spread c.args.spread) both
 
   tiers : length given.tier ≡ prompt_places
-  tiers = sym (length-map given.tier _) ∙ c.well_formed.0.1.1.1.0.1.0.1
+  tiers = search rules
 
   nets : length given.net ≡ prompt_places
-  nets = sym (length-map given.net _) ∙ c.well_formed.0.1.1.1.1.0.1.0.1
+  nets = search rules
 
   numbers : length c.plain-nets.result ≡ prompt_places
   numbers = ap length c.plain-nets.ensures ∙ length-map given.net _ ∙ nets
@@ -62,39 +62,39 @@ returns-then-not-can_step c =
     (sym c.can_step.ensures ∙ not-true _ c.if-not-can_step.true) c.not_taken.ensures
 
 pub pools_of-pools-requires : goal.pools_of-pools-requires
-pools_of-pools-requires c = (sound-lent c.before.before, (tiers c.before.before, numbers c.before.before))
+pools_of-pools-requires c = (sound-lent (goal.at.pools_of-pools-requires c).After-plain-nets, (tiers (goal.at.pools_of-pools-requires c).After-plain-nets, numbers (goal.at.pools_of-pools-requires c).After-plain-nets))
 
 pub pools_for-requires : goal.pools_for-requires
-pools_for-requires c = (c.pools_of-pools.ensures.size, sound-given c.before.before.before.before)
+pools_for-requires c = (c.pools_of-pools.ensures.size, sound-given (goal.at.pools_for-requires c).After-plain-nets)
 
 pub take-took-requires : goal.take-took-requires
 take-took-requires c = (
-  sound-given c.before.before.before.before.before,
+  sound-given (goal.at.take-took-requires c).After-plain-nets,
   pools_small _ _ _ _ c.pools_for.ensures
-      (pooled_small (lent c.before.before.before.before.before) _ (tiers c.before.before.before.before.before) (length-map c.plain-nets.result _ ∙ numbers c.before.before.before.before.before) (sound-lent c.before.before.before.before.before) c.pools_of-pools.ensures),
+      (pooled_small (lent (goal.at.take-took-requires c).After-plain-nets) _ (tiers (goal.at.take-took-requires c).After-plain-nets) (length-map c.plain-nets.result _ ∙ numbers (goal.at.take-took-requires c).After-plain-nets) (sound-lent (goal.at.take-took-requires c).After-plain-nets) c.pools_of-pools.ensures),
 )
 
 pub put_back-requires : goal.put_back-requires
 put_back-requires c =
-    (c.pools_of-pools.ensures.size, sound-given c.before.before.before.before.before.before.before.before.before)
+    (c.pools_of-pools.ensures.size, sound-given (goal.at.put_back-requires c).After-plain-nets)
 
 pub slice_bounds-pay-end : goal.slice_bounds-pay-end
 slice_bounds-pay-end c =
-    sym (tiers c.before.before.before.before.before.before.before.before.before.before.before.before)
+    sym (tiers (goal.at.slice_bounds-pay-end c).After-plain-nets)
 
 pub pay-requires : goal.pay-requires
 pay-requires c =
-    (sound-lent c.before.before.before.before.before.before.before.before.before.before.before.before.before.before.before.before, ((tiers c.before.before.before.before.before.before.before.before.before.before.before.before.before.before.before.before, numbers c.before.before.before.before.before.before.before.before.before.before.before.before.before.before.before.before), (search rules, (refl, refl))))
+    (sound-lent (goal.at.pay-requires c).After-plain-nets, ((tiers (goal.at.pay-requires c).After-plain-nets, numbers (goal.at.pay-requires c).After-plain-nets), (search rules, (refl, refl))))
 
 pub returns : goal.returns
 returns c =
-    let s = start c.before.before.before.before.before.before.before.before.before.before.before.before.before.before.before.before.before.before.before in
+    let s = start (goal.at.returns c).After-plain-nets in
     let cells = c.pools_of-pools.result in
     let left = c.put_back.new.0 in
     let spent = c.pay.ensures in
-    stepped_accepted (given c.before.before.before.before.before.before.before.before.before.before.before.before.before.before.before.before.before.before.before) s.args.spread s.args.second (both c.before.before.before.before.before.before.before.before.before.before.before.before.before.before.before.before.before.before.before) (tiers c.before.before.before.before.before.before.before.before.before.before.before.before.before.before.before.before.before.before.before) (nets c.before.before.before.before.before.before.before.before.before.before.before.before.before.before.before.before.before.before.before) cells _ _ _ _
-    (subst (λ (q : Prompts). Pooled cells (open_of q)) (same c.before.before.before.before.before.before.before.before.before.before.before.before.before.before.before.before.before.before.before) c.pools_of-pools.ensures)
-    (taken_of s.args.second s.args.spread (sound-given c.before.before.before.before.before.before.before.before.before.before.before.before.before.before.before.before.before.before.before) cells _ c.pools_for.ensures _ _ _ c.take-took.ensures
+    stepped_accepted (given (goal.at.returns c).After-plain-nets) s.args.spread s.args.second (both (goal.at.returns c).After-plain-nets) (tiers (goal.at.returns c).After-plain-nets) (nets (goal.at.returns c).After-plain-nets) cells _ _ _ _
+    (subst (λ (q : Prompts). Pooled cells (open_of q)) (same (goal.at.returns c).After-plain-nets) c.pools_of-pools.ensures)
+    (taken_of s.args.second s.args.spread (sound-given (goal.at.returns c).After-plain-nets) cells _ c.pools_for.ensures _ _ _ c.take-took.ensures
     c.put_back.ensures)
-    (subst (λ (q : Prompts). Spent cells left (open_of q) c.deltas_from-taken.result c.deltas_from-kept.result) (same c.before.before.before.before.before.before.before.before.before.before.before.before.before.before.before.before.before.before.before)
+    (subst (λ (q : Prompts). Spent cells left (open_of q) c.deltas_from-taken.result c.deltas_from-kept.result) (same (goal.at.returns c).After-plain-nets)
     (record { useds = c.deltas_from-taken.ensures ∙ spent.useds; unuseds = c.deltas_from-kept.ensures ∙ spent.unuseds }))

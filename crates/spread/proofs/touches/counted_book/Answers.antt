@@ -37,14 +37,14 @@ touches_of-touches-requires c =
 pub returns : goal.returns
 returns c =
     let p = c.args.prompts in
-    let lt : length p.tier ≡ prompt_places = sym (length-map p.tier _) ∙ c.well_formed.0.1.1.1.0.1.0.1 in
-    let ln : length p.net ≡ prompt_places = sym (length-map p.net _) ∙ c.well_formed.0.1.1.1.1.0.1.0.1 in
+    let lt : length p.tier ≡ prompt_places = search rules in
+    let ln : length p.net ≡ prompt_places = search rules in
     let is =
     c.touches_of-touches.ensures
-    ∙ sym (ap (λ (d : Bool). cond d (touches (steps_of c.args.table) (open_of p)) 0) (taken c.before))
+    ∙ sym (ap (λ (d : Bool). cond d (touches (steps_of c.args.table) (open_of p)) 0) (taken (goal.at.returns c).After-second-1))
     in
     record {
       book = c.delta_book-book.ensures;
       touches = is;
-      few = let f = touches_few p c.args.table lt ln (taken c.before) in omega (arith, f, is);
+      few = let f = touches_few p c.args.table lt ln (taken (goal.at.returns c).After-second-1) in omega (arith, f, is);
     }

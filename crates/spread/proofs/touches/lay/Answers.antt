@@ -28,7 +28,7 @@ read s k = to_z w64 (of_z w64 (get_or s.args.nets.now k (pos 0)))
 
 -- the prompt of a turn
 here : (c : After-pool_of-cell) →
-    Placed (open_of (lent c.before.before.before.before.before.before.before.before.before)) c.loop-k.k (read c.before.before.before.before.before.before.before.before.before c.loop-k.k) c.pool_of-cell.result
+    Placed (open_of (lent (goal.at.offset_bounds-pool-k c).Start)) c.loop-k.k (read (goal.at.offset_bounds-pool-k c).Start c.loop-k.k) c.pool_of-cell.result
 here c =
     let l = c.loop-k in
     let z = get_or c.args.nets.now l.k (pos 0) in
@@ -43,8 +43,8 @@ pub loop-k-init : goal.loop-k-init
 loop-k-init c =
     let r = c.requires.1.1 in (
       omega arith,
-      few (lent c.before.before.before.before) c.requires.0,
-      laying_none (open_of (lent c.before.before.before.before)) c.args.pool.now c.args.size.now c.args.at.now r.0 r.1.0 r.1.1,
+      few (lent (goal.at.loop-k-init c).Start) c.requires.0,
+      laying_none (open_of (lent (goal.at.loop-k-init c).Start)) c.args.pool.now c.args.size.now c.args.at.now r.0 r.1.0 r.1.1,
     )
 
 pub bounds-pool-k : goal.bounds-pool-k
@@ -56,38 +56,38 @@ bounds-size-k c =
     let l = c.loop-k in omega (arith, l.invariant.0, l.invariant.1, l.invariant.2.sizes, c.loop-k-test.true)
 
 pub offset_bounds-at-cell : goal.offset_bounds-at-cell
-offset_bounds-at-cell c = let h = within c.before in omega arith
+offset_bounds-at-cell c = let h = within (goal.at.offset_bounds-at-cell c).After-pool_of-cell in omega arith
 
 pub bounds-at-cell : goal.bounds-at-cell
 bounds-at-cell c =
-    omega (arith, within c.before.before, c.loop-k.invariant.2.places)
+    omega (arith, within (goal.at.bounds-at-cell c).After-pool_of-cell, c.loop-k.invariant.2.places)
 
 pub offset_bounds-at-cell-in-loop-k : goal.offset_bounds-at-cell-in-loop-k
 offset_bounds-at-cell-in-loop-k c =
-    let h = within c.before.before.before in
+    let h = within (goal.at.offset_bounds-at-cell-in-loop-k c).After-pool_of-cell in
     omega arith
 
 pub bounds-at-cell-in-loop-k : goal.bounds-at-cell-in-loop-k
 bounds-at-cell-in-loop-k c =
-    omega (arith, within c.before.before.before, c.loop-k.invariant.2.places)
+    omega (arith, within (goal.at.bounds-at-cell-in-loop-k c).After-pool_of-cell, c.loop-k.invariant.2.places)
 
 pub loop-k-preserved : goal.loop-k-preserved
 loop-k-preserved c =
     let l = c.loop-k in
-    let q = open_of (lent c.before.before.before.before.before.before.before.before.before.before.before.before) in
+    let q = open_of (lent (goal.at.loop-k-preserved c).Start) in
     let cell = c.pool_of-cell.result in (
       omega arith,
       l.invariant.1,
       subst (λ (a : ℕ). Laying q (l.k + 1) (set l.pool l.k cell) (set l.size l.k a) (set l.at cell c.earlier.result))
           (sym c.size.ensures)
-          (subst (λ (a : ℕ). Laying q (l.k + 1) (set l.pool l.k cell) (set l.size l.k (nat_abs (read c.before.before.before.before.before.before.before.before.before.before.before.before l.k))) (set l.at cell a))
+          (subst (λ (a : ℕ). Laying q (l.k + 1) (set l.pool l.k cell) (set l.size l.k (nat_abs (read (goal.at.loop-k-preserved c).Start l.k))) (set l.at cell a))
           (sym c.earlier.ensures)
-          (laying_next q l.k _ cell (here c.before.before.before) l.pool l.size l.at (omega arith) l.invariant.2)),
+          (laying_next q l.k _ cell (here (goal.at.loop-k-preserved c).After-pool_of-cell) l.pool l.size l.at (omega arith) l.invariant.2)),
     )
 
 pub returns : goal.returns
 returns c =
     let l = c.loop-k in
-    let p = lent c.before.before.before.before.before.before in
+    let p = lent (goal.at.returns c).Start in
     let n = open_length p c.requires.1.0.0 (length-map c.args.nets.now _ ∙ c.requires.1.0.1) l.invariant.1 in
     laying_all (open_of p) l.k l.pool l.size l.at (omega (arith, n, c.loop-k-test.false, l.invariant.0)) (omega arith) l.invariant.2

@@ -19,7 +19,7 @@ offset_bounds-at-cell c = let h = most c in omega arith
 
 pub bounds-at-cell : goal.bounds-at-cell
 bounds-at-cell c =
-    omega (arith, most c.before, c.requires.places)
+    omega (arith, most (goal.at.bounds-at-cell c).After-cell_for-cell, c.requires.places)
 
 pub pass-passed-requires : goal.pass-passed-requires
 pass-passed-requires c =
@@ -27,11 +27,11 @@ pass-passed-requires c =
 
 pub offset_bounds-at-cell-2 : goal.offset_bounds-at-cell-2
 offset_bounds-at-cell-2 c =
-    let h = most c.before.before.before.before.before in omega arith
+    let h = most (goal.at.offset_bounds-at-cell-2 c).After-cell_for-cell in omega arith
 
 pub bounds-at-cell-2 : goal.bounds-at-cell-2
 bounds-at-cell-2 c =
-    omega (arith, most c.before.before.before.before.before, c.requires.places)
+    omega (arith, most (goal.at.bounds-at-cell-2 c).After-cell_for-cell, c.requires.places)
 
 pub returns : goal.returns
 returns c =

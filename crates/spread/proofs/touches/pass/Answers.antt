@@ -51,19 +51,19 @@ offset_bounds-pool-k c = let h = place c in omega arith
 
 pub bounds-pool-k : goal.bounds-pool-k
 bounds-pool-k c =
-    omega (arith, place c.before, c.requires.0)
+    omega (arith, place (goal.at.bounds-pool-k c).In-loop-due, c.requires.0)
 
 pub offset_bounds-size-k : goal.offset_bounds-size-k
-offset_bounds-size-k c = let h = place c.before in omega arith
+offset_bounds-size-k c = let h = place (goal.at.offset_bounds-size-k c).In-loop-due in omega arith
 
 pub bounds-size-k : goal.bounds-size-k
 bounds-size-k c =
     let l = c.loop-due in
-    omega (arith, place c.before.before, c.requires.1, l.invariant.size)
+    omega (arith, place (goal.at.bounds-size-k c).In-loop-due, c.requires.1, l.invariant.size)
 
 pub offset_bounds-size-k-in-loop-due : goal.offset_bounds-size-k-in-loop-due
 offset_bounds-size-k-in-loop-due c =
-    let h = place c.before.before.before in
+    let h = place (goal.at.offset_bounds-size-k-in-loop-due c).In-loop-due in
     omega arith
 
 pub bounds-size-k-in-loop-due : goal.bounds-size-k-in-loop-due
@@ -92,20 +92,20 @@ overflow_add-touches c =
 
 pub further-k-requires : goal.further-k-requires
 further-k-requires c =
-    let h = place c.before.before.before.before.before in
+    let h = place (goal.at.further-k-requires c).In-loop-due in
     omega arith
 
 pub loop-due-smaller : goal.loop-due-smaller
 loop-due-smaller c =
     let l = c.loop-due in
-    turn_less l.due l.k c.gives-given.result c.further-k.result (more c.before.before.before.before.before.before) (place c.before.before.before.before.before.before) c.further-k.ensures
+    turn_less l.due l.k c.gives-given.result c.further-k.result (more (goal.at.loop-due-smaller c).In-loop-due) (place (goal.at.loop-due-smaller c).In-loop-due) c.further-k.ensures
 
 pub loop-due-preserved : goal.loop-due-preserved
 loop-due-preserved c =
     let l = c.loop-due in
     pass_turn c.args.cell c.args.wanted c.args.pool.now c.args.size.now l.due l.k l.size l.touches
     c.gives-given.result c.further-k.result c.one_if-touches.result
-    (omega (arith, place c.before.before.before.before.before.before, c.requires.0)) (c.requires.0 ∙ sym c.requires.1)
+    (omega (arith, place (goal.at.loop-due-preserved c).In-loop-due, c.requires.0)) (c.requires.0 ∙ sym c.requires.1)
     c.gives-given.ensures c.further-k.ensures c.one_if-touches.ensures l.invariant
 
 pub shape_of-size : goal.shape_of-size

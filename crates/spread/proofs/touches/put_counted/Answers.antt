@@ -26,39 +26,39 @@ sound-lent s = and_left (sound_prompts (lent s)) (sound_table s.args.table) s.re
 as_many : (c : After-run_counted-touches) → length c.run_counted-touches.new.0 ≡ pool_count
 as_many c =
     ap length c.run_counted-touches.ensures.run.leaves
-    ∙ (pooled_left (steps_of c.args.table) _ (open_of (lent c.before.before.before.before.before.before.before.before.before.before.before.before.before.before.before.before.before.before.before)) c.pools_of-pools.ensures).size
+    ∙ (pooled_left (steps_of c.args.table) _ (open_of (lent c.before.before.before.before.before.before.before.before.before.before.before.before.before.before.before.before.before.before.before.before)) c.pools_of-pools.ensures).size
 
 pub lay-requires : goal.lay-requires
 lay-requires c =
-    (sound-lent c.before.before.before.before.before, ((c.lay-arg-1.given.0, c.lay-arg-2-1.given.0), (search rules, (refl, search rules))))
+    (sound-lent (goal.at.lay-requires c).Start, ((c.lay-arg-1.given.0, c.lay-arg-2-1.given.0), (search rules, (refl, search rules))))
 
 pub pools_of-pools-requires : goal.pools_of-pools-requires
 pools_of-pools-requires c =
-    (sound-lent c.before.before.before.before.before.before.before.before.before.before.before, (c.pools_of-arg-1.given.0, c.pools_of-arg-2-1.given.0))
+    (sound-lent (goal.at.pools_of-pools-requires c).Start, (c.pools_of-arg-1.given.0, c.pools_of-arg-2-1.given.0))
 
 pub run_counted-touches-requires : goal.run_counted-touches-requires
 run_counted-touches-requires c =
     let lt = c.pools_of-arg-1.given.0 in
     let ln = length-map c.args.nets.now _ ∙ c.pools_of-arg-2-1.given.0 in (
-      and_right (sound_prompts (lent c.before.before.before.before.before.before.before.before.before.before.before.before.before.before.before.before.before.before)) (sound_table c.args.table) c.requires.0,
+      and_right (sound_prompts (lent (goal.at.run_counted-touches-requires c).Start)) (sound_table c.args.table) c.requires.0,
       (
-        pooled_small (lent c.before.before.before.before.before.before.before.before.before.before.before.before.before.before.before.before.before.before) _ lt ln (sound-lent c.before.before.before.before.before.before.before.before.before.before.before.before.before.before.before.before.before.before) c.pools_of-pools.ensures,
+        pooled_small (lent (goal.at.run_counted-touches-requires c).Start) _ lt ln (sound-lent (goal.at.run_counted-touches-requires c).Start) c.pools_of-pools.ensures,
         (c.requires.1.0, record { places = search rules; pools = search rules; sizes = search rules; begun = c.lay.ensures.1 }),
       ),
     )
 
 pub slice_bounds-pay-end-3 : goal.slice_bounds-pay-end-3
-slice_bounds-pay-end-3 c = sym (as_many c.before.before.before)
+slice_bounds-pay-end-3 c = sym (as_many (goal.at.slice_bounds-pay-end-3 c).After-run_counted-touches)
 
 pub pay-requires : goal.pay-requires
 pay-requires c = (
-  sound-lent c.before.before.before.before.before.before.before.before.before.before.before.before.before.before.before.before.before.before.before.before.before.before.before.before,
+  sound-lent (goal.at.pay-requires c).Start,
   (
     (c.pay-arg-1.given.0, c.pay-arg-2-1.given.0),
-    (as_many c.before.before.before.before.before, c.requires.1.1),
+    (as_many (goal.at.pay-requires c).After-run_counted-touches, c.requires.1.1),
   ),
 )
 
 pub returns : goal.returns
 returns c =
-    let pooled = c.pools_of-pools.ensures in record { book = booked_accepted (lent c.before.before.before.before.before.before.before.before.before.before.before.before.before.before.before.before.before.before.before.before.before.before.before.before.before) c.args.table _ _ _ _ _ _ c.requires.0 pooled c.run_counted-touches.ensures.run c.pay.ensures; touched = c.run_counted-touches.ensures.counted (open_of (lent c.before.before.before.before.before.before.before.before.before.before.before.before.before.before.before.before.before.before.before.before.before.before.before.before.before)) c.lay.ensures.0 (pooled_numbers (steps_of c.args.table) _ (open_of (lent c.before.before.before.before.before.before.before.before.before.before.before.before.before.before.before.before.before.before.before.before.before.before.before.before.before)) pooled) }
+    let pooled = c.pools_of-pools.ensures in record { book = booked_accepted (lent (goal.at.returns c).Start) c.args.table _ _ _ _ _ _ c.requires.0 pooled c.run_counted-touches.ensures.run c.pay.ensures; touched = c.run_counted-touches.ensures.counted (open_of (lent (goal.at.returns c).Start)) c.lay.ensures.0 (pooled_numbers (steps_of c.args.table) _ (open_of (lent (goal.at.returns c).Start)) pooled) }

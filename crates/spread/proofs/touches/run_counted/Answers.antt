@@ -27,11 +27,11 @@ abbrev spread_at : Table → ℕ → Spread
 spread_at t i = get_or t.spread i (record { legs = 0; leg = []; tenths = false })
 
 spreads : (s : Start) → length s.args.table.spread ≡ spread_places
-spreads s = sym (length-map s.args.table.spread _) ∙ s.well_formed.1.0.1.1.1.0.1.0.1
+spreads s = search rules
 
 -- the spread of a turn is accepted
 here : (c : In-loop-i) → sound_spread (spread_at c.args.table c.loop-i.i) ≡ true
-here c = sound_in_table c.args.table (spreads c.before.before) c.requires.0 c.loop-i.i _ c.loop-i-test.true
+here c = sound_in_table c.args.table (spreads (goal.at.offset_bounds-table-i c).Start) c.requires.0 c.loop-i.i _ c.loop-i-test.true
 
 -- the steps of a turn, each taken or left out
 first_step : (c : Joined-has_room) →
@@ -84,14 +84,14 @@ module _ (c : Joined-has_room-2) where
   started = c.before.before.before.before.before.before.before.before.before.before.before.before.before
 
   turn_below : c.loop-i.i < spread_places
-  turn_below = omega (arith, c.loop-i-test.taken, c.loop-i.inv.1)
+  turn_below = omega (arith, c.loop-i-test.true, c.loop-i.inv.1)
 
   running : Running c.args.cells.now (table_spreads c.args.table) (c.loop-i.i + 1) c.if-has_room-2.cells
       (spreads_from c.if-has_room.first) (spreads_from c.if-has_room-2.second)
   running =
       let l = c.loop-i in
       table_next c.args.table c.args.cells.now l.i l.cells _ _ l.first l.second _ _ _ (spreads started) l.inv.1
-      c.loop-i-test.taken (first_step after_first) (second-step c) l.inv.3
+      c.loop-i-test.true (first_step after_first) (second-step c) l.inv.3
 
   first-formed : get_or c.if-has_room.first c.loop-i.i 0
       ≡ get_or (numbers_over (steps_of c.args.table) c.args.cells.now) (2 * c.loop-i.i) 0
@@ -128,54 +128,54 @@ loop-i-init c =
     )
 
 pub pools_for-pools-requires : goal.pools_for-pools-requires
-pools_for-pools-requires c = (c.pools_for-arg-in-loop-i-1.given.0, here c.before.before.before)
+pools_for-pools-requires c = (c.pools_for-arg-in-loop-i-1.given.0, here (goal.at.pools_for-pools-requires c).In-loop-i)
 
 pub take-took-requires : goal.take-took-requires
 take-took-requires c =
-    (here c.before.before.before.before.before.before, pools_small _ _ _ _ c.pools_for-pools.ensures c.loop-i.invariant.2)
+    (here (goal.at.take-took-requires c).In-loop-i, pools_small _ _ _ _ c.pools_for-pools.ensures c.loop-i.invariant.2)
 
 pub put_back-requires : goal.put_back-requires
 put_back-requires c =
-    (c.pools_for-arg-in-loop-i-1.given.0, here c.before.before.before.before.before.before.before.before.before)
+    (c.pools_for-arg-in-loop-i-1.given.0, here (goal.at.put_back-requires c).In-loop-i)
 
 pub pools_for-others-requires : goal.pools_for-others-requires
 pools_for-others-requires c =
-    (c.pools_for-arg-in-loop-i-3-1.given.0, here c.before.before.before.before.before.before.before.before)
+    (c.pools_for-arg-in-loop-i-3-1.given.0, here (goal.at.pools_for-others-requires c).In-loop-i)
 
 pub take-took-requires-then-has_room-2 : goal.take-took-requires-then-has_room-2
 take-took-requires-then-has_room-2 c =
-    (here c.before.before.before.before.before.before.before.before.before.before.before, pools_small _ _ _ _ c.pools_for-others.ensures (between c.before.before.before.before.before))
+    (here (goal.at.take-took-requires-then-has_room-2 c).In-loop-i, pools_small _ _ _ _ c.pools_for-others.ensures (between (goal.at.take-took-requires-then-has_room-2 c).Joined-has_room))
 
 pub put_back-requires-then-has_room-2 : goal.put_back-requires-then-has_room-2
 put_back-requires-then-has_room-2 c =
-    (c.pools_for-arg-in-loop-i-3-1.given.0, here c.before.before.before.before.before.before.before.before.before.before.before.before.before.before)
+    (c.pools_for-arg-in-loop-i-3-1.given.0, here (goal.at.put_back-requires-then-has_room-2 c).In-loop-i)
 
 pub offset_bounds-second-i : goal.offset_bounds-second-i
 offset_bounds-second-i c = let h = below c in omega arith
 
 pub bounds-second-i : goal.bounds-second-i
-bounds-second-i c = below c.before
+bounds-second-i c = below (goal.at.bounds-second-i c).After-put_back-then-has_room-2
 
 pub offset_bounds-first-i-in-loop-i : goal.offset_bounds-first-i-in-loop-i
-offset_bounds-first-i-in-loop-i c = let h = turn_below c.before.before.before in omega arith
+offset_bounds-first-i-in-loop-i c = let h = turn_below (goal.at.offset_bounds-first-i-in-loop-i c).Joined-has_room-2 in omega arith
 
 pub bounds-first-i-in-loop-i : goal.bounds-first-i-in-loop-i
-bounds-first-i-in-loop-i c = turn_below c.before.before.before.before
+bounds-first-i-in-loop-i c = turn_below (goal.at.bounds-first-i-in-loop-i c).Joined-has_room-2
 
 pub step_touches-one-requires : goal.step_touches-one-requires
 step_touches-one-requires c =
-    let l = (in-turn c.before.before.before.before.before).before.loop in
-    (l.inv.5, number_small c.before.before.before.before.before (2 * l.i) _ (first-formed c.before.before.before.before.before))
+    let l = (in-turn (goal.at.step_touches-one-requires c).Joined-has_room-2).before.loop in
+    (l.inv.5, number_small (goal.at.step_touches-one-requires c).Joined-has_room-2 (2 * l.i) _ (first-formed (goal.at.step_touches-one-requires c).Joined-has_room-2))
 
 pub offset_bounds-second-i-in-loop-i : goal.offset_bounds-second-i-in-loop-i
-offset_bounds-second-i-in-loop-i c = let h = turn_below c.before.before.before.before.before.before.before.before.before in omega arith
+offset_bounds-second-i-in-loop-i c = let h = turn_below (goal.at.offset_bounds-second-i-in-loop-i c).Joined-has_room-2 in omega arith
 
 pub bounds-second-i-in-loop-i : goal.bounds-second-i-in-loop-i
-bounds-second-i-in-loop-i c = turn_below c.before.before.before.before.before.before.before.before.before.before
+bounds-second-i-in-loop-i c = turn_below (goal.at.bounds-second-i-in-loop-i c).Joined-has_room-2
 
 pub step_touches-two-requires : goal.step_touches-two-requires
 step_touches-two-requires c =
-    (c.step_touches-one.ensures.ready, number_small c.before.before.before.before.before.before.before.before.before.before.before (2 * (in-turn c.before.before.before.before.before.before.before.before.before.before.before).before.loop.i + 1) _ (second-formed c.before.before.before.before.before.before.before.before.before.before.before))
+    (c.step_touches-one.ensures.ready, number_small (goal.at.step_touches-two-requires c).Joined-has_room-2 (2 * (in-turn (goal.at.step_touches-two-requires c).Joined-has_room-2).before.loop.i + 1) _ (second-formed (goal.at.step_touches-two-requires c).Joined-has_room-2))
 
 pub overflow_add-touches : goal.overflow_add-touches
 overflow_add-touches c =
@@ -219,4 +219,4 @@ pub returns : goal.returns
 returns c =
     let l = c.loop-i in
     let t = c.args.table in
-    let n = table_length t (spreads c.before.before) l.invariant.1 in record { run = running_all c.args.cells.now (table_spreads t) l.i l.cells (spreads_from l.first) (spreads_from l.second) (omega arith) l.invariant.3; counted = λ ps h e. counting_all (table_spreads t) ps l.i _ _ _ (omega (arith, n, c.loop-i-test.false)) (l.invariant.6 ps h e) }
+    let n = table_length t (spreads (goal.at.returns c).Start) l.invariant.1 in record { run = running_all c.args.cells.now (table_spreads t) l.i l.cells (spreads_from l.first) (spreads_from l.second) (omega arith) l.invariant.3; counted = λ ps h e. counting_all (table_spreads t) ps l.i _ _ _ (omega (arith, n, c.loop-i-test.false)) (l.invariant.6 ps h e) }

@@ -13,7 +13,7 @@ returns-then-number-eq0 c =
 
 pub returns : goal.returns
 returns c =
-    let l : length c.args.spread.leg ≡ 3 = sym (length-map c.args.spread.leg _) ∙ c.well_formed.1.1.1.0.1.1.1.1.0.1.0.1 in
+    let l : length c.args.spread.leg ≡ 3 = search rules in
     step_taken c.args.second c.args.spread _ _ _ (three _ c.args.spread.leg l) c.args.number c.args.pool.now
     c.args.size.now _ _ _ _ _ _ _ _ _ _ _ _
     c.wanted_by.ensures c.wanted_by-2.ensures c.wanted_by-3.ensures

@@ -18,7 +18,7 @@ use Rattle.spread.proofs.touches.touches_in.Goals as goal
 use Rattle.spread.proofs.touches.touches_in.Goals.{After-at-in-loop-i-4-1, After-lay-arg-2-1, In-loop-i, Start}
 
 tables : (s : Start) → length s.args.table.spread ≡ spread_places
-tables s = sym (length-map s.args.table.spread _) ∙ s.well_formed.1.1.1.0.1.1.1.0.1.0.1
+tables s = search rules
 
 -- the prompts that are lent
 abbrev lent : Start → Prompts
@@ -33,7 +33,7 @@ formed s = formed_by (lent s) s.args.table s.args.first.now s.args.second.now s.
 -- no number is more than the most, from where the prompts are lent on
 module _ (a : After-lay-arg-2-1) where
   abbrev begin : Start
-  begin = a.before.before.before.before.before
+  begin = (goal.at.lay-requires a).Start
 
   number_small : (k n : ℕ) → n ≡ get_or (numbers (steps_of a.args.table) (open_of (lent begin))) k 0 → n ≤ most_number
   number_small k n e =
@@ -66,14 +66,14 @@ in-turn c =
 
 pub lay-requires : goal.lay-requires
 lay-requires c = (
-  and_left (sound_prompts (lent c.before.before.before.before.before)) (sound_table c.args.table) c.requires.0,
+  and_left (sound_prompts (lent (goal.at.lay-requires c).Start)) (sound_table c.args.table) c.requires.0,
   ((c.lay-arg-1.given.0, c.lay-arg-2-1.given.0), (search rules, (refl, search rules))),
 )
 
 pub loop-i-init : goal.loop-i-init
 loop-i-init c = (
   omega arith,
-  few c.before.before.before.before.before.before.before.before.before,
+  few (goal.at.loop-i-init c).Start,
   omega arith,
   record { places = search rules; pools = search rules; sizes = search rules; begun = c.lay.ensures.1 },
   λ ps h f. counting_none (table_spreads c.args.table) ps _ _ h,
@@ -86,26 +86,26 @@ pub bounds-table-i : goal.bounds-table-i
 bounds-table-i c = within c
 
 pub offset_bounds-first-i : goal.offset_bounds-first-i
-offset_bounds-first-i c = let h = within c.before in omega arith
+offset_bounds-first-i c = let h = within (goal.at.offset_bounds-first-i c).In-loop-i in omega arith
 
 pub bounds-first-i : goal.bounds-first-i
-bounds-first-i c = within c.before.before
+bounds-first-i c = within (goal.at.bounds-first-i c).In-loop-i
 
 pub offset_bounds-second-i : goal.offset_bounds-second-i
-offset_bounds-second-i c = let h = within c.before.before.before in omega arith
+offset_bounds-second-i c = let h = within (goal.at.offset_bounds-second-i c).In-loop-i in omega arith
 
 pub bounds-second-i : goal.bounds-second-i
-bounds-second-i c = within c.before.before.before.before
+bounds-second-i c = within (goal.at.bounds-second-i c).In-loop-i
 
 pub step_touches-one-requires : goal.step_touches-one-requires
 step_touches-one-requires c =
     let i = c.loop-i.i in
-    (c.loop-i.invariant.3, number_small (lent_at c.before.before.before.before.before.before) (2 * i) _ (formed (started c.before.before.before.before.before.before) i (within c.before.before.before.before.before.before.before.before)).0)
+    (c.loop-i.invariant.3, number_small (lent_at (goal.at.step_touches-one-requires c).After-way_told-1) (2 * i) _ (formed (started (goal.at.step_touches-one-requires c).After-way_told-1) i (within (goal.at.step_touches-one-requires c).In-loop-i)).0)
 
 pub step_touches-two-requires : goal.step_touches-two-requires
 step_touches-two-requires c =
     let i = c.loop-i.i in
-    (c.step_touches-one.ensures.ready, number_small (lent_at c.before.before.before.before.before.before.before.before.before.before.before.before) (2 * i + 1) _ (formed (started c.before.before.before.before.before.before.before.before.before.before.before.before) i (within c.before.before.before.before.before.before.before.before.before.before.before.before.before.before)).1)
+    (c.step_touches-one.ensures.ready, number_small (lent_at (goal.at.step_touches-two-requires c).After-way_told-1) (2 * i + 1) _ (formed (started (goal.at.step_touches-two-requires c).After-way_told-1) i (within (goal.at.step_touches-two-requires c).In-loop-i)).1)
 
 pub overflow_add-touches : goal.overflow_add-touches
 overflow_add-touches c =
@@ -148,6 +148,6 @@ loop-i-preserved c =
 pub returns : goal.returns
 returns c =
     let l = c.loop-i in
-    let n = table_length c.args.table (tables c.before.before.before.before.before.before.before.before.before.before.before) (few c.before.before.before.before.before.before.before.before.before.before.before) in
-    counting_all (table_spreads c.args.table) (open_of (lent c.before.before.before.before.before.before.before.before.before.before.before)) l.i _ _ _ (omega (arith, n, c.loop-i-test.false))
-    (l.invariant.4 (open_of (lent c.before.before.before.before.before.before.before.before.before.before.before)) c.lay.ensures.0 (formed c.before.before.before.before.before.before.before.before.before.before.before))
+    let n = table_length c.args.table (tables (goal.at.returns c).Start) (few (goal.at.returns c).Start) in
+    counting_all (table_spreads c.args.table) (open_of (lent (goal.at.returns c).Start)) l.i _ _ _ (omega (arith, n, c.loop-i-test.false))
+    (l.invariant.4 (open_of (lent (goal.at.returns c).Start)) c.lay.ensures.0 (formed (goal.at.returns c).Start))

@@ -25,11 +25,11 @@ touches_in-requires c =
     let formed = c.requires.1 in
     let first = spreads_from c.numbers_of-formed.result in
     let second = spreads_from c.numbers_of-reverse.result in (
-      subst⁻¹ (λ (p : Prompts). sound p t ≡ true) (same c.before.before.before.before.before.before) c.requires.0,
-      subst⁻¹ (λ (p : Prompts). FormedBy p t first second) (same c.before.before.before.before.before.before)
+      subst⁻¹ (λ (p : Prompts). sound p t ≡ true) (same (goal.at.touches_in-requires c).After-plain-nets) c.requires.0,
+      subst⁻¹ (λ (p : Prompts). FormedBy p t first second) (same (goal.at.touches_in-requires c).After-plain-nets)
           (record { firsts = c.numbers_of-formed.ensures ∙ formed.firsts; seconds = c.numbers_of-reverse.ensures ∙ formed.seconds }),
     )
 
 pub returns : goal.returns
 returns c =
-    c.touches_in.ensures ∙ ap (λ (p : Prompts). touches (steps_of c.args.table) (open_of p)) (same c.before.before.before.before.before.before.before)
+    c.touches_in.ensures ∙ ap (λ (p : Prompts). touches (steps_of c.args.table) (open_of p)) (same (goal.at.returns c).After-plain-nets)

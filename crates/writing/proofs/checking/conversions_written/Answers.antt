@@ -27,26 +27,26 @@ abbrev entries-of : At-loop-k → List ℕ
 entries-of c = (start_of c).args.entries.now
 
 -- the record is one of the file
-within : (c : In-loop-k) → c.loop-k.k < record_count (written (entries-of c.before))
-within c = omega (arith, c.loop-k-test.true, c.record_count-count.ensures, count_same (entries-of c.before))
+within : (c : In-loop-k) → c.loop-k.k < record_count (written (entries-of (goal.at.entry_at-requires c).At-loop-k))
+within c = omega (arith, c.loop-k-test.true, c.record_count-count.ensures, count_same (entries-of (goal.at.entry_at-requires c).At-loop-k))
 
 -- the head of the turn, its record's place, the file, its rates, and what the record answers
 module _ (c : After-answer_at-answer) where
   abbrev head : In-loop-k
-  head = c.before.before
+  head = (goal.at.number_of-requires c).In-loop-k
 
   abbrev k : ℕ
   k = c.loop-k.k
 
   abbrev file : List ℕ
-  file = written (entries-of c.before)
+  file = written (entries-of (goal.at.number_of-requires c).After-entry_at)
 
   abbrev rates : List Record
   rates = rates_of (records file)
 
   answered : c.answer_at-answer.result ≡ row_answer rates (0 + k) (record_at file k)
   answered =
-      let s = start_of c.before in
+      let s = start_of (goal.at.number_of-requires c).After-entry_at in
       c.answer_at-answer.ensures rates s.pre.1.rates (recorded file s.pre.1.accepted).ranges.rates
       ∙ ap (row_answer rates k) c.entry_at.ensures
       ∙ ap (λ (n : ℕ). row_answer rates n (record_at file k)) (sym (zero-add k))
@@ -57,24 +57,24 @@ loop-k-init c =
 
 pub entry_at-requires : goal.entry_at-requires
 entry_at-requires c =
-    let s = start_of c.before in
+    let s = start_of (goal.at.entry_at-requires c).At-loop-k in
     (s.pre.0, omega (arith, within c, count_same s.args.entries.now))
 
 pub answer_at-answer-requires : goal.answer_at-answer-requires
 answer_at-answer-requires c =
-    let s = start_of c.before.before in
+    let s = start_of (goal.at.answer_at-answer-requires c).At-loop-k in
     let w = written s.args.entries.now in
-    let row = row_at w s.pre.1.accepted c.loop-k.k (within c.before) in (
+    let row = row_at w s.pre.1.accepted c.loop-k.k (within (goal.at.answer_at-answer-requires c).In-loop-k) in (
       subst (λ (r : Record). kind r ≡ 3 → Row r) (sym c.entry_at.ensures) row,
       record { rates = rates_of (records w); held = s.pre.1.rates; within = (recorded w s.pre.1.accepted).ranges.rates },
     )
 
 pub returns-then-number_of-ne0 : goal.returns-then-number_of-ne0
 returns-then-number_of-ne0 c =
-    let turn = head c.before.before in
-    let a = answered c.before.before in
+    let turn = head (goal.at.returns-then-number_of-ne0 c).After-answer_at-answer in
+    let a = answered (goal.at.returns-then-number_of-ne0 c).After-answer_at-answer in
     a
-    ∙ sym (turn.before.loop.inv ∙ rows_stop (rates c.before.before) 0 (file c.before.before) (k c.before.before) (within turn)
+    ∙ sym (turn.before.loop.inv ∙ rows_stop (rates (goal.at.returns-then-number_of-ne0 c).After-answer_at-answer) 0 (file (goal.at.returns-then-number_of-ne0 c).After-answer_at-answer) (k (goal.at.returns-then-number_of-ne0 c).After-answer_at-answer) (within turn)
     (λ z. c.if-number_of-ne0.true (c.number_of.ensures ∙ ap number_of a ∙ z)))
 
 pub overflow_add-k : goal.overflow_add-k
@@ -87,14 +87,14 @@ loop-k-smaller c =
 
 pub loop-k-preserved : goal.loop-k-preserved
 loop-k-preserved c =
-    let turn = head c.before.before in
+    let turn = head (goal.at.loop-k-preserved c).After-answer_at-answer in
     turn.before.loop.inv
-    ∙ rows_next (rates c.before.before) 0 (file c.before.before) (k c.before.before) (within turn)
-    (sym (c.number_of.ensures ∙ ap number_of (answered c.before.before)) ∙ omega (arith, c.if-number_of-ne0.false))
+    ∙ rows_next (rates (goal.at.loop-k-preserved c).After-answer_at-answer) 0 (file (goal.at.loop-k-preserved c).After-answer_at-answer) (k (goal.at.loop-k-preserved c).After-answer_at-answer) (within turn)
+    (sym (c.number_of.ensures ∙ ap number_of (answered (goal.at.loop-k-preserved c).After-answer_at-answer)) ∙ omega (arith, c.if-number_of-ne0.false))
 
 pub returns : goal.returns
 returns c =
     let l = c.loop-k in
-    let e = entries-of c.before in
+    let e = entries-of (goal.at.returns c).At-loop-k in
     let w = written e in
     sym (l.invariant ∙ rows_end (rates_of (records w)) 0 w l.k (omega (arith, c.loop-k-test.false, c.record_count-count.ensures, count_same e)))

@@ -11,14 +11,14 @@ use Rattle.spread.proofs.pools.Pools.formed.Goals as goal
 use Rattle.spread.proofs.pools.Pools.formed.Goals.{Start}
 
 legs : (s : Start) → length s.args.spread.leg ≡ 3
-legs s = sym (length-map s.args.spread.leg _) ∙ s.well_formed.1.0.1.1.1.1.0.1.0.1
+legs s = search rules
 
 pub room-one-requires : goal.room-one-requires
 room-one-requires c = (c.requires.1.0, ltb-true 0 _ (ratio_of (leg_at c.args.spread 0) (first_leg_lem c.args.spread _ (legs c) c.requires.0)))
 
 pub room-two-requires : goal.room-two-requires
 room-two-requires c =
-    (c.requires.1.1, ltb-true 0 _ (ratio_of (leg_at c.args.spread 1) (second_leg_lem c.args.spread _ (legs c.before) c.requires.0)))
+    (c.requires.1.1, ltb-true 0 _ (ratio_of (leg_at c.args.spread 1) (second_leg_lem c.args.spread _ (legs (goal.at.room-two-requires c).Start) c.requires.0)))
 
 pub returns-then-spread-eq2 : goal.returns-then-spread-eq2
 returns-then-spread-eq2 c =
@@ -29,7 +29,7 @@ room-three-requires c = (
   c.requires.1.2,
   ltb-true 0 _
       (ratio_of (leg_at c.args.spread 2)
-      (third_leg_lem c.args.spread _ (legs c.before.before.before) c.requires.0 (has_three c.args.spread c.requires.0 c.if-spread-eq2.false))),
+      (third_leg_lem c.args.spread _ (legs (goal.at.room-three-requires c).Start) c.requires.0 (has_three c.args.spread c.requires.0 c.if-spread-eq2.false))),
 )
 
 pub returns : goal.returns

@@ -15,7 +15,7 @@ pub left_by-requires : goal.left_by-requires
 left_by-requires c = few c
 
 pub left_by-requires-2 : goal.left_by-requires-2
-left_by-requires-2 c = few c.before
+left_by-requires-2 c = few (goal.at.left_by-requires-2 c).After-formed-number
 
 pub left_by-requires-3 : goal.left_by-requires-3
-left_by-requires-3 c = few c.before.before
+left_by-requires-3 c = few (goal.at.left_by-requires-3 c).After-formed-number

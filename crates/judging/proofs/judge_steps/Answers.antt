@@ -33,7 +33,7 @@ sound-table s = and_right (sound_prompts s.args.prompts) (sound_table s.args.tab
 -- the head of the turn, and what is said of the step, of the number itself
 module _ (c : After-compare-compared) where
   abbrev head : In-loop-step
-  head = (goal.at.is_right-requires c).In-loop-step
+  head = c.before.before.before.before
 
   said :
       let l = c.loop-step in

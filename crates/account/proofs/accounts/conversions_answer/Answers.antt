@@ -112,6 +112,9 @@ rows_answer-answer-requires c =
       ),
     )
 
+pub number_of-requires : goal.number_of-requires
+number_of-requires c = search rules
+
 pub returns-then-number_of-ne0 : goal.returns-then-number_of-ne0
 returns-then-number_of-ne0 c =
     let turn = head (goal.at.returns-then-number_of-ne0 c).After-rows_answer-answer in

@@ -29,13 +29,16 @@ module _ (c : After-whole_before-before) where
   read = (goal.at.faultless-requires c).After-whole_at-r
 
   abbrev s : Start
-  s = (goal.at.faultless-requires c).Start
+  s = c.before.before.before.before.before.before.before.before
 
   here : fault_by c.args.counts.now (records c.part_at-prompts.result.now) c.whole_before-before.result.now c.whole_at-r.result.now
       ≡ fault_at c.args.file.now c.args.first.now c.args.counts.now c.args.k
   here =
       joined c.args.file.now c.args.first.now c.args.counts.now c.args.k c.whole_at-r.ensures
       c.contract.ensures.0 c.part_at-prompts.ensures c.whole_before-before.ensures
+
+pub faultless-requires : goal.faultless-requires
+faultless-requires c = tt
 
 pub returns-then-faultless : goal.returns-then-faultless
 returns-then-faultless c = sym (eqb-true _ 0 (sym c.faultless.ensures ∙ c.if-faultless.true)) ∙ here (goal.at.returns-then-faultless c).After-whole_before-before

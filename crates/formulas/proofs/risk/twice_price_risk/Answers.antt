@@ -22,7 +22,7 @@ paired c = total_of c.args.totals.now c.args.active +ℤ total_of c.args.totals.
 still : (c : Start) → ℤ
 still c = total_of c.args.totals.now 1 +ℤ total_of c.args.totals.now 2
 
-paired_is : (c : After-both) → c.both.result ≡ paired (goal.at.both-requires-2 c).Start
+paired_is : (c : After-both) → c.both.result ≡ paired c.before.before
 paired_is c = c.both.ensures.0
     ∙ ap (λ (p : ℕ). total_of c.args.totals.now c.args.active +ℤ total_of c.args.totals.now p) c.pair_of-paired.ensures
 

@@ -70,6 +70,9 @@ converted_product-more-requires c =
       ),
     )
 
+pub offset_bounds-totals-s : goal.offset_bounds-totals-s
+offset_bounds-totals-s c = omega arith
+
 pub plus-requires : goal.plus-requires
 plus-requires c =
     let i = c.loop-s in

@@ -54,6 +54,9 @@ product-more-requires c =
       c.requires.0,
     )
 
+pub offset_bounds-totals-s : goal.offset_bounds-totals-s
+offset_bounds-totals-s c = omega arith
+
 pub plus-requires : goal.plus-requires
 plus-requires c =
     let i = c.loop-s in

@@ -26,7 +26,7 @@ module _ (c : In-loop-s) where
   after-raise-of = (goal.at.overflow_add-s c).After-raise_of-raise
 
   abbrev s : Start
-  s = (goal.at.overflow_add-s c).Start
+  s = c.before.before.before.before.before.before.before
 
   abbrev k : ℕ
   k = c.loop-s.s
@@ -96,6 +96,9 @@ more_is c =
 pub loop-s-init : goal.loop-s-init
 loop-s-init c =
     (omega arith, start (raised_products (to_z w64 (of_z w64 c.args.each)) c.args.row.now) c.args.sums.now)
+
+pub overflow_add-s : goal.overflow_add-s
+overflow_add-s c = omega arith
 
 pub offset_bounds-turn-s : goal.offset_bounds-turn-s
 offset_bounds-turn-s c = omega (arith, c.loop-s-test.true)

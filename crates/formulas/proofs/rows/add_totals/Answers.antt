@@ -32,7 +32,7 @@ one-rated t rates row held is = record { rates = rates; held = held; each = λ k
 -- at the head of a turn: the row is within its ranges, and there is room for it
 module _ (c : In-loop-i) where
   abbrev s : Start
-  s = (goal.at.overflow_mul-at c).Start
+  s = c.before.before.before.before
 
   abbrev i : ℕ
   i = c.loop-i.i

@@ -36,7 +36,7 @@ module _ (c : After-plus-arg-1) where
   below = c.loop-s-test.true
 
   same : it ≡ get_or c.args.totals.now turn (pos 0)
-  same = c.loop-s.inv.1.others turn (omega arith)
+  same = c.loop-s.invariant.1.others turn (omega arith)
 
   it-most : nat_abs it ≤ most_rows * most_product
   it-most = omega (arith, ap nat_abs same, c.requires.totals_most.size turn below)

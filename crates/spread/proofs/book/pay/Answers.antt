@@ -60,14 +60,14 @@ kept-is c =
 
 -- the part that is used
 used_is : (c : After-minus) →
-    let z = read (goal.at.offset_bounds-used-k c).Start c.loop-k.k in
+    let z = read (goal.at.offset_bounds-had-cell-in-loop-k c).Start c.loop-k.k in
     c.minus.result ≡ z -ℤ towards_zero z c.beyond-due.result
 used_is c =
-    let z = read (goal.at.offset_bounds-used-k c).Start c.loop-k.k in
+    let z = read (goal.at.offset_bounds-had-cell-in-loop-k c).Start c.loop-k.k in
     let y = c.towards_zero-kept.result in
     let f : SFits w64 z = record { sfits = c.struct_told-in-loop-k-1.given.0.1 } in
     let g : SFits w64 y = record { sfits = c.towards_zero-kept.type_inv } in
-    seen₂ (λ (a b : ℤ). a -ℤ b) z y f g c.minus.ensures ∙ ap (λ (x : ℤ). z -ℤ x) (kept-is (goal.at.offset_bounds-used-k c).After-towards_zero-kept)
+    seen₂ (λ (a b : ℤ). a -ℤ b) z y f g c.minus.ensures ∙ ap (λ (x : ℤ). z -ℤ x) (kept-is (goal.at.offset_bounds-had-cell-in-loop-k c).After-towards_zero-kept)
 
 pub loop-k-init : goal.loop-k-init
 loop-k-init c =

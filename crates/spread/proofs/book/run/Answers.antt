@@ -29,7 +29,7 @@ spreads s = search rules
 
 -- the spread of a turn is accepted
 here : (c : In-loop-i) → sound_spread (spread_at c.args.table c.loop-i.i) ≡ true
-here c = sound_in_table c.args.table (spreads (goal.at.offset_bounds-table-i c).Start) c.requires.0 c.loop-i.i _ c.loop-i-test.true
+here c = sound_in_table c.args.table (spreads c.before.before) c.requires.0 c.loop-i.i _ c.loop-i-test.true
 
 -- the steps of a turn, each taken or left out
 first_step : (c : Joined-has_room) →
@@ -53,9 +53,9 @@ second-step c =
     let pools = c.pools_for-others.ensures in
     let l = c.loop-i in
     ⊎_elim
-    (λ w. record { number = _; taken = taken_of true _ (here (goal.at.overflow_add-i c).In-loop-i) _ _ pools _ _ _ w.1.ensures (w.4 ∙ w.3.ensures); written = w.5 })
+    (λ w. record { number = _; taken = taken_of true _ (here (goal.at.loop-i-preserved c).In-loop-i) _ _ pools _ _ _ w.1.ensures (w.4 ∙ w.3.ensures); written = w.5 })
     (λ w. written_none _ _ _ _ _ _
-    (ap (ltb 0) (sym (lowest_of true _ (here (goal.at.overflow_add-i c).In-loop-i) _ _ pools)) ∙ sym c.has_room-in-loop-i.ensures ∙ w.0.left)
+    (ap (ltb 0) (sym (lowest_of true _ (here (goal.at.loop-i-preserved c).In-loop-i) _ _ pools)) ∙ sym c.has_room-in-loop-i.ensures ∙ w.0.left)
     w.1 w.2 (none_yet _ l.i l.second l.invariant.3.seconds))
     c.if-has_room-2.branch
 

@@ -28,7 +28,7 @@ read s k = to_z w64 (of_z w64 (get_or s.args.nets.now k (pos 0)))
 
 -- the prompt of a turn
 here : (c : After-pool_of-cell) →
-    Placed (open_of (lent (goal.at.offset_bounds-pool-k c).Start)) c.loop-k.k (read (goal.at.offset_bounds-pool-k c).Start c.loop-k.k) c.pool_of-cell.result
+    Placed (open_of (lent (goal.at.bounds-pool-k c).Start)) c.loop-k.k (read (goal.at.bounds-pool-k c).Start c.loop-k.k) c.pool_of-cell.result
 here c =
     let l = c.loop-k in
     let z = get_or c.args.nets.now l.k (pos 0) in

@@ -31,7 +31,7 @@ spreads s = search rules
 
 -- the spread of a turn is accepted
 here : (c : In-loop-i) → sound_spread (spread_at c.args.table c.loop-i.i) ≡ true
-here c = sound_in_table c.args.table (spreads (goal.at.offset_bounds-table-i c).Start) c.requires.0 c.loop-i.i _ c.loop-i-test.true
+here c = sound_in_table c.args.table (spreads c.before.before) c.requires.0 c.loop-i.i _ c.loop-i-test.true
 
 -- the steps of a turn, each taken or left out
 first_step : (c : Joined-has_room) →
@@ -84,7 +84,7 @@ module _ (c : Joined-has_room-2) where
   started = c.before.before.before.before.before.before.before.before.before.before.before.before.before
 
   turn_below : c.loop-i.i < spread_places
-  turn_below = omega (arith, c.loop-i-test.true, c.loop-i.inv.1)
+  turn_below = omega (arith, c.loop-i-test.true, c.loop-i.invariant.1)
 
   running : Running c.args.cells.now (table_spreads c.args.table) (c.loop-i.i + 1) c.if-has_room-2.cells
       (spreads_from c.if-has_room.first) (spreads_from c.if-has_room-2.second)

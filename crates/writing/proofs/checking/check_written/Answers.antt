@@ -34,7 +34,7 @@ module _ (c : After-asked_of-c) where
   head = c.before.before.before.before
 
   room_for : Holdable (written (entries-of c.before.before)) c.loop-k.first c.loop-k.counts c.asked_of-c.result
-  room_for = turn_holdable c.loop-k.inv (inside head) c.entry_at-r.ensures c.asked_of-c.ensures
+  room_for = turn_holdable c.loop-k.invariant (inside head) c.entry_at-r.ensures c.asked_of-c.ensures
 
 -- what the record asks for, seen from where its prompts are held
 abbrev asked : After-hold → After-asked_of-c
@@ -62,7 +62,7 @@ module _ (c : Else-number-ne0) where
       c.loop-k.k
       c.entry_at-r.result.now
   passed =
-      turned c.loop-k.inv (inside turn) c.entry_at-r.ensures c.asked_of-c.ensures (held (goal.at.part_of-v-requires c).After-fault_by-number).hold.ensures
+      turned c.loop-k.invariant (inside turn) c.entry_at-r.ensures c.asked_of-c.ensures (held (goal.at.part_of-v-requires c).After-fault_by-number).hold.ensures
       c.entry_before.ensures c.fault_by-number.ensures c.if-number-ne0.false
 
 -- fewer than 640 records stand before it
@@ -136,6 +136,9 @@ returns-then-number-ne0 c =
     ∙ turn_stops l.loop.inv (inside (head a)) a.before.entry_at.ensures a.asked_of.ensures h.hold.ensures
     c.entry_before.ensures
     c.fault_by-number.ensures c.if-number-ne0.true (long_same e ∙ s.pre.1.0) (cut_same e ∙ s.pre.1.1)
+
+pub part_of-v-requires : goal.part_of-v-requires
+part_of-v-requires c = tt
 
 pub slice_bounds-note_first-end : goal.slice_bounds-note_first-end
 slice_bounds-note_first-end c =

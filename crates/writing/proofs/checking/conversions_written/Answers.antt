@@ -69,6 +69,9 @@ answer_at-answer-requires c =
       record { rates = rates_of (records w); held = s.pre.1.rates; within = (recorded w s.pre.1.accepted).ranges.rates },
     )
 
+pub number_of-requires : goal.number_of-requires
+number_of-requires c = tt
+
 pub returns-then-number_of-ne0 : goal.returns-then-number_of-ne0
 returns-then-number_of-ne0 c =
     let turn = head (goal.at.returns-then-number_of-ne0 c).After-answer_at-answer in

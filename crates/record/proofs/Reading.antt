@@ -28,7 +28,7 @@ i32_past r o h = rw (u32_past r o h)
 
 -- a signed number is what the machine reads back from its bits
 pub back : (z : ℤ) → mag z < 2 ^ 63 → to_z w64 (of_z w64 z) ≡ z
-back z h = to_z-of_z (record { sfits = h })
+back z h = to_z-of_z {w = w64} {z = z} (record { sfits = h })
 
 module _ (x : ℕ) (h : x < 4294967296) where
   -- 2 ^ 31 on, round at 2 ^ 32, and 2 ^ 31 back

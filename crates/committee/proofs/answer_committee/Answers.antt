@@ -33,7 +33,7 @@ pub returns-then-not-add_up : goal.returns-then-not-add_up
 returns-then-not-add_up c =
     let s = c.args in
     let few = c.if-count-gt-MOST_ACCOUNTS.false in
-    let h = differ s.accounts.now s.lengths.now s.out.now (omega (arith, few)) (sym c.add_up.ensures ∙ not-true _ c.if-not-add_up.true) in
+    let h = differ s.accounts.now s.lengths.now s.out.now (omega (arith, few)) (sym c.add_up.ensures ∙ c.if-not-add_up.true) in
     (h.is, h.out_is)
 
 pub returns-then-out-lt-NUMBERS : goal.returns-then-out-lt-NUMBERS
@@ -42,7 +42,7 @@ returns-then-out-lt-NUMBERS c =
     let few = c.if-count-gt-MOST_ACCOUNTS.false in
     let h =
     lacking s.accounts.now s.lengths.now s.out.now (omega (arith, few))
-    (sym c.add_up.ensures ∙ not-false _ c.if-not-add_up.false) c.if-out-lt-NUMBERS.true
+    (sym c.add_up.ensures ∙ c.if-not-add_up.false) c.if-out-lt-NUMBERS.true
     in
     (h.is, h.out_is)
 
@@ -51,7 +51,7 @@ loop-i-init c =
     let s = c.args in
     begin s.accounts.now s.lengths.now c.none-sums.result c.none-sums.ensures
     (eqb-true (sum s.lengths.now) (length s.accounts.now)
-    (sym c.add_up.ensures ∙ not-false _ c.if-not-add_up.false))
+    (sym c.add_up.ensures ∙ c.if-not-add_up.false))
 
 pub overflow_add-end : goal.overflow_add-end
 overflow_add-end c =
@@ -104,7 +104,7 @@ returns c =
     let h =
     all s.accounts.now s.lengths.now s.out.now (omega (arith, few))
     (sym c.add_up.ensures
-    ∙ not-false _ c.if-not-add_up.false) (omega (arith, room))
+    ∙ c.if-not-add_up.false) (omega (arith, room))
     c.put_sums.new.1.0 (c.put_sums.ensures
     ∙ ap (λ (xs : List ℕ). map pos xs ++ drop committee_numbers s.out.now) e)
     in

@@ -28,7 +28,7 @@ within c =
 pub returns-then-not-add_up : goal.returns-then-not-add_up
 returns-then-not-add_up c =
     let s = c.args in
-    let h = differ s.accounts.now s.lengths.now s.out.now s.outcomes.now (sym c.add_up.ensures ∙ not-true _ c.if-not-add_up.true) in
+    let h = differ s.accounts.now s.lengths.now s.out.now s.outcomes.now (sym c.add_up.ensures ∙ c.if-not-add_up.true) in
     (h.is, (h.out_is, h.outcome_is))
 
 pub returns-then-out-count : goal.returns-then-out-count
@@ -36,7 +36,7 @@ returns-then-out-count c =
     let s = c.args in
     let few = c.if-out-count.true in
     let h = few_figures s.accounts.now s.lengths.now s.out.now s.outcomes.now
-    (sym c.add_up.ensures ∙ not-false _ c.if-not-add_up.false) (omega (arith, few)) in
+    (sym c.add_up.ensures ∙ c.if-not-add_up.false) (omega (arith, few)) in
     (h.is, (h.out_is, h.outcome_is))
 
 pub returns-then-outcomes-count : goal.returns-then-outcomes-count
@@ -45,7 +45,7 @@ returns-then-outcomes-count c =
     let enough = c.if-out-count.false in
     let few = c.if-outcomes-count.true in
     let h = few_outcomes s.accounts.now s.lengths.now s.out.now s.outcomes.now
-    (sym c.add_up.ensures ∙ not-false _ c.if-not-add_up.false) (omega (arith, enough)) (omega (arith, few)) in
+    (sym c.add_up.ensures ∙ c.if-not-add_up.false) (omega (arith, enough)) (omega (arith, few)) in
     (h.is, (h.out_is, h.outcome_is))
 
 pub loop-i-init : goal.loop-i-init
@@ -53,7 +53,7 @@ loop-i-init c =
     let s = c.args in
     begin s.accounts.now s.lengths.now s.out.now s.outcomes.now
     (eqb-true (sum s.lengths.now) (length s.accounts.now)
-    (sym c.add_up.ensures ∙ not-false _ c.if-not-add_up.false))
+    (sym c.add_up.ensures ∙ c.if-not-add_up.false))
 
 pub overflow_add-end : goal.overflow_add-end
 overflow_add-end c =
@@ -120,7 +120,7 @@ returns c =
     let t = c.loop-i-test.false in
     let e = end s.accounts.now s.lengths.now s.out.now s.outcomes.now l.out l.outcomes l.at l.i l.invariant (omega (arith, t)) in
     let h = all s.accounts.now s.lengths.now s.out.now s.outcomes.now
-    (sym c.add_up.ensures ∙ not-false _ c.if-not-add_up.false) (omega (arith, a))
+    (sym c.add_up.ensures ∙ c.if-not-add_up.false) (omega (arith, a))
     (omega (arith, b))
     l.out l.outcomes e.0 e.1 in
     (h.is, (h.out_is, h.outcome_is))

@@ -23,7 +23,7 @@ loop-i-preserved c =
     let l = c.loop-i in
     run_next (passes args.file.now args.counts.now) l.invariant (omega arith)
     (ap (entry_passes args.counts.now) (sym c.whole_at.ensures)
-    ∙ sym c.entry_passes.ensures ∙ not-false _ c.if-not-entry_passes.false)
+    ∙ sym c.entry_passes.ensures ∙ c.if-not-entry_passes.false)
 
 pub returns : goal.returns
 returns c = c.loop-i.invariant

@@ -26,7 +26,7 @@ module _ (c : Else-not-may_run) where
       let contract = c.contract-c in
       begins_read n c.kind-n.result contract.result c.requires.0 c.requires.1 c.if-k-eq0.false
       c.whole_at-r.ensures c.whole_at.ensures c.kind-n.ensures.0 contract.ensures.0 contract.ensures.1
-      (sym c.may_run.ensures ∙ not-false _ c.if-not-may_run.false) e
+      (sym c.may_run.ensures ∙ c.if-not-may_run.false) e
 
 pub returns-then-contract_passes : goal.returns-then-contract_passes
 returns-then-contract_passes c =

@@ -23,7 +23,7 @@ loop-i-preserved c =
     let file = args.file.now in
     let l = c.loop-i in
     let met : prompt_passes args.c c.whole_at.result.now c.whole_at-in-loop-i.result.now ≡ true =
-    sym c.prompt_passes.ensures ∙ not-false _ c.if-not-prompt_passes.false in
+    sym c.prompt_passes.ensures ∙ c.if-not-prompt_passes.false in
     run_next (passes file args.c) l.invariant (omega arith)
     (sym (λ i. prompt_passes args.c (c.whole_at.ensures i) (c.whole_at-in-loop-i.ensures i)) ∙ met)
 

@@ -23,7 +23,7 @@ loop-i-preserved c =
     let l = c.loop-i in
     run_next (passes args.file.now args.days.now args.c args.other) l.invariant (omega arith)
     (ap (row_passes args.c args.days.now args.other) (sym c.whole_at.ensures)
-    ∙ sym c.row_passes.ensures ∙ not-false _ c.if-not-row_passes.false)
+    ∙ sym c.row_passes.ensures ∙ c.if-not-row_passes.false)
 
 pub returns : goal.returns
 returns c = c.loop-i.invariant

@@ -18,19 +18,19 @@ returns-then-r-lt-RECORD_BYTES c =
     (sound-short 4 c.args.c r (lt-leb record_bytes (length r) c.if-r-lt-RECORD_BYTES.true))
 
 pub returns-then-not-sound_spread : goal.returns-then-not-sound_spread
-returns-then-not-sound_spread c = rw (sym c.sound_spread.ensures ∙ not-true _ c.if-not-sound_spread.true)
+returns-then-not-sound_spread c = rw (sym c.sound_spread.ensures ∙ c.if-not-sound_spread.true)
 
 pub returns-then-legs_meet : goal.returns-then-legs_meet
 returns-then-legs_meet c =
     rw (
-      sym c.sound_spread.ensures ∙ not-false _ c.if-not-sound_spread.false,
+      sym c.sound_spread.ensures ∙ c.if-not-sound_spread.false,
       sym c.legs_meet.ensures ∙ c.if-legs_meet.true,
     )
 
 pub returns : goal.returns
 returns c =
     rw (
-      sym c.sound_spread.ensures ∙ not-false _ c.if-not-sound_spread.false,
+      sym c.sound_spread.ensures ∙ c.if-not-sound_spread.false,
       sym c.legs_meet.ensures ∙ c.if-legs_meet.false,
       c.some_leg_unlisted.ensures,
     )

@@ -23,7 +23,7 @@ loop-i-preserved c =
     let l = c.loop-i in
     run_next (passes args.file.now args.listed.now args.c) l.invariant (omega arith)
     (ap (spread_passes args.c args.listed.now) (sym c.whole_at.ensures)
-    ∙ sym c.spread_passes.ensures ∙ not-false _ c.if-not-spread_passes.false)
+    ∙ sym c.spread_passes.ensures ∙ c.if-not-spread_passes.false)
 
 pub returns : goal.returns
 returns c = c.loop-i.invariant

@@ -26,8 +26,7 @@ fits z m hz hm =
 
 -- which factor it is
 which : (c : After-factor) →
-    let (goal.at.half_away-requires c).Start = c.args in
-    c.factor.result ≡ cond (negative c.z) c.f.lowered c.f.raised
+    c.factor.result ≡ cond (negative c.args.z) c.args.f.lowered c.args.f.raised
 which c =
     seen (λ (z : ℤ). cond (negative z) c.args.f.lowered c.args.f.raised) c.args.z c.ranges.z c.factor.ensures
 
@@ -49,4 +48,3 @@ returns c =
     back c.half_away.result (record { sfits = c.half_away.type_inv })
     ∙ seen (λ (z : ℤ). half_away z c.factor.result hundred_million) c.args.z c.ranges.z c.half_away.ensures
     ∙ ap (λ (m : ℕ). half_away c.args.z m hundred_million) (which (goal.at.returns c).After-factor)
-

@@ -4,8 +4,6 @@ use mathlib.Core.Path.{refl}
 use lib.ListN.{get_or-replicate}
 use Rattle.committee.proofs.sums.none.Goals as goal
 
-}
-
 pub returns : goal.returns
 returns c = record {
   accepted_is = refl;
@@ -17,4 +15,4 @@ returns c = record {
   place_is = refl;
   credits_are = refl;
   above_is = refl;
-
+}

@@ -22,7 +22,7 @@ started c =
 
 pub put_unused-requires : goal.put_unused-requires
 put_unused-requires c =
-    (c.put_unused-arg-1.given.0, ap length c.requires.1.1.1)
+    ((search rules), ap length c.requires.1.1.1)
 
 pub returns-then-spreads-lt-RECORD_BYTES : goal.returns-then-spreads-lt-RECORD_BYTES
 returns-then-spreads-lt-RECORD_BYTES c =
@@ -30,7 +30,7 @@ returns-then-spreads-lt-RECORD_BYTES c =
     let spreads = c.args.spreads.now in
     let nets = c.args.nets.now in record {
       book = unspread prompts spreads nets c.args.first.now c.args.second.now c.args.used.now _ c.if-spreads-lt-RECORD_BYTES.true
-          c.put_unused-arg-1.given.0 c.requires.0.nets_beyond c.requires.1.0.0 c.requires.1.0.1
+          (search rules) c.requires.0.nets_beyond c.requires.1.0.0 c.requires.1.0.1
           c.requires.1.1.0 c.put_unused.ensures;
       touched = λ asked. (untouched spreads (opens_with prompts nets) c.if-spreads-lt-RECORD_BYTES.true, zero-le);
     }

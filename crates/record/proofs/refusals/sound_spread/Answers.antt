@@ -18,17 +18,17 @@ pub returns-then-not-is_of : goal.returns-then-not-is_of
 returns-then-not-is_of c =
     let r = c.args.r.now in
     sound-whole 4 c.args.c r (spread_fields r) (of_spread r) (le-leb record_bytes (length r) c.if-r-lt-RECORD_BYTES.false)
-    (sym (not-true _ c.if-not-is_of.true) ∙ c.is_of.ensures) refl refl
+    (sym c.if-not-is_of.true ∙ c.is_of.ensures) refl refl
 
 pub returns-then-beside_spread : goal.returns-then-beside_spread
 returns-then-beside_spread c =
     let r = c.args.r.now in
     sound-whole 4 c.args.c r (spread_fields r) (of_spread r) (le-leb record_bytes (length r) c.if-r-lt-RECORD_BYTES.false)
-    (sym (not-false _ c.if-not-is_of.false) ∙ c.is_of.ensures) (sym c.if-beside_spread.true ∙ c.beside_spread.ensures) refl
+    (sym c.if-not-is_of.false ∙ c.is_of.ensures) (sym c.if-beside_spread.true ∙ c.beside_spread.ensures) refl
 
 pub returns : goal.returns
 returns c =
     let r = c.args.r.now in
     sound-whole 4 c.args.c r (spread_fields r) (of_spread r) (le-leb record_bytes (length r) c.if-r-lt-RECORD_BYTES.false)
-    (sym (not-false _ c.if-not-is_of.false) ∙ c.is_of.ensures)
+    (sym c.if-not-is_of.false ∙ c.is_of.ensures)
     (sym c.if-beside_spread.false ∙ c.beside_spread.ensures) c.spread_outside.ensures

@@ -27,12 +27,12 @@ as_many c =
     ap length c.run.ensures.leaves ∙ (pooled_left (steps_of c.args.table) _ (open_of (lent c.before.before.before.before.before.before.before.before)) c.pools_of-pools.ensures).size
 
 pub pools_of-pools-requires : goal.pools_of-pools-requires
-pools_of-pools-requires c = (sound-lent (goal.at.pools_of-pools-requires c).Start, (c.pools_of-arg-1.given.0, c.pools_of-arg-2-1.given.0))
+pools_of-pools-requires c = (sound-lent (goal.at.pools_of-pools-requires c).Start, ((search rules), (search rules)))
 
 pub run-requires : goal.run-requires
 run-requires c =
-    let lt = c.pools_of-arg-1.given.0 in
-    let ln = length-map c.args.nets.now _ ∙ c.pools_of-arg-2-1.given.0 in (
+    let lt = (search rules) in
+    let ln = length-map c.args.nets.now _ ∙ (search rules) in (
       and_right (sound_prompts (lent (goal.at.run-requires c).Start)) (sound_table c.args.table) c.requires.0,
       (pooled_small (lent (goal.at.run-requires c).Start) _ lt ln (sound-lent (goal.at.run-requires c).Start) c.pools_of-pools.ensures, c.requires.1.0),
     )
@@ -44,7 +44,7 @@ pub pay-requires : goal.pay-requires
 pay-requires c = (
   sound-lent (goal.at.pay-requires c).Start,
   (
-    (c.pay-arg-1.given.0, c.pay-arg-2-1.given.0),
+    ((search rules), (search rules)),
     (as_many (goal.at.pay-requires c).After-run, c.requires.1.1),
   ),
 )

@@ -83,7 +83,7 @@ loop-i-init c =
     )
 
 pub pools_for-pools-requires : goal.pools_for-pools-requires
-pools_for-pools-requires c = (c.pools_for-arg-in-loop-i-1.given.0, here (goal.at.pools_for-pools-requires c).In-loop-i)
+pools_for-pools-requires c = ((search rules), here (goal.at.pools_for-pools-requires c).In-loop-i)
 
 pub take-took-requires : goal.take-took-requires
 take-took-requires c =
@@ -91,11 +91,11 @@ take-took-requires c =
 
 pub put_back-requires : goal.put_back-requires
 put_back-requires c =
-    (c.pools_for-arg-in-loop-i-1.given.0, here (goal.at.put_back-requires c).In-loop-i)
+    ((search rules), here (goal.at.put_back-requires c).In-loop-i)
 
 pub pools_for-others-requires : goal.pools_for-others-requires
 pools_for-others-requires c =
-    (c.pools_for-arg-in-loop-i-3-1.given.0, here (goal.at.pools_for-others-requires c).In-loop-i)
+    ((search rules), here (goal.at.pools_for-others-requires c).In-loop-i)
 
 pub take-took-requires-then-has_room-2 : goal.take-took-requires-then-has_room-2
 take-took-requires-then-has_room-2 c =
@@ -103,7 +103,7 @@ take-took-requires-then-has_room-2 c =
 
 pub put_back-requires-then-has_room-2 : goal.put_back-requires-then-has_room-2
 put_back-requires-then-has_room-2 c =
-    (c.pools_for-arg-in-loop-i-3-1.given.0, here (goal.at.put_back-requires-then-has_room-2 c).In-loop-i)
+    ((search rules), here (goal.at.put_back-requires-then-has_room-2 c).In-loop-i)
 
 pub offset_bounds-second-i : goal.offset_bounds-second-i
 offset_bounds-second-i c = let h = below c in omega arith

@@ -37,7 +37,7 @@ module _ (c : After-plain-nets) where
   same = prompts_back given c.plain-nets.result c.plain-nets.ensures
 
   both : sound_for given c.args.spread ≡ true
-  both = sym c.can_step.ensures ∙ not-false _ c.if-not-can_step.false
+  both = sym c.can_step.ensures ∙ c.if-not-can_step.false
 
   sound-lent : sound_prompts lent ≡ true
   sound-lent =
@@ -59,7 +59,7 @@ module _ (c : After-plain-nets) where
 pub returns-then-not-can_step : goal.returns-then-not-can_step
 returns-then-not-can_step c =
     stepped_refused c.args.prompts c.args.spread c.args.second c.not_taken.result
-    (sym c.can_step.ensures ∙ not-true _ c.if-not-can_step.true) c.not_taken.ensures
+    (sym c.can_step.ensures ∙ c.if-not-can_step.true) c.not_taken.ensures
 
 pub pools_of-pools-requires : goal.pools_of-pools-requires
 pools_of-pools-requires c = (sound-lent (goal.at.pools_of-pools-requires c).After-plain-nets, (tiers (goal.at.pools_of-pools-requires c).After-plain-nets, numbers (goal.at.pools_of-pools-requires c).After-plain-nets))

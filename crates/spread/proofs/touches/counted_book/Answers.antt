@@ -15,7 +15,7 @@ use Rattle.spread.proofs.touches.counted_book.Goals.{After-second-1}
 -- the book is accepted
 taken : (c : After-second-1) → sound c.args.prompts c.args.table ≡ true
 taken c =
-    sym c.delta_book-book.ensures.accepted ∙ not-false _ c.if-not-book.false
+    sym c.delta_book-book.ensures.accepted ∙ c.if-not-book.false
 
 pub returns-then-not-book : goal.returns-then-not-book
 returns-then-not-book c =
@@ -25,7 +25,7 @@ returns-then-not-book c =
       touches =
           sym
           (ap (λ (d : Bool). cond d (touches (steps_of c.args.table) (open_of c.args.prompts)) 0)
-          (sym b.accepted ∙ not-true _ c.if-not-book.true));
+          (sym b.accepted ∙ c.if-not-book.true));
       few = omega arith;
     }
 

@@ -30,16 +30,16 @@ as_many c =
 
 pub lay-requires : goal.lay-requires
 lay-requires c =
-    (sound-lent (goal.at.lay-requires c).Start, ((c.lay-arg-1.given.0, c.lay-arg-2-1.given.0), (search rules, (refl, search rules))))
+    (sound-lent (goal.at.lay-requires c).Start, (((search rules), (search rules)), (search rules, (refl, search rules))))
 
 pub pools_of-pools-requires : goal.pools_of-pools-requires
 pools_of-pools-requires c =
-    (sound-lent (goal.at.pools_of-pools-requires c).Start, (c.pools_of-arg-1.given.0, c.pools_of-arg-2-1.given.0))
+    (sound-lent (goal.at.pools_of-pools-requires c).Start, ((search rules), (search rules)))
 
 pub run_counted-touches-requires : goal.run_counted-touches-requires
 run_counted-touches-requires c =
-    let lt = c.pools_of-arg-1.given.0 in
-    let ln = length-map c.args.nets.now _ ∙ c.pools_of-arg-2-1.given.0 in (
+    let lt = (search rules) in
+    let ln = length-map c.args.nets.now _ ∙ (search rules) in (
       and_right (sound_prompts (lent (goal.at.run_counted-touches-requires c).Start)) (sound_table c.args.table) c.requires.0,
       (
         pooled_small (lent (goal.at.run_counted-touches-requires c).Start) _ lt ln (sound-lent (goal.at.run_counted-touches-requires c).Start) c.pools_of-pools.ensures,
@@ -54,7 +54,7 @@ pub pay-requires : goal.pay-requires
 pay-requires c = (
   sound-lent (goal.at.pay-requires c).Start,
   (
-    (c.pay-arg-1.given.0, c.pay-arg-2-1.given.0),
+    ((search rules), (search rules)),
     (as_many (goal.at.pay-requires c).After-run_counted-touches, c.requires.1.1),
   ),
 )

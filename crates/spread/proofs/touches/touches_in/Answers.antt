@@ -67,7 +67,7 @@ in-turn c =
 pub lay-requires : goal.lay-requires
 lay-requires c = (
   and_left (sound_prompts (lent (goal.at.lay-requires c).Start)) (sound_table c.args.table) c.requires.0,
-  ((c.lay-arg-1.given.0, c.lay-arg-2-1.given.0), (search rules, (refl, search rules))),
+  (((search rules), (search rules)), (search rules, (refl, search rules))),
 )
 
 pub loop-i-init : goal.loop-i-init

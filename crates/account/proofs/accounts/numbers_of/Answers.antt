@@ -72,10 +72,10 @@ loop-count-preserved c =
         (
           omega (arith, h),
           (
-            ap (λ (k : ℕ). take (l.count + k) u.new.0) o ∙ numbers_next p l.c l.count l.number u.new.0 b.result b.ensures n
+            ap (λ (k : ℕ). take (l.count + k) u.new.number) o ∙ numbers_next p l.c l.count l.number u.new.number b.result b.ensures n
                 u.ensures l.invariant.1.1.1.0,
-            ap₂ (λ (k i : ℕ). drop (l.count + k) u.new.0) o o ∙ left_after p l.c l.count l.number
-                u.new.0 b.result b.ensures n u.ensures most_contracts l.invariant.0 l.invariant.1.1.1.1
+            ap₂ (λ (k i : ℕ). drop (l.count + k) u.new.number) o o ∙ left_after p l.c l.count l.number
+                u.new.number b.result b.ensures n u.ensures most_contracts l.invariant.0 l.invariant.1.1.1.1
                 ∙ ap (λ (k : ℕ). replicate (most_contracts - (l.count + k)) 0)
                 (sym o),
           ),

@@ -40,7 +40,7 @@ row_answer-answer-requires c =
     )
 
 pub returns-then-number_of-ne0 : goal.returns-then-number_of-ne0
-returns-then-number_of-ne0 c =
+returns-then-number_of-ne0 c rates of each =
     let l = c.loop-i in
     let rows = c.args.rows.now in
     let k = c.args.k + l.i in
@@ -77,7 +77,7 @@ loop-i-preserved c =
     )
 
 pub returns : goal.returns
-returns c =
+returns c rates of each =
     let l = c.loop-i in
     sym (l.invariant.0 rates of each ∙ rows_end rates c.args.k c.args.rows.now l.i
     (omega (arith, c.loop-i-test.false, c.record_count-count.ensures)))

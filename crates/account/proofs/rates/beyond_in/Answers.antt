@@ -34,7 +34,7 @@ returns c =
     let s = c.args in
     let t = c.times in
     let v = c.converted in
-    seen (λ (z : ℤ). ltb most_conversion (nat_abs z)) v.result (record { sfits = v.type-inv }) c.is_beyond.ensures
+    seen (λ (z : ℤ). ltb most_conversion (nat_abs z)) v.result (record { sfits = v.type_inv }) c.is_beyond.ensures
     ∙ ap (λ (z : ℤ). ltb most_conversion (nat_abs z))
-    (seen (converted_at s.f.raised s.f.lowered) t.result (record { sfits = t.type-inv }) v.ensures
+    (seen (converted_at s.f.raised s.f.lowered) t.result (record { sfits = t.type_inv }) v.ensures
     ∙ ap (converted_at s.f.raised s.f.lowered) (multiplied (goal.at.returns c).After-times).is)

@@ -21,7 +21,7 @@ beyond up down each row s = ltb most_conversion (nat_abs (converted_at up down (
 
 abbrev pub invariant-loop-s : goal.invariant-loop-s
 invariant-loop-s l =
-    let p = beyond l.f.raised l.f.lowered (to_z w64 l.each) l.row in
+    let p = beyond l.f.raised l.f.lowered l.each l.row in
     (l.s ≤ scenario_count) × (any p (count_from 1 scenario_count) ≡ l.found || any p (count_from (l.s + 1) (scenario_count - l.s)))
 
 abbrev pub decreases-loop-s : goal.decreases-loop-s

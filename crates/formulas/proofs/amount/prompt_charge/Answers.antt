@@ -24,7 +24,7 @@ start_of c =
 unused-size : (c : After-magnitude-2) → c.magnitude-2.result ≡ nat_abs (start_of c).args.unused.0
 unused-size c =
     let s = start_of c in
-    seen nat_abs s.args.unused.0 (sfits_abs s.args.unused.0 (omega (arith, s.pre.1))) c.magnitude-2.ensures
+    seen nat_abs s.args.unused.0 (sfits_abs s.args.unused.0 (omega (arith, s.requires.1))) c.magnitude-2.ensures
 
 first-product : (c : After-magnitude) → c.magnitude.result * c.args.spread_rate ≤ 1280000000000000000
 first-product c =
@@ -35,7 +35,7 @@ second-product : (c : After-magnitude-2) → c.magnitude-2.result * (start_of c)
 second-product c =
     let s = start_of c in
     let e = unused-size c in
-    delta_rate c.magnitude-2.result s.args.outright_rate (omega (arith, s.pre.1)) s.pre.3
+    delta_rate c.magnitude-2.result s.args.outright_rate (omega (arith, s.requires.1)) s.requires.3
 
 pub overflow_mul-magnitude : goal.overflow_mul-magnitude
 overflow_mul-magnitude c = let p = first-product c in omega arith
@@ -51,11 +51,11 @@ half_up_to-requires c =
     let s = start_of c in
     let p = first-product (goal.at.half_up_to-requires c).After-magnitude in
     let q = second-product c in (
-      omega (arith, s.pre.4),
+      omega (arith, s.requires.4),
       omega (
         arith,
         charged_within s.args.unit (c.magnitude.result * s.args.spread_rate + c.magnitude-2.result * s.args.outright_rate)
-            s.pre.4 (omega arith),
+            s.requires.4 (omega arith),
       ),
     )
 

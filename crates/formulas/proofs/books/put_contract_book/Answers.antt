@@ -48,8 +48,8 @@ put_counted-requires c =
     let s = started (goal.at.put_counted-requires c).After-interprompt_table-table in
     let table = c.interprompt_table-table in (
       lent_sound s.args.prompts.now s.args.spreads.now _ s.args.nets.now table.result c.put_tiers.ensures
-          table.ensures s.pre.0,
-      s.pre.1,
+          table.ensures s.requires.0,
+      s.requires.1,
     )
 
 pub returns-then-counted : goal.returns-then-counted
@@ -59,15 +59,15 @@ returns-then-counted c =
     let spreads = s.args.spreads.now in
     let nets = s.args.nets.now in
     let table = c.interprompt_table-table in
-    let tiers = c.put_tiers.ensures in record { book = lent_book prompts spreads _ nets table.result tiers table.ensures s.pre.0 _ c.put_counted.ensures.book; touched = λ asked. lent_touches prompts spreads _ nets table.result tiers table.ensures s.pre.0 c.put_counted.result c.put_counted.ensures.touched }
+    let tiers = c.put_tiers.ensures in record { book = lent_book prompts spreads _ nets table.result tiers table.ensures s.requires.0 _ c.put_counted.ensures.book; touched = λ asked. lent_touches prompts spreads _ nets table.result tiers table.ensures s.requires.0 c.put_counted.result c.put_counted.ensures.touched }
 
 pub put_book-requires : goal.put_book-requires
 put_book-requires c =
     let s = started (goal.at.put_book-requires c).After-interprompt_table-table in
     let table = c.interprompt_table-table in (
       lent_sound s.args.prompts.now s.args.spreads.now _ s.args.nets.now table.result c.put_tiers.ensures
-          table.ensures s.pre.0,
-      s.pre.1,
+          table.ensures s.requires.0,
+      s.requires.1,
     )
 
 pub returns : goal.returns
@@ -75,6 +75,6 @@ returns c =
     let s = started (goal.at.returns c).After-interprompt_table-table in
     let table = c.interprompt_table-table in record {
       book = lent_book s.args.prompts.now s.args.spreads.now _ s.args.nets.now table.result c.put_tiers.ensures
-          table.ensures s.pre.0 _ c.put_book.ensures;
+          table.ensures s.requires.0 _ c.put_book.ensures;
       touched = λ asked. absurd (true≢false (sym asked ∙ c.if-counted.false));
     }

@@ -33,7 +33,7 @@ row_within c =
     let s = start_of c in
     let file = s.args.rows.now in
     let more : c.loop-i.i < length file / record_bytes = c.loop-i-test.true in
-    subst (λ (row : Record). RowFit row) (record_at_lem file c.loop-i.i more) (s.pre.1.1.0.each c.loop-i.i (omega (arith, count_is file)))
+    subst (λ (row : Record). RowFit row) (record_at_lem file c.loop-i.i more) (s.requires.1.1.0.each c.loop-i.i (omega (arith, count_is file)))
 
 -- its day has one place
 placed : (c : In-loop-i) →
@@ -45,16 +45,16 @@ placed c =
     let file = s.args.rows.now in
     let more : c.loop-i.i < length file / record_bytes = c.loop-i-test.true in
     subst (λ (row : Record). OnePlace s.args.prompts s.args.days.now (day row)) (record_at_lem file c.loop-i.i more)
-    (s.pre.1.0 c.loop-i.i (omega (arith, count_is file)))
+    (s.requires.1.0 c.loop-i.i (omega (arith, count_is file)))
 
 has_room : (c : In-loop-i) → AtMost prompt_places most_delta c.loop-i.nets
 has_room c =
     let s = start_of c in
     let i = c.loop-i in
     let file = s.args.rows.now in
-    nets_room (records file) s.args.prompts s.args.days.now s.args.nets.now s.pre.1.1.0 s.pre.1.1.1 i.i most_rows
+    nets_room (records file) s.args.prompts s.args.days.now s.args.nets.now s.requires.1.1.0 s.requires.1.1.1 i.i most_rows
     i.nets i.invariant.1
-    (omega (arith, count_is file, s.pre.1.1.0.few))
+    (omega (arith, count_is file, s.requires.1.1.0.few))
 
 pub guesses-guess-requires : goal.guesses-guess-requires
 guesses-guess-requires c = c.requires.0
@@ -70,7 +70,7 @@ row_delta-requires c =
 pub add_delta-requires : goal.add_delta-requires
 add_delta-requires c =
     let s = start_of (goal.at.add_delta-requires c).In-loop-i in (
-      s.pre.0,
+      s.requires.0,
       (
         (c.guesses-guess.ensures, subst⁻¹ (OnePlace s.args.prompts s.args.days.now) c.day_of.ensures (placed (goal.at.add_delta-requires c).In-loop-i)),
         (omega (arith, c.row_delta.ensures.size), has_room (goal.at.add_delta-requires c).In-loop-i),
@@ -95,7 +95,7 @@ loop-i-preserved c =
     let turn : i.i < length file / record_bytes = c.loop-i-test.true in
     let row = take (i.i * record_bytes + record_bytes - i.i * record_bytes) (drop (i.i * record_bytes) file) in
     let of-day = c.day_of in
-    let after = c.add_delta.new.0 in (
+    let after = c.add_delta.new.nets in (
       omega arith,
       nets_next (records file) n days i.i s.args.nets.now i.nets after row (omega (arith, count_is file)) (record_at_lem file i.i turn)
           i.invariant.1

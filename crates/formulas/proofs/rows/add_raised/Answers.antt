@@ -127,7 +127,7 @@ plus-requires c =
     let head = head_of (goal.at.plus-requires c).After-as_signed-more in
     let more = c.as_signed-more in
     plus_fits (it head) more.result (it head) more.result ((most_rows - 1) * most_raised) most_raised
-    (sfits_abs (it head) (omega (arith, it-most head))) (record { sfits = more.type-inv }) refl refl (it-most head) (more_is (goal.at.plus-requires c).After-as_signed-more).size (omega arith)
+    (sfits_abs (it head) (omega (arith, it-most head))) (record { sfits = more.type_inv }) refl refl (it-most head) (more_is (goal.at.plus-requires c).After-as_signed-more).size (omega arith)
 
 pub offset_bounds-sums-s-in-loop-s : goal.offset_bounds-sums-s-in-loop-s
 offset_bounds-sums-s-in-loop-s c = omega (arith, below (head_of (goal.at.offset_bounds-sums-s-in-loop-s c).After-as_signed-more))
@@ -150,12 +150,12 @@ loop-s-preserved c =
     let by = more_is (goal.at.loop-s-preserved c).After-as_signed-more in
     let products = raised_products (each head) (row head) in
     let sum = plus_is (it head) more.result (get_or xs at.s (pos 0)) (products at.s) ((most_rows - 1) * most_raised) most_raised
-    (sfits_abs (it head) (omega (arith, it-most head))) (record { sfits = more.type-inv }) (same head) by.is
+    (sfits_abs (it head) (omega (arith, it-most head))) (record { sfits = more.type_inv }) (same head) by.is
     (subst (λ (y : ℤ). nat_abs y ≤ (most_rows - 1) * most_raised) (same head) (it-most head)) (product_most head)
     c.plus.result c.plus.ensures in (
       omega (arith, below head),
-      next at.s products xs at.sums (to_z w64 (of_z w64 c.plus.result)) at.inv.1
-          (omega (arith, below head, (s head).pre.1.1.as_many)) (back c.plus.result (record { sfits = c.plus.type_inv }) ∙ sum.is),
+      next at.s products xs at.sums (to_z w64 (of_z w64 c.plus.result)) at.invariant.1
+          (omega (arith, below head, (s head).requires.1.1.as_many)) (back c.plus.result (record { sfits = c.plus.type_inv }) ∙ sum.is),
     )
 
 pub returns : goal.returns

@@ -123,7 +123,7 @@ factors_of-requires c =
 pub add_converted-requires : goal.add_converted-requires
 add_converted-requires c =
     let s = start c in
-    (s.pre.0, (s.pre.1.0, (factors-fit c, s.pre.1.1.1.totals_most)))
+    (s.requires.0, (s.requires.1.0, (factors-fit c, s.requires.1.1.1.totals_most)))
 
 pub returns-then-c-ne0 : goal.returns-then-c-ne0
 returns-then-c-ne0 c =
@@ -131,10 +131,10 @@ returns-then-c-ne0 c =
     let row = s.args.row.now in
     let f = c.factors_of.result in
     let unit = s.args.unit in
-    let small = (s.pre.1.1.0.each 0 (omega arith)).currency_within in
-    in-totals s c.add_converted.new.0
+    let small = (s.requires.1.1.0.each 0 (omega arith)).currency_within in
+    in-totals s c.add_converted.new.totals
     (λ held is.
-    same_added scenario_count (converted_products f.raised f.lowered unit row) (products held unit row) s.args.totals.now c.add_converted.new.0
+    same_added scenario_count (converted_products f.raised f.lowered unit row) (products held unit row) s.args.totals.now c.add_converted.new.totals
     (λ k.
     ap₂ (λ (up down : ℕ). half_away_to (converted_at up down (in_own (k + 1) row)) unit) (raised_is (goal.at.returns-then-c-ne0 c).After-factors_of held is small)
     (lowered_is (goal.at.returns-then-c-ne0 c).After-factors_of held is small)
@@ -145,9 +145,9 @@ pub returns-then-unit-ne1 : goal.returns-then-unit-ne1
 returns-then-unit-ne1 c =
     let row = c.args.row.now in
     let unit = c.args.unit in
-    in-totals (goal.at.returns-then-unit-ne1 c).Start c.add_own.new.0
+    in-totals (goal.at.returns-then-unit-ne1 c).Start c.add_own.new.totals
     (λ held is.
-    same_added scenario_count (own_products unit row) (products held unit row) c.args.totals.now c.add_own.new.0
+    same_added scenario_count (own_products unit row) (products held unit row) c.args.totals.now c.add_own.new.totals
     (λ k. ap (λ (t : Bool). half_away_to (by-currency held row (k + 1) t) unit) (sym (own_is (goal.at.returns-then-unit-ne1 c).Else-c-ne0))) c.add_own.ensures)
 
 pub add_raised-requires : goal.add_raised-requires
@@ -164,7 +164,7 @@ returns c =
     let unit = c.args.unit in
     let ts = c.args.totals.now in
     let xs = c.args.sums.now in
-    let ys = c.add_raised.new.0 in
+    let ys = c.add_raised.new.sums in
     let e = c.args.sizes in
     let z = each (goal.at.returns c).After-per_tick-each in
     let z-is : z ≡ lots row *ℤ pos (value row) = each_is (goal.at.returns c).After-per_tick-each ∙ c.per_tick-each.ensures.is in

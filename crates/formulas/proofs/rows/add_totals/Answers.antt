@@ -84,7 +84,7 @@ loop-i-init c =
 pub add_row-sizes-requires : goal.add_row-sizes-requires
 add_row-sizes-requires c =
     let start = s (goal.at.add_row-sizes-requires c).In-loop-i in
-    (start.pre.0, (row_within (goal.at.add_row-sizes-requires c).In-loop-i, (row_rated (goal.at.add_row-sizes-requires c).In-loop-i, sums-fit (goal.at.add_row-sizes-requires c).In-loop-i)))
+    (start.requires.0, (row_within (goal.at.add_row-sizes-requires c).In-loop-i, (row_rated (goal.at.add_row-sizes-requires c).In-loop-i, sums-fit (goal.at.add_row-sizes-requires c).In-loop-i)))
 
 pub overflow_add-shorts : goal.overflow_add-shorts
 overflow_add-shorts c =
@@ -92,7 +92,7 @@ overflow_add-shorts c =
 
 pub overflow_add-i : goal.overflow_add-i
 overflow_add-i c =
-    omega (arith, turn (goal.at.overflow_add-i c).In-loop-i, (s (goal.at.overflow_add-i c).In-loop-i).well-formed)
+    omega (arith, turn (goal.at.overflow_add-i c).In-loop-i, (s (goal.at.overflow_add-i c).In-loop-i).well_formed)
 
 pub loop-i-smaller : goal.loop-i-smaller
 loop-i-smaller c =
@@ -106,10 +106,10 @@ loop-i-preserved c =
     let n = most_rows - length (records (file (goal.at.loop-i-preserved c).In-loop-i)) in (
       λ held is.
           next held start.args.unit (records (file (goal.at.loop-i-preserved c).In-loop-i)) start.args.totals.now at.i (so_far (goal.at.loop-i-preserved c).In-loop-i)
-          (settled by.new.0 by.new.1.0 by.result) at.shorts _ (row (goal.at.loop-i-preserved c).In-loop-i)
-          (at.invariant.0 held is) (omega (arith, count_is (file (goal.at.loop-i-preserved c).In-loop-i), turn (goal.at.loop-i-preserved c).In-loop-i)) (row_is (goal.at.loop-i-preserved c).In-loop-i) (by.ensures.0 held is)
+          (settled by.new.totals by.new.sums by.result) at.shorts _ (row (goal.at.loop-i-preserved c).In-loop-i)
+          (at.invariant.0 held is) (omega (arith, count_is (file (goal.at.loop-i-preserved c).In-loop-i), turn (goal.at.loop-i-preserved c).In-loop-i)) (row_is (goal.at.loop-i-preserved c).In-loop-i) (by.ensures.added held is)
           (ap (λ (m : ℕ). at.shorts + m) c.short_options-shorts.ensures),
-      wider_room (n + at.i + 1) (n + (at.i + 1)) _ _ _ (omega arith) (by.ensures.1 (n + at.i) at.invariant.1),
+      wider_room (n + at.i + 1) (n + (at.i + 1)) _ _ _ (omega arith) (by.ensures.room (n + at.i) at.invariant.1),
     )
 
 pub settle-requires : goal.settle-requires

@@ -97,7 +97,7 @@ loop-s-preserved c =
     (same (goal.at.loop-s-preserved c).After-plus-arg-1) (more_is (goal.at.loop-s-preserved c).After-plus-arg-1).is (subst (λ (z : ℤ). nat_abs z ≤ most_rows * most_product) (same (goal.at.loop-s-preserved c).After-plus-arg-1) (it-most (goal.at.loop-s-preserved c).After-plus-arg-1))
     (subst (λ (z : ℤ). nat_abs z ≤ (2 * (most_rows * most_raised))) (more_is (goal.at.loop-s-preserved c).After-plus-arg-1).is (more_is (goal.at.loop-s-preserved c).After-plus-arg-1).size) c.plus.result c.plus.ensures in (
       omega (arith, below (goal.at.loop-s-preserved c).After-plus-arg-1),
-      next i.s (unraised_at (s (goal.at.loop-s-preserved c).After-plus-arg-1).args.sums.now (s (goal.at.loop-s-preserved c).After-plus-arg-1).args.sizes) ts i.totals (to_z w64 (of_z w64 c.plus.result)) i.inv.1
+      next i.s (unraised_at (s (goal.at.loop-s-preserved c).After-plus-arg-1).args.sums.now (s (goal.at.loop-s-preserved c).After-plus-arg-1).args.sizes) ts i.totals (to_z w64 (of_z w64 c.plus.result)) i.invariant.1
           (omega (arith, below (goal.at.loop-s-preserved c).After-plus-arg-1, (s (goal.at.loop-s-preserved c).After-plus-arg-1).requires.totals_most.as_many)) (back c.plus.result (record { sfits = c.plus.type_inv }) ∙ sum.is),
     )
 

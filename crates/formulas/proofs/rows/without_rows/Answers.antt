@@ -60,6 +60,6 @@ returns c =
     let g = c.with_rows-gone in
     let f = c.flat in
     λ held before rated is.
-    taken_away held c.args.unit c.args.days (records c.args.rows.now) before c.args.p f.result g.result _ is (g.ensures.0 held rated)
+    taken_away held c.args.unit c.args.days (records c.args.rows.now) before c.args.p f.result g.result _ is (g.ensures.added held rated)
     (f.ensures held c.args.unit [] zero-le) c.requires.1.1.1.1.0 c.requires.1.0.0 c.totals_without.ensures
     c.nets_without.ensures refl

@@ -31,8 +31,8 @@ asked : (c : After-is_asked) →
     answered (account_of s.args.morning.now s.args.noon.now) s.args.question ≡ c.is_asked.result
 asked c =
     let s = start_of c in
-    sym (c.is_asked.ensures ∙ asked_is (account_of s.args.morning.now s.args.noon.now) s.pre.lawful (account_in s.args.account.now).counts
-    s.pre.places.counts s.args.question)
+    sym (c.is_asked.ensures ∙ asked_is (account_of s.args.morning.now s.args.noon.now) s.requires.lawful (account_in s.args.account.now).counts
+    s.requires.places.counts s.args.question)
 
 -- a book of a contract
 not-paid : (c : Then-paid-question) → (start_of c.before.before.before).args.paid ≡ false
@@ -48,7 +48,7 @@ returns-then-not-is_asked c =
     refused_with (NoSuchQuestion c.record_total.result) _ (numbers_for a q) s.args.out.now
     (not-asked a q (length s.args.out.now)
     (answers_of a s.args.paid s.args.question ∙ asked (goal.at.returns-then-not-is_asked c).After-is_asked ∙ not-true c.is_asked.result c.if-not-is_asked.true)
-    ∙ ap NoSuchQuestion (sym (c.record_total.ensures ∙ s.pre.places.all))) (λ e. omega arith)
+    ∙ ap NoSuchQuestion (sym (c.record_total.ensures ∙ s.requires.places.all))) (λ e. omega arith)
 
 pub answer_contract_book-requires : goal.answer_contract_book-requires
 answer_contract_book-requires c =
@@ -58,7 +58,7 @@ answer_contract_book-requires c =
     let contract = and_right (not s.args.paid) (not (eqb q table_question)) c.if-paid-question.true in (
       s.pre,
       (
-        asked_small (account_of s.args.morning.now s.args.noon.now) s.pre.lawful q is
+        asked_small (account_of s.args.morning.now s.args.noon.now) s.requires.lawful q is
             (eqb-false q table_question (not-true (eqb q table_question) contract)),
         is,
       ),
@@ -70,7 +70,7 @@ returns-then-paid-question c =
     let a = account_of s.args.morning.now s.args.noon.now in
     let out = s.args.out.now in
     let r = c.answer_contract_book in
-    subst⁻¹ (λ (p : Bool). Answers r.result r.new.1.1.1.1.0 (answer_over a (question_of p s.args.question) (length out))
+    subst⁻¹ (λ (p : Bool). Answers r.result r.new.out (answer_over a (question_of p s.args.question) (length out))
     (numbers_for a (question_of p s.args.question)) out) (not-paid (goal.at.returns-then-paid-question c).Then-paid-question) r.ensures
 
 pub asking_over-asking-requires : goal.asking_over-asking-requires
@@ -85,8 +85,8 @@ returns c =
     let s = start_of (goal.at.returns c).After-is_asked in
     c.answer_asking.ensures (account_of s.args.morning.now s.args.noon.now) s.args.question
     (record {
-      lawful = s.pre.lawful;
+      lawful = s.requires.lawful;
       asked_is = asked (goal.at.returns c).After-is_asked ∙ not-false c.is_asked.result c.if-not-is_asked.false;
-      records_are = c.record_total-2.ensures ∙ s.pre.places.all;
+      records_are = c.record_total-2.ensures ∙ s.requires.places.all;
       asks = c.asking_over-asking.ensures;
     })

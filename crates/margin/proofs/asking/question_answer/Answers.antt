@@ -29,8 +29,8 @@ asked : (c : After-is_asked) →
     answered (account_of s.args.morning.now s.args.noon.now) s.args.question ≡ c.is_asked.result
 asked c =
     let s = start_of c in
-    sym (c.is_asked.ensures ∙ asked_is (account_of s.args.morning.now s.args.noon.now) s.pre.0.lawful
-    (account_in s.args.account.now).counts s.pre.0.places.counts s.args.question)
+    sym (c.is_asked.ensures ∙ asked_is (account_of s.args.morning.now s.args.noon.now) s.requires.0.lawful
+    (account_in s.args.account.now).counts s.requires.0.places.counts s.args.question)
 
 pub returns-then-not-is_asked : goal.returns-then-not-is_asked
 returns-then-not-is_asked c =
@@ -47,7 +47,7 @@ returns-then-not-is_asked c =
 pub asking_from-asking-requires : goal.asking_from-asking-requires
 asking_from-asking-requires c =
     let s = start_of (goal.at.asking_from-asking-requires c).After-is_asked in
-    (s.pre.0, (s.pre.1, asked (goal.at.asking_from-asking-requires c).After-is_asked ∙ not-false c.is_asked.result c.if-not-is_asked.false))
+    (s.requires.0, (s.requires.1, asked (goal.at.asking_from-asking-requires c).After-is_asked ∙ not-false c.is_asked.result c.if-not-is_asked.false))
 
 pub answer_asking-requires : goal.answer_asking-requires
 answer_asking-requires c =

@@ -22,7 +22,7 @@ start_of c =
 small : (c : Else-question-eq-TABLE) → (start_of c).args.question ≤ most_contract
 small c =
     let s = start_of c in
-    asked_small (account_of s.args.morning.now s.args.noon.now) s.pre.0.lawful s.args.question s.pre.1 c.if-question-eq-TABLE.false
+    asked_small (account_of s.args.morning.now s.args.noon.now) s.requires.0.lawful s.args.question s.requires.1 c.if-question-eq-TABLE.false
 
 pub returns-then-question-eq-TABLE : goal.returns-then-question-eq-TABLE
 returns-then-question-eq-TABLE c =
@@ -42,5 +42,5 @@ returns c =
     let s = start_of (goal.at.returns c).Else-question-eq-TABLE in
     subst₂ (SizesOf (account_of s.args.morning.now s.args.noon.now) s.args.question) (sym c.part_total-2.ensures)
     (sym c.part_total-3.ensures)
-    (contract_sizes s.args.morning.now s.args.noon.now (account_in s.args.account.now) s.pre.0 s.args.question s.pre.1
+    (contract_sizes s.args.morning.now s.args.noon.now (account_in s.args.account.now) s.requires.0 s.args.question s.requires.1
     c.if-question-eq-TABLE.false)

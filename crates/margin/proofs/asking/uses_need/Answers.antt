@@ -29,8 +29,8 @@ asked : (c : After-is_asked) →
     answered (account_of s.args.morning.now s.args.noon.now) s.args.question ≡ c.is_asked.result
 asked c =
     let s = start_of c in
-    sym (c.is_asked.ensures ∙ asked_is (account_of s.args.morning.now s.args.noon.now) s.pre.lawful (account_in s.args.account.now).counts
-    s.pre.places.counts s.args.question)
+    sym (c.is_asked.ensures ∙ asked_is (account_of s.args.morning.now s.args.noon.now) s.requires.lawful (account_in s.args.account.now).counts
+    s.requires.places.counts s.args.question)
 
 -- the product of two sizes within their bounds
 few : (c : After-sizes_over-sizes) → c.sizes_over-sizes.result.spreads * (2 * c.sizes_over-sizes.result.prompts) ≤ longest_uses

@@ -38,10 +38,10 @@ contract_in-requires c =
     let at = after-own.before in
     let s = at.before.before.before in
     let a = account_of s.args.morning.now s.args.noon.now in
-    let st = s.pre.0 in
+    let st = s.requires.0 in
     let j = account_in s.args.account.now in
     let n = s.args.c in
-    let h = s.pre.1.0 in
+    let h = s.requires.1.0 in
     let w = at.whereabouts-of.ensures in
     let own = after-own.own-part in
     let ps = after-prompts.prompts-part in
@@ -51,7 +51,7 @@ contract_in-requires c =
           (subst⁻¹ (λ (o : Record). PositionFit o (records ps.result.now) (records ss.result.now) s.args.p)
           (own_by a st.lawful n h own.result.now (own.ensures j n st h w))
           (parts_read a st.lawful n h ps.result.now ss.result.now (ps.ensures j n st h w) (ss.ensures j n st h w)
-          (λ (xs ys : List Record). PositionFit (own_of n a) xs ys s.args.p) s.pre.1.1)),
+          (λ (xs ys : List Record). PositionFit (own_of n a) xs ys s.args.p) s.requires.1.1)),
     )
 
 pub returns : goal.returns
@@ -62,10 +62,10 @@ returns c =
     let at = after-own.before in
     let s = at.before.before.before in
     let a = account_of s.args.morning.now s.args.noon.now in
-    let st = s.pre.0 in
+    let st = s.requires.0 in
     let j = account_in s.args.account.now in
     let n = s.args.c in
-    let h = s.pre.1.0 in
+    let h = s.requires.1.0 in
     let w = at.whereabouts-of.ensures in
     let own = after-own.own-part in
     let ps = after-prompts.prompts-part in
@@ -76,9 +76,9 @@ returns c =
           (subst (λ (o : Record). LineOf (contract_with o (records ps.result.now) (records ss.result.now) s.args.p) l.result)
           (own_by a st.lawful n h own.result.now (own.ensures j n st h w))
           (subst (λ (q : Position). LineOf (contract_with own.result.now (records ps.result.now) (records ss.result.now) q) l.result)
-          (lent (goal.at.returns c).After-plain-nets) l.ensures.0));
+          (lent (goal.at.returns c).After-plain-nets) l.ensures.line));
       lent = λ whole is.
-          l.ensures.1 whole
+          l.ensures.lent whole
           (subst⁻¹ (λ (q : Position). ContractIn whole s.args.count n (records ps.result.now) (records ss.result.now) q) (lent (goal.at.returns c).After-plain-nets)
           (parts_read a st.lawful n h ps.result.now ss.result.now (ps.ensures j n st h w) (ss.ensures j n st h w)
           (λ (xs ys : List Record). ContractIn whole s.args.count n xs ys s.args.p) is));

@@ -34,20 +34,20 @@ counted : (c : After-contract_total-count) →
     (whole : List Record) → Besides (account_of s.args.morning.now s.args.noon.now) whole → c.contract_total-count.result ≡ length (contracts_of whole)
 counted c whole b =
     let s = at-start c in
-    c.contract_total-count.ensures ∙ s.pre.0.places.contracts ∙ sym (ap length b.contracts)
+    c.contract_total-count.ensures ∙ s.requires.0.places.contracts ∙ sym (ap length b.contracts)
 
 few : (c : After-contract_total-count) → c.contract_total-count.result ≤ most_contracts
 few c =
     let s = at-start c in
-    omega (arith, c.contract_total-count.ensures, few_contracts s.args.morning.now s.args.noon.now (account_in s.args.account.now) s.pre.0)
+    omega (arith, c.contract_total-count.ensures, few_contracts s.args.morning.now s.args.noon.now (account_in s.args.account.now) s.requires.0)
 
 -- what is known of one of the accounts when a turn begins
 known : (c : At-loop-i) →
     let s = at-start c.before.before in
-    WalkedTo s.pre.1.0.whole c.contract_total-count.result s.args.figures.now s.args.books.now s.args.uses.now c.loop-i.i
+    WalkedTo s.requires.1.0.whole c.contract_total-count.result s.args.figures.now s.args.books.now s.args.uses.now c.loop-i.i
     c.loop-i.figures c.loop-i.books c.loop-i.uses c.loop-i.tiers c.loop-i.nets c.loop-i.units c.loop-i.prices c.loop-i.sizes c.loop-i.total
 known c =
-    let x = (at-start c.before.before).pre.1.0 in
+    let x = (at-start c.before.before).requires.1.0 in
     c.loop-i.invariant x.whole x.told
 
 -- the turn's contract is listed, and has this number
@@ -64,7 +64,7 @@ number : (c : After-contract_number-c) →
     c.contract_number-c.result ≡ contract (get_or (contracts_of (account_of s.args.morning.now s.args.noon.now)) c.loop-i.i [])
 number c =
     let s = at-start (at-total c) in
-    number_at s.args.morning.now s.args.noon.now (account_in s.args.account.now) s.pre.0 c.loop-i.i (within c)
+    number_at s.args.morning.now s.args.noon.now (account_in s.args.account.now) s.requires.0 c.loop-i.i (within c)
     c.contract_number-c.result c.contract_number-c.ensures
 
 small : (c : After-contract_number-c) → c.contract_number-c.result ≤ most_contract
@@ -75,8 +75,8 @@ small c =
     omega (
       arith,
       number c,
-      own_number (account_of m n) s.pre.0.lawful c.loop-i.i
-          (listed_at m n (account_in s.args.account.now) s.pre.0 c.loop-i.i (within c)),
+      own_number (account_of m n) s.requires.0.lawful c.loop-i.i
+          (listed_at m n (account_in s.args.account.now) s.requires.0 c.loop-i.i (within c)),
     )
 
 -- what was known when the turn began
@@ -93,7 +93,7 @@ at-number c =
 pub loop-i-init : goal.loop-i-init
 loop-i-init c =
     let s = at-start c in
-    λ whole t. walked_start s.pre.1.1.1
+    λ whole t. walked_start s.requires.1.1.1
 
 pub offset_bounds-positions-c : goal.offset_bounds-positions-c
 offset_bounds-positions-c c = let h = small c in omega arith
@@ -104,10 +104,10 @@ bounds-positions-c c = let h = small c in omega arith
 pub contract_from-line-requires : goal.contract_from-line-requires
 contract_from-line-requires c =
     let s = at-start (at-total (goal.at.contract_from-line-requires c).After-contract_number-c) in
-    let x = s.pre.1.0 in
+    let x = s.requires.1.0 in
     let k = c.contract_number-c.result in
     let h = small (goal.at.contract_from-line-requires c).After-contract_number-c in (
-      s.pre.0,
+      s.requires.0,
       (
         h,
         fits (account_of s.args.morning.now s.args.noon.now) x.whole x.told.beside k (get_or s.args.t4.at k no_position)
@@ -125,7 +125,7 @@ place_line-margin-requires c =
     let h = few after-total in (
       omega (arith, taken),
       (
-        omega (arith, taken, s.pre.1.1.0, after-total.contract-total.ensures, is.same),
+        omega (arith, taken, s.requires.1.1.0, after-total.contract-total.ensures, is.same),
         (
           c.contract_from-line.ensures.line.within,
           (
@@ -142,18 +142,18 @@ overflow_add-total c =
     let h = few after_test_lem.before.before in
     let small = (known after_test_lem.before).small in
     let margin = c.place_line-margin.ensures.margin.1 in
-    omega (arith, after_test_lem.loop-test.taken)
+    omega (arith, after_test_lem.loop-i-test.true)
 
 pub overflow_add-i : goal.overflow_add-i
 overflow_add-i c =
     let after_test_lem = (at-number (goal.at.overflow_add-i c).After-place_line-margin).before in
     let h = few after_test_lem.before.before in
-    omega (arith, after_test_lem.loop-test.taken)
+    omega (arith, after_test_lem.loop-i-test.true)
 
 pub loop-i-smaller : goal.loop-i-smaller
 loop-i-smaller c =
     let after_test_lem = (at-number (goal.at.loop-i-smaller c).After-place_line-margin).before in
-    omega (arith, after_test_lem.loop-test.taken)
+    omega (arith, after_test_lem.loop-i-test.true)
 
 pub loop-i-preserved : goal.loop-i-preserved
 loop-i-preserved c =
@@ -169,7 +169,7 @@ loop-i-preserved c =
     let p = get_or s.args.t4.at k no_position in
     let r = c.place_line-margin in
     let its = after-contract.contract-from in
-    let taken = after_test_lem.loop-test.taken in
+    let taken = after_test_lem.loop-i-test.true in
     λ whole t.
     let b = t.beside in
     let all = counted after-total whole b in
@@ -179,14 +179,14 @@ loop-i-preserved c =
     let at = t.positions.each k (small after-number) in
     let lent = its.ensures.1 whole (contract_beside a whole b k p at l.i listed here _ t.positions.records_are (small after-number)) in
     let placed : Bool → List ℤ → ℕ → List ℤ = λ paid out q. lent_place (width_of paid) q (after_over whole (question_of paid q)) out in
-    walked_next b.lawful all (few after-total) (l.inv whole t) taken
-    (omega (arith, s.pre.1.1.0, after-total.contract-total.ensures))
+    walked_next b.lawful all (few after-total) (l.invariant whole t) taken
+    (omega (arith, s.requires.1.1.0, after-total.contract-total.ensures))
     (record {
       line = line_is a whole b k p at l.i listed here its.result its.ensures.0;
       book = lent.0 ∙ ap (placed false l.books) here;
       paid = lent.1 ∙ ap (placed true l.uses) here;
     })
-    c.books-1.given c.uses-1.given r.ensures.0 c.figures-1.given r.ensures.1
+    c.books-1.given c.uses-1.given r.ensures.placed c.figures-1.given r.ensures.margin
 
 pub overflow_mul-count : goal.overflow_mul-count
 overflow_mul-count c =
@@ -200,7 +200,7 @@ put-requires c =
     let h = few (goal.at.put-requires c).After-contract_total-count in
     let small = is.small in
     let within = is.table.within in
-    (omega (arith, s.pre.1.1.0, c.contract_total-count.ensures, is.table.same), omega arith)
+    (omega (arith, s.requires.1.1.0, c.contract_total-count.ensures, is.table.same), omega arith)
 
 pub shape_of-figures : goal.shape_of-figures
 shape_of-figures c =

@@ -62,20 +62,20 @@ overflow_add-total c =
     let after_test_lem = (at-contract (goal.at.overflow_add-total c).After-place_line-margin).before.before.before in
     let after-loop = after_test_lem.before in
     let h = few after-loop.before.before in
-    let small = after-loop.loop.inv.small in
+    let small = after-loop.loop-i.invariant.small in
     let margin = c.place_line-margin.ensures.margin.1 in
-    omega (arith, after_test_lem.loop-test.taken)
+    omega (arith, after_test_lem.loop-i-test.true)
 
 pub overflow_add-i : goal.overflow_add-i
 overflow_add-i c =
     let after_test_lem = (at-contract (goal.at.overflow_add-i c).After-place_line-margin).before.before.before in
     let h = few after_test_lem.before.before.before in
-    omega (arith, after_test_lem.loop-test.taken)
+    omega (arith, after_test_lem.loop-i-test.true)
 
 pub loop-i-smaller : goal.loop-i-smaller
 loop-i-smaller c =
     let after_test_lem = (at-contract (goal.at.loop-i-smaller c).After-place_line-margin).before.before.before in
-    omega (arith, after_test_lem.loop-test.taken)
+    omega (arith, after_test_lem.loop-i-test.true)
 
 pub loop-i-preserved : goal.loop-i-preserved
 loop-i-preserved c =
@@ -85,10 +85,10 @@ loop-i-preserved c =
     let after-total = after-loop.before.before in
     let s = after-total.before.before.before in
     let r = c.place_line-margin in
-    walked_next s.pre.0.lawful (counted after-total) (few after-total) after-loop.loop.inv
-    after_test_lem.loop-test.taken (omega (arith, s.pre.1.0, after-total.contract-total.ensures))
-    after-contract.contract-over.ensures c.books-1.given c.uses-1.given r.ensures.0 c.figures-1.given
-    r.ensures.1
+    walked_next s.requires.0.lawful (counted after-total) (few after-total) after-loop.loop-i.invariant
+    after_test_lem.loop-i-test.true (omega (arith, s.requires.1.0, after-total.contract-total.ensures))
+    after-contract.contract-over.ensures c.books-1.given c.uses-1.given r.ensures.placed c.figures-1.given
+    r.ensures.margin
 
 pub overflow_mul-count : goal.overflow_mul-count
 overflow_mul-count c =

@@ -49,7 +49,7 @@ tabled c whole t =
     let s = at-start after-place in
     let bytes = c.part.result.now in
     walked_tabled (room s whole t) (at-figures c).figures.given (after-place.place-from.ensures whole t) t.beside.lawful
-    (c.contract_total.ensures ∙ s.pre.0.places.contracts ∙ sym (ap length t.beside.contracts)) t.positions.records_are
+    (c.contract_total.ensures ∙ s.requires.0.places.contracts ∙ sym (ap length t.beside.contracts)) t.positions.records_are
     (entries_beside (account_of s.args.morning.now s.args.noon.now) whole t.beside bytes c.part.ensures)
 
 pub place_from-requires : goal.place_from-requires
@@ -60,8 +60,8 @@ pub table_over-requires : goal.table_over-requires
 table_over-requires c =
     let after-figures = at-figures (goal.at.table_over-requires c).After-contract_total in
     let s = at-start after-figures.before in
-    let x = s.pre.1.0 in (
-      omega (arith, s.pre.1.1, c.contract_total.ensures, after-figures.figures.given),
+    let x = s.requires.1.0 in (
+      omega (arith, s.requires.1.1, c.contract_total.ensures, after-figures.figures.given),
       record { whole = x.whole; is = tabled (goal.at.table_over-requires c).After-contract_total x.whole x.told },
     )
 

@@ -39,14 +39,14 @@ tabled : (c : After-record_total) →
 tabled c =
     let after-place = (at-figures c).before in
     let s = at-start after-place in
-    walked_tabled (room s) (at-figures c).figures.given after-place.place-over.ensures s.pre.0.lawful
-    (c.contract_total.ensures ∙ s.pre.0.places.contracts) (c.record_total.ensures ∙ s.pre.0.places.all) c.part.ensures
+    walked_tabled (room s) (at-figures c).figures.given after-place.place-over.ensures s.requires.0.lawful
+    (c.contract_total.ensures ∙ s.requires.0.places.contracts) (c.record_total.ensures ∙ s.requires.0.places.all) c.part.ensures
 
 pub table_over-requires : goal.table_over-requires
 table_over-requires c =
     let after-figures = at-figures (goal.at.table_over-requires c).After-record_total in
     let s = at-start after-figures.before in (
-      omega (arith, s.pre.1, c.contract_total.ensures, after-figures.figures.given),
+      omega (arith, s.requires.1, c.contract_total.ensures, after-figures.figures.given),
       record { whole = _; is = tabled (goal.at.table_over-requires c).After-record_total },
     )
 

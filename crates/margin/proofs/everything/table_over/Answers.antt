@@ -126,20 +126,20 @@ put_book-requires c =
 pub put_formed-requires : goal.put_formed-requires
 put_formed-requires c =
     let s = at-start (at_table (goal.at.put_formed-requires c).After-put_book) in
-    let x = s.pre.1 in
-    (record { whole = x.whole; is = formed (goal.at.put_formed-requires c).After-put_book x.whole x.is }, s.pre.0)
+    let x = s.requires.1 in
+    (record { whole = x.whole; is = formed (goal.at.put_formed-requires c).After-put_book x.whole x.is }, s.requires.0)
 
 pub lend_table_book-requires : goal.lend_table_book-requires
 lend_table_book-requires c =
     let after-book = at-book (goal.at.lend_table_book-requires c).After-put_formed in
     let t = at_table after-book in
-    let i = (at-start t).pre.1.is.tabled in
+    let i = (at-start t).requires.1.is.tabled in
     (accepted-one t, ((i.tiers_places, i.nets_places), after-book.put-book.ensures))
 
 pub lend_table_uses-requires : goal.lend_table_uses-requires
 lend_table_uses-requires c =
     let t = at_table (at-book (goal.at.lend_table_uses-requires c).After-put_formed) in
-    let x = (at-start t).pre.1 in
+    let x = (at-start t).requires.1 in
     record { whole = x.whole; over = over t x.whole x.is }
 
 pub returns : goal.returns

@@ -28,14 +28,14 @@ asked c =
     let s = start_of c in
     sym
     (c.is_asked.ensures
-    ∙ asked_is (account_of s.args.morning.now s.args.noon.now) s.pre.lawful (account_in s.args.account.now).counts s.pre.places.counts
+    ∙ asked_is (account_of s.args.morning.now s.args.noon.now) s.requires.lawful (account_in s.args.account.now).counts s.requires.places.counts
     s.args.question)
 
 pub returns-then-not-is_asked : goal.returns-then-not-is_asked
 returns-then-not-is_asked c =
     let s = start_of (goal.at.returns-then-not-is_asked c).After-is_asked in
     let a = s.args in
-    ap (λ (n : ℕ). Refused (NoSuchQuestion n)) (c.record_total.ensures ∙ s.pre.places.all)
+    ap (λ (n : ℕ). Refused (NoSuchQuestion n)) (c.record_total.ensures ∙ s.requires.places.all)
     ∙ list_not-asked (account_of a.morning.now a.noon.now) a.question a.sent a.numbers.now a.uses.now
     (asked (goal.at.returns-then-not-is_asked c).After-is_asked ∙ not-true c.is_asked.result c.if-not-is_asked.true)
 

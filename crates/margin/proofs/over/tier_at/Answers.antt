@@ -64,6 +64,6 @@ returns c =
     let m = st.args.morning.now in
     let n = st.args.noon.now in
     let k = c.contract_number-c in
-    rows_tier (account_of m n) st.pre.0.lawful k.result (get_or (contracts_of (account_of m n)) st.args.i []) c.rows_net-net.result.0
-    (number_at m n (account_in st.args.account.now) st.pre.0 st.args.i st.pre.1 k.result k.ensures) (small (goal.at.returns c).After-contract_number-c)
+    rows_tier (account_of m n) st.requires.0.lawful k.result (get_or (contracts_of (account_of m n)) st.args.i []) c.rows_net-net.result.0
+    (number_at m n (account_in st.args.account.now) st.requires.0 st.args.i st.requires.1 k.result k.ensures) (small (goal.at.returns c).After-contract_number-c)
     (subst (λ (rows : List Record). Sized most_delta (rows_net rows) c.rows_net-net.result.0) (rows_are (goal.at.returns c).After-rows_part-rows) c.rows_net-net.ensures)

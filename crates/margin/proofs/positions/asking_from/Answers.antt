@@ -41,7 +41,7 @@ start_of c =
 small : (c : Else-question-eq-TABLE) → (start_of c).args.question ≤ most_contract
 small c =
     let s = start_of c in
-    asked_small (account_of s.args.morning.now s.args.noon.now) s.pre.0.lawful s.args.question s.pre.1.1 c.if-question-eq-TABLE.false
+    asked_small (account_of s.args.morning.now s.args.noon.now) s.requires.0.lawful s.args.question s.requires.1.1 c.if-question-eq-TABLE.false
 
 pub tiers_from-tiers-requires : goal.tiers_from-tiers-requires
 tiers_from-tiers-requires c =
@@ -70,10 +70,10 @@ bounds-positions-question c = omega (arith, small c)
 pub asking_with-requires : goal.asking_with-requires
 asking_with-requires c =
     let s = start_of (goal.at.asking_with-requires c).Else-question-eq-TABLE in
-    let x = s.pre.1.0 in
+    let x = s.requires.1.0 in
     let q = s.args.question in
     let h = small (goal.at.asking_with-requires c).Else-question-eq-TABLE in (
-      s.pre.0,
+      s.requires.0,
       (
         h,
         fits_book (account_of s.args.morning.now s.args.noon.now) x.whole x.told.beside q (get_or s.args.t4.at q no_position)

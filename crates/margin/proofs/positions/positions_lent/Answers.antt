@@ -35,7 +35,7 @@ number : (c : After-contract_number-c) →
     c.contract_number-c.result ≡ contract (get_or (contracts_of (account_of s.args.morning.now s.args.noon.now)) c.loop-i.i [])
 number c =
     let s = start_of c in
-    number_at s.args.morning.now s.args.noon.now (account_in s.args.account.now) s.pre c.loop-i.i (within c)
+    number_at s.args.morning.now s.args.noon.now (account_in s.args.account.now) s.requires c.loop-i.i (within c)
     c.contract_number-c.result c.contract_number-c.ensures
 
 small : (c : After-contract_number-c) → c.contract_number-c.result ≤ most_contract
@@ -46,8 +46,8 @@ small c =
     omega (
       arith,
       number c,
-      own_number (account_of m n) s.pre.lawful c.loop-i.i
-          (listed_at m n (account_in s.args.account.now) s.pre c.loop-i.i (within c)),
+      own_number (account_of m n) s.requires.lawful c.loop-i.i
+          (listed_at m n (account_in s.args.account.now) s.requires c.loop-i.i (within c)),
     )
 
 pub loop-i-init : goal.loop-i-init

@@ -40,7 +40,7 @@ number : (c : After-contract_number-c) →
     c.contract_number-c.result ≡ contract (get_or (contracts_of (account_of s.args.morning.now s.args.noon.now)) c.loop-i.i [])
 number c =
     let s = start_of c in
-    number_at s.args.morning.now s.args.noon.now (account_in s.args.account.now) s.pre.0 c.loop-i.i (within c)
+    number_at s.args.morning.now s.args.noon.now (account_in s.args.account.now) s.requires.0 c.loop-i.i (within c)
     c.contract_number-c.result c.contract_number-c.ensures
 
 small : (c : After-contract_number-c) → c.contract_number-c.result ≤ most_contract
@@ -51,8 +51,8 @@ small c =
     omega (
       arith,
       number c,
-      own_number (account_of m n) s.pre.0.lawful c.loop-i.i
-          (listed_at m n (account_in s.args.account.now) s.pre.0 c.loop-i.i (within c)),
+      own_number (account_of m n) s.requires.0.lawful c.loop-i.i
+          (listed_at m n (account_in s.args.account.now) s.requires.0 c.loop-i.i (within c)),
     )
 
 -- and is so in every account beside
@@ -61,7 +61,7 @@ listed : (c : After-contract_number-c) →
     (whole : List Record) → Besides (account_of s.args.morning.now s.args.noon.now) whole → c.loop-i.i < length (contracts_of whole)
 listed c whole b =
     let s = start_of c in
-    omega (arith, within c, ap length b.contracts, s.pre.0.places.contracts)
+    omega (arith, within c, ap length b.contracts, s.requires.0.places.contracts)
 
 number_in : (c : After-contract_number-c) →
     let s = start_of c in
@@ -81,7 +81,7 @@ bounds-positions-c c = let h = small c in omega arith
 pub tier_with-one-requires : goal.tier_with-one-requires
 tier_with-one-requires c =
     let s = start_of (goal.at.tier_with-one-requires c).After-contract_number-c in
-    let x = s.pre.1 in
+    let x = s.requires.1 in
     let k = c.contract_number-c.result in
     let h = small (goal.at.tier_with-one-requires c).After-contract_number-c in (
       h,

@@ -26,12 +26,12 @@ pub answer_over-requires : goal.answer_over-requires
 answer_over-requires c =
     let s = start_of (goal.at.answer_over-requires c).Else-number_of-ne0 in
     let n = c.nothing_of in
-    file_stands s.args.file.now s.args.checked s.pre (clear (goal.at.answer_over-requires c).Else-number_of-ne0) n.result.now n.ensures
+    file_stands s.args.file.now s.args.checked s.requires (clear (goal.at.answer_over-requires c).Else-number_of-ne0) n.result.now n.ensures
 
 pub returns : goal.returns
 returns c =
     let s = start_of (goal.at.returns c).Else-number_of-ne0 in
     let n = c.nothing_of in
     let r = c.answer_over in
-    answer_accepted s.args.file.now s.args.checked s.pre (clear (goal.at.returns c).Else-number_of-ne0) n.result.now n.ensures
-    s.args.question s.args.out.now r.result r.new.1.1.1.1.0 r.ensures
+    answer_accepted s.args.file.now s.args.checked s.requires (clear (goal.at.returns c).Else-number_of-ne0) n.result.now n.ensures
+    s.args.question s.args.out.now r.result r.new.out r.ensures

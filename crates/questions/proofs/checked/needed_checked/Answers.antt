@@ -25,12 +25,12 @@ pub needed_over-requires : goal.needed_over-requires
 needed_over-requires c =
     let s = start_of (goal.at.needed_over-requires c).Else-number_of-ne0 in
     let n = c.nothing_of in
-    file_stands s.args.file.now s.args.checked s.pre (clear (goal.at.needed_over-requires c).Else-number_of-ne0) n.result.now n.ensures
+    file_stands s.args.file.now s.args.checked s.requires (clear (goal.at.needed_over-requires c).Else-number_of-ne0) n.result.now n.ensures
 
 pub returns : goal.returns
 returns c =
     let s = start_of (goal.at.returns c).Else-number_of-ne0 in
     let n = c.nothing_of in
     let r = c.needed_over in
-    needed_accepted s.args.file.now s.args.checked s.pre (clear (goal.at.returns c).Else-number_of-ne0) n.result.now n.ensures
+    needed_accepted s.args.file.now s.args.checked s.requires (clear (goal.at.returns c).Else-number_of-ne0) n.result.now n.ensures
     s.args.question r.result r.ensures

@@ -33,7 +33,7 @@ pub everything_over-all-requires : goal.everything_over-all-requires
 everything_over-all-requires c =
     let s = start_of (goal.at.everything_over-all-requires c).Else-number_of-ne0 in
     let n = c.nothing_of in
-    file_stands s.args.file.now s.args.checked s.pre (clear (goal.at.everything_over-all-requires c).Else-number_of-ne0) n.result.now n.ensures
+    file_stands s.args.file.now s.args.checked s.requires (clear (goal.at.everything_over-all-requires c).Else-number_of-ne0) n.result.now n.ensures
 
 pub returns : goal.returns
 returns c =
@@ -43,10 +43,10 @@ returns c =
     let z = clear (goal.at.returns c).Else-number_of-ne0 in
     let r = c.everything_over-all in
     let x = r.ensures in
-    let f = answer_accepted file s.args.checked s.pre z n.result.now n.ensures Figures s.args.figures.now r.result.figures _
+    let f = answer_accepted file s.args.checked s.requires z n.result.now n.ensures Figures s.args.figures.now r.result.figures _
     (x.figures_answer_lem, x.lent.figures-after) in
-    let b = all_accepted file s.args.checked s.pre z n.result.now n.ensures false s.args.books.now r.result.books _
+    let b = all_accepted file s.args.checked s.requires z n.result.now n.ensures false s.args.books.now r.result.books _
     (x.books_answer_lem, x.lent.books_after_lem) in
-    let u = all_accepted file s.args.checked s.pre z n.result.now n.ensures true s.args.uses.now r.result.uses _
+    let u = all_accepted file s.args.checked s.requires z n.result.now n.ensures true s.args.uses.now r.result.uses _
     (x.uses_answer_lem, x.lent.uses-after) in
     record { figures_answer_lem = f.0; figures-after = f.1; books_answer_lem = b.0; books_after_lem = b.1; uses_answer_lem = u.0; uses-after = u.1 }

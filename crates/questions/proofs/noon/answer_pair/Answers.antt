@@ -27,7 +27,7 @@ pub answer_over-requires : goal.answer_over-requires
 answer_over-requires c =
     let s = start_of (goal.at.answer_over-requires c).Else-number_of-ne0 in
     let a = s.args in
-    pair_stands a.morning.now a.noon.now a.checked s.pre (clear (goal.at.answer_over-requires c).Else-number_of-ne0)
+    pair_stands a.morning.now a.noon.now a.checked s.requires (clear (goal.at.answer_over-requires c).Else-number_of-ne0)
 
 pub returns : goal.returns
 returns c =
@@ -35,5 +35,5 @@ returns c =
     let a = s.args in
     let r = c.answer_over in
     let v = c.of_joined in
-    answer_accepted a.morning.now a.noon.now a.checked s.pre (clear (goal.at.returns c).Else-number_of-ne0) a.question a.out.now
-    r.new.1.1.1.1.0 r.result v.result v.ensures r.ensures
+    answer_accepted a.morning.now a.noon.now a.checked s.requires (clear (goal.at.returns c).Else-number_of-ne0) a.question a.out.now
+    r.new.out r.result v.result v.ensures r.ensures

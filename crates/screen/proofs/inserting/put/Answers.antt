@@ -18,7 +18,7 @@ long : (c : After-shared_slice_known-1) → length c.loop-i.lent ≡ length (sta
 long c =
     let s = start_of c in
     let l = c.loop-i in
-    let p = s.pre in
+    let p = s.requires in
     let w = l.invariant.0 in
     ap length l.invariant.1 ∙ length-paste s.args.lent.now s.args.at s.args.row.now l.i (omega (arith, p, w)) w
 
@@ -47,7 +47,7 @@ pub loop-i-preserved : goal.loop-i-preserved
 loop-i-preserved c =
     let s = start_of c in
     let l = c.loop-i in
-    let p = s.pre in
+    let p = s.requires in
     let t = c.loop-i-test.true in
     let row = s.args.row.now in
     let at = s.args.at in

@@ -11,6 +11,6 @@ row_answer-requires c =
     (c.requires.0 (sym c.kind.ensures.0 ∙ c.if-kind-eq3.true), c.requires.1)
 
 pub returns : goal.returns
-returns c =
+returns c rates of each =
     let r = c.args.r.now in
     rw (ne_eqb (kind r) 3 (λ e. c.if-kind-eq3.false (c.kind.ensures.0 ∙ e)))

@@ -70,7 +70,7 @@ few-before : (c : In-loop-k) → c.loop-k.k < most_records
 few-before c =
     let s = start_of (goal.at.entry_at-r-requires c).At-loop-k in
     let e = s.args.entries.now in
-    omega (arith, inside c, count_same e, ltb-false 61440 (length e) s.pre.1.0)
+    omega (arith, inside c, count_same e, ltb-false 61440 (length e) s.requires.1.0)
 
 -- no record has a fault
 ended : (c : After-loop-k) → Ended (written (entries-of c.before.before)) c.loop-k.first c.loop-k.counts
@@ -78,7 +78,7 @@ ended c =
     let s = start_of c.before.before in
     let e = s.args.entries.now in
     let done : record_count (written e) ≤ c.loop-k.k = omega (arith, c.loop-k-test.false, c.record_count-count.ensures, count_same e) in
-    reading_ends c.loop-k.invariant done (long_same e ∙ s.pre.1.0) (cut_same e ∙ s.pre.1.1)
+    reading_ends c.loop-k.invariant done (long_same e ∙ s.requires.1.0) (cut_same e ∙ s.requires.1.1)
 
 pub loop-k-init : goal.loop-k-init
 loop-k-init c =
@@ -87,7 +87,7 @@ loop-k-init c =
 pub entry_at-r-requires : goal.entry_at-r-requires
 entry_at-r-requires c =
     let s = start_of (goal.at.entry_at-r-requires c).At-loop-k in
-    (s.pre.0, omega (arith, inside c, count_same s.args.entries.now))
+    (s.requires.0, omega (arith, inside c, count_same s.args.entries.now))
 
 pub slice_bounds-hold-end : goal.slice_bounds-hold-end
 slice_bounds-hold-end c =
@@ -104,7 +104,7 @@ slice_bounds-hold-end-in-loop-k-2 c =
 pub hold-requires : goal.hold-requires
 hold-requires c =
     let l = (head (goal.at.hold-requires c).After-asked_of-c).before in
-    ((start_of l).pre.0, record { holds = l.loop.inv.holds; holdable = room_for (goal.at.hold-requires c).After-asked_of-c })
+    ((start_of l).requires.0, record { holds = l.loop-k.invariant.holds; holdable = room_for (goal.at.hold-requires c).After-asked_of-c })
 
 pub slice_bounds-fault_by-end : goal.slice_bounds-fault_by-end
 slice_bounds-fault_by-end c =
@@ -118,7 +118,7 @@ pub entry_before-requires : goal.entry_before-requires
 entry_before-requires c =
     let turn = head (asked (goal.at.entry_before-requires c).After-hold) in
     let s = start_of turn.before in
-    (s.pre.0, omega (arith, inside turn, count_same s.args.entries.now))
+    (s.requires.0, omega (arith, inside turn, count_same s.args.entries.now))
 
 pub fault_by-number-requires : goal.fault_by-number-requires
 fault_by-number-requires c =
@@ -133,37 +133,37 @@ returns-then-number-ne0 c =
     let s = start_of l in
     let e = s.args.entries.now in
     c.refusal.ensures
-    ∙ turn_stops l.loop.inv (inside (head a)) a.before.entry_at.ensures a.asked_of.ensures h.hold.ensures
+    ∙ turn_stops l.loop-k.invariant (inside (head a)) a.before.entry_at.ensures a.asked_of.ensures h.hold.ensures
     c.entry_before.ensures
-    c.fault_by-number.ensures c.if-number-ne0.true (long_same e ∙ s.pre.1.0) (cut_same e ∙ s.pre.1.1)
+    c.fault_by-number.ensures c.if-number-ne0.true (long_same e ∙ s.requires.1.0) (cut_same e ∙ s.requires.1.1)
 
 pub part_of-v-requires : goal.part_of-v-requires
 part_of-v-requires c = tt
 
 pub slice_bounds-note_first-end : goal.slice_bounds-note_first-end
 slice_bounds-note_first-end c =
-    sym (turn (goal.at.slice_bounds-note_first-end c).Else-number-ne0).before.loop.invariant.going.notes.firsts
+    sym (turn (goal.at.slice_bounds-note_first-end c).Else-number-ne0).before.loop-k.invariant.going.notes.firsts
 
 pub slice_bounds-note_first-end-in-loop-k : goal.slice_bounds-note_first-end-in-loop-k
 slice_bounds-note_first-end-in-loop-k c =
-    sym (turn (goal.at.slice_bounds-note_first-end-in-loop-k c).Else-number-ne0).before.loop.invariant.going.notes.sizes
+    sym (turn (goal.at.slice_bounds-note_first-end-in-loop-k c).Else-number-ne0).before.loop-k.invariant.going.notes.sizes
 
 pub note_first-requires : goal.note_first-requires
 note_first-requires c =
     let l = turn (goal.at.note_first-requires c).Else-number-ne0 in
-    (omega (arith, (passed (goal.at.note_first-requires c).Else-number-ne0).part_in, c.part_of-v.ensures, l.before.loop.inv.going.notes.firsts), few-before l)
+    (omega (arith, (passed (goal.at.note_first-requires c).Else-number-ne0).part_in, c.part_of-v.ensures, l.before.loop-k.invariant.going.notes.firsts), few-before l)
 
 pub slice_bounds-note_one-end : goal.slice_bounds-note_one-end
 slice_bounds-note_one-end c =
-    sym (turn (goal.at.slice_bounds-note_one-end c).Else-number-ne0).before.loop.invariant.going.notes.sizes
+    sym (turn (goal.at.slice_bounds-note_one-end c).Else-number-ne0).before.loop-k.invariant.going.notes.sizes
 
 pub note_one-requires : goal.note_one-requires
 note_one-requires c =
     let l = turn (goal.at.note_one-requires c).Else-number-ne0 in
     let v = c.part_of-v.ensures in
-    let same = ap (λ (v : ℕ). get_or l.before.loop.counts v 0) v in
+    let same = ap (λ (v : ℕ). get_or l.before.loop-k.counts v 0) v in
     let done = passed (goal.at.note_one-requires c).Else-number-ne0 in
-    (omega (arith, done.part_in, v, l.before.loop.inv.going.notes.sizes), omega (arith, done.count_small, same, few-before l))
+    (omega (arith, done.part_in, v, l.before.loop-k.invariant.going.notes.sizes), omega (arith, done.count_small, same, few-before l))
 
 pub overflow_add-k : goal.overflow_add-k
 overflow_add-k c =
@@ -171,7 +171,7 @@ overflow_add-k c =
 
 pub loop-k-smaller : goal.loop-k-smaller
 loop-k-smaller c =
-    omega (arith, (turn (goal.at.loop-k-smaller c).Else-number-ne0).loop-test.true)
+    omega (arith, (turn (goal.at.loop-k-smaller c).Else-number-ne0).loop-k-test.true)
 
 pub loop-k-preserved : goal.loop-k-preserved
 loop-k-preserved c =
@@ -191,7 +191,7 @@ rates_in-t-requires c =
     let t = ended (goal.at.rates_in-t-requires c).After-loop-k in
     let k = c.noted.ensures in
     let n = c.noted-2.ensures in
-    (s.pre.0, (omega (arith, t.few, n), omega (arith, t.within, k, n, count_same s.args.entries.now)))
+    (s.requires.0, (omega (arith, t.few, n), omega (arith, t.within, k, n, count_same s.args.entries.now)))
 
 pub conversions_written-requires : goal.conversions_written-requires
 conversions_written-requires c =
@@ -200,7 +200,7 @@ conversions_written-requires c =
     let t = ended (goal.at.conversions_written-requires c).After-loop-k in
     let same = ap₂ (λ (x y : ℕ). records (stretch w x y)) c.noted.ensures c.noted-2.ensures in
     let rates = subst (λ (rs : List Record). RatesOf rs c.rates_in-t.result) (same ∙ t.rates) c.rates_in-t.ensures in
-    (s.pre.0, record { accepted = t.accepted; rates = rates })
+    (s.requires.0, record { accepted = t.accepted; rates = rates })
 
 pub returns : goal.returns
 returns c =

@@ -47,7 +47,7 @@ module _ (c : After-answer_at-answer) where
   answered : c.answer_at-answer.result ≡ row_answer rates (0 + k) (record_at file k)
   answered =
       let s = start_of (goal.at.number_of-requires c).After-entry_at in
-      c.answer_at-answer.ensures rates s.pre.1.rates (recorded file s.pre.1.accepted).ranges.rates
+      c.answer_at-answer.ensures rates s.requires.1.rates (recorded file s.requires.1.accepted).ranges.rates
       ∙ ap (row_answer rates k) c.entry_at.ensures
       ∙ ap (λ (n : ℕ). row_answer rates n (record_at file k)) (sym (zero-add k))
 
@@ -58,15 +58,15 @@ loop-k-init c =
 pub entry_at-requires : goal.entry_at-requires
 entry_at-requires c =
     let s = start_of (goal.at.entry_at-requires c).At-loop-k in
-    (s.pre.0, omega (arith, within c, count_same s.args.entries.now))
+    (s.requires.0, omega (arith, within c, count_same s.args.entries.now))
 
 pub answer_at-answer-requires : goal.answer_at-answer-requires
 answer_at-answer-requires c =
     let s = start_of (goal.at.answer_at-answer-requires c).At-loop-k in
     let w = written s.args.entries.now in
-    let row = row_at w s.pre.1.accepted c.loop-k.k (within (goal.at.answer_at-answer-requires c).In-loop-k) in (
+    let row = row_at w s.requires.1.accepted c.loop-k.k (within (goal.at.answer_at-answer-requires c).In-loop-k) in (
       subst (λ (r : Record). kind r ≡ 3 → Row r) (sym c.entry_at.ensures) row,
-      record { rates = rates_of (records w); held = s.pre.1.rates; within = (recorded w s.pre.1.accepted).ranges.rates },
+      record { rates = rates_of (records w); held = s.requires.1.rates; within = (recorded w s.requires.1.accepted).ranges.rates },
     )
 
 pub number_of-requires : goal.number_of-requires
@@ -77,7 +77,7 @@ returns-then-number_of-ne0 c =
     let turn = head (goal.at.returns-then-number_of-ne0 c).After-answer_at-answer in
     let a = answered (goal.at.returns-then-number_of-ne0 c).After-answer_at-answer in
     a
-    ∙ sym (turn.before.loop.inv ∙ rows_stop (rates (goal.at.returns-then-number_of-ne0 c).After-answer_at-answer) 0 (file (goal.at.returns-then-number_of-ne0 c).After-answer_at-answer) (k (goal.at.returns-then-number_of-ne0 c).After-answer_at-answer) (within turn)
+    ∙ sym (turn.before.loop-k.invariant ∙ rows_stop (rates (goal.at.returns-then-number_of-ne0 c).After-answer_at-answer) 0 (file (goal.at.returns-then-number_of-ne0 c).After-answer_at-answer) (k (goal.at.returns-then-number_of-ne0 c).After-answer_at-answer) (within turn)
     (λ z. c.if-number_of-ne0.true (c.number_of.ensures ∙ ap number_of a ∙ z)))
 
 pub overflow_add-k : goal.overflow_add-k
@@ -91,7 +91,7 @@ loop-k-smaller c =
 pub loop-k-preserved : goal.loop-k-preserved
 loop-k-preserved c =
     let turn = head (goal.at.loop-k-preserved c).After-answer_at-answer in
-    turn.before.loop.inv
+    turn.before.loop-k.invariant
     ∙ rows_next (rates (goal.at.loop-k-preserved c).After-answer_at-answer) 0 (file (goal.at.loop-k-preserved c).After-answer_at-answer) (k (goal.at.loop-k-preserved c).After-answer_at-answer) (within turn)
     (sym (c.number_of.ensures ∙ ap number_of (answered (goal.at.loop-k-preserved c).After-answer_at-answer)) ∙ omega (arith, c.if-number_of-ne0.false))
 

@@ -16,7 +16,7 @@ use Rattle.writing.proofs.checking.rates_in.Goals as goal
 pub slice_bounds-rates_of-end : goal.slice_bounds-rates_of-end
 slice_bounds-rates_of-end c =
     let f = c.fill in
-    sym (length-take-le (c.args.n * record_bytes) f.new.1.1.1.1.0 (omega (arith, c.requires.1.0, f.auto.1.1.1.1.0)))
+    sym (length-take-le (c.args.n * record_bytes) f.new.out (omega (arith, c.requires.1.0, f.auto.1.1.1.1.0)))
 
 pub returns : goal.returns
 returns c =

@@ -26,7 +26,7 @@ slice_bounds-order-end c =
 
 pub slice_bounds-sort-end-2 : goal.slice_bounds-sort-end-2
 slice_bounds-sort-end-2 c =
-    sym (length-take-le c.record_count-count.result c.number_up.new.0
+    sym (length-take-le c.record_count-count.result c.number_up.new.places
     (omega (
       arith,
       c.order-2-1.given,
@@ -42,7 +42,7 @@ sort-requires c =
       c.requires,
     ) in
     let l = length-take-le c.record_count-count.result
-    c.number_up.new.0 (omega (arith, h, c.order-2-1.given)) in
+    c.number_up.new.places (omega (arith, h, c.order-2-1.given)) in
     omega (arith, h, l)
 
 pub returns : goal.returns

@@ -24,7 +24,7 @@ use Rattle.formulas.proofs.AddedLaws.{same_added}
 use Rattle.formulas.proofs.PositionBounds.{product_most}
 use Rattle.formulas.proofs.RaisedLaws.{totals-added, totals-room, sums_added, sums_room}
 use Rattle.formulas.proofs.rows.add_row.Goals as goal
-use Rattle.formulas.proofs.rows.add_row.Goals.{After-currency-c, After-factors_of, After-per_tick-each, Else-c-ne0, Start}
+use Rattle.formulas.proofs.rows.add_row.Goals.{After-factors_of, After-per_tick-each, Else-c-ne0, Start}
 
 -- what a row comes to, by whether it is in the margin currency
 abbrev by-currency : List Record → Record → ℕ → Bool → ℤ
@@ -32,12 +32,6 @@ by-currency rates row s own = cond own (in_own s row) (converted (rate_for rates
 
 -- the factors are those of the row's currency
 module _ (c : After-factors_of) where
-  abbrev after-currency : After-currency-c
-  after-currency = (goal.at.add_converted-requires c).After-currency-c
-
-  abbrev start : Start
-  start = (goal.at.add_converted-requires c).Start
-
   abbrev row : Record
   row = c.args.row.now
 
@@ -122,19 +116,17 @@ factors_of-requires c =
 
 pub add_converted-requires : goal.add_converted-requires
 add_converted-requires c =
-    let s = start c in
-    (s.requires.0, (s.requires.1.0, (factors-fit c, s.requires.1.1.1.totals_most)))
+    (c.requires.0, (c.requires.1.0, (factors-fit c, c.requires.1.1.1.totals_most)))
 
 pub returns-then-c-ne0 : goal.returns-then-c-ne0
 returns-then-c-ne0 c =
-    let s = start (goal.at.returns-then-c-ne0 c).After-factors_of in
-    let row = s.args.row.now in
+    let row = c.args.row.now in
     let f = c.factors_of.result in
-    let unit = s.args.unit in
-    let small = (s.requires.1.1.0.each 0 (omega arith)).currency_within in
-    in-totals s c.add_converted.new.totals
+    let unit = c.args.unit in
+    let small = (c.requires.1.1.0.each 0 (omega arith)).currency_within in
+    in-totals (goal.at.returns-then-c-ne0 c).Start c.add_converted.new.totals
     (λ held is.
-    same_added scenario_count (converted_products f.raised f.lowered unit row) (products held unit row) s.args.totals.now c.add_converted.new.totals
+    same_added scenario_count (converted_products f.raised f.lowered unit row) (products held unit row) c.args.totals.now c.add_converted.new.totals
     (λ k.
     ap₂ (λ (up down : ℕ). half_away_to (converted_at up down (in_own (k + 1) row)) unit) (raised_is (goal.at.returns-then-c-ne0 c).After-factors_of held is small)
     (lowered_is (goal.at.returns-then-c-ne0 c).After-factors_of held is small)

@@ -15,13 +15,7 @@ use Rattle.writing.specs.Written.{written}
 use Rattle.writing.proofs.Held.{row_at}
 use Rattle.writing.proofs.Placed.{count_same}
 use Rattle.writing.proofs.checking.conversions_written.Goals as goal
-use Rattle.writing.proofs.checking.conversions_written.Goals.{After-answer_at-answer, At-loop-k, In-loop-k, Start}
-
--- the start and its entries, seen from the loop
-abbrev start_of : At-loop-k → Start
-start_of c =
-    let start = c.before.before.before.before in
-    start
+use Rattle.writing.proofs.checking.conversions_written.Goals.{After-answer_at-answer, At-loop-k, In-loop-k}
 
 abbrev entries-of : At-loop-k → List ℕ
 entries-of c = (start_of c).args.entries.now
@@ -32,22 +26,18 @@ within c = omega (arith, c.loop-k-test.true, c.record_count-count.ensures, count
 
 -- the head of the turn, its record's place, the file, its rates, and what the record answers
 module _ (c : After-answer_at-answer) where
-  abbrev head : In-loop-k
-  head = (goal.at.number_of-requires c).In-loop-k
-
   abbrev k : ℕ
   k = c.loop-k.k
 
   abbrev file : List ℕ
-  file = written (entries-of (goal.at.number_of-requires c).After-entry_at)
+  file = written (entries-of (goal.at.number_of-requires c).At-loop-k)
 
   abbrev rates : List Record
   rates = rates_of (records file)
 
   answered : c.answer_at-answer.result ≡ row_answer rates (0 + k) (record_at file k)
   answered =
-      let s = start_of (goal.at.number_of-requires c).After-entry_at in
-      c.answer_at-answer.ensures rates s.requires.1.rates (recorded file s.requires.1.accepted).ranges.rates
+      c.answer_at-answer.ensures rates c.requires.1.rates (recorded file c.requires.1.accepted).ranges.rates
       ∙ ap (row_answer rates k) c.entry_at.ensures
       ∙ ap (λ (n : ℕ). row_answer rates n (record_at file k)) (sym (zero-add k))
 
@@ -57,16 +47,14 @@ loop-k-init c =
 
 pub entry_at-requires : goal.entry_at-requires
 entry_at-requires c =
-    let s = start_of (goal.at.entry_at-requires c).At-loop-k in
-    (s.requires.0, omega (arith, within c, count_same s.args.entries.now))
+    (c.requires.0, omega (arith, within c, count_same c.args.entries.now))
 
 pub answer_at-answer-requires : goal.answer_at-answer-requires
 answer_at-answer-requires c =
-    let s = start_of (goal.at.answer_at-answer-requires c).At-loop-k in
-    let w = written s.args.entries.now in
-    let row = row_at w s.requires.1.accepted c.loop-k.k (within (goal.at.answer_at-answer-requires c).In-loop-k) in (
+    let w = written c.args.entries.now in
+    let row = row_at w c.requires.1.accepted c.loop-k.k (within (goal.at.answer_at-answer-requires c).In-loop-k) in (
       subst (λ (r : Record). kind r ≡ 3 → Row r) (sym c.entry_at.ensures) row,
-      record { rates = rates_of (records w); held = s.requires.1.rates; within = (recorded w s.requires.1.accepted).ranges.rates },
+      record { rates = rates_of (records w); held = c.requires.1.rates; within = (recorded w c.requires.1.accepted).ranges.rates },
     )
 
 pub number_of-requires : goal.number_of-requires
@@ -74,10 +62,9 @@ number_of-requires c = tt
 
 pub returns-then-number_of-ne0 : goal.returns-then-number_of-ne0
 returns-then-number_of-ne0 c =
-    let turn = head (goal.at.returns-then-number_of-ne0 c).After-answer_at-answer in
     let a = answered (goal.at.returns-then-number_of-ne0 c).After-answer_at-answer in
     a
-    ∙ sym (turn.before.loop-k.invariant ∙ rows_stop (rates (goal.at.returns-then-number_of-ne0 c).After-answer_at-answer) 0 (file (goal.at.returns-then-number_of-ne0 c).After-answer_at-answer) (k (goal.at.returns-then-number_of-ne0 c).After-answer_at-answer) (within turn)
+    ∙ sym (c.loop-k.invariant ∙ rows_stop (rates (goal.at.returns-then-number_of-ne0 c).After-answer_at-answer) 0 (file (goal.at.returns-then-number_of-ne0 c).After-answer_at-answer) (k (goal.at.returns-then-number_of-ne0 c).After-answer_at-answer) (within (goal.at.returns-then-number_of-ne0 c).In-loop-k)
     (λ z. c.if-number_of-ne0.true (c.number_of.ensures ∙ ap number_of a ∙ z)))
 
 pub overflow_add-k : goal.overflow_add-k
@@ -90,9 +77,8 @@ loop-k-smaller c =
 
 pub loop-k-preserved : goal.loop-k-preserved
 loop-k-preserved c =
-    let turn = head (goal.at.loop-k-preserved c).After-answer_at-answer in
-    turn.before.loop-k.invariant
-    ∙ rows_next (rates (goal.at.loop-k-preserved c).After-answer_at-answer) 0 (file (goal.at.loop-k-preserved c).After-answer_at-answer) (k (goal.at.loop-k-preserved c).After-answer_at-answer) (within turn)
+    c.loop-k.invariant
+    ∙ rows_next (rates (goal.at.loop-k-preserved c).After-answer_at-answer) 0 (file (goal.at.loop-k-preserved c).After-answer_at-answer) (k (goal.at.loop-k-preserved c).After-answer_at-answer) (within (goal.at.loop-k-preserved c).In-loop-k)
     (sym (c.number_of.ensures ∙ ap number_of (answered (goal.at.loop-k-preserved c).After-answer_at-answer)) ∙ omega (arith, c.if-number_of-ne0.false))
 
 pub returns : goal.returns

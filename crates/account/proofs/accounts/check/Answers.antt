@@ -1,6 +1,5 @@
 -- The length is refused, or the records are, or the rates answer.
 -- Assumes nothing.
-use borrow.Author.Rules.{rules}
 use Prim.Native.Nat.{ℕ}
 use mathlib.Core.Path.{◌≡◌, refl, sym, ap, ◌∙◌}
 use Rattle.account.specs.Answers.{number_of, refusal}

@@ -1,6 +1,5 @@
 -- The check's answer, on the records and then on the rates, and the account by what is noted.
 -- Assumes nothing.
-use borrow.Author.Rules.{rules}
 use Prim.Native.Nat.{ℕ}
 use mathlib.Core.List.{List}
 use mathlib.Core.Path.{sym, ◌∙◌, subst}

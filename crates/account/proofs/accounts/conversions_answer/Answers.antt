@@ -1,5 +1,5 @@
 use borrow.Author.Rules.{rules}
-use Prim.Native.Nat.{ℕ, ◌+◌, ◌-◌, ◌≤◌}
+use Prim.Native.Nat.{ℕ, ◌+◌}
 use native.Mathlib.Omega.{arith}
 use mathlib.Core.Path.{◌≡◌, sym, ap, ap₂, subst, subst⁻¹, ◌∙◌}
 use mathlib.Core.List.{List}
@@ -7,7 +7,7 @@ use lib.ListN.{length}
 use Rattle.record.specs.Layout.{Record}
 use Rattle.account.specs.Accepted.{Each}
 use Rattle.account.specs.Answers.{number_of}
-use Rattle.account.specs.Checked.{first_rate_fault, rates_checked}
+use Rattle.account.specs.Checked.{first_rate_fault}
 use Rattle.account.specs.Conversions.{Row}
 use Rattle.account.specs.Parts.{rates_of}
 use Rattle.account.specs.code.Rates.{RatesOf}

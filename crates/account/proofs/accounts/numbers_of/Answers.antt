@@ -1,13 +1,11 @@
-use Prim.Native.Nat.{ℕ, ◌+◌, ◌-◌, ◌≤◌, ◌<◌}
-use mathlib.Core.Path.{◌≡◌, refl, sym, ap, ap₂, ◌∙◌}
+use Prim.Native.Nat.{ℕ, ◌+◌, ◌-◌, ◌<◌}
+use mathlib.Core.Path.{refl, sym, ap, ap₂, ◌∙◌}
 use native.Mathlib.Omega.{arith}
 use lib.Dec.{ltb}
 use lib.ListN.{length, take, drop, replicate}
 use lib.Seq.{length-take-le}
 use borrow.Author.Tests.{ltb-true}
-use Rattle.exact.specs.Lists.{keep}
 use Rattle.exact.proofs.Tests.{one_at_most}
-use Rattle.record.specs.Bytes.{count_from}
 use Rattle.record.proofs.Within.{both_true}
 use Rattle.account.specs.code.Standing.{lists}
 use Rattle.account.specs.Check.{most_contracts}

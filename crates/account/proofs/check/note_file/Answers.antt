@@ -1,6 +1,5 @@
 -- The length refuses the file, or the records answer.
 -- Assumes nothing.
-use borrow.Author.Rules.{rules}
 use Prim.Native.Nat.{ℕ}
 use mathlib.Core.Path.{◌≡◌, sym, ap, ◌∙◌}
 use Rattle.account.specs.Answers.{number_of, refusal}

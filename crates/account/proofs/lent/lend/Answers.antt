@@ -2,7 +2,6 @@
 -- Assumes nothing.
 use mathlib.Core.Path.{refl, ◌∙◌}
 use Rattle.account.proofs.LentLaws.{lent_is}
-use borrow.Author.Rules.{rules}
 use Rattle.account.proofs.lent.lend.Goals as goal
 
 pub returns : goal.returns

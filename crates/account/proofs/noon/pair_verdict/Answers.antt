@@ -1,6 +1,5 @@
 -- The verdict on the records, then on the rates.
 -- Assumes nothing.
-use borrow.Author.Rules.{rules}
 use native.Mathlib.Omega.{arith}
 use mathlib.Core.Path.{◌≡◌, sym, ap, ◌∙◌}
 use Rattle.account.specs.Answers.{number_of}

@@ -2,7 +2,6 @@
 -- Assumes nothing.
 use mathlib.Core.Path.{◌≡◌, sym, ◌∙◌}
 use native.Mathlib.Omega.{arith}
-use borrow.Author.Rules.{rules}
 use Rattle.account.specs.Answers.{number_of}
 use Rattle.account.proofs.NoonLaws.{Joining, place_refused, place-beyond, place_noon, place_morning, place-nowhere}
 use Rattle.account.proofs.noon.prompt_place.Goals as goal

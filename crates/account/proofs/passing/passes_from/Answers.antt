@@ -1,11 +1,9 @@
 -- `account::passing::passes_from` meets its contract. Assumes nothing.
 use Prim.Native.Nat.{ℕ}
 use mathlib.Core.Path.{◌≡◌, sym, ◌∙◌}
-use borrow.Author.Tests.{not-false}
 use native.Mathlib.Omega.{arith}
 use Rattle.account.specs.code.Passing.{Begins}
 use Rattle.account.proofs.Runs.{none_run, contract_run, begins_read}
-use borrow.Author.Rules.{rules}
 use Rattle.account.proofs.passing.passes_from.Goals as goal
 use Rattle.account.proofs.passing.passes_from.Goals.{Else-not-may_run}
 

@@ -5,7 +5,6 @@ use Prim.Native.Nat.{◌≤◌}
 use native.Mathlib.Omega.{arith}
 use lib.Dec.{ltb}
 use lib.IntN.{ℤ, nat_abs, ◌*ℤ◌}
-use borrow.Author.Rules.{rules}
 use Rattle.exact.specs.Signed.{Sized}
 use Rattle.exact.proofs.Integers.{back, seen}
 use Rattle.exact.proofs.SignedCalls.{times_fits, times_is}

@@ -6,7 +6,6 @@ use lib.IntN.{ℤ, pos, negsuc, neg_ℤ, ◌-ℤ◌}
 use lib.ListN.{length, length-map, get_or, set, replicate}
 use mir.Syntax.{w64}
 use mir.Val.{SFits, to_z, of_z}
-use borrow.Author.Rules.{rules}
 use Rattle.exact.proofs.Integers.{back, seen, seen₂, taken_sign}
 use Rattle.exact.specs.Signed.{towards_zero}
 use Rattle.spread.specs.Accepted.{open_of, prompt_places}

@@ -1,15 +1,14 @@
-use Prim.Native.Nat.{ℕ, ◌+◌, ◌-◌, ◌≤◌, ◌<◌}
+use Prim.Native.Nat.{ℕ, ◌+◌, ◌<◌}
 use native.Mathlib.Omega.{arith}
 use mathlib.Core.List.{List}
 use mathlib.Core.Path.{◌∙◌, ap, subst}
 use lib.IntN.{ℤ, pos}
-use lib.ListN.{length-map, get_or, set, take}
+use lib.ListN.{length-map, get_or, set}
 use lib.Seq.{take_all}
 use mir.Syntax.{w64}
 use mir.Val.{SFits, to_z, of_z}
-use borrow.Author.Rules.{rules}
 use Rattle.exact.proofs.Integers.{back}
-use Rattle.spread.specs.Accepted.{open_of, prompt_places}
+use Rattle.spread.specs.Accepted.{open_of}
 use Rattle.spread.specs.code.Cells.{Pooled, pool_count}
 use Rattle.spread.specs.code.Lent.{prompts_in}
 use Rattle.spread.specs.Steps.{Open}

@@ -1,13 +1,12 @@
-use Prim.Native.Nat.{ℕ, ◌+◌, ◌-◌, ◌≤◌, ◌<◌}
+use Prim.Native.Nat.{ℕ, ◌+◌, ◌<◌}
 use native.Mathlib.Omega.{arith}
 use mathlib.Core.Path.{sym, ◌∙◌, subst}
 use lib.IntN.{ℤ, pos, nat_abs}
 use lib.ListN.{length-map, get_or, set}
 use mir.Syntax.{w64}
 use mir.Val.{SFits, to_z, of_z}
-use borrow.Author.Rules.{rules}
 use Rattle.exact.proofs.Integers.{back}
-use Rattle.spread.specs.Accepted.{open_of, prompt_places}
+use Rattle.spread.specs.Accepted.{open_of}
 use Rattle.spread.specs.code.Cells.{pool_count}
 use Rattle.spread.specs.code.Lent.{prompts_in}
 use Rattle.spread.specs.declared.Prompts.{Prompts}

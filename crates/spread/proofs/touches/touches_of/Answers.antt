@@ -2,7 +2,6 @@
 -- Assumes nothing.
 use mathlib.Core.Bool.{true}
 use mathlib.Core.Path.{◌≡◌, ◌∙◌, ap, subst⁻¹}
-use borrow.Author.Rules.{rules}
 use Rattle.spread.specs.Accepted.{open_of, steps_of, sound}
 use Rattle.spread.specs.code.Lent.{spreads_from, prompts_in}
 use Rattle.spread.specs.code.Passing.{FormedBy}

@@ -1,6 +1,5 @@
 -- A row, or another record.
 -- Assumes nothing.
-use borrow.Author.Rules.{rules}
 use mathlib.Core.Path.{sym, ◌∙◌}
 use borrow.Author.Tests.{ne_eqb}
 use Rattle.record.specs.Layout.{kind}

@@ -1,5 +1,5 @@
-use Prim.Native.Nat.{ℕ, ◌-◌, ◌≤◌, ◌<◌}
-use mathlib.Core.Path.{sym, ap, ap₂, subst, ◌∙◌}
+use Prim.Native.Nat.{ℕ, ◌≤◌, ◌<◌}
+use mathlib.Core.Path.{◌≡◌, ap, ap₂, subst, ◌∙◌}
 use mathlib.Core.List.{List}
 use native.Mathlib.Omega.{arith}
 use lib.ListN.{length, get_or}
@@ -10,42 +10,40 @@ use Rattle.account.specs.code.Rates.{RatesOf}
 use Rattle.account.specs.Records.{records, stretch, record_count}
 use Rattle.writing.specs.code.Held.{Holdable}
 use Rattle.writing.specs.Written.{written}
-use Rattle.writing.proofs.Held.{Reading, reading_start, Turned, turn_holdable, turn_stops, turned, Ended, reading_ends, rates_decide}
+use Rattle.writing.proofs.Held.{reading_start, Turned, turn_holdable, turn_stops, turned, Ended, reading_ends, rates_decide}
 use Rattle.writing.proofs.Placed.{long_same, cut_same, count_same}
 use Rattle.writing.proofs.checking.check_written.Goals as goal
-use Rattle.writing.proofs.checking.check_written.Goals.{After-asked_of-c, After-loop-k, At-loop-k, Else-number-ne0, In-loop-k}
+use Rattle.writing.proofs.checking.check_written.Goals.{After-asked_of-c, After-loop-k, Else-number-ne0, In-loop-k}
 
-abbrev entries-of : At-loop-k → List ℕ
-entries-of c = (start_of c).args.entries.now
-
--- the record is one of the file
-inside : (c : In-loop-k) → c.loop-k.k < record_count (written (entries-of (goal.at.entry_at-r-requires c).At-loop-k))
-inside c = omega (arith, c.loop-k-test.true, c.record_count-count.ensures, count_same (entries-of (goal.at.entry_at-r-requires c).At-loop-k))
+-- a record that is counted is one of the file
+inside : (e : List ℕ) (k n : ℕ) → k < n → n ≡ record_count e → k < record_count (written e)
+inside e k n h l = omega (arith, count_same e)
 
 -- the head of the turn, and its contract's prompts find room
 module _ (c : After-asked_of-c) where
-  room_for : Holdable (written (entries-of c.before.before.before.before)) c.loop-k.first c.loop-k.counts c.asked_of-c.result
-  room_for = turn_holdable c.loop-k.invariant (inside c.before.before.before) c.entry_at-r.ensures c.asked_of-c.ensures
+  room_for : Holdable (written c.args.entries.now) c.loop-k.first c.loop-k.counts c.asked_of-c.result
+  room_for =
+      turn_holdable c.loop-k.invariant (inside c.args.entries.now _ _ c.loop-k-test.true c.record_count-count.ensures) c.entry_at-r.ensures c.asked_of-c.ensures
 
 -- after a record without a fault: what it asked for, the head of its turn, and what the turn has done
 module _ (c : Else-number-ne0) where
-  passed : Turned (written (entries-of (goal.at.part_of-v-requires c).At-loop-k)) c.loop-k.first c.loop-k.counts
+  passed : Turned (written c.args.entries.now) c.loop-k.first c.loop-k.counts
       c.hold.new.prompts
       c.asked_of-c.result
       c.loop-k.k
       c.entry_at-r.result.now
   passed =
-      turned c.loop-k.invariant (inside (goal.at.part_of-v-requires c).In-loop-k) c.entry_at-r.ensures c.asked_of-c.ensures c.hold.ensures
+      turned c.loop-k.invariant (inside c.args.entries.now _ _ c.loop-k-test.true c.record_count-count.ensures) c.entry_at-r.ensures c.asked_of-c.ensures c.hold.ensures
       c.entry_before.ensures c.fault_by-number.ensures c.if-number-ne0.false
 
 -- fewer than 640 records stand before it
 few-before : (c : In-loop-k) → c.loop-k.k < most_records
 few-before c =
     let e = c.args.entries.now in
-    omega (arith, inside c, count_same e, ltb-false 61440 (length e) c.requires.1.0)
+    omega (arith, inside e _ _ c.loop-k-test.true c.record_count-count.ensures, count_same e, ltb-false 61440 (length e) c.requires.1.0)
 
 -- no record has a fault
-ended : (c : After-loop-k) → Ended (written (entries-of c.before.before)) c.loop-k.first c.loop-k.counts
+ended : (c : After-loop-k) → Ended (written c.args.entries.now) c.loop-k.first c.loop-k.counts
 ended c =
     let e = c.args.entries.now in
     let done : record_count (written e) ≤ c.loop-k.k = omega (arith, c.loop-k-test.false, c.record_count-count.ensures, count_same e) in
@@ -57,35 +55,15 @@ loop-k-init c =
 
 pub entry_at-r-requires : goal.entry_at-r-requires
 entry_at-r-requires c =
-    (c.requires.0, omega (arith, inside c, count_same c.args.entries.now))
-
-pub slice_bounds-hold-end : goal.slice_bounds-hold-end
-slice_bounds-hold-end c =
-    sym c.loop-k.invariant.going.notes.firsts
-
-pub slice_bounds-hold-end-in-loop-k : goal.slice_bounds-hold-end-in-loop-k
-slice_bounds-hold-end-in-loop-k c =
-    sym c.loop-k.invariant.going.notes.sizes
-
-pub slice_bounds-hold-end-in-loop-k-2 : goal.slice_bounds-hold-end-in-loop-k-2
-slice_bounds-hold-end-in-loop-k-2 c =
-    sym c.loop-k.invariant.holds.long
+    (c.requires.0, omega (arith, inside c.args.entries.now _ _ c.loop-k-test.true c.record_count-count.ensures, count_same c.args.entries.now))
 
 pub hold-requires : goal.hold-requires
 hold-requires c =
     (c.requires.0, record { holds = c.loop-k.invariant.holds; holdable = room_for (goal.at.hold-requires c).After-asked_of-c })
 
-pub slice_bounds-fault_by-end : goal.slice_bounds-fault_by-end
-slice_bounds-fault_by-end c =
-    sym c.loop-k.invariant.going.notes.sizes
-
-pub slice_bounds-fault_by-end-in-loop-k : goal.slice_bounds-fault_by-end-in-loop-k
-slice_bounds-fault_by-end-in-loop-k c =
-    sym c.hold.ensures.long
-
 pub entry_before-requires : goal.entry_before-requires
 entry_before-requires c =
-    (c.requires.0, omega (arith, inside (goal.at.entry_before-requires c).In-loop-k, count_same c.args.entries.now))
+    (c.requires.0, omega (arith, inside c.args.entries.now _ _ c.loop-k-test.true c.record_count-count.ensures, count_same c.args.entries.now))
 
 pub fault_by-number-requires : goal.fault_by-number-requires
 fault_by-number-requires c =
@@ -96,28 +74,13 @@ pub returns-then-number-ne0 : goal.returns-then-number-ne0
 returns-then-number-ne0 c =
     let e = c.args.entries.now in
     c.refusal.ensures
-    ∙ turn_stops c.loop-k.invariant (inside (goal.at.returns-then-number-ne0 c).In-loop-k) c.entry_at-r.ensures c.asked_of-c.ensures c.hold.ensures
+    ∙ turn_stops c.loop-k.invariant (inside e _ _ c.loop-k-test.true c.record_count-count.ensures) c.entry_at-r.ensures c.asked_of-c.ensures c.hold.ensures
     c.entry_before.ensures
     c.fault_by-number.ensures c.if-number-ne0.true (long_same e ∙ c.requires.1.0) (cut_same e ∙ c.requires.1.1)
-
-pub part_of-v-requires : goal.part_of-v-requires
-part_of-v-requires c = tt
-
-pub slice_bounds-note_first-end : goal.slice_bounds-note_first-end
-slice_bounds-note_first-end c =
-    sym c.loop-k.invariant.going.notes.firsts
-
-pub slice_bounds-note_first-end-in-loop-k : goal.slice_bounds-note_first-end-in-loop-k
-slice_bounds-note_first-end-in-loop-k c =
-    sym c.loop-k.invariant.going.notes.sizes
 
 pub note_first-requires : goal.note_first-requires
 note_first-requires c =
     (omega (arith, (passed (goal.at.note_first-requires c).Else-number-ne0).part_in, c.part_of-v.ensures, c.loop-k.invariant.going.notes.firsts), few-before (goal.at.note_first-requires c).In-loop-k)
-
-pub slice_bounds-note_one-end : goal.slice_bounds-note_one-end
-slice_bounds-note_one-end c =
-    sym c.loop-k.invariant.going.notes.sizes
 
 pub note_one-requires : goal.note_one-requires
 note_one-requires c =
@@ -126,25 +89,10 @@ note_one-requires c =
     let done = passed (goal.at.note_one-requires c).Else-number-ne0 in
     (omega (arith, done.part_in, v, c.loop-k.invariant.going.notes.sizes), omega (arith, done.count_small, same, few-before (goal.at.note_one-requires c).In-loop-k))
 
-pub overflow_add-k : goal.overflow_add-k
-overflow_add-k c =
-    omega (arith, few-before (goal.at.overflow_add-k c).In-loop-k)
-
-pub loop-k-smaller : goal.loop-k-smaller
-loop-k-smaller c =
-    omega (arith, c.loop-k-test.true)
-
 pub loop-k-preserved : goal.loop-k-preserved
 loop-k-preserved c =
     (passed (goal.at.loop-k-preserved c).Else-number-ne0).next c.note_first.ensures c.note_one.ensures
     c.part_of-v.ensures
-
-pub slice_bounds-noted-end : goal.slice_bounds-noted-end
-slice_bounds-noted-end c = sym c.loop-k.invariant.going.notes.firsts
-
-pub slice_bounds-noted-end-2 : goal.slice_bounds-noted-end-2
-slice_bounds-noted-end-2 c =
-    sym c.loop-k.invariant.going.notes.sizes
 
 pub rates_in-t-requires : goal.rates_in-t-requires
 rates_in-t-requires c =

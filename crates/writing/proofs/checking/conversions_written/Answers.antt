@@ -1,28 +1,24 @@
-use Prim.Native.Nat.{ℕ, ◌-◌, ◌+◌, ◌<◌}
+use Prim.Native.Nat.{ℕ, ◌+◌, ◌<◌}
 use native.Mathlib.Nat.{zero-add}
 use mathlib.Core.Path.{◌≡◌, sym, ap, subst, ◌∙◌}
 use mathlib.Core.List.{List}
 use native.Mathlib.Omega.{arith}
 use Rattle.record.specs.Layout.{Record, kind}
 use Rattle.account.specs.Answers.{number_of}
-use Rattle.account.specs.Checked.{rates_checked}
 use Rattle.account.specs.Conversions.{row_answer, Row}
 use Rattle.account.specs.Parts.{rates_of}
 use Rattle.account.specs.Records.{records, record_at, record_count}
 use Rattle.account.proofs.Lawful.{recorded}
-use Rattle.account.proofs.RateLaws.{rows_from, rows_start, rows_next, rows_stop, rows_end}
+use Rattle.account.proofs.RateLaws.{rows_start, rows_next, rows_stop, rows_end}
 use Rattle.writing.specs.Written.{written}
 use Rattle.writing.proofs.Held.{row_at}
 use Rattle.writing.proofs.Placed.{count_same}
 use Rattle.writing.proofs.checking.conversions_written.Goals as goal
-use Rattle.writing.proofs.checking.conversions_written.Goals.{After-answer_at-answer, At-loop-k, In-loop-k}
-
-abbrev entries-of : At-loop-k → List ℕ
-entries-of c = (start_of c).args.entries.now
+use Rattle.writing.proofs.checking.conversions_written.Goals.{After-answer_at-answer, In-loop-k}
 
 -- the record is one of the file
-within : (c : In-loop-k) → c.loop-k.k < record_count (written (entries-of (goal.at.entry_at-requires c).At-loop-k))
-within c = omega (arith, c.loop-k-test.true, c.record_count-count.ensures, count_same (entries-of (goal.at.entry_at-requires c).At-loop-k))
+within : (c : In-loop-k) → c.loop-k.k < record_count (written c.args.entries.now)
+within c = omega (arith, c.loop-k-test.true, c.record_count-count.ensures, count_same c.args.entries.now)
 
 -- the head of the turn, its record's place, the file, its rates, and what the record answers
 module _ (c : After-answer_at-answer) where
@@ -30,7 +26,7 @@ module _ (c : After-answer_at-answer) where
   k = c.loop-k.k
 
   abbrev file : List ℕ
-  file = written (entries-of (goal.at.number_of-requires c).At-loop-k)
+  file = written c.args.entries.now
 
   abbrev rates : List Record
   rates = rates_of (records file)
@@ -57,33 +53,24 @@ answer_at-answer-requires c =
       record { rates = rates_of (records w); held = c.requires.1.rates; within = (recorded w c.requires.1.accepted).ranges.rates },
     )
 
-pub number_of-requires : goal.number_of-requires
-number_of-requires c = tt
-
 pub returns-then-number_of-ne0 : goal.returns-then-number_of-ne0
 returns-then-number_of-ne0 c =
-    let a = answered (goal.at.returns-then-number_of-ne0 c).After-answer_at-answer in
+    let p = (goal.at.returns-then-number_of-ne0 c).After-answer_at-answer in
+    let a = answered p in
     a
-    ∙ sym (c.loop-k.invariant ∙ rows_stop (rates (goal.at.returns-then-number_of-ne0 c).After-answer_at-answer) 0 (file (goal.at.returns-then-number_of-ne0 c).After-answer_at-answer) (k (goal.at.returns-then-number_of-ne0 c).After-answer_at-answer) (within (goal.at.returns-then-number_of-ne0 c).In-loop-k)
+    ∙ sym (c.loop-k.invariant ∙ rows_stop (rates p) 0 (file p) (k p) (within (goal.at.returns-then-number_of-ne0 c).In-loop-k)
     (λ z. c.if-number_of-ne0.true (c.number_of.ensures ∙ ap number_of a ∙ z)))
-
-pub overflow_add-k : goal.overflow_add-k
-overflow_add-k c =
-    omega (arith, c.loop-k-test.true)
-
-pub loop-k-smaller : goal.loop-k-smaller
-loop-k-smaller c =
-    omega (arith, c.loop-k-test.true)
 
 pub loop-k-preserved : goal.loop-k-preserved
 loop-k-preserved c =
+    let p = (goal.at.loop-k-preserved c).After-answer_at-answer in
     c.loop-k.invariant
-    ∙ rows_next (rates (goal.at.loop-k-preserved c).After-answer_at-answer) 0 (file (goal.at.loop-k-preserved c).After-answer_at-answer) (k (goal.at.loop-k-preserved c).After-answer_at-answer) (within (goal.at.loop-k-preserved c).In-loop-k)
-    (sym (c.number_of.ensures ∙ ap number_of (answered (goal.at.loop-k-preserved c).After-answer_at-answer)) ∙ omega (arith, c.if-number_of-ne0.false))
+    ∙ rows_next (rates p) 0 (file p) (k p) (within (goal.at.loop-k-preserved c).In-loop-k)
+    (sym (c.number_of.ensures ∙ ap number_of (answered p)) ∙ omega (arith, c.if-number_of-ne0.false))
 
 pub returns : goal.returns
 returns c =
     let l = c.loop-k in
-    let e = entries-of (goal.at.returns c).At-loop-k in
+    let e = c.args.entries.now in
     let w = written e in
     sym (l.invariant ∙ rows_end (rates_of (records w)) 0 w l.k (omega (arith, c.loop-k-test.false, c.record_count-count.ensures, count_same e)))

@@ -29,7 +29,7 @@ pub returns-then-not-add_up : goal.returns-then-not-add_up
 returns-then-not-add_up c =
     let s = c.args in
     let h = differ s.accounts.now s.lengths.now s.out.now s.outcomes.now (sym c.add_up.ensures ∙ c.if-not-add_up.true) in
-    (h.is, (h.out_is, h.outcome_is))
+    record { value = h.is; out_after = h.out_is; outcomes_after = h.outcome_is }
 
 pub returns-then-out-count : goal.returns-then-out-count
 returns-then-out-count c =
@@ -37,7 +37,7 @@ returns-then-out-count c =
     let few = c.if-out-count.true in
     let h = few_figures s.accounts.now s.lengths.now s.out.now s.outcomes.now
     (sym c.add_up.ensures ∙ c.if-not-add_up.false) (omega (arith, few)) in
-    (h.is, (h.out_is, h.outcome_is))
+    record { value = h.is; out_after = h.out_is; outcomes_after = h.outcome_is }
 
 pub returns-then-outcomes-count : goal.returns-then-outcomes-count
 returns-then-outcomes-count c =
@@ -46,7 +46,7 @@ returns-then-outcomes-count c =
     let few = c.if-outcomes-count.true in
     let h = few_outcomes s.accounts.now s.lengths.now s.out.now s.outcomes.now
     (sym c.add_up.ensures ∙ c.if-not-add_up.false) (omega (arith, enough)) (omega (arith, few)) in
-    (h.is, (h.out_is, h.outcome_is))
+    record { value = h.is; out_after = h.out_is; outcomes_after = h.outcome_is }
 
 pub loop-i-init : goal.loop-i-init
 loop-i-init c =
@@ -123,4 +123,4 @@ returns c =
     (sym c.add_up.ensures ∙ c.if-not-add_up.false) (omega (arith, a))
     (omega (arith, b))
     l.out l.outcomes e.0 e.1 in
-    (h.is, (h.out_is, h.outcome_is))
+    record { value = h.is; out_after = h.out_is; outcomes_after = h.outcome_is }

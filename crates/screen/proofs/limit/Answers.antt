@@ -17,16 +17,11 @@ use Rattle.screen.specs.code.Held.{order_in}
 use Rattle.screen.specs.Screen.{held, weighed}
 use Rattle.screen.proofs.ScreenLaws.{below_zero, limit_lacking, limit_refused, limit_asked}
 use Rattle.screen.proofs.limit.Goals as goal
-use Rattle.screen.proofs.limit.Goals.{After-below, Else-below, Else-lent-named}
+use Rattle.screen.proofs.limit.Goals.{Else-below, Else-lent-named}
 
--- the limit is tested as it is
-tested : (c : After-below) → c.below.result ≡ lt_z c.args.limit (pos 0)
-tested c =
-    seen (λ x. lt_z x (pos 0)) c.args.limit c.ranges.limit c.below.ensures
-
--- it is not below zero
+-- the limit is not below zero
 stands : (c : Else-below) → lt_z c.args.limit (pos 0) ≡ false
-stands c = sym (tested c.before.before) ∙ c.if-below.false
+stands c = sym (seen (λ x. lt_z x (pos 0)) c.args.limit c.ranges.limit c.below.ensures) ∙ c.if-below.false
 
 named-lent : (c : Else-lent-named) →
     let a = c.args in
@@ -38,7 +33,7 @@ named-lent c =
 pub returns-then-below : goal.returns-then-below
 returns-then-below c =
     let a = c.args in
-    sym (below_zero a.lent.now a.named a.ticket.now a.limit (sym (tested (goal.at.returns-then-below c).After-below) ∙ c.if-below.true))
+    sym (below_zero a.lent.now a.named a.ticket.now a.limit (sym (seen (λ x. lt_z x (pos 0)) a.limit c.ranges.limit c.below.ensures) ∙ c.if-below.true))
 
 pub returns-then-lent-named : goal.returns-then-lent-named
 returns-then-lent-named c =
